@@ -1,3 +1,5 @@
 pub mod Lists
 pub mod PortBits
 pub mod Ports
+pub mod Frames
+pub mod ETags
