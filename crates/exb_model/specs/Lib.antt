@@ -3,3 +3,4 @@ pub mod PortBits
 pub mod Ports
 pub mod Frames
 pub mod ETags
+pub mod ExtenderForwarding
