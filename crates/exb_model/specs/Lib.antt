@@ -15,3 +15,4 @@ pub mod Input
 pub mod EagerHistory
 pub mod LegalHistory
 pub mod Texts
+pub mod ExtenderForwarding
