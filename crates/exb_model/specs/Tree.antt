@@ -1,6 +1,8 @@
 -- The tree of extenders below the bridge (IEEE 802.1BR-2012).
 use Rattle.std.specs.Prelude.{◌≡◌, ℕ, zero, suc, ◌*◌, ◌/◌, ◌%◌, ◌<◌, ◌==◌, ◌&&◌, ◌||◌, Bool, true, false, not, ◌++◌, List, [], ◌∷◌, length, nat_lt, nat_le, slice_index, if◌then◌else◌, filter, flat_map, count_by}
 use Rattle.std.specs.List.{list_any, range_with_len}
+use Rattle.exb_model.specs.declared.role.Role.{Role}
+use Rattle.exb_model.specs.declared.role.Role.TheVariants as role
 use Rattle.exb_model.specs.Ports.{all_ports}
 
 -- the device of a port: 0 is the bridge, n is extender n
@@ -50,6 +52,12 @@ is_external t p = is_port t p && not (is_cascade t p)
 -- an external port of an extender
 abbrev pub is_extended : Shape → ℕ → Bool
 is_extended t p = nat_le 64 p && is_external t p
+
+-- what a port is: none of the tree, an external port, or the port on which extender n hangs
+abbrev pub HasRole : Shape → ℕ → Role → Type 0
+HasRole t p role.Unknown = is_port t p ≡ false
+HasRole t p role.External = is_external t p ≡ true
+HasRole t p (role.Cascade n) = (is_port t p ≡ true) × HangsOn t n p
 
 -- The ports from p up to the bridge, p first, at most d of them above p, where extender n hangs on port
 -- n of `on`.
