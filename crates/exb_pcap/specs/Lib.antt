@@ -1,0 +1,4 @@
+pub mod CaptureText
+pub mod Captures
+pub mod Taken
+pub mod Written
