@@ -52,7 +52,7 @@ fn exactly_the_listed_calls_fail(rt: HostRuntime) -> Result<(), Fail> {
         write_text(&mut shelf, writing, &text),
         Err(ShelfFault::Failed)
     );
-    assert!(rt; holds(&shelf, "out", &text[..PIECE]));
+    assert!(rt; holds(&shelf, "out", &sevens(alloc, PIECE)?));
     assert_eq!(rt; shelf.read(reading, &mut into), Ok(5));
     assert!(rt; &into[..5] == b"alpha".as_slice());
     assert_eq!(rt; shelf.read(reading, &mut into), Ok(0));
