@@ -13,6 +13,7 @@ pub mod list;
 pub mod memory;
 pub mod port;
 pub mod port_set;
+pub mod role;
 pub mod rules;
 pub mod setup;
 pub mod text;

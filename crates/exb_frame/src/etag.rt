@@ -1,0 +1,174 @@
+//! The E-TAG.
+ghost use Rattle.std.specs.Prelude.{◌≡◌, ℕ, ◌+◌, ◌≤◌, ◌<◌, ◌++◌, ◌↔◌, [], length, IsErr, OnOk, OnErr};
+ghost use Rattle.std.specs.Option.{option_map};
+ghost use Rattle.arrayvec.specs.ArrayVec.{array_vec_len};
+ghost use Rattle.exb_model.specs.ETags.{TagFits, read_etag, etag_bytes, tagged, stripped};
+ghost use Rattle.exb_frame.specs.TagValues.{tag_of};
+
+use byteorder::{BigEndian, ByteOrder};
+use exb_model::buffers::FrameBuf;
+
+/// The EtherType of an E-TAG.
+pub const E_TAG_TYPE: u16 = 0x893F;
+
+/// A result that exceeds a `FrameBuf`.
+#[derive(Clone, Copy, Debug, PartialEq, Eq)]
+pub struct Full;
+
+/// The fields of an E-TAG (after IEEE 802.1BR): the priority of the frame (PCP below 8, DEI), the E-CID of
+/// the port by which it came (below 4,096; 0 for none), and the E-CID to which it goes (below 16,384: one
+/// port's E-channel below 4,096, a group from there on).
+#[derive(Clone, Copy, Debug, PartialEq, Eq, Default)]
+pub struct ETag {
+    pub pcp: u8,
+    pub dei: bool,
+    pub ingress: u16,
+    pub ecid: u16,
+}
+
+impl ETag {
+    /// The E-TAG of a frame. None exactly for under 20 bytes, another type at byte 12, or an extension byte
+    /// that isn't 0. Reserved bits are not looked at.
+    pub fn read(frame: &[u8]) -> Option<ETag>
+        ensures { option_map tag_of result ≡ read_etag frame.now }
+    {
+        if frame.len() < 20 {
+            return None;
+        }
+        if BigEndian::read_u16(&frame[12..]) != E_TAG_TYPE
+            || BigEndian::read_u16(&frame[18..]) != 0
+        {
+            return None;
+        }
+        let first = BigEndian::read_u16(&frame[14..]);
+        let second = BigEndian::read_u16(&frame[16..]);
+        Some(ETag {
+            pcp: (first / 8192) as u8,
+            dei: first / 4096 % 2 == 1,
+            ingress: first % 4096,
+            ecid: second % 16384,
+        })
+    }
+
+    /// Its eight bytes, with reserved bits and extension bytes 0.
+    pub fn write(&self) -> [u8; 8]
+        requires { TagFits (tag_of self.now) }
+        ensures { result ≡ etag_bytes (tag_of self.now) }
+    {
+        let mut bytes = [0u8; 8];
+        let dei: u16 = if self.dei { 4096 } else { 0 };
+        BigEndian::write_u16(&mut bytes, E_TAG_TYPE);
+        BigEndian::write_u16(&mut bytes[2..], self.pcp as u16 * 8192 + dei + self.ingress);
+        BigEndian::write_u16(&mut bytes[4..], self.ecid);
+        bytes
+    }
+}
+
+/// Appends bytes for which there is room.
+fn append(out: &mut FrameBuf, bytes: &[u8])
+    requires { array_vec_len out.old + length bytes.now ≤ 9232 }
+    ensures { out.new.items ≡ out.old.items ++ bytes.now }
+{
+    let _ = out.try_extend_from_slice(bytes);
+}
+
+/// Puts an E-TAG in at byte 12. Full exactly where the result exceeds 9,232 bytes; `out` is then empty.
+pub fn tag_into(frame: &[u8], tag: &ETag, out: &mut FrameBuf) -> Result<(), Full>
+    requires long { 12 ≤ length frame.now }
+    requires fits { TagFits (tag_of tag.now) }
+    ensures full { IsErr result ↔ (9232 < length frame.now + 8) }
+    ensures ok { OnOk result (out.new.items ≡ tagged frame.now (tag_of tag.now)) }
+    ensures fitting { length frame.now ≤ 9224 → out.new.items ≡ tagged frame.now (tag_of tag.now) }
+    ensures err { OnErr result (out.new.items ≡ []) }
+{
+    out.clear();
+    if frame.len() > 9224 {
+        return Err(Full);
+    }
+    append(out, &frame[..12]);
+    append(out, &tag.write());
+    append(out, &frame[12..]);
+    Ok(())
+}
+
+/// Takes the eight bytes at byte 12 out. Full exactly where the result exceeds 9,232 bytes; `out` is then
+/// empty.
+pub fn strip_into(frame: &[u8], out: &mut FrameBuf) -> Result<(), Full>
+    requires { 20 ≤ length frame.now }
+    ensures full { IsErr result ↔ (9232 + 8 < length frame.now) }
+    ensures ok { OnOk result (out.new.items ≡ stripped frame.now) }
+    ensures fitting { length frame.now ≤ 9240 → out.new.items ≡ stripped frame.now }
+    ensures err { OnErr result (out.new.items ≡ []) }
+{
+    out.clear();
+    if frame.len() > 9240 {
+        return Err(Full);
+    }
+    append(out, &frame[..12]);
+    append(out, &frame[20..]);
+    Ok(())
+}
+
+#[cfg(test)]
+mod tests {
+    use super::*;
+    use std::test::Fail;
+
+    #[test]
+    fn an_e_tag_is_eight_bytes_from_its_type_to_two_bytes_of_0(rt: HostRuntime) {
+        let channel = ETag {
+            pcp: 0,
+            dei: false,
+            ingress: 0,
+            ecid: 1,
+        };
+        assert_eq!(rt; channel.write(), [0x89, 0x3F, 0, 0, 0, 1, 0, 0]);
+        let group = ETag {
+            pcp: 5,
+            dei: true,
+            ingress: 3,
+            ecid: 0x1002,
+        };
+        assert_eq!(rt; group.write(), [0x89, 0x3F, 0xB0, 0x03, 0x10, 0x02, 0, 0]);
+    }
+
+    #[test]
+    fn a_frame_goes_there_and_back(rt: HostRuntime) {
+        let frame = [7u8; 60];
+        let tag = ETag {
+            pcp: 5,
+            dei: true,
+            ingress: 3,
+            ecid: 0x1002,
+        };
+        let mut tagged = FrameBuf::new();
+        assert!(rt; tag_into(&frame, &tag, &mut tagged).is_ok());
+        assert_eq!(rt; tagged.len(), 68);
+        assert_eq!(rt; ETag::read(tagged.as_slice()), Some(tag));
+        let mut bare = FrameBuf::new();
+        assert!(rt; strip_into(tagged.as_slice(), &mut bare).is_ok());
+        assert_eq!(rt; bare.as_slice(), frame.as_slice());
+    }
+
+    #[test]
+    fn an_extension_byte_that_is_not_0_is_no_e_tag(rt: HostRuntime) {
+        let mut frame = [0u8; 60];
+        frame[12] = 0x89;
+        frame[13] = 0x3F;
+        frame[17] = 1;
+        assert!(rt; ETag::read(&frame).is_some());
+        frame[19] = 1;
+        assert!(rt; ETag::read(&frame).is_none());
+    }
+
+    #[test]
+    fn nothing_longer_than_the_buffer_is_made(rt: HostRuntime) {
+        let tag = ETag::default();
+        let mut out = FrameBuf::new();
+        assert!(rt; tag_into(&[0u8; 9224], &tag, &mut out).is_ok());
+        assert_eq!(rt; tag_into(&[0u8; 9225], &tag, &mut out), Err(Full));
+        assert!(rt; out.is_empty());
+        assert!(rt; strip_into(&[0u8; 9240], &mut out).is_ok());
+        assert_eq!(rt; strip_into(&[0u8; 9241], &mut out), Err(Full));
+    }
+}
