@@ -1,7 +1,7 @@
 -- What a table of ids gives after a change.
-use Rattle.std.proofs.Common.{◌≡◌, ◌≢◌, ◌<◌, ℕ, zero, suc, true, false, List, [], ◌∷◌, ◌++◌, length, get_or, refl, arith, ap, add-one}
+use Rattle.std.proofs.Common.{◌≡◌, ◌≢◌, ◌<◌, ℕ, zero, suc, true, List, [], ◌∷◌, ◌++◌, length, get_or, refl, arith, ap}
 use Rattle.std.proofs.Math.ListN.{set}
-use Rattle.exb_shelf.specs.Shelf.{Id, no_id}
+use Rattle.exb_shelf.specs.Shelf.{no_id}
 use Rattle.exb_shelf.specs.Entries.{id_of, id_at}
 use Rattle.exb_shelf.specs.declared.entries.Entry.{Entry}
 
