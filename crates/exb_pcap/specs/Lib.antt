@@ -1,4 +1,3 @@
-pub mod CaptureText
 pub mod Captures
 pub mod Taken
 pub mod Written

@@ -1,6 +1,6 @@
 //! Writing an output capture.
-ghost use Rattle.std.specs.Prelude.{◌≡◌, ◌<◌, ◌*◌, ◌^◌};
-ghost use Rattle.exb_pcap.specs.CaptureText.{capture_header, record_head};
+ghost use Rattle.std.specs.Prelude.{◌≡◌, ◌<◌, ◌*◌, ◌^◌, ◌++◌, ℕ, List, length as length_of};
+ghost use Rattle.exb_model.specs.Texts.{capture_header, record_text as record_of};
 
 const SECOND: u64 = 1_000_000_000;
 
@@ -20,13 +20,13 @@ pub fn header_text() -> [u8; 24]
 /// moment is written in whole microseconds.
 pub fn record_text(moment: u64, length: u32) -> [u8; 16]
     requires { moment < 2 ^ 32 * 1_000_000_000 }
-    ensures { result ≡ record_head moment length }
+    ensures { (bytes : List ℕ) → length_of bytes ≡ length → record_of (moment, bytes) ≡ result ++ bytes }
 {
-    let s = ((moment / SECOND) as u32).to_le_bytes();
-    let m = ((moment % SECOND / MICROSECOND) as u32).to_le_bytes();
-    let n = length.to_le_bytes();
+    let seconds = ((moment / SECOND) as u32).to_le_bytes();
+    let micros = ((moment % SECOND / MICROSECOND) as u32).to_le_bytes();
+    let size = length.to_le_bytes();
     [
-        s[0], s[1], s[2], s[3], m[0], m[1], m[2], m[3], n[0], n[1], n[2], n[3], n[0], n[1], n[2],
-        n[3],
+        seconds[0], seconds[1], seconds[2], seconds[3], micros[0], micros[1], micros[2], micros[3],
+        size[0], size[1], size[2], size[3], size[0], size[1], size[2], size[3],
     ]
 }
