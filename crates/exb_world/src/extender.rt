@@ -74,7 +74,8 @@ impl Extender {
         if tag.ecid < 4096 {
             return tag.ecid == channel;
         }
-        tag.ecid == GROUP && self.members[port as usize]
+        tag.ecid == GROUP
+            && self.members[port as usize]
             && (tag.ingress == 0 || channel != tag.ingress)
     }
 

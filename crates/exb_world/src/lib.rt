@@ -4,6 +4,7 @@
 //! Upwards it promises that what has left each port is what the one flat bridge sends over the events.
 #![tactic(auto)]
 
+mod arrival;
 mod bridge;
 mod extender;
 mod world;
