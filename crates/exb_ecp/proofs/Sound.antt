@@ -1,0 +1,65 @@
+-- Each state that calls lead to is sound.
+use Rattle.std.proofs.Common.{◌≡◌, ℕ, ◌+◌, ◌==◌, ◌<◌, ◌≤◌, Bool, true, false, cond, List, length, Option, Some, None, refl, arith}
+use Rattle.std.specs.Prelude.{IfSome}
+use Rattle.std.specs.Option.{ForSome}
+use Rattle.std.proofs.lemmas.Bool.{eqb-false}
+use Rattle.exb_ecp.specs.Machine.{Sending, State, new_state, after, submitted, stopped, unless_sequence, acknowledged, heard, aged, beaten, IsOutstanding, IsSound}
+use Rattle.exb_ecp.specs.Sent.{sending_of, IsKept}
+use Rattle.exb_ecp.proofs.Sequences.{after_fits}
+
+sending_sound : (latest : ℕ) (payload : List ℕ) (beats : Option ℕ) → latest < 65536 → ForSome beats (λ n. n < 12) → length payload ≤ 1024
+    → IfSome (sending_of latest payload beats) (IsOutstanding (after latest))
+sending_sound latest payload None l b p = tt
+sending_sound latest payload (Some n) l b p = record { sequence = l; latest = refl; beats = b n refl; payload = p }
+
+received_sound : (received : Option ℕ) → ForSome received (λ r. r < 65536) → IfSome received (λ r. r < 65536)
+received_sound None h = tt
+received_sound (Some r) h = h r refl
+
+-- what the fields of an `Ecp` keep
+pub fields_sound : (latest : ℕ) (beats : Option ℕ) (payload : List ℕ) (received : Option ℕ) → IsKept latest beats payload received
+    → IsSound (record { next = after latest; sending = sending_of latest payload beats; received = received })
+fields_sound latest beats payload received k = record {
+  next = after_fits latest k.latest;
+  sending = sending_sound latest payload beats k.latest k.beats k.payload;
+  received = received_sound received k.received;
+}
+
+-- ---- steps
+
+pub begins : IsSound new_state
+begins = record { next = omega arith; sending = tt; received = tt }
+
+pub submits : (payload : List ℕ) (s : State) → length payload ≤ 1024 → IsSound s → IsSound (submitted payload s)
+submits payload s few h = record {
+  next = after_fits s.next h.next;
+  sending = record { sequence = h.next; latest = refl; beats = omega arith; payload = few };
+  received = h.received;
+}
+
+pub stops : (s : State) → IsSound s → IsSound (stopped s)
+stops s h = record { next = h.next; sending = tt; received = h.received }
+
+unless_sound : (next sequence : ℕ) (o : Option Sending) → IfSome o (IsOutstanding next) → IfSome (unless_sequence sequence o) (IsOutstanding next)
+unless_sound next sequence None h = tt
+unless_sound next sequence (Some x) h =
+    elim (x.sequence == sequence) as (λ b. IfSome (cond b None (Some x)) (IsOutstanding next)) [ true ↦ tt | false ↦ h ]
+
+pub acknowledges : (sequence : ℕ) (s : State) → IsSound s → IsSound (acknowledged sequence s)
+acknowledges sequence s h = record { next = h.next; sending = unless_sound s.next sequence s.sending h.sending; received = h.received }
+
+pub hears : (sequence : ℕ) (s : State) → sequence < 65536 → IsSound s → IsSound (heard sequence s)
+hears sequence s fits h = record { next = h.next; sending = h.sending; received = fits }
+
+aged_sound : (next : ℕ) (o : Option Sending) → IfSome o (IsOutstanding next) → IfSome (aged o) (IsOutstanding next)
+aged_sound next None h = tt
+aged_sound next (Some x) h =
+    elim (x.beats + 1 == 12) as (λ b. (x.beats + 1 == 12) ≡ b
+        → IfSome (cond b None (Some (record { sequence = x.sequence; beats = x.beats + 1; payload = x.payload }))) (IsOutstanding next)) [
+      | true ↦ λ e. tt
+      | false ↦ λ e. (let n : x.beats + 1 ≡ 12 → ⊥ = eqb-false (x.beats + 1) 12 e in let m : x.beats < 12 = h.beats in
+          record { sequence = h.sequence; latest = h.latest; beats = omega arith; payload = h.payload })
+    ] refl
+
+pub beats : (s : State) → IsSound s → IsSound (beaten s)
+beats s h = record { next = h.next; sending = aged_sound s.next s.sending h.sending; received = h.received }
