@@ -1,3 +1,5 @@
 pub mod Frames
 pub mod Machine
 pub mod Sent
+pub mod Calls
+pub mod Line
