@@ -38,26 +38,26 @@ acked_told a cs (Some u) =
 
 beat_by : (sequence beats : ℕ) (payload : List ℕ) (ended : Bool)
     → aged (cond (ended || nat_le 12 beats) None (Some (record { sequence = sequence; beats = beats; payload = payload })))
-      ≡ cond (ended || nat_le 12 (suc beats)) None (Some (record { sequence = sequence; beats = suc beats; payload = payload }))
+    ≡ cond (ended || nat_le 12 (suc beats)) None (Some (record { sequence = sequence; beats = suc beats; payload = payload }))
 beat_by sequence beats payload true = refl
 beat_by sequence beats payload false =
     ⊎_elim
     (λ (old : nat_le 12 beats ≡ true).
-      let more : nat_le 12 (suc beats) ≡ true = le-leb 12 (suc beats) (let x : 12 ≤ beats = leb-true 12 beats old in omega arith) in
-      rw (old, more) refl)
+    let more : nat_le 12 (suc beats) ≡ true = le-leb 12 (suc beats) (let x : 12 ≤ beats = leb-true 12 beats old in omega arith) in
+    rw (old, more) refl)
     (λ (young : nat_le 12 beats ≡ false).
-      let few : beats < 12 = leb-false 12 beats young in
-      ⊎_elim
-      (λ (last : (beats + 1 == 12) ≡ true).
-        let e : beats + 1 ≡ 12 = eqb-true (beats + 1) 12 last in
-        let more : nat_le 12 (suc beats) ≡ true = le-leb 12 (suc beats) (omega arith) in
-        rw (young, more, last) refl)
-      (λ (on : (beats + 1 == 12) ≡ false).
-        let n : beats + 1 ≡ 12 → ⊥ = eqb-false (beats + 1) 12 on in
-        let less : nat_le 12 (suc beats) ≡ false = lt-leb 12 (suc beats) (omega arith) in
-        let one : beats + 1 ≡ suc beats = omega arith in
-        rw (young, less, on, one) refl)
-      (cases_Bool (beats + 1 == 12)))
+    let few : beats < 12 = leb-false 12 beats young in
+    ⊎_elim
+    (λ (last : (beats + 1 == 12) ≡ true).
+    let e : beats + 1 ≡ 12 = eqb-true (beats + 1) 12 last in
+    let more : nat_le 12 (suc beats) ≡ true = le-leb 12 (suc beats) (omega arith) in
+    rw (young, more, last) refl)
+    (λ (on : (beats + 1 == 12) ≡ false).
+    let n : beats + 1 ≡ 12 → ⊥ = eqb-false (beats + 1) 12 on in
+    let less : nat_le 12 (suc beats) ≡ false = lt-leb 12 (suc beats) (omega arith) in
+    let one : beats + 1 ≡ suc beats = omega arith in
+    rw (young, less, on, one) refl)
+    (cases_Bool (beats + 1 == 12)))
     (cases_Bool (nat_le 12 beats))
 
 beat_told : (cs : List Call) (o : Option Submitted) → aged (still_sent o) ≡ still_sent (submit_at Beat cs o)
@@ -84,7 +84,7 @@ due_told : (o : Option Submitted) → beat_of (still_sent o) ≡ due_after o
 due_told None = refl
 due_told (Some u) =
     elim (is_over u) as (λ b. beat_of (cond b None (Some (record { sequence = sequence_of u.number; beats = times is_beat u.since; payload = u.payload })))
-        ≡ cond b due.Nothing (beat_at (times is_beat u.since + 1))) [ true ↦ refl | false ↦ refl ]
+    ≡ cond b due.Nothing (beat_at (times is_beat u.since + 1))) [ true ↦ refl | false ↦ refl ]
 
 received_last : (cs : List Call) → (state_after cs).received ≡ last_received cs
 received_last [] = refl

@@ -3,8 +3,10 @@ use Rattle.std.proofs.Common.{◌≡◌, ◌⊎◌, inl, inr, ⊎_elim, ℕ, zer
 use Rattle.std.specs.Prelude.{⊤, IfSome, is_some, not}
 use Rattle.std.proofs.lemmas.Bool.{eqb-true, eqb-false, cases_Bool, cases_eq}
 use Rattle.std.proofs.lemmas.List.{append-nil, length-append, nil_from_length}
-use Rattle.exb_ecp.specs.Machine.{Sending, State, after, submitted, unless_sequence, is_last, is_fresh, aged, beat_at, beat_of, is_due}
-use Rattle.exb_ecp.specs.Line.{Item, Request, Line, Step, Submit, Stop, Beat, Receive, LoseRequest, Hear, LoseAcknowledgement, without, left_over, sent, sent_again, gives_up, submits, stops, beats, receives, hears, stepped, new_line, run, IsSubsequence, FallsBelow, InOrder}
+use Rattle.exb_ecp.specs.Calls.{Call}
+use Rattle.exb_ecp.specs.Calls as calls
+use Rattle.exb_ecp.specs.Machine.{Sending, State, after, submitted, heard, unless_sequence, is_last, is_fresh, aged, beat_at, beat_of, is_due}
+use Rattle.exb_ecp.specs.Line.{Item, Request, Line, Step, Submit, Stop, Beat, Receive, LoseRequest, Hear, LoseAcknowledgement, OtherRequest, OtherCall, sending_call, without, left_over, sent, sent_again, gives_up, submits, stops, beats, receives, hears, stepped, new_line, run, IsSubsequence, FallsBelow, InOrder}
 use Rattle.exb_ecp.specs.declared.stop_and_wait.Beat.TheVariants as due
 use Rattle.exb_ecp.proofs.Sequences.{after_differs}
 
@@ -120,12 +122,12 @@ front_next [] is i n m e = let x : i.number < length is = number_low i is n m in
 front_next (x ∷ rest) is i n m e =
     ⊎_elim
     (λ (same : i ≡ x).
-      let q : i.number ≡ length (rest ++ is) = ap (λ y. y.number) same ∙ n.0 in
-      let none : rest ≡ [] = nil_from_length rest (omega (arith, length-append rest is)) in
-      ([], ap (λ y. y ∷ rest ++ is) (sym same) ∙ ap (λ ys. i ∷ ys ++ is) none))
+    let q : i.number ≡ length (rest ++ is) = ap (λ y. y.number) same ∙ n.0 in
+    let none : rest ≡ [] = nil_from_length rest (omega (arith, length-append rest is)) in
+    ([], ap (λ y. y ∷ rest ++ is) (sym same) ∙ ap (λ ys. i ∷ ys ++ is) none))
     (λ (later : IsAmong i (rest ++ is)).
-      let f : (shorter : List Item) × (rest ++ is ≡ shorter ++ i ∷ is) = front_next rest is i n.1 later e in
-      (x ∷ f.0, ap (λ ys. x ∷ ys) f.1))
+    let f : (shorter : List Item) × (rest ++ is ≡ shorter ++ i ∷ is) = front_next rest is i n.1 later e in
+    (x ∷ f.0, ap (λ ys. x ∷ ys) f.1))
     m
 
 front_more : (top : ℕ) (items is : List Item) (i : Item) → IsNumbered items → IsAmong i items → i.number ≡ top → IsFront top items is → IsFront (top + 1) items (i ∷ is)
@@ -166,10 +168,10 @@ is_later got top i g e le =
     ⊎_elim
     (λ (h : (top ≡ 0) × (got ≡ None)). let z : top ≡ 0 = h.0 in omega arith)
     (λ (h : (p : ℕ) × (top ≡ p + 1) × (got ≡ Some (sequence_at p))).
-      ⊎_elim
-      (λ (d : h.0 ≡ i). absurd (last-false got (sequence_at i) e (h.2 ∙ ap (λ v. Some (sequence_at v)) d)))
-      (λ (d : h.0 ≡ i → ⊥). let t : top ≡ h.0 + 1 = h.1 in let n : h.0 ≡ i → ⊥ = d in omega arith)
-      (cases_eq h.0 i))
+    ⊎_elim
+    (λ (d : h.0 ≡ i). absurd (last-false got (sequence_at i) e (h.2 ∙ ap (λ v. Some (sequence_at v)) d)))
+    (λ (d : h.0 ≡ i → ⊥). let t : top ≡ h.0 + 1 = h.1 in let n : h.0 ≡ i → ⊥ = d in omega arith)
+    (cases_eq h.0 i))
     g
 
 -- an item with the last received sequence is that one, where it is at most one beyond
@@ -178,13 +180,13 @@ is_again got top i g e le ge =
     ⊎_elim
     (λ (h : (top ≡ 0) × (got ≡ None)). let q : got ≡ Some (sequence_at i) = last-true got (sequence_at i) e in let z : None ≡ Some (sequence_at i) = sym h.1 ∙ q in absurd cc)
     (λ (h : (p : ℕ) × (top ≡ p + 1) × (got ≡ Some (sequence_at p))).
-      ⊎_elim
-      (λ (d : i ≡ h.0 + 1).
-        let q : Some (sequence_at h.0) ≡ Some (sequence_at i) = sym h.2 ∙ last-true got (sequence_at i) e in
-        let s : sequence_at i ≡ sequence_at h.0 = cc in
-        absurd (next_differs i h.0 d s))
-      (λ (d : i ≡ h.0 + 1 → ⊥). let t : top ≡ h.0 + 1 = h.1 in omega arith)
-      (cases_eq i (h.0 + 1)))
+    ⊎_elim
+    (λ (d : i ≡ h.0 + 1).
+    let q : Some (sequence_at h.0) ≡ Some (sequence_at i) = sym h.2 ∙ last-true got (sequence_at i) e in
+    let s : sequence_at i ≡ sequence_at h.0 = cc in
+    absurd (next_differs i h.0 d s))
+    (λ (d : i ≡ h.0 + 1 → ⊥). let t : top ≡ h.0 + 1 = h.1 in omega arith)
+    (cases_eq i (h.0 + 1)))
     g
 
 -- ---- the line
@@ -293,17 +295,17 @@ submits_ordered payload l h =
 stops_ordered : (l : Line) → Ordered l → Ordered (stops l)
 stops_ordered l h =
     changed l (record { next = l.sender.next; sending = None; received = l.sender.received }) l.requests (l.dropped || is_some l.sender.sending) h h.requests
-      (record { next = h.sends.next; sending = tt })
-      (λ s. (or_false l.dropped (is_some l.sender.sending) s).0)
-      (λ s. (or_false l.dropped (is_some l.sender.sending) s).1)
+    (record { next = h.sends.next; sending = tt })
+    (λ s. (or_false l.dropped (is_some l.sender.sending) s).0)
+    (λ s. (or_false l.dropped (is_some l.sender.sending) s).1)
 
 -- what is sent again is the latest item
 again_rises : (l : Line) (x : Sending) (h : Ordered l) → IsLatest (length l.submitted) l.submitted x → Rises h.base l.submitted (l.requests ++ sent (length l.submitted - 1) (Some x))
 again_rises l x h latest =
     let some : 0 < length l.submitted = latest.some in
     rises_push h.base l.submitted (record { sequence = x.sequence; item = record { number = length l.submitted - 1; payload = x.payload } }) l.requests h.numbered (omega arith)
-      (record { low = h.low; sequence = latest.sequence; among = latest.among })
-      h.requests
+    (record { low = h.low; sequence = latest.sequence; among = latest.among })
+    h.requests
 
 nothing_more : (base : ℕ) (items : List Item) (rs : List Request) → Rises base items rs → Rises base items (rs ++ [])
 nothing_more base items rs h = subst (Rises base items) (sym (append-nil rs)) h
@@ -313,10 +315,10 @@ due_rises : (l : Line) (x : Sending) (beat : ℕ) (h : Ordered l) → IsLatest (
     → Rises h.base l.submitted (l.requests ++ sent_again (beat_at beat) (length l.submitted - 1) (Some x))
 due_rises l x beat h latest e =
     rw e
-      (elim (is_due beat) as (λ b. Rises h.base l.submitted (l.requests ++ sent_again (cond b due.SendAgain due.Nothing) (length l.submitted - 1) (Some x))) [
-        | true ↦ again_rises l x h latest
-        | false ↦ nothing_more h.base l.submitted l.requests h.requests
-      ])
+    (elim (is_due beat) as (λ b. Rises h.base l.submitted (l.requests ++ sent_again (cond b due.SendAgain due.Nothing) (length l.submitted - 1) (Some x))) [
+      | true ↦ again_rises l x h latest
+      | false ↦ nothing_more h.base l.submitted l.requests h.requests
+    ])
 
 due_keeps : (beat : ℕ) → (beat == 12) ≡ false → gives_up (beat_at beat) ≡ false
 due_keeps beat e = rw e (elim (is_due beat) as (λ b. gives_up (cond b due.SendAgain due.Nothing) ≡ false) [ true ↦ refl | false ↦ refl ])
@@ -329,10 +331,10 @@ beats_by : (l : Line) (o : Option Sending) → l.sender.sending ≡ o → Ordere
     })
 beats_by l None e h =
     changed l (record { next = l.sender.next; sending = None; received = l.sender.received }) (l.requests ++ []) (l.dropped || false) h
-      (nothing_more h.base l.submitted l.requests h.requests)
-      (record { next = h.sends.next; sending = tt })
-      (λ s. (or_false l.dropped false s).0)
-      (λ s. ap is_some e)
+    (nothing_more h.base l.submitted l.requests h.requests)
+    (record { next = h.sends.next; sending = tt })
+    (λ s. (or_false l.dropped false s).0)
+    (λ s. ap is_some e)
 beats_by l (Some x) e h =
     let latest : IsLatest (length l.submitted) l.submitted x = subst (λ o. IfSome o (IsLatest (length l.submitted) l.submitted)) e h.sends.sending in
     elim (x.beats + 1 == 12) as (λ b. (x.beats + 1 == 12) ≡ b → Ordered (record l {
@@ -341,17 +343,17 @@ beats_by l (Some x) e h =
       dropped = l.dropped || gives_up (beat_at (x.beats + 1));
     })) [
       | true ↦ λ t.
-        let g : beat_at (x.beats + 1) ≡ due.GaveUp = rw t refl in
-        changed l (record { next = l.sender.next; sending = None; received = l.sender.received }) (l.requests ++ sent_again (beat_at (x.beats + 1)) (length l.submitted - 1) (Some x))
+          let g : beat_at (x.beats + 1) ≡ due.GaveUp = rw t refl in
+          changed l (record { next = l.sender.next; sending = None; received = l.sender.received }) (l.requests ++ sent_again (beat_at (x.beats + 1)) (length l.submitted - 1) (Some x))
           (l.dropped || gives_up (beat_at (x.beats + 1))) h
           (subst (λ d. Rises h.base l.submitted (l.requests ++ sent_again d (length l.submitted - 1) (Some x))) (sym g) (nothing_more h.base l.submitted l.requests h.requests))
           (record { next = h.sends.next; sending = tt })
           (λ s. (or_false l.dropped (gives_up (beat_at (x.beats + 1))) s).0)
           (λ s. let n : gives_up (beat_at (x.beats + 1)) ≡ false = (or_false l.dropped (gives_up (beat_at (x.beats + 1))) s).1 in
-            let y : gives_up (beat_at (x.beats + 1)) ≡ true = ap gives_up g in
-            absurd cc)
+          let y : gives_up (beat_at (x.beats + 1)) ≡ true = ap gives_up g in
+          absurd cc)
       | false ↦ λ t.
-        changed l (record { next = l.sender.next; sending = Some (record { sequence = x.sequence; beats = x.beats + 1; payload = x.payload }); received = l.sender.received })
+          changed l (record { next = l.sender.next; sending = Some (record { sequence = x.sequence; beats = x.beats + 1; payload = x.payload }); received = l.sender.received })
           (l.requests ++ sent_again (beat_at (x.beats + 1)) (length l.submitted - 1) (Some x)) (l.dropped || gives_up (beat_at (x.beats + 1))) h
           (due_rises l x (x.beats + 1) h latest t)
           (record { next = h.sends.next; sending = record { some = latest.some; sequence = latest.sequence; among = latest.among } })
@@ -378,13 +380,13 @@ reach : (l : Line) (h : Ordered l) → l.dropped ≡ false → (i : ℕ) → i <
 reach l h s i high =
     ⊎_elim
     (λ (e : is_some l.sender.sending ≡ true).
-      let x : (length l.submitted ≤ h.top + 1) × (length l.submitted ≤ h.ack + 2) × (0 < length l.submitted) = h.sending s e in
-      let y : length l.submitted ≤ h.top + 1 = x.0 in
-      omega arith)
+    let x : (length l.submitted ≤ h.top + 1) × (length l.submitted ≤ h.ack + 2) × (0 < length l.submitted) = h.sending s e in
+    let y : length l.submitted ≤ h.top + 1 = x.0 in
+    omega arith)
     (λ (e : is_some l.sender.sending ≡ false).
-      let x : (h.top ≡ length l.submitted) × (length l.submitted ≤ h.ack + 1) = h.idle s e in
-      let y : h.top ≡ length l.submitted = x.0 in
-      omega arith)
+    let x : (h.top ≡ length l.submitted) × (length l.submitted ≤ h.ack + 1) = h.idle s e in
+    let y : h.top ≡ length l.submitted = x.0 in
+    omega arith)
     (cases_Bool (is_some l.sender.sending))
 
 receives_ordered : (keep : Bool) (rs : List Request) (l : Line) → l.requests ≡ rs → Ordered l → Ordered (receives keep rs l)
@@ -400,7 +402,7 @@ receives_ordered keep (r ∷ rs) l d h =
     let ack_low : h.ack ≤ h.top - 1 = h.ack_low in
     let same : r.sequence ≡ sequence_at r.item.number = rises.0.sequence in
     let later : is_last l.receiver.received r.sequence ≡ false → h.top ≤ r.item.number =
-      λ e. is_later l.receiver.received h.top r.item.number h.got (ap (is_last l.receiver.received) (sym same) ∙ e) le in
+    λ e. is_later l.receiver.received h.top r.item.number h.got (ap (is_last l.receiver.received) (sym same) ∙ e) le in
     record {
       top = r.item.number + 1;
       base = r.item.number;
@@ -453,7 +455,7 @@ unless_none : (a : ℕ) (o : Option Sending) (P : Sending → Type 0) → IfSome
 unless_none a None P h e = inr refl
 unless_none a (Some x) P h e =
     elim (x.sequence == a) as (λ b. (x.sequence == a) ≡ b → is_some (cond b None (Some x)) ≡ false
-        → ((y : Sending) × (y.sequence ≡ a) × P y × (is_some (Some x) ≡ true)) ⊎ (is_some (Some x) ≡ false)) [
+    → ((y : Sending) × (y.sequence ≡ a) × P y × (is_some (Some x) ≡ true)) ⊎ (is_some (Some x) ≡ false)) [
       | true ↦ λ t g. inl (x, eqb-true x.sequence a t, h, refl)
       | false ↦ λ t g. absurd cc
     ] refl e
@@ -485,18 +487,18 @@ hears_ordered keep (a ∷ rest) l d h =
           let y : length l.submitted ≤ h.ack + 2 = x.1 in
           (x.0, omega arith, x.2));
       idle = λ s e.
-        ⊎_elim
-        (λ (o : (x : Sending) × (x.sequence ≡ a) × IsLatest (length l.submitted) l.submitted x × (is_some l.sender.sending ≡ true)).
+          ⊎_elim
+          (λ (o : (x : Sending) × (x.sequence ≡ a) × IsLatest (length l.submitted) l.submitted x × (is_some l.sender.sending ≡ true)).
           let x : (length l.submitted ≤ h.top + 1) × (length l.submitted ≤ h.ack + 2) × (0 < length l.submitted) = h.sending s o.3 in
           let y : length l.submitted ≤ h.ack + 2 = x.1 in
           let z : 0 < length l.submitted = x.2 in
           let q : acks.0 + 1 ≡ length l.submitted = own_ack (length l.submitted) acks.0 (sym acks.3 ∙ sym o.1 ∙ o.2.sequence) z (omega arith) (omega arith) in
           (omega arith, omega arith))
-        (λ (o : is_some l.sender.sending ≡ false).
+          (λ (o : is_some l.sender.sending ≡ false).
           let x : (h.top ≡ length l.submitted) × (length l.submitted ≤ h.ack + 1) = h.idle s o in
           let y : length l.submitted ≤ h.ack + 1 = x.1 in
           (x.0, omega arith))
-        (unless_none a l.sender.sending (IsLatest (length l.submitted) l.submitted) h.sends.sending e);
+          (unless_none a l.sender.sending (IsLatest (length l.submitted) l.submitted) h.sends.sending e);
     }
 
 lost_ack : (place : ℕ) (l : Line) → Ordered l → Ordered (record l { acknowledgements = without place l.acknowledgements })
@@ -519,6 +521,35 @@ lost_ack place l h = record {
   idle = h.idle;
 }
 
+-- ---- calls for the opposite way
+
+same_received : (c : Call) (s : State) → s.received ≡ (sending_call c s).received
+same_received (calls.Submit payload) s = refl
+same_received calls.Stop s = refl
+same_received (calls.Acked sequence) s = refl
+same_received (calls.Received sequence) s = refl
+same_received calls.Beat s = refl
+
+other_call : (c : Call) (l : Line) → Ordered l → Ordered (record l { receiver = sending_call c l.receiver })
+other_call c l h = record {
+  top = h.top;
+  base = h.base;
+  ack = h.ack;
+  numbered = h.numbered;
+  sends = h.sends;
+  got = subst (Got h.top) (same_received c l.receiver) h.got;
+  requests = h.requests;
+  near = h.near;
+  low = h.low;
+  few = h.few;
+  handed = h.handed;
+  acks = h.acks;
+  ack_low = h.ack_low;
+  front = h.front;
+  sending = h.sending;
+  idle = h.idle;
+}
+
 -- ---- all steps
 
 stepped_ordered : (s : Step) (l : Line) → Ordered l → Ordered (stepped s l)
@@ -530,6 +561,9 @@ stepped_ordered (LoseRequest place) l h =
     changed l l.sender (without place l.requests) l.dropped h (rises_without place h.base l.submitted l.requests h.requests) h.sends (λ s. s) (λ s. refl)
 stepped_ordered (Hear keep) l h = hears_ordered keep l.acknowledgements l refl h
 stepped_ordered (LoseAcknowledgement place) l h = lost_ack place l h
+stepped_ordered (OtherRequest sequence) l h =
+    changed l (heard sequence l.sender) l.requests l.dropped h h.requests (record { next = h.sends.next; sending = h.sends.sending }) (λ s. s) (λ s. refl)
+stepped_ordered (OtherCall c) l h = other_call c l h
 
 run_ordered : (ss : List Step) (l : Line) → Ordered l → Ordered (run l ss)
 run_ordered [] l h = h
@@ -541,13 +575,14 @@ run_ordered (s ∷ ss) l h = run_ordered ss (stepped s l) (stepped_ordered s l h
 handed_fewer : (top : ℕ) (x : Item) (items is : List Item) → x.number ≡ length items → top ≤ length items → AreHanded top (x ∷ items) is → AreHanded top items is
 handed_fewer top x items [] e le h = tt
 handed_fewer top x items (i ∷ is) e le h =
-    let low : i.number < top = h.0 in
-    (h.0,
+    let low : i.number < top = h.0 in (
+      h.0,
       ⊎_elim
-      (λ (same : i ≡ x). let q : i.number ≡ length items = ap (λ y. y.number) same ∙ e in absurd (omega arith))
-      (λ (m : IsAmong i items). m)
-      h.1,
-      handed_fewer i.number x items is e (omega arith) h.2)
+          (λ (same : i ≡ x). let q : i.number ≡ length items = ap (λ y. y.number) same ∙ e in absurd (omega arith))
+          (λ (m : IsAmong i items). m)
+          h.1,
+      handed_fewer i.number x items is e (omega arith) h.2,
+    )
 
 subsequence_from : (top : ℕ) (is items : List Item) → IsNumbered items → AreHanded top items is → IsSubsequence is items
 subsequence_from top [] items n h = tt
@@ -555,11 +590,11 @@ subsequence_from top (i ∷ is) [] n h = absurd h.1
 subsequence_from top (i ∷ is) (x ∷ items) n h =
     ⊎_elim
     (λ (e : i ≡ x).
-      let q : i.number ≡ length items = ap (λ y. y.number) e ∙ n.0 in
-      inl (e, subsequence_from i.number is items n.1 (handed_fewer i.number x items is n.0 (omega arith) h.2)))
+    let q : i.number ≡ length items = ap (λ y. y.number) e ∙ n.0 in
+    inl (e, subsequence_from i.number is items n.1 (handed_fewer i.number x items is n.0 (omega arith) h.2)))
     (λ (m : IsAmong i items).
-      let q : i.number < length items = number_low i items n.1 m in
-      inr (subsequence_from (i.number + 1) (i ∷ is) items n.1 (handed_fewer (i.number + 1) x items (i ∷ is) n.0 (omega arith) (omega arith, h.1, h.2))))
+    let q : i.number < length items = number_low i items n.1 m in
+    inr (subsequence_from (i.number + 1) (i ∷ is) items n.1 (handed_fewer (i.number + 1) x items (i ∷ is) n.0 (omega arith) (omega arith, h.1, h.2))))
     h.1
 
 falls_from : (top n : ℕ) (items is : List Item) → top ≤ n → AreHanded top items is → FallsBelow n is

@@ -3,7 +3,8 @@ use Rattle.std.proofs.Common.{◌≡◌, ℕ, ◌+◌, ◌==◌, ◌<◌, ◌≤
 use Rattle.std.specs.Prelude.{IfSome}
 use Rattle.std.specs.Option.{ForSome}
 use Rattle.std.proofs.lemmas.Bool.{eqb-false}
-use Rattle.exb_ecp.specs.Machine.{Sending, State, new_state, after, submitted, stopped, unless_sequence, acknowledged, heard, aged, beaten, IsOutstanding, IsSound}
+use Rattle.exb_ecp.specs.Calls.{Call, Submit, Stop, Acked, Received, Beat, called, CanBeCalled, KeepsSound}
+use Rattle.exb_ecp.specs.Machine.{Sending, State, after, unless_sequence, aged, IsOutstanding, IsSound}
 use Rattle.exb_ecp.specs.Sent.{sending_of, IsKept}
 use Rattle.exb_ecp.proofs.Sequences.{after_fits}
 
@@ -25,41 +26,33 @@ fields_sound latest beats payload received k = record {
   received = received_sound received k.received;
 }
 
--- ---- steps
-
-pub begins : IsSound new_state
-begins = record { next = omega arith; sending = tt; received = tt }
-
-pub submits : (payload : List ℕ) (s : State) → length payload ≤ 1024 → IsSound s → IsSound (submitted payload s)
-submits payload s few h = record {
-  next = after_fits s.next h.next;
-  sending = record { sequence = h.next; latest = refl; beats = omega arith; payload = few };
-  received = h.received;
-}
-
-pub stops : (s : State) → IsSound s → IsSound (stopped s)
-stops s h = record { next = h.next; sending = tt; received = h.received }
+-- ---- calls
 
 unless_sound : (next sequence : ℕ) (o : Option Sending) → IfSome o (IsOutstanding next) → IfSome (unless_sequence sequence o) (IsOutstanding next)
 unless_sound next sequence None h = tt
 unless_sound next sequence (Some x) h =
     elim (x.sequence == sequence) as (λ b. IfSome (cond b None (Some x)) (IsOutstanding next)) [ true ↦ tt | false ↦ h ]
 
-pub acknowledges : (sequence : ℕ) (s : State) → IsSound s → IsSound (acknowledged sequence s)
-acknowledges sequence s h = record { next = h.next; sending = unless_sound s.next sequence s.sending h.sending; received = h.received }
-
-pub hears : (sequence : ℕ) (s : State) → sequence < 65536 → IsSound s → IsSound (heard sequence s)
-hears sequence s fits h = record { next = h.next; sending = h.sending; received = fits }
-
 aged_sound : (next : ℕ) (o : Option Sending) → IfSome o (IsOutstanding next) → IfSome (aged o) (IsOutstanding next)
 aged_sound next None h = tt
 aged_sound next (Some x) h =
     elim (x.beats + 1 == 12) as (λ b. (x.beats + 1 == 12) ≡ b
-        → IfSome (cond b None (Some (record { sequence = x.sequence; beats = x.beats + 1; payload = x.payload }))) (IsOutstanding next)) [
+    → IfSome (cond b None (Some (record { sequence = x.sequence; beats = x.beats + 1; payload = x.payload }))) (IsOutstanding next)) [
       | true ↦ λ e. tt
       | false ↦ λ e. (let n : x.beats + 1 ≡ 12 → ⊥ = eqb-false (x.beats + 1) 12 e in let m : x.beats < 12 = h.beats in
           record { sequence = h.sequence; latest = h.latest; beats = omega arith; payload = h.payload })
     ] refl
 
-pub beats : (s : State) → IsSound s → IsSound (beaten s)
-beats s h = record { next = h.next; sending = aged_sound s.next s.sending h.sending; received = h.received }
+keeps : (c : Call) (s : State) → CanBeCalled c → IsSound s → IsSound (called c s)
+keeps (Submit payload) s few h = record {
+  next = after_fits s.next h.next;
+  sending = record { sequence = h.next; latest = refl; beats = omega arith; payload = few };
+  received = h.received;
+}
+keeps Stop s given h = record { next = h.next; sending = tt; received = h.received }
+keeps (Acked sequence) s given h = record { next = h.next; sending = unless_sound s.next sequence s.sending h.sending; received = h.received }
+keeps (Received sequence) s fits h = record { next = h.next; sending = h.sending; received = fits }
+keeps Beat s given h = record { next = h.next; sending = aged_sound s.next s.sending h.sending; received = h.received }
+
+pub keeps_sound : KeepsSound
+keeps_sound = record { begins = record { next = omega arith; sending = tt; received = tt }; keeps = keeps }

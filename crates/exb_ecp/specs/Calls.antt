@@ -1,9 +1,9 @@
 -- What an end sends after any list of calls, told by its last submit and the calls since. A list has its newest call first.
-use Rattle.std.specs.Prelude.{◌≡◌, ℕ, suc, ◌+◌, ◌%◌, ◌==◌, ◌||◌, Bool, true, false, List, [], ◌∷◌, Option, Some, None, nat_le, if◌then◌else◌}
+use Rattle.std.specs.Prelude.{◌≡◌, ℕ, suc, ◌+◌, ◌%◌, ◌<◌, ◌≤◌, ◌==◌, ◌||◌, Bool, true, false, List, [], ◌∷◌, length, Option, Some, None, nat_le, if◌then◌else◌, ⊤}
 use Rattle.std.specs.List.{list_any}
 use Rattle.exb_ecp.specs.declared.stop_and_wait.Beat.{Beat as Due}
 use Rattle.exb_ecp.specs.declared.stop_and_wait.Beat.TheVariants as due
-use Rattle.exb_ecp.specs.Machine.{Sending, State, new_state, submitted, stopped, acknowledged, heard, beaten, beat_at, beat_of}
+use Rattle.exb_ecp.specs.Machine.{Sending, State, new_state, submitted, stopped, acknowledged, heard, beaten, beat_at, beat_of, IsSound}
 
 pub data Call : Type 0 where
   Submit : List ℕ → Call
@@ -87,3 +87,13 @@ pub record IsTold (calls : List Call) : Type 0 where
   pub sending : (state_after calls).sending ≡ still_sent (last_submit calls)
   pub due : beat_of (state_after calls).sending ≡ due_after (last_submit calls)
   pub received : (state_after calls).received ≡ last_received calls
+
+-- what a call may be given
+abbrev pub CanBeCalled : Call → Type 0
+CanBeCalled (Submit payload) = length payload ≤ 1024
+CanBeCalled (Received sequence) = sequence < 65536
+CanBeCalled _ = ⊤
+
+pub record KeepsSound : Type 0 where
+  pub begins : IsSound new_state
+  pub keeps : (c : Call) (s : State) → CanBeCalled c → IsSound s → IsSound (called c s)

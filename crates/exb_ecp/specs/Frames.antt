@@ -31,8 +31,8 @@ header_in frame = record { acknowledgement = operation frame == 1; subtype = sub
 abbrev pub pdu_in : List ℕ → Result Pdu EcpFault
 pdu_in frame =
     if is_ecp frame
-      then (if nat_lt (length frame) 18 then Err Cut else (if version frame == 1 then (if nat_lt 1 (operation frame) then Err Operation else Ok (header_in frame)) else Err Version))
-      else Err NotEcp
+    then (if nat_lt (length frame) 18 then Err Cut else (if version frame == 1 then (if nat_lt 1 (operation frame) then Err Operation else Ok (header_in frame)) else Err Version))
+    else Err NotEcp
 
 -- what can be written
 pub record CanBeWritten (p : Pdu) (payload : List ℕ) : Type 0 where

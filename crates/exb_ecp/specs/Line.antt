@@ -2,6 +2,7 @@
 use Rattle.std.specs.Prelude.{◌≡◌, ◌⊎◌, ℕ, zero, suc, ◌+◌, ◌-◌, ◌<◌, ◌||◌, ◌++◌, Bool, true, false, List, [], ◌∷◌, length, Option, Some, None, is_some, if◌then◌else◌, ⊤}
 use Rattle.exb_ecp.specs.declared.stop_and_wait.Beat.{Beat as Due}
 use Rattle.exb_ecp.specs.declared.stop_and_wait.Beat.TheVariants as due
+use Rattle.exb_ecp.specs.Calls.{Call, Received, called}
 use Rattle.exb_ecp.specs.Machine.{Sending, State, new_state, submitted, stopped, acknowledged, heard, is_fresh, beaten, beat_of}
 
 -- what was submitted: its number, counted from 0, tells it from others with the same payload
@@ -37,6 +38,9 @@ pub data Step : Type 0 where
   -- likewise the acknowledgements on their way to the sender
   Hear : Bool → Step
   LoseAcknowledgement : ℕ → Step
+  -- meanwhile, for the opposite way: a request comes to the sender's end, and the receiver's end makes a call for what it sends
+  OtherRequest : ℕ → Step
+  OtherCall : Call → Step
 
 -- without the word at a place
 abbrev pub without : {A : Type 0} → ℕ → List A → List A
@@ -97,6 +101,10 @@ abbrev pub hears : Bool → List ℕ → Line → Line
 hears keep [] l = l
 hears keep (a ∷ rest) l = record l { sender = acknowledged a l.sender; acknowledgements = left_over keep a rest }
 
+abbrev pub sending_call : Call → State → State
+sending_call (Received sequence) s = s
+sending_call c s = called c s
+
 abbrev pub stepped : Step → Line → Line
 stepped (Submit payload) l = submits payload l
 stepped Stop l = stops l
@@ -105,6 +113,8 @@ stepped (Receive keep) l = receives keep l.requests l
 stepped (LoseRequest place) l = record l { requests = without place l.requests }
 stepped (Hear keep) l = hears keep l.acknowledgements l
 stepped (LoseAcknowledgement place) l = record l { acknowledgements = without place l.acknowledgements }
+stepped (OtherRequest sequence) l = record l { sender = heard sequence l.sender }
+stepped (OtherCall c) l = record l { receiver = sending_call c l.receiver }
 
 abbrev pub new_line : Line
 new_line = record { sender = new_state; receiver = new_state; requests = []; acknowledgements = []; submitted = []; handed = []; dropped = false }

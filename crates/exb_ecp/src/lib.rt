@@ -4,7 +4,6 @@
 //! is handed up is what was submitted, in order and each at most once. It stands on exb_model.
 #![tactic(auto)]
 
-
 pub mod laws;
 mod pdu;
 mod stop_and_wait;

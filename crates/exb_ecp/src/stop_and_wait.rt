@@ -62,7 +62,11 @@ impl Ecp {
         ensures step { self.new ≡ submitted payload.now self.old }
         ensures sequence { result ≡ self.old.next }
     {
-        self.latest = if self.latest == u16::MAX { 0 } else { self.latest + 1 };
+        self.latest = if self.latest == u16::MAX {
+            0
+        } else {
+            self.latest + 1
+        };
         self.beats = Some(0);
         self.payload.clear();
         let _ = self.payload.try_extend_from_slice(payload);
