@@ -1,6 +1,7 @@
 //! The machine of one end: it sends one payload until it is acknowledged, stopped or given up, and tells a
 //! request that is new from one that came before.
 ghost use Rattle.std.specs.Prelude.{◌≡◌, ◌≤◌, length, None, IfSome, IsTrue, ◌↔◌};
+ghost use Rattle.exb_ecp.specs.Machine.{after};
 
 use arrayvec::ArrayVec;
 use std::marker::Model;
@@ -38,8 +39,19 @@ impl Model for Ecp {
     ghost invariant = { λ e. IsKept e.latest e.beats e.payload.items e.received };
 }
 
+/// The sequence after this one.
+#[tactic(auto, unfolding(crate::specs::Machine::after))]
+fn next_sequence(sequence: u16) -> u16
+    ensures { result ≡ after sequence }
+{
+    match sequence {
+        u16::MAX => 0,
+        _ => sequence + 1,
+    }
+}
+
 impl Ecp {
-    ghost use Rattle.exb_ecp.specs.Machine.{new_state, after, submitted, stopped, acknowledged, heard, is_fresh, beaten, beat_of, sent_payload, IsSound};
+    ghost use Rattle.exb_ecp.specs.Machine.{new_state, submitted, stopped, acknowledged, heard, is_fresh, beaten, beat_of, sent_payload, IsSound};
 
     /// An end that sends nothing and has received nothing. Its first sequence is 1.
     #[tactic(auto, unfolding(crate::specs::Machine::after))]
@@ -55,18 +67,13 @@ impl Ecp {
     }
 
     /// Begins to send a payload of at most 1,024 bytes, and answers its sequence. The caller sends it now.
-    #[tactic(auto, unfolding(crate::specs::Machine::after))]
     pub fn submit(&mut self, payload: &[u8]) -> u16
         requires idle { self.old.sending ≡ None }
         requires fits { length payload.now ≤ 1024 }
         ensures step { self.new ≡ submitted payload.now self.old }
         ensures sequence { result ≡ self.old.next }
     {
-        self.latest = if self.latest == u16::MAX {
-            0
-        } else {
-            self.latest + 1
-        };
+        self.latest = next_sequence(self.latest);
         self.beats = Some(0);
         self.payload.clear();
         let _ = self.payload.try_extend_from_slice(payload);
