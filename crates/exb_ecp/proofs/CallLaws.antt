@@ -1,12 +1,11 @@
 -- What is sent after any list of calls is told by the last submit and the calls since.
-use Rattle.std.proofs.Common.{◌≡◌, ◌⊎◌, inl, inr, ⊎_elim, ℕ, zero, suc, ◌+◌, ◌%◌, ◌==◌, ◌||◌, ◌≤◌, ◌<◌, Bool, true, false, cond, List, [], ◌∷◌, Option, Some, None, refl, ap, sym, ◌∙◌, subst, arith}
+use Rattle.std.proofs.Common.{◌≡◌, ⊎_elim, ℕ, suc, ◌+◌, ◌%◌, ◌==◌, ◌||◌, ◌≤◌, ◌<◌, Bool, true, false, cond, List, [], ◌∷◌, Option, Some, None, refl, ap, ◌∙◌, arith}
 use Rattle.std.specs.Prelude.{nat_le}
 use Rattle.std.specs.List.{list_any}
-use Rattle.std.proofs.lemmas.Bool.{eqb-true, eqb-false, le-leb, lt-leb, leb-true, leb-false, eq-eqb, ne_eqb, cases_Bool}
-use Rattle.exb_ecp.specs.declared.stop_and_wait.Beat.{Beat as Due}
+use Rattle.std.proofs.lemmas.Bool.{eqb-true, eqb-false, le-leb, lt-leb, leb-true, leb-false, cases_Bool}
 use Rattle.exb_ecp.specs.declared.stop_and_wait.Beat.TheVariants as due
-use Rattle.exb_ecp.specs.Machine.{Sending, State, after, unless_sequence, aged, beat_at, beat_of}
-use Rattle.exb_ecp.specs.Calls.{Call, Submit, Stop, Acked, Received, Beat, called, state_after, is_submit, is_beat, ends, sequence_of, Submitted, submit_at, times, last_submit, last_received, is_over, still_sent, due_after, IsTold}
+use Rattle.exb_ecp.specs.Machine.{Sending, after, unless_sequence, aged, beat_at, beat_of}
+use Rattle.exb_ecp.specs.Calls.{Call, Submit, Stop, Acked, Received, Beat, state_after, is_submit, is_beat, ends, sequence_of, Submitted, submit_at, times, last_submit, last_received, is_over, still_sent, due_after, IsTold}
 
 after_sequence : (n : ℕ) → after (sequence_of n) ≡ sequence_of (suc n)
 unfolding after

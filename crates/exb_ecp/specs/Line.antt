@@ -1,5 +1,5 @@
 -- A sender and a receiver, and two directions between them that keep order, and may lose words and repeat them.
-use Rattle.std.specs.Prelude.{◌≡◌, ◌⊎◌, ℕ, zero, suc, ◌+◌, ◌-◌, ◌<◌, ◌||◌, ◌++◌, Bool, true, false, List, [], ◌∷◌, length, Option, Some, None, is_some, if◌then◌else◌, ⊤}
+use Rattle.std.specs.Prelude.{◌≡◌, ◌⊎◌, ℕ, zero, suc, ◌-◌, ◌<◌, ◌||◌, ◌++◌, Bool, true, false, List, [], ◌∷◌, length, Option, Some, None, is_some, if◌then◌else◌, ⊤}
 use Rattle.exb_ecp.specs.declared.stop_and_wait.Beat.{Beat as Due}
 use Rattle.exb_ecp.specs.declared.stop_and_wait.Beat.TheVariants as due
 use Rattle.exb_ecp.specs.Calls.{Call, Received, called}

@@ -1,5 +1,5 @@
 -- Stop and wait: the state of one end, and its steps.
-use Rattle.std.specs.Prelude.{◌≡◌, ℕ, ◌+◌, ◌<◌, ◌≤◌, ◌==◌, ◌||◌, Bool, true, false, List, [], length, not, Option, Some, None, IfSome, if◌then◌else◌}
+use Rattle.std.specs.Prelude.{◌≡◌, ℕ, ◌+◌, ◌<◌, ◌≤◌, ◌==◌, ◌||◌, Bool, false, List, [], length, not, Option, Some, None, IfSome, if◌then◌else◌}
 use Rattle.exb_ecp.specs.declared.stop_and_wait.Beat.{Beat}
 use Rattle.exb_ecp.specs.declared.stop_and_wait.Beat.TheVariants.{Nothing, SendAgain, GaveUp}
 

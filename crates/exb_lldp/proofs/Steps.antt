@@ -1,15 +1,14 @@
 -- One TLV after the other: what is told from an offset on, by the TLV there.
-use Rattle.std.proofs.Common.{◌≡◌, ℕ, zero, suc, ◌+◌, ◌/◌, ◌%◌, ◌≤◌, ◌<◌, ◌==◌, ◌&&◌, Bool, true, false, cond, List, [], ◌∷◌, length, take, drop, Option, Some, None, Result, Ok, Err, refl, sym, ap, ◌∙◌, subst, arith}
+use Rattle.std.proofs.Common.{◌≡◌, ℕ, zero, suc, ◌+◌, ◌/◌, ◌%◌, ◌≤◌, ◌==◌, ◌&&◌, Bool, true, false, cond, List, [], ◌∷◌, length, take, drop, Option, Some, None, Result, Ok, Err, refl, sym, ap, ◌∙◌, subst, arith}
 use Rattle.std.specs.Prelude.{nat_le}
 use Rattle.std.specs.Option.{option_or, ok_or}
 use Rattle.std.proofs.lemmas.Bool.{eqb-true, lt-leb, ne_eqb, eq-eqb}
-use Rattle.exb_lldp.specs.declared.announce.Announce.{Announce}
 use Rattle.exb_lldp.specs.declared.announce.LldpFault.{LldpFault}
 use Rattle.exb_lldp.specs.declared.announce.LldpFault.TheVariants.{NotLldp, Cut, Order, NoExtension}
 use Rattle.exb_lldp.specs.declared.tlv.Place.{Place}
 use Rattle.exb_lldp.specs.declared.tlv.Place.TheVariants.{ChassisId, PortId, TimeToLive, Later}
 use Rattle.exb_lldp.specs.Tlvs.{Tlv, Tlvs, word_at, end_at, tlv_in, with_first, tlvs_within, tlvs_from, is_placed, next_place, first_misplaced, count_in, first_count}
-use Rattle.exb_lldp.specs.Announcing.{is_lldp, verdict, count_told, chassis_in, announcing, told_by, announced}
+use Rattle.exb_lldp.specs.Announcing.{is_lldp, verdict, chassis_in, announced}
 use Rattle.exb_lldp.specs.Lent.{placed_in, if_placed}
 
 -- nothing lies past the end

@@ -1,5 +1,4 @@
 use Rattle.std.proofs.Common.{rules, ◌≡◌, drop, ap, ◌∙◌, arith}
-use Rattle.std.proofs.lemmas.Grind.{common_steps}
 use Rattle.exb_ecp.specs.Frames.{pdu_in, spelling}
 use Rattle.exb_ecp.proofs.Spelled.{pdu_in-spelling, drop-spelling}
 use Rattle.exb_ecp.proofs.pdu.write.Goals as goal

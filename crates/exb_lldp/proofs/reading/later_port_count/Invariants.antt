@@ -1,4 +1,4 @@
-use Rattle.std.proofs.Common.{◌≡◌, ◌-◌, ◌≤◌, length, Option, None}
+use Rattle.std.proofs.Common.{◌≡◌, ◌-◌, ◌≤◌, length, None}
 use Rattle.exb_lldp.specs.declared.tlv.Place.TheVariants.{Later}
 use Rattle.exb_lldp.proofs.Steps.{counted}
 use Rattle.exb_lldp.proofs.reading.later_port_count.Given as goal

@@ -1,4 +1,4 @@
-use Rattle.std.proofs.Common.{◌≡◌, true, Bool, None, Ok, sym, ap, ◌∙◌}
+use Rattle.std.proofs.Common.{None, Ok, sym, ap, ◌∙◌}
 use Rattle.std.proofs.lemmas.Result.{err_from_is_err_and}
 use Rattle.exb_lldp.specs.declared.tlv.Place.TheVariants.{ChassisId, PortId, TimeToLive}
 use Rattle.exb_lldp.specs.Lent.{tlv_of}

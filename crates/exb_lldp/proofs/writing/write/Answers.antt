@@ -1,4 +1,4 @@
-use Rattle.std.proofs.Common.{◌≡◌, length, ap, sym, ◌∙◌, arith}
+use Rattle.std.proofs.Common.{ap, sym, ◌∙◌, arith}
 use Rattle.exb_lldp.specs.Announcing.{announced}
 use Rattle.exb_lldp.proofs.Spelled.{spelling_is, announced-spelling}
 use Rattle.exb_lldp.proofs.writing.write.Goals as goal
