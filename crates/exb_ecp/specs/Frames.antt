@@ -1,31 +1,28 @@
 -- ECP frames: what a header says, and its one spelling.
 use Rattle.std.specs.Prelude.{◌≡◌, ℕ, ◌+◌, ◌*◌, ◌/◌, ◌%◌, ◌<◌, ◌≤◌, ◌==◌, ◌&&◌, ◌++◌, Bool, List, [], ◌∷◌, length, Result, Ok, Err, nat_le, nat_lt, slice_index, if◌then◌else◌}
 use Rattle.exb_model.specs.declared.address.Mac.{Mac}
+use Rattle.exb_model.specs.Frames.{number_at, two_bytes}
 use Rattle.exb_ecp.specs.declared.pdu.Pdu.{Pdu}
 use Rattle.exb_ecp.specs.declared.pdu.EcpFault.{EcpFault}
 use Rattle.exb_ecp.specs.declared.pdu.EcpFault.TheVariants.{NotEcp, Cut, Version, Operation}
 
--- the number in two bytes, the higher first
-abbrev pub word_at : List ℕ → ℕ → ℕ
-word_at frame at = slice_index frame at * 256 + slice_index frame (at + 1)
-
 -- the destination 01-80-C2-00-00-0E, and EtherType 8940 at byte 12
 abbrev pub is_ecp : List ℕ → Bool
-is_ecp frame = nat_le 14 (length frame) && ((word_at frame 0 == 384 && (word_at frame 2 == 49664 && word_at frame 4 == 14)) && word_at frame 12 == 35136)
+is_ecp frame = nat_le 14 (length frame) && ((number_at frame 0 == 384 && (number_at frame 2 == 49664 && number_at frame 4 == 14)) && number_at frame 12 == 35136)
 
 -- version (4 bits), operation (2) and subtype (10) at byte 14
 abbrev pub version : List ℕ → ℕ
-version frame = word_at frame 14 / 4096
+version frame = number_at frame 14 / 4096
 
 -- 0 is a request, 1 an acknowledgement
 abbrev pub operation : List ℕ → ℕ
-operation frame = word_at frame 14 / 1024 % 4
+operation frame = number_at frame 14 / 1024 % 4
 
 abbrev pub subtype : List ℕ → ℕ
-subtype frame = word_at frame 14 % 1024
+subtype frame = number_at frame 14 % 1024
 
 abbrev pub header_in : List ℕ → Pdu
-header_in frame = record { acknowledgement = operation frame == 1; subtype = subtype frame; sequence = word_at frame 16; payload_at = 18 }
+header_in frame = record { acknowledgement = operation frame == 1; subtype = subtype frame; sequence = number_at frame 16; payload_at = 18 }
 
 -- what the header of a frame says, or its first fault
 abbrev pub pdu_in : List ℕ → Result Pdu EcpFault
@@ -39,10 +36,6 @@ pub record CanBeWritten (p : Pdu) (payload : List ℕ) : Type 0 where
   pub subtype : p.subtype < 1024
   pub place : p.payload_at ≡ 18
   pub length : length payload ≤ 1024
-
--- two bytes, the higher first
-abbrev pub two_bytes : ℕ → List ℕ
-two_bytes n = n / 256 ∷ n % 256 ∷ []
 
 -- an acknowledgement has no payload
 abbrev pub carried : Pdu → List ℕ → List ℕ

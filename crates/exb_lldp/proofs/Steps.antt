@@ -3,11 +3,12 @@ use Rattle.std.proofs.Common.{◌≡◌, ℕ, zero, suc, ◌+◌, ◌/◌, ◌%�
 use Rattle.std.specs.Prelude.{nat_le}
 use Rattle.std.specs.Option.{option_or, ok_or}
 use Rattle.std.proofs.lemmas.Bool.{eqb-true, lt-leb, ne_eqb, eq-eqb}
+use Rattle.exb_model.specs.Frames.{number_at}
 use Rattle.exb_lldp.specs.declared.announce.LldpFault.{LldpFault}
 use Rattle.exb_lldp.specs.declared.announce.LldpFault.TheVariants.{NotLldp, Cut, Order, NoExtension}
 use Rattle.exb_lldp.specs.declared.tlv.Place.{Place}
 use Rattle.exb_lldp.specs.declared.tlv.Place.TheVariants.{ChassisId, PortId, TimeToLive, Later}
-use Rattle.exb_lldp.specs.Tlvs.{Tlv, Tlvs, word_at, end_at, tlv_in, with_first, tlvs_within, tlvs_from, is_placed, next_place, first_misplaced, count_in, first_count}
+use Rattle.exb_lldp.specs.Tlvs.{Tlv, Tlvs, end_at, tlv_in, with_first, tlvs_within, tlvs_from, is_placed, next_place, first_misplaced, count_in, first_count}
 use Rattle.exb_lldp.specs.Announcing.{is_lldp, verdict, chassis_in, announced}
 use Rattle.exb_lldp.specs.Lent.{placed_in, if_placed}
 
@@ -32,7 +33,7 @@ from_step frame at = within_enough (length frame) (suc (length frame)) frame at 
 in_at : (frame : List ℕ) (at : ℕ) (t : Tlv) → tlv_in frame at ≡ Some t → t.at ≡ at
 unfolding tlv_in
 in_at frame at t e =
-    elim (nat_le (end_at frame at) (length frame)) as (λ b. cond b (Some (record { at = at; kind = word_at frame at / 512; value = take (word_at frame at % 512) (drop (at + 2) frame) })) None ≡ Some t → t.at ≡ at) [
+    elim (nat_le (end_at frame at) (length frame)) as (λ b. cond b (Some (record { at = at; kind = number_at frame at / 512; value = take (number_at frame at % 512) (drop (at + 2) frame) })) None ≡ Some t → t.at ≡ at) [
       | true ↦ λ h. cc
       | false ↦ λ h. absurd cc
     ] e

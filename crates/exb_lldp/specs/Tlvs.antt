@@ -1,6 +1,7 @@
 -- The TLVs of a frame (IEEE 802.1AB-2009, 8.4): each a header of 7 bits of type and 9 bits of length, and a value.
 use Rattle.std.specs.Prelude.{ℕ, zero, suc, ◌+◌, ◌*◌, ◌/◌, ◌%◌, ◌==◌, ◌&&◌, Bool, List, [], ◌∷◌, length, Option, Some, None, nat_le, not, slice_index, take, drop, if◌then◌else◌}
 use Rattle.std.specs.Option.{option_or}
+use Rattle.exb_model.specs.Frames.{number_at}
 use Rattle.exb_lldp.specs.declared.tlv.Place.{Place}
 use Rattle.exb_lldp.specs.declared.tlv.Place.TheVariants.{ChassisId, PortId, TimeToLive, Later}
 
@@ -10,19 +11,15 @@ pub record Tlv : Type 0 where
   pub kind : ℕ
   pub value : List ℕ
 
--- the number in two bytes, the higher first
-abbrev pub word_at : List ℕ → ℕ → ℕ
-word_at frame at = slice_index frame at * 256 + slice_index frame (at + 1)
-
 -- where the TLV at an offset ends, by its header
 abbrev pub end_at : List ℕ → ℕ → ℕ
-end_at frame at = at + 2 + word_at frame at % 512
+end_at frame at = at + 2 + number_at frame at % 512
 
 -- the TLV at an offset; none where its header or its value runs past the end
 unfoldable pub tlv_in : List ℕ → ℕ → Option Tlv
 tlv_in frame at =
     if nat_le (end_at frame at) (length frame)
-    then Some (record { at = at; kind = word_at frame at / 512; value = take (word_at frame at % 512) (drop (at + 2) frame) })
+    then Some (record { at = at; kind = number_at frame at / 512; value = take (number_at frame at % 512) (drop (at + 2) frame) })
     else None
 
 -- the TLVs that lie whole in a frame, up to and with the End, and the offset of the one that is cut, if there is no End
