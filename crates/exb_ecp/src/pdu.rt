@@ -42,26 +42,10 @@ pub enum EcpFault {
 fn is_ecp_frame(frame: &[u8]) -> bool
     ensures { result ≡ is_ecp frame.now }
 {
-    matches!(
-        frame,
-        [
-            0x01,
-            0x80,
-            0xC2,
-            0x00,
-            0x00,
-            0x0E,
-            _,
-            _,
-            _,
-            _,
-            _,
-            _,
-            0x89,
-            0x40,
-            ..
-        ]
-    )
+    let [0x01, 0x80, 0xC2, 0x00, 0x00, 0x0E, rest @ ..] = frame else {
+        return false;
+    };
+    matches!(rest, [_, _, _, _, _, _, 0x89, 0x40, ..])
 }
 
 /// What the header of a frame says, or its first fault.

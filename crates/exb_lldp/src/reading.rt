@@ -13,26 +13,10 @@ const FIRST: usize = 14;
 fn is_announcement(frame: &[u8]) -> bool
     ensures { result ≡ is_lldp frame.now }
 {
-    matches!(
-        frame,
-        [
-            0x01,
-            0x80,
-            0xC2,
-            0x00,
-            0x00,
-            0x0E,
-            _,
-            _,
-            _,
-            _,
-            _,
-            _,
-            0x88,
-            0xCC,
-            ..
-        ]
-    )
+    let [0x01, 0x80, 0xC2, 0x00, 0x00, 0x0E, rest @ ..] = frame else {
+        return false;
+    };
+    matches!(rest, [_, _, _, _, _, _, 0x88, 0xCC, ..])
 }
 
 /// The port count that the TLVs after a Time To Live tell.
