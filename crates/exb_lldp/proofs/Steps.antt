@@ -18,7 +18,7 @@ unfolding tlv_in
 in_past frame at le = let e : nat_le (end_at frame at) (length frame) ≡ false = lt-leb _ _ (omega arith) in rw e refl
 
 -- room for more TLVs than there are bytes changes nothing
-within_enough : (m n : ℕ) (frame : List ℕ) (at : ℕ) → length frame ≤ at + m → length frame ≤ at + n → tlvs_within m frame at ≡ tlvs_within n frame at
+pub within_enough : (m n : ℕ) (frame : List ℕ) (at : ℕ) → length frame ≤ at + m → length frame ≤ at + n → tlvs_within m frame at ≡ tlvs_within n frame at
 unfolding tlvs_within
 within_enough zero zero frame at a b = refl
 within_enough zero (suc n) frame at a b = rw (in_past frame at (omega arith)) refl

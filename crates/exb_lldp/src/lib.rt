@@ -5,6 +5,7 @@
 #![tactic(auto)]
 
 mod announce;
+pub mod laws;
 mod reading;
 mod tlv;
 mod writing;
