@@ -5,7 +5,8 @@ use Rattle.std.specs.Option.{ForSome}
 use Rattle.std.proofs.lemmas.Bool.{eqb-false}
 use Rattle.exb_ecp.specs.Calls.{Call, Submit, Stop, Acked, Received, Beat, called, CanBeCalled, KeepsSound}
 use Rattle.exb_ecp.specs.Machine.{Sending, State, after, unless_sequence, aged, IsOutstanding, IsSound}
-use Rattle.exb_ecp.specs.Sent.{sending_of, IsKept}
+use Rattle.exb_ecp.specs.declared.stop_and_wait.Ecp.TheInside.{Inside}
+use Rattle.exb_ecp.specs.Ecp.{sending_of, state_of, IsKept}
 use Rattle.exb_ecp.proofs.Sequences.{after_fits}
 
 sending_sound : (latest : ℕ) (payload : List ℕ) (beats : Option ℕ) → latest < 65536 → ForSome beats (λ n. n < 12) → length payload ≤ 1024
@@ -18,12 +19,11 @@ received_sound None h = tt
 received_sound (Some r) h = h r refl
 
 -- what the fields of an `Ecp` keep
-pub fields_sound : (latest : ℕ) (beats : Option ℕ) (payload : List ℕ) (received : Option ℕ) → IsKept latest beats payload received
-    → IsSound (record { next = after latest; sending = sending_of latest payload beats; received = received })
-fields_sound latest beats payload received k = record {
-  next = after_fits latest k.latest;
-  sending = sending_sound latest payload beats k.latest k.beats k.payload;
-  received = received_sound received k.received;
+pub state_sound : (e : Inside) → IsKept e → IsSound (state_of e)
+state_sound e k = record {
+  next = after_fits e.latest k.latest;
+  sending = sending_sound e.latest e.payload.items e.beats k.latest k.beats k.payload;
+  received = received_sound e.received k.received;
 }
 
 -- ---- calls

@@ -29,14 +29,15 @@ pub struct Ecp {
 }
 
 impl Model for Ecp {
-    ghost use Rattle.exb_ecp.specs.Machine.{State, after};
-    ghost use Rattle.exb_ecp.specs.Sent.{sending_of, IsKept};
+    ghost use Rattle.exb_ecp.specs.Machine.{State};
 
     ghost Value = { State };
 
-    ghost view = { λ e. record { next = after e.latest; sending = sending_of e.latest e.payload.items e.beats; received = e.received } };
+    ghost use Rattle.exb_ecp.specs.Ecp.{state_of, IsKept};
 
-    ghost invariant = { λ e. IsKept e.latest e.beats e.payload.items e.received };
+    ghost view = { state_of };
+
+    ghost invariant = { IsKept };
 }
 
 /// The sequence after this one.

@@ -41,7 +41,7 @@ first_longer : (at : ℕ) (o : Option Tlv) (others longer : Tlvs) → (others.cu
 first_longer at None others longer same e = refl
 first_longer at (Some t) others longer same e =
     elim (t.kind == 0) as (λ b. (cond {A = Tlvs} b (record { all = t ∷ []; cut = None }) (record { all = t ∷ others.all; cut = others.cut })).cut ≡ None
-        → cond {A = Tlvs} b (record { all = t ∷ []; cut = None }) (record { all = t ∷ longer.all; cut = longer.cut }) ≡ cond {A = Tlvs} b (record { all = t ∷ []; cut = None }) (record { all = t ∷ others.all; cut = others.cut })) [
+    → cond {A = Tlvs} b (record { all = t ∷ []; cut = None }) (record { all = t ∷ longer.all; cut = longer.cut }) ≡ cond {A = Tlvs} b (record { all = t ∷ []; cut = None }) (record { all = t ∷ others.all; cut = others.cut })) [
       | true ↦ λ c. refl
       | false ↦ λ c. ap (λ (r : Tlvs). record { all = t ∷ r.all; cut = r.cut }) (same c)
     ] e
@@ -63,9 +63,9 @@ unfolding tlvs_within
 within_longer zero frame more at e = absurd cc
 within_longer (suc most) frame more at e =
     here_longer frame more at (tlvs_within most frame (end_at frame at)) (tlvs_within most (frame ++ more) (end_at (frame ++ more) at)) (tlv_in frame at) refl
-      (λ c. ap (tlvs_within most (frame ++ more)) (end_longer frame more at (tlvs_within most frame (end_at frame at)) (tlv_in frame at) refl e)
-        ∙ within_longer most frame more (end_at frame at) c)
-      e
+    (λ c. ap (tlvs_within most (frame ++ more)) (end_longer frame more at (tlvs_within most frame (end_at frame at)) (tlv_in frame at) refl e)
+    ∙ within_longer most frame more (end_at frame at) c)
+    e
 
 from_longer : (frame more : List ℕ) (at : ℕ) → (tlvs_from frame at).cut ≡ None → tlvs_from (frame ++ more) at ≡ tlvs_from frame at
 unfolding tlvs_from

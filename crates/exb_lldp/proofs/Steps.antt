@@ -10,7 +10,7 @@ use Rattle.exb_lldp.specs.declared.tlv.Place.{Place}
 use Rattle.exb_lldp.specs.declared.tlv.Place.TheVariants.{ChassisId, PortId, TimeToLive, Later}
 use Rattle.exb_lldp.specs.Tlvs.{Tlv, Tlvs, end_at, tlv_in, with_first, tlvs_within, tlvs_from, is_placed, next_place, first_misplaced, count_in, first_count}
 use Rattle.exb_lldp.specs.Announcing.{is_lldp, verdict, chassis_in, announced}
-use Rattle.exb_lldp.specs.Lent.{placed_in, if_placed}
+use Rattle.exb_lldp.specs.Readers.{placed_in, if_placed}
 
 -- nothing lies past the end
 in_past : (frame : List ℕ) (at : ℕ) → length frame ≤ at → tlv_in frame at ≡ None

@@ -1,4 +1,4 @@
 pub mod Tlvs
 pub mod Spelling
 pub mod Announcing
-pub mod Lent
+pub mod Readers

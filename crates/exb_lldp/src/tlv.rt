@@ -2,7 +2,7 @@
 //! length, and a value.
 ghost use Rattle.std.specs.Prelude.{◌≡◌, ◌+◌, ◌≤◌, ◌<◌, drop, length, ◌^◌, Some, None, IfOk, MatchResult};
 ghost use Rattle.exb_lldp.specs.Tlvs.{tlv_in, end_at, is_placed, count_in};
-ghost use Rattle.exb_lldp.specs.Lent.{Gives, tlv_of, placed_in};
+ghost use Rattle.exb_lldp.specs.Readers.{Gives, tlv_of, placed_in};
 
 use crate::announce::LldpFault;
 use exb_model::address::Mac;

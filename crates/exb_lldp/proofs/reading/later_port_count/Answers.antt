@@ -2,7 +2,7 @@ use Rattle.std.proofs.Common.{sym, ◌∙◌, arith}
 use Rattle.std.proofs.lemmas.Bool.{ne_eqb}
 use Rattle.std.proofs.lemmas.Result.{err_from_is_err_and}
 use Rattle.exb_lldp.specs.declared.tlv.Place.TheVariants.{Later}
-use Rattle.exb_lldp.specs.Lent.{tlv_of}
+use Rattle.exb_lldp.specs.Readers.{tlv_of}
 use Rattle.exb_lldp.proofs.Steps.{counted_fails, counted_ends, counted_goes, ok_or_found}
 use Rattle.exb_lldp.proofs.reading.later_port_count.Goals as goal
 

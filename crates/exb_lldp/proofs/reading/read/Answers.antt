@@ -1,7 +1,7 @@
 use Rattle.std.proofs.Common.{None, Ok, sym, ap, ◌∙◌}
 use Rattle.std.proofs.lemmas.Result.{err_from_is_err_and}
 use Rattle.exb_lldp.specs.declared.tlv.Place.TheVariants.{ChassisId, PortId, TimeToLive}
-use Rattle.exb_lldp.specs.Lent.{tlv_of}
+use Rattle.exb_lldp.specs.Readers.{tlv_of}
 use Rattle.exb_lldp.proofs.Steps.{counted_fails, chassis_goes, port_goes, time_goes, announced_not, announced_fails, announced_ok}
 use Rattle.exb_lldp.proofs.reading.read.Goals as goal
 

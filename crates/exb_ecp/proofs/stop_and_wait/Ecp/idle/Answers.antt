@@ -1,9 +1,7 @@
 use Rattle.std.proofs.Common.{subst}
 use Rattle.exb_ecp.specs.Machine.{IsSound}
-use Rattle.exb_ecp.proofs.Sound.{fields_sound}
+use Rattle.exb_ecp.proofs.Sound.{state_sound}
 use Rattle.exb_ecp.proofs.stop_and_wait.Ecp.idle.Goals as goal
 
 pub returns-clause-sound : goal.returns-clause-sound
-returns-clause-sound c =
-    let f = c.self.inside in
-    subst IsSound c.self.view_is (fields_sound f.latest f.beats f.payload.items f.received c.self.invariant)
+returns-clause-sound c = subst IsSound c.self.view_is (state_sound c.self.inside c.self.invariant)
