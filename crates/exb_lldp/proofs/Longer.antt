@@ -1,11 +1,10 @@
 -- A frame with more bytes after its End has the same TLVs.
-use Rattle.std.proofs.Common.{◌≡◌, ℕ, zero, suc, ◌+◌, ◌/◌, ◌%◌, ◌≤◌, ◌<◌, ◌==◌, ◌&&◌, Bool, true, false, cond, List, [], ◌∷◌, ◌++◌, length, take, drop, Option, Some, None, Result, Ok, Err, refl, sym, ap, ◌∙◌, subst, arith, length-append}
+use Rattle.std.proofs.Common.{◌≡◌, ℕ, zero, suc, ◌+◌, ◌/◌, ◌%◌, ◌≤◌, ◌==◌, ◌&&◌, Bool, true, false, cond, List, [], ◌∷◌, ◌++◌, length, take, drop, Option, Some, None, Ok, Err, refl, sym, ap, ◌∙◌, arith, length-append}
 use Rattle.std.specs.Prelude.{nat_le}
 use Rattle.std.proofs.lemmas.Bool.{le-leb, leb-true}
 use Rattle.std.proofs.lemmas.List.{get_or_append_left, take-append-le, drop-append-le, length-drop}
 use Rattle.exb_model.specs.Frames.{number_at}
 use Rattle.exb_lldp.specs.declared.announce.Announce.{Announce}
-use Rattle.exb_lldp.specs.declared.announce.LldpFault.{LldpFault}
 use Rattle.exb_lldp.specs.declared.announce.LldpFault.TheVariants.{NotLldp}
 use Rattle.exb_lldp.specs.declared.tlv.Place.TheVariants.{ChassisId}
 use Rattle.exb_lldp.specs.Tlvs.{Tlv, Tlvs, end_at, tlv_in, with_first, tlvs_within, tlvs_from, first_misplaced, first_count}

@@ -1,5 +1,5 @@
 -- The one spelling of an announcement.
-use Rattle.std.specs.Prelude.{ℕ, ◌+◌, ◌*◌, ◌/◌, ◌%◌, ◌≤◌, List, [], ◌∷◌, ◌++◌, length, codes}
+use Rattle.std.specs.Prelude.{ℕ, ◌+◌, ◌*◌, ◌≤◌, List, [], ◌∷◌, ◌++◌, length, codes}
 use Rattle.exb_model.specs.Frames.{two_bytes}
 use Rattle.exb_lldp.specs.declared.announce.Announce.{Announce}
 

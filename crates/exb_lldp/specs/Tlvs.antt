@@ -1,5 +1,5 @@
 -- The TLVs of a frame (IEEE 802.1AB-2009, 8.4): each a header of 7 bits of type and 9 bits of length, and a value.
-use Rattle.std.specs.Prelude.{ℕ, zero, suc, ◌+◌, ◌*◌, ◌/◌, ◌%◌, ◌==◌, ◌&&◌, Bool, List, [], ◌∷◌, length, Option, Some, None, nat_le, not, slice_index, take, drop, if◌then◌else◌}
+use Rattle.std.specs.Prelude.{ℕ, zero, suc, ◌+◌, ◌/◌, ◌%◌, ◌==◌, ◌&&◌, Bool, List, [], ◌∷◌, length, Option, Some, None, nat_le, not, slice_index, take, drop, if◌then◌else◌}
 use Rattle.std.specs.Option.{option_or}
 use Rattle.exb_model.specs.Frames.{number_at}
 use Rattle.exb_lldp.specs.declared.tlv.Place.{Place}
