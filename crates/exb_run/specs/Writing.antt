@@ -20,10 +20,10 @@ abbrev pub HasTexts : ℕ → List (List ℕ) → Files → Files → (ℕ → L
 HasTexts ports pieces old new text = Filled old new (ports + 1) (output_name ports) (Holds pieces text)
 
 -- the outputs of that many ports: each has an id of its file, and a piece
-pub record IsReady (ports : ℕ) (ids : ℕ → Id) (o : Outputs) : Type 0 where
+pub record IsReady (ports : ℕ) (given : ℕ → Id) (o : Outputs) : Type 0 where
   pub ids : length o.ids.items ≡ ports + 1
   pub pieces : length o.pieces.items ≡ ports + 1
-  pub named : (j : ℕ) → j < ports + 1 → ids (slice_index o.ids.items j) ≡ writing (output_name ports j)
+  pub named : (j : ℕ) → j < ports + 1 → given (slice_index o.ids.items j) ≡ writing (output_name ports j)
 
 -- what the outputs begin with: captures with their header
 abbrev pub first_text : ℕ → ℕ → List ℕ

@@ -1,7 +1,7 @@
 //! The output files while they are written.
-ghost use Rattle.std.specs.Prelude.{◌≡◌, ◌≢◌, ◌≤◌, ◌<◌, ◌+◌, ◌++◌, ℕ, List, [], length, IfOk, OnOk, OnErr, IsErrOf, string_bytes};
-ghost use Rattle.exb_shelf.specs.Files.{Files};
-ghost use Rattle.exb_shelf.specs.Shelf.{Rose, NoFewer};
+ghost use Rattle.std.specs.Prelude.{◌≡◌, ◌≢◌, ◌≤◌, ◌<◌, ◌+◌, ◌++◌, ℕ, List, [], length, IfOk, OnOk, OnErr, IsErrOf, string_bytes, ◌∷◌, ◌⊎◌, true};
+ghost use Rattle.exb_shelf.specs.Files.{Files, SameFiles, Puts, Adds};
+ghost use Rattle.exb_shelf.specs.Shelf.{Rose, NoFewer, IsWriting, writing};
 ghost use Rattle.exb_run.specs.Outputs.{output_name, OnlyOutputs};
 ghost use Rattle.exb_run.specs.Writing.{pieces_of, Holds, HasTexts, IsReady, first_text, with_more};
 
@@ -41,4 +41,111 @@ fn first_piece(alloc: Global, ports: u8, at: u8) -> Result<Vec<u8>, AllocError>
     } else {
         Ok(Vec::new(alloc))
     }
+}
+
+/// Makes output `at`, and puts its id and first piece behind the others.
+fn create_one<S: Shelf>(
+    alloc: Global,
+    shelf: &mut S,
+    ports: u8,
+    at: u8,
+    outputs: &mut Outputs,
+) -> Result<(), ShelfFault>
+    requires few { ports ≤ 64 }
+    requires ids { length outputs.old.ids.items ≡ at }
+    requires pieces { length outputs.old.pieces.items ≡ at }
+    ensures ids { OnOk result ((id : ℕ) × (outputs.new.ids.items ≡ outputs.old.ids.items ++ id ∷ []) × (S.ids shelf.new id ≡ writing (output_name ports at))) }
+    ensures pieces { OnOk result (pieces_of outputs.new ≡ pieces_of outputs.old ++ first_text ports at ∷ []) }
+    ensures count { OnOk result (length outputs.new.pieces.items ≡ at + 1) }
+    ensures kept { (j : ℕ) → (S.ids shelf.old j).given ≡ true → S.ids shelf.new j ≡ S.ids shelf.old j }
+    ensures empty { S.tells → OnOk result (Puts (S.file shelf.old) (S.file shelf.new) (output_name ports at) []) }
+    ensures others { S.tells → OnErr result ((m : List ℕ) → m ≢ output_name ports at → S.file shelf.new m ≡ S.file shelf.old m) }
+    ensures faults { NoFewer (S.faults shelf.old) (S.faults shelf.new) }
+    ensures failed { IsErrOf result ShelfFault.Failed → Rose (S.faults shelf.old).writes (S.faults shelf.new).writes }
+{
+    let Ok(name) = output_name(alloc, ports, at) else {
+        return Err(ShelfFault::Memory);
+    };
+    let Ok(piece) = first_piece(alloc, ports, at) else {
+        return Err(ShelfFault::Memory);
+    };
+    let id = match shelf.create(name.as_str()) {
+        Ok(id) => id,
+        Err(fault) => return Err(fault),
+    };
+    if outputs.ids.push(id).is_err() || outputs.pieces.push(piece).is_err() {
+        return Err(ShelfFault::Memory);
+    }
+    Ok(())
+}
+
+/// Makes all outputs, each empty, with the piece that it begins with.
+pub(crate) fn create_all<S: Shelf>(
+    alloc: Global,
+    shelf: &mut S,
+    ports: u8,
+) -> Result<Outputs, ShelfFault>
+    requires { ports ≤ 64 }
+    ensures ready { IfOk result (λ outputs. IsReady ports (S.ids shelf.new) outputs) }
+    ensures texts { S.tells → IfOk result (λ outputs. HasTexts ports (pieces_of outputs) (S.file shelf.old) (S.file shelf.new) (first_text ports)) }
+    ensures others { S.tells → OnErr result (OnlyOutputs ports (S.file shelf.old) (S.file shelf.new)) }
+    ensures faults { NoFewer (S.faults shelf.old) (S.faults shelf.new) }
+    ensures failed { IsErrOf result ShelfFault.Failed → Rose (S.faults shelf.old).writes (S.faults shelf.new).writes }
+{
+    let mut outputs = Outputs {
+        ids: Vec::new(alloc),
+        pieces: Vec::new(alloc),
+    };
+    'outputs: for at in 0..ports + 1 {
+        match create_one(alloc, shelf, ports, at, &mut outputs) {
+            Ok(()) => {}
+            Err(fault) => return Err(fault),
+        }
+    }
+    Ok(outputs)
+}
+
+/// Writes what is not written yet of one output.
+fn flush<S: Shelf>(shelf: &mut S, id: u32, piece: &mut Vec<u8>) -> Result<(), ShelfFault>
+    requires { IsWriting (S.ids shelf.old id) }
+    ensures written { S.tells → OnOk result (Adds (S.file shelf.old) (S.file shelf.new) (S.ids shelf.old id).name piece.old.items) }
+    ensures empty { OnOk result (piece.new.items ≡ []) }
+    ensures others { S.tells → OnErr result ((m : List ℕ) → m ≢ (S.ids shelf.old id).name → S.file shelf.new m ≡ S.file shelf.old m) }
+    ensures kept { (j : ℕ) → S.ids shelf.new j ≡ S.ids shelf.old j }
+    ensures faults { NoFewer (S.faults shelf.old) (S.faults shelf.new) }
+    ensures failed { IsErrOf result ShelfFault.Failed → Rose (S.faults shelf.old).writes (S.faults shelf.new).writes }
+{
+    match write_text(shelf, id, piece.as_slice()) {
+        Ok(()) => {
+            piece.clear();
+            Ok(())
+        }
+        Err(fault) => Err(fault),
+    }
+}
+
+/// Puts bytes behind a piece, and writes the piece where it is full.
+fn add<S: Shelf>(
+    shelf: &mut S,
+    id: u32,
+    piece: &mut Vec<u8>,
+    head: &[u8],
+    bytes: &[u8],
+) -> Result<(), ShelfFault>
+    requires { IsWriting (S.ids shelf.old id) }
+    ensures kept_or_written { S.tells → OnOk result (
+        (SameFiles (S.file shelf.old) (S.file shelf.new) × (piece.new.items ≡ piece.old.items ++ (head.now ++ bytes.now)))
+        ⊎ (Adds (S.file shelf.old) (S.file shelf.new) (S.ids shelf.old id).name (piece.old.items ++ (head.now ++ bytes.now)) × (piece.new.items ≡ []))) }
+    ensures others { S.tells → OnErr result ((m : List ℕ) → m ≢ (S.ids shelf.old id).name → S.file shelf.new m ≡ S.file shelf.old m) }
+    ensures kept { (j : ℕ) → S.ids shelf.new j ≡ S.ids shelf.old j }
+    ensures faults { NoFewer (S.faults shelf.old) (S.faults shelf.new) }
+    ensures failed { IsErrOf result ShelfFault.Failed → Rose (S.faults shelf.old).writes (S.faults shelf.new).writes }
+{
+    if piece.extend_from_slice(head).is_err() || piece.extend_from_slice(bytes).is_err() {
+        return Err(ShelfFault::Memory);
+    }
+    if piece.len() < PIECE {
+        return Ok(());
+    }
+    flush(shelf, id, piece)
 }

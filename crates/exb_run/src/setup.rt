@@ -1,5 +1,5 @@
 //! The setup of a run: one extender on b1 with some ports, all in VLAN 1, untagged.
-ghost use Rattle.std.specs.Prelude.{◌≡◌, ◌≤◌, ◌+◌, ◌*◌, ◌&&◌, ℕ, false, IfOk, nat_le, nat_lt};
+ghost use Rattle.std.specs.Prelude.{◌≡◌, ◌<◌, ◌≤◌, ◌+◌, ◌*◌, ◌&&◌, ℕ, false, IfOk, nat_le, nat_lt};
 ghost use Rattle.exb_model.specs.Ports.{port_in};
 ghost use Rattle.exb_world.specs.Setups.{IsFirst, is_port_of};
 
