@@ -1,7 +1,11 @@
 -- The outputs while they are written: each file, followed by the piece that is not written yet, is its
 -- text so far.
-use Rattle.std.specs.Prelude.{◌≡◌, ◌<◌, ◌+◌, ◌==◌, ◌++◌, ℕ, List, [], map, length, nat_lt, if◌then◌else◌, slice_index, slice_index_or}
-use Rattle.exb_model.specs.Texts.{capture_header}
+use Rattle.std.specs.Prelude.{◌≡◌, ◌<◌, ◌+◌, ◌*◌, ◌^◌, ◌==◌, ◌++◌, true, ℕ, List, [], ◌∷◌, map, flat_map, length, nat_lt, if◌then◌else◌, slice_index, slice_index_or}
+use Rattle.exb_model.specs.declared.event.Event.{Event}
+use Rattle.exb_model.specs.Texts.{capture_header, record_text, line_of}
+use Rattle.exb_world.specs.declared.world.Left.{Left}
+use Rattle.exb_world.specs.Setups.{is_port_of}
+use Rattle.exb_world.specs.Worlds.{left_at}
 use Rattle.exb_shelf.specs.Files.{Files, Filled}
 use Rattle.exb_shelf.specs.Shelf.{Id, writing}
 use Rattle.exb_run.specs.declared.outputs.Outputs.{Outputs}
@@ -32,3 +36,17 @@ first_text ports j = if nat_lt j ports then capture_header else []
 -- the texts, where that of output j has this more
 abbrev pub with_more : (ℕ → List ℕ) → ℕ → List ℕ → ℕ → List ℕ
 with_more text j more k = if k == j then text k ++ more else text k
+
+-- the lines of events, in order
+abbrev pub lines_of : List Event → List ℕ
+lines_of events = flat_map (λ e. line_of e ++ 10 ∷ []) events
+
+-- the texts, where each capture has what left its port
+abbrev pub with_left_frames : ℕ → (ℕ → List ℕ) → List Left → ℕ → List ℕ
+with_left_frames ports text left j = if nat_lt j ports then text j ++ flat_map record_text (left_at left (64 + j)) else text j
+
+-- a frame that can be written: it left a port of the extender, below 2^32 seconds
+pub record CanBeWritten (ports : ℕ) (x : Left) : Type 0 where
+  pub port : is_port_of 1 ports x.port ≡ true
+  pub moment : x.moment < 2 ^ 32 * 1_000_000_000
+  pub bytes : length x.bytes < 2 ^ 32

@@ -1,15 +1,17 @@
 //! The output files while they are written.
-ghost use Rattle.std.specs.Prelude.{◌≡◌, ◌≢◌, ◌≤◌, ◌<◌, ◌+◌, ◌++◌, ℕ, List, [], length, IfOk, OnOk, OnErr, IsErrOf, string_bytes, ◌∷◌, ◌⊎◌, true};
-ghost use Rattle.exb_shelf.specs.Files.{Files, SameFiles, Puts, Adds};
+ghost use Rattle.std.specs.Prelude.{◌≡◌, ◌≢◌, ◌≤◌, ◌<◌, ◌+◌, ◌++◌, ℕ, List, [], length, IfOk, OnOk, OnErr, IsErrOf, string_bytes, ◌∷◌, ◌⊎◌, true, All};
+ghost use Rattle.exb_shelf.specs.Files.{Files, SameFiles, Puts, Adds, Filled};
 ghost use Rattle.exb_shelf.specs.Shelf.{Rose, NoFewer, IsWriting, writing};
 ghost use Rattle.exb_run.specs.Outputs.{output_name, OnlyOutputs};
-ghost use Rattle.exb_run.specs.Writing.{pieces_of, Holds, HasTexts, IsReady, first_text, with_more};
+ghost use Rattle.exb_run.specs.Writing.{pieces_of, Holds, HasTexts, IsReady, first_text, with_more, lines_of, with_left_frames, CanBeWritten};
 
 use crate::setup::port_at;
 use exb_model::memory::NoMemory;
-use exb_pcap::header_text;
+use exb_model::event::Event;
+use exb_pcap::{header_text, record_text};
 use exb_shelf::{PIECE, Shelf, ShelfFault, write_text};
-use exb_text::{capture_file_name, journal_file_name};
+use exb_text::{capture_file_name, journal_file_name, write_line};
+use exb_world::Left;
 use std::alloc::{AllocError, Global};
 
 /// The outputs: the capture of each port, and last the journal. Each has the id of its file and a piece of
@@ -148,4 +150,92 @@ fn add<S: Shelf>(
         return Ok(());
     }
     flush(shelf, id, piece)
+}
+
+impl Outputs {
+    /// Puts the lines of events behind the journal. `line` is room for one line.
+    pub(crate) fn write_events<S: Shelf>(
+        &mut self,
+        shelf: &mut S,
+        ports: u8,
+        line: &mut String,
+        events: &[Event],
+    ) -> Result<(), ShelfFault>
+        requires few { ports ≤ 64 }
+        requires ready { IsReady ports (S.ids shelf.old) self.old }
+        ensures ready { IsReady ports (S.ids shelf.new) self.new }
+        ensures texts { S.tells → OnOk result ((orig : Files) (text : ℕ → List ℕ) → HasTexts ports (pieces_of self.old) orig (S.file shelf.old) text
+            → HasTexts ports (pieces_of self.new) orig (S.file shelf.new) (with_more text ports (lines_of events.now))) }
+        ensures others { S.tells → OnErr result (OnlyOutputs ports (S.file shelf.old) (S.file shelf.new)) }
+        ensures faults { NoFewer (S.faults shelf.old) (S.faults shelf.new) }
+        ensures failed { IsErrOf result ShelfFault.Failed → Rose (S.faults shelf.old).writes (S.faults shelf.new).writes }
+    {
+        for event in events {
+            self.add_event(shelf, ports, line, event)?;
+        }
+        Ok(())
+    }
+
+    /// Puts frames that left behind the captures of their ports.
+    pub(crate) fn write_left<S: Shelf>(
+        &mut self,
+        shelf: &mut S,
+        ports: u8,
+        left: &[Left],
+    ) -> Result<(), ShelfFault>
+        requires few { ports ≤ 64 }
+        requires ready { IsReady ports (S.ids shelf.old) self.old }
+        requires frames { All (λ x. CanBeWritten ports x) left.now }
+        ensures ready { IsReady ports (S.ids shelf.new) self.new }
+        ensures texts { S.tells → OnOk result ((orig : Files) (text : ℕ → List ℕ) → HasTexts ports (pieces_of self.old) orig (S.file shelf.old) text
+            → HasTexts ports (pieces_of self.new) orig (S.file shelf.new) (with_left_frames ports text left.now)) }
+        ensures others { S.tells → OnErr result (OnlyOutputs ports (S.file shelf.old) (S.file shelf.new)) }
+        ensures faults { NoFewer (S.faults shelf.old) (S.faults shelf.new) }
+        ensures failed { IsErrOf result ShelfFault.Failed → Rose (S.faults shelf.old).writes (S.faults shelf.new).writes }
+    {
+        for frame in left {
+            self.add_left(shelf, ports, frame)?;
+        }
+        Ok(())
+    }
+
+    /// Writes all that is not written yet.
+    pub(crate) fn finish<S: Shelf>(&mut self, shelf: &mut S, ports: u8) -> Result<(), ShelfFault>
+        requires few { ports ≤ 64 }
+        requires ready { IsReady ports (S.ids shelf.old) self.old }
+        ensures texts { S.tells → OnOk result ((orig : Files) (text : ℕ → List ℕ) → HasTexts ports (pieces_of self.old) orig (S.file shelf.old) text
+            → Filled orig (S.file shelf.new) (ports + 1) (output_name ports) (λ j bytes. bytes ≡ text j)) }
+        ensures others { S.tells → OnErr result (OnlyOutputs ports (S.file shelf.old) (S.file shelf.new)) }
+        ensures faults { NoFewer (S.faults shelf.old) (S.faults shelf.new) }
+        ensures failed { IsErrOf result ShelfFault.Failed → Rose (S.faults shelf.old).writes (S.faults shelf.new).writes }
+    {
+        for at in 0..self.ids.len() {
+            flush(shelf, self.ids[at], &mut self.pieces[at])?;
+        }
+        Ok(())
+    }
+
+    /// Puts the line of an event behind the journal.
+    fn add_event<S: Shelf>(
+        &mut self,
+        shelf: &mut S,
+        ports: u8,
+        line: &mut String,
+        event: &Event,
+    ) -> Result<(), ShelfFault> {
+        line.clear();
+        if write_line(line, event).is_err() {
+            return Err(ShelfFault::Memory);
+        }
+        let at = ports as usize;
+        add(shelf, self.ids[at], &mut self.pieces[at], line.as_bytes(), &[])
+    }
+
+    /// Puts a frame that left a port behind the port's capture.
+    fn add_left<S: Shelf>(&mut self, shelf: &mut S, ports: u8, left: &Left) -> Result<(), ShelfFault> {
+        let at = left.port.number() as usize - 64;
+        let bytes = left.bytes.as_slice();
+        let head = record_text(left.moment, bytes.len() as u32);
+        add(shelf, self.ids[at], &mut self.pieces[at], &head, bytes)
+    }
 }
