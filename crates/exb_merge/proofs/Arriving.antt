@@ -44,12 +44,12 @@ to_come-first before after s s' a is later behind =
     let xs = flat_map arrivals_of before in
     let zs = flat_map arrivals_of after in
     let own : NoneArrives a.moment (a ∷ arrivals_of s') =
-      (let P : List Arrival → Type 0 = λ ys. NoneArrives a.moment ys in
-       subst P is (none_arrives-next a.moment s (λ k e. first k (sym e ∙ ap next_moment is)))) in
+    (let P : List Arrival → Type 0 = λ ys. NoneArrives a.moment ys in
+    subst P is (none_arrives-next a.moment s (λ k e. first k (sym e ∙ ap next_moment is)))) in
     ap (λ (ys : List Arrival). by_moment (map Captured ys)) (flat_map-append arrivals_of before (s ∷ after) ∙ ap (λ ys. xs ++ (ys ++ zs)) is)
     ∙ ap by_moment (map-append Captured xs (a ∷ (arrivals_of s' ++ zs)))
     ∙ by_moment-first (map Captured xs) (Captured a) (map Captured (arrivals_of s' ++ zs)) (none_arrives-map (suc a.moment) xs later)
-      (none_arrives-map a.moment (arrivals_of s' ++ zs) (none_arrives-append a.moment (arrivals_of s') zs own.1 behind))
+    (none_arrives-map a.moment (arrivals_of s' ++ zs) (none_arrives-append a.moment (arrivals_of s') zs own.1 behind))
     ∙ ap (λ (ys : List Coming). Captured a ∷ by_moment ys) (sym (map-append Captured xs (arrivals_of s' ++ zs)))
     ∙ ap (λ (ys : List Arrival). Captured a ∷ by_moment (map Captured ys)) (sym (flat_map-append arrivals_of before (s' ∷ after)))
   where

@@ -87,6 +87,7 @@ found_turn m place n (s ∷ streams) some =
   where
     behind : HasTurn streams (suc n) m place → HasTurn (s ∷ streams) n m place
     behind t = record { before = s ∷ t.before; one = t.one; after = t.after; split = ap (λ ss. s ∷ ss) t.split; at = omega (arith, t.at); moment = t.moment }
+
     by_next : (0 < sum_by (passes (is_turn m place)) (turns_from (suc n) streams) → HasTurn (s ∷ streams) n m place) → (o : Option ℕ) → next_moment (arrivals_of s) ≡ o →
         0 < sum_by (passes (is_turn m place)) (turn_at n o) + sum_by (passes (is_turn m place)) (turns_from (suc n) streams) → HasTurn (s ∷ streams) n m place
     by_next later None e h = later (omega arith)
@@ -94,6 +95,7 @@ found_turn m place n (s ∷ streams) some =
       where
         sums : 0 < passes (is_turn m place) (turn k n) + sum_by (passes (is_turn m place)) (turns_from (suc n) streams)
         sums = omega (arith, h, sum_by-cons (passes (is_turn m place)) (turn k n) [])
+
         by_test : (b : Bool) → is_turn m place (turn k n) ≡ b → HasTurn (s ∷ streams) n m place
         by_test true is =
             let same_moment : k ≡ m = grind (arith, nat_tests) in
@@ -145,12 +147,12 @@ turns-next streams turns rest m place s' same popped f =
     let h = turn_of streams turns rest m place same popped in
     let here : length h.before ≡ place = omega (arith, h.at) in
     let old : sum_by f (turns_from 0 streams) ≡ sum_by f (turns_from 0 h.before) + (sum_by f (turn_at place (Some m)) + sum_by f (turns_from (suc (length h.before)) h.after)) =
-      (ap (λ ss. sum_by f (turns_from 0 ss)) h.split ∙ sum-turns f h.before h.one h.after
-      ∙ ap (λ o. sum_by f (turns_from 0 h.before) + (sum_by f (turn_at (length h.before) o) + sum_by f (turns_from (suc (length h.before)) h.after))) h.moment
-      ∙ ap (λ k. sum_by f (turns_from 0 h.before) + (sum_by f (turn_at k (Some m)) + sum_by f (turns_from (suc (length h.before)) h.after))) here) in
+    (ap (λ ss. sum_by f (turns_from 0 ss)) h.split ∙ sum-turns f h.before h.one h.after
+    ∙ ap (λ o. sum_by f (turns_from 0 h.before) + (sum_by f (turn_at (length h.before) o) + sum_by f (turns_from (suc (length h.before)) h.after))) h.moment
+    ∙ ap (λ k. sum_by f (turns_from 0 h.before) + (sum_by f (turn_at k (Some m)) + sum_by f (turns_from (suc (length h.before)) h.after))) here) in
     let new : sum_by f (turns_from 0 (set streams place s')) ≡ sum_by f (turns_from 0 h.before) + (sum_by f (turn_at place (next_moment (arrivals_of s'))) + sum_by f (turns_from (suc (length h.before)) h.after)) =
-      (ap (λ ss. sum_by f (turns_from 0 ss)) (set-is streams m place h s') ∙ sum-turns f h.before s' h.after
-      ∙ ap (λ k. sum_by f (turns_from 0 h.before) + (sum_by f (turn_at k (next_moment (arrivals_of s'))) + sum_by f (turns_from (suc (length h.before)) h.after))) here) in
+    (ap (λ ss. sum_by f (turns_from 0 ss)) (set-is streams m place h s') ∙ sum-turns f h.before s' h.after
+    ∙ ap (λ k. sum_by f (turns_from 0 h.before) + (sum_by f (turn_at k (next_moment (arrivals_of s'))) + sum_by f (turns_from (suc (length h.before)) h.after))) here) in
     omega (arith, old, new, same f, sum_by_popped f (turn m place) turns rest popped, sum_by-cons f (turn m place) [], sum_by-append f (turn_at place (next_moment (arrivals_of s'))) rest)
 
 turns-more : (streams : List Stream) (turns : List Turn) (s : Stream) → SameMembers turns (turns_from 0 streams) →
@@ -174,18 +176,18 @@ comes-first streams turns m place s s' a same h first is arrival =
     let moment : m ≡ a.moment = own_moment (sym h.moment ∙ ap next_moment mine) in
     let parts : turns_from 0 streams ≡ turns_from 0 h.before ++ turns_from (0 + length h.before) (h.one ∷ h.after) = ap (turns_from 0) h.split ∙ turns_from-append 0 h.before (h.one ∷ h.after) in
     let all : NoTurnBefore m place (turns_from 0 h.before ++ turns_from (0 + length h.before) (h.one ∷ h.after)) =
-      (let P : List Turn → Type 0 = NoTurnBefore m place in
-       subst P parts (same-none (λ t. is_lt (by_turn (turn m place) t)) turns (turns_from 0 streams) same first)) in
+    (let P : List Turn → Type 0 = NoTurnBefore m place in
+    subst P parts (same-none (λ t. is_lt (by_turn (turn m place) t)) turns (turns_from 0 streams) same first)) in
     let ahead : NoneArrives (suc m) (flat_map arrivals_of h.before) =
-      none_ahead m place 0 h.before (omega (arith, h.at)) (all-left (NotBefore m place) (turns_from 0 h.before) (turns_from (0 + length h.before) (h.one ∷ h.after)) all) in
+    none_ahead m place 0 h.before (omega (arith, h.at)) (all-left (NotBefore m place) (turns_from 0 h.before) (turns_from (0 + length h.before) (h.one ∷ h.after)) all) in
     let behind : NoneArrives m (flat_map arrivals_of h.after) =
-      none_behind m place (suc (0 + length h.before)) h.after
-      (all-right (NotBefore m place) (turn_at (0 + length h.before) (next_moment (arrivals_of h.one))) (turns_from (suc (0 + length h.before)) h.after)
-       (all-right (NotBefore m place) (turns_from 0 h.before) (turns_from (0 + length h.before) (h.one ∷ h.after)) all)) in
+    none_behind m place (suc (0 + length h.before)) h.after
+    (all-right (NotBefore m place) (turn_at (0 + length h.before) (next_moment (arrivals_of h.one))) (turns_from (suc (0 + length h.before)) h.after)
+    (all-right (NotBefore m place) (turns_from 0 h.before) (turns_from (0 + length h.before) (h.one ∷ h.after)) all)) in
     ap to_come h.split
     ∙ to_come-first h.before h.after h.one s' a mine
-      (let P : ℕ → Type 0 = λ k. NoneArrives (suc k) (flat_map arrivals_of h.before) in subst P moment ahead)
-      (let P : ℕ → Type 0 = λ k. NoneArrives k (flat_map arrivals_of h.after) in subst P moment behind)
+    (let P : ℕ → Type 0 = λ k. NoneArrives (suc k) (flat_map arrivals_of h.before) in subst P moment ahead)
+    (let P : ℕ → Type 0 = λ k. NoneArrives k (flat_map arrivals_of h.after) in subst P moment behind)
     ∙ ap (λ ss. Captured a ∷ to_come ss) (sym (set-is streams m place h s'))
   where
     own_moment : Some m ≡ Some a.moment → m ≡ a.moment
@@ -197,9 +199,10 @@ no_next (x ∷ xs) e = absurd (cc)
 
 none_left : (place : ℕ) (streams : List Stream) → AllByRecursion (λ t. true ≡ false) (turns_from place streams) → AllByRecursion (λ s. arrivals_of s ≡ []) streams
 none_left place [] none = tt
-none_left place (s ∷ streams) none =
-    (at_end (next_moment (arrivals_of s)) refl (all-left (λ t. true ≡ false) (turn_at place (next_moment (arrivals_of s))) (turns_from (suc place) streams) none),
-     none_left (suc place) streams (all-right (λ t. true ≡ false) (turn_at place (next_moment (arrivals_of s))) (turns_from (suc place) streams) none))
+none_left place (s ∷ streams) none = (
+  at_end (next_moment (arrivals_of s)) refl (all-left (λ t. true ≡ false) (turn_at place (next_moment (arrivals_of s))) (turns_from (suc place) streams) none),
+  none_left (suc place) streams (all-right (λ t. true ≡ false) (turn_at place (next_moment (arrivals_of s))) (turns_from (suc place) streams) none),
+)
   where
     at_end : (o : Option ℕ) → next_moment (arrivals_of s) ≡ o → AllByRecursion (λ t. true ≡ false) (turn_at place o) → arrivals_of s ≡ []
     at_end None e all = no_next (arrivals_of s) e

@@ -19,18 +19,6 @@ use std::marker::Model;
 /// greatest, and at the same moment that of the first capture.
 type Turn = Reverse<(u64, usize)>;
 
-// Gives the capture at a place its turn, if it has a next record. There is room for it.
-fn put_turn(turns: &mut BinaryHeap<Turn>, moment: Option<u64>, place: usize)
-    requires { heap_len turns.old < heap_capacity turns.old }
-    ensures same { SameMembers (heap_items turns.new) (turn_at place moment ++ heap_items turns.old) }
-    ensures ordered { IsHeap by_turn (heap_items turns.old) → IsHeap by_turn (heap_items turns.new) }
-    ensures room { heap_len turns.new ≤ heap_capacity turns.new }
-{
-    if let Some(moment) = moment {
-        let _ = turns.push(Reverse((moment, place)));
-    }
-}
-
 /// The captures of some ports as they are played. Its value is the list of the captures, each at its
 /// next record; what is still to come of them is `to_come`.
 #[derive(Drop)]
@@ -65,7 +53,8 @@ impl<'a> Captures<'a> {
         }
     }
 
-    /// Adds the capture of a port behind those so far. Its file is one of the grammar.
+    /// Adds the capture of a port behind those so far. Its file is one of the grammar. Where memory runs
+    /// out nothing is added.
     pub fn add(&mut self, port: PortId, file: &'a [u8]) -> Result<(), NoMemory>
         requires { IsOk (pcap_records file.now) }
         ensures ok { IfOk (pcap_records file.now) (λ records. OnOk result (self.new ≡ self.old ++ stream_of port records ∷ [])) }
@@ -96,5 +85,17 @@ impl<'a> Captures<'a> {
         let coming = source.take();
         put_turn(&mut self.turns, source.moment(), place);
         Some(coming)
+    }
+}
+
+// Gives the capture at a place its turn, if it has a next record. There is room for it.
+fn put_turn(turns: &mut BinaryHeap<Turn>, moment: Option<u64>, place: usize)
+    requires { heap_len turns.old < heap_capacity turns.old }
+    ensures same { SameMembers (heap_items turns.new) (turn_at place moment ++ heap_items turns.old) }
+    ensures ordered { IsHeap by_turn (heap_items turns.old) → IsHeap by_turn (heap_items turns.new) }
+    ensures room { heap_len turns.new ≤ heap_capacity turns.new }
+{
+    if let Some(moment) = moment {
+        let _ = turns.push(Reverse((moment, place)));
     }
 }

@@ -16,8 +16,8 @@ invariant_of-self-2 c =
     let here : c.len-place.result ≡ length streams = omega arith in
     record {
       same = turns-added streams c.push.new.self.items turns (heap_items c.put_turn.new.turns) c.new-source.result c.moment-moment.result c.len-place.result
-        c.self.invariant.same here c.moment-moment.ensures c.in_ok-push.ensures.items
-        (λ f. c.put_turn.ensures.same f ∙ ap (λ ts. sum_by f (turn_at c.len-place.result c.moment-moment.result ++ ts)) c.in_ok-reserve.ensures.items);
+          c.self.invariant.same here c.moment-moment.ensures c.in_ok-push.ensures.items
+          (λ f. c.put_turn.ensures.same f ∙ ap (λ ts. sum_by f (turn_at c.len-place.result c.moment-moment.result ++ ts)) c.in_ok-reserve.ensures.items);
       ordered = c.put_turn.ensures.ordered (rw c.in_ok-reserve.ensures.items c.self.invariant.ordered);
       room = c.put_turn.ensures.room;
     }

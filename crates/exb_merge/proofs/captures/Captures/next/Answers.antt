@@ -34,7 +34,7 @@ invariant_of-self-2 c =
     let rest = heap_items c.pop.new.self in
     record {
       same = λ f. c.put_turn.ensures.same f ∙ ap (λ o. sum_by f (turn_at x.0.1 o ++ rest)) c.moment.ensures
-        ∙ turns-next streams (heap_items c.self.inside.turns) rest x.0.0 x.0.1 c.take-coming.new.self c.self.invariant.same c.in_ok-place.ensures.permutation f;
+          ∙ turns-next streams (heap_items c.self.inside.turns) rest x.0.0 x.0.1 c.take-coming.new.self c.self.invariant.same c.in_ok-place.ensures.permutation f;
       ordered = c.put_turn.ensures.ordered (c.in_ok-place.ensures.heap_order c.self.invariant.ordered).0;
       room = c.put_turn.ensures.room;
     }
@@ -47,4 +47,4 @@ returns-clause-found c =
     let turn = turn_of streams turns (heap_items c.pop.new.self) x.0.0 x.0.1 c.self.invariant.same c.in_ok-place.ensures.permutation in
     ap to_come (sym c.self.view_is)
     ∙ comes-first streams turns x.0.0 x.0.1 c.index_mut-source.result.now c.take-coming.new.self (arrival_of c.take-coming.result) c.self.invariant.same turn
-      (c.in_ok-place.ensures.heap_order c.self.invariant.ordered).1 c.index_mut-source.ensures.value c.take-coming.ensures.found
+    (c.in_ok-place.ensures.heap_order c.self.invariant.ordered).1 c.index_mut-source.ensures.value c.take-coming.ensures.found
