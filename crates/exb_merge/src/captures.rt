@@ -4,6 +4,8 @@ ghost use Rattle.exb_model.specs.Input.{Captured};
 ghost use Rattle.exb_pcap.specs.Captures.{pcap_records};
 ghost use Rattle.exb_merge.specs.Streams.{stream_of, to_come};
 ghost use Rattle.exb_merge.specs.Arrivals.{arrival_of};
+ghost use Rattle.exb_merge.specs.Turns.{by_turn, turn_at, SameMembers};
+ghost use Rattle.std.specs.BinaryHeap.{IsHeap, heap_items, heap_len, heap_capacity};
 
 use crate::source::{Coming, Source};
 use exb_model::memory::NoMemory;
@@ -13,13 +15,17 @@ use std::cmp::Reverse;
 use std::collections::BinaryHeap;
 use std::marker::Model;
 
+/// A turn: the moment of a capture's next record, and the place of the capture. The earliest is the
+/// greatest, and at the same moment that of the first capture.
+type Turn = Reverse<(u64, usize)>;
+
 /// The captures of some ports as they are played. Its value is the list of the captures, each at its
 /// next record; what is still to come of them is `to_come`.
 #[derive(Drop)]
 pub struct Captures<'a> {
     sources: Vec<Source<'a>>,
-    /// The moment of each capture's next record, and the place of the capture; the least is on top.
-    turns: BinaryHeap<Reverse<(u64, usize)>>,
+    /// The turn of each capture that isn't at its end.
+    turns: BinaryHeap<Turn>,
 }
 
 impl<'a> Model for Captures<'a> {
@@ -47,7 +53,8 @@ impl<'a> Captures<'a> {
         }
     }
 
-    /// Adds the capture of a port behind those so far. Its file is one of the grammar.
+    /// Adds the capture of a port behind those so far. Its file is one of the grammar. Where memory runs
+    /// out nothing is added.
     pub fn add(&mut self, port: PortId, file: &'a [u8]) -> Result<(), NoMemory>
         requires { IsOk (pcap_records file.now) }
         ensures ok { IfOk (pcap_records file.now) (λ records. OnOk result (self.new ≡ self.old ++ stream_of port records ∷ [])) }
@@ -59,9 +66,7 @@ impl<'a> Captures<'a> {
         let moment = source.moment();
         let place = self.sources.len();
         self.sources.push(source)?;
-        if let Some(moment) = moment {
-            let _ = self.turns.push(Reverse((moment, place)));
-        }
+        put_turn(&mut self.turns, moment, place);
         Ok(())
     }
 
@@ -78,9 +83,19 @@ impl<'a> Captures<'a> {
         let Reverse((_, place)) = self.turns.pop()?;
         let source = &mut self.sources[place];
         let coming = source.take();
-        if let Some(moment) = source.moment() {
-            let _ = self.turns.push(Reverse((moment, place)));
-        }
+        put_turn(&mut self.turns, source.moment(), place);
         Some(coming)
+    }
+}
+
+// Gives the capture at a place its turn, if it has a next record. There is room for it.
+fn put_turn(turns: &mut BinaryHeap<Turn>, moment: Option<u64>, place: usize)
+    requires { heap_len turns.old < heap_capacity turns.old }
+    ensures same { SameMembers (heap_items turns.new) (turn_at place moment ++ heap_items turns.old) }
+    ensures ordered { IsHeap by_turn (heap_items turns.old) → IsHeap by_turn (heap_items turns.new) }
+    ensures room { heap_len turns.new ≤ heap_capacity turns.new }
+{
+    if let Some(moment) = moment {
+        let _ = turns.push(Reverse((moment, place)));
     }
 }

@@ -10,3 +10,6 @@ mod source;
 
 pub use captures::Captures;
 pub use source::Coming;
+
+#[cfg(test)]
+mod tests;
