@@ -56,8 +56,8 @@ bridge_is_not_extended p q hp hq e =
 extended_names_differ : (p q : ℕ) → 64 ≤ p → 64 ≤ q → p < 4160 → q < 4160 → port_name p ≡ port_name q → p ≡ q
 extended_names_differ p q hp hq lp lq e =
     let parts =
-        split_at_point (decimal (p / 64)) (decimal (q / 64)) (decimal (p % 64 + 1)) (decimal (q % 64 + 1)) (no_point-decimal (p / 64) (omega arith))
-            (no_point-decimal (q / 64) (omega arith)) (ap (λ (l : List ℕ). drop 1 l) (sym (extended_name p hp) ∙ e ∙ extended_name q hq))
+    split_at_point (decimal (p / 64)) (decimal (q / 64)) (decimal (p % 64 + 1)) (decimal (q % 64 + 1)) (no_point-decimal (p / 64) (omega arith))
+    (no_point-decimal (q / 64) (omega arith)) (ap (λ (l : List ℕ). drop 1 l) (sym (extended_name p hp) ∙ e ∙ extended_name q hq))
     in
     let device : p / 64 ≡ q / 64 = decimal_injective (p / 64) (q / 64) (omega arith) (omega arith) parts.0 in
     let port : p % 64 + 1 ≡ q % 64 + 1 = decimal_injective (p % 64 + 1) (q % 64 + 1) (omega arith) (omega arith) parts.1 in
@@ -95,6 +95,6 @@ pub no_capture_is_the_journal : (prefix : List ℕ) (p : ℕ) → capture_name p
 unfolding capture_name journal_name
 no_capture_is_the_journal prefix p e =
     let rest : port_name p ++ codes ".pcap" ≡ codes "journal.txt" =
-        append_cancel_left prefix (port_name p ++ codes ".pcap") (codes "journal.txt") (sym (append_assoc prefix (port_name p) (codes ".pcap")) ∙ e)
+    append_cancel_left prefix (port_name p ++ codes ".pcap") (codes "journal.txt") (sym (append_assoc prefix (port_name p) (codes ".pcap")) ∙ e)
     in
     j_is_neither _ (head_of_file p) (ap (λ (l : List ℕ). get_or l 0 0) rest)

@@ -11,4 +11,4 @@ returns c =
     let t = c.args.self.now in
     c.in_ok-format.ensures.ok
     ∙ summary_pieces (codes "arrivals ") (decimal (t.relayed + t.ignored)) (codes " relayed ") (decimal t.relayed) (codes " ignored ") (decimal t.ignored)
-        (codes " left ") (decimal t.left) (codes " commits ") (decimal t.commits) (codes " refusals ") (decimal t.refusals) (10 ∷ [])
+    (codes " left ") (decimal t.left) (codes " commits ") (decimal t.commits) (codes " refusals ") (decimal t.refusals) (10 ∷ [])
