@@ -5,5 +5,6 @@
 
 mod fault;
 mod outputs;
+mod play;
 mod setup;
 mod words;
