@@ -1,3 +1,5 @@
 pub mod Texts
 pub mod Counting
 pub mod Segmenting
+pub mod Filling
+pub mod OutputLemmas

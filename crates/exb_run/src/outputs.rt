@@ -1,15 +1,17 @@
 //! The output files while they are written.
-ghost use Rattle.std.specs.Prelude.{◌≡◌, ◌≢◌, ◌≤◌, ◌<◌, ◌+◌, ◌++◌, ℕ, List, [], length, IfOk, OnOk, OnErr, IsErrOf, string_bytes, ◌∷◌, ◌⊎◌, true, All};
+ghost use Rattle.std.specs.Prelude.{◌≡◌, ◌≢◌, ◌≤◌, ◌<◌, ◌+◌, ◌-◌, ◌++◌, ℕ, List, [], length, IfOk, OnOk, OnErr, IsErrOf, string_bytes, ◌∷◌, ◌⊎◌, true, All};
 ghost use Rattle.exb_shelf.specs.Files.{Files, SameFiles, Puts, Adds, Filled};
 ghost use Rattle.exb_shelf.specs.Shelf.{Rose, NoFewer, IsWriting, writing};
 ghost use Rattle.exb_run.specs.Outputs.{output_name, OnlyOutputs};
+ghost use Rattle.exb_model.specs.Texts.{line_of, record_text as record_of};
 ghost use Rattle.exb_run.specs.Writing.{pieces_of, Holds, HasTexts, IsReady, first_text, with_more, lines_of, with_left_frames, CanBeWritten};
 
 use crate::setup::port_at;
-use exb_model::memory::NoMemory;
 use exb_model::event::Event;
+use exb_model::memory::NoMemory;
 use exb_pcap::{header_text, record_text};
 use exb_shelf::{PIECE, Shelf, ShelfFault, write_text};
+use exb_text::laws::{capture_names_differ, no_capture_is_the_journal};
 use exb_text::{capture_file_name, journal_file_name, write_line};
 use exb_world::Left;
 use std::alloc::{AllocError, Global};
@@ -32,6 +34,14 @@ fn output_name(alloc: Global, ports: u8, at: u8) -> Result<String, NoMemory>
     } else {
         journal_file_name(alloc, "out-")
     }
+}
+
+/// The outputs have different names.
+fn output_names_differ()
+    ensures { (ports : ℕ) → ports ≤ 64 → (i j : ℕ) → i < ports + 1 → j < ports + 1 → i ≢ j → output_name ports i ≢ output_name ports j }
+{
+    capture_names_differ();
+    no_capture_is_the_journal();
 }
 
 /// What output `at` begins with.
@@ -98,7 +108,8 @@ pub(crate) fn create_all<S: Shelf>(
         ids: Vec::new(alloc),
         pieces: Vec::new(alloc),
     };
-    'outputs: for at in 0..ports + 1 {
+    output_names_differ();
+    for at in 0..ports + 1 {
         match create_one(alloc, shelf, ports, at, &mut outputs) {
             Ok(()) => {}
             Err(fault) => return Err(fault),
@@ -112,7 +123,7 @@ fn flush<S: Shelf>(shelf: &mut S, id: u32, piece: &mut Vec<u8>) -> Result<(), Sh
     requires { IsWriting (S.ids shelf.old id) }
     ensures written { S.tells → OnOk result (Adds (S.file shelf.old) (S.file shelf.new) (S.ids shelf.old id).name piece.old.items) }
     ensures empty { OnOk result (piece.new.items ≡ []) }
-    ensures others { S.tells → OnErr result ((m : List ℕ) → m ≢ (S.ids shelf.old id).name → S.file shelf.new m ≡ S.file shelf.old m) }
+    ensures others { S.tells → (m : List ℕ) → m ≢ (S.ids shelf.old id).name → S.file shelf.new m ≡ S.file shelf.old m }
     ensures kept { (j : ℕ) → S.ids shelf.new j ≡ S.ids shelf.old j }
     ensures faults { NoFewer (S.faults shelf.old) (S.faults shelf.new) }
     ensures failed { IsErrOf result ShelfFault.Failed → Rose (S.faults shelf.old).writes (S.faults shelf.new).writes }
@@ -138,7 +149,7 @@ fn add<S: Shelf>(
     ensures kept_or_written { S.tells → OnOk result (
         (SameFiles (S.file shelf.old) (S.file shelf.new) × (piece.new.items ≡ piece.old.items ++ (head.now ++ bytes.now)))
         ⊎ (Adds (S.file shelf.old) (S.file shelf.new) (S.ids shelf.old id).name (piece.old.items ++ (head.now ++ bytes.now)) × (piece.new.items ≡ []))) }
-    ensures others { S.tells → OnErr result ((m : List ℕ) → m ≢ (S.ids shelf.old id).name → S.file shelf.new m ≡ S.file shelf.old m) }
+    ensures others { S.tells → (m : List ℕ) → m ≢ (S.ids shelf.old id).name → S.file shelf.new m ≡ S.file shelf.old m }
     ensures kept { (j : ℕ) → S.ids shelf.new j ≡ S.ids shelf.old j }
     ensures faults { NoFewer (S.faults shelf.old) (S.faults shelf.new) }
     ensures failed { IsErrOf result ShelfFault.Failed → Rose (S.faults shelf.old).writes (S.faults shelf.new).writes }
@@ -166,7 +177,7 @@ impl Outputs {
         ensures ready { IsReady ports (S.ids shelf.new) self.new }
         ensures texts { S.tells → OnOk result ((orig : Files) (text : ℕ → List ℕ) → HasTexts ports (pieces_of self.old) orig (S.file shelf.old) text
             → HasTexts ports (pieces_of self.new) orig (S.file shelf.new) (with_more text ports (lines_of events.now))) }
-        ensures others { S.tells → OnErr result (OnlyOutputs ports (S.file shelf.old) (S.file shelf.new)) }
+        ensures others { S.tells → OnlyOutputs ports (S.file shelf.old) (S.file shelf.new) }
         ensures faults { NoFewer (S.faults shelf.old) (S.faults shelf.new) }
         ensures failed { IsErrOf result ShelfFault.Failed → Rose (S.faults shelf.old).writes (S.faults shelf.new).writes }
     {
@@ -189,7 +200,7 @@ impl Outputs {
         ensures ready { IsReady ports (S.ids shelf.new) self.new }
         ensures texts { S.tells → OnOk result ((orig : Files) (text : ℕ → List ℕ) → HasTexts ports (pieces_of self.old) orig (S.file shelf.old) text
             → HasTexts ports (pieces_of self.new) orig (S.file shelf.new) (with_left_frames ports text left.now)) }
-        ensures others { S.tells → OnErr result (OnlyOutputs ports (S.file shelf.old) (S.file shelf.new)) }
+        ensures others { S.tells → OnlyOutputs ports (S.file shelf.old) (S.file shelf.new) }
         ensures faults { NoFewer (S.faults shelf.old) (S.faults shelf.new) }
         ensures failed { IsErrOf result ShelfFault.Failed → Rose (S.faults shelf.old).writes (S.faults shelf.new).writes }
     {
@@ -205,10 +216,11 @@ impl Outputs {
         requires ready { IsReady ports (S.ids shelf.old) self.old }
         ensures texts { S.tells → OnOk result ((orig : Files) (text : ℕ → List ℕ) → HasTexts ports (pieces_of self.old) orig (S.file shelf.old) text
             → Filled orig (S.file shelf.new) (ports + 1) (output_name ports) (λ j bytes. bytes ≡ text j)) }
-        ensures others { S.tells → OnErr result (OnlyOutputs ports (S.file shelf.old) (S.file shelf.new)) }
+        ensures others { S.tells → OnlyOutputs ports (S.file shelf.old) (S.file shelf.new) }
         ensures faults { NoFewer (S.faults shelf.old) (S.faults shelf.new) }
         ensures failed { IsErrOf result ShelfFault.Failed → Rose (S.faults shelf.old).writes (S.faults shelf.new).writes }
     {
+        output_names_differ();
         for at in 0..self.ids.len() {
             flush(shelf, self.ids[at], &mut self.pieces[at])?;
         }
@@ -222,20 +234,66 @@ impl Outputs {
         ports: u8,
         line: &mut String,
         event: &Event,
-    ) -> Result<(), ShelfFault> {
+    ) -> Result<(), ShelfFault>
+        requires few { ports ≤ 64 }
+        requires ready { IsReady ports (S.ids shelf.old) self.old }
+        ensures ready { IsReady ports (S.ids shelf.new) self.new }
+        ensures texts { S.tells → OnOk result ((orig : Files) (text : ℕ → List ℕ) → HasTexts ports (pieces_of self.old) orig (S.file shelf.old) text
+            → HasTexts ports (pieces_of self.new) orig (S.file shelf.new) (with_more text ports (line_of event.now ++ 10 ∷ []))) }
+        ensures others { S.tells → OnlyOutputs ports (S.file shelf.old) (S.file shelf.new) }
+        ensures faults { NoFewer (S.faults shelf.old) (S.faults shelf.new) }
+        ensures failed { IsErrOf result ShelfFault.Failed → Rose (S.faults shelf.old).writes (S.faults shelf.new).writes }
+    {
         line.clear();
         if write_line(line, event).is_err() {
             return Err(ShelfFault::Memory);
         }
-        let at = ports as usize;
-        add(shelf, self.ids[at], &mut self.pieces[at], line.as_bytes(), &[])
+        self.add_to(shelf, ports, ports as usize, &[], line.as_bytes())
     }
 
     /// Puts a frame that left a port behind the port's capture.
-    fn add_left<S: Shelf>(&mut self, shelf: &mut S, ports: u8, left: &Left) -> Result<(), ShelfFault> {
+    fn add_left<S: Shelf>(
+        &mut self,
+        shelf: &mut S,
+        ports: u8,
+        left: &Left,
+    ) -> Result<(), ShelfFault>
+        requires few { ports ≤ 64 }
+        requires ready { IsReady ports (S.ids shelf.old) self.old }
+        requires frame { CanBeWritten ports left.now }
+        ensures ready { IsReady ports (S.ids shelf.new) self.new }
+        ensures texts { S.tells → OnOk result ((orig : Files) (text : ℕ → List ℕ) → HasTexts ports (pieces_of self.old) orig (S.file shelf.old) text
+            → HasTexts ports (pieces_of self.new) orig (S.file shelf.new) (with_more text (left.now.port - 64) (record_of (left.now.moment, left.now.bytes)))) }
+        ensures others { S.tells → OnlyOutputs ports (S.file shelf.old) (S.file shelf.new) }
+        ensures faults { NoFewer (S.faults shelf.old) (S.faults shelf.new) }
+        ensures failed { IsErrOf result ShelfFault.Failed → Rose (S.faults shelf.old).writes (S.faults shelf.new).writes }
+    {
         let at = left.port.number() as usize - 64;
         let bytes = left.bytes.as_slice();
         let head = record_text(left.moment, bytes.len() as u32);
-        add(shelf, self.ids[at], &mut self.pieces[at], &head, bytes)
+        self.add_to(shelf, ports, at, &head, bytes)
+    }
+
+    /// Puts bytes behind output `at`.
+    fn add_to<S: Shelf>(
+        &mut self,
+        shelf: &mut S,
+        ports: u8,
+        at: usize,
+        head: &[u8],
+        bytes: &[u8],
+    ) -> Result<(), ShelfFault>
+        requires few { ports ≤ 64 }
+        requires ready { IsReady ports (S.ids shelf.old) self.old }
+        requires within { at ≤ ports }
+        ensures ready { IsReady ports (S.ids shelf.new) self.new }
+        ensures texts { S.tells → OnOk result ((orig : Files) (text : ℕ → List ℕ) → HasTexts ports (pieces_of self.old) orig (S.file shelf.old) text
+            → HasTexts ports (pieces_of self.new) orig (S.file shelf.new) (with_more text at (head.now ++ bytes.now))) }
+        ensures others { S.tells → OnlyOutputs ports (S.file shelf.old) (S.file shelf.new) }
+        ensures faults { NoFewer (S.faults shelf.old) (S.faults shelf.new) }
+        ensures failed { IsErrOf result ShelfFault.Failed → Rose (S.faults shelf.old).writes (S.faults shelf.new).writes }
+    {
+        output_names_differ();
+        add(shelf, self.ids[at], &mut self.pieces[at], head, bytes)
     }
 }
