@@ -4,9 +4,7 @@
 #![tactic(auto)]
 
 mod captures;
-mod cursor;
 mod fault;
-mod outputs;
 mod play;
 mod report;
 mod setup;
