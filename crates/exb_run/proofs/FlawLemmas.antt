@@ -1,8 +1,12 @@
 -- Flaws of captures: of the records that are left, of one capture, and which is the first.
-use Rattle.std.proofs.Common.{◌≡◌, ◌≢◌, ◌<◌, ◌≤◌, ◌+◌, ◌&&◌, ◌⊎◌, inl, inr, ℕ, zero, suc, Bool, true, false, List, [], ◌∷◌, Option, Some, None, Result, Ok, Err, length, ap, sym, ◌∙◌, refl, arith, subst, add-one}
-use Rattle.std.specs.Prelude.{nat_lt, if◌then◌else◌, slice_index_or}
+use Rattle.std.proofs.Common.{◌≡◌, ◌≢◌, ◌<◌, ◌≤◌, ◌+◌, ◌++◌, ◌&&◌, ◌⊎◌, inl, inr, ℕ, zero, suc, Bool, true, false, List, [], ◌∷◌, Option, Some, None, Result, Ok, Err, length, ap, sym, ◌∙◌, refl, arith, subst, add-one, map, length-append, below_more}
+use Rattle.std.specs.Prelude.{nat_lt, if◌then◌else◌, slice_index_or, All, Vec}
+use Rattle.std.specs.declared.alloc.Global.{Global}
 use Rattle.std.specs.List.{list_all}
+use Rattle.std.proofs.Math.Seq.{get_or-append_seam}
 use Rattle.std.proofs.lemmas.Bool.{cases_lt, ltb-false}
+use Rattle.std.proofs.lemmas.List.{get_or_append_left, map-append}
+use Rattle.std.proofs.lemmas.List.Elements.{All-append}
 use Rattle.exb_model.specs.declared.frame_kind.Seen.{Seen}
 use Rattle.exb_model.specs.declared.frame_kind.Seen.TheVariants as seen
 use Rattle.exb_model.specs.Frames.{kind_of}
@@ -14,6 +18,7 @@ use Rattle.exb_run.specs.declared.fault.Flaw.{Flaw}
 use Rattle.exb_run.specs.declared.fault.Flaw.TheVariants.{Missing, Large, Broken, NotBuilt}
 use Rattle.exb_run.specs.Inputs.{input_name, IsPlain, IsPlayable}
 use Rattle.exb_run.specs.Flaws.{is_plain, is_plain_record, flaw_in, flaw_of, size_before, flaw_at, FirstFlaw}
+use Rattle.exb_run.specs.Answers.{AreCaptures}
 
 -- ---- the records that are left
 -- the flaw of a capture of which all records so far are plain, or not, and of which this is left
@@ -110,3 +115,28 @@ first_none f n at flaw good p =
     let none : flaw_at f at ≡ None = good at p.within in
     let some : flaw_at f at ≡ Some flaw = p.here in
     cc
+
+-- ---- one capture more
+one : {X : Type 0} (P : X → Type 0) (x : X) → P x → (k : ℕ) (d : X) → k < 1 → P (slice_index_or (x ∷ []) k d)
+one P x p zero d h = p
+one P x p (suc k) d h = absurd (omega arith)
+
+pub all_more : {X : Type 0} (P : X → Type 0) (xs ys : List X) (x : X) → ys ≡ xs ++ x ∷ [] → All P xs → P x → All P ys
+all_more P xs ys x e p q = subst (λ zs. All P zs) (sym e) (All-append P xs (x ∷ []) p (one P x q))
+
+captures_append : (f : Files) (n : ℕ) (xs : List (List ℕ)) (bytes : List ℕ) → AreCaptures f n xs → f (input_name n) ≡ Some bytes → AreCaptures f (n + 1) (xs ++ bytes ∷ [])
+captures_append f n xs bytes p there = record {
+  count = length-append xs (bytes ∷ []) ∙ ap (λ (m : ℕ). m + 1) p.count;
+  each = below_more _ _
+      (λ i h. p.each i h ∙ ap Some (sym (get_or_append_left xs (bytes ∷ []) [] i (let count : length xs ≡ n = p.count in omega arith))))
+      (there ∙ ap Some (sym (subst (λ (m : ℕ). slice_index_or (xs ++ bytes ∷ []) m [] ≡ bytes) p.count (get_or-append_seam xs bytes [] []))));
+}
+
+pub captures_more : (f g : Files) (n : ℕ) (vs ws : List (Vec ℕ Global)) (v : Vec ℕ Global)
+    → SameFiles f g → AreCaptures f n (map (λ u. u.items) vs) → ws ≡ vs ++ v ∷ [] → g (input_name n) ≡ Some v.items
+    → AreCaptures f (n + 1) (map (λ u. u.items) ws)
+captures_more f g n vs ws v same p e there =
+    let whole : map (λ u. u.items) ws ≡ map (λ u. u.items) vs ++ v.items ∷ [] =
+    ap (λ (us : List (Vec ℕ Global)). map (λ u. u.items) us) e ∙ map-append (λ (u : Vec ℕ Global). u.items) vs (v ∷ []) in
+    subst (λ (xs : List (List ℕ)). AreCaptures f (n + 1) xs) (sym whole)
+    (captures_append f n (map (λ u. u.items) vs) v.items p (sym (same (input_name n)) ∙ there))

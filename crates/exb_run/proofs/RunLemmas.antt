@@ -157,9 +157,9 @@ pub write_line : (o : Outcome) → o ≡ Err Write → line_of o ≡ codes "exbr
 unfolding fault_line
 write_line o e = ap line_of e
 
-pub capture_line : (o : Outcome) (p : ℕ) (x : Flaw) → o ≡ Err (Capture p x) → line_of o ≡ flaw_line p x
+pub line_of_capture : (o : Outcome) (p : ℕ) (x : Flaw) → o ≡ Err (Capture p x) → line_of o ≡ flaw_line p x
 unfolding fault_line
-capture_line o p x e = ap line_of e
+line_of_capture o p x e = ap line_of e
 
 pub not_built_line : (p : ℕ) (x : Flaw) → x ≡ NotBuilt → flaw_line p x ≡ codes "exbr: not built\n"
 unfolding flaw_line

@@ -41,11 +41,15 @@ broken_text (pcap.Cut at) = codes "Cut at " ++ decimal at
 broken_text (pcap.Length at) = codes "Length at " ++ decimal at
 broken_text (pcap.Time at) = codes "Time at " ++ decimal at
 
+-- the line of a capture that is not taken
+unfoldable pub capture_line : ℕ → List ℕ → List ℕ
+capture_line p text = codes "exbr: capture " ++ port_name p ++ codes ": " ++ text ++ codes "\n"
+
 -- the line of a flaw of the capture of port p
 unfoldable pub flaw_line : ℕ → Flaw → List ℕ
 flaw_line p Missing = codes "exbr: missing " ++ capture_name (codes "in-") p ++ codes "\n"
-flaw_line p (Large limit) = codes "exbr: capture " ++ port_name p ++ codes ": Large " ++ decimal limit ++ codes "\n"
-flaw_line p (Broken fault) = codes "exbr: capture " ++ port_name p ++ codes ": " ++ broken_text fault ++ codes "\n"
+flaw_line p (Large limit) = capture_line p (codes "Large " ++ decimal limit)
+flaw_line p (Broken fault) = capture_line p (broken_text fault)
 flaw_line p NotBuilt = codes "exbr: not built\n"
 
 unfoldable pub fault_line : Fault → List ℕ

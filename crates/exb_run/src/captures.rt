@@ -129,7 +129,7 @@ pub(crate) fn read_captures<S: Shelf>(
 {
     let mut files = Vec::new(alloc);
     let mut size = 0;
-    'captures: for at in 0..ports {
+    'reading: for at in 0..ports {
         let file = match read_capture(alloc, shelf, at, size) {
             Ok(file) => file,
             Err(fault) => return Err(fault),

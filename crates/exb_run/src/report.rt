@@ -2,7 +2,7 @@
 ghost use Rattle.std.specs.Prelude.{◌≡◌, ◌≢◌, ◌≤◌, ◌++◌, IfOk, OnOk, OnErr, IsErrOf, string_bytes};
 ghost use Rattle.exb_shelf.specs.Files.{AppendsFront};
 ghost use Rattle.exb_shelf.specs.Shelf.{Rose};
-ghost use Rattle.exb_run.specs.Answers.{broken_text, flaw_line, line_of, flaw_status, status_of};
+ghost use Rattle.exb_run.specs.Answers.{broken_text, capture_line, flaw_line, line_of, flaw_status, status_of};
 
 use crate::fault::{Fault, Flaw};
 use exb_model::port::PortId;
@@ -25,10 +25,18 @@ fn broken_text(alloc: Global, fault: PcapFault) -> Result<String, AllocError>
     }
 }
 
+/// The line of a capture that is not taken.
+#[tactic(auto, unfolding(crate::specs::Answers::capture_line))]
+fn capture_line(alloc: Global, port: PortId, text: &str) -> Result<String, AllocError>
+    ensures { IfOk result (λ line. string_bytes line ≡ capture_line port text.now) }
+{
+    format!(in alloc; "exbr: capture {}: {text}\n", PortName(port))
+}
+
 /// The line of a flaw of the capture of a port.
 #[tactic(auto, unfolding(crate::specs::Answers::flaw_line))]
 fn flaw_line(alloc: Global, port: PortId, flaw: Flaw) -> Result<String, AllocError>
-    ensures { IfOk result (λ text. string_bytes text ≡ flaw_line port flaw) }
+    ensures { IfOk result (λ line. string_bytes line ≡ flaw_line port flaw) }
 {
     match flaw {
         Flaw::Missing => {
@@ -38,11 +46,12 @@ fn flaw_line(alloc: Global, port: PortId, flaw: Flaw) -> Result<String, AllocErr
             format!(in alloc; "exbr: missing {name}\n")
         }
         Flaw::Large { limit } => {
-            format!(in alloc; "exbr: capture {}: Large {limit}\n", PortName(port))
+            let text = format!(in alloc; "Large {limit}")?;
+            capture_line(alloc, port, text.as_str())
         }
         Flaw::Broken { fault } => {
             let text = broken_text(alloc, fault)?;
-            format!(in alloc; "exbr: capture {}: {text}\n", PortName(port))
+            capture_line(alloc, port, text.as_str())
         }
         Flaw::NotBuilt => format!(in alloc; "exbr: not built\n"),
     }

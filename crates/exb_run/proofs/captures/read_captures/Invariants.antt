@@ -8,8 +8,8 @@ use Rattle.exb_run.specs.Flaws.{flaw_at, size_before}
 use Rattle.exb_run.specs.Answers.{AreCaptures}
 use Rattle.exb_run.proofs.captures.read_captures.Given as goal
 
-abbrev pub invariant-captures : goal.invariant-captures
-invariant-captures g l =
+abbrev pub invariant-reading : goal.invariant-reading
+invariant-reading g l =
     let S = g.S.Shelf in
     record {
       there : S.tells → AreCaptures (S.file l.fn.shelf) l.at (map (λ v. v.items) l.files.items);

@@ -1,7 +1,7 @@
 use Rattle.std.proofs.Common.{◌≡◌, ◌≢◌, ◌<◌, ◌+◌, ◌++◌, ◌⊎◌, ◌∙◌, inl, inr, ℕ, List, sym, ap, refl, arith, Err, Result}
 use Rattle.exb_run.specs.declared.fault.Flaw.{Flaw}
 use Rattle.exb_run.specs.Answers.{status_of, line_of, flaw_line, flaw_status}
-use Rattle.exb_run.proofs.RunLemmas.{flaw_apart, is_usage, is_read, is_write, write_or_not, is_capture, is_not_built, usage_line, read_line, write_line, capture_line, not_built_line}
+use Rattle.exb_run.proofs.RunLemmas.{flaw_apart, is_usage, is_read, is_write, write_or_not, is_capture, is_not_built, usage_line, read_line, write_line, line_of_capture, not_built_line}
 use Rattle.exb_run.proofs.top.run.Goals as goal
 
 pub returns-clause-stops : goal.returns-clause-stops
@@ -39,7 +39,7 @@ returns-clause-four_says g c = λ t e.
     let port = c.work-outcome.ensures.port is.0 is.1 is.2 in
     (flaw_line (64 + port.0) is.1, (port.0, is.1, port.1, is.3, refl),
     c.report.ensures.whole t n1 n7
-    ∙ ap (λ (xs : List ℕ). g.O.Sink.text c.args.out.now ++ xs) (capture_line c.work-outcome.result is.0 is.1 is.2)
+    ∙ ap (λ (xs : List ℕ). g.O.Sink.text c.args.out.now ++ xs) (line_of_capture c.work-outcome.result is.0 is.1 is.2)
     ∙ ap (λ (p : ℕ). g.O.Sink.text c.args.out.now ++ flaw_line p is.1) port.2)
 
 pub returns-clause-five_says : goal.returns-clause-five_says
@@ -50,7 +50,7 @@ returns-clause-five_says g c = λ t e.
     let port = c.work-outcome.ensures.port is.0 is.1 is.2 in
     (flaw_line (64 + port.0) is.1, (port.0, is.1, port.1, is.3, refl),
     c.report.ensures.whole t n1 n7
-    ∙ ap (λ (xs : List ℕ). g.O.Sink.text c.args.out.now ++ xs) (capture_line c.work-outcome.result is.0 is.1 is.2)
+    ∙ ap (λ (xs : List ℕ). g.O.Sink.text c.args.out.now ++ xs) (line_of_capture c.work-outcome.result is.0 is.1 is.2)
     ∙ ap (λ (p : ℕ). g.O.Sink.text c.args.out.now ++ flaw_line p is.1) port.2)
 
 pub returns-clause-stops_says : goal.returns-clause-stops_says
@@ -60,7 +60,7 @@ returns-clause-stops_says g c = λ t o at flaw stops e.
     let n7 : c.report.result ≢ 7 = λ h. apart.2 (sym e ∙ h) in
     let is : c.report.result ≡ status_of c.work-outcome.result = c.report.ensures.status n1 n7 in
     elim (c.work-outcome.ensures.stops t at flaw stops) [
-      | inl capture ↦ c.report.ensures.whole o n1 n7 ∙ ap (λ (xs : List ℕ). g.O.Sink.text c.args.out.now ++ xs) (capture_line c.work-outcome.result (64 + at) flaw capture)
+      | inl capture ↦ c.report.ensures.whole o n1 n7 ∙ ap (λ (xs : List ℕ). g.O.Sink.text c.args.out.now ++ xs) (line_of_capture c.work-outcome.result (64 + at) flaw capture)
       | inr other ↦ elim other [
         | inl read ↦ absurd (apart.1 (sym e ∙ is ∙ ap status_of read))
         | inr memory ↦ absurd (n1 (is ∙ ap status_of memory))
@@ -87,4 +87,4 @@ returns-clause-eight_says g c = λ t e.
     let n7 : c.report.result ≢ 7 = λ h. omega arith in
     let is = is_capture c.work-outcome.result 8 (sym (c.report.ensures.status n1 n7) ∙ e) (omega arith) (λ h. omega arith) (λ h. omega arith) in
     c.report.ensures.whole t n1 n7
-    ∙ ap (λ (xs : List ℕ). g.O.Sink.text c.args.out.now ++ xs) (capture_line c.work-outcome.result is.0 is.1 is.2 ∙ not_built_line is.0 is.1 (is_not_built is.1 is.3))
+    ∙ ap (λ (xs : List ℕ). g.O.Sink.text c.args.out.now ++ xs) (line_of_capture c.work-outcome.result is.0 is.1 is.2 ∙ not_built_line is.0 is.1 (is_not_built is.1 is.3))
