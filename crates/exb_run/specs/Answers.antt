@@ -43,7 +43,7 @@ broken_text (pcap.Time at) = codes "Time at " ++ decimal at
 
 -- the line of a capture that is not taken
 unfoldable pub capture_line : ℕ → List ℕ → List ℕ
-capture_line p text = codes "exbr: capture " ++ port_name p ++ codes ": " ++ text ++ codes "\n"
+capture_line p text = codes "exbr: capture " ++ (port_name p ++ (codes ": " ++ (text ++ codes "\n")))
 
 -- the line of a flaw of the capture of port p
 unfoldable pub flaw_line : ℕ → Flaw → List ℕ
