@@ -1,5 +1,5 @@
 -- Flaws of captures: of the records that are left, of one capture, and which is the first.
-use Rattle.std.proofs.Common.{◌≡◌, ◌≢◌, ◌<◌, ◌≤◌, ◌+◌, ◌++◌, ◌&&◌, ◌⊎◌, inl, inr, ℕ, zero, suc, Bool, true, false, List, [], ◌∷◌, Option, Some, None, Result, Ok, Err, length, ap, sym, ◌∙◌, refl, arith, subst, add-one, map, length-append, below_more}
+use Rattle.std.proofs.Common.{◌≡◌, ◌<◌, ◌≤◌, ◌+◌, ◌++◌, ◌&&◌, inl, inr, ℕ, zero, suc, Bool, true, false, List, [], ◌∷◌, Option, Some, None, Result, Ok, Err, length, ap, sym, ◌∙◌, refl, arith, subst, add-one, map, length-append, below_more}
 use Rattle.std.specs.Prelude.{nat_lt, if◌then◌else◌, slice_index_or, All, Vec}
 use Rattle.std.specs.declared.alloc.Global.{Global}
 use Rattle.std.specs.List.{list_all}
@@ -15,7 +15,7 @@ use Rattle.exb_pcap.specs.declared.reader.PcapFault.{PcapFault}
 use Rattle.exb_pcap.specs.Captures.{pcap_records, whole}
 use Rattle.exb_shelf.specs.Files.{Files, SameFiles, bytes_of}
 use Rattle.exb_run.specs.declared.fault.Flaw.{Flaw}
-use Rattle.exb_run.specs.declared.fault.Flaw.TheVariants.{Missing, Large, Broken, NotBuilt}
+use Rattle.exb_run.specs.declared.fault.Flaw.TheVariants.{Broken, NotBuilt}
 use Rattle.exb_run.specs.Inputs.{input_name, IsPlain, IsPlayable}
 use Rattle.exb_run.specs.Flaws.{is_plain, is_plain_record, flaw_in, flaw_of, size_before, flaw_at, FirstFlaw}
 use Rattle.exb_run.specs.Answers.{AreCaptures}

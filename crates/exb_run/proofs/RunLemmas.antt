@@ -1,10 +1,9 @@
 -- The parts of a run make the whole.
-use Rattle.std.proofs.Common.{◌≡◌, ◌≢◌, ◌<◌, ◌≤◌, ◌+◌, ◌++◌, ◌⊎◌, inl, inr, ℕ, List, [], Option, Some, None, Result, Ok, Err, map, length, ap, sym, ◌∙◌, refl, subst, arith}
-use Rattle.std.specs.Prelude.{Vec, String, IfOk, OnOk, OnErr, IsErrOf, string_bytes, codes}
+use Rattle.std.proofs.Common.{◌≡◌, ◌≢◌, ◌<◌, ◌+◌, ◌++◌, ◌⊎◌, inl, inr, ℕ, List, Option, Some, None, Result, Ok, Err, map, ap, sym, ◌∙◌, refl, subst, arith}
+use Rattle.std.specs.Prelude.{Vec, String, IfOk, OnErr, string_bytes, codes}
 use Rattle.std.specs.declared.alloc.Global.{Global}
 use Rattle.exb_model.specs.Input.{Input}
 use Rattle.exb_shelf.specs.Files.{Files, SameFiles, Filled, AppendsFront}
-use Rattle.exb_shelf.specs.Shelf.{Rose}
 use Rattle.exb_run.specs.declared.fault.Flaw.{Flaw}
 use Rattle.exb_run.specs.declared.fault.Flaw.TheVariants.{Missing, Large, Broken, NotBuilt}
 use Rattle.exb_run.specs.declared.fault.Fault.{Fault}
@@ -12,7 +11,7 @@ use Rattle.exb_run.specs.declared.fault.Fault.TheVariants.{Usage, Capture, Read,
 use Rattle.exb_run.specs.Inputs.{IsInputOf}
 use Rattle.exb_run.specs.Outputs.{IsPlayed, OnlyOutputs}
 use Rattle.exb_run.specs.Flaws.{flaw_at, FirstFlaw, Stops}
-use Rattle.exb_run.specs.Answers.{AreCaptures, Ran, StopsWith, IsFlawLine, IsLine, line_of, fault_line, flaw_line, flaw_status, fault_status, status_of}
+use Rattle.exb_run.specs.Answers.{AreCaptures, Ran, IsFlawLine, IsLine, line_of, fault_line, flaw_line, flaw_status, status_of}
 use Rattle.exb_run.proofs.FlawLemmas.{first_once, first_none}
 
 abbrev pub Outcome : Type 0
@@ -93,7 +92,7 @@ pub flaw_apart : (x : Flaw) → (flaw_status x ≢ 1) × (flaw_status x ≢ 6) �
 flaw_apart x = (
   flaw_not x 1 (λ e. omega arith) (λ e. omega arith) (λ e. omega arith),
   flaw_not x 6 (λ e. omega arith) (λ e. omega arith) (λ e. omega arith),
-  flaw_not x 7 (λ e. omega arith) (λ e. omega arith) (λ e. omega arith)
+  flaw_not x 7 (λ e. omega arith) (λ e. omega arith) (λ e. omega arith),
 )
 
 pub is_usage : (o : Outcome) → status_of o ≡ 2 → o ≡ Err Usage
@@ -164,6 +163,16 @@ line_of_capture o p x e = ap line_of e
 pub not_built_line : (p : ℕ) (x : Flaw) → x ≡ NotBuilt → flaw_line p x ≡ codes "exbr: not built\n"
 unfolding flaw_line
 not_built_line p x e = ap (flaw_line p) e
+
+-- the line of a capture with a flaw
+pub flaw_says : (o : Outcome) (s : ℕ) (before after : List ℕ) → status_of o ≡ s → 2 < s → s ≢ 6 → s ≢ 7
+    → ((p : ℕ) (x : Flaw) → o ≡ Err (Capture p x) → (at : ℕ) × (at < 64) × (p ≡ 64 + at))
+    → after ≡ before ++ line_of o → (line : List ℕ) × IsFlawLine s line × (after ≡ before ++ line)
+flaw_says o s before after is more n6 n7 ports says =
+    let found = is_capture o s is more n6 n7 in
+    let port = ports found.0 found.1 found.2 in
+    let line : line_of o ≡ flaw_line (64 + port.0) found.1 = line_of_capture o found.0 found.1 found.2 ∙ ap (λ (p : ℕ). flaw_line p found.1) port.2 in
+    (flaw_line (64 + port.0) found.1, (port.0, found.1, port.1, found.3, refl), says ∙ ap (λ (xs : List ℕ). before ++ xs) line)
 
 pub front_by : (o : Outcome) (asked : Option ℕ) (f h : Files) (before after : List ℕ)
     → IfOk o (λ line. Ran asked f h (string_bytes line)) → AppendsFront before after (line_of o)

@@ -1,11 +1,13 @@
 -- How a run ends: its status, and what it prints.
-use Rattle.std.specs.Prelude.{◌≡◌, ◌≢◌, ◌<◌, ◌+◌, ◌++◌, ◌⊎◌, ◌==◌, ◌||◌, IsTrue, ℕ, List, [], Option, Some, Result, Ok, Err, String, codes, length, string_bytes, slice_index_or}
+use Rattle.std.specs.Prelude.{◌≡◌, ◌<◌, ◌+◌, ◌++◌, ◌⊎◌, ◌==◌, ◌||◌, IsTrue, ℕ, List, [], Option, Some, Result, Ok, Err, String, codes, length, string_bytes, slice_index_or}
 use Rattle.std.specs.declared.alloc.Global.{Global}
 use Rattle.std.specs.Fmt.{decimal}
 use Rattle.exb_model.specs.Input.{Input}
 use Rattle.exb_model.specs.Texts.{port_name}
 use Rattle.exb_pcap.specs.declared.reader.PcapFault.{PcapFault}
 use Rattle.exb_pcap.specs.declared.reader.PcapFault.TheVariants as pcap
+use Rattle.exb_shelf.specs.declared.shelf.ShelfFault.{ShelfFault}
+use Rattle.exb_shelf.specs.declared.shelf.ShelfFault.TheVariants as shelf
 use Rattle.exb_shelf.specs.Files.{Files}
 use Rattle.exb_text.specs.Names.{capture_name}
 use Rattle.exb_run.specs.declared.fault.Flaw.{Flaw}
@@ -30,6 +32,12 @@ pub record Ran (asked : Option ℕ) (old new : Files) (line : List ℕ) : Type 0
   pub input : Input
   pub reads : IsInputOf captures input
   pub played : IsPlayed input ports old new line
+
+-- ---- faults
+-- a failure of the shelf while files are made and written
+abbrev pub fault_of : ShelfFault → Fault
+fault_of shelf.Failed = Write
+fault_of shelf.Memory = Memory
 
 -- ---- what is printed
 -- a fault of the grammar, and its place

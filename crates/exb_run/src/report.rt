@@ -58,7 +58,12 @@ fn flaw_line(alloc: Global, port: PortId, flaw: Flaw) -> Result<String, AllocErr
 }
 
 /// Prints the line of a flaw.
-fn print_flaw<O: Sink>(alloc: Global, out: &mut O, port: PortId, flaw: Flaw) -> Result<(), ShelfFault>
+fn print_flaw<O: Sink>(
+    alloc: Global,
+    out: &mut O,
+    port: PortId,
+    flaw: Flaw,
+) -> Result<(), ShelfFault>
     ensures ok { O.tells → OnOk result (O.text out.new ≡ O.text out.old ++ flaw_line port flaw) }
     ensures err { O.tells → OnErr result (AppendsFront (O.text out.old) (O.text out.new) (flaw_line port flaw)) }
     ensures faults { O.faults out.old ≤ O.faults out.new }
@@ -72,7 +77,11 @@ fn print_flaw<O: Sink>(alloc: Global, out: &mut O, port: PortId, flaw: Flaw) -> 
 
 /// Prints the summary, or the line of the fault. The lines that are always the same take no memory.
 #[tactic(auto, unfolding(crate::specs::Answers::fault_line))]
-fn print_outcome<O: Sink>(alloc: Global, out: &mut O, outcome: &Result<String, Fault>) -> Result<(), ShelfFault>
+fn print_outcome<O: Sink>(
+    alloc: Global,
+    out: &mut O,
+    outcome: &Result<String, Fault>,
+) -> Result<(), ShelfFault>
     ensures ok { O.tells → OnOk result (O.text out.new ≡ O.text out.old ++ line_of outcome.now) }
     ensures err { O.tells → OnErr result (AppendsFront (O.text out.old) (O.text out.new) (line_of outcome.now)) }
     ensures faults { O.faults out.old ≤ O.faults out.new }

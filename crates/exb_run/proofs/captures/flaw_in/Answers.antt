@@ -1,4 +1,4 @@
-use Rattle.std.proofs.Common.{◌≡◌, ◌∙◌, ap}
+use Rattle.std.proofs.Common.{◌∙◌, ap}
 use Rattle.exb_pcap.specs.Captures.{pcap_records, all_records}
 use Rattle.exb_run.specs.Flaws.{flaw_in}
 use Rattle.exb_run.proofs.FlawLemmas.{left_at_first}

@@ -1,22 +1,24 @@
-use Rattle.std.proofs.Common.{rules, ◌≡◌, ◌<◌, ◌≤◌, ◌+◌, ◌++◌, ◌∷◌, [], ◌∙◌, ℕ, List, Err, None, Some, map, length, ap, sym, arith, below_more}
+use Rattle.std.proofs.Common.{rules, ◌≡◌, ◌≤◌, ◌+◌, ◌++◌, ◌∷◌, [], ◌∙◌, ℕ, Err, None, length, ap, arith, below_more}
 use Rattle.std.specs.Prelude.{Vec}
 use Rattle.std.specs.declared.alloc.Global.{Global}
-use Rattle.std.proofs.lemmas.Grind.{common_steps}
 use Rattle.exb_pcap.specs.Captures.{pcap_records}
 use Rattle.exb_run.specs.declared.fault.Fault.TheVariants.{Capture}
-use Rattle.exb_run.specs.Inputs.{input_name, IsPlayable}
-use Rattle.exb_run.specs.Flaws.{flaw_at, flaw_of, size_before}
+use Rattle.exb_run.specs.Inputs.{IsPlayable}
+use Rattle.exb_run.specs.Flaws.{flaw_of, size_before}
 use Rattle.exb_run.proofs.FlawLemmas.{IsGood, flaw_here, size_more, no_flaw, all_more, captures_more}
 use Rattle.exb_run.proofs.captures.read_captures.Goals as goal
 
 pub returns-in-Err-clause-flaw : goal.returns-in-Err-clause-flaw
 returns-in-Err-clause-flaw g c = λ t p flaw e.
-    let same : c.in-Err.fault ≡ Capture p flaw = cc in
-    (c.reading.at, c.in-Err.ensures.port p flaw (ap Err same), record {
-      within = omega arith;
-      before = c.reading.invariant.good t;
-      here = flaw_here _ _ c.reading.at c.reading.size _ c.reading.invariant.files (c.reading.invariant.total t) (c.in-Err.ensures.flaw t p flaw (ap Err same));
-    })
+    let same : c.in-Err.fault ≡ Capture p flaw = cc in (
+      c.reading.at,
+      c.in-Err.ensures.port p flaw (ap Err same),
+      record {
+        within = omega arith;
+        before = c.reading.invariant.good t;
+        here = flaw_here _ _ c.reading.at c.reading.size _ c.reading.invariant.files (c.reading.invariant.total t) (c.in-Err.ensures.flaw t p flaw (ap Err same));
+      },
+    )
 
 pub reading-preserved : goal.reading-preserved
 reading-preserved g c =

@@ -1,4 +1,4 @@
-use Rattle.std.proofs.Common.{◌≡◌, ◌∙◌, ◌++◌, List, ℕ, ap, sym, length, take}
+use Rattle.std.proofs.Common.{◌∙◌, ◌++◌, List, ℕ, ap, sym, length}
 use Rattle.std.proofs.Math.Seq.{take-length}
 use Rattle.exb_run.specs.Answers.{line_of}
 use Rattle.exb_run.proofs.report.report.Goals as goal

@@ -1,7 +1,6 @@
-use Rattle.std.proofs.Common.{◌≡◌, ◌≢◌, ◌<◌, ◌+◌, ◌++◌, ◌⊎◌, ◌∙◌, inl, inr, ℕ, List, sym, ap, refl, arith, Err, Result}
-use Rattle.exb_run.specs.declared.fault.Flaw.{Flaw}
-use Rattle.exb_run.specs.Answers.{status_of, line_of, flaw_line, flaw_status}
-use Rattle.exb_run.proofs.RunLemmas.{flaw_apart, is_usage, is_read, is_write, write_or_not, is_capture, is_not_built, usage_line, read_line, write_line, line_of_capture, not_built_line}
+use Rattle.std.proofs.Common.{◌≡◌, ◌≢◌, ◌+◌, ◌++◌, ◌∙◌, inl, inr, ℕ, List, sym, ap, arith}
+use Rattle.exb_run.specs.Answers.{status_of}
+use Rattle.exb_run.proofs.RunLemmas.{flaw_apart, is_usage, is_read, write_or_not, is_capture, is_not_built, flaw_says, usage_line, read_line, write_line, line_of_capture, not_built_line}
 use Rattle.exb_run.proofs.top.run.Goals as goal
 
 pub returns-clause-stops : goal.returns-clause-stops
@@ -17,12 +16,12 @@ returns-clause-stops g c = λ t at flaw stops n1 n6 n7.
 
 pub returns-clause-stops_seven : goal.returns-clause-stops_seven
 returns-clause-stops_seven g c = λ t at flaw stops e. c.report.ensures.seven e (elim (c.work-outcome.ensures.stops t at flaw stops) [
-      | inl capture ↦ λ s. (flaw_apart flaw).2 (sym (ap status_of capture) ∙ s)
-      | inr other ↦ elim other [
-        | inl read ↦ λ s. let h : 6 ≡ 7 = sym (ap status_of read) ∙ s in omega arith
-        | inr memory ↦ λ s. let h : 1 ≡ 7 = sym (ap status_of memory) ∙ s in omega arith
-      ]
-    ])
+  | inl capture ↦ λ s. (flaw_apart flaw).2 (sym (ap status_of capture) ∙ s)
+  | inr other ↦ elim other [
+    | inl read ↦ λ s. let h : 6 ≡ 7 = sym (ap status_of read) ∙ s in omega arith
+    | inr memory ↦ λ s. let h : 1 ≡ 7 = sym (ap status_of memory) ∙ s in omega arith
+  ]
+])
 
 pub returns-clause-two_says : goal.returns-clause-two_says
 returns-clause-two_says g c = λ t e.
@@ -35,23 +34,15 @@ pub returns-clause-four_says : goal.returns-clause-four_says
 returns-clause-four_says g c = λ t e.
     let n1 : c.report.result ≢ 1 = λ h. omega arith in
     let n7 : c.report.result ≢ 7 = λ h. omega arith in
-    let is = is_capture c.work-outcome.result 4 (sym (c.report.ensures.status n1 n7) ∙ e) (omega arith) (λ h. omega arith) (λ h. omega arith) in
-    let port = c.work-outcome.ensures.port is.0 is.1 is.2 in
-    (flaw_line (64 + port.0) is.1, (port.0, is.1, port.1, is.3, refl),
-    c.report.ensures.whole t n1 n7
-    ∙ ap (λ (xs : List ℕ). g.O.Sink.text c.args.out.now ++ xs) (line_of_capture c.work-outcome.result is.0 is.1 is.2)
-    ∙ ap (λ (p : ℕ). g.O.Sink.text c.args.out.now ++ flaw_line p is.1) port.2)
+    flaw_says c.work-outcome.result 4 _ _ (sym (c.report.ensures.status n1 n7) ∙ e) (omega arith) (λ h. omega arith) (λ h. omega arith)
+    c.work-outcome.ensures.port (c.report.ensures.whole t n1 n7)
 
 pub returns-clause-five_says : goal.returns-clause-five_says
 returns-clause-five_says g c = λ t e.
     let n1 : c.report.result ≢ 1 = λ h. omega arith in
     let n7 : c.report.result ≢ 7 = λ h. omega arith in
-    let is = is_capture c.work-outcome.result 5 (sym (c.report.ensures.status n1 n7) ∙ e) (omega arith) (λ h. omega arith) (λ h. omega arith) in
-    let port = c.work-outcome.ensures.port is.0 is.1 is.2 in
-    (flaw_line (64 + port.0) is.1, (port.0, is.1, port.1, is.3, refl),
-    c.report.ensures.whole t n1 n7
-    ∙ ap (λ (xs : List ℕ). g.O.Sink.text c.args.out.now ++ xs) (line_of_capture c.work-outcome.result is.0 is.1 is.2)
-    ∙ ap (λ (p : ℕ). g.O.Sink.text c.args.out.now ++ flaw_line p is.1) port.2)
+    flaw_says c.work-outcome.result 5 _ _ (sym (c.report.ensures.status n1 n7) ∙ e) (omega arith) (λ h. omega arith) (λ h. omega arith)
+    c.work-outcome.ensures.port (c.report.ensures.whole t n1 n7)
 
 pub returns-clause-stops_says : goal.returns-clause-stops_says
 returns-clause-stops_says g c = λ t o at flaw stops e.
