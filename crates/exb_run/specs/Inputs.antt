@@ -1,5 +1,5 @@
 -- What a run reads: the capture of each port, and the input that they make.
-use Rattle.std.specs.Prelude.{◌≡◌, ◌<◌, ◌+◌, ℕ, false, List, [], Option, Some, None, Result, Ok, Err, All, codes, length, slice_index_or}
+use Rattle.std.specs.Prelude.{◌≡◌, ◌<◌, ◌+◌, ℕ, false, List, [], Result, Ok, Err, All, codes, length, slice_index_or}
 use Rattle.exb_model.specs.declared.frame_kind.Seen.TheVariants as seen
 use Rattle.exb_model.specs.Frames.{kind_of}
 use Rattle.exb_model.specs.Input.{Input, Record}

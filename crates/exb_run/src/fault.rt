@@ -1,10 +1,13 @@
 //! What can end a run before its end.
 ghost use Rattle.std.specs.Prelude.{◌≡◌};
 ghost use Rattle.exb_run.specs.declared.fault.Fault.TheVariants.{Memory};
+ghost use Rattle.exb_run.specs.Answers.{fault_of};
 
 use exb_model::memory::NoMemory;
 use exb_model::port::PortId;
 use exb_pcap::PcapFault;
+use exb_shelf::ShelfFault;
+use exb_world::WorldFault;
 
 /// What is wrong with the capture of a port.
 #[derive(Clone, Copy, Debug, PartialEq, Eq)]
@@ -39,5 +42,25 @@ impl From<NoMemory> for Fault {
 
     fn from(_: NoMemory) -> Self {
         Fault::Memory
+    }
+}
+
+impl From<WorldFault> for Fault {
+    ghost from_gives = { λ _ fault. fault ≡ Memory };
+
+    fn from(_: WorldFault) -> Self {
+        Fault::Memory
+    }
+}
+
+/// A failure of the shelf while files are made and written.
+impl From<ShelfFault> for Fault {
+    ghost from_gives = { λ failure fault. fault ≡ fault_of failure };
+
+    fn from(failure: ShelfFault) -> Self {
+        match failure {
+            ShelfFault::Failed => Fault::Write,
+            ShelfFault::Memory => Fault::Memory,
+        }
     }
 }

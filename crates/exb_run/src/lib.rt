@@ -3,8 +3,13 @@
 //! files through `exb_shelf`'s traits.
 #![tactic(auto)]
 
+mod captures;
 mod fault;
 mod outputs;
 mod play;
+mod report;
 mod setup;
+mod top;
 mod words;
+
+pub use top::run;
