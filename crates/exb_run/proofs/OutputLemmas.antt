@@ -1,5 +1,5 @@
 -- The outputs as they fill: their names differ, and each file followed by its piece is its text.
-use Rattle.std.proofs.Common.{◌≡◌, ◌≢◌, ◌<◌, ◌≤◌, ◌+◌, ◌-◌, ◌*◌, ◌++◌, ◌⊎◌, ◌==◌, inl, inr, ℕ, List, [], ◌∷◌, true, false, if◌then◌else◌, cond, length, take, get_or, set, map, ap, sym, ◌∙◌, refl, arith, subst, append_assoc, eq-eqb, get_or-set_same, get_or-set_other, codes, flat_map}
+use Rattle.std.proofs.Common.{◌≡◌, ◌≢◌, ◌<◌, ◌≤◌, ◌+◌, ◌-◌, ◌++◌, ◌⊎◌, inl, inr, ℕ, List, [], ◌∷◌, true, length, take, get_or, set, map, ap, sym, ◌∙◌, refl, arith, subst, append_assoc, eq-eqb, get_or-set_same, get_or-set_other, codes, flat_map}
 use Rattle.std.proofs.lemmas.Bool.{cases_lt, cases_eq, lt-ltb, le-ltb, ne_eqb, leb-true, ltb-true, and_parts}
 use Rattle.std.proofs.lemmas.List.{append-nil, map-set, get_or-map, get_or_read_under, get_or_append_left, length-map, take_more}
 use Rattle.std.proofs.lemmas.Grind.{flat_map-append}
