@@ -5,7 +5,7 @@ use Rattle.std.proofs.lemmas.Bool.{cases_eq, ne_eqb}
 use Rattle.exb_model.specs.Ports.{below}
 use Rattle.exb_model.specs.declared.event.Event.{Event}
 use Rattle.exb_model.specs.declared.event.Event.TheVariants as event
-use Rattle.exb_model.specs.History.{Basis, History, bridge_after}
+use Rattle.exb_model.specs.History.{Basis, History, ◌then◌, bridge_after}
 use Rattle.exb_model.specs.Learning.{learned}
 use Rattle.exb_model.specs.FlatBridge.{Sent, sent_by, flat}
 use Rattle.exb_model.specs.Tree.{Shape, external_ports}
@@ -118,3 +118,57 @@ few_left ports f small = let most = from_start 0 ports in omega arith
     from_start : (a : ℕ) (qs : List ℕ) → fold (λ x q. x + f q) a qs ≤ a + length qs
     from_start a [] = omega arith
     from_start a (q ∷ qs) = let rest = from_start (a + f q) qs in let one = small q in omega arith
+
+-- ---- counts after events
+-- equal but for what has left, and in what has left
+same_counts : (c d : Counts) → without_left c ≡ without_left d → c.left ≡ d.left → c ≡ d
+same_counts c d e l = ap (λ (x : Counts). record x { left = c.left }) e ∙ ap (λ n. record d { left = n }) l
+
+counted-same : (e : Event) (c d : Counts) → without_left c ≡ without_left d → without_left (counted e c) ≡ without_left (counted e d)
+counted-same (event.Relay p k m f) c d e = ap (λ (x : Counts). without_left (counted (event.Relay p k m f) x)) e
+counted-same (event.Ignored p k) c d e = ap (λ (x : Counts). without_left (counted (event.Ignored p k) x)) e
+counted-same (event.Tick s) c d e = e
+counted-same (event.Commit k) c d e = ap (λ (x : Counts). without_left (counted (event.Commit k) x)) e
+counted-same (event.Refuse k x) c d e = ap (λ (y : Counts). without_left (counted (event.Refuse k x) y)) e
+counted-same (event.Up p) c d e = e
+counted-same (event.NoUp p x) c d e = e
+counted-same event.Settled c d e = e
+
+abbrev pub count_events : Counts → List Event → Counts
+count_events c es = fold (λ d e. counted e d) c es
+
+count_events-same : (es : List Event) (c d : Counts) → without_left c ≡ without_left d → without_left (count_events c es) ≡ without_left (count_events d es)
+count_events-same [] c d e = e
+count_events-same (x ∷ es) c d e = count_events-same es (counted x c) (counted x d) (counted-same x c d e)
+
+count_events-then : (t : Shape) (b : Basis) (h : History) (es : List Event) → without_left (counts t b (h then es)) ≡ without_left (count_events (counts t b h) es)
+count_events-then t b h [] = refl
+count_events-then t b h (e ∷ es) = count_events-then t b (e ∷ h) es ∙ count_events-same es (counts t b (e ∷ h)) (counted e (counts t b h)) (counts-events t b h e)
+
+pub count_events-left : (es : List Event) (c : Counts) → (count_events c es).left ≡ c.left
+count_events-left [] c = refl
+count_events-left (e ∷ es) c = count_events-left es (counted e c) ∙ same_left e
+  where
+    same_left : (x : Event) → (counted x c).left ≡ c.left
+    same_left (event.Relay p k m f) = refl
+    same_left (event.Ignored p k) = refl
+    same_left (event.Tick s) = refl
+    same_left (event.Commit k) = refl
+    same_left (event.Refuse k x) = refl
+    same_left (event.Up p) = refl
+    same_left (event.NoUp p x) = refl
+    same_left event.Settled = refl
+
+-- the counts after events, where that many frames left
+pub counts-then : (t : Shape) (b : Basis) (h : History) (es : List Event) (n : ℕ) → left_over b (h then es) (external_ports t) ≡ left_over b h (external_ports t) + n →
+    with_left n (count_events (counts t b h) es) ≡ counts t b (h then es)
+counts-then t b h es n more =
+    same_counts (with_left n (count_events (counts t b h) es)) (counts t b (h then es)) (sym (count_events-then t b h es))
+    (ap (λ k. k + n) (count_events-left es (counts t b h) ∙ counts-left t b h) ∙ sym more ∙ sym (counts-left t b (h then es)))
+
+-- what left after a history is what left each port more
+pub left_over-more : (b : Basis) (h h' : History) (xs : List Left) (ports : List ℕ) → ((q : ℕ) → flat b h' q ≡ flat b h q ++ left_at xs q) →
+    All (λ x. sum_by (λ q. cond (x.port == q) 1 0) ports ≡ 1) xs → left_over b h' ports ≡ left_over b h ports + length xs
+left_over-more b h h' xs ports grown once =
+    sum_by-plus (λ q. length (flat b h q)) (λ q. length (left_at xs q)) (λ q. length (flat b h' q)) (λ q. ap (λ (ys : List Sent). length ys) (grown q) ∙ length-append (flat b h q) (left_at xs q)) ports
+    ∙ ap (λ n. left_over b h ports + n) (length_by_port ports xs once)

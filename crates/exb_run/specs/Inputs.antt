@@ -1,8 +1,9 @@
 -- What a run reads: the capture of each port, and the input that they make.
-use Rattle.std.specs.Prelude.{◌≡◌, ◌<◌, ◌+◌, ℕ, false, List, [], Result, Ok, Err, All, codes, length, slice_index_or}
+use Rattle.std.specs.Prelude.{◌≡◌, ◌<◌, ◌+◌, ◌-◌, ℕ, false, if◌then◌else◌, List, [], Result, Ok, Err, All, codes, length, slice_index_or}
 use Rattle.exb_model.specs.declared.frame_kind.Seen.TheVariants as seen
 use Rattle.exb_model.specs.Frames.{kind_of}
 use Rattle.exb_model.specs.Input.{Input, Record}
+use Rattle.exb_model.specs.declared.setup.Setup.{Setup}
 use Rattle.exb_pcap.specs.declared.reader.PcapFault.{PcapFault}
 use Rattle.exb_pcap.specs.Captures.{pcap_records}
 use Rattle.exb_text.specs.Names.{capture_name}
@@ -30,3 +31,16 @@ pub record IsInputOf (files : List (List ℕ)) (i : Input) : Type 0 where
   pub commands : i.commands ≡ []
   pub records : (at : ℕ) → at < length files → pcap_records (slice_index_or files at []) ≡ Ok (i.records (64 + at))
   pub elsewhere : (q : ℕ) → is_port_of 1 (length files) q ≡ false → i.records q ≡ []
+
+-- the records of a capture, and none where it is not one of the grammar
+abbrev pub records_or_none : Result (List Record) PcapFault → List Record
+records_or_none (Ok records) = records
+records_or_none (Err fault) = []
+
+-- the input of a setup and captures
+abbrev pub input_of : Setup → List (List ℕ) → Input
+input_of s files = record {
+  setup = s;
+  commands = [];
+  records = λ q. if is_port_of 1 (length files) q then records_or_none (pcap_records (slice_index_or files (q - 64) [])) else [];
+}

@@ -1,37 +1,46 @@
 -- A run under way: the world, what is written and what is counted are those of a history.
-use Rattle.std.specs.Prelude.{◌≡◌, ◌<◌, ◌≤◌, ◌+◌, ◌-◌, ◌*◌, ◌^◌, ℕ, Bool, true, List, [], ◌∷◌, Option, Some, None, nat_lt, if◌then◌else◌, length, map}
-use Rattle.exb_model.specs.Configuration.{Bridge}
+use Rattle.std.specs.Prelude.{⊤, ◌≡◌, ◌<◌, ◌≤◌, ◌+◌, ◌-◌, ◌*◌, ◌^◌, ℕ, Bool, true, List, [], ◌∷◌, ◌++◌, Option, Some, None, nat_lt, if◌then◌else◌, length, map}
+use Rattle.exb_model.specs.declared.setup.Setup.{Setup}
+use Rattle.exb_model.specs.declared.event.Event.TheVariants as event
 use Rattle.exb_model.specs.History.{Basis, History, ◌then◌}
 use Rattle.exb_model.specs.FlatBridge.{Sent, flat}
-use Rattle.exb_model.specs.Input.{Input, Arrival, Segment, Coming, Captured, basis_of, tree_of, bounds_of, second_of, alone, segments_in, segments_since}
+use Rattle.exb_model.specs.Input.{Input, Arrival, Segment, Coming, Captured, Ordered, basis_of, tree_of, bounds_of, second_of, alone, segments_in, segments_since}
 use Rattle.exb_model.specs.EagerHistory.{eager_segment, eagerly}
 use Rattle.exb_model.specs.Texts.{Counts, counts, capture_text, journal_text}
-use Rattle.exb_world.specs.Worlds.{State, Stands}
+use Rattle.exb_model.specs.declared.frame_kind.Seen.TheVariants as seen
+use Rattle.exb_model.specs.Frames.{kind_of}
+use Rattle.exb_shelf.specs.Files.{Files}
+use Rattle.exb_world.specs.Setups.{is_port_of}
+use Rattle.exb_run.specs.declared.outputs.Outputs.{Outputs}
+use Rattle.exb_run.specs.Writing.{HasTexts, pieces_of}
+use Rattle.exb_world.specs.Worlds.{State, Stands, fresh_of, ups_of}
 
 -- the text of output j after a history
 abbrev pub text_after : Input → ℕ → History → ℕ → List ℕ
 text_after i ports h j = if nat_lt j ports then capture_text (flat (basis_of i) h (64 + j)) else journal_text h
 
--- The world stands at the history, nothing that happened is still to be written, and what is counted are
--- the counts of the history.
-pub record IsUnderWay (i : Input) (ports : ℕ) (h : History) (w : State) (counted : Counts) : Type 0 where
-  pub open_world : w.is_open ≡ true
+-- The world is opened, and nothing that happened in it is still to be written.
+pub record IsAtRest (ports : ℕ) (w : State) : Type 0 where
+  pub opened : w.is_open ≡ true
   pub number : w.number ≡ 1
-  pub ports_of : w.ports ≡ ports
+  pub all_ports : w.ports ≡ ports
   pub events : w.events ≡ []
   pub left : w.left ≡ []
+
+-- The world stands at the history, and what is counted are the counts of the history.
+pub record IsUnderWay (i : Input) (h : History) (w : State) (c : Counts) : Type 0 where
   pub stands : (given : List Arrival) × Stands (basis_of i) w given h (flat (basis_of i) h)
-  pub counts_of_history : counted ≡ counts (tree_of i) (basis_of i) h
+  pub counted : c ≡ counts (tree_of i) (basis_of i) h
 
 -- how many arrivals were counted
 abbrev pub played : Counts → ℕ
 played c = c.relayed + c.ignored
 
--- what is counted, and the clock, stay far below 2^64 while arrivals are still to come
-pub record IsBounded (c : Counts) (clock : ℕ) : Type 0 where
-  pub arrivals : played c < 2 ^ 30
-  pub commands : (c.commits ≡ 0) × (c.refusals ≡ 0)
-  pub left : c.left ≤ 64 * played c
+-- no command is played; what has left, and the clock, are bounded by how many arrivals were counted
+pub record IsCounted (c : Counts) (clock : ℕ) : Type 0 where
+  pub commits : c.commits ≡ 0
+  pub refusals : c.refusals ≡ 0
+  pub left : c.left ≤ 128 * played c
   pub clock_below : clock ≤ 2 ^ 32 * played c
 
 -- the seconds of a segment, by the second of the one before it, if there is one
@@ -43,3 +52,18 @@ seconds_after (Some last) second = second - last
 abbrev pub segments_after : Option ℕ → List Coming → List Segment
 segments_after None coming = segments_in (map alone coming)
 segments_after (Some last) coming = segments_since last (map alone coming)
+
+-- the world of a setup after its opening
+abbrev pub opened_of : Setup → State
+opened_of s = record (fresh_of s) { is_open = true; events = ups_of (fresh_of s) ++ event.Settled ∷ [] }
+
+-- what comes are plain frames at the extender's ports
+abbrev pub CanCome : ℕ → List Coming → Type 0
+CanCome ports [] = ⊤
+CanCome ports (Captured a ∷ xs) = (is_port_of 1 ports a.port ≡ true) × (kind_of a.bytes ≡ seen.Plain) × CanCome ports xs
+CanCome ports (Ordered moment n ∷ xs) = ⊥
+
+-- The world, what is written and what is counted are those of the history.
+pub record IsWritten (i : Input) (h : History) (ports : ℕ) (orig now : Files) (w : State) (c : Counts) (o : Outputs) : Type 0 where
+  pub under_way : IsUnderWay i h w c
+  pub texts : HasTexts ports (pieces_of o) orig now (text_after i ports h)

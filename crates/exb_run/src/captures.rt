@@ -1,5 +1,5 @@
 //! Reading and checking the captures.
-ghost use Rattle.std.specs.Prelude.{◌≡◌, ◌≢◌, ◌≤◌, ◌<◌, ◌+◌, ℕ, Some, None, All, length, map, IfOk, OnOk, IsErrOf};
+ghost use Rattle.std.specs.Prelude.{◌≡◌, ◌≢◌, ◌≤◌, ◌<◌, ◌+◌, ℕ, Some, None, All, length, map, sum_by, IfOk, OnOk, IsErrOf};
 ghost use Rattle.exb_model.specs.Frames.{kind_of};
 ghost use Rattle.exb_pcap.specs.Captures.{pcap_records};
 ghost use Rattle.exb_shelf.specs.Files.{SameFiles};
@@ -119,6 +119,7 @@ pub(crate) fn read_captures<S: Shelf>(
     ensures count { IfOk result (λ files. length files.items ≡ ports) }
     ensures playable { IfOk result (λ files. All (λ v. IsPlayable (pcap_records v.items)) files.items) }
     ensures sizes { IfOk result (λ files. All (λ v. length v.items ≤ 67_108_864) files.items) }
+    ensures all { IfOk result (λ files. sum_by (λ v. length v.items) files.items ≤ 536_870_912) }
     ensures flaw { S.tells → (p : ℕ) (flaw : Flaw) → result ≡ Err (Fault.Capture p flaw) → (at : ℕ) × (p ≡ 64 + at) × FirstFlaw (S.file shelf.old) ports at flaw }
     ensures port { (p : ℕ) (flaw : Flaw) → result ≡ Err (Fault.Capture p flaw) → (at : ℕ) × (at < 64) × (p ≡ 64 + at) }
     ensures files { SameFiles (S.file shelf.old) (S.file shelf.new) }

@@ -1,5 +1,6 @@
-use Rattle.std.proofs.Common.{rules, ◌≡◌, ◌≤◌, ◌+◌, ◌++◌, ◌∷◌, [], ◌∙◌, ℕ, Err, None, length, ap, arith, below_more}
+use Rattle.std.proofs.Common.{rules, ◌≡◌, ◌≤◌, ◌+◌, ◌++◌, ◌∷◌, [], ◌∙◌, ℕ, List, Err, None, length, sum_by, ap, arith, below_more}
 use Rattle.std.specs.Prelude.{Vec}
+use Rattle.std.proofs.lemmas.List.Sums.{sum_by_push}
 use Rattle.std.specs.declared.alloc.Global.{Global}
 use Rattle.exb_pcap.specs.Captures.{pcap_records}
 use Rattle.exb_run.specs.declared.fault.Fault.TheVariants.{Capture}
@@ -37,6 +38,7 @@ reading-preserved g c =
       total = λ t. search (rules, total t);
       room = search (arith, good.room);
       count = search (arith, pushed);
+      all = ap (λ (vs : List (Vec ℕ Global)). sum_by (λ v. length v.items) vs) pushed ∙ sum_by_push (λ v. length v.items) c.reading.files.items file ∙ ap (λ n. n + length file.items) inv.all;
       playable = all_more (λ (v : Vec ℕ Global). IsPlayable (pcap_records v.items)) _ _ file pushed inv.playable good.playable;
       sizes = all_more (λ (v : Vec ℕ Global). length v.items ≤ 67_108_864) _ _ file pushed inv.sizes good.small;
       files = λ m. c.in-Ok.ensures.files m ∙ inv.files m;

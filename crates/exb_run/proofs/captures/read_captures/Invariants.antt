@@ -1,4 +1,4 @@
-use Rattle.std.proofs.Common.{◌≡◌, ◌<◌, ◌≤◌, ℕ, None, map, length}
+use Rattle.std.proofs.Common.{◌≡◌, ◌<◌, ◌≤◌, ℕ, None, map, sum_by, length}
 use Rattle.std.specs.Prelude.{All}
 use Rattle.exb_pcap.specs.Captures.{pcap_records}
 use Rattle.exb_shelf.specs.Files.{SameFiles}
@@ -18,6 +18,7 @@ invariant-reading g l =
       room : l.size ≤ 536_870_912;
       count : length l.files.items ≡ l.at;
       playable : All (λ v. IsPlayable (pcap_records v.items)) l.files.items;
+      all : sum_by (λ v. length v.items) l.files.items ≡ l.size;
       sizes : All (λ v. length v.items ≤ 67_108_864) l.files.items;
       files : SameFiles (S.file l.fn.shelf) (S.file l.shelf);
       faults : NoFewer (S.faults l.fn.shelf) (S.faults l.shelf);
