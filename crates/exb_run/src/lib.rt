@@ -12,3 +12,6 @@ mod top;
 mod words;
 
 pub use top::run;
+
+#[cfg(test)]
+mod tests;
