@@ -13,3 +13,6 @@ mod top;
 mod words;
 
 pub use top::run;
+
+#[cfg(test)]
+mod tests;

@@ -1,0 +1,105 @@
+use super::run;
+use exb_shelf::{MemShelf, MemSink};
+use std::alloc::{AllocError, Global};
+use std::test::Fail;
+
+/// The header of an Ethernet capture in microseconds.
+const HEADER: [u8; 24] = [
+    0xD4, 0xC3, 0xB2, 0xA1, 2, 0, 4, 0, 0, 0, 0, 0, 0, 0, 0, 0, 0xFF, 0xFF, 0, 0, 1, 0, 0, 0,
+];
+
+/// The words of a command line.
+fn words(alloc: Global, first: &str, second: &str) -> Result<Vec<String>, AllocError> {
+    let mut words = Vec::new(alloc);
+    words.push(String::from_str(alloc, first)?)?;
+    words.push(String::from_str(alloc, second)?)?;
+    Ok(words)
+}
+
+/// A capture of one frame of 60 bytes with this type.
+fn capture(alloc: Global, kind: [u8; 2]) -> Result<Vec<u8>, AllocError> {
+    let mut frame = [0xAAu8; 60];
+    frame[12] = kind[0];
+    frame[13] = kind[1];
+    let mut bytes = Vec::new(alloc);
+    bytes.extend_from_slice(&HEADER)?;
+    bytes.extend_from_slice(&[100, 0, 0, 0, 0, 0, 0, 0, 60, 0, 0, 0, 60, 0, 0, 0])?;
+    bytes.extend_from_slice(&frame)?;
+    Ok(bytes)
+}
+
+#[test]
+fn other_words_are_refused(rt: HostRuntime) -> Result<(), Fail> {
+    let alloc = rt.alloc();
+    let mut shelf = MemShelf::new(alloc, &[])?;
+    let mut out = MemSink::new(alloc, &[])?;
+    assert_eq!(rt;
+        run(alloc, &words(alloc, "run", "65")?, &mut shelf, &mut out),
+        2
+    );
+    assert_eq!(rt;
+        run(alloc, &words(alloc, "run", "04")?, &mut shelf, &mut out),
+        2
+    );
+    assert_eq!(rt;
+        run(alloc, &words(alloc, "walk", "4")?, &mut shelf, &mut out),
+        2
+    );
+    assert!(rt;
+        out.text()
+            == b"exbr: usage: exbr run PORTS\nexbr: usage: exbr run PORTS\nexbr: usage: exbr run PORTS\n".as_slice()
+    );
+    Ok(())
+}
+
+#[test]
+fn the_first_capture_with_a_flaw_decides(rt: HostRuntime) -> Result<(), Fail> {
+    let alloc = rt.alloc();
+    let words = words(alloc, "run", "3")?;
+    let mut shelf = MemShelf::new(alloc, &[])?;
+    let mut out = MemSink::new(alloc, &[])?;
+    shelf.put("in-x1.1.pcap", &HEADER)?;
+    shelf.put("in-x1.3.pcap", &HEADER[..20])?;
+    assert_eq!(rt; run(alloc, &words, &mut shelf, &mut out), 5);
+    shelf.put("in-x1.2.pcap", &capture(alloc, [0x81, 0x00])?)?;
+    assert_eq!(rt; run(alloc, &words, &mut shelf, &mut out), 8);
+    let mut cut = capture(alloc, [0x08, 0x00])?;
+    cut.truncate(83);
+    shelf.put("in-x1.2.pcap", &cut)?;
+    assert_eq!(rt; run(alloc, &words, &mut shelf, &mut out), 4);
+    shelf.put("in-x1.2.pcap", &HEADER)?;
+    assert_eq!(rt; run(alloc, &words, &mut shelf, &mut out), 4);
+    assert!(rt;
+        out.text()
+            == b"exbr: missing in-x1.2.pcap\nexbr: not built\nexbr: capture x1.2: Cut at 24\nexbr: capture x1.3: Cut at 0\n".as_slice()
+    );
+    Ok(())
+}
+
+#[test]
+fn a_grammar_fault_comes_before_an_earlier_frame_with_a_tag(rt: HostRuntime) -> Result<(), Fail> {
+    let alloc = rt.alloc();
+    let words = words(alloc, "run", "1")?;
+    let mut shelf = MemShelf::new(alloc, &[])?;
+    let mut out = MemSink::new(alloc, &[])?;
+    let mut file = capture(alloc, [0x81, 0x00])?;
+    file.push(0)?;
+    shelf.put("in-x1.1.pcap", &file)?;
+    assert_eq!(rt; run(alloc, &words, &mut shelf, &mut out), 4);
+    assert!(rt; out.text() == b"exbr: capture x1.1: Cut at 100\n".as_slice());
+    Ok(())
+}
+
+// The calls of the shelf: open and read.
+#[test]
+fn failing_reads_and_prints_have_their_statuses(rt: HostRuntime) -> Result<(), Fail> {
+    let alloc = rt.alloc();
+    let words = words(alloc, "run", "1")?;
+    let mut shelf = MemShelf::new(alloc, &[2])?;
+    let mut out = MemSink::new(alloc, &[2])?;
+    shelf.put("in-x1.1.pcap", &HEADER[..20])?;
+    assert_eq!(rt; run(alloc, &words, &mut shelf, &mut out), 6);
+    assert_eq!(rt; run(alloc, &words, &mut shelf, &mut out), 7);
+    assert!(rt; out.text() == b"exbr: read fault\n".as_slice());
+    Ok(())
+}
