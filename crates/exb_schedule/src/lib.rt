@@ -5,3 +5,6 @@
 #![tactic(auto)]
 
 pub mod segment;
+
+#[cfg(test)]
+mod tests;
