@@ -9,7 +9,7 @@ use Rattle.exb_model.specs.History.{Basis, History, ◌then◌, bridge_after}
 use Rattle.exb_model.specs.EagerHistory.{arrival_event, eager_segment, with_tick}
 use Rattle.exb_model.specs.FlatBridge.{Sent, sent_by}
 use Rattle.exb_model.specs.Input.{Input, Arrival, basis_of, tree_of, bounds_of}
-use Rattle.std.specs.Prelude.{Result, Ok, Err, OnOk, slice_get, Some}
+use Rattle.std.specs.Prelude.{Result, Ok, Err, OnOk, slice_get}
 use Rattle.exb_world.specs.declared.world.Left.{Left}
 use Rattle.exb_world.specs.Worlds.{State, Stands, IsCopyOf, bridge_of, nothing, place_at, left_at}
 use Rattle.exb_world.specs.Setups.{is_port_of}
@@ -47,7 +47,7 @@ pub one_member : {X : Type 0} (xs : List X) (x a : X) → xs ≡ a ∷ [] → x 
 one_member xs x a is front = is ∙ ap (λ y. y ∷ []) (sym (front ∙ ap (λ ys. get_or ys 0 x) is))
 
 module _ (i : Input) (w : State) (given : List Arrival) (h : History) (left : ℕ → List Sent) (s : Stands (basis_of i) w given h left)
-  (seconds : ℕ) (a : Arrival) where
+    (seconds : ℕ) (a : Arrival) where
   -- a tick changes no configuration
   ticked : (b : Bool) → bridge_after (basis_of i) (cond b h (event.Tick seconds ∷ h)) ≡ bridge_of w
   unfolding bridge_after
@@ -117,9 +117,13 @@ copies_after w w1 w2 w3 a copies same front none =
 pub any_copies : (w w1 : State) (arrivals : List Recorded) (x : Recorded) → arrivals ≡ x ∷ [] → w1.number ≡ w.number → w1.ports ≡ w.ports → (ys : List Left) →
     All (IsCopyOf w1 (arrived x)) ys → All (λ y. AnyCopy w arrivals y) ys
 any_copies w w1 arrivals x one number ports ys copies k d h =
-    let copy = copies k d h in
-    (0, x, ap (λ xs. slice_get xs 0) one, record {
-      port = ap (λ n. is_port_of n w.ports (get_or ys k d).port) (sym number) ∙ ap (λ n. is_port_of w1.number n (get_or ys k d).port) (sym ports) ∙ copy.port;
-      moment = copy.moment;
-      bytes = copy.bytes;
-    })
+    let copy = copies k d h in (
+      0,
+      x,
+      ap (λ xs. slice_get xs 0) one,
+      record {
+        port = ap (λ n. is_port_of n w.ports (get_or ys k d).port) (sym number) ∙ ap (λ n. is_port_of w1.number n (get_or ys k d).port) (sym ports) ∙ copy.port;
+        moment = copy.moment;
+        bytes = copy.bytes;
+      },
+    )

@@ -5,3 +5,5 @@
 #![tactic(auto)]
 
 pub mod segment;
+#[cfg(test)]
+mod tests;

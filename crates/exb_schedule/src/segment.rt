@@ -49,7 +49,7 @@ fn play(world: &mut World, arrival: &Arrival) -> Result<(), WorldFault>
     ensures rest { OnOk result (world.new ≡ record world.old { events = world.new.events; left = world.new.left }) }
     ensures stands { OnOk result ((i : Input) (given : List Arrived) (h : History) (left : ℕ → List Sent) → Stands (basis_of i) world.old given h left
         → Stands (basis_of i) world.new (given ++ arrived arrival.now ∷ []) (Event.Settled ∷ arrival_event (bridge_of world.old) (arrived arrival.now) ∷ h)
-            (λ q. left q ++ segment_sends world.old (arrived arrival.now ∷ []) q)) }
+        (λ q. left q ++ segment_sends world.old (arrived arrival.now ∷ []) q)) }
     ensures failed { (result ≡ Err WorldFault.Failed) → (world.old.failed ≡ true) }
     ensures memory { OnErr result (world.new.failed ≡ true) }
 {
@@ -81,14 +81,17 @@ pub fn eager(
     ensures appends { OnOk result (take (length world.old.left) world.new.left ≡ world.old.left) }
     ensures copies { OnOk result (All (λ x. AnyCopy world.old arrivals.now x) (drop (length world.old.left) world.new.left)) }
     ensures rest { OnOk result (world.new ≡ record world.old {
-        clock = world.old.clock + seconds; events = world.new.events; left = world.new.left }) }
+      clock = world.old.clock + seconds;
+      events = world.new.events;
+      left = world.new.left;
+    }) }
     ensures stands { OnOk result ((i : Input) (given : List Arrived) (h : History) (left : ℕ → List Sent) → Stands (basis_of i) world.old given h left
         → Stands (basis_of i) world.new (given ++ all_arrived arrivals.now)
-            (eager_segment (tree_of i) (bounds_of i) (basis_of i) h (segment seconds (all_arrived arrivals.now)))
-            (λ q. left q ++ segment_sends world.old (all_arrived arrivals.now) q)) }
+        (eager_segment (tree_of i) (bounds_of i) (basis_of i) h (segment seconds (all_arrived arrivals.now)))
+        (λ q. left q ++ segment_sends world.old (all_arrived arrivals.now) q)) }
     ensures history { OnOk result ((i : Input) (given : List Arrived) (h : History) (left : ℕ → List Sent) → Stands (basis_of i) world.old given h left
         → (h then segment_events world.old seconds (all_arrived arrivals.now))
-            ≡ eager_segment (tree_of i) (bounds_of i) (basis_of i) h (segment seconds (all_arrived arrivals.now))) }
+        ≡ eager_segment (tree_of i) (bounds_of i) (basis_of i) h (segment seconds (all_arrived arrivals.now))) }
 
     ensures failed { (result ≡ Err WorldFault.Failed) → (world.old.failed ≡ true) }
     ensures memory { OnErr result (world.new.failed ≡ true) }

@@ -1,5 +1,5 @@
 -- The numbers below n that pass a test, one number more at a time.
-use Rattle.std.proofs.Common.{◌≡◌, ℕ, ◌+◌, Bool, true, false, cond, filter, List, [], ◌∷◌, ◌++◌, refl, ap, ◌∙◌, arith, nat_lt, ◌<◌, All, length}
+use Rattle.std.proofs.Common.{◌≡◌, ℕ, ◌+◌, Bool, true, false, cond, filter, [], ◌∷◌, ◌++◌, refl, ap, ◌∙◌, arith, nat_lt, ◌<◌, All}
 use Rattle.std.proofs.lemmas.List.{append-nil}
 use Rattle.std.proofs.lemmas.List.Elements.{filter-append, All-filter}
 use Rattle.std.proofs.lemmas.List.FromFn.{get_or-range_with_len, length-range_with_len}

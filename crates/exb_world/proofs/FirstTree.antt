@@ -1,13 +1,12 @@
 -- The tree of a setup with one extender on b1.
-use Rattle.std.proofs.Common.{◌≡◌, ◌≢◌, ℕ, zero, suc, ◌+◌, ◌-◌, ◌*◌, ◌/◌, ◌%◌, ◌<◌, ◌≤◌, ◌==◌, ◌&&◌, ◌||◌, Bool, true, false, not, List, [], ◌∷◌, length, get_or, set, replicate, slice_index, nat_lt, nat_le, eq-eqb, refl, ap, sym, subst, ◌∙◌, arith, inl, inr}
+use Rattle.std.proofs.Common.{◌≡◌, ◌≢◌, ℕ, zero, suc, ◌/◌, ◌%◌, ◌<◌, ◌≤◌, ◌==◌, ◌&&◌, ◌||◌, Bool, true, false, List, set, replicate, slice_index, nat_lt, eq-eqb, refl, ap, sym, ◌∙◌, arith, inl, inr}
 use Rattle.std.proofs.lemmas.Bool.{cases_Bool, cases_eq, cases_lt, ne_eqb, lt-ltb, le-ltb}
-use Rattle.std.proofs.lemmas.Bool.Decides.{nat_tests}
-use Rattle.std.proofs.lemmas.List.{get_or-set_other, get_or-set_same, length-replicate, length-set}
+use Rattle.std.proofs.lemmas.List.{get_or-set_other, get_or-set_same}
 use Rattle.exb_model.specs.declared.port_set.PortSet.{PortSet}
 use Rattle.exb_model.specs.declared.setup.Setup.{Setup}
 use Rattle.exb_model.specs.declared.setup.ExtenderSetup.{ExtenderSetup}
 use Rattle.exb_model.specs.Setup.{shape_of, lay, port_at}
-use Rattle.exb_model.specs.Tree.{Shape, on, is_extender, is_cascade, is_port, is_external, any_below}
+use Rattle.exb_model.specs.Tree.{Shape, on, is_extender, is_cascade, is_external, any_below}
 use Rattle.exb_model.proofs.Words.{get_or-same}
 use Rattle.exb_world.specs.Setups.{IsFirstSetup, is_port_of}
 use Rattle.exb_world.proofs.Filters.{none_below_zero}

@@ -1,30 +1,26 @@
 -- An arrival in the world of one extender, and in the flat bridge.
-use Rattle.std.proofs.Common.{◌≡◌, ◌≢◌, ℕ, zero, suc, ◌+◌, ◌-◌, ◌*◌, ◌<◌, ◌≤◌, ◌==◌, ◌&&◌, ◌||◌, Bool, true, false, not, cond, filter, List, [], ◌∷◌, ◌++◌, Option, Some, None, nat_lt, nat_le, eq-eqb, refl, ap, sym, ◌∙◌, arith, inl, inr}
-use Rattle.std.specs.List.{list_any}
+use Rattle.std.proofs.Common.{◌≡◌, ℕ, ◌+◌, ◌-◌, ◌*◌, ◌<◌, ◌≤◌, ◌==◌, ◌&&◌, Bool, true, false, not, cond, filter, List, [], ◌∷◌, Some, None, nat_lt, nat_le, refl, ap, ◌∙◌, arith, inl, inr}
 use Rattle.std.specs.Prelude.{is_some}
-use Rattle.std.proofs.lemmas.Bool.{cases_Bool, cases_eq, ne_eqb, lt-ltb, le-ltb, ltb-true, ltb-false}
+use Rattle.std.proofs.lemmas.Bool.{cases_Bool, lt-ltb}
 use Rattle.std.proofs.lemmas.Bool.Decides.{nat_tests}
-use Rattle.exb_model.specs.declared.vlan.Kind.{Kind}
 use Rattle.exb_model.specs.declared.vlan.Kind.TheVariants.{Untagged}
 use Rattle.exb_model.specs.declared.frame_kind.Seen.TheVariants as seen
 use Rattle.exb_model.specs.declared.event.Event.TheVariants as event
-use Rattle.exb_model.specs.Frames.{kind_of, egress, destination, is_group}
-use Rattle.exb_model.specs.Ports.{below, all_ports}
+use Rattle.exb_model.specs.Frames.{kind_of, destination, is_group}
+use Rattle.exb_model.specs.Ports.{below}
 use Rattle.exb_model.specs.Configuration.{is_known}
-use Rattle.exb_model.specs.Learning.{passes, admitted}
+use Rattle.exb_model.specs.Learning.{passes}
 use Rattle.exb_model.specs.Targets.{target, target_in, is_chosen_by}
-use Rattle.exb_model.specs.FlatBridge.{Sent, sent_as, sent_by}
-use Rattle.exb_model.specs.Input.{Arrival}
-use Rattle.exb_model.specs.EagerHistory.{arrival_event, is_relayed}
+use Rattle.exb_model.specs.FlatBridge.{sent_as, sent_by}
 use Rattle.exb_model.specs.ExtenderForwarding.{Tables}
 use Rattle.exb_model.proofs.PortLemmas.{any_below-true}
 use Rattle.exb_world.specs.Tables.{group_tag, goes_out}
 use Rattle.exb_world.specs.Extenders.{IsLaid}
 use Rattle.exb_world.specs.Setups.{is_port_of}
-use Rattle.exb_world.specs.Arrivals.{has_channel, event_at, ports_out}
+use Rattle.exb_world.specs.Arrivals.{has_channel, ports_out}
 use Rattle.exb_world.specs.Worlds.{State, bridge_of, nothing, left_at, leaving}
 use Rattle.exb_world.proofs.Plain.{plain_egress}
-use Rattle.exb_world.proofs.Leaving.{leaves_here, leaves_not_here, left_at-nil}
+use Rattle.exb_world.proofs.Leaving.{leaves_here, leaves_not_here}
 
 -- what port membership says of numbers
 pub in_range : (n ports p : ℕ) → is_port_of n ports p ≡ true → (64 * n ≤ p) × (p < 64 * n + ports)
@@ -37,8 +33,7 @@ pub is_out_of_range : (n ports p : ℕ) → (64 * n ≤ p → p < 64 * n + ports
 is_out_of_range n ports p out = grind (arith, nat_tests)
 
 module _ (w : State) (numbered : w.number ≤ 64) (few : w.ports ≤ 64) (p : ℕ) (f : List ℕ)
-  (port : is_port_of w.number w.ports p ≡ true) (plain : kind_of f ≡ seen.Plain) where
-
+    (port : is_port_of w.number w.ports p ≡ true) (plain : kind_of f ≡ seen.Plain) where
   known : is_known (bridge_of w) 1 ≡ true
   unfolding is_known
   known =
@@ -65,7 +60,7 @@ module _ (w : State) (numbered : w.number ≤ 64) (few : w.ports ≤ 64) (p : �
     target_is q =
         let k = bridge_of w in
         let by_source : cond (k.present p) (target_in k nothing p f q (passes k p f)) None ≡ target_in k nothing p f q (Some 1) =
-            ap (λ b. cond b (target_in k nothing p f q (passes k p f)) None) (present p ∙ port) ∙ ap (target_in k nothing p f q) passes_in_one in
+        ap (λ b. cond b (target_in k nothing p f q (passes k p f)) None) (present p ∙ port) ∙ ap (target_in k nothing p f q) passes_in_one in
         by_source
         ∙ ap (λ c. cond (k.present q && not (q == p) && true && c) (k.member 1 q) None) (all_chosen (is_group (destination f)) q)
         ∙ ap (λ b. cond (b && not (q == p) && true && true) (k.member 1 q) None) (present q)

@@ -1,24 +1,22 @@
 -- The opening of a setup with one extender.
-use Rattle.std.proofs.Common.{◌≡◌, ◌≢◌, ℕ, ◌+◌, ◌*◌, ◌<◌, ◌≤◌, ◌==◌, ◌&&◌, ◌++◌, Bool, true, false, cond, List, [], ◌∷◌, Option, Some, None, map, fold, get_or, nat_lt, refl, ap, sym, subst, if◌then◌else◌, ◌∙◌, add-one, arith, inl, inr}
-use Rattle.std.proofs.lemmas.Bool.{cases_Bool, le-ltb}
-use Rattle.exb_model.specs.declared.vlan.Kind.{Kind}
+use Rattle.std.proofs.Common.{◌≡◌, ℕ, ◌+◌, ◌==◌, ◌&&◌, ◌++◌, Bool, true, false, cond, List, [], ◌∷◌, Some, None, map, fold, get_or, nat_lt, refl, ap, sym, if◌then◌else◌, ◌∙◌, add-one, arith}
+use Rattle.std.proofs.lemmas.Bool.{le-ltb}
 use Rattle.exb_model.specs.declared.vlan.Kind.TheVariants.{Untagged, Tagged}
 use Rattle.exb_model.specs.declared.port_set.PortSet.{PortSet}
 use Rattle.exb_model.specs.declared.command.Command.{Command}
 use Rattle.exb_model.specs.declared.command.Command.TheVariants as command
 use Rattle.exb_model.specs.declared.setup.ExtenderSetup.{ExtenderSetup}
 use Rattle.exb_model.specs.declared.setup.Setup.{Setup}
-use Rattle.exb_model.specs.Ports.{port_in}
 use Rattle.exb_model.specs.Configuration.{Bridge, empty_bridge, after, kind_in, default_rule}
 use Rattle.exb_model.specs.History.{bridge_after, now_after}
-use Rattle.exb_model.specs.FlatBridge.{Sent, flat}
+use Rattle.exb_model.specs.FlatBridge.{flat}
 use Rattle.exb_model.specs.Input.{Input, basis_of}
 use Rattle.exb_model.specs.Setup.{start_of, shape_of}
 use Rattle.exb_model.specs.Tree.{is_external}
 use Rattle.exb_world.specs.Setups.{IsFirstSetup, is_port_of}
-use Rattle.exb_world.specs.Worlds.{State, bridge_of, fresh_of, first_number, first_ports, Stands}
+use Rattle.exb_world.specs.Worlds.{fresh_of, first_number, first_ports, Stands}
 use Rattle.exb_world.proofs.Flooding.{in_range}
-use Rattle.exb_world.proofs.FirstTree.{shape, shape_is, is_external_is}
+use Rattle.exb_world.proofs.FirstTree.{shape_is, is_external_is}
 use Rattle.exb_world.proofs.Standing.{learns_nothing}
 use Rattle.std.specs.List.{range_with_len}
 use Rattle.std.proofs.lemmas.List.{map-append}

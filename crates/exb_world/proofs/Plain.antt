@@ -1,11 +1,11 @@
 -- Frames without a VLAN tag.
-use Rattle.std.proofs.Common.{◌≡◌, ℕ, ◌<◌, ◌≤◌, Bool, true, false, cond, List, length, take, drop, ◌++◌, nat_lt, arith, refl, inl, inr, ap, sym, ◌∙◌}
-use Rattle.std.proofs.lemmas.Bool.{cases_Bool, ltb-true, ltb-false}
+use Rattle.std.proofs.Common.{◌≡◌, ℕ, ◌≤◌, Bool, true, false, cond, List, length, nat_lt, refl}
+use Rattle.std.proofs.lemmas.Bool.{ltb-false}
 use Rattle.std.proofs.lemmas.List.{take-append-drop}
 use Rattle.exb_model.specs.declared.frame_kind.Seen.{Seen}
 use Rattle.exb_model.specs.declared.frame_kind.Seen.TheVariants as seen
 use Rattle.exb_model.specs.declared.vlan.Kind.TheVariants.{Untagged}
-use Rattle.exb_model.specs.Frames.{kind_of, egress, body_after}
+use Rattle.exb_model.specs.Frames.{kind_of, egress}
 
 chosen : (b : Bool) (x y : Seen) → cond b x y ≡ seen.Plain → (x ≡ seen.Plain → ⊥) → (b ≡ false) × (y ≡ seen.Plain)
 chosen true x y e never = absurd (never e)

@@ -1,8 +1,8 @@
 -- A world after an arrival, and where it stands.
-use Rattle.std.proofs.Common.{◌≡◌, ℕ, ◌+◌, ◌-◌, ◌*◌, ◌<◌, ◌≤◌, ◌==◌, ◌&&◌, Bool, true, false, not, cond, filter, map, reverse, length, drop, get_or, All, List, [], ◌∷◌, ◌++◌, Option, Some, None, nat_lt, refl, ap, subst, sym, ◌∙◌, arith, inl, inr, add-zero}
+use Rattle.std.proofs.Common.{◌≡◌, ℕ, ◌+◌, ◌-◌, ◌*◌, ◌<◌, ◌≤◌, ◌==◌, ◌&&◌, Bool, true, false, not, cond, filter, map, reverse, length, drop, get_or, All, List, [], ◌∷◌, ◌++◌, Option, Some, None, nat_lt, refl, ap, subst, sym, ◌∙◌, arith, add-zero}
 use Rattle.std.specs.Prelude.{filter_map, Result, Ok, Err, is_err, OnOk}
-use Rattle.std.proofs.lemmas.Bool.{cases_Bool, lt-ltb, ltb-true}
-use Rattle.std.proofs.lemmas.List.{append-nil, reverse-append, map-append}
+use Rattle.std.proofs.lemmas.Bool.{lt-ltb, ltb-true}
+use Rattle.std.proofs.lemmas.List.{reverse-append, map-append}
 use Rattle.std.proofs.lemmas.List.Elements.{filter_map-append, All-map, filter_passes}
 use Rattle.std.proofs.Math.Seq.{drop-append_seam}
 use Rattle.exb_model.specs.declared.frame_kind.Seen.TheVariants as seen
@@ -25,11 +25,11 @@ use Rattle.exb_world.specs.Setups.{is_port_of}
 use Rattle.exb_world.specs.Arrivals.{has_channel, event_at, ports_out}
 use Rattle.exb_world.specs.Worlds.{State, bridge_of, nothing, left_at, leaving, IsAfterArrival, IsCopyOf, Stands, place_at}
 use Rattle.exb_world.proofs.Filters.{none_below_zero, All-filter_below}
-use Rattle.exb_world.proofs.Flooding.{in_range, is_in_range, flat_sends, source_channel, goes_to_others, carried_sends}
+use Rattle.exb_world.proofs.Flooding.{in_range, is_in_range, flat_sends, goes_to_others, carried_sends}
 use Rattle.exb_world.proofs.Leaving.{left_at-append, left_at-nil}
 
 module _ (w : State) (numbered : w.number ≤ 64) (few : w.ports ≤ 64) (p n moment : ℕ) (f : List ℕ)
-  (port : is_port_of w.number w.ports p ≡ true) (plain : kind_of f ≡ seen.Plain) (t : Tables) where
+    (port : is_port_of w.number w.ports p ≡ true) (plain : kind_of f ≡ seen.Plain) (t : Tables) where
   abbrev pub arrival : Arrival
   arrival = record { port = p; index = n; moment = moment; bytes = f }
 
@@ -87,7 +87,7 @@ module _ (w : State) (numbered : w.number ≤ 64) (few : w.ports ≤ 64) (p n mo
 
 -- the ports by which it leaves are the extender's
 module _ (w : State) (few : w.ports ≤ 64) (p : ℕ) (f : List ℕ) (port : is_port_of w.number w.ports p ≡ true) (plain : kind_of f ≡ seen.Plain)
-  (t : Tables) (laid : IsLaid t (cond w.is_open w.ports 0)) where
+    (t : Tables) (laid : IsLaid t (cond w.is_open w.ports 0)) where
   low_port : (numbered : w.number ≤ 64) (at : ℕ) (low : at < w.ports) (is : 64 * w.number + at ≡ p) (j : ℕ) → w.is_open ≡ true → j < 64 →
       goes_out t (group_tag (t.own at)) j ≡ true → j < w.ports
   low_port numbered at low is j e h passes =
@@ -106,7 +106,7 @@ module _ (w : State) (few : w.ports ≤ 64) (p : ℕ) (f : List ℕ) (port : is_
       All (IsCopyOf w (record { port = p; index = n; moment = moment; bytes = f })) (drop (length old) new)
   copies_are numbered n moment old new e =
       let sent : drop (length old) new ≡ leaving w.number moment f (ports_out t (p - 64 * w.number)) =
-          ap (drop (length old)) e ∙ drop-append_seam old (leaving w.number moment f (ports_out t (p - 64 * w.number))) in
+      ap (drop (length old)) e ∙ drop-append_seam old (leaving w.number moment f (ports_out t (p - 64 * w.number))) in
       subst (λ (xs : List Left). All (IsCopyOf w a) xs) (sym sent) (All-map (IsCopyOf w a) copy (ports_out t (p - 64 * w.number)) (by_state w.is_open refl))
     where
       a : Arrival

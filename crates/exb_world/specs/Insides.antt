@@ -1,5 +1,5 @@
 -- The value of a world's parts.
-use Rattle.std.specs.Prelude.{ℕ, ◌≤◌, false, if◌then◌else◌}
+use Rattle.std.specs.Prelude.{◌≤◌, false, if◌then◌else◌}
 use Rattle.exb_world.specs.declared.world.Device.{Device}
 use Rattle.exb_world.specs.declared.world.Log.{Log}
 use Rattle.exb_world.specs.declared.arrival.Recorded.{Recorded}

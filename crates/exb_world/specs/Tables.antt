@@ -1,5 +1,5 @@
 -- The words between bridge and extender.
-use Rattle.std.specs.Prelude.{ℕ, ◌+◌, ◌<◌, ◌==◌, ◌&&◌, Bool, true, false, not}
+use Rattle.std.specs.Prelude.{ℕ, ◌&&◌, Bool, false, not}
 use Rattle.exb_model.specs.ETags.{Tag}
 use Rattle.exb_model.specs.ExtenderForwarding.{Tables, takes, left_out}
 

@@ -1,5 +1,5 @@
 -- What a world is to its contracts, and what it has to do with a history.
-use Rattle.std.specs.Prelude.{◌≡◌, ℕ, ◌+◌, ◌-◌, ◌*◌, ◌<◌, ◌≤◌, ◌&&◌, ◌==◌, ◌^◌, Bool, true, false, nat_le, nat_lt, if◌then◌else◌, List, [], ◌∷◌, ◌++◌, Option, Some, None, map, filter_map, reverse}
+use Rattle.std.specs.Prelude.{◌≡◌, ℕ, ◌+◌, ◌*◌, ◌<◌, ◌&&◌, ◌==◌, ◌^◌, Bool, true, false, if◌then◌else◌, List, [], ◌∷◌, ◌++◌, Some, None, map, filter_map, reverse}
 use Rattle.std.specs.List.{range_with_len}
 use Rattle.exb_model.specs.declared.vlan.Kind.TheVariants.{Untagged}
 use Rattle.exb_model.specs.declared.event.Event.{Event}

@@ -11,3 +11,6 @@ pub mod laws;
 mod world;
 
 pub use world::{Left, Step, World, WorldFault};
+
+#[cfg(test)]
+mod tests;

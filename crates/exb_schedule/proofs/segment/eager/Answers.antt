@@ -1,9 +1,8 @@
-use Rattle.std.proofs.Common.{◌≡◌, ℕ, List, [], ◌∷◌, All, drop, length, ap, sym, subst, refl, ◌∙◌}
+use Rattle.std.proofs.Common.{◌≡◌, ℕ, List, All, drop, length, ap, subst, refl}
 use Rattle.std.proofs.lemmas.Result.{on_ok_weaker}
-use Rattle.exb_model.specs.Input.{Arrival, basis_of}
-use Rattle.exb_world.specs.Worlds.{State, bridge_of, left_at, IsCopyOf}
+use Rattle.exb_world.specs.Worlds.{State, bridge_of, IsCopyOf}
 use Rattle.exb_world.specs.declared.world.Left.{Left}
-use Rattle.exb_schedule.specs.Segments.{arrived, all_arrived}
+use Rattle.exb_schedule.specs.Segments.{arrived}
 use Rattle.exb_schedule.proofs.Moving.{one_member, segment_history, left_later, stands_at_once, stands_later, nothing_added, any_copies}
 use Rattle.exb_schedule.proofs.segment.eager.Goals as goal
 

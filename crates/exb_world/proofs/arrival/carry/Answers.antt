@@ -1,8 +1,8 @@
-use Rattle.std.proofs.Common.{◌≡◌, ◌+◌, ◌≤◌, ◌<◌, true, nat_lt, length, arith, ap, sym, refl, ◌∙◌}
+use Rattle.std.proofs.Common.{◌≡◌, true, nat_lt, length, arith, ap, sym, ◌∙◌}
 use Rattle.std.proofs.lemmas.Bool.{lt-ltb}
-use Rattle.exb_model.specs.ETags.{TagFits, read_etag, tagged, stripped}
+use Rattle.exb_model.specs.ETags.{read_etag, tagged, stripped}
 use Rattle.exb_model.proofs.ETagLemmas.{length-tagged}
-use Rattle.exb_world.specs.Tables.{channel_tag, group_tag}
+use Rattle.exb_world.specs.Tables.{group_tag}
 use Rattle.exb_world.specs.Extenders.{tables_of}
 use Rattle.exb_world.proofs.Trips.{group_fits, down_word}
 use Rattle.exb_world.proofs.Filters.{All-filter_below}

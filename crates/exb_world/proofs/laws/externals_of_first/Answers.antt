@@ -1,4 +1,4 @@
-use Rattle.std.proofs.Common.{◌≡◌, ℕ, ap, sym, ◌∙◌}
+use Rattle.std.proofs.Common.{ap, sym, ◌∙◌}
 use Rattle.exb_model.specs.Tree.{is_external}
 use Rattle.exb_world.specs.Setups.{is_port_of}
 use Rattle.exb_world.specs.Worlds.{fresh_of}

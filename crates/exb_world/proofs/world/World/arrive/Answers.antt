@@ -1,5 +1,4 @@
-use Rattle.std.proofs.Common.{◌≡◌, true, All, drop, length, sym, subst, ap, refl, ◌∙◌}
-use Rattle.exb_model.specs.declared.frame_kind.Seen.TheVariants as seen
+use Rattle.std.proofs.Common.{◌≡◌, true, All, drop, length, sym, subst, refl, ◌∙◌}
 use Rattle.exb_world.specs.Insides.{state_of, arrival_of}
 use Rattle.exb_world.specs.Extenders.{tables_of}
 use Rattle.exb_world.specs.Setups.{is_port_of}

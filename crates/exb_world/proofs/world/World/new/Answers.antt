@@ -1,8 +1,6 @@
-use Rattle.std.proofs.Common.{[], refl}
+use Rattle.std.proofs.Common.{refl}
 use Rattle.exb_model.specs.declared.setup.ExtenderSetup.{ExtenderSetup}
 use Rattle.exb_model.specs.declared.setup.Place.TheVariants as place
-use Rattle.exb_model.specs.Input.{basis_of}
-use Rattle.exb_world.specs.Worlds.{Stands}
 use Rattle.exb_world.proofs.Opening.{fresh_stands, first_number_is, first_ports_is}
 use Rattle.exb_world.proofs.world.World.new.Goals as goal
 

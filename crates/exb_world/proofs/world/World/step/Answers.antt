@@ -1,5 +1,4 @@
 use Rattle.std.proofs.lemmas.Result.{on_ok_weaker}
-use Rattle.exb_world.specs.Worlds.{event_of, given_by, sent_in}
 use Rattle.exb_world.proofs.Standing.{stands_arrival, stands_tick, stands_mark}
 use Rattle.exb_world.proofs.world.World.step.Goals as goal
 
