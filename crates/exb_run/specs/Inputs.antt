@@ -1,8 +1,9 @@
 -- What a run reads: the capture of each port, and the input that they make.
-use Rattle.std.specs.Prelude.{◌≡◌, ◌<◌, ◌+◌, ℕ, false, List, [], Option, Some, None, Result, Ok, Err, All, codes, length, slice_index_or}
+use Rattle.std.specs.Prelude.{◌≡◌, ◌<◌, ◌+◌, ℕ, false, List, [], Result, Ok, Err, All, codes, length, slice_index_or}
 use Rattle.exb_model.specs.declared.frame_kind.Seen.TheVariants as seen
 use Rattle.exb_model.specs.Frames.{kind_of}
 use Rattle.exb_model.specs.Input.{Input, Record}
+use Rattle.exb_pcap.specs.declared.reader.PcapFault.{PcapFault}
 use Rattle.exb_pcap.specs.Captures.{pcap_records}
 use Rattle.exb_text.specs.Names.{capture_name}
 use Rattle.exb_world.specs.Setups.{IsFirst, is_port_of}
@@ -17,7 +18,7 @@ abbrev pub IsPlain : Record → Type 0
 IsPlain r = kind_of r.bytes ≡ seen.Plain
 
 -- a capture that can be played: it is one of the grammar, and each of its frames is plain
-abbrev pub IsPlayable : Result (List Record) _ → Type 0
+abbrev pub IsPlayable : Result (List Record) PcapFault → Type 0
 IsPlayable (Ok records) = All IsPlain records
 IsPlayable (Err fault) = ⊥
 

@@ -1,17 +1,25 @@
-//! What can end a run.
+//! What can end a run before its end.
+ghost use Rattle.std.specs.Prelude.{◌≡◌};
+ghost use Rattle.exb_run.specs.declared.fault.Fault.TheVariants.{Memory};
+ghost use Rattle.exb_run.specs.Answers.{fault_of};
+
 use exb_model::memory::NoMemory;
 use exb_model::port::PortId;
 use exb_pcap::PcapFault;
 use exb_shelf::ShelfFault;
 use exb_world::WorldFault;
 
-/// Why a capture is not taken.
+/// What is wrong with the capture of a port.
 #[derive(Clone, Copy, Debug, PartialEq, Eq)]
-pub(crate) enum CaptureFault {
-    /// It is no classic capture of Ethernet frames.
-    Pcap(PcapFault),
+pub(crate) enum Flaw {
+    /// It is not there.
+    Missing,
     /// It, or all captures up to it, have more bytes than this limit.
-    Large(u64),
+    Large { limit: u64 },
+    /// It is no classic capture of Ethernet frames.
+    Broken { fault: PcapFault },
+    /// It holds a frame that can't be played yet.
+    NotBuilt,
 }
 
 /// Why a run ends before its end.
@@ -19,13 +27,9 @@ pub(crate) enum CaptureFault {
 pub(crate) enum Fault {
     /// The words are none that are accepted.
     Usage,
-    /// The capture of this port is not taken.
-    Capture { port: PortId, fault: CaptureFault },
-    /// The capture of this port is not there.
-    Missing { port: PortId },
-    /// A capture holds a frame that can't be played yet.
-    NotBuilt,
-    /// A file could not be read.
+    /// The capture of this port is the first with a flaw.
+    Capture { port: PortId, flaw: Flaw },
+    /// A capture could not be read.
     Read,
     /// A file could not be made or written.
     Write,
@@ -34,20 +38,27 @@ pub(crate) enum Fault {
 }
 
 impl From<NoMemory> for Fault {
+    ghost from_gives = { λ _ fault. fault ≡ Memory };
+
     fn from(_: NoMemory) -> Self {
         Fault::Memory
     }
 }
 
 impl From<WorldFault> for Fault {
+    ghost from_gives = { λ _ fault. fault ≡ Memory };
+
     fn from(_: WorldFault) -> Self {
         Fault::Memory
     }
 }
 
+/// A failure of the shelf while files are made and written.
 impl From<ShelfFault> for Fault {
-    fn from(fault: ShelfFault) -> Self {
-        match fault {
+    ghost from_gives = { λ failure fault. fault ≡ fault_of failure };
+
+    fn from(failure: ShelfFault) -> Self {
+        match failure {
             ShelfFault::Failed => Fault::Write,
             ShelfFault::Memory => Fault::Memory,
         }

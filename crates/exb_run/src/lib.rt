@@ -4,7 +4,6 @@
 #![tactic(auto)]
 
 mod captures;
-mod cursor;
 mod fault;
 mod outputs;
 mod play;

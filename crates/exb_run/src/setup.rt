@@ -1,7 +1,8 @@
 //! The setup of a run: one extender on b1 with some ports, all in VLAN 1, untagged.
-ghost use Rattle.std.specs.Prelude.{◌≡◌, ◌≤◌, ◌+◌, ◌*◌, ◌&&◌, ℕ, false, IfOk, nat_le, nat_lt};
+ghost use Rattle.std.specs.Prelude.{◌≡◌, ◌<◌, ◌≤◌, ◌+◌, ◌*◌, ◌&&◌, ℕ, false, IfOk, nat_le, nat_lt};
 ghost use Rattle.exb_model.specs.Ports.{port_in};
 ghost use Rattle.exb_world.specs.Setups.{IsFirst, is_port_of};
+ghost use Rattle.exb_world.specs.Worlds.{first_number, first_ports};
 
 use exb_model::command::Command;
 use exb_model::list::List;
@@ -39,7 +40,9 @@ fn first_ports(ports: u8) -> PortSet
 pub(crate) fn one_extender(alloc: Global, ports: u8) -> Result<Setup, NoMemory>
     requires some { 1 ≤ ports }
     requires few { ports ≤ 64 }
-    ensures { IfOk result (λ setup. IsFirst setup) }
+    ensures first { IfOk result (λ setup. IsFirst setup) }
+    ensures number { IfOk result (λ setup. first_number setup.extenders ≡ 1) }
+    ensures ports { IfOk result (λ setup. first_ports setup.extenders ≡ ports) }
 {
     let mut extenders = List::new(alloc);
     extenders.push(ExtenderSetup {

@@ -1,0 +1,68 @@
+//! Lines of the journal.
+ghost use Rattle.std.specs.Prelude.{◌≡◌, ◌∷◌, ◌++◌, [], Some, OnOk, OnErr, string_bytes};
+ghost use Rattle.exb_model.specs.Texts.{line_of, cause_text};
+
+use crate::PortName;
+use arrayvec::ArrayString;
+use exb_model::event::{Cause, Event};
+use exb_model::memory::NoMemory;
+use std::fmt;
+use std::fmt::Write;
+
+// A refusal for want of channels, with each number at its largest, and the newline.
+const LONGEST_LINE: usize = 59;
+
+/// An event that prints as its line of the journal, without the newline.
+#[derive(Clone, Copy)]
+pub struct EventLine<'a>(pub &'a Event);
+
+impl fmt::Display for EventLine<'_> {
+    ghost output = { λ line. Some (line_of line.0.now) };
+
+    #[tactic(auto, unfolding(exb_model::specs::Texts::line_of))]
+    fn fmt<W: fmt::Write>(&self, f: &mut fmt::Formatter<W>) -> fmt::Result {
+        match self.0 {
+            Event::Relay { port, index, .. } => write!(f, "relay {} {index}", PortName(*port)),
+            Event::Ignored { port, index } => write!(f, "ignore {} {index}", PortName(*port)),
+            Event::Tick { seconds } => write!(f, "tick {seconds}"),
+            Event::Commit { number } => write!(f, "commit {number}"),
+            Event::Refuse { number, cause } => write!(f, "refuse {number}{}", CauseText(*cause)),
+            Event::Up { port } => write!(f, "up {}", PortName(*port)),
+            Event::NoUp { port, cause } => {
+                write!(f, "noup {}{}", PortName(*port), CauseText(*cause))
+            }
+            Event::Settled => f.write_str("settled"),
+        }
+    }
+}
+
+// The cause of a refusal, as the end of a line.
+#[derive(Clone, Copy)]
+struct CauseText(Cause);
+
+impl fmt::Display for CauseText {
+    ghost output = { λ text. Some (cause_text text.0) };
+
+    fn fmt<W: fmt::Write>(&self, f: &mut fmt::Formatter<W>) -> fmt::Result {
+        match self.0 {
+            Cause::Channels { needed, limit } => write!(f, " channels {needed} {limit}"),
+            Cause::Groups { needed, limit } => write!(f, " groups {needed} {limit}"),
+        }
+    }
+}
+
+/// Puts the line of an event, with its newline, at the end of a text. Where memory runs out, the text
+/// stays as it was.
+pub fn write_line(text: &mut String, event: &Event) -> Result<(), NoMemory>
+    ensures ok { OnOk result (string_bytes text.new ≡ string_bytes text.old ++ line_of event.now ++ 10 ∷ []) }
+    ensures err { OnErr result (string_bytes text.new ≡ string_bytes text.old) }
+{
+    // The line is made on the stack first, so that no part of it stays where memory runs out.
+    let mut line = ArrayString::<LONGEST_LINE>::new();
+    if writeln!(line, "{}", EventLine(event)).is_ok() {
+        return Ok(text.push_str(line.as_str())?);
+    }
+    // Every line has room there, but no clause of `writeln!` says when it fails.
+    let line = format!(in *text.allocator(); "{}\n", EventLine(event))?;
+    Ok(text.push_str(line.as_str())?)
+}

@@ -1,0 +1,18 @@
+//! The texts that a run writes and prints: the lines of the journal, the summary, and the names of the
+//! files. Upwards it promises that each is the text that `exb_model` defines, byte for byte, and that no
+//! two files of a run have one name. It stands on `exb_model` alone.
+#![tactic(auto)]
+
+mod event_line;
+mod file_name;
+pub mod laws;
+mod port_name;
+mod tally;
+
+pub use event_line::{EventLine, write_line};
+pub use file_name::{capture_file_name, journal_file_name};
+pub use port_name::PortName;
+pub use tally::Tally;
+
+#[cfg(test)]
+mod tests;
