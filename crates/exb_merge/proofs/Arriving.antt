@@ -1,11 +1,11 @@
 -- The arrivals of captures, and the first of them.
-use Rattle.std.proofs.Common.{◌≡◌, ℕ, suc, ◌+◌, ◌<◌, ◌≤◌, List, [], ◌∷◌, ◌++◌, length, map, max, refl, sym, ap, subst, ◌∙◌, arith, length-append}
-use Rattle.std.specs.Prelude.{Option, Some, None, flat_map}
+use Rattle.std.proofs.Common.{◌≡◌, ℕ, suc, ◌+◌, ◌≤◌, List, [], ◌∷◌, ◌++◌, length, map, max, refl, sym, ap, subst, ◌∙◌, arith, length-append}
+use Rattle.std.specs.Prelude.{Some, flat_map}
 use Rattle.std.specs.List.{AllByRecursion}
 use Rattle.std.proofs.lemmas.Grind.{flat_map-append}
-use Rattle.std.proofs.lemmas.List.{append_assoc, append-nil, map-append}
+use Rattle.std.proofs.lemmas.List.{append-nil, map-append}
 use Rattle.exb_model.specs.Input.{Record, Arrival, Coming, Captured, arrivals_from, by_moment}
-use Rattle.exb_merge.specs.Streams.{Stream, stream_of, arrivals_of, next_moment, to_come}
+use Rattle.exb_merge.specs.Streams.{Stream, arrivals_of, next_moment, to_come}
 use Rattle.exb_merge.proofs.InOrder.{NoneBefore, by_moment-first, length-by_moment}
 
 -- no arrival is before this moment

@@ -6,7 +6,7 @@ use Rattle.std.specs.List.{range_with_len}
 use Rattle.std.proofs.lemmas.List.Folds.{flat_map-map}
 use Rattle.std.proofs.lemmas.Grind.{flat_map-append}
 use Rattle.exb_model.specs.Ports.{below, all_ports}
-use Rattle.exb_model.specs.Input.{Input, Given, Coming, Captured, Arrival, arrivals_at, all_arrivals, all_comings, commands_from, start_second, by_moment, merge}
+use Rattle.exb_model.specs.Input.{Input, Given, Captured, Arrival, arrivals_at, all_arrivals, commands_from, start_second, by_moment, merge}
 use Rattle.exb_merge.specs.Streams.{arrivals_of, stream_at, to_come}
 
 -- what comes where there is no command

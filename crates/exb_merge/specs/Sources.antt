@@ -1,5 +1,5 @@
 -- A capture that is being played, as it is kept.
-use Rattle.std.specs.Prelude.{◌≡◌, ◌+◌, ◌*◌, ◌^◌, ◌<◌, ◌≤◌, ℕ, List, [], ◌∷◌, Option, Some, None, length, IfSome}
+use Rattle.std.specs.Prelude.{◌≡◌, ◌+◌, ◌*◌, ◌^◌, ◌<◌, ◌≤◌, List, [], ◌∷◌, Option, Some, None, length, IfSome}
 use Rattle.exb_model.specs.Input.{Record}
 use Rattle.exb_pcap.specs.Taken.{taken}
 use Rattle.exb_pcap.specs.declared.reader.Record.{Record as Taken}

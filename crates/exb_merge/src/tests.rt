@@ -35,9 +35,10 @@ fn port(number: u16) -> Result<PortId, Fail> {
 #[test]
 fn records_come_by_moment_and_then_by_port(rt: HostRuntime) -> Result<(), Fail> {
     let mut captures = Captures::new(rt.alloc());
-    captures.add(port(64)?, &FIRST)?;
-    captures.add(port(65)?, &OTHER)?;
-    captures.add(port(66)?, &EMPTY)?;
+    let (lower, higher, last) = (port(64)?, port(65)?, port(66)?);
+    captures.add(lower, &FIRST)?;
+    captures.add(higher, &OTHER)?;
+    captures.add(last, &EMPTY)?;
     // The frame at 1 s that stands behind one at 2 s comes at 2 s.
     let in_order = [
         (65, 1, 1, 0xB1),
@@ -48,7 +49,9 @@ fn records_come_by_moment_and_then_by_port(rt: HostRuntime) -> Result<(), Fail> 
         (64, 3, 5, 0xA3),
     ];
     for (port, index, second, byte) in in_order {
-        let coming = captures.next().ok_or("a record comes")?;
+        let Some(coming) = captures.next() else {
+            return Err(Fail::from("a record is missing"));
+        };
         assert_eq!(rt; coming.port.number(), port);
         assert_eq!(rt; coming.index, index);
         assert_eq!(rt; coming.moment, second * SECOND);
@@ -61,7 +64,8 @@ fn records_come_by_moment_and_then_by_port(rt: HostRuntime) -> Result<(), Fail> 
 #[test]
 fn nothing_comes_of_an_empty_capture(rt: HostRuntime) -> Result<(), Fail> {
     let mut captures = Captures::new(rt.alloc());
-    captures.add(port(4159)?, &EMPTY)?;
+    let port = port(4159)?;
+    captures.add(port, &EMPTY)?;
     assert_eq!(rt; captures.next(), None);
     Ok(())
 }

@@ -1,6 +1,5 @@
-use Rattle.std.proofs.Common.{◌≡◌, ◌∷◌, ◌++◌, [], ◌≤◌, length, sym, ap, ◌∙◌, arith}
+use Rattle.std.proofs.Common.{◌≡◌, ◌++◌, length, ap, ◌∙◌, arith}
 use Rattle.std.specs.Prelude.{sum_by}
-use Rattle.std.specs.Result.{IfOk}
 use Rattle.std.specs.BinaryHeap.{heap_items}
 use Rattle.exb_merge.specs.Streams.{to_come}
 use Rattle.exb_merge.specs.Turns.{turn_at}

@@ -1,7 +1,6 @@
-use Rattle.std.proofs.Common.{◌≡◌, ◌∷◌, ◌++◌, ◌≤◌, length, refl, sym, ap, ◌∙◌, arith}
+use Rattle.std.proofs.Common.{◌++◌, refl, sym, ap, ◌∙◌, arith}
 use Rattle.std.specs.Prelude.{sum_by}
 use Rattle.std.specs.BinaryHeap.{heap_items}
-use Rattle.exb_model.specs.Input.{Captured}
 use Rattle.exb_merge.specs.Arrivals.{arrival_of}
 use Rattle.exb_merge.specs.Streams.{to_come}
 use Rattle.exb_merge.specs.Turns.{turn_at}

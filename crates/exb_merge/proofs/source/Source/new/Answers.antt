@@ -1,5 +1,4 @@
-use Rattle.std.proofs.Common.{◌≡◌, ◌≤◌, length, sym, ap, ◌∙◌, arith, rules}
-use Rattle.exb_merge.specs.Sources.{records_in}
+use Rattle.std.proofs.Common.{length, sym, ap, ◌∙◌, arith}
 use Rattle.exb_merge.specs.Streams.{stream_of}
 use Rattle.exb_merge.proofs.Opened.{opened, not_opened, few_records, next-is}
 use Rattle.exb_merge.proofs.source.Source.new.Goals as goal
