@@ -1,7 +1,7 @@
 -- Where a world stands, with the same lists in other words.
-use Rattle.std.proofs.Common.{◌≡◌, ◌≢◌, ℕ, ◌==◌, Bool, true, false, cond, List, [], ◌∷◌, ◌++◌, map, flat_map, get_or, sym, ap, ◌∙◌, subst, refl}
+use Rattle.std.proofs.Common.{◌≡◌, ◌≢◌, ℕ, ◌==◌, Bool, true, false, cond, List, [], ◌∷◌, ◌++◌, map, flat_map, get_or, take, drop, length, All, arith, sym, ap, ◌∙◌, subst, refl}
 use Rattle.std.proofs.lemmas.Bool.{ne_eqb}
-use Rattle.std.proofs.lemmas.List.{append-nil}
+use Rattle.std.proofs.lemmas.List.{append-nil, take-append-drop}
 use Rattle.exb_model.specs.declared.event.Event.{Event}
 use Rattle.exb_model.specs.declared.event.Event.TheVariants as event
 use Rattle.exb_model.specs.Configuration.{Bridge}
@@ -9,9 +9,12 @@ use Rattle.exb_model.specs.History.{Basis, History, ◌then◌, bridge_after}
 use Rattle.exb_model.specs.EagerHistory.{arrival_event, eager_segment, with_tick}
 use Rattle.exb_model.specs.FlatBridge.{Sent, sent_by}
 use Rattle.exb_model.specs.Input.{Input, Arrival, basis_of, tree_of, bounds_of}
+use Rattle.std.specs.Prelude.{Result, Ok, Err, OnOk, slice_get, Some}
 use Rattle.exb_world.specs.declared.world.Left.{Left}
-use Rattle.exb_world.specs.Worlds.{State, Stands, bridge_of, nothing, place_at, left_at}
-use Rattle.exb_schedule.specs.Segments.{segment, segment_events, segment_sends}
+use Rattle.exb_world.specs.Worlds.{State, Stands, IsCopyOf, bridge_of, nothing, place_at, left_at}
+use Rattle.exb_world.specs.Setups.{is_port_of}
+use Rattle.exb_schedule.specs.declared.segment.Arrival.{Arrival as Recorded}
+use Rattle.exb_schedule.specs.Segments.{arrived, segment, segment_events, segment_sends, AnyCopy}
 
 pub stands_same : {i : Basis} {w : State} {given given' : List Arrival} {h : History} {left left' : ℕ → List Sent} →
     Stands i w given h left → given ≡ given' → ((q : ℕ) → left q ≡ left' q) → Stands i w given' h left'
@@ -89,3 +92,34 @@ pub left_later : (w later : State) (now : List Left) (a : Arrival) (q : ℕ) →
 left_later w later now a q same tick play =
     play ∙ ap (λ xs. xs ++ segment_sends later (a ∷ []) q) (tick ∙ append-nil (left_at w.left q))
     ∙ ap (λ k. left_at w.left q ++ flat_map (λ b. sent_by k nothing (arrival_event k b) q) (a ∷ [])) same
+
+-- ---- what was added to a list
+-- nothing, where what was added has an impossible property
+pub nothing_added : {X : Type 0} (old new : List X) → take (length old) new ≡ old → All (λ x. ⊥) (drop (length old) new) → new ≡ old
+nothing_added old new front none = sym (take-append-drop (length old) new) ∙ ap (λ xs. xs ++ drop (length old) new) front ∙ by_rest (drop (length old) new) old none
+  where
+    by_rest : {Y : Type 0} (ys : List Y) (xs : List Y) → All (λ x. ⊥) ys → xs ++ ys ≡ xs
+    by_rest [] xs h = append-nil xs
+    by_rest (y ∷ ys) xs h = absurd (h 0 y (omega arith))
+
+pub on_ok_both : {T E P Q R : Type 0} (r : Result T E) → (P → Q → R) → OnOk r P → OnOk r Q → OnOk r R
+on_ok_both (Ok v) f p q = f p q
+on_ok_both (Err e) f p q = tt
+
+-- an arrival's copies, after a mark that sends nothing
+pub copies_after : (w w1 w2 w3 : State) (a : Arrival) → All (IsCopyOf w a) (drop (length w.left) w1.left) → w2 ≡ w1 →
+    take (length w2.left) w3.left ≡ w2.left → All (λ (x : Left). ⊥) (drop (length w2.left) w3.left) → All (IsCopyOf w a) (drop (length w.left) w3.left)
+copies_after w w1 w2 w3 a copies same front none =
+    let left : w3.left ≡ w1.left = nothing_added w2.left w3.left front none ∙ ap (λ (v : State). v.left) same in
+    subst (λ (xs : List Left). All (IsCopyOf w a) (drop (length w.left) xs)) (sym left) copies
+
+-- the copies of the only arrival
+pub any_copies : (w w1 : State) (arrivals : List Recorded) (x : Recorded) → arrivals ≡ x ∷ [] → w1.number ≡ w.number → w1.ports ≡ w.ports → (ys : List Left) →
+    All (IsCopyOf w1 (arrived x)) ys → All (λ y. AnyCopy w arrivals y) ys
+any_copies w w1 arrivals x one number ports ys copies k d h =
+    let copy = copies k d h in
+    (0, x, ap (λ xs. slice_get xs 0) one, record {
+      port = ap (λ n. is_port_of n w.ports (get_or ys k d).port) (sym number) ∙ ap (λ n. is_port_of w1.number n (get_or ys k d).port) (sym ports) ∙ copy.port;
+      moment = copy.moment;
+      bytes = copy.bytes;
+    })

@@ -1,5 +1,5 @@
 -- What a segment makes of a world.
-use Rattle.std.specs.Prelude.{◌≡◌, ℕ, ◌==◌, if◌then◌else◌, List, [], ◌∷◌, ◌++◌, map, flat_map, true}
+use Rattle.std.specs.Prelude.{◌≡◌, ℕ, ◌==◌, if◌then◌else◌, List, [], ◌∷◌, ◌++◌, map, flat_map, true, slice_get, Some}
 use Rattle.exb_model.specs.declared.event.Event.{Event}
 use Rattle.exb_model.specs.declared.event.Event.TheVariants as event
 use Rattle.exb_model.specs.declared.frame_kind.Seen.TheVariants as seen
@@ -8,7 +8,8 @@ use Rattle.exb_model.specs.Input.{Arrival as Arrived, Segment}
 use Rattle.exb_model.specs.FlatBridge.{Sent, sent_by}
 use Rattle.exb_model.specs.EagerHistory.{arrival_event}
 use Rattle.exb_world.specs.Setups.{is_port_of}
-use Rattle.exb_world.specs.Worlds.{State, bridge_of, nothing}
+use Rattle.exb_world.specs.declared.world.Left.{Left}
+use Rattle.exb_world.specs.Worlds.{State, IsCopyOf, bridge_of, nothing}
 use Rattle.exb_schedule.specs.declared.segment.Arrival.{Arrival}
 
 -- an arrival, without where its bytes lie in memory
@@ -37,3 +38,7 @@ segment_sends w arrivals q = flat_map (λ a. sent_by (bridge_of w) nothing (arri
 pub record CanArrive (w : State) (a : Arrived) : Type 0 where
   pub port : is_port_of w.number w.ports a.port ≡ true
   pub plain : kind_of a.bytes ≡ seen.Plain
+
+-- a frame that left is that of an arrival of the segment, at a port of the extender
+abbrev pub AnyCopy : State → List Arrival → Left → Type 0
+AnyCopy w arrivals x = (k : ℕ) × (a : Arrival) × (slice_get arrivals k ≡ Some a) × IsCopyOf w (arrived a) x

@@ -1,11 +1,11 @@
 //! The eager schedule.
-ghost use Rattle.std.specs.Prelude.{◌≡◌, ◌++◌, ◌∷◌, [], ◌+◌, ◌<◌, ◌^◌, ℕ, List, true, false, IsOk, IfOk, OnOk, OnErr};
+ghost use Rattle.std.specs.Prelude.{◌≡◌, ◌++◌, ◌∷◌, [], ◌+◌, ◌<◌, ◌^◌, ℕ, List, true, false, IsOk, IfOk, OnOk, OnErr, All, take, drop, length};
 ghost use Rattle.exb_model.specs.FlatBridge.{Sent};
 ghost use Rattle.exb_model.specs.History.{Basis, History, ◌then◌};
 ghost use Rattle.exb_model.specs.Input.{Input, Arrival as Arrived, basis_of, tree_of, bounds_of};
 ghost use Rattle.exb_model.specs.EagerHistory.{eager_segment, arrival_event};
-ghost use Rattle.exb_world.specs.Worlds.{Stands, bridge_of, left_at, ups_of};
-ghost use Rattle.exb_schedule.specs.Segments.{arrived, all_arrived, segment, tick, segment_events, segment_sends, CanArrive};
+ghost use Rattle.exb_world.specs.Worlds.{Stands, IsCopyOf, bridge_of, left_at, ups_of};
+ghost use Rattle.exb_schedule.specs.Segments.{arrived, all_arrived, segment, tick, segment_events, segment_sends, CanArrive, AnyCopy};
 
 use exb_model::bytes::Bytes;
 use exb_model::event::Event;
@@ -44,6 +44,8 @@ fn play(world: &mut World, arrival: &Arrival) -> Result<(), WorldFault>
     requires arrival { CanArrive world.old (arrived arrival.now) }
     ensures events { OnOk result (world.new.events ≡ world.old.events ++ segment_events world.old 0 (arrived arrival.now ∷ [])) }
     ensures left { OnOk result ((q : ℕ) → left_at world.new.left q ≡ left_at world.old.left q ++ segment_sends world.old (arrived arrival.now ∷ []) q) }
+    ensures appends { OnOk result (take (length world.old.left) world.new.left ≡ world.old.left) }
+    ensures copies { OnOk result (All (IsCopyOf world.old (arrived arrival.now)) (drop (length world.old.left) world.new.left)) }
     ensures rest { OnOk result (world.new ≡ record world.old { events = world.new.events; left = world.new.left }) }
     ensures stands { OnOk result ((i : Input) (given : List Arrived) (h : History) (left : ℕ → List Sent) → Stands (basis_of i) world.old given h left
         → Stands (basis_of i) world.new (given ++ arrived arrival.now ∷ []) (Event.Settled ∷ arrival_event (bridge_of world.old) (arrived arrival.now) ∷ h)
@@ -76,6 +78,8 @@ pub fn eager(
 
     ensures events { OnOk result (world.new.events ≡ world.old.events ++ segment_events world.old seconds (all_arrived arrivals.now)) }
     ensures left { OnOk result ((q : ℕ) → left_at world.new.left q ≡ left_at world.old.left q ++ segment_sends world.old (all_arrived arrivals.now) q) }
+    ensures appends { OnOk result (take (length world.old.left) world.new.left ≡ world.old.left) }
+    ensures copies { OnOk result (All (λ x. AnyCopy world.old arrivals.now x) (drop (length world.old.left) world.new.left)) }
     ensures rest { OnOk result (world.new ≡ record world.old {
         clock = world.old.clock + seconds; events = world.new.events; left = world.new.left }) }
     ensures stands { OnOk result ((i : Input) (given : List Arrived) (h : History) (left : ℕ → List Sent) → Stands (basis_of i) world.old given h left

@@ -1,4 +1,4 @@
 pub mod EntryLemmas
 pub mod FileLemmas
 pub mod PieceLemmas
-pub mod PutLemmas
+pub mod MemoryLemmas

@@ -112,6 +112,7 @@ pub fn read_file<S: Shelf>(
 fn write_on<S: Shelf>(shelf: &mut S, id: u32, text: &[u8]) -> Result<usize, ShelfFault>
     requires { IsWriting (S.ids shelf.old id) }
     ensures bound { IfOk result (λ n. n ≤ length text.now) }
+    ensures piece { IfOk result (λ n. n ≤ 65_536) }
     ensures some { 0 < length text.now → IfOk result (λ n. 0 < n) }
     ensures appended { S.tells → IfOk result (λ n. Puts (S.file shelf.old) (S.file shelf.new) (S.ids shelf.old id).name
         (bytes_of (S.file shelf.old (S.ids shelf.old id).name) ++ take n text.now)) }
@@ -123,9 +124,8 @@ fn write_on<S: Shelf>(shelf: &mut S, id: u32, text: &[u8]) -> Result<usize, Shel
     shelf.write(id, &text[..text.len().min(PIECE)])
 }
 
-/// Appends a whole text to a file that was created, in pieces of at most [`PIECE`] bytes.
-///
-/// Where it fails, the file has a front of the text more.
+/// Appends a whole text to a file that was created, in pieces of at most [`PIECE`] bytes. Where it
+/// fails, the file has a front of the text more.
 pub fn write_text<S: Shelf>(shelf: &mut S, id: u32, text: &[u8]) -> Result<(), ShelfFault>
     requires { IsWriting (S.ids shelf.old id) }
     ensures ok { S.tells → OnOk result (Adds (S.file shelf.old) (S.file shelf.new) (S.ids shelf.old id).name text.now) }

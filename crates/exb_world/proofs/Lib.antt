@@ -6,3 +6,7 @@ pub mod Flooding
 pub mod Standing
 pub mod FirstTree
 pub mod Opening
+pub mod Ranges
+pub mod SetLists
+pub mod FirstOrder
+pub mod Rising

@@ -1,9 +1,10 @@
 -- A world after an arrival, and where it stands.
-use Rattle.std.proofs.Common.{◌≡◌, ℕ, ◌+◌, ◌-◌, ◌*◌, ◌<◌, ◌≤◌, ◌==◌, ◌&&◌, Bool, true, false, not, cond, filter, map, reverse, List, [], ◌∷◌, ◌++◌, Option, Some, None, nat_lt, refl, ap, subst, sym, ◌∙◌, arith, inl, inr, add-zero}
+use Rattle.std.proofs.Common.{◌≡◌, ℕ, ◌+◌, ◌-◌, ◌*◌, ◌<◌, ◌≤◌, ◌==◌, ◌&&◌, Bool, true, false, not, cond, filter, map, reverse, length, drop, get_or, All, List, [], ◌∷◌, ◌++◌, Option, Some, None, nat_lt, refl, ap, subst, sym, ◌∙◌, arith, inl, inr, add-zero}
 use Rattle.std.specs.Prelude.{filter_map, Result, Ok, Err, is_err, OnOk}
-use Rattle.std.proofs.lemmas.Bool.{cases_Bool, lt-ltb}
+use Rattle.std.proofs.lemmas.Bool.{cases_Bool, lt-ltb, ltb-true}
 use Rattle.std.proofs.lemmas.List.{append-nil, reverse-append, map-append}
-use Rattle.std.proofs.lemmas.List.Elements.{filter_map-append}
+use Rattle.std.proofs.lemmas.List.Elements.{filter_map-append, All-map, filter_passes}
+use Rattle.std.proofs.Math.Seq.{drop-append_seam}
 use Rattle.exb_model.specs.declared.frame_kind.Seen.TheVariants as seen
 use Rattle.exb_model.specs.declared.event.Event.{Event}
 use Rattle.exb_model.specs.declared.event.Event.TheVariants as event
@@ -22,9 +23,9 @@ use Rattle.exb_world.specs.declared.world.Left.{Left}
 use Rattle.exb_world.specs.Extenders.{IsLaid}
 use Rattle.exb_world.specs.Setups.{is_port_of}
 use Rattle.exb_world.specs.Arrivals.{has_channel, event_at, ports_out}
-use Rattle.exb_world.specs.Worlds.{State, bridge_of, nothing, left_at, leaving, IsAfterArrival, Stands, place_at}
-use Rattle.exb_world.proofs.Filters.{none_below_zero}
-use Rattle.exb_world.proofs.Flooding.{in_range, flat_sends, source_channel, carried_sends}
+use Rattle.exb_world.specs.Worlds.{State, bridge_of, nothing, left_at, leaving, IsAfterArrival, IsCopyOf, Stands, place_at}
+use Rattle.exb_world.proofs.Filters.{none_below_zero, All-filter_below}
+use Rattle.exb_world.proofs.Flooding.{in_range, is_in_range, flat_sends, source_channel, goes_to_others, carried_sends}
 use Rattle.exb_world.proofs.Leaving.{left_at-append, left_at-nil}
 
 module _ (w : State) (numbered : w.number ≤ 64) (few : w.ports ≤ 64) (p n moment : ℕ) (f : List ℕ)
@@ -83,6 +84,52 @@ module _ (w : State) (numbered : w.number ≤ 64) (few : w.ports ≤ 64) (p n mo
       left_at new q ≡ left_at old q ++ sent_by (bridge_of w) nothing (arrival_event (bridge_of w) arrival) q
   left_is laid old new e q =
       ap (λ xs. left_at xs q) e ∙ left_at-append old (leaving w.number moment f (ports_out t at)) q ∙ ap (λ xs. left_at old q ++ xs) (sends laid q)
+
+-- the ports by which it leaves are the extender's
+module _ (w : State) (few : w.ports ≤ 64) (p : ℕ) (f : List ℕ) (port : is_port_of w.number w.ports p ≡ true) (plain : kind_of f ≡ seen.Plain)
+  (t : Tables) (laid : IsLaid t (cond w.is_open w.ports 0)) where
+  low_port : (numbered : w.number ≤ 64) (at : ℕ) (low : at < w.ports) (is : 64 * w.number + at ≡ p) (j : ℕ) → w.is_open ≡ true → j < 64 →
+      goes_out t (group_tag (t.own at)) j ≡ true → j < w.ports
+  low_port numbered at low is j e h passes =
+      let laid' : IsLaid t w.ports = subst (λ (b : Bool). IsLaid t (cond b w.ports 0)) e laid in
+      first (sym (goes_to_others w numbered few p f port plain e t laid' at low is j h) ∙ passes)
+    where
+      first : (nat_lt j w.ports && not (j == at)) ≡ true → j < w.ports
+      first both = ltb-true j w.ports (and_first (nat_lt j w.ports) (not (j == at)) both)
+        where
+          and_first : (b c : Bool) → (b && c) ≡ true → b ≡ true
+          and_first true c h' = refl
+          and_first false c h' = h'
+
+  -- what leaves is the arrival's frame, at a port of the extender
+  pub copies_are : (numbered : w.number ≤ 64) (n moment : ℕ) (old new : List Left) → new ≡ old ++ leaving w.number moment f (ports_out t (p - 64 * w.number)) →
+      All (IsCopyOf w (record { port = p; index = n; moment = moment; bytes = f })) (drop (length old) new)
+  copies_are numbered n moment old new e =
+      let sent : drop (length old) new ≡ leaving w.number moment f (ports_out t (p - 64 * w.number)) =
+          ap (drop (length old)) e ∙ drop-append_seam old (leaving w.number moment f (ports_out t (p - 64 * w.number))) in
+      subst (λ (xs : List Left). All (IsCopyOf w a) xs) (sym sent) (All-map (IsCopyOf w a) copy (ports_out t (p - 64 * w.number)) (by_state w.is_open refl))
+    where
+      a : Arrival
+      a = record { port = p; index = n; moment = moment; bytes = f }
+
+      copy : ℕ → Left
+      copy j = record { port = 64 * w.number + j; moment = moment; bytes = f }
+
+      one : (j : ℕ) → j < w.ports → IsCopyOf w a (copy j)
+      one j low = record { port = is_in_range w.number w.ports (64 * w.number + j) (omega arith) (omega arith); moment = refl; bytes = refl }
+
+      test : ℕ → Bool
+      test = goes_out t (group_tag (t.own (p - 64 * w.number)))
+
+      by_state : (b : Bool) → w.is_open ≡ b → All (λ j. IsCopyOf w a (copy j)) (ports_out t (p - 64 * w.number))
+      by_state true up =
+          let has = channel_is w numbered few p n moment f port plain t laid ∙ up in
+          let in_range' = in_range w.number w.ports p port in
+          rw has (λ k d h. one (get_or (filter test (below 64)) k d)
+          (low_port numbered (p - 64 * w.number) (omega arith) (omega arith) (get_or (filter test (below 64)) k d) up (All-filter_below test 64 k d h) (filter_passes test (below 64) k d h)))
+      by_state false closed =
+          let none = channel_is w numbered few p n moment f port plain t laid ∙ closed in
+          rw none (λ k d h. absurd (omega arith))
 
 -- nothing is learned where the ageing time is 0
 pub learns_nothing : (i : Basis) (h : History) → i.ageing ≡ 0 → (v : ℕ) (m : List ℕ) → learned i h v m ≡ None

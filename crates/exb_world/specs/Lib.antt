@@ -4,3 +4,4 @@ pub mod Setups
 pub mod Worlds
 pub mod Arrivals
 pub mod Insides
+pub mod Opening

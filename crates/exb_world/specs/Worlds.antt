@@ -108,6 +108,17 @@ pub record IsAfter (old new : State) (s : Step) : Type 0 where
   pub clock : new.clock ≡ old.clock + seconds_of (event_of old s)
   pub rest : new ≡ record old { events = new.events; left = new.left; clock = new.clock }
 
+-- a frame that left is the arrival's, at a port of the extender
+pub record IsCopyOf (w : State) (a : Arrival) (x : Left) : Type 0 where
+  pub port : is_port_of w.number w.ports x.port ≡ true
+  pub moment : x.moment ≡ a.moment
+  pub bytes : x.bytes ≡ a.bytes
+
+-- a frame that left in a step is the arrival's; no other step sends one
+abbrev pub IsCopyIn : State → Step → Left → Type 0
+IsCopyIn w (step.Arrive p n t f) x = IsCopyOf w (record { port = p; index = n; moment = t; bytes = f.now }) x
+IsCopyIn w _ x = ⊥
+
 -- the first extender of a setup
 abbrev pub first_number : List ExtenderSetup → ℕ
 first_number [] = 0

@@ -7,6 +7,7 @@
 mod arrival;
 mod bridge;
 mod extender;
+pub mod laws;
 mod world;
 
 pub use world::{Left, Step, World, WorldFault};

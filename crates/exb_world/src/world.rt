@@ -1,5 +1,5 @@
 //! The world, and the steps that move it.
-ghost use Rattle.std.specs.Prelude.{◌≡◌, ◌≢◌, ◌++◌, ◌∷◌, ◌+◌, ◌<◌, ◌≤◌, ◌^◌, [], ℕ, List, true, false, IfOk, OnOk, OnErr, IsErrOf, ◌↔◌, ◌*◌, map};
+ghost use Rattle.std.specs.Prelude.{◌≡◌, ◌≢◌, ◌++◌, ◌∷◌, ◌+◌, ◌<◌, ◌≤◌, ◌^◌, [], ℕ, List, true, false, IfOk, OnOk, OnErr, IsErrOf, ◌↔◌, ◌*◌, map, take, drop, length, All};
 ghost use Rattle.std.specs.List.{range_with_len};
 ghost use Rattle.exb_model.specs.Frames.{kind_of};
 ghost use Rattle.exb_model.specs.History.{Basis, History, ◌then◌, seconds_of};
@@ -109,7 +109,7 @@ impl World {
     ghost use Rattle.exb_model.specs.Input.{Input, basis_of};
     ghost use Rattle.exb_world.specs.Setups.{IsFirst, is_port_of};
     ghost use Rattle.exb_world.specs.Insides.{arrival_of};
-    ghost use Rattle.exb_world.specs.Worlds.{CanStep, IsAfter, IsAfterArrival, Stands, fresh_of, ups_of, event_of, sent_in, given_by};
+    ghost use Rattle.exb_world.specs.Worlds.{CanStep, IsAfter, IsAfterArrival, IsCopyOf, IsCopyIn, Stands, fresh_of, ups_of, event_of, sent_in, given_by};
 
     /// The world of a setup. Nothing has happened in it yet.
     pub fn new(alloc: Global, setup: &Setup) -> Result<World, NoMemory>
@@ -166,6 +166,8 @@ impl World {
     pub fn step(&mut self, step: Step<'_>) -> Result<(), WorldFault>
         requires { CanStep self.old step }
         ensures ok { OnOk result (IsAfter self.old self.new step.entry) }
+        ensures appends { OnOk result (take (length self.old.left) self.new.left ≡ self.old.left) }
+        ensures copies { OnOk result (All (IsCopyIn self.old step.entry) (drop (length self.old.left) self.new.left)) }
         ensures stands { OnOk result ((i : Basis) (given : List Arrival) (h : History) (left : ℕ → List Sent) → Stands i self.old given h left
             → Stands i self.new (given ++ given_by step.entry) (event_of self.old step.entry ∷ h) (λ q. left q ++ sent_in self.old step.entry q)) }
         ensures failed { (result ≡ Err WorldFault.Failed) ↔ (self.old.failed ≡ true) }
@@ -192,6 +194,8 @@ impl World {
         requires port { is_port_of self.old.number self.old.ports record.now.port ≡ true }
         requires plain { kind_of record.now.bytes.now ≡ Seen.Plain }
         ensures ok { OnOk result (IsAfterArrival self.old self.new (arrival_of record.now)) }
+        ensures appends { OnOk result (take (length self.old.left) self.new.left ≡ self.old.left) }
+        ensures copies { OnOk result (All (IsCopyOf self.old (arrival_of record.now)) (drop (length self.old.left) self.new.left)) }
         ensures failed { (result ≡ Err WorldFault.Failed) ↔ (self.old.failed ≡ true) }
         ensures memory { OnErr result (self.new.failed ≡ true) }
     {

@@ -1,9 +1,10 @@
-use Rattle.std.proofs.Common.{◌≡◌, List, [], ◌∷◌, ap, sym, subst, ◌∙◌}
+use Rattle.std.proofs.Common.{◌≡◌, ℕ, List, [], ◌∷◌, All, drop, length, ap, sym, subst, refl, ◌∙◌}
 use Rattle.std.proofs.lemmas.Result.{on_ok_weaker}
 use Rattle.exb_model.specs.Input.{Arrival, basis_of}
-use Rattle.exb_world.specs.Worlds.{State, bridge_of, left_at}
+use Rattle.exb_world.specs.Worlds.{State, bridge_of, left_at, IsCopyOf}
+use Rattle.exb_world.specs.declared.world.Left.{Left}
 use Rattle.exb_schedule.specs.Segments.{arrived, all_arrived}
-use Rattle.exb_schedule.proofs.Moving.{one_member, segment_history, left_later, stands_at_once, stands_later}
+use Rattle.exb_schedule.proofs.Moving.{one_member, segment_history, left_later, stands_at_once, stands_later, nothing_added, any_copies}
 use Rattle.exb_schedule.proofs.segment.eager.Goals as goal
 
 pub returns-then-seconds-eq0-clause-stands : goal.returns-then-seconds-eq0-clause-stands
@@ -31,3 +32,20 @@ returns-clause-history c =
     let one = one_member c.args.arrivals.now c.index-arrivals-0.result c.requires.arrivals.0 c.requires.arrivals.1 c.index-arrivals-0.is in
     rw one (on_ok_weaker c.play-2.result (λ play i given h left s.
     segment_history i c.args.world.now given h left s c.args.seconds (arrived c.index-arrivals-0.result)) c.play-2.ensures.stands)
+
+pub returns-clause-copies : goal.returns-clause-copies
+returns-clause-copies c =
+    let one = one_member c.args.arrivals.now c.index-arrivals-0.result c.requires.arrivals.0 c.requires.arrivals.1 c.index-arrivals-0.is in
+    let w = c.args.world.now in
+    let w1 = c.step.new.self in
+    let rest = c.in_ok-step.ensures.ok.rest in
+    let quiet : w1.left ≡ w.left = nothing_added w.left w1.left c.in_ok-step.ensures.appends c.in_ok-step.ensures.copies in
+    on_ok_weaker c.play-2.result (λ copies. any_copies w w1 c.args.arrivals.now c.index-arrivals-0.result one (ap (λ (v : State). v.number) rest) (ap (λ (v : State). v.ports) rest)
+    (drop (length w.left) c.play-2.new.world.left) (subst (λ (n : ℕ). All (IsCopyOf w1 (arrived c.index-arrivals-0.result)) (drop n c.play-2.new.world.left)) (ap (λ (xs : List Left). length xs) quiet) copies))
+    c.play-2.ensures.copies
+
+pub returns-then-seconds-eq0-clause-copies : goal.returns-then-seconds-eq0-clause-copies
+returns-then-seconds-eq0-clause-copies c =
+    let one = one_member c.args.arrivals.now c.index-arrivals-0.result c.requires.arrivals.0 c.requires.arrivals.1 c.index-arrivals-0.is in
+    let w = c.args.world.now in
+    on_ok_weaker c.play.result (λ copies. any_copies w w c.args.arrivals.now c.index-arrivals-0.result one refl refl (drop (length w.left) c.play.new.world.left) copies) c.play.ensures.copies

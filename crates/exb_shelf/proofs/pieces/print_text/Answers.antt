@@ -1,4 +1,4 @@
-use Rattle.std.proofs.Common.{◌≡◌, ◌++◌, ◌+◌, take, drop, length, ◌-◌, arith, append_assoc, ap, ◌∙◌}
+use Rattle.std.proofs.Common.{◌++◌, take, drop, length, ◌-◌, arith, append_assoc, ap, ◌∙◌}
 use Rattle.exb_shelf.proofs.PieceLemmas.{take_on}
 use Rattle.exb_shelf.proofs.pieces.print_text.Goals as goal
 

@@ -1,5 +1,4 @@
 use Rattle.std.proofs.Common.{◌≡◌, ◌≤◌, ◌-◌, ◌++◌, length, take}
-use Rattle.exb_shelf.specs.Shelf.{Rose}
 use Rattle.exb_shelf.proofs.pieces.print_text.Given as goal
 
 abbrev pub invariant-loop-at : goal.invariant-loop-at

@@ -1,6 +1,5 @@
-use Rattle.std.proofs.Common.{◌≡◌, ◌++◌, ◌+◌, ℕ, List, Option, Some, take, drop, length, ◌-◌, arith, subst, ap, ◌∙◌}
+use Rattle.std.proofs.Common.{◌++◌, ℕ, List, take, drop, length, ◌-◌, arith, subst, ◌∙◌}
 use Rattle.exb_shelf.specs.Files.{Puts, bytes_of, Adds}
-use Rattle.exb_shelf.specs.Shelf.{NoFewer}
 use Rattle.exb_shelf.proofs.PieceLemmas.{take_on, adds_more}
 use Rattle.exb_shelf.proofs.pieces.write_text.Goals as goal
 

@@ -1,4 +1,4 @@
-use Rattle.std.proofs.Common.{◌≡◌, ◌≤◌, ◌-◌, ◌++◌, ℕ, length, take}
+use Rattle.std.proofs.Common.{◌≡◌, ◌≤◌, ◌-◌, ℕ, length, take}
 use Rattle.exb_shelf.specs.Shelf.{NoFewer}
 use Rattle.exb_shelf.specs.Files.{Adds}
 use Rattle.exb_shelf.proofs.pieces.write_text.Given as goal

@@ -3,7 +3,7 @@ use Rattle.std.proofs.lemmas.Grind.{common_steps}
 use Rattle.exb_shelf.specs.Files.{bytes_of}
 use Rattle.exb_shelf.specs.Memory.{files_of, ids_of}
 use Rattle.exb_shelf.proofs.EntryLemmas.{entries}
-use Rattle.exb_shelf.proofs.PutLemmas.{end_as}
+use Rattle.exb_shelf.proofs.MemoryLemmas.{end_as}
 use Rattle.exb_shelf.proofs.memory.MemShelfShelf.read.Goals as goal
 
 pub returns-clause-end : goal.returns-clause-end

@@ -1,7 +1,7 @@
 use Rattle.std.proofs.Common.{arith, ◌≡◌}
 use Rattle.exb_shelf.specs.Entries.{id_at}
 use Rattle.exb_shelf.proofs.EntryLemmas.{entries}
-use Rattle.exb_shelf.proofs.PutLemmas.{put_whole}
+use Rattle.exb_shelf.proofs.MemoryLemmas.{put_whole}
 use Rattle.exb_shelf.proofs.memory.MemShelfShelf.write.Goals as goal
 
 pub returns-in-Ok-clause-appended : goal.returns-in-Ok-clause-appended

@@ -1,11 +1,11 @@
-use Rattle.std.proofs.Common.{◌≡◌, true, sym, subst, ap, refl, ◌∙◌}
+use Rattle.std.proofs.Common.{◌≡◌, true, All, drop, length, sym, subst, ap, refl, ◌∙◌}
 use Rattle.exb_model.specs.declared.frame_kind.Seen.TheVariants as seen
 use Rattle.exb_world.specs.Insides.{state_of, arrival_of}
 use Rattle.exb_world.specs.Extenders.{tables_of}
 use Rattle.exb_world.specs.Setups.{is_port_of}
-use Rattle.exb_world.specs.Worlds.{State, IsAfterArrival}
+use Rattle.exb_world.specs.Worlds.{State, IsAfterArrival, IsCopyOf}
 use Rattle.exb_world.proofs.Plain.{plain_long, plain_short}
-use Rattle.exb_world.proofs.Standing.{when_ok, after_arrival}
+use Rattle.exb_world.proofs.Standing.{when_ok, after_arrival, copies_are}
 use Rattle.exb_world.proofs.world.World.arrive.Goals as goal
 
 pub arrive-arrived-requires-clause-long : goal.arrive-arrived-requires-clause-long
@@ -23,3 +23,12 @@ returns-clause-ok c =
     subst (λ (s : State). IsAfterArrival s new a) c.self.view_is
     (after_arrival inside new a c.self.invariant.number c.self.invariant.few port c.requires.plain (tables_of c.self.inside.device.extender) c.self.invariant.laid refl
     (when_ok _ (sym c.is_err.ensures.value ∙ c.if-is_err.false) c.arrive-arrived.ensures.events) (when_ok _ (sym c.is_err.ensures.value ∙ c.if-is_err.false) c.arrive-arrived.ensures.left))
+
+pub returns-clause-copies : goal.returns-clause-copies
+returns-clause-copies c =
+    let a = arrival_of c.args.record.now in
+    let inside = record (state_of c.self.inside.device c.self.inside.log) { failed = c.self.inside.failed } in
+    let port = subst (λ (s : State). is_port_of s.number s.ports a.port ≡ true) (sym c.self.view_is) c.requires.port in
+    subst (λ (s : State). All (IsCopyOf s a) (drop (length s.left) c.arrive-arrived.new.left)) c.self.view_is
+    (copies_are inside c.self.invariant.few a.port a.bytes port c.requires.plain (tables_of c.self.inside.device.extender) c.self.invariant.laid c.self.invariant.number a.index a.moment
+    c.self.inside.log.left c.arrive-arrived.new.left (when_ok _ (sym c.is_err.ensures.value ∙ c.if-is_err.false) c.arrive-arrived.ensures.left))

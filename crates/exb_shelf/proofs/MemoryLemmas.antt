@@ -1,4 +1,4 @@
--- The same, under another spelling of the file.
+-- What a shelf in memory did, under the names that the trait uses.
 use Rattle.std.proofs.Common.{◌≡◌, ℕ, List, [], ◌++◌, drop, length, take, sym, subst, arith}
 use Rattle.std.proofs.lemmas.Grind.{common_steps}
 use Rattle.std.specs.Prelude.{◌↔◌}

@@ -1,0 +1,5 @@
+pub mod Spelled
+pub mod Sequences
+pub mod Sound
+pub mod LineLaws
+pub mod CallLaws

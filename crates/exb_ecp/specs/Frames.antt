@@ -1,0 +1,50 @@
+-- ECP frames: what a header says, and its one spelling.
+use Rattle.std.specs.Prelude.{◌≡◌, ℕ, ◌+◌, ◌*◌, ◌/◌, ◌%◌, ◌<◌, ◌≤◌, ◌==◌, ◌&&◌, ◌++◌, Bool, List, [], ◌∷◌, length, Result, Ok, Err, nat_le, nat_lt, if◌then◌else◌}
+use Rattle.exb_model.specs.declared.address.Mac.{Mac}
+use Rattle.exb_model.specs.Frames.{number_at, two_bytes}
+use Rattle.exb_ecp.specs.declared.pdu.Pdu.{Pdu}
+use Rattle.exb_ecp.specs.declared.pdu.EcpFault.{EcpFault}
+use Rattle.exb_ecp.specs.declared.pdu.EcpFault.TheVariants.{NotEcp, Cut, Version, Operation}
+
+-- the destination 01-80-C2-00-00-0E, and EtherType 8940 at byte 12
+abbrev pub is_ecp : List ℕ → Bool
+is_ecp frame = nat_le 14 (length frame) && ((number_at frame 0 == 384 && (number_at frame 2 == 49664 && number_at frame 4 == 14)) && number_at frame 12 == 35136)
+
+-- version (4 bits), operation (2) and subtype (10) at byte 14
+abbrev pub version : List ℕ → ℕ
+version frame = number_at frame 14 / 4096
+
+-- 0 is a request, 1 an acknowledgement
+abbrev pub operation : List ℕ → ℕ
+operation frame = number_at frame 14 / 1024 % 4
+
+abbrev pub subtype : List ℕ → ℕ
+subtype frame = number_at frame 14 % 1024
+
+abbrev pub header_in : List ℕ → Pdu
+header_in frame = record { acknowledgement = operation frame == 1; subtype = subtype frame; sequence = number_at frame 16; payload_at = 18 }
+
+-- what the header of a frame says, or its first fault
+abbrev pub pdu_in : List ℕ → Result Pdu EcpFault
+pdu_in frame =
+    if is_ecp frame
+    then (if nat_lt (length frame) 18 then Err Cut else (if version frame == 1 then (if nat_lt 1 (operation frame) then Err Operation else Ok (header_in frame)) else Err Version))
+    else Err NotEcp
+
+-- what can be written
+pub record CanBeWritten (p : Pdu) (payload : List ℕ) : Type 0 where
+  pub subtype : p.subtype < 1024
+  pub place : p.payload_at ≡ 18
+  pub length : length payload ≤ 1024
+
+-- an acknowledgement has no payload
+abbrev pub carried : Pdu → List ℕ → List ℕ
+carried p payload = if p.acknowledgement then [] else payload
+
+-- version 1
+abbrev pub header_word : Pdu → ℕ
+header_word p = 4096 + (if p.acknowledgement then 1 else 0) * 1024 + p.subtype
+
+abbrev pub spelling : Mac → Pdu → List ℕ → List ℕ
+spelling source p payload =
+    (1 ∷ 128 ∷ 194 ∷ 0 ∷ 0 ∷ 14 ∷ []) ++ source.0 ++ two_bytes 35136 ++ two_bytes (header_word p) ++ two_bytes p.sequence ++ carried p payload

@@ -1,0 +1,5 @@
+pub mod Frames
+pub mod Machine
+pub mod Ecp
+pub mod Calls
+pub mod Line

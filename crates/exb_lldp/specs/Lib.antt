@@ -1,0 +1,4 @@
+pub mod Tlvs
+pub mod Spelling
+pub mod Announcing
+pub mod Readers

@@ -1,0 +1,4 @@
+pub mod Streams
+pub mod Arrivals
+pub mod Sources
+pub mod Turns

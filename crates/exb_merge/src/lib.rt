@@ -1,0 +1,15 @@
+//! The records of several captures in the order in which they are played: by moment, and at the same
+//! moment in the order of the captures. Upwards it promises that what comes next is always the first of
+//! what is still to come, and that the captures of an input without commands give what is merged of it.
+//! It stands on `exb_model` and `exb_pcap`.
+#![tactic(auto)]
+
+mod captures;
+pub mod laws;
+mod source;
+
+pub use captures::Captures;
+pub use source::Coming;
+
+#[cfg(test)]
+mod tests;

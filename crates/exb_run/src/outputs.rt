@@ -1,0 +1,241 @@
+//! The output files while they are written.
+ghost use Rattle.std.specs.Prelude.{◌≡◌, ◌≢◌, ◌≤◌, ◌<◌, ◌+◌, ◌++◌, ℕ, List, [], length, IfOk, OnOk, OnErr, IsErrOf, string_bytes, ◌∷◌, ◌⊎◌, true, All};
+ghost use Rattle.exb_shelf.specs.Files.{Files, SameFiles, Puts, Adds, Filled};
+ghost use Rattle.exb_shelf.specs.Shelf.{Rose, NoFewer, IsWriting, writing};
+ghost use Rattle.exb_run.specs.Outputs.{output_name, OnlyOutputs};
+ghost use Rattle.exb_run.specs.Writing.{pieces_of, Holds, HasTexts, IsReady, first_text, with_more, lines_of, with_left_frames, CanBeWritten};
+
+use crate::setup::port_at;
+use exb_model::memory::NoMemory;
+use exb_model::event::Event;
+use exb_pcap::{header_text, record_text};
+use exb_shelf::{PIECE, Shelf, ShelfFault, write_text};
+use exb_text::{capture_file_name, journal_file_name, write_line};
+use exb_world::Left;
+use std::alloc::{AllocError, Global};
+
+/// The outputs: the capture of each port, and last the journal. Each has the id of its file and a piece of
+/// its text that is not written yet.
+#[derive(Drop)]
+pub(crate) struct Outputs {
+    ids: Vec<u32>,
+    pieces: Vec<Vec<u8>>,
+}
+
+/// The name of output `at`.
+fn output_name(alloc: Global, ports: u8, at: u8) -> Result<String, NoMemory>
+    requires { ports ≤ 64 }
+    ensures { IfOk result (λ name. string_bytes name ≡ output_name ports at) }
+{
+    if at < ports {
+        capture_file_name(alloc, "out-", port_at(at))
+    } else {
+        journal_file_name(alloc, "out-")
+    }
+}
+
+/// What output `at` begins with.
+fn first_piece(alloc: Global, ports: u8, at: u8) -> Result<Vec<u8>, AllocError>
+    ensures { IfOk result (λ piece. piece.items ≡ first_text ports at) }
+{
+    if at < ports {
+        header_text().to_vec(alloc)
+    } else {
+        Ok(Vec::new(alloc))
+    }
+}
+
+/// Makes output `at`, and puts its id and first piece behind the others.
+fn create_one<S: Shelf>(
+    alloc: Global,
+    shelf: &mut S,
+    ports: u8,
+    at: u8,
+    outputs: &mut Outputs,
+) -> Result<(), ShelfFault>
+    requires few { ports ≤ 64 }
+    requires ids { length outputs.old.ids.items ≡ at }
+    requires pieces { length outputs.old.pieces.items ≡ at }
+    ensures ids { OnOk result ((id : ℕ) × (outputs.new.ids.items ≡ outputs.old.ids.items ++ id ∷ []) × (S.ids shelf.new id ≡ writing (output_name ports at))) }
+    ensures pieces { OnOk result (pieces_of outputs.new ≡ pieces_of outputs.old ++ first_text ports at ∷ []) }
+    ensures count { OnOk result (length outputs.new.pieces.items ≡ at + 1) }
+    ensures kept { (j : ℕ) → (S.ids shelf.old j).given ≡ true → S.ids shelf.new j ≡ S.ids shelf.old j }
+    ensures empty { S.tells → OnOk result (Puts (S.file shelf.old) (S.file shelf.new) (output_name ports at) []) }
+    ensures others { S.tells → OnErr result ((m : List ℕ) → m ≢ output_name ports at → S.file shelf.new m ≡ S.file shelf.old m) }
+    ensures faults { NoFewer (S.faults shelf.old) (S.faults shelf.new) }
+    ensures failed { IsErrOf result ShelfFault.Failed → Rose (S.faults shelf.old).writes (S.faults shelf.new).writes }
+{
+    let Ok(name) = output_name(alloc, ports, at) else {
+        return Err(ShelfFault::Memory);
+    };
+    let Ok(piece) = first_piece(alloc, ports, at) else {
+        return Err(ShelfFault::Memory);
+    };
+    let id = match shelf.create(name.as_str()) {
+        Ok(id) => id,
+        Err(fault) => return Err(fault),
+    };
+    if outputs.ids.push(id).is_err() || outputs.pieces.push(piece).is_err() {
+        return Err(ShelfFault::Memory);
+    }
+    Ok(())
+}
+
+/// Makes all outputs, each empty, with the piece that it begins with.
+pub(crate) fn create_all<S: Shelf>(
+    alloc: Global,
+    shelf: &mut S,
+    ports: u8,
+) -> Result<Outputs, ShelfFault>
+    requires { ports ≤ 64 }
+    ensures ready { IfOk result (λ outputs. IsReady ports (S.ids shelf.new) outputs) }
+    ensures texts { S.tells → IfOk result (λ outputs. HasTexts ports (pieces_of outputs) (S.file shelf.old) (S.file shelf.new) (first_text ports)) }
+    ensures others { S.tells → OnErr result (OnlyOutputs ports (S.file shelf.old) (S.file shelf.new)) }
+    ensures faults { NoFewer (S.faults shelf.old) (S.faults shelf.new) }
+    ensures failed { IsErrOf result ShelfFault.Failed → Rose (S.faults shelf.old).writes (S.faults shelf.new).writes }
+{
+    let mut outputs = Outputs {
+        ids: Vec::new(alloc),
+        pieces: Vec::new(alloc),
+    };
+    'outputs: for at in 0..ports + 1 {
+        match create_one(alloc, shelf, ports, at, &mut outputs) {
+            Ok(()) => {}
+            Err(fault) => return Err(fault),
+        }
+    }
+    Ok(outputs)
+}
+
+/// Writes what is not written yet of one output.
+fn flush<S: Shelf>(shelf: &mut S, id: u32, piece: &mut Vec<u8>) -> Result<(), ShelfFault>
+    requires { IsWriting (S.ids shelf.old id) }
+    ensures written { S.tells → OnOk result (Adds (S.file shelf.old) (S.file shelf.new) (S.ids shelf.old id).name piece.old.items) }
+    ensures empty { OnOk result (piece.new.items ≡ []) }
+    ensures others { S.tells → OnErr result ((m : List ℕ) → m ≢ (S.ids shelf.old id).name → S.file shelf.new m ≡ S.file shelf.old m) }
+    ensures kept { (j : ℕ) → S.ids shelf.new j ≡ S.ids shelf.old j }
+    ensures faults { NoFewer (S.faults shelf.old) (S.faults shelf.new) }
+    ensures failed { IsErrOf result ShelfFault.Failed → Rose (S.faults shelf.old).writes (S.faults shelf.new).writes }
+{
+    match write_text(shelf, id, piece.as_slice()) {
+        Ok(()) => {
+            piece.clear();
+            Ok(())
+        }
+        Err(fault) => Err(fault),
+    }
+}
+
+/// Puts bytes behind a piece, and writes the piece where it is full.
+fn add<S: Shelf>(
+    shelf: &mut S,
+    id: u32,
+    piece: &mut Vec<u8>,
+    head: &[u8],
+    bytes: &[u8],
+) -> Result<(), ShelfFault>
+    requires { IsWriting (S.ids shelf.old id) }
+    ensures kept_or_written { S.tells → OnOk result (
+        (SameFiles (S.file shelf.old) (S.file shelf.new) × (piece.new.items ≡ piece.old.items ++ (head.now ++ bytes.now)))
+        ⊎ (Adds (S.file shelf.old) (S.file shelf.new) (S.ids shelf.old id).name (piece.old.items ++ (head.now ++ bytes.now)) × (piece.new.items ≡ []))) }
+    ensures others { S.tells → OnErr result ((m : List ℕ) → m ≢ (S.ids shelf.old id).name → S.file shelf.new m ≡ S.file shelf.old m) }
+    ensures kept { (j : ℕ) → S.ids shelf.new j ≡ S.ids shelf.old j }
+    ensures faults { NoFewer (S.faults shelf.old) (S.faults shelf.new) }
+    ensures failed { IsErrOf result ShelfFault.Failed → Rose (S.faults shelf.old).writes (S.faults shelf.new).writes }
+{
+    if piece.extend_from_slice(head).is_err() || piece.extend_from_slice(bytes).is_err() {
+        return Err(ShelfFault::Memory);
+    }
+    if piece.len() < PIECE {
+        return Ok(());
+    }
+    flush(shelf, id, piece)
+}
+
+impl Outputs {
+    /// Puts the lines of events behind the journal. `line` is room for one line.
+    pub(crate) fn write_events<S: Shelf>(
+        &mut self,
+        shelf: &mut S,
+        ports: u8,
+        line: &mut String,
+        events: &[Event],
+    ) -> Result<(), ShelfFault>
+        requires few { ports ≤ 64 }
+        requires ready { IsReady ports (S.ids shelf.old) self.old }
+        ensures ready { IsReady ports (S.ids shelf.new) self.new }
+        ensures texts { S.tells → OnOk result ((orig : Files) (text : ℕ → List ℕ) → HasTexts ports (pieces_of self.old) orig (S.file shelf.old) text
+            → HasTexts ports (pieces_of self.new) orig (S.file shelf.new) (with_more text ports (lines_of events.now))) }
+        ensures others { S.tells → OnErr result (OnlyOutputs ports (S.file shelf.old) (S.file shelf.new)) }
+        ensures faults { NoFewer (S.faults shelf.old) (S.faults shelf.new) }
+        ensures failed { IsErrOf result ShelfFault.Failed → Rose (S.faults shelf.old).writes (S.faults shelf.new).writes }
+    {
+        for event in events {
+            self.add_event(shelf, ports, line, event)?;
+        }
+        Ok(())
+    }
+
+    /// Puts frames that left behind the captures of their ports.
+    pub(crate) fn write_left<S: Shelf>(
+        &mut self,
+        shelf: &mut S,
+        ports: u8,
+        left: &[Left],
+    ) -> Result<(), ShelfFault>
+        requires few { ports ≤ 64 }
+        requires ready { IsReady ports (S.ids shelf.old) self.old }
+        requires frames { All (λ x. CanBeWritten ports x) left.now }
+        ensures ready { IsReady ports (S.ids shelf.new) self.new }
+        ensures texts { S.tells → OnOk result ((orig : Files) (text : ℕ → List ℕ) → HasTexts ports (pieces_of self.old) orig (S.file shelf.old) text
+            → HasTexts ports (pieces_of self.new) orig (S.file shelf.new) (with_left_frames ports text left.now)) }
+        ensures others { S.tells → OnErr result (OnlyOutputs ports (S.file shelf.old) (S.file shelf.new)) }
+        ensures faults { NoFewer (S.faults shelf.old) (S.faults shelf.new) }
+        ensures failed { IsErrOf result ShelfFault.Failed → Rose (S.faults shelf.old).writes (S.faults shelf.new).writes }
+    {
+        for frame in left {
+            self.add_left(shelf, ports, frame)?;
+        }
+        Ok(())
+    }
+
+    /// Writes all that is not written yet.
+    pub(crate) fn finish<S: Shelf>(&mut self, shelf: &mut S, ports: u8) -> Result<(), ShelfFault>
+        requires few { ports ≤ 64 }
+        requires ready { IsReady ports (S.ids shelf.old) self.old }
+        ensures texts { S.tells → OnOk result ((orig : Files) (text : ℕ → List ℕ) → HasTexts ports (pieces_of self.old) orig (S.file shelf.old) text
+            → Filled orig (S.file shelf.new) (ports + 1) (output_name ports) (λ j bytes. bytes ≡ text j)) }
+        ensures others { S.tells → OnErr result (OnlyOutputs ports (S.file shelf.old) (S.file shelf.new)) }
+        ensures faults { NoFewer (S.faults shelf.old) (S.faults shelf.new) }
+        ensures failed { IsErrOf result ShelfFault.Failed → Rose (S.faults shelf.old).writes (S.faults shelf.new).writes }
+    {
+        for at in 0..self.ids.len() {
+            flush(shelf, self.ids[at], &mut self.pieces[at])?;
+        }
+        Ok(())
+    }
+
+    /// Puts the line of an event behind the journal.
+    fn add_event<S: Shelf>(
+        &mut self,
+        shelf: &mut S,
+        ports: u8,
+        line: &mut String,
+        event: &Event,
+    ) -> Result<(), ShelfFault> {
+        line.clear();
+        if write_line(line, event).is_err() {
+            return Err(ShelfFault::Memory);
+        }
+        let at = ports as usize;
+        add(shelf, self.ids[at], &mut self.pieces[at], line.as_bytes(), &[])
+    }
+
+    /// Puts a frame that left a port behind the port's capture.
+    fn add_left<S: Shelf>(&mut self, shelf: &mut S, ports: u8, left: &Left) -> Result<(), ShelfFault> {
+        let at = left.port.number() as usize - 64;
+        let bytes = left.bytes.as_slice();
+        let head = record_text(left.moment, bytes.len() as u32);
+        add(shelf, self.ids[at], &mut self.pieces[at], &head, bytes)
+    }
+}
