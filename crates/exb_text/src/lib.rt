@@ -1,6 +1,7 @@
 //! The texts that a run writes and prints: the lines of the journal, the summary, and the names of the
-//! files. Upwards it promises that each is the text that `exb_model` defines, byte for byte, and that no
-//! two files of a run have one name. It stands on `exb_model` alone.
+//! files. Upwards it promises that each is byte for byte the text that the definitions say, that want of
+//! memory leaves no part of a line, and that under one prefix the files of the ports and the journal all
+//! have different names. It stands on `exb_model`.
 #![tactic(auto)]
 
 mod event_line;
