@@ -1,0 +1,5 @@
+pub mod Rows
+pub mod Lengths
+pub mod Again
+pub mod Executing
+pub mod Spelled

@@ -1,0 +1,10 @@
+//! What holds of every session.
+
+ghost use Rattle.exb_session.specs.Sessions.{EachRequestOnce};
+
+/// Over every list of asks, and of deliveries of any message sent so far, in any order and number: what
+/// is executed is a front of what was asked, each once and in order, and what the asker took as answers
+/// is a front of the stored responses, in order.
+pub fn each_request_once()
+    ensures { EachRequestOnce }
+{}
