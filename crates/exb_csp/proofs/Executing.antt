@@ -1,9 +1,9 @@
 -- Laws of executing requests.
-use Rattle.std.proofs.Common.{◌≡◌, ◌≢◌, ℕ, zero, suc, ◌+◌, ◌-◌, ◌<◌, ◌≤◌, ◌==◌, ◌&&◌, ◌||◌, not, Bool, true, false, cond, nat_lt, List, [], ◌∷◌, refl, ap, sym, ◌∙◌, subst, arith, inl, inr}
+use Rattle.std.proofs.Common.{◌≡◌, ◌≢◌, ℕ, zero, suc, ◌+◌, ◌-◌, ◌<◌, ◌≤◌, ◌==◌, ◌&&◌, ◌||◌, not, Bool, true, false, cond, nat_lt, nat_le, List, [], ◌∷◌, ◌++◌, refl, ap, sym, ◌∙◌, subst, arith, inl, inr}
 use mathlib.Core.Path.{fun_ext}
 use Rattle.std.specs.List.{list_any, range_with_len}
 use Rattle.std.specs.Int.{w64, bit_at}
-use Rattle.std.proofs.lemmas.Bool.{both_ways, cases_eq, or_cases, and_right, ne_eqb, eq-eqb, or_parts, and_from, lt-ltb, false_from_ne_true}
+use Rattle.std.proofs.lemmas.Bool.{both_ways, cases_eq, or_cases, and_right, ne_eqb, eq-eqb, or_parts, or_from, and_from, lt-ltb, le-leb, false_from_ne_true}
 use Rattle.std.proofs.lemmas.Nat.Bits.{bit_at-trailing_zeros, bit_at-zero}
 use Rattle.std.specs.Int.{trailing_zeros}
 use Rattle.exb_model.specs.Ports.{below}
@@ -11,24 +11,24 @@ use Rattle.exb_model.proofs.PortLemmas.{any_below-true, any_below-false}
 use Rattle.exb_csp.specs.declared.group_rows.GroupRow.{GroupRow}
 use Rattle.exb_csp.specs.declared.message.Request.{Request}
 use Rattle.exb_csp.specs.declared.message.Request.TheVariants.{Register, Unregister, RegisterMany, UnregisterMany}
-use Rattle.exb_csp.specs.Execute.{ExtenderTables, in_mask, some_port, is_ecid, has_pair, has_stray, row_code, rows_code, clear_code, clears_code, code_of, in_rows, done, response_to, executed}
+use Rattle.exb_csp.specs.Execute.{ExtenderTables, in_mask, some_port, is_ecid, has_pair, has_stray, row_code, rows_code, clear_code, clears_code, code_of, in_rows, is_named, done, response_to, executed}
 use Rattle.exb_csp.specs.Laws.{RefusedChangesNothing, ChangesRow, RegisterSetsTheMask, UnregisterClearsTheRow, Runs, row_by_row, one_by_one, RegisterManyIsItsRows, UnregisterManyIsItsEcids, HasPairExactly, SomeBitExactly}
 
 -- ---- tests
 
-or_false : (a : Bool) → (a || false) ≡ a
+pub or_false : (a : Bool) → (a || false) ≡ a
 or_false true = refl
 or_false false = refl
 
-and_true : (a : Bool) → (a && true) ≡ a
+pub and_true : (a : Bool) → (a && true) ≡ a
 and_true true = refl
 and_true false = refl
 
-or_assoc : (a b c : Bool) → ((a || b) || c) ≡ (a || (b || c))
+pub or_assoc : (a b c : Bool) → ((a || b) || c) ≡ (a || (b || c))
 or_assoc true b c = refl
 or_assoc false b c = refl
 
-both_out : (a b c : Bool) → ((a && not b) && not c) ≡ (a && not (b || c))
+pub both_out : (a b c : Bool) → ((a && not b) && not c) ≡ (a && not (b || c))
 both_out true true c = refl
 both_out true false c = refl
 both_out false b c = refl
@@ -39,11 +39,11 @@ code_is : (t : ExtenderTables) (asked : Request) → (response_to t asked).code 
 unfolding response_to
 code_is t asked = refl
 
-executed_refused : (t : ExtenderTables) (asked : Request) → code_of t asked ≢ 0 → executed t asked ≡ t
+pub executed_refused : (t : ExtenderTables) (asked : Request) → code_of t asked ≢ 0 → executed t asked ≡ t
 unfolding executed
 executed_refused t asked bad = let e : (code_of t asked == 0) ≡ false = ne_eqb _ _ bad in rw e refl
 
-executed_done : (t : ExtenderTables) (asked : Request) → code_of t asked ≡ 0 → executed t asked ≡ done t asked
+pub executed_done : (t : ExtenderTables) (asked : Request) → code_of t asked ≡ 0 → executed t asked ≡ done t asked
 unfolding executed
 executed_done t asked good = let e : (code_of t asked == 0) ≡ true = eq-eqb _ _ good in rw e refl
 
@@ -52,18 +52,18 @@ refused t asked bad = executed_refused t asked (λ z. bad (code_is t asked ∙ z
 
 -- ---- some port
 
-some_port-true : (p : ℕ → Bool) (port : ℕ) → 0 < port → port ≤ 64 → p port ≡ true → some_port p ≡ true
+pub some_port-true : (p : ℕ → Bool) (port : ℕ) → 0 < port → port ≤ 64 → p port ≡ true → some_port p ≡ true
 unfolding some_port
 some_port-true p port low high is =
     let e : port - 1 + 1 ≡ port = omega arith in
     any_below-true (λ k. p (k + 1)) 64 (port - 1) (omega arith) (rw e is)
 
-some_port-false : (p : ℕ → Bool) → ((port : ℕ) → 0 < port → port ≤ 64 → p port ≡ false) → some_port p ≡ false
+pub some_port-false : (p : ℕ → Bool) → ((port : ℕ) → 0 < port → port ≤ 64 → p port ≡ false) → some_port p ≡ false
 unfolding some_port
 some_port-false p none = any_below-false (λ k. p (k + 1)) 64 (λ k lt. none (k + 1) (omega arith) (omega arith))
 
 -- where no port passes, none does
-no_port : (p : ℕ → Bool) (port : ℕ) → 0 < port → port ≤ 64 → some_port p ≡ false → p port ≡ false
+pub no_port : (p : ℕ → Bool) (port : ℕ) → 0 < port → port ≤ 64 → some_port p ≡ false → p port ≡ false
 no_port p port low high none = false_from_ne_true (p port) (λ is. both_ways (some_port p) none (some_port-true p port low high is))
 
 -- a number below n, counted from a, that passes where one does
@@ -75,7 +75,7 @@ find_from p a (suc n) some =
       | inr later ↦ let found = find_from p (a + 1) n later in (found.0, omega (arith, found.1), omega (arith, found.2), found.3)
     ]
 
-find_port : (p : ℕ → Bool) → some_port p ≡ true → (port : ℕ) × (0 < port) × (port ≤ 64) × (p port ≡ true)
+pub find_port : (p : ℕ → Bool) → some_port p ≡ true → (port : ℕ) × (0 < port) × (port ≤ 64) × (p port ≡ true)
 unfolding some_port below
 find_port p some =
     let found = find_from (λ k. p (k + 1)) 0 64 some in
@@ -84,9 +84,9 @@ find_port p some =
 pub has_pair-exact : HasPairExactly
 has_pair-exact t ecid = (find_port (t.pair ecid), λ found. some_port-true (t.pair ecid) found.0 found.1 found.2 found.3)
 
-mask_empty : (port : ℕ) → in_mask 0 port ≡ false
+pub mask_empty : (port : ℕ) → in_mask 0 port ≡ false
 unfolding in_mask
-mask_empty port = rw bit_at-zero (and_right (nat_lt 0 port) false refl)
+mask_empty port = rw bit_at-zero (and_right (nat_lt 0 port && nat_le port 64) false refl)
 
 pub some_bit : SomeBitExactly
 unfolding in_mask
@@ -97,8 +97,9 @@ some_bit mask small =
           let lowest = bit_at-trailing_zeros w64 mask (omega arith) small in
           let back : trailing_zeros w64 mask + 1 - 1 ≡ trailing_zeros w64 mask = omega arith in
           let low : nat_lt 0 (trailing_zeros w64 mask + 1) ≡ true = lt-ltb 0 (trailing_zeros w64 mask + 1) (omega arith) in
+          let high : nat_le (trailing_zeros w64 mask + 1) 64 ≡ true = le-leb (trailing_zeros w64 mask + 1) 64 (omega (arith, lowest.0)) in
           let bit : (bit_at mask (trailing_zeros w64 mask + 1 - 1) == 1) ≡ true = rw back (eq-eqb _ _ lowest.1) in
-          let set : in_mask mask (trailing_zeros w64 mask + 1) ≡ true = and_from _ _ low bit in
+          let set : in_mask mask (trailing_zeros w64 mask + 1) ≡ true = and_from _ _ (and_from _ _ low high) bit in
           let there : some_port (in_mask mask) ≡ true = some_port-true (in_mask mask) (trailing_zeros w64 mask + 1) (omega arith) (omega (arith, lowest.0)) set in
           let not_none : (mask == 0) ≡ false = ne_eqb _ _ some in
           there ∙ rw not_none refl
@@ -116,23 +117,23 @@ code_parts true false false e = (refl, refl, refl)
 code_parts false stray there e = absurd cc
 
 -- what a row has that is registered with code 0
-record IsFree (t : ExtenderTables) (seen : List ℕ) (ecid mask : ℕ) : Type 0 where
-  known : is_ecid ecid ≡ true
-  placed : has_stray t mask ≡ false
-  alone : has_pair t ecid ≡ false
-  first : list_any (λ other. other == ecid) seen ≡ false
+pub record IsFree (t : ExtenderTables) (seen : List GroupRow) (ecid mask : ℕ) : Type 0 where
+  pub known : is_ecid ecid ≡ true
+  pub placed : has_stray t mask ≡ false
+  pub alone : has_pair t ecid ≡ false
+  pub first : is_named seen ecid ≡ false
 
-free_from : (t : ExtenderTables) (seen : List ℕ) (ecid mask : ℕ) → row_code t seen ecid mask ≡ 0 → IsFree t seen ecid mask
+pub free_from : (t : ExtenderTables) (seen : List GroupRow) (ecid mask : ℕ) → row_code t seen ecid mask ≡ 0 → IsFree t seen ecid mask
 free_from t seen ecid mask e =
-    let parts = code_parts (is_ecid ecid) (has_stray t mask) (has_pair t ecid || list_any (λ other. other == ecid) seen) e in
-    let both = or_parts (has_pair t ecid) (list_any (λ other. other == ecid) seen) parts.2 in
+    let parts = code_parts (is_ecid ecid) (has_stray t mask) (has_pair t ecid || is_named seen ecid) e in
+    let both = or_parts (has_pair t ecid) (is_named seen ecid) parts.2 in
     record { known = parts.0; placed = parts.1; alone = both.0; first = both.1 }
 
-code_free : (t : ExtenderTables) (seen : List ℕ) (ecid mask : ℕ) → IsFree t seen ecid mask → row_code t seen ecid mask ≡ 0
+code_free : (t : ExtenderTables) (seen : List GroupRow) (ecid mask : ℕ) → IsFree t seen ecid mask → row_code t seen ecid mask ≡ 0
 code_free t seen ecid mask h = rw (h.known, h.placed, h.alone, h.first) refl
 
 -- a list's code is 0 where its first one's is, and then the others'
-head_done : (code rest : ℕ) → cond (code == 0) rest code ≡ 0 → (code ≡ 0) × (rest ≡ 0)
+pub head_done : (code rest : ℕ) → cond (code == 0) rest code ≡ 0 → (code ≡ 0) × (rest ≡ 0)
 head_done code rest e =
     elim (cases_eq code 0) [
       | inl good ↦ let t : (code == 0) ≡ true = eq-eqb _ _ good in (good, rw t at e)
@@ -176,25 +177,33 @@ unregister_clears t ecid good =
 
 -- ---- rows one after another
 
+-- an E-CID that isn't named by rows and one more
+unnamed : (rows : List GroupRow) (row : GroupRow) (e : ℕ) → is_named (rows ++ row ∷ []) e ≡ false → (is_named rows e ≡ false) × ((row.ecid == e) ≡ false)
+unnamed [] row e h = (refl, (or_parts (row.ecid == e) false h).0)
+unnamed (first ∷ rows) row e h =
+    let two = or_parts (first.ecid == e) (is_named (rows ++ row ∷ []) e) h in
+    let later = unnamed rows row e two.1 in
+    (or_from (first.ecid == e) (is_named rows e) two.0 later.0, later.1)
+
 -- tables that differ from t at most in the pairs of the E-CIDs seen register the rows in turn
-rows_run : (t : ExtenderTables) (rows : List GroupRow) (seen : List ℕ) (p : ℕ → ℕ → Bool)
-    → ((e port : ℕ) → list_any (λ other. other == e) seen ≡ false → p e port ≡ t.pair e port) → rows_code t seen rows ≡ 0
+rows_run : (t : ExtenderTables) (rows : List GroupRow) (seen : List GroupRow) (p : ℕ → ℕ → Bool)
+    → ((e port : ℕ) → is_named seen e ≡ false → p e port ≡ t.pair e port) → rows_code t seen rows ≡ 0
     → Runs (record t { pair = p }) (row_by_row rows) (record t { pair = λ e q. p e q || in_rows rows e q })
 unfolding rows_code code_of done
 rows_run t [] seen p fresh good = same_pairs t p (λ e q. p e q || false) (λ e q. sym (or_false (p e q)))
 rows_run t (row ∷ rows) seen p fresh good =
-    let parts = head_done (row_code t seen row.ecid row.mask) (rows_code t (row.ecid ∷ seen) rows) good in
+    let parts = head_done (row_code t seen row.ecid row.mask) (rows_code t (seen ++ row ∷ []) rows) good in
     let free = free_from t seen row.ecid row.mask parts.0 in
     let now : ExtenderTables = record t { pair = p } in
     let alone : has_pair now row.ecid ≡ false = some_port-false (p row.ecid) (λ port low high. fresh row.ecid port free.first ∙ no_port (t.pair row.ecid) port low high free.alone) in
     let code : code_of now (Register row.ecid row.mask) ≡ 0 = code_free now [] row.ecid row.mask (record { known = free.known; placed = free.placed; alone = alone; first = refl }) in
     let next : ℕ → ℕ → Bool = λ e q. p e q || ((row.ecid == e) && in_mask row.mask q) in
     let later : Runs (record t { pair = next }) (row_by_row rows) (record t { pair = λ e q. next e q || in_rows rows e q }) =
-    rows_run t rows (row.ecid ∷ seen) next
+    rows_run t rows (seen ++ row ∷ []) next
     (λ e port unseen.
-    let two = or_parts (row.ecid == e) (list_any (λ other. other == e) seen) unseen in
-    let other : (row.ecid == e) ≡ false = two.0 in
-    rw other (or_false (p e port) ∙ fresh e port two.1))
+    let two = unnamed seen row e unseen in
+    let other : (row.ecid == e) ≡ false = two.1 in
+    rw other (or_false (p e port) ∙ fresh e port two.0))
     parts.1 in
     let end : record t { pair = λ e q. next e q || in_rows rows e q } ≡ record t { pair = λ e q. p e q || in_rows (row ∷ rows) e q } =
     same_pairs t _ _ (λ e q. or_assoc (p e q) ((row.ecid == e) && in_mask row.mask q) (in_rows rows e q)) in

@@ -3,3 +3,4 @@ pub mod Lengths
 pub mod Again
 pub mod Executing
 pub mod Spelled
+pub mod PlainLemmas

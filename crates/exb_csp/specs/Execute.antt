@@ -1,5 +1,5 @@
 -- What an extender does that executes a request. Ports are counted from 1.
-use Rattle.std.specs.Prelude.{ℕ, ◌+◌, ◌-◌, ◌==◌, ◌&&◌, ◌||◌, not, Bool, nat_lt, nat_le, if◌then◌else◌, List, [], ◌∷◌}
+use Rattle.std.specs.Prelude.{ℕ, ◌+◌, ◌-◌, ◌==◌, ◌&&◌, ◌||◌, not, Bool, nat_lt, nat_le, if◌then◌else◌, List, [], ◌∷◌, ◌++◌}
 use Rattle.std.specs.List.{list_any}
 use Rattle.std.specs.Int.{bit_at}
 use Rattle.exb_model.specs.Ports.{below}
@@ -17,9 +17,9 @@ pub record ExtenderTables : Type 0 where
   pub cascade : ℕ → Bool
   pub pair : ℕ → ℕ → Bool
 
--- the port's bit in a mask
+-- the bit of a port of 1 to 64 in a mask
 unfoldable pub in_mask : ℕ → ℕ → Bool
-in_mask mask port = nat_lt 0 port && (bit_at mask (port - 1) == 1)
+in_mask mask port = nat_lt 0 port && nat_le port 64 && (bit_at mask (port - 1) == 1)
 
 -- one of the ports 1 to 64 passes
 unfoldable pub some_port : (ℕ → Bool) → Bool
@@ -49,18 +49,22 @@ create_code t port channel =
     (if not (is_channel channel) then 2 else
     (if nat_lt 0 (t.own port) || has_pair t channel then 3 else 0))
 
--- the code of registering a row; an E-CID that was seen counts as one that has a pair
-abbrev pub row_code : ExtenderTables → List ℕ → ℕ → ℕ → ℕ
-row_code t seen ecid mask =
+-- one of the rows is of the E-CID
+abbrev pub is_named : List GroupRow → ℕ → Bool
+is_named rows ecid = list_any (λ row. row.ecid == ecid) rows
+
+-- the code of registering a row; an E-CID of an earlier row counts as one that has a pair
+abbrev pub row_code : ExtenderTables → List GroupRow → ℕ → ℕ → ℕ
+row_code t earlier ecid mask =
     if not (is_ecid ecid) then 2 else
     (if has_stray t mask then 1 else
-    (if has_pair t ecid || list_any (λ other. other == ecid) seen then 3 else 0))
+    (if has_pair t ecid || is_named earlier ecid then 3 else 0))
 
 -- the code of the first row that has another than 0
-unfoldable pub rows_code : ExtenderTables → List ℕ → List GroupRow → ℕ
-rows_code t seen [] = 0
-rows_code t seen (row ∷ rows) =
-    if row_code t seen row.ecid row.mask == 0 then rows_code t (row.ecid ∷ seen) rows else row_code t seen row.ecid row.mask
+unfoldable pub rows_code : ExtenderTables → List GroupRow → List GroupRow → ℕ
+rows_code t earlier [] = 0
+rows_code t earlier (row ∷ rows) =
+    if row_code t earlier row.ecid row.mask == 0 then rows_code t (earlier ++ row ∷ []) rows else row_code t earlier row.ecid row.mask
 
 abbrev pub clear_code : ℕ → ℕ
 clear_code ecid = if is_ecid ecid then 0 else 2
@@ -83,6 +87,10 @@ code_of t (UnregisterMany ecids) = clears_code ecids
 abbrev pub in_rows : List GroupRow → ℕ → ℕ → Bool
 in_rows rows ecid port = list_any (λ row. (row.ecid == ecid) && in_mask row.mask port) rows
 
+-- the E-CID stands in the list
+abbrev pub is_listed : List ℕ → ℕ → Bool
+is_listed ecids e = list_any (λ ecid. ecid == e) ecids
+
 -- the tables once the request is done
 unfoldable pub done : ExtenderTables → Request → ExtenderTables
 done t Open = t
@@ -101,16 +109,16 @@ done t (PortDelete port) =
 done t (Register ecid mask) = record t { pair = λ e q. t.pair e q || ((ecid == e) && in_mask mask q) }
 done t (Unregister ecid) = record t { pair = λ e q. t.pair e q && not (ecid == e) }
 done t (RegisterMany rows) = record t { pair = λ e q. t.pair e q || in_rows rows e q }
-done t (UnregisterMany ecids) = record t { pair = λ e q. t.pair e q && not (list_any (λ ecid. ecid == e) ecids) }
+done t (UnregisterMany ecids) = record t { pair = λ e q. t.pair e q && not (is_listed ecids e) }
 
 -- the port count that is answered
-abbrev pub answered_ports : ExtenderTables → Request → ℕ
-answered_ports t Open = t.ports
-answered_ports t _ = 0
+abbrev pub answered_ports : ℕ → Request → ℕ
+answered_ports ports Open = ports
+answered_ports ports _ = 0
 
 -- what is answered
 unfoldable pub response_to : ExtenderTables → Request → Response
-response_to t asked = record { to = kind_of asked; code = code_of t asked; ports = answered_ports t asked }
+response_to t asked = record { to = kind_of asked; code = code_of t asked; ports = answered_ports t.ports asked }
 
 -- the tables afterwards: with a code other than 0 nothing changes
 unfoldable pub executed : ExtenderTables → Request → ExtenderTables

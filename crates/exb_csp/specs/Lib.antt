@@ -3,3 +3,4 @@ pub mod Reading
 pub mod Spelling
 pub mod Execute
 pub mod Laws
+pub mod Plain

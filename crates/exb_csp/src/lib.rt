@@ -12,6 +12,7 @@ mod form;
 mod group_rows;
 pub mod laws;
 mod message;
+pub mod plain;
 mod reading;
 mod writing;
 

@@ -2,7 +2,11 @@ ghost use Rattle.std.specs.Prelude.{◌≤◌};
 
 use super::*;
 use exb_model::buffers::ControlBuf;
+use exb_model::memory::NoMemory;
+use plain::PlainTables;
+use std::alloc::Global;
 use std::process::Abort;
+use std::test::Fail;
 
 const OPEN: [u8; 11] = [0x01, 0, 0, 0, 0, 0, 0, 0, 1, 0, 0];
 
@@ -167,4 +171,77 @@ fn faults_in_their_order(rt: HostRuntime) {
     assert_eq!(rt; fault(&[0x85, 0, 0, 0, 0, 0, 0, 0, 1, 0, 1, 4]), range);
     assert_eq!(rt; fault(&[0x81, 0, 0, 0, 0, 0, 0, 0, 1, 0, 2, 0, 0]), range);
     assert_eq!(rt; fault(&[0x81, 0, 0, 0, 0, 0, 0, 0, 1, 0, 2, 0, 65]), range);
+}
+
+// Two rows of port 1 for the E-CID 0x1000.
+fn twice() -> Request {
+    let row = GroupRow {
+        ecid: 0x1000,
+        mask: 1,
+    };
+    let mut rows = GroupRows::new();
+    rows.push(row);
+    rows.push(row);
+    Request::RegisterMany { rows }
+}
+
+// An extender of 2 ports that has port 1 with channel 1.
+fn extender(alloc: Global) -> Result<PlainTables, NoMemory> {
+    let mut tables = PlainTables::new(alloc, 2)?;
+    let _ = tables.execute(&Request::PortCreate {
+        port: 1,
+        cascade: false,
+        channel: 1,
+    });
+    Ok(tables)
+}
+
+#[test]
+fn an_ecid_twice_in_a_message_is_refused_whole(rt: HostRuntime) -> Result<(), Fail> {
+    let mut tables = extender(rt.alloc())?;
+    assert!(rt; tables.has_pair(1, 1));
+    let refused = tables.execute(&twice());
+    assert_eq!(rt; refused.code, 3);
+    assert_eq!(rt; refused.to, RequestKind::RegisterMany);
+    assert!(rt; !tables.has_pair(0x1000, 1));
+    Ok(())
+}
+
+// The code of a request.
+fn code(tables: &mut PlainTables, request: &Request) -> u8 {
+    tables.execute(request).code
+}
+
+#[test]
+fn codes_in_their_order(rt: HostRuntime) -> Result<(), Fail> {
+    let mut tables = extender(rt.alloc())?;
+    let opened = tables.execute(&Request::Open);
+    assert_eq!(rt; opened.code, 0);
+    assert_eq!(rt; opened.ports, 2);
+    let create = |port: u8, channel: u16| Request::PortCreate {
+        port,
+        cascade: true,
+        channel,
+    };
+    assert_eq!(rt; code(&mut tables, &create(0, 0)), 1);
+    assert_eq!(rt; code(&mut tables, &create(3, 1)), 1);
+    assert_eq!(rt; code(&mut tables, &create(2, 4095)), 2);
+    assert_eq!(rt; code(&mut tables, &create(1, 2)), 3);
+    assert_eq!(rt; code(&mut tables, &create(2, 1)), 3);
+    assert_eq!(rt; code(&mut tables, &create(2, 2)), 0);
+    let register = |ecid: u16, mask: u64| Request::Register { ecid, mask };
+    assert_eq!(rt; code(&mut tables, &register(0x4000, 4)), 2);
+    assert_eq!(rt; code(&mut tables, &register(0xFFF, 4)), 2);
+    assert_eq!(rt; code(&mut tables, &register(1, 4)), 1);
+    assert_eq!(rt; code(&mut tables, &register(1, 3)), 3);
+    assert_eq!(rt; code(&mut tables, &register(0x1000, 3)), 0);
+    assert!(rt; tables.has_pair(0x1000, 2));
+    assert_eq!(rt; code(&mut tables, &Request::Unregister { ecid: 0 }), 2);
+    assert_eq!(rt; code(&mut tables, &Request::Unregister { ecid: 0x1000 }), 0);
+    assert!(rt; !tables.has_pair(0x1000, 2));
+    assert_eq!(rt; code(&mut tables, &Request::PortDelete { port: 3 }), 1);
+    assert_eq!(rt; code(&mut tables, &Request::PortDelete { port: 1 }), 0);
+    assert!(rt; !tables.has_pair(1, 1));
+    assert_eq!(rt; code(&mut tables, &register(0x1000, 1)), 1);
+    Ok(())
 }
