@@ -6,10 +6,12 @@ ghost use Rattle.exb_csp.specs.declared.group_rows.GroupRow.{GroupRow};
 use arrayvec::ArrayVec;
 use std::marker::Model;
 
-/// The ports of an extender that get the frames of one E-CID: bit k - 1 of the mask is port k.
+/// The ports of an extender that get the frames of one E-CID.
 #[derive(Clone, Copy, Debug, Default, PartialEq, Eq)]
 pub struct GroupRow {
+    /// The E-CID. An extender takes 1 to 4094, which name one port's E-channel, and 0x1000 to 0x3FFF.
     pub ecid: u16,
+    /// Bit k - 1 is port k.
     pub mask: u64,
 }
 

@@ -1,9 +1,9 @@
-//! The messages of the extender control protocol: what the controlling bridge asks of an extender,
-//! what the extender answers, and their bytes.
+//! The messages of the control protocol between the controlling bridge and its extenders: what the
+//! bridge asks, what an extender answers, and the bytes of both.
 //!
-//! `read` and `write` are exact in both directions, and what executing a request means for the
-//! tables of an extender is defined here for everyone above. The crate stands on `exb_model` and
-//! `arrayvec`, and no call of it takes memory.
+//! `read` and `write` are exact in both directions. What executing a request does to an extender's
+//! tables is defined here for everyone above, with its laws in `laws` and a plain program of it in
+//! `plain`, whose constructor alone takes memory. The crate stands on `exb_model` and `arrayvec`.
 #![tactic(auto)]
 
 mod ecids;

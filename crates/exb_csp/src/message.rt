@@ -6,8 +6,8 @@ ghost use Rattle.exb_csp.specs.Kinds.{kind_of};
 use crate::ecids::Ecids;
 use crate::group_rows::GroupRows;
 
-/// What the controlling bridge asks of an extender. Ports are counted from 1, an E-CID has 14 bits,
-/// and bit k - 1 of a mask is port k. A request may hold any values: the extender decides on them.
+/// What the controlling bridge asks of an extender. Ports are counted from 1, and bit k - 1 of a mask
+/// is port k. A request may hold any numbers: the extender decides on them, and answers a code.
 #[derive(Debug, Drop)]
 pub enum Request {
     /// Begins the session: announcements stop.
@@ -58,7 +58,8 @@ pub enum RequestKind {
 pub struct Response {
     /// The kind of the request that is answered.
     pub to: RequestKind,
-    /// 0 is done; 1 a port that isn't there, 2 a number out of range, 3 a channel or pair that is there.
+    /// 0: done. 1: a port isn't there, or has no channel. 2: a channel or E-CID is out of its range. 3: the
+    /// port has a channel already, or the E-CID a pair.
     pub code: u8,
     /// The port count in the answer to Open, else 0.
     pub ports: u8,
@@ -67,13 +68,16 @@ pub struct Response {
 /// What a message carries.
 #[derive(Debug, Drop)]
 pub enum Body {
+    /// What the bridge asks.
     Ask(Request),
+    /// What the extender answers.
     Answer(Response),
 }
 
-/// A message of the control protocol. The answer to a request has the request's serial.
+/// A message of the control protocol.
 #[derive(Debug, Drop)]
 pub struct Message {
+    /// Serials count a session's requests from 1; an answer has its request's.
     pub serial: u64,
     pub body: Body,
 }

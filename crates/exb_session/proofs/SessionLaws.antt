@@ -2,12 +2,12 @@
 use Rattle.std.proofs.Common.{◌≡◌, ℕ, suc, ◌+◌, ◌≤◌, ◌==◌, ◌||◌, not, Bool, true, false, cond, nat_lt, is_none, List, [], ◌∷◌, ◌++◌, length, Option, Some, None, slice_get, refl, ap, sym, ◌∙◌, subst, append-nil, length-append, arith}
 use Rattle.std.specs.List.{AllByRecursion}
 use Rattle.std.specs.Option.{option_map, option_to_list}
-use Rattle.std.proofs.lemmas.Bool.{eqb-true, ltb-false, and_right, or_parts, lt-ltb, ne_eqb}
+use Rattle.std.proofs.lemmas.Bool.{eq-eqb, eqb-true, ltb-false, and_right, or_parts, lt-ltb, ne_eqb}
 use Rattle.exb_csp.specs.declared.message.Request.{Request}
 use Rattle.exb_csp.specs.declared.message.Response.{Response}
 use Rattle.exb_csp.specs.declared.message.Body.TheVariants as body
 use Rattle.exb_csp.specs.declared.message.Message.{Message}
-use Rattle.exb_csp.specs.Kinds.{kind_of}
+use Rattle.exb_csp.specs.Kinds.{kind_of, number_of}
 use Rattle.exb_session.specs.declared.asker.Taken.{Taken}
 use Rattle.exb_session.specs.declared.asker.Taken.TheVariants as taken
 use Rattle.exb_session.specs.declared.answerer.Due.{Due}
@@ -15,7 +15,7 @@ use Rattle.exb_session.specs.declared.answerer.Due.TheVariants.{Execute, Again, 
 use Rattle.exb_session.specs.Kinds.{same_kind}
 use Rattle.exb_session.specs.Asking.{AskerState, message_again, took_body}
 use Rattle.exb_session.specs.Answering.{AnswererState, is_owing, arrived, stored_message}
-use Rattle.exb_session.specs.Sessions.{Event, Asks, AsksAgain, RequestComes, Stores, SendsAnswer, AnswerComes, Session, opened, executed_by, answered_by, asking, arriving, storing, taking, arriving_body, arriving_message, taking_message, stepped, run, IsFront, EachRequestOnce}
+use Rattle.exb_session.specs.Sessions.{Event, Asks, AsksAgain, RequestComes, Stores, SendsAnswer, AnswerComes, Session, opened, executed_by, answered_by, asking, arriving, storing, taking, arriving_body, arriving_message, taking_message, stepped, run, IsFront, EachRequestOnce, RequestsAreAnswered}
 use Rattle.exb_session.proofs.Fronts.{each_weaker, each_push, each_append, each_at, get_front, get_last, front_more, front_next}
 
 -- a message is the request that was asked under its serial
@@ -326,3 +326,8 @@ holds_after (event ∷ more) s h = holds_after more (stepped event s) (keeps eve
 
 pub each_once : EachRequestOnce
 each_once events = let h = holds_after events opened holds_opened in (h.executed_front, h.answered_front)
+
+pub are_answered : RequestsAreAnswered
+are_answered request response is =
+    let same : same_kind response.to (kind_of request) ≡ true = eq-eqb (number_of response.to) (number_of (kind_of request)) (ap number_of is) in
+    (refl, rw same refl)

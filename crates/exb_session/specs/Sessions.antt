@@ -6,6 +6,7 @@ use Rattle.exb_csp.specs.declared.message.Response.{Response}
 use Rattle.exb_csp.specs.declared.message.Body.{Body}
 use Rattle.exb_csp.specs.declared.message.Body.TheVariants as body
 use Rattle.exb_csp.specs.declared.message.Message.{Message}
+use Rattle.exb_csp.specs.Kinds.{kind_of}
 use Rattle.exb_session.specs.declared.asker.Taken.{Taken}
 use Rattle.exb_session.specs.declared.asker.Taken.TheVariants as taken
 use Rattle.exb_session.specs.declared.answerer.Due.{Due}
@@ -100,3 +101,10 @@ IsFront {A} front all = (rest : List A) × (all ≡ front ++ rest)
 -- front of what was stored.
 abbrev pub EachRequestOnce : Type 0
 EachRequestOnce = (events : List Event) → IsFront (run events opened).executed (run events opened).asks × IsFront (run events opened).answered (run events opened).responses
+
+-- A request that comes is executed, and the response that is stored is taken as its answer.
+abbrev pub RequestsAreAnswered : Type 0
+RequestsAreAnswered =
+    (request : Request) (response : Response) → response.to ≡ kind_of request →
+    let s = run (Asks request ∷ RequestComes 0 ∷ Stores response ∷ SendsAnswer ∷ AnswerComes 0 ∷ []) opened in
+    (s.executed ≡ request ∷ []) × (s.answered ≡ response ∷ [])
