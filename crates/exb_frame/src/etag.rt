@@ -78,6 +78,7 @@ pub fn tag_into(frame: &[u8], tag: &ETag, out: &mut FrameBuf) -> Result<(), Full
     requires fits { TagFits (tag_of tag.now) }
     ensures full { IsErr result ↔ (9232 < length frame.now + 8) }
     ensures ok { OnOk result (out.new.items ≡ tagged frame.now (tag_of tag.now)) }
+    ensures fitting { length frame.now ≤ 9224 → out.new.items ≡ tagged frame.now (tag_of tag.now) }
     ensures err { OnErr result (out.new.items ≡ []) }
 {
     out.clear();
@@ -96,6 +97,7 @@ pub fn strip_into(frame: &[u8], out: &mut FrameBuf) -> Result<(), Full>
     requires { 20 ≤ length frame.now }
     ensures full { IsErr result ↔ (9232 + 8 < length frame.now) }
     ensures ok { OnOk result (out.new.items ≡ stripped frame.now) }
+    ensures fitting { length frame.now ≤ 9240 → out.new.items ≡ stripped frame.now }
     ensures err { OnErr result (out.new.items ≡ []) }
 {
     out.clear();

@@ -70,7 +70,7 @@ unfolding below
 same_filter_below p r n k h same =
     sym (has-filter_range p 0 n k (omega arith) (omega arith)) ∙ ap (list_any (λ x. x == k)) same ∙ has-filter_range r 0 n k (omega arith) (omega arith)
 
-range-more : (a n : ℕ) → range_with_len a (suc n) ≡ range_with_len a n ++ (a + n) ∷ []
+pub range-more : (a n : ℕ) → range_with_len a (suc n) ≡ range_with_len a n ++ (a + n) ∷ []
 range-more a zero = ap (λ k. k ∷ []) (sym (add-zero a))
 range-more a (suc n) = ap (λ xs. a ∷ xs) (range-more (a + 1) n ∙ ap (λ (k : ℕ). range_with_len (a + 1) n ++ k ∷ []) (omega arith))
 

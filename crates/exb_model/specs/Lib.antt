@@ -3,3 +3,16 @@ pub mod PortBits
 pub mod Ports
 pub mod Frames
 pub mod ETags
+pub mod Tree
+pub mod Configuration
+pub mod Setup
+pub mod History
+pub mod Learning
+pub mod Targets
+pub mod FlatBridge
+pub mod Refusals
+pub mod Input
+pub mod EagerHistory
+pub mod LegalHistory
+pub mod Texts
+pub mod ExtenderForwarding

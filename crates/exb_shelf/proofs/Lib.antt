@@ -1,0 +1,4 @@
+pub mod EntryLemmas
+pub mod FileLemmas
+pub mod PieceLemmas
+pub mod MemoryLemmas

@@ -1,0 +1,5 @@
+pub mod Files
+pub mod Shelf
+pub mod Entries
+pub mod Memory
+pub mod System

@@ -1,0 +1,52 @@
+-- What a shelf's ids stand for, and how its faults are counted.
+use Rattle.std.specs.Prelude.{◌≡◌, ◌<◌, ◌≤◌, ◌+◌, ◌^◌, [], ℕ, Bool, true, false, List}
+
+-- what an id stands for: whether it was given, whether it was given by `open` rather than `create`,
+-- the name of its file, and where reading stands
+pub record Id : Type 0 where
+  pub given : Bool
+  pub reads : Bool
+  pub name : List ℕ
+  pub place : ℕ
+
+-- an id that wasn't given
+abbrev pub no_id : Id
+no_id = record { given = false; reads = false; name = []; place = 0 }
+
+-- an id to read the file of this name from this place on
+abbrev pub reading : List ℕ → ℕ → Id
+reading name place = record { given = true; reads = true; name = name; place = place }
+
+-- an id to write to the file of this name
+abbrev pub writing : List ℕ → Id
+writing name = record { given = true; reads = false; name = name; place = 0 }
+
+-- the same id, n bytes further on
+abbrev pub moved : Id → ℕ → Id
+moved i n = record i { place = i.place + n }
+
+-- the id was given by `open`
+pub record IsReading (i : Id) : Type 0 where
+  pub given : i.given ≡ true
+  pub reads : i.reads ≡ true
+
+-- the id was given by `create`
+pub record IsWriting (i : Id) : Type 0 where
+  pub given : i.given ≡ true
+  pub writes : i.reads ≡ false
+
+-- how often a shelf has answered that a file is missing, has failed to read, and has failed to write
+pub record Faults : Type 0 where
+  pub missing : ℕ
+  pub reads : ℕ
+  pub writes : ℕ
+
+-- the count rose; one that stands at its last value counts as risen
+abbrev pub Rose : ℕ → ℕ → Type 0
+Rose old new = old + 1 < 2 ^ 64 → old < new
+
+-- no count has fallen
+pub record NoFewer (old new : Faults) : Type 0 where
+  pub missing : old.missing ≤ new.missing
+  pub reads : old.reads ≤ new.reads
+  pub writes : old.writes ≤ new.writes

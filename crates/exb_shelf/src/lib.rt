@@ -1,0 +1,19 @@
+//! Files and text as a program sees them: the traits [`Shelf`] and [`Sink`], through which all input
+//! and output goes, with what each call does to the files and to the text. Upwards it promises each
+//! answer with its cause, over memory, where the contents are told, and over the system, where they
+//! are not; and whole files and texts, read and written in pieces. It stands on `exb_model` and `std`.
+#![tactic(auto)]
+
+mod entries;
+mod files;
+mod memory;
+pub mod pieces;
+mod shelf;
+
+pub use files::{FileShelf, OutSink};
+pub use memory::{MemShelf, MemSink};
+pub use pieces::{PIECE, ReadFault, print_text, read_file, write_text};
+pub use shelf::{OpenFault, Shelf, ShelfFault, Sink};
+
+#[cfg(test)]
+mod tests;
