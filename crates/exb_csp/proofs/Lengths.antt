@@ -12,3 +12,6 @@ length_rows (row ∷ rows) = omega (arith, ap length (flat_map-cons row_bytes ro
 pub length_ecids : (ecids : List ℕ) → length (flat_map ecid_bytes ecids) ≡ 2 * length ecids
 length_ecids [] = refl
 length_ecids (ecid ∷ ecids) = omega (arith, ap length (flat_map-cons ecid_bytes ecid ecids), length-append (ecid_bytes ecid) (flat_map ecid_bytes ecids), length_ecids ecids)
+
+-- both
+pub ruleset lengths = (length_rows, length_ecids)

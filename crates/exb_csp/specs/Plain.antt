@@ -2,7 +2,8 @@
 use Rattle.std.specs.Prelude.{◌≡◌, ℕ, ◌-◌, ◌≤◌, ◌<◌, ◌==◌, ◌&&◌, ◌||◌, nat_lt, nat_le, not, if◌then◌else◌, Bool, false, List, length, slice_index, slice_index_or, slice_set}
 use Rattle.std.specs.Int.{bit_at}
 use Rattle.exb_csp.specs.declared.message.Request.{Request}
-use Rattle.exb_csp.specs.Execute.{ExtenderTables, in_mask, code_of, executed}
+use Rattle.exb_csp.specs.declared.group_rows.GroupRow.{GroupRow}
+use Rattle.exb_csp.specs.Execute.{ExtenderTables, in_mask, in_rows, is_listed, code_of, executed}
 
 -- what a list has for a port, counted from 1
 abbrev pub at_port : {A : Type 0} → List A → A → ℕ → A
@@ -41,6 +42,18 @@ is_shut own k = nat_le (length own) k || (slice_index own k == 0)
 -- the mask has such a port's bit
 abbrev pub stray_at : List ℕ → ℕ → ℕ → Bool
 stray_at own mask k = (bit_at mask k == 1) && is_shut own k
+
+-- the new words have the pairs of the old ones and of the rows
+abbrev pub AddsRows : List ℕ → List ℕ → List GroupRow → Type 0
+AddsRows old new rows = (ecid port : ℕ) → in_mask (slice_index new ecid) port ≡ (in_mask (slice_index old ecid) port || in_rows rows ecid port)
+
+-- the new words have the pairs of the old ones but for those of the E-CIDs
+abbrev pub ClearsRows : List ℕ → List ℕ → List ℕ → Type 0
+ClearsRows old new ecids = (ecid port : ℕ) → in_mask (slice_index new ecid) port ≡ (in_mask (slice_index old ecid) port && not (is_listed ecids ecid))
+
+-- the new words have the pairs of the old ones but for this one
+abbrev pub ClearsPair : List ℕ → List ℕ → ℕ → ℕ → Type 0
+ClearsPair old new ecid port = (e q : ℕ) → in_mask (slice_index new e) q ≡ (in_mask (slice_index old e) q && not ((e == ecid) && (q == port)))
 
 -- the lists after a port got its channel and kind
 pub record Created (own : List ℕ) (cascade : List Bool) (words : List ℕ) (port : ℕ) (kind : Bool) (channel : ℕ) (own' : List ℕ) (cascade' : List Bool) (words' : List ℕ) : Type 0 where

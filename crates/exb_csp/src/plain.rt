@@ -5,7 +5,7 @@ ghost use Rattle.std.specs.Prelude.{◌≡◌, ◌≢◌, ℕ, ◌+◌, ◌-◌,
 ghost use Rattle.std.specs.List.{list_all};
 ghost use Rattle.std.specs.Int.{bit_at};
 ghost use Rattle.exb_csp.specs.Execute.{is_channel, is_ecid, in_mask, some_port, has_stray, is_named, in_rows, is_listed, create_code, row_code, rows_code, clears_code, code_of, answered_ports, executed, response_to};
-ghost use Rattle.exb_csp.specs.Plain.{IsPlain, tables_in, tables_of, powered_on, is_shut, Created, Deleted, IsChange};
+ghost use Rattle.exb_csp.specs.Plain.{IsPlain, AddsRows, ClearsRows, ClearsPair, tables_in, tables_of, powered_on, is_shut, Created, Deleted, IsChange};
 
 use crate::group_rows::GroupRow;
 use crate::message::{Request, Response};
@@ -104,7 +104,8 @@ fn is_named(rows: &[GroupRow], ecid: u16) -> bool
 // Whether the E-CID has a pair, or an earlier row is of it.
 fn is_taken(words: &[u64], earlier: &[GroupRow], ecid: u16) -> bool
     requires { ecid < length words.now }
-    ensures { result ≡ (some_port (in_mask (slice_index words.now ecid)) || is_named earlier.now ecid) }
+    ensures { result
+        ≡ (some_port (in_mask (slice_index words.now ecid)) || is_named earlier.now ecid) }
 {
     has_pair(words, ecid) || is_named(earlier, ecid)
 }
@@ -142,7 +143,7 @@ fn rows_code(own: &[u16], words: &[u64], rows: &[GroupRow]) -> u8
 // Adds the pairs of the rows.
 fn set_rows(words: &mut [u64], rows: &[GroupRow])
     requires { All (λ row. row.ecid < length words.old) rows.now }
-    ensures { (ecid port : ℕ) → in_mask (slice_index words.new ecid) port ≡ (in_mask (slice_index words.old ecid) port || in_rows rows.now ecid port) }
+    ensures { AddsRows words.old words.new rows.now }
 {
     'rows: for row in rows {
         words[row.ecid as usize] |= row.mask;
@@ -153,7 +154,7 @@ fn set_rows(words: &mut [u64], rows: &[GroupRow])
 fn register_many(own: &[u16], words: &mut [u64], rows: &[GroupRow]) -> u8
     requires { length words.old ≡ 0x4000 }
     ensures code { result ≡ rows_code (tables_in own.now [] words.old) [] rows.now }
-    ensures done { result ≡ 0 → (ecid port : ℕ) → in_mask (slice_index words.new ecid) port ≡ (in_mask (slice_index words.old ecid) port || in_rows rows.now ecid port) }
+    ensures done { result ≡ 0 → AddsRows words.old words.new rows.now }
     ensures refused { result ≢ 0 → words.new ≡ words.old }
 {
     let code = rows_code(own, words, rows);
@@ -174,7 +175,7 @@ fn all_known(ecids: &[u16]) -> bool
 // Removes all pairs of the E-CIDs.
 fn clear_rows(words: &mut [u64], ecids: &[u16])
     requires { All (λ ecid. ecid < length words.old) ecids.now }
-    ensures { (ecid port : ℕ) → in_mask (slice_index words.new ecid) port ≡ (in_mask (slice_index words.old ecid) port && not (is_listed ecids.now ecid)) }
+    ensures { ClearsRows words.old words.new ecids.now }
 {
     'ecids: for ecid in ecids {
         words[*ecid as usize] = 0;
@@ -185,7 +186,7 @@ fn clear_rows(words: &mut [u64], ecids: &[u16])
 fn unregister_many(words: &mut [u64], ecids: &[u16]) -> u8
     requires { length words.old ≡ 0x4000 }
     ensures code { result ≡ clears_code ecids.now }
-    ensures done { result ≡ 0 → (ecid port : ℕ) → in_mask (slice_index words.new ecid) port ≡ (in_mask (slice_index words.old ecid) port && not (is_listed ecids.now ecid)) }
+    ensures done { result ≡ 0 → ClearsRows words.old words.new ecids.now }
     ensures refused { result ≢ 0 → words.new ≡ words.old }
 {
     if !all_known(ecids) {
@@ -206,8 +207,10 @@ fn create(
 ) -> u8
     requires { IsPlain own.old cascade.old words.old }
     ensures code { result ≡ create_code (tables_in own.old cascade.old words.old) port channel }
-    ensures done { result ≡ 0 → Created own.old cascade.old words.old port kind channel own.new cascade.new words.new }
-    ensures refused { result ≢ 0 → (own.new ≡ own.old) × (cascade.new ≡ cascade.old) × (words.new ≡ words.old) }
+    ensures done { result ≡ 0
+        → Created own.old cascade.old words.old port kind channel own.new cascade.new words.new }
+    ensures refused { result ≢ 0
+        → (own.new ≡ own.old) × (cascade.new ≡ cascade.old) × (words.new ≡ words.old) }
 {
     if !is_port(own.len(), port) {
         return 1;
@@ -236,7 +239,7 @@ fn create(
 fn clear_pair(words: &mut [u64], ecid: u16, at: usize)
     requires known { ecid < length words.old }
     requires few { at < 64 }
-    ensures { (other port : ℕ) → in_mask (slice_index words.new other) port ≡ (in_mask (slice_index words.old other) port && not ((other == ecid) && (port == at + 1))) }
+    ensures { ClearsPair words.old words.new ecid (at + 1) }
 {
     words[ecid as usize] &= !(1 << at);
 }

@@ -43,7 +43,7 @@ fn append_ecids(out: &mut ControlBuf, ecids: &Ecids)
 }
 
 // The length of a request's body.
-#[tactic(auto, unfolding(crate::specs::Spelling::request_bytes), using(crate::proofs::Lengths::length_rows, crate::proofs::Lengths::length_ecids))]
+#[tactic(auto, unfolding(crate::specs::Spelling::request_bytes), using(crate::proofs::Lengths::lengths))]
 fn request_length(request: &Request) -> u16
     ensures length { result ≡ length (request_bytes request.now) }
     ensures few { result ≤ 640 }
@@ -59,7 +59,7 @@ fn request_length(request: &Request) -> u16
     }
 }
 
-#[tactic(auto, unfolding(crate::specs::Spelling::request_bytes), using(crate::proofs::Lengths::length_rows, crate::proofs::Lengths::length_ecids))]
+#[tactic(auto, unfolding(crate::specs::Spelling::request_bytes), using(crate::proofs::Lengths::lengths))]
 fn append_request(out: &mut ControlBuf, request: &Request)
     requires { array_vec_len out.old + length (request_bytes request.now) ≤ 1100 }
     ensures { out.new.items ≡ out.old.items ++ request_bytes request.now }
