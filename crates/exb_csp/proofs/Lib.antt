@@ -1,0 +1,6 @@
+pub mod Rows
+pub mod Lengths
+pub mod Again
+pub mod Executing
+pub mod Spelled
+pub mod PlainLemmas

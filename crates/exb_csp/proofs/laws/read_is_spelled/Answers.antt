@@ -1,0 +1,5 @@
+use Rattle.exb_csp.proofs.Spelled.{message_read}
+use Rattle.exb_csp.proofs.laws.read_is_spelled.Goals as goal
+
+pub returns : goal.returns
+returns c = message_read

@@ -1,0 +1,5 @@
+use Rattle.exb_csp.proofs.Executing.{unregister_clears}
+use Rattle.exb_csp.proofs.laws.unregister_clears_the_row.Goals as goal
+
+pub returns : goal.returns
+returns c = unregister_clears

@@ -1,0 +1,6 @@
+pub mod Kinds
+pub mod Reading
+pub mod Spelling
+pub mod Execute
+pub mod Laws
+pub mod Plain

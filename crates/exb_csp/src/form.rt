@@ -1,0 +1,73 @@
+//! The types of messages as their numbers.
+
+ghost use Rattle.std.specs.Prelude.{◌≡◌};
+ghost use Rattle.exb_csp.specs.Kinds.{number_of, kind_numbered, type_of, form_of, is_length};
+
+use crate::message::RequestKind;
+
+/// What the type of a message names.
+#[derive(Clone, Copy, Debug, PartialEq, Eq)]
+pub(crate) enum Form {
+    /// A request of this kind.
+    Ask(RequestKind),
+    /// The answer to a request of this kind.
+    Answer(RequestKind),
+}
+
+/// The number of a kind of request, which is the type of its message.
+pub(crate) fn number_of(kind: RequestKind) -> u8
+    ensures { result ≡ number_of kind }
+{
+    match kind {
+        RequestKind::Open => 1,
+        RequestKind::PortCreate => 2,
+        RequestKind::PortDelete => 3,
+        RequestKind::Register => 4,
+        RequestKind::Unregister => 5,
+        RequestKind::RegisterMany => 6,
+        RequestKind::UnregisterMany => 7,
+    }
+}
+
+fn kind_numbered(number: u8) -> Option<RequestKind>
+    ensures { result ≡ kind_numbered number }
+{
+    match number {
+        1 => Some(RequestKind::Open),
+        2 => Some(RequestKind::PortCreate),
+        3 => Some(RequestKind::PortDelete),
+        4 => Some(RequestKind::Register),
+        5 => Some(RequestKind::Unregister),
+        6 => Some(RequestKind::RegisterMany),
+        7 => Some(RequestKind::UnregisterMany),
+        _ => None,
+    }
+}
+
+/// What a type names, if anything.
+pub(crate) fn form_of(number: u8) -> Option<Form>
+    ensures { result ≡ form_of number }
+{
+    if number < 0x80 {
+        kind_numbered(number).map(Form::Ask)
+    } else {
+        kind_numbered(number - 0x80).map(Form::Answer)
+    }
+}
+
+/// Whether a body of that form may have this length.
+pub(crate) fn is_length(form: Form, length: u16) -> bool
+    ensures { result ≡ is_length form length }
+{
+    match form {
+        Form::Ask(RequestKind::Open) => length == 0,
+        Form::Ask(RequestKind::PortCreate) => length == 4,
+        Form::Ask(RequestKind::PortDelete) => length == 1,
+        Form::Ask(RequestKind::Register) => length == 10,
+        Form::Ask(RequestKind::Unregister) => length == 2,
+        Form::Ask(RequestKind::RegisterMany) => 20 <= length && length <= 640 && length % 10 == 0,
+        Form::Ask(RequestKind::UnregisterMany) => 4 <= length && length <= 128 && length % 2 == 0,
+        Form::Answer(RequestKind::Open) => length == 2,
+        Form::Answer(_) => length == 1,
+    }
+}

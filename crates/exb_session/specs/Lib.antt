@@ -1,0 +1,4 @@
+pub mod Kinds
+pub mod Asking
+pub mod Answering
+pub mod Sessions
