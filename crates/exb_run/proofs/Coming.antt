@@ -1,5 +1,5 @@
 -- What comes of captures that can be played.
-use Rattle.std.proofs.Common.{◌≡◌, Vec, Global, add-one, take, sum_by, ℕ, zero, suc, ◌+◌, ◌-◌, ◌*◌, ◌<◌, ◌≤◌, ◌&&◌, Bool, true, false, cond, List, [], ◌∷◌, ◌++◌, length, map, flat_map, All, get_or, max, nat_lt, nat_le, refl, ap, sym, subst, ◌∙◌, arith}
+use Rattle.std.proofs.Common.{◌≡◌, Vec, Global, add-one, take, sum_by, ℕ, zero, suc, ◌+◌, ◌<◌, ◌≤◌, Bool, true, false, cond, List, [], ◌∷◌, ◌++◌, length, map, flat_map, All, get_or, max, nat_lt, refl, ap, sym, subst, ◌∙◌, arith}
 use Rattle.std.specs.Prelude.{Result, Ok, Err, IfOk, OnOk, is_err}
 use Rattle.std.specs.List.{range_with_len}
 use mathlib.Core.List.{map-append}
@@ -9,7 +9,7 @@ use Rattle.std.proofs.lemmas.List.Sums.{sum_by_push}
 use Rattle.std.proofs.Math.Seq.{take-suc}
 use Rattle.std.proofs.lemmas.Bool.Decides.{nat_tests}
 use Rattle.exb_model.specs.declared.setup.Setup.{Setup}
-use Rattle.exb_model.specs.Input.{Input, Record, Arrival, Coming, Captured, Ordered, arrivals_from, by_moment, put_in_order, moment_of}
+use Rattle.exb_model.specs.Input.{Input, Record, Arrival, Coming, Captured, Ordered, arrivals_from, by_moment, put_in_order}
 use Rattle.exb_merge.specs.Streams.{Stream, stream_of, stream_at, arrivals_of, to_come}
 use Rattle.exb_pcap.specs.declared.reader.PcapFault.{PcapFault}
 use Rattle.exb_pcap.specs.Captures.{pcap_records}

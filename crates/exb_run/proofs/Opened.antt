@@ -1,5 +1,5 @@
 -- The world after its opening.
-use Rattle.std.proofs.Common.{◌≡◌, ◌*◌, ℕ, ◌+◌, true, List, [], ◌∷◌, ◌++◌, ◌≤◌, ◌<◌, Bool, false, cond, map, nat_lt, length, drop, All, ap, sym, refl, ◌∙◌, arith}
+use Rattle.std.proofs.Common.{◌≡◌, ◌*◌, ℕ, ◌+◌, true, List, [], ◌∷◌, ◌++◌, ◌≤◌, ◌<◌, Bool, false, map, nat_lt, length, drop, All, ap, sym, refl, ◌∙◌, arith}
 use Rattle.std.specs.List.{range_with_len}
 use Rattle.exb_model.specs.declared.setup.Setup.{Setup}
 use Rattle.exb_model.specs.declared.event.Event.{Event}
@@ -18,7 +18,7 @@ use Rattle.exb_world.specs.Setups.{IsFirst, is_port_of}
 use Rattle.exb_world.specs.Opening.{OpeningRaises, ExternalsOfFirst}
 use Rattle.exb_world.specs.Worlds.{Stands, first_number, first_ports, left_at}
 use Rattle.exb_run.specs.Writing.{first_text, lines_of, with_more, with_left_frames}
-use Rattle.exb_run.specs.Playing.{IsUnderWay, IsCounted, opened_of, played, text_after}
+use Rattle.exb_run.specs.Playing.{IsUnderWay, IsCounted, opened_of, text_after}
 use Rattle.exb_run.proofs.Counting.{count_events}
 use Rattle.exb_run.proofs.Texts.{capture_text-nil}
 use Rattle.exb_run.proofs.Turning.{text_grows, counts_grow}
@@ -87,8 +87,8 @@ first_texts i ports j = by_place (nat_lt j ports) refl
     by_place false e = rw e (sym journal-none)
 
 module _ (i : Input) (ports : ℕ) (first : IsFirst i.setup) (few : ports ≤ 64) (number : first_number i.setup.extenders ≡ 1) (has : first_ports i.setup.extenders ≡ ports)
-  (raises : OpeningRaises) (externals : ExternalsOfFirst)
-  (stands : Stands (basis_of i) (opened_of i.setup) [] (opening (tree_of i) (bounds_of i) (basis_of i)) (λ q. [])) where
+    (raises : OpeningRaises) (externals : ExternalsOfFirst)
+    (stands : Stands (basis_of i) (opened_of i.setup) [] (opening (tree_of i) (bounds_of i) (basis_of i)) (λ q. [])) where
   abbrev start : History
   start = opening (tree_of i) (bounds_of i) (basis_of i)
 
@@ -111,14 +111,17 @@ module _ (i : Input) (ports : ℕ) (first : IsFirst i.setup) (few : ports ≤ 64
 
   pub opening_under_way : IsUnderWay i start (record (opened_of i.setup) { events = []; left = [] }) (with_left 0 (count_events nothing_counted events))
   opening_under_way = record {
-    stands = ([], record {
-      ageing = stands.ageing;
-      configuration = stands.configuration;
-      clock = stands.clock;
-      entries = stands.entries;
-      sent = λ q. refl;
-      once = stands.once;
-    });
+    stands = (
+      [],
+      record {
+        ageing = stands.ageing;
+        configuration = stands.configuration;
+        clock = stands.clock;
+        entries = stands.entries;
+        sent = λ q. refl;
+        once = stands.once;
+      },
+    );
     counted =
         ap (λ (c : Counts). with_left 0 (count_events c events)) (sym (counts-none (tree_of i) (basis_of i)))
         ∙ counts_grow i ports [] events [] external few grown (λ k d low. absurd (omega arith))

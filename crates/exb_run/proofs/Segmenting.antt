@@ -4,7 +4,7 @@ use Rattle.std.specs.Prelude.{Option, Some, None}
 use Rattle.exb_model.specs.History.{Basis, History}
 use Rattle.exb_model.specs.Tree.{Shape}
 use Rattle.exb_model.specs.Setup.{Limits}
-use Rattle.exb_model.specs.Input.{Input, Arrival, Segment, Coming, Captured, Eager, alone, merge, second_of, segments, segments_in, segments_since, segment_of, basis_of, tree_of, bounds_of}
+use Rattle.exb_model.specs.Input.{Input, Arrival, Segment, Coming, Captured, alone, merge, second_of, segments, segments_since, basis_of, tree_of, bounds_of}
 use Rattle.exb_model.specs.EagerHistory.{opening, eager_segment, eagerly, eager}
 use Rattle.exb_schedule.specs.Segments.{segment}
 use Rattle.exb_run.specs.Playing.{seconds_after, segments_after}

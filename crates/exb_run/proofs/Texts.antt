@@ -1,11 +1,11 @@
 -- How the texts of a run grow with its history.
-use Rattle.std.proofs.Common.{◌≡◌, ℕ, List, [], ◌∷◌, ◌++◌, flat_map, refl, ap, sym, ◌∙◌, append_assoc}
+use Rattle.std.proofs.Common.{◌≡◌, List, [], ◌∷◌, ◌++◌, flat_map, ap, sym, ◌∙◌, append_assoc}
 use Rattle.std.proofs.lemmas.List.{append-nil}
 use Rattle.std.proofs.lemmas.Grind.{flat_map-append}
 use Rattle.exb_model.specs.declared.event.Event.{Event}
 use Rattle.exb_model.specs.History.{History, ◌then◌}
 use Rattle.exb_model.specs.FlatBridge.{Sent}
-use Rattle.exb_model.specs.Texts.{capture_header, record_text, capture_text, line_of, journal_text}
+use Rattle.exb_model.specs.Texts.{capture_header, record_text, capture_text, journal_text}
 use Rattle.exb_run.specs.Writing.{lines_of}
 
 pub capture_text-append : (xs ys : List Sent) → capture_text (xs ++ ys) ≡ capture_text xs ++ flat_map record_text ys

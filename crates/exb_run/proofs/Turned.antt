@@ -1,10 +1,10 @@
 -- A turn, from what its calls ensure.
-use Rattle.std.proofs.Common.{◌≡◌, ◌≢◌, ℕ, zero, suc, ◌+◌, ◌*◌, ◌^◌, ◌<◌, ◌≤◌, Bool, true, false, List, [], ◌∷◌, ◌++◌, length, drop, All, get_or, refl, ap, sym, subst, ◌∙◌, arith}
-use Rattle.std.specs.Prelude.{Option, Some, None, Result, Ok, Err, is_err, OnOk, slice_get}
+use Rattle.std.proofs.Common.{◌≡◌, ℕ, zero, suc, ◌+◌, ◌*◌, ◌^◌, ◌<◌, ◌≤◌, true, false, List, [], ◌∷◌, ◌++◌, length, drop, All, get_or, ap, sym, subst, ◌∙◌, arith}
+use Rattle.std.specs.Prelude.{Some, Result, Ok, Err, is_err, OnOk, slice_get}
 use Rattle.exb_model.specs.declared.event.Event.{Event}
 use Rattle.exb_model.specs.Tree.{is_external}
-use Rattle.exb_model.specs.History.{Basis, History, ◌then◌}
-use Rattle.exb_model.specs.FlatBridge.{Sent, flat}
+use Rattle.exb_model.specs.History.{History, ◌then◌}
+use Rattle.exb_model.specs.FlatBridge.{flat}
 use Rattle.exb_model.specs.Input.{Input, Arrival as Arrived, basis_of, tree_of, bounds_of}
 use Rattle.exb_model.specs.EagerHistory.{eager_segment}
 use Rattle.exb_model.specs.Texts.{Counts, with_left, counts}
@@ -19,7 +19,7 @@ use Rattle.exb_run.specs.Outputs.{output_name}
 use Rattle.exb_run.proofs.Filling.{weaker}
 use Rattle.exb_run.specs.Playing.{IsAtRest, IsUnderWay, IsCounted, played, text_after}
 use Rattle.exb_run.proofs.Counting.{count_events, count_events-left}
-use Rattle.exb_run.proofs.Turning.{played_more, no_commands, few_frames, text_grows, flat_grows, left_alone, stands_cleared, counts_grow}
+use Rattle.exb_run.proofs.Turning.{played_more, no_commands, few_frames, text_grows, flat_grows, stands_cleared, counts_grow}
 
 pub when_ok : {T E P : Type 0} (r : Result T E) → is_err r ≡ false → OnOk r P → P
 when_ok (Ok v) e p = p
@@ -54,7 +54,7 @@ module _ (ports : ℕ) (w : State) (rest : IsAtRest ports w) (x : Arrival) where
       }
 
   module _ (w1 : State) (seconds : ℕ) (events : w1.events ≡ w.events ++ segment_events w seconds (arrived x ∷ []))
-    (left : (q : ℕ) → left_at w1.left q ≡ left_at w.left q ++ segment_sends w (arrived x ∷ []) q) (own : All (λ y. CanBeWritten ports y) w1.left) where
+      (left : (q : ℕ) → left_at w1.left q ≡ left_at w.left q ++ segment_sends w (arrived x ∷ []) q) (own : All (λ y. CanBeWritten ports y) w1.left) where
     pub events_are : w1.events ≡ segment_events w seconds (arrived x ∷ [])
     events_are = events ∙ ap (λ es. es ++ segment_events w seconds (arrived x ∷ [])) rest.events
 
@@ -89,10 +89,10 @@ module _ (ports : ℕ) (w : State) (rest : IsAtRest ports w) (x : Arrival) where
         }
 
     module _ (i : Input) (h : History)
-      (given : List Arrived) (stands : Stands (basis_of i) w given h (flat (basis_of i) h))
-      (history : (h then segment_events w seconds (arrived x ∷ [])) ≡ eager_segment (tree_of i) (bounds_of i) (basis_of i) h (segment seconds (arrived x ∷ [])))
-      (after : Stands (basis_of i) w1 (given ++ arrived x ∷ []) (eager_segment (tree_of i) (bounds_of i) (basis_of i) h (segment seconds (arrived x ∷ [])))
-      (λ q. flat (basis_of i) h q ++ segment_sends w (arrived x ∷ []) q)) where
+        (given : List Arrived) (stands : Stands (basis_of i) w given h (flat (basis_of i) h))
+        (history : (h then segment_events w seconds (arrived x ∷ [])) ≡ eager_segment (tree_of i) (bounds_of i) (basis_of i) h (segment seconds (arrived x ∷ [])))
+        (after : Stands (basis_of i) w1 (given ++ arrived x ∷ []) (eager_segment (tree_of i) (bounds_of i) (basis_of i) h (segment seconds (arrived x ∷ [])))
+        (λ q. flat (basis_of i) h q ++ segment_sends w (arrived x ∷ []) q)) where
       abbrev next : History
       next = eager_segment (tree_of i) (bounds_of i) (basis_of i) h (segment seconds (arrived x ∷ []))
 

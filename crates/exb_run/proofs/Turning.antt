@@ -1,5 +1,5 @@
 -- One segment more: what is counted, what is written, and where the world stands.
-use Rattle.std.proofs.Common.{◌≡◌, ◌≢◌, ℕ, ◌+◌, ◌*◌, ◌<◌, ◌≤◌, ◌==◌, ◌&&◌, Bool, true, false, not, cond, List, [], ◌∷◌, ◌++◌, length, sum_by, flat_map, filter, fold, All, get_or, nat_lt, refl, ap, sym, subst, ◌∙◌, arith, append_assoc, eq-eqb}
+use Rattle.std.proofs.Common.{◌≡◌, ℕ, ◌+◌, ◌<◌, ◌≤◌, ◌==◌, Bool, true, false, not, cond, List, [], ◌∷◌, ◌++◌, length, sum_by, filter, All, get_or, nat_lt, refl, ap, sym, subst, ◌∙◌, arith, eq-eqb}
 use Rattle.std.specs.Prelude.{Option, Some, None}
 use Rattle.std.proofs.lemmas.List.{append-nil}
 use Rattle.std.proofs.lemmas.List.Filters.{length-filter_both}
@@ -9,23 +9,22 @@ use Rattle.std.proofs.lemmas.Bool.Decides.{nat_tests}
 use Rattle.exb_model.specs.declared.event.Event.{Event}
 use Rattle.exb_model.specs.declared.event.Event.TheVariants as event
 use Rattle.exb_model.specs.declared.vlan.Kind.{Kind}
-use Rattle.exb_model.specs.Ports.{below, all_ports}
+use Rattle.exb_model.specs.Ports.{below}
 use Rattle.exb_model.specs.Tree.{is_external, external_ports}
-use Rattle.exb_model.specs.Configuration.{Bridge}
-use Rattle.exb_model.specs.History.{Basis, History, ◌then◌}
+use Rattle.exb_model.specs.History.{History, ◌then◌}
 use Rattle.exb_model.specs.Learning.{passes}
 use Rattle.exb_model.specs.Targets.{target}
 use Rattle.exb_model.specs.FlatBridge.{Sent, sent_as, sent_by, flat}
-use Rattle.exb_model.specs.Input.{Input, Arrival, basis_of, tree_of, bounds_of}
-use Rattle.exb_model.specs.EagerHistory.{is_relayed, arrival_event, eager_segment}
-use Rattle.exb_model.specs.Texts.{Counts, with_left, counts, capture_text, journal_text, record_text}
+use Rattle.exb_model.specs.Input.{Input, Arrival, basis_of, tree_of}
+use Rattle.exb_model.specs.EagerHistory.{is_relayed, arrival_event}
+use Rattle.exb_model.specs.Texts.{Counts, with_left, counts, capture_text}
 use Rattle.exb_world.specs.declared.world.Left.{Left}
 use Rattle.exb_world.specs.Setups.{is_port_of}
 use Rattle.exb_world.specs.Worlds.{State, bridge_of, nothing, left_at, Stands}
-use Rattle.exb_schedule.specs.Segments.{segment, segment_events, segment_sends}
+use Rattle.exb_schedule.specs.Segments.{segment_events, segment_sends}
 use Rattle.exb_run.specs.Writing.{lines_of, with_more, with_left_frames}
-use Rattle.exb_run.specs.Playing.{text_after, played, IsCounted}
-use Rattle.exb_run.proofs.Counting.{count_events, count_events-left, hit_once, length_by_port, few_left, counts-then, left_over-more}
+use Rattle.exb_run.specs.Playing.{text_after, played}
+use Rattle.exb_run.proofs.Counting.{count_events, hit_once, length_by_port, few_left, counts-then, left_over-more}
 use Rattle.exb_run.proofs.Texts.{capture_text-append, journal_text-then}
 
 -- ---- what is counted
@@ -91,7 +90,7 @@ few_frames w a ports xs few sends own =
     let test = is_port_of 1 ports in
     let rows : List ℕ = filter test (below 128) in
     let once : All (λ x. sum_by (λ q. cond (x.port == q) 1 0) rows ≡ 1) xs =
-        λ k d h. hit_once test 128 (get_or xs k d).port (low (get_or xs k d).port (own k d h)) (own k d h) in
+    λ k d h. hit_once test 128 (get_or xs k d).port (low (get_or xs k d).port (own k d h)) (own k d h) in
     let all = length_by_port rows xs once in
     let most = few_left rows (λ q. length (left_at xs q)) (λ q. subst (λ (ys : List Sent). length ys ≤ 1) (sym (sends q)) (sends_small w a q)) in
     let short = length-filter_both test (λ q. not (test q)) (λ q. refl) (below 128) in
@@ -117,8 +116,8 @@ text_grows i ports h es xs grown j low = by_place (nat_lt j ports) refl
 
 -- ---- where the world stands
 module _ (i : Input) (ports : ℕ) (w w1 : State) (h h' : History) (a : Arrival) (given : List Arrival) (none : w.left ≡ [])
-  (left : (q : ℕ) → left_at w1.left q ≡ left_at w.left q ++ segment_sends w (a ∷ []) q)
-  (stands : Stands (basis_of i) w1 given h' (λ q. flat (basis_of i) h q ++ segment_sends w (a ∷ []) q)) where
+    (left : (q : ℕ) → left_at w1.left q ≡ left_at w.left q ++ segment_sends w (a ∷ []) q)
+    (stands : Stands (basis_of i) w1 given h' (λ q. flat (basis_of i) h q ++ segment_sends w (a ∷ []) q)) where
   pub left_alone : (q : ℕ) → left_at w1.left q ≡ segment_sends w (a ∷ []) q
   unfolding left_at
   left_alone q = left q ∙ ap (λ (xs : List Left). left_at xs q ++ segment_sends w (a ∷ []) q) none

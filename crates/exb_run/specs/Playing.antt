@@ -1,11 +1,10 @@
 -- A run under way: the world, what is written and what is counted are those of a history.
-use Rattle.std.specs.Prelude.{⊤, ◌≡◌, ◌<◌, ◌≤◌, ◌+◌, ◌-◌, ◌*◌, ◌^◌, ℕ, Bool, true, List, [], ◌∷◌, ◌++◌, Option, Some, None, nat_lt, if◌then◌else◌, length, map}
+use Rattle.std.specs.Prelude.{⊤, ◌≡◌, ◌≤◌, ◌+◌, ◌-◌, ◌*◌, ◌^◌, ℕ, true, List, [], ◌∷◌, ◌++◌, Option, Some, None, nat_lt, if◌then◌else◌, map}
 use Rattle.exb_model.specs.declared.setup.Setup.{Setup}
 use Rattle.exb_model.specs.declared.event.Event.TheVariants as event
-use Rattle.exb_model.specs.History.{Basis, History, ◌then◌}
-use Rattle.exb_model.specs.FlatBridge.{Sent, flat}
-use Rattle.exb_model.specs.Input.{Input, Arrival, Segment, Coming, Captured, Ordered, basis_of, tree_of, bounds_of, second_of, alone, segments_in, segments_since}
-use Rattle.exb_model.specs.EagerHistory.{eager_segment, eagerly}
+use Rattle.exb_model.specs.History.{History, ◌then◌}
+use Rattle.exb_model.specs.FlatBridge.{flat}
+use Rattle.exb_model.specs.Input.{Input, Arrival, Segment, Coming, Captured, Ordered, basis_of, tree_of, alone, segments_in, segments_since}
 use Rattle.exb_model.specs.Texts.{Counts, counts, capture_text, journal_text}
 use Rattle.exb_model.specs.declared.frame_kind.Seen.TheVariants as seen
 use Rattle.exb_model.specs.Frames.{kind_of}

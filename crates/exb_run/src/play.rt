@@ -90,7 +90,7 @@ impl Game {
         ensures cleared { OnOk result (self.new.world ≡ record self.old.world { events = []; left = [] }) }
         ensures texts { S.tells → OnOk result ((orig : Files) (text : ℕ → List ℕ) → HasTexts ports (pieces_of self.old.outputs) orig (S.file shelf.old) text
             → HasTexts ports (pieces_of self.new.outputs) orig (S.file shelf.new)
-                (with_left_frames ports (with_more text ports (lines_of self.old.world.events)) self.old.world.left)) }
+            (with_left_frames ports (with_more text ports (lines_of self.old.world.events)) self.old.world.left)) }
         ensures counts { OnOk result (counts_of self.new.tally
             ≡ with_left (length self.old.world.left) (fold (λ c e. counted e c) (counts_of self.old.tally) self.old.world.events)) }
         ensures others { S.tells → OnlyOutputs ports (S.file shelf.old) (S.file shelf.new) }
@@ -98,7 +98,10 @@ impl Game {
         ensures faults { NoFewer (S.faults shelf.old) (S.faults shelf.new) }
         ensures write { IsErrOf result Fault.Write → Rose (S.faults shelf.old).writes (S.faults shelf.new).writes }
     {
-        if let Err(fault) = self.outputs.write_events(shelf, ports, &mut self.line, self.world.events()) {
+        if let Err(fault) = self
+            .outputs
+            .write_events(shelf, ports, &mut self.line, self.world.events())
+        {
             return Err(fault_of(fault));
         }
         if let Err(fault) = self.outputs.write_left(shelf, ports, self.world.left()) {
@@ -136,7 +139,7 @@ impl Game {
         ensures texts { S.tells → OnOk result ((i : Input) (h : History) (orig : Files) → IsUnderWay i h self.old.world (counts_of self.old.tally)
             → HasTexts ports (pieces_of self.old.outputs) orig (S.file shelf.old) (text_after i ports h)
             → HasTexts ports (pieces_of self.new.outputs) orig (S.file shelf.new)
-                (text_after i ports (eager_segment (tree_of i) (bounds_of i) (basis_of i) h (segment seconds (arrived arrival ∷ []))))) }
+            (text_after i ports (eager_segment (tree_of i) (bounds_of i) (basis_of i) h (segment seconds (arrived arrival ∷ []))))) }
         ensures others { S.tells → OnlyOutputs ports (S.file shelf.old) (S.file shelf.new) }
         ensures causes { IfErr result (λ fault. (fault ≡ Fault.Write) ⊎ (fault ≡ Fault.Memory)) }
         ensures faults { NoFewer (S.faults shelf.old) (S.faults shelf.new) }
@@ -329,7 +332,10 @@ fn add_all<'a>(captures: &mut Captures<'a>, files: &'a [Vec<u8>]) -> Result<(), 
     ensures few { OnOk result (length (to_come captures.new) ≤ sum_by (λ v. length v.items) files.now) }
 {
     'adding: for at in 0..files.len() {
-        if captures.add(port_at(at as u8), files[at].as_slice()).is_err() {
+        if captures
+            .add(port_at(at as u8), files[at].as_slice())
+            .is_err()
+        {
             return Err(NoMemory);
         }
     }

@@ -1,10 +1,8 @@
-use Rattle.std.proofs.Common.{◌≡◌, ℕ, ◌+◌, ◌-◌, ◌<◌, Vec, Global, true, List, [], ◌∷◌, ◌++◌, length, map, take, get_or, sum_by, add-one, ap, sym, subst, ◌∙◌, refl, arith}
+use Rattle.std.proofs.Common.{◌≡◌, ℕ, ◌+◌, ◌<◌, Vec, Global, List, [], ◌∷◌, ◌++◌, length, map, get_or, ap, sym, subst, ◌∙◌, refl, arith}
 use Rattle.std.specs.List.{range_with_len}
-use Rattle.std.proofs.Math.Seq.{take-suc}
-use Rattle.std.proofs.lemmas.List.Sums.{sum_by-append}
 use Rattle.std.proofs.lemmas.List.FromFn.{map-range_with_len_more}
 use Rattle.exb_model.specs.Input.{Record}
-use Rattle.exb_merge.specs.Streams.{Stream, stream_of, stream_at, to_come}
+use Rattle.exb_merge.specs.Streams.{Stream, stream_of, stream_at}
 use Rattle.exb_pcap.specs.Captures.{pcap_records}
 use Rattle.exb_run.specs.Inputs.{IsPlayable, input_of, records_or_none}
 use Rattle.exb_run.proofs.Coming.{added, records_here, item_at, items_low, size_more}
@@ -26,7 +24,7 @@ adding-preserved c =
       streams = λ s.
           let i = input_of s (map (λ v. v.items) files) in
           let here : records_or_none (pcap_records c.as_slice.result.now) ≡ i.records (64 + at) =
-              ap (λ (bs : List ℕ). records_or_none (pcap_records bs)) (sym bytes ∙ sym (item_at files at file low)) ∙ sym (records_here s (map (λ v. v.items) files) at (items_low files at low)) in
+          ap (λ (bs : List ℕ). records_or_none (pcap_records bs)) (sym bytes ∙ sym (item_at files at file low)) ∙ sym (records_here s (map (λ v. v.items) files) at (items_low files at low)) in
           more
           ∙ ap (λ (xs : List Stream). xs ++ stream_of c.port_at.result (records_or_none (pcap_records c.as_slice.result.now)) ∷ []) (c.adding.invariant.streams s)
           ∙ ap (λ (p : ℕ). map (stream_at i) (range_with_len 64 at) ++ stream_of p (records_or_none (pcap_records c.as_slice.result.now)) ∷ []) c.port_at.ensures

@@ -1,4 +1,4 @@
-use Rattle.std.proofs.Common.{◌≡◌, ◌≤◌, List, length, map, sum_by, take}
+use Rattle.std.proofs.Common.{◌≡◌, ◌≤◌, length, map, sum_by, take}
 use Rattle.std.specs.List.{range_with_len}
 use Rattle.exb_model.specs.declared.setup.Setup.{Setup}
 use Rattle.exb_merge.specs.Streams.{stream_at, to_come}

@@ -1,6 +1,6 @@
-use Rattle.std.proofs.Common.{◌≡◌, ℕ, List, [], ap, sym, subst, ◌∙◌, arith, length}
+use Rattle.std.proofs.Common.{◌≡◌, ℕ, [], ap, sym, subst, ◌∙◌, length}
 use Rattle.exb_model.specs.declared.setup.Setup.{Setup}
-use Rattle.exb_model.specs.Input.{Input, basis_of, tree_of, bounds_of}
+use Rattle.exb_model.specs.Input.{basis_of, tree_of, bounds_of}
 use Rattle.exb_model.specs.EagerHistory.{opening}
 use Rattle.exb_model.specs.Texts.{Counts, with_left}
 use Rattle.exb_text.specs.Tallies.{counts_of, nothing_counted}
@@ -16,20 +16,20 @@ use Rattle.exb_run.proofs.play.begin.Goals as goal
 pub returns-in-Ok-note-clause-counted : goal.returns-in-Ok-note-clause-counted
 returns-in-Ok-note-clause-counted g c =
     let none : counts_of c.note.new.self.tally ≡ with_left 0 nothing_counted =
-        c.in-Ok-note.ensures.counts
-        ∙ ap (λ (w : State). with_left (length w.left) (count_events (counts_of c.new.result) w.events)) c.in-Ok.ensures.world
-        ∙ ap (λ (d : Counts). with_left 0 (count_events d (opened_of c.args.setup.now).events)) c.new.ensures
-        ∙ opening_counts c.args.setup.now nothing_counted in
+    c.in-Ok-note.ensures.counts
+    ∙ ap (λ (w : State). with_left (length w.left) (count_events (counts_of c.new.result) w.events)) c.in-Ok.ensures.world
+    ∙ ap (λ (d : Counts). with_left 0 (count_events d (opened_of c.args.setup.now).events)) c.new.ensures
+    ∙ opening_counts c.args.setup.now nothing_counted in
     let clock : c.note.new.self.world.clock ≡ 0 = ap (λ (w : State). w.clock) c.in-Ok-note.ensures.cleared ∙ ap (λ (w : State). w.clock) c.in-Ok.ensures.world in
     subst (λ (n : ℕ). IsCounted (counts_of c.note.new.self.tally) n) (sym clock) (subst (λ (d : Counts). IsCounted d 0) (sym none) nothing_is_counted)
 
 pub returns-in-Ok-note-clause-played : goal.returns-in-Ok-note-clause-played
 returns-in-Ok-note-clause-played g c =
     let none : counts_of c.note.new.self.tally ≡ with_left 0 nothing_counted =
-        c.in-Ok-note.ensures.counts
-        ∙ ap (λ (w : State). with_left (length w.left) (count_events (counts_of c.new.result) w.events)) c.in-Ok.ensures.world
-        ∙ ap (λ (d : Counts). with_left 0 (count_events d (opened_of c.args.setup.now).events)) c.new.ensures
-        ∙ opening_counts c.args.setup.now nothing_counted in
+    c.in-Ok-note.ensures.counts
+    ∙ ap (λ (w : State). with_left (length w.left) (count_events (counts_of c.new.result) w.events)) c.in-Ok.ensures.world
+    ∙ ap (λ (d : Counts). with_left 0 (count_events d (opened_of c.args.setup.now).events)) c.new.ensures
+    ∙ opening_counts c.args.setup.now nothing_counted in
     ap played none
 
 pub returns-in-Ok-note-clause-written : goal.returns-in-Ok-note-clause-written
@@ -44,17 +44,17 @@ returns-in-Ok-note-clause-written g c tells i same =
     let world : c.in-Ok.world ≡ opened_of i.setup = c.in-Ok.ensures.world ∙ ap opened_of (sym same) in
     let stands = subst (λ (w : State). Stands (basis_of i) w [] start (λ q. [])) world (c.in-Ok.ensures.stands i same) in
     let cleared : c.note.new.self.world ≡ record (opened_of i.setup) { events = []; left = [] } =
-        c.in-Ok-note.ensures.cleared ∙ ap (λ (w : State). record w { events = []; left = [] }) world in
+    c.in-Ok-note.ensures.cleared ∙ ap (λ (w : State). record w { events = []; left = [] }) world in
     let counts : counts_of c.note.new.self.tally ≡ with_left 0 (count_events nothing_counted (opened_of i.setup).events) =
-        c.in-Ok-note.ensures.counts
-        ∙ ap (λ (w : State). with_left (length w.left) (count_events (counts_of c.new.result) w.events)) world
-        ∙ ap (λ (d : Counts). with_left 0 (count_events d (opened_of i.setup).events)) c.new.ensures in
+    c.in-Ok-note.ensures.counts
+    ∙ ap (λ (w : State). with_left (length w.left) (count_events (counts_of c.new.result) w.events)) world
+    ∙ ap (λ (d : Counts). with_left 0 (count_events d (opened_of i.setup).events)) c.new.ensures in
     let under_way = opening_under_way i ports first c.requires.few number has c.opening_raises.ensures c.externals_of_first.ensures stands in
     let begun = same_texts ports (pieces_of c.in-Ok-create_all.outputs) (S.file c.args.shelf.now) (S.file c.create_all.new.shelf) (first_text ports) (text_after i ports [])
-        (λ j low. first_texts i ports j) (c.in-Ok-create_all.ensures.texts tells) in
+    (λ j low. first_texts i ports j) (c.in-Ok-create_all.ensures.texts tells) in
     let noted = c.in-Ok-note.ensures.texts tells (S.file c.args.shelf.now) (text_after i ports []) begun in
     let noted' = subst (λ (w : State). HasTexts ports (pieces_of c.note.new.self.outputs) (S.file c.args.shelf.now) (S.file c.note.new.shelf)
-        (with_left_frames ports (with_more (text_after i ports []) ports (lines_of w.events)) w.left)) world noted in
+    (with_left_frames ports (with_more (text_after i ports []) ports (lines_of w.events)) w.left)) world noted in
     record {
       under_way = subst (λ (w : State). IsUnderWay i start w (counts_of c.note.new.self.tally)) (sym cleared)
           (subst (λ (d : Counts). IsUnderWay i start (record (opened_of i.setup) { events = []; left = [] }) d) (sym counts) under_way);

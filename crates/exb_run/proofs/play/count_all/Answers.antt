@@ -1,10 +1,7 @@
-use Rattle.std.proofs.Common.{◌≡◌, ◌+◌, List, ap, sym, subst, ◌∙◌, arith, fold, take}
-use Rattle.std.proofs.Math.Seq.{take-suc}
-use Rattle.exb_model.specs.declared.event.Event.{Event}
+use Rattle.std.proofs.Common.{◌+◌, ap, sym, subst, ◌∙◌, arith}
 use Rattle.exb_model.specs.Texts.{counted}
 use Rattle.exb_text.specs.Tallies.{counts_of}
-use Rattle.exb_run.proofs.Counting.{count_events}
-use Rattle.exb_run.proofs.Tallying.{IsWithin, fits_one_more, within_none, within_more, counted_next}
+use Rattle.exb_run.proofs.Tallying.{IsWithin, fits_one_more, within_more, counted_next}
 use Rattle.exb_run.proofs.play.count_all.Goals as goal
 
 pub loop-event-preserved : goal.loop-event-preserved

@@ -1,5 +1,5 @@
-use Rattle.std.proofs.Common.{◌≡◌, ℕ, [], ap, sym, subst, ◌∙◌}
-use Rattle.exb_model.specs.Input.{basis_of, tree_of, bounds_of}
+use Rattle.std.proofs.Common.{[], ap, sym, subst, ◌∙◌}
+use Rattle.exb_model.specs.Input.{basis_of}
 use Rattle.exb_model.specs.declared.setup.Setup.{Setup}
 use Rattle.exb_world.specs.Opening.{opened}
 use Rattle.exb_world.specs.Setups.{IsFirst}

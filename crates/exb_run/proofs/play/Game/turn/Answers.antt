@@ -1,8 +1,7 @@
-use Rattle.std.proofs.Common.{◌≡◌, ◌+◌, ℕ, List, [], ◌∷◌, ap, sym, subst, ◌∙◌, arith, refl}
+use Rattle.std.proofs.Common.{◌+◌, ℕ, [], ◌∷◌, ap, sym, subst, ◌∙◌, arith}
 use Rattle.std.proofs.lemmas.Result.{on_ok_weaker}
 use Rattle.exb_model.specs.Texts.{Counts}
-use Rattle.exb_model.specs.Input.{Input, basis_of, tree_of, bounds_of}
-use Rattle.exb_model.specs.History.{History}
+use Rattle.exb_model.specs.Input.{basis_of, tree_of, bounds_of}
 use Rattle.exb_model.specs.FlatBridge.{flat}
 use Rattle.exb_model.specs.EagerHistory.{eager_segment}
 use Rattle.exb_schedule.specs.Segments.{arrived, segment}
@@ -32,11 +31,11 @@ returns-clause-counted g c =
     let w = c.args.self.now.world in
     let own = frames_fit c.args.ports w c.requires.rest c.args.arrival c.requires.moment c.requires.bytes c.eager.new.world.left (when_ok _ ok c.eager.ensures.copies) in
     let is = counts_counted c.args.ports w c.requires.rest c.args.arrival c.eager.new.world c.args.seconds (when_ok _ ok c.eager.ensures.events) (when_ok _ ok c.eager.ensures.left) own c.requires.few
-        (omega arith) (counts_of c.args.self.now.tally) w.clock c.requires.counted in
+    (omega arith) (counts_of c.args.self.now.tally) w.clock c.requires.counted in
     let clock = ap (λ (x : State). x.clock) (when_ok _ ok c.eager.ensures.rest) in
     on_ok_both c.note.result (λ cleared counts.
-        subst (λ (n : ℕ). IsCounted (counts_of c.note.new.self.tally) n) (sym (ap (λ (x : State). x.clock) cleared ∙ clock))
-        (subst (λ (d : Counts). IsCounted d (w.clock + c.args.seconds)) (sym counts) is)) c.note.ensures.cleared c.note.ensures.counts
+    subst (λ (n : ℕ). IsCounted (counts_of c.note.new.self.tally) n) (sym (ap (λ (x : State). x.clock) cleared ∙ clock))
+    (subst (λ (d : Counts). IsCounted d (w.clock + c.args.seconds)) (sym counts) is)) c.note.ensures.cleared c.note.ensures.counts
 
 pub returns-clause-played : goal.returns-clause-played
 returns-clause-played g c =
@@ -52,14 +51,14 @@ returns-clause-under_way g c =
     let w = c.args.self.now.world in
     let own = frames_fit c.args.ports w c.requires.rest c.args.arrival c.requires.moment c.requires.bytes c.eager.new.world.left (when_ok _ ok c.eager.ensures.copies) in
     on_ok_both c.note.result (λ cleared counts i h external u.
-        let next = eager_segment (tree_of i) (bounds_of i) (basis_of i) h (segment c.args.seconds (arrived c.args.arrival ∷ [])) in
-        let is = under_way c.args.ports w c.requires.rest c.args.arrival c.eager.new.world c.args.seconds (when_ok _ ok c.eager.ensures.events) (when_ok _ ok c.eager.ensures.left) own
-            i h u.stands.0 u.stands.1
-            (when_ok _ ok c.eager.ensures.history i u.stands.0 h (flat (basis_of i) h) u.stands.1)
-            (when_ok _ ok c.eager.ensures.stands i u.stands.0 h (flat (basis_of i) h) u.stands.1)
-            c.requires.few external (counts_of c.args.self.now.tally) u.counted in
-        subst (λ (x : State). IsUnderWay i next x (counts_of c.note.new.self.tally)) (sym cleared)
-        (subst (λ (d : Counts). IsUnderWay i next (record c.eager.new.world { events = []; left = [] }) d) (sym counts) is)) c.note.ensures.cleared c.note.ensures.counts
+    let next = eager_segment (tree_of i) (bounds_of i) (basis_of i) h (segment c.args.seconds (arrived c.args.arrival ∷ [])) in
+    let is = under_way c.args.ports w c.requires.rest c.args.arrival c.eager.new.world c.args.seconds (when_ok _ ok c.eager.ensures.events) (when_ok _ ok c.eager.ensures.left) own
+    i h u.stands.0 u.stands.1
+    (when_ok _ ok c.eager.ensures.history i u.stands.0 h (flat (basis_of i) h) u.stands.1)
+    (when_ok _ ok c.eager.ensures.stands i u.stands.0 h (flat (basis_of i) h) u.stands.1)
+    c.requires.few external (counts_of c.args.self.now.tally) u.counted in
+    subst (λ (x : State). IsUnderWay i next x (counts_of c.note.new.self.tally)) (sym cleared)
+    (subst (λ (d : Counts). IsUnderWay i next (record c.eager.new.world { events = []; left = [] }) d) (sym counts) is)) c.note.ensures.cleared c.note.ensures.counts
 
 pub returns-clause-texts : goal.returns-clause-texts
 returns-clause-texts g c tells =
@@ -68,9 +67,9 @@ returns-clause-texts g c tells =
     let ports = c.args.ports in
     let own = frames_fit ports w c.requires.rest c.args.arrival c.requires.moment c.requires.bytes c.eager.new.world.left (when_ok _ ok c.eager.ensures.copies) in
     on_ok_weaker c.note.result (λ texts i h orig u held.
-        let next = eager_segment (tree_of i) (bounds_of i) (basis_of i) h (segment c.args.seconds (arrived c.args.arrival ∷ [])) in
-        let is = text_is ports w c.requires.rest c.args.arrival c.eager.new.world c.args.seconds (when_ok _ ok c.eager.ensures.events) (when_ok _ ok c.eager.ensures.left) own
-            i h u.stands.0 u.stands.1
-            (when_ok _ ok c.eager.ensures.history i u.stands.0 h (flat (basis_of i) h) u.stands.1)
-            (when_ok _ ok c.eager.ensures.stands i u.stands.0 h (flat (basis_of i) h) u.stands.1) in
-        same_texts ports (pieces_of c.note.new.self.outputs) orig (g.S.Shelf.file c.note.new.shelf) _ (text_after i ports next) is (texts orig (text_after i ports h) held)) (c.note.ensures.texts tells)
+    let next = eager_segment (tree_of i) (bounds_of i) (basis_of i) h (segment c.args.seconds (arrived c.args.arrival ∷ [])) in
+    let is = text_is ports w c.requires.rest c.args.arrival c.eager.new.world c.args.seconds (when_ok _ ok c.eager.ensures.events) (when_ok _ ok c.eager.ensures.left) own
+    i h u.stands.0 u.stands.1
+    (when_ok _ ok c.eager.ensures.history i u.stands.0 h (flat (basis_of i) h) u.stands.1)
+    (when_ok _ ok c.eager.ensures.stands i u.stands.0 h (flat (basis_of i) h) u.stands.1) in
+    same_texts ports (pieces_of c.note.new.self.outputs) orig (g.S.Shelf.file c.note.new.shelf) _ (text_after i ports next) is (texts orig (text_after i ports h) held)) (c.note.ensures.texts tells)
