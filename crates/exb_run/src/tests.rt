@@ -16,14 +16,19 @@ fn words(alloc: Global, first: &str, second: &str) -> Result<Vec<String>, AllocE
     Ok(words)
 }
 
-/// A capture of one frame of 60 bytes with this type.
+/// A capture of one frame of 60 bytes with this type, at 100 seconds.
 fn capture(alloc: Global, kind: [u8; 2]) -> Result<Vec<u8>, AllocError> {
+    capture_at(alloc, 100, kind)
+}
+
+/// A capture of one frame of 60 bytes with this type, at that second.
+fn capture_at(alloc: Global, second: u8, kind: [u8; 2]) -> Result<Vec<u8>, AllocError> {
     let mut frame = [0xAAu8; 60];
     frame[12] = kind[0];
     frame[13] = kind[1];
     let mut bytes = Vec::new(alloc);
     bytes.extend_from_slice(&HEADER)?;
-    bytes.extend_from_slice(&[100, 0, 0, 0, 0, 0, 0, 0, 60, 0, 0, 0, 60, 0, 0, 0])?;
+    bytes.extend_from_slice(&[second, 0, 0, 0, 0, 0, 0, 0, 60, 0, 0, 0, 60, 0, 0, 0])?;
     bytes.extend_from_slice(&frame)?;
     Ok(bytes)
 }
@@ -38,6 +43,10 @@ fn other_words_are_refused(rt: HostRuntime) -> Result<(), Fail> {
         2
     );
     assert_eq!(rt;
+        run(alloc, &words(alloc, "run", "0")?, &mut shelf, &mut out),
+        2
+    );
+    assert_eq!(rt;
         run(alloc, &words(alloc, "run", "04")?, &mut shelf, &mut out),
         2
     );
@@ -47,7 +56,7 @@ fn other_words_are_refused(rt: HostRuntime) -> Result<(), Fail> {
     );
     assert!(rt;
         out.text()
-            == b"exbr: usage: exbr run PORTS\nexbr: usage: exbr run PORTS\nexbr: usage: exbr run PORTS\n".as_slice()
+            == b"exbr: usage: exbr run PORTS\nexbr: usage: exbr run PORTS\nexbr: usage: exbr run PORTS\nexbr: usage: exbr run PORTS\n".as_slice()
     );
     Ok(())
 }
@@ -101,5 +110,50 @@ fn failing_reads_and_prints_have_their_statuses(rt: HostRuntime) -> Result<(), F
     assert_eq!(rt; run(alloc, &words, &mut shelf, &mut out), 6);
     assert_eq!(rt; run(alloc, &words, &mut shelf, &mut out), 7);
     assert!(rt; out.text() == b"exbr: read fault\n".as_slice());
+    Ok(())
+}
+
+#[test]
+fn a_frame_leaves_each_other_port(rt: HostRuntime) -> Result<(), Fail> {
+    let alloc = rt.alloc();
+    let words = words(alloc, "run", "3")?;
+    let mut shelf = MemShelf::new(alloc, &[])?;
+    let mut out = MemSink::new(alloc, &[])?;
+    let first = capture(alloc, [0x08, 0x00])?;
+    shelf.put("in-x1.1.pcap", &first)?;
+    shelf.put("in-x1.2.pcap", &HEADER)?;
+    shelf.put("in-x1.3.pcap", &HEADER)?;
+    assert_eq!(rt; run(alloc, &words, &mut shelf, &mut out), 0);
+    assert!(rt; shelf.file("out-x1.1.pcap") == Some(HEADER.as_slice()));
+    assert!(rt; shelf.file("out-x1.2.pcap") == Some(first.as_slice()));
+    assert!(rt; shelf.file("out-x1.3.pcap") == Some(first.as_slice()));
+    Ok(())
+}
+
+#[test]
+fn a_later_frame_comes_after_a_tick(rt: HostRuntime) -> Result<(), Fail> {
+    let alloc = rt.alloc();
+    let words = words(alloc, "run", "2")?;
+    let mut shelf = MemShelf::new(alloc, &[])?;
+    let mut out = MemSink::new(alloc, &[])?;
+    shelf.put("in-x1.1.pcap", &capture(alloc, [0x08, 0x00])?)?;
+    shelf.put("in-x1.2.pcap", &capture_at(alloc, 103, [0x08, 0x00])?)?;
+    assert_eq!(rt; run(alloc, &words, &mut shelf, &mut out), 0);
+    let journal =
+        b"up x1.1\nup x1.2\nsettled\nrelay x1.1 1\nsettled\ntick 3\nrelay x1.2 1\nsettled\n";
+    assert!(rt; shelf.file("out-journal.txt") == Some(journal.as_slice()));
+    Ok(())
+}
+
+#[test]
+fn a_frame_with_a_tag_leaves_no_file(rt: HostRuntime) -> Result<(), Fail> {
+    let alloc = rt.alloc();
+    let words = words(alloc, "run", "1")?;
+    let mut shelf = MemShelf::new(alloc, &[])?;
+    let mut out = MemSink::new(alloc, &[])?;
+    shelf.put("in-x1.1.pcap", &capture(alloc, [0x81, 0x00])?)?;
+    assert_eq!(rt; run(alloc, &words, &mut shelf, &mut out), 8);
+    assert!(rt; shelf.file("out-x1.1.pcap").is_none());
+    assert!(rt; shelf.file("out-journal.txt").is_none());
     Ok(())
 }
