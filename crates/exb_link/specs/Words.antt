@@ -1,0 +1,34 @@
+-- The words of one direction of a link, as a list in order of sending.
+use Rattle.std.specs.Prelude.{ℕ, suc, ◌-◌, ◌==◌, Bool, not, if◌then◌else◌, List, [], ◌∷◌, nat_eq}
+use Rattle.std.specs.List.{starts_with}
+use Rattle.exb_link.specs.declared.word.Word.{Word}
+
+-- 01-80-C2-00-00-0E
+abbrev pub control_address : List ℕ
+control_address = 1 ∷ 128 ∷ 194 ∷ 0 ∷ 0 ∷ 14 ∷ []
+
+-- the destination of a frame is that of control frames
+unfoldable pub is_control_frame : List ℕ → Bool
+is_control_frame frame = starts_with nat_eq frame control_address
+
+abbrev pub is_control : Word → Bool
+is_control w = is_control_frame w.bytes
+
+abbrev pub is_data : Word → Bool
+is_data w = not (is_control w)
+
+-- how many control words stand before the first data word
+abbrev pub leading : List Word → ℕ
+leading [] = 0
+leading (w ∷ ws) = if is_control w then suc (leading ws) else 0
+
+-- the words without the first data word
+abbrev pub without_data : List Word → List Word
+without_data [] = []
+without_data (w ∷ ws) = if is_control w then w ∷ without_data ws else ws
+
+-- the words without the control word number k, counted from 0
+abbrev pub without_control : List Word → ℕ → List Word
+without_control [] k = []
+without_control (w ∷ ws) k =
+    if is_control w then (if k == 0 then ws else w ∷ without_control ws (k - 1)) else w ∷ without_control ws k
