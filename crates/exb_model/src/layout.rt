@@ -1,5 +1,5 @@
 //! The tree of a setup as two tables by device, and whether it is a tree.
-ghost use Rattle.std.specs.Prelude.{◌≡◌, ◌<◌, ◌≤◌, ◌≢◌, ◌↔◌, ℕ, IsTrue, All, slice_index};
+ghost use Rattle.std.specs.Prelude.{◌≡◌, ◌<◌, ◌≤◌, ◌≢◌, ◌↔◌, ℕ, IsTrue, All, length, slice_index};
 ghost use Rattle.exb_model.specs.Ports.{port_in};
 ghost use Rattle.exb_model.specs.Tree.{HangsOn, IsTree, is_port, is_extender, is_cascade, is_external, is_cascade_under, cascades_under, top};
 ghost use Rattle.exb_model.specs.Setup.{InRange, IsPlace, port_at, shape_of};
@@ -8,12 +8,6 @@ use crate::port::PortId;
 use crate::port_set::PortSet;
 use crate::setup::{Place, Setup};
 use std::marker::Model;
-
-/// How many devices there can be: the bridge, which is device 0, and 64 extenders.
-const DEVICES: u16 = 65;
-
-/// How many ports there can be, 64 for each device.
-const PORTS: u16 = 4160;
 
 /// The tree by device: 0 is the bridge, n is extender n.
 #[derive(Drop)]
@@ -25,14 +19,14 @@ pub(crate) struct Layout {
 }
 
 impl Model for Layout {
-    ghost use Rattle.std.specs.Prelude.{ℕ, ◌<◌, slice_index};
     ghost use Rattle.exb_model.specs.Tree.{Shape};
+    ghost use Rattle.exb_model.specs.Setup.{AreTables};
 
     ghost Value = { Shape };
 
     ghost view = { λ l. record { ports = l.ports; on = l.on } };
 
-    ghost invariant = { λ l. (n : ℕ) → slice_index l.on n < 4160 };
+    ghost invariant = { λ l. AreTables l.ports l.on };
 }
 
 /// The port at a place.
@@ -62,6 +56,15 @@ impl Layout {
             on[number] = port_at(extender.on);
         }
         Layout { ports, on }
+    }
+
+    /// How many devices there can be: the bridge and 64 extenders.
+    fn devices(&self) -> u16
+        ensures value { result ≡ 65 }
+        ensures sized { length self.now.ports ≡ 65 }
+    {
+        let ports = &self.ports;
+        ports.len() as u16
     }
 
     /// Whether there is an extender of that number.
@@ -106,9 +109,10 @@ impl Layout {
 
     /// Whether each extender hangs on a port of the tree.
     fn hang_on_ports(&self) -> bool
-        ensures { IsTrue result ↔ ((n : ℕ) → IsTrue (is_extender self.now n) → IsTrue (is_port self.now (slice_index self.now.on n))) }
+        ensures sized { length self.now.ports ≡ 65 }
+        ensures on_ports { IsTrue result ↔ ((n : ℕ) → IsTrue (is_extender self.now n) → IsTrue (is_port self.now (slice_index self.now.on n))) }
     {
-        for number in 1..DEVICES {
+        for number in 1..self.devices() {
             if self.is_extender(number) && !self.is_port(self.on(number)) {
                 return false;
             }
@@ -133,7 +137,7 @@ impl Layout {
     fn hang_alone(&self) -> bool
         ensures { IsTrue result ↔ ((n m : ℕ) → n < m → IsTrue (is_extender self.now n) → IsTrue (is_extender self.now m) → slice_index self.now.on n ≢ slice_index self.now.on m) }
     {
-        for number in 1..DEVICES {
+        for number in 1..self.devices() {
             if self.is_extender(number) && !self.hangs_alone(number) {
                 return false;
             }
@@ -145,7 +149,7 @@ impl Layout {
     fn reach_bridge(&self) -> bool
         ensures { IsTrue result ↔ ((n : ℕ) → IsTrue (is_extender self.now n) → top self.now.on 63 (slice_index self.now.on n) < 64) }
     {
-        for number in 1..DEVICES {
+        for number in 1..self.devices() {
             if self.is_extender(number) && self.top(self.on(number)) >= 64 {
                 return false;
             }
@@ -157,7 +161,10 @@ impl Layout {
     pub(crate) fn is_tree(&self) -> bool
         ensures { IsTrue result ↔ IsTree self.now }
     {
-        self.hang_on_ports() && self.hang_alone() && self.reach_bridge()
+        if !self.hang_on_ports() || !self.hang_alone() {
+            return false;
+        }
+        self.reach_bridge()
     }
 
     /// The ports on which an extender hangs.
@@ -165,7 +172,7 @@ impl Layout {
         ensures { (q : ℕ) → port_in result q ≡ is_cascade self.now q }
     {
         let mut cascades = PortSet::empty();
-        for number in 0..DEVICES {
+        for number in 0..self.devices() {
             if self.is_extender(number) {
                 cascades.insert(PortId::new(self.on(number)).unwrap());
             }
@@ -179,10 +186,10 @@ impl Layout {
         ensures { result ≡ is_cascade_under self.now bridge_port port }
     {
         let number = port.number();
-        number >= 64
-            && self.is_port(number)
-            && cascades.contains(port)
-            && self.top(self.on(number / 64)) == bridge_port
+        if number < 64 || !self.is_port(number) || !cascades.contains(port) {
+            return false;
+        }
+        self.top(self.on(number / 64)) == bridge_port
     }
 
     /// How many of those there are.
@@ -191,7 +198,7 @@ impl Layout {
         ensures { result ≡ cascades_under self.now bridge_port }
     {
         let mut count = 0;
-        for number in 0..PORTS {
+        for number in 0..64 * self.devices() {
             let port = PortId::new(number).unwrap();
             if self.is_cascade_under(cascades, bridge_port, port) {
                 count += 1;
@@ -227,7 +234,7 @@ impl Layout {
         ensures { (q : ℕ) → port_in result q ≡ is_external self.now q }
     {
         let mut external = PortSet::empty();
-        for number in 0..PORTS {
+        for number in 0..64 * self.devices() {
             let port = PortId::new(number).unwrap();
             if self.is_external(cascades, port) {
                 external.insert(port);
