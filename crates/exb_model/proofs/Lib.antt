@@ -11,3 +11,4 @@ pub mod TreeOrder
 pub mod TreeHung
 pub mod TreeShape
 pub mod TreeCovered
+pub mod Remembering
