@@ -18,4 +18,6 @@ pub mod role;
 pub mod rules;
 pub mod setup;
 pub mod text;
+pub mod tree;
+mod tree_tables;
 pub mod vlan;
