@@ -3,6 +3,7 @@ ghost use Rattle.std.specs.Prelude.{◌≡◌, ◌≤◌, ◌+◌, ◌++◌, IfO
 ghost use Rattle.std.specs.Option.{ForSome};
 ghost use Rattle.toml.specs.Data.{get_member};
 ghost use Rattle.toml.specs.View.{view, items_view, table_view};
+ghost use Rattle.exb_model.specs.Setup.{IsAgeing};
 ghost use Rattle.exb_keys.specs.Faults.{Gives, place_text};
 ghost use Rattle.exb_keys.specs.Keys.{number, flag, text, port, address, accept, kind, ageing, seconds, fate, words, words_of, named, placed, key_at};
 
@@ -201,7 +202,8 @@ pub fn kind_key(alloc: Global, place: Place, table: &Table, key: &str) -> Result
 
 /// An ageing time in seconds at a key, 0 or 10 to 1,000,000, and 300 where the key is absent.
 pub fn ageing_key(alloc: Global, place: Place, table: &Table, key: &str) -> Result<u32, TopoFault>
-    ensures { Gives result (key_at ageing (Some 300) (place_text place) key.now (table_view table.now)) }
+    ensures range { IfOk result IsAgeing }
+    ensures value { Gives result (key_at ageing (Some 300) (place_text place) key.now (table_view table.now)) }
 {
     match member(table, key) {
         Some(value) => match values::ageing(value) {

@@ -2,6 +2,7 @@
 ghost use Rattle.std.specs.Prelude.{◌≡◌, ◌≤◌, IfOk};
 ghost use Rattle.std.specs.Result.{result_map_both};
 ghost use Rattle.toml.specs.View.{view, items_view};
+ghost use Rattle.exb_model.specs.Setup.{IsAgeing};
 ghost use Rattle.exb_keys.specs.Keys.{number, flag, text, port, address, accept, kind, ageing, are_texts, word_in};
 
 use crate::faults::KeyFault;
@@ -104,7 +105,8 @@ pub(crate) fn kind(value: &Value) -> Result<Kind, KeyFault>
 /// 0, or 10 to 1,000,000.
 #[tactic(auto, unfolding(crate::specs::Keys::ageing))]
 pub(crate) fn ageing(value: &Value) -> Result<u32, KeyFault>
-    ensures { result ≡ ageing (view value.now) }
+    ensures value { result ≡ ageing (view value.now) }
+    ensures range { IfOk result IsAgeing }
 {
     match number(value, 0, 1_000_000) {
         Ok(n) if n == 0 || n >= 10 => Ok(n),
