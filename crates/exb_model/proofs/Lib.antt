@@ -8,5 +8,5 @@ pub mod TreeLoops
 pub mod SharedPorts
 pub mod TreeOrder
 pub mod TreeHung
-pub mod TreeShape
 pub mod TreeCovered
+pub mod Validity
