@@ -1,0 +1,5 @@
+pub mod Checking
+pub mod Laid
+pub mod Sets
+pub mod Building
+pub mod Valid
