@@ -35,6 +35,7 @@ impl Model for TreePorts {
 fn externals(tree: &Tree) -> PortSet
     ensures { (q : ℕ) → port_in result q ≡ is_external tree.now q }
 {
+    tree.is_tree();
     let mut external = PortSet::empty();
     for number in 0..4160u16 {
         let port = PortId::new(number).unwrap();
@@ -48,6 +49,7 @@ fn externals(tree: &Tree) -> PortSet
 fn is_external(tree: &Tree, port: PortId) -> bool
     ensures { result ≡ is_external tree.now port }
 {
+    tree.is_tree();
     match tree.role(port) {
         Role::External => true,
         Role::Unknown => false,
@@ -89,7 +91,8 @@ fn has_range(set: &PortSet, first: PortId, last: PortId) -> bool
     ensures { result ≡ all_from (port_in set.now) first (last + 1 - first) }
 {
     for number in first.number()..last.number() + 1 {
-        if !set.contains(PortId::new(number).unwrap()) {
+        let port = PortId::new(number).unwrap();
+        if !set.contains(port) {
             return false;
         }
     }
@@ -121,6 +124,7 @@ impl TreePorts {
     fn is_extender(&self, number: u8) -> bool
         ensures { result ≡ is_extender self.now number }
     {
+        self.tree.is_tree();
         if number == 0 {
             return false;
         }
