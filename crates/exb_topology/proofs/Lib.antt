@@ -3,3 +3,4 @@ pub mod Laid
 pub mod Sets
 pub mod Building
 pub mod Valid
+pub mod Starting

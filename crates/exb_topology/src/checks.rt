@@ -1,5 +1,5 @@
 //! The third pass: that ports are external ports of the tree, and that nothing is given twice.
-ghost use Rattle.std.specs.Prelude.{◌≡◌, ◌==◌, ◌++◌, ◌<◌, length, take, not, codes};
+ghost use Rattle.std.specs.Prelude.{◌≡◌, ◌==◌, ◌++◌, [], codes};
 ghost use Rattle.std.specs.List.{list_any};
 ghost use Rattle.std.specs.Str.{bytes_eq};
 ghost use Rattle.exb_keys.specs.Faults.{Gives, place_text, in_element};
@@ -267,6 +267,13 @@ fn refuse_capture(alloc: Global, test: bool, port: PortId, fault: KeyFault) -> R
     Err(place.fault(alloc, key.as_str(), fault))
 }
 
+fn check_capture(alloc: Global, ports: &TreePorts, capture: &Named) -> Result<(), TopoFault>
+    ensures { Gives result (capture_ok ports.now [] 0 capture.now) }
+{
+    let unknown = !ports.is_external(capture.port);
+    refuse_capture(alloc, unknown, capture.port, KeyFault::UnknownPort)
+}
+
 pub(crate) fn check_captures(
     alloc: Global,
     ports: &TreePorts,
@@ -274,9 +281,8 @@ pub(crate) fn check_captures(
 ) -> Result<(), TopoFault>
     ensures { Gives result (each_ok (capture_ok ports.now) captures.now 0 captures.now) }
 {
-    for (_index, capture) in captures.iter().enumerate() {
-        let unknown = !ports.is_external(capture.port);
-        refuse_capture(alloc, unknown, capture.port, KeyFault::UnknownPort)?;
+    for capture in captures {
+        check_capture(alloc, ports, capture)?;
     }
     Ok(())
 }
@@ -293,6 +299,13 @@ fn is_output(name: &str, outputs: &[Text]) -> bool
     false
 }
 
+fn check_file(alloc: Global, outputs: &[Text], capture: &Named) -> Result<(), TopoFault>
+    ensures { Gives result (file_ok outputs.now [] 0 capture.now) }
+{
+    let again = is_output(capture.name.as_str(), outputs);
+    refuse_capture(alloc, again, capture.port, KeyFault::Repeat)
+}
+
 /// Refuses captures that have the name of an output file.
 pub(crate) fn check_files(
     alloc: Global,
@@ -301,9 +314,8 @@ pub(crate) fn check_files(
 ) -> Result<(), TopoFault>
     ensures { Gives result (each_ok (file_ok outputs.now) captures.now 0 captures.now) }
 {
-    for (_index, capture) in captures.iter().enumerate() {
-        let again = is_output(capture.name.as_str(), outputs);
-        refuse_capture(alloc, again, capture.port, KeyFault::Repeat)?;
+    for capture in captures {
+        check_file(alloc, outputs, capture)?;
     }
     Ok(())
 }

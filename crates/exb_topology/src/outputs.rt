@@ -1,6 +1,6 @@
 //! The names of the files that runs of a topology write.
-ghost use Rattle.std.specs.Prelude.{◌≡◌, IfOk, map};
-ghost use Rattle.exb_model.specs.Tree.{external_ports};
+ghost use Rattle.std.specs.Prelude.{◌≡◌, ◌++◌, ◌∷◌, [], IfOk, OnOk, map, if◌then◌else◌};
+ghost use Rattle.exb_model.specs.Tree.{is_external, external_ports};
 ghost use Rattle.exb_text.specs.Names.{capture_name};
 ghost use Rattle.exb_topology.specs.Checks.{output_names};
 
@@ -31,6 +31,31 @@ pub(crate) fn output_names(
     Ok(names)
 }
 
+/// The name of the capture that runs write for a port.
+fn capture_name(alloc: Global, prefix: &str, port: PortId) -> Result<Text, NoMemory>
+    ensures { IfOk result (λ name. name ≡ capture_name prefix.now port) }
+{
+    let name = capture_file_name(alloc, prefix, port)?;
+    Text::from_str(alloc, name.as_str())
+}
+
+/// Puts the name of the capture of a port at the end, where the port is external.
+fn add_name(
+    alloc: Global,
+    prefix: &str,
+    ports: &TreePorts,
+    port: PortId,
+    names: &mut List<Text>,
+) -> Result<(), NoMemory>
+    ensures { OnOk result (names.new ≡ names.old ++ (if is_external ports.now port then capture_name prefix.now port ∷ [] else [])) }
+{
+    if !ports.is_external(port) {
+        return Ok(());
+    }
+    let name = capture_name(alloc, prefix, port)?;
+    names.push(name)
+}
+
 /// The names of the captures that runs write.
 fn capture_names(alloc: Global, prefix: &str, ports: &TreePorts) -> Result<List<Text>, NoMemory>
     ensures { IfOk result (λ names. names ≡ map (capture_name prefix.now) (external_ports ports.now)) }
@@ -38,10 +63,7 @@ fn capture_names(alloc: Global, prefix: &str, ports: &TreePorts) -> Result<List<
     let mut names = List::new(alloc);
     for number in 0..4160u16 {
         let port = PortId::new(number).unwrap();
-        if ports.is_external(port) {
-            let name = capture_file_name(alloc, prefix, port)?;
-            names.push(Text::from_str(alloc, name.as_str())?)?;
-        }
+        add_name(alloc, prefix, ports, port, &mut names)?;
     }
     Ok(names)
 }
