@@ -85,21 +85,18 @@ learned_goes_there i h p n t f q v r passed no_static individual known other =
     let chosen = ap (λ (w : ℕ). is_chosen (bridge_after i h) (learned i h) w (destination f) q) (sym same) ∙ is.chosen in cc))
 
 pub leaves_by_members : LeavesByMembers
-leaves_by_members i h p n t f q = by_target (target k (learned i h) p f q) refl
+leaves_by_members i h p n t f q = by_target (target (bridge_after i h) (learned i h) p f q) refl
   where
-    abbrev k : Bridge
-    k = bridge_after i h
-
-    by_target : (o : Option Kind) → target k (learned i h) p f q ≡ o → SendsNothing i h (event.Relay p n t f) q ⊎ LeavesOnce i h p n t f q
+    by_target : (o : Option Kind) → target (bridge_after i h) (learned i h) p f q ≡ o → SendsNothing i h (event.Relay p n t f) q ⊎ LeavesOnce i h p n t f q
     by_target None none = inl (no_target i h p n t f q none)
     by_target (Some kind) is =
-        let all = target-is k (learned i h) p f q kind is in
+        let all = target-is (bridge_after i h) (learned i h) p f q kind is in
         inr (record {
-        vid = all.vid;
-        kind = kind;
-        passed = all.passed;
-        present = all.present;
-        member = all.member;
-        once = flat-more i (event.Relay p n t f) h q ∙ ap (λ (xs : List Sent). flat i h q ++ xs)
-        (ap (λ (o : Option ℕ). sent_as t f o (target k (learned i h) p f q)) all.passed ∙ ap (sent_as t f (Some all.vid)) is);
+          vid = all.vid;
+          kind = kind;
+          passed = all.passed;
+          present = all.present;
+          member = all.member;
+          once = flat-more i (event.Relay p n t f) h q ∙ ap (λ (xs : List Sent). flat i h q ++ xs)
+              (ap (λ (o : Option ℕ). sent_as t f o (target (bridge_after i h) (learned i h) p f q)) all.passed ∙ ap (sent_as t f (Some all.vid)) is);
         })

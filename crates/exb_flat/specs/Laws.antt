@@ -19,10 +19,6 @@ SendsNothing i h e q = flat i (e ∷ h) q ≡ flat i h q
 abbrev pub NeverGoesBack : Type 0
 NeverGoesBack = (i : Basis) (h : History) (p n t : ℕ) (f : List ℕ) → SendsNothing i h (event.Relay p n t f) p
 
--- the port is present, and in the frame's VLAN it is a member of this kind
-abbrev pub IsPresentMember : Bridge → ℕ → List ℕ → ℕ → Kind → Type 0
-IsPresentMember k p f q kind = (k.present q ≡ true) × IfSome (passes k p f) (λ v. k.member v q ≡ Some kind)
-
 -- the frame leaves once, with the bytes of that kind
 pub record LeavesOnce (i : Basis) (h : History) (p n t : ℕ) (f : List ℕ) (q : ℕ) : Type 0 where
   pub vid : ℕ
