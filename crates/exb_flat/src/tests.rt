@@ -1,8 +1,7 @@
-//! Small histories whose outcome is known: what leaves each port, byte by byte.
-ghost use Rattle.std.specs.Prelude.{◌≤◌, length};
+//! Small histories whose outcome is known: which frames leave each port, and with which bytes.
 
 use crate::config::Config;
-use crate::flat::{Sent, flat};
+use crate::flat::flat;
 use crate::history::{Basis, bridge_after, now_after};
 use crate::learning::{learned, passes};
 use crate::targets::targets;
@@ -18,9 +17,6 @@ use exb_model::vlan::{Kind, Vid};
 use std::alloc::Global;
 use std::test::Fail;
 
-/// A second, in the nanoseconds of moments.
-const SECOND: u64 = 1_000_000_000;
-
 const STATION_1: [u8; 6] = [2, 0, 0, 0, 0, 1];
 
 const STATION_2: [u8; 6] = [2, 0, 0, 0, 0, 2];
@@ -28,21 +24,35 @@ const STATION_2: [u8; 6] = [2, 0, 0, 0, 0, 2];
 const BROADCAST: [u8; 6] = [255, 255, 255, 255, 255, 255];
 
 /// Port k of extender 1.
-fn x1(k: u16) -> Result<PortId, Fail> {
-    Ok(PortId::new(63u16.saturating_add(k)).ok_or("a port")?)
+fn x1(k: u16) -> PortId {
+    PortId::new(63u16.saturating_add(k)).unwrap_or_default()
 }
 
-fn vlan(number: u16) -> Result<Vid, Fail> {
-    Ok(Vid::new(number).ok_or("a VLAN")?)
+/// Port 2 of the bridge.
+fn b2() -> PortId {
+    PortId::new(1).unwrap_or_default()
+}
+
+fn vlan(number: u16) -> Vid {
+    Vid::new(number).unwrap_or_default()
 }
 
 /// The ports of extender 1 with these numbers.
-fn set_of(numbers: &[u16]) -> Result<PortSet, Fail> {
+fn set_of(numbers: &[u16]) -> PortSet {
     let mut set = PortSet::empty();
     for number in numbers {
-        set.insert(x1(*number)?);
+        set.insert(x1(*number));
     }
-    Ok(set)
+    set
+}
+
+/// These ports of extender 1 are all the members of a VLAN, untagged.
+fn untagged(number: u16, ports: &[u16]) -> Command {
+    Command::Vlan {
+        vid: vlan(number),
+        tagged: PortSet::empty(),
+        untagged: set_of(ports),
+    }
 }
 
 /// A frame of 60 bytes without a VLAN tag.
@@ -71,101 +81,111 @@ fn tagged(frame: &[u8; 60], high: u8, low: u8) -> [u8; 64] {
     out
 }
 
-fn relay(alloc: Global, k: u16, second: u64, bytes: &[u8]) -> Result<Event, Fail> {
-    Ok(Event::Relay {
-        port: x1(k)?,
-        index: 1,
-        moment: second.saturating_mul(SECOND),
-        bytes: Bytes::from_slice(alloc, bytes)?,
+/// What happens, told briefly. Ports are those of extender 1, and a frame's moment is in nanoseconds.
+#[derive(Clone, Copy)]
+enum Step<'a> {
+    Up(u16),
+    Frame(u16, u64, &'a [u8]),
+    Ignored(u16),
+    Tick(u32),
+    Commit(u32),
+    Refuse(u32),
+}
+
+fn event_of(alloc: Global, step: Step<'_>) -> Result<Event, Fail> {
+    Ok(match step {
+        Step::Up(k) => Event::Up { port: x1(k) },
+        Step::Frame(k, moment, bytes) => Event::Relay {
+            port: x1(k),
+            index: 1,
+            moment,
+            bytes: Bytes::from_slice(alloc, bytes)?,
+        },
+        Step::Ignored(k) => Event::Ignored {
+            port: x1(k),
+            index: 1,
+        },
+        Step::Tick(seconds) => Event::Tick { seconds },
+        Step::Commit(number) => Event::Commit { number },
+        Step::Refuse(number) => Event::Refuse {
+            number,
+            cause: Cause::Groups {
+                needed: 3,
+                limit: 2,
+            },
+        },
     })
 }
 
-/// VLAN 1 untagged on the first ports of extender 1.
-fn one_vlan(alloc: Global, ports: &[u16]) -> Result<List<Command>, Fail> {
-    let mut start = List::new(alloc);
-    start.push(Command::Vlan {
-        vid: vlan(1)?,
-        tagged: PortSet::empty(),
-        untagged: set_of(ports)?,
-    })?;
-    Ok(start)
+/// A history, and what it is of.
+#[derive(Drop)]
+struct Played {
+    basis: Basis,
+    events: List<Event>,
 }
 
-fn basis(present: PortSet, start: List<Command>, commands: List<Command>, ageing: u32) -> Basis {
-    Basis {
-        present,
-        start,
-        commands,
-        ageing,
-    }
-}
-
-/// Adds the rise of the first ports of extender 1, and Settled.
-fn opened(alloc: Global, ports: &[u16]) -> Result<List<Event>, Fail> {
-    let mut events = List::new(alloc);
-    for k in ports {
-        events.push(Event::Up { port: x1(*k)? })?;
-    }
-    events.push(Event::Settled)?;
-    Ok(events)
-}
-
-/// The seconds of the moments at which frames left port k.
-fn seconds(alloc: Global, basis: &Basis, events: &List<Event>, k: u16) -> Result<Vec<u64>, Fail> {
-    let left = flat(alloc, basis, events.as_slice(), x1(k)?)?;
-    let mut out = Vec::new(alloc);
-    for sent in left.as_slice() {
-        out.push(sent.moment / SECOND)?;
+fn list_of(alloc: Global, commands: &[Command]) -> Result<List<Command>, Fail> {
+    let mut out = List::new(alloc);
+    for command in commands {
+        out.push(*command)?;
     }
     Ok(out)
 }
 
-/// What left port k as its n-th frame, from 0.
-fn bytes_left(
+/// Plays steps after a start. Local port b2 is present, commands have numbers from 1, and the ageing time is
+/// 10 seconds.
+fn play(
     alloc: Global,
-    basis: &Basis,
-    events: &List<Event>,
-    k: u16,
-    n: usize,
-) -> Result<Vec<u8>, Fail> {
-    let left = flat(alloc, basis, events.as_slice(), x1(k)?)?;
-    let sent = left.as_slice().get(n).ok_or("a frame that left")?;
-    Ok(Vec::from_slice(alloc, sent.bytes.as_slice())?)
+    start: &[Command],
+    commands: &[Command],
+    steps: &[Step<'_>],
+) -> Result<Played, Fail> {
+    let mut present = PortSet::empty();
+    present.insert(b2());
+    let mut events = List::new(alloc);
+    for step in steps {
+        events.push(event_of(alloc, *step)?)?;
+    }
+    let basis = Basis {
+        present,
+        start: list_of(alloc, start)?,
+        commands: list_of(alloc, commands)?,
+        ageing: 10,
+    };
+    Ok(Played { basis, events })
 }
 
-/// VLAN 1 untagged on the first ports of extender 1, aged after 10 seconds, and no command.
-fn one_vlan_of(alloc: Global, ports: &[u16]) -> Result<Basis, Fail> {
-    Ok(basis(
-        PortSet::empty(),
-        one_vlan(alloc, ports)?,
-        List::new(alloc),
-        10,
-    ))
+/// Whether exactly the frames of these moments left port k, in this order.
+fn left(alloc: Global, history: &Played, k: u16, moments: &[u64]) -> Result<bool, Fail> {
+    let sent = flat(alloc, &history.basis, history.events.as_slice(), x1(k))?;
+    let mut found = Vec::new(alloc);
+    for one in sent.as_slice() {
+        found.push(one.moment)?;
+    }
+    Ok(found.as_slice() == moments)
+}
+
+/// Whether these bytes were the last frame that left port k.
+fn left_last(alloc: Global, history: &Played, k: u16, bytes: &[u8]) -> Result<bool, Fail> {
+    let sent = flat(alloc, &history.basis, history.events.as_slice(), x1(k))?;
+    let last = sent.as_slice().last().ok_or("a frame that left")?;
+    Ok(last.bytes.as_slice() == bytes)
+}
+
+/// The configuration after the history.
+fn config_of(alloc: Global, history: &Played) -> Result<Config, Fail> {
+    Ok(bridge_after(alloc, &history.basis, history.events.as_slice())?)
 }
 
 #[test]
 fn a_broadcast_leaves_by_the_other_port_unchanged(rt: HostRuntime) -> Result<(), Fail> {
     let alloc = rt.alloc();
-    let basis = one_vlan_of(alloc, &[1, 2])?;
     let frame = plain(BROADCAST, STATION_1);
-    let mut events = opened(alloc, &[1, 2])?;
-    assert_eq!(rt;
-        seconds(alloc, &basis, &events, 2)?.as_slice(),
-        [].as_slice()
-    );
-    events.push(relay(alloc, 1, 100, &frame)?)?;
-    assert_eq!(rt;
-        seconds(alloc, &basis, &events, 1)?.as_slice(),
-        [].as_slice()
-    );
-    assert_eq!(rt;
-        seconds(alloc, &basis, &events, 2)?.as_slice(),
-        [100].as_slice()
-    );
-    assert_eq!(rt;
-        bytes_left(alloc, &basis, &events, 2, 0)?.as_slice(),
-        frame.as_slice()
-    );
+    let steps = [Step::Up(1), Step::Up(2), Step::Frame(1, 100, &frame)];
+    let history = play(alloc, &[untagged(1, &[1, 2])], &[], &steps)?;
+    assert!(rt; left(alloc, &history, 1, &[])?);
+    assert!(rt; left(alloc, &history, 2, &[100])?);
+    assert!(rt; left_last(alloc, &history, 2, &frame)?);
     Ok(())
 }
 
@@ -174,52 +194,48 @@ fn frames_of_14_and_of_9216_bytes_are_the_shortest_and_the_longest(
     rt: HostRuntime,
 ) -> Result<(), Fail> {
     let alloc = rt.alloc();
-    let basis = one_vlan_of(alloc, &[1, 2])?;
-    let mut events = opened(alloc, &[1, 2])?;
-    events.push(Event::Ignored {
-        port: x1(1)?,
-        index: 1,
-    })?;
-    events.push(relay(alloc, 1, 101, &[255u8; 14])?)?;
-    events.push(relay(alloc, 1, 102, &[255u8; 9216])?)?;
-    assert_eq!(rt;
-        seconds(alloc, &basis, &events, 2)?.as_slice(),
-        [101, 102].as_slice()
-    );
-    assert_eq!(rt;
-        bytes_left(alloc, &basis, &events, 2, 1)?.as_slice(),
-        [255u8; 9216].as_slice()
-    );
-    let config = bridge_after(alloc, &basis, events.as_slice())?;
-    assert_eq!(rt; passes(&config, x1(1)?, &[255u8; 13]), None);
-    assert_eq!(rt; passes(&config, x1(1)?, &[255u8; 14]), Some(vlan(1)?));
-    assert_eq!(rt; passes(&config, x1(1)?, &[255u8; 9217]), None);
+    let mut long = Vec::new(alloc);
+    long.resize(9217, 255u8)?;
+    let longest = long.get(..9216).ok_or("bytes")?;
+    let steps = [
+        Step::Up(1),
+        Step::Up(2),
+        Step::Ignored(1),
+        Step::Frame(1, 101, &[255u8; 14]),
+        Step::Frame(1, 102, longest),
+    ];
+    let history = play(alloc, &[untagged(1, &[1, 2])], &[], &steps)?;
+    assert!(rt; left(alloc, &history, 2, &[101, 102])?);
+    assert!(rt; left_last(alloc, &history, 2, longest)?);
+    let config = config_of(alloc, &history)?;
+    assert_eq!(rt; passes(&config, x1(1), &[255u8; 13]), None);
+    assert_eq!(rt; passes(&config, x1(1), long.as_slice()), None);
     Ok(())
 }
 
 #[test]
 fn a_port_for_tagged_frames_drops_bad_tags_and_priority_tags(rt: HostRuntime) -> Result<(), Fail> {
     let alloc = rt.alloc();
-    let mut start = one_vlan(alloc, &[1, 2])?;
-    start.push(Command::Accept {
-        port: x1(1)?,
+    let accept = Command::Accept {
+        port: x1(1),
         accept: Accept::TaggedOnly,
-    })?;
-    let basis = basis(PortSet::empty(), start, List::new(alloc), 10);
+    };
     let frame = plain(BROADCAST, STATION_1);
-    let mut events = opened(alloc, &[1, 2])?;
-    events.push(relay(alloc, 1, 100, &tagged(&frame, 0x0F, 0xFF))?)?;
-    events.push(relay(alloc, 1, 101, &tagged(&frame, 0, 0))?)?;
-    events.push(relay(alloc, 1, 102, &tagged(&frame, 0, 0)[..17])?)?;
-    assert_eq!(rt;
-        seconds(alloc, &basis, &events, 2)?.as_slice(),
-        [].as_slice()
+    let (bad, priority, good) = (
+        tagged(&frame, 0x0F, 0xFF),
+        tagged(&frame, 0, 0),
+        tagged(&frame, 0, 1),
     );
-    events.push(relay(alloc, 1, 103, &tagged(&frame, 0, 1))?)?;
-    assert_eq!(rt;
-        seconds(alloc, &basis, &events, 2)?.as_slice(),
-        [103].as_slice()
-    );
+    let steps = [
+        Step::Up(1),
+        Step::Up(2),
+        Step::Frame(1, 100, &bad),
+        Step::Frame(1, 101, &priority),
+        Step::Frame(1, 102, &priority[..17]),
+        Step::Frame(1, 103, &good),
+    ];
+    let history = play(alloc, &[untagged(1, &[1, 2]), accept], &[], &steps)?;
+    assert!(rt; left(alloc, &history, 2, &[103])?);
     Ok(())
 }
 
@@ -228,39 +244,36 @@ fn a_tagged_frame_keeps_pcp_and_dei_and_loses_its_tag_at_an_untagged_member(
     rt: HostRuntime,
 ) -> Result<(), Fail> {
     let alloc = rt.alloc();
-    let mut start = List::new(alloc);
-    start.push(Command::Vlan {
-        vid: vlan(10)?,
-        tagged: set_of(&[1, 2])?,
-        untagged: set_of(&[3])?,
-    })?;
-    let basis = basis(PortSet::empty(), start, List::new(alloc), 10);
+    let ten = Command::Vlan {
+        vid: vlan(10),
+        tagged: set_of(&[1, 2]),
+        untagged: set_of(&[3]),
+    };
     let frame = plain(BROADCAST, STATION_1);
     let sent = tagged(&frame, 0xB0, 0x0A);
-    let mut events = opened(alloc, &[1, 2, 3])?;
-    events.push(relay(alloc, 1, 100, &sent)?)?;
-    assert_eq!(rt;
-        bytes_left(alloc, &basis, &events, 2, 0)?.as_slice(),
-        sent.as_slice()
-    );
-    assert_eq!(rt;
-        bytes_left(alloc, &basis, &events, 3, 0)?.as_slice(),
-        frame.as_slice()
-    );
+    let steps = [
+        Step::Up(1),
+        Step::Up(2),
+        Step::Up(3),
+        Step::Frame(1, 100, &sent),
+    ];
+    let history = play(alloc, &[ten], &[], &steps)?;
+    assert!(rt; left_last(alloc, &history, 2, &sent)?);
+    assert!(rt; left_last(alloc, &history, 3, &frame)?);
     Ok(())
 }
 
 #[test]
 fn a_frame_to_a_station_at_its_own_port_leaves_nowhere(rt: HostRuntime) -> Result<(), Fail> {
     let alloc = rt.alloc();
-    let basis = one_vlan_of(alloc, &[1, 2])?;
-    let mut events = opened(alloc, &[1, 2])?;
-    events.push(relay(alloc, 1, 100, &plain(BROADCAST, STATION_1))?)?;
-    events.push(relay(alloc, 1, 101, &plain(STATION_1, STATION_2))?)?;
-    assert_eq!(rt;
-        seconds(alloc, &basis, &events, 2)?.as_slice(),
-        [100].as_slice()
-    );
+    let steps = [
+        Step::Up(1),
+        Step::Up(2),
+        Step::Frame(1, 100, &plain(BROADCAST, STATION_1)),
+        Step::Frame(1, 101, &plain(STATION_1, STATION_2)),
+    ];
+    let history = play(alloc, &[untagged(1, &[1, 2])], &[], &steps)?;
+    assert!(rt; left(alloc, &history, 2, &[100])?);
     Ok(())
 }
 
@@ -269,153 +282,111 @@ fn a_station_is_forgotten_at_the_ageing_time_and_not_a_second_before(
     rt: HostRuntime,
 ) -> Result<(), Fail> {
     let alloc = rt.alloc();
-    let basis = one_vlan_of(alloc, &[1, 2, 3])?;
     let reply = plain(STATION_1, STATION_2);
-    let mut events = opened(alloc, &[1, 2, 3])?;
-    events.push(relay(alloc, 1, 100, &plain(BROADCAST, STATION_1))?)?;
-    events.push(Event::Tick { seconds: 9 })?;
-    events.push(relay(alloc, 2, 109, &reply)?)?;
-    assert_eq!(rt;
-        learned(alloc, &basis, events.as_slice(), vlan(1)?, Mac(STATION_1))?,
-        Some(x1(1)?)
-    );
-    events.push(Event::Tick { seconds: 1 })?;
-    assert_eq!(rt;
-        learned(alloc, &basis, events.as_slice(), vlan(1)?, Mac(STATION_1))?,
-        None
-    );
-    events.push(relay(alloc, 2, 110, &reply)?)?;
-    assert_eq!(rt; now_after(events.as_slice()), 10);
-    assert_eq!(rt;
-        seconds(alloc, &basis, &events, 1)?.as_slice(),
-        [109, 110].as_slice()
-    );
-    assert_eq!(rt;
-        seconds(alloc, &basis, &events, 2)?.as_slice(),
-        [100].as_slice()
-    );
-    assert_eq!(rt;
-        seconds(alloc, &basis, &events, 3)?.as_slice(),
-        [100, 110].as_slice()
-    );
+    let steps = [
+        Step::Up(1),
+        Step::Up(2),
+        Step::Up(3),
+        Step::Frame(1, 100, &plain(BROADCAST, STATION_1)),
+        Step::Tick(9),
+        Step::Frame(2, 109, &reply),
+        Step::Tick(1),
+        Step::Frame(2, 110, &reply),
+    ];
+    let history = play(alloc, &[untagged(1, &[1, 2, 3])], &[], &steps)?;
+    assert_eq!(rt; now_after(history.events.as_slice()), 10);
+    assert!(rt; left(alloc, &history, 1, &[109, 110])?);
+    assert!(rt; left(alloc, &history, 2, &[100])?);
+    assert!(rt; left(alloc, &history, 3, &[100, 110])?);
     Ok(())
 }
 
 #[test]
 fn a_station_is_looked_up_before_its_own_frame_is_learned(rt: HostRuntime) -> Result<(), Fail> {
     let alloc = rt.alloc();
-    let basis = one_vlan_of(alloc, &[1, 2])?;
-    let mut events = opened(alloc, &[1, 2])?;
-    events.push(relay(alloc, 1, 100, &plain(STATION_1, STATION_1))?)?;
-    events.push(relay(alloc, 1, 101, &plain(STATION_1, STATION_1))?)?;
-    assert_eq!(rt;
-        seconds(alloc, &basis, &events, 2)?.as_slice(),
-        [100].as_slice()
-    );
+    let frame = plain(STATION_1, STATION_1);
+    let steps = [
+        Step::Up(1),
+        Step::Up(2),
+        Step::Frame(1, 100, &frame),
+        Step::Frame(1, 101, &frame),
+    ];
+    let history = play(alloc, &[untagged(1, &[1, 2])], &[], &steps)?;
+    assert!(rt; left(alloc, &history, 2, &[100])?);
+    let events = history.events.as_slice();
+    let place = learned(alloc, &history.basis, events, vlan(1), Mac(STATION_1))?;
+    assert_eq!(rt; place, Some(x1(1)));
     Ok(())
 }
 
 #[test]
 fn a_frame_with_the_type_of_an_e_tag_leaves_unchanged(rt: HostRuntime) -> Result<(), Fail> {
     let alloc = rt.alloc();
-    let basis = one_vlan_of(alloc, &[1, 2])?;
     let mut frame = plain(BROADCAST, STATION_1);
     frame[12] = 0x89;
     frame[13] = 0x3F;
-    frame[16] = 0x10;
-    let mut events = opened(alloc, &[1, 2])?;
-    events.push(relay(alloc, 1, 100, &frame)?)?;
-    assert_eq!(rt;
-        bytes_left(alloc, &basis, &events, 2, 0)?.as_slice(),
-        frame.as_slice()
-    );
+    let steps = [Step::Up(1), Step::Up(2), Step::Frame(1, 100, &frame)];
+    let history = play(alloc, &[untagged(1, &[1, 2])], &[], &steps)?;
+    assert!(rt; left_last(alloc, &history, 2, &frame)?);
     Ok(())
 }
 
 #[test]
 fn a_control_frame_passes_nowhere(rt: HostRuntime) -> Result<(), Fail> {
     let alloc = rt.alloc();
-    let basis = one_vlan_of(alloc, &[1, 2])?;
-    let mut events = opened(alloc, &[1, 2])?;
-    events.push(Event::Ignored {
-        port: x1(1)?,
-        index: 1,
-    })?;
-    assert_eq!(rt;
-        seconds(alloc, &basis, &events, 2)?.as_slice(),
-        [].as_slice()
-    );
-    let config = bridge_after(alloc, &basis, events.as_slice())?;
+    let steps = [Step::Up(1), Step::Up(2), Step::Ignored(1)];
+    let history = play(alloc, &[untagged(1, &[1, 2])], &[], &steps)?;
+    assert!(rt; left(alloc, &history, 2, &[])?);
     let lldp = plain([0x01, 0x80, 0xC2, 0, 0, 0x0E], STATION_1);
-    assert_eq!(rt; passes(&config, x1(1)?, &lldp), None);
-    assert!(rt; config.present(x1(2)?));
-    assert!(rt; !config.present(x1(3)?));
+    assert_eq!(rt; passes(&config_of(alloc, &history)?, x1(1), &lldp), None);
     Ok(())
 }
 
-/// VLAN 1 with three ports of which the first two are isolated, and local port b2, which is present, a
-/// member and isolated too.
-fn isolated(alloc: Global) -> Result<Basis, Fail> {
-    let b2 = PortId::new(1).ok_or("a port")?;
-    let mut present = PortSet::empty();
-    present.insert(b2);
-    let mut start = one_vlan(alloc, &[1, 2, 3])?;
-    start.push(Command::Member {
-        vid: vlan(1)?,
-        port: b2,
-        kind: Kind::Untagged,
-    })?;
-    for port in [x1(1)?, x1(2)?, b2] {
-        start.push(Command::Isolate { port, on: true })?;
-    }
-    let mut commands = List::new(alloc);
-    commands.push(Command::Isolate {
-        port: x1(2)?,
-        on: false,
-    })?;
-    Ok(basis(present, start, commands, 10))
+/// Three ports of extender 1 and b2 in VLAN 1, all isolated but the third of extender 1.
+fn mostly_isolated() -> [Command; 5] {
+    [
+        untagged(1, &[1, 2, 3]),
+        Command::Member {
+            vid: vlan(1),
+            port: b2(),
+            kind: Kind::Untagged,
+        },
+        Command::Isolate {
+            port: x1(1),
+            on: true,
+        },
+        Command::Isolate {
+            port: x1(2),
+            on: true,
+        },
+        Command::Isolate {
+            port: b2(),
+            on: true,
+        },
+    ]
 }
 
 #[test]
 fn isolated_ports_hear_the_others_and_not_one_another(rt: HostRuntime) -> Result<(), Fail> {
     let alloc = rt.alloc();
-    let basis = isolated(alloc)?;
     let frame = plain(BROADCAST, STATION_1);
-    let mut events = opened(alloc, &[1, 2, 3])?;
-    events.push(relay(alloc, 1, 100, &frame)?)?;
-    events.push(relay(alloc, 3, 101, &frame)?)?;
-    assert_eq!(rt;
-        seconds(alloc, &basis, &events, 1)?.as_slice(),
-        [101].as_slice()
-    );
-    assert_eq!(rt;
-        seconds(alloc, &basis, &events, 2)?.as_slice(),
-        [101].as_slice()
-    );
-    assert_eq!(rt;
-        seconds(alloc, &basis, &events, 3)?.as_slice(),
-        [100].as_slice()
-    );
-    Ok(())
-}
-
-#[test]
-fn a_port_that_is_isolated_no_more_hears_an_isolated_one(rt: HostRuntime) -> Result<(), Fail> {
-    let alloc = rt.alloc();
-    let basis = isolated(alloc)?;
-    let frame = plain(BROADCAST, STATION_1);
-    let mut events = opened(alloc, &[1, 2, 3])?;
-    events.push(relay(alloc, 1, 100, &frame)?)?;
-    events.push(Event::Commit { number: 1 })?;
-    events.push(relay(alloc, 1, 102, &frame)?)?;
-    assert_eq!(rt;
-        seconds(alloc, &basis, &events, 2)?.as_slice(),
-        [102].as_slice()
-    );
-    assert_eq!(rt;
-        seconds(alloc, &basis, &events, 3)?.as_slice(),
-        [100, 102].as_slice()
-    );
+    let freed = Command::Isolate {
+        port: x1(2),
+        on: false,
+    };
+    let steps = [
+        Step::Up(1),
+        Step::Up(2),
+        Step::Up(3),
+        Step::Frame(1, 100, &frame),
+        Step::Frame(3, 101, &frame),
+        Step::Commit(1),
+        Step::Frame(1, 102, &frame),
+    ];
+    let history = play(alloc, &mostly_isolated(), &[freed], &steps)?;
+    assert!(rt; left(alloc, &history, 1, &[101])?);
+    assert!(rt; left(alloc, &history, 2, &[101, 102])?);
+    assert!(rt; left(alloc, &history, 3, &[100, 102])?);
     Ok(())
 }
 
@@ -424,116 +395,67 @@ fn a_frame_from_an_isolated_local_port_leaves_by_the_one_port_that_is_not(
     rt: HostRuntime,
 ) -> Result<(), Fail> {
     let alloc = rt.alloc();
-    let basis = isolated(alloc)?;
-    let b2 = PortId::new(1).ok_or("a port")?;
+    let steps = [Step::Up(1), Step::Up(2), Step::Up(3)];
+    let history = play(alloc, &mostly_isolated(), &[], &steps)?;
     let frame = plain(BROADCAST, STATION_1);
-    let events = opened(alloc, &[1, 2, 3])?;
-    let found = targets(alloc, &basis, events.as_slice(), b2, &frame)?;
+    let found = targets(
+        alloc,
+        &history.basis,
+        history.events.as_slice(),
+        b2(),
+        &frame,
+    )?;
+    let only = found.as_slice().first().ok_or("a target")?;
     assert_eq!(rt; found.as_slice().len(), 1);
-    let first = found.as_slice().first().ok_or("a target")?;
-    assert_eq!(rt; first.port, x1(3)?);
-    assert_eq!(rt; first.kind, Kind::Untagged);
-    Ok(())
-}
-
-#[test]
-fn the_clock_is_the_sum_of_the_ticks(rt: HostRuntime) -> Result<(), Fail> {
-    let alloc = rt.alloc();
-    let basis = one_vlan_of(alloc, &[1, 2])?;
-    let frame = plain(BROADCAST, STATION_1);
-    let mut events = opened(alloc, &[1, 2])?;
-    assert_eq!(rt; now_after(events.as_slice()), 0);
-    events.push(relay(alloc, 1, 100, &frame)?)?;
-    events.push(Event::Tick { seconds: 3 })?;
-    events.push(relay(alloc, 2, 103, &frame)?)?;
-    assert_eq!(rt; now_after(events.as_slice()), 3);
-    assert_eq!(rt;
-        seconds(alloc, &basis, &events, 1)?.as_slice(),
-        [103].as_slice()
-    );
-    assert_eq!(rt;
-        seconds(alloc, &basis, &events, 2)?.as_slice(),
-        [100].as_slice()
-    );
+    assert_eq!(rt; only.port, x1(3));
     Ok(())
 }
 
 #[test]
 fn a_static_entry_decides_over_members_and_learned_ports(rt: HostRuntime) -> Result<(), Fail> {
     let alloc = rt.alloc();
-    let mut start = one_vlan(alloc, &[1, 2, 3])?;
-    start.push(Command::Static {
-        vid: vlan(1)?,
+    let entry = Command::Static {
+        vid: vlan(1),
         address: Mac(STATION_1),
-        ports: set_of(&[3])?,
-    })?;
-    let basis = basis(PortSet::empty(), start, List::new(alloc), 10);
-    let mut events = opened(alloc, &[1, 2, 3])?;
-    events.push(relay(alloc, 2, 100, &plain(BROADCAST, STATION_1))?)?;
-    events.push(relay(alloc, 1, 101, &plain(STATION_1, STATION_2))?)?;
-    assert_eq!(rt;
-        seconds(alloc, &basis, &events, 2)?.as_slice(),
-        [].as_slice()
-    );
-    assert_eq!(rt;
-        seconds(alloc, &basis, &events, 3)?.as_slice(),
-        [100, 101].as_slice()
-    );
-    let config = bridge_after(alloc, &basis, events.as_slice())?;
+        ports: set_of(&[3]),
+    };
+    let steps = [
+        Step::Up(1),
+        Step::Up(2),
+        Step::Up(3),
+        Step::Frame(2, 100, &plain(BROADCAST, STATION_1)),
+        Step::Frame(1, 101, &plain(STATION_1, STATION_2)),
+    ];
+    let history = play(alloc, &[untagged(1, &[1, 2, 3]), entry], &[], &steps)?;
+    assert!(rt; left(alloc, &history, 2, &[])?);
+    assert!(rt; left(alloc, &history, 3, &[100, 101])?);
+    let config = config_of(alloc, &history)?;
     assert_eq!(rt; config.statics().len(), 1);
-    assert_eq!(rt; config.entry(vlan(1)?, Mac(STATION_1)), Some(set_of(&[3])?));
-    assert_eq!(rt; config.entry(vlan(2)?, Mac(STATION_1)), None);
-    Ok(())
-}
-
-/// Two ports in VLAN 1, and the commands that take the second down and up again.
-fn with_a_fall(alloc: Global) -> Result<Basis, Fail> {
-    let mut commands = List::new(alloc);
-    commands.push(Command::Down { port: x1(2)? })?;
-    commands.push(Command::Up { port: x1(2)? })?;
-    Ok(basis(PortSet::empty(), one_vlan(alloc, &[1, 2, 3])?, commands, 10))
-}
-
-#[test]
-fn a_port_that_is_down_hears_nothing_until_it_is_up(rt: HostRuntime) -> Result<(), Fail> {
-    let alloc = rt.alloc();
-    let basis = with_a_fall(alloc)?;
-    let frame = plain(BROADCAST, STATION_1);
-    let mut events = opened(alloc, &[1, 2, 3])?;
-    events.push(Event::Commit { number: 1 })?;
-    events.push(relay(alloc, 1, 100, &frame)?)?;
-    events.push(Event::Commit { number: 2 })?;
-    events.push(relay(alloc, 1, 101, &frame)?)?;
-    assert_eq!(rt;
-        seconds(alloc, &basis, &events, 2)?.as_slice(),
-        [101].as_slice()
-    );
-    assert_eq!(rt;
-        seconds(alloc, &basis, &events, 3)?.as_slice(),
-        [100, 101].as_slice()
-    );
+    assert_eq!(rt; config.entry(vlan(2), Mac(STATION_1)), None);
     Ok(())
 }
 
 #[test]
-fn what_was_learned_at_a_port_is_forgotten_when_it_goes_down(rt: HostRuntime) -> Result<(), Fail> {
+fn a_port_that_goes_down_hears_nothing_and_what_was_learned_there_is_forgotten(
+    rt: HostRuntime,
+) -> Result<(), Fail> {
     let alloc = rt.alloc();
-    let basis = with_a_fall(alloc)?;
+    let commands = [Command::Down { port: x1(2) }, Command::Up { port: x1(2) }];
     let reply = plain(STATION_1, STATION_2);
-    let mut events = opened(alloc, &[1, 2, 3])?;
-    events.push(relay(alloc, 2, 100, &plain(BROADCAST, STATION_1))?)?;
-    events.push(relay(alloc, 1, 101, &reply)?)?;
-    events.push(Event::Commit { number: 1 })?;
-    events.push(Event::Commit { number: 2 })?;
-    events.push(relay(alloc, 1, 102, &reply)?)?;
-    assert_eq!(rt;
-        seconds(alloc, &basis, &events, 2)?.as_slice(),
-        [101, 102].as_slice()
-    );
-    assert_eq!(rt;
-        seconds(alloc, &basis, &events, 3)?.as_slice(),
-        [100, 102].as_slice()
-    );
+    let steps = [
+        Step::Up(1),
+        Step::Up(2),
+        Step::Up(3),
+        Step::Frame(2, 100, &plain(BROADCAST, STATION_1)),
+        Step::Frame(1, 101, &reply),
+        Step::Commit(1),
+        Step::Frame(1, 102, &plain(BROADCAST, STATION_2)),
+        Step::Commit(2),
+        Step::Frame(1, 103, &reply),
+    ];
+    let history = play(alloc, &[untagged(1, &[1, 2, 3])], &commands, &steps)?;
+    assert!(rt; left(alloc, &history, 2, &[101, 103])?);
+    assert!(rt; left(alloc, &history, 3, &[100, 102, 103])?);
     Ok(())
 }
 
@@ -542,69 +464,43 @@ fn a_command_counts_from_its_commit_on_and_a_refused_one_never(
     rt: HostRuntime,
 ) -> Result<(), Fail> {
     let alloc = rt.alloc();
-    let mut start = List::new(alloc);
-    start.push(Command::Vlan {
-        vid: vlan(10)?,
-        tagged: set_of(&[1, 2])?,
+    let ten = Command::Vlan {
+        vid: vlan(10),
+        tagged: set_of(&[1, 2]),
         untagged: PortSet::empty(),
-    })?;
-    let mut commands = List::new(alloc);
-    commands.push(Command::Member {
-        vid: vlan(10)?,
-        port: x1(2)?,
+    };
+    let bare = Command::Member {
+        vid: vlan(10),
+        port: x1(2),
         kind: Kind::Untagged,
-    })?;
-    let basis = basis(PortSet::empty(), start, commands, 10);
+    };
     let frame = plain(BROADCAST, STATION_1);
     let sent = tagged(&frame, 0, 10);
-    let mut events = opened(alloc, &[1, 2])?;
-    events.push(Event::Refuse {
-        number: 1,
-        cause: Cause::Groups {
-            needed: 3,
-            limit: 2,
-        },
-    })?;
-    events.push(relay(alloc, 1, 100, &sent)?)?;
-    events.push(Event::Commit { number: 1 })?;
-    events.push(relay(alloc, 1, 102, &sent)?)?;
-    assert_eq!(rt;
-        bytes_left(alloc, &basis, &events, 2, 0)?.as_slice(),
-        sent.as_slice()
-    );
-    assert_eq!(rt;
-        bytes_left(alloc, &basis, &events, 2, 1)?.as_slice(),
-        frame.as_slice()
-    );
+    let up = [Step::Up(1), Step::Up(2)];
+    let refused = [up[0], up[1], Step::Refuse(1), Step::Frame(1, 100, &sent)];
+    let committed = [up[0], up[1], Step::Commit(1), Step::Frame(1, 100, &sent)];
+    let before = play(alloc, &[ten], &[bare], &refused)?;
+    let after = play(alloc, &[ten], &[bare], &committed)?;
+    assert!(rt; left_last(alloc, &before, 2, &sent)?);
+    assert!(rt; left_last(alloc, &after, 2, &frame)?);
     Ok(())
 }
 
 #[test]
-fn each_command_sets_what_it_names(rt: HostRuntime) -> Result<(), Fail> {
+fn a_copy_of_a_configuration_stays_when_the_first_one_changes(rt: HostRuntime) -> Result<(), Fail> {
     let alloc = rt.alloc();
-    let mut config = Config::start(
-        alloc,
-        &PortSet::empty(),
-        one_vlan(alloc, &[1, 2])?.as_slice(),
-    )?;
-    let (port, vid) = (x1(2)?, vlan(7)?);
-    assert!(rt; !config.known(vid));
-    config.apply(&Command::Member {
-        vid,
-        port,
-        kind: Kind::Tagged,
-    })?;
-    config.apply(&Command::Pvid { port, vid })?;
-    config.apply(&Command::Filter { port, on: true })?;
-    config.apply(&Command::Up { port })?;
+    let mut config = Config::start(alloc, &set_of(&[2]), &[untagged(7, &[2])])?;
     let copy = config.copy(alloc)?;
-    config.apply(&Command::Unmember { vid, port })?;
-    config.apply(&Command::Down { port })?;
-    assert!(rt; copy.known(vid) && !config.known(vid));
-    assert!(rt; copy.present(port) && !config.present(port));
-    assert_eq!(rt; copy.member(vid, port), Some(Kind::Tagged));
-    assert_eq!(rt; copy.member(vlan(1)?, port), Some(Kind::Untagged));
-    assert_eq!(rt; copy.rule(port).pvid, vid);
-    assert!(rt; copy.rule(port).filter && !copy.rule(x1(1)?).filter);
+    config.apply(&Command::Unmember {
+        vid: vlan(7),
+        port: x1(2),
+    })?;
+    config.apply(&Command::Pvid {
+        port: x1(2),
+        vid: vlan(7),
+    })?;
+    assert!(rt; copy.known(vlan(7)) && !config.known(vlan(7)));
+    assert_eq!(rt; copy.rule(x1(2)).pvid, vlan(1));
+    assert_eq!(rt; config.rule(x1(2)).pvid, vlan(7));
     Ok(())
 }
