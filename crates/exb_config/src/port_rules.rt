@@ -8,7 +8,8 @@ ghost use Rattle.exb_config.specs.Rows.{rule_of};
 use exb_model::memory::NoMemory;
 use exb_model::port::PortId;
 use exb_model::port_set::PortSet;
-use exb_model::rules::PortRule;
+use exb_model::rules::{Accept, PortRule};
+use exb_model::vlan::Vid;
 use std::alloc::Global;
 use std::marker::Model;
 
@@ -42,7 +43,13 @@ fn first_rules(alloc: Global, count: usize) -> Result<Vec<PortRule>, NoMemory>
     ensures many { IfOk result (λ made. length made.items ≡ count) }
     ensures rules { IfOk result (λ made. (q : ℕ) → rule_of made.items q ≡ default_rule) }
 {
-    Ok(Vec::from_elem(alloc, PortRule::default(), count)?)
+    let rule = PortRule {
+        pvid: Vid::default(),
+        accept: Accept::All,
+        filter: false,
+        isolated: false,
+    };
+    Ok(Vec::from_elem(alloc, rule, count)?)
 }
 
 impl PortRules {

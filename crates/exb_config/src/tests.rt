@@ -7,6 +7,7 @@ use exb_model::port::PortId;
 use exb_model::port_set::PortSet;
 use exb_model::rules::{Accept, PortRule, StaticAt};
 use exb_model::vlan::{Kind, Vid};
+use std::alloc::Global;
 use std::process::Abort;
 use std::test::Fail;
 
@@ -27,15 +28,15 @@ fn ports(rt: &impl Abort, numbers: &[u16]) -> PortSet {
 }
 
 // The bridge's one port b1 is present, and nothing else is set.
-fn start(rt: &(impl Abort + Alloc)) -> Result<Config, NoMemory> {
-    Config::new(rt.alloc(), &ports(rt, &[0]))
+fn start(alloc: Global, rt: &impl Abort) -> Result<Config, NoMemory> {
+    Config::new(alloc, &ports(rt, &[0]))
 }
 
 #[test]
 fn at_the_start_only_the_given_ports_are_present_and_nothing_is_set(
     rt: HostRuntime,
 ) -> Result<(), Fail> {
-    let config = start(&rt)?;
+    let config = start(rt.alloc(), &rt)?;
     assert!(rt; config.present(port(&rt, 0)));
     assert!(rt; !config.present(port(&rt, 64)));
     assert!(rt; config.rule(port(&rt, 4159)) == PortRule::default());
@@ -49,7 +50,7 @@ fn at_the_start_only_the_given_ports_are_present_and_nothing_is_set(
 fn a_port_in_both_lists_of_a_vlan_is_untagged_and_leaves_no_tagged_part(
     rt: HostRuntime,
 ) -> Result<(), Fail> {
-    let mut config = start(&rt)?;
+    let mut config = start(rt.alloc(), &rt)?;
     let ten = vid(&rt, 10);
     config.apply(&Command::Vlan {
         vid: ten,
@@ -68,7 +69,7 @@ fn a_port_in_both_lists_of_a_vlan_is_untagged_and_leaves_no_tagged_part(
 
 #[test]
 fn a_vlan_is_known_until_its_last_member_has_left(rt: HostRuntime) -> Result<(), Fail> {
-    let mut config = start(&rt)?;
+    let mut config = start(rt.alloc(), &rt)?;
     let two = vid(&rt, 2);
     let absent = port(&rt, 70);
     config.apply(&Command::Member {
@@ -90,7 +91,7 @@ fn a_vlan_is_known_until_its_last_member_has_left(rt: HostRuntime) -> Result<(),
 fn a_static_entry_that_is_put_again_keeps_its_place_and_removal_keeps_the_order(
     rt: HostRuntime,
 ) -> Result<(), Fail> {
-    let mut config = start(&rt)?;
+    let mut config = start(rt.alloc(), &rt)?;
     let one = vid(&rt, 1);
     let addresses = [
         Mac([2, 0, 0, 0, 0, 1]),
@@ -121,17 +122,17 @@ fn a_static_entry_that_is_put_again_keeps_its_place_and_removal_keeps_the_order(
         vid: one,
         address: addresses[0],
     })?;
-    let places = [config.static_at(0), config.static_at(1)];
-    for (place, address) in places.iter().zip(&addresses[1..]) {
-        assert!(rt; place.map(|entry| entry.address) == Some(*address));
-    }
+    let second = config.static_at(0).map(|entry| entry.address);
+    assert!(rt; second == Some(addresses[1]));
+    let third = config.static_at(1).map(|entry| entry.address);
+    assert!(rt; third == Some(addresses[2]));
     assert!(rt; config.static_at(2).is_none());
     Ok(())
 }
 
 #[test]
 fn each_rule_is_set_alone_and_a_copy_keeps_what_was(rt: HostRuntime) -> Result<(), Fail> {
-    let mut config = start(&rt)?;
+    let mut config = start(rt.alloc(), &rt)?;
     let p = port(&rt, 64);
     let before = config.copy()?;
     config.apply(&Command::Pvid {
@@ -157,7 +158,7 @@ fn each_rule_is_set_alone_and_a_copy_keeps_what_was(rt: HostRuntime) -> Result<(
 
 #[test]
 fn up_and_down_change_presence_once(rt: HostRuntime) -> Result<(), Fail> {
-    let mut config = start(&rt)?;
+    let mut config = start(rt.alloc(), &rt)?;
     let p = port(&rt, 64);
     for _again in 0..2u8 {
         config.apply(&Command::Up { port: p })?;
