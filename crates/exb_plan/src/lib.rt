@@ -5,5 +5,7 @@
 
 pub mod laws;
 pub mod set_rows;
+#[cfg(test)]
+mod tests;
 
 pub use set_rows::{Row, rows};
