@@ -1,10 +1,14 @@
-use crate::{Row, rows};
+use crate::{Row, SetAt, rows, sets};
+use exb_config::Config;
+use exb_model::address::Mac;
+use exb_model::command::Command;
 use exb_model::list::List;
 use exb_model::port::PortId;
 use exb_model::port_set::PortSet;
 use exb_model::role::Role;
 use exb_model::setup::{ExtenderSetup, Place, Setup};
 use exb_model::tree::Tree;
+use exb_model::vlan::{Kind, Vid};
 use std::alloc::Global;
 use std::test::*;
 
@@ -171,5 +175,127 @@ fn ports_have_their_roles_and_extenders_their_trunks(rt: HostRuntime) -> Result<
     assert_eq!(rt; tree.role(port(1, 2)?), Role::External);
     assert_eq!(rt; tree.role(port(1, 3)?), Role::Unknown);
     assert_eq!(rt; tree.order(), [2, 3, 1].as_slice());
+    Ok(())
+}
+
+fn set_of(ports: &[PortId]) -> PortSet {
+    let mut set = PortSet::empty();
+    for port in ports {
+        set.insert(*port);
+    }
+    set
+}
+
+fn vid(number: u16) -> Result<Vid, Fail> {
+    Ok(Vid::new(number).ok_or("a VLAN is 1 to 4094")?)
+}
+
+fn set_at(bridge_port: u8, ports: &[PortId]) -> SetAt {
+    SetAt {
+        bridge_port,
+        set: set_of(ports),
+    }
+}
+
+// These ports present, and members of VLAN 1 without a VLAN tag.
+fn plain(alloc: Global, ports: &[PortId]) -> Result<Config, Fail> {
+    let present = set_of(ports);
+    let mut config = Config::new(alloc, &present)?;
+    let command = Command::Vlan {
+        vid: vid(1)?,
+        tagged: PortSet::empty(),
+        untagged: present,
+    };
+    config.apply(&command)?;
+    Ok(config)
+}
+
+#[test]
+fn each_bridge_port_has_its_part_of_a_vlan(rt: HostRuntime) -> Result<(), Fail> {
+    let tree = crooked(rt.alloc())?;
+    let config = plain(rt.alloc(), &[port(3, 1)?, port(1, 2)?, port(2, 1)?])?;
+    let sets = sets(rt.alloc(), &tree, &config)?;
+    assert_eq!(rt;
+        sets.as_slice(),
+        [
+            set_at(1, &[port(1, 2)?, port(3, 1)?]),
+            set_at(2, &[port(2, 1)?])
+        ]
+        .as_slice()
+    );
+    Ok(())
+}
+
+#[test]
+fn the_ports_that_are_not_isolated_are_a_set_of_their_own(rt: HostRuntime) -> Result<(), Fail> {
+    let tree = crooked(rt.alloc())?;
+    let mut config = plain(rt.alloc(), &[port(3, 1)?, port(1, 1)?, port(1, 2)?])?;
+    let command = Command::Isolate {
+        port: port(1, 1)?,
+        on: true,
+    };
+    config.apply(&command)?;
+    let sets = sets(rt.alloc(), &tree, &config)?;
+    assert_eq!(rt;
+        sets.as_slice(),
+        [
+            set_at(1, &[port(1, 1)?, port(1, 2)?, port(3, 1)?]),
+            set_at(1, &[port(1, 2)?, port(3, 1)?])
+        ]
+        .as_slice()
+    );
+    Ok(())
+}
+
+#[test]
+fn sets_come_once_by_vlan_with_the_tagged_part_first(rt: HostRuntime) -> Result<(), Fail> {
+    let tree = crooked(rt.alloc())?;
+    let mut config = plain(rt.alloc(), &[port(1, 1)?, port(1, 2)?, port(3, 1)?])?;
+    for number in 2..4u16 {
+        let command = Command::Vlan {
+            vid: vid(number)?,
+            tagged: set_of(&[port(3, 1)?]),
+            untagged: set_of(&[port(1, 1)?]),
+        };
+        config.apply(&command)?;
+    }
+    let sets = sets(rt.alloc(), &tree, &config)?;
+    assert_eq!(rt;
+        sets.as_slice(),
+        [
+            set_at(1, &[port(1, 1)?, port(1, 2)?, port(3, 1)?]),
+            set_at(1, &[port(3, 1)?]),
+            set_at(1, &[port(1, 1)?])
+        ]
+        .as_slice()
+    );
+    Ok(())
+}
+
+#[test]
+fn a_static_entry_has_a_set_and_absent_ports_have_none(rt: HostRuntime) -> Result<(), Fail> {
+    let tree = crooked(rt.alloc())?;
+    let mut config = plain(rt.alloc(), &[port(1, 1)?, port(3, 1)?])?;
+    let member = Command::Member {
+        vid: vid(1)?,
+        port: port(2, 1)?,
+        kind: Kind::Tagged,
+    };
+    config.apply(&member)?;
+    let entry = Command::Static {
+        vid: vid(1)?,
+        address: Mac([2, 0, 0, 0, 0, 1]),
+        ports: set_of(&[port(3, 1)?, port(2, 1)?]),
+    };
+    config.apply(&entry)?;
+    let sets = sets(rt.alloc(), &tree, &config)?;
+    assert_eq!(rt;
+        sets.as_slice(),
+        [
+            set_at(1, &[port(1, 1)?, port(3, 1)?]),
+            set_at(1, &[port(3, 1)?])
+        ]
+        .as_slice()
+    );
     Ok(())
 }
