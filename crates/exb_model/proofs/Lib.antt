@@ -2,7 +2,7 @@ pub mod Words
 pub mod Lists
 pub mod PortLemmas
 pub mod ETagLemmas
-pub mod Validity
+pub mod Remembering
 pub mod MaskLemmas
 pub mod TreeWays
 pub mod TreeLoops
@@ -10,4 +10,4 @@ pub mod SharedPorts
 pub mod TreeOrder
 pub mod TreeHung
 pub mod TreeCovered
-pub mod Remembering
+pub mod Validity
