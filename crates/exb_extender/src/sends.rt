@@ -32,6 +32,15 @@ pub struct Out {
     pub form: Form,
 }
 
+/// What becomes of a frame that arrives at an external port.
+#[derive(Clone, Copy, Debug, PartialEq, Eq)]
+pub enum Entry {
+    /// It goes up.
+    Sent,
+    /// It is too short or too long, has a reserved destination, or the port has no channel.
+    Ignored,
+}
+
 /// What an extender sends. No frame is copied here: a form says what becomes of the one that came.
 #[derive(Drop)]
 pub struct Sends {
