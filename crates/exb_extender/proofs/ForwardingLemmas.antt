@@ -1,23 +1,25 @@
 -- Replicating a frame: the ports of a word, lowest first.
-use Rattle.std.proofs.Common.{◌≡◌, ◌≢◌, ◌⊎◌, ℕ, zero, suc, ◌+◌, ◌-◌, ◌*◌, ◌/◌, ◌%◌, ◌^◌, ◌<◌, ◌≤◌, ◌==◌, ◌&&◌, ◌||◌, not, Bool, true, false, cond, nat_lt, nat_le, List, [], ◌∷◌, ◌++◌, length, get_or, map, refl, ap, sym, ◌∙◌, subst, arith, inl, inr, append_assoc, length-append}
+use Rattle.std.proofs.Common.{◌≡◌, ◌≢◌, ◌⊎◌, ℕ, zero, suc, ◌+◌, ◌-◌, ◌*◌, ◌%◌, ◌^◌, ◌<◌, ◌≤◌, ◌==◌, ◌&&◌, not, Bool, true, false, cond, nat_lt, nat_le, List, [], ◌∷◌, ◌++◌, length, map, refl, ap, sym, ◌∙◌, subst, arith, inl, inr, append_assoc, length-append}
 use Rattle.std.specs.Prelude.{Option, Some, None}
-use Rattle.std.specs.List.{flat_map, range_with_len}
+use Rattle.std.specs.Prelude.{All}
+use Rattle.std.specs.List.{flat_map, range_with_len, AllByRecursion}
+use Rattle.std.proofs.lemmas.List.Elements.{All-from_recursion}
+use Rattle.exb_model.specs.Frames.{number_at}
 use Rattle.std.specs.Int.{w64, bit_at, bit_not, trailing_zeros}
-use Rattle.std.proofs.lemmas.Bool.{and_parts, ltb-true, leb-true, cases_eq, cases_lt, cases_Bool, le-ltb, and_right, and_from, ne_eqb, eq-eqb, lt-ltb, le-leb}
+use Rattle.std.proofs.lemmas.Bool.{and_parts, leb-true, cases_eq, cases_Bool, le-ltb, and_right, and_from, ne_eqb, eq-eqb, lt-ltb, le-leb, both_ways}
 use Rattle.std.proofs.lemmas.Nat.{and_le_l}
 use Rattle.std.proofs.lemmas.Nat.Bits.{bit_at-trailing_zeros, bit_at_clear_same}
 use Rattle.std.proofs.lemmas.List.{map-append, append-nil}
-use Rattle.exb_model.specs.ETags.{Tag, read_etag, stripped}
+use Rattle.exb_model.specs.ETags.{Tag, has_etag, read_etag, stripped}
 use Rattle.exb_model.specs.ExtenderForwarding.{emits, emits_tagged, left_out, bare}
 use Rattle.exb_csp.specs.Execute.{ExtenderTables, in_mask}
 use Rattle.exb_csp.proofs.Executing.{mask_empty, and_true}
 use Rattle.exb_csp.proofs.PlainLemmas.{without}
-use Rattle.exb_extender.specs.declared.sends.Form.{Form}
 use Rattle.exb_extender.specs.declared.sends.Form.TheVariants.{AsIs, Stripped}
 use Rattle.exb_extender.specs.declared.sends.Out.{Out}
 use Rattle.exb_extender.specs.declared.sends.Side.TheVariants.{Up, Port}
-use Rattle.exb_extender.specs.Forwarding.{Sent, forwarding_of, sent_at, emitted}
-use Rattle.exb_extender.specs.Sending.{out_sent, form_at, listed_at, outs_at, outs_where}
+use Rattle.exb_extender.specs.Forwarding.{Sent, forwarding_of, sent_at, sent_from_cascade, sent_from_external, emitted}
+use Rattle.exb_extender.specs.Sending.{CanBeGiven, out_sent, form_at, listed_at, outs_at, outs_where}
 use Rattle.exb_extender.proofs.TableLemmas.{in_mask-without}
 
 -- ---- lists made of the numbers of a range
@@ -215,3 +217,56 @@ module _ (t : ExtenderTables) (f : List ℕ) where
   pub none_sent : read_etag f ≡ None → [] ≡ emitted t Up f
   unfolding emitted emits
   none_sent is = sym (flat_map-none (sent_at t f) 1 t.ports (λ q low. ap (λ o. map (at_port q) (emits_tagged (forwarding_of t) q f o)) is))
+
+-- ---- forms that the frame can be given
+
+all_at : (f : List ℕ) (q : ℕ) (b none out strip : Bool) → 20 ≤ length f
+    → AllByRecursion (λ (o : Out). CanBeGiven f o.form) (cond b (listed_at q (cond none None (cond out None (cond strip (Some Stripped) (Some AsIs))))) [])
+all_at f q false none out strip long = tt
+all_at f q true true out strip long = tt
+all_at f q true false true strip long = tt
+all_at f q true false false true long = (long, tt)
+all_at f q true false false false long = (tt, tt)
+
+all_append : {X : Type 0} (P : X → Type 0) (xs ys : List X) → AllByRecursion P xs → AllByRecursion P ys → AllByRecursion P (xs ++ ys)
+all_append P [] ys first rest = rest
+all_append P (x ∷ xs) ys first rest = (first.0, all_append P xs ys first.1 rest)
+
+all_flat_map : {X : Type 0} (P : X → Type 0) (g : ℕ → List X) → ((q : ℕ) → AllByRecursion P (g q)) → (a n : ℕ) → AllByRecursion P (flat_map g (range_with_len a n))
+all_flat_map P g each a zero = tt
+all_flat_map P g each a (suc n) = all_append P (g a) (flat_map g (range_with_len (a + 1) n)) (each a) (all_flat_map P g each (a + 1) n)
+
+pub outs_given : (f : List ℕ) (p : ℕ → Bool) (t : ExtenderTables) (tag : Tag) (frames : List Out) → 20 ≤ length f → frames ≡ outs_where p t tag → All (λ (o : Out). CanBeGiven f o.form) frames
+unfolding outs_where
+outs_given f p t tag frames long is =
+    subst (λ (xs : List Out). All (λ (o : Out). CanBeGiven f o.form) xs) (sym is)
+    (All-from_recursion (λ (o : Out). CanBeGiven f o.form) (flat_map (λ q. cond (p q) (outs_at t tag q) []) (range_with_len 1 64))
+    (all_flat_map (λ (o : Out). CanBeGiven f o.form) (λ q. cond (p q) (outs_at t tag q) [])
+    (λ q. all_at f q (p q) (t.own q == 0) (left_out (forwarding_of t) q tag) (bare (forwarding_of t) q tag) long) 1 64))
+
+-- a frame whose E-TAG can be read has 20 bytes
+pub tagged_long : (f : List ℕ) (tag : Tag) → Some tag ≡ read_etag f → 20 ≤ length f
+tagged_long f tag is =
+    elim (cases_Bool (has_etag f)) [
+      | inl has ↦ leb-true 20 (length f) (and_parts (nat_le 20 (length f)) (number_at f 12 == 35135 && number_at f 18 == 0) has).0
+      | inr out ↦ absurd (some_none (rw out at is))
+    ]
+  where
+    some_none : Some tag ≡ None → ⊥
+    some_none e = cc
+
+-- ---- frames from ports
+
+module _ (t : ExtenderTables) (port : ℕ) (f : List ℕ) where
+  pub from_cascade : t.cascade port ≡ true → sent_from_cascade (t.own port) f ≡ emitted t (Port port) f
+  unfolding emitted
+  from_cascade kind = rw kind refl
+
+  pub from_external : t.cascade port ≡ false → sent_from_external (t.own port) f ≡ emitted t (Port port) f
+  unfolding emitted
+  from_external kind = rw kind refl
+
+  -- an external port without a channel
+  pub from_idle : t.cascade port ≡ false → (t.cascade port ≡ true) ⊎ (t.own port ≡ 0) → [] ≡ emitted t (Port port) f
+  from_idle external (inl cascade) = absurd (both_ways (t.cascade port) external cascade)
+  from_idle external (inr idle) = let e : (t.own port == 0) ≡ true = eq-eqb _ _ idle in sym (sym (from_external external) ∙ rw e refl)

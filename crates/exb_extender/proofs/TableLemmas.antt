@@ -1,10 +1,8 @@
 -- The tables that are kept, as tables: masks and rows, codes, and what a request leaves.
-use Rattle.std.proofs.Common.{◌≡◌, ◌≢◌, ◌⊎◌, ℕ, zero, suc, ◌+◌, ◌-◌, ◌*◌, ◌/◌, ◌%◌, ◌^◌, ◌<◌, ◌≤◌, ◌==◌, ◌&&◌, ◌||◌, not, Bool, true, false, cond, nat_lt, nat_le, max, List, [], ◌∷◌, ◌++◌, length, get_or, set, replicate, take, drop, refl, ap, sym, ◌∙◌, subst, arith, bit_and, bit_or, inl, inr}
-use Rattle.std.specs.Prelude.{All}
-use Rattle.std.specs.List.{list_all}
-use Rattle.std.specs.Int.{w64, bit_at, bit_not}
+use Rattle.std.proofs.Common.{◌≡◌, ◌≢◌, ◌⊎◌, ℕ, ◌+◌, ◌-◌, ◌*◌, ◌/◌, ◌%◌, ◌^◌, ◌<◌, ◌≤◌, ◌==◌, ◌&&◌, ◌||◌, not, Bool, true, false, cond, nat_lt, nat_le, List, [], ◌∷◌, length, get_or, set, replicate, take, refl, ap, sym, ◌∙◌, arith, bit_and, bit_or, inl, inr}
+use Rattle.std.specs.Int.{w64, bit_at}
 use Rattle.std.proofs.lemmas.Bool.{and_parts, ltb-true, leb-true, cases_eq, cases_lt, cases_Bool, le-ltb, and_right, and_from, ne_eqb, eq-eqb, lt-ltb, le-leb}
-use Rattle.std.proofs.lemmas.List.{get_or-set_other, get_or-set_same, length-set, length-replicate}
+use Rattle.std.proofs.lemmas.List.{get_or-set_other, get_or-set_same, length-replicate}
 use Rattle.std.proofs.lemmas.Nat.Bits.{shr_and_one, bit_at_clear_same, bit_at_clear_other}
 use Rattle.exb_csp.specs.declared.group_rows.GroupRow.{GroupRow}
 use Rattle.exb_csp.specs.declared.message.Request.{Request}
@@ -12,13 +10,13 @@ use Rattle.exb_csp.specs.declared.message.Request.TheVariants.{Open, PortCreate,
 use Rattle.exb_csp.specs.declared.message.RequestKind.{RequestKind}
 use Rattle.exb_csp.specs.declared.message.Response.{Response}
 use Rattle.exb_csp.specs.Kinds.{kind_of}
-use Rattle.exb_csp.specs.Execute.{ExtenderTables, answered_ports, response_to, in_mask, some_port, has_pair, has_stray, is_channel, create_code, row_code, rows_code, clear_code, clears_code, in_rows, is_listed, code_of, done, executed}
+use Rattle.exb_csp.specs.Execute.{ExtenderTables, answered_ports, response_to, in_mask, has_stray, create_code, row_code, rows_code, clear_code, clears_code, in_rows, is_listed, code_of, done, executed}
 use Rattle.exb_csp.specs.Plain.{AddsRows, ClearsRows, ClearsPair, powered_on}
-use Rattle.exb_csp.proofs.Executing.{or_false, and_true, or_assoc, both_out, mask_empty, some_port-true, some_port-false, no_port, executed_done, executed_refused}
+use Rattle.exb_csp.proofs.Executing.{or_false, and_true, or_assoc, both_out, mask_empty, some_port-true, some_port-false, executed_done, executed_refused}
 use Rattle.exb_csp.proofs.PlainLemmas.{no_row, in_mask-or, in_rows-next, is_listed-next, one_row, without}
 use Rattle.exb_model.proofs.Words.{get_or-same}
 use Rattle.exb_extender.specs.Kept.{IsKept}
-use Rattle.exb_extender.specs.Tables.{tables_in}
+use Rattle.exb_extender.specs.Rows.{tables_in}
 
 -- ---- masks and rows
 

@@ -1,6 +1,9 @@
 pub mod Kept
+pub mod Rows
 pub mod Tables
 pub mod Forwarding
 pub mod Sending
 pub mod Machine
+pub mod Fields
+pub mod ControlState
 pub mod Control

@@ -1,14 +1,13 @@
 -- What a list of sides and forms says is sent.
-use Rattle.std.specs.Prelude.{◌≡◌, ℕ, ◌==◌, ◌<◌, ◌≤◌, ◌++◌, Bool, if◌then◌else◌, List, [], ◌∷◌, length, map, Option, Some, None, ⊤}
+use Rattle.std.specs.Prelude.{◌≡◌, ℕ, ◌==◌, ◌≤◌, ◌++◌, Bool, if◌then◌else◌, List, [], ◌∷◌, length, map, Option, Some, None, ⊤}
 use Rattle.std.specs.List.{flat_map, range_with_len}
 use Rattle.exb_model.specs.ETags.{Tag, TagFits, tagged, stripped}
 use Rattle.exb_model.specs.ExtenderForwarding.{left_out, bare}
-use Rattle.exb_csp.specs.Execute.{ExtenderTables, in_mask}
+use Rattle.exb_csp.specs.Execute.{ExtenderTables}
 use Rattle.exb_extender.specs.declared.sends.Form.{Form}
 use Rattle.exb_extender.specs.declared.sends.Form.TheVariants.{AsIs, Stripped, Tagged}
 use Rattle.exb_extender.specs.declared.sends.Out.{Out}
 use Rattle.exb_extender.specs.declared.sends.Sends.{Sends}
-use Rattle.exb_extender.specs.declared.sends.Side.{Side}
 use Rattle.exb_extender.specs.declared.sends.Side.TheVariants.{Port}
 use Rattle.exb_extender.specs.Forwarding.{Sent, forwarding_of, up, channel_tag}
 

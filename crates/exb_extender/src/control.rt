@@ -1,9 +1,14 @@
 //! The control of an extender: what it hears, answers and sends by itself.
-ghost use Rattle.std.specs.Prelude.{◌≡◌, ◌↔◌, ℕ, ◌≤◌, ◌<◌, ◌++◌, [], ◌∷◌, length, Bool, false, None, IsTrue};
+ghost use Rattle.std.specs.Prelude.{◌≡◌, ◌↔◌, ℕ, ◌≤◌, ◌<◌, ◌++◌, [], ◌∷◌, ◌==◌, ◌&&◌, ◌||◌, not, if◌then◌else◌, length, Bool, false, Ok, None, IsTrue};
 ghost use Rattle.exb_csp.specs.Execute.{ExtenderTables};
-ghost use Rattle.exb_ecp.specs.Machine.{new_state};
+ghost use Rattle.exb_ecp.specs.Machine.{new_state, beaten, beat_of, IsSound};
 ghost use Rattle.exb_session.specs.Answering.{fresh};
-ghost use Rattle.exb_extender.specs.Kept.{IsInOrder};
+ghost use Rattle.exb_extender.specs.Control.{state_with, state_in};
+ghost use Rattle.exb_extender.specs.ControlState.{IsInOrder};
+ghost use Rattle.exb_csp.specs.Reading.{read_message};
+ghost use Rattle.exb_extender.specs.Machine.{address_of, acknowledgement_frame, request_frame, announcement_frame, is_open, next_count, answers, beats, sends_again, takes_request, takes_message, hears_request, hears_pdu, hears};
+ghost use Rattle.exb_extender.specs.Forwarding.{up};
+ghost use Rattle.exb_extender.specs.Sending.{IsNothing, own_sent};
 
 use crate::sends::Sends;
 use crate::tables::Tables;
@@ -13,6 +18,7 @@ use exb_lldp::Announce;
 use exb_model::address::Mac;
 use exb_model::buffers::ControlBuf;
 use exb_session::{Answerer, Due};
+use std::marker::Model;
 
 /// The ECP subtype of control messages.
 const SUBTYPE: u16 = 2;
@@ -31,7 +37,16 @@ pub(crate) struct Control {
     beats: u8,
     /// Whether Open was executed: then it announces itself no more.
     opened: bool,
-    pub ghost kept: { IsInOrder number session ecp beats },
+}
+
+impl Model for Control {
+    ghost use Rattle.exb_extender.specs.ControlState.{ControlState, IsInOrder};
+
+    ghost Value = { ControlState };
+
+    ghost view = { λ c. record { number = c.number; session = c.session; ecp = c.ecp; beats = c.beats; opened = c.opened } };
+
+    ghost invariant = { λ c. IsInOrder c.number c.session c.ecp c.beats };
 }
 
 // The address of an extender.
@@ -68,11 +83,18 @@ fn write_request(number: u8, sequence: u16, payload: &[u8], out: &mut ControlBuf
     exb_ecp::write(address_of(number), &pdu, payload, out);
 }
 
-// Writes the announcement of an extender with so many ports.
-fn write_announcement(number: u8, ports: u8, out: &mut ControlBuf)
-    requires { (1 ≤ ports) × (ports ≤ 64) }
-    ensures { out.new.items ≡ announcement_frame number ports }
+// Writes the announcement of an extender with so many ports, if it isn't opened and the count is 1.
+fn announce(number: u8, ports: u8, opened: bool, count: u8, out: &mut ControlBuf)
+    requires ports { (1 ≤ ports) × (ports ≤ 64) }
+    requires empty { out.old.items ≡ [] }
+    ensures { own_sent out.new.items ≡ (if not opened && (count == 1) then up (announcement_frame number ports) ∷ [] else []) }
 {
+    if opened {
+        return;
+    }
+    if count != 1 {
+        return;
+    }
     let announce = Announce {
         chassis: address_of(number),
         ports,
@@ -80,15 +102,42 @@ fn write_announcement(number: u8, ports: u8, out: &mut ControlBuf)
     exb_lldp::write(&announce, out);
 }
 
-fn is_open(request: &Request) -> bool
-    ensures { result ≡ is_open request.now }
+// One beat passes at the ECP of an extender, which may send again.
+fn beat_at(number: u8, ecp: &mut Ecp, out: &mut ControlBuf)
+    requires sound { IsSound ecp.old }
+    requires empty { out.old.items ≡ [] }
+    ensures state { ecp.new ≡ beaten ecp.old }
+    ensures sends { own_sent out.new.items ≡ sends_again (beat_of ecp.old.sending) number ecp.old.sending }
 {
-    matches!(request, Request::Open)
+    match ecp.beat() {
+        Beat::SendAgain => write_request(number, ecp.sequence(), ecp.payload(), out),
+        Beat::Nothing => {}
+        Beat::GaveUp => {}
+    }
+}
+
+// Whether Open was executed, once this request is.
+fn is_opened(opened: bool, request: &Request) -> bool
+    ensures { result ≡ (opened || is_open request.now) }
+{
+    match request {
+        Request::Open => true,
+        _ => opened,
+    }
+}
+
+// The count after this one.
+fn next_count(beats: u8) -> u8
+    requires { beats < 16 }
+    ensures { result ≡ next_count beats }
+{
+    match beats {
+        15 => 0,
+        _ => beats + 1,
+    }
 }
 
 impl Control {
-    ghost use Rattle.exb_extender.specs.Control.{state_with};
-
     /// At power-on: nothing was heard, executed or sent.
     pub(crate) fn new(number: u8) -> Control
         requires { (1 ≤ number) × (number ≤ 64) }
@@ -130,114 +179,113 @@ impl Control {
             → own_sent sends.new.first.items ++ own_sent sends.new.second.items ≡ (beats (state_with t self.old)).1 }
     {
         self.beats = next_count(self.beats);
-        if !self.opened && self.beats == 1 {
-            write_announcement(self.number, ports, &mut sends.first);
-        }
-        if let Beat::SendAgain = self.ecp.beat() {
-            write_request(
-                self.number,
-                self.ecp.sequence(),
-                self.ecp.payload(),
-                &mut sends.second,
-            );
-        }
+        announce(
+            self.number,
+            ports,
+            self.opened,
+            self.beats,
+            &mut sends.first,
+        );
+        beat_at(self.number, &mut self.ecp, &mut sends.second);
     }
 
     /// Whether nothing is sent.
     pub(crate) fn idle(&self) -> bool
-        ensures { IsTrue result ↔ (self.now.ecp.sending ≡ None) }
+        ensures idle { IsTrue result ↔ (self.now.ecp.sending ≡ None) }
+        ensures sound { IsInOrder self.now.number self.now.session self.now.ecp self.now.beats }
     {
         self.ecp.idle()
     }
-}
 
-// The count after this one.
-fn next_count(beats: u8) -> u8
-    requires { beats < 16 }
-    ensures { result ≡ next_count beats }
-{
-    match beats {
-        15 => 0,
-        _ => beats + 1,
-    }
-}
-
-// Executes the next request, answers the last one again, and ignores any other.
-fn take_request(
-    tables: &mut Tables,
-    control: &mut Control,
-    serial: u64,
-    request: Request,
-    out: &mut ControlBuf,
-)
-    requires { out.old.items ≡ [] }
-    ensures state { state_in tables.new control.new ≡ (takes_request serial request (state_in tables.old control.old)).0 }
-    ensures sends { own_sent out.new.items ≡ (takes_request serial request (state_in tables.old control.old)).1 }
-{
-    match control.session.take(serial, request) {
-        Due::Execute(request) => {
-            let response = tables.execute(&request);
-            control.session.store(response);
-            control.opened = control.opened || is_open(&request);
-            control.answer(out);
+    // Executes the next request, answers the last one again, and ignores any other.
+    fn take_request(
+        &mut self,
+        tables: &mut Tables,
+        serial: u64,
+        request: Request,
+        out: &mut ControlBuf,
+    )
+        requires { out.old.items ≡ [] }
+        ensures state { state_in tables.new self.new ≡ (takes_request serial request (state_in tables.old self.old)).0 }
+        ensures sends { own_sent out.new.items ≡ (takes_request serial request (state_in tables.old self.old)).1 }
+    {
+        match self.session.take(serial, request) {
+            Due::Execute(request) => {
+                let response = tables.execute(&request);
+                self.session.store(response);
+                self.opened = is_opened(self.opened, &request);
+                self.answer(out);
+            }
+            Due::Again => self.answer(out),
+            Due::Ignore => {}
         }
-        Due::Again => control.answer(out),
-        Due::Ignore => {}
     }
-}
 
-fn take_payload(tables: &mut Tables, control: &mut Control, payload: &[u8], out: &mut ControlBuf)
-    requires { out.old.items ≡ [] }
-    ensures state { state_in tables.new control.new ≡ (takes_message (read_message payload.now) (state_in tables.old control.old)).0 }
-    ensures sends { own_sent out.new.items ≡ (takes_message (read_message payload.now) (state_in tables.old control.old)).1 }
-{
-    let Ok(message) = exb_csp::read(payload) else {
-        return;
-    };
-    match message.body {
-        Body::Ask(request) => take_request(tables, control, message.serial, request, out),
-        Body::Answer(_) => {}
+    fn take_payload(&mut self, tables: &mut Tables, payload: &[u8], out: &mut ControlBuf)
+        requires { out.old.items ≡ [] }
+        ensures state { state_in tables.new self.new ≡ (takes_message (read_message payload.now) (state_in tables.old self.old)).0 }
+        ensures sends { own_sent out.new.items ≡ (takes_message (read_message payload.now) (state_in tables.old self.old)).1 }
+    {
+        let Ok(message) = exb_csp::read(payload) else {
+            return;
+        };
+        let Message { serial, body } = message;
+        match body {
+            Body::Ask(request) => self.take_request(tables, serial, request, out),
+            Body::Answer(_) => {}
+        }
     }
-}
 
-// Acknowledges a request of ECP, and takes its payload if it is fresh.
-fn hear_request(
-    tables: &mut Tables,
-    control: &mut Control,
-    sequence: u16,
-    payload: &[u8],
-    sends: &mut Sends,
-)
-    requires { IsNothing sends.old }
-    ensures state { state_in tables.new control.new ≡ (hears_request sequence payload.now (state_in tables.old control.old)).0 }
-    ensures frames { sends.new.frames ≡ sends.old.frames }
-    ensures sends { own_sent sends.new.first.items ++ own_sent sends.new.second.items
-        ≡ (hears_request sequence payload.now (state_in tables.old control.old)).1 }
-{
-    write_acknowledgement(control.number, sequence, &mut sends.first);
-    if control.ecp.received(sequence) {
-        take_payload(tables, control, payload, &mut sends.second);
+    // Acknowledges a request of ECP, and takes its payload if it is fresh.
+    fn hear_request(
+        &mut self,
+        tables: &mut Tables,
+        sequence: u16,
+        payload: &[u8],
+        sends: &mut Sends,
+    )
+        requires { IsNothing sends.old }
+        ensures state { state_in tables.new self.new ≡ (hears_request sequence payload.now (state_in tables.old self.old)).0 }
+        ensures frames { sends.new.frames ≡ sends.old.frames }
+        ensures sends { own_sent sends.new.first.items ++ own_sent sends.new.second.items
+            ≡ (hears_request sequence payload.now (state_in tables.old self.old)).1 }
+    {
+        write_acknowledgement(self.number, sequence, &mut sends.first);
+        if self.ecp.received(sequence) {
+            self.take_payload(tables, payload, &mut sends.second);
+        }
     }
-}
 
-/// Hears a control frame that comes from upstream without an E-TAG.
-pub(crate) fn hear(tables: &mut Tables, control: &mut Control, frame: &[u8], sends: &mut Sends)
-    requires { IsNothing sends.old }
-    ensures state { state_in tables.new control.new ≡ (hears frame.now (state_in tables.old control.old)).0 }
-    ensures frames { sends.new.frames ≡ sends.old.frames }
-    ensures sends { own_sent sends.new.first.items ++ own_sent sends.new.second.items
-        ≡ (hears frame.now (state_in tables.old control.old)).1 }
-{
-    let Ok(pdu) = exb_ecp::read(frame) else {
-        return;
-    };
-    if pdu.subtype != SUBTYPE {
-        return;
+    fn hear_pdu(&mut self, tables: &mut Tables, pdu: &Pdu, frame: &[u8], sends: &mut Sends)
+        requires long { 18 ≤ length frame.now }
+        requires empty { IsNothing sends.old }
+        ensures state { state_in tables.new self.new ≡ (hears_pdu (Ok pdu.now) frame.now (state_in tables.old self.old)).0 }
+        ensures frames { sends.new.frames ≡ sends.old.frames }
+        ensures sends { own_sent sends.new.first.items ++ own_sent sends.new.second.items
+            ≡ (hears_pdu (Ok pdu.now) frame.now (state_in tables.old self.old)).1 }
+    {
+        if pdu.subtype != SUBTYPE {
+            return;
+        }
+        if pdu.acknowledgement {
+            self.ecp.acked(pdu.sequence);
+            return;
+        }
+        let (_, payload) = frame.split_at(PAYLOAD);
+        self.hear_request(tables, pdu.sequence, payload, sends);
     }
-    if pdu.acknowledgement {
-        control.ecp.acked(pdu.sequence);
-        return;
+
+    /// Hears a control frame that comes from upstream without an E-TAG.
+    pub(crate) fn hear(&mut self, tables: &mut Tables, frame: &[u8], sends: &mut Sends)
+        requires { IsNothing sends.old }
+        ensures state { state_in tables.new self.new ≡ (hears frame.now (state_in tables.old self.old)).0 }
+        ensures frames { sends.new.frames ≡ sends.old.frames }
+        ensures sends { own_sent sends.new.first.items ++ own_sent sends.new.second.items
+            ≡ (hears frame.now (state_in tables.old self.old)).1 }
+    {
+        match exb_ecp::read(frame) {
+            Ok(pdu) => self.hear_pdu(tables, &pdu, frame, sends),
+            Err(_) => {}
+        }
     }
-    let (_, payload) = frame.split_at(PAYLOAD);
-    hear_request(tables, control, pdu.sequence, payload, sends);
 }

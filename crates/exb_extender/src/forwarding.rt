@@ -1,5 +1,5 @@
 //! Where a frame goes that comes from one side, and in which form (after IEEE 802.1BR).
-ghost use Rattle.std.specs.Prelude.{◌≡◌, ℕ, ◌+◌, ◌<◌, ◌≤◌, ◌==◌, ◌++◌, [], length, map, not, is_none, IfSome, IsTrue};
+ghost use Rattle.std.specs.Prelude.{◌≡◌, ℕ, ◌+◌, ◌<◌, ◌≤◌, ◌==◌, ◌++◌, [], length, map, not, is_none, All, IfSome, IsTrue};
 ghost use Rattle.arrayvec.specs.ArrayVec.{array_vec_len};
 ghost use Rattle.exb_model.specs.Frames.{number_at};
 ghost use Rattle.exb_model.specs.ETags.{read_etag};
@@ -99,7 +99,8 @@ fn replicate(tables: &Tables, tag: &ETag, frames: &mut Outs)
 /// Where a frame goes that comes from upstream: in rising order to the ports of its E-CID.
 pub(crate) fn send_down(tables: &Tables, frame: &[u8], frames: &mut Outs)
     requires { frames.old.items ≡ [] }
-    ensures { map (out_sent frame.now) frames.new.items ≡ emitted (tables_of tables.now) Side.Up frame.now }
+    ensures sends { map (out_sent frame.now) frames.new.items ≡ emitted (tables_of tables.now) Side.Up frame.now }
+    ensures given { All (λ out. CanBeGiven frame.now out.form) frames.new.items }
 {
     if let Some(tag) = ETag::read(frame) {
         replicate(tables, &tag, frames);

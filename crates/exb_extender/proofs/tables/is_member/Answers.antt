@@ -1,4 +1,4 @@
-use Rattle.std.proofs.Common.{sym, ap, ◌∙◌, not, ◌==◌, arith}
+use Rattle.std.proofs.Common.{sym, ap, ◌∙◌, arith}
 use Rattle.exb_csp.specs.Execute.{in_mask, some_port}
 use Rattle.exb_csp.proofs.Executing.{some_bit}
 use Rattle.exb_extender.proofs.tables.is_member.Goals as goal

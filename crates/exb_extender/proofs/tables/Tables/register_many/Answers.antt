@@ -1,4 +1,4 @@
-use Rattle.std.proofs.Common.{sym, ◌∙◌, ◌≡◌}
+use Rattle.std.proofs.Common.{sym, ◌∙◌}
 use Rattle.exb_csp.proofs.PlainLemmas.{all_rows_small}
 use Rattle.exb_extender.specs.Tables.{tables_of}
 use Rattle.exb_extender.proofs.TableLemmas.{rows_code_is, registered, register_refused}
