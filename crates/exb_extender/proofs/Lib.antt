@@ -1,3 +1,5 @@
 pub mod TableLemmas
 pub mod ForwardingLemmas
 pub mod ControlLemmas
+pub mod MachineLemmas
+pub mod AllLemmas

@@ -180,6 +180,11 @@ abbrev pub CanTake : ExtenderState → Side → Type 0
 CanTake s Up = ⊤
 CanTake s (Port port) = IsPort s port × ((s.tables.cascade port ≡ true) ⊎ (s.tables.own port ≡ 0))
 
+-- the extender has its number and its ports as before
+pub record IsSameDevice (old new : ExtenderState) : Type 0 where
+  pub number : new.number ≡ old.number
+  pub ports : new.tables.ports ≡ old.tables.ports
+
 pub record IsExtender (s : ExtenderState) : Type 0 where
   pub numbered : (1 ≤ s.number) × (s.number ≤ 64)
   pub ports : (1 ≤ s.tables.ports) × (s.tables.ports ≤ 64)

@@ -73,7 +73,7 @@ fn take_down(tables: &mut Tables, control: &mut Control, frame: &[u8], sends: &m
 
 impl Extender {
     ghost use Rattle.exb_extender.specs.Fields.{state_of};
-    ghost use Rattle.exb_extender.specs.Machine.{at_power_on, react, Arrives, Beats, IsPort, CanTake, IsExtender};
+    ghost use Rattle.exb_extender.specs.Machine.{at_power_on, react, Arrives, Beats, IsPort, CanTake, IsSameDevice, IsExtender};
 
     /// Extender `number` at power-on: each port is external and without a channel. This call alone takes
     /// memory.
@@ -94,6 +94,7 @@ impl Extender {
         ensures state { state_of self.new ≡ (react (Arrives from frame.now) (state_of self.old)).0 }
         ensures sends { sent_by frame.now sends.new ≡ (react (Arrives from frame.now) (state_of self.old)).1 }
         ensures given { All (λ out. CanBeGiven frame.now out.form) sends.new.frames.items }
+        ensures device { IsSameDevice (state_of self.old) (state_of self.new) }
     {
         sends.clear();
         match from {
@@ -125,6 +126,7 @@ impl Extender {
         ensures state { state_of self.new ≡ (react Beats (state_of self.old)).0 }
         ensures sends { sent_by [] sends.new ≡ (react Beats (state_of self.old)).1 }
         ensures none { sends.new.frames.items ≡ [] }
+        ensures device { IsSameDevice (state_of self.old) (state_of self.new) }
     {
         sends.clear();
         self.control.beat(self.tables.ports(), sends);
