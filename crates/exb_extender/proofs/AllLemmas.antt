@@ -1,7 +1,6 @@
 -- The tables of all extenders, and what a request to one of them does there.
-use Rattle.std.proofs.Common.{◌≡◌, ◌≢◌, ◌⊎◌, ℕ, zero, suc, ◌+◌, ◌-◌, ◌*◌, ◌/◌, ◌%◌, ◌<◌, ◌≤◌, ◌==◌, ◌&&◌, ◌||◌, not, Bool, true, false, cond, nat_lt, nat_le, List, [], ◌∷◌, ◌++◌, refl, ap, sym, ◌∙◌, subst, arith, inl, inr}
+use Rattle.std.proofs.Common.{◌≡◌, ◌≢◌, ◌⊎◌, ℕ, ◌+◌, ◌-◌, ◌%◌, ◌<◌, ◌≤◌, ◌==◌, ◌&&◌, ◌||◌, not, Bool, true, false, cond, nat_lt, nat_le, List, [], ◌∷◌, refl, ap, sym, ◌∙◌, subst, arith, inl, inr}
 use Rattle.std.specs.Prelude.{Option, Some, None}
-use Rattle.std.specs.List.{list_any}
 use Rattle.std.specs.Int.{bit_at}
 use Rattle.std.proofs.lemmas.Bool.{and_parts, ltb-true, leb-true, cases_eq, cases_Bool, and_right, eq-eqb, ne_eqb, lt-ltb, le-leb}
 use Rattle.exb_model.specs.Tree.{device}
@@ -10,11 +9,11 @@ use Rattle.exb_model.specs.ETags.{Tag, read_etag}
 use Rattle.exb_csp.specs.declared.group_rows.GroupRow.{GroupRow}
 use Rattle.exb_csp.specs.declared.message.Request.{Request}
 use Rattle.exb_csp.specs.declared.message.Request.TheVariants.{Open, PortCreate, PortDelete, Register, Unregister, RegisterMany, UnregisterMany}
-use Rattle.exb_csp.specs.Execute.{ExtenderTables, in_mask, in_rows, is_listed, create_code, code_of, done, executed}
+use Rattle.exb_csp.specs.Execute.{ExtenderTables, in_mask, in_rows, is_listed, create_code, code_of, done}
 use Rattle.exb_csp.proofs.Executing.{executed_done, executed_refused, or_false, and_true, or_assoc}
-use Rattle.exb_extender.specs.AllTables.{tables_at, port_of, executes_at, has_bit, has_row, done_at, AskAt, RunsAt, MaskAt, registers, in_masks}
+use Rattle.exb_extender.specs.AllTables.{tables_at, port_of, executes_at, has_bit, has_row, done_at, in_masks}
 use Rattle.exb_extender.specs.Forwarding.{forwarding_of}
-use Rattle.exb_extender.specs.Laws.{EmitsOfAll, DoneAtEachPort, RefusedAtNoPort, IsLaid, RunsLayRows}
+use Rattle.exb_extender.specs.Laws.{EmitsOfAll, DoneAtEachPort, RefusedAtNoPort, RunsLayRows}
 
 same_all : (a b : Tables) → ((q : ℕ) → a.own q ≡ b.own q) → ((q : ℕ) → a.cascade q ≡ b.cascade q) → ((e q : ℕ) → a.pair e q ≡ b.pair e q) → a ≡ b
 same_all a b own cascade pair = λ i. record { own = λ q. own q i; cascade = λ q. cascade q i; pair = λ e q. pair e q i }

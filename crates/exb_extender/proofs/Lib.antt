@@ -3,3 +3,5 @@ pub mod ForwardingLemmas
 pub mod ControlLemmas
 pub mod MachineLemmas
 pub mod AllLemmas
+pub mod CodeLemmas
+pub mod KeepsLemmas

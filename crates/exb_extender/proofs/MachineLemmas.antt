@@ -18,8 +18,8 @@ use Rattle.exb_session.specs.declared.answerer.Due.TheVariants.{Execute, Again, 
 use Rattle.exb_session.specs.Answering.{AnswererState, arrived, stored_message}
 use Rattle.exb_extender.specs.declared.sends.Side.{Side}
 use Rattle.exb_extender.specs.declared.sends.Side.TheVariants.{Up, Port}
-use Rattle.exb_extender.specs.Forwarding.{Sent, is_bare_control, emitted}
-use Rattle.exb_extender.specs.Machine.{ExtenderState, Input, Arrives, Beats, IsSameDevice, submits, executes, by_turn, takes_request, takes_body, takes_message, hears_request, hears_pdu, hears, beats, comes, react}
+use Rattle.exb_extender.specs.Forwarding.{is_bare_control, emitted}
+use Rattle.exb_extender.specs.Machine.{ExtenderState, Input, Arrives, Beats, IsSameDevice, submits, executes, by_turn, takes_body, takes_message, hears_request, hears_pdu, hears, beats, comes, react}
 
 done_ports : (t : ExtenderTables) (asked : Request) → (done t asked).ports ≡ t.ports
 unfolding done
