@@ -1,2 +1,4 @@
 pub mod Lowest
 pub mod Kept
+pub mod Rising
+pub mod Places

@@ -1,2 +1,4 @@
 pub mod Lowest
 pub mod Channels
+pub mod Groups
+pub mod Order

@@ -5,6 +5,8 @@
 #![tactic(auto)]
 
 pub mod channels;
+pub mod groups;
 
+pub use groups::{Groups, NoGroup};
 pub use channels::{Channels, NoChannel};
 
