@@ -13,10 +13,10 @@ use Rattle.exb_numbers.proofs.Lowest.{find_first, find_none, lowest_is, lowest_n
 abbrev pub own : List (Option ℕ) → ℕ → Option ℕ
 own channels p = get_or channels p None
 
-none_some : {X : Type 0} → (x : X) → None ≡ Some x → ⊥
+pub none_some : {X : Type 0} → (x : X) → None ≡ Some x → ⊥
 none_some x h = let z : None ≡ Some x = h in cc
 
-is_port-is : (p : ℕ) (o : Option ℕ) → is_port p o ≡ true → o ≡ Some p
+pub is_port-is : (p : ℕ) (o : Option ℕ) → is_port p o ≡ true → o ≡ Some p
 is_port-is p None h = absurd (false≢true h)
 is_port-is p (Some q) h = ap Some (eqb-true q p h)
 
@@ -43,11 +43,11 @@ pub own_is : (ports channels : List (Option ℕ)) (free : ℕ) → AreKept ports
 unfolding channel_of
 own_is ports channels free k p = by_own (own channels p) refl
   where
-    by_own : (o : Option ℕ) → own channels p ≡ o → o ≡ find (λ c. is_port p (holder ports c)) (range_with_len 1 (length ports - 1))
+    by_own : (o : Option ℕ) → own channels p ≡ o → o ≡ find (λ c. is_port p (holder ports c)) (range_with_len 1 4094)
     by_own (Some c) h =
         let at = k.there p c h in
         let range = in_range ports channels free k c p at in
-        sym (find_first (λ c. is_port p (holder ports c)) 1 (length ports - 1) c range.0 (omega (arith, range.1)) (rw at (eq-eqb p p refl))
+        sym (find_first (λ c. is_port p (holder ports c)) 1 4094 c range.0 (let short = k.short in omega (arith, range.1, short)) (rw at (eq-eqb p p refl))
         (λ e low high. elim (cases_Bool (is_port p (holder ports e))) [
           | inl hit ↦
               let twice : Some e ≡ Some c = sym (k.back p e (is_port-is p (holder ports e) hit)) ∙ h in
@@ -56,7 +56,7 @@ own_is ports channels free k p = by_own (own channels p) refl
           | inr miss ↦ miss
         ]))
     by_own None h =
-        sym (find_none (λ c. is_port p (holder ports c)) 1 (length ports - 1)
+        sym (find_none (λ c. is_port p (holder ports c)) 1 4094
         (λ e low high. elim (cases_Bool (is_port p (holder ports e))) [
           | inl hit ↦ absurd (none_some e (sym h ∙ k.back p e (is_port-is p (holder ports e) hit)))
           | inr miss ↦ miss

@@ -14,9 +14,9 @@ abbrev pub is_port : ℕ → Option ℕ → Bool
 is_port p None = false
 is_port p (Some q) = q == p
 
--- the channel of a port: the one that it holds
+-- the channel of a port, among all channels that there can be
 unfoldable pub channel_of : List (Option ℕ) → ℕ → Option ℕ
-channel_of ports p = find (λ c. is_port p (holder ports c)) (range_with_len 1 (length ports - 1))
+channel_of ports p = find (λ c. is_port p (holder ports c)) (range_with_len 1 4094)
 
 abbrev pub lowest_channel : List (Option ℕ) → Option ℕ
 lowest_channel ports = lowest_free (is_used ports) 1 (length ports - 1)

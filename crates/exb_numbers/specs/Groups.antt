@@ -18,9 +18,9 @@ set_of v g = if nat_le 4096 g then slice_index_or v.sets (g - 4096) [] else []
 abbrev pub is_used : Groups → ℕ → Bool
 is_used v g = not (is_empty_set (set_of v g))
 
--- the group of a set of ports
+-- the group of a set of ports, among all groups that there can be
 unfoldable pub group_of : Groups → List ℕ → Option ℕ
-group_of v set = if is_empty_set set then None else find (λ g. bytes_eq set (set_of v g)) (range_with_len 4096 v.limit)
+group_of v set = if is_empty_set set then None else find (λ g. bytes_eq set (set_of v g)) (range_with_len 4096 12288)
 
 abbrev pub lowest_group : Groups → Option ℕ
 lowest_group v = lowest_free (is_used v) 4096 v.limit

@@ -2,3 +2,5 @@ pub mod Lowest
 pub mod Channels
 pub mod Groups
 pub mod Order
+pub mod Spaces
+pub mod Lent

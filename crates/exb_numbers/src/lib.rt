@@ -6,7 +6,10 @@
 
 pub mod channels;
 pub mod groups;
+pub mod laws;
+pub mod spaces;
 
+pub use spaces::Spaces;
 pub use groups::{Groups, NoGroup};
 pub use channels::{Channels, NoChannel};
 
