@@ -2,4 +2,5 @@ pub mod Lowest
 pub mod Kept
 pub mod Rising
 pub mod Places
+pub mod Ordered
 pub mod Apart
