@@ -4,3 +4,4 @@ pub mod Rising
 pub mod Places
 pub mod Ordered
 pub mod Apart
+pub mod Built

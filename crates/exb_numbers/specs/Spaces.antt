@@ -1,6 +1,6 @@
 -- The spaces of the bridge's cascade ports, by the bridge port's place, which is its number less 1.
-use Rattle.std.specs.Prelude.{ℕ, Bool, false, ◌&&◌, List, [], Option, length, nat_lt, slice_index_or, slice_set}
-use Rattle.exb_numbers.specs.Groups.{Groups}
+use Rattle.std.specs.Prelude.{◌≡◌, ℕ, ◌+◌, Bool, false, ◌&&◌, List, [], ◌∷◌, ◌++◌, Option, None, length, replicate, if◌then◌else◌, nat_lt, slice_index_or, slice_set}
+use Rattle.exb_numbers.specs.Groups.{Groups, set_of}
 
 -- which bridge ports have a space, and the channels and groups of each
 pub record Spaces : Type 0 where
@@ -28,3 +28,12 @@ with_channels v k x = record v { channels = slice_set v.channels k x }
 
 abbrev pub with_groups : Spaces → ℕ → Groups → Spaces
 with_groups v k x = record v { groups = slice_set v.groups k x }
+
+-- the space of one bridge port more: so many channels and groups, all free, or none
+pub record IsAdded (old : Spaces) (is_cascade : Bool) (channels groups : ℕ) (new : Spaces) : Type 0 where
+  pub group : Groups
+  pub limit : group.limit ≡ (if is_cascade then groups else 0)
+  pub free : (g : ℕ) → set_of group g ≡ []
+  pub cascades : new.cascades ≡ old.cascades ++ is_cascade ∷ []
+  pub channels_are : new.channels ≡ old.channels ++ replicate ((if is_cascade then channels else 0) + 1) None ∷ []
+  pub groups_are : new.groups ≡ old.groups ++ group ∷ []

@@ -13,3 +13,6 @@ pub use spaces::Spaces;
 pub use groups::{Groups, NoGroup};
 pub use channels::{Channels, NoChannel};
 
+
+#[cfg(test)]
+mod tests;

@@ -1,9 +1,9 @@
 //! The spaces of the bridge's cascade ports.
-ghost use Rattle.std.specs.Prelude.{◌≡◌, ℕ, ◌+◌, ◌-◌, ◌<◌, ◌≤◌, ◌&&◌, true, [], None, nat_lt, replicate, IfOk};
+ghost use Rattle.std.specs.Prelude.{◌≡◌, ℕ, ◌+◌, ◌-◌, ◌<◌, ◌≤◌, ◌&&◌, true, [], None, nat_lt, replicate, if◌then◌else◌, IfOk, OnOk};
 ghost use Rattle.std.specs.Borrow.{Lends, sem};
 ghost use Rattle.exb_model.specs.Tree.{is_cascade};
 ghost use Rattle.exb_numbers.specs.Groups.{set_of};
-ghost use Rattle.exb_numbers.specs.Spaces.{has_space, channels_at, groups_at};
+ghost use Rattle.exb_numbers.specs.Spaces.{has_space, channels_at, groups_at, IsAdded};
 
 use crate::channels::Channels;
 use crate::groups::Groups;
@@ -43,6 +43,7 @@ fn is_cascade_port(tree: &Tree, number: u8) -> bool
     requires { number < 64 }
     ensures { result ≡ is_cascade tree.now number }
 {
+    tree.is_tree();
     match PortId::new(number as u16) {
         Some(port) => match tree.role(port) {
             Role::Cascade { extender: _ } => true,
@@ -50,6 +51,13 @@ fn is_cascade_port(tree: &Tree, number: u8) -> bool
         },
         None => false,
     }
+}
+
+// How many numbers a bridge port gets.
+fn granted(is_cascade: bool, count: u16) -> u16
+    ensures { result ≡ (if is_cascade then count else 0) }
+{
+    if is_cascade { count } else { 0 }
 }
 
 impl Spaces {
@@ -85,12 +93,13 @@ impl Spaces {
     ) -> Result<(), NoMemory>
         requires channels { channels ≤ 4094 }
         requires groups { groups ≤ 12288 }
+        ensures { OnOk result (IsAdded self.old is_cascade channels groups self.new) }
     {
-        let channels = if is_cascade { channels } else { 0 };
-        let groups = if is_cascade { groups } else { 0 };
+        let free_channels = Channels::new(alloc, granted(is_cascade, channels))?;
+        let free_groups = Groups::new(alloc, granted(is_cascade, groups))?;
         self.cascades.push(is_cascade)?;
-        self.channels.push(Channels::new(alloc, channels)?)?;
-        self.groups.push(Groups::new(alloc, groups)?)?;
+        self.channels.push(free_channels)?;
+        self.groups.push(free_groups)?;
         Ok(())
     }
 
