@@ -1,6 +1,6 @@
 -- What can be learned, and what a refused command leaves.
 use Rattle.std.proofs.Common.{◌≡◌, ℕ, ◌+◌, ◌-◌, Bool, true, false, not, cond, ◌&&◌, ◌==◌, List, [], ◌∷◌, ◌++◌, refl, sym, ap, ◌∙◌, add-zero, arith}
-use Rattle.std.specs.Prelude.{Option, Some, None, nat_lt, bytes_eq}
+use Rattle.std.specs.Prelude.{Option, Some, None, bytes_eq}
 use Rattle.std.proofs.lemmas.Slice.Eq.{bytes_eq-Decides}
 use Rattle.std.proofs.lemmas.Bool.{le-ltb}
 use Rattle.std.proofs.lemmas.List.{append-nil}
@@ -10,10 +10,10 @@ use Rattle.exb_model.specs.declared.event.Cause.{Cause}
 use Rattle.exb_model.specs.Frames.{source, is_group}
 use Rattle.exb_model.specs.Configuration.{Bridge}
 use Rattle.exb_model.specs.History.{Basis, History, ◌then◌, changed, bridge_after, now_after, seconds_of}
-use Rattle.exb_model.specs.Learning.{Look, passes, teaches, teaches_in, live_port, remembered, learned}
+use Rattle.exb_model.specs.Learning.{Look, passes, teaches_in, live_port, remembered, learned}
 use Rattle.exb_model.specs.FlatBridge.{Sent, flat, sent_by}
 use Rattle.exb_model.proofs.Remembering.{remembered-none, remembered-relay, remembered-other, kept}
-use Rattle.exb_flat.specs.Laws.{NoGroupIsLearned, GroupSourceTeachesNothing, AgeingZeroLearnsNothing, IsSame, RefusedChangesNothing}
+use Rattle.exb_flat.specs.Laws.{NoGroupIsLearned, GroupSourceTeachesNothing, AgeingZeroLearnsNothing, RefusedChangesNothing}
 use Rattle.exb_flat.proofs.HistoryLemmas.{bridge_after-more, now_after-more, flat-more}
 use Rattle.exb_flat.proofs.LearningLemmas.{remembered-more, remembered-follows}
 

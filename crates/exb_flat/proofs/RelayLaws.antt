@@ -1,17 +1,15 @@
 -- What leaves by one event more.
-use Rattle.std.proofs.Common.{◌≡◌, ℕ, Bool, true, false, not, cond, ◌&&◌, ◌==◌, List, [], ◌∷◌, ◌++◌, refl, sym, ap, ◌∙◌, eq-eqb, inl, inr, ◌⊎◌}
-use Rattle.std.specs.Prelude.{◌≢◌, Option, Some, None, IfSome}
+use Rattle.std.proofs.Common.{◌≡◌, ℕ, Bool, true, false, not, cond, ◌&&◌, ◌==◌, List, [], ◌++◌, refl, sym, ap, ◌∙◌, eq-eqb, inl, inr, ◌⊎◌}
+use Rattle.std.specs.Prelude.{Option, Some, None}
 use Rattle.std.proofs.lemmas.Bool.{ne_eqb}
 use Rattle.std.proofs.lemmas.List.{append-nil}
-use Rattle.exb_model.specs.declared.event.Event.{Event}
 use Rattle.exb_model.specs.declared.event.Event.TheVariants as event
 use Rattle.exb_model.specs.declared.vlan.Kind.{Kind}
-use Rattle.exb_model.specs.declared.rules.StaticAt.{StaticAt}
-use Rattle.exb_model.specs.Frames.{destination, is_group, egress}
+use Rattle.exb_model.specs.Frames.{destination}
 use Rattle.exb_model.specs.Configuration.{Bridge}
 use Rattle.exb_model.specs.History.{Basis, History, bridge_after}
 use Rattle.exb_model.specs.Learning.{Look, passes, learned}
-use Rattle.exb_model.specs.Targets.{static_for, is_chosen, both_isolated, target_in, target}
+use Rattle.exb_model.specs.Targets.{is_chosen, both_isolated, target_in, target}
 use Rattle.exb_model.specs.FlatBridge.{Sent, sent_as, flat}
 use Rattle.exb_flat.specs.Laws.{SendsNothing, LeavesOnce, NeverGoesBack, LeavesByMembers, IsolatedPortsAreApart, LearnedGoesThere}
 use Rattle.exb_flat.proofs.HistoryLemmas.{flat-more}

@@ -1,12 +1,11 @@
 -- Laws of the one bridge, over the definitions. `i` is what the history is of and `h` the history; a frame f
 -- of moment t, record n of port p, is then relayed, and q is any port.
-use Rattle.std.specs.Prelude.{◌≡◌, ◌≢◌, ◌⊎◌, ℕ, ◌≤◌, true, false, List, [], ◌∷◌, ◌++◌, Some, None, IfSome}
+use Rattle.std.specs.Prelude.{◌≡◌, ◌≢◌, ◌⊎◌, ℕ, true, false, List, [], ◌∷◌, ◌++◌, Some, None}
 use Rattle.exb_model.specs.declared.event.Event.{Event}
 use Rattle.exb_model.specs.declared.event.Event.TheVariants as event
 use Rattle.exb_model.specs.declared.event.Cause.{Cause}
 use Rattle.exb_model.specs.declared.vlan.Kind.{Kind}
 use Rattle.exb_model.specs.Frames.{destination, source, is_group, egress}
-use Rattle.exb_model.specs.Configuration.{Bridge}
 use Rattle.exb_model.specs.History.{Basis, History, ◌then◌, bridge_after}
 use Rattle.exb_model.specs.Learning.{passes, learned}
 use Rattle.exb_model.specs.Targets.{static_for}
