@@ -1,0 +1,5 @@
+mod Plays
+mod PlayRules
+mod EachEvents
+mod PortOrder
+mod InMerge

@@ -1,0 +1,4 @@
+//! The plain program's second half.
+#![tactic(auto)]
+
+pub mod laws;
