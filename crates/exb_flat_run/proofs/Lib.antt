@@ -1,4 +1,6 @@
 mod Plays
+mod WaysUp
+pub mod Ranges
 mod PlayRules
 mod EachEvents
 mod PortOrder
