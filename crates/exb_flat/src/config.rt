@@ -18,7 +18,7 @@ use std::alloc::Global;
 use std::marker::Model;
 
 /// How many numbers of ports there are.
-const PORTS: u16 = 4160;
+pub(crate) const PORTS: u16 = 4160;
 
 /// The members of a VLAN. A port in both sets is untagged.
 #[derive(Clone, Copy, Debug, PartialEq, Eq)]
@@ -197,10 +197,16 @@ impl Config {
     pub fn new(alloc: Global, present: &PortSet) -> Result<Config, NoMemory>
         ensures { IfOk result (λ made. bridge_of made ≡ empty_bridge (port_in present.now)) }
     {
+        let rule = PortRule {
+            pvid: Vid::default(),
+            accept: Accept::All,
+            filter: false,
+            isolated: false,
+        };
         Ok(Config {
             present: *present,
             rows: Vec::new(alloc),
-            rules: rules_of(alloc, PORTS as usize, PortRule::default())?,
+            rules: rules_of(alloc, PORTS as usize, rule)?,
             statics: Vec::new(alloc),
         })
     }
@@ -218,6 +224,18 @@ impl Config {
             config.apply(command)?;
         }
         Ok(config)
+    }
+
+    /// The same configuration once more.
+    pub fn copy(&self, alloc: Global) -> Result<Config, NoMemory>
+        ensures { IfOk result (λ made. made ≡ self.now) }
+    {
+        Ok(Config {
+            present: self.present,
+            rows: Vec::from_slice(alloc, self.rows.as_slice())?,
+            rules: Vec::from_slice(alloc, self.rules.as_slice())?,
+            statics: Vec::from_slice(alloc, self.statics.as_slice())?,
+        })
     }
 
     /// Whether the port is present.

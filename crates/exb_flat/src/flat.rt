@@ -40,7 +40,7 @@ fn leaving(
     let learned_port = looked_up(alloc, basis, events, &config, from, frame)?;
     match passes(&config, from, frame) {
         None => Ok(None),
-        Some(vid) => match target(&config, learned_port, from, frame, at) {
+        Some(vid) => match target(&config, &learned_port, from, frame, at) {
             None => Ok(None),
             Some(kind) => Ok(Some(egress(alloc, frame, kind, vid)?)),
         },

@@ -1,13 +1,13 @@
 //! Where a frame goes.
-ghost use Rattle.std.specs.Prelude.{◌≡◌, ◌≤◌, ℕ, [], length, map, IfOk, if◌then◌else◌};
+ghost use Rattle.std.specs.Prelude.{◌≡◌, ◌<◌, ◌++◌, ℕ, [], map, IfOk, OnOk, if◌then◌else◌};
 ghost use Rattle.exb_model.specs.Frames.{destination, is_group};
 ghost use Rattle.exb_model.specs.History.{◌then◌, bridge_after};
 ghost use Rattle.exb_model.specs.Learning.{Look, passes, learned};
 ghost use Rattle.exb_model.specs.Targets.{static_for, is_chosen_by, both_isolated, target, targets};
 ghost use Rattle.exb_flat.specs.Configs.{bridge_of};
-ghost use Rattle.exb_flat.specs.Histories.{basis_of, target_of, Knows};
+ghost use Rattle.exb_flat.specs.Histories.{basis_of, target_of, target_at, reaches, Knows};
 
-use crate::config::Config;
+use crate::config::{Config, PORTS};
 use crate::frame::{destination, is_group};
 use crate::history::{Basis, bridge_after};
 use crate::learning::{learned, passes};
@@ -30,13 +30,13 @@ pub struct EgressPort {
 /// are. A group is never looked up.
 fn is_chosen(
     config: &Config,
-    learned_port: Option<PortId>,
+    learned_port: &Option<PortId>,
     vid: Vid,
     destination: Mac,
     at: PortId,
 ) -> bool
     ensures { result ≡ is_chosen_by (static_for (bridge_of config.now).statics vid destination.0)
-        (if is_group destination.0 then None else learned_port) at }
+        (if is_group destination.0 then None else learned_port.now) at }
 {
     if let Some(ports) = config.entry(vid, destination) {
         return ports.contains(at);
@@ -45,7 +45,7 @@ fn is_chosen(
         return true;
     }
     match learned_port {
-        Some(port) => at == port,
+        Some(port) => at == *port,
         None => true,
     }
 }
@@ -56,30 +56,47 @@ fn both_isolated(config: &Config, from: PortId, at: PortId) -> bool
     config.rule(from).isolated && config.rule(at).isolated
 }
 
+/// Whether a frame from `from` that passes in a VLAN reaches a port, if that is a member.
+fn reaches(
+    config: &Config,
+    learned_port: &Option<PortId>,
+    vid: Vid,
+    destination: Mac,
+    from: PortId,
+    at: PortId,
+) -> bool
+    ensures { result ≡ reaches (bridge_of config.now) learned_port.now vid destination.0 from at }
+{
+    config.present(at)
+        && at != from
+        && !both_isolated(config, from, at)
+        && is_chosen(config, learned_port, vid, destination, at)
+}
+
 /// How a frame that came at `from` leaves at `at`, if it does, given the port that is learned for its
 /// destination.
 pub fn target(
     config: &Config,
-    learned_port: Option<PortId>,
+    learned_port: &Option<PortId>,
     from: PortId,
     frame: &[u8],
     at: PortId,
 ) -> Option<Kind>
-    ensures { (look : Look) → Knows look (bridge_of config.now) from frame.now learned_port
+    ensures { (look : Look) → Knows look (bridge_of config.now) from frame.now learned_port.now
         → result ≡ target (bridge_of config.now) look from frame.now at }
 {
     if !config.present(from) {
         return None;
     }
-    let vid = passes(config, from, frame)?;
-    if config.present(at)
-        && at != from
-        && !both_isolated(config, from, at)
-        && is_chosen(config, learned_port, vid, destination(frame), at)
-    {
-        config.member(vid, at)
-    } else {
-        None
+    match passes(config, from, frame) {
+        None => None,
+        Some(vid) => {
+            if reaches(config, learned_port, vid, destination(frame), from, at) {
+                config.member(vid, at)
+            } else {
+                None
+            }
+        }
     }
 }
 
@@ -101,6 +118,47 @@ pub fn looked_up(
     }
 }
 
+/// Adds the port with a number, where the frame leaves by it.
+fn add_target(
+    config: &Config,
+    learned_port: &Option<PortId>,
+    from: PortId,
+    frame: &[u8],
+    number: u16,
+    found: &mut List<EgressPort>,
+) -> Result<(), NoMemory>
+    requires { number < 4160 }
+    ensures { OnOk result ((look : Look) → Knows look (bridge_of config.now) from frame.now learned_port.now
+        → map target_of found.new ≡ map target_of found.old ++ target_at (bridge_of config.now) look from frame.now number) }
+{
+    match PortId::new(number) {
+        None => Ok(()),
+        Some(port) => match target(config, learned_port, from, frame, port) {
+            None => Ok(()),
+            Some(kind) => found.push(EgressPort { port, kind }),
+        },
+    }
+}
+
+/// The ports by which a frame that came at `from` leaves, in port order, given the port that is learned for
+/// its destination.
+pub fn targets_in(
+    alloc: Global,
+    config: &Config,
+    learned_port: &Option<PortId>,
+    from: PortId,
+    frame: &[u8],
+) -> Result<List<EgressPort>, NoMemory>
+    ensures { IfOk result (λ found. (look : Look) → Knows look (bridge_of config.now) from frame.now learned_port.now
+        → map target_of found ≡ targets (bridge_of config.now) look from frame.now) }
+{
+    let mut found = List::new(alloc);
+    for number in 0..PORTS {
+        add_target(config, learned_port, from, frame, number, &mut found)?;
+    }
+    Ok(found)
+}
+
 /// The ports by which a frame that came at `from` leaves after a history, in port order.
 pub fn targets(
     alloc: Global,
@@ -114,13 +172,5 @@ pub fn targets(
 {
     let config = bridge_after(alloc, basis, events)?;
     let learned_port = looked_up(alloc, basis, events, &config, from, frame)?;
-    let mut found = List::new(alloc);
-    for number in 0..4160u16 {
-        if let Some(port) = PortId::new(number) {
-            if let Some(kind) = target(&config, learned_port, from, frame, port) {
-                found.push(EgressPort { port, kind })?;
-            }
-        }
-    }
-    Ok(found)
+    targets_in(alloc, &config, &learned_port, from, frame)
 }
