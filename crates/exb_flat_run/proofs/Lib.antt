@@ -1,6 +1,7 @@
 mod Plays
 mod WaysUp
 pub mod Ranges
+pub mod SetLists
 mod PlayRules
 mod EachEvents
 mod PortOrder

@@ -1,2 +1,5 @@
 pub mod Layouts
+pub mod Sets
+pub mod Limits
+pub mod Sites
 pub mod Inputs

@@ -14,7 +14,7 @@ use std::alloc::Global;
 use std::marker::Model;
 
 /// How many numbers of ports there are.
-const PORTS: u16 = 4160;
+pub(crate) const PORTS: u16 = 4160;
 
 /// The tree by device, where 0 is the bridge and n is extender n: how many ports a device has (0: there is
 /// no such extender), and the port on which an extender hangs. All that is said of a port or an extender is
@@ -94,7 +94,7 @@ fn top(on: &[u16; 65], levels: u32, port: u16) -> u16
 }
 
 /// The port of a number.
-fn port_of(number: u16) -> PortId
+pub(crate) fn port_of(number: u16) -> PortId
     requires { number < 4160 }
     ensures { result ≡ number }
 {
@@ -105,7 +105,7 @@ fn port_of(number: u16) -> PortId
 }
 
 /// Puts an item behind others, if it is wanted.
-fn put_if<T: Drop>(items: &mut Vec<T>, wanted: bool, item: T) -> Result<(), NoMemory>
+pub(crate) fn put_if<T: Drop>(items: &mut Vec<T>, wanted: bool, item: T) -> Result<(), NoMemory>
     ensures { OnOk result (items.new.items ≡ items.old.items ++ (if wanted then item ∷ [] else [])) }
 {
     if wanted {
@@ -236,7 +236,8 @@ impl Layout {
 
     /// How many cascade ports the extenders with this trunk have.
     pub fn cascades_under(&self, trunk: u16) -> u64
-        ensures { result ≡ cascades_under self.now trunk }
+        ensures value { result ≡ cascades_under self.now trunk }
+        ensures few { result ≤ 4160 }
     {
         let mut count: u64 = 0;
         'ports: for number in 0..PORTS {

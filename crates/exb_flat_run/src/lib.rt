@@ -4,3 +4,6 @@
 pub mod laws;
 pub mod layout;
 pub mod merge;
+pub mod refusal;
+pub mod sets;
+pub mod site;

@@ -23,6 +23,12 @@ ports-preserved c =
       | else-is_cascade_under w ↦ w.count-is ∙ c.ports.invariant ∙ sym (more ∙ rw (sym here ∙ sym c.is_cascade_under.ensures ∙ w.if-is_cascade_under.false) (omega arith))
     ]
 
-pub returns : goal.returns
+pub returns-clause-value : goal.returns-clause-value
 unfolding cascades_under
-returns c = c.ports.invariant ∙ ap (λ n. count_by (is_cascade_under c.args.self.now c.args.trunk) (below n)) (omega arith)
+returns-clause-value c = c.ports.invariant ∙ ap (λ n. count_by (is_cascade_under c.args.self.now c.args.trunk) (below n)) (omega arith)
+
+pub returns-clause-few : goal.returns-clause-few
+returns-clause-few c =
+    let most = count_below-most (is_cascade_under c.args.self.now c.args.trunk) c.ports.number in
+    let is : c.ports.count ≡ count_by (is_cascade_under c.args.self.now c.args.trunk) (below c.ports.number) = c.ports.invariant in
+    omega (arith, most, is)
