@@ -1,6 +1,8 @@
 mod Plays
 mod WaysUp
 pub mod Ranges
+pub mod TurnLemmas
+mod SiteLemmas
 pub mod SetLists
 mod PlayRules
 mod EachEvents

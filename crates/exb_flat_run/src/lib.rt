@@ -1,6 +1,7 @@
 //! The plain program's second half.
 #![tactic(auto)]
 
+pub mod eager;
 pub mod laws;
 pub mod layout;
 pub mod merge;

@@ -59,7 +59,7 @@ fn untimed(alloc: Global, commands: &[Timed]) -> Result<List<Command>, NoMemory>
 }
 
 /// What a setup and commands set up.
-pub fn site(alloc: Global, setup: &Setup, commands: &[Timed]) -> Result<Site, NoMemory>
+pub fn site_of(alloc: Global, setup: &Setup, commands: &[Timed]) -> Result<Site, NoMemory>
     ensures { IfOk result (IsSiteOf setup.now commands.now) }
 {
     let layout = Layout::of(setup);
