@@ -3,6 +3,8 @@ mod WaysUp
 pub mod Ranges
 pub mod TurnLemmas
 mod SiteLemmas
+pub mod MergeLemmas
+pub mod Counts
 pub mod SetLists
 mod PlayRules
 mod EachEvents

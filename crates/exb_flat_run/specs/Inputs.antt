@@ -28,7 +28,7 @@ input_of s commands captures = record { setup = s; commands = map given_by comma
 
 -- what comes, without where its bytes lie in memory
 abbrev pub arrival_of : Arrived → Arrival
-arrival_of a = record { port = a.port; index = a.index; moment = a.moment; bytes = a.bytes.now }
+arrival_of a = record { port = a.port; index = a.index; moment = a.moment; bytes = a.bytes }
 
 abbrev pub coming_of : Coming → Comes
 coming_of (coming.Ordered moment number) = Ordered moment number

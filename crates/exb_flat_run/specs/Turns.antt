@@ -1,13 +1,11 @@
 -- What the plain program makes of what comes.
-use Rattle.std.specs.Prelude.{◌≡◌, ℕ, ◌-◌, ◌+◌, ◌<◌, ◌≤◌, ◌^◌, List, [], ◌∷◌, Option, Some, None, map}
+use Rattle.std.specs.Prelude.{◌≡◌, ℕ, ◌-◌, List, [], ◌∷◌, Option, Some, None, map}
 use Rattle.exb_model.specs.declared.event.Event.{Event}
 use Rattle.exb_model.specs.History.{Basis, History, ◌then◌, bridge_after}
 use Rattle.exb_model.specs.Tree.{Shape}
 use Rattle.exb_model.specs.Setup.{Limits}
 use Rattle.exb_model.specs.EagerHistory.{arrival_event, command_event}
 use Rattle.exb_model.specs.Input.{Coming as Comes, Ordered, Captured, Segment, alone, segments_in, segments_since, segment_of, second_of, moment_of}
-use Rattle.exb_flat_run.specs.declared.merge.Coming.{Coming}
-use Rattle.exb_flat_run.specs.Inputs.{coming_of}
 
 -- the history of events that are told the oldest first
 abbrev pub told : List Event → History
@@ -27,8 +25,3 @@ seconds_after (Some last) second = second - last
 abbrev pub segments_after : Option ℕ → List Comes → List Segment
 segments_after None comings = segments_in (map alone comings)
 segments_after (Some last) comings = segments_since last (map alone comings)
-
--- what comes less than 2^32 seconds after the start
-pub record IsAfter (start : ℕ) (x : Coming) : Type 0 where
-  pub from : start ≤ second_of (moment_of (coming_of x))
-  pub to : second_of (moment_of (coming_of x)) < start + 2 ^ 32

@@ -7,7 +7,8 @@ ghost use Rattle.exb_model.specs.EagerHistory.{is_relayed_kind, is_relayed, rise
 ghost use Rattle.exb_flat.specs.Configs.{bridge_of};
 ghost use Rattle.exb_flat_run.specs.Sites.{basis_of, bounds_of};
 ghost use Rattle.exb_flat_run.specs.Inputs.{arrival_of, coming_of};
-ghost use Rattle.exb_flat_run.specs.Turns.{told, with_coming, seconds_after, segments_after, IsAfter};
+ghost use Rattle.exb_flat_run.specs.Turns.{told, with_coming, seconds_after, segments_after};
+ghost use Rattle.exb_flat_run.specs.Merging.{IsAfter};
 
 use crate::merge::{Arrival, Coming};
 use crate::refusal::refusal;
@@ -137,16 +138,16 @@ fn is_relayed(config: &Config, port: PortId, bytes: &[u8]) -> bool
 fn arrival_event(
     alloc: Global,
     config: &Config,
-    arrival: &Arrival<'_>,
+    arrival: &Arrival,
 ) -> Result<Event, NoMemory>
     ensures { IfOk result (λ event. event ≡ arrival_event (bridge_of config.now) (arrival_of arrival.now)) }
 {
-    if is_relayed(config, arrival.port, arrival.bytes) {
+    if is_relayed(config, arrival.port, arrival.bytes.as_slice()) {
         Ok(Event::Relay {
             port: arrival.port,
             index: arrival.index,
             moment: arrival.moment,
-            bytes: Bytes::from_slice(alloc, arrival.bytes)?,
+            bytes: Bytes::from_slice(alloc, arrival.bytes.as_slice())?,
         })
     } else {
         Ok(Event::Ignored {
@@ -161,7 +162,7 @@ fn put_arrival(
     alloc: Global,
     site: &Site,
     events: &mut Vec<Event>,
-    arrival: &Arrival<'_>,
+    arrival: &Arrival,
 ) -> Result<(), NoMemory>
     ensures { OnOk result (told events.new.items
         ≡ arrival_event (bridge_after (basis_of site.now) (told events.old.items)) (arrival_of arrival.now) ∷ told events.old.items) }
@@ -185,7 +186,7 @@ fn opening(alloc: Global, site: &Site) -> Result<Vec<Event>, NoMemory>
 }
 
 /// The second of what comes.
-fn second_of(coming: &Coming<'_>) -> u64
+fn second_of(coming: &Coming) -> u64
     ensures { result ≡ second_of (moment_of (coming_of coming.now)) }
 {
     match coming {
@@ -222,7 +223,7 @@ fn put_coming(
     alloc: Global,
     site: &Site,
     events: &mut Vec<Event>,
-    coming: &Coming<'_>,
+    coming: &Coming,
 ) -> Result<(), NoMemory>
     ensures { OnOk result (told events.new.items
         ≡ with_coming site.now.layout (bounds_of site.now) (basis_of site.now) (coming_of coming.now) (told events.old.items)) }
@@ -240,7 +241,7 @@ fn put_segment(
     site: &Site,
     events: &mut Vec<Event>,
     seconds: u32,
-    coming: &Coming<'_>,
+    coming: &Coming,
 ) -> Result<(), NoMemory>
     ensures { OnOk result (told events.new.items
         ≡ eager_segment site.now.layout (bounds_of site.now) (basis_of site.now) (told events.old.items) (segment_of seconds (coming_of coming.now ∷ []))) }
@@ -256,7 +257,7 @@ pub fn eager(
     alloc: Global,
     site: &Site,
     start: u64,
-    comings: &[Coming<'_>],
+    comings: &[Coming],
 ) -> Result<Vec<Event>, NoMemory>
     requires { All (IsAfter start) comings.now }
     ensures { IfOk result (λ events. told events.items
