@@ -86,7 +86,7 @@ sum-same f g same (q ∷ qs) = sum_by-cons f q qs ∙ ap (λ n. n + sum_by f qs)
 
 sum-zero : (qs : List ℕ) → sum_by (λ q. 0) qs ≡ 0
 sum-zero [] = refl
-sum-zero (q ∷ qs) = sum_by-cons (λ p. 0) q qs ∙ sum-zero qs
+sum-zero (q ∷ qs) = let e = sum_by-cons (λ (p : ℕ). 0) q qs in let r = sum-zero qs in omega (arith, e, r)
 
 left-none : (t : Shape) (b : Basis) → all_left t b [] ≡ 0
 unfolding flat
@@ -109,7 +109,13 @@ counts-apart t b (e ∷ h) =
 
 pub counts-sorted : (t : Shape) (b : Basis) (h : History) → counts t b h ≡ record {
   relayed = count_by is_relay h; ignored = count_by is_ignored h; left = all_left t b h; commits = count_by is_commit h; refusals = count_by is_refusal h }
-counts-sorted t b h = counts-apart t b h ∙ ap (with_left (all_left t b h)) (sorted-all h)
+counts-sorted t b h =
+    counts-apart t b h ∙ ap (with_left (all_left t b h)) (sorted-all h)
+    ∙ (λ k. record {
+      relayed = count_by is_relay h; ignored = count_by is_ignored h; left = none-before k; commits = count_by is_commit h; refusals = count_by is_refusal h })
+  where
+    none-before : 0 + all_left t b h ≡ all_left t b h
+    none-before = omega arith
 
 -- ---- no count passes the number of events
 pub fits_counted : (h : History) (n : ℕ) → length h ≤ n → n < 2 ^ 64 → FitsTally (counted_all h)
@@ -121,3 +127,25 @@ fits_counted h n few small =
       commits = omega (arith, count_by-le-length is_commit h);
       refusals = omega (arith, count_by-le-length is_refusal h);
     })
+
+both-few : (h : History) → count_by is_relay h + count_by is_ignored h ≤ length h
+both-few [] = omega arith
+both-few (e ∷ h) =
+    let a = count-cons is_relay e h in let b = count-cons is_ignored e h in let rest = both-few h in
+    let one : cond (is_relay e) 1 0 + cond (is_ignored e) 1 0 ≤ 1 = by_event e in omega (arith, a, b, rest, one)
+  where
+    by_event : (e : Event) → cond (is_relay e) 1 0 + cond (is_ignored e) 1 0 ≤ 1
+    by_event (event.Relay p n t b) = omega arith
+    by_event (event.Ignored p n) = omega arith
+    by_event (event.Tick s) = omega arith
+    by_event (event.Commit n) = omega arith
+    by_event (event.Refuse n x) = omega arith
+    by_event (event.Up p) = omega arith
+    by_event (event.NoUp p x) = omega arith
+    by_event event.Settled = omega arith
+
+pub none-left : (h : History) → (counted_all h).left ≡ 0
+none-left h = ap (λ c. c.left) (sorted-all h)
+
+pub few-arrivals : (h : History) → (counted_all h).relayed + (counted_all h).ignored ≤ length h
+few-arrivals h = let r = ap (λ c. c.relayed) (sorted-all h) in let i = ap (λ c. c.ignored) (sorted-all h) in let few = both-few h in omega (arith, r, i, few)

@@ -233,7 +233,7 @@ module _ (Q : Arrival → Type 0) where
   by_moment-each (Captured a ∷ xs) all = put-each (Captured a) (by_moment xs) (all.0, by_moment-each xs all.1)
 
   -- of a list of segments together, of each one
-  of_segments : (ss : List Segment) → AllByRecursion Q (flat_map (λ s. s.arrivals) ss) → AllByRecursion (λ s. AllByRecursion Q s.arrivals) ss
+  pub of_segments : (ss : List Segment) → AllByRecursion Q (flat_map (λ s. s.arrivals) ss) → AllByRecursion (λ s. AllByRecursion Q s.arrivals) ss
   of_segments [] all = tt
   of_segments (s ∷ ss) all = (left s.arrivals (flat_map (λ s. s.arrivals) ss) all, of_segments ss (right s.arrivals (flat_map (λ s. s.arrivals) ss) all))
     where

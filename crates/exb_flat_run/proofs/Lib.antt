@@ -5,6 +5,8 @@ pub mod TurnLemmas
 mod SiteLemmas
 pub mod MergeLemmas
 pub mod Counts
+pub mod TextLemmas
+pub mod Played
 pub mod SetLists
 mod PlayRules
 mod EachEvents

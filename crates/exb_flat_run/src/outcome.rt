@@ -101,7 +101,7 @@ pub struct Played {
 
 /// The history of the eager run of a setup, its commands and the captures of ports, its events the oldest
 /// first.
-pub fn played(
+pub fn play(
     alloc: Global,
     setup: &Setup,
     commands: &[Timed],
@@ -120,7 +120,7 @@ pub fn played(
 
 /// All that the eager run writes and prints, of a setup, its commands and the captures of ports. A port
 /// without a capture, and one whose file breaks the grammar, has no records.
-pub fn outcome(
+pub fn flat_outcome(
     alloc: Global,
     setup: &Setup,
     commands: &[Timed],
@@ -134,11 +134,12 @@ pub fn outcome(
         string_bytes all.summary ≡ summary_of (tree_of i) (basis_for i) (eager_of i)) }
 {
     counts_are_counted();
-    let Played { site, events } = played(alloc, setup, commands, captures)?;
-    let ports = site.layout.external_ports(alloc)?;
-    let left = left_at(alloc, &site.basis, events.as_slice(), ports.as_slice())?;
-    let journal = journal_text(alloc, events.as_slice())?;
-    let summary = summary(alloc, events.as_slice(), left.frames)?;
+    let played = play(alloc, setup, commands, captures)?;
+    let events = played.events.as_slice();
+    let ports = played.site.layout.external_ports(alloc)?;
+    let left = left_at(alloc, &played.site.basis, events, ports.as_slice())?;
+    let journal = journal_text(alloc, events)?;
+    let summary = summary(alloc, events, left.frames)?;
     Ok(Outcome {
         captures: left.texts,
         journal,
