@@ -63,7 +63,9 @@ fn marked(entry: Entry, port: PortId) -> Entry
 
 /// Marks the entries of a port as forgotten.
 pub fn forget_port(entries: &mut Vec<Entry>, port: PortId)
-    ensures { entries.new.items ≡ map (forgotten port) entries.old.items }
+    ensures items { entries.new.items ≡ map (forgotten port) entries.old.items }
+    ensures room { vec_capacity entries.new ≡ vec_capacity entries.old }
+    ensures len { vec_len entries.new ≡ vec_len entries.old }
 {
     for i in 0..entries.len() {
         let entry = marked(entries[i], port);

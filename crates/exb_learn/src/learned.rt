@@ -47,7 +47,8 @@ impl Learned {
     /// Nothing is learned. Entries live for less than `ageing` seconds; with 0 nothing is ever learned.
     #[tactic(auto, unfolding(crate::specs::Entries::table_of))]
     pub fn new(alloc: Global, ageing: u32) -> Learned
-        ensures { table_of result ≡ empty_table ageing }
+        ensures table { table_of result ≡ empty_table ageing }
+        ensures clock { result.clock ≡ 0 }
     {
         Learned {
             entries: Vec::new(alloc),
@@ -62,6 +63,7 @@ impl Learned {
         ensures ok { OnOk result (1 ≤ self.new.spare) }
         ensures err { OnErr result (self.new ≡ self.old) }
         ensures table { table_of self.new ≡ table_of self.old }
+        ensures clock { self.new.clock ≡ self.old.clock }
     {
         self.entries.reserve(1)?;
         Ok(())
@@ -78,7 +80,8 @@ impl Learned {
     pub fn see(&mut self, vid: Vid, address: Mac, port: PortId)
         requires spare { 1 ≤ self.old.spare }
         requires individual { is_group address.0 ≡ false }
-        ensures { table_of self.new ≡ after_call (See vid address.0 port) (table_of self.old) }
+        ensures table { table_of self.new ≡ after_call (See vid address.0 port) (table_of self.old) }
+        ensures clock { self.new.clock ≡ self.old.clock }
     {
         let entry = Entry {
             vid,
@@ -118,6 +121,7 @@ impl Learned {
     pub fn forget(&mut self, port: PortId)
         ensures table { table_of self.new ≡ after_call (Forget port) (table_of self.old) }
         ensures clock { self.new.clock ≡ self.old.clock }
+        ensures spare { self.new.spare ≡ self.old.spare }
     {
         forget_port(&mut self.entries, port);
     }
