@@ -149,16 +149,18 @@ any_port s h q =
     by_ports [] e t low = empty_at s e q low
     by_ports (x ∷ xs) e t low = absurd (false≢true t)
 
--- a place whose set isn't the empty one is held, and any other isn't
-pub told_held : (sets : List PortSet) (n : ℕ) (s none : PortSet) (same : Bool) → n < length sets → s ≡ get_or sets n s → ((q : ℕ) → port_in none q ≡ false) →
-    (IsTrue same ↔ ((q : ℕ) → port_in s q ≡ port_in none q)) → is_held (sets_of sets) n ≡ not same
-told_held sets n s none same h at empty tells = rw (ports_at sets n, get_at sets n s h at) (by_same same tells (is_empty_set (ports_of s)) refl)
+-- a set that isn't the empty one has a port, and any other hasn't
+pub told_ports : (s none : PortSet) (same : Bool) → ((q : ℕ) → port_in none q ≡ false) → (IsTrue same ↔ ((q : ℕ) → port_in s q ≡ port_in none q)) → not (is_empty_set (ports_of s)) ≡ not same
+told_ports s none same empty tells = by_same same tells (is_empty_set (ports_of s)) refl
   where
     by_same : (b : Bool) → (IsTrue b ↔ ((q : ℕ) → port_in s q ≡ port_in none q)) → (e : Bool) → is_empty_set (ports_of s) ≡ e → not e ≡ not b
     by_same true t true e = refl
     by_same true t false e = absurd (false≢true (sym e ∙ ap is_empty_set (no_ports s (λ q. t.0 refl q ∙ empty q))))
     by_same false t true e = absurd (false≢true (t.1 (λ q. any_port s e q ∙ sym (empty q))))
     by_same false t false e = refl
+
+pub held_at : (sets : List PortSet) (n : ℕ) (s : PortSet) → n < length sets → s ≡ get_or sets n s → is_held (sets_of sets) n ≡ not (is_empty_set (ports_of s))
+held_at sets n s h at = rw (ports_at sets n, get_at sets n s h at) refl
 
 pub not_held_past : (sets : List PortSet) (n : ℕ) → length sets ≤ n → is_held (sets_of sets) n ≡ false
 not_held_past sets n h = rw (ports_at sets n, slice_get_past sets n h) refl

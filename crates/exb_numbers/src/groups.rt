@@ -1,5 +1,5 @@
 //! The groups of a space.
-ghost use Rattle.std.specs.Prelude.{◌≡◌, ◌≢◌, ℕ, ◌+◌, ◌==◌, ◌<◌, ◌≤◌, true, false, [], ◌++◌, ◌∷◌, Some, None, if◌then◌else◌, length, slice_index, slice_set, nat_lt, vec_capacity, IfOk, OnErr, IfSome, MatchResult};
+ghost use Rattle.std.specs.Prelude.{◌≡◌, ◌≢◌, ℕ, ◌+◌, ◌==◌, ◌<◌, ◌≤◌, not, true, false, [], ◌++◌, ◌∷◌, Some, None, if◌then◌else◌, length, slice_index, slice_set, nat_lt, vec_capacity, IfOk, OnErr, IfSome, MatchResult};
 ghost use Rattle.exb_model.specs.Ports.{ports_of};
 ghost use Rattle.exb_model.specs.Refusals.{is_empty_set};
 ghost use Rattle.exb_numbers.specs.Groups.{set_of, sets_of, is_used, group_of, lowest_group};
@@ -44,6 +44,13 @@ impl Model for Groups {
     ghost view = { λ g. record { limit = g.limit; sets = sets_of g.sets.items } };
 
     ghost invariant = { λ g. AreOrdered g.limit g.sets.items g.order.items g.free × (g.limit ≤ vec_capacity g.sets) × (g.limit ≤ vec_capacity g.order) };
+}
+
+/// Whether a set has a port, as a set that claims a group must.
+pub fn has_ports(set: &PortSet) -> bool
+    ensures { result ≡ not (is_empty_set (ports_of set.now)) }
+{
+    !set.is_same(&PortSet::empty())
 }
 
 // How the set of a place compares with a set, by their words.
@@ -99,9 +106,8 @@ fn next_free(sets: &[PortSet], from: u16) -> u16
     ensures passed { (n : ℕ) → from ≤ n → n < result → is_held (sets_of sets.now) n ≡ true }
     ensures free { is_held (sets_of sets.now) result ≡ false }
 {
-    let none = PortSet::empty();
     let mut place = from;
-    while (place as usize) < sets.len() && !sets[place as usize].is_same(&none) {
+    while (place as usize) < sets.len() && has_ports(&sets[place as usize]) {
         place += 1;
     }
     place
