@@ -1,0 +1,6 @@
+mod Lists
+mod Under
+mod Choosing
+mod Sets
+mod Words
+mod Leaving

@@ -1,0 +1,5 @@
+pub mod Numbers
+pub mod Choices
+pub mod Sends
+pub mod Leaving
+pub mod Laws

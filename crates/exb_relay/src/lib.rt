@@ -1,0 +1,12 @@
+//! What the controlling bridge sends for a frame (IEEE 802.1Q forwarding, IEEE 802.1BR E-channels): at a local
+//! port the frame itself, and below a cascade port a word for a learned port or at most two words for sets of
+//! ports. Upwards it promises that the sends are exactly those, and by its laws that they make leave exactly
+//! what the one VLAN bridge sends. It stands on `exb_model` and `exb_frame`.
+#![tactic(auto)]
+
+pub mod choice;
+pub mod laws;
+pub mod send;
+
+pub use choice::Choice;
+pub use send::{Ingress, SendTo};
