@@ -2,6 +2,7 @@ pub mod Words
 pub mod Lists
 pub mod PortLemmas
 pub mod ETagLemmas
+pub mod Validity
 pub mod MaskLemmas
 pub mod TreeWays
 pub mod TreeLoops
@@ -10,3 +11,4 @@ pub mod TreeOrder
 pub mod TreeHung
 pub mod TreeShape
 pub mod TreeCovered
+pub mod Remembering

@@ -9,6 +9,7 @@ pub mod bytes;
 pub mod command;
 pub mod event;
 pub mod frame_kind;
+mod layout;
 pub mod list;
 pub mod memory;
 pub mod port;

@@ -157,3 +157,81 @@ fn a_frame_with_a_tag_leaves_no_file(rt: HostRuntime) -> Result<(), Fail> {
     assert!(rt; shelf.file("out-journal.txt").is_none());
     Ok(())
 }
+
+/// A shelf whose call `failing` fails (none does where it is 0), with a capture of a frame for the first
+/// of three ports and a later one for the second.
+fn three_captures(alloc: Global, failing: u64) -> Result<MemShelf, Fail> {
+    let mut shelf = MemShelf::new(alloc, &[failing])?;
+    shelf.put("in-x1.1.pcap", &capture(alloc, [0x08, 0x00])?)?;
+    shelf.put("in-x1.2.pcap", &capture_at(alloc, 103, [0x08, 0x00])?)?;
+    shelf.put("in-x1.3.pcap", &HEADER)?;
+    Ok(shelf)
+}
+
+/// The outputs of three ports.
+const OUTPUTS: [&str; 4] = [
+    "out-x1.1.pcap",
+    "out-x1.2.pcap",
+    "out-x1.3.pcap",
+    "out-journal.txt",
+];
+
+/// Whether the file isn't there, or holds a front of what it holds on the other shelf.
+fn is_front(shelf: &MemShelf, whole: &MemShelf, name: &str) -> bool {
+    match (shelf.file(name), whole.file(name)) {
+        (None, _) => true,
+        (Some(front), Some(text)) => text.starts_with(front),
+        (Some(_), None) => false,
+    }
+}
+
+#[test]
+fn whichever_call_of_the_shelf_fails_each_file_holds_a_front_of_its_text(
+    rt: HostRuntime,
+) -> Result<(), Fail> {
+    let alloc = rt.alloc();
+    let words = words(alloc, "run", "3")?;
+    let mut whole = three_captures(alloc, 0)?;
+    let mut out = MemSink::new(alloc, &[])?;
+    assert_eq!(rt; run(alloc, &words, &mut whole, &mut out), 0);
+    let mut reads = 0u64;
+    let mut writes = 0u64;
+    for failing in 1..64u64 {
+        let mut shelf = three_captures(alloc, failing)?;
+        let mut out = MemSink::new(alloc, &[])?;
+        match run(alloc, &words, &mut shelf, &mut out) {
+            0 => {
+                assert_eq!(rt; failing, reads + writes + 1);
+                assert!(rt; reads >= 6 && writes >= 8);
+                return Ok(());
+            }
+            6 => reads += 1,
+            status => {
+                assert_eq!(rt; status, 7);
+                writes += 1;
+            }
+        }
+        for name in OUTPUTS {
+            assert!(rt; is_front(&shelf, &whole, name));
+        }
+    }
+    assert!(rt; false);
+    Ok(())
+}
+
+#[test]
+fn where_the_summary_fails_captures_and_journal_are_whole(rt: HostRuntime) -> Result<(), Fail> {
+    let alloc = rt.alloc();
+    let words = words(alloc, "run", "3")?;
+    let mut whole = three_captures(alloc, 0)?;
+    let mut out = MemSink::new(alloc, &[])?;
+    assert_eq!(rt; run(alloc, &words, &mut whole, &mut out), 0);
+    let mut shelf = three_captures(alloc, 0)?;
+    let mut failing = MemSink::new(alloc, &[1])?;
+    assert_eq!(rt; run(alloc, &words, &mut shelf, &mut failing), 7);
+    assert!(rt; failing.text().is_empty());
+    for name in OUTPUTS {
+        assert!(rt; shelf.file(name).is_some() && shelf.file(name) == whole.file(name));
+    }
+    Ok(())
+}

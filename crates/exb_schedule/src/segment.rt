@@ -1,5 +1,5 @@
 //! The eager schedule.
-ghost use Rattle.std.specs.Prelude.{◌≡◌, ◌++◌, ◌∷◌, [], ◌+◌, ◌<◌, ◌^◌, ℕ, List, true, false, IsOk, IfOk, OnOk, OnErr, All, take, drop, length};
+ghost use Rattle.std.specs.Prelude.{◌≡◌, ◌++◌, ◌∷◌, [], ◌+◌, ◌<◌, ◌^◌, ◌↔◌, ℕ, List, true, false, if◌then◌else◌, IsOk, IfOk, OnOk, OnErr, All, take, drop, length};
 ghost use Rattle.exb_model.specs.FlatBridge.{Sent};
 ghost use Rattle.exb_model.specs.History.{Basis, History, ◌then◌};
 ghost use Rattle.exb_model.specs.Input.{Input, Arrival as Arrived, basis_of, tree_of, bounds_of};
@@ -28,7 +28,8 @@ pub fn settle(world: &mut World) -> Result<u64, WorldFault>
     ensures opened { world.old.is_open ≡ false → OnOk result (world.new
         ≡ record world.old { is_open = true; events = world.old.events ++ ups_of world.old }) }
     ensures still { world.old.is_open ≡ true → IsOk result × (world.new ≡ world.old) }
-    ensures failed { (result ≡ Err WorldFault.Failed) → (world.old.failed ≡ true) }
+    ensures rounds { IfOk result (λ rounds. rounds ≡ (if world.old.is_open then 0 else 1)) }
+    ensures failed { (result ≡ Err WorldFault.Failed) ↔ ((world.old.failed ≡ true) × (world.old.is_open ≡ false)) }
     ensures memory { OnErr result (world.new.failed ≡ true) }
 {
     if world.is_settled() {
@@ -50,7 +51,7 @@ fn play(world: &mut World, arrival: &Arrival) -> Result<(), WorldFault>
     ensures stands { OnOk result ((i : Input) (given : List Arrived) (h : History) (left : ℕ → List Sent) → Stands (basis_of i) world.old given h left
         → Stands (basis_of i) world.new (given ++ arrived arrival.now ∷ []) (Event.Settled ∷ arrival_event (bridge_of world.old) (arrived arrival.now) ∷ h)
         (λ q. left q ++ segment_sends world.old (arrived arrival.now ∷ []) q)) }
-    ensures failed { (result ≡ Err WorldFault.Failed) → (world.old.failed ≡ true) }
+    ensures failed { (result ≡ Err WorldFault.Failed) ↔ (world.old.failed ≡ true) }
     ensures memory { OnErr result (world.new.failed ≡ true) }
 {
     world.step(Step::Arrive {
@@ -93,7 +94,7 @@ pub fn eager(
         → (h then segment_events world.old seconds (all_arrived arrivals.now))
         ≡ eager_segment (tree_of i) (bounds_of i) (basis_of i) h (segment seconds (all_arrived arrivals.now))) }
 
-    ensures failed { (result ≡ Err WorldFault.Failed) → (world.old.failed ≡ true) }
+    ensures failed { (result ≡ Err WorldFault.Failed) ↔ (world.old.failed ≡ true) }
     ensures memory { OnErr result (world.new.failed ≡ true) }
 {
     let _none = commands;
