@@ -4,3 +4,4 @@ mod Choosing
 mod Sets
 mod Words
 mod Leaving
+mod Flat
