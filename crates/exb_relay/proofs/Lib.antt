@@ -5,3 +5,4 @@ mod Sets
 mod Words
 mod Leaving
 mod Flat
+mod Each
