@@ -6,3 +6,4 @@ mod Words
 mod Leaving
 mod Flat
 mod Each
+mod BelowWords

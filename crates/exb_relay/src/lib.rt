@@ -4,6 +4,7 @@
 //! what the one VLAN bridge sends. It stands on `exb_model` and `exb_frame`.
 #![tactic(auto)]
 
+mod below;
 pub mod choice;
 pub mod laws;
 pub mod send;
