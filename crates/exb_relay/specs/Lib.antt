@@ -1,5 +1,6 @@
 pub mod Numbers
 pub mod Choices
 pub mod Sends
+pub mod Words
 pub mod Leaving
 pub mod Laws

@@ -8,6 +8,8 @@ mod below;
 pub mod choice;
 pub mod laws;
 pub mod send;
+mod sending;
+mod source;
 
 pub use choice::Choice;
 pub use send::{Ingress, SendTo};
