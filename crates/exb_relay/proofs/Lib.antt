@@ -7,3 +7,4 @@ mod Leaving
 mod Flat
 mod Each
 mod BelowWords
+mod Steps

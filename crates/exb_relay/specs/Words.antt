@@ -1,11 +1,13 @@
 -- Sends by where their frame comes from.
-use Rattle.std.specs.Prelude.{◌≡◌, ℕ, ◌+◌, ◌<◌, Bool, ◌==◌, ◌&&◌, if◌then◌else◌, List, [], ◌∷◌, ◌++◌, Option, Some, None, filter, nat_lt}
+use Rattle.std.specs.Prelude.{◌≡◌, ℕ, ◌+◌, ◌<◌, Bool, ◌==◌, ◌&&◌, not, if◌then◌else◌, List, [], ◌∷◌, ◌++◌, Option, Some, None, filter, nat_lt}
 use Rattle.exb_model.specs.declared.vlan.Kind.{Kind}
 use Rattle.exb_model.specs.declared.vlan.Kind.TheVariants.{Tagged, Untagged}
 use Rattle.exb_model.specs.Ports.{all_ports}
 use Rattle.exb_model.specs.Frames.{kind_of}
 use Rattle.exb_model.specs.Tree.{Shape, device, trunk, is_under}
 use Rattle.exb_model.specs.Refusals.{is_empty_set}
+use Rattle.exb_model.specs.Configuration.{Bridge}
+use Rattle.exb_model.specs.Targets.{both_isolated}
 use Rattle.exb_frame.specs.declared.etag.ETag.{ETag}
 use Rattle.exb_relay.specs.declared.send.SendTo.{SendTo}
 use Rattle.exb_relay.specs.declared.source.Source.{Source}
@@ -31,3 +33,33 @@ pub record IsSource (t : Shape) (m : Numbers) (p : ℕ) (f : List ℕ) (s : Sour
   pub pcp : s.pcp ≡ pcp_of (kind_of f)
   pub dei : s.dei ≡ dei_of (kind_of f)
   pub ingress : (k : ℕ) → ingress_for s.uplink k ≡ ingress_at t m p k
+
+-- ---- members
+-- the kind of a port that is in one of two sets
+abbrev pub kind_among : (ℕ → Bool) → (ℕ → Bool) → ℕ → Option Kind
+kind_among tagged untagged q = if tagged q then Some Tagged else (if untagged q then Some Untagged else None)
+
+-- how a chosen port q gets a frame of port p in VLAN v, if it does
+abbrev pub kind_at : Bridge → ℕ → ℕ → ℕ → Option Kind
+kind_at b p v q = if b.present q && not (q == p) && not (both_isolated b p q) then b.member v q else None
+
+-- the ports of a set below bridge port k, in order
+abbrev pub set_below : Shape → ℕ → (ℕ → Bool) → List ℕ
+set_below t k test = filter (λ q. test q && is_under t k q) all_ports
+
+-- one word to the group of a set that isn't empty
+abbrev pub set_word : Numbers → Source → ℕ → Kind → List ℕ → List SendTo
+set_word m s k kind set = if is_empty_set set then [] else words_for s k kind (m.group k set)
+
+-- at bridge port k, for the tagged and the untagged ones of some members
+abbrev pub member_sends : Shape → Numbers → Source → (ℕ → Bool) → (ℕ → Bool) → ℕ → List SendTo
+member_sends t m s tagged untagged k =
+    local_send k (if k == s.port then None else kind_among tagged untagged k)
+    ++ (set_word m s k Tagged (set_below t k tagged) ++ set_word m s k Untagged (set_below t k untagged))
+
+-- ---- a learned port
+-- port r gets the frame in a kind: at once where it is the bridge's, else by its channel
+abbrev pub port_sends : Shape → Numbers → Source → ℕ → Kind → List SendTo
+port_sends t m s r kind =
+    if nat_lt r 64 then local_send r (Some kind)
+    else words_for s (trunk t (device r)) kind (m.channel (trunk t (device r)) r)

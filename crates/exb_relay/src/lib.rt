@@ -6,7 +6,9 @@
 
 mod below;
 pub mod choice;
+mod ingress;
 pub mod laws;
+mod members;
 pub mod send;
 mod sending;
 mod source;

@@ -1,0 +1,83 @@
+-- The sends at one bridge port, by the parts of which they are made.
+use Rattle.std.proofs.Common.{◌≡◌, ◌≢◌, ℕ, ◌+◌, ◌<◌, ◌≤◌, ◌==◌, ◌&&◌, ◌++◌, cond, Bool, true, false, not, List, [], ◌∷◌, Option, Some, None, nat_lt, filter, refl, sym, ◌∙◌, ap, subst, arith, inl, inr, ◌⊎◌, eq-eqb}
+use Rattle.std.specs.List.{flat_map}
+use Rattle.std.proofs.lemmas.List.{append-nil}
+use Rattle.std.proofs.lemmas.Bool.{cases_eq, cases_lt, cases_Bool, ne_eqb, lt-ltb, le-ltb, false≢true, false_from_ne_true}
+use Rattle.exb_model.specs.declared.vlan.Kind.{Kind}
+use Rattle.exb_model.specs.declared.vlan.Kind.TheVariants.{Tagged, Untagged}
+use Rattle.exb_model.specs.Ports.{port_in, below, all_ports}
+use Rattle.exb_model.specs.Frames.{destination, kind_of}
+use Rattle.exb_model.specs.Tree.{Shape, IsTree, device, trunk, is_external, is_under}
+use Rattle.exb_model.specs.Configuration.{Bridge}
+use Rattle.exb_model.specs.Learning.{Look, passes}
+use Rattle.exb_model.specs.Targets.{target, both_isolated}
+use Rattle.exb_model.specs.Refusals.{is_kind, is_empty_set, bridge_ports}
+use Rattle.exb_model.proofs.PortLemmas.{filter_below-agree}
+use Rattle.exb_frame.specs.declared.etag.ETag.{ETag}
+use Rattle.exb_relay.specs.declared.choice.Choice.{Choice}
+use Rattle.exb_relay.specs.declared.choice.Choice.TheVariants as chosen
+use Rattle.exb_relay.specs.declared.send.SendTo.{SendTo}
+use Rattle.exb_relay.specs.declared.source.Source.{Source}
+use Rattle.exb_relay.specs.Numbers.{Numbers, IsReady}
+use Rattle.exb_relay.specs.Choices.{choice, is_chosen_in}
+use Rattle.exb_relay.specs.Sends.{etag_to, words_to, set_for, group_word, group_words, channel_word, words_down, local_send, sends_at, sends_in}
+use Rattle.exb_relay.specs.Words.{tag_for, words_for, IsSource, kind_among, kind_at, set_below, set_word, member_sends, port_sends}
+use Rattle.exb_relay.proofs.Lists.{only_one, no_one}
+use Rattle.exb_relay.proofs.Under.{under_trunk, under_home, under_other, under_high, none_low, home_low, extended_from}
+use Rattle.exb_relay.proofs.Choosing.{target_of, target_is}
+use Rattle.exb_relay.proofs.Sets.{is_part, hears, set_is}
+
+-- ---- tests
+local_is : (pr s h c : Bool) (o : Option Kind) →
+    cond s None (kind_among (λ q. (pr && c && is_kind Tagged o) && h) (λ q. (pr && c && is_kind Untagged o) && h) 0) ≡ cond (pr && not s && h && c) o None
+local_is pr s h c None = grind arith
+local_is pr s h c (Some Tagged) = grind arith
+local_is pr s h c (Some Untagged) = grind arith
+
+part_is : (u pr c i h : Bool) → (((pr && c && i) && h) && u) ≡ ((u && pr && c && i) && h)
+part_is u pr c i h = grind arith
+
+-- ---- one source
+module _ (t : Shape) (m : Numbers) (p : ℕ) (f : List ℕ) (s : Source) (is : IsSource t m p f s) where
+  tag_same : (k e : ℕ) → tag_for s k e ≡ etag_to t m p f k e
+  tag_same k e i = record { pcp = is.pcp i; dei = is.dei i; ingress = is.ingress k i; ecid = e }
+
+  words_same : (k : ℕ) (kind : Kind) (o : Option ℕ) → words_for s k kind o ≡ words_to t m p f k kind o
+  words_same k kind None = refl
+  words_same k kind (Some e) = ap (λ (tag : ETag). record { bridge_port = k + 1; tag = Some tag; kind = kind } ∷ []) (tag_same k e)
+
+  pub set_word_same : (k : ℕ) (kind : Kind) (set : List ℕ) → set_word m s k kind set ≡ group_word t m p f k kind set
+  set_word_same k kind set =
+      elim (cases_Bool (is_empty_set set)) [
+        | inl e ↦ rw e refl
+        | inr e ↦ rw e (words_same k kind (m.group k set))
+      ]
+
+  module _ (b : Bridge) (look : Look) (v : ℕ) (there : b.present p ≡ true) (pass : passes b p f ≡ Some v) where
+    abbrev pub Kept : (ℕ → Bool) → (ℕ → Bool) → Kind → Type 0
+    Kept test am kind = (q : ℕ) → test q ≡ ((b.present q && am q && is_kind kind (b.member v q)) && not (both_isolated b p q))
+
+    -- the ports of a kept set below a bridge port
+    set_same : (among am test : ℕ → Bool) (k : ℕ) (kind : Kind) → ((q : ℕ) → q < 4160 → am q ≡ among q) → Kept test am kind →
+        set_below t k test ≡ set_for t b p v among k kind
+    set_same among am test k kind same kept =
+        filter_below-agree _ _ 4160 (λ q l. rw (kept q, same q l) (part_is (is_under t k q) (b.present q) (among q) (is_kind kind (b.member v q)) (hears b p q))) ∙
+        sym (set_is t b p v among k kind)
+
+    local_same : (c : Choice) (am tagged untagged : ℕ → Bool) (k : ℕ) → k < 64 → ((q : ℕ) → q < 4160 → am q ≡ is_chosen_in c q) → Kept tagged am Tagged → Kept untagged am Untagged →
+        cond (k == s.port) None (kind_among tagged untagged k) ≡ target_of b p v c k
+    local_same c am tagged untagged k low same kt ku =
+        rw (is.port, kt k, ku k, same k (omega (arith, low))) (local_is (b.present k) (k == p) (hears b p k) (is_chosen_in c k) (b.member v k))
+
+    -- the sends for chosen members
+    pub member_step : (c : Choice) (among am tagged untagged : ℕ → Bool) (k : ℕ) → k < 64 →
+        choice b look v (destination f) ≡ c → ((q : ℕ) → is_chosen_in c q ≡ among q) → ((j : ℕ) → words_down t b look m p f v c j ≡ group_words t b m p f v among j) →
+        ((q : ℕ) → q < 4160 → am q ≡ among q) → Kept tagged am Tagged → Kept untagged am Untagged →
+        member_sends t m s tagged untagged k ≡ sends_at t b look m p f v k
+    member_step c among am tagged untagged k low is_choice chosen_is down same kt ku =
+        let target_here : target b look p f k ≡ target_of b p v c k = target_is b look p f v k there pass ∙ ap (λ (x : Choice). target_of b p v x k) is_choice in
+        let locals : cond (k == s.port) None (kind_among tagged untagged k) ≡ target b look p f k =
+        local_same c am tagged untagged k low (λ q l. same q l ∙ sym (chosen_is q)) kt ku ∙ sym target_here in
+        let words : words_down t b look m p f v (choice b look v (destination f)) k ≡ group_words t b m p f v among k = ap (λ (x : Choice). words_down t b look m p f v x k) is_choice ∙ down k in
+        rw (words, locals, set_word_same k Tagged (set_below t k tagged), set_word_same k Untagged (set_below t k untagged),
+        set_same among am tagged k Tagged same kt, set_same among am untagged k Untagged same ku) refl
