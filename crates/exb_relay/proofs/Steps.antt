@@ -81,3 +81,60 @@ module _ (t : Shape) (m : Numbers) (p : ℕ) (f : List ℕ) (s : Source) (is : I
         let words : words_down t b look m p f v (choice b look v (destination f)) k ≡ group_words t b m p f v among k = ap (λ (x : Choice). words_down t b look m p f v x k) is_choice ∙ down k in
         rw (words, locals, set_word_same k Tagged (set_below t k tagged), set_word_same k Untagged (set_below t k untagged),
         set_same among am tagged k Tagged same kt, set_same among am untagged k Untagged same ku) refl
+
+    -- ---- the sends for a learned port
+    module _ (r : ℕ) (valid : IsTree t) (external : (q : ℕ) → b.present q ≡ true → is_external t q ≡ true) (is_choice : choice b look v (destination f) ≡ chosen.Learned r) where
+      learned_target : (q : ℕ) → target b look p f q ≡ target_of b p v (chosen.Learned r) q
+      learned_target q = target_is b look p f v q there pass ∙ ap (λ (x : Choice). target_of b p v x q) is_choice
+
+      at_port : target b look p f r ≡ kind_at b p v r
+      at_port = learned_target r ∙ rw (eq-eqb r r refl) (drop_true (b.present r && not (r == p) && not (both_isolated b p r)) (b.member v r))
+        where
+          drop_true : (c : Bool) (o : Option Kind) → cond (c && true) o None ≡ cond c o None
+          drop_true true o = refl
+          drop_true false o = refl
+
+      elsewhere : (q : ℕ) → q ≢ r → target b look p f q ≡ None
+      elsewhere q n = learned_target q ∙ rw (ne_eqb q r n) (no_kind (b.present q && not (q == p) && not (both_isolated b p q)) (b.member v q))
+        where
+          no_kind : (c : Bool) (o : Option Kind) → cond (c && false) o None ≡ None
+          no_kind true o = refl
+          no_kind false o = refl
+
+      step : (k : ℕ) → sends_at t b look m p f v k ≡ local_send k (target b look p f k) ++ cond (is_under t k r) (channel_word t m p f k r (kind_at b p v r)) []
+      step k = rw (is_choice, at_port) refl
+
+      nothing : (c : Bool) → cond {A = List SendTo} c [] [] ≡ []
+      nothing true = refl
+      nothing false = refl
+
+      -- where the learned port is no target nothing is sent
+      pub no_kind_no_send : kind_at b p v r ≡ None → sends_in t b look m p f (Some v) ≡ []
+      no_kind_no_send none = no_one (sends_at t b look m p f v) 64 (λ k low. step k ∙ (rw (none, nowhere k) (nothing (is_under t k r))))
+        where
+          nowhere : (k : ℕ) → target b look p f k ≡ None
+          nowhere k = elim (cases_eq k r) [ inl e ↦ ap (target b look p f) e ∙ (at_port ∙ none) | inr n ↦ elsewhere k n ]
+
+      -- else it alone gets the frame
+      pub port_step : (kind : Kind) → kind_at b p v r ≡ Some kind → sends_in t b look m p f (Some v) ≡ port_sends t m s r kind
+      port_step kind some =
+          elim (cases_lt r 64) [
+            | inl low ↦
+                rw (lt-ltb r 64 low) (
+                only_one (sends_at t b look m p f v) 64 r (λ k l d. step k ∙ (rw (elsewhere k d, none_low t k r low) refl)) low ∙
+                (step r ∙ (rw (at_port, some, none_low t r r low) refl)))
+            | inr high ↦
+                let deep = extended_from t r high (external r present) in
+                let j = trunk t (device r) in
+                let home = home_low t valid r deep in
+                rw (le-ltb r 64 high) (
+                only_one (sends_at t b look m p f v) 64 j (λ k l d. step k ∙ (rw (elsewhere k (λ e. omega (arith, l, e, high)), under_other t k r d) refl)) home ∙
+                (step j ∙ (rw (elsewhere j (λ e. omega (arith, home, e, high)), under_home t r deep, some) (sym (words_same j kind (m.channel j r))))))
+          ]
+        where
+          present : b.present r ≡ true
+          present = by_test (b.present r) (not (r == p)) (not (both_isolated b p r)) some
+            where
+              by_test : (x y z : Bool) → cond (x && y && z) (b.member v r) None ≡ Some kind → x ≡ true
+              by_test true y z e = refl
+              by_test false y z e = absurd (let w : ◌≡◌ {A = Option Kind} None (Some kind) = e in cc)
