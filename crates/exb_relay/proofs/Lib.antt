@@ -8,3 +8,4 @@ mod Flat
 mod Each
 mod BelowWords
 mod Steps
+mod Relaying

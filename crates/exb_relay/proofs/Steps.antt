@@ -1,10 +1,11 @@
 -- The sends at one bridge port, by the parts of which they are made.
-use Rattle.std.proofs.Common.{◌≡◌, ◌≢◌, ℕ, ◌+◌, ◌<◌, ◌≤◌, ◌==◌, ◌&&◌, ◌++◌, cond, Bool, true, false, not, List, [], ◌∷◌, Option, Some, None, nat_lt, filter, refl, sym, ◌∙◌, ap, subst, arith, inl, inr, ◌⊎◌, eq-eqb}
-use Rattle.std.specs.List.{flat_map}
+use Rattle.std.proofs.Common.{◌≡◌, ◌≢◌, ℕ, zero, suc, ◌+◌, ◌<◌, ◌≤◌, ◌==◌, ◌&&◌, ◌++◌, cond, Bool, true, false, not, List, [], ◌∷◌, Option, Some, None, nat_lt, filter, refl, sym, ◌∙◌, ap, subst, arith, inl, inr, ◌⊎◌, eq-eqb}
+use Rattle.std.specs.List.{flat_map, range_with_len}
 use Rattle.std.proofs.lemmas.List.{append-nil}
 use Rattle.std.proofs.lemmas.Bool.{cases_eq, cases_lt, cases_Bool, ne_eqb, lt-ltb, le-ltb, false≢true, false_from_ne_true}
 use Rattle.exb_model.specs.declared.vlan.Kind.{Kind}
 use Rattle.exb_model.specs.declared.vlan.Kind.TheVariants.{Tagged, Untagged}
+use Rattle.exb_model.specs.declared.port_set.PortSet.{PortSet}
 use Rattle.exb_model.specs.Ports.{port_in, below, all_ports}
 use Rattle.exb_model.specs.Frames.{destination, kind_of}
 use Rattle.exb_model.specs.Tree.{Shape, IsTree, device, trunk, is_external, is_under}
@@ -20,8 +21,8 @@ use Rattle.exb_relay.specs.declared.send.SendTo.{SendTo}
 use Rattle.exb_relay.specs.declared.source.Source.{Source}
 use Rattle.exb_relay.specs.Numbers.{Numbers, IsReady}
 use Rattle.exb_relay.specs.Choices.{choice, is_chosen_in}
-use Rattle.exb_relay.specs.Sends.{etag_to, words_to, set_for, group_word, group_words, channel_word, words_down, local_send, sends_at, sends_in}
-use Rattle.exb_relay.specs.Words.{tag_for, words_for, IsSource, kind_among, kind_at, set_below, set_word, member_sends, port_sends}
+use Rattle.exb_relay.specs.Sends.{etag_to, words_to, set_for, group_word, group_words, channel_word, words_down, local_send, sends_at, sends_in, sends_of}
+use Rattle.exb_relay.specs.Words.{tag_for, words_for, IsSource, kind_among, kind_at, set_below, set_word, member_in, member_sends, member_list, port_sends, learned_sends}
 use Rattle.exb_relay.proofs.Lists.{only_one, no_one}
 use Rattle.exb_relay.proofs.Under.{under_trunk, under_home, under_other, under_high, none_low, home_low, extended_from}
 use Rattle.exb_relay.proofs.Choosing.{target_of, target_is}
@@ -138,3 +139,41 @@ module _ (t : Shape) (m : Numbers) (p : ℕ) (f : List ℕ) (s : Source) (is : I
               by_test : (x y z : Bool) → cond (x && y && z) (b.member v r) None ≡ Some kind → x ≡ true
               by_test true y z e = refl
               by_test false y z e = absurd (let w : ◌≡◌ {A = Option Kind} None (Some kind) = e in cc)
+
+-- lists of lists that agree
+flat_range : {X : Type 0} (f g : ℕ → List X) (a n : ℕ) → ((k : ℕ) → k < a + n → f k ≡ g k) → flat_map f (range_with_len a n) ≡ flat_map g (range_with_len a n)
+flat_range f g a zero h = refl
+flat_range f g a (suc n) h = rw (h a (omega arith), flat_range f g (a + 1) n (λ k l. h k (omega (arith, l)))) refl
+
+pub flat_agree : {X : Type 0} (f g : ℕ → List X) (n : ℕ) → ((k : ℕ) → k < n → f k ≡ g k) → flat_map f (below n) ≡ flat_map g (below n)
+unfolding below
+flat_agree f g n h = flat_range f g 0 n (λ k l. h k (omega (arith, l)))
+
+-- ---- all sends of a frame that passes
+module _ (t : Shape) (b : Bridge) (look : Look) (m : Numbers) (f : List ℕ) (v : ℕ) (s : Source) (is : IsSource t m s.port f s) (there : b.present s.port ≡ true) (pass : passes b s.port f ≡ Some v) where
+  members_all : (c : Choice) (among am : ℕ → Bool) → choice b look v (destination f) ≡ c → ((q : ℕ) → is_chosen_in c q ≡ among q) →
+      ((j : ℕ) → words_down t b look m s.port f v c j ≡ group_words t b m s.port f v among j) → ((q : ℕ) → q < 4160 → am q ≡ among q) →
+      member_list t m s (member_in b s.port v am Tagged) (member_in b s.port v am Untagged) ≡ sends_in t b look m s.port f (Some v)
+  unfolding member_list
+  members_all c among am is_choice chosen_is down same =
+      flat_agree _ _ 64 (λ k low. member_step t m s.port f s is b look v there pass c among am _ _ k low is_choice chosen_is down same (λ q. refl) (λ q. refl))
+
+  pub all_members : (am : ℕ → Bool) → choice b look v (destination f) ≡ chosen.All → ((q : ℕ) → q < 4160 → am q ≡ true) →
+      member_list t m s (member_in b s.port v am Tagged) (member_in b s.port v am Untagged) ≡ sends_in t b look m s.port f (Some v)
+  all_members am is_choice every = members_all chosen.All (λ q. true) am is_choice (λ q. refl) (λ j. refl) every
+
+  pub listed_members : (ports : PortSet) → choice b look v (destination f) ≡ chosen.Listed ports →
+      member_list t m s (member_in b s.port v (port_in ports) Tagged) (member_in b s.port v (port_in ports) Untagged) ≡ sends_in t b look m s.port f (Some v)
+  listed_members ports is_choice = members_all (chosen.Listed ports) (port_in ports) (port_in ports) is_choice (λ q. refl) (λ j. refl) (λ q l. refl)
+
+  pub learned_member : (r : ℕ) → IsTree t → ((q : ℕ) → b.present q ≡ true → is_external t q ≡ true) → choice b look v (destination f) ≡ chosen.Learned r →
+      learned_sends t m s r (kind_at b s.port v r) ≡ sends_in t b look m s.port f (Some v)
+  learned_member r valid external is_choice = by_kind (kind_at b s.port v r) refl
+    where
+      by_kind : (o : Option Kind) → kind_at b s.port v r ≡ o → learned_sends t m s r o ≡ sends_in t b look m s.port f (Some v)
+      by_kind None e = sym (no_kind_no_send t m s.port f s is b look v there pass r valid external is_choice e)
+      by_kind (Some kind) e = sym (port_step t m s.port f s is b look v there pass r valid external is_choice kind e)
+
+pub sends_from : (t : Shape) (b : Bridge) (look : Look) (m : Numbers) (p : ℕ) (f : List ℕ) (o : Option ℕ) → passes b p f ≡ o → sends_in t b look m p f o ≡ sends_of t b look m p f
+unfolding sends_of
+sends_from t b look m p f o e = ap (sends_in t b look m p f) (sym e)

@@ -2,5 +2,6 @@ pub mod Numbers
 pub mod Choices
 pub mod Sends
 pub mod Words
+pub mod Spaces
 pub mod Leaving
 pub mod Laws

@@ -9,6 +9,7 @@ pub mod choice;
 mod ingress;
 pub mod laws;
 mod members;
+mod relay;
 pub mod send;
 mod sending;
 mod source;

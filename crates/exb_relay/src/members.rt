@@ -1,10 +1,9 @@
 //! The ports to which a frame may go.
 ghost use Rattle.std.specs.Prelude.{◌≡◌, ℕ, ◌<◌, ◌==◌, ◌&&◌, not, true, if◌then◌else◌, Some, None};
 ghost use Rattle.exb_model.specs.Ports.{port_in};
-ghost use Rattle.exb_model.specs.Refusals.{is_kind};
 ghost use Rattle.exb_model.specs.Targets.{both_isolated};
 ghost use Rattle.exb_config.specs.Tables.{bridge_of};
-ghost use Rattle.exb_relay.specs.Words.{kind_among, kind_at};
+ghost use Rattle.exb_relay.specs.Words.{kind_among, kind_at, member_in};
 
 use exb_config::Config;
 use exb_config::port_sets::except;
@@ -43,10 +42,8 @@ fn hearing(config: &Config, source: PortId, set: &PortSet) -> PortSet
 impl Members {
     /// The members of a VLAN among some ports that hear a source.
     pub fn among(config: &Config, vid: Vid, source: PortId, chosen: &PortSet) -> Members
-        ensures tagged { let k = bridge_of config.now in (q : ℕ) → port_in result.tagged q
-            ≡ ((k.present q && port_in chosen.now q && is_kind Kind.Tagged (k.member vid q)) && not (both_isolated k source q)) }
-        ensures untagged { let k = bridge_of config.now in (q : ℕ) → port_in result.untagged q
-            ≡ ((k.present q && port_in chosen.now q && is_kind Kind.Untagged (k.member vid q)) && not (both_isolated k source q)) }
+        ensures tagged { (q : ℕ) → port_in result.tagged q ≡ member_in (bridge_of config.now) source vid (port_in chosen.now) Kind.Tagged q }
+        ensures untagged { (q : ℕ) → port_in result.untagged q ≡ member_in (bridge_of config.now) source vid (port_in chosen.now) Kind.Untagged q }
     {
         let tagged = config.part(vid, chosen, Kind::Tagged);
         let untagged = config.part(vid, chosen, Kind::Untagged);
@@ -56,11 +53,14 @@ impl Members {
         }
     }
 
-    /// How a port gets the frame, if it is one of them.
-    pub fn kind(&self, port: PortId) -> Option<Kind>
-        ensures { result ≡ kind_among (port_in self.now.tagged) (port_in self.now.untagged) port }
+    /// How a port other than the source gets the frame, if it is one of them.
+    pub fn target(&self, source: PortId, port: PortId) -> Option<Kind>
+        ensures { result ≡ (if port == source then None
+            else kind_among (port_in self.now.tagged) (port_in self.now.untagged) port) }
     {
-        if self.tagged.contains(port) {
+        if port == source {
+            None
+        } else if self.tagged.contains(port) {
             Some(Kind::Tagged)
         } else if self.untagged.contains(port) {
             Some(Kind::Untagged)
