@@ -2,7 +2,7 @@
 ghost use Rattle.std.specs.Prelude.{◌≡◌, ◌==◌, ◌%◌, slice_index, if◌then◌else◌, None};
 ghost use Rattle.exb_model.specs.Frames.{is_group};
 ghost use Rattle.exb_config.specs.Tables.{bridge_of};
-ghost use Rattle.exb_learn.specs.Seen.{look_of};
+ghost use Rattle.exb_learn.specs.Entries.{look_of};
 ghost use Rattle.exb_relay.specs.Choices.{choice};
 
 use exb_config::Config;

@@ -1,7 +1,11 @@
 //! Laws of what the bridge sends for a frame.
+ghost use Rattle.exb_numbers.specs.Spaces.{Spaces};
+ghost use Rattle.exb_relay.specs.Numbers.{IsNumbering};
+ghost use Rattle.exb_relay.specs.Spaces.{numbers_of};
 ghost use Rattle.exb_relay.specs.Laws.{ChoiceIsTheBridges, LocalSendsAreTargets, LearnedSendIsTarget, SendsAreWords, AtMostTwo, SendsLeaveAsFlat};
 
 use exb_frame::laws::tag_round_trip;
+use exb_numbers::laws::{channels_are_apart, groups_are_apart};
 
 /// A port is chosen exactly where the one VLAN bridge chooses it.
 pub fn choice_is_the_bridges()
@@ -36,4 +40,12 @@ pub fn sends_leave_as_flat()
     ensures { SendsLeaveAsFlat }
 {
     tag_round_trip();
+}
+
+/// The numbers that spaces give are channels and groups in their ranges, and no two ports have one channel.
+pub fn spaces_number()
+    ensures { (s : Spaces) → IsNumbering (numbers_of s) }
+{
+    channels_are_apart();
+    groups_are_apart();
 }

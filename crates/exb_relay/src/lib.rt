@@ -9,10 +9,11 @@ pub mod choice;
 mod ingress;
 pub mod laws;
 mod members;
-mod relay;
+pub mod relay;
 pub mod send;
 mod sending;
 mod source;
 
 pub use choice::Choice;
+pub use relay::relay;
 pub use send::{Ingress, SendTo};

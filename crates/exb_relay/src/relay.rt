@@ -6,7 +6,7 @@ ghost use Rattle.exb_model.specs.Tree.{is_external, is_cascade};
 ghost use Rattle.exb_model.specs.Ports.{port_in};
 ghost use Rattle.exb_model.specs.Learning.{passes};
 ghost use Rattle.exb_config.specs.Tables.{bridge_of};
-ghost use Rattle.exb_learn.specs.Seen.{look_of};
+ghost use Rattle.exb_learn.specs.Entries.{look_of};
 ghost use Rattle.exb_relay.specs.Spaces.{numbers_of, HasSpaces, AreExternal};
 ghost use Rattle.exb_relay.specs.Sends.{pcp_of, dei_of, ingress_at, ingress_of, sends_in, sends_of};
 ghost use Rattle.exb_relay.specs.Words.{IsSource, ingress_for, set_below, set_word, kind_at, member_in, member_sends, member_list, port_sends, learned_sends};

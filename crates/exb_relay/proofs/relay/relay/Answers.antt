@@ -1,7 +1,7 @@
 use Rattle.std.proofs.Common.{◌≡◌, ℕ, ◌≤◌, List, [], Option, Some, None, length, refl, sym, ◌∙◌, ap, subst, arith}
 use Rattle.exb_model.specs.Learning.{passes, passes_as}
 use Rattle.exb_config.specs.Tables.{bridge_of}
-use Rattle.exb_learn.specs.Seen.{look_of}
+use Rattle.exb_learn.specs.Entries.{look_of}
 use Rattle.exb_relay.specs.Spaces.{numbers_of}
 use Rattle.exb_relay.specs.Sends.{sends_in}
 use Rattle.exb_relay.proofs.Steps.{sends_from}

@@ -2,7 +2,7 @@ use Rattle.std.proofs.Common.{◌≡◌, ℕ, ◌≤◌, List, [], Option, Some,
 use Rattle.exb_model.specs.Ports.{port_in}
 use Rattle.exb_model.specs.Frames.{destination}
 use Rattle.exb_config.specs.Tables.{bridge_of}
-use Rattle.exb_learn.specs.Seen.{look_of}
+use Rattle.exb_learn.specs.Entries.{look_of}
 use Rattle.exb_relay.specs.declared.choice.Choice.TheVariants as chosen
 use Rattle.exb_relay.specs.Spaces.{numbers_of}
 use Rattle.exb_relay.specs.Choices.{choice}
