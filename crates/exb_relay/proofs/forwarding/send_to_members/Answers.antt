@@ -4,7 +4,7 @@ use Rattle.exb_model.specs.Ports.{port_in, below}
 use Rattle.exb_relay.specs.Spaces.{numbers_of}
 use Rattle.exb_relay.specs.Words.{member_sends, member_list}
 use Rattle.exb_relay.proofs.Relaying.{list_more}
-use Rattle.exb_relay.proofs.relay.send_to_members.Goals as goal
+use Rattle.exb_relay.proofs.forwarding.send_to_members.Goals as goal
 
 pub loop-place-init : goal.loop-place-init
 unfolding below

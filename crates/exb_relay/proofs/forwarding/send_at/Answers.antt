@@ -9,7 +9,7 @@ use Rattle.exb_relay.specs.declared.send.SendTo.{SendTo}
 use Rattle.exb_relay.specs.Words.{kind_among, set_below, set_word}
 use Rattle.exb_relay.proofs.Under.{cascade_from, external_free}
 use Rattle.exb_relay.proofs.Relaying.{at_external, at_cascade, at_unknown}
-use Rattle.exb_relay.proofs.relay.send_at.Goals as goal
+use Rattle.exb_relay.proofs.forwarding.send_at.Goals as goal
 
 joined : (xs ys zs a b : List SendTo) → ys ≡ xs ++ a → zs ≡ ys ++ b → zs ≡ xs ++ (a ++ b)
 joined xs ys zs a b e d = d ∙ (ap (λ w. w ++ b) e ∙ append_assoc xs a b)

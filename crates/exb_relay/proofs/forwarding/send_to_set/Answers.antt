@@ -9,7 +9,7 @@ use Rattle.exb_numbers.specs.Spaces.{groups_at}
 use Rattle.exb_relay.specs.Spaces.{numbers_of}
 use Rattle.exb_relay.specs.Words.{set_below, set_word, words_for}
 use Rattle.exb_relay.proofs.Relaying.{ports_below, empty_below, some_below}
-use Rattle.exb_relay.proofs.relay.send_to_set.Goals as goal
+use Rattle.exb_relay.proofs.forwarding.send_to_set.Goals as goal
 
 pub returns-then-not-is_empty-clause-items : goal.returns-then-not-is_empty-clause-items
 returns-then-not-is_empty-clause-items c =

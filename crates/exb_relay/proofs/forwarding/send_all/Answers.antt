@@ -8,7 +8,7 @@ use Rattle.exb_relay.specs.Spaces.{numbers_of}
 use Rattle.exb_relay.specs.Choices.{choice}
 use Rattle.exb_relay.proofs.Choosing.{passes_long}
 use Rattle.exb_relay.proofs.Steps.{all_members, listed_members, learned_member}
-use Rattle.exb_relay.proofs.relay.send_all.Goals as goal
+use Rattle.exb_relay.proofs.forwarding.send_all.Goals as goal
 
 pub destination-requires : goal.destination-requires
 destination-requires c =

@@ -4,7 +4,7 @@ use Rattle.arrayvec.specs.ArrayVec.{array_vec_len}
 use Rattle.exb_model.specs.Ports.{port_in, below}
 use Rattle.exb_relay.specs.Spaces.{numbers_of}
 use Rattle.exb_relay.specs.Words.{member_sends}
-use Rattle.exb_relay.proofs.relay.send_to_members.Given as goal
+use Rattle.exb_relay.proofs.forwarding.send_to_members.Given as goal
 
 abbrev pub invariant-loop-place : goal.invariant-loop-place
 invariant-loop-place l = record {

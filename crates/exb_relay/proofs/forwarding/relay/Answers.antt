@@ -5,7 +5,7 @@ use Rattle.exb_learn.specs.Entries.{look_of}
 use Rattle.exb_relay.specs.Spaces.{numbers_of}
 use Rattle.exb_relay.specs.Sends.{sends_in}
 use Rattle.exb_relay.proofs.Steps.{sends_from}
-use Rattle.exb_relay.proofs.relay.relay.Goals as goal
+use Rattle.exb_relay.proofs.forwarding.relay.Goals as goal
 
 pub returns-in-None-clause-sends : goal.returns-in-None-clause-sends
 returns-in-None-clause-sends c =
