@@ -1,14 +1,14 @@
 -- The words of a set that lie below a port of the bridge.
-use Rattle.std.proofs.Common.{◌≡◌, ◌≢◌, ℕ, zero, suc, ◌+◌, ◌*◌, ◌/◌, ◌%◌, ◌<◌, ◌≤◌, ◌==◌, ◌&&◌, ◌||◌, ◌++◌, ◌^◌, cond, Bool, true, false, List, [], ◌∷◌, length, take, get_or, set, slice_index, refl, sym, ◌∙◌, ap, subst, arith, inl, inr, ◌⊎◌, eq-eqb, add-one}
+use Rattle.std.proofs.Common.{◌≡◌, ◌≢◌, ℕ, ◌+◌, ◌/◌, ◌%◌, ◌<◌, ◌==◌, ◌&&◌, ◌||◌, ◌++◌, cond, Bool, true, false, List, [], ◌∷◌, length, take, set, slice_index, refl, sym, ◌∙◌, subst, arith, inl, inr, ◌⊎◌, eq-eqb, add-one}
 use Rattle.std.specs.List.{list_any}
 use Rattle.std.specs.Int.{bit_at}
-use Rattle.std.proofs.lemmas.Bool.{cases_eq, cases_lt, cases_Bool, eqb-true, ne_eqb, lt-ltb, and_parts, and_from, and_right, le-leb, or_right, or_left, false≢true, false_from_ne_true}
+use Rattle.std.proofs.lemmas.Bool.{cases_eq, cases_lt, cases_Bool, ne_eqb, lt-ltb, and_from, and_right, or_right, false_from_ne_true}
 use Rattle.std.proofs.lemmas.List.{get_or-set_same, get_or-set_other, get_or-replicate, get_or_past, length-replicate}
 use Rattle.std.proofs.lemmas.Nat.Bits.{bit_at-zero}
 use Rattle.std.specs.Prelude.{replicate}
 use Rattle.std.proofs.Math.Seq.{take-suc}
 use Rattle.exb_model.specs.PortBits.{has_port}
-use Rattle.exb_model.specs.Tree.{Shape, IsTree, HangsOn, device, on, trunk, is_port, is_extender, is_external, is_extended, is_under, by_depth}
+use Rattle.exb_model.specs.Tree.{Shape, IsTree, HangsOn, device, on, trunk, is_extender, is_external, is_under, by_depth}
 use Rattle.exb_model.proofs.TreeOrder.{in_order, by_depth-hangs, place_of}
 use Rattle.exb_model.proofs.TreeWays.{number_at_most}
 use Rattle.exb_relay.proofs.Under.{external_port, extended_from, none_low}

@@ -1,15 +1,13 @@
 -- Targets by how their ports are chosen.
-use Rattle.std.proofs.Common.{◌≡◌, ℕ, ◌<◌, ◌≤◌, ◌==◌, ◌&&◌, Bool, true, false, cond, not, List, length, Option, Some, None, nat_lt, refl, sym, ◌∙◌, ap, arith, inl, inr}
-use Rattle.std.proofs.lemmas.Bool.{cases_lt, cases_Bool, lt-ltb, and_parts, and_right, false≢true}
+use Rattle.std.proofs.Common.{◌≡◌, ℕ, ◌≤◌, ◌==◌, ◌&&◌, Bool, true, false, cond, not, List, length, Option, Some, None, refl, sym, ap, inl, inr}
+use Rattle.std.proofs.lemmas.Bool.{cases_lt, lt-ltb, and_parts}
 use Rattle.exb_model.specs.declared.rules.StaticAt.{StaticAt}
 use Rattle.exb_model.specs.declared.vlan.Kind.{Kind}
-use Rattle.exb_model.specs.declared.frame_kind.Seen.TheVariants as seen
 use Rattle.exb_model.specs.Frames.{kind_of, destination, is_group}
 use Rattle.exb_model.specs.Configuration.{Bridge}
-use Rattle.exb_model.specs.Learning.{Look, passes, passes_as}
-use Rattle.exb_model.specs.Targets.{static_for, is_chosen_by, is_chosen, both_isolated, target_in, target}
+use Rattle.exb_model.specs.Learning.{Look, passes}
+use Rattle.exb_model.specs.Targets.{static_for, is_chosen_by, is_chosen, both_isolated, target}
 use Rattle.exb_relay.specs.declared.choice.Choice.{Choice}
-use Rattle.exb_relay.specs.declared.choice.Choice.TheVariants.{Learned}
 use Rattle.exb_relay.specs.Choices.{choice_by, choice, is_chosen_in}
 
 by_parts : (e : Option StaticAt) (r : Option ℕ) (q : ℕ) → is_chosen_in (choice_by e r) q ≡ is_chosen_by e r q

@@ -1,5 +1,5 @@
 -- What each send is.
-use Rattle.std.proofs.Common.{◌≡◌, ◌≢◌, ℕ, zero, suc, ◌+◌, ◌<◌, ◌≤◌, ◌==◌, ◌&&◌, ◌++◌, cond, Bool, true, false, List, [], ◌∷◌, length, Option, Some, None, filter, refl, sym, ◌∙◌, ap, subst, arith, inl, inr, ◌⊎◌, eq-eqb, eqb-true, length-append}
+use Rattle.std.proofs.Common.{◌≡◌, ◌≢◌, ℕ, zero, suc, ◌+◌, ◌<◌, ◌≤◌, ◌==◌, ◌++◌, cond, Bool, true, false, List, [], ◌∷◌, length, Option, Some, None, filter, refl, sym, ◌∙◌, ap, subst, arith, inl, inr, ◌⊎◌, eq-eqb, length-append}
 use Rattle.std.specs.Prelude.{count_by}
 use Rattle.std.specs.List.{flat_map, All}
 use Rattle.std.proofs.lemmas.List.{append-nil}
@@ -9,9 +9,9 @@ use Rattle.std.proofs.lemmas.Grind.{flat_map-append}
 use Rattle.std.proofs.lemmas.Bool.{cases_eq, cases_lt, cases_Bool, ne_eqb, false≢true, false_from_ne_true}
 use Rattle.exb_model.specs.declared.vlan.Kind.{Kind}
 use Rattle.exb_model.specs.declared.vlan.Kind.TheVariants.{Tagged, Untagged}
-use Rattle.exb_model.specs.Ports.{port_in, below}
+use Rattle.exb_model.specs.Ports.{port_in}
 use Rattle.exb_model.specs.Frames.{destination}
-use Rattle.exb_model.specs.Tree.{Shape, IsTree, device, trunk, is_cascade, is_external, is_under}
+use Rattle.exb_model.specs.Tree.{Shape, IsTree, is_cascade, is_external, is_under}
 use Rattle.exb_model.specs.Configuration.{Bridge}
 use Rattle.exb_model.specs.Learning.{Look, passes}
 use Rattle.exb_model.specs.Targets.{target}
@@ -23,9 +23,9 @@ use Rattle.exb_relay.specs.declared.send.SendTo.{SendTo}
 use Rattle.exb_relay.specs.Numbers.{Numbers, IsReady, IsNumbering, has_set}
 use Rattle.exb_relay.specs.Choices.{choice}
 use Rattle.exb_relay.specs.Sends.{etag_to, word_to, words_to, set_for, group_word, group_words, channel_word, words_down, local_send, sends_at, sends_in, sends_of}
-use Rattle.exb_relay.specs.Laws.{IsBytes, HasPvids, listed_kind, local_kind, local_kinds, has_tag, words_of, IsWord, IsSent, IsAt}
+use Rattle.exb_relay.specs.Laws.{IsBytes, HasPvids, listed_kind, local_kind, local_kinds, has_tag, words_of, IsAt}
 use Rattle.exb_relay.proofs.Lists.{filter_flat, flat_flat, only_one, no_one, each_below}
-use Rattle.exb_relay.proofs.Under.{under_trunk, none_low, none_under, under_cascade, under_extended, home_low, external_free}
+use Rattle.exb_relay.proofs.Under.{under_trunk, none_under, under_cascade, under_extended, home_low, external_free}
 use Rattle.exb_relay.proofs.Choosing.{target_is, target_says}
 use Rattle.exb_relay.proofs.Sets.{set_there, IsSource, Fits, choice_fits}
 use Rattle.exb_relay.proofs.Words.{some_of, tag_fits}

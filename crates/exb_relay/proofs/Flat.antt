@@ -1,5 +1,5 @@
 -- The one VLAN bridge's output.
-use Rattle.std.proofs.Common.{◌≡◌, ℕ, ◌%◌, ◌<◌, ◌≤◌, ◌==◌, ◌&&◌, ◌||◌, cond, Bool, true, false, not, List, [], ◌∷◌, length, map, Option, Some, None, nat_lt, refl, sym, ◌∙◌, ap, subst, arith, inl, inr, ◌⊎◌, eq-eqb}
+use Rattle.std.proofs.Common.{◌≡◌, ℕ, ◌%◌, ◌≤◌, ◌==◌, ◌&&◌, ◌||◌, cond, Bool, true, false, not, List, length, map, Option, Some, None, nat_lt, refl, ◌∙◌, ap, subst, arith, inl, inr, eq-eqb}
 use Rattle.std.specs.Prelude.{is_some}
 use Rattle.std.proofs.lemmas.Bool.{cases_eq, cases_Bool, ne_eqb}
 use Rattle.exb_model.specs.declared.vlan.Kind.{Kind}
@@ -12,11 +12,11 @@ use Rattle.exb_model.specs.ExtenderForwarding.{Tables}
 use Rattle.exb_model.specs.Configuration.{Bridge, is_known}
 use Rattle.exb_model.specs.Learning.{Look, passes, passes_as, admitted}
 use Rattle.exb_model.specs.Targets.{target}
-use Rattle.exb_model.specs.FlatBridge.{Sent, sent_as, sent_by}
+use Rattle.exb_model.specs.FlatBridge.{sent_as, sent_by}
 use Rattle.exb_frame.specs.TagValues.{TagRoundTrip}
 use Rattle.exb_relay.specs.Numbers.{Numbers, IsReady, IsNumbering}
 use Rattle.exb_relay.specs.Sends.{sends_of}
-use Rattle.exb_relay.specs.Leaving.{Carries, all_leaving}
+use Rattle.exb_relay.specs.Leaving.{Carries}
 use Rattle.exb_relay.specs.Laws.{IsBytes, HasPvids, left_by}
 use Rattle.exb_relay.proofs.Leaving.{listed_out, leaves_as_target}
 

@@ -1,33 +1,30 @@
 -- What all sends of a frame make leave.
-use Rattle.std.proofs.Common.{◌≡◌, ◌≢◌, ℕ, ◌+◌, ◌<◌, ◌≤◌, ◌==◌, ◌&&◌, ◌++◌, cond, Bool, true, false, not, List, [], ◌∷◌, length, map, Option, Some, None, refl, sym, ◌∙◌, ap, subst, arith, inl, inr, ◌⊎◌, eq-eqb}
+use Rattle.std.proofs.Common.{◌≡◌, ◌≢◌, ℕ, ◌+◌, ◌<◌, ◌≤◌, ◌==◌, ◌&&◌, ◌++◌, cond, Bool, true, false, not, List, [], ◌∷◌, length, Option, Some, None, refl, sym, ◌∙◌, ap, arith, inl, inr, ◌⊎◌, eq-eqb}
 use Rattle.std.specs.List.{flat_map}
 use Rattle.std.proofs.lemmas.List.{append-nil}
 use Rattle.std.proofs.lemmas.Grind.{flat_map-append}
 use Rattle.std.proofs.lemmas.Bool.{cases_eq, cases_lt, cases_Bool, ne_eqb, false≢true}
 use Rattle.exb_model.specs.declared.vlan.Kind.{Kind}
 use Rattle.exb_model.specs.declared.vlan.Kind.TheVariants.{Tagged, Untagged}
-use Rattle.exb_model.specs.declared.event.Event.TheVariants as event
-use Rattle.exb_model.specs.Ports.{port_in, below, all_ports}
+use Rattle.exb_model.specs.Ports.{port_in}
 use Rattle.exb_model.specs.Frames.{destination, egress}
 use Rattle.exb_model.specs.Tree.{Shape, IsTree, IsCascade, device, trunk, is_cascade, is_external, is_under}
 use Rattle.exb_model.specs.ExtenderForwarding.{Tables}
 use Rattle.exb_model.specs.Configuration.{Bridge}
 use Rattle.exb_model.specs.Learning.{Look, passes}
 use Rattle.exb_model.specs.Targets.{target, both_isolated}
-use Rattle.exb_model.specs.FlatBridge.{Sent, sent_as, sent_by}
 use Rattle.exb_model.specs.Refusals.{is_kind, is_empty_set, bridge_ports}
 use Rattle.exb_model.proofs.PortLemmas.{filter_below-none}
 use Rattle.exb_frame.specs.TagValues.{TagRoundTrip}
 use Rattle.exb_relay.specs.declared.choice.Choice.{Choice}
 use Rattle.exb_relay.specs.declared.choice.Choice.TheVariants as chosen
-use Rattle.exb_relay.specs.declared.send.SendTo.{SendTo}
 use Rattle.exb_relay.specs.Numbers.{Numbers, IsReady, IsNumbering, has_set}
 use Rattle.exb_relay.specs.Choices.{choice, is_chosen_in}
 use Rattle.exb_relay.specs.Sends.{set_for, group_word, group_words, channel_word, words_down, local_send, sends_at, sends_of}
 use Rattle.exb_relay.specs.Leaving.{is_listed, Carries, leaving, all_leaving}
-use Rattle.exb_relay.specs.Laws.{IsBytes, HasPvids, left_by}
+use Rattle.exb_relay.specs.Laws.{IsBytes, HasPvids}
 use Rattle.exb_relay.proofs.Lists.{flat_flat, only_one, none_listed}
-use Rattle.exb_relay.proofs.Under.{under_extended, under_trunk, under_high, under_home, under_other, none_low, none_under, under_cascade, hangs, home_low, external_below, extended_from}
+use Rattle.exb_relay.proofs.Under.{under_home, under_other, none_low, none_under, under_cascade, hangs, home_low, external_below, extended_from}
 use Rattle.exb_relay.proofs.Choosing.{target_of, target_is, target_says, passes_long}
 use Rattle.exb_relay.proofs.Sets.{is_part, hears, set_is, set_has, set_under, set_there, IsSource, Fits, choice_fits}
 use Rattle.exb_relay.proofs.Words.{some_of, egress_long, group_out, channel_out}

@@ -1,14 +1,13 @@
 -- The parts of the relay's code.
-use Rattle.std.proofs.Common.{◌≡◌, ◌≢◌, ℕ, ◌+◌, ◌-◌, ◌<◌, ◌≤◌, ◌==◌, ◌&&◌, ◌++◌, cond, Bool, true, false, not, List, [], ◌∷◌, Option, Some, None, filter, refl, sym, ◌∙◌, ap, subst, arith, inl, inr, ◌⊎◌, eq-eqb}
+use Rattle.std.proofs.Common.{◌≡◌, ℕ, ◌+◌, ◌-◌, ◌<◌, ◌≤◌, ◌==◌, ◌&&◌, ◌++◌, cond, Bool, true, false, List, [], ◌∷◌, Some, None, refl, sym, ◌∙◌, ap, subst, arith, inl, inr, eq-eqb}
 use Rattle.std.specs.List.{flat_map, list_any}
 use Rattle.std.proofs.lemmas.List.{append-nil}
 use Rattle.std.proofs.lemmas.Grind.{flat_map-append}
-use Rattle.std.proofs.lemmas.Bool.{cases_eq, cases_lt, cases_Bool, ne_eqb, eqb-true, false≢true, false_from_ne_true}
-use Rattle.exb_model.specs.declared.vlan.Kind.{Kind}
+use Rattle.std.proofs.lemmas.Bool.{cases_eq, cases_lt, ne_eqb, false≢true, false_from_ne_true}
 use Rattle.exb_model.specs.declared.vlan.Kind.TheVariants.{Tagged, Untagged}
 use Rattle.exb_model.specs.declared.port_set.PortSet.{PortSet}
 use Rattle.exb_model.specs.Ports.{port_in, ports_of, below, all_ports}
-use Rattle.exb_model.specs.Tree.{Shape, IsTree, HangsOn, IsCascade, device, trunk, is_port, is_cascade, is_external, is_under}
+use Rattle.exb_model.specs.Tree.{Shape, IsTree, IsCascade, device, trunk, is_port, is_cascade, is_external, is_under}
 use Rattle.exb_model.specs.Refusals.{is_empty_set}
 use Rattle.exb_model.proofs.PortLemmas.{any_below-true, filter_below-agree, filter_below-none, below-more}
 use Rattle.exb_numbers.specs.Spaces.{Spaces, has_space}

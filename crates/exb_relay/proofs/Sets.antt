@@ -1,13 +1,12 @@
 -- The sets of a frame's words: which ports they have, and that the configuration has them.
-use Rattle.std.proofs.Common.{◌≡◌, ℕ, ◌+◌, ◌<◌, ◌≤◌, ◌==◌, ◌&&◌, ◌++◌, Bool, true, false, cond, not, List, [], ◌∷◌, Option, Some, None, filter, refl, sym, ◌∙◌, ap, subst, arith, inl, inr}
-use Rattle.std.specs.Prelude.{find}
-use Rattle.std.specs.List.{flat_map, list_any, range_with_len}
+use Rattle.std.proofs.Common.{◌≡◌, ℕ, ◌<◌, ◌≤◌, ◌==◌, ◌&&◌, Bool, true, false, cond, not, List, [], ◌∷◌, Option, Some, None, filter, refl, sym, ◌∙◌, ap, subst, arith, inl, inr}
+use Rattle.std.specs.List.{flat_map, range_with_len}
 use Rattle.std.proofs.lemmas.Bool.{cases_Bool, eqb-true, eq-eqb, and_parts}
 use Rattle.exb_model.specs.declared.rules.StaticAt.{StaticAt}
 use Rattle.exb_model.specs.declared.vlan.Kind.{Kind}
 use Rattle.exb_model.specs.declared.vlan.Kind.TheVariants.{Tagged, Untagged}
-use Rattle.exb_model.specs.Ports.{port_in, below, all_ports}
-use Rattle.exb_model.specs.Frames.{destination, is_group}
+use Rattle.exb_model.specs.Ports.{port_in, all_ports}
+use Rattle.exb_model.specs.Frames.{is_group}
 use Rattle.exb_model.specs.Tree.{Shape, is_under}
 use Rattle.exb_model.specs.Configuration.{Bridge, is_for}
 use Rattle.exb_model.specs.Learning.{Look}

@@ -1,32 +1,31 @@
 -- The sends at one bridge port, by the parts of which they are made.
-use Rattle.std.proofs.Common.{◌≡◌, ◌≢◌, ℕ, zero, suc, ◌+◌, ◌<◌, ◌≤◌, ◌==◌, ◌&&◌, ◌++◌, cond, Bool, true, false, not, List, [], ◌∷◌, Option, Some, None, nat_lt, filter, refl, sym, ◌∙◌, ap, subst, arith, inl, inr, ◌⊎◌, eq-eqb}
+use Rattle.std.proofs.Common.{◌≡◌, ◌≢◌, ℕ, zero, suc, ◌+◌, ◌<◌, ◌==◌, ◌&&◌, ◌++◌, cond, Bool, true, false, not, List, [], ◌∷◌, Option, Some, None, refl, sym, ◌∙◌, ap, arith, inl, inr, eq-eqb}
 use Rattle.std.specs.List.{flat_map, range_with_len}
-use Rattle.std.proofs.lemmas.List.{append-nil}
-use Rattle.std.proofs.lemmas.Bool.{cases_eq, cases_lt, cases_Bool, ne_eqb, lt-ltb, le-ltb, false≢true, false_from_ne_true}
+use Rattle.std.proofs.lemmas.Bool.{cases_eq, cases_lt, cases_Bool, ne_eqb, lt-ltb, le-ltb}
 use Rattle.exb_model.specs.declared.vlan.Kind.{Kind}
 use Rattle.exb_model.specs.declared.vlan.Kind.TheVariants.{Tagged, Untagged}
 use Rattle.exb_model.specs.declared.port_set.PortSet.{PortSet}
-use Rattle.exb_model.specs.Ports.{port_in, below, all_ports}
-use Rattle.exb_model.specs.Frames.{destination, kind_of}
+use Rattle.exb_model.specs.Ports.{port_in, below}
+use Rattle.exb_model.specs.Frames.{destination}
 use Rattle.exb_model.specs.Tree.{Shape, IsTree, device, trunk, is_external, is_under}
 use Rattle.exb_model.specs.Configuration.{Bridge}
 use Rattle.exb_model.specs.Learning.{Look, passes}
 use Rattle.exb_model.specs.Targets.{target, both_isolated}
-use Rattle.exb_model.specs.Refusals.{is_kind, is_empty_set, bridge_ports}
+use Rattle.exb_model.specs.Refusals.{is_kind, is_empty_set}
 use Rattle.exb_model.proofs.PortLemmas.{filter_below-agree}
 use Rattle.exb_frame.specs.declared.etag.ETag.{ETag}
 use Rattle.exb_relay.specs.declared.choice.Choice.{Choice}
 use Rattle.exb_relay.specs.declared.choice.Choice.TheVariants as chosen
 use Rattle.exb_relay.specs.declared.send.SendTo.{SendTo}
 use Rattle.exb_relay.specs.declared.source.Source.{Source}
-use Rattle.exb_relay.specs.Numbers.{Numbers, IsReady}
+use Rattle.exb_relay.specs.Numbers.{Numbers}
 use Rattle.exb_relay.specs.Choices.{choice, is_chosen_in}
 use Rattle.exb_relay.specs.Sends.{etag_to, words_to, set_for, group_word, group_words, channel_word, words_down, local_send, sends_at, sends_in, sends_of}
 use Rattle.exb_relay.specs.Words.{tag_for, words_for, IsSource, kind_among, kind_at, set_below, set_word, member_in, member_sends, member_list, port_sends, learned_sends}
 use Rattle.exb_relay.proofs.Lists.{only_one, no_one}
-use Rattle.exb_relay.proofs.Under.{under_trunk, under_home, under_other, under_high, none_low, home_low, extended_from}
+use Rattle.exb_relay.proofs.Under.{under_home, under_other, none_low, home_low, extended_from}
 use Rattle.exb_relay.proofs.Choosing.{target_of, target_is}
-use Rattle.exb_relay.proofs.Sets.{is_part, hears, set_is}
+use Rattle.exb_relay.proofs.Sets.{hears, set_is}
 
 -- ---- tests
 local_is : (pr s h c : Bool) (o : Option Kind) →

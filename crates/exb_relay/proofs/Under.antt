@@ -1,15 +1,14 @@
 -- Ports below a bridge port, and extenders on it.
-use Rattle.std.proofs.Common.{◌≡◌, ◌≢◌, ℕ, zero, suc, ◌+◌, ◌<◌, ◌≤◌, ◌==◌, ◌&&◌, Bool, true, false, not, List, [], ◌∷◌, Option, Some, None, nat_lt, slice_index, refl, sym, ◌∙◌, ap, subst, arith, inl, inr, ◌⊎◌, eq-eqb}
-use Rattle.std.specs.Prelude.{find}
-use Rattle.std.specs.List.{list_any, range_with_len}
-use Rattle.std.proofs.lemmas.Bool.{cases_eq, cases_lt, cases_Bool, eqb-true, ne_eqb, ltb-true, lt-ltb, leb-true, le-leb, le-ltb, and_parts, and_from, false≢true, false_from_ne_true}
+use Rattle.std.proofs.Common.{◌≡◌, ◌≢◌, ℕ, zero, suc, ◌+◌, ◌<◌, ◌≤◌, ◌==◌, ◌&&◌, Bool, true, false, not, List, [], Some, nat_lt, slice_index, refl, sym, ◌∙◌, ap, subst, arith, inl, inr, eq-eqb}
+use Rattle.std.specs.List.{range_with_len}
+use Rattle.std.proofs.lemmas.Bool.{cases_lt, eqb-true, ne_eqb, ltb-true, lt-ltb, leb-true, le-leb, and_parts, and_from, false≢true, false_from_ne_true}
 use Rattle.exb_model.specs.Ports.{below}
-use Rattle.exb_model.specs.Tree.{Shape, IsTree, HangsOn, IsCascade, device, on, top, trunk, is_port, is_cascade, is_extender, is_external, is_extended, is_under, any_below}
+use Rattle.exb_model.specs.Tree.{Shape, IsTree, HangsOn, IsCascade, device, on, top, trunk, is_port, is_cascade, is_extender, is_external, is_extended, is_under}
 use Rattle.exb_model.specs.ExtenderForwarding.{Tables}
 use Rattle.exb_model.specs.Carriage.{carried, carried_in}
 use Rattle.exb_model.proofs.TreeWays.{any_below-true, any_below-from, top_high, top_hangs, top_below, number_at_most, port_below}
 use Rattle.exb_relay.specs.Leaving.{extender_on}
-use Rattle.exb_relay.proofs.Lists.{Member, member_range, find_only}
+use Rattle.exb_relay.proofs.Lists.{member_range, find_only}
 
 pub under_extended : (t : Shape) (k q : ℕ) → is_under t k q ≡ true → is_extended t q ≡ true
 under_extended t k q u = (and_parts (is_extended t q) (trunk t (device q) == k) u).0

@@ -1,23 +1,20 @@
 -- One word: that its E-TAG fits, and where it comes out.
-use Rattle.std.proofs.Common.{◌≡◌, ◌≢◌, ℕ, zero, ◌+◌, ◌*◌, ◌/◌, ◌%◌, ◌<◌, ◌≤◌, ◌==◌, ◌&&◌, ◌++◌, cond, Bool, true, false, not, List, [], ◌∷◌, length, take, drop, Option, Some, None, nat_lt, slice_index, refl, sym, ◌∙◌, ap, subst, arith, inl, inr, ◌⊎◌, eq-eqb, length-append}
+use Rattle.std.proofs.Common.{◌≡◌, ◌≢◌, ℕ, ◌+◌, ◌*◌, ◌%◌, ◌<◌, ◌≤◌, ◌==◌, ◌&&◌, ◌++◌, cond, true, false, not, List, [], ◌∷◌, length, take, Option, Some, None, nat_lt, refl, sym, ◌∙◌, ap, subst, arith, inl, inr, ◌⊎◌, eq-eqb, length-append}
 use Rattle.std.specs.Prelude.{is_some}
-use Rattle.std.specs.List.{flat_map}
-use Rattle.std.proofs.lemmas.List.{append-nil, length-take}
-use Rattle.std.proofs.lemmas.Bool.{cases_eq, cases_lt, cases_Bool, eqb-true, ne_eqb, ltb-true, lt-ltb, and_parts, false≢true, false_from_ne_true}
+use Rattle.std.proofs.lemmas.List.{length-take}
+use Rattle.std.proofs.lemmas.Bool.{cases_eq, cases_lt, cases_Bool, ne_eqb, lt-ltb, false≢true, false_from_ne_true}
 use Rattle.exb_model.specs.declared.vlan.Kind.{Kind}
 use Rattle.exb_model.specs.declared.vlan.Kind.TheVariants.{Tagged, Untagged}
 use Rattle.exb_model.specs.Frames.{number_at, two_bytes, is_reserved, kind_of_tag, kind_of, body_after, priority_of, egress}
-use Rattle.exb_model.specs.ETags.{Tag, TagFits, read_etag, tagged, stripped}
-use Rattle.exb_model.specs.Tree.{Shape, IsTree, HangsOn, device, is_external, is_extended, is_under}
+use Rattle.exb_model.specs.ETags.{TagFits, tagged}
+use Rattle.exb_model.specs.Tree.{Shape, IsTree, HangsOn, is_external, is_under}
 use Rattle.exb_model.specs.ExtenderForwarding.{Tables}
 use Rattle.exb_model.specs.Carriage.{carried}
 use Rattle.exb_model.specs.Configuration.{Bridge}
-use Rattle.exb_frame.specs.declared.etag.ETag.{ETag}
 use Rattle.exb_frame.specs.TagValues.{tag_of, TagRoundTrip}
-use Rattle.exb_relay.specs.declared.send.SendTo.{SendTo}
 use Rattle.exb_relay.specs.Numbers.{Numbers, IsReady, IsNumbering, has_set}
 use Rattle.exb_relay.specs.Sends.{pcp_of, or_zero, ingress_at, etag_to, word_to}
-use Rattle.exb_relay.specs.Leaving.{is_listed, Carries, extender_on, coming_out, leaving}
+use Rattle.exb_relay.specs.Leaving.{is_listed, Carries, leaving}
 use Rattle.exb_relay.specs.Laws.{IsBytes}
 use Rattle.exb_relay.proofs.Under.{under_high, extended_from, extender_there, none_at_bridge}
 

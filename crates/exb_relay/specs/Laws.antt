@@ -10,10 +10,9 @@ use Rattle.exb_model.specs.ExtenderForwarding.{Tables}
 use Rattle.exb_model.specs.Configuration.{Bridge}
 use Rattle.exb_model.specs.Learning.{Look, passes}
 use Rattle.exb_model.specs.Targets.{target, is_chosen}
-use Rattle.exb_model.specs.FlatBridge.{Sent, sent_by}
+use Rattle.exb_model.specs.FlatBridge.{sent_by}
 use Rattle.exb_frame.specs.declared.etag.ETag.{ETag}
 use Rattle.exb_frame.specs.TagValues.{tag_of}
-use Rattle.exb_relay.specs.declared.choice.Choice.{Choice}
 use Rattle.exb_relay.specs.declared.choice.Choice.TheVariants.{Learned}
 use Rattle.exb_relay.specs.declared.send.SendTo.{SendTo}
 use Rattle.exb_relay.specs.Numbers.{Numbers, IsReady, IsNumbering, has_set}

@@ -1,5 +1,5 @@
 -- The numbers by which the bridge reaches ports of extenders. Each bridge port has a space of its own.
-use Rattle.std.specs.Prelude.{◌≡◌, ℕ, ◌<◌, ◌≤◌, Bool, true, ◌==◌, bytes_eq, List, Option, Some, IsSome}
+use Rattle.std.specs.Prelude.{◌≡◌, ℕ, ◌<◌, ◌≤◌, Bool, true, bytes_eq, List, Option, Some, IsSome}
 use Rattle.std.specs.List.{list_any}
 use Rattle.exb_model.specs.Tree.{Shape, is_external, is_under}
 use Rattle.exb_model.specs.Configuration.{Bridge}

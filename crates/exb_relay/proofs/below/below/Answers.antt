@@ -1,6 +1,5 @@
-use Rattle.std.proofs.Common.{◌≡◌, ℕ, List, slice_index, length, take, sym, subst, refl, arith}
+use Rattle.std.proofs.Common.{◌≡◌, ℕ, List, slice_index, length, take, subst, refl, arith}
 use Rattle.std.proofs.Math.Seq.{take-length}
-use Rattle.exb_model.specs.Ports.{port_in}
 use Rattle.exb_relay.proofs.BelowWords.{no_words, extender_at, word_below, below_has}
 use Rattle.exb_relay.proofs.below.below.Goals as goal
 

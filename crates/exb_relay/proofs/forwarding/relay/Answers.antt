@@ -1,4 +1,4 @@
-use Rattle.std.proofs.Common.{◌≡◌, ℕ, ◌≤◌, List, [], Option, Some, None, length, refl, sym, ◌∙◌, ap, subst, arith}
+use Rattle.std.proofs.Common.{◌≡◌, ℕ, Some, None, sym, ◌∙◌, ap}
 use Rattle.exb_model.specs.Learning.{passes, passes_as}
 use Rattle.exb_config.specs.Tables.{bridge_of}
 use Rattle.exb_learn.specs.Entries.{look_of}

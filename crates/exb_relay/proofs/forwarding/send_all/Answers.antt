@@ -1,4 +1,4 @@
-use Rattle.std.proofs.Common.{◌≡◌, ℕ, ◌≤◌, List, [], Option, Some, None, length, refl, sym, ◌∙◌, ap, subst, arith}
+use Rattle.std.proofs.Common.{◌≡◌, sym, ◌∙◌, ap, arith}
 use Rattle.exb_model.specs.Ports.{port_in}
 use Rattle.exb_model.specs.Frames.{destination}
 use Rattle.exb_config.specs.Tables.{bridge_of}

@@ -1,13 +1,11 @@
-use Rattle.std.proofs.Common.{◌≡◌, ◌≢◌, ℕ, ◌+◌, ◌-◌, ◌/◌, ◌<◌, ◌≤◌, ◌++◌, Bool, true, false, List, [], Option, Some, None, length, refl, sym, ◌∙◌, ap, subst, arith, inl, inr}
+use Rattle.std.proofs.Common.{◌≡◌, ℕ, ◌+◌, ◌-◌, ◌++◌, false, [], refl, sym, ◌∙◌, ap, arith, inl, inr}
 use Rattle.std.proofs.lemmas.List.{append-nil}
 use Rattle.std.proofs.lemmas.Bool.{cases_Bool, false≢true}
 use Rattle.exb_model.specs.Ports.{port_in, ports_of}
-use Rattle.exb_model.specs.Tree.{is_under}
 use Rattle.exb_model.specs.Refusals.{is_empty_set}
 use Rattle.exb_numbers.specs.Groups.{group_of}
 use Rattle.exb_numbers.specs.Spaces.{groups_at}
-use Rattle.exb_relay.specs.Spaces.{numbers_of}
-use Rattle.exb_relay.specs.Words.{set_below, set_word, words_for}
+use Rattle.exb_relay.specs.Words.{set_below, words_for}
 use Rattle.exb_relay.proofs.Relaying.{ports_below, empty_below, some_below}
 use Rattle.exb_relay.proofs.forwarding.send_to_set.Goals as goal
 

@@ -1,6 +1,6 @@
-use Rattle.std.proofs.Common.{◌≡◌, ◌≢◌, ℕ, ◌+◌, ◌-◌, ◌/◌, ◌<◌, ◌≤◌, ◌++◌, Bool, true, false, List, [], Option, Some, None, refl, sym, ◌∙◌, ap, subst, arith, inl, inr}
+use Rattle.std.proofs.Common.{◌≡◌, ℕ, ◌+◌, ◌/◌, subst, arith}
 use Rattle.exb_model.specs.Tree.{device, trunk}
-use Rattle.exb_relay.proofs.Relaying.{home_space, uplink_is, no_uplink}
+use Rattle.exb_relay.proofs.Relaying.{home_space}
 use Rattle.exb_relay.proofs.forwarding.uplink_of.Goals as goal
 
 pub channels-requires-clause-cascade : goal.channels-requires-clause-cascade

@@ -1,4 +1,4 @@
-use Rattle.std.proofs.Common.{◌≡◌, ℕ, arith}
+use Rattle.std.proofs.Common.{arith}
 use Rattle.exb_numbers.specs.Spaces.{channels_at, groups_at}
 use Rattle.exb_relay.proofs.laws.spaces_number.Goals as goal
 

@@ -1,6 +1,5 @@
-use Rattle.std.proofs.Common.{◌≡◌, ℕ, ◌/◌, ◌%◌, ◌<◌, ◌==◌, ◌^◌, slice_index, refl, inl, inr, ap, ◌∙◌, arith}
+use Rattle.std.proofs.Common.{ℕ, ◌/◌, ◌%◌, ◌<◌, slice_index, refl, inl, inr, arith}
 use Rattle.std.specs.Prelude.{replicate}
-use Rattle.std.specs.Int.{bit_at}
 use Rattle.std.proofs.lemmas.Bool.{cases_lt}
 use Rattle.std.proofs.lemmas.List.{get_or-replicate, get_or_past, length-replicate}
 use Rattle.std.proofs.lemmas.Nat.Bits.{bit_at_ones}
