@@ -112,6 +112,11 @@ impl Bench {
         self.sends.second.as_slice()
     }
 
+    /// Whether a request with this payload was sent second.
+    pub(crate) fn answers(&self, payload: &[u8]) -> bool {
+        self.second().len() == 18 + payload.len() && self.second().ends_with(payload)
+    }
+
     /// Whether nothing was sent.
     pub(crate) fn is_silent(&self) -> bool {
         self.outs().is_empty() && self.first().is_empty() && self.second().is_empty()

@@ -80,7 +80,8 @@ impl Extender {
     pub fn new(alloc: Global, number: u8, ports: u8) -> Result<Extender, NoMemory>
         requires numbered { (1 ≤ number) × (number ≤ 64) }
         requires ports { (1 ≤ ports) × (ports ≤ 64) }
-        ensures { IfOk result (λ made. state_of made ≡ at_power_on number ports) }
+        ensures state { IfOk result (λ made. state_of made ≡ at_power_on number ports) }
+        ensures ports { IfOk result (λ made. (state_of made).tables.ports ≡ ports) }
     {
         let tables = Tables::new(alloc, ports)?;
         let control = Control::new(number);
