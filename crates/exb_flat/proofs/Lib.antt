@@ -3,3 +3,4 @@ pub mod HistoryLemmas
 pub mod LearningLemmas
 pub mod TargetLemmas
 pub mod RelayLaws
+pub mod LearningLaws

@@ -1,17 +1,15 @@
 -- What leaves by one event more.
-use Rattle.std.proofs.Common.{◌≡◌, ℕ, Bool, true, false, not, cond, ◌&&◌, ◌==◌, List, [], ◌∷◌, ◌++◌, refl, sym, ap, ◌∙◌, eq-eqb, inl, inr, ◌⊎◌}
-use Rattle.std.specs.Prelude.{◌≢◌, Option, Some, None, IfSome}
+use Rattle.std.proofs.Common.{◌≡◌, ℕ, Bool, true, false, not, cond, ◌&&◌, ◌==◌, List, [], ◌++◌, refl, sym, ap, ◌∙◌, eq-eqb, inl, inr, ◌⊎◌}
+use Rattle.std.specs.Prelude.{Option, Some, None}
 use Rattle.std.proofs.lemmas.Bool.{ne_eqb}
 use Rattle.std.proofs.lemmas.List.{append-nil}
-use Rattle.exb_model.specs.declared.event.Event.{Event}
 use Rattle.exb_model.specs.declared.event.Event.TheVariants as event
 use Rattle.exb_model.specs.declared.vlan.Kind.{Kind}
-use Rattle.exb_model.specs.declared.rules.StaticAt.{StaticAt}
-use Rattle.exb_model.specs.Frames.{destination, is_group, egress}
+use Rattle.exb_model.specs.Frames.{destination}
 use Rattle.exb_model.specs.Configuration.{Bridge}
 use Rattle.exb_model.specs.History.{Basis, History, bridge_after}
 use Rattle.exb_model.specs.Learning.{Look, passes, learned}
-use Rattle.exb_model.specs.Targets.{static_for, is_chosen, both_isolated, target_in, target}
+use Rattle.exb_model.specs.Targets.{is_chosen, both_isolated, target_in, target}
 use Rattle.exb_model.specs.FlatBridge.{Sent, sent_as, flat}
 use Rattle.exb_flat.specs.Laws.{SendsNothing, LeavesOnce, NeverGoesBack, LeavesByMembers, IsolatedPortsAreApart, LearnedGoesThere}
 use Rattle.exb_flat.proofs.HistoryLemmas.{flat-more}
@@ -85,21 +83,18 @@ learned_goes_there i h p n t f q v r passed no_static individual known other =
     let chosen = ap (λ (w : ℕ). is_chosen (bridge_after i h) (learned i h) w (destination f) q) (sym same) ∙ is.chosen in cc))
 
 pub leaves_by_members : LeavesByMembers
-leaves_by_members i h p n t f q = by_target (target k (learned i h) p f q) refl
+leaves_by_members i h p n t f q = by_target (target (bridge_after i h) (learned i h) p f q) refl
   where
-    abbrev k : Bridge
-    k = bridge_after i h
-
-    by_target : (o : Option Kind) → target k (learned i h) p f q ≡ o → SendsNothing i h (event.Relay p n t f) q ⊎ LeavesOnce i h p n t f q
+    by_target : (o : Option Kind) → target (bridge_after i h) (learned i h) p f q ≡ o → SendsNothing i h (event.Relay p n t f) q ⊎ LeavesOnce i h p n t f q
     by_target None none = inl (no_target i h p n t f q none)
     by_target (Some kind) is =
-        let all = target-is k (learned i h) p f q kind is in
+        let all = target-is (bridge_after i h) (learned i h) p f q kind is in
         inr (record {
-        vid = all.vid;
-        kind = kind;
-        passed = all.passed;
-        present = all.present;
-        member = all.member;
-        once = flat-more i (event.Relay p n t f) h q ∙ ap (λ (xs : List Sent). flat i h q ++ xs)
-        (ap (λ (o : Option ℕ). sent_as t f o (target k (learned i h) p f q)) all.passed ∙ ap (sent_as t f (Some all.vid)) is);
+          vid = all.vid;
+          kind = kind;
+          passed = all.passed;
+          present = all.present;
+          member = all.member;
+          once = flat-more i (event.Relay p n t f) h q ∙ ap (λ (xs : List Sent). flat i h q ++ xs)
+              (ap (λ (o : Option ℕ). sent_as t f o (target (bridge_after i h) (learned i h) p f q)) all.passed ∙ ap (sent_as t f (Some all.vid)) is);
         })

@@ -1,5 +1,5 @@
 -- Where a frame goes, given what is learned of its destination.
-use Rattle.std.proofs.Common.{◌≡◌, ℕ, ◌+◌, Bool, ◌&&◌, ◌==◌, not, true, false, cond, List, [], ◌∷◌, ◌++◌, refl, sym, ap, subst, ◌∙◌}
+use Rattle.std.proofs.Common.{◌≡◌, ℕ, ◌+◌, Bool, ◌&&◌, ◌==◌, not, true, false, cond, List, [], ◌∷◌, ◌++◌, refl, ap, subst, ◌∙◌}
 use Rattle.std.specs.Prelude.{Option, Some, None, IfSome, filter_map, option_map}
 use Rattle.std.proofs.lemmas.List.Elements.{filter_map-append}
 use Rattle.exb_model.specs.declared.vlan.Kind.{Kind}

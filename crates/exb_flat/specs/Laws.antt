@@ -1,12 +1,11 @@
 -- Laws of the one bridge, over the definitions. `i` is what the history is of and `h` the history; a frame f
 -- of moment t, record n of port p, is then relayed, and q is any port.
-use Rattle.std.specs.Prelude.{◌≡◌, ◌≢◌, ◌⊎◌, ℕ, ◌≤◌, true, false, List, [], ◌∷◌, ◌++◌, Some, None, IfSome}
+use Rattle.std.specs.Prelude.{◌≡◌, ◌≢◌, ◌⊎◌, ℕ, true, false, List, [], ◌∷◌, ◌++◌, Some, None}
 use Rattle.exb_model.specs.declared.event.Event.{Event}
 use Rattle.exb_model.specs.declared.event.Event.TheVariants as event
 use Rattle.exb_model.specs.declared.event.Cause.{Cause}
 use Rattle.exb_model.specs.declared.vlan.Kind.{Kind}
 use Rattle.exb_model.specs.Frames.{destination, source, is_group, egress}
-use Rattle.exb_model.specs.Configuration.{Bridge}
 use Rattle.exb_model.specs.History.{Basis, History, ◌then◌, bridge_after}
 use Rattle.exb_model.specs.Learning.{passes, learned}
 use Rattle.exb_model.specs.Targets.{static_for}
@@ -18,10 +17,6 @@ SendsNothing i h e q = flat i (e ∷ h) q ≡ flat i h q
 
 abbrev pub NeverGoesBack : Type 0
 NeverGoesBack = (i : Basis) (h : History) (p n t : ℕ) (f : List ℕ) → SendsNothing i h (event.Relay p n t f) p
-
--- the port is present, and in the frame's VLAN it is a member of this kind
-abbrev pub IsPresentMember : Bridge → ℕ → List ℕ → ℕ → Kind → Type 0
-IsPresentMember k p f q kind = (k.present q ≡ true) × IfSome (passes k p f) (λ v. k.member v q ≡ Some kind)
 
 -- the frame leaves once, with the bytes of that kind
 pub record LeavesOnce (i : Basis) (h : History) (p n t : ℕ) (f : List ℕ) (q : ℕ) : Type 0 where

@@ -212,11 +212,7 @@ impl Config {
     }
 
     /// The configuration to start with: these ports present, and commands in order.
-    pub fn start(
-        alloc: Global,
-        present: &PortSet,
-        commands: &[Command],
-    ) -> Result<Config, NoMemory>
+    pub fn start(alloc: Global, present: &PortSet, commands: &[Command]) -> Result<Config, NoMemory>
         ensures { IfOk result (λ made. bridge_of made ≡ after_all (empty_bridge (port_in present.now)) commands.now) }
     {
         let mut config = Config::new(alloc, present)?;

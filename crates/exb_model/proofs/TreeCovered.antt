@@ -11,7 +11,7 @@ use Rattle.exb_model.proofs.TreeWays.{up_high, up_low, up_none, top_high, top_lo
 use Rattle.exb_model.proofs.TreeOrder.{by_depth-sorted, by_depth-hangs, in_order, place_of, less_deep}
 
 -- what the way from a port goes through, the port above it too
-among_next : (s : Shape) (d p x : ℕ) → top s.on d p < 64 → among x (up s.on d p) ≡ true → 64 ≤ x → among (on s (device x)) (up s.on d p) ≡ true
+pub among_next : (s : Shape) (d p x : ℕ) → top s.on d p < 64 → among x (up s.on d p) ≡ true → 64 ≤ x → among (on s (device x)) (up s.on d p) ≡ true
 among_next s zero p x low a h =
     elim (among_cases x p [] (rw (up_none s p) at a)) [
       | inl e ↦ let z : top s.on zero p ≡ p = top_none s p in absurd (omega arith)
@@ -27,7 +27,7 @@ among_next s (suc d) p x low a h =
     ]
 
 -- what covers a port of an extender covers the port above it
-covers_up : (s : Shape) (set : ℕ → Bool) → IsTree s → (x : ℕ) → 64 ≤ x → covers s set x ≡ true → covers s set (on s (device x)) ≡ true
+pub covers_up : (s : Shape) (set : ℕ → Bool) → IsTree s → (x : ℕ) → 64 ≤ x → covers s set x ≡ true → covers s set (on s (device x)) ≡ true
 covers_up s set valid x h v =
     let c = covers-true s set x v in
     let low : top s.on 64 c.member < 64 =

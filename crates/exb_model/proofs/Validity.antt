@@ -1,19 +1,19 @@
 -- When a setup's tables are a tree, and its start speaks of external ports.
-use Rattle.std.proofs.Common.{◌≡◌, ◌≢◌, ◌↔◌, ℕ, zero, suc, ◌+◌, ◌-◌, ◌*◌, ◌/◌, ◌%◌, ◌^◌, min, bit_and, ◌<◌, ◌≤◌, Bool, true, false, not, ◌&&◌, ◌||◌, ◌==◌, cond, IsTrue, List, [], ◌∷◌, ◌++◌, length, slice_index, get_or, take, drop, set, replicate, count_by, All, AllPairs, refl, sym, ap, ◌∙◌, add-one, add-zero, arith, inl, inr, nat_lt}
-use Rattle.std.proofs.lemmas.Bool.{cases_eq, cases_lt, ne_eqb, eq-eqb, eqb-true, eqb-false, lt-ltb, le-ltb, ltb-true, and_parts, and_from, or_cases, cases_Bool, false≢true}
+use Rattle.std.proofs.Common.{◌≡◌, ◌≢◌, ℕ, suc, ◌+◌, ◌-◌, ◌*◌, ◌/◌, ◌%◌, ◌^◌, min, bit_and, ◌<◌, ◌≤◌, Bool, true, false, ◌&&◌, ◌||◌, ◌==◌, cond, IsTrue, List, [], ◌∷◌, length, slice_index, get_or, take, count_by, AllPairs, refl, sym, ap, ◌∙◌, add-one, add-zero, arith, inl, inr, nat_lt}
+use Rattle.std.proofs.lemmas.Bool.{cases_eq, cases_lt, eq-eqb, eqb-true, lt-ltb, le-ltb, ltb-true, and_parts, and_from, false≢true}
 use Rattle.std.proofs.lemmas.Bool.Decides.{nat_tests}
 use Rattle.std.proofs.lemmas.List.{get_or_past}
 use Rattle.std.proofs.lemmas.Nat.Bits.{bit_at_and, bit_at-lt, bit_at_above, bit_at-zero, same_from_bits}
 use Rattle.std.specs.Int.{bit_at}
 use Rattle.exb_model.specs.PortBits.{has_port}
-use Rattle.exb_model.specs.Ports.{port_in, below}
+use Rattle.exb_model.specs.Ports.{below}
 use Rattle.std.specs.List.{list_any}
 use Rattle.std.proofs.lemmas.List.{length-take, get_or-take, get_or_read}
 use Rattle.std.proofs.lemmas.List.Folds.{Any-from_list_any, list_any_at}
 use Rattle.exb_model.specs.declared.setup.ExtenderSetup.{ExtenderSetup}
 use Rattle.std.proofs.lemmas.List.Sums.{fold-append}
 use Rattle.exb_model.proofs.PortLemmas.{below-more}
-use Rattle.exb_model.specs.Tree.{Shape, HangsOn, IsTree, is_port, is_extender, is_cascade, is_external, any_below, top, on}
+use Rattle.exb_model.specs.Tree.{Shape, IsTree, is_port, is_extender, is_cascade, is_external, any_below, top, on}
 
 -- there is an extender n
 pub extender_from : (t : Shape) (n : ℕ) → 0 < n → 0 < slice_index t.ports n → IsTrue (is_extender t n)

@@ -17,8 +17,6 @@ pub record IsTopped (t : Shape) (tops : List ℕ) : Type 0 where
 -- All tables fit the tree.
 pub record IsSound (t : Shape) (tops known order below : List ℕ) : Type 0 where
   pub tree : IsTree t
-  pub sized : length t.on ≡ 65
-  pub ports : (n : ℕ) → slice_index t.on n < 4160
   pub topped : IsTopped t tops
   pub has : (q : ℕ) → has_port known q ≡ is_port t q
   pub ordered : order ≡ by_depth t

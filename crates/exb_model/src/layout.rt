@@ -68,7 +68,7 @@ impl Layout {
     }
 
     /// Whether there is an extender of that number.
-    fn is_extender(&self, number: u16) -> bool
+    pub(crate) fn is_extender(&self, number: u16) -> bool
         requires { number < 65 }
         ensures { result ≡ is_extender self.now number }
     {
@@ -76,7 +76,7 @@ impl Layout {
     }
 
     /// Whether the tree has that port.
-    fn is_port(&self, port: u16) -> bool
+    pub(crate) fn is_port(&self, port: u16) -> bool
         requires { port < 4160 }
         ensures { result ≡ is_port self.now port }
     {
@@ -84,7 +84,7 @@ impl Layout {
     }
 
     /// The port on which an extender hangs.
-    fn on(&self, number: u16) -> u16
+    pub(crate) fn on(&self, number: u16) -> u16
         requires { number < 65 }
         ensures value { result ≡ slice_index self.now.on number }
         ensures range { result < 4160 }
@@ -93,7 +93,7 @@ impl Layout {
     }
 
     /// The last port on the way up from a port, at most 63 ports above it.
-    fn top(&self, port: u16) -> u16
+    pub(crate) fn top(&self, port: u16) -> u16
         requires { port < 4160 }
         ensures { result ≡ top self.now.on 63 port }
     {

@@ -2,42 +2,29 @@
 ghost use Rattle.std.specs.Prelude.{◌≡◌, ℕ, ◌+◌, ◌<◌, ◌≤◌, true, length, slice_index, IfOk};
 ghost use Rattle.exb_model.specs.Masks.{bits_of};
 ghost use Rattle.exb_model.specs.Ports.{port_in};
-ghost use Rattle.exb_model.specs.Setup.{port_at, IsPlace, shape_of, IsValid};
+ghost use Rattle.exb_model.specs.Setup.{shape_of, IsValid};
 ghost use Rattle.exb_model.specs.Tree.{HasRole, IsTree, by_depth, is_extender, trunk};
 ghost use Rattle.exb_model.specs.TreeSets.{covers};
 
+use crate::layout::Layout;
 use crate::memory::NoMemory;
 use crate::port::PortId;
 use crate::port_set::PortSet;
 use crate::role::Role;
-use crate::setup::{Place, Setup};
-use crate::tree_tables::{hang, known_ports, order_of, port_of, tops_of, zeros};
+use crate::setup::Setup;
+use crate::tree_tables::{hanging, known_ports, order_of, tops_of};
 use std::alloc::Global;
 use std::marker::Model;
 
 /// How many ports bridge and extenders have at most.
 const PORTS: usize = 4160;
 
-/// The number of the port at a place.
-fn port_number(place: Place) -> u16
-    requires { IsPlace place }
-    ensures value { result ≡ port_at place }
-    ensures range { result < 4160 }
-{
-    match place {
-        Place::Bridge { port } => port as u16 - 1,
-        Place::Extender { number, port } => 64 * number as u16 + (port as u16 - 1),
-    }
-}
-
 /// The tree of a setup: which ports there are, where each extender hangs, and what lies above a port. What
 /// is asked for each frame is looked up in a table.
 #[derive(Drop)]
 pub struct Tree {
-    /// How many ports a device has, 0 for one that isn't there.
-    ports: [u8; 65],
-    /// The port on which an extender hangs.
-    on: [u16; 65],
+    /// How many ports a device has, and where an extender hangs.
+    layout: Layout,
     /// The bridge port above an extender.
     tops: [u16; 65],
     /// The ports of the tree.
@@ -54,9 +41,9 @@ impl Model for Tree {
 
     ghost Value = { Shape };
 
-    ghost view = { λ t. record { ports = t.ports; on = t.on } };
+    ghost view = { λ t. t.layout };
 
-    ghost invariant = { λ t. IsSound (record { ports = t.ports; on = t.on }) t.tops t.known.words t.order.items t.below.items };
+    ghost invariant = { λ t. IsSound t.layout t.tops t.known.words t.order.items t.below.items };
 }
 
 impl Tree {
@@ -65,22 +52,13 @@ impl Tree {
         requires { IsValid setup.now }
         ensures { IfOk result (λ tree. tree ≡ shape_of setup.now) }
     {
-        let mut ports = [0u8; 65];
-        let mut on = [0u16; 65];
-        ports[0] = setup.ports;
-        for extender in setup.extenders.as_slice() {
-            let at = extender.number as usize;
-            ports[at] = extender.ports;
-            on[at] = port_number(extender.on);
-        }
-        let order = order_of(alloc, &ports, &on)?;
-        let mut below = zeros(alloc, PORTS)?;
-        hang(&ports, &on, below.as_mut_slice());
-        let tops = tops_of(&ports, &on);
-        let known = known_ports(&ports, &on);
+        let layout = Layout::new(setup);
+        let order = order_of(alloc, &layout)?;
+        let below = hanging(alloc, &layout, PORTS)?;
+        let tops = tops_of(&layout);
+        let known = known_ports(&layout);
         Ok(Tree {
-            ports,
-            on,
+            layout,
             tops,
             known,
             order,
@@ -92,7 +70,7 @@ impl Tree {
     pub fn is_tree(&self)
         ensures { IsTree self.now }
     {
-        let _ = &self.ports;
+        let _ = &self.tops;
     }
 
     /// The role of a port: Unknown exactly where the tree has no such port.
@@ -128,7 +106,7 @@ impl Tree {
         for index in (0..order.len()).rev() {
             let extender = order[index];
             if marks.mask(extender) != 0 {
-                marks.insert(port_of(self.on[extender as usize]));
+                marks.insert(PortId::new(self.layout.on(extender as u16)).unwrap());
             }
         }
         marks

@@ -1,4 +1,4 @@
-use Rattle.std.proofs.Common.{ℕ, List, [], ◌++◌, map, take, ap, sym, ◌∙◌, arith}
+use Rattle.std.proofs.Common.{List, [], ◌++◌, map, take, ap, sym, ◌∙◌, arith}
 use Rattle.exb_model.specs.History.{History, ◌then◌, bridge_after}
 use Rattle.exb_model.specs.Learning.{learned}
 use Rattle.exb_model.specs.FlatBridge.{Sent, sent_by}

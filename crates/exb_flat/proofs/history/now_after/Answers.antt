@@ -1,5 +1,4 @@
-use Rattle.std.proofs.Common.{◌+◌, [], take, sym, ap, ◌∙◌, arith}
-use Rattle.exb_model.specs.History.{◌then◌, now_after, seconds_of}
+use Rattle.std.proofs.Common.{[], sym, arith}
 use Rattle.exb_flat.proofs.HistoryLemmas.{now_after-none, now_after-more, then-more}
 use Rattle.exb_flat.proofs.history.now_after.Goals as goal
 

@@ -1,4 +1,4 @@
-use Rattle.std.proofs.Common.{[], take, sym, ap, ◌∙◌, arith, refl}
+use Rattle.std.proofs.Common.{[], take, sym, ap, ◌∙◌, arith}
 use Rattle.exb_model.specs.History.{History, ◌then◌, changed}
 use Rattle.exb_flat.specs.Configs.{bridge_of}
 use Rattle.exb_flat.specs.Histories.{basis_of}

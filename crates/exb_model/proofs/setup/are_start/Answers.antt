@@ -1,4 +1,4 @@
-use Rattle.std.proofs.Common.{refl, arith, sym, ◌∙◌, subst, get_or}
+use Rattle.std.proofs.Common.{refl, arith, sym, ◌∙◌}
 use Rattle.std.proofs.lemmas.Bool.{false≢true}
 use Rattle.exb_model.specs.Setup.{IsStart}
 use Rattle.exb_model.proofs.Validity.{all_more}

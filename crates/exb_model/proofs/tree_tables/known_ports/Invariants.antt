@@ -5,4 +5,4 @@ use Rattle.exb_model.proofs.tree_tables.known_ports.Given as goal
 
 -- the ports of the tree so far
 abbrev pub invariant-loop-number : goal.invariant-loop-number
-invariant-loop-number l = (q : ℕ) → has_port l.known.words q ≡ (nat_lt q l.number && is_port (record { ports = l.ports; on = l.on }) q)
+invariant-loop-number l = (q : ℕ) → has_port l.known.words q ≡ (nat_lt q l.number && is_port l.layout q)

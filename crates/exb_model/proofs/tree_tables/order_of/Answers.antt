@@ -13,7 +13,7 @@ loop-before-init c = rw (level_none, append-nil) c.loop-above.invariant
 
 pub loop-before-preserved : goal.loop-before-preserved
 loop-before-preserved c =
-    let t : Shape = record { ports = c.args.ports.now; on = c.args.on.now } in
+    let t : Shape = c.args.layout.now in
     let d = c.loop-above.above + 1 in
     let k = c.loop-before.before in
     elim c.if-is_at_depth.branch [

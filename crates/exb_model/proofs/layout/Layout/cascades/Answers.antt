@@ -1,4 +1,4 @@
-use Rattle.std.proofs.Common.{arith, ◌≡◌, ◌∙◌, sym, ap, ℕ, ◌||◌, ◌==◌, true, false, slice_index}
+use Rattle.std.proofs.Common.{arith, ◌≡◌, ◌∙◌, sym, ap, ℕ, ◌||◌, ◌==◌, true, false}
 use Rattle.exb_model.specs.Ports.{port_in}
 use Rattle.exb_model.specs.Tree.{is_extender}
 use Rattle.exb_model.specs.declared.port_set.PortSet.{PortSet}

@@ -1,4 +1,4 @@
-use Rattle.std.proofs.Common.{◌≡◌, ◌∙◌, sym, ap, ◌==◌, ◌/◌, refl}
+use Rattle.std.proofs.Common.{◌≡◌, ◌∙◌, sym, refl}
 use Rattle.std.proofs.lemmas.Bool.{le-leb}
 use Rattle.exb_model.specs.Tree.{trunk, is_port, is_cascade}
 use Rattle.exb_model.proofs.layout.Layout.is_cascade_under.Goals as goal

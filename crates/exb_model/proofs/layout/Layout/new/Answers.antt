@@ -1,4 +1,4 @@
-use Rattle.std.proofs.Common.{refl, arith, ◌<◌, ℕ, slice_index, replicate}
+use Rattle.std.proofs.Common.{refl, arith, ℕ}
 use Rattle.exb_model.specs.Setup.{shape_of}
 use Rattle.exb_model.proofs.Words.{get_or-same}
 use Rattle.exb_model.proofs.layout.Layout.new.Goals as goal

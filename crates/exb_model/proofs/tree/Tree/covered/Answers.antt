@@ -25,8 +25,8 @@ mask-requires c =
     let range = by_depth-range t (c.loop-index.index - 1) 0 (omega (arith, c.loop-index.auto.index, c.loop-index-test.true)) in
     rw items (omega (arith, range.1))
 
-pub bounds-self-inside-extender : goal.bounds-self-inside-extender
-bounds-self-inside-extender c =
+pub on-requires : goal.on-requires
+on-requires c =
     let t = c.args.self.now in
     let items : c.as_slice-order.result.now ≡ by_depth t = c.as_slice-order.ensures.value ∙ (c.self.invariant.ordered ∙ ap by_depth c.self.view_is) in
     let many : length c.as_slice-order.result.now ≡ length (by_depth t) = ap length items in
@@ -43,7 +43,7 @@ loop-index-preserved-then-mask-ne0 c =
     let items : c.as_slice-order.result.now ≡ by_depth t = c.as_slice-order.ensures.value ∙ (c.self.invariant.ordered ∙ ap by_depth c.self.view_is) in
     let many : length c.as_slice-order.result.now ≡ length (by_depth t) = ap length items in
     let word : c.mask.result ≡ slice_index marks.words n = c.mask.ensures ∙ sym (word_is marks.words (has_port marks.words) n (marks.fits n) (λ q. refl)) in
-    let at : c.port_of.result ≡ on t n = c.port_of.ensures ∙ ap (λ (s : Shape). on s n) c.self.view_is in
+    let at : c.unwrap.result ≡ on t n = rw c.unwrap.ensures at c.new.ensures.value ∙ (c.on.ensures.value ∙ ap (λ (s : Shape). on s n) c.self.view_is) in
     let before : Marked t (port_in c.args.set.now) marks.words (i + 1) = subst (λ (k : ℕ). Marked t (port_in c.args.set.now) marks.words k) (omega (arith, c.loop-index-test.true)) c.loop-index.invariant in
     marks_up t (port_in c.args.set.now) valid marks.words c.insert.new.self.words i n (omega (arith, c.loop-index.auto.index, c.loop-index-test.true))
     (ap (λ (xs : List ℕ). slice_index xs i) items) (marks.fits n) (λ e. c.if-mask-ne0.true (word ∙ e))

@@ -5,7 +5,7 @@ use Rattle.exb_model.proofs.tree.Tree.role.Goals as goal
 
 pub returns-in-0 : goal.returns-in-0
 returns-in-0 c =
-    let t : Shape = record { ports = c.self.inside.ports; on = c.self.inside.on } in
+    let t : Shape = c.self.inside.layout in
     let known : is_port t c.args.port ≡ true = sym (c.self.invariant.has c.args.port) ∙ (sym c.contains.ensures ∙ c.if-not-contains.false) in
     let none : (n : ℕ) → HangsOn t n c.args.port → ⊥ =
     λ n h.

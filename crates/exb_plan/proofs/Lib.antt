@@ -1,0 +1,10 @@
+pub mod Emitting
+pub mod Ways
+pub mod FromTop
+pub mod RowsCover
+pub mod RowLists
+pub mod Carrying
+pub mod SetPorts
+pub mod GroundLemmas
+pub mod SetFolds
+pub mod SpaceSets
