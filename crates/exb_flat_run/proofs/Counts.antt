@@ -97,7 +97,7 @@ unfolding flat
 left-cons t b h e =
     sum-both (λ q. length (flat b h q)) (λ q. length (sent_by (bridge_after b h) (learned b h) e q)) (external_ports t)
     ∙ sum-same (λ q. length (flat b h q) + length (sent_by (bridge_after b h) (learned b h) e q)) (λ q. length (flat b (e ∷ h) q))
-      (λ q. sym (length-append (flat b h q) (sent_by (bridge_after b h) (learned b h) e q))) (external_ports t)
+    (λ q. sym (length-append (flat b h q) (sent_by (bridge_after b h) (learned b h) e q))) (external_ports t)
 
 pub counts-apart : (t : Shape) (b : Basis) (h : History) → counts t b h ≡ with_left (all_left t b h) (counted_all h)
 unfolding counts counted_all
@@ -108,11 +108,21 @@ counts-apart t b (e ∷ h) =
     ∙ ap (λ n. with_left n (counted e (counted_all h))) (left-cons t b h e)
 
 pub counts-sorted : (t : Shape) (b : Basis) (h : History) → counts t b h ≡ record {
-  relayed = count_by is_relay h; ignored = count_by is_ignored h; left = all_left t b h; commits = count_by is_commit h; refusals = count_by is_refusal h }
+  relayed = count_by is_relay h;
+  ignored = count_by is_ignored h;
+  left = all_left t b h;
+  commits = count_by is_commit h;
+  refusals = count_by is_refusal h;
+}
 counts-sorted t b h =
     counts-apart t b h ∙ ap (with_left (all_left t b h)) (sorted-all h)
     ∙ (λ k. record {
-      relayed = count_by is_relay h; ignored = count_by is_ignored h; left = none-before k; commits = count_by is_commit h; refusals = count_by is_refusal h })
+      relayed = count_by is_relay h;
+      ignored = count_by is_ignored h;
+      left = none-before k;
+      commits = count_by is_commit h;
+      refusals = count_by is_refusal h;
+    })
   where
     none-before : 0 + all_left t b h ≡ all_left t b h
     none-before = omega arith

@@ -53,9 +53,11 @@ module _ (P : History → Event → Type 0) (Q : Arrival → Type 0) (t : Shape)
     pub each-eagerly : (h : History) (ss : List Segment) → AllByRecursion (λ s. AllByRecursion Q s.arrivals) ss → EachEvent P h → EachEvent P (eagerly t l b h ss)
     each-eagerly h [] of all = all
     each-eagerly h (s ∷ ss) of all =
-        each-eagerly (eager_segment t l b h s) ss of.1
-        (each-arrivals (with_commands t l b (with_tick s.seconds h) s.commands) s.arrivals of.0
-        (each-commands (with_tick s.seconds h) s.commands (each-tick s.seconds h all)), holds.settled _)
+        each-eagerly (eager_segment t l b h s) ss of.1 (
+          each-arrivals (with_commands t l b (with_tick s.seconds h) s.commands) s.arrivals of.0
+              (each-commands (with_tick s.seconds h) s.commands (each-tick s.seconds h all)),
+          holds.settled _,
+        )
 
 -- ---- commands are refused exactly where they are to be
 is_decided : (t : Shape) (l : Limits) (b : Basis) (h : History) (n : ℕ) → IsDecided t l b h (command_event t l b (bridge_after b h) n)

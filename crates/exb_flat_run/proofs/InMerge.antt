@@ -191,7 +191,7 @@ from-numbered arrivals q n least before [] count is = tt
 from-numbered arrivals q n least before (r ∷ rs) count is =
     let a : Arrival = record { port = q; index = n; moment = max least r.time; bytes = r.bytes } in
     let here : numbered (arrivals q) n ≡ Some a =
-        ap (numbered (arrivals q)) (sym count) ∙ ap (λ arrived. slice_get arrived (length before)) is ∙ get-append before a (arrivals_from q (suc n) (max least r.time) rs) in
+    ap (numbered (arrivals q)) (sym count) ∙ ap (λ arrived. slice_get arrived (length before)) is ∙ get-append before a (arrivals_from q (suc n) (max least r.time) rs) in
     (here, from-numbered arrivals q (suc n) (max least r.time) (before ++ a ∷ []) rs (longer a ∙ ap suc count) (is ∙ sym (append_assoc before (a ∷ []) (arrivals_from q (suc n) (max least r.time) rs))))
   where
     longer : (a : Arrival) → suc (length (before ++ a ∷ [])) ≡ suc (suc (length before))

@@ -2,7 +2,6 @@
 use Rattle.std.proofs.Common.{◌≡◌, ℕ, Bool, true, false, cond, ◌==◌, List, [], ◌∷◌, ◌++◌, map, refl, sym, ap, subst, ◌∙◌}
 use Rattle.std.specs.Prelude.{Option, Some, None, filter_map, All, Contains, IsPermutation}
 use Rattle.std.specs.List.{AllByRecursion, cons_option}
-
 use Rattle.std.proofs.lemmas.List.{append-nil}
 use Rattle.std.proofs.lemmas.List.Elements.{filter_map-append, All-from_recursion, recursion_from_All, All-append, All-contains_itself}
 use Rattle.std.proofs.lemmas.List.Sorted.{IsPermutation-refl}
@@ -157,7 +156,7 @@ module _ (t : Shape) (l : Limits) (b : Basis) where
   play-arrivals h s = record {
     once = let P : List (ℕ × ℕ) → Type 0 = λ ps. IsPermutation (filter_map place_of (play t l b h s)) ps in subst P (play-places h s) (IsPermutation-refl _);
     relays = each-play (IsRelayOf s.arrivals) t l b (Contains s.arrivals) (λ seconds. tt) (relay_command s.arrivals) (relay_arrival s.arrivals) h s
-      (recursion_from_All (Contains s.arrivals) s.arrivals (All-contains_itself s.arrivals));
+        (recursion_from_All (Contains s.arrivals) s.arrivals (All-contains_itself s.arrivals));
   }
 
   pub play-tick : (h : History) (s : Segment) → PlaysTick s (play t l b h s)

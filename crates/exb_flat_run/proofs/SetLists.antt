@@ -63,8 +63,8 @@ module _ (t : Shape) (k : ℕ) (b : Bridge) where
   part-is x =
       sym (filter-filter (λ q. is_under t k q && b.present q) (λ q. x.among q && is_kind x.kind (b.member x.vid q)) all_ports
       ∙ filter_same (λ q. (is_under t k q && b.present q) && (x.among q && is_kind x.kind (b.member x.vid q)))
-        (λ q. ((is_under t k q && b.present q) && x.among q) && is_kind x.kind (b.member x.vid q))
-        (λ q. and_assoc (is_under t k q) (b.present q) (x.among q) (is_kind x.kind (b.member x.vid q))) all_ports)
+      (λ q. ((is_under t k q && b.present q) && x.among q) && is_kind x.kind (b.member x.vid q))
+      (λ q. and_assoc (is_under t k q) (b.present q) (x.among q) (is_kind x.kind (b.member x.vid q))) all_ports)
 
   -- the parts are those of VLANs, then those of static entries
   pub parts-are : parts t k b ≡ vlan_sets b (present_in t k b) ++ entry_sets b (present_in t k b) b.statics
@@ -72,12 +72,12 @@ module _ (t : Shape) (k : ℕ) (b : Bridge) where
   parts-are =
       let members : List ℕ = present_in t k b in
       flat_map-same (λ x. part t k b x ∷ without_isolated b (part t k b x) ∷ []) (two_sets b members)
-        (λ x. ap (λ set. set ∷ without_isolated b set ∷ []) (part-is x)) (sources b)
+      (λ x. ap (λ set. set ∷ without_isolated b set ∷ []) (part-is x)) (sources b)
       ∙ flat_map-append (two_sets b members) (flat_map (λ v. both_kinds v (λ q. true)) all_vids) (flat_map (λ (e : StaticAt). both_kinds e.vid (port_in e.ports)) b.statics)
       ∙ ap (λ ys. ys ++ flat_map (two_sets b members) (flat_map (λ (e : StaticAt). both_kinds e.vid (port_in e.ports)) b.statics))
-        (flat_map-flat (two_sets b members) (λ v. both_kinds v (λ q. true)) all_vids)
+      (flat_map-flat (two_sets b members) (λ v. both_kinds v (λ q. true)) all_vids)
       ∙ ap (λ ys. flat_map (λ v. four_sets b members v (λ q. true)) all_vids ++ ys)
-        (flat_map-flat (two_sets b members) (λ (e : StaticAt). both_kinds e.vid (port_in e.ports)) b.statics)
+      (flat_map-flat (two_sets b members) (λ (e : StaticAt). both_kinds e.vid (port_in e.ports)) b.statics)
 
 -- one VLAN more
 pub flat_range-more : {Y : Type 0} (f : ℕ → List Y) (n : ℕ) → flat_map f (range_with_len 1 (n + 1)) ≡ flat_map f (range_with_len 1 n) ++ f (n + 1)
@@ -131,7 +131,7 @@ module _ (t : Shape) (l : Limits) (b b' : Bridge) where
   unfolding groups_short_at below
   short-at k fine short h =
       ap (groups_cause t l b b') (find_range-first (λ j. nat_lt l.groups (groups_needed t j b b')) 0 64 k
-        (λ j low before. le-ltb l.groups (groups_needed t j b b') (fine j before)) (lt-ltb l.groups (groups_needed t k b b') short) (omega arith) (omega arith))
+      (λ j low before. le-ltb l.groups (groups_needed t j b b') (fine j before)) (lt-ltb l.groups (groups_needed t k b b') short) (omega arith) (omega arith))
 
   pub short-nowhere : ((j : ℕ) → j < 64 → groups_needed t j b b' ≤ l.groups) → groups_short t l b b' ≡ None
   unfolding groups_short_at below

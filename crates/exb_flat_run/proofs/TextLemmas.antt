@@ -49,7 +49,7 @@ capture-more frames i x text within is so_far =
     ∙ append_assoc capture_header (flat_map record_text front) (record_text (sent_of x))
     ∙ ap (λ t. capture_header ++ t) (sym (flat_map-append record_text front (sent_of x ∷ []) ∙ ap (λ t. flat_map record_text front ++ t) (append-nil (record_text (sent_of x)))))
     ∙ ap (λ xs. capture_header ++ flat_map record_text xs)
-      (sym (ap (map sent_of) (take_more frames i x within ∙ ap (λ y. take i frames ++ y ∷ []) (sym is)) ∙ map-append sent_of (take i frames) (x ∷ [])))
+    (sym (ap (map sent_of) (take_more frames i x within ∙ ap (λ y. take i frames ++ y ∷ []) (sym is)) ∙ map-append sent_of (take i frames) (x ∷ [])))
 
 -- ---- counts
 pub counted-none : (c : Counts) → c ≡ record { relayed = 0; ignored = 0; left = 0; commits = 0; refusals = 0 } → c ≡ counted_all []

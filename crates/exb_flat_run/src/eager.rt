@@ -73,12 +73,7 @@ fn decided(number: u32, cause: Option<Cause>) -> Event
 }
 
 /// Adds what comes of the automatic up of a port.
-fn put_up(
-    alloc: Global,
-    site: &Site,
-    events: &mut Vec<Event>,
-    port: PortId,
-) -> Result<(), NoMemory>
+fn put_up(alloc: Global, site: &Site, events: &mut Vec<Event>, port: PortId) -> Result<(), NoMemory>
     ensures { OnOk result (told events.new.items
         ≡ up_event site.now.layout (bounds_of site.now) (bridge_after (basis_of site.now) (told events.old.items)) port ∷ told events.old.items) }
 {
@@ -135,11 +130,7 @@ fn is_relayed(config: &Config, port: PortId, bytes: &[u8]) -> bool
 }
 
 /// What comes of an arrival.
-fn arrival_event(
-    alloc: Global,
-    config: &Config,
-    arrival: &Arrival,
-) -> Result<Event, NoMemory>
+fn arrival_event(alloc: Global, config: &Config, arrival: &Arrival) -> Result<Event, NoMemory>
     ensures { IfOk result (λ event. event ≡ arrival_event (bridge_of config.now) (arrival_of arrival.now)) }
 {
     if is_relayed(config, arrival.port, arrival.bytes.as_slice()) {

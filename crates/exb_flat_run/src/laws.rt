@@ -17,7 +17,11 @@ pub fn eager_is_legal()
 /// external ports by the one flat bridge.
 pub fn counts_are_counted()
     ensures all { (t : Shape) (b : Basis) (h : History) → counts t b h ≡ record {
-        relayed = count_by is_relay h; ignored = count_by is_ignored h; left = all_left t b h;
-        commits = count_by is_commit h; refusals = count_by is_refusal h } }
+      relayed = count_by is_relay h;
+      ignored = count_by is_ignored h;
+      left = all_left t b h;
+      commits = count_by is_commit h;
+      refusals = count_by is_refusal h;
+    } }
     ensures parts { (t : Shape) (b : Basis) (h : History) → counts t b h ≡ with_left (all_left t b h) (counted_all h) }
 {}

@@ -275,7 +275,11 @@ impl Layout {
         ensures { OnOk result (extenders.new.items ≡ extenders.old.items ++ level self.now depth 64) }
     {
         'numbers: for number in 0..64u16 {
-            put_if(extenders, self.hangs_at_depth(number + 1, depth), number + 1)?;
+            put_if(
+                extenders,
+                self.hangs_at_depth(number + 1, depth),
+                number + 1,
+            )?;
         }
         Ok(())
     }

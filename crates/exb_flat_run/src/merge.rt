@@ -8,8 +8,8 @@ ghost use Rattle.exb_flat_run.specs.Inputs.{records_of, coming_of};
 ghost use Rattle.exb_flat_run.specs.Merging.{has_capture, stream_for, stream_if, first_second, put_all, ComesAfter, FitsComing, IsRecord};
 
 use crate::layout::{PORTS, port_of};
-use exb_merge::laws::merge_of_chosen;
 use exb_merge::Captures;
+use exb_merge::laws::merge_of_chosen;
 use exb_model::bytes::Bytes;
 use exb_model::memory::NoMemory;
 use exb_model::port::PortId;
@@ -165,10 +165,7 @@ fn place_for(comings: &[Coming], moment: u64) -> usize
 }
 
 /// Puts what comes before the first that doesn't come before it.
-fn put_in_order(
-    comings: &mut Vec<Coming>,
-    coming: Coming,
-) -> Result<(), NoMemory>
+fn put_in_order(comings: &mut Vec<Coming>, coming: Coming) -> Result<(), NoMemory>
     ensures { OnOk result (map coming_of comings.new.items ≡ put_in_order (coming_of coming) (map coming_of comings.old.items)) }
 {
     let place = place_for(comings.as_slice(), moment_of(&coming));
@@ -177,11 +174,7 @@ fn put_in_order(
 }
 
 /// Puts commands among what comes, the last first.
-fn put_commands(
-    comings: &mut Vec<Coming>,
-    start: u64,
-    commands: &[Timed],
-) -> Result<(), NoMemory>
+fn put_commands(comings: &mut Vec<Coming>, start: u64, commands: &[Timed]) -> Result<(), NoMemory>
     requires start { start < 2 ^ 32 }
     requires few { length commands.now < 2 ^ 32 }
     ensures value { OnOk result (map coming_of comings.new.items

@@ -6,7 +6,7 @@ ghost use Rattle.exb_model.specs.Refusals.{is_kind, without_isolated, with_set, 
 ghost use Rattle.exb_flat.specs.Configs.{bridge_of};
 ghost use Rattle.exb_flat_run.specs.Sets.{present_in, lists_in, among_of, source, part_in, two_sets, four_sets, vlan_sets, entry_sets};
 
-use crate::layout::{Layout, port_of, put_if, PORTS};
+use crate::layout::{Layout, PORTS, port_of, put_if};
 use exb_flat::config::Config;
 use exb_model::memory::NoMemory;
 use exb_model::port::PortId;
@@ -119,11 +119,7 @@ fn part(
 }
 
 /// The ports that aren't isolated.
-fn without_isolated(
-    alloc: Global,
-    config: &Config,
-    set: &[PortId],
-) -> Result<Vec<PortId>, NoMemory>
+fn without_isolated(alloc: Global, config: &Config, set: &[PortId]) -> Result<Vec<PortId>, NoMemory>
     ensures { IfOk result (λ made. made.items ≡ without_isolated (bridge_of config.now) set.now) }
 {
     let mut ports = Vec::new(alloc);

@@ -9,6 +9,6 @@ use Rattle.exb_flat_run.proofs.eager.eager.Given as goal
 abbrev pub invariant-comings : goal.invariant-comings
 invariant-comings l = record {
   goes_on : eagerly l.site.layout (bounds_of l.site) (basis_of l.site) (opening l.site.layout (bounds_of l.site) (basis_of l.site)) (segments_after None (map coming_of l.comings))
-    ≡ eagerly l.site.layout (bounds_of l.site) (basis_of l.site) (told l.events.items) (segments_after l.last (map coming_of (drop l.coming-index l.comings)));
+      ≡ eagerly l.site.layout (bounds_of l.site) (basis_of l.site) (told l.events.items) (segments_after l.last (map coming_of (drop l.coming-index l.comings)));
   last : IfSome l.last (λ before. l.start ≤ before);
 }

@@ -16,4 +16,4 @@ pub returns : goal.returns
 returns c =
     c.in_ok-put.ensures
     ∙ ap (λ h. event.Settled ∷ h) (c.ports.invariant ∙ ups_all c.args.site.now.layout (bounds_of c.args.site.now) (basis_of c.args.site.now) c.deref-port-items.result.now c.ports.port-index c.ports-test.false
-      ∙ ap (with_ups c.args.site.now.layout (bounds_of c.args.site.now) (basis_of c.args.site.now) []) (c.deref-port-items.ensures.value ∙ c.in_ok-ports.ensures))
+    ∙ ap (with_ups c.args.site.now.layout (bounds_of c.args.site.now) (basis_of c.args.site.now) []) (c.deref-port-items.ensures.value ∙ c.in_ok-ports.ensures))

@@ -30,9 +30,9 @@ returns c i =
       refused_exactly = each-eagerly (IsDecided t l b) (λ a. Unit {0}) t l b (decides t l b) h ss (each-unit ss) (each-opening (IsDecided t l b) (λ a. Unit {0}) t l b (decides t l b));
       arrivals_once = plays-pairwise t l b PlaysArrivals (play-arrivals t l b) h ss;
       ports_in_order = λ p. in_order t (reverse (eagerly t l b h ss)) p
-        (let P : List ℕ → Type 0 = Rise 0 in
-        subst P (sym (ap (λ g. indices p (reverse g)) is ∙ indices-eager p t l b ss ∙ ap (λ arrived. map (λ a. a.index) (at_port p arrived)) (segments-arrivals i))) (merged-rise i p));
+          (let P : List ℕ → Type 0 = Rise 0 in
+          subst P (sym (ap (λ g. indices p (reverse g)) is ∙ indices-eager p t l b ss ∙ ap (λ arrived. map (λ a. a.index) (at_port p arrived)) (segments-arrivals i))) (merged-rise i p));
       relayed_exactly = each-eagerly (IsEntered b (arrivals_at i)) (IsNumbered (arrivals_at i)) t l b (enters (arrivals_at i) t l b) h ss (segments-numbered i)
-        (each-opening (IsEntered b (arrivals_at i)) (IsNumbered (arrivals_at i)) t l b (enters (arrivals_at i) t l b));
+          (each-opening (IsEntered b (arrivals_at i)) (IsNumbered (arrivals_at i)) t l b (enters (arrivals_at i) t l b));
       ticks = plays-pairwise t l b PlaysTick (play-tick t l b) h ss;
     }

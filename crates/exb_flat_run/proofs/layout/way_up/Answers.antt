@@ -11,7 +11,7 @@ pub up-preserved : goal.up-preserved
 up-preserved c =
     let e = up-more c.args.on.now (c.args.levels - c.up._level) (c.args.levels - (c.up._level + 1)) c.up.at (omega arith) c.if-at-lt64.false in
     let f : length (up c.args.on.now (c.args.levels - (c.up._level + 1)) (slice_index c.args.on.now (c.up.at / 64))) ≡ length (up c.args.on.now (c.args.levels - (c.up._level + 1)) c.hangs_on-at.result) =
-        ap (λ p. length (up c.args.on.now (c.args.levels - (c.up._level + 1)) p)) (sym c.hangs_on-at.ensures) in
+    ap (λ p. length (up c.args.on.now (c.args.levels - (c.up._level + 1)) p)) (sym c.hangs_on-at.ensures) in
     (omega (arith, e, f), omega arith)
 
 pub returns : goal.returns

@@ -10,7 +10,7 @@ use Rattle.exb_flat_run.proofs.merge.merge.Goals as goal
 pub put_commands-requires-clause-start : goal.put_commands-requires-clause-start
 put_commands-requires-clause-start c =
     let first : c.first_second-start.result ≡ first_second (map coming_of c.in_ok-comings.comings.items) =
-        c.first_second-start.ensures ∙ ap (λ xs. first_second (map coming_of xs)) c.as_slice.ensures.value in
+    c.first_second-start.ensures ∙ ap (λ xs. first_second (map coming_of xs)) c.as_slice.ensures.value in
     let small = first-small (map coming_of c.in_ok-comings.comings.items) c.in_ok-comings.ensures.kept in
     omega (arith, first, small)
 
@@ -22,7 +22,7 @@ returns-clause-value c = λ i cs rs.
 pub returns-clause-after : goal.returns-clause-after
 returns-clause-after c =
     let first : c.first_second-start.result ≡ first_second (map coming_of c.in_ok-comings.comings.items) =
-        c.first_second-start.ensures ∙ ap (λ xs. first_second (map coming_of xs)) c.as_slice.ensures.value in
+    c.first_second-start.ensures ∙ ap (λ xs. first_second (map coming_of xs)) c.as_slice.ensures.value in
     let P : ℕ → Type 0 = λ s. All (ComesAfter s) (map coming_of c.in_ok-comings.comings.items) in
     c.in_ok-put_commands.ensures.after (subst P (sym first) c.in_ok-comings.ensures.after)
 
@@ -30,4 +30,4 @@ pub returns-clause-fits : goal.returns-clause-fits
 returns-clause-fits c =
     subst (All FitsComing) (sym c.in_ok-put_commands.ensures.value)
     (each-put_all FitsComing (commands_from c.first_second-start.result 1 (map given_by c.args.commands.now)) (map coming_of c.in_ok-comings.comings.items)
-      (fits-commands c.first_second-start.result 1 (map given_by c.args.commands.now)) (All-weaker IsRecord FitsComing fits-records (map coming_of c.in_ok-comings.comings.items) c.in_ok-comings.ensures.kept))
+    (fits-commands c.first_second-start.result 1 (map given_by c.args.commands.now)) (All-weaker IsRecord FitsComing fits-records (map coming_of c.in_ok-comings.comings.items) c.in_ok-comings.ensures.kept))

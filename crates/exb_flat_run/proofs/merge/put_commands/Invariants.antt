@@ -9,7 +9,7 @@ abbrev pub invariant-commands : goal.invariant-commands
 invariant-commands l = record {
   within : l.left ≤ length l.commands;
   value : put_all (commands_from l.start 1 (map given_by l.commands)) (map coming_of l.initial.comings.items)
-    ≡ put_all (commands_from l.start 1 (map given_by (take l.left l.commands))) (map coming_of l.comings.items);
+      ≡ put_all (commands_from l.start 1 (map given_by (take l.left l.commands))) (map coming_of l.comings.items);
   after : All (ComesAfter l.start) (map coming_of l.initial.comings.items) → All (ComesAfter l.start) (map coming_of l.comings.items);
 }
 

@@ -19,14 +19,14 @@ returns-clause-history c =
     let i : Input = input_of c.args.setup.now c.args.commands.now c.args.captures.now in
     c.in_ok-events.ensures
     ∙ eager-is i c.in_ok-site.site.layout (bounds_of c.in_ok-site.site) (basis_of c.in_ok-site.site) (map coming_of c.as_slice.result.now) c.in_ok-site.ensures.tree c.in_ok-site.ensures.bounds
-      (site-basis c.args.setup.now c.args.commands.now c.args.captures.now c.in_ok-site.site c.in_ok-site.ensures)
-      (ap (map coming_of) c.as_slice.ensures.value ∙ c.in_ok-merged.ensures.value i refl refl)
+    (site-basis c.args.setup.now c.args.commands.now c.args.captures.now c.in_ok-site.site c.in_ok-site.ensures)
+    (ap (map coming_of) c.as_slice.ensures.value ∙ c.in_ok-merged.ensures.value i refl refl)
 
 pub returns-clause-frames : goal.returns-clause-frames
 returns-clause-frames c =
     let i : Input = input_of c.args.setup.now c.args.commands.now c.args.captures.now in
     let history = c.in_ok-events.ensures
-      ∙ eager-is i c.in_ok-site.site.layout (bounds_of c.in_ok-site.site) (basis_of c.in_ok-site.site) (map coming_of c.as_slice.result.now) c.in_ok-site.ensures.tree c.in_ok-site.ensures.bounds
-        (site-basis c.args.setup.now c.args.commands.now c.args.captures.now c.in_ok-site.site c.in_ok-site.ensures)
-        (ap (map coming_of) c.as_slice.ensures.value ∙ c.in_ok-merged.ensures.value i refl refl) in
+    ∙ eager-is i c.in_ok-site.site.layout (bounds_of c.in_ok-site.site) (basis_of c.in_ok-site.site) (map coming_of c.as_slice.result.now) c.in_ok-site.ensures.tree c.in_ok-site.ensures.bounds
+    (site-basis c.args.setup.now c.args.commands.now c.args.captures.now c.in_ok-site.site c.in_ok-site.ensures)
+    (ap (map coming_of) c.as_slice.ensures.value ∙ c.in_ok-merged.ensures.value i refl refl) in
     frames-written i (basis_of c.in_ok-site.site) (told c.in_ok-events.events.items) history (subst (All FitsComing) (c.in_ok-merged.ensures.value i refl refl) c.in_ok-merged.ensures.fits)

@@ -12,10 +12,10 @@ returns-then-from-needed c =
     let needed : ℕ = groups_needed c.args.layout.now c.trunks.trunk (bridge_of c.args.before.now) (bridge_of c.args.after.now) in
     let is : c.in_ok-needed.needed ≡ needed = c.in_ok-needed.ensures in
     sym (short-at c.args.layout.now (limits_of c.args.limits) (bridge_of c.args.before.now) (bridge_of c.args.after.now) c.trunks.trunk
-      (λ j before. let fine = c.trunks.invariant j before in omega (arith, fine)) (omega (arith, is)) (omega arith)
+    (λ j before. let fine = c.trunks.invariant j before in omega (arith, fine)) (omega (arith, is)) (omega arith)
     ∙ ap (λ n. Some (cause.Groups n c.args.limits.groups)) (sym is) ∙ ap (λ n. Some (cause.Groups c.in_ok-needed.needed n)) (sym c.from-limit.ensures))
 
 pub returns : goal.returns
 returns c =
     sym (short-nowhere c.args.layout.now (limits_of c.args.limits) (bridge_of c.args.before.now) (bridge_of c.args.after.now)
-      (λ j before. let fine = c.trunks.invariant j (omega arith) in omega (arith, fine)))
+    (λ j before. let fine = c.trunks.invariant j (omega arith) in omega (arith, fine)))

@@ -11,4 +11,4 @@ returns c =
     c.in_ok-put_statics.ensures
     ∙ ap (λ sets. fold with_set sets (entry_sets b c.as_slice-2.result.now c.statics.result.now)) c.in_ok-put_vlans.ensures
     ∙ sets-are c.args.layout.now c.args.trunk b (lists_in c.new-sets.result.items) c.as_slice.result.now c.as_slice-2.result.now c.statics.result.now
-      (ap lists_in c.new-sets.ensures.items) (c.as_slice.ensures.value ∙ c.in_ok-members.ensures) (c.as_slice-2.ensures.value ∙ c.in_ok-members.ensures) c.statics.ensures
+    (ap lists_in c.new-sets.ensures.items) (c.as_slice.ensures.value ∙ c.in_ok-members.ensures) (c.as_slice-2.ensures.value ∙ c.in_ok-members.ensures) c.statics.ensures

@@ -8,7 +8,7 @@ returns c = record {
   bounds = refl;
   basis = λ i. record {
     start = start-is c.args.setup.now c.of-layout.result c.local_ports-present.result c.in_ok-copied.field-0 c.of-layout.ensures c.local_ports-present.ensures
-      (c.in_ok-copied.ensures ∙ c.as_slice.ensures) i;
+        (c.in_ok-copied.ensures ∙ c.as_slice.ensures) i;
     commands = c.in_ok-untimed.ensures i;
     ageing = c.args.setup.now.ageing;
   };
