@@ -1,3 +1,5 @@
+ghost use Rattle.std.specs.Prelude.{◌<◌, ◌≤◌};
+
 use crate::{Row, SetAt, rows, sets};
 use exb_config::Config;
 use exb_model::address::Mac;
@@ -42,9 +44,12 @@ fn extender(number: u8, ports: u8, above: u8, port: u8) -> ExtenderSetup {
 }
 
 // Port `port` of extender `number`.
-fn port(number: u8, port: u8) -> Result<PortId, Fail> {
-    let place = 64 * number as u16 + port.saturating_sub(1) as u16;
-    Ok(PortId::new(place).ok_or("a port's number is below 4,160")?)
+fn port(number: u8, port: u8) -> PortId
+    requires number { number < 65 }
+    requires first { 1 ≤ port }
+    requires last { port ≤ 64 }
+{
+    PortId::new(64 * number as u16 + (port as u16 - 1)).unwrap()
 }
 
 // Each next extender of one port hangs on the one port of the extender before it.
@@ -79,7 +84,7 @@ fn crooked(alloc: Global) -> Result<Tree, Fail> {
 fn a_port_at_the_end_of_a_chain_has_a_row_at_each_extender(rt: HostRuntime) -> Result<(), Fail> {
     let tree = chain(rt.alloc())?;
     let mut set = PortSet::empty();
-    set.insert(port(64, 1)?);
+    set.insert(port(64, 1));
     let rows = rows(rt.alloc(), &tree, &set)?;
     assert_eq!(rt; rows.len(), 64);
     for (index, row) in rows.iter().enumerate() {
@@ -94,7 +99,7 @@ fn a_port_at_the_end_of_a_chain_has_a_row_at_each_extender(rt: HostRuntime) -> R
 fn all_ports_below_one_bridge_port_have_full_rows(rt: HostRuntime) -> Result<(), Fail> {
     let tree = broom(rt.alloc())?;
     let mut set = PortSet::empty();
-    set.insert(port(1, 64)?);
+    set.insert(port(1, 64));
     for number in 128..4160u16 {
         set.insert(PortId::new(number).unwrap());
     }
@@ -111,9 +116,9 @@ fn all_ports_below_one_bridge_port_have_full_rows(rt: HostRuntime) -> Result<(),
 fn rows_come_by_depth_and_then_number(rt: HostRuntime) -> Result<(), Fail> {
     let tree = crooked(rt.alloc())?;
     let mut set = PortSet::empty();
-    set.insert(port(1, 1)?);
-    set.insert(port(2, 2)?);
-    set.insert(port(3, 1)?);
+    set.insert(port(1, 1));
+    set.insert(port(2, 2));
+    set.insert(port(3, 1));
     let rows = rows(rt.alloc(), &tree, &set)?;
     assert_eq!(rt;
         rows.as_slice(),
@@ -141,7 +146,7 @@ fn rows_come_by_depth_and_then_number(rt: HostRuntime) -> Result<(), Fail> {
 fn rows_below_one_bridge_port_leave_the_other_alone(rt: HostRuntime) -> Result<(), Fail> {
     let tree = crooked(rt.alloc())?;
     let mut set = PortSet::empty();
-    set.insert(port(2, 1)?);
+    set.insert(port(2, 1));
     let rows = rows(rt.alloc(), &tree, &set)?;
     assert_eq!(rt;
         rows.as_slice(),
@@ -159,8 +164,8 @@ fn rows_below_one_bridge_port_leave_the_other_alone(rt: HostRuntime) -> Result<(
 fn ports_that_no_extender_has_are_in_no_row(rt: HostRuntime) -> Result<(), Fail> {
     let tree = crooked(rt.alloc())?;
     let mut set = PortSet::empty();
-    set.insert(port(1, 3)?);
-    set.insert(port(9, 1)?);
+    set.insert(port(1, 3));
+    set.insert(port(9, 1));
     assert_eq!(rt; rows(rt.alloc(), &tree, &set)?.len(), 0);
     assert_eq!(rt; tree.reach(&set), 0);
     Ok(())
@@ -169,11 +174,11 @@ fn ports_that_no_extender_has_are_in_no_row(rt: HostRuntime) -> Result<(), Fail>
 #[test]
 fn ports_have_their_roles_and_extenders_their_trunks(rt: HostRuntime) -> Result<(), Fail> {
     let tree = crooked(rt.alloc())?;
-    assert_eq!(rt; tree.role(port(0, 1)?), Role::Cascade { extender: 3 });
-    assert_eq!(rt; tree.role(port(0, 3)?), Role::External);
-    assert_eq!(rt; tree.role(port(3, 2)?), Role::Cascade { extender: 1 });
-    assert_eq!(rt; tree.role(port(1, 2)?), Role::External);
-    assert_eq!(rt; tree.role(port(1, 3)?), Role::Unknown);
+    assert_eq!(rt; tree.role(port(0, 1)), Role::Cascade { extender: 3 });
+    assert_eq!(rt; tree.role(port(0, 3)), Role::External);
+    assert_eq!(rt; tree.role(port(3, 2)), Role::Cascade { extender: 1 });
+    assert_eq!(rt; tree.role(port(1, 2)), Role::External);
+    assert_eq!(rt; tree.role(port(1, 3)), Role::Unknown);
     assert_eq!(rt; tree.order(), [2, 3, 1].as_slice());
     Ok(())
 }
@@ -186,8 +191,11 @@ fn set_of(ports: &[PortId]) -> PortSet {
     set
 }
 
-fn vid(number: u16) -> Result<Vid, Fail> {
-    Ok(Vid::new(number).ok_or("a VLAN is 1 to 4094")?)
+fn vid(number: u16) -> Vid
+    requires first { 1 ≤ number }
+    requires last { number ≤ 4094 }
+{
+    Vid::new(number).unwrap()
 }
 
 fn set_at(bridge_port: u8, ports: &[PortId]) -> SetAt {
@@ -202,7 +210,7 @@ fn plain(alloc: Global, ports: &[PortId]) -> Result<Config, Fail> {
     let present = set_of(ports);
     let mut config = Config::new(alloc, &present)?;
     let command = Command::Vlan {
-        vid: vid(1)?,
+        vid: vid(1),
         tagged: PortSet::empty(),
         untagged: present,
     };
@@ -213,13 +221,13 @@ fn plain(alloc: Global, ports: &[PortId]) -> Result<Config, Fail> {
 #[test]
 fn each_bridge_port_has_its_part_of_a_vlan(rt: HostRuntime) -> Result<(), Fail> {
     let tree = crooked(rt.alloc())?;
-    let config = plain(rt.alloc(), &[port(3, 1)?, port(1, 2)?, port(2, 1)?])?;
+    let config = plain(rt.alloc(), &[port(3, 1), port(1, 2), port(2, 1)])?;
     let sets = sets(rt.alloc(), &tree, &config)?;
     assert_eq!(rt;
         sets.as_slice(),
         [
-            set_at(1, &[port(1, 2)?, port(3, 1)?]),
-            set_at(2, &[port(2, 1)?])
+            set_at(1, &[port(1, 2), port(3, 1)]),
+            set_at(2, &[port(2, 1)])
         ]
         .as_slice()
     );
@@ -229,9 +237,9 @@ fn each_bridge_port_has_its_part_of_a_vlan(rt: HostRuntime) -> Result<(), Fail> 
 #[test]
 fn the_ports_that_are_not_isolated_are_a_set_of_their_own(rt: HostRuntime) -> Result<(), Fail> {
     let tree = crooked(rt.alloc())?;
-    let mut config = plain(rt.alloc(), &[port(3, 1)?, port(1, 1)?, port(1, 2)?])?;
+    let mut config = plain(rt.alloc(), &[port(3, 1), port(1, 1), port(1, 2)])?;
     let command = Command::Isolate {
-        port: port(1, 1)?,
+        port: port(1, 1),
         on: true,
     };
     config.apply(&command)?;
@@ -239,8 +247,8 @@ fn the_ports_that_are_not_isolated_are_a_set_of_their_own(rt: HostRuntime) -> Re
     assert_eq!(rt;
         sets.as_slice(),
         [
-            set_at(1, &[port(1, 1)?, port(1, 2)?, port(3, 1)?]),
-            set_at(1, &[port(1, 2)?, port(3, 1)?])
+            set_at(1, &[port(1, 1), port(1, 2), port(3, 1)]),
+            set_at(1, &[port(1, 2), port(3, 1)])
         ]
         .as_slice()
     );
@@ -250,12 +258,12 @@ fn the_ports_that_are_not_isolated_are_a_set_of_their_own(rt: HostRuntime) -> Re
 #[test]
 fn sets_come_once_by_vlan_with_the_tagged_part_first(rt: HostRuntime) -> Result<(), Fail> {
     let tree = crooked(rt.alloc())?;
-    let mut config = plain(rt.alloc(), &[port(1, 1)?, port(1, 2)?, port(3, 1)?])?;
+    let mut config = plain(rt.alloc(), &[port(1, 1), port(1, 2), port(3, 1)])?;
     for number in 2..4u16 {
         let command = Command::Vlan {
-            vid: vid(number)?,
-            tagged: set_of(&[port(3, 1)?]),
-            untagged: set_of(&[port(1, 1)?]),
+            vid: vid(number),
+            tagged: set_of(&[port(3, 1)]),
+            untagged: set_of(&[port(1, 1)]),
         };
         config.apply(&command)?;
     }
@@ -263,9 +271,9 @@ fn sets_come_once_by_vlan_with_the_tagged_part_first(rt: HostRuntime) -> Result<
     assert_eq!(rt;
         sets.as_slice(),
         [
-            set_at(1, &[port(1, 1)?, port(1, 2)?, port(3, 1)?]),
-            set_at(1, &[port(3, 1)?]),
-            set_at(1, &[port(1, 1)?])
+            set_at(1, &[port(1, 1), port(1, 2), port(3, 1)]),
+            set_at(1, &[port(3, 1)]),
+            set_at(1, &[port(1, 1)])
         ]
         .as_slice()
     );
@@ -275,25 +283,25 @@ fn sets_come_once_by_vlan_with_the_tagged_part_first(rt: HostRuntime) -> Result<
 #[test]
 fn a_static_entry_has_a_set_and_absent_ports_have_none(rt: HostRuntime) -> Result<(), Fail> {
     let tree = crooked(rt.alloc())?;
-    let mut config = plain(rt.alloc(), &[port(1, 1)?, port(3, 1)?])?;
+    let mut config = plain(rt.alloc(), &[port(1, 1), port(3, 1)])?;
     let member = Command::Member {
-        vid: vid(1)?,
-        port: port(2, 1)?,
+        vid: vid(1),
+        port: port(2, 1),
         kind: Kind::Tagged,
     };
     config.apply(&member)?;
     let entry = Command::Static {
-        vid: vid(1)?,
+        vid: vid(1),
         address: Mac([2, 0, 0, 0, 0, 1]),
-        ports: set_of(&[port(3, 1)?, port(2, 1)?]),
+        ports: set_of(&[port(3, 1), port(2, 1)]),
     };
     config.apply(&entry)?;
     let sets = sets(rt.alloc(), &tree, &config)?;
     assert_eq!(rt;
         sets.as_slice(),
         [
-            set_at(1, &[port(1, 1)?, port(3, 1)?]),
-            set_at(1, &[port(3, 1)?])
+            set_at(1, &[port(1, 1), port(3, 1)]),
+            set_at(1, &[port(3, 1)])
         ]
         .as_slice()
     );
