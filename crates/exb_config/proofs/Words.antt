@@ -42,20 +42,6 @@ pub none_past : (words : List ℕ) (q : ℕ) → get_or words (q / 64) 0 ≡ 0 �
 unfolding has_port
 none_past words q z = rw (z, bit_at-zero (q % 64)) refl
 
-pub common_port : (a b words : List ℕ) (i : ℕ) → AreJoined bit_and a b words i → i ≡ 65 → length a ≡ 65 → (q : ℕ) → has_port words q ≡ (has_port a q && has_port b q)
-unfolding has_port
-common_port a b words i so end sized q =
-    elim (cases_lt (q / 64) 65) [
-      | inl low ↦ at_word low
-      | inr high ↦ none_past words q (so.rest (q / 64) (omega arith)) ∙ sym (rw (none_past a q (get_or_past a (q / 64) 0 (omega arith))) refl)
-    ]
-  where
-    at_word : q / 64 < 65 → has_port words q ≡ (has_port a q && has_port b q)
-    at_word low =
-        let x = get_or a (q / 64) 0 in
-        let y = get_or b (q / 64) 0 in
-        rw (so.done (q / 64) (omega arith), bit_at_and x y (q % 64)) (both_ones (bit_at x (q % 64)) (bit_at y (q % 64)) (bit_at-lt x (q % 64)) (bit_at-lt y (q % 64)))
-
 pub except_port : (a b words : List ℕ) (i : ℕ) → AreJoined (λ x y. bit_and x (bit_not w64 y)) a b words i → i ≡ 65 → length a ≡ 65 → ((n : ℕ) → get_or b n 0 < 2 ^ 64) → (q : ℕ) →
     has_port words q ≡ (has_port a q && not (has_port b q))
 unfolding has_port

@@ -8,7 +8,6 @@ ghost use Rattle.exb_config.specs.Tables.{bridge_of};
 
 use crate::members::Members;
 use crate::port_rules::PortRules;
-use crate::port_sets::common;
 use crate::static_entries::StaticEntries;
 use crate::vlan_table::VlanTable;
 use exb_model::address::Mac;
@@ -158,8 +157,8 @@ impl Config {
         ensures { (q : ℕ) → port_in result q ≡ ((bridge_of self.now).present q && port_in among.now q
             && is_kind kind ((bridge_of self.now).member vid q)) }
     {
-        let chosen = common(&self.present, among);
-        common(&chosen, &self.vlans.members(vid).of_kind(kind))
+        let members = self.vlans.members(vid).of_kind(kind);
+        self.present.both(among).both(&members)
     }
 
     fn set_vlan(&mut self, vid: Vid, tagged: PortSet, untagged: PortSet) -> Result<(), NoMemory>

@@ -1,19 +1,8 @@
-//! Sets of ports that are made of two.
+//! Sets of ports against others.
 ghost use Rattle.std.specs.Prelude.{◌≡◌, ℕ, ◌&&◌, ◌↔◌, not, false, IsTrue};
 ghost use Rattle.exb_model.specs.Ports.{port_in};
 
 use exb_model::port_set::PortSet;
-
-/// The ports that are in both sets.
-pub fn common(a: &PortSet, b: &PortSet) -> PortSet
-    ensures { (q : ℕ) → port_in result q ≡ (port_in a.now q && port_in b.now q) }
-{
-    let mut words = [0; 65];
-    for i in 0..65usize {
-        words[i] = a.words[i] & b.words[i];
-    }
-    PortSet { words }
-}
 
 /// The ports of the first set that aren't in the second.
 pub fn except(a: &PortSet, b: &PortSet) -> PortSet
