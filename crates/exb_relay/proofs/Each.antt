@@ -221,8 +221,10 @@ module _ (t : Shape) (b : Bridge) (look : Look) (m : Numbers) (p : ℕ) (f : Lis
       by_vid : (o : Option ℕ) → passes b p f ≡ o → count_by (λ (x : SendTo). x.bridge_port == k) (sends_in t b look m p f o) ≤ 2
       by_vid None e = omega arith
       by_vid (Some v) e =
-          rw (← length-filter (λ (x : SendTo). x.bridge_port == k) (flat_map (sends_at t b look m p f v) bridge_ports),
-          filter_flat (λ (x : SendTo). x.bridge_port == k) (sends_at t b look m p f v) bridge_ports) (
+          rw (
+            ← length-filter (λ (x : SendTo). x.bridge_port == k) (flat_map (sends_at t b look m p f v) bridge_ports),
+            filter_flat (λ (x : SendTo). x.bridge_port == k) (sends_at t b look m p f v) bridge_ports,
+          ) (
           elim (cases_lt 64 k) [
             | inl high ↦
                 rw (no_one (λ j. filter (λ (x : SendTo). x.bridge_port == k) (sends_at t b look m p f v j)) 64

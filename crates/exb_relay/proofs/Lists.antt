@@ -182,4 +182,3 @@ fold_has (y ∷ xs) sets x m some =
       | inl e ↦ subst (λ (z : List ℕ). list_any (bytes_eq x) (fold with_set (with_set sets z) xs) ≡ true) e (fold_keeps xs (with_set sets x) x (put_in sets x some))
       | inr r ↦ fold_has xs (with_set sets y) x r some
     ]
-

@@ -79,8 +79,14 @@ module _ (t : Shape) (m : Numbers) (p : ℕ) (f : List ℕ) (s : Source) (is : I
         let locals : cond (k == s.port) None (kind_among tagged untagged k) ≡ target b look p f k =
         local_same c am tagged untagged k low (λ q l. same q l ∙ sym (chosen_is q)) kt ku ∙ sym target_here in
         let words : words_down t b look m p f v (choice b look v (destination f)) k ≡ group_words t b m p f v among k = ap (λ (x : Choice). words_down t b look m p f v x k) is_choice ∙ down k in
-        rw (words, locals, set_word_same k Tagged (set_below t k tagged), set_word_same k Untagged (set_below t k untagged),
-        set_same among am tagged k Tagged same kt, set_same among am untagged k Untagged same ku) refl
+        rw (
+          words,
+          locals,
+          set_word_same k Tagged (set_below t k tagged),
+          set_word_same k Untagged (set_below t k untagged),
+          set_same among am tagged k Tagged same kt,
+          set_same among am untagged k Untagged same ku,
+        ) refl
 
     -- ---- the sends for a learned port
     module _ (r : ℕ) (valid : IsTree t) (external : (q : ℕ) → b.present q ≡ true → is_external t q ≡ true) (is_choice : choice b look v (destination f) ≡ chosen.Learned r) where

@@ -12,9 +12,9 @@ ghost use Rattle.exb_relay.specs.Sends.{pcp_of, dei_of, ingress_at, ingress_of, 
 ghost use Rattle.exb_relay.specs.Words.{IsSource, ingress_for, set_below, set_word, kind_at, member_in, member_sends, member_list, port_sends, learned_sends};
 
 use crate::below::below;
-use crate::choice::{choose, Choice};
+use crate::choice::{Choice, choose};
 use crate::ingress::{dei_of, passes, pcp_of};
-use crate::members::{every_port, kind_at, Members};
+use crate::members::{Members, every_port, kind_at};
 use crate::send::{Ingress, SendTo};
 use crate::sending::{send_at_once, send_word};
 use crate::source::{Source, Uplink};
@@ -291,9 +291,7 @@ pub fn relay(
         None => Ingress::Dropped,
         Some(vid) => {
             let source = source_of(tree, spaces, port, frame, &seen);
-            send_all(
-                tree, config, learned, spaces, vid, &source, frame, sends,
-            );
+            send_all(tree, config, learned, spaces, vid, &source, frame, sends);
             Ingress::Passed {
                 vid,
                 pcp: source.pcp,
