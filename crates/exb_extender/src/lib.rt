@@ -18,6 +18,6 @@ pub use extender::Extender;
 pub use sends::{Entry, Form, Out, Sends, Side};
 
 #[cfg(test)]
-mod bench;
+mod fixture;
 #[cfg(test)]
 mod tests;

@@ -6,7 +6,6 @@ use crate::{Entry, Extender, Out, Sends, Side};
 use exb_ecp::Pdu;
 use exb_model::address::Mac;
 use exb_model::buffers::ControlBuf;
-use exb_model::memory::NoMemory;
 use std::alloc::Global;
 use std::process::Abort;
 
@@ -14,21 +13,21 @@ const BRIDGE: Mac = Mac([0x02, 0x45, 0x42, 0, 0, 0]);
 
 /// Extender 1 with three ports, and the sequence of the bridge's last request.
 #[derive(Drop)]
-pub(crate) struct Bench {
+pub(crate) struct Fixture {
     extender: Extender,
     sends: Sends,
     sequence: u16,
     pub ghost three: { (state_of extender).tables.ports ≡ 3 },
 }
 
-impl Bench {
-    pub(crate) fn new(alloc: Global) -> Result<Bench, NoMemory> {
-        let extender = Extender::new(alloc, 1, 3)?;
-        Ok(Bench {
+impl Fixture {
+    pub(crate) fn new(rt: &impl Abort, alloc: Global) -> Fixture {
+        let extender = Extender::new(alloc, 1, 3).expect(rt, "an extender");
+        Fixture {
             extender,
             sends: Sends::new(),
             sequence: 0,
-        })
+        }
     }
 
     /// A frame comes from upstream.
