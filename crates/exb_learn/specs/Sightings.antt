@@ -4,7 +4,6 @@ use Rattle.std.specs.List.{list_any}
 use Rattle.exb_model.specs.Learning.{Look, kept_unless, live_port}
 use Rattle.exb_learn.specs.Calls.{Call, See, Tick, Forget}
 
-
 -- the sum of the seconds that went by
 abbrev pub seconds_of : Call → ℕ
 seconds_of (Tick seconds) = seconds

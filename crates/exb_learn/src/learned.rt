@@ -5,7 +5,6 @@ ghost use Rattle.exb_model.specs.Learning.{live_port};
 ghost use Rattle.exb_learn.specs.Entries.{place_of, table_of, look_of};
 ghost use Rattle.exb_learn.specs.Calls.{See, Tick, Forget, empty_table, after_call};
 
-
 use crate::entries::{Entry, find_entry, forget_port, put_entry};
 use exb_model::address::Mac;
 use exb_model::memory::NoMemory;
@@ -36,9 +35,8 @@ fn live_port(entry: Option<Entry>, clock: u64, ageing: u32) -> Option<PortId>
     ensures { result ≡ live_port clock ageing (place_of entry) }
 {
     match entry {
-        Some(entry) if !entry.forgotten && clock.saturating_sub(entry.at) < u64::from(ageing) => Some(
-            entry.port,
-        ),
+        Some(entry) if !entry.forgotten && clock.saturating_sub(entry.at) < u64::from(ageing) =>
+            Some(entry.port),
         _ => None,
     }
 }

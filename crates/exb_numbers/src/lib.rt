@@ -9,9 +9,9 @@ pub mod groups;
 pub mod laws;
 pub mod spaces;
 
-pub use spaces::Spaces;
-pub use groups::{Groups, NoGroup};
 pub use channels::{Channels, NoChannel};
+pub use groups::{Groups, NoGroup};
+pub use spaces::Spaces;
 
 
 #[cfg(test)]
