@@ -1,5 +1,5 @@
 -- The table of a bridge over a history.
-use Rattle.std.proofs.Common.{◌≡◌, ℕ, ◌+◌, Bool, true, false, cond, not, ◌&&◌, ◌==◌, List, [], ◌∷◌, refl, sym, ap, ◌∙◌, add-zero, arith}
+use Rattle.std.proofs.Common.{◌≡◌, ℕ, ◌+◌, Bool, true, false, cond, ◌&&◌, ◌==◌, List, [], ◌∷◌, refl, sym, ap, ◌∙◌, add-zero}
 use Rattle.std.specs.Prelude.{Option, Some, None, bytes_eq}
 use Rattle.exb_model.specs.declared.command.Command.{Command}
 use Rattle.exb_model.specs.declared.command.Command.TheVariants as command
@@ -7,10 +7,10 @@ use Rattle.exb_model.specs.declared.event.Event.{Event}
 use Rattle.exb_model.specs.declared.event.Event.TheVariants as event
 use Rattle.exb_model.specs.Frames.{source, is_group}
 use Rattle.exb_model.specs.History.{Basis, History, command_of, bridge_after, now_after}
-use Rattle.exb_model.specs.Learning.{passes, teaches, teaches_in, kept_unless, is_down_of, live_port, remembered, learned}
+use Rattle.exb_model.specs.Learning.{passes, teaches_in, kept_unless, is_down_of, live_port, remembered, learned}
 use Rattle.exb_model.proofs.Remembering.{remembered-none, remembered-relay, remembered-other, kept_unless-none}
-use Rattle.exb_learn.specs.Calls.{Call, See, Tick, Forget, Table, after_call, look_in}
-use Rattle.exb_learn.specs.Histories.{relay_call, command_call, call_at, after_any, table_after}
+use Rattle.exb_learn.specs.Calls.{See, Table, look_in}
+use Rattle.exb_learn.specs.Histories.{relay_call, command_call, after_any, table_after}
 
 pub record Follows (i : Basis) (h : History) (t : Table) : Type 0 where
   pub ageing_is : t.ageing ≡ i.ageing

@@ -1,5 +1,5 @@
 -- Look-ups among the entries after a change.
-use Rattle.std.proofs.Common.{◌≡◌, ℕ, Bool, true, false, cond, ◌&&◌, ◌==◌, List, map, refl, sym, ap, ◌∙◌}
+use Rattle.std.proofs.Common.{◌≡◌, ℕ, Bool, true, false, cond, ◌&&◌, ◌==◌, List, map, refl, ap, ◌∙◌}
 use Rattle.std.specs.Prelude.{Option, Some, None, find, option_map, bytes_eq}
 use Rattle.std.proofs.lemmas.Bool.{eqb-true, and_parts}
 use Rattle.std.proofs.lemmas.Slice.Eq.{bytes_eq-Decides}
@@ -7,7 +7,7 @@ use Rattle.exb_model.specs.Lists.{put_first}
 use Rattle.exb_model.specs.Learning.{kept_unless}
 use Rattle.exb_model.proofs.Lists.{find-map, find-put_first, find-put_first_other}
 use Rattle.exb_learn.specs.declared.entries.Entry.{Entry}
-use Rattle.exb_learn.specs.Calls.{See, Forget, Table, after_call}
+use Rattle.exb_learn.specs.Calls.{See, Forget, after_call}
 use Rattle.exb_learn.specs.Entries.{Entries, is_entry_of, place_of, forgotten, table_of}
 
 -- entries of one VLAN and address pass the same tests

@@ -3,7 +3,7 @@ use Rattle.std.proofs.Common.{◌≡◌, ℕ, Bool, true, false, cond, ◌&&◌,
 use Rattle.std.specs.Prelude.{Option, Some, None, bytes_eq}
 use Rattle.std.specs.List.{list_any}
 use Rattle.exb_model.specs.Learning.{kept_unless, live_port}
-use Rattle.exb_learn.specs.Calls.{Call, See, Tick, Forget, Table, run, after_call, look_in}
+use Rattle.exb_learn.specs.Calls.{Call, See, Tick, Forget, run, look_in}
 use Rattle.exb_learn.specs.Sightings.{Sighting, followed, last_see, unless_forgotten, clock_after, is_forget_of, look_after}
 
 kept_all : (o : Option (ℕ × ℕ)) → kept_unless (λ p. false) o ≡ o
