@@ -11,7 +11,7 @@ ghost use Rattle.exb_plan.specs.Sets.{is_same_set, with_set_at, parts_below, set
 
 use crate::ground::Ground;
 use exb_config::Config;
-use exb_config::port_sets::{common, except, is_empty};
+use exb_config::port_sets::{except, is_empty};
 use exb_model::memory::NoMemory;
 use exb_model::port_set::PortSet;
 use exb_model::tree::Tree;
@@ -112,7 +112,7 @@ fn add_statics(sets: &mut Vec<SetAt>, ground: &Ground, config: &Config) -> Resul
     for at in 0..u64::MAX {
         match config.static_at(at) {
             Some(entry) => {
-                let among = common(&ground.extended, &entry.ports);
+                let among = ground.extended.both(&entry.ports);
                 add_kinds(sets, ground, config, entry.vid, &among)?;
             }
             None => return Ok(()),

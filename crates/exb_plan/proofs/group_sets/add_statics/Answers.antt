@@ -20,6 +20,6 @@ loop-at-preserved c t ground =
     let found = sym c.static_at.ensures ∙ c.in-Some.is in
     let whole : take (i + 1) b.statics ≡ take i b.statics ++ e ∷ [] =
     take_more b.statics i e (slice_get_within b.statics i e found) ∙ ap (λ (s : StaticAt). take i b.statics ++ s ∷ []) (get_or_from_slice_get b.statics i e e found) in
-    let one = c.in_ok-add_kinds-in-Some.ensures t (port_in e.ports) ground (λ q. c.common-among.ensures q ∙ ap (λ x. x && port_in e.ports q) (ground.extended q)) in
+    let one = c.in_ok-add_kinds-in-Some.ensures t (port_in e.ports) ground (λ q. c.both-among.ensures q ∙ ap (λ x. x && port_in e.ports q) (ground.extended q)) in
     source_more t b f (take i b.statics) e old (map seen c.loop-at.sets.items) (map seen c.add_kinds.new.sets.items) (c.loop-at.invariant t ground) one
     ∙ ap (λ (s : List StaticAt). fold with_set_at old (flat_map (parts_below t b) (flat_map f s))) (sym whole)
