@@ -28,11 +28,7 @@ fn ports(rt: &impl Abort, numbers: &[u16]) -> PortSet {
 }
 
 // The bridge's one port b1 is present, and these commands were done.
-fn configured(
-    alloc: Global,
-    rt: &impl Abort,
-    commands: &[Command],
-) -> Result<Config, NoMemory> {
+fn configured(alloc: Global, rt: &impl Abort, commands: &[Command]) -> Result<Config, NoMemory> {
     let mut config = Config::new(alloc, &ports(rt, &[0]))?;
     for command in commands {
         config.apply(command)?;
@@ -46,7 +42,9 @@ fn part(rt: &impl Abort, config: &Config, number: u16, kind: Kind) -> PortSet {
 }
 
 const FIRST: Mac = Mac([2, 0, 0, 0, 0, 1]);
+
 const SECOND: Mac = Mac([2, 0, 0, 0, 0, 2]);
+
 const THIRD: Mac = Mac([2, 0, 0, 0, 0, 3]);
 
 // A static entry of VLAN 1.
@@ -83,9 +81,14 @@ fn a_port_in_both_lists_of_a_vlan_is_untagged_and_leaves_no_tagged_part(
         tagged: ports(&rt, &[0, 64]),
         untagged: ports(&rt, &[0, 65]),
     };
-    let up = Command::Up { port: port(&rt, 64) };
+    let up = Command::Up {
+        port: port(&rt, 64),
+    };
     let config = configured(rt.alloc(), &rt, &[members, up])?;
-    assert_eq!(rt; config.member(vid(&rt, 10), port(&rt, 0)), Some(Kind::Untagged));
+    assert_eq!(rt;
+        config.member(vid(&rt, 10), port(&rt, 0)),
+        Some(Kind::Untagged)
+    );
     assert!(rt; part(&rt, &config, 10, Kind::Tagged) == ports(&rt, &[64]));
     assert!(rt; part(&rt, &config, 10, Kind::Untagged) == ports(&rt, &[0]));
     Ok(())
@@ -187,8 +190,12 @@ fn a_port_is_isolated_until_that_ends_and_a_copy_keeps_it(rt: HostRuntime) -> Re
 
 #[test]
 fn up_and_down_change_presence_once(rt: HostRuntime) -> Result<(), Fail> {
-    let up = Command::Up { port: port(&rt, 64) };
-    let down = Command::Down { port: port(&rt, 64) };
+    let up = Command::Up {
+        port: port(&rt, 64),
+    };
+    let down = Command::Down {
+        port: port(&rt, 64),
+    };
     let config = configured(rt.alloc(), &rt, &[up, up])?;
     assert!(rt; config.present(port(&rt, 64)));
     let without = configured(rt.alloc(), &rt, &[up, up, down])?;

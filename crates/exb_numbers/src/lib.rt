@@ -13,6 +13,5 @@ pub use channels::{Channels, NoChannel};
 pub use groups::{Groups, NoGroup};
 pub use spaces::Spaces;
 
-
 #[cfg(test)]
 mod tests;
