@@ -1,10 +1,10 @@
 -- The spaces, bridge port by bridge port.
-use Rattle.std.proofs.Common.{◌≡◌, ℕ, zero, suc, ◌+◌, ◌<◌, ◌≤◌, ◌==◌, Bool, true, false, cond, not, ◌&&◌, ◌||◌, List, [], ◌∷◌, ◌++◌, length, get_or, replicate, refl, sym, ap, subst, ◌∙◌, inl, inr, arith, eq-eqb, length-append}
+use Rattle.std.proofs.Common.{◌≡◌, ℕ, zero, suc, ◌+◌, ◌<◌, ◌==◌, Bool, true, false, cond, not, ◌&&◌, List, [], ◌∷◌, ◌++◌, length, get_or, replicate, refl, sym, ap, ◌∙◌, inl, inr, arith, eq-eqb, length-append}
 use Rattle.std.specs.Prelude.{Option, None, nat_lt, slice_index}
 use Rattle.std.proofs.lemmas.Bool.{cases_Bool, cases_eq, cases_lt, false≢true, and_parts, or_left, or_right, lt-ltb, le-ltb}
 use Rattle.exb_model.specs.declared.role.Role.{Role}
 use Rattle.exb_model.specs.declared.role.Role.TheVariants as role
-use Rattle.exb_model.specs.Tree.{Shape, on, HangsOn, HasRole, IsTree, is_port, is_extender, is_cascade, is_external, any_below}
+use Rattle.exb_model.specs.Tree.{Shape, on, HangsOn, HasRole, IsTree, is_port, is_extender, is_cascade, any_below}
 use Rattle.exb_model.proofs.TreeHung.{cascade_hangs}
 use Rattle.std.proofs.lemmas.List.{get_or_past, get_or_push, get_or_append_left}
 use Rattle.exb_numbers.specs.Groups.{Groups, set_of}

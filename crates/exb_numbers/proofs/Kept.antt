@@ -1,12 +1,11 @@
 -- The tables of channels, after a claim and a release.
-use Rattle.std.proofs.Common.{◌≡◌, ℕ, zero, suc, ◌+◌, ◌-◌, ◌<◌, ◌≤◌, ◌==◌, Bool, true, false, cond, not, List, [], ◌∷◌, length, get_or, set, replicate, refl, sym, ap, subst, ◌∙◌, inl, inr, ◌⊎◌, arith, eq-eqb}
-use Rattle.std.specs.Prelude.{Option, Some, None, is_some, find, nat_lt}
+use Rattle.std.proofs.Common.{◌≡◌, ℕ, zero, suc, ◌+◌, ◌-◌, ◌<◌, ◌≤◌, ◌==◌, true, false, cond, List, [], ◌∷◌, length, get_or, set, replicate, refl, sym, ap, ◌∙◌, inl, inr, ◌⊎◌, arith, eq-eqb}
+use Rattle.std.specs.Prelude.{Option, Some, None, is_some, find}
 use Rattle.std.specs.List.{range_with_len}
-use Rattle.std.proofs.lemmas.Bool.{cases_Bool, cases_eq, cases_lt, ne_eqb, eqb-true, false≢true, lt-ltb}
+use Rattle.std.proofs.lemmas.Bool.{cases_Bool, cases_eq, cases_lt, ne_eqb, eqb-true, false≢true}
 use Rattle.std.proofs.lemmas.List.{length-set, get_or-set_other, get_or_past, length-replicate}
 use Rattle.std.proofs.lemmas.Grind.{get_or-set_at}
 use Rattle.exb_model.proofs.Words.{get_or-same}
-use Rattle.exb_numbers.specs.Lowest.{lowest_free}
 use Rattle.exb_numbers.specs.Channels.{holder, is_used, is_port, channel_of, lowest_channel, AreKept}
 use Rattle.exb_numbers.proofs.Lowest.{find_first, find_none, lowest_is, lowest_none}
 

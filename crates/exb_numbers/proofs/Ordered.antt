@@ -1,15 +1,15 @@
 -- The groups after a claim and a release.
-use Rattle.std.proofs.Common.{◌≡◌, ℕ, zero, suc, ◌+◌, ◌-◌, ◌<◌, ◌≤◌, ◌==◌, Bool, true, false, cond, not, List, [], ◌∷◌, ◌++◌, length, get_or, set, insert, remove, map, refl, sym, ap, subst, ◌∙◌, inl, inr, ◌⊎◌, arith, eq-eqb}
-use Rattle.std.specs.Prelude.{Option, Some, None, slice_get, nat_le, sum_by}
-use Rattle.std.proofs.lemmas.Bool.{cases_Bool, cases_eq, cases_lt, ne_eqb, false≢true, lt-leb, le-leb}
-use Rattle.std.proofs.lemmas.List.{length-set, length-map, length-append}
+use Rattle.std.proofs.Common.{◌≡◌, ℕ, zero, suc, ◌+◌, ◌-◌, ◌<◌, ◌≤◌, ◌==◌, Bool, true, false, cond, not, List, [], ◌∷◌, ◌++◌, length, get_or, set, insert, refl, sym, ap, subst, ◌∙◌, inl, inr, ◌⊎◌, arith, eq-eqb}
+use Rattle.std.specs.Prelude.{Some, None, slice_get, sum_by}
+use Rattle.std.proofs.lemmas.Bool.{cases_eq, cases_lt, ne_eqb, false≢true, lt-leb, le-leb}
+use Rattle.std.proofs.lemmas.List.{length-set, length-append}
 use Rattle.std.proofs.lemmas.List.Sums.{sum_by-set, sum_by_push, sum_by-append}
 use Rattle.std.proofs.lemmas.List.Edits.{length-insert, length-remove}
 use Rattle.exb_model.specs.declared.port_set.PortSet.{PortSet}
 use Rattle.exb_model.specs.Ports.{ports_of}
 use Rattle.exb_model.specs.Refusals.{is_empty_set}
 use Rattle.exb_numbers.specs.Groups.{Groups, set_of, sets_of, is_used, lowest_group}
-use Rattle.exb_numbers.specs.Order.{words_of, words_at, is_held, weight, put_at, IsRising, SplitsAt, IsAt, StandsAt, IsEntered, IsLeft, AreOrdered}
+use Rattle.exb_numbers.specs.Order.{words_of, words_at, is_held, weight, put_at, StandsAt, IsEntered, IsLeft, AreOrdered}
 use Rattle.exb_numbers.proofs.Lowest.{lowest_is, lowest_none}
 use Rattle.exb_numbers.proofs.Rising.{one_index, insert_rising, remove_rising, stands_in_insert, stands_new, stands_in_remove, insert_holds, remove_holds}
 use Rattle.exb_numbers.proofs.Places.{ports_opt, ports_at, get_put, get_put_other, get_set, get_set_other, put_within, put_past, held_set, held_by, same_held, words_is, place_in, get_at, distinct, value}

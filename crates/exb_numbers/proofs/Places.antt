@@ -1,25 +1,23 @@
 -- The sets of the groups by place, and the order that finds them.
-use Rattle.std.proofs.Common.{◌≡◌, ◌≢◌, ℕ, zero, suc, ◌+◌, ◌-◌, ◌*◌, ◌/◌, ◌%◌, ◌^◌, ◌<◌, ◌≤◌, ◌==◌, Bool, true, false, cond, not, List, [], ◌∷◌, ◌++◌, length, get_or, set, insert, remove, map, filter, refl, sym, ap, subst, ◌∙◌, inl, inr, ◌⊎◌, arith, eq-eqb, length-append}
-use Rattle.std.specs.Prelude.{Option, Some, None, slice_get, find, bytes_eq, nat_lt, nat_le, sum_by, IsTrue, ◌↔◌}
+use Rattle.std.proofs.Common.{◌≡◌, ℕ, zero, suc, ◌+◌, ◌-◌, ◌/◌, ◌%◌, ◌<◌, ◌≤◌, Bool, true, false, cond, not, List, [], ◌∷◌, ◌++◌, length, get_or, set, filter, refl, sym, ap, ◌∙◌, inl, inr, arith}
+use Rattle.std.specs.Prelude.{Option, Some, None, slice_get, find, bytes_eq, IsTrue, ◌↔◌}
 use Rattle.std.specs.List.{range_with_len}
-use Rattle.std.proofs.lemmas.Bool.{cases_Bool, cases_eq, cases_lt, ne_eqb, eqb-true, false≢true, lt-ltb, le-ltb, le-leb}
-use Rattle.std.proofs.lemmas.List.{length-set, length-map, get_or_past}
+use Rattle.std.proofs.lemmas.Bool.{cases_Bool, cases_lt, false≢true, lt-ltb, le-ltb, le-leb}
+use Rattle.std.proofs.lemmas.List.{get_or_past}
 use Rattle.std.proofs.lemmas.Option.{slice_get_past}
-use Rattle.std.proofs.lemmas.List.Sums.{sum_by-set, sum_by_push}
-use Rattle.std.proofs.lemmas.List.Edits.{length-insert, length-remove}
 use Rattle.std.proofs.lemmas.Grind.{same_number_lists}
 use Rattle.std.proofs.lemmas.Slice.Eq.{bytes_eq-Decides}
 use Rattle.exb_model.specs.declared.port_set.PortSet.{PortSet}
 use Rattle.exb_model.specs.PortBits.{has_port}
-use Rattle.exb_model.specs.Ports.{port_in, ports_of, below, all_ports}
+use Rattle.exb_model.specs.Ports.{port_in, ports_of, all_ports}
 use Rattle.exb_model.specs.Refusals.{is_empty_set}
 use Rattle.exb_model.proofs.Words.{same_word}
 use Rattle.exb_model.proofs.PortLemmas.{same_filter_below, filter_below-none}
 use Rattle.std.proofs.lemmas.Nat.Bits.{bit_at-zero}
-use Rattle.exb_numbers.specs.Groups.{Groups, set_of, sets_of, is_used, group_of, lowest_group}
-use Rattle.exb_numbers.specs.Order.{words_of, words_at, is_held, weight, put_at, IsRising, SplitsAt, IsAt, StandsAt, IsEntered, IsLeft, AreOrdered}
-use Rattle.exb_numbers.proofs.Lowest.{find_first, find_none, lowest_is, lowest_none}
-use Rattle.exb_numbers.proofs.Rising.{one_index, split_absent, insert_rising, remove_rising, stands_in_insert, stands_new, stands_in_remove, insert_holds, remove_holds}
+use Rattle.exb_numbers.specs.Groups.{Groups, set_of, sets_of, group_of}
+use Rattle.exb_numbers.specs.Order.{words_of, words_at, is_held, put_at, SplitsAt, IsAt, AreOrdered}
+use Rattle.exb_numbers.proofs.Lowest.{find_first, find_none}
+use Rattle.exb_numbers.proofs.Rising.{one_index, split_absent}
 
 -- ---- a set, its words and its ports
 pub same_ports : (s t : PortSet) → s.words ≡ t.words → ports_of s ≡ ports_of t

@@ -1,4 +1,4 @@
-use Rattle.std.proofs.Common.{◌≡◌, ◌∙◌, ap, not, sym}
+use Rattle.std.proofs.Common.{sym}
 use Rattle.exb_numbers.proofs.Places.{told_ports}
 use Rattle.exb_numbers.proofs.groups.has_ports.Goals as goal
 

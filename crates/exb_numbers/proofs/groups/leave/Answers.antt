@@ -1,5 +1,3 @@
-use Rattle.std.proofs.Common.{◌≡◌, ℕ, List, ap, ◌∙◌}
-use Rattle.std.specs.Prelude.{slice_index}
 use Rattle.exb_numbers.specs.Order.{words_at, SplitsAt}
 use Rattle.exb_numbers.proofs.Rising.{split_absent}
 use Rattle.exb_numbers.proofs.groups.leave.Goals as goal

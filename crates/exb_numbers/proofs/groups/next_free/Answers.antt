@@ -1,8 +1,8 @@
-use Rattle.std.proofs.Common.{◌≡◌, ◌∙◌, true, ap, sym, ℕ, ◌<◌, ◌≤◌, inl, inr, arith}
-use Rattle.std.proofs.lemmas.Bool.{cases_lt, cases_eq}
+use Rattle.std.proofs.Common.{◌≡◌, ◌∙◌, true, ap, sym, inl, inr, arith}
+use Rattle.std.proofs.lemmas.Bool.{cases_eq}
 use Rattle.exb_numbers.specs.Groups.{sets_of}
 use Rattle.exb_numbers.specs.Order.{is_held}
-use Rattle.exb_numbers.proofs.Places.{held_at, not_held_past}
+use Rattle.exb_numbers.proofs.Places.{held_at}
 use Rattle.exb_numbers.proofs.groups.next_free.Goals as goal
 
 pub loop-place-preserved : goal.loop-place-preserved

@@ -1,4 +1,4 @@
-use Rattle.std.proofs.Common.{rules, ℕ, List}
+use Rattle.std.proofs.Common.{rules, ℕ}
 use Rattle.std.proofs.lemmas.Fn.{always_returns_same}
 use Rattle.exb_numbers.specs.Order.{compared, words_at}
 use Rattle.exb_numbers.proofs.Rising.{found}

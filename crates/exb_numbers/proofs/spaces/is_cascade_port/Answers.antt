@@ -1,5 +1,4 @@
-use Rattle.std.proofs.Common.{◌≡◌, ◌∙◌, ap, sym}
-use Rattle.exb_model.specs.Tree.{is_cascade}
+use Rattle.std.proofs.Common.{sym}
 use Rattle.exb_numbers.proofs.Built.{hung, not_hung}
 use Rattle.exb_numbers.proofs.spaces.is_cascade_port.Goals as goal
 

@@ -1,6 +1,6 @@
-use Rattle.std.proofs.Common.{◌≡◌, ◌∙◌, ℕ, List, ap, sym, subst, arith}
-use Rattle.std.specs.Prelude.{Option, Some, None}
-use Rattle.exb_numbers.specs.Channels.{lowest_channel, channel_of}
+use Rattle.std.proofs.Common.{◌∙◌, ℕ, List, ap, subst, arith}
+use Rattle.std.specs.Prelude.{Option}
+use Rattle.exb_numbers.specs.Channels.{channel_of}
 use Rattle.exb_numbers.proofs.Kept.{own_is, lowest_at, lowest_full, claimed, IsNext}
 use Rattle.exb_numbers.proofs.channels.Channels.claim.Goals as goal
 

@@ -1,6 +1,3 @@
-use Rattle.std.proofs.Common.{◌≡◌, ◌∙◌, ℕ, List, ap, sym, subst, replicate, ◌+◌}
-use Rattle.std.specs.Prelude.{Option, None}
-use Rattle.exb_numbers.specs.Channels.{AreKept}
 use Rattle.exb_numbers.proofs.Kept.{first_kept}
 use Rattle.exb_numbers.proofs.channels.Channels.new.Goals as goal
 

@@ -1,4 +1,4 @@
-use Rattle.std.proofs.Common.{◌≡◌, ◌∙◌, ℕ, ◌≤◌, List, ap, sym, refl, arith}
+use Rattle.std.proofs.Common.{◌≡◌, ◌∙◌, ℕ, ◌≤◌, List, ap, sym, arith}
 use Rattle.std.specs.Prelude.{Option, Some, None, IfSome}
 use Rattle.exb_numbers.specs.Channels.{channel_of}
 use Rattle.exb_numbers.proofs.Kept.{own, own_is, own_range, read_is}

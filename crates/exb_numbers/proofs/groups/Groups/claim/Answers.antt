@@ -1,8 +1,7 @@
-use Rattle.std.proofs.Common.{◌≡◌, ◌∙◌, sym, ap, subst, ℕ, ◌+◌, List, arith}
-use Rattle.std.specs.Prelude.{Some, Option, None}
+use Rattle.std.proofs.Common.{◌∙◌, sym, ap, subst, List, arith}
 use Rattle.exb_model.specs.declared.port_set.PortSet.{PortSet}
 use Rattle.exb_model.specs.Ports.{ports_of}
-use Rattle.exb_numbers.specs.Groups.{Groups, sets_of, group_of, set_of}
+use Rattle.exb_numbers.specs.Groups.{Groups, group_of}
 use Rattle.exb_numbers.specs.Order.{words_at, put_at, IsAt, IsEntered}
 use Rattle.exb_numbers.proofs.Kept.{none_some}
 use Rattle.exb_numbers.proofs.Places.{group_at, ports_at, ports_opt, get_put, get_put_other}

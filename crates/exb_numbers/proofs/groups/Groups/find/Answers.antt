@@ -1,8 +1,5 @@
-use Rattle.std.proofs.Common.{◌≡◌, ◌∙◌, sym, ap, ℕ, ◌+◌, get_or, List, arith}
-use Rattle.std.specs.Prelude.{Some, Option, None}
+use Rattle.std.proofs.Common.{◌≡◌, ◌∙◌, sym, get_or}
 use Rattle.std.proofs.lemmas.Grind.{get_or_default_zero}
-use Rattle.exb_model.specs.Ports.{ports_of}
-use Rattle.exb_numbers.specs.Groups.{Groups, group_of}
 use Rattle.exb_numbers.specs.Order.{words_at, IsAt, SplitsAt}
 use Rattle.exb_numbers.proofs.Places.{group_at, group_absent}
 use Rattle.exb_numbers.proofs.groups.Groups.find.Goals as goal

@@ -1,8 +1,8 @@
-use Rattle.std.proofs.Common.{◌≡◌, ◌∙◌, sym, ap, subst, ℕ, ◌+◌, ◌-◌, ◌≤◌, List, [], set, inl, inr, true, arith, refl, cond, ◌==◌}
-use Rattle.std.specs.Prelude.{Some, Option, None, slice_get}
+use Rattle.std.proofs.Common.{◌≡◌, ◌∙◌, ap, ℕ, ◌-◌, ◌≤◌, List, [], set, inl, inr, true, arith, refl, cond, ◌==◌}
+use Rattle.std.specs.Prelude.{Some, slice_get}
 use Rattle.exb_model.specs.declared.port_set.PortSet.{PortSet}
 use Rattle.exb_model.specs.Ports.{ports_of}
-use Rattle.exb_numbers.specs.Groups.{Groups, sets_of, set_of, is_used}
+use Rattle.exb_numbers.specs.Groups.{Groups, sets_of, set_of}
 use Rattle.exb_numbers.specs.Order.{words_at, is_held, StandsAt, IsLeft}
 use Rattle.exb_numbers.proofs.Places.{ports_at, ports_opt, get_set, get_set_other, words_is, place_in, no_ports}
 use Rattle.exb_numbers.proofs.Ordered.{used_means, read_set, released, set_changed}

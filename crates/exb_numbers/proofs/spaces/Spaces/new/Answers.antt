@@ -1,4 +1,4 @@
-use Rattle.std.proofs.Common.{◌≡◌, ◌∙◌, ap, sym, arith}
+use Rattle.std.proofs.Common.{arith}
 use Rattle.exb_numbers.proofs.Built.{built_none, built_more, all_spaces, spaced}
 use Rattle.exb_numbers.proofs.spaces.Spaces.new.Goals as goal
 
