@@ -137,3 +137,22 @@ module _ (t : Shape) (l : Limits) (b b' : Bridge) where
   unfolding groups_short_at below
   short-nowhere fine =
       ap (groups_cause t l b b') (find_range-none (λ j. nat_lt l.groups (groups_needed t j b b')) 0 64 (λ j before. le-ltb l.groups (groups_needed t j b b') (fine j (omega arith))))
+
+-- ---- where no port is present there is no set
+none-vlans : (b : Bridge) (sets : List (List ℕ)) (vs : List ℕ) → fold with_set sets (flat_map (λ v. four_sets b [] v (λ q. true)) vs) ≡ sets
+none-vlans b sets [] = refl
+none-vlans b sets (v ∷ vs) = none-vlans b sets vs
+
+none-entries : (b : Bridge) (sets : List (List ℕ)) (es : List StaticAt) → fold with_set sets (entry_sets b [] es) ≡ sets
+none-entries b sets [] = refl
+none-entries b sets (e ∷ es) = none-entries b sets es
+
+pub no-sets : (t : Shape) (k : ℕ) (b : Bridge) (members : List ℕ) (start : List (List ℕ)) → start ≡ [] → members ≡ present_in t k b → members ≡ [] → start ≡ sets_at t k b
+unfolding vlan_sets
+no-sets t k b members start none is empty =
+    sym (ap (λ sets. fold with_set sets (entry_sets b [] b.statics)) (none-vlans b start all_vids) ∙ none-entries b start b.statics)
+    ∙ sets-are t k b start [] [] b.statics none (sym empty ∙ is) (sym empty ∙ is) refl
+
+pub length_none : (xs : List ℕ) → length xs ≡ 0 → xs ≡ []
+length_none [] e = refl
+length_none (x ∷ xs) e = absurd (omega (arith, e))

@@ -230,6 +230,9 @@ pub fn sets_at(
 {
     let members = present_under(alloc, layout, trunk, config)?;
     let mut sets = Vec::new(alloc);
+    if members.is_empty() {
+        return Ok(sets);
+    }
     put_vlans(alloc, &mut sets, config, members.as_slice())?;
     put_statics(
         alloc,
