@@ -1,13 +1,1 @@
-pub mod Texts
-pub mod Counting
-pub mod Segmenting
-pub mod Tallying
-pub mod Turning
-pub mod Turned
-pub mod Opened
-pub mod Reaching
-pub mod Coming
-pub mod Filling
-pub mod OutputLemmas
-pub mod FlawLemmas
-pub mod RunLemmas
+

@@ -1,0 +1,116 @@
+//! What a run writes: the captures of the ports of one extender, and the journal, under a prefix.
+ghost use Rattle.std.specs.Prelude.{◌≡◌, ◌<◌, ◌≤◌, ◌+◌, ◌*◌, ◌↔◌, ℕ, IsTrue, IfOk};
+ghost use Rattle.exb_model.specs.Ports.{port_in};
+ghost use Rattle.exb_model.specs.Setup.{IsValid};
+ghost use Rattle.exb_world.specs.Setups.{IsFirst, is_port_of};
+ghost use Rattle.exb_world.specs.Worlds.{first_number, first_ports};
+ghost use Rattle.exb_run.specs.Inputs.{IsBuilt};
+ghost use Rattle.exb_run.specs.Plans.{IsInRange, IsOf};
+
+use exb_model::command::Command;
+use exb_model::memory::NoMemory;
+use exb_model::port::PortId;
+use exb_model::port_set::PortSet;
+use exb_model::setup::{ExtenderSetup, Place, Setup};
+use exb_model::text::Text;
+use exb_model::vlan::Vid;
+use exb_topology::Topology;
+use std::alloc::Global;
+
+/// What a run writes: the extender whose ports have captures, and the prefix of the names of its files.
+#[derive(Debug, Drop)]
+pub(crate) struct Plan {
+    /// The number of the extender, 1 to 64.
+    pub(crate) number: u8,
+    /// How many ports it has, 1 to 64.
+    pub(crate) ports: u8,
+    /// What each name of a file begins with.
+    pub(crate) prefix: Text,
+}
+
+/// Port `at` of an extender, counted from 0.
+pub(crate) fn port_at(number: u8, at: u8) -> PortId
+    requires number { number ≤ 64 }
+    requires port { at < 64 }
+    ensures { result ≡ 64 * number + at }
+{
+    PortId::new(64 * number as u16 + at as u16).unwrap()
+}
+
+/// The first ports of an extender.
+fn first_ports(number: u8, ports: u8) -> PortSet
+    requires number { number ≤ 64 }
+    requires few { ports ≤ 64 }
+    ensures { (q : ℕ) → port_in result q ≡ is_port_of number ports q }
+{
+    let mut set = PortSet::empty();
+    for at in 0..ports {
+        set.insert(port_at(number, at));
+    }
+    set
+}
+
+/// Whether the commands do nothing but put all ports of the extender into VLAN 1, untagged.
+fn puts_all_in_one_vlan(start: &[Command], extender: &ExtenderSetup) -> bool
+    requires number { extender.now.number ≤ 64 }
+    requires few { extender.now.ports ≤ 64 }
+{
+    match start {
+        [
+            Command::Vlan {
+                vid,
+                tagged,
+                untagged,
+            },
+        ] => {
+            let all = first_ports(extender.number, extender.ports);
+            vid.number() == Vid::default().number()
+                && tagged.is_same(&PortSet::empty())
+                && untagged.is_same(&all)
+        }
+        _ => false,
+    }
+}
+
+/// Whether a world can be made of a setup today.
+fn is_first(setup: &Setup) -> bool
+    requires { IsValid setup.now }
+    ensures { IsTrue result ↔ IsFirst setup.now }
+{
+    match setup.extenders.as_slice() {
+        [extender] => {
+            setup.ports == 1
+                && setup.channels == 4094
+                && setup.groups == 12288
+                && setup.ageing == 0
+                && extender.on == Place::Bridge { port: 1 }
+                && puts_all_in_one_vlan(setup.start.as_slice(), extender)
+        }
+        _ => false,
+    }
+}
+
+/// Whether a topology can be played today.
+pub(crate) fn is_built(topology: &Topology) -> bool
+    requires { IsValid topology.now.setup }
+    ensures { IsTrue result ↔ IsBuilt topology.now }
+{
+    is_first(&topology.setup)
+        && topology.commands.as_slice().is_empty()
+        && topology.fate.as_slice().is_empty()
+}
+
+/// What a run of a topology that can be played writes.
+pub(crate) fn plan_of(alloc: Global, topology: &Topology) -> Result<Plan, NoMemory>
+    requires { IsFirst topology.now.setup }
+    ensures of { IfOk result (λ plan. IsOf plan topology.now.setup) }
+    ensures prefix { IfOk result (λ plan. plan.prefix ≡ topology.now.prefix) }
+    ensures range { IfOk result (λ plan. IsInRange plan) }
+{
+    let extender = topology.setup.extenders.as_slice()[0];
+    Ok(Plan {
+        number: extender.number,
+        ports: extender.ports,
+        prefix: Text::from_str(alloc, topology.prefix.as_str())?,
+    })
+}

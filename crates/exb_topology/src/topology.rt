@@ -1,0 +1,22 @@
+//! What a topology file says.
+use exb_model::list::List;
+use exb_model::port::PortId;
+use exb_model::setup::{Setup, Timed, Verdict};
+use exb_model::text::Text;
+
+/// The file with the capture of a port.
+#[derive(Debug, Drop)]
+pub struct Named {
+    pub port: PortId,
+    pub name: Text,
+}
+
+/// What a topology file says.
+#[derive(Debug, Drop)]
+pub struct Topology {
+    pub setup: Setup,
+    pub commands: List<Timed>,
+    pub fate: List<Verdict>,
+    pub captures: List<Named>,
+    pub prefix: Text,
+}
