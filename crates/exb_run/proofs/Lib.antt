@@ -1,1 +1,12 @@
-
+pub mod Texts
+pub mod Counting
+pub mod Segmenting
+pub mod Tallying
+pub mod Turning
+pub mod Turned
+pub mod Opened
+pub mod Reaching
+pub mod Coming
+pub mod Taking
+pub mod Filling
+pub mod OutputLemmas

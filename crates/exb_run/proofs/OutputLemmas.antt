@@ -1,0 +1,327 @@
+-- The outputs as they fill: their names differ, and each file followed by its piece is its text.
+use Rattle.std.proofs.Common.{◌≡◌, ◌≢◌, ◌<◌, ◌≤◌, ◌+◌, ◌-◌, ◌*◌, ◌++◌, ◌⊎◌, inl, inr, ℕ, List, [], ◌∷◌, true, length, take, get_or, set, map, ap, sym, ◌∙◌, refl, arith, subst, append_assoc, eq-eqb, get_or-set_same, get_or-set_other, flat_map}
+use Rattle.std.proofs.lemmas.Bool.{cases_lt, cases_eq, lt-ltb, le-ltb, ne_eqb, leb-true, ltb-true, and_parts}
+use Rattle.std.proofs.lemmas.List.{append-nil, map-set, get_or-map, get_or_read_under, get_or_append_left, length-map, take_more}
+use Rattle.std.proofs.lemmas.Grind.{flat_map-append}
+use Rattle.std.proofs.Math.Seq.{get_or-append_seam}
+use Rattle.exb_model.specs.declared.event.Event.{Event}
+use Rattle.exb_model.specs.FlatBridge.{Sent}
+use Rattle.exb_model.specs.Texts.{line_of, record_text}
+use Rattle.exb_shelf.specs.Files.{Files, SameFiles, Adds, Filled}
+use Rattle.exb_shelf.specs.Shelf.{Id, writing}
+use Rattle.exb_shelf.proofs.FileLemmas.{Apart}
+use Rattle.exb_text.specs.Names.{capture_name, journal_name}
+use Rattle.exb_world.specs.declared.world.Left.{Left}
+use Rattle.exb_world.specs.Worlds.{left_at}
+use Rattle.exb_world.proofs.Leaving.{left_at-append, left_at-nil}
+use Rattle.exb_run.specs.declared.plan.Plan.{Plan}
+use Rattle.exb_run.specs.Plans.{IsInRange}
+use Rattle.exb_run.specs.Outputs.{output_name}
+use Rattle.exb_run.specs.Writing.{Holds, HasTexts, with_more, lines_of, with_left_frames, CanBeWritten}
+use Rattle.exb_run.proofs.Filling.{weaker, still_filled, one_more}
+
+-- the names of the outputs
+name_of_capture : (plan : Plan) (j : ℕ) → j < plan.ports → output_name plan j ≡ capture_name plan.prefix (64 * plan.number + j)
+name_of_capture plan j h = rw (lt-ltb j plan.ports h) refl
+
+name_of_journal : (plan : Plan) (j : ℕ) → plan.ports ≤ j → output_name plan j ≡ journal_name plan.prefix
+name_of_journal plan j h = rw (le-ltb j plan.ports h) refl
+
+-- they differ, as those of a run do
+pub names_apart : ((prefix : List ℕ) (p q : ℕ) → p < 4160 → q < 4160 → capture_name prefix p ≡ capture_name prefix q → p ≡ q)
+    → ((prefix : List ℕ) (p : ℕ) → capture_name prefix p ≢ journal_name prefix)
+    → (plan : Plan) → IsInRange plan → Apart (plan.ports + 1) (output_name plan)
+names_apart captures journal plan range i j li lj differ e = elim (cases_lt i plan.ports) [
+  | inl hi ↦ elim (cases_lt j plan.ports) [
+    | inl hj ↦
+        let same : 64 * plan.number + i ≡ 64 * plan.number + j =
+        captures plan.prefix (64 * plan.number + i) (64 * plan.number + j) (let n = range.number in let m = range.ports in omega arith) (let n = range.number in let m = range.ports in omega arith)
+        (sym (name_of_capture plan i hi) ∙ e ∙ name_of_capture plan j hj)
+        in
+        differ (omega arith)
+    | inr hj ↦ journal plan.prefix (64 * plan.number + i) (sym (name_of_capture plan i hi) ∙ e ∙ name_of_journal plan j hj)
+  ]
+  | inr hi ↦ elim (cases_lt j plan.ports) [
+    | inl hj ↦ journal plan.prefix (64 * plan.number + j) (sym (name_of_capture plan j hj) ∙ sym e ∙ name_of_journal plan i hi)
+    | inr hj ↦ differ (omega arith)
+  ]
+]
+
+-- the text of one output and of the others, where that of one has more
+with_more_here : (text : ℕ → List ℕ) (j : ℕ) (more : List ℕ) → with_more text j more j ≡ text j ++ more
+with_more_here text j more = rw (eq-eqb j j refl) refl
+
+with_more_other : (text : ℕ → List ℕ) (j : ℕ) (more : List ℕ) (k : ℕ) → k ≢ j → with_more text j more k ≡ text k
+with_more_other text j more k ne = rw (ne_eqb k j ne) refl
+
+-- another output has its text yet
+holds_other : (pieces : List (List ℕ)) (text : ℕ → List ℕ) (j : ℕ) (piece more : List ℕ) (k : ℕ) (bytes : List ℕ)
+    → k ≢ j → Holds pieces text k bytes → Holds (set pieces j piece) (with_more text j more) k bytes
+holds_other pieces text j piece more k bytes ne h =
+    ap (λ (xs : List ℕ). bytes ++ xs) (get_or-set_other pieces j k piece [] ne) ∙ h ∙ sym (with_more_other text j more k ne)
+
+-- an output has more in its piece, or in its file
+pub has_more : (plan : Plan) (f g h : Files) (pieces : List (List ℕ)) (text : ℕ → List ℕ) (j : ℕ) (piece more : List ℕ)
+    → Apart (plan.ports + 1) (output_name plan) → j < plan.ports + 1 → j < length pieces → HasTexts plan pieces f g text
+    → (SameFiles g h × (piece ≡ get_or pieces j [] ++ more)) ⊎ (Adds g h (output_name plan j) (get_or pieces j [] ++ more) × (piece ≡ []))
+    → HasTexts plan (set pieces j piece) f h (with_more text j more)
+has_more plan f g h pieces text j piece more apart lt in_pieces p (inl kept) =
+    still_filled f g h (plan.ports + 1) (output_name plan) (Holds (set pieces j piece) (with_more text j more))
+    (weaker f g (plan.ports + 1) (output_name plan) (Holds pieces text) (Holds (set pieces j piece) (with_more text j more)) p
+    (λ k bytes _ held. elim (cases_eq k j) [
+      | inl same ↦ subst (λ (i : ℕ). Holds (set pieces j piece) (with_more text j more) i bytes) (sym same)
+          (ap (λ (xs : List ℕ). bytes ++ xs) (get_or-set_same pieces j piece [] in_pieces ∙ kept.1)
+          ∙ sym (append_assoc bytes (get_or pieces j []) more)
+          ∙ ap (λ (xs : List ℕ). xs ++ more) (subst (λ (i : ℕ). Holds pieces text i bytes) same held)
+          ∙ sym (with_more_here text j more))
+      | inr other ↦ holds_other pieces text j piece more k bytes other held
+    ]))
+    kept.0
+has_more plan f g h pieces text j piece more apart lt in_pieces p (inr written) =
+    one_more f g h (plan.ports + 1) j (output_name plan) (Holds pieces text) (Holds (set pieces j piece) (with_more text j more))
+    (get_or pieces j [] ++ more) apart lt p written.0
+    (λ k bytes other held. holds_other pieces text j piece more k bytes other held)
+    (λ bytes held.
+    ap (λ (xs : List ℕ). (bytes ++ (get_or pieces j [] ++ more)) ++ xs) (get_or-set_same pieces j piece [] in_pieces ∙ written.1)
+    ∙ append-nil (bytes ++ (get_or pieces j [] ++ more))
+    ∙ sym (append_assoc bytes (get_or pieces j []) more)
+    ∙ ap (λ (xs : List ℕ). xs ++ more) held
+    ∙ sym (with_more_here text j more))
+
+-- the name of an id that was read from the ids
+pub name_of_id : (given : ℕ → Id) (ids : List ℕ) (at id : ℕ) (name : List ℕ)
+    → id ≡ get_or ids at id → at < length ids → given (get_or ids at 0) ≡ writing name → (given id).name ≡ name
+name_of_id given ids at id name read inside is =
+    ap (λ (i : ℕ). (given i).name) (get_or_read_under ids at (length ids) id 0 read inside refl) ∙ ap (λ (i : Id). i.name) is
+
+-- the same of the pieces of values, where one is read and written
+pub has_more_at : {X : Type 0} (of : X → List ℕ) (plan : Plan) (f g h : Files) (all : List X) (text : ℕ → List ℕ) (j : ℕ) (was now : X) (name more : List ℕ)
+    → Apart (plan.ports + 1) (output_name plan) → j < plan.ports + 1 → length all ≡ plan.ports + 1 → was ≡ get_or all j was → name ≡ output_name plan j
+    → HasTexts plan (map of all) f g text
+    → (SameFiles g h × (of now ≡ of was ++ more)) ⊎ (Adds g h name (of was ++ more) × (of now ≡ []))
+    → HasTexts plan (map of (set all j now)) f h (with_more text j more)
+has_more_at of plan f g h all text j was now name more apart lt long read named p change =
+    let inside : j < length all = omega arith in
+    let in_map : j < length (map of all) = omega (arith, length-map all of) in
+    let piece : get_or (map of all) j [] ≡ of was = get_or-map of all j was [] inside ∙ ap of (sym read) in
+    subst (λ (ps : List (List ℕ)). HasTexts plan ps f h (with_more text j more)) (sym (map-set of all j now))
+    (has_more plan f g h (map of all) text j (of now) more apart lt in_map p
+    (elim change [
+      | inl kept ↦ inl (kept.0, kept.1 ∙ ap (λ (xs : List ℕ). xs ++ more) (sym piece))
+      | inr written ↦ inr (
+        subst (λ (n : List ℕ). Adds g h n (get_or (map of all) j [] ++ more)) named
+            (subst (λ (xs : List ℕ). Adds g h name (xs ++ more)) (sym piece) written.0),
+        written.1,
+      )
+    ]))
+
+-- nothing more
+with_more_nothing : (text : ℕ → List ℕ) (j k : ℕ) → with_more text j [] k ≡ text k
+with_more_nothing text j k = elim (cases_eq k j) [
+  | inl same ↦
+      subst (λ (i : ℕ). with_more text j [] i ≡ text i) (sym same) (with_more_here text j [] ∙ append-nil (text j))
+  | inr other ↦ with_more_other text j [] k other
+]
+
+-- a piece is written
+pub is_flushed : {X : Type 0} (of : X → List ℕ) (plan : Plan) (f g h : Files) (all : List X) (text : ℕ → List ℕ) (j : ℕ) (was now : X) (name : List ℕ)
+    → Apart (plan.ports + 1) (output_name plan) → j < plan.ports + 1 → length all ≡ plan.ports + 1 → was ≡ get_or all j was → name ≡ output_name plan j
+    → HasTexts plan (map of all) f g text → Adds g h name (of was) → of now ≡ []
+    → HasTexts plan (map of (set all j now)) f h text
+is_flushed of plan f g h all text j was now name apart lt long read named p add empty =
+    weaker f h (plan.ports + 1) (output_name plan) (Holds (map of (set all j now)) (with_more text j [])) (Holds (map of (set all j now)) text)
+    (has_more_at of plan f g h all text j was now name [] apart lt long read named p
+    (inr (subst (λ (xs : List ℕ). Adds g h name xs) (sym (append-nil (of was))) add, empty)))
+    (λ k bytes _ held. held ∙ with_more_nothing text j k)
+
+-- one more piece is empty
+pub more_empty : {X : Type 0} (of : X → List ℕ) (all : List X) (i : ℕ) (now : X) → i < length all → of now ≡ []
+    → ((j : ℕ) → j < i → get_or (map of all) j [] ≡ []) → (j : ℕ) → j < i + 1 → get_or (map of (set all i now)) j [] ≡ []
+more_empty of all i now inside empty before j lt =
+    let in_map : i < length (map of all) = omega (arith, length-map all of) in
+    ap (λ (ps : List (List ℕ)). get_or ps j []) (map-set of all i now)
+    ∙ elim (cases_eq j i) [
+      | inl same ↦
+          ap (λ (k : ℕ). get_or (set (map of all) i (of now)) k []) same ∙ get_or-set_same (map of all) i (of now) [] in_map ∙ empty
+      | inr other ↦ get_or-set_other (map of all) i j (of now) [] other ∙ before j (omega arith)
+    ]
+
+-- with nothing left in the pieces, each file is its text
+pub all_written : (plan : Plan) (f g : Files) (pieces : List (List ℕ)) (text : ℕ → List ℕ)
+    → ((j : ℕ) → j < plan.ports + 1 → get_or pieces j [] ≡ []) → HasTexts plan pieces f g text
+    → Filled f g (plan.ports + 1) (output_name plan) (λ j bytes. bytes ≡ text j)
+all_written plan f g pieces text empty p =
+    weaker f g (plan.ports + 1) (output_name plan) (Holds pieces text) (λ j bytes. bytes ≡ text j) p
+    (λ j bytes l held. sym (append-nil bytes) ∙ ap (λ (xs : List ℕ). bytes ++ xs) (sym (empty j l)) ∙ held)
+
+-- empty files have the texts that their pieces are
+pub none_written : (plan : Plan) (f g : Files) (pieces : List (List ℕ)) (text : ℕ → List ℕ)
+    → ((j : ℕ) → j < plan.ports + 1 → get_or pieces j [] ≡ text j)
+    → Filled f g (plan.ports + 1) (output_name plan) (λ j bytes. bytes ≡ []) → HasTexts plan pieces f g text
+none_written plan f g pieces text is p =
+    weaker f g (plan.ports + 1) (output_name plan) (λ j bytes. bytes ≡ []) (Holds pieces text) p
+    (λ j bytes l empty. ap (λ (xs : List ℕ). xs ++ get_or pieces j []) empty ∙ is j l)
+
+-- one more id has its name, and one more piece its text
+pub more_named : (old new : ℕ → Id) (ids : List ℕ) (id at : ℕ) (name : ℕ → List ℕ)
+    → length ids ≡ at → ((j : ℕ) → j < at → old (get_or ids j 0) ≡ writing (name j))
+    → ((i : ℕ) → (old i).given ≡ true → new i ≡ old i) → new id ≡ writing (name at)
+    → (j : ℕ) → j < at + 1 → new (get_or (ids ++ id ∷ []) j 0) ≡ writing (name j)
+more_named old new ids id at name long before kept here j lt = elim (cases_lt j at) [
+  | inl below ↦
+      let inside : j < length ids = omega arith in
+      let was = before j below in
+      ap new (get_or_append_left ids (id ∷ []) 0 j inside) ∙ kept (get_or ids j 0) (ap (λ (i : Id). i.given) was) ∙ was
+  | inr above ↦
+      let last : j ≡ length ids = omega arith in
+      let same : j ≡ at = omega arith in
+      ap (λ (k : ℕ). new (get_or (ids ++ id ∷ []) k 0)) last ∙ ap new (get_or-append_seam ids id [] 0) ∙ here ∙ ap (λ (k : ℕ). writing (name k)) (sym same)
+]
+
+pub more_texts : (pieces : List (List ℕ)) (piece : List ℕ) (at : ℕ) (text : ℕ → List ℕ)
+    → length pieces ≡ at → ((j : ℕ) → j < at → get_or pieces j [] ≡ text j) → piece ≡ text at
+    → (j : ℕ) → j < at + 1 → get_or (pieces ++ piece ∷ []) j [] ≡ text j
+more_texts pieces piece at text long before here j lt = elim (cases_lt j at) [
+  | inl below ↦
+      let inside : j < length pieces = omega arith in
+      get_or_append_left pieces (piece ∷ []) [] j inside ∙ before j below
+  | inr above ↦
+      let last : j ≡ length pieces = omega arith in
+      let same : j ≡ at = omega arith in
+      ap (λ (k : ℕ). get_or (pieces ++ piece ∷ []) k []) last ∙ get_or-append_seam pieces piece [] [] ∙ here ∙ ap text (sym same)
+]
+
+-- more of the same output, and more spelled in another way
+with_more_twice : (text : ℕ → List ℕ) (j : ℕ) (xs ys : List ℕ) (k : ℕ) → with_more (with_more text j xs) j ys k ≡ with_more text j (xs ++ ys) k
+with_more_twice text j xs ys k = elim (cases_eq k j) [
+  | inl same ↦
+      subst (λ (i : ℕ). with_more (with_more text j xs) j ys i ≡ with_more text j (xs ++ ys) i) (sym same)
+      (with_more_here (with_more text j xs) j ys
+      ∙ ap (λ (zs : List ℕ). zs ++ ys) (with_more_here text j xs)
+      ∙ append_assoc (text j) xs ys
+      ∙ sym (with_more_here text j (xs ++ ys)))
+  | inr other ↦
+      with_more_other (with_more text j xs) j ys k other ∙ with_more_other text j xs k other ∙ sym (with_more_other text j (xs ++ ys) k other)
+]
+
+pub more_spelled : (plan : Plan) (f g : Files) (pieces : List (List ℕ)) (text : ℕ → List ℕ) (i j : ℕ) (xs ys : List ℕ)
+    → i ≡ j → xs ≡ ys → HasTexts plan pieces f g (with_more text i xs) → HasTexts plan pieces f g (with_more text j ys)
+more_spelled plan f g pieces text i j xs ys ei ex p =
+    subst (λ (k : ℕ). HasTexts plan pieces f g (with_more text k ys)) ei
+    (subst (λ (zs : List ℕ). HasTexts plan pieces f g (with_more text i zs)) ex p)
+
+-- no events
+pub no_lines : (plan : Plan) (f g : Files) (pieces : List (List ℕ)) (text : ℕ → List ℕ)
+    → HasTexts plan pieces f g text → HasTexts plan pieces f g (with_more text plan.ports [])
+no_lines plan f g pieces text p =
+    weaker f g (plan.ports + 1) (output_name plan) (Holds pieces text) (Holds pieces (with_more text plan.ports [])) p
+    (λ k bytes _ held. held ∙ sym (with_more_nothing text plan.ports k))
+
+-- the lines of one event more
+lines_more : (events : List Event) (i : ℕ) (e : Event) → i < length events → e ≡ get_or events i e
+    → lines_of (take i events) ++ (line_of e ++ 10 ∷ []) ≡ lines_of (take (i + 1) events)
+lines_more events i e inside is =
+    ap (λ (xs : List ℕ). lines_of (take i events) ++ xs) (sym (append-nil (line_of e ++ 10 ∷ [])))
+    ∙ sym (flat_map-append (λ (x : Event). line_of x ++ 10 ∷ []) (take i events) (e ∷ []))
+    ∙ ap (λ (x : Event). lines_of (take i events ++ x ∷ [])) is
+    ∙ ap lines_of (sym (take_more events i e inside))
+
+pub more_lines : (plan : Plan) (f g : Files) (pieces : List (List ℕ)) (text : ℕ → List ℕ) (events : List Event) (i : ℕ) (e : Event)
+    → i < length events → e ≡ get_or events i e
+    → HasTexts plan pieces f g (with_more (with_more text plan.ports (lines_of (take i events))) plan.ports (line_of e ++ 10 ∷ []))
+    → HasTexts plan pieces f g (with_more text plan.ports (lines_of (take (i + 1) events)))
+more_lines plan f g pieces text events i e inside is p =
+    let new = with_more text plan.ports (lines_of (take (i + 1) events)) in
+    weaker f g (plan.ports + 1) (output_name plan) (Holds pieces (with_more (with_more text plan.ports (lines_of (take i events))) plan.ports (line_of e ++ 10 ∷ []))) (Holds pieces new) p
+    (λ k bytes _ held.
+    held
+    ∙ with_more_twice text plan.ports (lines_of (take i events)) (line_of e ++ 10 ∷ []) k
+    ∙ ap (λ (xs : List ℕ). with_more text plan.ports xs k) (lines_more events i e inside is))
+
+-- no frames
+left_nothing : (plan : Plan) (text : ℕ → List ℕ) (k : ℕ) → with_left_frames plan text [] k ≡ text k
+left_nothing plan text k = elim (cases_lt k plan.ports) [
+  | inl below ↦
+      rw (lt-ltb k plan.ports below) (ap (λ (xs : List Sent). text k ++ flat_map record_text xs) (left_at-nil (64 * plan.number + k)) ∙ append-nil (text k))
+  | inr above ↦ rw (le-ltb k plan.ports above) refl
+]
+
+pub no_frames : (plan : Plan) (f g : Files) (pieces : List (List ℕ)) (text : ℕ → List ℕ)
+    → HasTexts plan pieces f g text → HasTexts plan pieces f g (with_left_frames plan text [])
+no_frames plan f g pieces text p =
+    weaker f g (plan.ports + 1) (output_name plan) (Holds pieces text) (Holds pieces (with_left_frames plan text [])) p
+    (λ k bytes _ held. held ∙ sym (left_nothing plan text k))
+
+-- what one frame is at its port and at others
+left_here : (x : Left) (q : ℕ) → x.port ≡ q → left_at (x ∷ []) q ≡ (x.moment, x.bytes) ∷ []
+unfolding left_at
+left_here x q is = rw (eq-eqb x.port q is) refl
+
+left_elsewhere : (x : Left) (q : ℕ) → x.port ≢ q → left_at (x ∷ []) q ≡ []
+unfolding left_at
+left_elsewhere x q not = rw (ne_eqb x.port q not) refl
+
+-- the text of a capture with what left its port
+capture_left : (plan : Plan) (text : ℕ → List ℕ) (left : List Left) (k : ℕ) → k < plan.ports
+    → with_left_frames plan text left k ≡ text k ++ flat_map record_text (left_at left (64 * plan.number + k))
+capture_left plan text left k below = rw (lt-ltb k plan.ports below) refl
+
+journal_left : (plan : Plan) (text : ℕ → List ℕ) (left : List Left) (k : ℕ) → plan.ports ≤ k → with_left_frames plan text left k ≡ text k
+journal_left plan text left k above = rw (le-ltb k plan.ports above) refl
+
+-- frames in two parts
+left_in_parts : (text : List ℕ) (left : List Left) (x : Left) (q : ℕ) (more : List ℕ) → flat_map record_text (left_at (x ∷ []) q) ≡ more
+    → text ++ flat_map record_text (left_at (left ++ x ∷ []) q) ≡ (text ++ flat_map record_text (left_at left q)) ++ more
+left_in_parts text left x q more is =
+    ap (λ (xs : List Sent). text ++ flat_map record_text xs) (left_at-append left (x ∷ []) q)
+    ∙ ap (λ (xs : List ℕ). text ++ xs) (flat_map-append record_text (left_at left q) (left_at (x ∷ []) q))
+    ∙ sym (append_assoc text (flat_map record_text (left_at left q)) (flat_map record_text (left_at (x ∷ []) q)))
+    ∙ ap (λ (xs : List ℕ). (text ++ flat_map record_text (left_at left q)) ++ xs) is
+
+-- a port of the extender is one of its captures
+port_within : (plan : Plan) (x : Left) → CanBeWritten plan x → (64 * plan.number ≤ x.port) × (x.port < 64 * plan.number + plan.ports)
+port_within plan x can =
+    let parts = and_parts _ _ can.port in
+    (leb-true (64 * plan.number) x.port parts.0, ltb-true x.port (64 * plan.number + plan.ports) parts.1)
+
+left_more : (plan : Plan) (text : ℕ → List ℕ) (left : List Left) (x : Left) (k : ℕ) → CanBeWritten plan x
+    → with_more (with_left_frames plan text left) (x.port - 64 * plan.number) (record_text (x.moment, x.bytes)) k ≡ with_left_frames plan text (left ++ x ∷ []) k
+left_more plan text left x k can =
+    let inside = port_within plan x can in
+    elim (cases_eq k (x.port - 64 * plan.number)) [
+      | inl same ↦
+          let below : k < plan.ports = omega arith in
+          let port : x.port ≡ 64 * plan.number + k = omega arith in
+          ap (with_more (with_left_frames plan text left) (x.port - 64 * plan.number) (record_text (x.moment, x.bytes))) same
+          ∙ with_more_here (with_left_frames plan text left) (x.port - 64 * plan.number) (record_text (x.moment, x.bytes))
+          ∙ ap (λ (i : ℕ). with_left_frames plan text left i ++ record_text (x.moment, x.bytes)) (sym same)
+          ∙ ap (λ (xs : List ℕ). xs ++ record_text (x.moment, x.bytes)) (capture_left plan text left k below)
+          ∙ sym (left_in_parts (text k) left x (64 * plan.number + k) (record_text (x.moment, x.bytes)) (ap (flat_map record_text) (left_here x (64 * plan.number + k) port) ∙ append-nil (record_text (x.moment, x.bytes))))
+          ∙ sym (capture_left plan text (left ++ x ∷ []) k below)
+      | inr other ↦
+          with_more_other (with_left_frames plan text left) (x.port - 64 * plan.number) (record_text (x.moment, x.bytes)) k other
+          ∙ elim (cases_lt k plan.ports) [
+            | inl below ↦
+                let port : x.port ≢ 64 * plan.number + k = λ e. other (omega arith) in
+                capture_left plan text left k below
+                ∙ sym (append-nil (text k ++ flat_map record_text (left_at left (64 * plan.number + k))))
+                ∙ sym (left_in_parts (text k) left x (64 * plan.number + k) [] (ap (flat_map record_text) (left_elsewhere x (64 * plan.number + k) port)))
+                ∙ sym (capture_left plan text (left ++ x ∷ []) k below)
+            | inr above ↦ journal_left plan text left k above ∙ sym (journal_left plan text (left ++ x ∷ []) k above)
+          ]
+    ]
+
+-- one frame more
+pub more_frames : (plan : Plan) (f g : Files) (pieces : List (List ℕ)) (text : ℕ → List ℕ) (left : List Left) (i : ℕ) (x : Left)
+    → i < length left → x ≡ get_or left i x → CanBeWritten plan x
+    → HasTexts plan pieces f g (with_more (with_left_frames plan text (take i left)) (x.port - 64 * plan.number) (record_text (x.moment, x.bytes)))
+    → HasTexts plan pieces f g (with_left_frames plan text (take (i + 1) left))
+more_frames plan f g pieces text left i x inside is can p =
+    weaker f g (plan.ports + 1) (output_name plan)
+    (Holds pieces (with_more (with_left_frames plan text (take i left)) (x.port - 64 * plan.number) (record_text (x.moment, x.bytes))))
+    (Holds pieces (with_left_frames plan text (take (i + 1) left))) p
+    (λ k bytes _ held.
+    held
+    ∙ left_more plan text (take i left) x k can
+    ∙ ap (λ (y : Left). with_left_frames plan text (take i left ++ y ∷ []) k) is
+    ∙ ap (λ (ys : List Left). with_left_frames plan text ys k) (sym (take_more left i x inside)))

@@ -1,0 +1,20 @@
+use Rattle.std.proofs.Common.{◌≡◌, ◌-◌, ◌*◌, ◌++◌, ℕ, List, ap, sym, ◌∙◌, length}
+use Rattle.std.proofs.lemmas.Result.{on_ok_weaker}
+use Rattle.exb_model.specs.Texts.{record_text}
+use Rattle.exb_run.specs.Writing.{pieces_of}
+use Rattle.exb_run.proofs.OutputLemmas.{more_spelled}
+use Rattle.exb_run.proofs.outputs.Outputs.add_left.Goals as goal
+
+pub returns-clause-texts : goal.returns-clause-texts
+returns-clause-texts g c = λ t.
+    let S = g.S.Shelf in
+    let left = c.args.left.now in
+    let written : c.record_text-head.result ++ c.as_slice-bytes.result.now ≡ record_text (left.moment, left.bytes) =
+    ap (λ (xs : List ℕ). c.record_text-head.result ++ xs) c.as_slice-bytes.ensures
+    ∙ sym (c.record_text-head.ensures left.bytes (ap length (sym c.as_slice-bytes.ensures)))
+    in
+    on_ok_weaker c.add_to.result
+    (λ added orig text p.
+    more_spelled c.args.plan.now orig (S.file c.add_to.new.shelf) (pieces_of c.add_to.new.self) text (c.number.result - 64 * c.args.plan.now.number) (left.port - 64 * c.args.plan.now.number) _ _
+    (ap (λ (n : ℕ). n - 64 * c.args.plan.now.number) c.number.ensures.value) written (added orig text p))
+    (c.add_to.ensures.texts t)

@@ -1,0 +1,30 @@
+use Rattle.std.proofs.Common.{rules, ◌<◌, ◌∙◌, take, length, refl, arith}
+use Rattle.exb_run.specs.Writing.{pieces_of, with_more, lines_of}
+use Rattle.exb_run.proofs.OutputLemmas.{no_lines, more_lines}
+use Rattle.exb_run.proofs.outputs.Outputs.write_events.Goals as goal
+
+pub loop-event-init : goal.loop-event-init
+loop-event-init g c =
+    let file = g.S.Shelf.file c.args.shelf.now in
+    record {
+      ready = c.requires.ready;
+      texts = λ t orig text p. no_lines c.args.plan.now orig file (pieces_of c.args.self.now) text p;
+      others = λ t m away. refl;
+      faults = search rules;
+    }
+
+pub loop-event-preserved : goal.loop-event-preserved
+loop-event-preserved g c =
+    let before = c.loop-event.invariant in
+    let added = c.in_ok-add_event.ensures in
+    let events = c.args.events.now in
+    let inside : c.loop-event.event-index < length events = omega arith in
+    record {
+      ready = added.ready;
+      texts = λ t orig text p.
+          more_lines c.args.plan.now orig (g.S.Shelf.file c.add_event.new.shelf) (pieces_of c.add_event.new.self) text events c.loop-event.event-index c.event-item.result
+          inside c.event-item.is
+          (added.texts t orig (with_more text c.args.plan.now.ports (lines_of (take c.loop-event.event-index events))) (before.texts t orig text p));
+      others = λ t m away. added.others t m away ∙ before.others t m away;
+      faults = search (arith, added.faults, before.faults);
+    }

@@ -1,0 +1,31 @@
+use Rattle.std.proofs.Common.{rules, ◌<◌, ◌∙◌, take, length, refl, arith}
+use Rattle.exb_run.specs.Writing.{pieces_of, with_left_frames, CanBeWritten}
+use Rattle.exb_run.proofs.OutputLemmas.{no_frames, more_frames}
+use Rattle.exb_run.proofs.outputs.Outputs.write_left.Goals as goal
+
+pub loop-frame-init : goal.loop-frame-init
+loop-frame-init g c =
+    let file = g.S.Shelf.file c.args.shelf.now in
+    record {
+      ready = c.requires.ready;
+      texts = λ t orig text p. no_frames c.args.plan.now orig file (pieces_of c.args.self.now) text p;
+      others = λ t m away. refl;
+      faults = search rules;
+    }
+
+pub loop-frame-preserved : goal.loop-frame-preserved
+loop-frame-preserved g c =
+    let before = c.loop-frame.invariant in
+    let added = c.in_ok-add_left.ensures in
+    let left = c.args.left.now in
+    let inside : c.loop-frame.frame-index < length left = omega arith in
+    let can : CanBeWritten c.args.plan.now c.frame-item.result = search (rules, c.requires.frames) in
+    record {
+      ready = added.ready;
+      texts = λ t orig text p.
+          more_frames c.args.plan.now orig (g.S.Shelf.file c.add_left.new.shelf) (pieces_of c.add_left.new.self) text left c.loop-frame.frame-index c.frame-item.result
+          inside c.frame-item.is can
+          (added.texts t orig (with_left_frames c.args.plan.now text (take c.loop-frame.frame-index left)) (before.texts t orig text p));
+      others = λ t m away. added.others t m away ∙ before.others t m away;
+      faults = search (arith, added.faults, before.faults);
+    }

@@ -1,0 +1,41 @@
+use Rattle.std.proofs.Common.{◌≡◌, ◌≤◌, ◌<◌, ◌+◌, ◌∙◌, ℕ, List, [], ap, refl, get_or, length, arith, subst}
+use Rattle.std.proofs.lemmas.List.{length-map, length_push}
+use Rattle.exb_shelf.specs.Files.{Filled}
+use Rattle.exb_shelf.proofs.FileLemmas.{filled_one}
+use Rattle.exb_run.specs.Outputs.{output_name}
+use Rattle.exb_run.specs.Writing.{pieces_of, first_text}
+use Rattle.exb_run.proofs.OutputLemmas.{more_named, more_texts, none_written}
+use Rattle.exb_run.proofs.outputs.create_all.Goals as goal
+
+pub loop-at-preserved : goal.loop-at-preserved
+loop-at-preserved g c =
+    let S = g.S.Shelf in
+    let before = c.loop-at.invariant in
+    let made = c.in-Ok.ensures in
+    let name = output_name c.args.plan.now in
+    let ids = c.loop-at.outputs.ids.items in
+    let pieces = pieces_of c.loop-at.outputs in
+    let lt : c.loop-at.at < c.args.plan.now.ports + 1 = omega arith in
+    record {
+      ids = ap length made.ids.1 ∙ length_push ids made.ids.0 ∙ ap (λ (n : ℕ). n + 1) before.ids;
+      pieces = made.count;
+      named = λ j l.
+          ap (λ (xs : List ℕ). S.ids c.create_one.new.shelf (get_or xs j 0)) made.ids.1
+          ∙ more_named (S.ids c.loop-at.shelf) (S.ids c.create_one.new.shelf) ids made.ids.0 c.loop-at.at name before.ids before.named made.kept made.ids.2 j l;
+      texts = λ j l.
+          ap (λ (ps : List (List ℕ)). get_or ps j []) made.pieces
+          ∙ more_texts pieces (first_text c.args.plan.now c.loop-at.at) c.loop-at.at (first_text c.args.plan.now) (length-map c.loop-at.outputs.pieces.items (λ v. v.items) ∙ before.pieces)
+          before.texts refl j l;
+      files = λ t.
+          filled_one (S.file c.args.shelf.now) (S.file c.loop-at.shelf) (S.file c.create_one.new.shelf) (c.args.plan.now.ports + 1) c.loop-at.at name (λ j bytes. bytes ≡ [])
+          [] (c.output_names_differ.ensures c.args.plan.now c.requires) lt (before.files t) (made.empty t) refl;
+      faults = search (arith, made.faults, before.faults);
+    }
+
+pub returns-clause-texts : goal.returns-clause-texts
+returns-clause-texts g c = λ t.
+    let S = g.S.Shelf in
+    let all : c.loop-at.at ≡ c.args.plan.now.ports + 1 = omega arith in
+    none_written c.args.plan.now (S.file c.args.shelf.now) (S.file c.loop-at.shelf) (pieces_of c.loop-at.outputs) (first_text c.args.plan.now)
+    (λ j l. c.loop-at.invariant.texts j (omega arith))
+    (subst (λ (n : ℕ). Filled (S.file c.args.shelf.now) (S.file c.loop-at.shelf) n (output_name c.args.plan.now) (λ j bytes. bytes ≡ [])) all (c.loop-at.invariant.files t))
