@@ -2,3 +2,12 @@ pub mod Words
 pub mod Lists
 pub mod PortLemmas
 pub mod ETagLemmas
+pub mod Remembering
+pub mod MaskLemmas
+pub mod TreeWays
+pub mod TreeLoops
+pub mod SharedPorts
+pub mod TreeOrder
+pub mod TreeHung
+pub mod TreeCovered
+pub mod Validity

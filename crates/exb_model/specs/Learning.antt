@@ -74,9 +74,14 @@ abbrev pub takes_down : Basis → ℕ → Event → Bool
 takes_down i p (event.Commit n) = is_down_of p (command_of i n)
 takes_down i p _ = false
 
+-- what is left of a port and a time where these ports are forgotten
+abbrev pub kept_unless : (ℕ → Bool) → Option (ℕ × ℕ) → Option (ℕ × ℕ)
+kept_unless gone None = None
+kept_unless gone (Some (p, at)) = if gone p then None else Some (p, at)
+
 abbrev pub unless_down : Basis → Option Sighting → Option (ℕ × ℕ)
 unless_down i None = None
-unless_down i (Some s) = if list_any (takes_down i s.port) s.since then None else Some (s.port, s.at)
+unless_down i (Some s) = kept_unless (λ p. list_any (takes_down i p) s.since) (Some (s.port, s.at))
 
 -- where and when VLAN v and address m were seen last, if that port wasn't taken down since
 unfoldable pub remembered : Basis → History → ℕ → List ℕ → Option (ℕ × ℕ)

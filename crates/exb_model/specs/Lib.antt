@@ -3,7 +3,10 @@ pub mod PortBits
 pub mod Ports
 pub mod Frames
 pub mod ETags
+pub mod Masks
 pub mod Tree
+pub mod TreeSets
+pub mod TreeTables
 pub mod Configuration
 pub mod Setup
 pub mod History
@@ -16,3 +19,4 @@ pub mod EagerHistory
 pub mod LegalHistory
 pub mod Texts
 pub mod ExtenderForwarding
+pub mod Carriage

@@ -1,5 +1,5 @@
 -- What a setup sets up: its tree, its limits and the configuration to start with.
-use Rattle.std.specs.Prelude.{◌≡◌, ◌≢◌, ◌⊎◌, ℕ, ◌+◌, ◌-◌, ◌*◌, ◌<◌, ◌≤◌, ◌&&◌, nat_lt, true, List, [], ◌∷◌, replicate, set, fold, All, AllPairs}
+use Rattle.std.specs.Prelude.{◌≡◌, ◌≢◌, ◌⊎◌, ℕ, ◌+◌, ◌-◌, ◌*◌, ◌<◌, ◌≤◌, ◌&&◌, nat_lt, true, List, [], ◌∷◌, replicate, set, length, slice_index, fold, All, AllPairs}
 use Rattle.exb_model.specs.declared.port_set.PortSet.{PortSet}
 use Rattle.exb_model.specs.declared.setup.Place.{Place}
 use Rattle.exb_model.specs.declared.setup.Place.TheVariants as place
@@ -28,6 +28,12 @@ shape_of s =
       ports = lay (λ e. e.ports) (set (replicate 65 0) 0 s.ports) s.extenders;
       on = lay (λ e. port_at e.on) (replicate 65 0) s.extenders;
     }
+
+-- tables with a place for each device, and with ports
+pub record AreTables (ports hangs : List ℕ) : Type 0 where
+  pub ports_sized : length ports ≡ 65
+  pub on_sized : length hangs ≡ 65
+  pub fits : (n : ℕ) → slice_index hangs n < 4160
 
 -- how many numbers each space has: E-channels, and groups
 pub record Limits : Type 0 where

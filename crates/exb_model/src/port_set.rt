@@ -1,5 +1,5 @@
 //! Sets of ports.
-ghost use Rattle.std.specs.Prelude.{◌≡◌, ◌==◌, ℕ, ◌<◌, ◌^◌, ◌||◌, ◌&&◌, ◌↔◌, IsTrue, not, false, length, slice_index};
+ghost use Rattle.std.specs.Prelude.{◌≡◌, ◌==◌, ℕ, ◌+◌, ◌*◌, ◌<◌, ◌^◌, ◌||◌, ◌&&◌, ◌↔◌, IsTrue, not, false, length, slice_index};
 
 use crate::port::PortId;
 
@@ -13,6 +13,7 @@ pub struct PortSet {
 }
 
 impl PortSet {
+    ghost use Rattle.exb_model.specs.Masks.{bits_of};
     ghost use Rattle.exb_model.specs.Ports.{port_in};
 
     /// No port.
@@ -51,5 +52,24 @@ impl PortSet {
         ensures { IsTrue result ↔ ((q : ℕ) → port_in self.now q ≡ port_in other.now q) }
     {
         *self == *other
+    }
+
+    /// The ports that are in both sets.
+    pub fn both(&self, other: &PortSet) -> PortSet
+        ensures { (q : ℕ) → port_in result q ≡ (port_in self.now q && port_in other.now q) }
+    {
+        let mut words = self.words;
+        for device in 0..65usize {
+            words[device] &= other.words[device];
+        }
+        PortSet { words }
+    }
+
+    /// The ports of one device that are in the set, 0 for the bridge: bit k - 1 is its port k.
+    pub fn mask(&self, device: u8) -> u64
+        requires { device < 65 }
+        ensures { result ≡ bits_of (λ j. port_in self.now (64 * device + j)) 64 }
+    {
+        self.words[device as usize]
     }
 }

@@ -1,6 +1,17 @@
-//! What a topology sets up.
+//! What a topology sets up, and when that is valid.
+ghost use Rattle.std.specs.Prelude.{◌≡◌, ◌≢◌, ◌↔◌, ℕ, ◌==◌, ◌≤◌, IsTrue, All, AllPairs};
+ghost use Rattle.std.specs.List.{list_any};
+ghost use Rattle.exb_model.specs.Ports.{port_in};
+ghost use Rattle.exb_model.specs.Tree.{Shape, is_external};
+ghost use Rattle.exb_model.specs.Setup.{InRange, IsPlace, IsAgeing, IsStart, IsValid};
+
+#[cfg(test)]
+mod tests;
+
 use crate::command::Command;
+use crate::layout::Layout;
 use crate::list::List;
+use crate::port_set::PortSet;
 
 /// The port on which an extender hangs, numbered from 1.
 #[derive(Clone, Copy, Debug, PartialEq, Eq)]
@@ -11,12 +22,132 @@ pub enum Place {
     Extender { number: u8, port: u8 },
 }
 
+impl Place {
+    /// Whether its numbers are 1 to 64.
+    fn is_in_range(self) -> bool
+        ensures { IsTrue result ↔ IsPlace self }
+    {
+        match self {
+            Place::Bridge { port } => port >= 1 && port <= 64,
+            Place::Extender { number, port } => {
+                number >= 1 && number <= 64 && port >= 1 && port <= 64
+            }
+        }
+    }
+}
+
 /// A port extender (IEEE 802.1BR): its number and how many ports it has, both 1 to 64, and where it hangs.
 #[derive(Clone, Copy, Debug, PartialEq, Eq)]
 pub struct ExtenderSetup {
     pub number: u8,
     pub ports: u8,
     pub on: Place,
+}
+
+impl ExtenderSetup {
+    /// Whether all its numbers are 1 to 64.
+    fn is_in_range(&self) -> bool
+        ensures { IsTrue result ↔ InRange self.now }
+    {
+        self.number >= 1
+            && self.number <= 64
+            && self.ports >= 1
+            && self.ports <= 64
+            && self.on.is_in_range()
+    }
+}
+
+/// Whether all numbers of these extenders are 1 to 64.
+fn are_in_range(extenders: &[ExtenderSetup]) -> bool
+    ensures { IsTrue result ↔ All InRange extenders.now }
+{
+    for extender in extenders {
+        if !extender.is_in_range() {
+            return false;
+        }
+    }
+    true
+}
+
+/// Whether one of these extenders has that number.
+fn has_number(extenders: &[ExtenderSetup], number: u8) -> bool
+    ensures { result ≡ list_any (λ e. e.number == number) extenders.now }
+{
+    for extender in extenders {
+        if extender.number == number {
+            return true;
+        }
+    }
+    false
+}
+
+/// Whether no two of these extenders have one number.
+fn are_distinct(extenders: &[ExtenderSetup]) -> bool
+    ensures { IsTrue result ↔ AllPairs (λ a b. a.number ≢ b.number) extenders.now }
+{
+    for (index, extender) in extenders.iter().enumerate() {
+        if has_number(&extenders[..index], extender.number) {
+            return false;
+        }
+    }
+    true
+}
+
+/// Whether each port of a set is in another one.
+fn is_within(set: &PortSet, wider: &PortSet) -> bool
+    ensures { IsTrue result ↔ ((q : ℕ) → IsTrue (port_in set.now q) → IsTrue (port_in wider.now q)) }
+{
+    for device in 0..65usize {
+        if set.words[device] & wider.words[device] != set.words[device] {
+            return false;
+        }
+    }
+    true
+}
+
+impl Command {
+    /// Whether it may stand at the start: it names ports of this set alone, and makes none present or absent.
+    fn is_start(&self, external: &PortSet) -> bool
+        ensures { (t : Shape) → ((q : ℕ) → port_in external.now q ≡ is_external t q) → (IsTrue result ↔ IsStart t self.now) }
+    {
+        match self {
+            Command::Vlan {
+                vid: _,
+                tagged,
+                untagged,
+            } => is_within(tagged, external) && is_within(untagged, external),
+            Command::Member {
+                vid: _,
+                port,
+                kind: _,
+            } => external.contains(*port),
+            Command::Unmember { vid: _, port } => external.contains(*port),
+            Command::Pvid { port, vid: _ } => external.contains(*port),
+            Command::Accept { port, accept: _ } => external.contains(*port),
+            Command::Filter { port, on: _ } => external.contains(*port),
+            Command::Isolate { port, on: _ } => external.contains(*port),
+            Command::Static {
+                vid: _,
+                address: _,
+                ports,
+            } => is_within(ports, external),
+            Command::Unstatic { vid: _, address: _ } => true,
+            Command::Up { port: _ } => false,
+            Command::Down { port: _ } => false,
+        }
+    }
+}
+
+/// Whether all these commands may stand at the start.
+fn are_start(commands: &[Command], external: &PortSet) -> bool
+    ensures { (t : Shape) → ((q : ℕ) → port_in external.now q ≡ is_external t q) → (IsTrue result ↔ All (IsStart t) commands.now) }
+{
+    for command in commands {
+        if !command.is_start(external) {
+            return false;
+        }
+    }
+    true
 }
 
 /// The bridge, its tree of extenders, and the configuration to start with.
@@ -34,6 +165,38 @@ pub struct Setup {
     pub ageing: u32,
     /// Commands that are applied to an empty configuration before anything happens.
     pub start: List<Command>,
+}
+
+impl Setup {
+    /// Whether the bridge's own numbers are in their ranges.
+    fn has_ranges(&self) -> bool
+        ensures { IsTrue result ↔ ((1 ≤ self.now.ports) × (self.now.ports ≤ 64) × (1 ≤ self.now.channels) × (self.now.channels ≤ 4094) × (1 ≤ self.now.groups) × (self.now.groups ≤ 12288) × IsAgeing self.now.ageing) }
+    {
+        self.ports >= 1
+            && self.ports <= 64
+            && self.channels >= 1
+            && self.channels <= 4094
+            && self.groups >= 1
+            && self.groups <= 12288
+            && (self.ageing == 0 || self.ageing >= 10 && self.ageing <= 1_000_000)
+    }
+
+    /// Whether it can be set up: all numbers are in their ranges; the extenders have distinct numbers, and each hangs
+    /// on a port of its own in a tree below the bridge; no port of the bridge has more cascade ports below it than
+    /// E-channels; and the start names external ports alone and makes none present or absent.
+    pub fn valid(&self) -> bool
+        ensures { IsTrue result ↔ IsValid self.now }
+    {
+        let extenders = self.extenders.as_slice();
+        if !self.has_ranges() || !are_in_range(extenders) || !are_distinct(extenders) {
+            return false;
+        }
+        let layout = Layout::new(self);
+        let cascades = layout.cascades();
+        layout.is_tree()
+            && layout.has_room(&cascades, self.channels)
+            && are_start(self.start.as_slice(), &layout.external(&cascades))
+    }
 }
 
 /// What becomes of a control frame on a link.
