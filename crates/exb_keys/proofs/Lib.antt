@@ -1,0 +1,5 @@
+pub mod Cuts
+pub mod Fates
+pub mod WordLists
+pub mod Each
+pub mod Documents

@@ -1,0 +1,33 @@
+//! The TOML document that a file is.
+ghost use Rattle.toml.specs.View.{table_view};
+ghost use Rattle.exb_keys.specs.Faults.{GivesSeen};
+ghost use Rattle.exb_keys.specs.Documents.{document};
+
+use crate::faults::TopoFault;
+use std::alloc::Global;
+use toml::Table;
+
+/// The document of a file of at most `most` bytes: Large for a longer one, and NotToml where it isn't UTF-8
+/// or the crate `toml` refuses it for another cause than memory.
+#[tactic(auto, unfolding(crate::specs::Documents::document))]
+pub fn document(alloc: Global, file: &[u8], most: usize) -> Result<Table, TopoFault>
+    ensures { GivesSeen table_view result (document most file.now) }
+{
+    if file.len() > most {
+        return Err(TopoFault::Large);
+    }
+    let text = match std::str::from_utf8(file) {
+        Ok(text) => text,
+        Err(_) => return Err(TopoFault::NotToml),
+    };
+    match toml::table_from_str(alloc, text) {
+        Ok(table) => Ok(table),
+        Err(e) => {
+            if e.is_memory() {
+                Err(TopoFault::Memory)
+            } else {
+                Err(TopoFault::NotToml)
+            }
+        }
+    }
+}

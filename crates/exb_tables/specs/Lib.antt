@@ -1,0 +1,4 @@
+pub mod Schemas
+pub mod Rows
+pub mod Commands
+pub mod Tables

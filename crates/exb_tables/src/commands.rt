@@ -1,0 +1,305 @@
+//! Commands of a topology file.
+ghost use Rattle.std.specs.Prelude.{◌≡◌, ◌≤◌, ◌+◌, IfOk, length, codes};
+ghost use Rattle.toml.specs.Data.{get_member};
+ghost use Rattle.toml.specs.View.{view, items_view, table_view};
+ghost use Rattle.exb_keys.specs.Faults.{Gives, in_element, place_text};
+ghost use Rattle.exb_keys.specs.Keys.{each, key_at};
+ghost use Rattle.exb_tables.specs.Schemas.{has_op_key};
+ghost use Rattle.exb_tables.specs.Commands.{op_in, action, command, command_item, after_command, commands};
+
+use crate::schema::{Schema, only};
+use exb_keys::faults::{KeyFault, TopoFault};
+use exb_keys::keys;
+use exb_keys::place::{Place, fault_at};
+use exb_keys::tables::{elements, table_of};
+use exb_keys::words::Word;
+use exb_model::address::Mac;
+use exb_model::list::List;
+use exb_model::port::PortId;
+use exb_model::rules::Accept;
+use exb_model::setup::Verdict;
+use exb_model::vlan::{Kind, Vid};
+use std::alloc::Global;
+use toml::{Table, Value};
+
+/// The operation of a command.
+#[derive(Clone, Copy, Debug, PartialEq, Eq)]
+pub enum Op {
+    Vlan,
+    Member,
+    Unmember,
+    Pvid,
+    Accept,
+    Filter,
+    Isolate,
+    Static,
+    Unstatic,
+    Up,
+    Down,
+}
+
+impl Op {
+    /// Whether it defines that key, beside those that each command has.
+    pub fn has(self, key: &str) -> bool
+        ensures { result ≡ has_op_key self key.now }
+    {
+        match self {
+            Op::Vlan => matches!(key, "vid" | "tagged" | "untagged"),
+            Op::Member => matches!(key, "vid" | "port" | "kind"),
+            Op::Unmember => matches!(key, "vid" | "port"),
+            Op::Pvid => matches!(key, "vid" | "port"),
+            Op::Accept => matches!(key, "port" | "accept"),
+            Op::Filter => matches!(key, "port" | "filter"),
+            Op::Isolate => matches!(key, "port" | "isolated"),
+            Op::Static => matches!(key, "vid" | "mac" | "ports"),
+            Op::Unstatic => matches!(key, "vid" | "mac"),
+            Op::Up => matches!(key, "port"),
+            Op::Down => matches!(key, "port"),
+        }
+    }
+}
+
+/// What a command does, with lists of ports as they were written.
+#[derive(Debug, Drop)]
+pub enum Action {
+    Vlan {
+        vid: Vid,
+        tagged: List<Word>,
+        untagged: List<Word>,
+    },
+    Member {
+        vid: Vid,
+        port: PortId,
+        kind: Kind,
+    },
+    Unmember {
+        vid: Vid,
+        port: PortId,
+    },
+    Pvid {
+        port: PortId,
+        vid: Vid,
+    },
+    Accept {
+        port: PortId,
+        accept: Accept,
+    },
+    Filter {
+        port: PortId,
+        on: bool,
+    },
+    Isolate {
+        port: PortId,
+        on: bool,
+    },
+    Static {
+        vid: Vid,
+        address: Mac,
+        ports: List<Word>,
+    },
+    Unstatic {
+        vid: Vid,
+        address: Mac,
+    },
+    Up {
+        port: PortId,
+    },
+    Down {
+        port: PortId,
+    },
+}
+
+/// An element of the list `command`: `at` in seconds, and what becomes of the control frames that follow.
+#[derive(Debug, Drop)]
+pub struct CommandTable {
+    pub at: u32,
+    pub action: Action,
+    pub fate: List<Verdict>,
+}
+
+/// The operation at the key `op`, which is required.
+fn op_key(alloc: Global, place: Place, table: &Table) -> Result<Op, TopoFault>
+    ensures { Gives result (key_at op_in None (place_text place) (codes "op") (table_view table.now)) }
+{
+    match keys::member(table, "op") {
+        Some(value) => match op_in(value) {
+            Ok(op) => Ok(op),
+            Err(fault) => Err(place.fault(alloc, "op", fault)),
+        },
+        None => Err(place.fault(alloc, "op", KeyFault::Missing)),
+    }
+}
+
+/// The operation of a text.
+#[tactic(auto, unfolding(crate::specs::Commands::op_in))]
+fn op_in(value: &Value) -> Result<Op, KeyFault>
+    ensures { result ≡ op_in (view value.now) }
+{
+    match value {
+        Value::String(s) => match s.as_str() {
+            "vlan" => Ok(Op::Vlan),
+            "member" => Ok(Op::Member),
+            "unmember" => Ok(Op::Unmember),
+            "pvid" => Ok(Op::Pvid),
+            "accept" => Ok(Op::Accept),
+            "filter" => Ok(Op::Filter),
+            "isolate" => Ok(Op::Isolate),
+            "static" => Ok(Op::Static),
+            "unstatic" => Ok(Op::Unstatic),
+            "up" => Ok(Op::Up),
+            "down" => Ok(Op::Down),
+            _ => Err(KeyFault::Name),
+        },
+        _ => Err(KeyFault::Kind),
+    }
+}
+
+#[tactic(auto, unfolding(crate::specs::Commands::action))]
+fn action_of(alloc: Global, op: Op, place: Place, table: &Table) -> Result<Action, TopoFault>
+    ensures { Gives result (action op (place_text place) (table_view table.now)) }
+{
+    match op {
+        Op::Vlan => {
+            let vid = keys::vid_key(alloc, place, table, "vid", None)?;
+            let tagged = keys::words_key(alloc, place, table, "tagged", false)?;
+            let untagged = keys::words_key(alloc, place, table, "untagged", false)?;
+            Ok(Action::Vlan {
+                vid,
+                tagged,
+                untagged,
+            })
+        }
+        Op::Member => {
+            let vid = keys::vid_key(alloc, place, table, "vid", None)?;
+            let port = keys::port_key(alloc, place, table, "port")?;
+            let kind = keys::kind_key(alloc, place, table, "kind")?;
+            Ok(Action::Member { vid, port, kind })
+        }
+        Op::Unmember => {
+            let vid = keys::vid_key(alloc, place, table, "vid", None)?;
+            let port = keys::port_key(alloc, place, table, "port")?;
+            Ok(Action::Unmember { vid, port })
+        }
+        Op::Pvid => {
+            let vid = keys::vid_key(alloc, place, table, "vid", None)?;
+            let port = keys::port_key(alloc, place, table, "port")?;
+            Ok(Action::Pvid { port, vid })
+        }
+        Op::Accept => {
+            let port = keys::port_key(alloc, place, table, "port")?;
+            let accept = keys::accept_key(alloc, place, table, "accept", None)?;
+            Ok(Action::Accept { port, accept })
+        }
+        Op::Filter => {
+            let port = keys::port_key(alloc, place, table, "port")?;
+            let on = keys::flag_key(alloc, place, table, "filter", None)?;
+            Ok(Action::Filter { port, on })
+        }
+        Op::Isolate => {
+            let port = keys::port_key(alloc, place, table, "port")?;
+            let on = keys::flag_key(alloc, place, table, "isolated", None)?;
+            Ok(Action::Isolate { port, on })
+        }
+        Op::Static => {
+            let vid = keys::vid_key(alloc, place, table, "vid", None)?;
+            let address = keys::address_key(alloc, place, table, "mac")?;
+            let ports = keys::words_key(alloc, place, table, "ports", true)?;
+            Ok(Action::Static {
+                vid,
+                address,
+                ports,
+            })
+        }
+        Op::Unstatic => {
+            let vid = keys::vid_key(alloc, place, table, "vid", None)?;
+            let address = keys::address_key(alloc, place, table, "mac")?;
+            Ok(Action::Unstatic { vid, address })
+        }
+        Op::Up => {
+            let port = keys::port_key(alloc, place, table, "port")?;
+            Ok(Action::Up { port })
+        }
+        Op::Down => {
+            let port = keys::port_key(alloc, place, table, "port")?;
+            Ok(Action::Down { port })
+        }
+    }
+}
+
+/// A command after one at that second, with this many letters of fates before it in the file.
+#[tactic(auto, unfolding(crate::specs::Commands::command))]
+fn command(
+    alloc: Global,
+    before: u32,
+    letters: usize,
+    index: usize,
+    table: &Table,
+) -> Result<CommandTable, TopoFault>
+    requires { letters ≤ 60000 }
+    ensures value { Gives result (command (before, letters) index (table_view table.now)) }
+    ensures room { IfOk result (λ c. letters + length c.fate ≤ 60000) }
+{
+    let place = Place::Element {
+        table: "command",
+        index,
+    };
+    let op = op_key(alloc, place, table)?;
+    only(alloc, place, table, Schema::Command { op })?;
+    let at = keys::seconds_key(alloc, place, table, "at", before)?;
+    let action = action_of(alloc, op, place, table)?;
+    let fate = keys::fate_key(alloc, place, table, "fate", letters)?;
+    Ok(CommandTable { at, action, fate })
+}
+
+fn command_item(
+    alloc: Global,
+    before: u32,
+    letters: usize,
+    index: usize,
+    item: &Value,
+) -> Result<CommandTable, TopoFault>
+    requires { letters ≤ 60000 }
+    ensures value { Gives result (command_item (before, letters) index (view item.now)) }
+    ensures room { IfOk result (λ c. letters + length c.fate ≤ 60000) }
+{
+    let table = table_of(alloc, "command", item)?;
+    command(alloc, before, letters, index, table)
+}
+
+/// The commands of these elements, with this many letters of fates before them in the file.
+fn command_rows(
+    alloc: Global,
+    items: &[Value],
+    before_all: usize,
+) -> Result<List<CommandTable>, TopoFault>
+    requires { before_all ≤ 60000 }
+    ensures { Gives result (each command_item after_command (0, before_all) 0 (items_view items.now)) }
+{
+    let mut rows = List::new(alloc);
+    let mut before: u32 = 0;
+    let mut letters = before_all;
+    for (index, item) in items.iter().enumerate() {
+        let row = command_item(alloc, before, letters, index, item)?;
+        before = row.at;
+        letters += row.fate.as_slice().len();
+        rows.push(row)?;
+    }
+    Ok(rows)
+}
+
+/// The commands of a file whose links' fate has this many letters: at most 65,536.
+#[tactic(auto, unfolding(crate::specs::Commands::commands), using(crate::proofs::Items::count_items))]
+pub(crate) fn commands(
+    alloc: Global,
+    root: &Table,
+    letters: usize,
+) -> Result<List<CommandTable>, TopoFault>
+    requires { letters ≤ 60000 }
+    ensures { Gives result (commands letters (table_view root.now)) }
+{
+    let items = elements(alloc, "command", root)?;
+    if items.len() > 65_536 {
+        return Err(fault_at(alloc, "command", KeyFault::Range));
+    }
+    command_rows(alloc, items, letters)
+}
