@@ -10,3 +10,4 @@ pub mod Coming
 pub mod Taking
 pub mod Filling
 pub mod OutputLemmas
+pub mod FlawLemmas

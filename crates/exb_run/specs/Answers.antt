@@ -16,7 +16,7 @@ use Rattle.exb_shelf.specs.declared.shelf.ShelfFault.{ShelfFault}
 use Rattle.exb_shelf.specs.declared.shelf.ShelfFault.TheVariants as shelf
 use Rattle.exb_shelf.specs.Files.{Files}
 use Rattle.exb_topology.specs.declared.topology.Topology.{Topology}
-use Rattle.exb_topology.specs.Topologies.{topology_of}
+use Rattle.exb_topology.specs.Topologies.{topology_of, topology_view}
 use Rattle.exb_run.specs.declared.fault.Flaw.{Flaw}
 use Rattle.exb_run.specs.declared.fault.Flaw.TheVariants.{Large, Broken}
 use Rattle.exb_run.specs.declared.fault.Fault.{Fault}
@@ -33,7 +33,7 @@ pub record Asks (words : List (List ℕ)) (file : Files) (t : Topology) : Type 0
   pub accepted : words_of words ≡ Some name
   pub bytes : List ℕ
   pub there : file name ≡ Some bytes
-  pub read : topology_of bytes ≡ Ok t
+  pub read : topology_of bytes ≡ Ok (topology_view t)
 
 -- it can be played, and so can each capture that it names
 pub record IsReady (words : List (List ℕ)) (file : Files) (t : Topology) : Type 0 where

@@ -8,7 +8,7 @@ use Rattle.exb_model.specs.Input.{Record}
 use Rattle.exb_pcap.specs.declared.reader.PcapFault.{PcapFault}
 use Rattle.exb_pcap.specs.Captures.{pcap_records}
 use Rattle.exb_shelf.specs.Files.{Files}
-use Rattle.exb_topology.specs.declared.topology.Named.{Named}
+use Rattle.exb_tables.specs.declared.rows.Named.{Named}
 use Rattle.exb_run.specs.declared.fault.Flaw.TheVariants.{Large, Broken}
 use Rattle.exb_run.specs.declared.fault.Fault.{Fault}
 use Rattle.exb_run.specs.declared.fault.Fault.TheVariants.{Missing, NotBuilt, Capture}
@@ -27,13 +27,17 @@ abbrev pub flaw_in : ℕ → Result (List Record) PcapFault → Option Fault
 flaw_in p (Ok records) = if list_all is_plain_record records then None else Some NotBuilt
 flaw_in p (Err fault) = Some (Capture p (Broken fault))
 
--- the first fault of the capture of port p, where the captures before it have that many bytes
-abbrev pub flaw_of : ℕ → List ℕ → Option (List ℕ) → ℕ → Option Fault
-flaw_of p name None before = Some (Missing name)
-flaw_of p name (Some bytes) before =
+-- the first fault of a capture of port p that is there, where the captures before it have that many bytes
+abbrev pub flaw_of_bytes : ℕ → List ℕ → ℕ → Option Fault
+flaw_of_bytes p bytes before =
     if nat_lt 67_108_864 (length bytes) then Some (Capture p (Large 67_108_864))
     else (if nat_lt 536_870_912 (before + length bytes) then Some (Capture p (Large 536_870_912))
     else flaw_in p (pcap_records bytes))
+
+-- the same of a file of this name
+abbrev pub flaw_of : ℕ → List ℕ → Option (List ℕ) → ℕ → Option Fault
+flaw_of p name None before = Some (Missing name)
+flaw_of p name (Some bytes) before = flaw_of_bytes p bytes before
 
 -- the same where the capture has a name; a port without a capture has none
 abbrev pub flaw_named : ℕ → Option (List ℕ) → Files → ℕ → Option Fault

@@ -6,7 +6,7 @@ use Rattle.exb_model.specs.Input.{Input, Record, given_by}
 use Rattle.exb_pcap.specs.declared.reader.PcapFault.{PcapFault}
 use Rattle.exb_pcap.specs.Captures.{pcap_records}
 use Rattle.exb_shelf.specs.Files.{Files, bytes_of}
-use Rattle.exb_topology.specs.declared.topology.Named.{Named}
+use Rattle.exb_tables.specs.declared.rows.Named.{Named}
 use Rattle.exb_topology.specs.declared.topology.Topology.{Topology}
 use Rattle.exb_world.specs.Setups.{IsFirst}
 

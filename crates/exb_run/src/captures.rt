@@ -6,7 +6,7 @@ ghost use Rattle.exb_pcap.specs.Captures.{pcap_records};
 ghost use Rattle.exb_shelf.specs.Files.{SameFiles};
 ghost use Rattle.exb_shelf.specs.Shelf.{Rose, NoFewer};
 ghost use Rattle.exb_run.specs.Inputs.{IsPlayable, name_of, is_named, captures_of};
-ghost use Rattle.exb_run.specs.Flaws.{is_plain, flaw_in, flaw_of, AreGood, FirstFlaw};
+ghost use Rattle.exb_run.specs.Flaws.{is_plain, flaw_in, flaw_of_bytes, flaw_of, AreGood, FirstFlaw};
 ghost use Rattle.exb_run.specs.Reading.{contents, IsOfCapture};
 
 use crate::fault::{Fault, Flaw};
@@ -16,7 +16,7 @@ use exb_model::port::PortId;
 use exb_model::text::Text;
 use exb_pcap::Reader;
 use exb_shelf::{ReadFault, Shelf, read_file};
-use exb_topology::Named;
+use exb_tables::Named;
 use std::alloc::Global;
 
 /// The most bytes of one capture.
@@ -72,7 +72,7 @@ fn flaw_in(port: PortId, file: &[u8]) -> Option<Fault>
 fn flaw_of(port: PortId, file: &[u8], before: usize) -> Option<Fault>
     requires small { length file.now ≤ 67_108_864 }
     requires room { before ≤ 536_870_912 }
-    ensures { (name : List ℕ) → result ≡ flaw_of port name (Some file.now) before }
+    ensures { result ≡ flaw_of_bytes port file.now before }
 {
     if before + file.len() > ALL_LIMIT {
         let limit = ALL_LIMIT as u64;
@@ -100,10 +100,11 @@ fn read_capture<S: Shelf>(
     name: &str,
     before: usize,
 ) -> Result<Capture, Fault>
+    requires port { port < 4160 }
     requires room { before ≤ 536_870_912 }
     ensures port { IfOk result (λ capture. capture.port ≡ port) }
     ensures there { S.tells → IfOk result (λ capture. S.file shelf.old name.now ≡ Some capture.file.items) }
-    ensures good { IfOk result (λ capture. flaw_of port name.now (Some capture.file.items) before ≡ None) }
+    ensures good { IfOk result (λ capture. flaw_of_bytes port capture.file.items before ≡ None) }
     ensures flaw { S.tells → IfErr result (λ fault. (flaw_of port name.now (S.file shelf.old name.now) before ≡ Some fault) ⊎ (fault ≡ Fault.Read) ⊎ (fault ≡ Fault.Memory)) }
     ensures causes { IfErr result IsOfCapture }
     ensures files { SameFiles (S.file shelf.old) (S.file shelf.new) }
@@ -128,15 +129,25 @@ fn read_capture<S: Shelf>(
     }
 }
 
+/// The port of a number.
+fn port_of(number: u16) -> PortId
+    requires { number < 4160 }
+    ensures { result ≡ number }
+{
+    PortId::new(number).unwrap()
+}
+
 /// The name of the file with the capture of a port, if it has one.
 fn name_of(names: &[Named], port: PortId) -> Option<&str>
     ensures found { IfSome result (λ name. name_of names.now port ≡ Some name.now) }
     ensures none { IfNone result (name_of names.now port ≡ None) }
 {
-    match names.iter().find(|named| named.port == port) {
-        Some(named) => Some(named.name.as_str()),
-        None => None,
+    'looking: for named in names {
+        if named.port == port {
+            return Some(named.name.as_str());
+        }
     }
+    None
 }
 
 /// Reads and checks the captures that are named, in port order, up to the first that has a fault.
@@ -160,7 +171,7 @@ pub(crate) fn read_captures<S: Shelf>(
     let mut captures = Vec::new(alloc);
     let mut size = 0;
     'reading: for number in 0..PORTS {
-        let port = PortId::new(number).unwrap();
+        let port = port_of(number);
         let Some(name) = name_of(names, port) else {
             continue;
         };

@@ -4,7 +4,7 @@ ghost use Rattle.exb_model.specs.Setup.{IsValid, shape_of};
 ghost use Rattle.exb_model.specs.Tree.{is_external};
 ghost use Rattle.exb_shelf.specs.Files.{SameFiles};
 ghost use Rattle.exb_shelf.specs.Shelf.{Rose, NoFewer};
-ghost use Rattle.exb_topology.specs.Topologies.{topology_of};
+ghost use Rattle.exb_topology.specs.Topologies.{topology_of, topology_view};
 ghost use Rattle.exb_run.specs.Answers.{CanBe, refused_by};
 ghost use Rattle.exb_run.specs.Reading.{IsRefused};
 
@@ -25,7 +25,7 @@ pub(crate) fn read_topology<S: Shelf>(
     shelf: &mut S,
     name: &str,
 ) -> Result<Topology, Fault>
-    ensures read { S.tells → IfOk result (λ topology. (bytes : List ℕ) × (S.file shelf.old name.now ≡ Some bytes) × (topology_of bytes ≡ Ok topology)) }
+    ensures read { S.tells → IfOk result (λ topology. (bytes : List ℕ) × (S.file shelf.old name.now ≡ Some bytes) × (topology_of bytes ≡ Ok (topology_view topology))) }
     ensures valid { IfOk result (λ topology. IsValid topology.setup) }
     ensures external { IfOk result (λ topology. All (λ x. is_external (shape_of topology.setup) x.port ≡ true) topology.captures) }
     ensures refused { S.tells → IfErr result (λ fault. IsRefused name.now (S.file shelf.old name.now) fault ⊎ (fault ≡ Fault.Read) ⊎ (fault ≡ Fault.Memory)) }

@@ -6,4 +6,4 @@ pub mod reading;
 pub mod topology;
 
 pub use reading::read;
-pub use topology::{Named, Topology};
+pub use topology::Topology;

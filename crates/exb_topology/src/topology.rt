@@ -1,15 +1,8 @@
 //! What a topology file says.
 use exb_model::list::List;
-use exb_model::port::PortId;
 use exb_model::setup::{Setup, Timed, Verdict};
 use exb_model::text::Text;
-
-/// The file with the capture of a port.
-#[derive(Debug, Drop)]
-pub struct Named {
-    pub port: PortId,
-    pub name: Text,
-}
+use exb_tables::Named;
 
 /// What a topology file says.
 #[derive(Debug, Drop)]
