@@ -57,6 +57,13 @@ abbrev pub fault_of : ShelfFault → Fault
 fault_of shelf.Failed = Write
 fault_of shelf.Memory = Memory
 
+-- a fault of reading a topology, of which want of memory is none of the file's
+abbrev pub fault_by : TopoFault → Fault
+fault_by topology.Memory = Memory
+fault_by topology.NotToml = BadTopology topology.NotToml
+fault_by topology.Large = BadTopology topology.Large
+fault_by (topology.At fault key) = BadTopology (topology.At fault key)
+
 -- why a topology file is refused
 abbrev pub refused_by : Refusal → Fault
 refused_by not_toml = BadTopology topology.NotToml
@@ -146,12 +153,16 @@ topology_text topology.NotToml = codes "NotToml"
 topology_text topology.Large = codes "Large"
 topology_text (topology.At fault key) = key_fault_text fault ++ codes " at " ++ key
 
+-- the line of a capture that is not taken
+unfoldable pub capture_line : ℕ → List ℕ → List ℕ
+capture_line p text = codes "exbr: capture " ++ (port_name p ++ (codes ": " ++ (text ++ codes "\n")))
+
 unfoldable pub fault_line : Fault → List ℕ
 fault_line Usage = codes "exbr: usage: exbr run TOPOLOGY\n"
 fault_line (Missing name) = codes "exbr: missing " ++ name ++ codes "\n"
 fault_line (BadTopology fault) = codes "exbr: topology: " ++ topology_text fault ++ codes "\n"
 fault_line NotBuilt = codes "exbr: not built\n"
-fault_line (Capture p flaw) = codes "exbr: capture " ++ port_name p ++ codes ": " ++ flaw_text flaw ++ codes "\n"
+fault_line (Capture p flaw) = capture_line p (flaw_text flaw)
 fault_line Read = codes "exbr: read fault\n"
 fault_line Write = codes "exbr: write fault\n"
 fault_line Memory = codes "exbr: out of memory\n"

@@ -1,7 +1,11 @@
 -- What a run writes of one extender.
-use Rattle.std.specs.Prelude.{◌≡◌, ◌≤◌}
+use Rattle.std.specs.Prelude.{◌≡◌, ◌≤◌, ℕ, List, [], ◌∷◌, false}
+use Rattle.exb_model.specs.Ports.{port_in}
+use Rattle.exb_model.specs.declared.port_set.PortSet.{PortSet}
+use Rattle.exb_model.specs.declared.command.Command.{Command}
+use Rattle.exb_model.specs.declared.command.Command.TheVariants as command
 use Rattle.exb_model.specs.declared.setup.Setup.{Setup}
-use Rattle.exb_world.specs.Setups.{IsFirst}
+use Rattle.exb_world.specs.Setups.{IsFirst, is_port_of}
 use Rattle.exb_world.specs.Worlds.{first_number, first_ports}
 use Rattle.exb_run.specs.declared.plan.Plan.{Plan}
 
@@ -17,3 +21,12 @@ pub record IsOf (plan : Plan) (s : Setup) : Type 0 where
   pub first : IsFirst s
   pub number : first_number s.extenders ≡ plan.number
   pub ports : first_ports s.extenders ≡ plan.ports
+
+-- the commands do nothing but put the ports of extender n into VLAN 1, untagged
+pub record PutsAll (n ports : ℕ) (start : List Command) (untagged tagged : PortSet) : Type 0 where
+  pub only : start ≡ command.Vlan 1 tagged untagged ∷ []
+  pub none_tagged : (q : ℕ) → port_in tagged q ≡ false
+  pub all_untagged : (q : ℕ) → port_in untagged q ≡ is_port_of n ports q
+
+abbrev pub PutAll : ℕ → ℕ → List Command → Type 0
+PutAll n ports start = (untagged : PortSet) × (tagged : PortSet) × PutsAll n ports start untagged tagged

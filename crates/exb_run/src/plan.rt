@@ -1,17 +1,17 @@
 //! What a run writes: the captures of the ports of one extender, and the journal, under a prefix.
-ghost use Rattle.std.specs.Prelude.{◌≡◌, ◌<◌, ◌≤◌, ◌+◌, ◌*◌, ◌↔◌, ℕ, IsTrue, IfOk};
+ghost use Rattle.std.specs.Prelude.{◌≡◌, ◌==◌, ◌&&◌, ◌<◌, ◌≤◌, ◌+◌, ◌*◌, ◌↔◌, ℕ, IsTrue, IfOk};
 ghost use Rattle.exb_model.specs.Ports.{port_in};
 ghost use Rattle.exb_model.specs.Setup.{IsValid};
 ghost use Rattle.exb_world.specs.Setups.{IsFirst, is_port_of};
 ghost use Rattle.exb_world.specs.Worlds.{first_number, first_ports};
 ghost use Rattle.exb_run.specs.Inputs.{IsBuilt};
-ghost use Rattle.exb_run.specs.Plans.{IsInRange, IsOf};
+ghost use Rattle.exb_run.specs.Plans.{IsInRange, IsOf, PutAll};
 
 use exb_model::command::Command;
 use exb_model::memory::NoMemory;
 use exb_model::port::PortId;
 use exb_model::port_set::PortSet;
-use exb_model::setup::{ExtenderSetup, Place, Setup};
+use exb_model::setup::{Place, Setup};
 use exb_model::text::Text;
 use exb_model::vlan::Vid;
 use exb_topology::Topology;
@@ -50,11 +50,13 @@ fn first_ports(number: u8, ports: u8) -> PortSet
     set
 }
 
-/// Whether the commands do nothing but put all ports of the extender into VLAN 1, untagged.
-fn puts_all_in_one_vlan(start: &[Command], extender: &ExtenderSetup) -> bool
-    requires number { extender.now.number ≤ 64 }
-    requires few { extender.now.ports ≤ 64 }
+/// Whether the commands do nothing but put all ports of an extender into VLAN 1, untagged.
+fn puts_all(number: u8, ports: u8, start: &[Command]) -> bool
+    requires number { number ≤ 64 }
+    requires few { ports ≤ 64 }
+    ensures { IsTrue result ↔ PutAll number ports start.now }
 {
+    let all = first_ports(number, ports);
     match start {
         [
             Command::Vlan {
@@ -62,14 +64,17 @@ fn puts_all_in_one_vlan(start: &[Command], extender: &ExtenderSetup) -> bool
                 tagged,
                 untagged,
             },
-        ] => {
-            let all = first_ports(extender.number, extender.ports);
-            vid.number() == Vid::default().number()
-                && tagged.is_same(&PortSet::empty())
-                && untagged.is_same(&all)
-        }
+        ] => *vid == Vid::default() && tagged.is_same(&PortSet::empty()) && untagged.is_same(&all),
         _ => false,
     }
+}
+
+/// Whether the bridge of a setup has one port, the default numbers of channels and groups, and learns
+/// nothing.
+fn has_defaults(setup: &Setup) -> bool
+    ensures { result ≡ (setup.now.ports == 1 && setup.now.channels == 4094 && setup.now.groups == 12288 && setup.now.ageing == 0) }
+{
+    setup.ports == 1 && setup.channels == 4094 && setup.groups == 12288 && setup.ageing == 0
 }
 
 /// Whether a world can be made of a setup today.
@@ -77,17 +82,13 @@ fn is_first(setup: &Setup) -> bool
     requires { IsValid setup.now }
     ensures { IsTrue result ↔ IsFirst setup.now }
 {
-    match setup.extenders.as_slice() {
-        [extender] => {
-            setup.ports == 1
-                && setup.channels == 4094
-                && setup.groups == 12288
-                && setup.ageing == 0
-                && extender.on == Place::Bridge { port: 1 }
-                && puts_all_in_one_vlan(setup.start.as_slice(), extender)
-        }
-        _ => false,
-    }
+    let [extender] = setup.extenders.as_slice() else {
+        return false;
+    };
+    let on_first = extender.on == Place::Bridge { port: 1 };
+    let defaults = has_defaults(setup);
+    let start = puts_all(extender.number, extender.ports, setup.start.as_slice());
+    on_first && defaults && start
 }
 
 /// Whether a topology can be played today.
@@ -95,9 +96,10 @@ pub(crate) fn is_built(topology: &Topology) -> bool
     requires { IsValid topology.now.setup }
     ensures { IsTrue result ↔ IsBuilt topology.now }
 {
-    is_first(&topology.setup)
-        && topology.commands.as_slice().is_empty()
-        && topology.fate.as_slice().is_empty()
+    let first = is_first(&topology.setup);
+    let commands = topology.commands.as_slice().is_empty();
+    let fate = topology.fate.as_slice().is_empty();
+    first && commands && fate
 }
 
 /// What a run of a topology that can be played writes.

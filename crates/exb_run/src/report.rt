@@ -2,10 +2,11 @@
 ghost use Rattle.std.specs.Prelude.{◌≡◌, ◌≢◌, ◌≤◌, ◌++◌, IfOk, OnOk, OnErr, IsErrOf, string_bytes};
 ghost use Rattle.exb_shelf.specs.Files.{AppendsFront};
 ghost use Rattle.exb_shelf.specs.Shelf.{Rose};
-ghost use Rattle.exb_run.specs.Answers.{broken_text, flaw_text, key_fault_text, topology_text, fault_line, line_of, fault_status, status_of};
+ghost use Rattle.exb_run.specs.Answers.{broken_text, flaw_text, key_fault_text, topology_text, capture_line, fault_line, line_of, fault_status, status_of};
 
 use crate::fault::{Fault, Flaw};
 use exb_keys::faults::{KeyFault, TopoFault};
+use exb_model::port::PortId;
 use exb_pcap::PcapFault;
 use exb_shelf::{ShelfFault, Sink, print_text};
 use exb_text::PortName;
@@ -68,6 +69,14 @@ fn topology_text(alloc: Global, fault: &TopoFault) -> Result<String, AllocError>
     }
 }
 
+/// The line of a capture that is not taken.
+#[tactic(auto, unfolding(crate::specs::Answers::capture_line))]
+fn capture_line(alloc: Global, port: PortId, text: &str) -> Result<String, AllocError>
+    ensures { IfOk result (λ line. string_bytes line ≡ capture_line port text.now) }
+{
+    format!(in alloc; "exbr: capture {}: {text}\n", PortName(port))
+}
+
 /// The line of a fault. Those that are always the same are printed without memory by `print_outcome`.
 #[tactic(auto, unfolding(crate::specs::Answers::fault_line))]
 fn fault_line(alloc: Global, fault: &Fault) -> Result<String, AllocError>
@@ -84,7 +93,7 @@ fn fault_line(alloc: Global, fault: &Fault) -> Result<String, AllocError>
         }
         Fault::Capture { port, flaw } => {
             let text = flaw_text(alloc, *flaw)?;
-            format!(in alloc; "exbr: capture {}: {text}\n", PortName(*port))
+            capture_line(alloc, *port, text.as_str())
         }
         Fault::Usage => format!(in alloc; "exbr: usage: exbr run TOPOLOGY\n"),
         Fault::NotBuilt => format!(in alloc; "exbr: not built\n"),
