@@ -11,3 +11,4 @@ pub mod Taking
 pub mod Filling
 pub mod OutputLemmas
 pub mod FlawLemmas
+pub mod PlanLemmas

@@ -1,5 +1,5 @@
 -- What a run writes of one extender.
-use Rattle.std.specs.Prelude.{◌≡◌, ◌≤◌, ℕ, List, [], ◌∷◌, false}
+use Rattle.std.specs.Prelude.{◌≡◌, ◌≤◌, ℕ, false}
 use Rattle.exb_model.specs.Ports.{port_in}
 use Rattle.exb_model.specs.declared.port_set.PortSet.{PortSet}
 use Rattle.exb_model.specs.declared.command.Command.{Command}
@@ -22,11 +22,10 @@ pub record IsOf (plan : Plan) (s : Setup) : Type 0 where
   pub number : first_number s.extenders ≡ plan.number
   pub ports : first_ports s.extenders ≡ plan.ports
 
--- the commands do nothing but put the ports of extender n into VLAN 1, untagged
-pub record PutsAll (n ports : ℕ) (start : List Command) (untagged tagged : PortSet) : Type 0 where
-  pub only : start ≡ command.Vlan 1 tagged untagged ∷ []
+-- the command puts the ports of extender n into VLAN 1, untagged, and no other
+pub record PutsAll (n ports : ℕ) (c : Command) : Type 0 where
+  pub untagged : PortSet
+  pub tagged : PortSet
+  pub is : c ≡ command.Vlan 1 tagged untagged
   pub none_tagged : (q : ℕ) → port_in tagged q ≡ false
   pub all_untagged : (q : ℕ) → port_in untagged q ≡ is_port_of n ports q
-
-abbrev pub PutAll : ℕ → ℕ → List Command → Type 0
-PutAll n ports start = (untagged : PortSet) × (tagged : PortSet) × PutsAll n ports start untagged tagged

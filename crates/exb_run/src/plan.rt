@@ -5,7 +5,7 @@ ghost use Rattle.exb_model.specs.Setup.{IsValid};
 ghost use Rattle.exb_world.specs.Setups.{IsFirst, is_port_of};
 ghost use Rattle.exb_world.specs.Worlds.{first_number, first_ports};
 ghost use Rattle.exb_run.specs.Inputs.{IsBuilt};
-ghost use Rattle.exb_run.specs.Plans.{IsInRange, IsOf, PutAll};
+ghost use Rattle.exb_run.specs.Plans.{IsInRange, IsOf, PutsAll};
 
 use exb_model::command::Command;
 use exb_model::memory::NoMemory;
@@ -13,7 +13,6 @@ use exb_model::port::PortId;
 use exb_model::port_set::PortSet;
 use exb_model::setup::{Place, Setup};
 use exb_model::text::Text;
-use exb_model::vlan::Vid;
 use exb_topology::Topology;
 use std::alloc::Global;
 
@@ -50,23 +49,32 @@ fn first_ports(number: u8, ports: u8) -> PortSet
     set
 }
 
-/// Whether the commands do nothing but put all ports of an extender into VLAN 1, untagged.
-fn puts_all(number: u8, ports: u8, start: &[Command]) -> bool
+/// Whether a command puts all ports of an extender into VLAN 1, untagged, and no other.
+fn puts_all(command: &Command, number: u8, ports: u8) -> bool
     requires number { number ≤ 64 }
     requires few { ports ≤ 64 }
-    ensures { IsTrue result ↔ PutAll number ports start.now }
+    ensures { IsTrue result ↔ PutsAll number ports command.now }
 {
-    let all = first_ports(number, ports);
-    match start {
-        [
-            Command::Vlan {
-                vid,
-                tagged,
-                untagged,
-            },
-        ] => *vid == Vid::default() && tagged.is_same(&PortSet::empty()) && untagged.is_same(&all),
+    match command {
+        Command::Vlan {
+            vid,
+            tagged,
+            untagged,
+        } => {
+            let first = vid.number() == 1;
+            let none = tagged.is_same(&PortSet::empty());
+            let all = untagged.is_same(&first_ports(number, ports));
+            first && none && all
+        }
         _ => false,
     }
+}
+
+/// Whether a place is the first port of the bridge.
+fn is_first_port(place: Place) -> bool
+    ensures { IsTrue result ↔ (place ≡ Place.Bridge 1) }
+{
+    matches!(place, Place::Bridge { port: 1 })
 }
 
 /// Whether the bridge of a setup has one port, the default numbers of channels and groups, and learns
@@ -82,13 +90,16 @@ fn is_first(setup: &Setup) -> bool
     requires { IsValid setup.now }
     ensures { IsTrue result ↔ IsFirst setup.now }
 {
-    let [extender] = setup.extenders.as_slice() else {
+    let extenders = setup.extenders.as_slice();
+    let start = setup.start.as_slice();
+    if extenders.len() != 1 || start.len() != 1 {
         return false;
-    };
-    let on_first = extender.on == Place::Bridge { port: 1 };
+    }
+    let extender = extenders[0];
+    let on_first = is_first_port(extender.on);
     let defaults = has_defaults(setup);
-    let start = puts_all(extender.number, extender.ports, setup.start.as_slice());
-    on_first && defaults && start
+    let all = puts_all(&start[0], extender.number, extender.ports);
+    on_first && defaults && all
 }
 
 /// Whether a topology can be played today.
