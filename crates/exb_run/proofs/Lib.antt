@@ -12,3 +12,8 @@ pub mod Filling
 pub mod OutputLemmas
 pub mod FlawLemmas
 pub mod PlanLemmas
+pub mod Refusing
+pub mod Asking
+pub mod Stopping
+pub mod Running
+pub mod RunLemmas

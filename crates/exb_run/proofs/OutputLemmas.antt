@@ -21,10 +21,10 @@ use Rattle.exb_run.specs.Writing.{Holds, HasTexts, with_more, lines_of, with_lef
 use Rattle.exb_run.proofs.Filling.{weaker, still_filled, one_more}
 
 -- the names of the outputs
-name_of_capture : (plan : Plan) (j : ℕ) → j < plan.ports → output_name plan j ≡ capture_name plan.prefix (64 * plan.number + j)
+pub name_of_capture : (plan : Plan) (j : ℕ) → j < plan.ports → output_name plan j ≡ capture_name plan.prefix (64 * plan.number + j)
 name_of_capture plan j h = rw (lt-ltb j plan.ports h) refl
 
-name_of_journal : (plan : Plan) (j : ℕ) → plan.ports ≤ j → output_name plan j ≡ journal_name plan.prefix
+pub name_of_journal : (plan : Plan) (j : ℕ) → plan.ports ≤ j → output_name plan j ≡ journal_name plan.prefix
 name_of_journal plan j h = rw (le-ltb j plan.ports h) refl
 
 -- they differ, as those of a run do

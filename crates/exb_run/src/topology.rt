@@ -12,7 +12,6 @@ use crate::captures::missing;
 use crate::fault::Fault;
 use exb_keys::faults::TopoFault;
 use exb_shelf::{ReadFault, Shelf, read_file};
-use exb_topology::laws::large_is_large;
 use exb_topology::{Topology, read};
 use std::alloc::Global;
 
@@ -48,6 +47,7 @@ fn parse(alloc: Global, file: &[u8]) -> Result<Topology, Fault>
 }
 
 /// Reads the bytes of the topology file of this name.
+#[tactic(auto, using(crate::proofs::Refusing::large_refused))]
 fn read_bytes<S: Shelf>(alloc: Global, shelf: &mut S, name: &str) -> Result<Vec<u8>, Fault>
     ensures there { S.tells → IfOk result (λ file. S.file shelf.old name.now ≡ Some file.items) }
     ensures refused { S.tells → IfErr result (λ fault. IsRefused name.now (S.file shelf.old name.now) fault ⊎ (fault ≡ Fault.Read) ⊎ (fault ≡ Fault.Memory)) }
@@ -57,7 +57,6 @@ fn read_bytes<S: Shelf>(alloc: Global, shelf: &mut S, name: &str) -> Result<Vec<
     ensures missing { (n : List ℕ) → result ≡ Err (Fault.Missing n) → Rose (S.faults shelf.old).missing (S.faults shelf.new).missing }
     ensures read { IsErrOf result Fault.Read → Rose (S.faults shelf.old).reads (S.faults shelf.new).reads }
 {
-    large_is_large();
     match read_file(alloc, shelf, name, LIMIT) {
         Ok(file) => Ok(file),
         Err(ReadFault::Missing) => Err(missing(alloc, name)),

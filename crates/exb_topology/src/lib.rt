@@ -1,9 +1,8 @@
 //! STUB of the clone h-run; the crate of h-topology takes its place.
 #![tactic(auto)]
 
-pub mod laws;
-pub mod reading;
-pub mod topology;
+mod topology;
 
-pub use reading::read;
-pub use topology::Topology;
+pub use exb_keys::faults::{KeyFault, TopoFault};
+pub use exb_tables::Named;
+pub use topology::{Topology, read};

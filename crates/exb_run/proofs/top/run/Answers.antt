@@ -1,0 +1,102 @@
+use Rattle.std.proofs.Common.{◌≡◌, ◌≢◌, ◌++◌, ◌∙◌, inl, inr, ℕ, List, sym, ap, arith}
+use Rattle.exb_run.specs.Answers.{status_of, fault_status, line_of}
+use Rattle.exb_run.proofs.RunLemmas.{is_usage, is_read, is_missing, is_not_built, write_or_not, stop_not_one, stop_not_six, stop_not_seven, stops_with, fault_says, usage_line, read_line, write_line, not_built_line, front_by, ready_not, status_cases, Outcome}
+use Rattle.exb_run.proofs.top.run.Goals as goal
+
+pub returns-clause-three : goal.returns-clause-three
+returns-clause-three g c = λ t e.
+    stops_with c.work-outcome.result _ _ 3 (c.work-outcome.ensures.cause t) (sym (c.report.ensures.status (λ h. omega arith) (λ h. omega arith)) ∙ e) (omega arith) (λ h. omega arith) (λ h. omega arith)
+
+pub returns-clause-four : goal.returns-clause-four
+returns-clause-four g c = λ t e.
+    stops_with c.work-outcome.result _ _ 4 (c.work-outcome.ensures.cause t) (sym (c.report.ensures.status (λ h. omega arith) (λ h. omega arith)) ∙ e) (omega arith) (λ h. omega arith) (λ h. omega arith)
+
+pub returns-clause-five : goal.returns-clause-five
+returns-clause-five g c = λ t e.
+    stops_with c.work-outcome.result _ _ 5 (c.work-outcome.ensures.cause t) (sym (c.report.ensures.status (λ h. omega arith) (λ h. omega arith)) ∙ e) (omega arith) (λ h. omega arith) (λ h. omega arith)
+
+pub returns-clause-eight : goal.returns-clause-eight
+returns-clause-eight g c = λ t e.
+    stops_with c.work-outcome.result _ _ 8 (c.work-outcome.ensures.cause t) (sym (c.report.ensures.status (λ h. omega arith) (λ h. omega arith)) ∙ e) (omega arith) (λ h. omega arith) (λ h. omega arith)
+
+pub returns-clause-stops : goal.returns-clause-stops
+returns-clause-stops g c = λ t fault stops n1 n6 n7.
+    let is : c.report.result ≡ status_of c.work-outcome.result = c.report.ensures.status n1 n7 in
+    elim (c.work-outcome.ensures.stops t fault stops) [
+      | inl found ↦ is ∙ ap status_of found
+      | inr other ↦ elim other [
+        | inl read ↦ absurd (n6 (is ∙ ap status_of read))
+        | inr memory ↦ absurd (n1 (is ∙ ap status_of memory))
+      ]
+    ]
+
+pub returns-clause-stops_seven : goal.returns-clause-stops_seven
+returns-clause-stops_seven g c = λ t fault stops e. c.report.ensures.seven e (elim (c.work-outcome.ensures.stops t fault stops) [
+  | inl found ↦ λ s. stop_not_seven _ _ fault stops (sym (ap status_of found) ∙ s)
+  | inr other ↦ elim other [
+    | inl read ↦ λ s. let h : 6 ≡ 7 = sym (ap status_of read) ∙ s in omega arith
+    | inr memory ↦ λ s. let h : 1 ≡ 7 = sym (ap status_of memory) ∙ s in omega arith
+  ]
+])
+
+pub returns-clause-two_says : goal.returns-clause-two_says
+returns-clause-two_says g c = λ t e.
+    let n1 : c.report.result ≢ 1 = λ h. omega arith in
+    let n7 : c.report.result ≢ 7 = λ h. omega arith in
+    let is = is_usage c.work-outcome.result (sym (c.report.ensures.status n1 n7) ∙ e) in
+    c.report.ensures.whole t n1 n7 ∙ ap (λ (xs : List ℕ). g.O.Sink.text c.args.out.now ++ xs) (usage_line c.work-outcome.result is)
+
+pub returns-clause-three_says : goal.returns-clause-three_says
+returns-clause-three_says g c = λ t e.
+    let n1 : c.report.result ≢ 1 = λ h. omega arith in
+    let n7 : c.report.result ≢ 7 = λ h. omega arith in
+    fault_says c.work-outcome.result 3 _ _ (sym (c.report.ensures.status n1 n7) ∙ e) (omega arith) c.work-outcome.ensures.can_be (c.report.ensures.whole t n1 n7)
+
+pub returns-clause-four_says : goal.returns-clause-four_says
+returns-clause-four_says g c = λ t e.
+    let n1 : c.report.result ≢ 1 = λ h. omega arith in
+    let n7 : c.report.result ≢ 7 = λ h. omega arith in
+    fault_says c.work-outcome.result 4 _ _ (sym (c.report.ensures.status n1 n7) ∙ e) (omega arith) c.work-outcome.ensures.can_be (c.report.ensures.whole t n1 n7)
+
+pub returns-clause-five_says : goal.returns-clause-five_says
+returns-clause-five_says g c = λ t e.
+    let n1 : c.report.result ≢ 1 = λ h. omega arith in
+    let n7 : c.report.result ≢ 7 = λ h. omega arith in
+    fault_says c.work-outcome.result 5 _ _ (sym (c.report.ensures.status n1 n7) ∙ e) (omega arith) c.work-outcome.ensures.can_be (c.report.ensures.whole t n1 n7)
+
+pub returns-clause-stops_says : goal.returns-clause-stops_says
+returns-clause-stops_says g c = λ t o fault stops e.
+    let n1 : c.report.result ≢ 1 = λ h. stop_not_one _ _ fault stops (sym e ∙ h) in
+    let n7 : c.report.result ≢ 7 = λ h. stop_not_seven _ _ fault stops (sym e ∙ h) in
+    let is : c.report.result ≡ status_of c.work-outcome.result = c.report.ensures.status n1 n7 in
+    elim (c.work-outcome.ensures.stops t fault stops) [
+      | inl found ↦ c.report.ensures.whole o n1 n7 ∙ ap (λ (p : Outcome). g.O.Sink.text c.args.out.now ++ line_of p) found
+      | inr other ↦ elim other [
+        | inl read ↦ absurd (stop_not_six _ _ fault stops (sym e ∙ is ∙ ap status_of read))
+        | inr memory ↦ absurd (n1 (is ∙ ap status_of memory))
+      ]
+    ]
+
+pub returns-clause-six_says : goal.returns-clause-six_says
+returns-clause-six_says g c = λ t e.
+    let n1 : c.report.result ≢ 1 = λ h. omega arith in
+    let n7 : c.report.result ≢ 7 = λ h. omega arith in
+    let is = is_read c.work-outcome.result (sym (c.report.ensures.status n1 n7) ∙ e) in
+    c.report.ensures.whole t n1 n7 ∙ ap (λ (xs : List ℕ). g.O.Sink.text c.args.out.now ++ xs) (read_line c.work-outcome.result is)
+
+pub returns-clause-seven_says : goal.returns-clause-seven_says
+returns-clause-seven_says g c = λ t e no_sink.
+    elim (write_or_not c.work-outcome.result) [
+      | inl is ↦ c.report.ensures.whole_seven t e no_sink ∙ ap (λ (xs : List ℕ). g.O.Sink.text c.args.out.now ++ xs) (write_line c.work-outcome.result is)
+      | inr other ↦ absurd (no_sink (c.report.ensures.seven e other))
+    ]
+
+pub returns-clause-eight_says : goal.returns-clause-eight_says
+returns-clause-eight_says g c = λ t e.
+    let n1 : c.report.result ≢ 1 = λ h. omega arith in
+    let n7 : c.report.result ≢ 7 = λ h. omega arith in
+    let is = is_not_built c.work-outcome.result (sym (c.report.ensures.status n1 n7) ∙ e) in
+    c.report.ensures.whole t n1 n7 ∙ ap (λ (xs : List ℕ). g.O.Sink.text c.args.out.now ++ xs) (not_built_line c.work-outcome.result is)
+
+pub returns-clause-front : goal.returns-clause-front
+returns-clause-front g c = λ t o. front_by c.work-outcome.result _ _ _ _ _ (c.work-outcome.ensures.done t) c.work-outcome.ensures.can_be (c.report.ensures.front o)
