@@ -72,6 +72,10 @@ pub is_true : (b : Bool) → b ≡ true → IsTrue b
 is_true true e = search rules
 is_true false e = absurd (cc)
 
+pub not_true : (b : Bool) → b ≡ false → IsTrue b → ⊥
+not_true true e is = absurd (cc)
+not_true false e is = absurd (cc)
+
 module _ (n ports : ℕ) (c : Command) (v : ℕ) (tagged untagged none all : PortSet) (is : c ≡ command.Vlan v tagged untagged)
     (is_none : (q : ℕ) → port_in none q ≡ false) (is_all : (q : ℕ) → port_in all q ≡ is_port_of n ports q) where
   pub puts_by : v ≡ 1 → ((q : ℕ) → port_in tagged q ≡ port_in none q) → ((q : ℕ) → port_in untagged q ≡ port_in all q) → PutsAll n ports c

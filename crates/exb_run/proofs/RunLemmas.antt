@@ -1,5 +1,5 @@
 -- The parts of a run make the whole.
-use Rattle.std.proofs.Common.{⊤, ◌≡◌, ◌≢◌, ◌<◌, ◌++◌, ◌⊎◌, inl, inr, ℕ, List, Option, Some, None, Result, Ok, Err, ap, sym, ◌∙◌, refl, subst, arith}
+use Rattle.std.proofs.Common.{◌≡◌, ◌≢◌, ◌<◌, ◌++◌, ◌⊎◌, inl, inr, ℕ, List, Option, Some, None, Result, Ok, Err, ap, sym, ◌∙◌, refl, subst, arith}
 use Rattle.std.specs.Prelude.{String, IfOk, IfErr, OnErr, IsErrOf, string_bytes, codes}
 use Rattle.std.specs.declared.alloc.Global.{Global}
 use Rattle.exb_model.specs.Setup.{shape_of}
@@ -218,7 +218,7 @@ module _ (s : ℕ) (two : s ≢ 2) (three : s ≢ 3) (four : s ≢ 4) (five : s 
   ]
 
   file_status : (p : ℕ) (name : List ℕ) (o : Option (List ℕ)) (before : ℕ) (x : Fault) → flaw_of p name o before ≡ Some x → fault_status x ≢ s
-  file_status p name None before x e h = let is : x ≡ Missing name = cc in five (sym h ∙ ap fault_status is)
+  file_status p name None before x e = let is : x ≡ Missing name = cc in λ h. five (sym h ∙ ap fault_status is)
   file_status p name (Some bytes) before x e = bytes_status p bytes before x e
 
   named_status : (p : ℕ) (o : Option (List ℕ)) (file : Files) (before : ℕ) (x : Fault) → flaw_named p o file before ≡ Some x → fault_status x ≢ s

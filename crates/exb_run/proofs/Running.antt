@@ -70,17 +70,11 @@ module _ (i : Input) (plan : Plan) (prefix : List ℕ) (same : plan.prefix ≡ p
 -- a capture that is named has a port of which this is told of all
 named_by : (test : ℕ → Bool) (names : List Named) (q : ℕ) → All (λ x. test x.port ≡ true) names → is_named names q ≡ true → test q ≡ true
 named_by test [] q all is = absurd (cc)
-named_by test (x ∷ xs) q all is = by_port (x.port == q) refl is
+named_by test (x ∷ xs) q all is = by_port (named_by test xs q (λ k d low. all (suc k) d (omega arith))) (x.port == q) refl is
   where
-    rest : is_named xs q ≡ true → test q ≡ true
-    rest = named_by test xs q (λ k d low. all (suc k) d (omega arith))
-
-    by_port : (b : Bool) → (x.port == q) ≡ b → is_named (x ∷ xs) q ≡ true → test q ≡ true
-    by_port true e is' = ap test (sym (eqb-true x.port q e)) ∙ all 0 x (omega arith)
-    by_port false e is' = rest (sym (ap (λ (b : Bool). is_named_if b) e) ∙ is')
-      where
-        is_named_if : Bool → Bool
-        is_named_if b = is_some (if b then Some x.name else name_of xs q)
+    by_port : (is_named xs q ≡ true → test q ≡ true) → (b : Bool) → (x.port == q) ≡ b → is_some (if x.port == q then Some x.name else name_of xs q) ≡ true → test q ≡ true
+    by_port rest true e is' = ap test (sym (eqb-true x.port q e)) ∙ all 0 x (omega arith)
+    by_port rest false e is' = rest (sym (ap (λ (b : Bool). is_some (if b then Some x.name else name_of xs q)) e) ∙ is')
 
 pub can_be_played : (plan : Plan) (names : List Named) (test : ℕ → Bool) (cs : List Capture) → ((q : ℕ) → test q ≡ is_port_of plan.number plan.ports q) →
     All (λ x. test x.port ≡ true) names → All (λ c. is_named names c.port ≡ true) cs → All (λ c. IsPlayable (pcap_records c.file.items)) cs →
@@ -101,3 +95,7 @@ pub early_by : (o : Outcome) (P : Type 0) → IfErr o (λ x. (x ≡ Write) ⊎ (
 early_by (Ok line) P cause nw nm = tt
 early_by (Err x) P (inl w) nw nm = absurd (nw (ap Err w))
 early_by (Err x) P (inr m) nw nm = absurd (nm (ap Err m))
+
+pub if_ok_map : {P Q : String Global → Type 0} (o : Outcome) → ((line : String Global) → P line → Q line) → IfOk o P → IfOk o Q
+if_ok_map (Ok line) f p = f line p
+if_ok_map (Err x) f p = tt

@@ -29,15 +29,21 @@ module _ (t : Topology) (file : Files) where
   pub records_none : (q : ℕ) → is_named t.captures q ≡ false → (input_of t file).records q ≡ []
   records_none q e = rw e refl
 
+  stream_here : (q : ℕ) → is_named t.captures q ≡ true → stream_taken (q, bytes_at t.captures file q) ≡ stream_at (input_of t file) q
+  stream_here q e = ap (stream_of q) (sym (records_here q e))
+
   streams_of_ports : (qs : List ℕ) → map stream_taken (captures_of t.captures file qs) ≡ map (stream_at (input_of t file)) (filter (is_named t.captures) qs)
   streams_of_ports [] = refl
   streams_of_ports (q ∷ qs) = by_name (streams_of_ports qs) (is_named t.captures q) refl
     where
       by_name : map stream_taken (captures_of t.captures file qs) ≡ map (stream_at (input_of t file)) (filter (is_named t.captures) qs) →
           (b : Bool) → is_named t.captures q ≡ b →
-          map stream_taken (captures_of t.captures file (q ∷ qs)) ≡ map (stream_at (input_of t file)) (filter (is_named t.captures) (q ∷ qs))
-      by_name rest true e = rw e (ap (λ (xs : List Stream). stream_taken (q, bytes_at t.captures file q) ∷ xs) rest)
-      by_name rest false e = rw e rest
+          map stream_taken (map (λ p. (p, bytes_at t.captures file p)) (cond b (q ∷ filter (is_named t.captures) qs) (filter (is_named t.captures) qs)))
+          ≡ map (stream_at (input_of t file)) (cond b (q ∷ filter (is_named t.captures) qs) (filter (is_named t.captures) qs))
+      by_name rest true e =
+          ap (λ (x : Stream). x ∷ map stream_taken (captures_of t.captures file qs)) (stream_here q e)
+          ∙ ap (λ (xs : List Stream). stream_at (input_of t file) q ∷ xs) rest
+      by_name rest false e = rest
 
   pub comes_merged : (cs : List Capture) → t.commands ≡ [] → contents cs ≡ captures_of t.captures file all_ports →
       ((i : Input) (chosen : ℕ → Bool) → i.commands ≡ [] → ((q : ℕ) → chosen q ≡ false → i.records q ≡ []) → to_come (map (stream_at i) (filter chosen all_ports)) ≡ merge i) →

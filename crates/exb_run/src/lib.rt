@@ -15,5 +15,5 @@ mod words;
 
 pub use top::run;
 
-
-
+#[cfg(test)]
+mod tests;

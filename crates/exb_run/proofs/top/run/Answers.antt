@@ -1,4 +1,4 @@
-use Rattle.std.proofs.Common.{◌≡◌, ◌≢◌, ◌++◌, ◌∙◌, inl, inr, ℕ, List, sym, ap, arith}
+use Rattle.std.proofs.Common.{◌≡◌, ◌≢◌, ◌++◌, ◌∙◌, inl, inr, ℕ, List, Err, sym, ap, arith}
 use Rattle.exb_run.specs.Answers.{status_of, fault_status, line_of}
 use Rattle.exb_run.proofs.RunLemmas.{is_usage, is_read, is_missing, is_not_built, write_or_not, stop_not_one, stop_not_six, stop_not_seven, stops_with, fault_says, usage_line, read_line, write_line, not_built_line, front_by, ready_not, status_cases, Outcome}
 use Rattle.exb_run.proofs.top.run.Goals as goal
@@ -100,3 +100,22 @@ returns-clause-eight_says g c = λ t e.
 
 pub returns-clause-front : goal.returns-clause-front
 returns-clause-front g c = λ t o. front_by c.work-outcome.result _ _ _ _ _ (c.work-outcome.ensures.done t) c.work-outcome.ensures.can_be (c.report.ensures.front o)
+
+pub returns-clause-complete : goal.returns-clause-complete
+returns-clause-complete g c = λ t topology ready no_reads no_writes no_out n1.
+    let o = c.work-outcome.result in
+    let n7 : c.report.result ≢ 7 = λ e. elim (write_or_not o) [
+      | inl write ↦ no_writes (c.work-outcome.ensures.write write)
+      | inr other ↦ no_out (c.report.ensures.seven e other)
+    ] in
+    let is : c.report.result ≡ status_of o = c.report.ensures.status n1 n7 in
+    status_cases o (c.report.result ≡ 0) (λ zero. is ∙ zero) (λ x e. absurd (elim (c.work-outcome.ensures.cause t x e) [
+      | inl stops ↦ ready_not _ _ topology x ready stops
+      | inr failure ↦ elim failure [
+        | inl read ↦ no_reads (c.work-outcome.ensures.read (e ∙ ap Err read))
+        | inr other ↦ elim other [
+          | inl write ↦ no_writes (c.work-outcome.ensures.write (e ∙ ap Err write))
+          | inr memory ↦ n1 (is ∙ ap status_of (e ∙ ap Err memory))
+        ]
+      ]
+    ]))
