@@ -1,6 +1,6 @@
 -- What the tables of a topology file say, but for its commands.
-use Rattle.std.specs.Prelude.{◌≡◌, ◌⊎◌, ℕ, ◌+◌, ◌/◌, ◌%◌, ◌≤◌, false, nat_lt, if◌then◌else◌, List, [], ◌∷◌, ◌++◌, Option, Some, None, Result, Ok, Err, codes}
-use Rattle.toml.specs.Data.{Data, Items, Members, no_members, member, get_member}
+use Rattle.std.specs.Prelude.{ℕ, ◌+◌, ◌/◌, ◌%◌, ◌≤◌, false, nat_lt, if◌then◌else◌, List, [], ◌∷◌, ◌++◌, Option, Some, None, Result, Ok, Err, codes}
+use Rattle.toml.specs.Data.{Data, Members, no_members, member, get_member}
 use Rattle.exb_model.specs.declared.rules.Accept.TheVariants as accepts
 use Rattle.exb_model.specs.declared.setup.Place.{Place}
 use Rattle.exb_model.specs.declared.setup.Place.TheVariants as place

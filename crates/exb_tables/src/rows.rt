@@ -11,11 +11,10 @@ ghost use Rattle.exb_tables.specs.Rows.{IsBridgeInRange, bridge, bridge_key, lin
 
 use crate::schema::{Schema, only};
 use exb_keys::faults::{KeyFault, TopoFault};
-use exb_keys::keys;
 use exb_keys::place::{Place as At, fault_at};
 use exb_keys::tables::{elements, table_of};
-use exb_keys::words;
 use exb_keys::words::Word;
+use exb_keys::{keys, words};
 use exb_model::address::Mac;
 use exb_model::list::List;
 use exb_model::port::PortId;

@@ -35,7 +35,14 @@ impl Schema {
         match self {
             Schema::Root => matches!(
                 key,
-                "bridge" | "links" | "extender" | "port" | "vlan" | "static" | "command" | "captures"
+                "bridge"
+                    | "links"
+                    | "extender"
+                    | "port"
+                    | "vlan"
+                    | "static"
+                    | "command"
+                    | "captures"
             ),
             Schema::Bridge => matches!(key, "ports" | "channels" | "groups" | "ageing" | "out"),
             Schema::Links => matches!(key, "fate"),
@@ -63,7 +70,12 @@ fn unknown(table: &Table, schema: Schema) -> Option<&str>
 
 /// Refuses keys that the table doesn't define.
 #[tactic(auto, unfolding(exb_keys::specs::Keys::only))]
-pub(crate) fn only(alloc: Global, place: Place, table: &Table, schema: Schema) -> Result<(), TopoFault>
+pub(crate) fn only(
+    alloc: Global,
+    place: Place,
+    table: &Table,
+    schema: Schema,
+) -> Result<(), TopoFault>
     ensures { Gives result (only (has_key schema) (place_text place) (table_view table.now)) }
 {
     match unknown(table, schema) {

@@ -1,0 +1,6 @@
+pub mod Checking
+pub mod Laid
+pub mod Sets
+pub mod Building
+pub mod Valid
+pub mod Starting

@@ -1,0 +1,6 @@
+use Rattle.exb_topology.specs.Checks.{static_ok}
+use Rattle.exb_topology.proofs.Checking.{So}
+use Rattle.exb_topology.proofs.checks.check_statics.Given as goal
+
+abbrev pub invariant-loop-index : goal.invariant-loop-index
+invariant-loop-index l = So (static_ok l.ports) l.statics l.index

@@ -1,0 +1,5 @@
+pub mod Each
+pub mod Trees
+pub mod Checks
+pub mod Seen
+pub mod Topologies

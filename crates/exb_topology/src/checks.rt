@@ -1,0 +1,321 @@
+//! The third pass: that ports are external ports of the tree, and that nothing is given twice.
+ghost use Rattle.std.specs.Prelude.{◌≡◌, ◌==◌, ◌++◌, [], codes};
+ghost use Rattle.std.specs.List.{list_any};
+ghost use Rattle.std.specs.Str.{bytes_eq};
+ghost use Rattle.exb_keys.specs.Faults.{Gives, place_text, in_element};
+ghost use Rattle.exb_topology.specs.Each.{each_ok, refuse};
+ghost use Rattle.exb_topology.specs.Checks.{port_ok, words_ok, port_table_ok, overlap, vlan_ok, vlans_ok, same_entry, static_ok, action_ok, command_ok, capture_key, capture_ok, file_ok};
+
+use crate::tree_ports::TreePorts;
+use exb_keys::faults::{KeyFault, TopoFault};
+use exb_keys::place::Place;
+use exb_keys::words::Word;
+use exb_model::list::List;
+use exb_model::port::PortId;
+use exb_model::text::Text;
+use exb_tables::{Action, CommandTable, Named, PortTable, StaticTable, VlanTable};
+use exb_text::PortName;
+use std::alloc::Global;
+
+/// Refuses a key for that fault, where the test passes.
+pub(crate) fn refuse(
+    alloc: Global,
+    test: bool,
+    place: Place,
+    key: &str,
+    fault: KeyFault,
+) -> Result<(), TopoFault>
+    ensures { Gives result (refuse test fault (place_text place ++ key.now)) }
+{
+    if test {
+        Err(place.fault(alloc, key, fault))
+    } else {
+        Ok(())
+    }
+}
+
+/// Refuses a port that isn't external.
+fn check_port(
+    alloc: Global,
+    ports: &TreePorts,
+    place: Place,
+    key: &str,
+    port: PortId,
+) -> Result<(), TopoFault>
+    ensures { Gives result (port_ok ports.now (place_text place ++ key.now) port) }
+{
+    let unknown = !ports.is_external(port);
+    refuse(alloc, unknown, place, key, KeyFault::UnknownPort)
+}
+
+/// Refuses a list with a word that names what the tree hasn't got.
+fn check_words(
+    alloc: Global,
+    ports: &TreePorts,
+    place: Place,
+    key: &str,
+    words: &List<Word>,
+) -> Result<(), TopoFault>
+    ensures { Gives result (words_ok ports.now (place_text place ++ key.now) words.now) }
+{
+    let unknown = !ports.are_known(words.as_slice());
+    refuse(alloc, unknown, place, key, KeyFault::UnknownPort)
+}
+
+fn is_named(before: &[PortTable], name: PortId) -> bool
+    ensures { result ≡ list_any (λ q. q.name == name) before.now }
+{
+    for table in before {
+        if table.name == name {
+            return true;
+        }
+    }
+    false
+}
+
+fn check_port_table(
+    alloc: Global,
+    ports: &TreePorts,
+    before: &[PortTable],
+    index: usize,
+    table: PortTable,
+) -> Result<(), TopoFault>
+    ensures { Gives result (port_table_ok ports.now before.now index table) }
+{
+    let place = Place::Element {
+        table: "port",
+        index,
+    };
+    check_port(alloc, ports, place, "name", table.name)?;
+    let again = is_named(before, table.name);
+    refuse(alloc, again, place, "name", KeyFault::Repeat)
+}
+
+pub(crate) fn check_ports(
+    alloc: Global,
+    ports: &TreePorts,
+    tables: &[PortTable],
+) -> Result<(), TopoFault>
+    ensures { Gives result (each_ok (port_table_ok ports.now) tables.now 0 tables.now) }
+{
+    for index in 0..tables.len() {
+        check_port_table(alloc, ports, &tables[..index], index, tables[index])?;
+    }
+    Ok(())
+}
+
+/// Whether a VLAN of a range was given before.
+fn overlaps(vlan: &VlanTable, before: &[VlanTable]) -> bool
+    ensures { result ≡ list_any (overlap vlan.now) before.now }
+{
+    for other in before {
+        if other.vid.number() <= vlan.last.number() && vlan.vid.number() <= other.last.number() {
+            return true;
+        }
+    }
+    false
+}
+
+fn check_vlan(
+    alloc: Global,
+    ports: &TreePorts,
+    before: &[VlanTable],
+    index: usize,
+    vlan: &VlanTable,
+) -> Result<(), TopoFault>
+    ensures { Gives result (vlan_ok ports.now before.now index vlan.now) }
+{
+    let place = Place::Element {
+        table: "vlan",
+        index,
+    };
+    check_words(alloc, ports, place, "tagged", &vlan.tagged)?;
+    check_words(alloc, ports, place, "untagged", &vlan.untagged)?;
+    let again = overlaps(vlan, before);
+    refuse(alloc, again, place, "vid", KeyFault::Repeat)
+}
+
+pub(crate) fn check_vlans(
+    alloc: Global,
+    ports: &TreePorts,
+    vlans: &Option<List<VlanTable>>,
+) -> Result<(), TopoFault>
+    ensures { Gives result (vlans_ok ports.now vlans.now) }
+{
+    match vlans {
+        Some(vlans) => check_each_vlan(alloc, ports, vlans.as_slice()),
+        None => Ok(()),
+    }
+}
+
+fn check_each_vlan(alloc: Global, ports: &TreePorts, vlans: &[VlanTable]) -> Result<(), TopoFault>
+    ensures { Gives result (each_ok (vlan_ok ports.now) vlans.now 0 vlans.now) }
+{
+    for (index, vlan) in vlans.iter().enumerate() {
+        check_vlan(alloc, ports, &vlans[..index], index, vlan)?;
+    }
+    Ok(())
+}
+
+/// Whether an entry for the VLAN and address was given before.
+fn is_given(entry: &StaticTable, before: &[StaticTable]) -> bool
+    ensures { result ≡ list_any (same_entry entry.now) before.now }
+{
+    for other in before {
+        if other.vid == entry.vid && other.address == entry.address {
+            return true;
+        }
+    }
+    false
+}
+
+fn check_static(
+    alloc: Global,
+    ports: &TreePorts,
+    before: &[StaticTable],
+    index: usize,
+    entry: &StaticTable,
+) -> Result<(), TopoFault>
+    ensures { Gives result (static_ok ports.now before.now index entry.now) }
+{
+    let place = Place::Element {
+        table: "static",
+        index,
+    };
+    check_words(alloc, ports, place, "ports", &entry.ports)?;
+    let again = is_given(entry, before);
+    refuse(alloc, again, place, "mac", KeyFault::Repeat)
+}
+
+pub(crate) fn check_statics(
+    alloc: Global,
+    ports: &TreePorts,
+    statics: &[StaticTable],
+) -> Result<(), TopoFault>
+    ensures { Gives result (each_ok (static_ok ports.now) statics.now 0 statics.now) }
+{
+    for (index, entry) in statics.iter().enumerate() {
+        check_static(alloc, ports, &statics[..index], index, entry)?;
+    }
+    Ok(())
+}
+
+fn check_action(
+    alloc: Global,
+    ports: &TreePorts,
+    place: Place,
+    action: &Action,
+) -> Result<(), TopoFault>
+    ensures { Gives result (action_ok ports.now (place_text place) action.now) }
+{
+    match action {
+        Action::Vlan {
+            vid: _,
+            tagged,
+            untagged,
+        } => {
+            check_words(alloc, ports, place, "tagged", tagged)?;
+            check_words(alloc, ports, place, "untagged", untagged)
+        }
+        Action::Member {
+            vid: _,
+            port,
+            kind: _,
+        } => check_port(alloc, ports, place, "port", *port),
+        Action::Unmember { vid: _, port } => check_port(alloc, ports, place, "port", *port),
+        Action::Pvid { port, vid: _ } => check_port(alloc, ports, place, "port", *port),
+        Action::Accept { port, accept: _ } => check_port(alloc, ports, place, "port", *port),
+        Action::Filter { port, on: _ } => check_port(alloc, ports, place, "port", *port),
+        Action::Isolate { port, on: _ } => check_port(alloc, ports, place, "port", *port),
+        Action::Static {
+            vid: _,
+            address: _,
+            ports: words,
+        } => check_words(alloc, ports, place, "ports", words),
+        Action::Unstatic { vid: _, address: _ } => Ok(()),
+        Action::Up { port } => check_port(alloc, ports, place, "port", *port),
+        Action::Down { port } => check_port(alloc, ports, place, "port", *port),
+    }
+}
+
+pub(crate) fn check_commands(
+    alloc: Global,
+    ports: &TreePorts,
+    commands: &[CommandTable],
+) -> Result<(), TopoFault>
+    ensures { Gives result (each_ok (command_ok ports.now) commands.now 0 commands.now) }
+{
+    for (index, command) in commands.iter().enumerate() {
+        let place = Place::Element {
+            table: "command",
+            index,
+        };
+        check_action(alloc, ports, place, &command.action)?;
+    }
+    Ok(())
+}
+
+/// Refuses the key of a port in the table `captures` for that fault, where the test passes.
+fn refuse_capture(alloc: Global, test: bool, port: PortId, fault: KeyFault) -> Result<(), TopoFault>
+    ensures { Gives result (refuse test fault (capture_key port)) }
+{
+    if !test {
+        return Ok(());
+    }
+    let place = Place::Table { table: "captures" };
+    let key = format!(in alloc; "{}", PortName(port))?;
+    Err(place.fault(alloc, key.as_str(), fault))
+}
+
+fn check_capture(alloc: Global, ports: &TreePorts, capture: &Named) -> Result<(), TopoFault>
+    ensures { Gives result (capture_ok ports.now [] 0 capture.now) }
+{
+    let unknown = !ports.is_external(capture.port);
+    refuse_capture(alloc, unknown, capture.port, KeyFault::UnknownPort)
+}
+
+pub(crate) fn check_captures(
+    alloc: Global,
+    ports: &TreePorts,
+    captures: &[Named],
+) -> Result<(), TopoFault>
+    ensures { Gives result (each_ok (capture_ok ports.now) captures.now 0 captures.now) }
+{
+    for capture in captures {
+        check_capture(alloc, ports, capture)?;
+    }
+    Ok(())
+}
+
+/// Whether a file has one of these names.
+fn is_output(name: &str, outputs: &[Text]) -> bool
+    ensures { result ≡ list_any (λ o. bytes_eq name.now o) outputs.now }
+{
+    for output in outputs {
+        if name == output.as_str() {
+            return true;
+        }
+    }
+    false
+}
+
+fn check_file(alloc: Global, outputs: &[Text], capture: &Named) -> Result<(), TopoFault>
+    ensures { Gives result (file_ok outputs.now [] 0 capture.now) }
+{
+    let again = is_output(capture.name.as_str(), outputs);
+    refuse_capture(alloc, again, capture.port, KeyFault::Repeat)
+}
+
+/// Refuses captures that have the name of an output file.
+pub(crate) fn check_files(
+    alloc: Global,
+    outputs: &[Text],
+    captures: &[Named],
+) -> Result<(), TopoFault>
+    ensures { Gives result (each_ok (file_ok outputs.now) captures.now 0 captures.now) }
+{
+    for capture in captures {
+        check_file(alloc, outputs, capture)?;
+    }
+    Ok(())
+}

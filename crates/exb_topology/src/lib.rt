@@ -1,0 +1,16 @@
+//! Reading a topology file: the bridge, its tree of extenders, what the start sets, commands and captures,
+//! or the first fault of the file with the key where it stands. Upwards it promises that `read` answers
+//! exactly what the definition `topology_of` says, and that what it answers is sound: a valid setup, and
+//! commands and captures that name external ports alone. It stands on `exb_tables`, which reads the tables.
+#![tactic(auto)]
+
+mod checks;
+mod outputs;
+mod start;
+mod topology;
+mod tree_ports;
+mod trees;
+
+pub use exb_keys::faults::{KeyFault, TopoFault};
+pub use exb_tables::Named;
+pub use topology::{Topology, read};
