@@ -121,10 +121,10 @@ pub prefix_same : (t u : Topology) → topology_view t ≡ topology_view u → t
 prefix_same t u e = ap (λ (v : TopologySeen). v.prefix) e
 
 -- a setup of which only the tree is looked at
-abbrev tree_alone : ℕ → List ExtenderSetup → Setup
+abbrev pub tree_alone : ℕ → List ExtenderSetup → Setup
 tree_alone ports extenders = record { ports = ports; extenders = extenders; channels = 0; groups = 0; ageing = 0; start = [] }
 
-shape_alone : (s : Setup) → shape_of s ≡ shape_of (tree_alone s.ports s.extenders)
+pub shape_alone : (s : Setup) → shape_of s ≡ shape_of (tree_alone s.ports s.extenders)
 unfolding shape_of
 shape_alone s = refl
 

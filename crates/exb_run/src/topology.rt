@@ -34,6 +34,7 @@ fn refused(fault: TopoFault) -> Fault
 }
 
 /// What a topology file says.
+#[tactic(auto, using(crate::proofs::Refusing::captures_external))]
 fn parse(alloc: Global, file: &[u8]) -> Result<Topology, Fault>
     ensures read { IfOk result (λ topology. topology_of file.now ≡ Ok (topology_view topology)) }
     ensures valid { IfOk result (λ topology. IsValid topology.setup) }
