@@ -4,3 +4,7 @@ pub mod FromTop
 pub mod RowsCover
 pub mod RowLists
 pub mod Carrying
+pub mod SetPorts
+pub mod GroundLemmas
+pub mod SetFolds
+pub mod SpaceSets

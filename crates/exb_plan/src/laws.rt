@@ -2,6 +2,7 @@
 ghost use Rattle.exb_plan.specs.Carrying.{CarriedFromTheTop, GroupWordsCarry, ChannelWordsCarry, ControlWordsCarry};
 ghost use Rattle.exb_plan.specs.Rows.{RowsCover};
 ghost use Rattle.exb_plan.specs.Laying.{RowsLie};
+ghost use Rattle.exb_plan.specs.Sets.{SetsOfEach};
 
 /// What is carried may be followed from the top: what leaves at a port is what the extender sends at its
 /// port towards it, carried into the extender there.
@@ -34,4 +35,9 @@ pub fn channel_words_carry()
 /// E-TAG. On its way it is as it was, and it leaves at no other port.
 pub fn control_words_carry()
     ensures { ControlWordsCarry }
+{}
+
+/// Of each bridge port, the sets of a configuration are those that need a group of its space, in order.
+pub fn sets_of_each()
+    ensures { SetsOfEach }
 {}

@@ -103,7 +103,7 @@ vlans_may t (Some vs) =
 pub all_may : (t : Shape) (ps : List PortTable) (vlans : Option (List VlanTable)) (ss : List StaticTable) (start : List Command) → each_ok (port_table_ok t) ps 0 ps ≡ Ok tt
     → map seen start ≡ flat_map port_start ps ++ vlans_start t vlans ++ map (static_start t) ss → All (IsStart t) start
 all_may t ps vlans ss start ok is =
-    let ports = each_parts (MayStart t) (λ p. is_external t p.name ≡ true) port_start ps (port_out t ps ok) (λ p out. (out, out, out, out, tt)) in
+    let ports = each_parts (MayStart t) (λ p. is_external t p.name ≡ true) port_start ps (port_out t ps ok) (λ p out. (out, (out, (out, (out, tt))))) in
     let statics = each_map (MayStart t) (static_start t) ss (λ s. listed_out t s.ports) in
     let all = each_append (MayStart t) (flat_map port_start ps ++ vlans_start t vlans) (map (static_start t) ss) (each_append (MayStart t) (flat_map port_start ps) (vlans_start t vlans) ports (vlans_may t vlans)) statics in
     all_start t start (subst (Each (MayStart t)) (sym is) all)

@@ -14,3 +14,6 @@ mod trees;
 pub use exb_keys::faults::{KeyFault, TopoFault};
 pub use exb_tables::Named;
 pub use topology::{Topology, read};
+
+#[cfg(test)]
+mod tests;

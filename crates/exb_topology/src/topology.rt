@@ -1,9 +1,11 @@
 //! A topology file, read whole.
-ghost use Rattle.std.specs.Prelude.{IfOk};
-ghost use Rattle.exb_keys.specs.Faults.{GivesSeen};
-ghost use Rattle.exb_model.specs.Setup.{IsValid};
+ghost use Rattle.std.specs.Prelude.{◌≡◌, IfOk, OnOk, Ok};
+ghost use Rattle.exb_keys.specs.Faults.{Gives, GivesSeen};
+ghost use Rattle.exb_model.specs.Setup.{IsValid, shape_of};
 ghost use Rattle.exb_tables.specs.Tables.{AreInRange};
-ghost use Rattle.exb_topology.specs.Topologies.{topology_view, topology_of, resolved};
+ghost use Rattle.exb_topology.specs.Each.{each_ok};
+ghost use Rattle.exb_topology.specs.Checks.{port_table_ok, ports_ok};
+ghost use Rattle.exb_topology.specs.Topologies.{topology_view, topology_seen, topology_of, bare, resolved};
 
 use crate::outputs::output_names;
 use crate::tree_ports::TreePorts;
@@ -11,7 +13,8 @@ use crate::trees::check_tree;
 use crate::{checks, start};
 use exb_keys::faults::TopoFault;
 use exb_model::list::List;
-use exb_model::setup::{Setup, Timed, Verdict};
+use exb_model::memory::NoMemory;
+use exb_model::setup::{ExtenderSetup, Setup, Timed, Verdict};
 use exb_model::text::Text;
 use exb_model::tree::Tree;
 use exb_tables::{Named, Tables, tables_of};
@@ -32,42 +35,74 @@ pub struct Topology {
     pub prefix: Text,
 }
 
-/// The second and the third pass over the tables of a file.
-#[tactic(auto, unfolding(crate::specs::Topologies::resolved, crate::specs::Checks::ports_ok))]
-fn resolved(alloc: Global, tables: Tables) -> Result<Topology, TopoFault>
-    requires { AreInRange tables }
-    ensures exact { GivesSeen topology_view result (resolved tables) }
+fn copied(alloc: Global, extenders: &[ExtenderSetup]) -> Result<List<ExtenderSetup>, NoMemory>
+    ensures { IfOk result (λ copy. copy ≡ extenders.now) }
+{
+    let mut copy = List::new(alloc);
+    for extender in extenders {
+        copy.push(*extender)?;
+    }
+    Ok(copy)
+}
+
+/// The setup of the tables of a file, with nothing at its start yet.
+fn bare(alloc: Global, tables: &Tables) -> Result<Setup, NoMemory>
+    ensures { IfOk result (λ setup. setup ≡ bare tables.now) }
+{
+    let extenders = copied(alloc, tables.extenders.as_slice())?;
+    Ok(Setup {
+        ports: tables.bridge.ports,
+        extenders,
+        channels: tables.bridge.channels,
+        groups: tables.bridge.groups,
+        ageing: tables.bridge.ageing,
+        start: List::new(alloc),
+    })
+}
+
+/// The third pass over the tables of a file.
+#[tactic(auto, unfolding(crate::specs::Checks::ports_ok))]
+fn check_ports(alloc: Global, ports: &TreePorts, tables: &Tables) -> Result<(), TopoFault>
+    ensures value { Gives result (ports_ok ports.now tables.now) }
+    ensures named { OnOk result (each_ok (port_table_ok ports.now) tables.now.ports 0 tables.now.ports ≡ Ok tt) }
+{
+    checks::check_ports(alloc, ports, tables.ports.as_slice())?;
+    checks::check_vlans(alloc, ports, &tables.vlans)?;
+    checks::check_statics(alloc, ports, tables.statics.as_slice())?;
+    checks::check_commands(alloc, ports, tables.commands.as_slice())?;
+    checks::check_captures(alloc, ports, tables.captures.as_slice())?;
+    let outputs = output_names(alloc, tables.bridge.out.as_str(), ports)?;
+    checks::check_files(alloc, outputs.as_slice(), tables.captures.as_slice())
+}
+
+/// The topology of tables that passed, from its valid setup with nothing at the start.
+fn finished(
+    alloc: Global,
+    setup: Setup,
+    ports: &TreePorts,
+    tables: Tables,
+) -> Result<Topology, NoMemory>
+    requires bare { setup ≡ bare tables }
+    requires tree { ports.now ≡ shape_of setup }
+    requires valid { IsValid setup }
+    requires named { each_ok (port_table_ok ports.now) tables.ports 0 tables.ports ≡ Ok tt }
+    ensures exact { IfOk result (λ t. topology_view t ≡ topology_seen ports.now tables) }
     ensures valid { IfOk result (λ t. IsValid t.setup) }
 {
     let Tables {
         bridge,
         fate,
-        extenders,
+        extenders: _extenders,
         ports: tables,
         vlans,
         statics,
         commands,
         captures,
     } = tables;
-    let mut setup = Setup {
-        ports: bridge.ports,
-        extenders,
-        channels: bridge.channels,
-        groups: bridge.groups,
-        ageing: bridge.ageing,
-        start: List::new(alloc),
-    };
-    check_tree(alloc, &setup)?;
-    let ports = TreePorts::new(Tree::new(alloc, &setup)?);
-    checks::check_ports(alloc, &ports, tables.as_slice())?;
-    checks::check_vlans(alloc, &ports, &vlans)?;
-    checks::check_statics(alloc, &ports, statics.as_slice())?;
-    checks::check_commands(alloc, &ports, commands.as_slice())?;
-    checks::check_captures(alloc, &ports, captures.as_slice())?;
-    let outputs = output_names(alloc, bridge.out.as_str(), &ports)?;
-    checks::check_files(alloc, outputs.as_slice(), captures.as_slice())?;
-    setup.start = start::start_of(alloc, &ports, tables.as_slice(), &vlans, statics.as_slice())?;
-    let commands = start::commands_of(alloc, &ports, commands.as_slice())?;
+    let start = start::start_of(alloc, ports, tables.as_slice(), &vlans, statics.as_slice())?;
+    let commands = start::commands_of(alloc, ports, commands.as_slice())?;
+    let mut setup = setup;
+    setup.start = start;
     Ok(Topology {
         setup,
         commands,
@@ -75,6 +110,21 @@ fn resolved(alloc: Global, tables: Tables) -> Result<Topology, TopoFault>
         captures,
         prefix: bridge.out,
     })
+}
+
+/// The second and the third pass over the tables of a file.
+#[tactic(auto, unfolding(crate::specs::Topologies::resolved))]
+fn resolved(alloc: Global, tables: Tables) -> Result<Topology, TopoFault>
+    requires { AreInRange tables }
+    ensures exact { GivesSeen topology_view result (resolved tables) }
+    ensures valid { IfOk result (λ t. IsValid t.setup) }
+{
+    let setup = bare(alloc, &tables)?;
+    check_tree(alloc, &setup)?;
+    let ports = TreePorts::new(Tree::new(alloc, &setup)?);
+    check_ports(alloc, &ports, &tables)?;
+    let topology = finished(alloc, setup, &ports, tables)?;
+    Ok(topology)
 }
 
 /// The topology of a file, or its first fault. A file of more than 16,777,216 bytes is Large, and one that

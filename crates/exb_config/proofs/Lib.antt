@@ -1,0 +1,4 @@
+pub mod Words
+pub mod Statics
+pub mod Rows
+pub mod Changes

@@ -1,0 +1,92 @@
+//! The members of one VLAN.
+ghost use Rattle.std.specs.Prelude.{◌≡◌, ℕ, ◌==◌, not, if◌then◌else◌, Some, None};
+ghost use Rattle.exb_model.specs.Ports.{port_in};
+ghost use Rattle.exb_model.specs.Configuration.{kind_in};
+ghost use Rattle.exb_model.specs.Refusals.{is_kind};
+
+use crate::port_sets::{except, is_empty};
+use exb_model::port::PortId;
+use exb_model::port_set::PortSet;
+use exb_model::vlan::Kind;
+
+/// The members of a VLAN. A port in both sets is untagged.
+#[derive(Clone, Copy, Debug, PartialEq, Eq)]
+pub struct Members {
+    pub tagged: PortSet,
+    pub untagged: PortSet,
+}
+
+impl Members {
+    ghost use Rattle.exb_config.specs.Rows.{has_member};
+
+    /// No port.
+    pub fn none() -> Members
+        ensures { (q : ℕ) → kind_in result.tagged result.untagged q ≡ None }
+    {
+        Members {
+            tagged: PortSet::empty(),
+            untagged: PortSet::empty(),
+        }
+    }
+
+    /// How a port is a member.
+    pub fn kind(&self, port: PortId) -> Option<Kind>
+        ensures { result ≡ kind_in self.now.tagged self.now.untagged port }
+    {
+        if self.untagged.contains(port) {
+            Some(Kind::Untagged)
+        } else if self.tagged.contains(port) {
+            Some(Kind::Tagged)
+        } else {
+            None
+        }
+    }
+
+    /// The members with a port put in.
+    pub fn with(&self, port: PortId, kind: Kind) -> Members
+        ensures { (q : ℕ) → kind_in result.tagged result.untagged q
+            ≡ (if q == port then Some kind else kind_in self.now.tagged self.now.untagged q) }
+    {
+        let mut tagged = self.tagged;
+        let mut untagged = self.untagged;
+        match kind {
+            Kind::Tagged => {
+                untagged.remove(port);
+                tagged.insert(port);
+            }
+            Kind::Untagged => {
+                untagged.insert(port);
+            }
+        }
+        Members { tagged, untagged }
+    }
+
+    /// The members with a port taken out.
+    pub fn without(&self, port: PortId) -> Members
+        ensures { (q : ℕ) → kind_in result.tagged result.untagged q
+            ≡ (if q == port then None else kind_in self.now.tagged self.now.untagged q) }
+    {
+        let mut tagged = self.tagged;
+        let mut untagged = self.untagged;
+        tagged.remove(port);
+        untagged.remove(port);
+        Members { tagged, untagged }
+    }
+
+    /// The ports that are members of a kind.
+    pub fn of_kind(&self, kind: Kind) -> PortSet
+        ensures { (q : ℕ) → port_in result q ≡ is_kind kind (kind_in self.now.tagged self.now.untagged q) }
+    {
+        match kind {
+            Kind::Tagged => except(&self.tagged, &self.untagged),
+            Kind::Untagged => self.untagged,
+        }
+    }
+
+    /// Whether no port is a member.
+    pub fn is_empty(&self) -> bool
+        ensures { result ≡ not (has_member self.now) }
+    {
+        is_empty(&self.tagged) && is_empty(&self.untagged)
+    }
+}

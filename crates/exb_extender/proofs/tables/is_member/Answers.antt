@@ -1,0 +1,7 @@
+use Rattle.std.proofs.Common.{sym, ap, ◌∙◌, arith}
+use Rattle.exb_csp.specs.Execute.{in_mask, some_port}
+use Rattle.exb_csp.proofs.Executing.{some_bit}
+use Rattle.exb_extender.proofs.tables.is_member.Goals as goal
+
+pub returns : goal.returns
+returns c = sym (some_bit c.row.result (omega (arith, c.row.type_inv))) ∙ ap (λ w. some_port (in_mask w)) c.row.ensures

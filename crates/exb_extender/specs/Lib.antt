@@ -1,0 +1,11 @@
+pub mod Kept
+pub mod Rows
+pub mod Tables
+pub mod Forwarding
+pub mod Sending
+pub mod Machine
+pub mod Fields
+pub mod ControlState
+pub mod Control
+pub mod AllTables
+pub mod Laws

@@ -1,0 +1,41 @@
+//! Laws of the machine, and of the tables of all extenders.
+ghost use Rattle.exb_extender.specs.Laws.{EmitsOfAll, DoneAtEachPort, RefusedAtNoPort, RunsLayRows, CodesExactly, ManyCodes, StaysExtender};
+
+/// What an extender sends at a port of a frame from upstream is what the tables of all extenders say of that
+/// port.
+pub fn emits_of_all()
+    ensures { EmitsOfAll }
+{}
+
+/// A request that is answered with code 0 does at each port what it asks, and changes nothing else in the
+/// tables of all extenders.
+pub fn done_at_each_port()
+    ensures { DoneAtEachPort }
+{}
+
+/// A request that is answered with another code changes nothing.
+pub fn refused_at_no_port()
+    ensures { RefusedAtNoPort }
+{}
+
+/// A run of Registers of one number at any extenders, each of them done, lays exactly their masks.
+pub fn runs_lay_rows()
+    ensures { RunsLayRows }
+{}
+
+/// Creating, deleting, registering and unregistering are answered with code 1, 2 or 3 exactly where the port
+/// isn't there or a port of the mask has no channel, where the channel or E-CID is out of its range, and where
+/// the port has a channel already or the E-CID a pair.
+pub fn codes_exactly()
+    ensures { CodesExactly }
+{}
+
+/// Registering many rows has another code than 0 exactly where a first row has it.
+pub fn many_codes()
+    ensures { ManyCodes }
+{}
+
+/// What holds of an extender at power-on holds after each reaction, and its number and its ports stay.
+pub fn stays_extender()
+    ensures { StaysExtender }
+{}

@@ -1,0 +1,23 @@
+//! One port extender (after IEEE 802.1BR): it forwards frames by its tables, and the controlling bridge sets
+//! these by requests.
+//!
+//! Upwards it promises that each call is a step of the machine in `specs/Machine`: the same state afterwards,
+//! and the same frames sent to the same sides in the same order, for any frame. Only its constructor takes
+//! memory, and no call copies a frame that it forwards. It stands on `exb_frame`, `exb_lldp`, `exb_ecp`,
+//! `exb_csp`, `exb_session` and `exb_members`.
+#![tactic(auto)]
+
+mod control;
+mod extender;
+mod forwarding;
+pub mod laws;
+mod sends;
+mod tables;
+
+pub use extender::Extender;
+pub use sends::{Entry, Form, Out, Sends, Side};
+
+#[cfg(test)]
+mod fixture;
+#[cfg(test)]
+mod tests;

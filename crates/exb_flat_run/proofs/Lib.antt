@@ -1,0 +1,14 @@
+mod Plays
+mod WaysUp
+pub mod Ranges
+pub mod TurnLemmas
+mod SiteLemmas
+pub mod MergeLemmas
+pub mod Counts
+pub mod TextLemmas
+pub mod Played
+pub mod SetLists
+mod PlayRules
+mod EachEvents
+mod PortOrder
+mod InMerge

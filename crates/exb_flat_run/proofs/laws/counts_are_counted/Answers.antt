@@ -1,0 +1,8 @@
+use Rattle.exb_flat_run.proofs.Counts.{counts-apart, counts-sorted}
+use Rattle.exb_flat_run.proofs.laws.counts_are_counted.Goals as goal
+
+pub returns-clause-all : goal.returns-clause-all
+returns-clause-all c = counts-sorted
+
+pub returns-clause-parts : goal.returns-clause-parts
+returns-clause-parts c = counts-apart

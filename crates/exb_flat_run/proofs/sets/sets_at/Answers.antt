@@ -1,0 +1,14 @@
+use Rattle.std.proofs.Common.{◌≡◌, ℕ, fold, List, [], map, refl, sym, ap, ◌∙◌}
+use Rattle.exb_model.specs.Refusals.{with_set}
+use Rattle.exb_flat.specs.Configs.{bridge_of}
+use Rattle.exb_flat_run.specs.Sets.{lists_in, vlan_sets, entry_sets}
+use Rattle.exb_flat_run.proofs.SetLists.{sets-are}
+use Rattle.exb_flat_run.proofs.sets.sets_at.Goals as goal
+
+pub returns : goal.returns
+returns c =
+    let b = bridge_of c.args.config.now in
+    c.in_ok-put_statics.ensures
+    ∙ ap (λ sets. fold with_set sets (entry_sets b c.as_slice-2.result.now c.statics.result.now)) c.in_ok-put_vlans.ensures
+    ∙ sets-are c.args.layout.now c.args.trunk b (lists_in c.new-sets.result.items) c.as_slice.result.now c.as_slice-2.result.now c.statics.result.now
+    (ap lists_in c.new-sets.ensures.items) (c.as_slice.ensures.value ∙ c.in_ok-members.ensures) (c.as_slice-2.ensures.value ∙ c.in_ok-members.ensures) c.statics.ensures

@@ -1,0 +1,9 @@
+pub mod Layouts
+pub mod Sets
+pub mod Limits
+pub mod Sites
+pub mod Merging
+pub mod Turns
+pub mod Counting
+pub mod Outcomes
+pub mod Inputs

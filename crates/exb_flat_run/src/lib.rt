@@ -1,0 +1,18 @@
+//! The plain program, second half: from a setup, commands and captures to the history of the eager run and all
+//! that it writes. It computes the definitions of `exb_model` in the slow and obvious way, and looks at the
+//! whole history anew at each event. Upwards it promises that what it gives is what the definitions say, and
+//! that an eager history is legal. It stands on `exb_flat`, on `exb_merge`, `exb_pcap` and `exb_text`, whose
+//! contracts are the definitions, and on `exb_frame` and `exb_model`.
+#![tactic(auto)]
+
+pub mod eager;
+pub mod laws;
+pub mod layout;
+pub mod merge;
+pub mod outcome;
+pub mod refusal;
+pub mod sets;
+pub mod site;
+#[cfg(test)]
+mod tests;
+pub mod texts;

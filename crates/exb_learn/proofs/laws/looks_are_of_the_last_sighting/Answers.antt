@@ -1,0 +1,5 @@
+use Rattle.exb_learn.proofs.Runs.{looks}
+use Rattle.exb_learn.proofs.laws.looks_are_of_the_last_sighting.Goals as goal
+
+pub returns : goal.returns
+returns c = looks

@@ -1,0 +1,4 @@
+pub mod Calls
+pub mod Sightings
+pub mod Entries
+pub mod Histories

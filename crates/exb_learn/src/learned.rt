@@ -1,0 +1,126 @@
+//! The learned entries.
+ghost use Rattle.std.specs.Prelude.{◌≡◌, ℕ, ◌+◌, ◌<◌, ◌≤◌, ◌^◌, false, OnOk, OnErr};
+ghost use Rattle.exb_model.specs.Frames.{is_group};
+ghost use Rattle.exb_model.specs.Learning.{live_port};
+ghost use Rattle.exb_learn.specs.Entries.{place_of, table_of, look_of};
+ghost use Rattle.exb_learn.specs.Calls.{See, Tick, Forget, empty_table, after_call};
+
+use crate::entries::{Entry, find_entry, forget_port, put_entry};
+use exb_model::address::Mac;
+use exb_model::memory::NoMemory;
+use exb_model::port::PortId;
+use exb_model::vlan::Vid;
+use std::alloc::Global;
+use std::marker::Model;
+
+/// Where each address was seen last in each VLAN, with a clock in seconds.
+#[derive(Drop)]
+pub struct Learned {
+    entries: Vec<Entry>,
+    clock: u64,
+    ageing: u32,
+}
+
+impl Model for Learned {
+    ghost use Rattle.std.specs.Prelude.{◌-◌, vec_len, vec_capacity};
+    ghost use Rattle.exb_learn.specs.Entries.{Entries};
+
+    ghost Value = { Entries };
+
+    ghost view = { λ l. record { entries = l.entries.items; clock = l.clock; ageing = l.ageing; spare = vec_capacity l.entries - vec_len l.entries } };
+}
+
+// The port of an entry that is live.
+fn live_port(entry: Option<Entry>, clock: u64, ageing: u32) -> Option<PortId>
+    ensures { result ≡ live_port clock ageing (place_of entry) }
+{
+    match entry {
+        Some(entry) if !entry.forgotten && clock.saturating_sub(entry.at) < u64::from(ageing) =>
+            Some(entry.port),
+        _ => None,
+    }
+}
+
+impl Learned {
+    /// Nothing is learned. Entries live for less than `ageing` seconds; with 0 nothing is ever learned.
+    #[tactic(auto, unfolding(crate::specs::Entries::table_of))]
+    pub fn new(alloc: Global, ageing: u32) -> Learned
+        ensures table { table_of result ≡ empty_table ageing }
+        ensures clock { result.clock ≡ 0 }
+    {
+        Learned {
+            entries: Vec::new(alloc),
+            clock: 0,
+            ageing,
+        }
+    }
+
+    /// Makes room for one more entry. Nothing that is learned changes.
+    #[tactic(auto, unfolding(crate::specs::Entries::table_of))]
+    pub fn reserve(&mut self) -> Result<(), NoMemory>
+        ensures ok { OnOk result (1 ≤ self.new.spare) }
+        ensures err { OnErr result (self.new ≡ self.old) }
+        ensures table { table_of self.new ≡ table_of self.old }
+        ensures clock { self.new.clock ≡ self.old.clock }
+    {
+        self.entries.reserve(1)?;
+        Ok(())
+    }
+
+    /// For how many new entries there is room.
+    pub fn spare(&self) -> u64
+        ensures { result ≡ self.now.spare }
+    {
+        (self.entries.capacity() - self.entries.len()) as u64
+    }
+
+    /// An individual address was seen in a VLAN at a port, now.
+    pub fn see(&mut self, vid: Vid, address: Mac, port: PortId)
+        requires spare { 1 ≤ self.old.spare }
+        requires individual { is_group address.0 ≡ false }
+        ensures table { table_of self.new ≡ after_call (See vid address.0 port) (table_of self.old) }
+        ensures clock { self.new.clock ≡ self.old.clock }
+    {
+        let entry = Entry {
+            vid,
+            address,
+            port,
+            at: self.clock,
+            forgotten: false,
+        };
+        put_entry(&mut self.entries, entry);
+    }
+
+    /// The port at which an address was seen last in a VLAN; None exactly where it wasn't, where that was the
+    /// ageing time or more ago, or where that port was forgotten since.
+    #[tactic(auto, unfolding(crate::specs::Entries::table_of))]
+    pub fn look(&self, vid: Vid, address: Mac) -> Option<PortId>
+        ensures { result ≡ look_of self.now vid address.0 }
+    {
+        live_port(
+            find_entry(self.entries.as_slice(), vid, address),
+            self.clock,
+            self.ageing,
+        )
+    }
+
+    /// So many seconds go by. The clock stays below 2^63.
+    #[tactic(auto, unfolding(crate::specs::Entries::table_of))]
+    pub fn tick(&mut self, seconds: u32)
+        requires { self.old.clock + seconds < 2 ^ 63 }
+        ensures table { table_of self.new ≡ after_call (Tick seconds) (table_of self.old) }
+        ensures clock { self.new.clock ≡ self.old.clock + seconds }
+        ensures spare { self.new.spare ≡ self.old.spare }
+    {
+        self.clock += u64::from(seconds);
+    }
+
+    /// Forgets what was seen at a port.
+    pub fn forget(&mut self, port: PortId)
+        ensures table { table_of self.new ≡ after_call (Forget port) (table_of self.old) }
+        ensures clock { self.new.clock ≡ self.old.clock }
+        ensures spare { self.new.spare ≡ self.old.spare }
+    {
+        forget_port(&mut self.entries, port);
+    }
+}

@@ -1,0 +1,13 @@
+//! What the bridge has learned (IEEE 802.1Q, clause 8.8.3): the port at which an address was seen last in a
+//! VLAN, while that was less than the ageing time ago and the port didn't go down since. Upwards it promises
+//! that over every list of calls a look-up answers just that. It stands on `exb_model`.
+#![tactic(auto)]
+
+pub mod entries;
+pub mod laws;
+pub mod learned;
+
+pub use learned::Learned;
+
+#[cfg(test)]
+mod tests;

@@ -1,0 +1,7 @@
+pub mod Lowest
+pub mod Kept
+pub mod Rising
+pub mod Places
+pub mod Ordered
+pub mod Apart
+pub mod Built

@@ -1,0 +1,8 @@
+use Rattle.std.proofs.Common.{◌≡◌, ◌∙◌, ℕ, List, ap, sym, subst, replicate, ◌+◌}
+use Rattle.std.specs.Prelude.{Option, None}
+use Rattle.exb_numbers.specs.Channels.{AreKept}
+use Rattle.exb_numbers.proofs.Kept.{first_kept}
+use Rattle.exb_numbers.proofs.channels.Channels.new.Goals as goal
+
+pub invariant_of-result : goal.invariant_of-result
+invariant_of-result c = rw (c.in_ok-no_ports.ensures, c.in_ok-no_channels.ensures) (first_kept c.args.limit c.requires)

@@ -1,0 +1,6 @@
+use Rattle.std.proofs.Common.{◌≡◌, ◌∙◌, ap, not, sym}
+use Rattle.exb_numbers.proofs.Places.{told_ports}
+use Rattle.exb_numbers.proofs.groups.has_ports.Goals as goal
+
+pub returns : goal.returns
+returns c = sym (told_ports c.args.set.now c.empty.result c.is_same.result c.empty.ensures c.is_same.ensures)

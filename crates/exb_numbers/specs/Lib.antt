@@ -1,0 +1,6 @@
+pub mod Lowest
+pub mod Channels
+pub mod Groups
+pub mod Order
+pub mod Spaces
+pub mod Lent

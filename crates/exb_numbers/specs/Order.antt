@@ -1,0 +1,76 @@
+-- The groups in use, in the order of their sets, by which a set is found.
+use Rattle.std.specs.Prelude.{◌≡◌, ℕ, ◌<◌, ◌≤◌, Bool, true, false, not, List, [], Option, Some, None, length, slice_get, slice_index, slice_index_or, sum_by, slice_set, nat_lt, ◌++◌, ◌∷◌, insert, remove, if◌then◌else◌}
+use Rattle.std.specs.Ordering.{nat_cmp}
+use Rattle.std.specs.declared.cmp.Ordering.{Ordering}
+use Rattle.std.specs.declared.cmp.Ordering.TheVariants.{Less, Greater}
+use Rattle.std.specs.Cmp.Lexicographic.{slice_cmp}
+use Rattle.exb_model.specs.declared.port_set.PortSet.{PortSet}
+use Rattle.exb_model.specs.Refusals.{is_empty_set}
+use Rattle.exb_numbers.specs.Groups.{sets_of}
+
+abbrev pub words_of : Option PortSet → List ℕ
+words_of None = []
+words_of (Some s) = s.words
+
+-- the words of the set at a place
+abbrev pub words_at : List PortSet → ℕ → List ℕ
+words_at sets n = words_of (slice_get sets n)
+
+abbrev pub compared : List ℕ → List ℕ → Ordering
+compared a b = slice_cmp nat_cmp a b
+
+-- the place holds a set
+abbrev pub is_held : List (List ℕ) → ℕ → Bool
+is_held sets n = not (is_empty_set (slice_index_or sets n []))
+
+-- the words rise along the places
+abbrev pub IsRising : (ℕ → List ℕ) → List ℕ → Type 0
+IsRising words order = (i j : ℕ) → i < j → j < length order → compared (words (slice_index order i)) (words (slice_index order j)) ≡ Less
+
+-- the words are less than w before the index, and greater from it on
+pub record SplitsAt (words : ℕ → List ℕ) (order w : List ℕ) (i : ℕ) : Type 0 where
+  pub within : i ≤ length order
+  pub before : (k : ℕ) → k < i → compared (words (slice_index order k)) w ≡ Less
+  pub after : (k : ℕ) → i ≤ k → k < length order → compared (words (slice_index order k)) w ≡ Greater
+
+-- the words at the index are w
+pub record IsAt (words : ℕ → List ℕ) (order w : List ℕ) (i : ℕ) : Type 0 where
+  pub within : i < length order
+  pub same : words (slice_index order i) ≡ w
+
+-- the index at which a place stands
+pub record StandsAt (order : List ℕ) (n : ℕ) : Type 0 where
+  pub index : ℕ
+  pub within : index < length order
+  pub is : slice_index order index ≡ n
+
+abbrev pub weight : List ℕ → ℕ
+weight set = if is_empty_set set then 0 else 1
+
+-- what the type keeps
+pub record AreOrdered (limit : ℕ) (sets : List PortSet) (order : List ℕ) (free : ℕ) : Type 0 where
+  pub few : length sets ≤ limit
+  pub short : limit ≤ 12288
+  pub rising : IsRising (words_at sets) order
+  pub there : (n : ℕ) → is_held (sets_of sets) n ≡ true → StandsAt order n
+  pub held : (i : ℕ) → i < length order → is_held (sets_of sets) (slice_index order i) ≡ true
+  pub counted : length order ≡ sum_by weight (sets_of sets)
+  pub high : free ≤ length sets
+  pub below : (n : ℕ) → n < free → is_held (sets_of sets) n ≡ true
+  pub at : is_held (sets_of sets) free ≡ false
+
+-- the list with a new member at a place, or at its end
+abbrev pub put_at : List PortSet → ℕ → PortSet → List PortSet
+put_at sets n s = if nat_lt n (length sets) then slice_set sets n s else sets ++ s ∷ []
+
+-- a place was put in where the words w belong
+pub record IsEntered (words : ℕ → List ℕ) (old w : List ℕ) (n : ℕ) (new : List ℕ) : Type 0 where
+  pub index : ℕ
+  pub splits : SplitsAt words old w index
+  pub is : new ≡ insert old index n
+
+-- the place with the words w was taken out
+pub record IsLeft (words : ℕ → List ℕ) (old w new : List ℕ) : Type 0 where
+  pub index : ℕ
+  pub at : IsAt words old w index
+  pub is : new ≡ remove old index

@@ -1,0 +1,11 @@
+mod Lists
+mod Under
+mod Choosing
+mod Sets
+mod Words
+mod Leaving
+mod Flat
+mod Each
+mod BelowWords
+mod Steps
+mod Relaying

@@ -1,0 +1,5 @@
+use Rattle.exb_relay.proofs.Each.{sends_are}
+use Rattle.exb_relay.proofs.laws.sends_are_words.Goals as goal
+
+pub returns : goal.returns
+returns c = sends_are

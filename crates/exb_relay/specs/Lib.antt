@@ -1,0 +1,7 @@
+pub mod Numbers
+pub mod Choices
+pub mod Sends
+pub mod Words
+pub mod Spaces
+pub mod Leaving
+pub mod Laws

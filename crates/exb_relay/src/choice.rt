@@ -1,0 +1,53 @@
+//! How the ports of a frame are chosen.
+ghost use Rattle.std.specs.Prelude.{◌≡◌, ◌==◌, ◌%◌, slice_index, if◌then◌else◌, None};
+ghost use Rattle.exb_model.specs.Frames.{is_group};
+ghost use Rattle.exb_config.specs.Tables.{bridge_of};
+ghost use Rattle.exb_learn.specs.Entries.{look_of};
+ghost use Rattle.exb_relay.specs.Choices.{choice};
+
+use exb_config::Config;
+use exb_learn::Learned;
+use exb_model::address::Mac;
+use exb_model::port::PortId;
+use exb_model::port_set::PortSet;
+use exb_model::vlan::Vid;
+
+/// The ports of which the targets of a frame are taken (IEEE 802.1Q, clause 8.6): those of a static entry, else
+/// the learned port of its destination, else all.
+#[derive(Clone, Copy, Debug, PartialEq, Eq)]
+pub enum Choice {
+    All,
+    Listed(PortSet),
+    Learned(PortId),
+}
+
+/// Whether the address is a group's: the lowest bit of its first byte is 1.
+fn is_group(address: Mac) -> bool
+    ensures { result ≡ is_group address.0 }
+{
+    address.0[0] % 2 == 1
+}
+
+/// The port that was learned for an individual address; none for a group's.
+fn learned_port(learned: &Learned, vid: Vid, address: Mac) -> Option<PortId>
+    ensures { result ≡ (if is_group address.0 then None else look_of learned.now vid address.0) }
+{
+    if is_group(address) {
+        None
+    } else {
+        learned.look(vid, address)
+    }
+}
+
+/// How the ports are chosen for a destination in a VLAN.
+pub(crate) fn choose(config: &Config, learned: &Learned, vid: Vid, destination: Mac) -> Choice
+    ensures { result ≡ choice (bridge_of config.now) (look_of learned.now) vid destination.0 }
+{
+    let entry = config.entry(vid, destination);
+    let port = learned_port(learned, vid, destination);
+    match (entry, port) {
+        (Some(ports), _) => Choice::Listed(ports),
+        (None, Some(port)) => Choice::Learned(port),
+        (None, None) => Choice::All,
+    }
+}
