@@ -13,7 +13,7 @@ use Rattle.exb_tables.specs.declared.tables.Tables.{Tables}
 use Rattle.exb_topology.specs.declared.topology.Topology.{Topology}
 use Rattle.exb_topology.specs.Each.{each_ok, refuse}
 use Rattle.exb_topology.specs.Trees.{tree_ok}
-use Rattle.exb_topology.specs.Checks.{ports_ok, capture_ok, port_ok}
+use Rattle.exb_topology.specs.Checks.{ports_ok, port_table_ok, vlans_ok, static_ok, command_ok, capture_ok, file_ok, output_names}
 use Rattle.exb_topology.specs.Topologies.{TopologySeen, topology_view, topology_of, topology_seen, resolved, bare}
 use Rattle.exb_run.proofs.Asking.{tree_alone, shape_alone}
 
@@ -52,22 +52,31 @@ each_external t all i (x ∷ xs) u e (suc k) d low =
 ports_external : (t : Shape) (file : Tables) (u : Unit {0}) → ports_ok t file ≡ Ok u → All (λ x. is_external t x.port ≡ true) file.captures
 unfolding ports_ok
 ports_external t file u e =
-    let ports = went _ _ u e in
-    let vlans = went _ _ u ports.rest in
-    let statics = went _ _ u vlans.rest in
-    let commands = went _ _ u statics.rest in
-    let captures = went _ _ u commands.rest in
-    each_external t file.captures 0 file.captures captures.passed captures.first
+    let Next : Type 0 = Unit {0} → Result (Unit {0}) Refusal in
+    let files : Next = λ _. each_ok (file_ok (output_names file.bridge.out t)) file.captures 0 file.captures in
+    let captures : Next = λ _. each_ok (capture_ok t) file.captures 0 file.captures >>= files in
+    let commands : Next = λ _. each_ok (command_ok t) file.commands 0 file.commands >>= captures in
+    let statics : Next = λ _. each_ok (static_ok t) file.statics 0 file.statics >>= commands in
+    let vlans : Next = λ _. vlans_ok t file.vlans >>= statics in
+    let one = went (each_ok (port_table_ok t) file.ports 0 file.ports) vlans u e in
+    let two = went (vlans_ok t file.vlans) statics u one.rest in
+    let three = went (each_ok (static_ok t) file.statics 0 file.statics) commands u two.rest in
+    let four = went (each_ok (command_ok t) file.commands 0 file.commands) captures u three.rest in
+    let five = went (each_ok (capture_ok t) file.captures 0 file.captures) files u four.rest in
+    each_external t file.captures 0 file.captures five.passed five.first
 
 resolved_external : (file : Tables) (s : TopologySeen) → resolved file ≡ Ok s → All (λ x. is_external (shape_of (tree_alone s.ports s.extenders)) x.port ≡ true) s.captures
 unfolding resolved
 resolved_external file s e =
-    let tree = went _ _ s e in
-    let ports = went _ _ s tree.rest in
-    let same : topology_seen (shape_of (bare file)) file ≡ s = ok_is _ _ ports.rest in
+    let shape : Shape = shape_of (bare file) in
+    let seen : Unit {0} → Result TopologySeen Refusal = λ _. Ok (topology_seen shape file) in
+    let ports : Unit {0} → Result TopologySeen Refusal = λ _. ports_ok shape file >>= seen in
+    let one = went (tree_ok (bare file)) ports s e in
+    let two = went (ports_ok shape file) seen s one.rest in
+    let same : topology_seen shape file ≡ s = ok_is (topology_seen shape file) s two.rest in
     subst (λ (v : TopologySeen). All (λ x. is_external (shape_of (tree_alone v.ports v.extenders)) x.port ≡ true) v.captures) same
-    (subst (λ (shape : Shape). All (λ x. is_external shape x.port ≡ true) file.captures) (shape_alone (bare file))
-    (ports_external (shape_of (bare file)) file ports.passed ports.first))
+    (subst (λ (x : Shape). All (λ n. is_external x n.port ≡ true) file.captures) (shape_alone (bare file))
+    (ports_external shape file two.passed two.first))
   where
     ok_is : (x y : TopologySeen) → ◌≡◌ {A = Result TopologySeen Refusal} (Ok x) (Ok y) → x ≡ y
     ok_is x y e' = cc
