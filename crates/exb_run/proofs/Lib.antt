@@ -7,7 +7,13 @@ pub mod Turned
 pub mod Opened
 pub mod Reaching
 pub mod Coming
+pub mod Taking
 pub mod Filling
 pub mod OutputLemmas
 pub mod FlawLemmas
+pub mod PlanLemmas
+pub mod Refusing
+pub mod Asking
+pub mod Stopping
+pub mod Running
 pub mod RunLemmas

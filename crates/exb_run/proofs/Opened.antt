@@ -17,6 +17,8 @@ use Rattle.exb_text.specs.Tallies.{nothing_counted}
 use Rattle.exb_world.specs.Setups.{IsFirst, is_port_of}
 use Rattle.exb_world.specs.Opening.{OpeningRaises, ExternalsOfFirst}
 use Rattle.exb_world.specs.Worlds.{Stands, first_number, first_ports, left_at}
+use Rattle.exb_run.specs.declared.plan.Plan.{Plan}
+use Rattle.exb_run.specs.Plans.{IsInRange, IsOf}
 use Rattle.exb_run.specs.Writing.{first_text, lines_of, with_more, with_left_frames}
 use Rattle.exb_run.specs.Playing.{IsUnderWay, IsCounted, opened_of, text_after}
 use Rattle.exb_run.proofs.Counting.{count_events}
@@ -79,14 +81,14 @@ unfolding left_at
 left_at-none q = refl
 
 -- the texts before the first event
-pub first_texts : (i : Input) (ports j : ℕ) → first_text ports j ≡ text_after i ports [] j
-first_texts i ports j = by_place (nat_lt j ports) refl
+pub first_texts : (i : Input) (plan : Plan) (j : ℕ) → first_text plan j ≡ text_after i plan [] j
+first_texts i plan j = by_place (nat_lt j plan.ports) refl
   where
-    by_place : (b : Bool) → nat_lt j ports ≡ b → first_text ports j ≡ text_after i ports [] j
-    by_place true e = rw e (sym (ap capture_text (flat-none (basis_of i) (64 + j)) ∙ capture_text-nil))
+    by_place : (b : Bool) → nat_lt j plan.ports ≡ b → first_text plan j ≡ text_after i plan [] j
+    by_place true e = rw e (sym (ap capture_text (flat-none (basis_of i) (64 * plan.number + j)) ∙ capture_text-nil))
     by_place false e = rw e (sym journal-none)
 
-module _ (i : Input) (ports : ℕ) (first : IsFirst i.setup) (few : ports ≤ 64) (number : first_number i.setup.extenders ≡ 1) (has : first_ports i.setup.extenders ≡ ports)
+module _ (i : Input) (plan : Plan) (range : IsInRange plan) (of : IsOf plan i.setup)
     (raises : OpeningRaises) (externals : ExternalsOfFirst)
     (stands : Stands (basis_of i) (opened_of i.setup) [] (opening (tree_of i) (bounds_of i) (basis_of i)) (λ q. [])) where
   abbrev start : History
@@ -95,19 +97,19 @@ module _ (i : Input) (ports : ℕ) (first : IsFirst i.setup) (few : ports ≤ 64
   abbrev events : List Event
   events = (opened_of i.setup).events
 
-  pub external : (q : ℕ) → is_external (tree_of i) q ≡ is_port_of 1 ports q
-  external q = externals i first q ∙ ap (λ n. is_port_of n (first_ports i.setup.extenders) q) number ∙ ap (λ n. is_port_of 1 n q) has
+  pub external : (q : ℕ) → is_external (tree_of i) q ≡ is_port_of plan.number plan.ports q
+  external q = externals i of.first q ∙ ap (λ n. is_port_of n (first_ports i.setup.extenders) q) of.number ∙ ap (λ n. is_port_of plan.number n q) of.ports
 
   history : ([] then events) ≡ start
-  history = then-last [] (ups_of (fresh_of i.setup)) event.Settled ∙ ap (λ (h : History). event.Settled ∷ h) (sym (raises i first))
+  history = then-last [] (ups_of (fresh_of i.setup)) event.Settled ∙ ap (λ (h : History). event.Settled ∷ h) (sym (raises i of.first))
 
   grown : (q : ℕ) → flat (basis_of i) ([] then events) q ≡ flat (basis_of i) [] q ++ left_at [] q
   grown q =
       ap (λ (h : History). flat (basis_of i) h q) history ∙ sym (stands.sent q)
       ∙ sym (ap (λ (xs : List Sent). xs ++ left_at [] q) (flat-none (basis_of i) q) ∙ left_at-none q)
 
-  pub opening_text : (j : ℕ) → j < ports + 1 → with_left_frames ports (with_more (text_after i ports []) ports (lines_of events)) [] j ≡ text_after i ports start j
-  opening_text j low = text_grows i ports [] events [] grown j low ∙ ap (λ (h : History). text_after i ports h j) history
+  pub opening_text : (j : ℕ) → j < plan.ports + 1 → with_left_frames plan (with_more (text_after i plan []) plan.ports (lines_of events)) [] j ≡ text_after i plan start j
+  opening_text j low = text_grows i plan [] events [] grown j low ∙ ap (λ (h : History). text_after i plan h j) history
 
   pub opening_under_way : IsUnderWay i start (record (opened_of i.setup) { events = []; left = [] }) (with_left 0 (count_events nothing_counted events))
   opening_under_way = record {
@@ -124,6 +126,6 @@ module _ (i : Input) (ports : ℕ) (first : IsFirst i.setup) (few : ports ≤ 64
     );
     counted =
         ap (λ (c : Counts). with_left 0 (count_events c events)) (sym (counts-none (tree_of i) (basis_of i)))
-        ∙ counts_grow i ports [] events [] external few grown (λ k d low. absurd (omega arith))
+        ∙ counts_grow i plan [] events [] external range grown (λ k d low. absurd (omega arith))
         ∙ ap (λ (h : History). counts (tree_of i) (basis_of i) h) history;
   }

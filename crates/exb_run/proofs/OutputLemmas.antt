@@ -1,5 +1,5 @@
 -- The outputs as they fill: their names differ, and each file followed by its piece is its text.
-use Rattle.std.proofs.Common.{◌≡◌, ◌≢◌, ◌<◌, ◌≤◌, ◌+◌, ◌-◌, ◌++◌, ◌⊎◌, inl, inr, ℕ, List, [], ◌∷◌, true, length, take, get_or, set, map, ap, sym, ◌∙◌, refl, arith, subst, append_assoc, eq-eqb, get_or-set_same, get_or-set_other, codes, flat_map}
+use Rattle.std.proofs.Common.{◌≡◌, ◌≢◌, ◌<◌, ◌≤◌, ◌+◌, ◌-◌, ◌*◌, ◌++◌, ◌⊎◌, inl, inr, ℕ, List, [], ◌∷◌, true, length, take, get_or, set, map, ap, sym, ◌∙◌, refl, arith, subst, append_assoc, eq-eqb, get_or-set_same, get_or-set_other, flat_map}
 use Rattle.std.proofs.lemmas.Bool.{cases_lt, cases_eq, lt-ltb, le-ltb, ne_eqb, leb-true, ltb-true, and_parts}
 use Rattle.std.proofs.lemmas.List.{append-nil, map-set, get_or-map, get_or_read_under, get_or_append_left, length-map, take_more}
 use Rattle.std.proofs.lemmas.Grind.{flat_map-append}
@@ -14,33 +14,35 @@ use Rattle.exb_text.specs.Names.{capture_name, journal_name}
 use Rattle.exb_world.specs.declared.world.Left.{Left}
 use Rattle.exb_world.specs.Worlds.{left_at}
 use Rattle.exb_world.proofs.Leaving.{left_at-append, left_at-nil}
+use Rattle.exb_run.specs.declared.plan.Plan.{Plan}
+use Rattle.exb_run.specs.Plans.{IsInRange}
 use Rattle.exb_run.specs.Outputs.{output_name}
 use Rattle.exb_run.specs.Writing.{Holds, HasTexts, with_more, lines_of, with_left_frames, CanBeWritten}
 use Rattle.exb_run.proofs.Filling.{weaker, still_filled, one_more}
 
 -- the names of the outputs
-name_of_capture : (ports j : ℕ) → j < ports → output_name ports j ≡ capture_name (codes "out-") (64 + j)
-name_of_capture ports j h = rw (lt-ltb j ports h) refl
+pub name_of_capture : (plan : Plan) (j : ℕ) → j < plan.ports → output_name plan j ≡ capture_name plan.prefix (64 * plan.number + j)
+name_of_capture plan j h = rw (lt-ltb j plan.ports h) refl
 
-name_of_journal : (ports j : ℕ) → ports ≤ j → output_name ports j ≡ journal_name (codes "out-")
-name_of_journal ports j h = rw (le-ltb j ports h) refl
+pub name_of_journal : (plan : Plan) (j : ℕ) → plan.ports ≤ j → output_name plan j ≡ journal_name plan.prefix
+name_of_journal plan j h = rw (le-ltb j plan.ports h) refl
 
 -- they differ, as those of a run do
 pub names_apart : ((prefix : List ℕ) (p q : ℕ) → p < 4160 → q < 4160 → capture_name prefix p ≡ capture_name prefix q → p ≡ q)
     → ((prefix : List ℕ) (p : ℕ) → capture_name prefix p ≢ journal_name prefix)
-    → (ports : ℕ) → ports ≤ 64 → Apart (ports + 1) (output_name ports)
-names_apart captures journal ports few i j li lj differ e = elim (cases_lt i ports) [
-  | inl hi ↦ elim (cases_lt j ports) [
+    → (plan : Plan) → IsInRange plan → Apart (plan.ports + 1) (output_name plan)
+names_apart captures journal plan range i j li lj differ e = elim (cases_lt i plan.ports) [
+  | inl hi ↦ elim (cases_lt j plan.ports) [
     | inl hj ↦
-        let same : 64 + i ≡ 64 + j =
-        captures (codes "out-") (64 + i) (64 + j) (omega arith) (omega arith)
-        (sym (name_of_capture ports i hi) ∙ e ∙ name_of_capture ports j hj)
+        let same : 64 * plan.number + i ≡ 64 * plan.number + j =
+        captures plan.prefix (64 * plan.number + i) (64 * plan.number + j) (let n = range.number in let m = range.ports in omega arith) (let n = range.number in let m = range.ports in omega arith)
+        (sym (name_of_capture plan i hi) ∙ e ∙ name_of_capture plan j hj)
         in
         differ (omega arith)
-    | inr hj ↦ journal (codes "out-") (64 + i) (sym (name_of_capture ports i hi) ∙ e ∙ name_of_journal ports j hj)
+    | inr hj ↦ journal plan.prefix (64 * plan.number + i) (sym (name_of_capture plan i hi) ∙ e ∙ name_of_journal plan j hj)
   ]
-  | inr hi ↦ elim (cases_lt j ports) [
-    | inl hj ↦ journal (codes "out-") (64 + j) (sym (name_of_capture ports j hj) ∙ sym e ∙ name_of_journal ports i hi)
+  | inr hi ↦ elim (cases_lt j plan.ports) [
+    | inl hj ↦ journal plan.prefix (64 * plan.number + j) (sym (name_of_capture plan j hj) ∙ sym e ∙ name_of_journal plan i hi)
     | inr hj ↦ differ (omega arith)
   ]
 ]
@@ -59,13 +61,13 @@ holds_other pieces text j piece more k bytes ne h =
     ap (λ (xs : List ℕ). bytes ++ xs) (get_or-set_other pieces j k piece [] ne) ∙ h ∙ sym (with_more_other text j more k ne)
 
 -- an output has more in its piece, or in its file
-pub has_more : (ports : ℕ) (f g h : Files) (pieces : List (List ℕ)) (text : ℕ → List ℕ) (j : ℕ) (piece more : List ℕ)
-    → Apart (ports + 1) (output_name ports) → j < ports + 1 → j < length pieces → HasTexts ports pieces f g text
-    → (SameFiles g h × (piece ≡ get_or pieces j [] ++ more)) ⊎ (Adds g h (output_name ports j) (get_or pieces j [] ++ more) × (piece ≡ []))
-    → HasTexts ports (set pieces j piece) f h (with_more text j more)
-has_more ports f g h pieces text j piece more apart lt in_pieces p (inl kept) =
-    still_filled f g h (ports + 1) (output_name ports) (Holds (set pieces j piece) (with_more text j more))
-    (weaker f g (ports + 1) (output_name ports) (Holds pieces text) (Holds (set pieces j piece) (with_more text j more)) p
+pub has_more : (plan : Plan) (f g h : Files) (pieces : List (List ℕ)) (text : ℕ → List ℕ) (j : ℕ) (piece more : List ℕ)
+    → Apart (plan.ports + 1) (output_name plan) → j < plan.ports + 1 → j < length pieces → HasTexts plan pieces f g text
+    → (SameFiles g h × (piece ≡ get_or pieces j [] ++ more)) ⊎ (Adds g h (output_name plan j) (get_or pieces j [] ++ more) × (piece ≡ []))
+    → HasTexts plan (set pieces j piece) f h (with_more text j more)
+has_more plan f g h pieces text j piece more apart lt in_pieces p (inl kept) =
+    still_filled f g h (plan.ports + 1) (output_name plan) (Holds (set pieces j piece) (with_more text j more))
+    (weaker f g (plan.ports + 1) (output_name plan) (Holds pieces text) (Holds (set pieces j piece) (with_more text j more)) p
     (λ k bytes _ held. elim (cases_eq k j) [
       | inl same ↦ subst (λ (i : ℕ). Holds (set pieces j piece) (with_more text j more) i bytes) (sym same)
           (ap (λ (xs : List ℕ). bytes ++ xs) (get_or-set_same pieces j piece [] in_pieces ∙ kept.1)
@@ -75,8 +77,8 @@ has_more ports f g h pieces text j piece more apart lt in_pieces p (inl kept) =
       | inr other ↦ holds_other pieces text j piece more k bytes other held
     ]))
     kept.0
-has_more ports f g h pieces text j piece more apart lt in_pieces p (inr written) =
-    one_more f g h (ports + 1) j (output_name ports) (Holds pieces text) (Holds (set pieces j piece) (with_more text j more))
+has_more plan f g h pieces text j piece more apart lt in_pieces p (inr written) =
+    one_more f g h (plan.ports + 1) j (output_name plan) (Holds pieces text) (Holds (set pieces j piece) (with_more text j more))
     (get_or pieces j [] ++ more) apart lt p written.0
     (λ k bytes other held. holds_other pieces text j piece more k bytes other held)
     (λ bytes held.
@@ -93,17 +95,17 @@ name_of_id given ids at id name read inside is =
     ap (λ (i : ℕ). (given i).name) (get_or_read_under ids at (length ids) id 0 read inside refl) ∙ ap (λ (i : Id). i.name) is
 
 -- the same of the pieces of values, where one is read and written
-pub has_more_at : {X : Type 0} (of : X → List ℕ) (ports : ℕ) (f g h : Files) (all : List X) (text : ℕ → List ℕ) (j : ℕ) (was now : X) (name more : List ℕ)
-    → Apart (ports + 1) (output_name ports) → j < ports + 1 → length all ≡ ports + 1 → was ≡ get_or all j was → name ≡ output_name ports j
-    → HasTexts ports (map of all) f g text
+pub has_more_at : {X : Type 0} (of : X → List ℕ) (plan : Plan) (f g h : Files) (all : List X) (text : ℕ → List ℕ) (j : ℕ) (was now : X) (name more : List ℕ)
+    → Apart (plan.ports + 1) (output_name plan) → j < plan.ports + 1 → length all ≡ plan.ports + 1 → was ≡ get_or all j was → name ≡ output_name plan j
+    → HasTexts plan (map of all) f g text
     → (SameFiles g h × (of now ≡ of was ++ more)) ⊎ (Adds g h name (of was ++ more) × (of now ≡ []))
-    → HasTexts ports (map of (set all j now)) f h (with_more text j more)
-has_more_at of ports f g h all text j was now name more apart lt long read named p change =
+    → HasTexts plan (map of (set all j now)) f h (with_more text j more)
+has_more_at of plan f g h all text j was now name more apart lt long read named p change =
     let inside : j < length all = omega arith in
     let in_map : j < length (map of all) = omega (arith, length-map all of) in
     let piece : get_or (map of all) j [] ≡ of was = get_or-map of all j was [] inside ∙ ap of (sym read) in
-    subst (λ (ps : List (List ℕ)). HasTexts ports ps f h (with_more text j more)) (sym (map-set of all j now))
-    (has_more ports f g h (map of all) text j (of now) more apart lt in_map p
+    subst (λ (ps : List (List ℕ)). HasTexts plan ps f h (with_more text j more)) (sym (map-set of all j now))
+    (has_more plan f g h (map of all) text j (of now) more apart lt in_map p
     (elim change [
       | inl kept ↦ inl (kept.0, kept.1 ∙ ap (λ (xs : List ℕ). xs ++ more) (sym piece))
       | inr written ↦ inr (
@@ -122,13 +124,13 @@ with_more_nothing text j k = elim (cases_eq k j) [
 ]
 
 -- a piece is written
-pub is_flushed : {X : Type 0} (of : X → List ℕ) (ports : ℕ) (f g h : Files) (all : List X) (text : ℕ → List ℕ) (j : ℕ) (was now : X) (name : List ℕ)
-    → Apart (ports + 1) (output_name ports) → j < ports + 1 → length all ≡ ports + 1 → was ≡ get_or all j was → name ≡ output_name ports j
-    → HasTexts ports (map of all) f g text → Adds g h name (of was) → of now ≡ []
-    → HasTexts ports (map of (set all j now)) f h text
-is_flushed of ports f g h all text j was now name apart lt long read named p add empty =
-    weaker f h (ports + 1) (output_name ports) (Holds (map of (set all j now)) (with_more text j [])) (Holds (map of (set all j now)) text)
-    (has_more_at of ports f g h all text j was now name [] apart lt long read named p
+pub is_flushed : {X : Type 0} (of : X → List ℕ) (plan : Plan) (f g h : Files) (all : List X) (text : ℕ → List ℕ) (j : ℕ) (was now : X) (name : List ℕ)
+    → Apart (plan.ports + 1) (output_name plan) → j < plan.ports + 1 → length all ≡ plan.ports + 1 → was ≡ get_or all j was → name ≡ output_name plan j
+    → HasTexts plan (map of all) f g text → Adds g h name (of was) → of now ≡ []
+    → HasTexts plan (map of (set all j now)) f h text
+is_flushed of plan f g h all text j was now name apart lt long read named p add empty =
+    weaker f h (plan.ports + 1) (output_name plan) (Holds (map of (set all j now)) (with_more text j [])) (Holds (map of (set all j now)) text)
+    (has_more_at of plan f g h all text j was now name [] apart lt long read named p
     (inr (subst (λ (xs : List ℕ). Adds g h name xs) (sym (append-nil (of was))) add, empty)))
     (λ k bytes _ held. held ∙ with_more_nothing text j k)
 
@@ -145,19 +147,19 @@ more_empty of all i now inside empty before j lt =
     ]
 
 -- with nothing left in the pieces, each file is its text
-pub all_written : (ports : ℕ) (f g : Files) (pieces : List (List ℕ)) (text : ℕ → List ℕ)
-    → ((j : ℕ) → j < ports + 1 → get_or pieces j [] ≡ []) → HasTexts ports pieces f g text
-    → Filled f g (ports + 1) (output_name ports) (λ j bytes. bytes ≡ text j)
-all_written ports f g pieces text empty p =
-    weaker f g (ports + 1) (output_name ports) (Holds pieces text) (λ j bytes. bytes ≡ text j) p
+pub all_written : (plan : Plan) (f g : Files) (pieces : List (List ℕ)) (text : ℕ → List ℕ)
+    → ((j : ℕ) → j < plan.ports + 1 → get_or pieces j [] ≡ []) → HasTexts plan pieces f g text
+    → Filled f g (plan.ports + 1) (output_name plan) (λ j bytes. bytes ≡ text j)
+all_written plan f g pieces text empty p =
+    weaker f g (plan.ports + 1) (output_name plan) (Holds pieces text) (λ j bytes. bytes ≡ text j) p
     (λ j bytes l held. sym (append-nil bytes) ∙ ap (λ (xs : List ℕ). bytes ++ xs) (sym (empty j l)) ∙ held)
 
 -- empty files have the texts that their pieces are
-pub none_written : (ports : ℕ) (f g : Files) (pieces : List (List ℕ)) (text : ℕ → List ℕ)
-    → ((j : ℕ) → j < ports + 1 → get_or pieces j [] ≡ text j)
-    → Filled f g (ports + 1) (output_name ports) (λ j bytes. bytes ≡ []) → HasTexts ports pieces f g text
-none_written ports f g pieces text is p =
-    weaker f g (ports + 1) (output_name ports) (λ j bytes. bytes ≡ []) (Holds pieces text) p
+pub none_written : (plan : Plan) (f g : Files) (pieces : List (List ℕ)) (text : ℕ → List ℕ)
+    → ((j : ℕ) → j < plan.ports + 1 → get_or pieces j [] ≡ text j)
+    → Filled f g (plan.ports + 1) (output_name plan) (λ j bytes. bytes ≡ []) → HasTexts plan pieces f g text
+none_written plan f g pieces text is p =
+    weaker f g (plan.ports + 1) (output_name plan) (λ j bytes. bytes ≡ []) (Holds pieces text) p
     (λ j bytes l empty. ap (λ (xs : List ℕ). xs ++ get_or pieces j []) empty ∙ is j l)
 
 -- one more id has its name, and one more piece its text
@@ -202,18 +204,18 @@ with_more_twice text j xs ys k = elim (cases_eq k j) [
       with_more_other (with_more text j xs) j ys k other ∙ with_more_other text j xs k other ∙ sym (with_more_other text j (xs ++ ys) k other)
 ]
 
-pub more_spelled : (ports : ℕ) (f g : Files) (pieces : List (List ℕ)) (text : ℕ → List ℕ) (i j : ℕ) (xs ys : List ℕ)
-    → i ≡ j → xs ≡ ys → HasTexts ports pieces f g (with_more text i xs) → HasTexts ports pieces f g (with_more text j ys)
-more_spelled ports f g pieces text i j xs ys ei ex p =
-    subst (λ (k : ℕ). HasTexts ports pieces f g (with_more text k ys)) ei
-    (subst (λ (zs : List ℕ). HasTexts ports pieces f g (with_more text i zs)) ex p)
+pub more_spelled : (plan : Plan) (f g : Files) (pieces : List (List ℕ)) (text : ℕ → List ℕ) (i j : ℕ) (xs ys : List ℕ)
+    → i ≡ j → xs ≡ ys → HasTexts plan pieces f g (with_more text i xs) → HasTexts plan pieces f g (with_more text j ys)
+more_spelled plan f g pieces text i j xs ys ei ex p =
+    subst (λ (k : ℕ). HasTexts plan pieces f g (with_more text k ys)) ei
+    (subst (λ (zs : List ℕ). HasTexts plan pieces f g (with_more text i zs)) ex p)
 
 -- no events
-pub no_lines : (ports : ℕ) (f g : Files) (pieces : List (List ℕ)) (text : ℕ → List ℕ)
-    → HasTexts ports pieces f g text → HasTexts ports pieces f g (with_more text ports [])
-no_lines ports f g pieces text p =
-    weaker f g (ports + 1) (output_name ports) (Holds pieces text) (Holds pieces (with_more text ports [])) p
-    (λ k bytes _ held. held ∙ sym (with_more_nothing text ports k))
+pub no_lines : (plan : Plan) (f g : Files) (pieces : List (List ℕ)) (text : ℕ → List ℕ)
+    → HasTexts plan pieces f g text → HasTexts plan pieces f g (with_more text plan.ports [])
+no_lines plan f g pieces text p =
+    weaker f g (plan.ports + 1) (output_name plan) (Holds pieces text) (Holds pieces (with_more text plan.ports [])) p
+    (λ k bytes _ held. held ∙ sym (with_more_nothing text plan.ports k))
 
 -- the lines of one event more
 lines_more : (events : List Event) (i : ℕ) (e : Event) → i < length events → e ≡ get_or events i e
@@ -224,31 +226,31 @@ lines_more events i e inside is =
     ∙ ap (λ (x : Event). lines_of (take i events ++ x ∷ [])) is
     ∙ ap lines_of (sym (take_more events i e inside))
 
-pub more_lines : (ports : ℕ) (f g : Files) (pieces : List (List ℕ)) (text : ℕ → List ℕ) (events : List Event) (i : ℕ) (e : Event)
+pub more_lines : (plan : Plan) (f g : Files) (pieces : List (List ℕ)) (text : ℕ → List ℕ) (events : List Event) (i : ℕ) (e : Event)
     → i < length events → e ≡ get_or events i e
-    → HasTexts ports pieces f g (with_more (with_more text ports (lines_of (take i events))) ports (line_of e ++ 10 ∷ []))
-    → HasTexts ports pieces f g (with_more text ports (lines_of (take (i + 1) events)))
-more_lines ports f g pieces text events i e inside is p =
-    let new = with_more text ports (lines_of (take (i + 1) events)) in
-    weaker f g (ports + 1) (output_name ports) (Holds pieces (with_more (with_more text ports (lines_of (take i events))) ports (line_of e ++ 10 ∷ []))) (Holds pieces new) p
+    → HasTexts plan pieces f g (with_more (with_more text plan.ports (lines_of (take i events))) plan.ports (line_of e ++ 10 ∷ []))
+    → HasTexts plan pieces f g (with_more text plan.ports (lines_of (take (i + 1) events)))
+more_lines plan f g pieces text events i e inside is p =
+    let new = with_more text plan.ports (lines_of (take (i + 1) events)) in
+    weaker f g (plan.ports + 1) (output_name plan) (Holds pieces (with_more (with_more text plan.ports (lines_of (take i events))) plan.ports (line_of e ++ 10 ∷ []))) (Holds pieces new) p
     (λ k bytes _ held.
     held
-    ∙ with_more_twice text ports (lines_of (take i events)) (line_of e ++ 10 ∷ []) k
-    ∙ ap (λ (xs : List ℕ). with_more text ports xs k) (lines_more events i e inside is))
+    ∙ with_more_twice text plan.ports (lines_of (take i events)) (line_of e ++ 10 ∷ []) k
+    ∙ ap (λ (xs : List ℕ). with_more text plan.ports xs k) (lines_more events i e inside is))
 
 -- no frames
-left_nothing : (ports : ℕ) (text : ℕ → List ℕ) (k : ℕ) → with_left_frames ports text [] k ≡ text k
-left_nothing ports text k = elim (cases_lt k ports) [
+left_nothing : (plan : Plan) (text : ℕ → List ℕ) (k : ℕ) → with_left_frames plan text [] k ≡ text k
+left_nothing plan text k = elim (cases_lt k plan.ports) [
   | inl below ↦
-      rw (lt-ltb k ports below) (ap (λ (xs : List Sent). text k ++ flat_map record_text xs) (left_at-nil (64 + k)) ∙ append-nil (text k))
-  | inr above ↦ rw (le-ltb k ports above) refl
+      rw (lt-ltb k plan.ports below) (ap (λ (xs : List Sent). text k ++ flat_map record_text xs) (left_at-nil (64 * plan.number + k)) ∙ append-nil (text k))
+  | inr above ↦ rw (le-ltb k plan.ports above) refl
 ]
 
-pub no_frames : (ports : ℕ) (f g : Files) (pieces : List (List ℕ)) (text : ℕ → List ℕ)
-    → HasTexts ports pieces f g text → HasTexts ports pieces f g (with_left_frames ports text [])
-no_frames ports f g pieces text p =
-    weaker f g (ports + 1) (output_name ports) (Holds pieces text) (Holds pieces (with_left_frames ports text [])) p
-    (λ k bytes _ held. held ∙ sym (left_nothing ports text k))
+pub no_frames : (plan : Plan) (f g : Files) (pieces : List (List ℕ)) (text : ℕ → List ℕ)
+    → HasTexts plan pieces f g text → HasTexts plan pieces f g (with_left_frames plan text [])
+no_frames plan f g pieces text p =
+    weaker f g (plan.ports + 1) (output_name plan) (Holds pieces text) (Holds pieces (with_left_frames plan text [])) p
+    (λ k bytes _ held. held ∙ sym (left_nothing plan text k))
 
 -- what one frame is at its port and at others
 left_here : (x : Left) (q : ℕ) → x.port ≡ q → left_at (x ∷ []) q ≡ (x.moment, x.bytes) ∷ []
@@ -260,12 +262,12 @@ unfolding left_at
 left_elsewhere x q not = rw (ne_eqb x.port q not) refl
 
 -- the text of a capture with what left its port
-capture_left : (ports : ℕ) (text : ℕ → List ℕ) (left : List Left) (k : ℕ) → k < ports
-    → with_left_frames ports text left k ≡ text k ++ flat_map record_text (left_at left (64 + k))
-capture_left ports text left k below = rw (lt-ltb k ports below) refl
+capture_left : (plan : Plan) (text : ℕ → List ℕ) (left : List Left) (k : ℕ) → k < plan.ports
+    → with_left_frames plan text left k ≡ text k ++ flat_map record_text (left_at left (64 * plan.number + k))
+capture_left plan text left k below = rw (lt-ltb k plan.ports below) refl
 
-journal_left : (ports : ℕ) (text : ℕ → List ℕ) (left : List Left) (k : ℕ) → ports ≤ k → with_left_frames ports text left k ≡ text k
-journal_left ports text left k above = rw (le-ltb k ports above) refl
+journal_left : (plan : Plan) (text : ℕ → List ℕ) (left : List Left) (k : ℕ) → plan.ports ≤ k → with_left_frames plan text left k ≡ text k
+journal_left plan text left k above = rw (le-ltb k plan.ports above) refl
 
 -- frames in two parts
 left_in_parts : (text : List ℕ) (left : List Left) (x : Left) (q : ℕ) (more : List ℕ) → flat_map record_text (left_at (x ∷ []) q) ≡ more
@@ -277,49 +279,49 @@ left_in_parts text left x q more is =
     ∙ ap (λ (xs : List ℕ). (text ++ flat_map record_text (left_at left q)) ++ xs) is
 
 -- a port of the extender is one of its captures
-port_within : (ports : ℕ) (x : Left) → CanBeWritten ports x → (64 ≤ x.port) × (x.port < 64 + ports)
-port_within ports x can =
+port_within : (plan : Plan) (x : Left) → CanBeWritten plan x → (64 * plan.number ≤ x.port) × (x.port < 64 * plan.number + plan.ports)
+port_within plan x can =
     let parts = and_parts _ _ can.port in
-    (leb-true 64 x.port parts.0, ltb-true x.port (64 + ports) parts.1)
+    (leb-true (64 * plan.number) x.port parts.0, ltb-true x.port (64 * plan.number + plan.ports) parts.1)
 
-left_more : (ports : ℕ) (text : ℕ → List ℕ) (left : List Left) (x : Left) (k : ℕ) → CanBeWritten ports x
-    → with_more (with_left_frames ports text left) (x.port - 64) (record_text (x.moment, x.bytes)) k ≡ with_left_frames ports text (left ++ x ∷ []) k
-left_more ports text left x k can =
-    let inside = port_within ports x can in
-    elim (cases_eq k (x.port - 64)) [
+left_more : (plan : Plan) (text : ℕ → List ℕ) (left : List Left) (x : Left) (k : ℕ) → CanBeWritten plan x
+    → with_more (with_left_frames plan text left) (x.port - 64 * plan.number) (record_text (x.moment, x.bytes)) k ≡ with_left_frames plan text (left ++ x ∷ []) k
+left_more plan text left x k can =
+    let inside = port_within plan x can in
+    elim (cases_eq k (x.port - 64 * plan.number)) [
       | inl same ↦
-          let below : k < ports = omega arith in
-          let port : x.port ≡ 64 + k = omega arith in
-          ap (with_more (with_left_frames ports text left) (x.port - 64) (record_text (x.moment, x.bytes))) same
-          ∙ with_more_here (with_left_frames ports text left) (x.port - 64) (record_text (x.moment, x.bytes))
-          ∙ ap (λ (i : ℕ). with_left_frames ports text left i ++ record_text (x.moment, x.bytes)) (sym same)
-          ∙ ap (λ (xs : List ℕ). xs ++ record_text (x.moment, x.bytes)) (capture_left ports text left k below)
-          ∙ sym (left_in_parts (text k) left x (64 + k) (record_text (x.moment, x.bytes)) (ap (flat_map record_text) (left_here x (64 + k) port) ∙ append-nil (record_text (x.moment, x.bytes))))
-          ∙ sym (capture_left ports text (left ++ x ∷ []) k below)
+          let below : k < plan.ports = omega arith in
+          let port : x.port ≡ 64 * plan.number + k = omega arith in
+          ap (with_more (with_left_frames plan text left) (x.port - 64 * plan.number) (record_text (x.moment, x.bytes))) same
+          ∙ with_more_here (with_left_frames plan text left) (x.port - 64 * plan.number) (record_text (x.moment, x.bytes))
+          ∙ ap (λ (i : ℕ). with_left_frames plan text left i ++ record_text (x.moment, x.bytes)) (sym same)
+          ∙ ap (λ (xs : List ℕ). xs ++ record_text (x.moment, x.bytes)) (capture_left plan text left k below)
+          ∙ sym (left_in_parts (text k) left x (64 * plan.number + k) (record_text (x.moment, x.bytes)) (ap (flat_map record_text) (left_here x (64 * plan.number + k) port) ∙ append-nil (record_text (x.moment, x.bytes))))
+          ∙ sym (capture_left plan text (left ++ x ∷ []) k below)
       | inr other ↦
-          with_more_other (with_left_frames ports text left) (x.port - 64) (record_text (x.moment, x.bytes)) k other
-          ∙ elim (cases_lt k ports) [
+          with_more_other (with_left_frames plan text left) (x.port - 64 * plan.number) (record_text (x.moment, x.bytes)) k other
+          ∙ elim (cases_lt k plan.ports) [
             | inl below ↦
-                let port : x.port ≢ 64 + k = λ e. other (omega arith) in
-                capture_left ports text left k below
-                ∙ sym (append-nil (text k ++ flat_map record_text (left_at left (64 + k))))
-                ∙ sym (left_in_parts (text k) left x (64 + k) [] (ap (flat_map record_text) (left_elsewhere x (64 + k) port)))
-                ∙ sym (capture_left ports text (left ++ x ∷ []) k below)
-            | inr above ↦ journal_left ports text left k above ∙ sym (journal_left ports text (left ++ x ∷ []) k above)
+                let port : x.port ≢ 64 * plan.number + k = λ e. other (omega arith) in
+                capture_left plan text left k below
+                ∙ sym (append-nil (text k ++ flat_map record_text (left_at left (64 * plan.number + k))))
+                ∙ sym (left_in_parts (text k) left x (64 * plan.number + k) [] (ap (flat_map record_text) (left_elsewhere x (64 * plan.number + k) port)))
+                ∙ sym (capture_left plan text (left ++ x ∷ []) k below)
+            | inr above ↦ journal_left plan text left k above ∙ sym (journal_left plan text (left ++ x ∷ []) k above)
           ]
     ]
 
 -- one frame more
-pub more_frames : (ports : ℕ) (f g : Files) (pieces : List (List ℕ)) (text : ℕ → List ℕ) (left : List Left) (i : ℕ) (x : Left)
-    → i < length left → x ≡ get_or left i x → CanBeWritten ports x
-    → HasTexts ports pieces f g (with_more (with_left_frames ports text (take i left)) (x.port - 64) (record_text (x.moment, x.bytes)))
-    → HasTexts ports pieces f g (with_left_frames ports text (take (i + 1) left))
-more_frames ports f g pieces text left i x inside is can p =
-    weaker f g (ports + 1) (output_name ports)
-    (Holds pieces (with_more (with_left_frames ports text (take i left)) (x.port - 64) (record_text (x.moment, x.bytes))))
-    (Holds pieces (with_left_frames ports text (take (i + 1) left))) p
+pub more_frames : (plan : Plan) (f g : Files) (pieces : List (List ℕ)) (text : ℕ → List ℕ) (left : List Left) (i : ℕ) (x : Left)
+    → i < length left → x ≡ get_or left i x → CanBeWritten plan x
+    → HasTexts plan pieces f g (with_more (with_left_frames plan text (take i left)) (x.port - 64 * plan.number) (record_text (x.moment, x.bytes)))
+    → HasTexts plan pieces f g (with_left_frames plan text (take (i + 1) left))
+more_frames plan f g pieces text left i x inside is can p =
+    weaker f g (plan.ports + 1) (output_name plan)
+    (Holds pieces (with_more (with_left_frames plan text (take i left)) (x.port - 64 * plan.number) (record_text (x.moment, x.bytes))))
+    (Holds pieces (with_left_frames plan text (take (i + 1) left))) p
     (λ k bytes _ held.
     held
-    ∙ left_more ports text (take i left) x k can
-    ∙ ap (λ (y : Left). with_left_frames ports text (take i left ++ y ∷ []) k) is
-    ∙ ap (λ (ys : List Left). with_left_frames ports text ys k) (sym (take_more left i x inside)))
+    ∙ left_more plan text (take i left) x k can
+    ∙ ap (λ (y : Left). with_left_frames plan text (take i left ++ y ∷ []) k) is
+    ∙ ap (λ (ys : List Left). with_left_frames plan text ys k) (sym (take_more left i x inside)))

@@ -13,6 +13,8 @@ use Rattle.exb_world.specs.Setups.{is_port_of}
 use Rattle.exb_world.specs.Worlds.{State, IsCopyOf, left_at, Stands}
 use Rattle.exb_schedule.specs.declared.segment.Arrival.{Arrival}
 use Rattle.exb_schedule.specs.Segments.{arrived, segment, segment_events, segment_sends, AnyCopy}
+use Rattle.exb_run.specs.declared.plan.Plan.{Plan}
+use Rattle.exb_run.specs.Plans.{IsInRange}
 use Rattle.exb_run.specs.Writing.{HasTexts, Holds, CanBeWritten, lines_of, with_more, with_left_frames}
 use Rattle.exb_shelf.specs.Files.{Files}
 use Rattle.exb_run.specs.Outputs.{output_name}
@@ -30,9 +32,9 @@ on_ok_both (Ok v) f p q = f p q
 on_ok_both (Err e) f p q = tt
 
 -- the same texts
-pub same_texts : (ports : ℕ) (pieces : List (List ℕ)) (old new : Files) (text text' : ℕ → List ℕ) → ((j : ℕ) → j < ports + 1 → text j ≡ text' j) →
-    HasTexts ports pieces old new text → HasTexts ports pieces old new text'
-same_texts ports pieces old new text text' same = λ held. weaker old new (ports + 1) (output_name ports) (Holds pieces text) (Holds pieces text') held (λ j bytes low is. is ∙ same j low)
+pub same_texts : (plan : Plan) (pieces : List (List ℕ)) (old new : Files) (text text' : ℕ → List ℕ) → ((j : ℕ) → j < plan.ports + 1 → text j ≡ text' j) →
+    HasTexts plan pieces old new text → HasTexts plan pieces old new text'
+same_texts plan pieces old new text text' same = λ held. weaker old new (plan.ports + 1) (output_name plan) (Holds pieces text) (Holds pieces text') held (λ j bytes low is. is ∙ same j low)
 
 copy_is : (w : State) (x : Arrival) (y : Left) → AnyCopy w (x ∷ []) y → IsCopyOf w (arrived x) y
 copy_is w x y any = at_place any.0 any.1 any.2 any.3
@@ -41,20 +43,20 @@ copy_is w x y any = at_place any.0 any.1 any.2 any.3
     at_place zero a e copy = let same : a ≡ x = cc in subst (λ (b : Arrival). IsCopyOf w (arrived b) y) same copy
     at_place (suc k) a e copy = cc
 
-module _ (ports : ℕ) (w : State) (rest : IsAtRest ports w) (x : Arrival) where
+module _ (plan : Plan) (w : State) (rest : IsAtRest plan w) (x : Arrival) where
   -- what leaves can be written
-  pub frames_fit : x.moment < 2 ^ 32 * 1_000_000_000 → length x.bytes < 2 ^ 32 → (xs : List Left) → All (λ y. AnyCopy w (x ∷ []) y) (drop (length w.left) xs) → All (λ y. CanBeWritten ports y) xs
+  pub frames_fit : x.moment < 2 ^ 32 * 1_000_000_000 → length x.bytes < 2 ^ 32 → (xs : List Left) → All (λ y. AnyCopy w (x ∷ []) y) (drop (length w.left) xs) → All (λ y. CanBeWritten plan y) xs
   frames_fit moment bytes xs copies k d h =
       let all = subst (λ (ys : List Left). All (λ y. AnyCopy w (x ∷ []) y) (drop (length ys) xs)) rest.left copies in
       let copy = copy_is w x (get_or xs k d) (all k d h) in
       record {
-        port = ap (λ n. is_port_of n ports (get_or xs k d).port) (sym rest.number) ∙ ap (λ n. is_port_of w.number n (get_or xs k d).port) (sym rest.all_ports) ∙ copy.port;
+        port = ap (λ n. is_port_of n plan.ports (get_or xs k d).port) (sym rest.number) ∙ ap (λ n. is_port_of w.number n (get_or xs k d).port) (sym rest.all_ports) ∙ copy.port;
         moment = let e = copy.moment in omega arith;
         bytes = let e = ap (λ (bs : List ℕ). length bs) copy.bytes in omega arith;
       }
 
   module _ (w1 : State) (seconds : ℕ) (events : w1.events ≡ w.events ++ segment_events w seconds (arrived x ∷ []))
-      (left : (q : ℕ) → left_at w1.left q ≡ left_at w.left q ++ segment_sends w (arrived x ∷ []) q) (own : All (λ y. CanBeWritten ports y) w1.left) where
+      (left : (q : ℕ) → left_at w1.left q ≡ left_at w.left q ++ segment_sends w (arrived x ∷ []) q) (own : All (λ y. CanBeWritten plan y) w1.left) where
     pub events_are : w1.events ≡ segment_events w seconds (arrived x ∷ [])
     events_are = events ∙ ap (λ es. es ++ segment_events w seconds (arrived x ∷ [])) rest.events
 
@@ -62,11 +64,11 @@ module _ (ports : ℕ) (w : State) (rest : IsAtRest ports w) (x : Arrival) where
     unfolding left_at
     left_is q = left q ∙ ap (λ (xs : List Left). left_at xs q ++ segment_sends w (arrived x ∷ []) q) rest.left
 
-    owned : All (λ y. is_port_of 1 ports y.port ≡ true) w1.left
+    owned : All (λ y. is_port_of plan.number plan.ports y.port ≡ true) w1.left
     owned k d h = (own k d h).port
 
-    pub few : ports ≤ 64 → length w1.left ≤ 128
-    few low = few_frames w (arrived x) ports w1.left low left_is owned
+    pub few : IsInRange plan → length w1.left ≤ 4160
+    few low = few_frames w (arrived x) plan w1.left low left_is owned
 
     -- the counts after a turn
     abbrev pub new_counts : Counts → Counts
@@ -75,7 +77,7 @@ module _ (ports : ℕ) (w : State) (rest : IsAtRest ports w) (x : Arrival) where
     pub counts_played : (c : Counts) → played (new_counts c) ≡ played c + 1
     counts_played c = ap (λ es. played (count_events c es)) events_are ∙ played_more w seconds (arrived x) c
 
-    pub counts_counted : ports ≤ 64 → seconds < 2 ^ 32 → (c : Counts) (clock : ℕ) → IsCounted c clock → IsCounted (new_counts c) (clock + seconds)
+    pub counts_counted : IsInRange plan → seconds < 2 ^ 32 → (c : Counts) (clock : ℕ) → IsCounted c clock → IsCounted (new_counts c) (clock + seconds)
     counts_counted low short c clock is =
         let more = counts_played c in
         let frames = few low in
@@ -100,13 +102,13 @@ module _ (ports : ℕ) (w : State) (rest : IsAtRest ports w) (x : Arrival) where
       same_history = ap (λ (es : List Event). h then es) events_are ∙ history
 
       grown : (q : ℕ) → flat (basis_of i) (h then w1.events) q ≡ flat (basis_of i) h q ++ left_at w1.left q
-      grown q = ap (λ (g : History). flat (basis_of i) g q) same_history ∙ flat_grows i ports w w1 h next (arrived x) (given ++ arrived x ∷ []) rest.left left after q
+      grown q = ap (λ (g : History). flat (basis_of i) g q) same_history ∙ flat_grows i plan w w1 h next (arrived x) (given ++ arrived x ∷ []) rest.left left after q
 
-      pub text_is : (j : ℕ) → j < ports + 1 → with_left_frames ports (with_more (text_after i ports h) ports (lines_of w1.events)) w1.left j ≡ text_after i ports next j
-      text_is j l = text_grows i ports h w1.events w1.left grown j l ∙ ap (λ (g : History). text_after i ports g j) same_history
+      pub text_is : (j : ℕ) → j < plan.ports + 1 → with_left_frames plan (with_more (text_after i plan h) plan.ports (lines_of w1.events)) w1.left j ≡ text_after i plan next j
+      text_is j l = text_grows i plan h w1.events w1.left grown j l ∙ ap (λ (g : History). text_after i plan g j) same_history
 
-      pub under_way : ports ≤ 64 → ((q : ℕ) → is_external (tree_of i) q ≡ is_port_of 1 ports q) → (c : Counts) → c ≡ counts (tree_of i) (basis_of i) h → IsUnderWay i next (record w1 { events = []; left = [] }) (new_counts c)
+      pub under_way : IsInRange plan → ((q : ℕ) → is_external (tree_of i) q ≡ is_port_of plan.number plan.ports q) → (c : Counts) → c ≡ counts (tree_of i) (basis_of i) h → IsUnderWay i next (record w1 { events = []; left = [] }) (new_counts c)
       under_way low external c is = record {
-        stands = (given ++ arrived x ∷ [], stands_cleared i ports w w1 h next (arrived x) (given ++ arrived x ∷ []) rest.left left after);
-        counted = ap new_counts is ∙ counts_grow i ports h w1.events w1.left external low grown owned ∙ ap (λ (g : History). counts (tree_of i) (basis_of i) g) same_history;
+        stands = (given ++ arrived x ∷ [], stands_cleared i plan w w1 h next (arrived x) (given ++ arrived x ∷ []) rest.left left after);
+        counted = ap new_counts is ∙ counts_grow i plan h w1.events w1.left external low grown owned ∙ ap (λ (g : History). counts (tree_of i) (basis_of i) g) same_history;
       }

@@ -1,37 +1,55 @@
 -- How a run ends: its status, and what it prints.
-use Rattle.std.specs.Prelude.{◌≡◌, ◌<◌, ◌+◌, ◌++◌, ◌⊎◌, ◌==◌, ◌||◌, IsTrue, ℕ, List, [], Option, Some, Result, Ok, Err, String, codes, length, string_bytes, slice_index_or}
+use Rattle.std.specs.Prelude.{⊤, ◌≡◌, ◌≢◌, ◌<◌, ◌++◌, ◌⊎◌, ◌==◌, ◌||◌, IsTrue, ℕ, List, Option, Some, None, Result, Ok, Err, String, codes, string_bytes}
 use Rattle.std.specs.declared.alloc.Global.{Global}
 use Rattle.std.specs.Fmt.{decimal}
-use Rattle.exb_model.specs.Input.{Input}
+use Rattle.exb_model.specs.Input.{tree_of}
+use Rattle.exb_model.specs.Setup.{shape_of}
 use Rattle.exb_model.specs.Texts.{port_name}
+use Rattle.exb_keys.specs.declared.faults.KeyFault.{KeyFault}
+use Rattle.exb_keys.specs.declared.faults.KeyFault.TheVariants as keys
+use Rattle.exb_keys.specs.declared.faults.TopoFault.{TopoFault}
+use Rattle.exb_keys.specs.declared.faults.TopoFault.TheVariants as topology
+use Rattle.exb_keys.specs.Faults.{Refusal, not_toml, large, at}
 use Rattle.exb_pcap.specs.declared.reader.PcapFault.{PcapFault}
 use Rattle.exb_pcap.specs.declared.reader.PcapFault.TheVariants as pcap
 use Rattle.exb_shelf.specs.declared.shelf.ShelfFault.{ShelfFault}
 use Rattle.exb_shelf.specs.declared.shelf.ShelfFault.TheVariants as shelf
 use Rattle.exb_shelf.specs.Files.{Files}
-use Rattle.exb_text.specs.Names.{capture_name}
+use Rattle.exb_topology.specs.declared.topology.Topology.{Topology}
+use Rattle.exb_topology.specs.Topologies.{topology_of, topology_view}
 use Rattle.exb_run.specs.declared.fault.Flaw.{Flaw}
-use Rattle.exb_run.specs.declared.fault.Flaw.TheVariants.{Missing, Large, Broken, NotBuilt}
+use Rattle.exb_run.specs.declared.fault.Flaw.TheVariants.{Large, Broken}
 use Rattle.exb_run.specs.declared.fault.Fault.{Fault}
-use Rattle.exb_run.specs.declared.fault.Fault.TheVariants.{Usage, Capture, Read, Write, Memory}
-use Rattle.exb_run.specs.Inputs.{input_name, IsInputOf}
-use Rattle.exb_run.specs.Outputs.{IsPlayed}
-use Rattle.exb_run.specs.Flaws.{Stops}
+use Rattle.exb_run.specs.declared.fault.Fault.TheVariants.{Usage, Missing, Topology as BadTopology, NotBuilt, Capture, Read, Write, Memory}
+use Rattle.exb_run.specs.Words.{words_of}
+use Rattle.exb_run.specs.Inputs.{IsBuilt, input_of}
+use Rattle.exb_run.specs.Outputs.{IsPlayed, OnlyOutputs}
+use Rattle.exb_run.specs.Flaws.{AreGood, FirstFlaw}
 
--- these are the captures of n ports
-pub record AreCaptures (file : Files) (n : ℕ) (captures : List (List ℕ)) : Type 0 where
-  pub count : length captures ≡ n
-  pub each : (at : ℕ) → at < n → file (input_name at) ≡ Some (slice_index_or captures at [])
+-- ---- what is asked for
+-- the words name a file that holds this topology
+pub record Asks (words : List (List ℕ)) (file : Files) (t : Topology) : Type 0 where
+  pub name : List ℕ
+  pub accepted : words_of words ≡ Some name
+  pub bytes : List ℕ
+  pub there : file name ≡ Some bytes
+  pub read : topology_of bytes ≡ Ok (topology_view t)
 
--- the captures were read, and all was played and written; this line sums it up
-pub record Ran (asked : Option ℕ) (old new : Files) (line : List ℕ) : Type 0 where
-  pub ports : ℕ
-  pub words : asked ≡ Some ports
-  pub captures : List (List ℕ)
-  pub there : AreCaptures old ports captures
-  pub input : Input
-  pub reads : IsInputOf captures input
-  pub played : IsPlayed input ports old new line
+-- it can be played, and so can each capture that it names
+pub record IsReady (words : List (List ℕ)) (file : Files) (t : Topology) : Type 0 where
+  pub asks : Asks words file t
+  pub built : IsBuilt t
+  pub good : AreGood t.captures file
+
+-- all was played and written; this line sums it up
+pub record Ran (words : List (List ℕ)) (old new : Files) (line : List ℕ) : Type 0 where
+  pub topology : Topology
+  pub ready : IsReady words old topology
+  pub played : IsPlayed (input_of topology old) topology.prefix old new line
+
+-- no file but the outputs of what is asked for has changed
+abbrev pub OnlyAsked : List (List ℕ) → Files → Files → Type 0
+OnlyAsked words old new = (t : Topology) → Asks words old t → OnlyOutputs (shape_of t.setup) t.prefix old new
 
 -- ---- faults
 -- a failure of the shelf while files are made and written
@@ -39,30 +57,112 @@ abbrev pub fault_of : ShelfFault → Fault
 fault_of shelf.Failed = Write
 fault_of shelf.Memory = Memory
 
+-- a fault of reading a topology, of which want of memory is none of the file's
+abbrev pub fault_by : TopoFault → Fault
+fault_by topology.Memory = Memory
+fault_by topology.NotToml = BadTopology topology.NotToml
+fault_by topology.Large = BadTopology topology.Large
+fault_by (topology.At fault key) = BadTopology (topology.At fault key)
+
+-- why a topology file is refused
+abbrev pub refused_by : Refusal → Fault
+refused_by not_toml = BadTopology topology.NotToml
+refused_by large = BadTopology topology.Large
+refused_by (at fault key) = BadTopology (topology.At fault key)
+
+-- this is what is wrong with the topology of the words, or with a capture that it names: the first, in the
+-- order in which they are looked at
+pub record TopologyMissing (words : List (List ℕ)) (file : Files) (fault : Fault) : Type 0 where
+  pub name : List ℕ
+  pub accepted : words_of words ≡ Some name
+  pub nothing : file name ≡ None
+  pub is : fault ≡ Missing name
+
+pub record TopologyRefused (words : List (List ℕ)) (file : Files) (fault : Fault) : Type 0 where
+  pub name : List ℕ
+  pub accepted : words_of words ≡ Some name
+  pub bytes : List ℕ
+  pub there : file name ≡ Some bytes
+  pub refusal : Refusal
+  pub refused : topology_of bytes ≡ Err refusal
+  pub is : fault ≡ refused_by refusal
+
+pub record TopologyNotBuilt (words : List (List ℕ)) (file : Files) (fault : Fault) : Type 0 where
+  pub topology : Topology
+  pub asks : Asks words file topology
+  pub other : ¬ IsBuilt topology
+  pub is : fault ≡ NotBuilt
+
+pub record CaptureFaulty (words : List (List ℕ)) (file : Files) (fault : Fault) : Type 0 where
+  pub topology : Topology
+  pub asks : Asks words file topology
+  pub built : IsBuilt topology
+  pub port : ℕ
+  pub first : FirstFlaw topology.captures file port fault
+
+-- the words are not accepted, or this is the first fault of what they ask for
+abbrev pub Stops : List (List ℕ) → Files → Fault → Type 0
+Stops words file fault =
+    ((words_of words ≡ None) × (fault ≡ Usage))
+    ⊎ TopologyMissing words file fault
+    ⊎ TopologyRefused words file fault
+    ⊎ TopologyNotBuilt words file fault
+    ⊎ CaptureFaulty words file fault
+
+-- a fault of the shelf, or want of memory
+abbrev pub IsFailure : Fault → Type 0
+IsFailure fault = (fault ≡ Read) ⊎ (fault ≡ Write) ⊎ (fault ≡ Memory)
+
+-- where it speaks of a port, this is one; and want of memory is no fault of a topology
+abbrev pub CanBe : Fault → Type 0
+CanBe (Capture p flaw) = p < 4160
+CanBe (BadTopology topology.Memory) = ⊥
+CanBe _ = ⊤
+
 -- ---- what is printed
--- a fault of the grammar, and its place
+-- a fault of the grammar of captures, and its place
 abbrev pub broken_text : PcapFault → List ℕ
 broken_text pcap.NotPcap = codes "NotPcap at 0"
 broken_text pcap.Version = codes "Version at 4"
 broken_text pcap.LinkType = codes "LinkType at 20"
-broken_text (pcap.Cut at) = codes "Cut at " ++ decimal at
-broken_text (pcap.Length at) = codes "Length at " ++ decimal at
-broken_text (pcap.Time at) = codes "Time at " ++ decimal at
+broken_text (pcap.Cut place) = codes "Cut at " ++ decimal place
+broken_text (pcap.Length place) = codes "Length at " ++ decimal place
+broken_text (pcap.Time place) = codes "Time at " ++ decimal place
+
+abbrev pub flaw_text : Flaw → List ℕ
+flaw_text (Large limit) = codes "Large " ++ decimal limit
+flaw_text (Broken fault) = broken_text fault
+
+-- a fault at a key of the topology
+abbrev pub key_fault_text : KeyFault → List ℕ
+key_fault_text keys.Missing = codes "Missing"
+key_fault_text keys.Unknown = codes "Unknown"
+key_fault_text keys.Kind = codes "Kind"
+key_fault_text keys.Range = codes "Range"
+key_fault_text keys.Name = codes "Name"
+key_fault_text keys.UnknownPort = codes "UnknownPort"
+key_fault_text keys.TwoUpstreams = codes "TwoUpstreams"
+key_fault_text keys.SharedPort = codes "SharedPort"
+key_fault_text keys.Loop = codes "Loop"
+key_fault_text keys.FewChannels = codes "FewChannels"
+key_fault_text keys.Repeat = codes "Repeat"
+
+abbrev pub topology_text : TopoFault → List ℕ
+topology_text topology.Memory = codes "out of memory"
+topology_text topology.NotToml = codes "NotToml"
+topology_text topology.Large = codes "Large"
+topology_text (topology.At fault key) = key_fault_text fault ++ codes " at " ++ key
 
 -- the line of a capture that is not taken
 unfoldable pub capture_line : ℕ → List ℕ → List ℕ
 capture_line p text = codes "exbr: capture " ++ (port_name p ++ (codes ": " ++ (text ++ codes "\n")))
 
--- the line of a flaw of the capture of port p
-unfoldable pub flaw_line : ℕ → Flaw → List ℕ
-flaw_line p Missing = codes "exbr: missing " ++ capture_name (codes "in-") p ++ codes "\n"
-flaw_line p (Large limit) = capture_line p (codes "Large " ++ decimal limit)
-flaw_line p (Broken fault) = capture_line p (broken_text fault)
-flaw_line p NotBuilt = codes "exbr: not built\n"
-
 unfoldable pub fault_line : Fault → List ℕ
-fault_line Usage = codes "exbr: usage: exbr run PORTS\n"
-fault_line (Capture p flaw) = flaw_line p flaw
+fault_line Usage = codes "exbr: usage: exbr run TOPOLOGY\n"
+fault_line (Missing name) = codes "exbr: missing " ++ name ++ codes "\n"
+fault_line (BadTopology fault) = codes "exbr: topology: " ++ topology_text fault ++ codes "\n"
+fault_line NotBuilt = codes "exbr: not built\n"
+fault_line (Capture p flaw) = capture_line p (flaw_text flaw)
 fault_line Read = codes "exbr: read fault\n"
 fault_line Write = codes "exbr: write fault\n"
 fault_line Memory = codes "exbr: out of memory\n"
@@ -73,18 +173,15 @@ line_of (Ok line) = string_bytes line
 line_of (Err fault) = fault_line fault
 
 -- ---- statuses
-abbrev pub flaw_status : Flaw → ℕ
-flaw_status Missing = 5
-flaw_status (Large limit) = 4
-flaw_status (Broken fault) = 4
-flaw_status NotBuilt = 8
-
 abbrev pub fault_status : Fault → ℕ
+fault_status Memory = 1
 fault_status Usage = 2
-fault_status (Capture p flaw) = flaw_status flaw
+fault_status (BadTopology fault) = 3
+fault_status (Capture p flaw) = 4
+fault_status (Missing name) = 5
 fault_status Read = 6
 fault_status Write = 7
-fault_status Memory = 1
+fault_status NotBuilt = 8
 
 abbrev pub status_of : Result (String Global) Fault → ℕ
 status_of (Ok line) = 0
@@ -92,16 +189,16 @@ status_of (Err fault) = fault_status fault
 
 -- the statuses that there are
 abbrev pub IsStatus : ℕ → Type 0
-IsStatus n = IsTrue (n == 0 || n == 1 || n == 2 || n == 4 || n == 5 || n == 6 || n == 7 || n == 8)
+IsStatus n = IsTrue (n == 0 || n == 1 || n == 2 || n == 3 || n == 4 || n == 5 || n == 6 || n == 7 || n == 8)
 
--- the first capture with a flaw has one of this status
-abbrev pub StopsWith : Option ℕ → Files → ℕ → Type 0
-StopsWith asked file status = (at : ℕ) × (flaw : Flaw) × Stops asked file at flaw × (flaw_status flaw ≡ status)
+-- the first fault has this status
+abbrev pub StopsWith : List (List ℕ) → Files → ℕ → Type 0
+StopsWith words file status = (fault : Fault) × Stops words file fault × (fault_status fault ≡ status)
 
--- the line of a flaw of this status, at one of 64 ports
-abbrev pub IsFlawLine : ℕ → List ℕ → Type 0
-IsFlawLine status line = (at : ℕ) × (flaw : Flaw) × (at < 64) × (flaw_status flaw ≡ status) × (line ≡ flaw_line (64 + at) flaw)
+-- the line of a fault of this status
+abbrev pub IsFaultLine : ℕ → List ℕ → Type 0
+IsFaultLine status line = (fault : Fault) × CanBe fault × (fault_status fault ≡ status) × (line ≡ fault_line fault)
 
 -- a line that is printed: that of a fault, or a summary
-abbrev pub IsLine : Option ℕ → Files → Files → List ℕ → Type 0
-IsLine asked old new line = ((fault : Fault) × (line ≡ fault_line fault)) ⊎ Ran asked old new line
+abbrev pub IsLine : List (List ℕ) → Files → Files → List ℕ → Type 0
+IsLine words old new line = ((fault : Fault) × CanBe fault × (line ≡ fault_line fault)) ⊎ Ran words old new line

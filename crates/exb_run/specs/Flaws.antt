@@ -7,10 +7,12 @@ use Rattle.exb_model.specs.Frames.{kind_of}
 use Rattle.exb_model.specs.Input.{Record}
 use Rattle.exb_pcap.specs.declared.reader.PcapFault.{PcapFault}
 use Rattle.exb_pcap.specs.Captures.{pcap_records}
-use Rattle.exb_shelf.specs.Files.{Files, bytes_of}
-use Rattle.exb_run.specs.declared.fault.Flaw.{Flaw}
-use Rattle.exb_run.specs.declared.fault.Flaw.TheVariants.{Missing, Large, Broken, NotBuilt}
-use Rattle.exb_run.specs.Inputs.{input_name}
+use Rattle.exb_shelf.specs.Files.{Files}
+use Rattle.exb_tables.specs.declared.rows.Named.{Named}
+use Rattle.exb_run.specs.declared.fault.Flaw.TheVariants.{Large, Broken}
+use Rattle.exb_run.specs.declared.fault.Fault.{Fault}
+use Rattle.exb_run.specs.declared.fault.Fault.TheVariants.{Missing, NotBuilt, Capture}
+use Rattle.exb_run.specs.Inputs.{name_of, bytes_at}
 
 -- whether frames of this kind can be played
 abbrev pub is_plain : Seen → Bool
@@ -20,36 +22,43 @@ is_plain _ = false
 abbrev pub is_plain_record : Record → Bool
 is_plain_record r = is_plain (kind_of r.bytes)
 
--- a capture that breaks the grammar, or else one with a frame that can't be played
-abbrev pub flaw_in : Result (List Record) PcapFault → Option Flaw
-flaw_in (Ok records) = if list_all is_plain_record records then None else Some NotBuilt
-flaw_in (Err fault) = Some (Broken fault)
+-- the capture of port p breaks the grammar, or else holds a frame that can't be played
+abbrev pub flaw_in : ℕ → Result (List Record) PcapFault → Option Fault
+flaw_in p (Ok records) = if list_all is_plain_record records then None else Some NotBuilt
+flaw_in p (Err fault) = Some (Capture p (Broken fault))
 
--- the first flaw of a capture, where the captures before it have that many bytes
-abbrev pub flaw_of : Option (List ℕ) → ℕ → Option Flaw
-flaw_of None before = Some Missing
-flaw_of (Some bytes) before =
-    if nat_lt 67_108_864 (length bytes) then Some (Large 67_108_864)
-    else (if nat_lt 536_870_912 (before + length bytes) then Some (Large 536_870_912)
-    else flaw_in (pcap_records bytes))
+-- the first fault of a capture of port p that is there, where the captures before it have that many bytes
+abbrev pub flaw_of_bytes : ℕ → List ℕ → ℕ → Option Fault
+flaw_of_bytes p bytes before =
+    if nat_lt 67_108_864 (length bytes) then Some (Capture p (Large 67_108_864))
+    else (if nat_lt 536_870_912 (before + length bytes) then Some (Capture p (Large 536_870_912))
+    else flaw_in p (pcap_records bytes))
 
--- how many bytes the captures of the first n ports have
-abbrev pub size_before : Files → ℕ → ℕ
-size_before file zero = 0
-size_before file (suc n) = size_before file n + length (bytes_of (file (input_name n)))
+-- the same of a file of this name
+abbrev pub flaw_of : ℕ → List ℕ → Option (List ℕ) → ℕ → Option Fault
+flaw_of p name None before = Some (Missing name)
+flaw_of p name (Some bytes) before = flaw_of_bytes p bytes before
 
--- the first flaw of the capture of port `at`, counted from 0
-unfoldable pub flaw_at : Files → ℕ → Option Flaw
-flaw_at file at = flaw_of (file (input_name at)) (size_before file at)
+-- the same where the capture has a name; a port without a capture has none
+abbrev pub flaw_named : ℕ → Option (List ℕ) → Files → ℕ → Option Fault
+flaw_named p None file before = None
+flaw_named p (Some name) file before = flaw_of p name (file name) before
 
--- of the captures of n ports, that of port `at` is the first in port order with a flaw
-pub record FirstFlaw (file : Files) (n at : ℕ) (flaw : Flaw) : Type 0 where
-  pub within : at < n
-  pub before : (j : ℕ) → j < at → flaw_at file j ≡ None
-  pub here : flaw_at file at ≡ Some flaw
+-- how many bytes the captures of the ports below n have
+abbrev pub size_below : List Named → Files → ℕ → ℕ
+size_below names file zero = 0
+size_below names file (suc n) = size_below names file n + length (bytes_at names file n)
 
--- the words are accepted, and this is the first capture with a flaw
-pub record Stops (asked : Option ℕ) (file : Files) (at : ℕ) (flaw : Flaw) : Type 0 where
-  pub ports : ℕ
-  pub words : asked ≡ Some ports
-  pub first : FirstFlaw file ports at flaw
+-- the first fault of the capture of port p
+unfoldable pub flaw_at : List Named → Files → ℕ → Option Fault
+flaw_at names file p = flaw_named p (name_of names p) file (size_below names file p)
+
+-- the capture of port p is the first in port order with a fault, and that is its first
+pub record FirstFlaw (names : List Named) (file : Files) (p : ℕ) (fault : Fault) : Type 0 where
+  pub port : p < 4160
+  pub before : (q : ℕ) → q < p → flaw_at names file q ≡ None
+  pub here : flaw_at names file p ≡ Some fault
+
+-- no capture has a fault
+abbrev pub AreGood : List Named → Files → Type 0
+AreGood names file = (p : ℕ) → p < 4160 → flaw_at names file p ≡ None

@@ -1,19 +1,23 @@
--- What a run reads: the capture of each port, and the input that they make.
-use Rattle.std.specs.Prelude.{◌≡◌, ◌<◌, ◌+◌, ◌-◌, ℕ, false, if◌then◌else◌, List, [], Result, Ok, Err, All, codes, length, slice_index_or}
+-- What a run is given: its topology, the captures that this names, and the input that they make.
+use Rattle.std.specs.Prelude.{◌≡◌, ℕ, Bool, true, false, ◌==◌, if◌then◌else◌, List, [], ◌∷◌, Option, Some, None, Result, Ok, Err, All, map, filter, is_some}
 use Rattle.exb_model.specs.declared.frame_kind.Seen.TheVariants as seen
 use Rattle.exb_model.specs.Frames.{kind_of}
-use Rattle.exb_model.specs.Input.{Input, Record}
-use Rattle.exb_model.specs.declared.setup.Setup.{Setup}
+use Rattle.exb_model.specs.Input.{Input, Record, given_by}
 use Rattle.exb_pcap.specs.declared.reader.PcapFault.{PcapFault}
 use Rattle.exb_pcap.specs.Captures.{pcap_records}
-use Rattle.exb_text.specs.Names.{capture_name}
-use Rattle.exb_world.specs.Setups.{IsFirst, is_port_of}
-use Rattle.exb_world.specs.Worlds.{first_number, first_ports}
+use Rattle.exb_shelf.specs.Files.{Files, bytes_of}
+use Rattle.exb_tables.specs.declared.rows.Named.{Named}
+use Rattle.exb_topology.specs.declared.topology.Topology.{Topology}
+use Rattle.exb_world.specs.Setups.{IsFirst}
 
--- the file with the capture of port `at` of extender 1, counted from 0
-abbrev pub input_name : ℕ → List ℕ
-input_name at = capture_name (codes "in-") (64 + at)
+-- A topology that can be played today: one extender on b1 with all its ports in VLAN 1, untagged, nothing
+-- is learned, and there are no commands and no fates.
+pub record IsBuilt (t : Topology) : Type 0 where
+  pub first : IsFirst t.setup
+  pub commands : t.commands ≡ []
+  pub fate : t.fate ≡ []
 
+-- ---- captures
 -- a frame without a VLAN tag, which is neither short nor long nor reserved
 abbrev pub IsPlain : Record → Type 0
 IsPlain r = kind_of r.bytes ≡ seen.Plain
@@ -23,24 +27,43 @@ abbrev pub IsPlayable : Result (List Record) PcapFault → Type 0
 IsPlayable (Ok records) = All IsPlain records
 IsPlayable (Err fault) = ⊥
 
--- The input of these captures: one extender with as many ports, and the captures' records.
-pub record IsInputOf (files : List (List ℕ)) (i : Input) : Type 0 where
-  pub setup : IsFirst i.setup
-  pub number : first_number i.setup.extenders ≡ 1
-  pub ports : first_ports i.setup.extenders ≡ length files
-  pub commands : i.commands ≡ []
-  pub records : (at : ℕ) → at < length files → pcap_records (slice_index_or files at []) ≡ Ok (i.records (64 + at))
-  pub elsewhere : (q : ℕ) → is_port_of 1 (length files) q ≡ false → i.records q ≡ []
+-- the name of the file with the capture of port q, if it has one
+abbrev pub name_of : List Named → ℕ → Option (List ℕ)
+name_of [] q = None
+name_of (x ∷ xs) q = if x.port == q then Some x.name else name_of xs q
 
+-- port q has a capture
+abbrev pub is_named : List Named → ℕ → Bool
+is_named names q = is_some (name_of names q)
+
+-- the bytes of a file that is named, and none where none is named
+abbrev pub bytes_named : Files → Option (List ℕ) → List ℕ
+bytes_named file None = []
+bytes_named file (Some name) = bytes_of (file name)
+
+-- the bytes of the capture of port q
+abbrev pub bytes_at : List Named → Files → ℕ → List ℕ
+bytes_at names file q = bytes_named file (name_of names q)
+
+-- ---- the input
 -- the records of a capture, and none where it is not one of the grammar
 abbrev pub records_or_none : Result (List Record) PcapFault → List Record
 records_or_none (Ok records) = records
 records_or_none (Err fault) = []
 
--- the input of a setup and captures
-abbrev pub input_of : Setup → List (List ℕ) → Input
-input_of s files = record {
-  setup = s;
-  commands = [];
-  records = λ q. if is_port_of 1 (length files) q then records_or_none (pcap_records (slice_index_or files (q - 64) [])) else [];
-}
+-- the records of the capture of port q, and none where it has no capture
+abbrev pub records_at : List Named → Files → ℕ → List Record
+records_at names file q = if is_named names q then records_or_none (pcap_records (bytes_at names file q)) else []
+
+-- the input of a topology and of the captures that it names
+abbrev pub input_of : Topology → Files → Input
+input_of t file = record { setup = t.setup; commands = map given_by t.commands; records = records_at t.captures file }
+
+-- ---- captures that were read
+-- a port and the bytes of its capture
+abbrev pub Taken : Type 0
+Taken = ℕ × List ℕ
+
+-- the captures of those of some ports that have one
+abbrev pub captures_of : List Named → Files → List ℕ → List Taken
+captures_of names file ports = map (λ q. (q, bytes_at names file q)) (filter (is_named names) ports)

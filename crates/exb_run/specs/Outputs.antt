@@ -1,25 +1,41 @@
--- What a run writes: the capture of each port, the journal, and the summary line.
-use Rattle.std.specs.Prelude.{◌≡◌, ◌≢◌, ◌<◌, ◌+◌, ℕ, List, codes, nat_lt, if◌then◌else◌}
+-- What a run writes: the capture of each external port, the journal, and the summary line.
+use Rattle.std.specs.Prelude.{◌≡◌, ◌≢◌, ◌<◌, ◌+◌, ◌*◌, ℕ, true, List, Some, nat_lt, if◌then◌else◌}
 use Rattle.exb_model.specs.Input.{Input, basis_of, tree_of}
+use Rattle.exb_model.specs.Tree.{Shape, is_external}
 use Rattle.exb_model.specs.EagerHistory.{eager}
 use Rattle.exb_model.specs.FlatBridge.{flat}
 use Rattle.exb_model.specs.Texts.{capture_text, journal_text, summary}
 use Rattle.exb_shelf.specs.Files.{Files, Filled}
 use Rattle.exb_text.specs.Names.{capture_name, journal_name}
+use Rattle.exb_run.specs.declared.plan.Plan.{Plan}
 
+-- no file but those of the external ports and the journal has changed
+abbrev pub OnlyOutputs : Shape → List ℕ → Files → Files → Type 0
+OnlyOutputs tree prefix old new =
+    (m : List ℕ) → ((q : ℕ) → is_external tree q ≡ true → m ≢ capture_name prefix q) → m ≢ journal_name prefix → new m ≡ old m
+
+-- All was played and written under a prefix, and this line sums it up: the file of each external port is
+-- what the one flat bridge sends at it over the eager history, and the journal is that history.
+pub record IsPlayed (i : Input) (prefix : List ℕ) (old new : Files) (line : List ℕ) : Type 0 where
+  pub captures : (q : ℕ) → is_external (tree_of i) q ≡ true → new (capture_name prefix q) ≡ Some (capture_text (flat (basis_of i) (eager i) q))
+  pub journal : new (journal_name prefix) ≡ Some (journal_text (eager i))
+  pub others : OnlyOutputs (tree_of i) prefix old new
+  pub says : line ≡ summary (tree_of i) (basis_of i) (eager i)
+
+-- ---- the outputs of a plan
 -- the files of the ports (counted from 0), and after them the journal
-abbrev pub output_name : ℕ → ℕ → List ℕ
-output_name ports j = if nat_lt j ports then capture_name (codes "out-") (64 + j) else journal_name (codes "out-")
+abbrev pub output_name : Plan → ℕ → List ℕ
+output_name plan j = if nat_lt j plan.ports then capture_name plan.prefix (64 * plan.number + j) else journal_name plan.prefix
 
--- what they hold: what the one flat bridge sends at the port over the eager history, and that history
-abbrev pub output_text : Input → ℕ → ℕ → List ℕ
-output_text i ports j = if nat_lt j ports then capture_text (flat (basis_of i) (eager i) (64 + j)) else journal_text (eager i)
+-- what they hold
+abbrev pub output_text : Input → Plan → ℕ → List ℕ
+output_text i plan j = if nat_lt j plan.ports then capture_text (flat (basis_of i) (eager i) (64 * plan.number + j)) else journal_text (eager i)
 
--- all was played and written, and this is the summary
-pub record IsPlayed (i : Input) (ports : ℕ) (old new : Files) (line : List ℕ) : Type 0 where
-  pub outputs : Filled old new (ports + 1) (output_name ports) (λ j bytes. bytes ≡ output_text i ports j)
+-- they hold it, and this is the summary
+pub record HasPlayed (i : Input) (plan : Plan) (old new : Files) (line : List ℕ) : Type 0 where
+  pub outputs : Filled old new (plan.ports + 1) (output_name plan) (λ j bytes. bytes ≡ output_text i plan j)
   pub says : line ≡ summary (tree_of i) (basis_of i) (eager i)
 
 -- no file but the outputs has changed
-abbrev pub OnlyOutputs : ℕ → Files → Files → Type 0
-OnlyOutputs ports old new = (m : List ℕ) → ((j : ℕ) → j < ports + 1 → m ≢ output_name ports j) → new m ≡ old m
+abbrev pub OnlyPlanned : Plan → Files → Files → Type 0
+OnlyPlanned plan old new = (m : List ℕ) → ((j : ℕ) → j < plan.ports + 1 → m ≢ output_name plan j) → new m ≡ old m

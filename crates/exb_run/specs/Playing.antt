@@ -8,21 +8,26 @@ use Rattle.exb_model.specs.Input.{Input, Arrival, Segment, Coming, Captured, Ord
 use Rattle.exb_model.specs.Texts.{Counts, counts, capture_text, journal_text}
 use Rattle.exb_model.specs.declared.frame_kind.Seen.TheVariants as seen
 use Rattle.exb_model.specs.Frames.{kind_of}
+use Rattle.exb_merge.specs.Streams.{Stream, stream_of}
+use Rattle.exb_pcap.specs.Captures.{pcap_records}
 use Rattle.exb_shelf.specs.Files.{Files}
 use Rattle.exb_world.specs.Setups.{is_port_of}
+use Rattle.exb_run.specs.declared.captures.Capture.{Capture}
 use Rattle.exb_run.specs.declared.outputs.Outputs.{Outputs}
+use Rattle.exb_run.specs.declared.plan.Plan.{Plan}
+use Rattle.exb_run.specs.Inputs.{IsPlayable, records_or_none}
 use Rattle.exb_run.specs.Writing.{HasTexts, pieces_of}
 use Rattle.exb_world.specs.Worlds.{State, Stands, fresh_of, ups_of}
 
 -- the text of output j after a history
-abbrev pub text_after : Input → ℕ → History → ℕ → List ℕ
-text_after i ports h j = if nat_lt j ports then capture_text (flat (basis_of i) h (64 + j)) else journal_text h
+abbrev pub text_after : Input → Plan → History → ℕ → List ℕ
+text_after i plan h j = if nat_lt j plan.ports then capture_text (flat (basis_of i) h (64 * plan.number + j)) else journal_text h
 
 -- The world is opened, and nothing that happened in it is still to be written.
-pub record IsAtRest (ports : ℕ) (w : State) : Type 0 where
+pub record IsAtRest (plan : Plan) (w : State) : Type 0 where
   pub opened : w.is_open ≡ true
-  pub number : w.number ≡ 1
-  pub all_ports : w.ports ≡ ports
+  pub number : w.number ≡ plan.number
+  pub all_ports : w.ports ≡ plan.ports
   pub events : w.events ≡ []
   pub left : w.left ≡ []
 
@@ -39,7 +44,7 @@ played c = c.relayed + c.ignored
 pub record IsCounted (c : Counts) (clock : ℕ) : Type 0 where
   pub commits : c.commits ≡ 0
   pub refusals : c.refusals ≡ 0
-  pub left : c.left ≤ 128 * played c
+  pub left : c.left ≤ 4160 * played c
   pub clock_below : clock ≤ 2 ^ 32 * played c
 
 -- the seconds of a segment, by the second of the one before it, if there is one
@@ -57,12 +62,21 @@ abbrev pub opened_of : Setup → State
 opened_of s = record (fresh_of s) { is_open = true; events = ups_of (fresh_of s) ++ event.Settled ∷ [] }
 
 -- what comes are plain frames at the extender's ports
-abbrev pub CanCome : ℕ → List Coming → Type 0
-CanCome ports [] = ⊤
-CanCome ports (Captured a ∷ xs) = (is_port_of 1 ports a.port ≡ true) × (kind_of a.bytes ≡ seen.Plain) × CanCome ports xs
-CanCome ports (Ordered moment n ∷ xs) = ⊥
+abbrev pub CanCome : Plan → List Coming → Type 0
+CanCome plan [] = ⊤
+CanCome plan (Captured a ∷ xs) = (is_port_of plan.number plan.ports a.port ≡ true) × (kind_of a.bytes ≡ seen.Plain) × CanCome plan xs
+CanCome plan (Ordered moment n ∷ xs) = ⊥
 
 -- The world, what is written and what is counted are those of the history.
-pub record IsWritten (i : Input) (h : History) (ports : ℕ) (orig now : Files) (w : State) (c : Counts) (o : Outputs) : Type 0 where
+pub record IsWritten (i : Input) (h : History) (plan : Plan) (orig now : Files) (w : State) (c : Counts) (o : Outputs) : Type 0 where
   pub under_way : IsUnderWay i h w c
-  pub texts : HasTexts ports (pieces_of o) orig now (text_after i ports h)
+  pub texts : HasTexts plan (pieces_of o) orig now (text_after i plan h)
+
+-- a capture that was read, at its first record
+abbrev pub stream_in : Capture → Stream
+stream_in c = stream_of c.port (records_or_none (pcap_records c.file.items))
+
+-- a capture that was read and can be played: its port is one of the extender, and its frames are plain
+pub record CanBePlayed (plan : Plan) (c : Capture) : Type 0 where
+  pub port : is_port_of plan.number plan.ports c.port ≡ true
+  pub playable : IsPlayable (pcap_records c.file.items)

@@ -1,21 +1,22 @@
 //! Reading and checking the captures.
-ghost use Rattle.std.specs.Prelude.{◌≡◌, ◌≢◌, ◌≤◌, ◌<◌, ◌+◌, ℕ, Some, None, All, length, map, sum_by, IfOk, OnOk, IsErrOf};
+ghost use Rattle.std.specs.Prelude.{◌≡◌, ◌≢◌, ◌≤◌, ◌<◌, ◌+◌, ◌⊎◌, true, ℕ, List, Some, None, Ok, Err, All, length, sum_by, IfOk, OnOk, IfErr, IfSome, IfNone, IsErrOf};
 ghost use Rattle.exb_model.specs.Frames.{kind_of};
+ghost use Rattle.exb_model.specs.Ports.{all_ports};
 ghost use Rattle.exb_pcap.specs.Captures.{pcap_records};
 ghost use Rattle.exb_shelf.specs.Files.{SameFiles};
 ghost use Rattle.exb_shelf.specs.Shelf.{Rose, NoFewer};
-ghost use Rattle.exb_run.specs.declared.fault.Flaw.{Flaw};
-ghost use Rattle.exb_run.specs.Inputs.{input_name, IsPlayable};
-ghost use Rattle.exb_run.specs.Flaws.{is_plain, flaw_in, flaw_of, size_before, flaw_at, FirstFlaw};
-ghost use Rattle.exb_run.specs.Answers.{AreCaptures};
+ghost use Rattle.exb_run.specs.Inputs.{IsPlayable, name_of, is_named, captures_of};
+ghost use Rattle.exb_run.specs.Flaws.{is_plain, flaw_in, flaw_of_bytes, flaw_of, AreGood, FirstFlaw};
+ghost use Rattle.exb_run.specs.Reading.{contents, IsOfCapture};
 
 use crate::fault::{Fault, Flaw};
-use crate::setup::port_at;
 use exb_frame::classify::classify;
 use exb_model::frame_kind::Seen;
+use exb_model::port::PortId;
+use exb_model::text::Text;
 use exb_pcap::Reader;
 use exb_shelf::{ReadFault, Shelf, read_file};
-use exb_text::capture_file_name;
+use exb_tables::Named;
 use std::alloc::Global;
 
 /// The most bytes of one capture.
@@ -24,6 +25,16 @@ const ONE_LIMIT: usize = 67_108_864;
 /// The most bytes of all captures together.
 const ALL_LIMIT: usize = 536_870_912;
 
+/// How many ports there can be.
+const PORTS: u16 = 4160;
+
+/// The capture of a port, whole.
+#[derive(Drop)]
+pub(crate) struct Capture {
+    pub(crate) port: PortId,
+    pub(crate) file: Vec<u8>,
+}
+
 /// Whether a frame can be played.
 fn is_plain(frame: &[u8]) -> bool
     ensures { result ≡ is_plain (kind_of frame.now) }
@@ -31,68 +42,79 @@ fn is_plain(frame: &[u8]) -> bool
     matches!(classify(frame), Seen::Plain)
 }
 
-/// The first flaw of a capture but its size: that it breaks the grammar, or else that it holds a frame
-/// that can't be played yet.
-fn flaw_in(file: &[u8]) -> Option<Flaw>
-    ensures { result ≡ flaw_in (pcap_records file.now) }
+/// The first fault of the capture of a port but its size: that it breaks the grammar, or else that it
+/// holds a frame that can't be played yet.
+fn flaw_in(port: PortId, file: &[u8]) -> Option<Fault>
+    ensures { result ≡ flaw_in port (pcap_records file.now) }
 {
     let mut reader = match Reader::new(file) {
         Ok(reader) => reader,
-        Err(fault) => return Some(Flaw::Broken { fault }),
+        Err(fault) => {
+            let flaw = Flaw::Broken { fault };
+            return Some(Fault::Capture { port, flaw });
+        }
     };
     let mut plain = true;
     'records: loop {
         match reader.next() {
             Ok(Some(record)) => plain = plain && is_plain(record.bytes),
-            Ok(None) => return if plain { None } else { Some(Flaw::NotBuilt) },
-            Err(fault) => return Some(Flaw::Broken { fault }),
+            Ok(None) => return if plain { None } else { Some(Fault::NotBuilt) },
+            Err(fault) => {
+                let flaw = Flaw::Broken { fault };
+                return Some(Fault::Capture { port, flaw });
+            }
         }
     }
 }
 
-/// The first flaw of a capture that is there and not too large by itself, where the captures before it
+/// The first fault of a capture that is there and not too large by itself, where the captures before it
 /// have `before` bytes.
-fn flaw_of(file: &[u8], before: usize) -> Option<Flaw>
+fn flaw_of(port: PortId, file: &[u8], before: usize) -> Option<Fault>
     requires small { length file.now ≤ 67_108_864 }
     requires room { before ≤ 536_870_912 }
-    ensures { result ≡ flaw_of (Some file.now) before }
+    ensures { result ≡ flaw_of_bytes port file.now before }
 {
     if before + file.len() > ALL_LIMIT {
         let limit = ALL_LIMIT as u64;
-        return Some(Flaw::Large { limit });
+        let flaw = Flaw::Large { limit };
+        return Some(Fault::Capture { port, flaw });
     }
-    flaw_in(file)
+    flaw_in(port, file)
 }
 
-/// Reads and checks the capture of port `at`, counted from 0, where those before it have `before` bytes.
+/// The fault of a file of this name that is not there.
+pub(crate) fn missing(alloc: Global, name: &str) -> Fault
+    ensures { (result ≡ Fault.Missing name.now) ⊎ (result ≡ Fault.Memory) }
+{
+    match Text::from_str(alloc, name) {
+        Ok(name) => Fault::Missing { name },
+        Err(_) => Fault::Memory,
+    }
+}
+
+/// Reads and checks the capture of a port, where those before it have `before` bytes.
 fn read_capture<S: Shelf>(
     alloc: Global,
     shelf: &mut S,
-    at: u8,
+    port: PortId,
+    name: &str,
     before: usize,
-) -> Result<Vec<u8>, Fault>
-    requires few { at < 64 }
+) -> Result<Capture, Fault>
+    requires port { port < 4160 }
     requires room { before ≤ 536_870_912 }
-    ensures there { S.tells → IfOk result (λ file. S.file shelf.old (input_name at) ≡ Some file.items) }
-    ensures good { IfOk result (λ file. flaw_of (Some file.items) before ≡ None) }
-    ensures flaw { S.tells → (p : ℕ) (flaw : Flaw) → result ≡ Err (Fault.Capture p flaw) → flaw_of (S.file shelf.old (input_name at)) before ≡ Some flaw }
-    ensures port { (p : ℕ) (flaw : Flaw) → result ≡ Err (Fault.Capture p flaw) → p ≡ 64 + at }
+    ensures port { IfOk result (λ capture. capture.port ≡ port) }
+    ensures there { S.tells → IfOk result (λ capture. S.file shelf.old name.now ≡ Some capture.file.items) }
+    ensures good { IfOk result (λ capture. flaw_of_bytes port capture.file.items before ≡ None) }
+    ensures flaw { S.tells → IfErr result (λ fault. (flaw_of port name.now (S.file shelf.old name.now) before ≡ Some fault) ⊎ (fault ≡ Fault.Read) ⊎ (fault ≡ Fault.Memory)) }
+    ensures causes { IfErr result IsOfCapture }
     ensures files { SameFiles (S.file shelf.old) (S.file shelf.new) }
-    ensures causes { (result ≢ Err Fault.Usage) × (result ≢ Err Fault.Write) }
     ensures faults { NoFewer (S.faults shelf.old) (S.faults shelf.new) }
-    ensures missing { (p : ℕ) → result ≡ Err (Fault.Capture p Flaw.Missing) → Rose (S.faults shelf.old).missing (S.faults shelf.new).missing }
+    ensures missing { (n : List ℕ) → result ≡ Err (Fault.Missing n) → Rose (S.faults shelf.old).missing (S.faults shelf.new).missing }
     ensures read { IsErrOf result Fault.Read → Rose (S.faults shelf.old).reads (S.faults shelf.new).reads }
 {
-    let port = port_at(at);
-    let Ok(name) = capture_file_name(alloc, "in-", port) else {
-        return Err(Fault::Memory);
-    };
-    let file = match read_file(alloc, shelf, name.as_str(), ONE_LIMIT) {
+    let file = match read_file(alloc, shelf, name, ONE_LIMIT) {
         Ok(file) => file,
-        Err(ReadFault::Missing) => {
-            let flaw = Flaw::Missing;
-            return Err(Fault::Capture { port, flaw });
-        }
+        Err(ReadFault::Missing) => return Err(missing(alloc, name)),
         Err(ReadFault::Large) => {
             let limit = ONE_LIMIT as u64;
             let flaw = Flaw::Large { limit };
@@ -101,44 +123,66 @@ fn read_capture<S: Shelf>(
         Err(ReadFault::Failed) => return Err(Fault::Read),
         Err(ReadFault::Memory) => return Err(Fault::Memory),
     };
-    match flaw_of(file.as_slice(), before) {
-        None => Ok(file),
-        Some(flaw) => Err(Fault::Capture { port, flaw }),
+    match flaw_of(port, file.as_slice(), before) {
+        None => Ok(Capture { port, file }),
+        Some(fault) => Err(fault),
     }
 }
 
-/// Reads and checks the captures of the ports in port order, up to the first that has a flaw.
+/// The port of a number.
+fn port_of(number: u16) -> PortId
+    requires { number < 4160 }
+    ensures { result ≡ number }
+{
+    PortId::new(number).unwrap()
+}
+
+/// The name of the file with the capture of a port, if it has one.
+fn name_of(names: &[Named], port: PortId) -> Option<&str>
+    ensures found { IfSome result (λ name. name_of names.now port ≡ Some name.now) }
+    ensures none { IfNone result (name_of names.now port ≡ None) }
+{
+    'looking: for named in names {
+        if named.port == port {
+            return Some(named.name.as_str());
+        }
+    }
+    None
+}
+
+/// Reads and checks the captures that are named, in port order, up to the first that has a fault.
 pub(crate) fn read_captures<S: Shelf>(
     alloc: Global,
     shelf: &mut S,
-    ports: u8,
-) -> Result<Vec<Vec<u8>>, Fault>
-    requires few { ports ≤ 64 }
-    ensures there { S.tells → IfOk result (λ files. AreCaptures (S.file shelf.old) ports (map (λ v. v.items) files.items)) }
-    ensures good { S.tells → OnOk result ((at : ℕ) → at < ports → flaw_at (S.file shelf.old) at ≡ None) }
-    ensures count { IfOk result (λ files. length files.items ≡ ports) }
-    ensures playable { IfOk result (λ files. All (λ v. IsPlayable (pcap_records v.items)) files.items) }
-    ensures sizes { IfOk result (λ files. All (λ v. length v.items ≤ 67_108_864) files.items) }
-    ensures all { IfOk result (λ files. sum_by (λ v. length v.items) files.items ≤ 536_870_912) }
-    ensures flaw { S.tells → (p : ℕ) (flaw : Flaw) → result ≡ Err (Fault.Capture p flaw) → (at : ℕ) × (p ≡ 64 + at) × FirstFlaw (S.file shelf.old) ports at flaw }
-    ensures port { (p : ℕ) (flaw : Flaw) → result ≡ Err (Fault.Capture p flaw) → (at : ℕ) × (at < 64) × (p ≡ 64 + at) }
+    names: &[Named],
+) -> Result<Vec<Capture>, Fault>
+    ensures there { S.tells → IfOk result (λ captures. contents captures.items ≡ captures_of names.now (S.file shelf.old) all_ports) }
+    ensures good { S.tells → OnOk result (AreGood names.now (S.file shelf.old)) }
+    ensures named { IfOk result (λ captures. All (λ c. is_named names.now c.port ≡ true) captures.items) }
+    ensures playable { IfOk result (λ captures. All (λ c. IsPlayable (pcap_records c.file.items)) captures.items) }
+    ensures all { IfOk result (λ captures. sum_by (λ c. length c.file.items) captures.items ≤ 536_870_912) }
+    ensures flaw { S.tells → IfErr result (λ fault. ((p : ℕ) × FirstFlaw names.now (S.file shelf.old) p fault) ⊎ (fault ≡ Fault.Read) ⊎ (fault ≡ Fault.Memory)) }
+    ensures causes { IfErr result IsOfCapture }
     ensures files { SameFiles (S.file shelf.old) (S.file shelf.new) }
-    ensures causes { (result ≢ Err Fault.Usage) × (result ≢ Err Fault.Write) }
     ensures faults { NoFewer (S.faults shelf.old) (S.faults shelf.new) }
-    ensures missing { (p : ℕ) → result ≡ Err (Fault.Capture p Flaw.Missing) → Rose (S.faults shelf.old).missing (S.faults shelf.new).missing }
+    ensures missing { (n : List ℕ) → result ≡ Err (Fault.Missing n) → Rose (S.faults shelf.old).missing (S.faults shelf.new).missing }
     ensures read { IsErrOf result Fault.Read → Rose (S.faults shelf.old).reads (S.faults shelf.new).reads }
 {
-    let mut files = Vec::new(alloc);
+    let mut captures = Vec::new(alloc);
     let mut size = 0;
-    'reading: for at in 0..ports {
-        let file = match read_capture(alloc, shelf, at, size) {
-            Ok(file) => file,
+    'reading: for number in 0..PORTS {
+        let port = port_of(number);
+        let Some(name) = name_of(names, port) else {
+            continue;
+        };
+        let capture = match read_capture(alloc, shelf, port, name, size) {
+            Ok(capture) => capture,
             Err(fault) => return Err(fault),
         };
-        size += file.len();
-        if files.push(file).is_err() {
+        size += capture.file.len();
+        if captures.push(capture).is_err() {
             return Err(Fault::Memory);
         }
     }
-    Ok(files)
+    Ok(captures)
 }

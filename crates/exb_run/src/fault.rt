@@ -3,33 +3,37 @@ ghost use Rattle.std.specs.Prelude.{◌≡◌};
 ghost use Rattle.exb_run.specs.declared.fault.Fault.TheVariants.{Memory};
 ghost use Rattle.exb_run.specs.Answers.{fault_of};
 
+use exb_keys::faults::TopoFault;
 use exb_model::memory::NoMemory;
 use exb_model::port::PortId;
+use exb_model::text::Text;
 use exb_pcap::PcapFault;
 use exb_shelf::ShelfFault;
 use exb_world::WorldFault;
 
-/// What is wrong with the capture of a port.
+/// What is wrong with a capture that is there.
 #[derive(Clone, Copy, Debug, PartialEq, Eq)]
 pub(crate) enum Flaw {
-    /// It is not there.
-    Missing,
     /// It, or all captures up to it, have more bytes than this limit.
     Large { limit: u64 },
     /// It is no classic capture of Ethernet frames.
     Broken { fault: PcapFault },
-    /// It holds a frame that can't be played yet.
-    NotBuilt,
 }
 
 /// Why a run ends before its end.
-#[derive(Clone, Copy, Debug, PartialEq, Eq)]
+#[derive(Debug, Drop)]
 pub(crate) enum Fault {
     /// The words are none that are accepted.
     Usage,
-    /// The capture of this port is the first with a flaw.
+    /// The topology, or a capture that it names, is not there.
+    Missing { name: Text },
+    /// The topology is refused.
+    Topology { fault: TopoFault },
+    /// The topology asks for, or a capture holds, what can't be played yet.
+    NotBuilt,
+    /// The capture of this port can't be taken.
     Capture { port: PortId, flaw: Flaw },
-    /// A capture could not be read.
+    /// A file could not be read.
     Read,
     /// A file could not be made or written.
     Write,

@@ -1,12 +1,14 @@
 //! The output files while they are written.
-ghost use Rattle.std.specs.Prelude.{◌≡◌, ◌≢◌, ◌≤◌, ◌<◌, ◌+◌, ◌-◌, ◌++◌, ℕ, List, [], length, IfOk, OnOk, OnErr, IsErrOf, string_bytes, ◌∷◌, ◌⊎◌, true, All};
+ghost use Rattle.std.specs.Prelude.{◌≡◌, ◌≢◌, ◌≤◌, ◌<◌, ◌+◌, ◌-◌, ◌*◌, ◌++◌, ℕ, List, [], length, IfOk, OnOk, OnErr, IsErrOf, string_bytes, ◌∷◌, ◌⊎◌, true, All};
 ghost use Rattle.exb_shelf.specs.Files.{Files, SameFiles, Puts, Adds, Filled};
 ghost use Rattle.exb_shelf.specs.Shelf.{Rose, NoFewer, IsWriting, writing};
-ghost use Rattle.exb_run.specs.Outputs.{output_name, OnlyOutputs};
+ghost use Rattle.exb_run.specs.declared.plan.Plan.{Plan};
+ghost use Rattle.exb_run.specs.Plans.{IsInRange};
+ghost use Rattle.exb_run.specs.Outputs.{output_name, OnlyPlanned};
 ghost use Rattle.exb_model.specs.Texts.{line_of, record_text as record_of};
 ghost use Rattle.exb_run.specs.Writing.{pieces_of, Holds, HasTexts, IsReady, first_text, with_more, lines_of, with_left_frames, CanBeWritten};
 
-use crate::setup::port_at;
+use crate::plan::{Plan, port_at};
 use exb_model::event::Event;
 use exb_model::memory::NoMemory;
 use exb_pcap::{header_text, record_text};
@@ -25,30 +27,31 @@ pub(crate) struct Outputs {
 }
 
 /// The name of output `at`.
-fn output_name(alloc: Global, ports: u8, at: u8) -> Result<String, NoMemory>
-    requires { ports ≤ 64 }
-    ensures { IfOk result (λ name. string_bytes name ≡ output_name ports at) }
+fn output_name(alloc: Global, plan: &Plan, at: u8) -> Result<String, NoMemory>
+    requires { IsInRange plan.now }
+    ensures { IfOk result (λ name. string_bytes name ≡ output_name plan.now at) }
 {
-    if at < ports {
-        capture_file_name(alloc, "out-", port_at(at))
+    let prefix = plan.prefix.as_str();
+    if at < plan.ports {
+        capture_file_name(alloc, prefix, port_at(plan.number, at))
     } else {
-        journal_file_name(alloc, "out-")
+        journal_file_name(alloc, prefix)
     }
 }
 
-/// The outputs have different names.
+/// The outputs of a plan have different names.
 fn output_names_differ()
-    ensures { (ports : ℕ) → ports ≤ 64 → (i j : ℕ) → i < ports + 1 → j < ports + 1 → i ≢ j → output_name ports i ≢ output_name ports j }
+    ensures { (plan : Plan) → IsInRange plan → (i j : ℕ) → i < plan.ports + 1 → j < plan.ports + 1 → i ≢ j → output_name plan i ≢ output_name plan j }
 {
     capture_names_differ();
     no_capture_is_the_journal();
 }
 
 /// What output `at` begins with.
-fn first_piece(alloc: Global, ports: u8, at: u8) -> Result<Vec<u8>, AllocError>
-    ensures { IfOk result (λ piece. piece.items ≡ first_text ports at) }
+fn first_piece(alloc: Global, plan: &Plan, at: u8) -> Result<Vec<u8>, AllocError>
+    ensures { IfOk result (λ piece. piece.items ≡ first_text plan.now at) }
 {
-    if at < ports {
+    if at < plan.ports {
         header_text().to_vec(alloc)
     } else {
         Ok(Vec::new(alloc))
@@ -59,26 +62,26 @@ fn first_piece(alloc: Global, ports: u8, at: u8) -> Result<Vec<u8>, AllocError>
 fn create_one<S: Shelf>(
     alloc: Global,
     shelf: &mut S,
-    ports: u8,
+    plan: &Plan,
     at: u8,
     outputs: &mut Outputs,
 ) -> Result<(), ShelfFault>
-    requires few { ports ≤ 64 }
+    requires plan { IsInRange plan.now }
     requires ids { length outputs.old.ids.items ≡ at }
     requires pieces { length outputs.old.pieces.items ≡ at }
-    ensures ids { OnOk result ((id : ℕ) × (outputs.new.ids.items ≡ outputs.old.ids.items ++ id ∷ []) × (S.ids shelf.new id ≡ writing (output_name ports at))) }
-    ensures pieces { OnOk result (pieces_of outputs.new ≡ pieces_of outputs.old ++ first_text ports at ∷ []) }
+    ensures ids { OnOk result ((id : ℕ) × (outputs.new.ids.items ≡ outputs.old.ids.items ++ id ∷ []) × (S.ids shelf.new id ≡ writing (output_name plan.now at))) }
+    ensures pieces { OnOk result (pieces_of outputs.new ≡ pieces_of outputs.old ++ first_text plan.now at ∷ []) }
     ensures count { OnOk result (length outputs.new.pieces.items ≡ at + 1) }
     ensures kept { (j : ℕ) → (S.ids shelf.old j).given ≡ true → S.ids shelf.new j ≡ S.ids shelf.old j }
-    ensures empty { S.tells → OnOk result (Puts (S.file shelf.old) (S.file shelf.new) (output_name ports at) []) }
-    ensures others { S.tells → OnErr result ((m : List ℕ) → m ≢ output_name ports at → S.file shelf.new m ≡ S.file shelf.old m) }
+    ensures empty { S.tells → OnOk result (Puts (S.file shelf.old) (S.file shelf.new) (output_name plan.now at) []) }
+    ensures others { S.tells → OnErr result ((m : List ℕ) → m ≢ output_name plan.now at → S.file shelf.new m ≡ S.file shelf.old m) }
     ensures faults { NoFewer (S.faults shelf.old) (S.faults shelf.new) }
     ensures failed { IsErrOf result ShelfFault.Failed → Rose (S.faults shelf.old).writes (S.faults shelf.new).writes }
 {
-    let Ok(name) = output_name(alloc, ports, at) else {
+    let Ok(name) = output_name(alloc, plan, at) else {
         return Err(ShelfFault::Memory);
     };
-    let Ok(piece) = first_piece(alloc, ports, at) else {
+    let Ok(piece) = first_piece(alloc, plan, at) else {
         return Err(ShelfFault::Memory);
     };
     let id = match shelf.create(name.as_str()) {
@@ -95,12 +98,12 @@ fn create_one<S: Shelf>(
 pub(crate) fn create_all<S: Shelf>(
     alloc: Global,
     shelf: &mut S,
-    ports: u8,
+    plan: &Plan,
 ) -> Result<Outputs, ShelfFault>
-    requires { ports ≤ 64 }
-    ensures ready { IfOk result (λ outputs. IsReady ports (S.ids shelf.new) outputs) }
-    ensures texts { S.tells → IfOk result (λ outputs. HasTexts ports (pieces_of outputs) (S.file shelf.old) (S.file shelf.new) (first_text ports)) }
-    ensures others { S.tells → OnErr result (OnlyOutputs ports (S.file shelf.old) (S.file shelf.new)) }
+    requires { IsInRange plan.now }
+    ensures ready { IfOk result (λ outputs. IsReady plan.now (S.ids shelf.new) outputs) }
+    ensures texts { S.tells → IfOk result (λ outputs. HasTexts plan.now (pieces_of outputs) (S.file shelf.old) (S.file shelf.new) (first_text plan.now)) }
+    ensures others { S.tells → OnErr result (OnlyPlanned plan.now (S.file shelf.old) (S.file shelf.new)) }
     ensures faults { NoFewer (S.faults shelf.old) (S.faults shelf.new) }
     ensures failed { IsErrOf result ShelfFault.Failed → Rose (S.faults shelf.old).writes (S.faults shelf.new).writes }
 {
@@ -109,8 +112,8 @@ pub(crate) fn create_all<S: Shelf>(
         pieces: Vec::new(alloc),
     };
     output_names_differ();
-    for at in 0..ports + 1 {
-        match create_one(alloc, shelf, ports, at, &mut outputs) {
+    for at in 0..plan.ports + 1 {
+        match create_one(alloc, shelf, plan, at, &mut outputs) {
             Ok(()) => {}
             Err(fault) => return Err(fault),
         }
@@ -168,21 +171,21 @@ impl Outputs {
     pub(crate) fn write_events<S: Shelf>(
         &mut self,
         shelf: &mut S,
-        ports: u8,
+        plan: &Plan,
         line: &mut String,
         events: &[Event],
     ) -> Result<(), ShelfFault>
-        requires few { ports ≤ 64 }
-        requires ready { IsReady ports (S.ids shelf.old) self.old }
-        ensures ready { IsReady ports (S.ids shelf.new) self.new }
-        ensures texts { S.tells → OnOk result ((orig : Files) (text : ℕ → List ℕ) → HasTexts ports (pieces_of self.old) orig (S.file shelf.old) text
-            → HasTexts ports (pieces_of self.new) orig (S.file shelf.new) (with_more text ports (lines_of events.now))) }
-        ensures others { S.tells → OnlyOutputs ports (S.file shelf.old) (S.file shelf.new) }
+        requires plan { IsInRange plan.now }
+        requires ready { IsReady plan.now (S.ids shelf.old) self.old }
+        ensures ready { IsReady plan.now (S.ids shelf.new) self.new }
+        ensures texts { S.tells → OnOk result ((orig : Files) (text : ℕ → List ℕ) → HasTexts plan.now (pieces_of self.old) orig (S.file shelf.old) text
+            → HasTexts plan.now (pieces_of self.new) orig (S.file shelf.new) (with_more text plan.now.ports (lines_of events.now))) }
+        ensures others { S.tells → OnlyPlanned plan.now (S.file shelf.old) (S.file shelf.new) }
         ensures faults { NoFewer (S.faults shelf.old) (S.faults shelf.new) }
         ensures failed { IsErrOf result ShelfFault.Failed → Rose (S.faults shelf.old).writes (S.faults shelf.new).writes }
     {
         for event in events {
-            self.add_event(shelf, ports, line, event)?;
+            self.add_event(shelf, plan, line, event)?;
         }
         Ok(())
     }
@@ -191,32 +194,32 @@ impl Outputs {
     pub(crate) fn write_left<S: Shelf>(
         &mut self,
         shelf: &mut S,
-        ports: u8,
+        plan: &Plan,
         left: &[Left],
     ) -> Result<(), ShelfFault>
-        requires few { ports ≤ 64 }
-        requires ready { IsReady ports (S.ids shelf.old) self.old }
-        requires frames { All (λ x. CanBeWritten ports x) left.now }
-        ensures ready { IsReady ports (S.ids shelf.new) self.new }
-        ensures texts { S.tells → OnOk result ((orig : Files) (text : ℕ → List ℕ) → HasTexts ports (pieces_of self.old) orig (S.file shelf.old) text
-            → HasTexts ports (pieces_of self.new) orig (S.file shelf.new) (with_left_frames ports text left.now)) }
-        ensures others { S.tells → OnlyOutputs ports (S.file shelf.old) (S.file shelf.new) }
+        requires plan { IsInRange plan.now }
+        requires ready { IsReady plan.now (S.ids shelf.old) self.old }
+        requires frames { All (λ x. CanBeWritten plan.now x) left.now }
+        ensures ready { IsReady plan.now (S.ids shelf.new) self.new }
+        ensures texts { S.tells → OnOk result ((orig : Files) (text : ℕ → List ℕ) → HasTexts plan.now (pieces_of self.old) orig (S.file shelf.old) text
+            → HasTexts plan.now (pieces_of self.new) orig (S.file shelf.new) (with_left_frames plan.now text left.now)) }
+        ensures others { S.tells → OnlyPlanned plan.now (S.file shelf.old) (S.file shelf.new) }
         ensures faults { NoFewer (S.faults shelf.old) (S.faults shelf.new) }
         ensures failed { IsErrOf result ShelfFault.Failed → Rose (S.faults shelf.old).writes (S.faults shelf.new).writes }
     {
         for frame in left {
-            self.add_left(shelf, ports, frame)?;
+            self.add_left(shelf, plan, frame)?;
         }
         Ok(())
     }
 
     /// Writes all that is not written yet.
-    pub(crate) fn finish<S: Shelf>(&mut self, shelf: &mut S, ports: u8) -> Result<(), ShelfFault>
-        requires few { ports ≤ 64 }
-        requires ready { IsReady ports (S.ids shelf.old) self.old }
-        ensures texts { S.tells → OnOk result ((orig : Files) (text : ℕ → List ℕ) → HasTexts ports (pieces_of self.old) orig (S.file shelf.old) text
-            → Filled orig (S.file shelf.new) (ports + 1) (output_name ports) (λ j bytes. bytes ≡ text j)) }
-        ensures others { S.tells → OnlyOutputs ports (S.file shelf.old) (S.file shelf.new) }
+    pub(crate) fn finish<S: Shelf>(&mut self, shelf: &mut S, plan: &Plan) -> Result<(), ShelfFault>
+        requires plan { IsInRange plan.now }
+        requires ready { IsReady plan.now (S.ids shelf.old) self.old }
+        ensures texts { S.tells → OnOk result ((orig : Files) (text : ℕ → List ℕ) → HasTexts plan.now (pieces_of self.old) orig (S.file shelf.old) text
+            → Filled orig (S.file shelf.new) (plan.now.ports + 1) (output_name plan.now) (λ j bytes. bytes ≡ text j)) }
+        ensures others { S.tells → OnlyPlanned plan.now (S.file shelf.old) (S.file shelf.new) }
         ensures faults { NoFewer (S.faults shelf.old) (S.faults shelf.new) }
         ensures failed { IsErrOf result ShelfFault.Failed → Rose (S.faults shelf.old).writes (S.faults shelf.new).writes }
     {
@@ -231,16 +234,16 @@ impl Outputs {
     fn add_event<S: Shelf>(
         &mut self,
         shelf: &mut S,
-        ports: u8,
+        plan: &Plan,
         line: &mut String,
         event: &Event,
     ) -> Result<(), ShelfFault>
-        requires few { ports ≤ 64 }
-        requires ready { IsReady ports (S.ids shelf.old) self.old }
-        ensures ready { IsReady ports (S.ids shelf.new) self.new }
-        ensures texts { S.tells → OnOk result ((orig : Files) (text : ℕ → List ℕ) → HasTexts ports (pieces_of self.old) orig (S.file shelf.old) text
-            → HasTexts ports (pieces_of self.new) orig (S.file shelf.new) (with_more text ports (line_of event.now ++ 10 ∷ []))) }
-        ensures others { S.tells → OnlyOutputs ports (S.file shelf.old) (S.file shelf.new) }
+        requires plan { IsInRange plan.now }
+        requires ready { IsReady plan.now (S.ids shelf.old) self.old }
+        ensures ready { IsReady plan.now (S.ids shelf.new) self.new }
+        ensures texts { S.tells → OnOk result ((orig : Files) (text : ℕ → List ℕ) → HasTexts plan.now (pieces_of self.old) orig (S.file shelf.old) text
+            → HasTexts plan.now (pieces_of self.new) orig (S.file shelf.new) (with_more text plan.now.ports (line_of event.now ++ 10 ∷ []))) }
+        ensures others { S.tells → OnlyPlanned plan.now (S.file shelf.old) (S.file shelf.new) }
         ensures faults { NoFewer (S.faults shelf.old) (S.faults shelf.new) }
         ensures failed { IsErrOf result ShelfFault.Failed → Rose (S.faults shelf.old).writes (S.faults shelf.new).writes }
     {
@@ -248,48 +251,48 @@ impl Outputs {
         if write_line(line, event).is_err() {
             return Err(ShelfFault::Memory);
         }
-        self.add_to(shelf, ports, ports as usize, &[], line.as_bytes())
+        self.add_to(shelf, plan, plan.ports as usize, &[], line.as_bytes())
     }
 
     /// Puts a frame that left a port behind the port's capture.
     fn add_left<S: Shelf>(
         &mut self,
         shelf: &mut S,
-        ports: u8,
+        plan: &Plan,
         left: &Left,
     ) -> Result<(), ShelfFault>
-        requires few { ports ≤ 64 }
-        requires ready { IsReady ports (S.ids shelf.old) self.old }
-        requires frame { CanBeWritten ports left.now }
-        ensures ready { IsReady ports (S.ids shelf.new) self.new }
-        ensures texts { S.tells → OnOk result ((orig : Files) (text : ℕ → List ℕ) → HasTexts ports (pieces_of self.old) orig (S.file shelf.old) text
-            → HasTexts ports (pieces_of self.new) orig (S.file shelf.new) (with_more text (left.now.port - 64) (record_of (left.now.moment, left.now.bytes)))) }
-        ensures others { S.tells → OnlyOutputs ports (S.file shelf.old) (S.file shelf.new) }
+        requires plan { IsInRange plan.now }
+        requires ready { IsReady plan.now (S.ids shelf.old) self.old }
+        requires frame { CanBeWritten plan.now left.now }
+        ensures ready { IsReady plan.now (S.ids shelf.new) self.new }
+        ensures texts { S.tells → OnOk result ((orig : Files) (text : ℕ → List ℕ) → HasTexts plan.now (pieces_of self.old) orig (S.file shelf.old) text
+            → HasTexts plan.now (pieces_of self.new) orig (S.file shelf.new) (with_more text (left.now.port - 64 * plan.now.number) (record_of (left.now.moment, left.now.bytes)))) }
+        ensures others { S.tells → OnlyPlanned plan.now (S.file shelf.old) (S.file shelf.new) }
         ensures faults { NoFewer (S.faults shelf.old) (S.faults shelf.new) }
         ensures failed { IsErrOf result ShelfFault.Failed → Rose (S.faults shelf.old).writes (S.faults shelf.new).writes }
     {
-        let at = left.port.number() as usize - 64;
+        let at = left.port.number() as usize - 64 * plan.number as usize;
         let bytes = left.bytes.as_slice();
         let head = record_text(left.moment, bytes.len() as u32);
-        self.add_to(shelf, ports, at, &head, bytes)
+        self.add_to(shelf, plan, at, &head, bytes)
     }
 
     /// Puts bytes behind output `at`.
     fn add_to<S: Shelf>(
         &mut self,
         shelf: &mut S,
-        ports: u8,
+        plan: &Plan,
         at: usize,
         head: &[u8],
         bytes: &[u8],
     ) -> Result<(), ShelfFault>
-        requires few { ports ≤ 64 }
-        requires ready { IsReady ports (S.ids shelf.old) self.old }
-        requires within { at ≤ ports }
-        ensures ready { IsReady ports (S.ids shelf.new) self.new }
-        ensures texts { S.tells → OnOk result ((orig : Files) (text : ℕ → List ℕ) → HasTexts ports (pieces_of self.old) orig (S.file shelf.old) text
-            → HasTexts ports (pieces_of self.new) orig (S.file shelf.new) (with_more text at (head.now ++ bytes.now))) }
-        ensures others { S.tells → OnlyOutputs ports (S.file shelf.old) (S.file shelf.new) }
+        requires plan { IsInRange plan.now }
+        requires ready { IsReady plan.now (S.ids shelf.old) self.old }
+        requires within { at ≤ plan.now.ports }
+        ensures ready { IsReady plan.now (S.ids shelf.new) self.new }
+        ensures texts { S.tells → OnOk result ((orig : Files) (text : ℕ → List ℕ) → HasTexts plan.now (pieces_of self.old) orig (S.file shelf.old) text
+            → HasTexts plan.now (pieces_of self.new) orig (S.file shelf.new) (with_more text at (head.now ++ bytes.now))) }
+        ensures others { S.tells → OnlyPlanned plan.now (S.file shelf.old) (S.file shelf.new) }
         ensures faults { NoFewer (S.faults shelf.old) (S.faults shelf.new) }
         ensures failed { IsErrOf result ShelfFault.Failed → Rose (S.faults shelf.old).writes (S.faults shelf.new).writes }
     {

@@ -1,12 +1,11 @@
 //! Playing the captures: the opening, then each record in its turn.
 ghost use Rattle.std.specs.Prelude.{◌≡◌, ◌≢◌, ◌≤◌, ◌<◌, ◌+◌, ◌*◌, ◌^◌, ◌++◌, ◌∷◌, [], ◌⊎◌, ℕ, List, true, length, All, fold, IfOk, OnOk, OnErr, IfErr, IsErrOf, OnErr, None, map, sum_by, string_bytes};
-ghost use Rattle.std.specs.List.{range_with_len};
 ghost use Rattle.exb_model.specs.History.{History};
-ghost use Rattle.exb_model.specs.Input.{Input, basis_of, tree_of, bounds_of};
+ghost use Rattle.exb_model.specs.Input.{Input, basis_of, tree_of, bounds_of, merge};
 ghost use Rattle.exb_model.specs.Frames.{kind_of};
 ghost use Rattle.exb_model.specs.Texts.{counted, with_left, summary_line};
 ghost use Rattle.exb_merge.specs.Arrivals.{arrival_of};
-ghost use Rattle.exb_merge.specs.Streams.{stream_at, to_come};
+ghost use Rattle.exb_merge.specs.Streams.{to_come};
 ghost use Rattle.exb_pcap.specs.Captures.{pcap_records};
 ghost use Rattle.exb_shelf.specs.Files.{Files, Filled};
 ghost use Rattle.exb_shelf.specs.Shelf.{Rose, NoFewer};
@@ -14,17 +13,18 @@ ghost use Rattle.exb_text.specs.Tallies.{counts_of};
 ghost use Rattle.exb_model.specs.Tree.{is_external};
 ghost use Rattle.exb_model.specs.EagerHistory.{eager_segment, eagerly, opening};
 ghost use Rattle.exb_world.specs.Setups.{is_port_of, IsFirst};
-ghost use Rattle.exb_world.specs.Worlds.{Stands, first_number, first_ports};
+ghost use Rattle.exb_world.specs.Worlds.{Stands};
 ghost use Rattle.exb_schedule.specs.Segments.{arrived, segment, CanArrive};
-ghost use Rattle.exb_run.specs.Inputs.{IsPlayable, IsInputOf, input_of};
-ghost use Rattle.exb_run.specs.Playing.{text_after, seconds_after, segments_after, played, IsAtRest, IsUnderWay, IsCounted, IsWritten, CanCome, opened_of};
-ghost use Rattle.exb_run.specs.Outputs.{OnlyOutputs, IsPlayed, output_name};
+ghost use Rattle.exb_run.specs.Inputs.{IsPlayable};
+ghost use Rattle.exb_run.specs.Plans.{IsInRange, IsOf};
+ghost use Rattle.exb_run.specs.Playing.{text_after, seconds_after, segments_after, played, IsAtRest, IsUnderWay, IsCounted, IsWritten, CanCome, opened_of, stream_in, CanBePlayed};
+ghost use Rattle.exb_run.specs.Outputs.{OnlyPlanned, HasPlayed, output_name};
 ghost use Rattle.exb_run.specs.Writing.{HasTexts, IsReady, pieces_of, lines_of, with_more, with_left_frames, CanBeWritten};
 
+use crate::captures::Capture;
 use crate::fault::Fault;
 use crate::outputs::{Outputs, create_all};
-use crate::setup::{one_extender, port_at};
-use exb_merge::laws::merge_of_row;
+use crate::plan::Plan;
 use exb_merge::{Captures, Coming};
 use exb_model::bytes::Bytes;
 use exb_model::event::Event;
@@ -77,34 +77,34 @@ pub(crate) struct Game {
 
 impl Game {
     /// Writes and counts what has happened in the world since it was cleared, and clears it.
-    fn note<S: Shelf>(&mut self, shelf: &mut S, ports: u8) -> Result<(), Fault>
-        requires few { ports ≤ 64 }
-        requires ready { IsReady ports (S.ids shelf.old) self.old.outputs }
-        requires frames { All (λ x. CanBeWritten ports x) self.old.world.left }
+    fn note<S: Shelf>(&mut self, shelf: &mut S, plan: &Plan) -> Result<(), Fault>
+        requires plan { IsInRange plan.now }
+        requires ready { IsReady plan.now (S.ids shelf.old) self.old.outputs }
+        requires frames { All (λ x. CanBeWritten plan.now x) self.old.world.left }
         requires relayed { self.old.tally.relayed + length self.old.world.events < 2 ^ 64 }
         requires ignored { self.old.tally.ignored + length self.old.world.events < 2 ^ 64 }
         requires commits { self.old.tally.commits + length self.old.world.events < 2 ^ 64 }
         requires refusals { self.old.tally.refusals + length self.old.world.events < 2 ^ 64 }
         requires left { self.old.tally.left + length self.old.world.left < 2 ^ 64 }
-        ensures ready { IsReady ports (S.ids shelf.new) self.new.outputs }
+        ensures ready { IsReady plan.now (S.ids shelf.new) self.new.outputs }
         ensures cleared { OnOk result (self.new.world ≡ record self.old.world { events = []; left = [] }) }
-        ensures texts { S.tells → OnOk result ((orig : Files) (text : ℕ → List ℕ) → HasTexts ports (pieces_of self.old.outputs) orig (S.file shelf.old) text
-            → HasTexts ports (pieces_of self.new.outputs) orig (S.file shelf.new)
-            (with_left_frames ports (with_more text ports (lines_of self.old.world.events)) self.old.world.left)) }
+        ensures texts { S.tells → OnOk result ((orig : Files) (text : ℕ → List ℕ) → HasTexts plan.now (pieces_of self.old.outputs) orig (S.file shelf.old) text
+            → HasTexts plan.now (pieces_of self.new.outputs) orig (S.file shelf.new)
+            (with_left_frames plan.now (with_more text plan.now.ports (lines_of self.old.world.events)) self.old.world.left)) }
         ensures counts { OnOk result (counts_of self.new.tally
             ≡ with_left (length self.old.world.left) (fold (λ c e. counted e c) (counts_of self.old.tally) self.old.world.events)) }
-        ensures others { S.tells → OnlyOutputs ports (S.file shelf.old) (S.file shelf.new) }
+        ensures others { S.tells → OnlyPlanned plan.now (S.file shelf.old) (S.file shelf.new) }
         ensures causes { IfErr result (λ fault. (fault ≡ Fault.Write) ⊎ (fault ≡ Fault.Memory)) }
         ensures faults { NoFewer (S.faults shelf.old) (S.faults shelf.new) }
         ensures write { IsErrOf result Fault.Write → Rose (S.faults shelf.old).writes (S.faults shelf.new).writes }
     {
         if let Err(fault) = self
             .outputs
-            .write_events(shelf, ports, &mut self.line, self.world.events())
+            .write_events(shelf, plan, &mut self.line, self.world.events())
         {
             return Err(fault_of(fault));
         }
-        if let Err(fault) = self.outputs.write_left(shelf, ports, self.world.left()) {
+        if let Err(fault) = self.outputs.write_left(shelf, plan, self.world.left()) {
             return Err(fault_of(fault));
         }
         count_all(&mut self.tally, self.world.events());
@@ -117,30 +117,30 @@ impl Game {
     fn turn<S: Shelf>(
         &mut self,
         shelf: &mut S,
-        ports: u8,
+        plan: &Plan,
         seconds: u32,
         arrival: Arrival,
     ) -> Result<(), Fault>
-        requires few { ports ≤ 64 }
-        requires ready { IsReady ports (S.ids shelf.old) self.old.outputs }
-        requires rest { IsAtRest ports self.old.world }
+        requires plan { IsInRange plan.now }
+        requires ready { IsReady plan.now (S.ids shelf.old) self.old.outputs }
+        requires rest { IsAtRest plan.now self.old.world }
         requires counted { IsCounted (counts_of self.old.tally) self.old.world.clock }
         requires room { played (counts_of self.old.tally) < 2 ^ 30 }
         requires arrival { CanArrive self.old.world (arrived arrival) }
         requires moment { arrival.moment < 2 ^ 32 * 1_000_000_000 }
         requires bytes { length arrival.bytes < 2 ^ 32 }
-        ensures ready { IsReady ports (S.ids shelf.new) self.new.outputs }
-        ensures rest { OnOk result (IsAtRest ports self.new.world) }
+        ensures ready { IsReady plan.now (S.ids shelf.new) self.new.outputs }
+        ensures rest { OnOk result (IsAtRest plan.now self.new.world) }
         ensures counted { OnOk result (IsCounted (counts_of self.new.tally) self.new.world.clock) }
         ensures played { OnOk result (played (counts_of self.new.tally) ≡ played (counts_of self.old.tally) + 1) }
-        ensures under_way { OnOk result ((i : Input) (h : History) → ((q : ℕ) → is_external (tree_of i) q ≡ is_port_of 1 ports q)
+        ensures under_way { OnOk result ((i : Input) (h : History) → ((q : ℕ) → is_external (tree_of i) q ≡ is_port_of plan.now.number plan.now.ports q)
             → IsUnderWay i h self.old.world (counts_of self.old.tally)
             → IsUnderWay i (eager_segment (tree_of i) (bounds_of i) (basis_of i) h (segment seconds (arrived arrival ∷ []))) self.new.world (counts_of self.new.tally)) }
         ensures texts { S.tells → OnOk result ((i : Input) (h : History) (orig : Files) → IsUnderWay i h self.old.world (counts_of self.old.tally)
-            → HasTexts ports (pieces_of self.old.outputs) orig (S.file shelf.old) (text_after i ports h)
-            → HasTexts ports (pieces_of self.new.outputs) orig (S.file shelf.new)
-            (text_after i ports (eager_segment (tree_of i) (bounds_of i) (basis_of i) h (segment seconds (arrived arrival ∷ []))))) }
-        ensures others { S.tells → OnlyOutputs ports (S.file shelf.old) (S.file shelf.new) }
+            → HasTexts plan.now (pieces_of self.old.outputs) orig (S.file shelf.old) (text_after i plan.now h)
+            → HasTexts plan.now (pieces_of self.new.outputs) orig (S.file shelf.new)
+            (text_after i plan.now (eager_segment (tree_of i) (bounds_of i) (basis_of i) h (segment seconds (arrived arrival ∷ []))))) }
+        ensures others { S.tells → OnlyPlanned plan.now (S.file shelf.old) (S.file shelf.new) }
         ensures causes { IfErr result (λ fault. (fault ≡ Fault.Write) ⊎ (fault ≡ Fault.Memory)) }
         ensures faults { NoFewer (S.faults shelf.old) (S.faults shelf.new) }
         ensures write { IsErrOf result Fault.Write → Rose (S.faults shelf.old).writes (S.faults shelf.new).writes }
@@ -149,7 +149,7 @@ impl Game {
         if eager(&mut self.world, seconds, &[], &arrivals).is_err() {
             return Err(Fault::Memory);
         }
-        self.note(shelf, ports)
+        self.note(shelf, plan)
     }
 
     /// Plays a record that comes `seconds` after the one before it, and says that there was one.
@@ -157,27 +157,27 @@ impl Game {
         &mut self,
         alloc: Global,
         shelf: &mut S,
-        ports: u8,
+        plan: &Plan,
         seconds: u32,
         coming: &Coming<'_>,
     ) -> Result<(), Fault>
-        requires few { ports ≤ 64 }
-        requires ready { IsReady ports (S.ids shelf.old) self.old.outputs }
-        requires rest { IsAtRest ports self.old.world }
+        requires plan { IsInRange plan.now }
+        requires ready { IsReady plan.now (S.ids shelf.old) self.old.outputs }
+        requires rest { IsAtRest plan.now self.old.world }
         requires counted { IsCounted (counts_of self.old.tally) self.old.world.clock }
         requires room { played (counts_of self.old.tally) < 2 ^ 30 }
-        requires port { is_port_of 1 ports coming.now.port ≡ true }
+        requires port { is_port_of plan.now.number plan.now.ports coming.now.port ≡ true }
         requires plain { kind_of coming.now.bytes.now ≡ Seen.Plain }
         requires moment { coming.now.moment < 2 ^ 32 * 1_000_000_000 }
         requires bytes { length coming.now.bytes.now ≤ 262_144 }
-        ensures ready { IsReady ports (S.ids shelf.new) self.new.outputs }
-        ensures rest { OnOk result (IsAtRest ports self.new.world) }
+        ensures ready { IsReady plan.now (S.ids shelf.new) self.new.outputs }
+        ensures rest { OnOk result (IsAtRest plan.now self.new.world) }
         ensures counted { OnOk result (IsCounted (counts_of self.new.tally) self.new.world.clock) }
         ensures played { OnOk result (played (counts_of self.new.tally) ≡ played (counts_of self.old.tally) + 1) }
-        ensures goes_on { S.tells → OnOk result ((i : Input) (h : History) (orig : Files) → ((q : ℕ) → is_external (tree_of i) q ≡ is_port_of 1 ports q)
-            → IsWritten i h ports orig (S.file shelf.old) self.old.world (counts_of self.old.tally) self.old.outputs
-            → IsWritten i (eager_segment (tree_of i) (bounds_of i) (basis_of i) h (segment seconds (arrival_of coming.now ∷ []))) ports orig (S.file shelf.new) self.new.world (counts_of self.new.tally) self.new.outputs) }
-        ensures others { S.tells → OnlyOutputs ports (S.file shelf.old) (S.file shelf.new) }
+        ensures goes_on { S.tells → OnOk result ((i : Input) (h : History) (orig : Files) → ((q : ℕ) → is_external (tree_of i) q ≡ is_port_of plan.now.number plan.now.ports q)
+            → IsWritten i h plan.now orig (S.file shelf.old) self.old.world (counts_of self.old.tally) self.old.outputs
+            → IsWritten i (eager_segment (tree_of i) (bounds_of i) (basis_of i) h (segment seconds (arrival_of coming.now ∷ []))) plan.now orig (S.file shelf.new) self.new.world (counts_of self.new.tally) self.new.outputs) }
+        ensures others { S.tells → OnlyPlanned plan.now (S.file shelf.old) (S.file shelf.new) }
         ensures causes { IfErr result (λ fault. (fault ≡ Fault.Write) ⊎ (fault ≡ Fault.Memory)) }
         ensures faults { NoFewer (S.faults shelf.old) (S.faults shelf.new) }
         ensures write { IsErrOf result Fault.Write → Rose (S.faults shelf.old).writes (S.faults shelf.new).writes }
@@ -191,7 +191,7 @@ impl Game {
             moment: coming.moment,
             bytes,
         };
-        self.turn(shelf, ports, seconds, arrival)
+        self.turn(shelf, plan, seconds, arrival)
     }
 
     /// Plays all that comes, one record after another.
@@ -199,21 +199,21 @@ impl Game {
         &mut self,
         alloc: Global,
         shelf: &mut S,
-        ports: u8,
+        plan: &Plan,
         captures: &mut Captures<'_>,
     ) -> Result<(), Fault>
-        requires few { ports ≤ 64 }
-        requires ready { IsReady ports (S.ids shelf.old) self.old.outputs }
-        requires rest { IsAtRest ports self.old.world }
+        requires plan { IsInRange plan.now }
+        requires ready { IsReady plan.now (S.ids shelf.old) self.old.outputs }
+        requires rest { IsAtRest plan.now self.old.world }
         requires counted { IsCounted (counts_of self.old.tally) self.old.world.clock }
         requires room { played (counts_of self.old.tally) + length (to_come captures.old) ≤ 2 ^ 30 }
-        requires comes { CanCome ports (to_come captures.old) }
-        ensures ready { IsReady ports (S.ids shelf.new) self.new.outputs }
+        requires comes { CanCome plan.now (to_come captures.old) }
+        ensures ready { IsReady plan.now (S.ids shelf.new) self.new.outputs }
         ensures few { OnOk result (played (counts_of self.new.tally) ≤ 2 ^ 30) }
-        ensures goes_on { S.tells → OnOk result ((i : Input) (h : History) (orig : Files) → ((q : ℕ) → is_external (tree_of i) q ≡ is_port_of 1 ports q)
-            → IsWritten i h ports orig (S.file shelf.old) self.old.world (counts_of self.old.tally) self.old.outputs
-            → IsWritten i (eagerly (tree_of i) (bounds_of i) (basis_of i) h (segments_after None (to_come captures.old))) ports orig (S.file shelf.new) self.new.world (counts_of self.new.tally) self.new.outputs) }
-        ensures others { S.tells → OnlyOutputs ports (S.file shelf.old) (S.file shelf.new) }
+        ensures goes_on { S.tells → OnOk result ((i : Input) (h : History) (orig : Files) → ((q : ℕ) → is_external (tree_of i) q ≡ is_port_of plan.now.number plan.now.ports q)
+            → IsWritten i h plan.now orig (S.file shelf.old) self.old.world (counts_of self.old.tally) self.old.outputs
+            → IsWritten i (eagerly (tree_of i) (bounds_of i) (basis_of i) h (segments_after None (to_come captures.old))) plan.now orig (S.file shelf.new) self.new.world (counts_of self.new.tally) self.new.outputs) }
+        ensures others { S.tells → OnlyPlanned plan.now (S.file shelf.old) (S.file shelf.new) }
         ensures causes { IfErr result (λ fault. (fault ≡ Fault.Write) ⊎ (fault ≡ Fault.Memory)) }
         ensures faults { NoFewer (S.faults shelf.old) (S.faults shelf.new) }
         ensures write { IsErrOf result Fault.Write → Rose (S.faults shelf.old).writes (S.faults shelf.new).writes }
@@ -222,7 +222,7 @@ impl Game {
         'records: while let Some(coming) = captures.next() {
             let second = coming.moment / NANOSECONDS;
             let seconds = seconds_since(last, second);
-            match self.play_coming(alloc, shelf, ports, seconds, &coming) {
+            match self.play_coming(alloc, shelf, plan, seconds, &coming) {
                 Ok(()) => last = Some(second),
                 Err(fault) => return Err(fault),
             }
@@ -231,19 +231,19 @@ impl Game {
     }
 
     /// Writes what is still to be written, and answers the summary line.
-    fn end<S: Shelf>(&mut self, alloc: Global, shelf: &mut S, ports: u8) -> Result<String, Fault>
-        requires few { ports ≤ 64 }
-        requires ready { IsReady ports (S.ids shelf.old) self.old.outputs }
+    fn end<S: Shelf>(&mut self, alloc: Global, shelf: &mut S, plan: &Plan) -> Result<String, Fault>
+        requires plan { IsInRange plan.now }
+        requires ready { IsReady plan.now (S.ids shelf.old) self.old.outputs }
         requires room { played (counts_of self.old.tally) ≤ 2 ^ 30 }
-        ensures texts { S.tells → OnOk result ((orig : Files) (text : ℕ → List ℕ) → HasTexts ports (pieces_of self.old.outputs) orig (S.file shelf.old) text
-            → Filled orig (S.file shelf.new) (ports + 1) (output_name ports) (λ j bytes. bytes ≡ text j)) }
+        ensures texts { S.tells → OnOk result ((orig : Files) (text : ℕ → List ℕ) → HasTexts plan.now (pieces_of self.old.outputs) orig (S.file shelf.old) text
+            → Filled orig (S.file shelf.new) (plan.now.ports + 1) (output_name plan.now) (λ j bytes. bytes ≡ text j)) }
         ensures line { IfOk result (λ line. string_bytes line ≡ summary_line (counts_of self.old.tally)) }
-        ensures others { S.tells → OnlyOutputs ports (S.file shelf.old) (S.file shelf.new) }
+        ensures others { S.tells → OnlyPlanned plan.now (S.file shelf.old) (S.file shelf.new) }
         ensures causes { IfErr result (λ fault. (fault ≡ Fault.Write) ⊎ (fault ≡ Fault.Memory)) }
         ensures faults { NoFewer (S.faults shelf.old) (S.faults shelf.new) }
         ensures write { IsErrOf result Fault.Write → Rose (S.faults shelf.old).writes (S.faults shelf.new).writes }
     {
-        if let Err(fault) = self.outputs.finish(shelf, ports) {
+        if let Err(fault) = self.outputs.finish(shelf, plan) {
             return Err(fault_of(fault));
         }
         match self.tally.line(alloc) {
@@ -272,19 +272,16 @@ fn opened(alloc: Global, setup: &Setup) -> Result<World, Fault>
 }
 
 /// Makes the outputs, and writes and counts the opening of a setup.
-fn begin<S: Shelf>(alloc: Global, shelf: &mut S, ports: u8, setup: &Setup) -> Result<Game, Fault>
-    requires some { 1 ≤ ports }
-    requires few { ports ≤ 64 }
-    requires first { IsFirst setup.now }
-    requires number { first_number setup.now.extenders ≡ 1 }
-    requires ports { first_ports setup.now.extenders ≡ ports }
-    ensures ready { IfOk result (λ game. IsReady ports (S.ids shelf.new) game.outputs) }
-    ensures rest { IfOk result (λ game. IsAtRest ports game.world) }
+fn begin<S: Shelf>(alloc: Global, shelf: &mut S, plan: &Plan, setup: &Setup) -> Result<Game, Fault>
+    requires plan { IsInRange plan.now }
+    requires of { IsOf plan.now setup.now }
+    ensures ready { IfOk result (λ game. IsReady plan.now (S.ids shelf.new) game.outputs) }
+    ensures rest { IfOk result (λ game. IsAtRest plan.now game.world) }
     ensures counted { IfOk result (λ game. IsCounted (counts_of game.tally) game.world.clock) }
     ensures played { IfOk result (λ game. played (counts_of game.tally) ≡ 0) }
     ensures written { S.tells → IfOk result (λ game. (i : Input) → i.setup ≡ setup.now
-        → IsWritten i (opening (tree_of i) (bounds_of i) (basis_of i)) ports (S.file shelf.old) (S.file shelf.new) game.world (counts_of game.tally) game.outputs) }
-    ensures others { S.tells → OnlyOutputs ports (S.file shelf.old) (S.file shelf.new) }
+        → IsWritten i (opening (tree_of i) (bounds_of i) (basis_of i)) plan.now (S.file shelf.old) (S.file shelf.new) game.world (counts_of game.tally) game.outputs) }
+    ensures others { S.tells → OnlyPlanned plan.now (S.file shelf.old) (S.file shelf.new) }
     ensures causes { IfErr result (λ fault. (fault ≡ Fault.Write) ⊎ (fault ≡ Fault.Memory)) }
     ensures faults { NoFewer (S.faults shelf.old) (S.faults shelf.new) }
     ensures write { IsErrOf result Fault.Write → Rose (S.faults shelf.old).writes (S.faults shelf.new).writes }
@@ -295,7 +292,7 @@ fn begin<S: Shelf>(alloc: Global, shelf: &mut S, ports: u8, setup: &Setup) -> Re
         Ok(world) => world,
         Err(fault) => return Err(fault),
     };
-    let outputs = match create_all(alloc, shelf, ports) {
+    let outputs = match create_all(alloc, shelf, plan) {
         Ok(outputs) => outputs,
         Err(fault) => return Err(fault_of(fault)),
     };
@@ -305,7 +302,7 @@ fn begin<S: Shelf>(alloc: Global, shelf: &mut S, ports: u8, setup: &Setup) -> Re
         tally: Tally::new(),
         line: String::new(alloc),
     };
-    match game.note(shelf, ports) {
+    match game.note(shelf, plan) {
         Ok(()) => Ok(game),
         Err(fault) => Err(fault),
     }
@@ -322,81 +319,77 @@ fn seconds_since(last: Option<u64>, second: u64) -> u32
     }
 }
 
-/// Adds the captures of the ports, each at its first record.
-fn add_all<'a>(captures: &mut Captures<'a>, files: &'a [Vec<u8>]) -> Result<(), NoMemory>
-    requires none { captures.old ≡ [] }
-    requires nothing { to_come captures.old ≡ [] }
-    requires few { length files.now ≤ 64 }
-    requires playable { All (λ v. IsPlayable (pcap_records v.items)) files.now }
-    ensures streams { OnOk result ((s : Setup) → captures.new ≡ map (stream_at (input_of s (map (λ v. v.items) files.now))) (range_with_len 64 (length files.now))) }
-    ensures few { OnOk result (length (to_come captures.new) ≤ sum_by (λ v. length v.items) files.now) }
+/// Adds captures that were read, each at its first record.
+fn add_all<'a>(sources: &mut Captures<'a>, captures: &'a [Capture]) -> Result<(), NoMemory>
+    requires none { sources.old ≡ [] }
+    requires nothing { to_come sources.old ≡ [] }
+    requires playable { All (λ c. IsPlayable (pcap_records c.file.items)) captures.now }
+    ensures streams { OnOk result (sources.new ≡ map stream_in captures.now) }
+    ensures few { OnOk result (length (to_come sources.new) ≤ sum_by (λ c. length c.file.items) captures.now) }
 {
-    'adding: for at in 0..files.len() {
-        if captures
-            .add(port_at(at as u8), files[at].as_slice())
-            .is_err()
-        {
+    'adding: for capture in captures {
+        if sources.add(capture.port, capture.file.as_slice()).is_err() {
             return Err(NoMemory);
         }
     }
     Ok(())
 }
 
-/// Plays the captures with what is kept of them, which is nothing yet.
+/// Plays captures with what is kept of them, which is nothing yet.
 fn play_with<'a, S: Shelf>(
     alloc: Global,
     shelf: &mut S,
-    ports: u8,
-    files: &'a [Vec<u8>],
-    captures: &mut Captures<'a>,
+    plan: &Plan,
+    setup: &Setup,
+    captures: &'a [Capture],
+    sources: &mut Captures<'a>,
 ) -> Result<String, Fault>
-    requires some { (1 ≤ ports) × (ports ≤ 64) }
-    requires count { length files.now ≡ ports }
-    requires playable { All (λ v. IsPlayable (pcap_records v.items)) files.now }
-    requires all { sum_by (λ v. length v.items) files.now ≤ 536_870_912 }
-    requires none { captures.old ≡ [] }
-    requires nothing { to_come captures.old ≡ [] }
-    ensures done { S.tells → IfOk result (λ line. (i : Input) × IsInputOf (map (λ v. v.items) files.now) i × IsPlayed i ports (S.file shelf.old) (S.file shelf.new) (string_bytes line)) }
-    ensures others { S.tells → OnErr result (OnlyOutputs ports (S.file shelf.old) (S.file shelf.new)) }
+    requires plan { IsInRange plan.now }
+    requires of { IsOf plan.now setup.now }
+    requires can { All (λ c. CanBePlayed plan.now c) captures.now }
+    requires all { sum_by (λ c. length c.file.items) captures.now ≤ 536_870_912 }
+    requires none { sources.old ≡ [] }
+    requires nothing { to_come sources.old ≡ [] }
+    ensures done { S.tells → IfOk result (λ line. (i : Input) → i.setup ≡ setup.now → to_come (map stream_in captures.now) ≡ merge i
+        → HasPlayed i plan.now (S.file shelf.old) (S.file shelf.new) (string_bytes line)) }
+    ensures others { S.tells → OnlyPlanned plan.now (S.file shelf.old) (S.file shelf.new) }
     ensures causes { IfErr result (λ fault. (fault ≡ Fault.Write) ⊎ (fault ≡ Fault.Memory)) }
     ensures faults { NoFewer (S.faults shelf.old) (S.faults shelf.new) }
     ensures write { IsErrOf result Fault.Write → Rose (S.faults shelf.old).writes (S.faults shelf.new).writes }
 {
-    merge_of_row();
     externals_of_first();
-    let Ok(setup) = one_extender(alloc, ports) else {
-        return Err(Fault::Memory);
-    };
-    if add_all(captures, files).is_err() {
+    if add_all(sources, captures).is_err() {
         return Err(Fault::Memory);
     }
-    let mut game = match begin(alloc, shelf, ports, &setup) {
+    let mut game = match begin(alloc, shelf, plan, setup) {
         Ok(game) => game,
         Err(fault) => return Err(fault),
     };
-    match game.play_all(alloc, shelf, ports, captures) {
-        Ok(()) => game.end(alloc, shelf, ports),
+    match game.play_all(alloc, shelf, plan, sources) {
+        Ok(()) => game.end(alloc, shelf, plan),
         Err(fault) => Err(fault),
     }
 }
 
-/// Plays the captures of the ports, and answers the summary line.
+/// Plays captures that were read, and answers the summary line.
 pub(crate) fn play<S: Shelf>(
     alloc: Global,
     shelf: &mut S,
-    ports: u8,
-    files: &[Vec<u8>],
+    plan: &Plan,
+    setup: &Setup,
+    captures: &[Capture],
 ) -> Result<String, Fault>
-    requires some { (1 ≤ ports) × (ports ≤ 64) }
-    requires count { length files.now ≡ ports }
-    requires playable { All (λ v. IsPlayable (pcap_records v.items)) files.now }
-    requires all { sum_by (λ v. length v.items) files.now ≤ 536_870_912 }
-    ensures done { S.tells → IfOk result (λ line. (i : Input) × IsInputOf (map (λ v. v.items) files.now) i × IsPlayed i ports (S.file shelf.old) (S.file shelf.new) (string_bytes line)) }
-    ensures others { S.tells → OnErr result (OnlyOutputs ports (S.file shelf.old) (S.file shelf.new)) }
+    requires plan { IsInRange plan.now }
+    requires of { IsOf plan.now setup.now }
+    requires can { All (λ c. CanBePlayed plan.now c) captures.now }
+    requires all { sum_by (λ c. length c.file.items) captures.now ≤ 536_870_912 }
+    ensures done { S.tells → IfOk result (λ line. (i : Input) → i.setup ≡ setup.now → to_come (map stream_in captures.now) ≡ merge i
+        → HasPlayed i plan.now (S.file shelf.old) (S.file shelf.new) (string_bytes line)) }
+    ensures others { S.tells → OnlyPlanned plan.now (S.file shelf.old) (S.file shelf.new) }
     ensures causes { IfErr result (λ fault. (fault ≡ Fault.Write) ⊎ (fault ≡ Fault.Memory)) }
     ensures faults { NoFewer (S.faults shelf.old) (S.faults shelf.new) }
     ensures write { IsErrOf result Fault.Write → Rose (S.faults shelf.old).writes (S.faults shelf.new).writes }
 {
-    let mut captures = Captures::new(alloc);
-    play_with(alloc, shelf, ports, files, &mut captures)
+    let mut sources = Captures::new(alloc);
+    play_with(alloc, shelf, plan, setup, captures, &mut sources)
 }

@@ -2,13 +2,14 @@
 ghost use Rattle.std.specs.Prelude.{◌≡◌, ◌≢◌, ◌≤◌, ◌++◌, IfOk, OnOk, OnErr, IsErrOf, string_bytes};
 ghost use Rattle.exb_shelf.specs.Files.{AppendsFront};
 ghost use Rattle.exb_shelf.specs.Shelf.{Rose};
-ghost use Rattle.exb_run.specs.Answers.{broken_text, capture_line, flaw_line, line_of, flaw_status, status_of};
+ghost use Rattle.exb_run.specs.Answers.{broken_text, flaw_text, key_fault_text, topology_text, capture_line, fault_line, line_of, fault_status, status_of};
 
 use crate::fault::{Fault, Flaw};
+use exb_keys::faults::{KeyFault, TopoFault};
 use exb_model::port::PortId;
 use exb_pcap::PcapFault;
 use exb_shelf::{ShelfFault, Sink, print_text};
-use exb_text::{PortName, capture_file_name};
+use exb_text::PortName;
 use std::alloc::{AllocError, Global};
 
 /// The fault of a capture, and its place.
@@ -25,6 +26,49 @@ fn broken_text(alloc: Global, fault: PcapFault) -> Result<String, AllocError>
     }
 }
 
+fn flaw_text(alloc: Global, flaw: Flaw) -> Result<String, AllocError>
+    ensures { IfOk result (λ text. string_bytes text ≡ flaw_text flaw) }
+{
+    match flaw {
+        Flaw::Large { limit } => format!(in alloc; "Large {limit}"),
+        Flaw::Broken { fault } => broken_text(alloc, fault),
+    }
+}
+
+fn key_fault_text(fault: KeyFault) -> &'static str
+    ensures { result.now ≡ key_fault_text fault }
+{
+    match fault {
+        KeyFault::Missing => "Missing",
+        KeyFault::Unknown => "Unknown",
+        KeyFault::Kind => "Kind",
+        KeyFault::Range => "Range",
+        KeyFault::Name => "Name",
+        KeyFault::UnknownPort => "UnknownPort",
+        KeyFault::TwoUpstreams => "TwoUpstreams",
+        KeyFault::SharedPort => "SharedPort",
+        KeyFault::Loop => "Loop",
+        KeyFault::FewChannels => "FewChannels",
+        KeyFault::Repeat => "Repeat",
+    }
+}
+
+/// The fault of a topology, and its key where it has one.
+fn topology_text(alloc: Global, fault: &TopoFault) -> Result<String, AllocError>
+    ensures { IfOk result (λ text. string_bytes text ≡ topology_text fault.now) }
+{
+    match fault {
+        TopoFault::Memory => format!(in alloc; "out of memory"),
+        TopoFault::NotToml => format!(in alloc; "NotToml"),
+        TopoFault::Large => format!(in alloc; "Large"),
+        TopoFault::At { fault, key } => {
+            let text = key_fault_text(*fault);
+            let key = key.as_str();
+            format!(in alloc; "{text} at {key}")
+        }
+    }
+}
+
 /// The line of a capture that is not taken.
 #[tactic(auto, unfolding(crate::specs::Answers::capture_line))]
 fn capture_line(alloc: Global, port: PortId, text: &str) -> Result<String, AllocError>
@@ -33,43 +77,40 @@ fn capture_line(alloc: Global, port: PortId, text: &str) -> Result<String, Alloc
     format!(in alloc; "exbr: capture {}: {text}\n", PortName(port))
 }
 
-/// The line of a flaw of the capture of a port.
-#[tactic(auto, unfolding(crate::specs::Answers::flaw_line))]
-fn flaw_line(alloc: Global, port: PortId, flaw: Flaw) -> Result<String, AllocError>
-    ensures { IfOk result (λ line. string_bytes line ≡ flaw_line port flaw) }
+/// The line of a fault. Those that are always the same are printed without memory by `print_outcome`.
+#[tactic(auto, unfolding(crate::specs::Answers::fault_line))]
+fn fault_line(alloc: Global, fault: &Fault) -> Result<String, AllocError>
+    ensures { IfOk result (λ line. string_bytes line ≡ fault_line fault.now) }
 {
-    match flaw {
-        Flaw::Missing => {
-            let Ok(name) = capture_file_name(alloc, "in-", port) else {
-                return Err(AllocError);
-            };
+    match fault {
+        Fault::Missing { name } => {
+            let name = name.as_str();
             format!(in alloc; "exbr: missing {name}\n")
         }
-        Flaw::Large { limit } => {
-            let text = format!(in alloc; "Large {limit}")?;
-            capture_line(alloc, port, text.as_str())
+        Fault::Topology { fault } => {
+            let text = topology_text(alloc, fault)?;
+            format!(in alloc; "exbr: topology: {text}\n")
         }
-        Flaw::Broken { fault } => {
-            let text = broken_text(alloc, fault)?;
-            capture_line(alloc, port, text.as_str())
+        Fault::Capture { port, flaw } => {
+            let text = flaw_text(alloc, *flaw)?;
+            capture_line(alloc, *port, text.as_str())
         }
-        Flaw::NotBuilt => format!(in alloc; "exbr: not built\n"),
+        Fault::Usage => format!(in alloc; "exbr: usage: exbr run TOPOLOGY\n"),
+        Fault::NotBuilt => format!(in alloc; "exbr: not built\n"),
+        Fault::Read => format!(in alloc; "exbr: read fault\n"),
+        Fault::Write => format!(in alloc; "exbr: write fault\n"),
+        Fault::Memory => format!(in alloc; "exbr: out of memory\n"),
     }
 }
 
-/// Prints the line of a flaw.
-fn print_flaw<O: Sink>(
-    alloc: Global,
-    out: &mut O,
-    port: PortId,
-    flaw: Flaw,
-) -> Result<(), ShelfFault>
-    ensures ok { O.tells → OnOk result (O.text out.new ≡ O.text out.old ++ flaw_line port flaw) }
-    ensures err { O.tells → OnErr result (AppendsFront (O.text out.old) (O.text out.new) (flaw_line port flaw)) }
+/// Prints the line of a fault.
+fn print_fault<O: Sink>(alloc: Global, out: &mut O, fault: &Fault) -> Result<(), ShelfFault>
+    ensures ok { O.tells → OnOk result (O.text out.new ≡ O.text out.old ++ fault_line fault.now) }
+    ensures err { O.tells → OnErr result (AppendsFront (O.text out.old) (O.text out.new) (fault_line fault.now)) }
     ensures faults { O.faults out.old ≤ O.faults out.new }
     ensures failed { IsErrOf result ShelfFault.Failed → Rose (O.faults out.old) (O.faults out.new) }
 {
-    match flaw_line(alloc, port, flaw) {
+    match fault_line(alloc, fault) {
         Ok(line) => print_text(out, line.as_bytes()),
         Err(_) => Err(ShelfFault::Memory),
     }
@@ -89,22 +130,27 @@ fn print_outcome<O: Sink>(
 {
     match outcome {
         Ok(summary) => print_text(out, summary.as_bytes()),
-        Err(Fault::Usage) => print_text(out, b"exbr: usage: exbr run PORTS\n"),
-        Err(Fault::Capture { port, flaw }) => print_flaw(alloc, out, *port, *flaw),
+        Err(Fault::Usage) => print_text(out, b"exbr: usage: exbr run TOPOLOGY\n"),
+        Err(Fault::NotBuilt) => print_text(out, b"exbr: not built\n"),
         Err(Fault::Read) => print_text(out, b"exbr: read fault\n"),
         Err(Fault::Write) => print_text(out, b"exbr: write fault\n"),
         Err(Fault::Memory) => print_text(out, b"exbr: out of memory\n"),
+        Err(fault) => print_fault(alloc, out, fault),
     }
 }
 
-fn flaw_status(flaw: &Flaw) -> u8
-    ensures { result ≡ flaw_status flaw.now }
+fn fault_status(fault: &Fault) -> u8
+    ensures { result ≡ fault_status fault.now }
 {
-    match flaw {
-        Flaw::Missing => 5,
-        Flaw::Large { .. } => 4,
-        Flaw::Broken { .. } => 4,
-        Flaw::NotBuilt => 8,
+    match fault {
+        Fault::Memory => 1,
+        Fault::Usage => 2,
+        Fault::Topology { .. } => 3,
+        Fault::Capture { .. } => 4,
+        Fault::Missing { .. } => 5,
+        Fault::Read => 6,
+        Fault::Write => 7,
+        Fault::NotBuilt => 8,
     }
 }
 
@@ -113,11 +159,7 @@ fn status(outcome: &Result<String, Fault>) -> u8
 {
     match outcome {
         Ok(_) => 0,
-        Err(Fault::Memory) => 1,
-        Err(Fault::Usage) => 2,
-        Err(Fault::Capture { flaw, .. }) => flaw_status(flaw),
-        Err(Fault::Read) => 6,
-        Err(Fault::Write) => 7,
+        Err(fault) => fault_status(fault),
     }
 }
 

@@ -1,30 +1,26 @@
 //! The words of the command line.
-ghost use Rattle.std.specs.Prelude.{◌≡◌, ◌≤◌, map, string_bytes, IfSome};
-ghost use Rattle.exb_run.specs.Words.{ports_in, words_of};
+ghost use Rattle.std.specs.Prelude.{◌≡◌, Some, None, map, string_bytes, IfSome, IfNone};
+ghost use Rattle.exb_run.specs.Words.{is_name, words_of};
 
-fn ports_in(word: &[u8]) -> Option<u8>
-    ensures number { result ≡ ports_in word.now }
-    ensures range { IfSome result (λ n. (1 ≤ n) × (n ≤ 64)) }
+/// Whether a word can name a file.
+fn is_name(word: &[u8]) -> bool
+    ensures { result ≡ is_name word.now }
 {
     match word {
-        [d @ b'1'..=b'9'] => Some(*d - b'0'),
-        [d @ b'1'..=b'9', e @ b'0'..=b'9'] => {
-            let n = 10 * (*d - b'0') + (*e - b'0');
-            if n <= 64 { Some(n) } else { None }
-        }
-        _ => None,
+        [] => false,
+        [first, ..] => *first != b'-',
     }
 }
 
-/// How many ports the words ask for, where they are accepted.
-pub(crate) fn accept(words: &[String]) -> Option<u8>
-    ensures words { result ≡ words_of (map string_bytes words.now) }
-    ensures range { IfSome result (λ n. (1 ≤ n) × (n ≤ 64)) }
+/// The name of the topology file, where the words are accepted.
+pub(crate) fn accept(words: &[String]) -> Option<&str>
+    ensures name { IfSome result (λ name. words_of (map string_bytes words.now) ≡ Some name.now) }
+    ensures refused { IfNone result (words_of (map string_bytes words.now) ≡ None) }
 {
     match words {
-        [word, number] => {
-            if word.as_str() == "run" {
-                ports_in(number.as_bytes())
+        [word, name] => {
+            if word.as_str() == "run" && is_name(name.as_bytes()) {
+                Some(name.as_str())
             } else {
                 None
             }

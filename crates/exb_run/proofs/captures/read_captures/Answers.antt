@@ -1,46 +1,101 @@
-use Rattle.std.proofs.Common.{rules, ◌≡◌, ◌≤◌, ◌+◌, ◌++◌, ◌∷◌, [], ◌∙◌, ℕ, List, Err, None, length, sum_by, ap, arith, below_more}
-use Rattle.std.specs.Prelude.{Vec}
+use Rattle.std.proofs.Common.{rules, ◌≡◌, ◌≤◌, ◌<◌, ◌+◌, ◌++◌, ◌∷◌, [], ◌∙◌, ◌⊎◌, inl, inr, ℕ, List, Some, None, true, length, sum_by, ap, sym, subst, arith, below_more, refl}
 use Rattle.std.proofs.lemmas.List.Sums.{sum_by_push}
-use Rattle.std.specs.declared.alloc.Global.{Global}
+use Rattle.exb_model.specs.Ports.{below}
 use Rattle.exb_pcap.specs.Captures.{pcap_records}
-use Rattle.exb_run.specs.declared.fault.Fault.TheVariants.{Capture}
-use Rattle.exb_run.specs.Inputs.{IsPlayable}
-use Rattle.exb_run.specs.Flaws.{flaw_of, size_before}
-use Rattle.exb_run.proofs.FlawLemmas.{IsGood, flaw_here, size_more, no_flaw, all_more, captures_more}
+use Rattle.exb_run.specs.declared.captures.Capture.{Capture}
+use Rattle.exb_run.specs.Inputs.{IsPlayable, name_of, is_named, bytes_at, captures_of}
+use Rattle.exb_run.specs.Flaws.{flaw_of, flaw_of_bytes, flaw_at, size_below}
+use Rattle.exb_run.proofs.FlawLemmas.{IsGood, no_flaw, flaw_nowhere, size_nowhere, flaw_here, size_here, bytes_here, contents_none, contents_same, contents_more, is_named_by, all_more}
 use Rattle.exb_run.proofs.captures.read_captures.Goals as goal
 
+pub reading-init : goal.reading-init
+reading-init g c =
+    let empty = c.new-captures.ensures.items in
+    record {
+      there = λ t. contents_none c.args.names.now (g.S.Shelf.file c.args.shelf.now) c.new-captures.result.items empty;
+      good = λ t q low. absurd (omega arith);
+      total = λ t. refl;
+      room = omega arith;
+      named = search (rules, empty);
+      playable = search (rules, empty);
+      all = search (rules, empty);
+      files = λ n. refl;
+      faults = search rules;
+    }
+
+pub reading-preserved-in_default : goal.reading-preserved-in_default
+reading-preserved-in_default g c =
+    let S = g.S.Shelf in
+    let inv = c.reading.invariant in
+    let p = c.reading.number in
+    let names = c.args.names.now in
+    let f = S.file c.args.shelf.now in
+    let none : name_of names p ≡ None = ap (name_of names) (sym c.port_of-port.ensures) ∙ c.in_default.ensures.none in
+    record {
+      there = λ t. contents_same names f p c.reading.captures.items none (inv.there t);
+      good = λ t. below_more _ _ (inv.good t) (flaw_nowhere names f (S.file c.reading.shelf) inv.files p none);
+      total = λ t. size_nowhere names f (S.file c.reading.shelf) inv.files p c.reading.size none (inv.total t);
+      room = inv.room;
+      named = inv.named;
+      playable = inv.playable;
+      all = inv.all;
+      files = inv.files;
+      faults = inv.faults;
+    }
+
 pub returns-in-Err-clause-flaw : goal.returns-in-Err-clause-flaw
-returns-in-Err-clause-flaw g c = λ t p flaw e.
-    let same : c.in-Err.fault ≡ Capture p flaw = cc in (
-      c.reading.at,
-      c.in-Err.ensures.port p flaw (ap Err same),
-      record {
-        within = omega arith;
-        before = c.reading.invariant.good t;
-        here = flaw_here _ _ c.reading.at c.reading.size _ c.reading.invariant.files (c.reading.invariant.total t) (c.in-Err.ensures.flaw t p flaw (ap Err same));
-      },
-    )
+returns-in-Err-clause-flaw g c t =
+    let S = g.S.Shelf in
+    let inv = c.reading.invariant in
+    let p = c.reading.number in
+    let names = c.args.names.now in
+    let f = S.file c.args.shelf.now in
+    let name = c.in-Some.name.now in
+    let named : name_of names p ≡ Some name = ap (name_of names) (sym c.port_of-port.ensures) ∙ c.in-Some.ensures.found in
+    elim (c.in-Err.ensures.flaw t) [
+      | inl flaw ↦ inl (
+        p,
+        record {
+          port = omega arith;
+          before = inv.good t;
+          here = flaw_here names f (S.file c.reading.shelf) inv.files p name c.reading.size (Some c.in-Err.fault) named (inv.total t)
+              (ap (λ (q : ℕ). flaw_of q name (S.file c.reading.shelf name) c.reading.size) (sym c.port_of-port.ensures) ∙ flaw);
+        },
+      )
+      | inr other ↦ inr other
+    ]
 
 pub reading-preserved : goal.reading-preserved
 reading-preserved g c =
     let S = g.S.Shelf in
     let inv = c.reading.invariant in
-    let file : Vec ℕ Global = c.in-Ok.file in
-    let good : IsGood file.items c.reading.size = no_flaw file.items c.reading.size c.in-Ok.ensures.good in
-    let pushed : c.push.new.self.items ≡ c.reading.files.items ++ file ∷ [] = search rules in
-    let total : S.tells → c.reading.size + length file.items ≡ size_before (S.file c.args.shelf.now) (c.reading.at + 1) =
-    λ t. size_more _ _ c.reading.at c.reading.size file.items inv.files (inv.total t) (c.in-Ok.ensures.there t) in
+    let p = c.reading.number in
+    let names = c.args.names.now in
+    let f = S.file c.args.shelf.now in
+    let name = c.in-Some.name.now in
+    let capture : Capture = c.in-Ok.capture in
+    let bytes = capture.file.items in
+    let is = c.port_of-port.ensures in
+    let named : name_of names p ≡ Some name = ap (name_of names) (sym is) ∙ c.in-Some.ensures.found in
+    let port : capture.port ≡ p = c.in-Ok.ensures.port ∙ is in
+    let good : flaw_of_bytes p bytes c.reading.size ≡ None = ap (λ (q : ℕ). flaw_of_bytes q bytes c.reading.size) (sym is) ∙ c.in-Ok.ensures.good in
+    let fine : IsGood bytes c.reading.size = no_flaw p bytes c.reading.size good in
+    let pushed : c.push.new.self.items ≡ c.reading.captures.items ++ capture ∷ [] = search rules in
+    let more : c.len-size.result ≡ length bytes = search rules in
+    let total : S.tells → c.reading.size + length bytes ≡ size_below names f (p + 1) = λ t.
+    size_here names f (S.file c.reading.shelf) inv.files p name bytes c.reading.size named (inv.total t) (c.in-Ok.ensures.there t) in
     record {
-      there = λ t. captures_more _ _ c.reading.at _ _ file inv.files (inv.there t) pushed (c.in-Ok.ensures.there t);
+      there = λ t. contents_more names f p c.reading.captures.items c.push.new.self.items capture name named (inv.there t) pushed port
+          (bytes_here names f (S.file c.reading.shelf) inv.files p name bytes named (c.in-Ok.ensures.there t));
       good = λ t. below_more _ _ (inv.good t)
-          (flaw_here _ _ c.reading.at c.reading.size None inv.files (inv.total t)
-          (ap (λ o. flaw_of o c.reading.size) (c.in-Ok.ensures.there t) ∙ c.in-Ok.ensures.good));
-      total = λ t. search (rules, total t);
-      room = search (arith, good.room);
-      count = search (arith, pushed);
-      all = search (arith, ap (λ (vs : List (Vec ℕ Global)). sum_by (λ v. length v.items) vs) pushed ∙ sum_by_push (λ v. length v.items) c.reading.files.items file, inv.all);
-      playable = all_more (λ (v : Vec ℕ Global). IsPlayable (pcap_records v.items)) _ _ file pushed inv.playable good.playable;
-      sizes = all_more (λ (v : Vec ℕ Global). length v.items ≤ 67_108_864) _ _ file pushed inv.sizes good.small;
+          (flaw_here names f (S.file c.reading.shelf) inv.files p name c.reading.size None named (inv.total t)
+          (ap (λ o. flaw_of p name o c.reading.size) (c.in-Ok.ensures.there t) ∙ good));
+      total = λ t. ap (λ (n : ℕ). c.reading.size + n) more ∙ total t;
+      room = search (arith, fine.room, more);
+      named = all_more (λ (x : Capture). is_named names x.port ≡ true) _ _ capture pushed inv.named (is_named_by names capture.port name (ap (name_of names) port ∙ named));
+      playable = all_more (λ (x : Capture). IsPlayable (pcap_records x.file.items)) _ _ capture pushed inv.playable fine.playable;
+      all = ap (λ (xs : List Capture). sum_by (λ x. length x.file.items) xs) pushed ∙ sum_by_push (λ x. length x.file.items) c.reading.captures.items capture
+          ∙ ap (λ (n : ℕ). n + length bytes) inv.all ∙ ap (λ (n : ℕ). c.reading.size + n) (sym more);
       files = λ m. c.in-Ok.ensures.files m ∙ inv.files m;
       faults = search (arith, c.in-Ok.ensures.faults, inv.faults);
     }

@@ -1,25 +1,25 @@
-use Rattle.std.proofs.Common.{◌≡◌, ◌<◌, ◌≤◌, ℕ, None, map, sum_by, length}
+use Rattle.std.proofs.Common.{◌≡◌, ◌<◌, ◌≤◌, ℕ, None, true, sum_by, length}
 use Rattle.std.specs.Prelude.{All}
+use Rattle.exb_model.specs.Ports.{below}
 use Rattle.exb_pcap.specs.Captures.{pcap_records}
 use Rattle.exb_shelf.specs.Files.{SameFiles}
 use Rattle.exb_shelf.specs.Shelf.{NoFewer}
-use Rattle.exb_run.specs.Inputs.{IsPlayable}
-use Rattle.exb_run.specs.Flaws.{flaw_at, size_before}
-use Rattle.exb_run.specs.Answers.{AreCaptures}
+use Rattle.exb_run.specs.Inputs.{IsPlayable, captures_of, is_named}
+use Rattle.exb_run.specs.Flaws.{flaw_at, size_below}
+use Rattle.exb_run.specs.Reading.{contents}
 use Rattle.exb_run.proofs.captures.read_captures.Given as goal
 
 abbrev pub invariant-reading : goal.invariant-reading
 invariant-reading g l =
     let S = g.S.Shelf in
     record {
-      there : S.tells → AreCaptures (S.file l.fn.shelf) l.at (map (λ v. v.items) l.files.items);
-      good : S.tells → (j : ℕ) → j < l.at → flaw_at (S.file l.fn.shelf) j ≡ None;
-      total : S.tells → l.size ≡ size_before (S.file l.fn.shelf) l.at;
+      there : S.tells → contents l.captures.items ≡ captures_of l.names (S.file l.fn.shelf) (below l.number);
+      good : S.tells → (q : ℕ) → q < l.number → flaw_at l.names (S.file l.fn.shelf) q ≡ None;
+      total : S.tells → l.size ≡ size_below l.names (S.file l.fn.shelf) l.number;
       room : l.size ≤ 536_870_912;
-      count : length l.files.items ≡ l.at;
-      playable : All (λ v. IsPlayable (pcap_records v.items)) l.files.items;
-      all : sum_by (λ v. length v.items) l.files.items ≡ l.size;
-      sizes : All (λ v. length v.items ≤ 67_108_864) l.files.items;
+      named : All (λ c. is_named l.names c.port ≡ true) l.captures.items;
+      playable : All (λ c. IsPlayable (pcap_records c.file.items)) l.captures.items;
+      all : sum_by (λ c. length c.file.items) l.captures.items ≡ l.size;
       files : SameFiles (S.file l.fn.shelf) (S.file l.shelf);
       faults : NoFewer (S.faults l.fn.shelf) (S.faults l.shelf);
     }

@@ -12,11 +12,10 @@ loop-at-preserved g c =
     let S = g.S.Shelf in
     let before = c.loop-at.invariant in
     let made = c.in-Ok.ensures in
-    let name = output_name c.args.ports in
+    let name = output_name c.args.plan.now in
     let ids = c.loop-at.outputs.ids.items in
     let pieces = pieces_of c.loop-at.outputs in
-    let ports : c.args.ports ≤ 64 = omega arith in
-    let lt : c.loop-at.at < c.args.ports + 1 = omega arith in
+    let lt : c.loop-at.at < c.args.plan.now.ports + 1 = omega arith in
     record {
       ids = ap length made.ids.1 ∙ length_push ids made.ids.0 ∙ ap (λ (n : ℕ). n + 1) before.ids;
       pieces = made.count;
@@ -25,18 +24,18 @@ loop-at-preserved g c =
           ∙ more_named (S.ids c.loop-at.shelf) (S.ids c.create_one.new.shelf) ids made.ids.0 c.loop-at.at name before.ids before.named made.kept made.ids.2 j l;
       texts = λ j l.
           ap (λ (ps : List (List ℕ)). get_or ps j []) made.pieces
-          ∙ more_texts pieces (first_text c.args.ports c.loop-at.at) c.loop-at.at (first_text c.args.ports) (length-map c.loop-at.outputs.pieces.items (λ v. v.items) ∙ before.pieces)
+          ∙ more_texts pieces (first_text c.args.plan.now c.loop-at.at) c.loop-at.at (first_text c.args.plan.now) (length-map c.loop-at.outputs.pieces.items (λ v. v.items) ∙ before.pieces)
           before.texts refl j l;
       files = λ t.
-          filled_one (S.file c.args.shelf.now) (S.file c.loop-at.shelf) (S.file c.create_one.new.shelf) (c.args.ports + 1) c.loop-at.at name (λ j bytes. bytes ≡ [])
-          [] (c.output_names_differ.ensures c.args.ports ports) lt (before.files t) (made.empty t) refl;
+          filled_one (S.file c.args.shelf.now) (S.file c.loop-at.shelf) (S.file c.create_one.new.shelf) (c.args.plan.now.ports + 1) c.loop-at.at name (λ j bytes. bytes ≡ [])
+          [] (c.output_names_differ.ensures c.args.plan.now c.requires) lt (before.files t) (made.empty t) refl;
       faults = search (arith, made.faults, before.faults);
     }
 
 pub returns-clause-texts : goal.returns-clause-texts
 returns-clause-texts g c = λ t.
     let S = g.S.Shelf in
-    let all : c.loop-at.at ≡ c.args.ports + 1 = omega arith in
-    none_written c.args.ports (S.file c.args.shelf.now) (S.file c.loop-at.shelf) (pieces_of c.loop-at.outputs) (first_text c.args.ports)
+    let all : c.loop-at.at ≡ c.args.plan.now.ports + 1 = omega arith in
+    none_written c.args.plan.now (S.file c.args.shelf.now) (S.file c.loop-at.shelf) (pieces_of c.loop-at.outputs) (first_text c.args.plan.now)
     (λ j l. c.loop-at.invariant.texts j (omega arith))
-    (subst (λ (n : ℕ). Filled (S.file c.args.shelf.now) (S.file c.loop-at.shelf) n (output_name c.args.ports) (λ j bytes. bytes ≡ [])) all (c.loop-at.invariant.files t))
+    (subst (λ (n : ℕ). Filled (S.file c.args.shelf.now) (S.file c.loop-at.shelf) n (output_name c.args.plan.now) (λ j bytes. bytes ≡ [])) all (c.loop-at.invariant.files t))

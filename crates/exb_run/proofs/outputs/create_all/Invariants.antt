@@ -11,8 +11,8 @@ invariant-loop-at g l =
     record {
       ids : length l.outputs.ids.items ≡ l.at;
       pieces : length l.outputs.pieces.items ≡ l.at;
-      named : (j : ℕ) → j < l.at → S.ids l.shelf (slice_index l.outputs.ids.items j) ≡ writing (output_name l.ports j);
-      texts : (j : ℕ) → j < l.at → slice_index_or (pieces_of l.outputs) j [] ≡ first_text l.ports j;
-      files : S.tells → Filled (S.file l.fn.shelf) (S.file l.shelf) l.at (output_name l.ports) (λ j bytes. bytes ≡ []);
+      named : (j : ℕ) → j < l.at → S.ids l.shelf (slice_index l.outputs.ids.items j) ≡ writing (output_name l.plan j);
+      texts : (j : ℕ) → j < l.at → slice_index_or (pieces_of l.outputs) j [] ≡ first_text l.plan j;
+      files : S.tells → Filled (S.file l.fn.shelf) (S.file l.shelf) l.at (output_name l.plan) (λ j bytes. bytes ≡ []);
       faults : NoFewer (S.faults l.fn.shelf) (S.faults l.shelf);
     }

@@ -4,8 +4,8 @@ use Rattle.exb_model.specs.Input.{basis_of, tree_of, bounds_of}
 use Rattle.exb_model.specs.EagerHistory.{opening}
 use Rattle.exb_model.specs.Texts.{Counts, with_left}
 use Rattle.exb_text.specs.Tallies.{counts_of, nothing_counted}
-use Rattle.exb_world.specs.Setups.{IsFirst}
-use Rattle.exb_world.specs.Worlds.{State, Stands, first_number, first_ports}
+use Rattle.exb_world.specs.Worlds.{State, Stands}
+use Rattle.exb_run.specs.Plans.{IsOf}
 use Rattle.exb_run.specs.Playing.{IsUnderWay, IsCounted, played, text_after, opened_of}
 use Rattle.exb_run.specs.Writing.{HasTexts, first_text, pieces_of, lines_of, with_more, with_left_frames}
 use Rattle.exb_run.proofs.Counting.{count_events}
@@ -36,10 +36,8 @@ pub returns-in-Ok-note-clause-written : goal.returns-in-Ok-note-clause-written
 returns-in-Ok-note-clause-written g c tells i same =
     let S = g.S.Shelf in
     let s = c.args.setup.now in
-    let ports = c.args.ports in
-    let first = subst (λ (x : Setup). IsFirst x) (sym same) c.requires.first in
-    let number = ap (λ (x : Setup). first_number x.extenders) same ∙ c.requires.number in
-    let has = ap (λ (x : Setup). first_ports x.extenders) same ∙ c.requires.ports in
+    let plan = c.args.plan.now in
+    let of : IsOf plan i.setup = subst (λ (x : Setup). IsOf plan x) (sym same) c.requires.of in
     let start = opening (tree_of i) (bounds_of i) (basis_of i) in
     let world : c.in-Ok.world ≡ opened_of i.setup = c.in-Ok.ensures.world ∙ ap opened_of (sym same) in
     let stands = subst (λ (w : State). Stands (basis_of i) w [] start (λ q. [])) world (c.in-Ok.ensures.stands i same) in
@@ -49,15 +47,15 @@ returns-in-Ok-note-clause-written g c tells i same =
     c.in-Ok-note.ensures.counts
     ∙ ap (λ (w : State). with_left (length w.left) (count_events (counts_of c.new.result) w.events)) world
     ∙ ap (λ (d : Counts). with_left 0 (count_events d (opened_of i.setup).events)) c.new.ensures in
-    let under_way = opening_under_way i ports first c.requires.few number has c.opening_raises.ensures c.externals_of_first.ensures stands in
-    let begun = same_texts ports (pieces_of c.in-Ok-create_all.outputs) (S.file c.args.shelf.now) (S.file c.create_all.new.shelf) (first_text ports) (text_after i ports [])
-    (λ j low. first_texts i ports j) (c.in-Ok-create_all.ensures.texts tells) in
-    let noted = c.in-Ok-note.ensures.texts tells (S.file c.args.shelf.now) (text_after i ports []) begun in
-    let noted' = subst (λ (w : State). HasTexts ports (pieces_of c.note.new.self.outputs) (S.file c.args.shelf.now) (S.file c.note.new.shelf)
-    (with_left_frames ports (with_more (text_after i ports []) ports (lines_of w.events)) w.left)) world noted in
+    let under_way = opening_under_way i plan c.requires.plan of c.opening_raises.ensures c.externals_of_first.ensures stands in
+    let begun = same_texts plan (pieces_of c.in-Ok-create_all.outputs) (S.file c.args.shelf.now) (S.file c.create_all.new.shelf) (first_text plan) (text_after i plan [])
+    (λ j low. first_texts i plan j) (c.in-Ok-create_all.ensures.texts tells) in
+    let noted = c.in-Ok-note.ensures.texts tells (S.file c.args.shelf.now) (text_after i plan []) begun in
+    let noted' = subst (λ (w : State). HasTexts plan (pieces_of c.note.new.self.outputs) (S.file c.args.shelf.now) (S.file c.note.new.shelf)
+    (with_left_frames plan (with_more (text_after i plan []) plan.ports (lines_of w.events)) w.left)) world noted in
     record {
       under_way = subst (λ (w : State). IsUnderWay i start w (counts_of c.note.new.self.tally)) (sym cleared)
           (subst (λ (d : Counts). IsUnderWay i start (record (opened_of i.setup) { events = []; left = [] }) d) (sym counts) under_way);
-      texts = same_texts ports (pieces_of c.note.new.self.outputs) (S.file c.args.shelf.now) (S.file c.note.new.shelf) _ (text_after i ports start)
-          (opening_text i ports first c.requires.few number has c.opening_raises.ensures c.externals_of_first.ensures stands) noted';
+      texts = same_texts plan (pieces_of c.note.new.self.outputs) (S.file c.args.shelf.now) (S.file c.note.new.shelf) _ (text_after i plan start)
+          (opening_text i plan c.requires.plan of c.opening_raises.ensures c.externals_of_first.ensures stands) noted';
     }

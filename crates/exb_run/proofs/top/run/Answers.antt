@@ -1,13 +1,29 @@
-use Rattle.std.proofs.Common.{◌≡◌, ◌≢◌, ◌+◌, ◌++◌, ◌∙◌, inl, inr, ℕ, List, sym, ap, arith}
-use Rattle.exb_run.specs.Answers.{status_of}
-use Rattle.exb_run.proofs.RunLemmas.{flaw_apart, is_usage, is_read, write_or_not, is_capture, is_not_built, flaw_says, usage_line, read_line, write_line, line_of_capture, not_built_line}
+use Rattle.std.proofs.Common.{◌≡◌, ◌≢◌, ◌++◌, ◌∙◌, inl, inr, ℕ, List, Err, sym, ap, arith}
+use Rattle.exb_run.specs.Answers.{status_of, fault_status, line_of}
+use Rattle.exb_run.proofs.RunLemmas.{is_usage, is_read, is_missing, is_not_built, write_or_not, stop_not_one, stop_not_six, stop_not_seven, stops_with, fault_says, usage_line, read_line, write_line, not_built_line, front_by, ready_not, status_cases, Outcome}
 use Rattle.exb_run.proofs.top.run.Goals as goal
 
+pub returns-clause-three : goal.returns-clause-three
+returns-clause-three g c = λ t e.
+    stops_with c.work-outcome.result _ _ 3 (c.work-outcome.ensures.cause t) (sym (c.report.ensures.status (λ h. omega arith) (λ h. omega arith)) ∙ e) (omega arith) (λ h. omega arith) (λ h. omega arith)
+
+pub returns-clause-four : goal.returns-clause-four
+returns-clause-four g c = λ t e.
+    stops_with c.work-outcome.result _ _ 4 (c.work-outcome.ensures.cause t) (sym (c.report.ensures.status (λ h. omega arith) (λ h. omega arith)) ∙ e) (omega arith) (λ h. omega arith) (λ h. omega arith)
+
+pub returns-clause-five : goal.returns-clause-five
+returns-clause-five g c = λ t e.
+    stops_with c.work-outcome.result _ _ 5 (c.work-outcome.ensures.cause t) (sym (c.report.ensures.status (λ h. omega arith) (λ h. omega arith)) ∙ e) (omega arith) (λ h. omega arith) (λ h. omega arith)
+
+pub returns-clause-eight : goal.returns-clause-eight
+returns-clause-eight g c = λ t e.
+    stops_with c.work-outcome.result _ _ 8 (c.work-outcome.ensures.cause t) (sym (c.report.ensures.status (λ h. omega arith) (λ h. omega arith)) ∙ e) (omega arith) (λ h. omega arith) (λ h. omega arith)
+
 pub returns-clause-stops : goal.returns-clause-stops
-returns-clause-stops g c = λ t at flaw stops n1 n6 n7.
+returns-clause-stops g c = λ t fault stops n1 n6 n7.
     let is : c.report.result ≡ status_of c.work-outcome.result = c.report.ensures.status n1 n7 in
-    elim (c.work-outcome.ensures.stops t at flaw stops) [
-      | inl capture ↦ is ∙ ap status_of capture
+    elim (c.work-outcome.ensures.stops t fault stops) [
+      | inl found ↦ is ∙ ap status_of found
       | inr other ↦ elim other [
         | inl read ↦ absurd (n6 (is ∙ ap status_of read))
         | inr memory ↦ absurd (n1 (is ∙ ap status_of memory))
@@ -15,8 +31,8 @@ returns-clause-stops g c = λ t at flaw stops n1 n6 n7.
     ]
 
 pub returns-clause-stops_seven : goal.returns-clause-stops_seven
-returns-clause-stops_seven g c = λ t at flaw stops e. c.report.ensures.seven e (elim (c.work-outcome.ensures.stops t at flaw stops) [
-  | inl capture ↦ λ s. (flaw_apart flaw).2 (sym (ap status_of capture) ∙ s)
+returns-clause-stops_seven g c = λ t fault stops e. c.report.ensures.seven e (elim (c.work-outcome.ensures.stops t fault stops) [
+  | inl found ↦ λ s. stop_not_seven _ _ fault stops (sym (ap status_of found) ∙ s)
   | inr other ↦ elim other [
     | inl read ↦ λ s. let h : 6 ≡ 7 = sym (ap status_of read) ∙ s in omega arith
     | inr memory ↦ λ s. let h : 1 ≡ 7 = sym (ap status_of memory) ∙ s in omega arith
@@ -30,30 +46,33 @@ returns-clause-two_says g c = λ t e.
     let is = is_usage c.work-outcome.result (sym (c.report.ensures.status n1 n7) ∙ e) in
     c.report.ensures.whole t n1 n7 ∙ ap (λ (xs : List ℕ). g.O.Sink.text c.args.out.now ++ xs) (usage_line c.work-outcome.result is)
 
+pub returns-clause-three_says : goal.returns-clause-three_says
+returns-clause-three_says g c = λ t e.
+    let n1 : c.report.result ≢ 1 = λ h. omega arith in
+    let n7 : c.report.result ≢ 7 = λ h. omega arith in
+    fault_says c.work-outcome.result 3 _ _ (sym (c.report.ensures.status n1 n7) ∙ e) (omega arith) c.work-outcome.ensures.can_be (c.report.ensures.whole t n1 n7)
+
 pub returns-clause-four_says : goal.returns-clause-four_says
 returns-clause-four_says g c = λ t e.
     let n1 : c.report.result ≢ 1 = λ h. omega arith in
     let n7 : c.report.result ≢ 7 = λ h. omega arith in
-    flaw_says c.work-outcome.result 4 _ _ (sym (c.report.ensures.status n1 n7) ∙ e) (omega arith) (λ h. omega arith) (λ h. omega arith)
-    c.work-outcome.ensures.port (c.report.ensures.whole t n1 n7)
+    fault_says c.work-outcome.result 4 _ _ (sym (c.report.ensures.status n1 n7) ∙ e) (omega arith) c.work-outcome.ensures.can_be (c.report.ensures.whole t n1 n7)
 
 pub returns-clause-five_says : goal.returns-clause-five_says
 returns-clause-five_says g c = λ t e.
     let n1 : c.report.result ≢ 1 = λ h. omega arith in
     let n7 : c.report.result ≢ 7 = λ h. omega arith in
-    flaw_says c.work-outcome.result 5 _ _ (sym (c.report.ensures.status n1 n7) ∙ e) (omega arith) (λ h. omega arith) (λ h. omega arith)
-    c.work-outcome.ensures.port (c.report.ensures.whole t n1 n7)
+    fault_says c.work-outcome.result 5 _ _ (sym (c.report.ensures.status n1 n7) ∙ e) (omega arith) c.work-outcome.ensures.can_be (c.report.ensures.whole t n1 n7)
 
 pub returns-clause-stops_says : goal.returns-clause-stops_says
-returns-clause-stops_says g c = λ t o at flaw stops e.
-    let apart = flaw_apart flaw in
-    let n1 : c.report.result ≢ 1 = λ h. apart.0 (sym e ∙ h) in
-    let n7 : c.report.result ≢ 7 = λ h. apart.2 (sym e ∙ h) in
+returns-clause-stops_says g c = λ t o fault stops e.
+    let n1 : c.report.result ≢ 1 = λ h. stop_not_one _ _ fault stops (sym e ∙ h) in
+    let n7 : c.report.result ≢ 7 = λ h. stop_not_seven _ _ fault stops (sym e ∙ h) in
     let is : c.report.result ≡ status_of c.work-outcome.result = c.report.ensures.status n1 n7 in
-    elim (c.work-outcome.ensures.stops t at flaw stops) [
-      | inl capture ↦ c.report.ensures.whole o n1 n7 ∙ ap (λ (xs : List ℕ). g.O.Sink.text c.args.out.now ++ xs) (line_of_capture c.work-outcome.result (64 + at) flaw capture)
+    elim (c.work-outcome.ensures.stops t fault stops) [
+      | inl found ↦ c.report.ensures.whole o n1 n7 ∙ ap (λ (p : Outcome). g.O.Sink.text c.args.out.now ++ line_of p) found
       | inr other ↦ elim other [
-        | inl read ↦ absurd (apart.1 (sym e ∙ is ∙ ap status_of read))
+        | inl read ↦ absurd (stop_not_six _ _ fault stops (sym e ∙ is ∙ ap status_of read))
         | inr memory ↦ absurd (n1 (is ∙ ap status_of memory))
       ]
     ]
@@ -76,6 +95,27 @@ pub returns-clause-eight_says : goal.returns-clause-eight_says
 returns-clause-eight_says g c = λ t e.
     let n1 : c.report.result ≢ 1 = λ h. omega arith in
     let n7 : c.report.result ≢ 7 = λ h. omega arith in
-    let is = is_capture c.work-outcome.result 8 (sym (c.report.ensures.status n1 n7) ∙ e) (omega arith) (λ h. omega arith) (λ h. omega arith) in
-    c.report.ensures.whole t n1 n7
-    ∙ ap (λ (xs : List ℕ). g.O.Sink.text c.args.out.now ++ xs) (line_of_capture c.work-outcome.result is.0 is.1 is.2 ∙ not_built_line is.0 is.1 (is_not_built is.1 is.3))
+    let is = is_not_built c.work-outcome.result (sym (c.report.ensures.status n1 n7) ∙ e) in
+    c.report.ensures.whole t n1 n7 ∙ ap (λ (xs : List ℕ). g.O.Sink.text c.args.out.now ++ xs) (not_built_line c.work-outcome.result is)
+
+pub returns-clause-front : goal.returns-clause-front
+returns-clause-front g c = λ t o. front_by c.work-outcome.result _ _ _ _ _ (c.work-outcome.ensures.done t) c.work-outcome.ensures.can_be (c.report.ensures.front o)
+
+pub returns-clause-complete : goal.returns-clause-complete
+returns-clause-complete g c = λ t topology ready no_reads no_writes no_out n1.
+    let o = c.work-outcome.result in
+    let n7 : c.report.result ≢ 7 = λ e. elim (write_or_not o) [
+      | inl write ↦ no_writes (c.work-outcome.ensures.write write)
+      | inr other ↦ no_out (c.report.ensures.seven e other)
+    ] in
+    let is : c.report.result ≡ status_of o = c.report.ensures.status n1 n7 in
+    status_cases o (c.report.result ≡ 0) (λ zero. is ∙ zero) (λ x e. absurd (elim (c.work-outcome.ensures.cause t x e) [
+      | inl stops ↦ ready_not _ _ topology x ready stops
+      | inr failure ↦ elim failure [
+        | inl read ↦ no_reads (c.work-outcome.ensures.read (e ∙ ap Err read))
+        | inr other ↦ elim other [
+          | inl write ↦ no_writes (c.work-outcome.ensures.write (e ∙ ap Err write))
+          | inr memory ↦ n1 (is ∙ ap status_of (e ∙ ap Err memory))
+        ]
+      ]
+    ]))

@@ -1,4 +1,4 @@
-use Rattle.std.proofs.Common.{◌≡◌, ◌-◌, ◌++◌, ℕ, List, ap, sym, ◌∙◌, length}
+use Rattle.std.proofs.Common.{◌≡◌, ◌-◌, ◌*◌, ◌++◌, ℕ, List, ap, sym, ◌∙◌, length}
 use Rattle.std.proofs.lemmas.Result.{on_ok_weaker}
 use Rattle.exb_model.specs.Texts.{record_text}
 use Rattle.exb_run.specs.Writing.{pieces_of}
@@ -15,6 +15,6 @@ returns-clause-texts g c = λ t.
     in
     on_ok_weaker c.add_to.result
     (λ added orig text p.
-    more_spelled c.args.ports orig (S.file c.add_to.new.shelf) (pieces_of c.add_to.new.self) text (c.number.result - 64) (left.port - 64) _ _
-    (ap (λ (n : ℕ). n - 64) c.number.ensures.value) written (added orig text p))
+    more_spelled c.args.plan.now orig (S.file c.add_to.new.shelf) (pieces_of c.add_to.new.self) text (c.number.result - 64 * c.args.plan.now.number) (left.port - 64 * c.args.plan.now.number) _ _
+    (ap (λ (n : ℕ). n - 64 * c.args.plan.now.number) c.number.ensures.value) written (added orig text p))
     (c.add_to.ensures.texts t)

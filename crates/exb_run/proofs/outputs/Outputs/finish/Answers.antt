@@ -11,18 +11,18 @@ loop-at-preserved g c =
     let given = S.ids c.loop-at.shelf in
     let ids = c.loop-at.self.ids.items in
     let pieces = c.loop-at.self.pieces.items in
-    let lt : c.loop-at.at < c.args.ports + 1 = omega arith in
+    let lt : c.loop-at.at < c.args.plan.now.ports + 1 = omega arith in
     let in_ids : c.loop-at.at < length ids = omega arith in
     let in_pieces : c.loop-at.at < length pieces = omega arith in
-    let named : (given c.index.result.now).name ≡ output_name c.args.ports c.loop-at.at =
+    let named : (given c.index.result.now).name ≡ output_name c.args.plan.now c.loop-at.at =
     name_of_id given ids c.loop-at.at c.index.result.now _ c.index.ensures in_ids (before.ready.named c.loop-at.at lt)
     in
     record {
       ready = search (rules, c.in_ok-flush.ensures.kept, before.ready);
       empty = more_empty (λ v. v.items) pieces c.loop-at.at c.flush.new.piece in_pieces c.in_ok-flush.ensures.empty before.empty;
       texts = λ t orig text p.
-          is_flushed (λ v. v.items) c.args.ports orig (S.file c.loop-at.shelf) (S.file c.flush.new.shelf) pieces text c.loop-at.at c.index_mut.result.now
-          c.flush.new.piece _ (c.output_names_differ.ensures c.args.ports c.requires.few) lt before.ready.pieces c.index_mut.ensures.value named
+          is_flushed (λ v. v.items) c.args.plan.now orig (S.file c.loop-at.shelf) (S.file c.flush.new.shelf) pieces text c.loop-at.at c.index_mut.result.now
+          c.flush.new.piece _ (c.output_names_differ.ensures c.args.plan.now c.requires.plan) lt before.ready.pieces c.index_mut.ensures.value named
           (before.texts t orig text p) (c.in_ok-flush.ensures.written t) c.in_ok-flush.ensures.empty;
       others = λ t m away. c.in_ok-flush.ensures.others t m (λ e. away c.loop-at.at lt (e ∙ named)) ∙ before.others t m away;
       faults = search (arith, c.in_ok-flush.ensures.faults, before.faults);
@@ -30,5 +30,5 @@ loop-at-preserved g c =
 
 pub returns-clause-texts : goal.returns-clause-texts
 returns-clause-texts g c = λ t orig text p.
-    all_written c.args.ports orig (g.S.Shelf.file c.loop-at.shelf) (pieces_of c.loop-at.self) text (λ j l. c.loop-at.invariant.empty j (omega arith))
+    all_written c.args.plan.now orig (g.S.Shelf.file c.loop-at.shelf) (pieces_of c.loop-at.self) text (λ j l. c.loop-at.invariant.empty j (omega arith))
     (c.loop-at.invariant.texts t orig text p)

@@ -1,7 +1,7 @@
 use Rattle.std.proofs.Common.{◌≡◌, ◌<◌, ℕ, List, [], slice_index_or}
 use Rattle.exb_shelf.specs.Files.{Files}
 use Rattle.exb_shelf.specs.Shelf.{NoFewer}
-use Rattle.exb_run.specs.Outputs.{OnlyOutputs}
+use Rattle.exb_run.specs.Outputs.{OnlyPlanned}
 use Rattle.exb_run.specs.Writing.{pieces_of, HasTexts, IsReady}
 use Rattle.exb_run.proofs.outputs.Outputs.finish.Given as goal
 
@@ -9,10 +9,10 @@ abbrev pub invariant-loop-at : goal.invariant-loop-at
 invariant-loop-at g l =
     let S = g.S.Shelf in
     record {
-      ready : IsReady l.ports (S.ids l.shelf) l.self;
+      ready : IsReady l.plan (S.ids l.shelf) l.self;
       empty : (j : ℕ) → j < l.at → slice_index_or (pieces_of l.self) j [] ≡ [];
-      texts : S.tells → (orig : Files) (text : ℕ → List ℕ) → HasTexts l.ports (pieces_of l.fn.self) orig (S.file l.fn.shelf) text
-          → HasTexts l.ports (pieces_of l.self) orig (S.file l.shelf) text;
-      others : S.tells → OnlyOutputs l.ports (S.file l.fn.shelf) (S.file l.shelf);
+      texts : S.tells → (orig : Files) (text : ℕ → List ℕ) → HasTexts l.plan (pieces_of l.fn.self) orig (S.file l.fn.shelf) text
+          → HasTexts l.plan (pieces_of l.self) orig (S.file l.shelf) text;
+      others : S.tells → OnlyPlanned l.plan (S.file l.fn.shelf) (S.file l.shelf);
       faults : NoFewer (S.faults l.fn.shelf) (S.faults l.shelf);
     }

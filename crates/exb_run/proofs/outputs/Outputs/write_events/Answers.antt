@@ -8,7 +8,7 @@ loop-event-init g c =
     let file = g.S.Shelf.file c.args.shelf.now in
     record {
       ready = c.requires.ready;
-      texts = λ t orig text p. no_lines c.args.ports orig file (pieces_of c.args.self.now) text p;
+      texts = λ t orig text p. no_lines c.args.plan.now orig file (pieces_of c.args.self.now) text p;
       others = λ t m away. refl;
       faults = search rules;
     }
@@ -22,9 +22,9 @@ loop-event-preserved g c =
     record {
       ready = added.ready;
       texts = λ t orig text p.
-          more_lines c.args.ports orig (g.S.Shelf.file c.add_event.new.shelf) (pieces_of c.add_event.new.self) text events c.loop-event.event-index c.event-item.result
+          more_lines c.args.plan.now orig (g.S.Shelf.file c.add_event.new.shelf) (pieces_of c.add_event.new.self) text events c.loop-event.event-index c.event-item.result
           inside c.event-item.is
-          (added.texts t orig (with_more text c.args.ports (lines_of (take c.loop-event.event-index events))) (before.texts t orig text p));
+          (added.texts t orig (with_more text c.args.plan.now.ports (lines_of (take c.loop-event.event-index events))) (before.texts t orig text p));
       others = λ t m away. added.others t m away ∙ before.others t m away;
       faults = search (arith, added.faults, before.faults);
     }

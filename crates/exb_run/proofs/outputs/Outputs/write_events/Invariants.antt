@@ -1,7 +1,7 @@
 use Rattle.std.proofs.Common.{ℕ, List, take}
 use Rattle.exb_shelf.specs.Files.{Files}
 use Rattle.exb_shelf.specs.Shelf.{NoFewer}
-use Rattle.exb_run.specs.Outputs.{OnlyOutputs}
+use Rattle.exb_run.specs.Outputs.{OnlyPlanned}
 use Rattle.exb_run.specs.Writing.{pieces_of, HasTexts, IsReady, with_more, lines_of}
 use Rattle.exb_run.proofs.outputs.Outputs.write_events.Given as goal
 
@@ -9,9 +9,9 @@ abbrev pub invariant-loop-event : goal.invariant-loop-event
 invariant-loop-event g l =
     let S = g.S.Shelf in
     record {
-      ready : IsReady l.ports (S.ids l.shelf) l.self;
-      texts : S.tells → (orig : Files) (text : ℕ → List ℕ) → HasTexts l.ports (pieces_of l.fn.self) orig (S.file l.fn.shelf) text
-          → HasTexts l.ports (pieces_of l.self) orig (S.file l.shelf) (with_more text l.ports (lines_of (take l.event-index l.events)));
-      others : S.tells → OnlyOutputs l.ports (S.file l.fn.shelf) (S.file l.shelf);
+      ready : IsReady l.plan (S.ids l.shelf) l.self;
+      texts : S.tells → (orig : Files) (text : ℕ → List ℕ) → HasTexts l.plan (pieces_of l.fn.self) orig (S.file l.fn.shelf) text
+          → HasTexts l.plan (pieces_of l.self) orig (S.file l.shelf) (with_more text l.plan.ports (lines_of (take l.event-index l.events)));
+      others : S.tells → OnlyPlanned l.plan (S.file l.fn.shelf) (S.file l.shelf);
       faults : NoFewer (S.faults l.fn.shelf) (S.faults l.shelf);
     }

@@ -8,7 +8,7 @@ loop-frame-init g c =
     let file = g.S.Shelf.file c.args.shelf.now in
     record {
       ready = c.requires.ready;
-      texts = λ t orig text p. no_frames c.args.ports orig file (pieces_of c.args.self.now) text p;
+      texts = λ t orig text p. no_frames c.args.plan.now orig file (pieces_of c.args.self.now) text p;
       others = λ t m away. refl;
       faults = search rules;
     }
@@ -19,13 +19,13 @@ loop-frame-preserved g c =
     let added = c.in_ok-add_left.ensures in
     let left = c.args.left.now in
     let inside : c.loop-frame.frame-index < length left = omega arith in
-    let can : CanBeWritten c.args.ports c.frame-item.result = search (rules, c.requires.frames) in
+    let can : CanBeWritten c.args.plan.now c.frame-item.result = search (rules, c.requires.frames) in
     record {
       ready = added.ready;
       texts = λ t orig text p.
-          more_frames c.args.ports orig (g.S.Shelf.file c.add_left.new.shelf) (pieces_of c.add_left.new.self) text left c.loop-frame.frame-index c.frame-item.result
+          more_frames c.args.plan.now orig (g.S.Shelf.file c.add_left.new.shelf) (pieces_of c.add_left.new.self) text left c.loop-frame.frame-index c.frame-item.result
           inside c.frame-item.is can
-          (added.texts t orig (with_left_frames c.args.ports text (take c.loop-frame.frame-index left)) (before.texts t orig text p));
+          (added.texts t orig (with_left_frames c.args.plan.now text (take c.loop-frame.frame-index left)) (before.texts t orig text p));
       others = λ t m away. added.others t m away ∙ before.others t m away;
       faults = search (arith, added.faults, before.faults);
     }

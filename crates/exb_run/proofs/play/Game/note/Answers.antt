@@ -16,11 +16,11 @@ add_left-requires g c =
 
 pub returns-clause-texts : goal.returns-clause-texts
 returns-clause-texts g c tells orig text held =
-    let ports = c.args.ports in
+    let plan = c.args.plan.now in
     let first = c.in_default.ensures.texts tells orig text held in
-    let second = c.in_default-write_left.ensures.texts tells orig (with_more text ports (lines_of c.events.result.now)) first in
-    let with_events = λ (es : List Event). HasTexts ports (pieces_of c.write_left.new.self) orig (g.S.Shelf.file c.write_left.new.shelf)
-    (with_left_frames ports (with_more text ports (lines_of es)) c.left.result.now) in
-    let with_frames = λ (xs : List Left). HasTexts ports (pieces_of c.write_left.new.self) orig (g.S.Shelf.file c.write_left.new.shelf)
-    (with_left_frames ports (with_more text ports (lines_of c.args.self.now.world.events)) xs) in
+    let second = c.in_default-write_left.ensures.texts tells orig (with_more text plan.ports (lines_of c.events.result.now)) first in
+    let with_events = λ (es : List Event). HasTexts plan (pieces_of c.write_left.new.self) orig (g.S.Shelf.file c.write_left.new.shelf)
+    (with_left_frames plan (with_more text plan.ports (lines_of es)) c.left.result.now) in
+    let with_frames = λ (xs : List Left). HasTexts plan (pieces_of c.write_left.new.self) orig (g.S.Shelf.file c.write_left.new.shelf)
+    (with_left_frames plan (with_more text plan.ports (lines_of c.args.self.now.world.events)) xs) in
     subst with_frames c.left.ensures (subst with_events c.events.ensures second)

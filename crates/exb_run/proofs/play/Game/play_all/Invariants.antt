@@ -8,7 +8,7 @@ use Rattle.exb_shelf.specs.Shelf.{NoFewer}
 use Rattle.exb_text.specs.Tallies.{counts_of}
 use Rattle.exb_world.specs.Setups.{is_port_of}
 use Rattle.exb_run.specs.Playing.{played, IsAtRest, IsCounted, IsWritten, CanCome}
-use Rattle.exb_run.specs.Outputs.{OnlyOutputs}
+use Rattle.exb_run.specs.Outputs.{OnlyPlanned}
 use Rattle.exb_run.specs.Writing.{IsReady}
 use Rattle.exb_run.proofs.Reaching.{Reaches}
 use Rattle.exb_run.proofs.play.Game.play_all.Given as goal
@@ -17,15 +17,15 @@ abbrev pub invariant-records : goal.invariant-records
 invariant-records g l =
     let S = g.S.Shelf in
     record {
-      ready : IsReady l.ports (S.ids l.shelf) l.self.outputs;
-      rest : IsAtRest l.ports l.self.world;
+      ready : IsReady l.plan (S.ids l.shelf) l.self.outputs;
+      rest : IsAtRest l.plan l.self.world;
       counted : IsCounted (counts_of l.self.tally) l.self.world.clock;
       room : played (counts_of l.self.tally) + length (to_come l.captures) ≤ 2 ^ 30;
-      comes : CanCome l.ports (to_come l.captures);
-      goes_on : S.tells → (i : Input) (h : History) (orig : Files) → ((q : ℕ) → is_external (tree_of i) q ≡ is_port_of 1 l.ports q) →
-          IsWritten i h l.ports orig (S.file l.fn.shelf) l.fn.self.world (counts_of l.fn.self.tally) l.fn.self.outputs →
-          Reaches i h (to_come l.fn.captures) l.last (to_come l.captures) l.ports orig (S.file l.shelf) l.self.world (counts_of l.self.tally) l.self.outputs;
-      others : S.tells → OnlyOutputs l.ports (S.file l.fn.shelf) (S.file l.shelf);
+      comes : CanCome l.plan (to_come l.captures);
+      goes_on : S.tells → (i : Input) (h : History) (orig : Files) → ((q : ℕ) → is_external (tree_of i) q ≡ is_port_of l.plan.number l.plan.ports q) →
+          IsWritten i h l.plan orig (S.file l.fn.shelf) l.fn.self.world (counts_of l.fn.self.tally) l.fn.self.outputs →
+          Reaches i h (to_come l.fn.captures) l.last (to_come l.captures) l.plan orig (S.file l.shelf) l.self.world (counts_of l.self.tally) l.self.outputs;
+      others : S.tells → OnlyPlanned l.plan (S.file l.fn.shelf) (S.file l.shelf);
       faults : NoFewer (S.faults l.fn.shelf) (S.faults l.shelf);
     }
 

@@ -15,13 +15,13 @@ use Rattle.exb_run.proofs.play.Game.turn.Goals as goal
 pub note-requires-clause-frames : goal.note-requires-clause-frames
 note-requires-clause-frames g c =
     let ok = sym c.is_err.ensures.value ∙ c.if-is_err.false in
-    frames_fit c.args.ports c.args.self.now.world c.requires.rest c.args.arrival c.requires.moment c.requires.bytes c.eager.new.world.left (when_ok _ ok c.eager.ensures.copies)
+    frames_fit c.args.plan.now c.args.self.now.world c.requires.rest c.args.arrival c.requires.moment c.requires.bytes c.eager.new.world.left (when_ok _ ok c.eager.ensures.copies)
 
 pub note-requires-clause-left : goal.note-requires-clause-left
 note-requires-clause-left g c =
     let ok = sym c.is_err.ensures.value ∙ c.if-is_err.false in
-    let own = frames_fit c.args.ports c.args.self.now.world c.requires.rest c.args.arrival c.requires.moment c.requires.bytes c.eager.new.world.left (when_ok _ ok c.eager.ensures.copies) in
-    let short = few c.args.ports c.args.self.now.world c.requires.rest c.args.arrival c.eager.new.world c.args.seconds (when_ok _ ok c.eager.ensures.events) (when_ok _ ok c.eager.ensures.left) own c.requires.few in
+    let own = frames_fit c.args.plan.now c.args.self.now.world c.requires.rest c.args.arrival c.requires.moment c.requires.bytes c.eager.new.world.left (when_ok _ ok c.eager.ensures.copies) in
+    let short = few c.args.plan.now c.args.self.now.world c.requires.rest c.args.arrival c.eager.new.world c.args.seconds (when_ok _ ok c.eager.ensures.events) (when_ok _ ok c.eager.ensures.left) own c.requires.plan in
     let was = c.requires.counted.left in
     omega (arith, short, was, c.requires.room)
 
@@ -29,8 +29,8 @@ pub returns-clause-counted : goal.returns-clause-counted
 returns-clause-counted g c =
     let ok = sym c.is_err.ensures.value ∙ c.if-is_err.false in
     let w = c.args.self.now.world in
-    let own = frames_fit c.args.ports w c.requires.rest c.args.arrival c.requires.moment c.requires.bytes c.eager.new.world.left (when_ok _ ok c.eager.ensures.copies) in
-    let is = counts_counted c.args.ports w c.requires.rest c.args.arrival c.eager.new.world c.args.seconds (when_ok _ ok c.eager.ensures.events) (when_ok _ ok c.eager.ensures.left) own c.requires.few
+    let own = frames_fit c.args.plan.now w c.requires.rest c.args.arrival c.requires.moment c.requires.bytes c.eager.new.world.left (when_ok _ ok c.eager.ensures.copies) in
+    let is = counts_counted c.args.plan.now w c.requires.rest c.args.arrival c.eager.new.world c.args.seconds (when_ok _ ok c.eager.ensures.events) (when_ok _ ok c.eager.ensures.left) own c.requires.plan
     (omega arith) (counts_of c.args.self.now.tally) w.clock c.requires.counted in
     let clock = ap (λ (x : State). x.clock) (when_ok _ ok c.eager.ensures.rest) in
     on_ok_both c.note.result (λ cleared counts.
@@ -41,22 +41,22 @@ pub returns-clause-played : goal.returns-clause-played
 returns-clause-played g c =
     let ok = sym c.is_err.ensures.value ∙ c.if-is_err.false in
     let w = c.args.self.now.world in
-    let own = frames_fit c.args.ports w c.requires.rest c.args.arrival c.requires.moment c.requires.bytes c.eager.new.world.left (when_ok _ ok c.eager.ensures.copies) in
-    let more = counts_played c.args.ports w c.requires.rest c.args.arrival c.eager.new.world c.args.seconds (when_ok _ ok c.eager.ensures.events) (when_ok _ ok c.eager.ensures.left) own (counts_of c.args.self.now.tally) in
+    let own = frames_fit c.args.plan.now w c.requires.rest c.args.arrival c.requires.moment c.requires.bytes c.eager.new.world.left (when_ok _ ok c.eager.ensures.copies) in
+    let more = counts_played c.args.plan.now w c.requires.rest c.args.arrival c.eager.new.world c.args.seconds (when_ok _ ok c.eager.ensures.events) (when_ok _ ok c.eager.ensures.left) own (counts_of c.args.self.now.tally) in
     on_ok_weaker c.note.result (λ counts. ap played counts ∙ more) c.note.ensures.counts
 
 pub returns-clause-under_way : goal.returns-clause-under_way
 returns-clause-under_way g c =
     let ok = sym c.is_err.ensures.value ∙ c.if-is_err.false in
     let w = c.args.self.now.world in
-    let own = frames_fit c.args.ports w c.requires.rest c.args.arrival c.requires.moment c.requires.bytes c.eager.new.world.left (when_ok _ ok c.eager.ensures.copies) in
+    let own = frames_fit c.args.plan.now w c.requires.rest c.args.arrival c.requires.moment c.requires.bytes c.eager.new.world.left (when_ok _ ok c.eager.ensures.copies) in
     on_ok_both c.note.result (λ cleared counts i h external u.
     let next = eager_segment (tree_of i) (bounds_of i) (basis_of i) h (segment c.args.seconds (arrived c.args.arrival ∷ [])) in
-    let is = under_way c.args.ports w c.requires.rest c.args.arrival c.eager.new.world c.args.seconds (when_ok _ ok c.eager.ensures.events) (when_ok _ ok c.eager.ensures.left) own
+    let is = under_way c.args.plan.now w c.requires.rest c.args.arrival c.eager.new.world c.args.seconds (when_ok _ ok c.eager.ensures.events) (when_ok _ ok c.eager.ensures.left) own
     i h u.stands.0 u.stands.1
     (when_ok _ ok c.eager.ensures.history i u.stands.0 h (flat (basis_of i) h) u.stands.1)
     (when_ok _ ok c.eager.ensures.stands i u.stands.0 h (flat (basis_of i) h) u.stands.1)
-    c.requires.few external (counts_of c.args.self.now.tally) u.counted in
+    c.requires.plan external (counts_of c.args.self.now.tally) u.counted in
     subst (λ (x : State). IsUnderWay i next x (counts_of c.note.new.self.tally)) (sym cleared)
     (subst (λ (d : Counts). IsUnderWay i next (record c.eager.new.world { events = []; left = [] }) d) (sym counts) is)) c.note.ensures.cleared c.note.ensures.counts
 
@@ -64,12 +64,12 @@ pub returns-clause-texts : goal.returns-clause-texts
 returns-clause-texts g c tells =
     let ok = sym c.is_err.ensures.value ∙ c.if-is_err.false in
     let w = c.args.self.now.world in
-    let ports = c.args.ports in
-    let own = frames_fit ports w c.requires.rest c.args.arrival c.requires.moment c.requires.bytes c.eager.new.world.left (when_ok _ ok c.eager.ensures.copies) in
+    let plan = c.args.plan.now in
+    let own = frames_fit plan w c.requires.rest c.args.arrival c.requires.moment c.requires.bytes c.eager.new.world.left (when_ok _ ok c.eager.ensures.copies) in
     on_ok_weaker c.note.result (λ texts i h orig u held.
     let next = eager_segment (tree_of i) (bounds_of i) (basis_of i) h (segment c.args.seconds (arrived c.args.arrival ∷ [])) in
-    let is = text_is ports w c.requires.rest c.args.arrival c.eager.new.world c.args.seconds (when_ok _ ok c.eager.ensures.events) (when_ok _ ok c.eager.ensures.left) own
+    let is = text_is plan w c.requires.rest c.args.arrival c.eager.new.world c.args.seconds (when_ok _ ok c.eager.ensures.events) (when_ok _ ok c.eager.ensures.left) own
     i h u.stands.0 u.stands.1
     (when_ok _ ok c.eager.ensures.history i u.stands.0 h (flat (basis_of i) h) u.stands.1)
     (when_ok _ ok c.eager.ensures.stands i u.stands.0 h (flat (basis_of i) h) u.stands.1) in
-    same_texts ports (pieces_of c.note.new.self.outputs) orig (g.S.Shelf.file c.note.new.shelf) _ (text_after i ports next) is (texts orig (text_after i ports h) held)) (c.note.ensures.texts tells)
+    same_texts plan (pieces_of c.note.new.self.outputs) orig (g.S.Shelf.file c.note.new.shelf) _ (text_after i plan next) is (texts orig (text_after i plan h) held)) (c.note.ensures.texts tells)

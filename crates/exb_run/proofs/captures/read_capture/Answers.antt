@@ -1,0 +1,24 @@
+use Rattle.std.proofs.Common.{◌≡◌, ◌∙◌, Some, ℕ, List, Option, ap, sym, inl, arith}
+use Rattle.exb_run.specs.Flaws.{flaw_of, flaw_of_bytes}
+use Rattle.exb_run.proofs.FlawLemmas.{bytes_cause, bytes_not_missing, bytes_not_read, err_same}
+use Rattle.exb_run.proofs.captures.read_capture.Goals as goal
+
+pub returns-in-None-clause-good : goal.returns-in-None-clause-good
+returns-in-None-clause-good g c = ap (λ bs. flaw_of_bytes c.args.port bs c.args.before) (sym c.as_slice.ensures.value) ∙ sym c.in-None.ensures
+
+pub returns-in-Some-clause-flaw : goal.returns-in-Some-clause-flaw
+returns-in-Some-clause-flaw g c tells =
+    let here = c.in-Ok.ensures.bytes tells in
+    inl (ap (λ (o : Option (List ℕ)). flaw_of c.args.port c.args.name.now o c.args.before) here
+    ∙ ap (λ bs. flaw_of_bytes c.args.port bs c.args.before) (sym c.as_slice.ensures.value) ∙ sym c.in-Some.ensures)
+
+pub returns-in-Some-clause-causes : goal.returns-in-Some-clause-causes
+returns-in-Some-clause-causes g c = bytes_cause c.args.port c.as_slice.result.now c.args.before c.in-Some.fault c.requires.port (sym c.in-Some.ensures)
+
+pub returns-in-Some-clause-missing : goal.returns-in-Some-clause-missing
+returns-in-Some-clause-missing g c n e =
+    absurd (bytes_not_missing c.args.port c.as_slice.result.now c.args.before c.in-Some.fault c.requires.port (sym c.in-Some.ensures) n (err_same _ _ e))
+
+pub returns-in-Some-clause-read : goal.returns-in-Some-clause-read
+returns-in-Some-clause-read g c e =
+    absurd (bytes_not_read c.args.port c.as_slice.result.now c.args.before c.in-Some.fault c.requires.port (sym c.in-Some.ensures) (err_same _ _ e))

@@ -1,0 +1,97 @@
+//! Reading the topology.
+ghost use Rattle.std.specs.Prelude.{◌≡◌, ◌≢◌, ◌⊎◌, ℕ, List, Some, Ok, Err, All, true, IfOk, IfErr, IsErrOf};
+ghost use Rattle.exb_model.specs.Setup.{IsValid, shape_of};
+ghost use Rattle.exb_model.specs.Tree.{is_external};
+ghost use Rattle.exb_shelf.specs.Files.{SameFiles};
+ghost use Rattle.exb_shelf.specs.Shelf.{Rose, NoFewer};
+ghost use Rattle.exb_topology.specs.Topologies.{topology_of, topology_view};
+ghost use Rattle.exb_run.specs.Answers.{fault_by};
+ghost use Rattle.exb_run.specs.Reading.{IsRefusal, IsRefused, IsOfTopology};
+
+use crate::captures::missing;
+use crate::fault::Fault;
+use exb_keys::faults::TopoFault;
+use exb_shelf::{ReadFault, Shelf, read_file};
+use exb_topology::{Topology, read};
+use std::alloc::Global;
+
+/// The most bytes of a topology file.
+const LIMIT: usize = 16_777_216;
+
+/// Why a run ends where a topology is refused.
+fn refused(fault: TopoFault) -> Fault
+    ensures { result ≡ fault_by fault }
+{
+    match fault {
+        TopoFault::Memory => Fault::Memory,
+        TopoFault::NotToml => Fault::Topology { fault },
+        TopoFault::Large => Fault::Topology { fault },
+        TopoFault::At { fault, key } => {
+            let fault = TopoFault::At { fault, key };
+            Fault::Topology { fault }
+        }
+    }
+}
+
+/// What a topology file says.
+#[tactic(auto, using(crate::proofs::Refusing::captures_external))]
+fn parse(alloc: Global, file: &[u8]) -> Result<Topology, Fault>
+    ensures read { IfOk result (λ topology. topology_of file.now ≡ Ok (topology_view topology)) }
+    ensures valid { IfOk result (λ topology. IsValid topology.setup) }
+    ensures external { IfOk result (λ topology. All (λ x. is_external (shape_of topology.setup) x.port ≡ true) topology.captures) }
+    ensures refused { IfErr result (λ fault. IsRefusal file.now fault ⊎ (fault ≡ Fault.Memory)) }
+{
+    match read(alloc, file) {
+        Ok(topology) => Ok(topology),
+        Err(fault) => Err(refused(fault)),
+    }
+}
+
+/// Reads the bytes of the topology file of this name.
+#[tactic(auto, using(crate::proofs::Refusing::large_refused))]
+fn read_bytes<S: Shelf>(alloc: Global, shelf: &mut S, name: &str) -> Result<Vec<u8>, Fault>
+    ensures there { S.tells → IfOk result (λ file. S.file shelf.old name.now ≡ Some file.items) }
+    ensures refused { S.tells → IfErr result (λ fault. IsRefused name.now (S.file shelf.old name.now) fault ⊎ (fault ≡ Fault.Read) ⊎ (fault ≡ Fault.Memory)) }
+    ensures causes { IfErr result IsOfTopology }
+    ensures files { SameFiles (S.file shelf.old) (S.file shelf.new) }
+    ensures faults { NoFewer (S.faults shelf.old) (S.faults shelf.new) }
+    ensures missing { (n : List ℕ) → result ≡ Err (Fault.Missing n) → Rose (S.faults shelf.old).missing (S.faults shelf.new).missing }
+    ensures read { IsErrOf result Fault.Read → Rose (S.faults shelf.old).reads (S.faults shelf.new).reads }
+{
+    match read_file(alloc, shelf, name, LIMIT) {
+        Ok(file) => Ok(file),
+        Err(ReadFault::Missing) => Err(missing(alloc, name)),
+        Err(ReadFault::Large) => {
+            let fault = TopoFault::Large;
+            Err(Fault::Topology { fault })
+        }
+        Err(ReadFault::Failed) => Err(Fault::Read),
+        Err(ReadFault::Memory) => Err(Fault::Memory),
+    }
+}
+
+/// Reads the topology file of this name.
+pub(crate) fn read_topology<S: Shelf>(
+    alloc: Global,
+    shelf: &mut S,
+    name: &str,
+) -> Result<Topology, Fault>
+    ensures read { S.tells → IfOk result (λ topology. (bytes : List ℕ) × (S.file shelf.old name.now ≡ Some bytes) × (topology_of bytes ≡ Ok (topology_view topology))) }
+    ensures valid { IfOk result (λ topology. IsValid topology.setup) }
+    ensures external { IfOk result (λ topology. All (λ x. is_external (shape_of topology.setup) x.port ≡ true) topology.captures) }
+    ensures refused { S.tells → IfErr result (λ fault. IsRefused name.now (S.file shelf.old name.now) fault ⊎ (fault ≡ Fault.Read) ⊎ (fault ≡ Fault.Memory)) }
+    ensures causes { IfErr result IsOfTopology }
+    ensures files { SameFiles (S.file shelf.old) (S.file shelf.new) }
+    ensures faults { NoFewer (S.faults shelf.old) (S.faults shelf.new) }
+    ensures missing { (n : List ℕ) → result ≡ Err (Fault.Missing n) → Rose (S.faults shelf.old).missing (S.faults shelf.new).missing }
+    ensures read_failed { IsErrOf result Fault.Read → Rose (S.faults shelf.old).reads (S.faults shelf.new).reads }
+{
+    let file = match read_bytes(alloc, shelf, name) {
+        Ok(file) => file,
+        Err(fault) => return Err(fault),
+    };
+    match parse(alloc, file.as_slice()) {
+        Ok(topology) => Ok(topology),
+        Err(fault) => Err(fault),
+    }
+}
