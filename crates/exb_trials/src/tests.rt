@@ -4,16 +4,11 @@ ghost use Rattle.std.specs.Prelude.{◌≤◌, ◌≡◌, length};
 use crate::trial::Trial;
 use exb_flat_run::merge::Capture;
 use exb_flat_run::outcome::{Outcome, flat_outcome};
-use exb_model::command::Command;
-use exb_model::list::List;
-use exb_model::memory::NoMemory;
 use exb_model::port::PortId;
-use exb_model::port_set::PortSet;
-use exb_model::setup::{ExtenderSetup, Place, Setup};
-use exb_model::vlan::Vid;
 use exb_run::run;
 use exb_shelf::{MemShelf, MemSink};
 use exb_text::{capture_file_name, journal_file_name};
+use exb_topology::read;
 use std::alloc::Global;
 use std::process::Abort;
 use std::test::Fail;
@@ -25,42 +20,28 @@ fn port_at(at: u8) -> PortId
     PortId::new(64 + at as u16).unwrap()
 }
 
-/// Extender 1 on `b1` with that many ports, all untagged in VLAN 1, and nothing learned.
-fn setup(alloc: Global, ports: u8) -> Result<Setup, NoMemory>
+/// The topology of a trial: extender 1 on `b1` with that many ports, and a capture for each.
+fn topology_of(alloc: Global, ports: u8) -> Result<String, Fail>
     requires { ports ≤ 4 }
 {
-    let mut extenders = List::new(alloc);
-    extenders.push(ExtenderSetup {
-        number: 1,
-        ports,
-        on: Place::Bridge { port: 1 },
-    })?;
-    let mut untagged = PortSet::empty();
+    let mut text = format!(in alloc;
+        "[bridge]\nports = 1\nageing = 0\n[[extender]]\nnumber = 1\non = \"b1\"\nports = {ports}\n[captures]\n"
+    )?;
     for at in 0..ports {
-        untagged.insert(port_at(at));
+        let number = at + 1;
+        let line = format!(in alloc; "\"x1.{number}\" = \"in-x1.{number}.pcap\"\n")?;
+        text.push_str(line.as_str())?;
     }
-    let mut start = List::new(alloc);
-    start.push(Command::Vlan {
-        vid: Vid::default(),
-        tagged: PortSet::empty(),
-        untagged,
-    })?;
-    Ok(Setup {
-        ports: 1,
-        extenders,
-        channels: 4094,
-        groups: 12288,
-        ageing: 0,
-        start,
-    })
+    Ok(text)
 }
 
 /// What the plain bridge makes of a trial.
-fn plain(alloc: Global, trial: &Trial) -> Result<Outcome, NoMemory>
+fn plain(alloc: Global, trial: &Trial) -> Result<Outcome, Fail>
     requires few { trial.now.ports ≤ 4 }
     requires captures { length trial.now.captures.items ≡ trial.now.ports }
 {
-    let setup = setup(alloc, trial.ports)?;
+    let text = topology_of(alloc, trial.ports)?;
+    let topology = read(alloc, text.as_bytes())?;
     let mut captures = Vec::new(alloc);
     for at in 0..trial.ports {
         captures.push(Capture {
@@ -68,15 +49,16 @@ fn plain(alloc: Global, trial: &Trial) -> Result<Outcome, NoMemory>
             file: trial.captures[at as usize].as_slice(),
         })?;
     }
-    flat_outcome(alloc, &setup, &[], captures.as_slice())
+    Ok(flat_outcome(alloc, &topology.setup, &[], captures.as_slice())?)
 }
 
-/// A shelf with the captures of a trial.
+/// A shelf with the topology and the captures of a trial.
 fn shelf_of(alloc: Global, trial: &Trial) -> Result<MemShelf, Fail>
     requires few { trial.now.ports ≤ 4 }
     requires captures { length trial.now.captures.items ≡ trial.now.ports }
 {
     let mut shelf = MemShelf::new(alloc, &[])?;
+    shelf.put("trial.toml", topology_of(alloc, trial.ports)?.as_bytes())?;
     for at in 0..trial.ports {
         let name = capture_file_name(alloc, "in-", port_at(at))?;
         shelf.put(name.as_str(), trial.captures[at as usize].as_slice())?;
@@ -84,13 +66,11 @@ fn shelf_of(alloc: Global, trial: &Trial) -> Result<MemShelf, Fail>
     Ok(shelf)
 }
 
-/// The words of the run of a trial.
-fn words_of(alloc: Global, trial: &Trial) -> Result<Vec<String>, Fail>
-    requires { trial.now.ports ≤ 4 }
-{
+/// The words of a run.
+fn words(alloc: Global) -> Result<Vec<String>, Fail> {
     let mut words = Vec::new(alloc);
     words.push(String::from_str(alloc, "run")?)?;
-    words.push(trial.ports.to_string(alloc)?)?;
+    words.push(String::from_str(alloc, "trial.toml")?)?;
     Ok(words)
 }
 
@@ -118,10 +98,7 @@ fn expect_trials(rt: &impl Abort, alloc: Global, first: u64, last: u64) -> Resul
         let trial = Trial::new(alloc, number)?;
         let mut shelf = shelf_of(alloc, &trial)?;
         let mut out = MemSink::new(alloc, &[])?;
-        assert_eq!(rt;
-            run(alloc, &words_of(alloc, &trial)?, &mut shelf, &mut out),
-            0
-        );
+        assert_eq!(rt; run(alloc, &words(alloc)?, &mut shelf, &mut out), 0);
         let want = plain(alloc, &trial)?;
         assert_eq!(rt; want.captures.len(), trial.ports as usize);
         expect_same(rt, alloc, &shelf, &out, &want)?;
