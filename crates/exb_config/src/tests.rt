@@ -188,17 +188,19 @@ fn a_port_is_isolated_until_that_ends_and_a_copy_keeps_it(rt: HostRuntime) -> Re
     Ok(())
 }
 
+// x1.1 goes up.
+fn up(rt: &impl Abort) -> Command {
+    Command::Up { port: port(rt, 64) }
+}
+
 #[test]
 fn up_and_down_change_presence_once(rt: HostRuntime) -> Result<(), Fail> {
-    let up = Command::Up {
-        port: port(&rt, 64),
-    };
     let down = Command::Down {
         port: port(&rt, 64),
     };
-    let config = configured(rt.alloc(), &rt, &[up, up])?;
+    let config = configured(rt.alloc(), &rt, &[up(&rt), up(&rt)])?;
     assert!(rt; config.present(port(&rt, 64)));
-    let without = configured(rt.alloc(), &rt, &[up, up, down])?;
+    let without = configured(rt.alloc(), &rt, &[up(&rt), up(&rt), down])?;
     assert!(rt; !without.present(port(&rt, 64)));
     Ok(())
 }
