@@ -1,17 +1,14 @@
 -- What the words ask for, which is one topology, seen in one way.
-use Rattle.std.proofs.Common.{◌≡◌, ◌≢◌, ℕ, Bool, List, [], ◌∷◌, Option, Some, None, Result, Ok, Err, map, refl, ap, sym, subst, ◌∙◌}
+use Rattle.std.proofs.Common.{◌≡◌, ℕ, Bool, List, [], ◌∷◌, Option, Some, None, Result, Ok, Err, map, refl, ap, sym, ◌∙◌}
 use Rattle.exb_model.specs.Ports.{port_in}
-use Rattle.exb_model.specs.Tree.{Shape}
 use Rattle.exb_model.specs.Setup.{shape_of}
 use Rattle.exb_model.specs.declared.port_set.PortSet.{PortSet}
 use Rattle.exb_model.specs.declared.command.Command.{Command}
 use Rattle.exb_model.specs.declared.command.Command.TheVariants as command
 use Rattle.exb_model.specs.declared.setup.ExtenderSetup.{ExtenderSetup}
-use Rattle.exb_model.specs.declared.setup.Place.TheVariants as place
 use Rattle.exb_model.specs.declared.setup.Setup.{Setup}
-use Rattle.exb_world.specs.Setups.{IsFirst, IsFirstSetup, is_port_of}
+use Rattle.exb_world.specs.Setups.{IsFirst}
 use Rattle.exb_shelf.specs.Files.{Files}
-use Rattle.exb_tables.specs.declared.rows.Named.{Named}
 use Rattle.exb_topology.specs.declared.topology.Topology.{Topology}
 use Rattle.exb_topology.specs.Seen.{Seen, seen, set_vlan, timed_view}
 use Rattle.exb_topology.specs.Topologies.{TopologySeen, topology_view, topology_of}
@@ -87,8 +84,7 @@ first_same : (t u : Topology) → topology_view t ≡ topology_view u → IsFirs
 first_same t u e (n, ports, untagged, tagged, first) =
     let start : map seen u.setup.start ≡ set_vlan 1 (port_in tagged) (port_in untagged) ∷ [] = sym (ap (λ (v : TopologySeen). v.start) e) ∙ ap (map seen) first.start in
     let one = is_one u.setup.start (set_vlan 1 (port_in tagged) (port_in untagged)) start in
-    let vlan = sets_vlan one.command 1 (port_in tagged) (port_in untagged) one.seen_as in
-    (
+    let vlan = sets_vlan one.command 1 (port_in tagged) (port_in untagged) one.seen_as in (
       n,
       ports,
       vlan.untagged,

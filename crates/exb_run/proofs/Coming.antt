@@ -1,5 +1,5 @@
 -- What comes of captures that can be played.
-use Rattle.std.proofs.Common.{◌≡◌, take, sum_by, ℕ, zero, suc, add-one, ◌+◌, ◌<◌, Bool, true, false, cond, List, [], ◌∷◌, ◌++◌, length, map, flat_map, All, get_or, max, nat_lt, ap, sym, subst, ◌∙◌, arith}
+use Rattle.std.proofs.Common.{◌≡◌, take, sum_by, ℕ, suc, ◌+◌, ◌<◌, Bool, true, false, cond, List, [], ◌∷◌, ◌++◌, length, map, flat_map, All, get_or, max, nat_lt, ap, sym, subst, ◌∙◌, arith}
 use Rattle.std.specs.Prelude.{Result, Ok, Err, IfOk, OnOk, is_err}
 use mathlib.Core.List.{map-append}
 use Rattle.std.proofs.lemmas.List.{take_more}

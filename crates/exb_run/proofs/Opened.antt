@@ -1,5 +1,5 @@
 -- The world after its opening.
-use Rattle.std.proofs.Common.{◌≡◌, ◌*◌, ℕ, ◌+◌, true, List, [], ◌∷◌, ◌++◌, ◌≤◌, ◌<◌, Bool, false, map, nat_lt, length, drop, All, ap, sym, refl, ◌∙◌, arith}
+use Rattle.std.proofs.Common.{◌≡◌, ◌*◌, ℕ, ◌+◌, true, List, [], ◌∷◌, ◌++◌, ◌<◌, Bool, false, map, nat_lt, length, drop, All, ap, sym, refl, ◌∙◌, arith}
 use Rattle.std.specs.List.{range_with_len}
 use Rattle.exb_model.specs.declared.setup.Setup.{Setup}
 use Rattle.exb_model.specs.declared.event.Event.{Event}
@@ -14,9 +14,9 @@ use Rattle.exb_model.specs.EagerHistory.{opening}
 use Rattle.exb_model.specs.Tree.{Shape, is_external}
 use Rattle.exb_model.specs.Texts.{Counts, capture_text, journal_text, counts, with_left}
 use Rattle.exb_text.specs.Tallies.{nothing_counted}
-use Rattle.exb_world.specs.Setups.{IsFirst, is_port_of}
+use Rattle.exb_world.specs.Setups.{is_port_of}
 use Rattle.exb_world.specs.Opening.{OpeningRaises, ExternalsOfFirst}
-use Rattle.exb_world.specs.Worlds.{Stands, first_number, first_ports, left_at}
+use Rattle.exb_world.specs.Worlds.{Stands, first_ports, left_at}
 use Rattle.exb_run.specs.declared.plan.Plan.{Plan}
 use Rattle.exb_run.specs.Plans.{IsInRange, IsOf}
 use Rattle.exb_run.specs.Writing.{first_text, lines_of, with_more, with_left_frames}

@@ -1,5 +1,5 @@
 -- Which setups a world can be made of today.
-use Rattle.std.proofs.Common.{rules, Bool, IsTrue, ◌≡◌, ◌==◌, ◌&&◌, ◌≤◌, ◌∷◌, ℕ, List, [], true, false, length, get_or, arith, ap, sym, subst, ◌∙◌, refl}
+use Rattle.std.proofs.Common.{rules, Bool, IsTrue, ◌≡◌, ◌==◌, ◌&&◌, ◌∷◌, ℕ, List, [], true, false, length, get_or, arith, ap, sym, subst, ◌∙◌, refl}
 use Rattle.std.proofs.lemmas.Bool.{and_parts, eqb-true}
 use Rattle.exb_model.specs.Ports.{port_in}
 use Rattle.exb_model.specs.Setup.{IsValid, InRange}
@@ -9,7 +9,7 @@ use Rattle.exb_model.specs.declared.command.Command.TheVariants as command
 use Rattle.exb_model.specs.declared.setup.ExtenderSetup.{ExtenderSetup}
 use Rattle.exb_model.specs.declared.setup.Place.TheVariants as place
 use Rattle.exb_model.specs.declared.setup.Setup.{Setup}
-use Rattle.exb_world.specs.Setups.{IsFirst, IsFirstSetup, is_port_of}
+use Rattle.exb_world.specs.Setups.{IsFirst, is_port_of}
 use Rattle.exb_run.specs.Plans.{PutsAll}
 
 pub single : {X : Type 0} (xs : List X) (x : X) → length xs ≡ 1 → x ≡ get_or xs 0 x → xs ≡ x ∷ []
@@ -33,8 +33,7 @@ first_from s e c valid extenders start on is puts =
     let second = and_parts (s.ports == 1 && s.channels == 4094) (s.groups == 12288) third.0 in
     let first = and_parts (s.ports == 1) (s.channels == 4094) second.0 in
     let range : InRange e = subst (λ (es : List ExtenderSetup). InRange (get_or es 0 e)) extenders
-    (valid.ranges 0 e (let one : length s.extenders ≡ 1 = ap length extenders in omega arith)) in
-    (
+    (valid.ranges 0 e (let one : length s.extenders ≡ 1 = ap length extenders in omega arith)) in (
       e.number,
       e.ports,
       puts.untagged,

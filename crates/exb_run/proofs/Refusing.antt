@@ -1,17 +1,16 @@
 -- What is known of a topology file that is read, and of one that is not.
-use Rattle.std.proofs.Common.{◌≡◌, ◌<◌, ◌+◌, ℕ, zero, suc, Bool, true, false, List, [], ◌∷◌, Result, Ok, Err, All, take, length, refl, ap, sym, subst, ◌∙◌, arith}
+use Rattle.std.proofs.Common.{◌≡◌, ◌<◌, ◌+◌, ℕ, zero, suc, Bool, true, false, List, [], ◌∷◌, Result, Ok, Err, All, take, length, refl, sym, subst, arith}
 use Rattle.std.specs.Prelude.{not, if◌then◌else◌}
 use Rattle.std.proofs.lemmas.Bool.{lt-ltb}
 use Rattle.exb_model.specs.Tree.{Shape, is_external}
 use Rattle.exb_model.specs.Setup.{shape_of}
-use Rattle.exb_model.specs.declared.setup.ExtenderSetup.{ExtenderSetup}
 use Rattle.exb_keys.specs.Faults.{Refusal, large, ◌>>=◌}
 use Rattle.exb_keys.specs.Documents.{document}
 use Rattle.exb_tables.specs.Tables.{tables_of}
 use Rattle.exb_tables.specs.declared.rows.Named.{Named}
 use Rattle.exb_tables.specs.declared.tables.Tables.{Tables}
 use Rattle.exb_topology.specs.declared.topology.Topology.{Topology}
-use Rattle.exb_topology.specs.Each.{each_ok, refuse}
+use Rattle.exb_topology.specs.Each.{each_ok}
 use Rattle.exb_topology.specs.Trees.{tree_ok}
 use Rattle.exb_topology.specs.Checks.{ports_ok, port_table_ok, vlans_ok, static_ok, command_ok, capture_ok, file_ok, output_names}
 use Rattle.exb_topology.specs.Topologies.{TopologySeen, topology_view, topology_of, topology_seen, resolved, bare}

@@ -1,6 +1,6 @@
 -- The parts of a run make the whole.
 use Rattle.std.proofs.Common.{◌≡◌, ◌≢◌, ◌<◌, ◌++◌, ◌⊎◌, inl, inr, ℕ, List, Option, Some, None, Result, Ok, Err, ap, sym, ◌∙◌, refl, subst, arith}
-use Rattle.std.specs.Prelude.{String, IfOk, IfErr, OnErr, IsErrOf, string_bytes, codes}
+use Rattle.std.specs.Prelude.{String, IfOk, IfErr, IsErrOf, string_bytes, codes}
 use Rattle.std.specs.declared.alloc.Global.{Global}
 use Rattle.exb_model.specs.Setup.{shape_of}
 use Rattle.exb_model.specs.Tree.{Shape}

@@ -1,7 +1,7 @@
 -- A topology that is run: what its plan writes is what is told of its external ports.
-use Rattle.std.proofs.Common.{◌≡◌, ◌≢◌, ◌+◌, ◌-◌, ◌*◌, ◌<◌, ◌≤◌, ◌==◌, ◌⊎◌, inl, inr, ℕ, Bool, true, false, List, [], ◌∷◌, Option, Some, None, Result, Ok, Err, get_or, length, zero, suc, All, refl, ap, sym, subst, ◌∙◌, arith}
+use Rattle.std.proofs.Common.{◌≡◌, ◌≢◌, ◌+◌, ◌-◌, ◌*◌, ◌<◌, ◌≤◌, ◌==◌, ◌⊎◌, inl, inr, ℕ, Bool, true, false, List, [], ◌∷◌, Some, Result, Ok, Err, get_or, suc, All, refl, ap, sym, ◌∙◌, arith}
 use mathlib.Core.Path.{fun_ext}
-use Rattle.std.specs.Prelude.{is_some, if◌then◌else◌, String, IfOk, IfErr, OnErr, string_bytes}
+use Rattle.std.specs.Prelude.{is_some, if◌then◌else◌, String, IfOk, IfErr, OnErr}
 use Rattle.std.specs.declared.alloc.Global.{Global}
 use Rattle.std.proofs.lemmas.Bool.{cases_lt, lt-ltb, le-ltb, le-leb, leb-true, ltb-true, and_parts, eqb-true}
 use Rattle.exb_model.specs.Input.{Input, basis_of, tree_of}
@@ -10,7 +10,6 @@ use Rattle.exb_model.specs.EagerHistory.{eager}
 use Rattle.exb_model.specs.FlatBridge.{flat}
 use Rattle.exb_model.specs.Texts.{capture_text, journal_text}
 use Rattle.exb_world.specs.Setups.{is_port_of}
-use Rattle.exb_world.specs.Worlds.{first_number, first_ports}
 use Rattle.exb_shelf.specs.Files.{Files, SameFiles}
 use Rattle.exb_text.specs.Names.{capture_name, journal_name}
 use Rattle.exb_tables.specs.declared.rows.Named.{Named}
@@ -19,7 +18,6 @@ use Rattle.exb_run.specs.declared.fault.Fault.{Fault}
 use Rattle.exb_run.specs.declared.fault.Fault.TheVariants.{Write, Memory}
 use Rattle.exb_run.specs.declared.plan.Plan.{Plan}
 use Rattle.exb_run.specs.Inputs.{IsPlayable, is_named, name_of}
-use Rattle.exb_run.specs.Plans.{IsInRange, IsOf}
 use Rattle.exb_run.specs.Outputs.{OnlyOutputs, OnlyPlanned, IsPlayed, HasPlayed, output_name, output_text}
 use Rattle.exb_run.specs.Playing.{CanBePlayed}
 use Rattle.exb_run.proofs.OutputLemmas.{name_of_capture, name_of_journal}

@@ -1,5 +1,5 @@
 -- What ends a run before a file is made: there is one such fault, or none.
-use Rattle.std.proofs.Common.{◌≡◌, ◌⊎◌, inl, inr, ℕ, List, Option, Some, None, Result, Ok, Err, refl, ap, sym, subst, ◌∙◌}
+use Rattle.std.proofs.Common.{◌≡◌, inl, inr, ℕ, List, Option, Some, None, Result, Ok, Err, refl, ap, sym, subst, ◌∙◌}
 use Rattle.exb_keys.specs.Faults.{Refusal}
 use Rattle.exb_shelf.specs.Files.{Files}
 use Rattle.exb_tables.specs.declared.rows.Named.{Named}
@@ -10,10 +10,10 @@ use Rattle.exb_run.specs.declared.fault.Fault.TheVariants.{Usage, Missing, NotBu
 use Rattle.exb_run.specs.Words.{words_of}
 use Rattle.exb_run.specs.Inputs.{IsBuilt}
 use Rattle.exb_run.specs.Flaws.{FirstFlaw, AreGood}
-use Rattle.exb_run.specs.Answers.{Asks, IsReady, Stops, TopologyMissing, TopologyRefused, TopologyNotBuilt, CaptureFaulty, refused_by}
+use Rattle.exb_run.specs.Answers.{Asks, Stops, refused_by}
 use Rattle.exb_run.specs.Reading.{IsRefused}
 use Rattle.exb_run.proofs.Asking.{some_once, none_or_some, ok_or_err, asks_once, built_same, captures_same}
-use Rattle.exb_run.proofs.FlawLemmas.{first_once, first_none}
+use Rattle.exb_run.proofs.FlawLemmas.{first_none}
 
 module _ (words : List (List ℕ)) (file : Files) (fault : Fault) where
   -- the words are not accepted

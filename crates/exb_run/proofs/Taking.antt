@@ -1,14 +1,14 @@
 -- The captures of a topology give what is merged of its input.
-use Rattle.std.proofs.Common.{◌≡◌, ℕ, Bool, true, false, cond, filter, List, [], ◌∷◌, ◌++◌, map, refl, sym, ap, ◌∙◌}
+use Rattle.std.proofs.Common.{◌≡◌, ℕ, Bool, true, false, cond, filter, List, [], ◌∷◌, map, refl, sym, ap, ◌∙◌}
 use Rattle.exb_model.specs.Ports.{all_ports}
-use Rattle.exb_model.specs.Input.{Input, Coming, given_by, merge}
+use Rattle.exb_model.specs.Input.{Input, given_by, merge}
 use Rattle.exb_model.specs.declared.setup.Timed.{Timed}
 use Rattle.exb_merge.specs.Streams.{Stream, stream_of, stream_at, to_come}
 use Rattle.exb_pcap.specs.Captures.{pcap_records}
 use Rattle.exb_shelf.specs.Files.{Files}
 use Rattle.exb_topology.specs.declared.topology.Topology.{Topology}
 use Rattle.exb_run.specs.declared.captures.Capture.{Capture}
-use Rattle.exb_run.specs.Inputs.{Taken, captures_of, is_named, bytes_at, records_at, records_or_none, input_of}
+use Rattle.exb_run.specs.Inputs.{Taken, captures_of, is_named, bytes_at, records_or_none, input_of}
 use Rattle.exb_run.specs.Playing.{stream_in}
 use Rattle.exb_run.specs.Reading.{contents}
 

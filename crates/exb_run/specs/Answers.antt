@@ -1,8 +1,7 @@
 -- How a run ends: its status, and what it prints.
-use Rattle.std.specs.Prelude.{⊤, ◌≡◌, ◌≢◌, ◌<◌, ◌++◌, ◌⊎◌, ◌==◌, ◌||◌, IsTrue, ℕ, List, Option, Some, None, Result, Ok, Err, String, codes, string_bytes}
+use Rattle.std.specs.Prelude.{⊤, ◌≡◌, ◌<◌, ◌++◌, ◌⊎◌, ◌==◌, ◌||◌, IsTrue, ℕ, List, Some, None, Result, Ok, Err, String, codes, string_bytes}
 use Rattle.std.specs.declared.alloc.Global.{Global}
 use Rattle.std.specs.Fmt.{decimal}
-use Rattle.exb_model.specs.Input.{tree_of}
 use Rattle.exb_model.specs.Setup.{shape_of}
 use Rattle.exb_model.specs.Texts.{port_name}
 use Rattle.exb_keys.specs.declared.faults.KeyFault.{KeyFault}

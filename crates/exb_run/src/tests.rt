@@ -14,10 +14,12 @@ const HIGHEST_FIRST: [u8; 24] = [
 ];
 
 /// One extender with two ports, and a capture for the first.
-const TWO_PORTS: &str = "[bridge]\nports = 1\nageing = 0\n[[extender]]\nnumber = 1\non = \"b1\"\nports = 2\n[captures]\n\"x1.1\" = \"a.pcap\"\n";
+const TWO_PORTS: &str =
+    "[bridge]\nports = 1\nageing = 0\n[[extender]]\nnumber = 1\non = \"b1\"\nports = 2\n[captures]\n\"x1.1\" = \"a.pcap\"\n";
 
 /// Extender 7 with three ports, captures for the first two, and a prefix of its own.
-const THREE_PORTS: &str = "[bridge]\nports = 1\nageing = 0\nout = \"run-\"\n[[extender]]\nnumber = 7\non = \"b1\"\nports = 3\n[captures]\n\"x7.2\" = \"b.pcap\"\n\"x7.1\" = \"a.pcap\"\n";
+const THREE_PORTS: &str =
+    "[bridge]\nports = 1\nageing = 0\nout = \"run-\"\n[[extender]]\nnumber = 7\non = \"b1\"\nports = 3\n[captures]\n\"x7.2\" = \"b.pcap\"\n\"x7.1\" = \"a.pcap\"\n";
 
 /// The words of a command line.
 fn words(alloc: Global, first: &str, second: &str) -> Result<Vec<String>, AllocError> {
@@ -27,13 +29,18 @@ fn words(alloc: Global, first: &str, second: &str) -> Result<Vec<String>, AllocE
     Ok(words)
 }
 
-/// A record of a frame of 60 bytes with this type, at that second.
-fn record(bytes: &mut Vec<u8>, second: u8, kind: [u8; 2]) -> Result<(), AllocError> {
+/// A frame of 60 bytes with this type.
+fn frame_of(kind: [u8; 2]) -> [u8; 60] {
     let mut frame = [0xAAu8; 60];
     frame[12] = kind[0];
     frame[13] = kind[1];
+    frame
+}
+
+/// A record of such a frame, at that second.
+fn record(bytes: &mut Vec<u8>, second: u8, kind: [u8; 2]) -> Result<(), AllocError> {
     bytes.extend_from_slice(&[second, 0, 0, 0, 0, 0, 0, 0, 60, 0, 0, 0, 60, 0, 0, 0])?;
-    bytes.extend_from_slice(&frame)
+    bytes.extend_from_slice(&frame_of(kind))
 }
 
 /// A capture of one such frame.
@@ -45,12 +52,7 @@ fn capture(alloc: Global, second: u8, kind: [u8; 2]) -> Result<Vec<u8>, AllocErr
 
 /// A shelf with a topology `t.toml` and a file `a.pcap`, whose call `failing` fails (none does where it
 /// is 0).
-fn shelf_of(
-    alloc: Global,
-    failing: u64,
-    topology: &str,
-    capture: &[u8],
-) -> Result<MemShelf, Fail> {
+fn shelf_of(alloc: Global, failing: u64, topology: &str, capture: &[u8]) -> Result<MemShelf, Fail> {
     let mut shelf = MemShelf::new(alloc, &[failing])?;
     shelf.put("t.toml", topology.as_bytes())?;
     shelf.put("a.pcap", capture)?;
@@ -103,8 +105,7 @@ fn a_time_that_falls_is_raised(rt: HostRuntime) -> Result<(), Fail> {
     let mut out = MemSink::new(alloc, &[])?;
     assert_eq!(rt; run(alloc, &words, &mut shelf, &mut out), 0);
     assert!(rt; shelf.file("out-x1.2.pcap") == Some(raised.as_slice()));
-    let journal =
-        b"up x1.1\nup x1.2\nsettled\nrelay x1.1 1\nsettled\nrelay x1.1 2\nsettled\n";
+    let journal = b"up x1.1\nup x1.2\nsettled\nrelay x1.1 1\nsettled\nrelay x1.1 2\nsettled\n";
     assert!(rt; shelf.file("out-journal.txt") == Some(journal.as_slice()));
     Ok(())
 }
@@ -116,7 +117,7 @@ fn nanoseconds_in_the_other_byte_order_are_read(rt: HostRuntime) -> Result<(), F
     let frame = capture(alloc, 100, [0x08, 0x00])?;
     let mut other = HIGHEST_FIRST.to_vec(alloc)?;
     other.extend_from_slice(&[0, 0, 0, 100, 0, 0, 3, 0xE7, 0, 0, 0, 60, 0, 0, 0, 60])?;
-    other.extend_from_slice(&frame[40..])?;
+    other.extend_from_slice(&frame_of([0x08, 0x00]))?;
     let mut shelf = shelf_of(alloc, 0, TWO_PORTS, &other)?;
     let mut out = MemSink::new(alloc, &[])?;
     assert_eq!(rt; run(alloc, &words, &mut shelf, &mut out), 0);
@@ -125,9 +126,7 @@ fn nanoseconds_in_the_other_byte_order_are_read(rt: HostRuntime) -> Result<(), F
 }
 
 #[test]
-fn the_extender_has_its_number_and_a_port_may_have_no_capture(
-    rt: HostRuntime,
-) -> Result<(), Fail> {
+fn the_extender_has_its_number_and_a_port_may_have_no_capture(rt: HostRuntime) -> Result<(), Fail> {
     let alloc = rt.alloc();
     let words = words(alloc, "run", "t.toml")?;
     let first = capture(alloc, 100, [0x08, 0x00])?;
@@ -149,7 +148,8 @@ fn the_extender_has_its_number_and_a_port_may_have_no_capture(
 fn two_ports_may_have_one_capture(rt: HostRuntime) -> Result<(), Fail> {
     let alloc = rt.alloc();
     let words = words(alloc, "run", "t.toml")?;
-    let topology = "bridge = { ports = 1, ageing = 0 }\nextender = [{ number = 1, on = \"b1\", ports = 2 }]\ncaptures = { \"x1.1\" = \"a.pcap\", \"x1.2\" = \"a.pcap\" }\n";
+    let topology =
+        "bridge = { ports = 1, ageing = 0 }\nextender = [{ number = 1, on = \"b1\", ports = 2 }]\ncaptures = { \"x1.1\" = \"a.pcap\", \"x1.2\" = \"a.pcap\" }\n";
     let frame = capture(alloc, 100, [0x08, 0x00])?;
     let mut shelf = shelf_of(alloc, 0, topology, &frame)?;
     let mut out = MemSink::new(alloc, &[])?;
@@ -163,7 +163,8 @@ fn two_ports_may_have_one_capture(rt: HostRuntime) -> Result<(), Fail> {
 fn an_output_may_take_the_place_of_the_topology(rt: HostRuntime) -> Result<(), Fail> {
     let alloc = rt.alloc();
     let words = words(alloc, "run", "journal.txt")?;
-    let topology = "bridge = { ports = 1, ageing = 0, out = \"\" }\nextender = [{ number = 1, on = \"b1\", ports = 1 }]\n";
+    let topology =
+        "bridge = { ports = 1, ageing = 0, out = \"\" }\nextender = [{ number = 1, on = \"b1\", ports = 1 }]\n";
     let mut shelf = MemShelf::new(alloc, &[])?;
     shelf.put("journal.txt", topology.as_bytes())?;
     let mut out = MemSink::new(alloc, &[])?;
@@ -184,10 +185,20 @@ fn other_words_are_refused(rt: HostRuntime) -> Result<(), Fail> {
     let mut more = words(alloc, "run", "t.toml")?;
     more.push(String::from_str(alloc, "t.toml")?)?;
     assert_eq!(rt; run(alloc, &more, &mut shelf, &mut out), 2);
-    for (first, second) in [("walk", "t.toml"), ("run", ""), ("run", "-"), ("run", "--trace")] {
-        assert_eq!(rt; run(alloc, &words(alloc, first, second)?, &mut shelf, &mut out), 2);
+    for (first, second) in [
+        ("walk", "t.toml"),
+        ("run", ""),
+        ("run", "-"),
+        ("run", "--trace"),
+    ] {
+        assert_eq!(rt;
+            run(alloc, &words(alloc, first, second)?, &mut shelf, &mut out),
+            2
+        );
     }
-    assert!(rt; out.text().starts_with(b"exbr: usage: exbr run TOPOLOGY\nexbr: usage: exbr run TOPOLOGY\n"));
+    assert!(rt;
+        out.text().starts_with(b"exbr: usage: exbr run TOPOLOGY\nexbr: usage: exbr run TOPOLOGY\n")
+    );
     assert!(rt; shelf.file("out-journal.txt").is_none());
     Ok(())
 }
@@ -251,14 +262,14 @@ fn a_topology_in_a_form_that_is_not_built_leaves_no_file(rt: HostRuntime) -> Res
 fn a_vlan_table_that_says_what_holds_anyway_is_played(rt: HostRuntime) -> Result<(), Fail> {
     let alloc = rt.alloc();
     let words = words(alloc, "run", "t.toml")?;
-    let topology = "bridge = { ports = 1, ageing = 0 }\nextender = [{ number = 1, on = \"b1\", ports = 2 }]\nvlan = [{ vid = 1, untagged = [\"*\"] }]\n";
+    let topology =
+        "bridge = { ports = 1, ageing = 0 }\nextender = [{ number = 1, on = \"b1\", ports = 2 }]\nvlan = [{ vid = 1, untagged = [\"*\"] }]\n";
     let mut shelf = shelf_of(alloc, 0, topology, &HEADER)?;
     let mut out = MemSink::new(alloc, &[])?;
     assert_eq!(rt; run(alloc, &words, &mut shelf, &mut out), 0);
     Ok(())
 }
 
-/// Ways to break the capture of one frame at a byte.
 #[test]
 fn a_hostile_capture_is_refused_with_its_place(rt: HostRuntime) -> Result<(), Fail> {
     let alloc = rt.alloc();
@@ -292,21 +303,11 @@ fn a_hostile_capture_is_refused_with_its_place(rt: HostRuntime) -> Result<(), Fa
 }
 
 #[test]
-fn a_capture_of_too_many_bytes_is_large(rt: HostRuntime) -> Result<(), Fail> {
-    let alloc = rt.alloc();
-    let words = words(alloc, "run", "t.toml")?;
-    let mut shelf = shelf_of(alloc, 0, TWO_PORTS, &vec![in alloc; 0u8; 67_108_865]?)?;
-    let mut out = MemSink::new(alloc, &[])?;
-    assert_eq!(rt; run(alloc, &words, &mut shelf, &mut out), 4);
-    assert!(rt; out.text() == b"exbr: capture x1.1: Large 67108864\n".as_slice());
-    Ok(())
-}
-
-#[test]
 fn a_topology_that_names_itself_as_a_capture_is_no_capture(rt: HostRuntime) -> Result<(), Fail> {
     let alloc = rt.alloc();
     let words = words(alloc, "run", "t.toml")?;
-    let topology = "bridge = { ports = 1, ageing = 0 }\nextender = [{ number = 1, on = \"b1\", ports = 2 }]\ncaptures = { \"x1.2\" = \"t.toml\" }\n";
+    let topology =
+        "bridge = { ports = 1, ageing = 0 }\nextender = [{ number = 1, on = \"b1\", ports = 2 }]\ncaptures = { \"x1.2\" = \"t.toml\" }\n";
     let mut shelf = shelf_of(alloc, 0, topology, &HEADER)?;
     let mut out = MemSink::new(alloc, &[])?;
     assert_eq!(rt; run(alloc, &words, &mut shelf, &mut out), 4);
@@ -331,7 +332,9 @@ fn the_first_capture_in_port_order_with_a_fault_decides(rt: HostRuntime) -> Resu
     shelf.put("b.pcap", &HEADER)?;
     assert_eq!(rt; run(alloc, &words, &mut shelf, &mut out), 0);
     assert!(rt;
-        out.text().starts_with(b"exbr: missing t.toml\nexbr: missing a.pcap\nexbr: not built\nexbr: capture x7.2: Cut at 0\narrivals 0 ")
+        out.text().starts_with(
+            b"exbr: missing t.toml\nexbr: missing a.pcap\nexbr: not built\nexbr: capture x7.2: Cut at 0\narrivals 0 "
+        )
     );
     Ok(())
 }

@@ -1,4 +1,4 @@
-use Rattle.std.proofs.Common.{◌≡◌, ◌∙◌, Some, ℕ, List, Option, ap, sym, inl, arith}
+use Rattle.std.proofs.Common.{◌∙◌, ℕ, List, Option, ap, sym, inl}
 use Rattle.exb_run.specs.Flaws.{flaw_of, flaw_of_bytes}
 use Rattle.exb_run.proofs.FlawLemmas.{bytes_cause, bytes_not_missing, bytes_not_read, err_same}
 use Rattle.exb_run.proofs.captures.read_capture.Goals as goal

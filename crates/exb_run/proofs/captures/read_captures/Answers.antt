@@ -1,10 +1,9 @@
-use Rattle.std.proofs.Common.{rules, ◌≡◌, ◌≤◌, ◌<◌, ◌+◌, ◌++◌, ◌∷◌, [], ◌∙◌, ◌⊎◌, inl, inr, ℕ, List, Some, None, true, length, sum_by, ap, sym, subst, arith, below_more, refl}
+use Rattle.std.proofs.Common.{rules, ◌≡◌, ◌+◌, ◌++◌, ◌∷◌, [], ◌∙◌, inl, inr, ℕ, List, Some, None, true, length, sum_by, ap, sym, arith, below_more, refl}
 use Rattle.std.proofs.lemmas.List.Sums.{sum_by_push}
-use Rattle.exb_model.specs.Ports.{below}
 use Rattle.exb_pcap.specs.Captures.{pcap_records}
 use Rattle.exb_run.specs.declared.captures.Capture.{Capture}
-use Rattle.exb_run.specs.Inputs.{IsPlayable, name_of, is_named, bytes_at, captures_of}
-use Rattle.exb_run.specs.Flaws.{flaw_of, flaw_of_bytes, flaw_at, size_below}
+use Rattle.exb_run.specs.Inputs.{IsPlayable, name_of, is_named}
+use Rattle.exb_run.specs.Flaws.{flaw_of, flaw_of_bytes, size_below}
 use Rattle.exb_run.proofs.FlawLemmas.{IsGood, no_flaw, flaw_nowhere, size_nowhere, flaw_here, size_here, bytes_here, contents_none, contents_same, contents_more, is_named_by, all_more}
 use Rattle.exb_run.proofs.captures.read_captures.Goals as goal
 

@@ -1,4 +1,4 @@
-use Rattle.std.proofs.Common.{rules, ◌≡◌, ◌<◌, ◌++◌, ◌∷◌, [], List, length, map, take, ap, sym, subst, ◌∙◌, arith}
+use Rattle.std.proofs.Common.{rules, ◌<◌, ◌++◌, ◌∷◌, [], List, length, map, take, ap, sym, subst, ◌∙◌, arith}
 use Rattle.exb_merge.specs.Streams.{Stream, stream_of}
 use Rattle.exb_pcap.specs.Captures.{pcap_records}
 use Rattle.exb_run.specs.declared.captures.Capture.{Capture}

@@ -1,16 +1,16 @@
-use Rattle.std.proofs.Common.{◌≡◌, None, ℕ, List, map, ap, sym, subst, ◌∙◌}
+use Rattle.std.proofs.Common.{◌≡◌, None, ℕ, List, ap, sym, subst, ◌∙◌}
 use Rattle.exb_model.specs.History.{History}
-use Rattle.exb_model.specs.Input.{Input, Coming, basis_of, tree_of, bounds_of, merge}
+use Rattle.exb_model.specs.Input.{Coming, basis_of, tree_of, bounds_of, merge}
 use Rattle.exb_model.specs.declared.setup.Setup.{Setup}
 use Rattle.exb_model.specs.EagerHistory.{opening, eagerly, eager}
 use Rattle.exb_model.specs.Tree.{is_external}
 use Rattle.exb_model.specs.Texts.{summary_line}
 use Rattle.exb_merge.specs.Streams.{Stream, to_come}
 use Rattle.exb_text.specs.Tallies.{counts_of}
-use Rattle.exb_world.specs.Setups.{IsFirst, is_port_of}
+use Rattle.exb_world.specs.Setups.{is_port_of}
 use Rattle.exb_world.specs.Worlds.{first_ports}
 use Rattle.exb_run.specs.Plans.{IsOf}
-use Rattle.exb_run.specs.Playing.{CanCome, IsWritten, segments_after, text_after, stream_in}
+use Rattle.exb_run.specs.Playing.{CanCome, IsWritten, segments_after, text_after}
 use Rattle.exb_run.proofs.Coming.{all_come, if_ok_both}
 use Rattle.exb_run.proofs.Segmenting.{eager_is}
 use Rattle.exb_run.proofs.Turned.{when_ok}

@@ -1,6 +1,6 @@
 use Rattle.std.proofs.Common.{◌≡◌, ◌≢◌, ◌++◌, ◌∙◌, inl, inr, ℕ, List, Err, sym, ap, arith}
-use Rattle.exb_run.specs.Answers.{status_of, fault_status, line_of}
-use Rattle.exb_run.proofs.RunLemmas.{is_usage, is_read, is_missing, is_not_built, write_or_not, stop_not_one, stop_not_six, stop_not_seven, stops_with, fault_says, usage_line, read_line, write_line, not_built_line, front_by, ready_not, status_cases, Outcome}
+use Rattle.exb_run.specs.Answers.{status_of, line_of}
+use Rattle.exb_run.proofs.RunLemmas.{is_usage, is_read, is_not_built, write_or_not, stop_not_one, stop_not_six, stop_not_seven, stops_with, fault_says, usage_line, read_line, write_line, not_built_line, front_by, ready_not, status_cases, Outcome}
 use Rattle.exb_run.proofs.top.run.Goals as goal
 
 pub returns-clause-three : goal.returns-clause-three

@@ -5,14 +5,13 @@ use Rattle.exb_model.specs.Input.{Input, tree_of, merge}
 use Rattle.exb_model.specs.Setup.{shape_of}
 use Rattle.exb_model.specs.Tree.{is_external}
 use Rattle.exb_merge.specs.Streams.{to_come}
-use Rattle.exb_pcap.specs.Captures.{pcap_records}
 use Rattle.exb_world.specs.Setups.{is_port_of}
 use Rattle.exb_world.specs.Worlds.{first_ports}
 use Rattle.exb_shelf.specs.Files.{Files}
 use Rattle.exb_tables.specs.declared.rows.Named.{Named}
 use Rattle.exb_run.specs.declared.captures.Capture.{Capture}
 use Rattle.exb_run.specs.Inputs.{input_of, captures_of}
-use Rattle.exb_run.specs.Outputs.{IsPlayed, HasPlayed, OnlyPlanned, OnlyOutputs}
+use Rattle.exb_run.specs.Outputs.{HasPlayed, OnlyPlanned}
 use Rattle.exb_run.specs.Playing.{CanBePlayed, stream_in}
 use Rattle.exb_run.specs.Reading.{contents}
 use Rattle.exb_run.proofs.Running.{files_same, only_by, played_by, can_be_played, if_ok_map}

@@ -1,6 +1,5 @@
-use Rattle.std.proofs.Common.{◌≡◌, ℕ, List, map}
+use Rattle.std.proofs.Common.{map}
 use Rattle.std.specs.Prelude.{string_bytes}
-use Rattle.exb_shelf.specs.Files.{Files}
 use Rattle.exb_run.specs.Inputs.{IsBuilt}
 use Rattle.exb_run.specs.Answers.{Asks}
 use Rattle.exb_run.proofs.PlanLemmas.{is_true, not_true}
