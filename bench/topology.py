@@ -1,0 +1,50 @@
+#!/usr/bin/env python3
+"""Measures how long exbr takes to read topology files, and how much memory: one at the limits of the format, and one of
+many small tables. Both ask for what isn't built yet or are refused, so nothing is played: the time is that of reading.
+
+    bench/topology.py            (in a folder for its files; the program is built before where that is needed)
+"""
+import os
+import resource
+import subprocess
+import sys
+import time
+
+TOP = os.path.dirname(os.path.dirname(os.path.abspath(__file__)))
+
+
+def at_the_limits():
+    """64 extenders of 64 ports in a chain of four each, 4,094 VLANs by ranges, and 65,536 commands."""
+    lines = ["[bridge]", "ports = 64"]
+    for number in range(1, 65):
+        on = f"b{number}" if number <= 16 else f"x{number - 16}.64"
+        lines += ["[[extender]]", f"number = {number}", f'on = "{on}"', "ports = 64"]
+    lines += ["[[vlan]]", "vid = 1", "last = 2000", 'untagged = ["*"]']
+    lines += ["[[vlan]]", "vid = 2001", "last = 4094", 'tagged = ["x64.*", "b17-64"]']
+    for number in range(65536):
+        lines += ["[[command]]", f"at = {number}", 'op = "up"', 'port = "x64.1"']
+    return "\n".join(lines) + "\n"
+
+
+def hostile():
+    """Millions of small tables, up to 16 MB."""
+    lines = ["[bridge]", "ports = 1"]
+    lines += ["[[port]]"] * ((16_777_216 - 100) // 9)
+    return "\n".join(lines) + "\n"
+
+
+def measure(name, text):
+    with open(name, "w", encoding="utf-8") as file:
+        file.write(text)
+    before = time.monotonic()
+    ran = subprocess.run([f"{TOP}/exbr", "run", name], capture_output=True, text=True, check=False)
+    seconds = time.monotonic() - before
+    peak = resource.getrusage(resource.RUSAGE_CHILDREN).ru_maxrss // 1024
+    print(f"{name}: {len(text)} bytes, status {ran.returncode} ({ran.stdout.strip()}), {seconds:.2f} s, peak so far {peak} MB")
+
+
+if __name__ == "__main__":
+    subprocess.run([f"{TOP}/exbr"], capture_output=True, check=False)
+    measure("limits.toml", at_the_limits())
+    if "--hostile" in sys.argv:
+        measure("hostile.toml", hostile())
