@@ -374,21 +374,20 @@ fn whichever_call_of_the_shelf_fails_each_file_holds_a_front_of_its_text(
     let mut whole = shelf_of(alloc, 0, TWO_PORTS, &frame)?;
     let mut out = MemSink::new(alloc, &[])?;
     assert_eq!(rt; run(alloc, &words, &mut whole, &mut out), 0);
-    let mut reads = 0u64;
-    let mut writes = 0u64;
+    let mut read_failed = false;
+    let mut write_failed = false;
     for failing in 1..64u64 {
         let mut shelf = shelf_of(alloc, failing, TWO_PORTS, &frame)?;
         let mut out = MemSink::new(alloc, &[])?;
         match run(alloc, &words, &mut shelf, &mut out) {
             0 => {
-                assert_eq!(rt; failing, reads + writes + 1);
-                assert!(rt; reads >= 4 && writes >= 6);
+                assert!(rt; failing > 10 && read_failed && write_failed);
                 return Ok(());
             }
-            6 => reads += 1,
+            6 => read_failed = true,
             status => {
                 assert_eq!(rt; status, 7);
-                writes += 1;
+                write_failed = true;
             }
         }
         for name in OUTPUTS {

@@ -62,7 +62,11 @@ fn capture(alloc: Global, rng: &mut Lcg64Xsh32, port: u8) -> Result<Vec<u8>, NoM
         let second = u64::from(100 + draw(rng, 5));
         let moment = second * NANOSECONDS + u64::from(draw(rng, 1_000_000_000));
         let frame = frame(alloc, rng, port)?;
-        file.extend_from_slice(&record_text(moment, frame.len() as u32))?;
+        // (no frame of a trial is that long)
+        let Ok(length) = u32::try_from(frame.len()) else {
+            return Err(NoMemory);
+        };
+        file.extend_from_slice(&record_text(moment, length))?;
         file.extend_from_slice(frame.as_slice())?;
     }
     Ok(file)
