@@ -1,10 +1,11 @@
 //! Runs of generated inputs beside the plain bridge.
-ghost use Rattle.std.specs.Prelude.{◌≤◌, ◌≡◌, length};
+ghost use Rattle.std.specs.Prelude.{◌≤◌, ◌≡◌, length, ◌<◌};
 
 use crate::trial::Trial;
 use exb_flat_run::merge::Capture;
 use exb_flat_run::outcome::{Outcome, flat_outcome};
 use exb_model::port::PortId;
+use exb_pcap::{header_text, record_text};
 use exb_run::run;
 use exb_shelf::{MemShelf, MemSink};
 use exb_text::{capture_file_name, journal_file_name};
@@ -119,4 +120,28 @@ fn a_second_dozen_of_runs_write_what_the_plain_bridge_sends(rt: HostRuntime) -> 
 #[test]
 fn a_third_dozen_of_runs_write_what_the_plain_bridge_sends(rt: HostRuntime) -> Result<(), Fail> {
     expect_trials(&rt, rt.alloc(), 24, 36)
+}
+
+/// A capture of one broadcast of 60 bytes, at that second.
+fn broadcast_at(alloc: Global, second: u64) -> Result<Vec<u8>, Fail>
+    requires { second < 1000 }
+{
+    let mut file = header_text().to_vec(alloc)?;
+    file.extend_from_slice(&record_text(second * 1_000_000_000, 60))?;
+    file.extend_from_slice(&[0xFF; 60])?;
+    Ok(file)
+}
+
+#[test]
+fn a_tick_stands_between_frames_of_different_seconds(rt: HostRuntime) -> Result<(), Fail> {
+    let alloc = rt.alloc();
+    let mut captures = Vec::new(alloc);
+    captures.push(broadcast_at(alloc, 100)?)?;
+    captures.push(broadcast_at(alloc, 103)?)?;
+    let want = plain(alloc, &Trial { ports: 2, captures })?;
+    assert!(rt;
+        want.journal.as_str()
+            == "up x1.1\nup x1.2\nsettled\nrelay x1.1 1\nsettled\ntick 3\nrelay x1.2 1\nsettled\n"
+    );
+    Ok(())
 }
