@@ -36,21 +36,39 @@ fn topology_of(alloc: Global, ports: u8) -> Result<String, Fail>
     Ok(text)
 }
 
+/// The capture of a port, empty where the trial has no such port.
+fn file_at(trial: &Trial, at: usize) -> &[u8] {
+    match trial.captures.get(at) {
+        Some(file) => file.as_slice(),
+        None => &[],
+    }
+}
+
 /// What the plain bridge makes of a trial.
 fn plain(alloc: Global, trial: &Trial) -> Result<Outcome, Fail>
     requires few { trial.now.ports ≤ 4 }
-    requires captures { length trial.now.captures.items ≡ trial.now.ports }
 {
     let text = topology_of(alloc, trial.ports)?;
     let topology = read(alloc, text.as_bytes())?;
-    let mut captures = Vec::new(alloc);
-    for at in 0..trial.ports {
-        captures.push(Capture {
-            port: port_at(at),
-            file: trial.captures[at as usize].as_slice(),
-        })?;
-    }
-    Ok(flat_outcome(alloc, &topology.setup, &[], captures.as_slice())?)
+    let captures = [
+        Capture {
+            port: port_at(0),
+            file: file_at(trial, 0),
+        },
+        Capture {
+            port: port_at(1),
+            file: file_at(trial, 1),
+        },
+        Capture {
+            port: port_at(2),
+            file: file_at(trial, 2),
+        },
+        Capture {
+            port: port_at(3),
+            file: file_at(trial, 3),
+        },
+    ];
+    Ok(flat_outcome(alloc, &topology.setup, &[], &captures)?)
 }
 
 /// A shelf with the topology and the captures of a trial.
