@@ -10,7 +10,7 @@ use exb_model::port::PortId;
 use exb_model::port_set::PortSet;
 use exb_model::tree::Tree;
 use exb_model::vlan::Vid;
-use exb_plan::{SetAt, sets};
+use exb_rows::{SetAt, sets};
 use std::alloc::Global;
 use std::process::Abort;
 use std::test::Fail;

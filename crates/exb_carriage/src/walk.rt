@@ -8,7 +8,7 @@ use exb_model::port::PortId;
 use exb_model::port_set::PortSet;
 use exb_model::role::Role;
 use exb_model::tree::Tree;
-use exb_plan::{Row, rows};
+use exb_rows::{Row, rows};
 use std::alloc::Global;
 use std::process::Abort;
 use std::test::Fail;
