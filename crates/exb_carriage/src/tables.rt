@@ -52,12 +52,8 @@ fn no_channels(alloc: Global, count: usize) -> Result<Vec<u16>, NoMemory>
 fn has(rows: &[Members], ecid: u16, port: PortId) -> bool
     ensures { result ≡ has rows.now ecid port }
 {
-    for members in rows {
-        if members.ecid == ecid && members.ports.contains(port) {
-            return true;
-        }
-    }
-    false
+    rows.iter()
+        .any(|members| members.ecid == ecid && members.ports.contains(port))
 }
 
 impl PlainTables {

@@ -160,7 +160,7 @@ fn an_ingress_number_leaves_out_its_port_and_no_cascade_port(rt: HostRuntime) ->
     let deep = tables.channel(port(1, 2));
     let out = leaves(&rt, rt.alloc(), &tree, &tables, 3, &word(deep, GROUP))?;
     assert!(rt; out.is_same(&set_of(&[port(3, 1), port(1, 1)])));
-    // A port that isn't of the set, or of another bridge port's space.
+    // The port of this channel isn't of the set.
     let other = tables.channel(port(3, 3));
     let out = leaves(&rt, rt.alloc(), &tree, &tables, 3, &word(other, GROUP))?;
     assert!(rt; out.is_same(&set));
@@ -171,7 +171,7 @@ fn an_ingress_number_leaves_out_its_port_and_no_cascade_port(rt: HostRuntime) ->
 }
 
 #[test]
-fn a_control_word_leaves_the_cascade_port_without_its_e_tag(rt: HostRuntime) -> Result<(), Fail> {
+fn a_word_of_a_cascade_port_leaves_it_without_its_e_tag(rt: HostRuntime) -> Result<(), Fail> {
     let tree = crooked(rt.alloc())?;
     let mut tables = created(rt.alloc(), &tree)?;
     let cascade = port(3, 2);
@@ -179,9 +179,9 @@ fn a_control_word_leaves_the_cascade_port_without_its_e_tag(rt: HostRuntime) -> 
     lay(rt.alloc(), &tree, &mut tables, channel, &set_of(&[cascade]))?;
     let left = carry(rt.alloc(), &tree, &tables, 3, &word(0, channel))?;
     assert_eq!(rt; left.len(), 1);
-    for control in left.iter() {
-        assert_eq!(rt; control.port, cascade);
-        assert_eq!(rt; control.bytes.as_slice(), frame().as_slice());
+    for word in left.iter() {
+        assert_eq!(rt; word.port, cascade);
+        assert_eq!(rt; word.bytes.as_slice(), frame().as_slice());
     }
     Ok(())
 }
