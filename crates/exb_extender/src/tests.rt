@@ -405,14 +405,27 @@ fn frames_with_an_e_tag_from_each_side(rt: HostRuntime) {
     goes(&rt, &mut fixture, &group, &by_channel, &[], &others);
     let unlaid = with_etag([0x89, 0x3F, 0xB0, 0x03, 0x10, 0x02, 0, 0]);
     goes(&rt, &mut fixture, &unlaid, &by_channel, &[], &[]);
-    // The type alone, with an extension byte or cut, is a station's own matter.
+    // Behind the destination of control frames no station gets in; from upstream it is for an extender below.
+    let control = control_with_etag([0x89, 0x3F, 0, 0, 0, 9, 0, 0]);
+    goes(&rt, &mut fixture, &control, &[], &as_is, &port_3);
+}
+
+// The same as `with_etag` behind the destination of control frames.
+fn control_with_etag(etag: [u8; 8]) -> [u8; 60] {
+    let mut frame = with_etag(etag);
+    frame[..6].copy_from_slice(&[0x01, 0x80, 0xC2, 0, 0, 0x0E]);
+    frame
+}
+
+#[test]
+fn the_type_of_an_e_tag_alone_is_a_stations_own_matter(rt: HostRuntime) {
+    let mut fixture = laid(&rt, rt.alloc());
+    let by_channel = [up(Form::Tagged { channel: 1 })];
+    // With an extension byte that is not 0, and cut within the E-TAG.
     let extended = with_etag([0x89, 0x3F, 0, 0, 0, 1, 0, 1]);
     goes(&rt, &mut fixture, &extended, &by_channel, &[], &[]);
-    goes(&rt, &mut fixture, &group[..19], &by_channel, &[], &[]);
-    // Behind the destination of control frames no station gets in; from upstream it is for an extender below.
-    let mut control = deeper;
-    control[..6].copy_from_slice(&[0x01, 0x80, 0xC2, 0, 0, 0x0E]);
-    goes(&rt, &mut fixture, &control, &[], &as_is, &port_3);
+    let whole = with_etag([0x89, 0x3F, 0, 0, 0, 1, 0, 0]);
+    goes(&rt, &mut fixture, &whole[..19], &by_channel, &[], &[]);
 }
 
 #[test]
@@ -456,9 +469,17 @@ fn a_frame_goes_up_behind_the_e_tag_of_its_channel(rt: HostRuntime) {
         ecid: 1,
     };
     let _ = exb_frame::etag::tag_into(&frame, &tag, &mut word);
-    assert!(rt; word.as_slice().starts_with(&DATA[..12]));
-    let behind = [0x89, 0x3F, 0, 0, 0, 1, 0, 0, 8, 0];
-    assert_eq!(rt; &word.as_slice()[12..22], behind.as_slice());
+    let wanted = data_behind([0x89, 0x3F, 0, 0, 0, 1, 0, 0]);
+    assert_eq!(rt; word.as_slice(), wanted.as_slice());
+}
+
+// The frame of `data` with these eight bytes put in behind its addresses.
+fn data_behind(etag: [u8; 8]) -> [u8; 68] {
+    let mut frame = [0; 68];
+    frame[..12].copy_from_slice(&DATA[..12]);
+    frame[12..20].copy_from_slice(&etag);
+    frame[20..22].copy_from_slice(&DATA[12..]);
+    frame
 }
 
 #[test]
