@@ -19,7 +19,7 @@ use exb_model::list::List;
 use exb_model::memory::NoMemory;
 use exb_model::port_set::PortSet;
 use exb_numbers::Spaces;
-use exb_plan::{SetAt, sets};
+use exb_rows::{SetAt, sets};
 use std::alloc::Global;
 
 /// Gives the extender's port `at` the lowest free channel, and lets it go up.
