@@ -1,1 +1,5 @@
 
+pub mod FewSets
+pub mod FewPorts
+pub mod OpeningRaises
+pub mod NextSets
