@@ -5,3 +5,7 @@ mod Singles
 mod Carried
 pub mod Leaving
 mod Frames
+mod FewSets
+mod FewPorts
+mod OpeningRaises
+mod NextSets
