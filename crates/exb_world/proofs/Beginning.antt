@@ -91,9 +91,12 @@ present_up (suc m) a b q =
         ])
 
 -- one port more
+with_up-append : (ps qs : List ℕ) (b : Bridge) → with_up b (ps ++ qs) ≡ with_up (with_up b ps) qs
+with_up-append [] qs b = refl
+with_up-append (p ∷ ps) qs b = with_up-append ps qs (after (command.Up p) b)
+
 pub with_up-more : (m a : ℕ) (b : Bridge) → with_up b (range_with_len a (m + 1)) ≡ after (command.Up (a + m)) (with_up b (range_with_len a m))
-with_up-more zero a b = ap (λ p. after (command.Up p) b) (omega arith)
-with_up-more (suc m) a b = with_up-more m (a + 1) (after (command.Up a) b) ∙ ap (λ p. after (command.Up p) (with_up b (range_with_len a (suc m)))) (omega arith)
+with_up-more m a b = rw add-one (ap (with_up b) (range-more a m) ∙ with_up-append (range_with_len a m) ((a + m) ∷ []) b)
 
 pub ups_more : (a m : ℕ) → map event.Up (range_with_len a (m + 1)) ≡ map event.Up (range_with_len a m) ++ event.Up (a + m) ∷ []
 ups_more a m = rw add-one (ap (map event.Up) (range-more a m) ∙ map-append event.Up (range_with_len a m) ((a + m) ∷ []))
@@ -299,8 +302,12 @@ module _ (s : Setup) (single : IsSingle s) (c : Controller) (u : Tables) (tree :
   none_under : (q : ℕ) → (is_under c.tree (on c.tree number) q && (bridge_of c.config).present q) ≡ false
   none_under q =
       elim (cases_lt q 64) [
-        | inl low ↦ ap (λ b. b && (bridge_of c.config).present q) (under_is c.tree number count only_here (on c.tree number) q ∙ rw (lt-leb 64 q low) refl)
-        | inr high ↦ ap (λ b. is_under c.tree (on c.tree number) q && b) (begun_present q ∙ rw (le-ltb q 64 high) refl) ∙ and_false (is_under c.tree (on c.tree number) q)
+        | inl low ↦
+            let out : is_under c.tree (on c.tree number) q ≡ false = under_is c.tree number count only_here (on c.tree number) q ∙ rw (lt-leb 64 q low) refl in
+            ap (λ b. b && (bridge_of c.config).present q) out
+        | inr high ↦
+            let absent : (bridge_of c.config).present q ≡ false = begun_present q ∙ rw (le-ltb q 64 high) refl in
+            ap (λ b. is_under c.tree (on c.tree number) q && b) absent ∙ and_false (is_under c.tree (on c.tree number) q)
       ]
 
   no_sets_here : sets_at c.tree (on c.tree number) (bridge_of c.config) ≡ []
@@ -318,3 +325,10 @@ module _ (s : Setup) (single : IsSingle s) (c : Controller) (u : Tables) (tree :
 
   pub begun_plain : IsPlain (bridge_of c.config)
   begun_plain = subst IsPlain (sym config) (plain_start s single.unrestricted)
+
+  -- the facts of a world that begins, by another name of its numbers
+  pub begun_as : (n ports : ℕ) → n ≡ number → ports ≡ count → IsRunning c u n ports
+  begun_as n ports a b = subst (λ (x : ℕ). IsRunning c u x ports) (sym a) (subst (λ (x : ℕ). IsRunning c u number x) (sym b) begun_running)
+
+  pub raised_as : (n : ℕ) → n ≡ number → AreRaised c.spaces (on c.tree n) n u 0
+  raised_as n a = subst (λ (x : ℕ). AreRaised c.spaces (on c.tree x) x u 0) (sym a) begun_raised

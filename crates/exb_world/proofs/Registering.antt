@@ -1,5 +1,5 @@
 -- The sets get their groups one by one.
-use Rattle.std.proofs.Common.{◌≡◌, ◌≢◌, ℕ, zero, suc, ◌+◌, ◌-◌, ◌*◌, ◌<◌, ◌≤◌, ◌==◌, ◌&&◌, ◌||◌, ◌++◌, Bool, true, false, not, cond, filter, List, [], ◌∷◌, length, get_or, Option, Some, None, nat_lt, eq-eqb, map, take, drop, refl, ap, sym, subst, ◌∙◌, arith, inl, inr}
+use Rattle.std.proofs.Common.{◌≡◌, ◌≢◌, ℕ, zero, suc, ◌+◌, ◌-◌, ◌*◌, ◌<◌, ◌≤◌, ◌==◌, ◌&&◌, ◌||◌, ◌++◌, Bool, true, false, not, cond, filter, List, [], ◌∷◌, length, get_or, Option, Some, None, nat_lt, eq-eqb, map, take, drop, refl, ap, sym, subst, ◌∙◌, arith, inl, inr, add-one}
 use Rattle.std.specs.Prelude.{bytes_eq}
 use Rattle.std.specs.List.{list_any, range_with_len}
 use Rattle.std.specs.Int.{bit_at}
@@ -174,23 +174,27 @@ below_split trunk (y ∷ ys) (suc i) x low is here = by_test (y.bridge_port == t
     by_test true rest = ap (λ xs. ports_of y.set ∷ xs) rest
     by_test false rest = rest
 
-pub below_more : (trunk : ℕ) (sets : List SetAt) (i : ℕ) (x : SetAt) → i < length sets → x ≡ get_or sets i x →
-    sets_below trunk (take (i + 1) sets) ≡ sets_below trunk (take i sets) ++ cond (x.bridge_port == trunk) (ports_of x.set ∷ []) []
-below_more trunk [] i x low is = absurd (omega arith)
-below_more trunk (y ∷ ys) zero x low is =
+below_suc : (trunk : ℕ) (sets : List SetAt) (i : ℕ) (x : SetAt) → i < length sets → x ≡ get_or sets i x →
+    sets_below trunk (take (suc i) sets) ≡ sets_below trunk (take i sets) ++ cond (x.bridge_port == trunk) (ports_of x.set ∷ []) []
+below_suc trunk [] i x low is = absurd (omega arith)
+below_suc trunk (y ∷ ys) zero x low is =
     ap (λ (z : SetAt). map (λ s. s.ports) (cond (z.bridge_port == trunk) (seen z ∷ []) [])) (sym is) ∙ by_test (x.bridge_port == trunk)
   where
     by_test : (b : Bool) → map (λ s. s.ports) (cond b (seen x ∷ []) []) ≡ cond b (ports_of x.set ∷ []) []
     by_test true = refl
     by_test false = refl
-below_more trunk (y ∷ ys) (suc i) x low is = by_test (y.bridge_port == trunk) (below_more trunk ys i x (omega arith) is)
+below_suc trunk (y ∷ ys) (suc i) x low is = by_test (y.bridge_port == trunk) (below_suc trunk ys i x (omega arith) is)
   where
-    by_test : (b : Bool) → sets_below trunk (take (i + 1) ys) ≡ sets_below trunk (take i ys) ++ cond (x.bridge_port == trunk) (ports_of x.set ∷ []) [] →
-        map (λ s. s.ports) (cond b (seen y ∷ filter (λ s. s.bridge_port == trunk) (map seen (take (i + 1) ys))) (filter (λ s. s.bridge_port == trunk) (map seen (take (i + 1) ys))))
+    by_test : (b : Bool) → sets_below trunk (take (suc i) ys) ≡ sets_below trunk (take i ys) ++ cond (x.bridge_port == trunk) (ports_of x.set ∷ []) [] →
+        map (λ s. s.ports) (cond b (seen y ∷ filter (λ s. s.bridge_port == trunk) (map seen (take (suc i) ys))) (filter (λ s. s.bridge_port == trunk) (map seen (take (suc i) ys))))
         ≡ map (λ s. s.ports) (cond b (seen y ∷ filter (λ s. s.bridge_port == trunk) (map seen (take i ys))) (filter (λ s. s.bridge_port == trunk) (map seen (take i ys))))
         ++ cond (x.bridge_port == trunk) (ports_of x.set ∷ []) []
     by_test true rest = ap (λ xs. ports_of y.set ∷ xs) rest
     by_test false rest = rest
+
+pub below_more : (trunk : ℕ) (sets : List SetAt) (i : ℕ) (x : SetAt) → i < length sets → x ≡ get_or sets i x →
+    sets_below trunk (take (i + 1) sets) ≡ sets_below trunk (take i sets) ++ cond (x.bridge_port == trunk) (ports_of x.set ∷ []) []
+below_more trunk sets i x low is = rw add-one (below_suc trunk sets i x low is)
 
 -- the same in other words
 pub registered_as : (s s' : Spaces) (k k' n n' : ℕ) (t t' : Tables) (ports ports' : ℕ) (l l' : List (List ℕ)) → s ≡ s' → k ≡ k' → n ≡ n' → t ≡ t' → ports ≡ ports' → l ≡ l' →

@@ -26,15 +26,3 @@ send_all-requires-clause-pcp c =
     let small = pcp_small (kind_of f) (priority_small f c.are_bytes.ensures) in
     omega (arith, said.1)
 
-pub send_all-requires-clause-sends : goal.send_all-requires-clause-sends
-send_all-requires-clause-sends c =
-    let f = c.args.recorded.now.bytes.now in
-    let p = c.args.recorded.now.port in
-    let b = bridge_of c.args.bridge.now.config in
-    let t = c.args.bridge.now.tree in
-    let m = numbers_of c.args.bridge.now.spaces in
-    let live = c.requires.live in
-    let sends = sends_of t b (look_of c.args.learned.now) m p f in
-    let words = c.sends_are_words.ensures t b (look_of c.args.learned.now) m p f live.only.tree live.ready (c.spaces_number.ensures c.args.bridge.now.spaces) live.pvids c.are_bytes.ensures
-    (and_first (b.present p) (is_relayed_kind (kind_of f)) c.requires.relayed) in
-    subst (λ (xs : List SendTo). All CanSend xs) (sym (c.as_slice.ensures.value ∙ c.relay-ingress.ensures.sends)) (can_send_all t b m p f sends words)

@@ -1,4 +1,5 @@
-use Rattle.std.proofs.Common.{◌≡◌, ℕ, suc, ◌-◌, ◌+◌, ◌++◌, ◌∷◌, [], Bool, List, cond, take, drop, refl, ap, sym, ◌∙◌}
+use Rattle.std.proofs.Common.{◌≡◌, ℕ, suc, ◌-◌, ◌+◌, ◌++◌, ◌∷◌, [], Bool, List, cond, take, drop, eq-eqb, refl, ap, sym, ◌∙◌}
+use Rattle.std.proofs.lemmas.Bool.{ne_eqb}
 use Rattle.std.proofs.lemmas.List.{append-nil}
 use Rattle.exb_model.specs.Ports.{ports_of}
 use Rattle.exb_world.specs.declared.extender.Extender.{Extender}
@@ -18,7 +19,7 @@ register-requires-clause-next c =
       done,
       registered_as c.loop-set.spaces c.loop-set.spaces (c.args.trunk - 1) (c.args.trunk - 1) c.args.extender.now.number c.loop-set.extender.number (tables_of c.loop-set.extender)
       (tables_of c.loop-set.extender) c.args.extender.now.ports c.loop-set.extender.ports done done refl refl (sym c.loop-set.invariant.0) refl (sym c.loop-set.invariant.1) refl known,
-      c.requires.sets done (sets_below c.args.trunk (drop (suc i) sets)) (ports_of x.set) (below_split c.args.trunk sets i x c.loop-set-test.true c.set-item.is c.if-set-trunk.true),
+      c.requires.sets done (sets_below c.args.trunk (drop (suc i) sets)) (ports_of x.set) (below_split c.args.trunk sets i x c.loop-set-test.true c.set-item.is (eq-eqb x.bridge_port c.args.trunk c.if-set-trunk.true)),
     )
 
 pub loop-set-preserved : goal.loop-set-preserved
@@ -36,7 +37,7 @@ loop-set-preserved c =
       | then-set-trunk w ↦
           let before = registered_as c.loop-set.spaces c.loop-set.spaces k k n c.loop-set.extender.number (tables_of c.loop-set.extender) (tables_of c.loop-set.extender) ports c.loop-set.extender.ports done done
           refl refl (sym c.loop-set.invariant.0) refl (sym c.loop-set.invariant.1) refl known in
-          let next = c.requires.sets done (sets_below c.args.trunk (drop (suc i) sets)) (ports_of x.set) (below_split c.args.trunk sets i x c.loop-set-test.true c.set-item.is w.if-set-trunk.true) in
+          let next = c.requires.sets done (sets_below c.args.trunk (drop (suc i) sets)) (ports_of x.set) (below_split c.args.trunk sets i x c.loop-set-test.true c.set-item.is (eq-eqb x.bridge_port c.args.trunk w.if-set-trunk.true)) in
           let after = w.register.ensures.registered done before next in (
             ap (λ (e : Extender). e.number) w.extender-is ∙ w.register.ensures.number ∙ c.loop-set.invariant.0,
             ap (λ (e : Extender). e.ports) w.extender-is ∙ w.register.ensures.ports ∙ c.loop-set.invariant.1,
@@ -44,7 +45,7 @@ loop-set-preserved c =
             registered_as w.register.new.spaces c.if-set-trunk.spaces k k w.register.new.extender.number n (tables_of w.register.new.extender) (tables_of c.if-set-trunk.extender) w.register.new.extender.ports ports
             (done ++ ports_of x.set ∷ []) (sets_below c.args.trunk (take (i + 1) sets))
             (sym w.spaces-is) refl (w.register.ensures.number ∙ c.loop-set.invariant.0) (ap tables_of (sym w.extender-is)) (w.register.ensures.ports ∙ c.loop-set.invariant.1)
-            (sym (more ∙ ap (λ b. done ++ cond b (ports_of x.set ∷ []) []) w.if-set-trunk.true)) after,
+            (sym (more ∙ ap (λ b. done ++ cond b (ports_of x.set ∷ []) []) (eq-eqb x.bridge_port c.args.trunk w.if-set-trunk.true))) after,
           )
       | else-set-trunk w ↦ (
         ap (λ (e : Extender). e.number) w.extender-is ∙ c.loop-set.invariant.0,
@@ -52,6 +53,6 @@ loop-set-preserved c =
         λ j. rw w.spaces-is (c.loop-set.invariant.2 j),
         registered_as c.loop-set.spaces c.if-set-trunk.spaces k k n n (tables_of c.loop-set.extender) (tables_of c.if-set-trunk.extender) ports ports done (sets_below c.args.trunk (take (i + 1) sets))
         (sym w.spaces-is) refl refl (ap tables_of (sym w.extender-is)) refl
-        (sym (more ∙ ap (λ b. done ++ cond b (ports_of x.set ∷ []) []) w.if-set-trunk.false ∙ append-nil done)) known,
+        (sym (more ∙ ap (λ b. done ++ cond b (ports_of x.set ∷ []) []) (ne_eqb x.bridge_port c.args.trunk w.if-set-trunk.false) ∙ append-nil done)) known,
       )
     ]
