@@ -5,7 +5,7 @@ use exb_model::port::PortId;
 use exb_model::port_set::PortSet;
 use exb_text::PortName;
 use std::alloc::{AllocError, Global};
-use std::test::Fail;
+use std::process::Abort;
 
 mod commands;
 mod limits;
@@ -15,8 +15,7 @@ mod start;
 mod trees;
 
 /// A bridge with the external ports b1, b3, b4, b5, and x2.1, x2.2 of an extender on b2.
-const SITE: &str =
-    "bridge = {ports = 5}\nextender = [{number = 2, on = 'b2', ports = 2}]\n";
+const SITE: &str = "bridge = {ports = 5}\nextender = [{number = 2, on = 'b2', ports = 2}]\n";
 
 // The fault and key of a file, or `ok`.
 fn verdict(alloc: Global, file: &[u8]) -> Result<String, AllocError> {
@@ -114,20 +113,30 @@ fn content(alloc: Global, file: &[u8]) -> Result<String, AllocError> {
 }
 
 // Asserts that each file, behind a head, has the verdict that stands beside it.
-fn judge(rt: &HostRuntime, head: &str, cases: &[(&str, &str)]) -> Result<(), Fail> {
+fn judge(
+    rt: &impl Abort,
+    alloc: Global,
+    head: &str,
+    cases: &[(&str, &str)],
+) -> Result<(), AllocError> {
     for (tail, wanted) in cases {
-        let file = format!(in rt.alloc(); "{head}{tail}")?;
-        let given = verdict(rt.alloc(), file.as_bytes())?;
+        let file = format!(in alloc; "{head}{tail}")?;
+        let given = verdict(alloc, file.as_bytes())?;
         assert_eq!(rt; given.as_str(), *wanted, "of {tail}");
     }
     Ok(())
 }
 
 // Asserts that each file, behind a head, says what stands beside it.
-fn tell(rt: &HostRuntime, head: &str, cases: &[(&str, &str)]) -> Result<(), Fail> {
+fn tell(
+    rt: &impl Abort,
+    alloc: Global,
+    head: &str,
+    cases: &[(&str, &str)],
+) -> Result<(), AllocError> {
     for (tail, wanted) in cases {
-        let file = format!(in rt.alloc(); "{head}{tail}")?;
-        let given = content(rt.alloc(), file.as_bytes())?;
+        let file = format!(in alloc; "{head}{tail}")?;
+        let given = content(alloc, file.as_bytes())?;
         assert_eq!(rt; given.as_str(), *wanted, "of {tail}");
     }
     Ok(())

@@ -71,8 +71,9 @@ fn check_ports(alloc: Global, ports: &TreePorts, tables: &Tables) -> Result<(), 
     checks::check_statics(alloc, ports, tables.statics.as_slice())?;
     checks::check_commands(alloc, ports, tables.commands.as_slice())?;
     checks::check_captures(alloc, ports, tables.captures.as_slice())?;
-    let outputs = output_names(alloc, tables.bridge.out.as_str(), ports)?;
-    checks::check_files(alloc, outputs.as_slice(), tables.captures.as_slice())
+    let prefix = tables.bridge.out.as_str();
+    let ends = output_names(alloc, "", ports)?;
+    checks::check_files(alloc, prefix, ends.as_slice(), tables.captures.as_slice())
 }
 
 /// The topology of tables that passed, from its valid setup with nothing at the start.
