@@ -1,5 +1,5 @@
 -- The names of output files by what stands behind their prefix.
-use Rattle.std.proofs.Common.{◌≡◌, ◌≢◌, ℕ, ◌==◌, ◌&&◌, ◌||◌, Bool, true, false, List, [], ◌∷◌, ◌++◌, map, codes, refl, sym, ap, ◌∙◌}
+use Rattle.std.proofs.Common.{◌≡◌, ◌≢◌, ℕ, ◌==◌, ◌&&◌, ◌||◌, Bool, true, false, List, [], ◌∷◌, ◌++◌, map, codes, refl, sym, ap, ◌∙◌, append_assoc}
 use Rattle.std.specs.List.{list_any}
 use Rattle.std.specs.Str.{bytes_eq}
 use Rattle.std.specs.Cmp.Lexicographic.{bytes_decides}
@@ -13,7 +13,7 @@ use Rattle.exb_topology.specs.Checks.{output_names}
 names_behind : (prefix ps : List ℕ) → map (capture_name prefix) ps ≡ map (λ o. prefix ++ o) (map (capture_name []) ps)
 unfolding capture_name
 names_behind prefix [] = refl
-names_behind prefix (p ∷ ps) = ap (λ ns. (prefix ++ port_name p ++ codes ".pcap") ∷ ns) (names_behind prefix ps)
+names_behind prefix (p ∷ ps) = λ i. append_assoc prefix (port_name p) (codes ".pcap") i ∷ names_behind prefix ps i
 
 outputs_behind : (prefix : List ℕ) (t : Shape) → output_names prefix t ≡ map (λ o. prefix ++ o) (output_names [] t)
 unfolding journal_name

@@ -8,6 +8,7 @@ ghost use Rattle.exb_topology.specs.Each.{each_ok, refuse};
 ghost use Rattle.exb_topology.specs.Checks.{port_ok, words_ok, port_table_ok, overlap, vlan_ok, vlans_ok, same_entry, static_ok, action_ok, command_ok, capture_key, capture_ok, output_names, file_ok};
 ghost use Rattle.exb_topology.specs.Given.{Knows};
 
+use crate::outputs::output_names;
 use crate::tree_ports::TreePorts;
 use exb_keys::faults::{KeyFault, TopoFault};
 use exb_keys::place::Place;
@@ -192,6 +193,7 @@ fn check_static(
     refuse(alloc, again, place, "mac", KeyFault::Repeat)
 }
 
+#[tactic(auto, using(crate::proofs::Given::knows_none))]
 pub(crate) fn check_statics(
     alloc: Global,
     ports: &TreePorts,
@@ -322,9 +324,7 @@ fn check_file(alloc: Global, prefix: &str, ends: &[Text], capture: &Named) -> Re
     refuse_capture(alloc, again, capture.port, KeyFault::Repeat)
 }
 
-/// Refuses captures that have the name of an output file. The names are looked for by their ends, since all
-/// names with a long prefix would take much memory.
-pub(crate) fn check_files(
+fn check_each_file(
     alloc: Global,
     prefix: &str,
     ends: &[Text],
@@ -336,4 +336,18 @@ pub(crate) fn check_files(
         check_file(alloc, prefix, ends, capture)?;
     }
     Ok(())
+}
+
+/// Refuses captures that have the name of an output file. Names are compared by their ends, since thousands
+/// of names with a long prefix would take much memory.
+pub(crate) fn check_files(
+    alloc: Global,
+    ports: &TreePorts,
+    prefix: &str,
+    captures: &[Named],
+) -> Result<(), TopoFault>
+    ensures { Gives result (each_ok (file_ok (output_names prefix.now ports.now)) captures.now 0 captures.now) }
+{
+    let ends = output_names(alloc, "", ports)?;
+    check_each_file(alloc, prefix, ends.as_slice(), captures)
 }
