@@ -1,12 +1,1 @@
-pub mod Filters
-pub mod Trips
-pub mod Plain
-pub mod Leaving
-pub mod Flooding
-pub mod Standing
-pub mod FirstTree
-pub mod Opening
-pub mod Ranges
-pub mod SetLists
-pub mod FirstOrder
-pub mod Rising
+
