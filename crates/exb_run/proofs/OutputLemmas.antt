@@ -1,5 +1,5 @@
 -- The outputs as they fill: their names differ, and each file followed by its piece is its text.
-use Rattle.std.proofs.Common.{◌≡◌, ◌≢◌, ◌<◌, ◌≤◌, ◌+◌, ◌-◌, ◌*◌, ◌++◌, ◌⊎◌, inl, inr, ℕ, List, [], ◌∷◌, true, length, take, get_or, set, map, ap, sym, ◌∙◌, refl, arith, subst, append_assoc, eq-eqb, get_or-set_same, get_or-set_other, flat_map}
+use Rattle.std.proofs.Common.{◌≡◌, ◌≢◌, ◌<◌, ◌≤◌, ◌+◌, ◌-◌, ◌*◌, ◌++◌, ◌⊎◌, inl, inr, ℕ, Bool, true, false, if◌then◌else◌, ◌==◌, List, [], ◌∷◌, length, take, get_or, set, map, ap, sym, ◌∙◌, refl, arith, subst, append_assoc, eq-eqb, get_or-set_same, get_or-set_other, flat_map}
 use Rattle.std.proofs.lemmas.Bool.{cases_lt, cases_eq, lt-ltb, le-ltb, ne_eqb, leb-true, ltb-true, and_parts}
 use Rattle.std.proofs.lemmas.List.{append-nil, map-set, get_or-map, get_or_read_under, get_or_append_left, length-map, take_more}
 use Rattle.std.proofs.lemmas.Grind.{flat_map-append}
@@ -13,12 +13,25 @@ use Rattle.exb_shelf.proofs.FileLemmas.{Apart}
 use Rattle.exb_text.specs.Names.{capture_name, journal_name}
 use Rattle.exb_world.specs.declared.world.Left.{Left}
 use Rattle.exb_world.specs.Worlds.{left_at}
-use Rattle.exb_world.proofs.Leaving.{left_at-append, left_at-nil}
 use Rattle.exb_run.specs.Plans.{Planned, port_count, port_at, place_in}
 use Rattle.exb_run.specs.Outputs.{output_name}
 use Rattle.exb_run.specs.Writing.{Holds, HasTexts, with_more, lines_of, with_left_frames, CanBeWritten}
 use Rattle.exb_run.proofs.Filling.{weaker, still_filled, one_more}
 use Rattle.exb_run.proofs.Places.{port_is, place_low, port_of_place, place_of_port}
+
+-- what left a port, of two lists of frames
+head_at : (b : Bool) (x : Sent) (xs ys : List Sent) → (if b then x ∷ (xs ++ ys) else xs ++ ys) ≡ (if b then x ∷ xs else xs) ++ ys
+head_at true x xs ys = refl
+head_at false x xs ys = refl
+
+left_at-append : (xs ys : List Left) (q : ℕ) → left_at (xs ++ ys) q ≡ left_at xs q ++ left_at ys q
+unfolding left_at
+left_at-append [] ys q = refl
+left_at-append (x ∷ xs) ys q = rw (left_at-append xs ys q) (head_at (x.port == q) (x.moment, x.bytes) (left_at xs q) (left_at ys q))
+
+left_at-nil : (q : ℕ) → left_at [] q ≡ []
+unfolding left_at
+left_at-nil q = refl
 
 -- the names of the outputs
 pub name_of_capture : (plan : Planned) (j : ℕ) → j < port_count plan → output_name plan j ≡ capture_name plan.prefix (port_at plan j)

@@ -1,6 +1,6 @@
 -- One segment more: what is counted, what is written, and where the world stands.
 use Rattle.std.proofs.Common.{◌≡◌, ℕ, ◌+◌, ◌*◌, ◌<◌, ◌≤◌, ◌==◌, Bool, true, false, not, cond, List, [], ◌∷◌, ◌++◌, length, sum_by, filter, All, get_or, nat_lt, refl, ap, sym, subst, ◌∙◌, arith, eq-eqb}
-use Rattle.std.specs.Prelude.{Option, Some, None}
+use Rattle.std.specs.Prelude.{Option, Some, None, if◌then◌else◌}
 use Rattle.std.proofs.lemmas.List.{append-nil}
 use Rattle.std.proofs.lemmas.List.Filters.{length-filter_both}
 use Rattle.std.proofs.lemmas.List.FromFn.{length-range_with_len}
@@ -9,6 +9,7 @@ use Rattle.exb_model.specs.declared.event.Event.{Event}
 use Rattle.exb_model.specs.declared.event.Event.TheVariants as event
 use Rattle.exb_model.specs.declared.vlan.Kind.{Kind}
 use Rattle.exb_model.specs.Ports.{below}
+use Rattle.exb_model.specs.Frames.{source, is_group}
 use Rattle.exb_model.specs.Tree.{Shape, is_external, external_ports}
 use Rattle.exb_model.specs.History.{History, ◌then◌}
 use Rattle.exb_model.specs.Configuration.{Bridge}
@@ -19,7 +20,9 @@ use Rattle.exb_model.specs.Input.{Input, Arrival, basis_of, tree_of}
 use Rattle.exb_model.specs.EagerHistory.{is_relayed, arrival_event}
 use Rattle.exb_model.specs.Texts.{Counts, with_left, counts, capture_text}
 use Rattle.exb_world.specs.declared.world.Left.{Left}
-use Rattle.exb_world.specs.Worlds.{State, left_at, Stands}
+use Rattle.exb_learn.specs.Calls.{Call, See, Table}
+use Rattle.exb_learn.specs.Histories.{relay_call, after_any}
+use Rattle.exb_world.specs.Worlds.{State, left_at, table_with, Stands}
 use Rattle.exb_schedule.specs.Segments.{segment_events, segment_sends}
 use Rattle.exb_run.specs.Plans.{Planned, port_count, port_at}
 use Rattle.exb_run.specs.Writing.{lines_of, with_more, with_left_frames, CanBeWritten}
@@ -80,6 +83,22 @@ sends_small k look a q = by_kind (is_relayed k a.port a.bytes)
         let small = sent_small a.moment a.bytes (passes k a.port a.bytes) (target k look a.port a.bytes q) in
         rw append-nil small
     by_kind false = omega arith
+
+-- what an arrival teaches doesn't move the clock
+taught : (p : ℕ) (f : List ℕ) (t : Table) (v : Option ℕ) → (after_any (relay_call p f v) t).clock ≡ t.clock
+taught p f t None = refl
+taught p f t (Some v) = by_group (is_group (source f))
+  where
+    by_group : (b : Bool) → (after_any (if b then None else Some (See v (source f) p)) t).clock ≡ t.clock
+    by_group true = refl
+    by_group false = refl
+
+pub same_clock : (k : Bridge) (t : Table) (a : Arrival) → (table_with k (arrival_event k a) t).clock ≡ t.clock
+same_clock k t a = by_kind (is_relayed k a.port a.bytes)
+  where
+    by_kind : (b : Bool) → (table_with k (cond b (event.Relay a.port a.index a.moment a.bytes) (event.Ignored a.port a.index)) t).clock ≡ t.clock
+    by_kind true = taught a.port a.bytes t (passes k a.port a.bytes)
+    by_kind false = refl
 
 length_below : (n : ℕ) → length (below n) ≡ n
 unfolding below

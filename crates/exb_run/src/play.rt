@@ -123,7 +123,6 @@ impl Game {
         requires room { played (counts_of self.old.tally) < 2 ^ 30 }
         requires arrival { CanArrive (state_of self.old.world) (arrived arrival) }
         requires moment { arrival.moment < 2 ^ 32 * 1_000_000_000 }
-        requires bytes { length arrival.bytes < 2 ^ 32 }
         ensures ready { IsReady plan.now (S.ids shelf.new) self.new.outputs }
         ensures rest { OnOk result (IsAtRest plan.now (state_of self.new.world)) }
         ensures counted { OnOk result (IsCounted (counts_of self.new.tally) (state_of self.new.world).table.clock) }
