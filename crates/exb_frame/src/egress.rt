@@ -1,5 +1,5 @@
 //! The bytes with which a frame leaves a port.
-ghost use Rattle.std.specs.Prelude.{◌≡◌, ◌<◌, ◌≤◌, ◌+◌, ◌++◌, ◌*◌, true, length};
+ghost use Rattle.std.specs.Prelude.{◌≡◌, ◌<◌, ◌≤◌, ◌+◌, ◌++◌, ◌*◌, true, take, length};
 ghost use Rattle.exb_model.specs.Frames.{kind_of, egress, body_after, priority_of, two_bytes};
 ghost use Rattle.exb_frame.specs.Egress.{can_leave, priority, egress_with};
 
@@ -31,6 +31,20 @@ fn vlan_tag(pcp: u8, dei: bool, vid: Vid) -> [u8; 4]
     [0x81, 0, high, (number % 256) as u8]
 }
 
+/// The addresses of a frame, a VLAN tag or nothing, and what follows the frame's own tag.
+fn put_with_tag(frame: &[u8], tag: &[u8], seen: &Seen, out: &mut FrameBuf)
+    requires long { 14 ≤ length frame.now }
+    requires fits { length frame.now ≤ 9216 }
+    requires tag { length tag.now ≤ 4 }
+    ensures bytes { out.new.items ≡ (take 12 frame.now ++ tag.now) ++ body_after frame.now seen.now }
+    ensures short { length out.new.items ≤ 9220 }
+{
+    out.clear();
+    append(out, &frame[..12]);
+    append(out, tag);
+    append(out, body_after(frame, seen));
+}
+
 /// The bytes with which a frame leaves a port of this kind in VLAN `vid`: without a VLAN tag, or with one that
 /// has PCP (below 8) and DEI. The frame is one that may be relayed: Plain, Priority or Tagged. There are at
 /// most 9,220 bytes, so they always fit.
@@ -42,12 +56,10 @@ pub fn egress_into(frame: &[u8], kind: Kind, pcp: u8, dei: bool, vid: Vid, out: 
     ensures short { length out.new.items ≤ 9220 }
 {
     let seen = classify(frame);
-    out.clear();
-    append(out, &frame[..12]);
-    if kind == Kind::Tagged {
-        append(out, &vlan_tag(pcp, dei, vid));
+    match kind {
+        Kind::Tagged => put_with_tag(frame, &vlan_tag(pcp, dei, vid), &seen, out),
+        Kind::Untagged => put_with_tag(frame, &[], &seen, out),
     }
-    append(out, body_after(frame, &seen));
 }
 
 #[cfg(test)]
