@@ -1,14 +1,16 @@
 -- The numbers below n that pass a test, in order, and the place of each among them.
-use Rattle.std.proofs.Common.{◌≡◌, ◌<◌, ◌≤◌, ◌+◌, ◌++◌, ℕ, zero, suc, Bool, true, false, cond, if◌then◌else◌, List, [], ◌∷◌, filter, length, get_or, refl, ap, sym, ◌∙◌, arith, subst, inl, inr, length-append, add-one, add-zero}
-use Rattle.std.proofs.lemmas.Bool.{cases_lt}
+use Rattle.std.proofs.Common.{◌≡◌, ◌<◌, ◌≤◌, ◌+◌, ◌++◌, ℕ, zero, suc, Bool, true, false, ◌==◌, ◌&&◌, if◌then◌else◌, List, [], ◌∷◌, filter, length, get_or, refl, ap, sym, ◌∙◌, arith, subst, inl, inr, length-append, add-one, eq-eqb, slice_index}
+use Rattle.std.proofs.lemmas.Bool.{cases_lt, lt-ltb}
 use Rattle.std.proofs.lemmas.List.{append-nil, get_or_append_left}
 use Rattle.std.proofs.lemmas.List.Elements.{filter-append}
 use Rattle.std.proofs.Math.Seq.{get_or-append_seam}
 use Rattle.exb_model.specs.Ports.{below}
-use Rattle.exb_model.specs.Tree.{Shape, IsTree, is_external, external_ports}
-use Rattle.exb_model.proofs.Validity.{no_port_past}
+use Rattle.exb_model.specs.Tree.{Shape, HangsOn, IsTree, is_port, is_extender, is_cascade, on, is_external, external_ports}
+use Rattle.exb_model.proofs.TreeHung.{extender-low}
+use Rattle.exb_model.proofs.TreeWays.{any_below-from}
+use Rattle.exb_model.proofs.Validity.{extender_from, no_port_past}
 use Rattle.exb_model.proofs.PortLemmas.{below-more}
-use Rattle.exb_run.specs.Plans.{Planned, port_count, port_at, place_in}
+use Rattle.exb_run.specs.Plans.{Planned, port_count, port_at, place_in, ArePlaced}
 
 module _ (P : ℕ → Bool) where
   -- those below n, and whether n is one
@@ -112,10 +114,64 @@ external_low t q tree is = elim (cases_lt q 4160) [
   | inr past ↦ absurd (let none = no_port_past t q tree.sized past in cc)
 ]
 
--- ---- the captures of a plan
-pub count_low : (plan : Planned) → port_count plan ≤ 4160
+-- a port on which an extender hangs is none
+pub hung_not_external : (t : Shape) (p n : ℕ) → IsTree t → HangsOn t n p → is_external t p ≡ false
+unfolding is_cascade
+hung_not_external t p n tree hangs =
+    let test : (is_extender t n && on t n == p) ≡ true = rw (lt-ltb 0 n hangs.extender, lt-ltb 0 (slice_index t.ports n) hangs.there) (eq-eqb (on t n) p hangs.at) in
+    let low : n < 65 = extender-low t tree n (extender_from t n hangs.extender hangs.there) in
+    let cascade : is_cascade t p ≡ true = any_below-from (λ m. is_extender t m && on t m == p) 65 n low test in
+    rw cascade (and_false (is_port t p))
+  where
+    and_false : (b : Bool) → (b && false) ≡ false
+    and_false true = refl
+    and_false false = refl
+
+pub few_external : (t : Shape) → length (external_ports t) ≤ 4160
 unfolding external_ports
-count_low plan = few_pass (is_external plan.tree) 4160
+few_external t = few_pass (is_external t) 4160
+
+-- ---- the places while they are found
+-- those below n
+pub record ArePlacedBelow (t : Shape) (n : ℕ) (row table : List ℕ) : Type 0 where
+  pub ports : row ≡ filter (is_external t) (below n)
+  pub sized : length table ≡ n
+  pub placed : (q : ℕ) → q < n → slice_index table q ≡ place_in t q
+
+pub places_begin : (t : Shape) (row table : List ℕ) → row ≡ [] → table ≡ [] → ArePlacedBelow t 0 row table
+places_begin t row table none empty = record {
+  ports = none ∙ sym (passed_none (is_external t));
+  sized = ap (λ (xs : List ℕ). length xs) empty;
+  placed = λ q low. absurd (omega arith);
+}
+
+pub places_more : (t : Shape) (n p : ℕ) (external : Bool) (row row' table table' : List ℕ) → ArePlacedBelow t n row table → p ≡ n → external ≡ is_external t p →
+    row' ≡ row ++ (if external then p ∷ [] else []) → table' ≡ table ++ length row ∷ [] → ArePlacedBelow t (n + 1) row' table'
+places_more t n p external row row' table table' is same test put pushed = record {
+  ports =
+      put ∙ ap (λ (b : Bool). row ++ (if b then p ∷ [] else [])) test ∙ ap (λ (q : ℕ). row ++ (if is_external t q then q ∷ [] else [])) same
+      ∙ ap (λ (xs : List ℕ). xs ++ last (is_external t) n) is.ports ∙ sym (passed_more (is_external t) n) ∙ ap (λ (k : ℕ). filter (is_external t) (below k)) (sym (add-one n));
+  sized = ap (λ (xs : List ℕ). length xs) pushed ∙ length-append table (length row ∷ []) ∙ ap (λ (k : ℕ). k + 1) is.sized;
+  placed = λ q low. ap (λ (xs : List ℕ). slice_index xs q) pushed ∙ elim (cases_lt q n) [
+    | inl before ↦ get_or_append_left table (length row ∷ []) 0 q (let size = is.sized in omega arith) ∙ is.placed q before
+    | inr after ↦
+        let here : q ≡ n = omega arith in
+        let end : q ≡ length table = here ∙ sym is.sized in
+        ap (λ (k : ℕ). slice_index (table ++ length row ∷ []) k) end ∙ get_or-append_seam table (length row) [] 0
+        ∙ ap (λ (xs : List ℕ). length xs) is.ports ∙ ap (place_in t) (sym here)
+  ];
+}
+
+pub places_end : (t : Shape) (n : ℕ) (row table : List ℕ) → ArePlacedBelow t n row table → n ≡ 4160 → ArePlaced t row table
+unfolding external_ports
+places_end t n row table is all =
+    let end = subst (λ (k : ℕ). ArePlacedBelow t k row table) all is in
+    record { ports = end.ports; sized = end.sized; placed = end.placed }
+
+pub places_low : (t : Shape) (n : ℕ) (row table : List ℕ) → ArePlacedBelow t n row table → length row ≤ n
+places_low t n row table is = let size = ap (λ (xs : List ℕ). length xs) is.ports in let few = few_pass (is_external t) n in omega arith
+
+-- ---- the captures of a plan
 
 pub port_is : (plan : Planned) (j : ℕ) → j < port_count plan → IsAt (is_external plan.tree) 4160 j (port_at plan j)
 unfolding external_ports

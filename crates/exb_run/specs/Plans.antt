@@ -20,8 +20,8 @@ port_at plan j = slice_index (external_ports plan.tree) j
 abbrev pub place_in : Shape → ℕ → ℕ
 place_in tree q = length (filter (is_external tree) (below q))
 
--- the captures are those of the external ports, and each place is that of its port
-pub record ArePlaced (tree : Shape) (ports places : List ℕ) : Type 0 where
-  pub ports : ports ≡ external_ports tree
-  pub sized : length places ≡ 4160
-  pub placed : (q : ℕ) → q < 4160 → slice_index places q ≡ place_in tree q
+-- a row with the external ports of a tree in order, and a table with the place of each port
+pub record ArePlaced (tree : Shape) (row table : List ℕ) : Type 0 where
+  pub ports : row ≡ external_ports tree
+  pub sized : length table ≡ 4160
+  pub placed : (q : ℕ) → q < 4160 → slice_index table q ≡ place_in tree q

@@ -28,12 +28,7 @@ fn restricts(command: &Command) -> bool
 fn any_restricts(commands: &[Command]) -> bool
     ensures { result ≡ list_any restricts commands.now }
 {
-    for command in commands {
-        if restricts(command) {
-            return true;
-        }
-    }
-    false
+    commands.iter().any(restricts)
 }
 
 /// Whether a topology can be played today.

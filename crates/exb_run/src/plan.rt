@@ -105,6 +105,7 @@ impl Plan {
     }
 
     /// How many captures there are, at most 4,160.
+    #[tactic(auto, using(crate::proofs::Places::few_external))]
     pub(crate) fn count(&self) -> u16
         ensures value { result ≡ port_count self.now }
         ensures range { result ≤ 4160 }

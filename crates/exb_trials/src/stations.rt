@@ -112,14 +112,14 @@ fn add_record(moment: u64, frame: &[u8], file: &mut Vec<u8>) -> Result<(), NoMem
     Ok(())
 }
 
-/// A capture of 0 to 5 frames at a port, within 40 seconds, at times that may fall.
+/// A capture of 0 to 4 frames at a port, within 35 seconds, at times that may fall.
 pub(crate) fn capture(
     alloc: Global,
     rng: &mut Lcg64Xsh32,
     port: PortId,
 ) -> Result<Vec<u8>, NoMemory> {
     let mut file = header_text().to_vec(alloc)?;
-    for place in 0..draw_byte(rng, 6) {
+    for place in 0..draw_byte(rng, 5) {
         let second = 100 + 6 * u64::from(place) + u64::from(draw_byte(rng, 11));
         let moment = second * NANOSECONDS + u64::from(draw(rng, 1_000_000_000));
         let frame = frame(alloc, rng, port)?;

@@ -34,8 +34,6 @@ fn plain(alloc: Global, trial: &Trial) -> Result<Outcome, Fail> {
         capture_at(trial, 3),
         capture_at(trial, 4),
         capture_at(trial, 5),
-        capture_at(trial, 6),
-        capture_at(trial, 7),
     ];
     Ok(flat_outcome(alloc, &topology.setup, &[], &captures)?)
 }
@@ -92,16 +90,31 @@ fn expect_trials(rt: &impl Abort, alloc: Global, first: u64, last: u64) -> Resul
 }
 
 #[test]
-fn a_first_dozen_of_runs_write_what_the_plain_bridge_sends(rt: HostRuntime) -> Result<(), Fail> {
-    expect_trials(&rt, rt.alloc(), 0, 12)
+fn the_first_six_runs_write_what_the_plain_bridge_sends(rt: HostRuntime) -> Result<(), Fail> {
+    expect_trials(&rt, rt.alloc(), 0, 6)
 }
 
 #[test]
-fn a_second_dozen_of_runs_write_what_the_plain_bridge_sends(rt: HostRuntime) -> Result<(), Fail> {
-    expect_trials(&rt, rt.alloc(), 12, 24)
+fn the_second_six_runs_write_what_the_plain_bridge_sends(rt: HostRuntime) -> Result<(), Fail> {
+    expect_trials(&rt, rt.alloc(), 6, 12)
 }
 
 #[test]
-fn a_third_dozen_of_runs_write_what_the_plain_bridge_sends(rt: HostRuntime) -> Result<(), Fail> {
-    expect_trials(&rt, rt.alloc(), 24, 36)
+fn the_third_six_runs_write_what_the_plain_bridge_sends(rt: HostRuntime) -> Result<(), Fail> {
+    expect_trials(&rt, rt.alloc(), 12, 18)
+}
+
+#[test]
+fn the_fourth_six_runs_write_what_the_plain_bridge_sends(rt: HostRuntime) -> Result<(), Fail> {
+    expect_trials(&rt, rt.alloc(), 18, 24)
+}
+
+#[test]
+fn the_fifth_six_runs_write_what_the_plain_bridge_sends(rt: HostRuntime) -> Result<(), Fail> {
+    expect_trials(&rt, rt.alloc(), 24, 30)
+}
+
+#[test]
+fn the_sixth_six_runs_write_what_the_plain_bridge_sends(rt: HostRuntime) -> Result<(), Fail> {
+    expect_trials(&rt, rt.alloc(), 30, 36)
 }

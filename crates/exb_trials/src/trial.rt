@@ -25,7 +25,7 @@ impl Trial {
     /// The trial of a number.
     pub fn new(alloc: Global, number: u64) -> Result<Trial, NoMemory>
         ensures some { IfOk result (λ trial. 1 ≤ length trial.ports.items) }
-        ensures few { IfOk result (λ trial. length trial.ports.items ≤ 8) }
+        ensures few { IfOk result (λ trial. length trial.ports.items ≤ 6) }
         ensures captures { IfOk result (λ trial. length trial.captures.items ≡ length trial.ports.items) }
     {
         let mut rng = Lcg64Xsh32::seed_from_u64(number);

@@ -11,7 +11,7 @@ pub add_to-requires-clause-within : goal.add_to-requires-clause-within
 add_to-requires-clause-within g c =
     let can = c.requires.frame in
     let low = place_low c.args.plan.now c.args.left.now.port can.low can.port in
-    omega (arith, c.place.ensures, low)
+    omega (arith, c.place-at.ensures, low)
 
 pub returns-clause-texts : goal.returns-clause-texts
 returns-clause-texts g c = λ t.
@@ -23,6 +23,6 @@ returns-clause-texts g c = λ t.
     in
     on_ok_weaker c.add_to.result
     (λ added orig text p.
-    more_spelled c.args.plan.now orig (S.file c.add_to.new.shelf) (pieces_of c.add_to.new.self) text c.place.result (place_in c.args.plan.now.tree left.port) _ _
-    c.place.ensures written (added orig text p))
+    more_spelled c.args.plan.now orig (S.file c.add_to.new.shelf) (pieces_of c.add_to.new.self) text c.place-at.result (place_in c.args.plan.now.tree left.port) _ _
+    c.place-at.ensures written (added orig text p))
     (c.add_to.ensures.texts t)

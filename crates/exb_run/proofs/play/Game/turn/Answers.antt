@@ -10,7 +10,7 @@ use Rattle.exb_run.specs.Writing.{pieces_of}
 use Rattle.exb_text.specs.Tallies.{counts_of}
 use Rattle.exb_world.specs.Worlds.{Parts, State, state_of}
 use Rattle.exb_run.specs.Playing.{IsAtRest, IsUnderWay, IsCounted, played, text_after}
-use Rattle.exb_run.proofs.Turning.{sends_small}
+use Rattle.exb_run.proofs.Turning.{sends_small, same_clock}
 use Rattle.exb_run.proofs.Turned.{when_ok, on_ok_both, same_texts, frames_fit, few, counts_counted, counts_played, text_is, under_way}
 use Rattle.exb_run.proofs.play.Game.turn.Goals as goal
 
