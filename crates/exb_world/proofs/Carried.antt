@@ -37,8 +37,9 @@ module _ (n : ℕ) (u : Tables) (externals : (j : ℕ) → u.cascade j ≡ false
           (cond (not (d && false) || cond d (u.own (q % 64)) 0 == tag.ecid) (stripped f ∷ []) (f ∷ []))) []
           ≡ cond ((nat_lt 0 (cond d (u.own (q % 64)) 0) && (d && u.pair tag.ecid (q % 64)))
           && not (not (d && false) && (nat_le 4096 tag.ecid && (nat_lt 0 tag.ingress && cond d (u.own (q % 64)) 0 == tag.ingress)))) (stripped f ∷ []) []
-      by_device true = by_tests _ _ f
-      by_device false = by_tests _ _ f
+      by_device true =
+          by_tests (nat_lt 0 (u.own (q % 64)) && u.pair tag.ecid (q % 64)) (nat_le 4096 tag.ecid && (nat_lt 0 tag.ingress && u.own (q % 64) == tag.ingress)) f
+      by_device false = refl
 
   -- a word that enters the extender
   pub carried_here : (t : Shape) (f : List ℕ) (tag : Tag) (j : ℕ) → read_etag f ≡ Some tag → j < 64 →

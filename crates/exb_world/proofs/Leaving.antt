@@ -1,5 +1,5 @@
 -- What leaves, port by port.
-use Rattle.std.proofs.Common.{◌≡◌, ◌≢◌, ℕ, zero, suc, ◌+◌, ◌*◌, ◌<◌, ◌≤◌, ◌==◌, Bool, true, false, cond, filter, List, [], ◌∷◌, ◌++◌, eq-eqb, refl, ap, sym, ◌∙◌, arith, inl, inr, absurd}
+use Rattle.std.proofs.Common.{◌≡◌, ◌≢◌, ℕ, zero, suc, ◌+◌, ◌*◌, ◌<◌, ◌≤◌, ◌==◌, Bool, true, false, cond, filter, List, [], ◌∷◌, ◌++◌, eq-eqb, refl, ap, sym, ◌∙◌, arith, inl, inr}
 use Rattle.std.specs.Prelude.{flat_map, All}
 use Rattle.std.specs.List.{range_with_len}
 use Rattle.std.proofs.lemmas.Bool.{cases_eq, ne_eqb}
@@ -39,7 +39,7 @@ left_at-none P (x ∷ xs) q all out =
     rw (ne_eqb x.port q (λ e. apart (All-head (λ (y : Left). P y.port ≡ true) x xs all) e)) (left_at-none P xs q (All-tail (λ (y : Left). P y.port ≡ true) x xs all) out)
   where
     apart : P x.port ≡ true → x.port ≡ q → ⊥
-    apart yes e = let same = ap P e in cc
+    apart so e = let same = ap P e in cc
 
 module _ (n moment : ℕ) (f : List ℕ) (test : ℕ → Bool) (q : ℕ) where
   -- what leaves at q by the ports from a on that pass

@@ -5,7 +5,16 @@ mod Singles
 mod Carried
 pub mod Leaving
 mod Frames
+mod Standing
+mod Raising
+mod Replicating
+mod Registering
+mod Living
 mod FewSets
 mod FewPorts
 mod OpeningRaises
 mod NextSets
+mod Bringing
+mod Beginning
+mod Arriving
+mod Opened

@@ -52,41 +52,6 @@ pub record IsOnly (t : Shape) (n ports : ℕ) : Type 0 where
   pub others : (m : ℕ) → 0 < m → m ≢ n → slice_index t.ports m ≡ 0
   pub hangs : on t n < 64
 
--- As a world begins: the local external ports are present, nothing restricts where frames go, all numbers
--- are free, and the extender's tables are empty.
-pub record IsClosed (c : Controller) (x : Extender) : Type 0 where
-  pub present : (q : ℕ) → (bridge_of c.config).present q ≡ (nat_lt q 64 && is_external c.tree q)
-  pub together : (q : ℕ) → ((bridge_of c.config).rule q).isolated ≡ false
-  pub no_statics : (bridge_of c.config).statics ≡ []
-  pub sized : length (channels_at c.spaces (on c.tree x.number)) ≡ 4095
-  pub free : (e : ℕ) → holder (channels_at c.spaces (on c.tree x.number)) e ≡ None
-  pub limit : (groups_at c.spaces (on c.tree x.number)).limit ≡ 12288
-  pub no_groups : (g : ℕ) → set_of (groups_at c.spaces (on c.tree x.number)) g ≡ []
-  pub own : (j : ℕ) → j < 64 → (tables_of x).own j ≡ 0
-  pub pair : (e j : ℕ) → j < 64 → (tables_of x).pair e j ≡ false
-
--- The numbers suffice for the relay, the extender's tables carry what has a number, and a port of the extender
--- is present exactly where it has a channel, which is its own.
-pub record IsLive (c : Controller) (x : Extender) : Type 0 where
-  pub only : IsOnly c.tree x.number x.ports
-  pub spaces : HasSpaces c.tree c.spaces
-  pub pvids : HasPvids (bridge_of c.config)
-  pub ready : IsReady c.tree (bridge_of c.config) (numbers_of c.spaces)
-  pub carries : Carries c.tree (among_all x.number (tables_of x)) (bridge_of c.config) (numbers_of c.spaces)
-  pub small : (j : ℕ) → j < 64 → (tables_of x).own j < 4096
-  pub created : (j : ℕ) → j < 64 → nat_lt 0 ((tables_of x).own j) ≡ (bridge_of c.config).present (64 * x.number + j)
-  pub holders : (j : ℕ) → j < 64 → 0 < (tables_of x).own j →
-      holder (channels_at c.spaces (on c.tree x.number)) ((tables_of x).own j) ≡ Some (64 * x.number + j)
-
--- what holds while memory hasn't run out
-pub record IsSound (c : Controller) (x : Extender) (is_open : Bool) : Type 0 where
-  pub live : IsLive c x
-  pub closed : is_open ≡ false → IsClosed c x
-
-abbrev pub IsKept : Controller → Extender → Bool → Bool → Type 0
-IsKept c x is_open failed = failed ≡ false → IsSound c x is_open
-
--- ---- the steps of the opening
 -- The first so many ports have channels, the first port 1 and so on; no group is used.
 pub record AreRaised (s : Spaces) (k n : ℕ) (t : Tables) (ports : ℕ) : Type 0 where
   pub space : has_space s k ≡ true
@@ -97,7 +62,40 @@ pub record AreRaised (s : Spaces) (k n : ℕ) (t : Tables) (ports : ℕ) : Type 
   pub own : (j : ℕ) → j < 64 → t.own j ≡ (if nat_lt j ports then j + 1 else 0)
   pub pair : (e j : ℕ) → j < 64 → t.pair e j ≡ (nat_lt j ports && e == j + 1)
 
--- Besides, these sets have the groups from the first on, in order, each with its row.
+-- As a world begins: the local external ports are present, nothing restricts where frames go, and no number
+-- is used.
+pub record IsClosed (c : Controller) (x : Extender) : Type 0 where
+  pub present : (q : ℕ) → (bridge_of c.config).present q ≡ (nat_lt q 64 && is_external c.tree q)
+  pub together : (q : ℕ) → ((bridge_of c.config).rule q).isolated ≡ false
+  pub no_statics : (bridge_of c.config).statics ≡ []
+  pub unused : AreRaised c.spaces (on c.tree x.number) x.number (tables_of x) 0
+
+-- Beside a bridge, tables u of extender n: the numbers suffice for the relay, the tables carry what has a number,
+-- and a port of the extender is present exactly where it has a channel, which is its own.
+pub record IsRunning (c : Controller) (u : Tables) (n ports : ℕ) : Type 0 where
+  pub only : IsOnly c.tree n ports
+  pub spaces : HasSpaces c.tree c.spaces
+  pub pvids : HasPvids (bridge_of c.config)
+  pub ready : IsReady c.tree (bridge_of c.config) (numbers_of c.spaces)
+  pub carries : Carries c.tree (among_all n u) (bridge_of c.config) (numbers_of c.spaces)
+  pub small : (j : ℕ) → j < 64 → u.own j < 4096
+  pub created : (j : ℕ) → j < 64 → nat_lt 0 (u.own j) ≡ (bridge_of c.config).present (64 * n + j)
+  pub holders : (j : ℕ) → j < 64 → 0 < u.own j → holder (channels_at c.spaces (on c.tree n)) (u.own j) ≡ Some (64 * n + j)
+
+abbrev pub IsLive : Controller → Extender → Type 0
+IsLive c x = IsRunning c (tables_of x) x.number x.ports
+
+-- what holds while memory hasn't run out
+pub record IsSound (c : Controller) (x : Extender) (is_open : Bool) : Type 0 where
+  pub live : IsLive c x
+  pub closed : is_open ≡ false → IsClosed c x
+
+abbrev pub IsKept : Controller → Extender → Bool → Bool → Type 0
+IsKept c x is_open failed = failed ≡ false → IsSound c x is_open
+
+-- ---- the steps of the opening
+-- The first so many ports have channels as above, and these sets have the groups from the first on, in order,
+-- each with its row.
 pub record AreRegistered (s : Spaces) (k n : ℕ) (t : Tables) (ports : ℕ) (sets : List (List ℕ)) : Type 0 where
   pub space : has_space s k ≡ true
   pub holders : (e : ℕ) → holder (channels_at s k) e ≡ (if nat_lt 0 e && nat_lt e (ports + 1) then Some (64 * n + (e - 1)) else None)

@@ -1,5 +1,5 @@
 -- The words between bridge and extender, and the tables of an extender among all ports.
-use Rattle.std.specs.Prelude.{◌≡◌, ◌<◌, ◌≤◌, ℕ, List, Option, Some, length, ◌%◌, ◌==◌, ◌&&◌, Bool, false, not, if◌then◌else◌}
+use Rattle.std.specs.Prelude.{◌≡◌, ◌<◌, ◌≤◌, ℕ, List, Option, Some, length, ◌%◌, ◌==◌, ◌&&◌, Bool, false, nat_lt, not, if◌then◌else◌}
 use Rattle.exb_model.specs.ETags.{Tag, tagged}
 use Rattle.exb_model.specs.Tree.{device}
 use Rattle.exb_model.specs.ExtenderForwarding.{Tables, takes, left_out}
@@ -12,6 +12,10 @@ channel_tag c = record { pcp = 0; dei = false; ingress = 0; ecid = c }
 -- by the rules of extender forwarding, something leaves at the port
 abbrev pub goes_out : Tables → Tag → ℕ → Bool
 goes_out t tag q = takes t q tag && not (left_out t q tag)
+
+-- so it is where the port has the pair, by what else is asked
+abbrev pub sends_out : Tables → Tag → ℕ → Bool
+sends_out t tag q = nat_lt 0 (t.own q) && not (left_out t q tag)
 
 -- the tables of extender n, given by its own ports from 0, by port of the tree
 abbrev pub among_all : ℕ → Tables → Tables

@@ -15,7 +15,7 @@ ghost use Rattle.exb_world.specs.Insides.{IsLive, arrival_of};
 ghost use Rattle.exb_world.specs.Sending.{frames_in, frames_of};
 ghost use Rattle.exb_world.specs.Worlds.{table_with};
 
-use crate::bridge::{Controller, is_relayed, learn};
+use crate::bridge::{Controller, are_bytes, is_relayed, learn};
 use crate::extender::Extender;
 use crate::sending::{Outgoing, Passed, send_all};
 use crate::world::Left;
@@ -29,7 +29,7 @@ use exb_model::event::Event;
 use exb_model::list::List;
 use exb_model::memory::NoMemory;
 use exb_model::port::PortId;
-use exb_relay::laws::sends_are_words;
+use exb_relay::laws::{sends_are_words, spaces_number};
 use exb_relay::{Ingress, SendTo, relay};
 use std::alloc::Global;
 
@@ -94,6 +94,7 @@ fn take_word(bridge: &Controller, trunk: u8, word: &[u8], into: &mut FrameBuf) -
         result ≡ (if is_relayed (bridge_of bridge.now.config) p f then Some p else None) }
     ensures frame { (f : List ℕ) (p : ℕ) → IsWordOf (channels_at bridge.now.spaces (trunk - 1)) f p word.now → into.new.items ≡ f }
 {
+    tag_round_trip();
     let tag = ETag::read(word)?;
     let port = bridge.spaces.channels(trunk).port(tag.ecid)?;
     let _ = strip_into(word, into);
@@ -119,7 +120,6 @@ fn bring_up(
     ensures port { result ≡ (if is_relayed (bridge_of bridge.now.config) port frame.now then Some port else None) }
     ensures frame { is_relayed (bridge_of bridge.now.config) port frame.now ≡ true → into.new.items ≡ frame.now }
 {
-    tag_round_trip();
     let at = (port.number() % 64) as u8;
     if !extender.take_up(at, frame, word) {
         return None;
@@ -157,55 +157,57 @@ fn forward(
     bridge: &Controller,
     extender: &Extender,
     learned: &mut Learned,
-    record: &Recorded,
+    recorded: &Recorded,
     sends: &mut ArrayVec<SendTo, 256>,
     outgoing: &mut Outgoing,
     left: &mut List<Left>,
 ) -> Result<(), NoMemory>
     requires live { IsLive bridge.now extender.now }
-    requires relayed { is_relayed (bridge_of bridge.now.config) record.now.port record.now.bytes.now ≡ true }
+    requires relayed { is_relayed (bridge_of bridge.now.config) recorded.now.port recorded.now.bytes.now ≡ true }
     requires room { 1 ≤ learned.old.spare }
-    ensures table { OnOk result (table_of learned.new ≡ after_any (relay_call record.now.port record.now.bytes.now
-        (passes (bridge_of bridge.now.config) record.now.port record.now.bytes.now)) (table_of learned.old)) }
+    ensures table { OnOk result (table_of learned.new ≡ after_any (relay_call recorded.now.port recorded.now.bytes.now
+        (passes (bridge_of bridge.now.config) recorded.now.port recorded.now.bytes.now)) (table_of learned.old)) }
     ensures left { OnOk result (left.new ≡ left.old ++ frames_in bridge.now.tree (bridge_of bridge.now.config) (look_of learned.old) (numbers_of bridge.now.spaces)
-        extender.now.number (tables_of extender.now) (arrival_of record.now)
-        (passes (bridge_of bridge.now.config) record.now.port record.now.bytes.now)) }
+        extender.now.number (tables_of extender.now) (arrival_of recorded.now)
+        (passes (bridge_of bridge.now.config) recorded.now.port recorded.now.bytes.now)) }
 {
+    are_bytes(recorded.bytes);
+    spaces_number();
+    sends_are_words();
     let ingress = relay(
         &bridge.tree,
         &bridge.config,
         learned,
         &bridge.spaces,
-        record.port,
-        record.bytes,
+        recorded.port,
+        recorded.bytes,
         sends,
     );
-    learn(learned, record.port, record.bytes, &ingress);
+    learn(learned, recorded.port, recorded.bytes, &ingress);
     match ingress {
         Ingress::Dropped => Ok(()),
         Ingress::Passed { vid, pcp, dei } => {
             let passed = Passed {
-                frame: record.bytes,
-                moment: record.moment,
+                frame: recorded.bytes,
+                moment: recorded.moment,
                 vid,
                 pcp,
                 dei,
             };
-            sends_are_words();
             send_all(alloc, extender, &passed, sends.as_slice(), outgoing, left)
         }
     }
 }
 
 /// The event of a frame that is relayed.
-fn relayed(alloc: Global, record: &Recorded) -> Result<Event, NoMemory>
-    ensures { IfOk result (λ event. event ≡ Event.Relay record.now.port record.now.index record.now.moment record.now.bytes.now) }
+fn relayed(alloc: Global, recorded: &Recorded) -> Result<Event, NoMemory>
+    ensures { IfOk result (λ event. event ≡ Event.Relay recorded.now.port recorded.now.index recorded.now.moment recorded.now.bytes.now) }
 {
-    let bytes = Bytes::from_slice(alloc, record.bytes)?;
+    let bytes = Bytes::from_slice(alloc, recorded.bytes)?;
     Ok(Event::Relay {
-        port: record.port,
-        index: record.index,
-        moment: record.moment,
+        port: recorded.port,
+        index: recorded.index,
+        moment: recorded.moment,
         bytes,
     })
 }
@@ -217,45 +219,45 @@ pub(crate) fn arrive(
     extender: &Extender,
     learned: &mut Learned,
     buffers: &mut Buffers,
-    record: &Recorded,
+    recorded: &Recorded,
     log: &mut Log,
 ) -> Result<(), NoMemory>
     requires live { IsLive bridge.now extender.now }
-    requires external { is_external bridge.now.tree record.now.port ≡ true }
-    ensures events { OnOk result (log.new.events ≡ log.old.events ++ arrival_event (bridge_of bridge.now.config) (arrival_of record.now) ∷ []) }
+    requires external { is_external bridge.now.tree recorded.now.port ≡ true }
+    ensures events { OnOk result (log.new.events ≡ log.old.events ++ arrival_event (bridge_of bridge.now.config) (arrival_of recorded.now) ∷ []) }
     ensures table { OnOk result (table_of learned.new
-        ≡ table_with (bridge_of bridge.now.config) (arrival_event (bridge_of bridge.now.config) (arrival_of record.now)) (table_of learned.old)) }
+        ≡ table_with (bridge_of bridge.now.config) (arrival_event (bridge_of bridge.now.config) (arrival_of recorded.now)) (table_of learned.old)) }
     ensures left { OnOk result (log.new.left ≡ log.old.left ++ frames_of bridge.now.tree (bridge_of bridge.now.config) (look_of learned.old)
-        (numbers_of bridge.now.spaces) extender.now.number (tables_of extender.now) (arrival_of record.now)) }
+        (numbers_of bridge.now.spaces) extender.now.number (tables_of extender.now) (arrival_of recorded.now)) }
 {
     learned.reserve()?;
     let came = bring(
         bridge,
         extender,
-        record.port,
-        record.bytes,
+        recorded.port,
+        recorded.bytes,
         &mut buffers.word,
         &mut buffers.frame,
     );
     match came {
         None => log.events.push(Event::Ignored {
-            port: record.port,
-            index: record.index,
+            port: recorded.port,
+            index: recorded.index,
         }),
         Some(port) => {
-            let record = Recorded {
+            let recorded = Recorded {
                 port,
-                index: record.index,
-                moment: record.moment,
+                index: recorded.index,
+                moment: recorded.moment,
                 bytes: buffers.frame.as_slice(),
             };
-            log.events.push(relayed(alloc, &record)?)?;
+            log.events.push(relayed(alloc, &recorded)?)?;
             forward(
                 alloc,
                 bridge,
                 extender,
                 learned,
-                &record,
+                &recorded,
                 &mut buffers.sends,
                 &mut buffers.outgoing,
                 &mut log.left,

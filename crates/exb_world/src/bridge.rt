@@ -9,7 +9,7 @@ ghost use Rattle.exb_model.specs.Setup.{IsValid, shape_of, start_of};
 ghost use Rattle.exb_learn.specs.Entries.{table_of};
 ghost use Rattle.exb_learn.specs.Histories.{relay_call, after_any};
 ghost use Rattle.exb_config.specs.Tables.{bridge_of};
-ghost use Rattle.exb_relay.specs.Laws.{HasPvids};
+ghost use Rattle.exb_relay.specs.Laws.{HasPvids, IsBytes};
 ghost use Rattle.exb_world.specs.Bridges.{vid_in, HasFreeSpaces};
 
 use exb_config::Config;
@@ -129,13 +129,20 @@ fn apply_all(config: &mut Config, commands: &[Command]) -> Result<(), NoMemory>
     Ok(())
 }
 
+/// Whether frames of a kind may be relayed: it isn't short, long or reserved.
+fn may_be_relayed(seen: Seen) -> bool
+    ensures { result ≡ is_relayed_kind seen }
+{
+    !matches!(seen, Seen::Short | Seen::Long | Seen::Reserved)
+}
+
 /// Whether a frame isn't short, long or reserved, so that it may be relayed.
 pub(crate) fn is_relayed_kind(frame: &[u8]) -> bool
     ensures kind { result ≡ is_relayed_kind (kind_of frame.now) }
     ensures long { result ≡ true → 14 ≤ length frame.now }
     ensures fits { result ≡ true → length frame.now ≤ 9216 }
 {
-    !matches!(classify(frame), Seen::Short | Seen::Long | Seen::Reserved)
+    may_be_relayed(classify(frame))
 }
 
 /// Whether a frame that comes to a port of the bridge is relayed: the port is present, and the frame isn't
@@ -147,6 +154,13 @@ pub(crate) fn is_relayed(config: &Config, port: PortId, frame: &[u8]) -> bool
 {
     let is_kind = is_relayed_kind(frame);
     config.present(port) && is_kind
+}
+
+/// That a frame's bytes are below 256, as a fact for whoever calls it. It does nothing.
+pub(crate) fn are_bytes(frame: &[u8])
+    ensures { IsBytes frame.now }
+{
+    let _ = frame;
 }
 
 /// The address from which a frame comes.

@@ -1,14 +1,14 @@
 //! The extender: it puts an E-TAG into what comes from its ports, and replicates and strips what comes
 //! down (after IEEE 802.1BR).
-ghost use Rattle.std.specs.Prelude.{◌≡◌, ℕ, ◌+◌, ◌<◌, ◌≤◌, ◌==◌, ◌&&◌, ◌||◌, not, true, false, filter, nat_lt, slice_index, length, IfOk, Some};
+ghost use Rattle.std.specs.Prelude.{◌≡◌, ℕ, ◌+◌, ◌<◌, ◌≤◌, ◌==◌, ◌&&◌, ◌||◌, ◌++◌, ◌∷◌, [], if◌then◌else◌, not, true, false, filter, nat_lt, length, IfOk, Some};
+ghost use Rattle.arrayvec.specs.ArrayVec.{array_vec_len};
 ghost use Rattle.std.specs.Int.{bit_at};
 ghost use Rattle.exb_model.specs.Ports.{below};
 ghost use Rattle.exb_model.specs.Frames.{kind_of};
 ghost use Rattle.exb_model.specs.ETags.{Tag, read_etag, tagged, stripped};
 ghost use Rattle.exb_model.specs.EagerHistory.{is_relayed_kind};
 ghost use Rattle.exb_frame.specs.TagValues.{tag_of};
-ghost use Rattle.exb_world.specs.Tables.{channel_tag, goes_out};
-ghost use Rattle.exb_world.specs.Extenders.{tables_of, with_port, with_group, AreTables};
+ghost use Rattle.exb_world.specs.Tables.{channel_tag, goes_out, sends_out};
 
 use crate::bridge::is_relayed_kind;
 use arrayvec::ArrayVec;
@@ -37,6 +37,8 @@ pub(crate) struct Extender {
 pub(crate) type Ports = ArrayVec<u8, 64>;
 
 impl Extender {
+    ghost use Rattle.exb_world.specs.Extenders.{tables_of, with_port, with_group, AreTables};
+
     /// As it is at power-on: no port has a channel, and no E-CID a pair.
     pub(crate) fn new(alloc: Global, number: u8, ports: u8) -> Result<Extender, NoMemory>
         ensures number { IfOk result (λ made. made.number ≡ number) }
@@ -74,28 +76,28 @@ impl Extender {
         self.rows.put(group, mask);
     }
 
-    /// Whether a port that has the pair of the E-TAG sends nothing: it has no channel, or it is the one from
+    /// Whether a port that has the pair of the E-TAG sends the frame: it has a channel, and isn't the one from
     /// which a frame to a group came.
-    fn leaves_out(&self, port: u8, tag: &ETag) -> bool
+    fn sends_out(&self, port: u8, tag: &ETag) -> bool
         requires { port < 64 }
-        ensures { result ≡ (not (nat_lt 0 ((tables_of self.now).own port))
-            || (nat_lt 4095 tag.now.ecid && (nat_lt 0 tag.now.ingress && (tables_of self.now).own port == tag.now.ingress))) }
+        ensures { result ≡ sends_out (tables_of self.now) (tag_of tag.now) port }
     {
         let channel = self.own[port as usize];
-        let came_from = tag.ecid >= FIRST_GROUP && tag.ingress > 0 && channel == tag.ingress;
-        channel == 0 || came_from
+        if channel == 0 {
+            return false;
+        }
+        let came_from = tag.ingress > 0 && channel == tag.ingress;
+        tag.ecid < FIRST_GROUP || !came_from
     }
 
-    /// Puts the port behind others, if it sends a frame with that E-TAG.
+    /// Puts the port behind others, if it sends a frame with that E-TAG, whose pair it has.
     fn put_port(&self, port: u8, tag: &ETag, out: &mut Ports)
         requires port { port < 64 }
-        requires ecid { tag.now.ecid < 16384 }
-        requires pair { (tables_of self.now).pair tag.now.ecid port ≡ true }
         requires room { array_vec_len out.old ≤ port }
-        ensures items { out.new.items ≡ out.old.items ++ (if goes_out (tables_of self.now) (tag_of tag.now) port then port ∷ [] else []) }
+        ensures items { out.new.items ≡ out.old.items ++ (if sends_out (tables_of self.now) (tag_of tag.now) port then port ∷ [] else []) }
         ensures few { array_vec_len out.new ≤ array_vec_len out.old + 1 }
     {
-        if !self.leaves_out(port, tag) {
+        if self.sends_out(port, tag) {
             out.push(port);
         }
     }

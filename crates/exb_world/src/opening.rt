@@ -19,6 +19,7 @@ use exb_model::list::List;
 use exb_model::memory::NoMemory;
 use exb_model::port_set::PortSet;
 use exb_numbers::Spaces;
+use exb_numbers::laws::{channels_are_apart, groups_are_apart};
 use exb_rows::{SetAt, sets};
 use std::alloc::Global;
 
@@ -40,6 +41,7 @@ fn raise(
     ensures number { extender.new.number ≡ extender.old.number }
     ensures ports { extender.new.ports ≡ extender.old.ports }
 {
+    channels_are_apart();
     let trunk = bridge.tree.trunk(extender.number);
     let port = port_at(extender.number, at);
     let channel = bridge.spaces.channels_mut(trunk).claim(port).unwrap();
@@ -84,6 +86,7 @@ fn register(spaces: &mut Spaces, extender: &mut Extender, trunk: u8, set: &PortS
     ensures number { extender.new.number ≡ extender.old.number }
     ensures ports { extender.new.ports ≡ extender.old.ports }
 {
+    groups_are_apart();
     let group = spaces.groups_mut(trunk).claim(set).unwrap();
     extender.register(group, set.mask(extender.number));
 }
@@ -120,6 +123,8 @@ pub(crate) fn open(
     ensures config { OnOk result (bridge_of bridge.new.config ≡ with_up (bridge_of bridge.old.config) (opening_ports bridge.old.tree)) }
     ensures events { OnOk result (events.new ≡ events.old ++ map Event.Up (opening_ports bridge.old.tree)) }
 {
+    channels_are_apart();
+    groups_are_apart();
     raise_all(bridge, extender, events)?;
     let sets = sets(alloc, &bridge.tree, &bridge.config)?;
     let trunk = bridge.tree.trunk(extender.number);

@@ -5,9 +5,10 @@ ghost use Rattle.exb_model.specs.FlatBridge.{Sent};
 ghost use Rattle.exb_model.specs.Input.{Arrival};
 
 use crate::arrival::{Buffers, Log, Recorded, arrive};
-use crate::bridge::Controller;
+use crate::bridge::{Controller, are_bytes};
 use crate::extender::Extender;
 use crate::opening::open;
+use exb_frame::laws::tag_round_trip;
 use exb_learn::Learned;
 use exb_model::bytes::Bytes;
 use exb_model::event::Event;
@@ -15,6 +16,8 @@ use exb_model::list::List;
 use exb_model::memory::NoMemory;
 use exb_model::port::PortId;
 use exb_model::setup::Setup;
+use exb_numbers::laws::{channels_are_apart, groups_are_apart};
+use exb_relay::laws::{sends_are_words, sends_leave_as_flat, spaces_number};
 use std::alloc::Global;
 use std::marker::Model;
 
@@ -94,6 +97,8 @@ impl World {
         ensures fresh { IfOk result (λ world. state_of world ≡ fresh_of setup.now) }
         ensures stands { IfOk result (λ world. (i : Input) → i.setup ≡ setup.now → Stands (basis_of i) (state_of world) [] [] (λ q. [])) }
     {
+        channels_are_apart();
+        groups_are_apart();
         let device = setup.extenders.as_slice()[0];
         let bridge = Controller::new(alloc, setup)?;
         let extender = Extender::new(alloc, device.number, device.ports)?;
@@ -172,24 +177,29 @@ impl World {
         }
     }
 
-    fn arrive(&mut self, record: &Recorded<'_>) -> Result<(), WorldFault>
-        requires { is_external self.old.shape record.now.port ≡ true }
-        ensures ok { OnOk result (IsAfterEvent (state_of self.old) (state_of self.new) (arrival_event (state_of self.old).bridge (arrival_of record.now))) }
+    fn arrive(&mut self, recorded: &Recorded<'_>) -> Result<(), WorldFault>
+        requires { is_external self.old.shape recorded.now.port ≡ true }
+        ensures ok { OnOk result (IsAfterEvent (state_of self.old) (state_of self.new) (arrival_event (state_of self.old).bridge (arrival_of recorded.now))) }
         ensures appends { OnOk result (take (length self.old.left) self.new.left ≡ self.old.left) }
-        ensures copies { OnOk result (All (IsCopyOf (state_of self.old) (arrival_of record.now)) (drop (length self.old.left) self.new.left)) }
+        ensures copies { OnOk result (All (IsCopyOf (state_of self.old) (arrival_of recorded.now)) (drop (length self.old.left) self.new.left)) }
         ensures failed { (result ≡ Err WorldFault.Failed) ↔ (self.old.failed ≡ true) }
         ensures memory { OnErr result (self.new.failed ≡ true) }
     {
         if self.failed {
             return Err(WorldFault::Failed);
         }
+        are_bytes(recorded.bytes);
+        tag_round_trip();
+        spaces_number();
+        sends_are_words();
+        sends_leave_as_flat();
         let arrived = arrive(
             self.alloc,
             &self.bridge,
             &self.extender,
             &mut self.learned,
             &mut self.buffers,
-            record,
+            recorded,
             &mut self.log,
         );
         if arrived.is_err() {
@@ -199,6 +209,7 @@ impl World {
         Ok(())
     }
 
+    #[tactic(auto, unfolding(exb_learn::specs::Entries::table_of))]
     fn tick(&mut self, seconds: u32) -> Result<(), WorldFault>
         requires { (state_of self.old).table.clock + seconds < 2 ^ 63 }
         ensures ok { OnOk result (IsAfterEvent (state_of self.old) (state_of self.new) (Event.Tick seconds)) }
