@@ -36,15 +36,11 @@ fn restricts(command: &Command) -> bool
     }
 }
 
+/// Whether one of these commands does.
 fn is_any_restricting(commands: &[Command]) -> bool
     ensures { result ≡ list_any restricts commands.now }
 {
-    for command in commands {
-        if restricts(command) {
-            return true;
-        }
-    }
-    false
+    commands.iter().any(|command| restricts(command))
 }
 
 /// A bridge of two ports with extender 1, which has three ports, on `b1`: ports 1, and 64 to 66. The ageing time
@@ -66,8 +62,11 @@ fn setup(alloc: Global, start: List<Command>) -> Result<Setup, Fail>
         ageing: 10,
         start,
     };
-    if !setup.valid() || is_any_restricting(setup.start.as_slice()) {
-        return Err(Fail::from("not a setup of one extender"));
+    if !setup.valid() {
+        return Err(Fail::from("not a valid setup"));
+    }
+    if is_any_restricting(setup.start.as_slice()) {
+        return Err(Fail::from("a start that isolates ports or has static entries"));
     }
     Ok(setup)
 }

@@ -72,7 +72,12 @@ impl Buffers {
 
 /// A frame comes to the bridge at a port of its own; gives the port where the frame is relayed. `into` then has
 /// its bytes.
-fn bring_here(bridge: &Controller, port: PortId, frame: &[u8], into: &mut FrameBuf) -> Option<PortId>
+fn bring_here(
+    bridge: &Controller,
+    port: PortId,
+    frame: &[u8],
+    into: &mut FrameBuf,
+) -> Option<PortId>
     ensures port { result ≡ (if is_relayed (bridge_of bridge.now.config) port frame.now then Some port else None) }
     ensures frame { is_relayed (bridge_of bridge.now.config) port frame.now ≡ true → into.new.items ≡ frame.now }
 {

@@ -1,5 +1,5 @@
 //! Frames that go through a bridge with one extender and local ports.
-ghost use Rattle.std.specs.Prelude.{◌≡◌, ◌≤◌, ◌<◌, ◌+◌, true, length, IfOk, OnOk};
+ghost use Rattle.std.specs.Prelude.{◌≡◌, ◌≤◌, IfOk};
 ghost use Rattle.std.specs.List.{list_any};
 ghost use Rattle.exb_world.specs.Setups.{IsSingle, restricts};
 ghost use Rattle.exb_world.specs.Worlds.{state_of};
@@ -18,7 +18,7 @@ use std::alloc::Global;
 use std::process::Abort;
 use std::test::Fail;
 
-/// Source and destination of the frames: stations with one byte that differs, and all of them.
+/// The destination byte of a frame to all stations.
 const ALL: u8 = 0xFF;
 
 fn port(rt: &impl Abort, number: u16) -> PortId {
@@ -48,15 +48,11 @@ fn restricts(command: &Command) -> bool
     }
 }
 
+/// Whether one of these commands does.
 fn is_any_restricting(commands: &[Command]) -> bool
     ensures { result ≡ list_any restricts commands.now }
 {
-    for command in commands {
-        if restricts(command) {
-            return true;
-        }
-    }
-    false
+    commands.iter().any(|command| restricts(command))
 }
 
 /// A bridge of two ports with extender 1, which has three ports, on `b1`: ports 1, and 64 to 66. The ageing time
@@ -78,56 +74,84 @@ fn setup(alloc: Global, start: List<Command>) -> Result<Setup, Fail>
         ageing: 10,
         start,
     };
-    if !setup.valid() || is_any_restricting(setup.start.as_slice()) {
-        return Err(Fail::from("not a setup of one extender"));
+    if !setup.valid() {
+        return Err(Fail::from("not a valid setup"));
+    }
+    if is_any_restricting(setup.start.as_slice()) {
+        return Err(Fail::from("a start that isolates ports or has static entries"));
     }
     Ok(setup)
 }
 
-/// The tree of a setup, and its world, opened.
-fn opened(alloc: Global, setup: &Setup) -> Result<(World, Tree), Fail>
-    requires { IsSingle setup.now }
-    ensures shape { IfOk result (λ made. made.0.shape ≡ made.1) }
-    ensures clock { IfOk result (λ made. (state_of made.0).table.clock ≡ 0) }
-{
-    let tree = Tree::new(alloc, setup)?;
-    let mut world = World::new(alloc, setup)?;
-    world.open()?;
-    world.clear();
-    Ok((world, tree))
+/// A world, with its tree and its clock in seconds.
+#[derive(Drop)]
+struct Bench {
+    world: World,
+    tree: Tree,
+    clock: u64,
+    pub ghost same: { world.shape ≡ tree },
+    pub ghost told: { (state_of world).table.clock ≡ clock },
 }
 
-/// The clock goes on.
-fn tick(world: &mut World, seconds: u32) -> Result<(), Fail>
-    requires { (state_of world.old).table.clock < 1000 }
-    ensures shape { OnOk result (world.new.shape ≡ world.old.shape) }
-    ensures clock { OnOk result ((state_of world.new).table.clock ≡ (state_of world.old).table.clock + seconds) }
-{
-    world.step(Step::Tick { seconds })?;
-    Ok(())
-}
+impl Bench {
+    /// The world of a setup with that start.
+    fn new(alloc: Global, start: List<Command>) -> Result<Bench, Fail> {
+        let setup = setup(alloc, start)?;
+        Ok(Bench {
+            tree: Tree::new(alloc, &setup)?,
+            world: World::new(alloc, &setup)?,
+            clock: 0,
+        })
+    }
 
-/// A frame arrives at an external port, as record 1, 7 nanoseconds after the start.
-fn arrive(world: &mut World, tree: &Tree, port: PortId, bytes: &[u8]) -> Result<(), Fail>
-    requires { world.old.shape ≡ tree.now }
-    ensures shape { OnOk result (world.new.shape ≡ tree.now) }
-    ensures clock { OnOk result ((state_of world.new).table.clock ≡ (state_of world.old).table.clock) }
-{
-    if bytes.len() > 262144 {
-        return Err(Fail::from("a frame that is too long"));
+    /// Opens the extender.
+    fn open(&mut self, rt: &impl Abort) {
+        assert!(rt; !self.world.is_settled());
+        self.world.open().expect(rt, "memory");
     }
-    match tree.role(port) {
-        Role::External => {}
-        _ => return Err(Fail::from("not an external port")),
+
+    /// The clock goes on.
+    fn tick(&mut self, rt: &impl Abort, seconds: u32) {
+        assert!(rt; self.clock < 1000);
+        self.world.step(Step::Tick { seconds }).expect(rt, "memory");
+        self.clock += u64::from(seconds);
     }
-    world.clear();
-    world.step(Step::Arrive {
-        port,
-        index: 1,
-        moment: 7,
-        bytes,
-    })?;
-    Ok(())
+
+    /// A frame arrives at an external port, as record 1, 7 nanoseconds after the start.
+    fn arrive(&mut self, rt: &impl Abort, port: PortId, bytes: &[u8]) {
+        assert!(rt; bytes.len() <= 262144);
+        match self.tree.role(port) {
+            Role::External => {}
+            _ => panic!(rt; "not an external port"),
+        }
+        self.world.clear();
+        self.world
+            .step(Step::Arrive {
+                port,
+                index: 1,
+                moment: 7,
+                bytes,
+            })
+            .expect(rt, "memory");
+    }
+
+    /// What left at the last arrival: the port and the length of each frame, all at the moment of the record.
+    fn expect_left(&self, rt: &impl Abort, want: &[(u16, usize)]) {
+        let left = self.world.left();
+        assert_eq!(rt; left.len(), want.len());
+        for at in 0..want.len() {
+            assert_eq!(rt; left[at].moment, 7);
+            assert_eq!(rt;
+                (left[at].port.number(), left[at].bytes.as_slice().len()),
+                want[at]
+            );
+        }
+    }
+
+    /// Whether all that happened at the last arrival is that the frame was relayed.
+    fn was_relayed(&self) -> bool {
+        matches!(self.world.events(), [Event::Relay { .. }])
+    }
 }
 
 /// A frame of 60 bytes from one station to another; `kind` is its type with two bytes after it.
@@ -148,24 +172,25 @@ fn plain(to: u8, from: u8) -> [u8; 60] {
     frame(to, from, [8, 0, 0x45, 0])
 }
 
-/// A frame with the VLAN tag of VLAN 10 and PCP 5.
-fn tagged(to: u8, from: u8) -> [u8; 60] {
-    frame(to, from, [0x81, 0, 0xA0, 10])
+/// A frame with the VLAN tag of a VLAN below 256 and PCP 5.
+fn tagged(to: u8, from: u8, vid: u8) -> [u8; 60] {
+    frame(to, from, [0x81, 0, 0xA0, vid])
 }
 
-/// What left: the port and the length of each frame, all at the moment of the record.
-fn expect_left(rt: &impl Abort, world: &World, want: &[(u16, usize)]) {
-    let left = world.left();
-    assert_eq!(rt; left.len(), want.len());
-    for at in 0..want.len() {
-        assert_eq!(rt; left[at].moment, 7);
-        assert_eq!(rt; (left[at].port.number(), left[at].bytes.as_slice().len()), want[at]);
-    }
+/// A frame to the address of control frames.
+fn control() -> [u8; 60] {
+    let mut bytes = plain(0x0E, 1);
+    bytes[0] = 0x01;
+    bytes[1] = 0x80;
+    bytes[2] = 0xC2;
+    bytes[3] = 0;
+    bytes[4] = 0;
+    bytes
 }
 
-/// Whether the one event is that the frame was relayed.
-fn was_relayed(world: &World) -> bool {
-    matches!(world.events(), [Event::Relay { .. }])
+/// A frame that is a byte too long.
+fn long() -> [u8; 9217] {
+    [0x22; 9217]
 }
 
 /// VLAN 10 with `x1.1` and `x1.2` untagged, which are of it by their PVID, and `b2` and `x1.3` tagged.
@@ -185,119 +210,122 @@ fn vlan_10(rt: &impl Abort, alloc: Global) -> Result<List<Command>, Fail> {
     Ok(start)
 }
 
-#[test]
-fn the_opening_lets_each_port_go_up_in_order(rt: HostRuntime) -> Result<(), Fail> {
-    let mut world = World::new(rt.alloc(), &setup(rt.alloc(), List::new(rt.alloc()))?)?;
-    assert!(rt; world.events().is_empty());
-    assert!(rt; !world.is_settled());
-    world.open()?;
-    assert!(rt; world.is_settled());
-    let mut ups = 64u64;
+/// That world, opened.
+fn opened(rt: &impl Abort, alloc: Global) -> Result<Bench, Fail> {
+    let mut bench = Bench::new(alloc, vlan_10(rt, alloc)?)?;
+    bench.open(rt);
+    Ok(bench)
+}
+
+/// The same, where `x1.2` is no member of VLAN 10, and filters or not.
+fn filtering(rt: &impl Abort, alloc: Global, on: bool) -> Result<Bench, Fail> {
+    let mut start = vlan_10(rt, alloc)?;
+    start.push(Command::Unmember {
+        vid: vid(rt, 10),
+        port: port(rt, 65),
+    })?;
+    start.push(Command::Filter {
+        port: port(rt, 65),
+        on,
+    })?;
+    let mut bench = Bench::new(alloc, start)?;
+    bench.open(rt);
+    Ok(bench)
+}
+
+/// The numbers of the ports that went up, in order.
+fn ups(world: &World, alloc: Global) -> Result<Vec<u16>, Fail> {
+    let mut ups = Vec::new(alloc);
     for event in world.events() {
         match event {
-            Event::Up { port } => assert_eq!(rt; u64::from(port.number()), ups),
-            _ => return Err(Fail::from("another event than an up")),
+            Event::Up { port } => ups.push(port.number())?,
+            _ => ups.push(0)?,
         }
-        ups = ups.saturating_add(1);
     }
-    assert_eq!(rt; ups, 67);
+    Ok(ups)
+}
+
+#[test]
+fn the_opening_lets_each_port_go_up_in_order(rt: HostRuntime) -> Result<(), Fail> {
+    let mut bench = Bench::new(rt.alloc(), List::new(rt.alloc()))?;
+    assert!(rt; bench.world.events().is_empty());
+    bench.open(&rt);
+    assert!(rt; bench.world.is_settled());
+    assert_eq!(rt;
+        ups(&bench.world, rt.alloc())?.as_slice(),
+        [64, 65, 66].as_slice()
+    );
     Ok(())
 }
 
 #[test]
 fn a_frame_leaves_tagged_and_untagged_by_membership(rt: HostRuntime) -> Result<(), Fail> {
-    let start = vlan_10(&rt, rt.alloc())?;
-    let (mut world, tree) = opened(rt.alloc(), &setup(rt.alloc(), start)?)?;
-    arrive(&mut world, &tree, port(&rt, 64), &plain(ALL, 1))?;
-    assert!(rt; was_relayed(&world));
-    expect_left(&rt, &world, &[(66, 64), (65, 60), (1, 64)]);
-    arrive(&mut world, &tree, port(&rt, 1), &tagged(ALL, 2))?;
-    expect_left(&rt, &world, &[(66, 60), (64, 56), (65, 56)]);
+    let mut bench = opened(&rt, rt.alloc())?;
+    bench.arrive(&rt, port(&rt, 64), &plain(ALL, 1));
+    assert!(rt; bench.was_relayed());
+    bench.expect_left(&rt, &[(66, 64), (65, 60), (1, 64)]);
+    bench.arrive(&rt, port(&rt, 1), &tagged(ALL, 2, 10));
+    bench.expect_left(&rt, &[(66, 60), (64, 56), (65, 56)]);
     Ok(())
 }
 
 #[test]
 fn a_learned_address_is_forgotten_at_the_ageing_time(rt: HostRuntime) -> Result<(), Fail> {
-    let start = vlan_10(&rt, rt.alloc())?;
-    let (mut world, tree) = opened(rt.alloc(), &setup(rt.alloc(), start)?)?;
-    arrive(&mut world, &tree, port(&rt, 66), &tagged(ALL, 3))?;
-    tick(&mut world, 9)?;
-    arrive(&mut world, &tree, port(&rt, 64), &plain(3, 1))?;
-    expect_left(&rt, &world, &[(66, 64)]);
-    tick(&mut world, 1)?;
-    arrive(&mut world, &tree, port(&rt, 64), &plain(3, 1))?;
-    expect_left(&rt, &world, &[(66, 64), (65, 60), (1, 64)]);
+    let mut bench = opened(&rt, rt.alloc())?;
+    bench.arrive(&rt, port(&rt, 66), &tagged(ALL, 3, 10));
+    bench.tick(&rt, 9);
+    bench.arrive(&rt, port(&rt, 64), &plain(3, 1));
+    bench.expect_left(&rt, &[(66, 64)]);
+    bench.tick(&rt, 1);
+    bench.arrive(&rt, port(&rt, 64), &plain(3, 1));
+    bench.expect_left(&rt, &[(66, 64), (65, 60), (1, 64)]);
     Ok(())
 }
 
 #[test]
-fn a_frame_to_its_own_address_is_flooded_where_that_is_not_learned(rt: HostRuntime) -> Result<(), Fail> {
-    let start = vlan_10(&rt, rt.alloc())?;
-    let (mut world, tree) = opened(rt.alloc(), &setup(rt.alloc(), start)?)?;
-    arrive(&mut world, &tree, port(&rt, 64), &plain(1, 1))?;
-    expect_left(&rt, &world, &[(66, 64), (65, 60), (1, 64)]);
-    arrive(&mut world, &tree, port(&rt, 64), &plain(1, 1))?;
-    expect_left(&rt, &world, &[]);
+fn a_frame_to_its_own_address_is_flooded_until_that_is_learned(
+    rt: HostRuntime,
+) -> Result<(), Fail> {
+    let mut bench = opened(&rt, rt.alloc())?;
+    bench.arrive(&rt, port(&rt, 64), &plain(1, 1));
+    bench.expect_left(&rt, &[(66, 64), (65, 60), (1, 64)]);
+    bench.arrive(&rt, port(&rt, 64), &plain(1, 1));
+    bench.expect_left(&rt, &[]);
     Ok(())
 }
 
 #[test]
-fn short_long_and_reserved_frames_are_ignored_at_local_and_extended_ports(rt: HostRuntime) -> Result<(), Fail> {
-    let start = vlan_10(&rt, rt.alloc())?;
-    let (mut world, tree) = opened(rt.alloc(), &setup(rt.alloc(), start)?)?;
-    let mut control = plain(ALL, 1);
-    control[0] = 0x01;
-    control[1] = 0x80;
-    control[2] = 0xC2;
-    control[3] = 0;
-    control[4] = 0;
-    control[5] = 0x0E;
+fn short_long_and_reserved_frames_are_ignored(rt: HostRuntime) -> Result<(), Fail> {
+    let mut bench = opened(&rt, rt.alloc())?;
     for number in [1u16, 64] {
-        for bytes in [[0xFFu8; 13].as_slice(), [0xFFu8; 9217].as_slice(), control.as_slice()] {
-            arrive(&mut world, &tree, port(&rt, number), bytes)?;
-            assert!(rt; !was_relayed(&world));
-            expect_left(&rt, &world, &[]);
-        }
+        bench.arrive(&rt, port(&rt, number), &[0xFF; 13]);
+        assert!(rt; !bench.was_relayed());
+        bench.arrive(&rt, port(&rt, number), &long());
+        assert!(rt; !bench.was_relayed());
+        bench.arrive(&rt, port(&rt, number), &control());
+        assert!(rt; !bench.was_relayed());
     }
     Ok(())
 }
 
 #[test]
-fn a_frame_of_a_vlan_that_a_filter_keeps_out_leaves_nowhere(rt: HostRuntime) -> Result<(), Fail> {
-    let mut start = vlan_10(&rt, rt.alloc())?;
-    start.push(Command::Unmember {
-        vid: vid(&rt, 10),
-        port: port(&rt, 65),
-    })?;
-    let open = setup(rt.alloc(), start)?;
-    let (mut world, tree) = opened(rt.alloc(), &open)?;
-    arrive(&mut world, &tree, port(&rt, 65), &tagged(ALL, 5))?;
-    expect_left(&rt, &world, &[(66, 60), (64, 56), (1, 60)]);
-    let mut start = vlan_10(&rt, rt.alloc())?;
-    start.push(Command::Unmember {
-        vid: vid(&rt, 10),
-        port: port(&rt, 65),
-    })?;
-    start.push(Command::Filter {
-        port: port(&rt, 65),
-        on: true,
-    })?;
-    let (mut world, tree) = opened(rt.alloc(), &setup(rt.alloc(), start)?)?;
-    arrive(&mut world, &tree, port(&rt, 65), &tagged(ALL, 5))?;
-    assert!(rt; was_relayed(&world));
-    expect_left(&rt, &world, &[]);
+fn a_filter_keeps_out_frames_of_other_vlans(rt: HostRuntime) -> Result<(), Fail> {
+    let mut open = filtering(&rt, rt.alloc(), false)?;
+    open.arrive(&rt, port(&rt, 65), &tagged(ALL, 5, 10));
+    open.expect_left(&rt, &[(66, 60), (64, 56), (1, 60)]);
+    let mut closed = filtering(&rt, rt.alloc(), true)?;
+    closed.arrive(&rt, port(&rt, 65), &tagged(ALL, 5, 10));
+    assert!(rt; closed.was_relayed());
+    closed.expect_left(&rt, &[]);
     Ok(())
 }
 
 #[test]
 fn a_frame_before_the_opening_is_ignored_at_the_extender(rt: HostRuntime) -> Result<(), Fail> {
-    let start = vlan_10(&rt, rt.alloc())?;
-    let setup = setup(rt.alloc(), start)?;
-    let tree = Tree::new(rt.alloc(), &setup)?;
-    let mut world = World::new(rt.alloc(), &setup)?;
-    arrive(&mut world, &tree, port(&rt, 64), &plain(ALL, 1))?;
-    assert!(rt; !was_relayed(&world));
-    expect_left(&rt, &world, &[]);
+    let mut bench = Bench::new(rt.alloc(), vlan_10(&rt, rt.alloc())?)?;
+    bench.arrive(&rt, port(&rt, 64), &plain(ALL, 1));
+    assert!(rt; !bench.was_relayed());
+    bench.expect_left(&rt, &[]);
     Ok(())
 }
 
@@ -311,10 +339,9 @@ fn two_ports_in_one_vlan_of_many_hear_one_another_alone(rt: HostRuntime) -> Resu
             untagged: PortSet::empty(),
         })?;
     }
-    let (mut world, tree) = opened(rt.alloc(), &setup(rt.alloc(), start)?)?;
-    let mut bytes = tagged(ALL, 1);
-    bytes[15] = 59;
-    arrive(&mut world, &tree, port(&rt, 64), &bytes)?;
-    expect_left(&rt, &world, &[(66, 60)]);
+    let mut bench = Bench::new(rt.alloc(), start)?;
+    bench.open(&rt);
+    bench.arrive(&rt, port(&rt, 64), &tagged(ALL, 1, 59));
+    bench.expect_left(&rt, &[(66, 60)]);
     Ok(())
 }

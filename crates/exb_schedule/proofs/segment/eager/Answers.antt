@@ -1,8 +1,9 @@
-use Rattle.std.proofs.Common.{◌≡◌, ℕ, List, All, drop, length, ap, subst, refl}
+use Rattle.std.proofs.Common.{◌≡◌, ℕ, List, [], ◌∷◌, ◌++◌, ◌∙◌, All, drop, length, ap, sym, subst, refl}
 use Rattle.std.proofs.lemmas.Result.{on_ok_weaker}
-use Rattle.exb_world.specs.Worlds.{State, IsCopyOf, state_of}
+use Rattle.exb_learn.specs.Calls.{Table}
+use Rattle.exb_world.specs.Worlds.{State, IsCopyOf, left_at, state_of}
 use Rattle.exb_world.specs.declared.world.Left.{Left}
-use Rattle.exb_schedule.specs.Segments.{arrived}
+use Rattle.exb_schedule.specs.Segments.{arrived, sent_after}
 use Rattle.exb_schedule.proofs.Moving.{one_member, segment_history, left_later, stands_at_once, stands_later, rest_later, rest_at_once, at_once, nothing_added, any_copies}
 use Rattle.exb_schedule.proofs.segment.eager.Goals as goal
 
@@ -61,3 +62,11 @@ returns-then-seconds-eq0-clause-rest c =
     let one = one_member c.args.arrivals.now c.index-arrivals-0.result c.requires.arrivals.0 c.requires.arrivals.1 c.index-arrivals-0.is in
     rw one (on_ok_weaker c.play.result (λ play.
     rest_at_once (state_of c.args.world.now) (state_of c.play.new.world) c.args.seconds (arrived c.index-arrivals-0.result) c.if-seconds-eq0.true play) c.play.ensures.rest)
+
+pub returns-then-seconds-eq0-clause-left : goal.returns-then-seconds-eq0-clause-left
+returns-then-seconds-eq0-clause-left c =
+    let one = one_member c.args.arrivals.now c.index-arrivals-0.result c.requires.arrivals.0 c.requires.arrivals.1 c.index-arrivals-0.is in
+    let w = state_of c.args.world.now in
+    rw one (on_ok_weaker c.play.result (λ play q.
+    play q ∙ ap (λ (t : Table). left_at w.left q ++ sent_after w.bridge t (arrived c.index-arrivals-0.result ∷ []) q) (sym (at_once c.args.seconds w.table c.if-seconds-eq0.true)))
+    c.play.ensures.left)

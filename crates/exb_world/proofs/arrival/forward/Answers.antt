@@ -25,4 +25,3 @@ send_all-requires-clause-pcp c =
     let said = passed_is (kind_of f) (passes b c.args.recorded.now.port f) c.in-Passed.vid c.in-Passed.pcp c.in-Passed.dei (sym c.relay-ingress.ensures.ingress ∙ c.in-Passed.is) in
     let small = pcp_small (kind_of f) (priority_small f c.are_bytes.ensures) in
     omega (arith, said.1)
-

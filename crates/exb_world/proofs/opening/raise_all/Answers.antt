@@ -25,7 +25,7 @@ loop-at-preserved c =
       done.ports ∙ inv.2,
       λ k. done.space k ∙ inv.3 k,
       subst (λ (x : ℕ). AreRaised now.bridge.spaces (on t x) x (tables_of now.extender) (at + 1)) inv.1
-      (subst (λ (s : Shape). AreRaised now.bridge.spaces (on s c.loop-at.extender.number) c.loop-at.extender.number (tables_of now.extender) (at + 1)) inv.0 done.raised),
+          (subst (λ (s : Shape). AreRaised now.bridge.spaces (on s c.loop-at.extender.number) c.loop-at.extender.number (tables_of now.extender) (at + 1)) inv.0 done.raised),
       done.config ∙ ap (λ x. after (command.Up (64 * x + at)) (bridge_of c.loop-at.bridge.config)) inv.1 ∙ ap (after (command.Up (64 * n + at))) inv.5 ∙ sym (with_up-more at (64 * n) base),
       done.events ∙ ap (λ x. c.loop-at.events ++ event.Up (64 * x + at) ∷ []) inv.1 ∙ ap (λ es. es ++ event.Up (64 * n + at) ∷ []) inv.6
           ∙ append_assoc c.args.events.now (map event.Up (range_with_len (64 * n) at)) (event.Up (64 * n + at) ∷ []) ∙ ap (λ es. c.args.events.now ++ es) (sym (ups_more (64 * n) at)),

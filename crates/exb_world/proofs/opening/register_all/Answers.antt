@@ -18,7 +18,7 @@ register-requires-clause-next c =
     let known = c.loop-set.invariant.3 in (
       done,
       registered_as c.loop-set.spaces c.loop-set.spaces (c.args.trunk - 1) (c.args.trunk - 1) c.args.extender.now.number c.loop-set.extender.number (tables_of c.loop-set.extender)
-      (tables_of c.loop-set.extender) c.args.extender.now.ports c.loop-set.extender.ports done done refl refl (sym c.loop-set.invariant.0) refl (sym c.loop-set.invariant.1) refl known,
+          (tables_of c.loop-set.extender) c.args.extender.now.ports c.loop-set.extender.ports done done refl refl (sym c.loop-set.invariant.0) refl (sym c.loop-set.invariant.1) refl known,
       c.requires.sets done (sets_below c.args.trunk (drop (suc i) sets)) (ports_of x.set) (below_split c.args.trunk sets i x c.loop-set-test.true c.set-item.is (eq-eqb x.bridge_port c.args.trunk c.if-set-trunk.true)),
     )
 
@@ -43,16 +43,16 @@ loop-set-preserved c =
             ap (λ (e : Extender). e.ports) w.extender-is ∙ w.register.ensures.ports ∙ c.loop-set.invariant.1,
             λ j. rw w.spaces-is (w.register.ensures.space j ∙ c.loop-set.invariant.2 j),
             registered_as w.register.new.spaces c.if-set-trunk.spaces k k w.register.new.extender.number n (tables_of w.register.new.extender) (tables_of c.if-set-trunk.extender) w.register.new.extender.ports ports
-            (done ++ ports_of x.set ∷ []) (sets_below c.args.trunk (take (i + 1) sets))
-            (sym w.spaces-is) refl (w.register.ensures.number ∙ c.loop-set.invariant.0) (ap tables_of (sym w.extender-is)) (w.register.ensures.ports ∙ c.loop-set.invariant.1)
-            (sym (more ∙ ap (λ b. done ++ cond b (ports_of x.set ∷ []) []) (eq-eqb x.bridge_port c.args.trunk w.if-set-trunk.true))) after,
+                (done ++ ports_of x.set ∷ []) (sets_below c.args.trunk (take (i + 1) sets))
+                (sym w.spaces-is) refl (w.register.ensures.number ∙ c.loop-set.invariant.0) (ap tables_of (sym w.extender-is)) (w.register.ensures.ports ∙ c.loop-set.invariant.1)
+                (sym (more ∙ ap (λ b. done ++ cond b (ports_of x.set ∷ []) []) (eq-eqb x.bridge_port c.args.trunk w.if-set-trunk.true))) after,
           )
       | else-set-trunk w ↦ (
         ap (λ (e : Extender). e.number) w.extender-is ∙ c.loop-set.invariant.0,
         ap (λ (e : Extender). e.ports) w.extender-is ∙ c.loop-set.invariant.1,
         λ j. rw w.spaces-is (c.loop-set.invariant.2 j),
         registered_as c.loop-set.spaces c.if-set-trunk.spaces k k n n (tables_of c.loop-set.extender) (tables_of c.if-set-trunk.extender) ports ports done (sets_below c.args.trunk (take (i + 1) sets))
-        (sym w.spaces-is) refl refl (ap tables_of (sym w.extender-is)) refl
-        (sym (more ∙ ap (λ b. done ++ cond b (ports_of x.set ∷ []) []) (ne_eqb x.bridge_port c.args.trunk w.if-set-trunk.false) ∙ append-nil done)) known,
+            (sym w.spaces-is) refl refl (ap tables_of (sym w.extender-is)) refl
+            (sym (more ∙ ap (λ b. done ++ cond b (ports_of x.set ∷ []) []) (ne_eqb x.bridge_port c.args.trunk w.if-set-trunk.false) ∙ append-nil done)) known,
       )
     ]
