@@ -1,7 +1,6 @@
 //! Segments of the eager run over a bridge with one extender.
-ghost use Rattle.std.specs.Prelude.{◌≡◌, ◌≤◌, true, length, IfOk, OnOk};
+ghost use Rattle.std.specs.Prelude.{◌≡◌, true, IfOk};
 ghost use Rattle.std.specs.List.{list_any};
-ghost use Rattle.exb_model.specs.Tree.{is_external};
 ghost use Rattle.exb_world.specs.Setups.{IsSingle, restricts};
 ghost use Rattle.exb_world.specs.Worlds.{state_of};
 
@@ -86,42 +85,51 @@ fn one_vlan(rt: &impl Abort, alloc: Global) -> Result<List<Command>, Fail> {
     Ok(start)
 }
 
-/// The tree of a setup, and its world, settled.
-fn settled(alloc: Global, setup: &Setup) -> Result<(World, Tree), Fail>
-    requires { IsSingle setup.now }
-    ensures shape { IfOk result (λ made. made.0.shape ≡ made.1) }
-    ensures open { IfOk result (λ made. made.0.is_open ≡ true) }
-    ensures clock { IfOk result (λ made. (state_of made.0).table.clock ≡ 0) }
-{
-    let tree = Tree::new(alloc, setup)?;
-    let mut world = World::new(alloc, setup)?;
-    settle(&mut world)?;
-    world.clear();
-    Ok((world, tree))
+/// A world that has settled in its first second, with its tree.
+#[derive(Drop)]
+struct Bench {
+    world: World,
+    tree: Tree,
+    pub ghost same: { world.shape ≡ tree },
+    pub ghost open: { world.is_open ≡ true },
+    pub ghost early: { (state_of world).table.clock ≡ 0 },
 }
 
-/// A frame of 60 bytes to all stations that arrives at an external port.
-fn broadcast(
-    alloc: Global,
-    tree: &Tree,
-    port: PortId,
-    index: u64,
-    moment: u64,
-) -> Result<Arrival, Fail>
-    ensures external { IfOk result (λ made. is_external tree.now made.port ≡ true) }
-    ensures short { IfOk result (λ made. length made.bytes ≤ 262144) }
-{
-    match tree.role(port) {
-        Role::External => {}
-        _ => return Err(Fail::from("not an external port")),
+impl Bench {
+    /// The world of a setup with all ports in VLAN 1.
+    fn new(rt: &impl Abort, alloc: Global) -> Result<Bench, Fail> {
+        let setup = setup(alloc, one_vlan(rt, alloc)?)?;
+        let tree = Tree::new(alloc, &setup)?;
+        let mut world = World::new(alloc, &setup)?;
+        settle(&mut world).expect(rt, "memory");
+        world.clear();
+        Ok(Bench { world, tree })
     }
-    let bytes = Bytes::from_slice(alloc, &[0xFF; 60])?;
-    Ok(Arrival {
-        port,
-        index,
-        moment,
-        bytes,
-    })
+
+    /// A segment in which a frame of 60 bytes to all stations arrives at an external port, as record 1.
+    fn play(
+        self,
+        rt: &impl Abort,
+        alloc: Global,
+        seconds: u32,
+        port: PortId,
+        moment: u64,
+    ) -> Result<World, Fail> {
+        let mut world = self.world;
+        match self.tree.role(port) {
+            Role::External => {}
+            _ => return Err(Fail::from("not an external port")),
+        }
+        let bytes = Bytes::from_slice(alloc, &[0xFF; 60])?;
+        let arrivals = [Arrival {
+            port,
+            index: 1,
+            moment,
+            bytes,
+        }];
+        eager(&mut world, seconds, &[], &arrivals).expect(rt, "memory");
+        Ok(world)
+    }
 }
 
 /// A word for an event, with its port or its seconds.
@@ -166,10 +174,8 @@ fn settling_opens_the_world_once(rt: HostRuntime) -> Result<(), Fail> {
 
 #[test]
 fn a_later_segment_ticks_relays_and_settles(rt: HostRuntime) -> Result<(), Fail> {
-    let start = one_vlan(&rt, rt.alloc())?;
-    let (mut world, tree) = settled(rt.alloc(), &setup(rt.alloc(), start)?)?;
-    let arrivals = [broadcast(rt.alloc(), &tree, port(&rt, 66), 1, 7)?];
-    eager(&mut world, 5, &[], &arrivals)?;
+    let bench = Bench::new(&rt, rt.alloc())?;
+    let world = bench.play(&rt, rt.alloc(), 5, port(&rt, 66), 7)?;
     expect_events(&rt, &world, &[("tick", 5), ("relay", 66), ("settled", 0)]);
     expect_left(&rt, &world, &[(64, 7), (65, 7), (1, 7)]);
     Ok(())
@@ -177,10 +183,8 @@ fn a_later_segment_ticks_relays_and_settles(rt: HostRuntime) -> Result<(), Fail>
 
 #[test]
 fn a_segment_in_the_same_second_has_no_tick(rt: HostRuntime) -> Result<(), Fail> {
-    let start = one_vlan(&rt, rt.alloc())?;
-    let (mut world, tree) = settled(rt.alloc(), &setup(rt.alloc(), start)?)?;
-    let arrivals = [broadcast(rt.alloc(), &tree, port(&rt, 1), 4, 9)?];
-    eager(&mut world, 0, &[], &arrivals)?;
+    let bench = Bench::new(&rt, rt.alloc())?;
+    let world = bench.play(&rt, rt.alloc(), 0, port(&rt, 1), 9)?;
     expect_events(&rt, &world, &[("relay", 1), ("settled", 0)]);
     expect_left(&rt, &world, &[(64, 9), (65, 9), (66, 9)]);
     Ok(())

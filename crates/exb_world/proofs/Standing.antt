@@ -7,13 +7,14 @@ use Rattle.exb_model.specs.declared.event.Event.{Event}
 use Rattle.exb_model.specs.declared.event.Event.TheVariants as event
 use Rattle.exb_model.specs.Configuration.{Bridge}
 use Rattle.exb_model.specs.History.{Basis, History, changed, bridge_after, now_after}
-use Rattle.exb_model.specs.Learning.{Look, learned}
+use Rattle.exb_model.specs.Learning.{Look, learned, passes}
 use Rattle.exb_model.specs.FlatBridge.{Sent, sent_by, flat}
 use Rattle.exb_model.specs.Input.{Arrival}
 use Rattle.exb_model.specs.EagerHistory.{arrival_event, is_relayed}
 use Rattle.exb_model.specs.LegalHistory.{place_of}
-use Rattle.exb_learn.specs.Calls.{Table, look_in}
-use Rattle.exb_learn.specs.Histories.{after_any as learned_by, call_at, table_after}
+use Rattle.exb_model.specs.Frames.{source, is_group}
+use Rattle.exb_learn.specs.Calls.{Table, See, look_in}
+use Rattle.exb_learn.specs.Histories.{after_any as learned_by, relay_call, call_at, table_after}
 use Rattle.exb_learn.proofs.Bridges.{follows, looks_learned}
 use Rattle.exb_world.specs.Worlds.{State, Stands, IsAfterEvent, call_in, table_with, place_at}
 
@@ -72,3 +73,19 @@ stands_event old new e more of after i given h left s =
       once = ap (filter_map place_of) (reverse-append (e ∷ []) h) ∙ filter_map-append place_of (reverse h) (e ∷ [])
           ∙ rw (s.once, of.place) (sym (map-append place_at given more));
     }
+
+-- an arrival takes no time
+pub clock_same : (k : Bridge) (a : Arrival) (t : Table) → (table_with k (arrival_event k a) t).clock ≡ t.clock
+clock_same k a t = by_relayed (is_relayed k a.port a.bytes)
+  where
+    by_group : (b : Bool) (v : ℕ) → (learned_by (cond b None (Some (See v (source a.bytes) a.port))) t).clock ≡ t.clock
+    by_group true v = refl
+    by_group false v = refl
+
+    by_vlan : (o : Option ℕ) → (learned_by (relay_call a.port a.bytes o) t).clock ≡ t.clock
+    by_vlan None = refl
+    by_vlan (Some v) = by_group (is_group (source a.bytes)) v
+
+    by_relayed : (b : Bool) → (table_with k (cond b (event.Relay a.port a.index a.moment a.bytes) (event.Ignored a.port a.index)) t).clock ≡ t.clock
+    by_relayed true = by_vlan (passes k a.port a.bytes)
+    by_relayed false = refl

@@ -105,34 +105,54 @@ impl Bench {
     }
 
     /// Opens the extender.
-    fn open(&mut self, rt: &impl Abort) {
-        assert!(rt; !self.world.is_settled());
-        self.world.open().expect(rt, "memory");
+    fn open(self, rt: &impl Abort) -> Bench {
+        let Bench {
+            mut world,
+            tree,
+            clock,
+        } = self;
+        assert!(rt; !world.is_settled());
+        world.open().expect(rt, "memory");
+        Bench { world, tree, clock }
     }
 
     /// The clock goes on.
-    fn tick(&mut self, rt: &impl Abort, seconds: u32) {
-        assert!(rt; self.clock < 1000);
-        self.world.step(Step::Tick { seconds }).expect(rt, "memory");
-        self.clock += u64::from(seconds);
+    fn tick(self, rt: &impl Abort, seconds: u32) -> Bench {
+        let Bench {
+            mut world,
+            tree,
+            clock,
+        } = self;
+        assert!(rt; clock < 1000);
+        world.step(Step::Tick { seconds }).expect(rt, "memory");
+        Bench {
+            world,
+            tree,
+            clock: clock + u64::from(seconds),
+        }
     }
 
     /// A frame arrives at an external port, as record 1, 7 nanoseconds after the start.
-    fn arrive(&mut self, rt: &impl Abort, port: PortId, bytes: &[u8]) {
+    fn arrive(self, rt: &impl Abort, port: PortId, bytes: &[u8]) -> Bench {
+        let Bench {
+            mut world,
+            tree,
+            clock,
+        } = self;
         assert!(rt; bytes.len() <= 262144);
-        match self.tree.role(port) {
+        match tree.role(port) {
             Role::External => {}
             _ => panic!(rt; "not an external port"),
         }
-        self.world.clear();
-        self.world
-            .step(Step::Arrive {
-                port,
-                index: 1,
-                moment: 7,
-                bytes,
-            })
-            .expect(rt, "memory");
+        world.clear();
+        let step = Step::Arrive {
+            port,
+            index: 1,
+            moment: 7,
+            bytes,
+        };
+        world.step(step).expect(rt, "memory");
+        Bench { world, tree, clock }
     }
 
     /// What left at the last arrival: the port and the length of each frame, all at the moment of the record.
@@ -212,9 +232,7 @@ fn vlan_10(rt: &impl Abort, alloc: Global) -> Result<List<Command>, Fail> {
 
 /// That world, opened.
 fn opened(rt: &impl Abort, alloc: Global) -> Result<Bench, Fail> {
-    let mut bench = Bench::new(alloc, vlan_10(rt, alloc)?)?;
-    bench.open(rt);
-    Ok(bench)
+    Ok(Bench::new(alloc, vlan_10(rt, alloc)?)?.open(rt))
 }
 
 /// The same, where `x1.2` is no member of VLAN 10, and filters or not.
@@ -228,9 +246,7 @@ fn filtering(rt: &impl Abort, alloc: Global, on: bool) -> Result<Bench, Fail> {
         port: port(rt, 65),
         on,
     })?;
-    let mut bench = Bench::new(alloc, start)?;
-    bench.open(rt);
-    Ok(bench)
+    Ok(Bench::new(alloc, start)?.open(rt))
 }
 
 /// The numbers of the ports that went up, in order.
@@ -247,9 +263,9 @@ fn ups(world: &World, alloc: Global) -> Result<Vec<u16>, Fail> {
 
 #[test]
 fn the_opening_lets_each_port_go_up_in_order(rt: HostRuntime) -> Result<(), Fail> {
-    let mut bench = Bench::new(rt.alloc(), List::new(rt.alloc()))?;
+    let bench = Bench::new(rt.alloc(), List::new(rt.alloc()))?;
     assert!(rt; bench.world.events().is_empty());
-    bench.open(&rt);
+    let bench = bench.open(&rt);
     assert!(rt; bench.world.is_settled());
     assert_eq!(rt;
         ups(&bench.world, rt.alloc())?.as_slice(),
@@ -260,24 +276,24 @@ fn the_opening_lets_each_port_go_up_in_order(rt: HostRuntime) -> Result<(), Fail
 
 #[test]
 fn a_frame_leaves_tagged_and_untagged_by_membership(rt: HostRuntime) -> Result<(), Fail> {
-    let mut bench = opened(&rt, rt.alloc())?;
-    bench.arrive(&rt, port(&rt, 64), &plain(ALL, 1));
+    let bench = opened(&rt, rt.alloc())?;
+    let bench = bench.arrive(&rt, port(&rt, 64), &plain(ALL, 1));
     assert!(rt; bench.was_relayed());
     bench.expect_left(&rt, &[(66, 64), (65, 60), (1, 64)]);
-    bench.arrive(&rt, port(&rt, 1), &tagged(ALL, 2, 10));
+    let bench = bench.arrive(&rt, port(&rt, 1), &tagged(ALL, 2, 10));
     bench.expect_left(&rt, &[(66, 60), (64, 56), (65, 56)]);
     Ok(())
 }
 
 #[test]
 fn a_learned_address_is_forgotten_at_the_ageing_time(rt: HostRuntime) -> Result<(), Fail> {
-    let mut bench = opened(&rt, rt.alloc())?;
-    bench.arrive(&rt, port(&rt, 66), &tagged(ALL, 3, 10));
-    bench.tick(&rt, 9);
-    bench.arrive(&rt, port(&rt, 64), &plain(3, 1));
+    let bench = opened(&rt, rt.alloc())?;
+    let bench = bench.arrive(&rt, port(&rt, 66), &tagged(ALL, 3, 10));
+    let bench = bench.tick(&rt, 9);
+    let bench = bench.arrive(&rt, port(&rt, 64), &plain(3, 1));
     bench.expect_left(&rt, &[(66, 64)]);
-    bench.tick(&rt, 1);
-    bench.arrive(&rt, port(&rt, 64), &plain(3, 1));
+    let bench = bench.tick(&rt, 1);
+    let bench = bench.arrive(&rt, port(&rt, 64), &plain(3, 1));
     bench.expect_left(&rt, &[(66, 64), (65, 60), (1, 64)]);
     Ok(())
 }
@@ -286,23 +302,23 @@ fn a_learned_address_is_forgotten_at_the_ageing_time(rt: HostRuntime) -> Result<
 fn a_frame_to_its_own_address_is_flooded_until_that_is_learned(
     rt: HostRuntime,
 ) -> Result<(), Fail> {
-    let mut bench = opened(&rt, rt.alloc())?;
-    bench.arrive(&rt, port(&rt, 64), &plain(1, 1));
+    let bench = opened(&rt, rt.alloc())?;
+    let bench = bench.arrive(&rt, port(&rt, 64), &plain(1, 1));
     bench.expect_left(&rt, &[(66, 64), (65, 60), (1, 64)]);
-    bench.arrive(&rt, port(&rt, 64), &plain(1, 1));
+    let bench = bench.arrive(&rt, port(&rt, 64), &plain(1, 1));
     bench.expect_left(&rt, &[]);
     Ok(())
 }
 
 #[test]
 fn short_long_and_reserved_frames_are_ignored(rt: HostRuntime) -> Result<(), Fail> {
-    let mut bench = opened(&rt, rt.alloc())?;
     for number in [1u16, 64] {
-        bench.arrive(&rt, port(&rt, number), &[0xFF; 13]);
+        let bench = opened(&rt, rt.alloc())?;
+        let bench = bench.arrive(&rt, port(&rt, number), &[0xFF; 13]);
         assert!(rt; !bench.was_relayed());
-        bench.arrive(&rt, port(&rt, number), &long());
+        let bench = bench.arrive(&rt, port(&rt, number), &long());
         assert!(rt; !bench.was_relayed());
-        bench.arrive(&rt, port(&rt, number), &control());
+        let bench = bench.arrive(&rt, port(&rt, number), &control());
         assert!(rt; !bench.was_relayed());
     }
     Ok(())
@@ -310,11 +326,11 @@ fn short_long_and_reserved_frames_are_ignored(rt: HostRuntime) -> Result<(), Fai
 
 #[test]
 fn a_filter_keeps_out_frames_of_other_vlans(rt: HostRuntime) -> Result<(), Fail> {
-    let mut open = filtering(&rt, rt.alloc(), false)?;
-    open.arrive(&rt, port(&rt, 65), &tagged(ALL, 5, 10));
+    let open = filtering(&rt, rt.alloc(), false)?;
+    let open = open.arrive(&rt, port(&rt, 65), &tagged(ALL, 5, 10));
     open.expect_left(&rt, &[(66, 60), (64, 56), (1, 60)]);
-    let mut closed = filtering(&rt, rt.alloc(), true)?;
-    closed.arrive(&rt, port(&rt, 65), &tagged(ALL, 5, 10));
+    let closed = filtering(&rt, rt.alloc(), true)?;
+    let closed = closed.arrive(&rt, port(&rt, 65), &tagged(ALL, 5, 10));
     assert!(rt; closed.was_relayed());
     closed.expect_left(&rt, &[]);
     Ok(())
@@ -322,8 +338,8 @@ fn a_filter_keeps_out_frames_of_other_vlans(rt: HostRuntime) -> Result<(), Fail>
 
 #[test]
 fn a_frame_before_the_opening_is_ignored_at_the_extender(rt: HostRuntime) -> Result<(), Fail> {
-    let mut bench = Bench::new(rt.alloc(), vlan_10(&rt, rt.alloc())?)?;
-    bench.arrive(&rt, port(&rt, 64), &plain(ALL, 1));
+    let bench = Bench::new(rt.alloc(), vlan_10(&rt, rt.alloc())?)?;
+    let bench = bench.arrive(&rt, port(&rt, 64), &plain(ALL, 1));
     assert!(rt; !bench.was_relayed());
     bench.expect_left(&rt, &[]);
     Ok(())
@@ -339,9 +355,8 @@ fn two_ports_in_one_vlan_of_many_hear_one_another_alone(rt: HostRuntime) -> Resu
             untagged: PortSet::empty(),
         })?;
     }
-    let mut bench = Bench::new(rt.alloc(), start)?;
-    bench.open(&rt);
-    bench.arrive(&rt, port(&rt, 64), &tagged(ALL, 1, 59));
+    let bench = Bench::new(rt.alloc(), start)?.open(&rt);
+    let bench = bench.arrive(&rt, port(&rt, 64), &tagged(ALL, 1, 59));
     bench.expect_left(&rt, &[(66, 60)]);
     Ok(())
 }
