@@ -1,5 +1,5 @@
 -- One segment more: what is counted, what is written, and where the world stands.
-use Rattle.std.proofs.Common.{◌≡◌, ℕ, ◌+◌, ◌*◌, ◌<◌, ◌≤◌, ◌==◌, Bool, true, false, not, cond, List, [], ◌∷◌, ◌++◌, length, sum_by, filter, All, get_or, nat_lt, refl, ap, sym, subst, ◌∙◌, arith, eq-eqb}
+use Rattle.std.proofs.Common.{◌≡◌, ℕ, ◌+◌, ◌<◌, ◌≤◌, ◌==◌, Bool, true, false, not, cond, List, [], ◌∷◌, ◌++◌, length, sum_by, filter, All, get_or, nat_lt, refl, ap, sym, subst, ◌∙◌, arith, eq-eqb}
 use Rattle.std.specs.Prelude.{Option, Some, None, if◌then◌else◌}
 use Rattle.std.proofs.lemmas.List.{append-nil}
 use Rattle.std.proofs.lemmas.List.Filters.{length-filter_both}
@@ -20,10 +20,10 @@ use Rattle.exb_model.specs.Input.{Input, Arrival, basis_of, tree_of}
 use Rattle.exb_model.specs.EagerHistory.{is_relayed, arrival_event}
 use Rattle.exb_model.specs.Texts.{Counts, with_left, counts, capture_text}
 use Rattle.exb_world.specs.declared.world.Left.{Left}
-use Rattle.exb_learn.specs.Calls.{Call, See, Table}
+use Rattle.exb_learn.specs.Calls.{See, Table}
 use Rattle.exb_learn.specs.Histories.{relay_call, after_any}
 use Rattle.exb_world.specs.Worlds.{State, left_at, table_with, Stands}
-use Rattle.exb_schedule.specs.Segments.{segment_events, segment_sends}
+use Rattle.exb_schedule.specs.Segments.{segment_events}
 use Rattle.exb_run.specs.Plans.{Planned, port_count, port_at}
 use Rattle.exb_run.specs.Writing.{lines_of, with_more, with_left_frames, CanBeWritten}
 use Rattle.exb_run.specs.Playing.{text_after, played}

@@ -171,7 +171,7 @@ impl Outputs {
         line: &mut String,
         events: &[Event],
     ) -> Result<(), ShelfFault>
-            requires ready { IsReady plan.now (S.ids shelf.old) self.old }
+        requires ready { IsReady plan.now (S.ids shelf.old) self.old }
         ensures ready { IsReady plan.now (S.ids shelf.new) self.new }
         ensures texts { S.tells → OnOk result ((orig : Files) (text : ℕ → List ℕ) → HasTexts plan.now (pieces_of self.old) orig (S.file shelf.old) text
             → HasTexts plan.now (pieces_of self.new) orig (S.file shelf.new) (with_more text (port_count plan.now) (lines_of events.now))) }
@@ -192,7 +192,7 @@ impl Outputs {
         plan: &Plan,
         left: &[Left],
     ) -> Result<(), ShelfFault>
-            requires ready { IsReady plan.now (S.ids shelf.old) self.old }
+        requires ready { IsReady plan.now (S.ids shelf.old) self.old }
         requires frames { All (λ x. CanBeWritten plan.now x) left.now }
         ensures ready { IsReady plan.now (S.ids shelf.new) self.new }
         ensures texts { S.tells → OnOk result ((orig : Files) (text : ℕ → List ℕ) → HasTexts plan.now (pieces_of self.old) orig (S.file shelf.old) text
@@ -209,7 +209,7 @@ impl Outputs {
 
     /// Writes all that is not written yet.
     pub(crate) fn finish<S: Shelf>(&mut self, shelf: &mut S, plan: &Plan) -> Result<(), ShelfFault>
-            requires ready { IsReady plan.now (S.ids shelf.old) self.old }
+        requires ready { IsReady plan.now (S.ids shelf.old) self.old }
         ensures texts { S.tells → OnOk result ((orig : Files) (text : ℕ → List ℕ) → HasTexts plan.now (pieces_of self.old) orig (S.file shelf.old) text
             → Filled orig (S.file shelf.new) (port_count plan.now + 1) (output_name plan.now) (λ j bytes. bytes ≡ text j)) }
         ensures others { S.tells → OnlyPlanned plan.now (S.file shelf.old) (S.file shelf.new) }
@@ -231,7 +231,7 @@ impl Outputs {
         line: &mut String,
         event: &Event,
     ) -> Result<(), ShelfFault>
-            requires ready { IsReady plan.now (S.ids shelf.old) self.old }
+        requires ready { IsReady plan.now (S.ids shelf.old) self.old }
         ensures ready { IsReady plan.now (S.ids shelf.new) self.new }
         ensures texts { S.tells → OnOk result ((orig : Files) (text : ℕ → List ℕ) → HasTexts plan.now (pieces_of self.old) orig (S.file shelf.old) text
             → HasTexts plan.now (pieces_of self.new) orig (S.file shelf.new) (with_more text (port_count plan.now) (line_of event.now ++ 10 ∷ []))) }
@@ -253,7 +253,7 @@ impl Outputs {
         plan: &Plan,
         left: &Left,
     ) -> Result<(), ShelfFault>
-            requires ready { IsReady plan.now (S.ids shelf.old) self.old }
+        requires ready { IsReady plan.now (S.ids shelf.old) self.old }
         requires frame { CanBeWritten plan.now left.now }
         ensures ready { IsReady plan.now (S.ids shelf.new) self.new }
         ensures texts { S.tells → OnOk result ((orig : Files) (text : ℕ → List ℕ) → HasTexts plan.now (pieces_of self.old) orig (S.file shelf.old) text
@@ -277,7 +277,7 @@ impl Outputs {
         head: &[u8],
         bytes: &[u8],
     ) -> Result<(), ShelfFault>
-            requires ready { IsReady plan.now (S.ids shelf.old) self.old }
+        requires ready { IsReady plan.now (S.ids shelf.old) self.old }
         requires within { at ≤ port_count plan.now }
         ensures ready { IsReady plan.now (S.ids shelf.new) self.new }
         ensures texts { S.tells → OnOk result ((orig : Files) (text : ℕ → List ℕ) → HasTexts plan.now (pieces_of self.old) orig (S.file shelf.old) text

@@ -11,7 +11,9 @@ const TWO: &str =
 
 /// The addresses of all stations, and of two.
 const ALL: [u8; 6] = [0xFF; 6];
+
 const FIRST: [u8; 6] = [2, 0, 0, 0, 0, 1];
+
 const SECOND: [u8; 6] = [2, 0, 0, 0, 0, 2];
 
 /// The type of a frame without a tag.
@@ -46,7 +48,9 @@ fn capture(rt: &impl Abort, alloc: Global, frames: &[(u8, &[u8])]) -> Vec<u8> {
     let mut file = HEADER.to_vec(alloc).expect(rt, "room");
     for (second, frame) in frames {
         let [low, high, ..] = frame.len().to_le_bytes();
-        let head = [*second, 0, 0, 0, 0, 0, 0, 0, low, high, 0, 0, low, high, 0, 0];
+        let head = [
+            *second, 0, 0, 0, 0, 0, 0, 0, low, high, 0, 0, low, high, 0, 0,
+        ];
         file.extend_from_slice(&head).expect(rt, "room");
         file.extend_from_slice(frame).expect(rt, "room");
     }
@@ -111,10 +115,20 @@ fn short_and_long_frames_are_ignored(rt: HostRuntime) -> Result<(), Fail> {
     let file = capture(
         &rt,
         alloc,
-        &[(100, &short), (100, &shortest), (100, &longest), (100, &long)],
+        &[
+            (100, &short),
+            (100, &shortest),
+            (100, &longest),
+            (100, &long),
+        ],
     );
     let run = Played::new(&rt, alloc, TWO, &file, &HEADER);
-    run.left(&rt, alloc, "out-x1.2.pcap", &[(100, &shortest), (100, &longest)]);
+    run.left(
+        &rt,
+        alloc,
+        "out-x1.2.pcap",
+        &[(100, &shortest), (100, &longest)],
+    );
     run.says(
         &rt,
         "up x1.1\nup x1.2\nsettled\nignore x1.1 1\nsettled\nrelay x1.1 2\nsettled\nrelay x1.1 3\nsettled\nignore x1.1 4\nsettled\n",
@@ -200,7 +214,14 @@ fn an_address_is_forgotten_at_the_ageing_time(rt: HostRuntime) -> Result<(), Fai
 fn a_station_may_send_the_type_of_the_etag(rt: HostRuntime) -> Result<(), Fail> {
     let alloc = rt.alloc();
     let zeros = frame(&rt, alloc, ALL, FIRST, &[0x89, 0x3F], 60);
-    let group = frame(&rt, alloc, ALL, FIRST, &[0x89, 0x3F, 0, 0, 0x10, 0, 0, 0], 60);
+    let group = frame(
+        &rt,
+        alloc,
+        ALL,
+        FIRST,
+        &[0x89, 0x3F, 0, 0, 0x10, 0, 0, 0],
+        60,
+    );
     let file = capture(&rt, alloc, &[(100, &zeros), (100, &group)]);
     let run = Played::new(&rt, alloc, TWO, &file, &HEADER);
     run.left(&rt, alloc, "out-x1.1.pcap", &[]);

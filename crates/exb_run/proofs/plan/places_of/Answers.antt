@@ -1,5 +1,5 @@
-use Rattle.std.proofs.Common.{rules, ◌≡◌, ◌++◌, ◌∷◌, [], if◌then◌else◌, length, ap, ◌∙◌, arith}
-use Rattle.std.specs.Prelude.{ℕ, List}
+use Rattle.std.proofs.Common.{rules, ◌≡◌, ◌++◌, ◌∷◌, [], length, ap, ◌∙◌, arith}
+use Rattle.std.specs.Prelude.{ℕ}
 use Rattle.exb_run.proofs.Places.{places_begin, places_more, places_end, places_low}
 use Rattle.exb_run.proofs.plan.places_of.Goals as goal
 

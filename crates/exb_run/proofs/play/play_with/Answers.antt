@@ -1,4 +1,4 @@
-use Rattle.std.proofs.Common.{◌≡◌, None, ℕ, List, ap, sym, subst, ◌∙◌}
+use Rattle.std.proofs.Common.{◌≡◌, None, List, ap, sym, subst, ◌∙◌}
 use Rattle.exb_model.specs.History.{History}
 use Rattle.exb_model.specs.Input.{Coming, basis_of, tree_of, bounds_of, merge}
 use Rattle.exb_model.specs.declared.setup.Setup.{Setup}

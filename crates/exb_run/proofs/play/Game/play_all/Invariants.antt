@@ -1,4 +1,4 @@
-use Rattle.std.proofs.Common.{◌≡◌, ◌≤◌, ◌+◌, ◌^◌, ℕ, length}
+use Rattle.std.proofs.Common.{◌≡◌, ◌≤◌, ◌+◌, ◌^◌, length}
 use Rattle.exb_model.specs.History.{History}
 use Rattle.exb_model.specs.Input.{Input, tree_of}
 use Rattle.exb_merge.specs.Streams.{to_come}

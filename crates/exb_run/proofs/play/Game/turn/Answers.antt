@@ -1,15 +1,15 @@
-use Rattle.std.proofs.Common.{◌≡◌, ◌≤◌, ◌+◌, ℕ, List, [], ◌∷◌, length, ap, sym, subst, ◌∙◌, arith}
+use Rattle.std.proofs.Common.{◌+◌, ℕ, [], ◌∷◌, ap, sym, subst, ◌∙◌, arith}
 use Rattle.std.proofs.lemmas.Result.{on_ok_weaker}
 use Rattle.exb_model.specs.Texts.{Counts}
 use Rattle.exb_model.specs.Input.{basis_of, tree_of, bounds_of}
-use Rattle.exb_model.specs.FlatBridge.{Sent, flat}
+use Rattle.exb_model.specs.FlatBridge.{flat}
 use Rattle.exb_model.specs.EagerHistory.{eager_segment}
 use Rattle.exb_learn.specs.Calls.{look_in}
 use Rattle.exb_schedule.specs.Segments.{arrived, segment, segment_sends, later}
 use Rattle.exb_run.specs.Writing.{pieces_of}
 use Rattle.exb_text.specs.Tallies.{counts_of}
 use Rattle.exb_world.specs.Worlds.{Parts, State, state_of}
-use Rattle.exb_run.specs.Playing.{IsAtRest, IsUnderWay, IsCounted, played, text_after}
+use Rattle.exb_run.specs.Playing.{IsUnderWay, IsCounted, played, text_after}
 use Rattle.exb_run.proofs.Turning.{sends_small, same_clock}
 use Rattle.exb_run.proofs.Turned.{when_ok, on_ok_both, same_texts, frames_fit, few, counts_counted, counts_played, text_is, under_way}
 use Rattle.exb_run.proofs.play.Game.turn.Goals as goal
