@@ -3,6 +3,8 @@
 #![tactic(auto)]
 
 mod draws;
+#[cfg(test)]
+mod hostile;
 mod site;
 mod stations;
 mod tables;
