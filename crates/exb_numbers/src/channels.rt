@@ -126,6 +126,13 @@ impl Channels {
         }
     }
 
+    /// How many channels there are.
+    pub fn limit(&self) -> u16
+        ensures { length self.now ≡ result + 1 }
+    {
+        self.ports.len() as u16 - 1
+    }
+
     /// The channel of a port; None exactly where it has none.
     pub fn of(&self, port: PortId) -> Option<u16>
         ensures value { result ≡ channel_of self.now port }

@@ -1,5 +1,5 @@
 //! The groups of a space.
-ghost use Rattle.std.specs.Prelude.{◌≡◌, ◌≢◌, ℕ, ◌+◌, ◌==◌, ◌<◌, ◌≤◌, not, true, false, [], ◌++◌, ◌∷◌, Some, None, if◌then◌else◌, length, slice_index, slice_set, nat_lt, vec_capacity, IfOk, OnErr, IfSome, MatchResult};
+ghost use Rattle.std.specs.Prelude.{◌≡◌, ◌≢◌, ℕ, ◌+◌, ◌==◌, ◌<◌, ◌≤◌, not, true, false, [], ◌++◌, ◌∷◌, Some, None, if◌then◌else◌, length, slice_index, slice_set, nat_lt, vec_capacity, IfOk, OnErr, IfSome, MatchOption, MatchResult};
 ghost use Rattle.exb_model.specs.Ports.{ports_of};
 ghost use Rattle.exb_model.specs.Refusals.{is_empty_set};
 ghost use Rattle.exb_numbers.specs.Groups.{set_of, sets_of, is_used, group_of, lowest_group};
@@ -158,6 +158,24 @@ impl Groups {
             order,
             free: self.free,
         })
+    }
+
+    /// How many groups there are.
+    pub fn limit(&self) -> u16
+        ensures { result ≡ self.now.limit }
+    {
+        self.limit
+    }
+
+    /// The set of a group; None exactly where the group is free or there is no such group.
+    pub fn set(&self, group: u16) -> Option<&PortSet>
+        ensures { MatchOption result (set_of self.now group ≡ []) (λ s. (ports_of s.now ≡ set_of self.now group) × (is_used self.now group ≡ true)) }
+    {
+        if group < FIRST {
+            return None;
+        }
+        let set = self.sets.get((group - FIRST) as usize)?;
+        if has_ports(set) { Some(set) } else { None }
     }
 
     /// The group of a set; None exactly where the set has none.

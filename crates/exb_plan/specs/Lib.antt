@@ -1,0 +1,4 @@
+pub mod Held
+pub mod Between
+pub mod Asks
+pub mod Plans
