@@ -74,6 +74,10 @@ channel_rows t p = filter (λ row. not (row.extender == device p)) (rows_of t (�
 abbrev pub channel_ask : Step → ℕ → Row → AskAt
 channel_ask step c row = ask row.extender (message step (record { ecid = c; mask = row.mask } ∷ []))
 
+-- none at the extender of its port
+abbrev pub put_above : Step → ℕ → ℕ → Row → List AskAt
+put_above step own c row = if row.extender == own then [] else channel_ask step c row ∷ []
+
 abbrev pub channel_asks : Step → Shape → ℕ → ℕ → List AskAt
 channel_asks step t p c = map (channel_ask step c) (channel_rows t p)
 

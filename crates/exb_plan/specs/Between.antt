@@ -4,7 +4,7 @@ use Rattle.std.specs.Prelude.{ℕ, ◌+◌, ◌==◌, ◌&&◌, Bool, true, not,
 use Rattle.std.specs.List.{list_any, range_with_len}
 use Rattle.exb_model.specs.declared.event.Cause.{Cause}
 use Rattle.exb_model.specs.Ports.{all_ports}
-use Rattle.exb_model.specs.Tree.{Shape, device, trunk, is_extended}
+use Rattle.exb_model.specs.Tree.{Shape, device, trunk, is_cascade, is_extended}
 use Rattle.exb_model.specs.Setup.{Limits}
 use Rattle.exb_model.specs.Configuration.{Bridge}
 use Rattle.exb_model.specs.Refusals.{bridge_ports, channels_short, groups_short, first_cause}
@@ -44,10 +44,14 @@ fresh_sets t old new = filter (λ s. not (has_set (sets_of t old) s)) (sets_of t
 abbrev pub group_at : Held → ℕ → ℕ → Group
 group_at h k g = record { bridge_port = k + 1; number = g; ports = h.set k g }
 
--- the group is in use for a set that the new configuration no longer has
-abbrev pub is_gone : Shape → Bridge → Held → ℕ → ℕ → Bool
-is_gone t new h k g = group_used h k g && not (has_set (sets_of t new) (record { bridge_port = k + 1; ports = h.set k g }))
+-- the group is in use, but not for a set that is kept
+abbrev pub is_gone : List PortsAt → Held → ℕ → ℕ → Bool
+is_gone kept h k g = group_used h k g && not (has_set kept (record { bridge_port = k + 1; ports = h.set k g }))
 
--- those groups, by bridge port and rising number
-unfoldable pub gone_groups : Shape → Bridge → Held → List Group
-gone_groups t new h = flat_map (λ k. map (group_at h k) (filter (is_gone t new h k) (range_with_len 4096 12288))) bridge_ports
+-- those groups of a bridge port, by rising number
+unfoldable pub gone_at : List PortsAt → Held → ℕ → List Group
+gone_at kept h k = map (group_at h k) (filter (is_gone kept h k) (range_with_len 4096 12288))
+
+-- those of all cascade ports of the bridge, in their order
+unfoldable pub gone_groups : Shape → List PortsAt → Held → List Group
+gone_groups t kept h = flat_map (gone_at kept h) (filter (is_cascade t) bridge_ports)

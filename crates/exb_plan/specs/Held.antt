@@ -1,6 +1,6 @@
 -- What the spaces hold: by the place of a bridge port, which is its number less 1, the port of each channel
 -- and the set of each group.
-use Rattle.std.specs.Prelude.{◌≡◌, ℕ, ◌+◌, ◌<◌, ◌==◌, ◌&&◌, ◌||◌, Bool, true, not, bytes_eq, List, [], ◌∷◌, ◌++◌, Option, Some, None, is_some, find, length, nat_lt, if◌then◌else◌}
+use Rattle.std.specs.Prelude.{◌≡◌, ℕ, ◌+◌, ◌-◌, ◌<◌, ◌==◌, ◌&&◌, ◌||◌, Bool, true, not, bytes_eq, List, [], ◌∷◌, ◌++◌, Option, Some, None, is_some, find, length, nat_lt, if◌then◌else◌}
 use Rattle.std.specs.List.{list_any, range_with_len}
 use Rattle.exb_model.specs.Tree.{Shape, device, is_cascade, is_under, is_cascade_under, trunk}
 use Rattle.exb_model.specs.Setup.{Limits}
@@ -59,12 +59,13 @@ abbrev pub or_zero : Option ℕ → ℕ
 or_zero None = 0
 or_zero (Some n) = n
 
--- the lowest free channel and the lowest free group of a space; 0, which is neither, where all are in use
-abbrev pub free_channel : Limits → Held → ℕ → ℕ
-free_channel l h k = or_zero (lowest_free (channel_used h k) 1 l.channels)
+-- the lowest free channel of so many, and the lowest free group of so many; 0, which is neither, where all
+-- are in use
+abbrev pub free_channel : ℕ → Held → ℕ → ℕ
+free_channel channels h k = or_zero (lowest_free (channel_used h k) 1 channels)
 
-abbrev pub free_group : Limits → Held → ℕ → ℕ
-free_group l h k = or_zero (lowest_free (group_used h k) 4096 l.groups)
+abbrev pub free_group : ℕ → Held → ℕ → ℕ
+free_group groups h k = or_zero (lowest_free (group_used h k) 4096 groups)
 
 -- a group, with its set, in the space of a bridge port, which is numbered from 1
 pub record Group : Type 0 where
@@ -81,13 +82,13 @@ give_all [] h = h
 give_all (x ∷ xs) h = give_all xs (give x h)
 
 -- the group that a set gets: the lowest free one
-abbrev pub group_for : Limits → Held → PortsAt → Group
-group_for l h s = record { bridge_port = s.bridge_port; number = free_group l h (s.bridge_port - 1); ports = s.ports }
+abbrev pub group_for : ℕ → Held → PortsAt → Group
+group_for groups h s = record { bridge_port = s.bridge_port; number = free_group groups h (s.bridge_port - 1); ports = s.ports }
 
 -- the groups that sets get in their order
-unfoldable pub numbered : Limits → Held → List PortsAt → List Group
-numbered l h [] = []
-numbered l h (s ∷ sets) = group_for l h s ∷ numbered l (give (group_for l h s) h) sets
+unfoldable pub numbered : ℕ → Held → List PortsAt → List Group
+numbered groups h [] = []
+numbered groups h (s ∷ sets) = group_for groups h s ∷ numbered groups (give (group_for groups h s) h) sets
 
 -- port p gets a channel of its trunk
 abbrev pub give_channel : Shape → ℕ → ℕ → Held → Held

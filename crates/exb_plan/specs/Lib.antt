@@ -2,3 +2,4 @@ pub mod Held
 pub mod Between
 pub mod Asks
 pub mod Plans
+pub mod Working

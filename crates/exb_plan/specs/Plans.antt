@@ -4,6 +4,7 @@ use Rattle.exb_model.specs.declared.event.Cause.{Cause}
 use Rattle.exb_model.specs.Tree.{Shape, device, trunk}
 use Rattle.exb_model.specs.Setup.{Limits}
 use Rattle.exb_model.specs.Configuration.{Bridge}
+use Rattle.exb_rows.specs.Sets.{sets_of}
 use Rattle.exb_plan.specs.declared.asks.AskAt.{AskAt}
 use Rattle.exb_plan.specs.declared.asks.Step.TheVariants.{Lay, Clear}
 use Rattle.exb_plan.specs.declared.change.Number.{Number}
@@ -21,14 +22,18 @@ channel_of_port t h p = or_zero (channel_in h (trunk t (device p)) p)
 -- ---- before the commit
 abbrev pub up_asks : Shape → Limits → Held → Option ℕ → List AskAt
 up_asks t l h None = []
-up_asks t l h (Some p) = create_asks t p false (free_channel l h (trunk t (device p)))
+up_asks t l h (Some p) = create_asks t p false (free_channel l.channels h (trunk t (device p)))
 
--- the groups of the fresh sets
-abbrev pub fresh_groups : Shape → Limits → Bridge → Bridge → Held → List Group
-fresh_groups t l old new h = numbered l h (fresh_sets t old new)
+abbrev pub with_channel : Shape → Limits → Option ℕ → Held → Held
+with_channel t l None h = h
+with_channel t l (Some p) h = give_channel t p (free_channel l.channels h (trunk t (device p))) h
+
+-- the groups of the fresh sets, given once a port that goes up has its channel
+unfoldable pub fresh_groups : Shape → Limits → Bridge → Bridge → Held → List Group
+fresh_groups t l old new h = numbered l.groups (with_channel t l (goes_up t old new) h) (fresh_sets t old new)
 
 -- for a port that goes up its channel, then the rows of all fresh sets
-abbrev pub prepare_of : Shape → Limits → Bridge → Bridge → Held → List AskAt
+unfoldable pub prepare_of : Shape → Limits → Bridge → Bridge → Held → List AskAt
 prepare_of t l old new h = up_asks t l h (goes_up t old new) ++ group_asks Lay t (fresh_groups t l old new h)
 
 -- ---- after the commit
@@ -37,8 +42,8 @@ down_asks t h None = []
 down_asks t h (Some p) = delete_asks t p (channel_of_port t h p)
 
 -- the numbers of all sets that are gone, then for a port that goes down its channel
-abbrev pub cleanup_of : Shape → Bridge → Bridge → Held → List AskAt
-cleanup_of t old new h = group_asks Clear t (gone_groups t new h) ++ down_asks t h (goes_down t old new)
+unfoldable pub cleanup_of : Shape → Bridge → Bridge → Held → List AskAt
+cleanup_of t old new h = group_asks Clear t (gone_groups t (sets_of t new) h) ++ down_asks t h (goes_down t old new)
 
 abbrev pub number_of : Group → Number
 number_of x = record { bridge_port = x.bridge_port; number = x.number }
@@ -48,10 +53,6 @@ freed_channel t h None = []
 freed_channel t h (Some p) = record { bridge_port = trunk t (device p) + 1; number = channel_of_port t h p } ∷ []
 
 -- ---- what is held
-abbrev pub with_channel : Shape → Limits → Option ℕ → Held → Held
-with_channel t l None h = h
-with_channel t l (Some p) h = give_channel t p (free_channel l h (trunk t (device p))) h
-
 -- from the claim on
 unfoldable pub claimed : Shape → Limits → Bridge → Bridge → Held → Held
 claimed t l old new h = give_all (fresh_groups t l old new h) (with_channel t l (goes_up t old new) h)
@@ -62,7 +63,7 @@ without_channel t (Some p) h = free_port_of t p (channel_of_port t h p) h
 
 -- once the cleanup is answered
 unfoldable pub freed : Shape → Bridge → Bridge → Held → Held
-freed t old new h = without_channel t (goes_down t old new) (free_where (is_gone t new h) h)
+freed t old new h = without_channel t (goes_down t old new) (free_where (is_gone (sets_of t new) h) h)
 
 -- ---- the decision
 unfoldable pub change_of : Shape → Limits → Bridge → Bridge → Held → Change
@@ -71,7 +72,7 @@ change_of t l old new h =
       prepare = prepare_of t l old new h;
       cleanup = cleanup_of t old new h;
       channels = freed_channel t h (goes_down t old new);
-      groups = map number_of (gone_groups t new h);
+      groups = map number_of (gone_groups t (sets_of t new) h);
     }
 
 abbrev pub decision_by : Option Cause → Change → Decision

@@ -7,6 +7,8 @@
 
 pub mod asks;
 pub mod change;
+mod group_asks;
+mod groups;
 
 pub use asks::AskAt;
 pub use change::{Change, Decision, Number};
