@@ -29,6 +29,7 @@ fn freed(channels: &mut Channels, number: u16) {
 #[test]
 fn the_one_channel_is_given_again_once_it_is_free(rt: HostRuntime) -> Result<(), Fail> {
     let mut channels = Channels::new(rt.alloc(), 1)?;
+    assert_eq!(rt; channels.limit(), 1);
     assert_eq!(rt; claimed(&mut channels, 64), Some(Ok(1)));
     assert_eq!(rt; claimed(&mut channels, 65), Some(Err(NoChannel)));
     freed(&mut channels, 64);
@@ -76,5 +77,11 @@ fn a_third_set_waits_until_a_group_is_free(rt: HostRuntime) -> Result<(), Fail> 
     ungrouped(&mut groups, &first);
     assert_eq!(rt; grouped(&mut groups, &third), Some(Ok(0x1000)));
     assert_eq!(rt; groups.find(&second), Some(0x1001));
+    assert_eq!(rt; groups.limit(), 2);
+    assert_eq!(rt;
+        groups.set(0x1001).map(|set| set.is_same(&second)),
+        Some(true)
+    );
+    assert_eq!(rt; groups.set(0x1002).is_none(), true);
     Ok(())
 }
