@@ -77,6 +77,10 @@ pub record Group : Type 0 where
 abbrev pub give : Group → Held → Held
 give x h = record h { set = λ k g. if k + 1 == x.bridge_port && g == x.number then x.ports else h.set k g }
 
+-- and taken back
+abbrev pub take_back : Group → Held → Held
+take_back x h = record h { set = λ k g. if k + 1 == x.bridge_port && g == x.number then [] else h.set k g }
+
 unfoldable pub give_all : List Group → Held → Held
 give_all [] h = h
 give_all (x ∷ xs) h = give_all xs (give x h)

@@ -15,55 +15,71 @@ use Rattle.exb_plan.specs.Held.{Held, Group, or_zero, channel_in, free_channel, 
 use Rattle.exb_plan.specs.Between.{goes_up, goes_down, refusal_between, fresh_sets, is_gone, gone_groups}
 use Rattle.exb_plan.specs.Asks.{group_asks, create_asks, delete_asks}
 
--- the channel of a port at its trunk
-abbrev pub channel_of_port : Shape → Held → ℕ → ℕ
-channel_of_port t h p = or_zero (channel_in h (trunk t (device p)) p)
+-- ---- the channel of a port that goes up or down
+-- the lowest free one at its trunk; 0 where no port goes up
+abbrev pub new_channel : Shape → Limits → Held → Option ℕ → ℕ
+new_channel t l h None = 0
+new_channel t l h (Some p) = free_channel l.channels h (trunk t (device p))
+
+-- the one that it has there; 0 where no port goes down
+abbrev pub own_channel : Shape → Held → Option ℕ → ℕ
+own_channel t h None = 0
+own_channel t h (Some p) = or_zero (channel_in h (trunk t (device p)) p)
+
+abbrev pub with_channel : Shape → ℕ → Option ℕ → Held → Held
+with_channel t c None h = h
+with_channel t c (Some p) h = give_channel t p c h
+
+abbrev pub without_channel : Shape → ℕ → Option ℕ → Held → Held
+without_channel t c None h = h
+without_channel t c (Some p) h = free_port_of t p c h
+
+abbrev pub up_asks : Shape → ℕ → Option ℕ → List AskAt
+up_asks t c None = []
+up_asks t c (Some p) = create_asks t p false c
+
+abbrev pub down_asks : Shape → ℕ → Option ℕ → List AskAt
+down_asks t c None = []
+down_asks t c (Some p) = delete_asks t p c
+
+abbrev pub freed_channel : Shape → ℕ → Option ℕ → List Number
+freed_channel t c None = []
+freed_channel t c (Some p) = record { bridge_port = trunk t (device p) + 1; number = c } ∷ []
 
 -- ---- before the commit
-abbrev pub up_asks : Shape → Limits → Held → Option ℕ → List AskAt
-up_asks t l h None = []
-up_asks t l h (Some p) = create_asks t p false (free_channel l.channels h (trunk t (device p)))
+-- what is held once a port that goes up has its channel
+abbrev pub with_up : Shape → Limits → Bridge → Bridge → Held → Held
+with_up t l old new h = with_channel t (new_channel t l h (goes_up t old new)) (goes_up t old new) h
 
-abbrev pub with_channel : Shape → Limits → Option ℕ → Held → Held
-with_channel t l None h = h
-with_channel t l (Some p) h = give_channel t p (free_channel l.channels h (trunk t (device p))) h
-
--- the groups of the fresh sets, given once a port that goes up has its channel
+-- the groups that the fresh sets then get
 unfoldable pub fresh_groups : Shape → Limits → Bridge → Bridge → Held → List Group
-fresh_groups t l old new h = numbered l.groups (with_channel t l (goes_up t old new) h) (fresh_sets t old new)
+fresh_groups t l old new h = numbered l.groups (with_up t l old new h) (fresh_sets t old new)
 
 -- for a port that goes up its channel, then the rows of all fresh sets
+abbrev pub prepare_with : Shape → ℕ → Option ℕ → List Group → List AskAt
+prepare_with t c up groups = up_asks t c up ++ group_asks Lay t groups
+
 unfoldable pub prepare_of : Shape → Limits → Bridge → Bridge → Held → List AskAt
-prepare_of t l old new h = up_asks t l h (goes_up t old new) ++ group_asks Lay t (fresh_groups t l old new h)
+prepare_of t l old new h = prepare_with t (new_channel t l h (goes_up t old new)) (goes_up t old new) (fresh_groups t l old new h)
+
+-- what is held from the claim on
+unfoldable pub claimed : Shape → Limits → Bridge → Bridge → Held → Held
+claimed t l old new h = give_all (fresh_groups t l old new h) (with_up t l old new h)
 
 -- ---- after the commit
-abbrev pub down_asks : Shape → Held → Option ℕ → List AskAt
-down_asks t h None = []
-down_asks t h (Some p) = delete_asks t p (channel_of_port t h p)
-
 -- the numbers of all sets that are gone, then for a port that goes down its channel
+abbrev pub cleanup_with : Shape → ℕ → Option ℕ → List Group → List AskAt
+cleanup_with t c down gone = group_asks Clear t gone ++ down_asks t c down
+
 unfoldable pub cleanup_of : Shape → Bridge → Bridge → Held → List AskAt
-cleanup_of t old new h = group_asks Clear t (gone_groups t (sets_of t new) h) ++ down_asks t h (goes_down t old new)
+cleanup_of t old new h = cleanup_with t (own_channel t h (goes_down t old new)) (goes_down t old new) (gone_groups t (sets_of t new) h)
 
 abbrev pub number_of : Group → Number
 number_of x = record { bridge_port = x.bridge_port; number = x.number }
 
-abbrev pub freed_channel : Shape → Held → Option ℕ → List Number
-freed_channel t h None = []
-freed_channel t h (Some p) = record { bridge_port = trunk t (device p) + 1; number = channel_of_port t h p } ∷ []
-
--- ---- what is held
--- from the claim on
-unfoldable pub claimed : Shape → Limits → Bridge → Bridge → Held → Held
-claimed t l old new h = give_all (fresh_groups t l old new h) (with_channel t l (goes_up t old new) h)
-
-abbrev pub without_channel : Shape → Option ℕ → Held → Held
-without_channel t None h = h
-without_channel t (Some p) h = free_port_of t p (channel_of_port t h p) h
-
--- once the cleanup is answered
+-- what is held once the cleanup is answered, of what was held before the change
 unfoldable pub freed : Shape → Bridge → Bridge → Held → Held
-freed t old new h = without_channel t (goes_down t old new) (free_where (is_gone (sets_of t new) h) h)
+freed t old new h = without_channel t (own_channel t h (goes_down t old new)) (goes_down t old new) (free_where (is_gone (sets_of t new) h) h)
 
 -- ---- the decision
 unfoldable pub change_of : Shape → Limits → Bridge → Bridge → Held → Change
@@ -71,7 +87,7 @@ change_of t l old new h =
     record {
       prepare = prepare_of t l old new h;
       cleanup = cleanup_of t old new h;
-      channels = freed_channel t h (goes_down t old new);
+      channels = freed_channel t (own_channel t h (goes_down t old new)) (goes_down t old new);
       groups = map number_of (gone_groups t (sets_of t new) h);
     }
 

@@ -107,7 +107,7 @@ fn put_gone_at(
 }
 
 // Whether an extender hangs on a port of the bridge, which is numbered from 1.
-fn is_cascade(tree: &Tree, bridge_port: u8) -> bool
+pub(crate) fn is_cascade(tree: &Tree, bridge_port: u8) -> bool
     requires from1 { 1 ≤ bridge_port }
     requires to64 { bridge_port ≤ 64 }
     ensures { result ≡ is_cascade tree.now (bridge_port - 1) }

@@ -7,8 +7,12 @@
 
 pub mod asks;
 pub mod change;
+mod claims;
 mod group_asks;
 mod groups;
+pub mod planning;
+mod refusals;
 
 pub use asks::AskAt;
 pub use change::{Change, Decision, Number};
+pub use planning::plan;
