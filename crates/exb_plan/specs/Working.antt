@@ -1,6 +1,6 @@
 -- The values with which the code makes a plan.
-use Rattle.std.specs.Prelude.{◌≡◌, ◌≢◌, ℕ, ◌+◌, ◌-◌, ◌*◌, ◌/◌, ◌<◌, ◌≤◌, ◌==◌, ◌&&◌, Bool, true, false, not, List, [], ◌∷◌, Option, Some, None, is_some, IsSome, filter, filter_map, map, length, count_by, find, nat_lt, if◌then◌else◌}
-use Rattle.std.specs.List.{range_with_len, All}
+use Rattle.std.specs.Prelude.{◌≡◌, ◌≢◌, ℕ, ◌+◌, ◌-◌, ◌*◌, ◌/◌, ◌<◌, ◌≤◌, ◌==◌, ◌&&◌, Bool, true, false, not, List, [], ◌∷◌, Option, Some, None, is_some, filter, filter_map, map, length, find, nat_lt, if◌then◌else◌}
+use Rattle.std.specs.List.{range_with_len}
 use Rattle.exb_model.specs.declared.port_set.PortSet.{PortSet}
 use Rattle.exb_model.specs.Masks.{bits_of}
 use Rattle.exb_model.specs.Ports.{port_in, ports_of}
@@ -53,11 +53,15 @@ pub record IsAlike (v w : Spaces) : Type 0 where
 abbrev pub has_group : Held → PortsAt → Bool
 has_group h s = is_some (group_in h (s.bridge_port - 1) s.ports)
 
+abbrev pub ArePlaced : Spaces → List PortsAt → Type 0
+ArePlaced v [] = Unit {0}
+ArePlaced v (s ∷ sets) = IsPlaced v s × ArePlaced v sets
+
 -- the set isn't empty and has no group, and there is a free one for it
 pub record IsFresh (groups : ℕ) (h : Held) (s : PortsAt) : Type 0 where
   pub some : is_empty_set s.ports ≡ false
   pub absent : group_in h (s.bridge_port - 1) s.ports ≡ None
-  pub free : IsSome (lowest_free (group_used h (s.bridge_port - 1)) 4096 groups)
+  pub free : is_some (lowest_free (group_used h (s.bridge_port - 1)) 4096 groups) ≡ true
 
 -- so it is of each set when its turn comes
 abbrev pub AreFresh : ℕ → Held → List PortsAt → Type 0
@@ -76,7 +80,7 @@ rows_of_covered xs n = filter_map (row_of_covered n) xs
 pub record CanClaim (v : Spaces) (sets : List PortsAt) : Type 0 where
   pub groups : ℕ
   pub limited : AreLimited groups v
-  pub placed : All (IsPlaced v) sets
+  pub placed : ArePlaced v sets
   pub fresh : AreFresh groups (held_by v) sets
 
 -- what claiming groups for sets in their order leads to
@@ -109,16 +113,19 @@ pub record CanClaimChannel (t : Shape) (v : Spaces) (p : ℕ) : Type 0 where
   pub extender : is_extender t (p / 64) ≡ true
   pub cascade : has_space v (trunk t (p / 64)) ≡ true
   pub absent : channel_in (held_by v) (trunk t (p / 64)) p ≡ None
-  pub free : IsSome (lowest_free (channel_used (held_by v) (trunk t (p / 64))) 1 (channel_limit v (trunk t (p / 64))))
+  pub free : is_some (lowest_free (channel_used (held_by v) (trunk t (p / 64))) 1 (channel_limit v (trunk t (p / 64)))) ≡ true
 
 -- ---- refusals
+abbrev pub how_many : {X : Type 0} → (X → Bool) → List X → ℕ
+how_many test xs = length (filter test xs)
+
 -- the set is below a bridge port
 abbrev pub is_at : ℕ → PortsAt → Bool
 is_at bridge_port s = s.bridge_port == bridge_port
 
 -- how many groups are needed there for sets that have some and fresh ones
 abbrev pub needed_at : List PortsAt → List PortsAt → ℕ → ℕ
-needed_at had fresh bridge_port = count_by (is_at bridge_port) had + count_by (is_at bridge_port) fresh
+needed_at had fresh bridge_port = how_many (is_at bridge_port) had + how_many (is_at bridge_port) fresh
 
 abbrev pub short_at : Limits → List PortsAt → List PortsAt → ℕ → Option Cause
 short_at l had fresh bridge_port =

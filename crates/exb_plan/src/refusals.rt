@@ -1,5 +1,5 @@
 //! Whether the numbers suffice for a change.
-ghost use Rattle.std.specs.Prelude.{◌≡◌, ℕ, ◌+◌, ◌-◌, ◌/◌, ◌≤◌, ◌<◌, ◌==◌, ◌&&◌, true, false, map, count_by, Some, None};
+ghost use Rattle.std.specs.Prelude.{◌≡◌, ℕ, ◌+◌, ◌-◌, ◌/◌, ◌≤◌, ◌<◌, ◌==◌, ◌&&◌, true, false, map, Some, None};
 ghost use Rattle.exb_model.specs.Ports.{port_in};
 ghost use Rattle.exb_model.specs.Tree.{Shape, IsTree, is_extended, is_extender, is_cascade, is_under, is_cascade_under, cascades_under, trunk};
 ghost use Rattle.exb_model.specs.Setup.{Limits};
@@ -9,7 +9,7 @@ ghost use Rattle.exb_numbers.specs.Spaces.{has_space};
 ghost use Rattle.exb_rows.specs.Sets.{seen};
 ghost use Rattle.exb_plan.specs.Held.{HasSpaces};
 ghost use Rattle.exb_plan.specs.Between.{goes_up, rises};
-ghost use Rattle.exb_plan.specs.Working.{AreLimited, is_at, short_by, short_at};
+ghost use Rattle.exb_plan.specs.Working.{AreLimited, how_many, is_at, short_by, short_at};
 
 use crate::groups::is_cascade;
 use exb_config::Config;
@@ -141,7 +141,7 @@ pub(crate) fn channels_short(
 
 // How many of the sets are below a bridge port.
 fn count_at(sets: &[SetAt], bridge_port: u8) -> usize
-    ensures { result ≡ count_by (is_at bridge_port) (map seen sets.now) }
+    ensures { result ≡ how_many (is_at bridge_port) (map seen sets.now) }
 {
     sets.iter()
         .filter(|set| set.bridge_port == bridge_port)

@@ -1,0 +1,10 @@
+pub mod Ranges
+pub mod Counting
+pub mod Distinct
+pub mod Claiming
+pub mod ClaimLoop
+pub mod GivenBack
+pub mod Pieces
+pub mod Trunks
+pub mod Messages
+pub mod Lists
