@@ -8,3 +8,8 @@ pub mod Pieces
 pub mod Trunks
 pub mod Messages
 pub mod Lists
+pub mod Each
+pub mod SetFacts
+pub mod Needed
+pub mod Fresh
+pub mod Channels

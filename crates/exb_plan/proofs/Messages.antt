@@ -10,7 +10,7 @@ use Rattle.exb_rows.specs.declared.set_rows.Row.{Row}
 use Rattle.exb_rows.specs.Rows.{rows_of}
 use Rattle.exb_plan.specs.declared.asks.AskAt.{AskAt}
 use Rattle.exb_plan.specs.declared.asks.Step.{Step}
-use Rattle.exb_plan.specs.Asks.{ask, register, unregister, numbers_of, message, in_messages, asks_with, channel_rows, channel_ask, channel_asks, put_above}
+use Rattle.exb_plan.specs.Asks.{ask, register, unregister, numbers_of, message, pieces, in_messages, asks_with, channel_rows, channel_ask, channel_asks, put_above}
 use Rattle.exb_plan.proofs.Pieces.{cut_message}
 
 pub register_many : (rows : List GroupRow) → length rows ≢ 1 → register rows ≡ RegisterMany rows
@@ -32,7 +32,7 @@ asks_step asks now step rows n cut some is e =
     ∙ ap (λ (l : List (List GroupRow)). asks ++ map (λ piece. ask n (message step piece)) l) (sym (cut_message cut rows some is)))
 
 pub asks_none : (asks : List AskAt) (step : Step) (n : ℕ) → asks ++ asks_with step [] n ≡ asks
-unfolding in_messages
+unfolding in_messages pieces
 asks_none asks step n = append-nil asks
 
 -- the rows of a channel above its port
