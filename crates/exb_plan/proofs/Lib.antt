@@ -13,3 +13,5 @@ pub mod SetFacts
 pub mod Needed
 pub mod Fresh
 pub mod Channels
+pub mod SpaceHeld
+pub mod Finding

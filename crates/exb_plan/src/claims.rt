@@ -1,5 +1,5 @@
 //! How numbers are claimed, and given back where a plan comes to nothing.
-ghost use Rattle.std.specs.Prelude.{◌≡◌, ℕ, ◌+◌, ◌-◌, ◌*◌, ◌/◌, ◌≤◌, ◌<◌, [], true, map, length, vec_len, vec_capacity};
+ghost use Rattle.std.specs.Prelude.{◌≡◌, ℕ, ◌+◌, ◌-◌, ◌*◌, ◌/◌, ◌≤◌, ◌<◌, [], true, None, map, length, vec_len, vec_capacity};
 ghost use Rattle.exb_model.specs.Tree.{Shape, trunk, is_extender};
 ghost use Rattle.exb_numbers.specs.Spaces.{has_space, channels_at, groups_at};
 ghost use Rattle.exb_rows.specs.Sets.{seen};
@@ -75,6 +75,7 @@ pub(crate) fn claim_channel(spaces: &mut Spaces, tree: &Tree, port: PortId) -> u
     requires { CanClaimChannel tree.now spaces.old port }
     ensures number { result ≡ free_channel (channel_limit spaces.old (trunk tree.now (port / 64))) (held_by spaces.old) (trunk tree.now (port / 64)) }
     ensures held { held_by spaces.new ≡ give_channel tree.now port result (held_by spaces.old) }
+    ensures free { (held_by spaces.old).port (trunk tree.now (port / 64)) result ≡ None }
     ensures alike { IsAlike spaces.old spaces.new }
 {
     let trunk = tree.trunk((port.number() / 64) as u8);

@@ -53,12 +53,19 @@ pub(crate) fn without_group(
     Ok(fresh)
 }
 
-// Whether one of the sets is these ports below that bridge port.
-fn has_set(sets: &[SetAt], bridge_port: u8, set: &PortSet) -> bool
-    ensures { result ≡ has_set (map seen sets.now) (placed bridge_port set.now) }
+// Whether a set is these ports below that bridge port.
+fn is_same(set: &SetAt, bridge_port: u8, ports: &PortSet) -> bool
+    ensures { result ≡ is_same_set (placed bridge_port ports.now) (seen set.now) }
 {
-    for other in sets {
-        if other.bridge_port == bridge_port && set.is_same(&other.set) {
+    set.bridge_port == bridge_port && ports.is_same(&set.set)
+}
+
+// Whether one of the sets is.
+fn has_set(sets: &[SetAt], bridge_port: u8, ports: &PortSet) -> bool
+    ensures { result ≡ has_set (map seen sets.now) (placed bridge_port ports.now) }
+{
+    for set in sets {
+        if is_same(set, bridge_port, ports) {
             return true;
         }
     }

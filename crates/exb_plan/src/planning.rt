@@ -39,6 +39,7 @@ fn refusal(
     ensures { (l : Limits) → HasSpaces tree.now l spaces.now
         → result ≡ refusal_by tree.now l (bridge_of old.now) up.now (map seen had.now) (map seen fresh.now) }
 {
+    tree.is_tree();
     if let Some(port) = up {
         let short = channels_short(tree, spaces, old, *port);
         if short.is_some() {
@@ -54,6 +55,7 @@ fn own_channel(tree: &Tree, spaces: &Spaces, down: &Option<PortId>) -> u16
     requires spaces { SpacesOf tree.now spaces.now }
     ensures { result ≡ own_channel tree.now (held_by spaces.now) down.now }
 {
+    tree.is_tree();
     match down {
         Some(port) => {
             let bridge_port = tree.trunk((port.number() / 64) as u8);
@@ -138,6 +140,8 @@ fn claim_up(spaces: &mut Spaces, tree: &Tree, up: &Option<PortId>) -> u16
     requires { CanClaimUp tree.now spaces.old up.now }
     ensures number { (l : Limits) → HasSpaces tree.now l spaces.old → result ≡ new_channel tree.now l (held_by spaces.old) up.now }
     ensures held { held_by spaces.new ≡ with_channel tree.now result up.now (held_by spaces.old) }
+    ensures has { HasUp tree.now spaces.new up.now result }
+    ensures back { without_channel tree.now result up.now (held_by spaces.new) ≡ held_by spaces.old }
     ensures alike { IsAlike spaces.old spaces.new }
 {
     match up {

@@ -1,5 +1,5 @@
 //! Whether the numbers suffice for a change.
-ghost use Rattle.std.specs.Prelude.{◌≡◌, ℕ, ◌+◌, ◌-◌, ◌/◌, ◌≤◌, ◌<◌, ◌==◌, ◌&&◌, true, false, map, Some, None};
+ghost use Rattle.std.specs.Prelude.{◌≡◌, ◌^◌, ℕ, ◌+◌, ◌-◌, ◌/◌, ◌≤◌, ◌<◌, ◌==◌, ◌&&◌, true, false, map, Some, None};
 ghost use Rattle.exb_model.specs.Ports.{port_in};
 ghost use Rattle.exb_model.specs.Tree.{Shape, IsTree, is_extended, is_extender, is_cascade, is_under, is_cascade_under, cascades_under, trunk};
 ghost use Rattle.exb_model.specs.Setup.{Limits};
@@ -140,12 +140,17 @@ pub(crate) fn channels_short(
 }
 
 // How many of the sets are below a bridge port.
-fn count_at(sets: &[SetAt], bridge_port: u8) -> usize
-    ensures { result ≡ how_many (is_at bridge_port) (map seen sets.now) }
+fn count_at(sets: &[SetAt], bridge_port: u8) -> u64
+    ensures value { result ≡ how_many (is_at bridge_port) (map seen sets.now) }
+    ensures small { result < 2 ^ 63 }
 {
-    sets.iter()
-        .filter(|set| set.bridge_port == bridge_port)
-        .count()
+    let mut count = 0;
+    for set in sets {
+        if set.bridge_port == bridge_port {
+            count += 1;
+        }
+    }
+    count
 }
 
 // Why the groups of a cascade port of the bridge don't suffice for sets that it has and fresh ones, if they
@@ -161,7 +166,7 @@ fn groups_short_at(
     ensures { (l : Limits) → AreLimited l.groups spaces.now
         → result ≡ short_at l (map seen had.now) (map seen fresh.now) bridge_port }
 {
-    let needed = (count_at(had, bridge_port) + count_at(fresh, bridge_port)) as u64;
+    let needed = count_at(had, bridge_port) + count_at(fresh, bridge_port);
     let limit = spaces.groups(bridge_port).limit() as u32;
     if needed > limit as u64 {
         Some(Cause::Groups { needed, limit })
