@@ -72,10 +72,10 @@ abbrev pub HasRoom : ℕ → Held → List PortsAt → Type 0
 HasRoom groups h sets = (k : ℕ) → how_many (group_used h k) (range_with_len 4096 groups) + how_many (is_at (k + 1)) sets ≤ groups
 
 -- a group more takes the numbers of its own bridge port
-given_here : (x : Group) (h : Held) (k g : ℕ) → k + 1 ≡ x.bridge_port → g ≡ x.number → (give x h).set k g ≡ x.ports
+pub given_here : (x : Group) (h : Held) (k g : ℕ) → k + 1 ≡ x.bridge_port → g ≡ x.number → (give x h).set k g ≡ x.ports
 given_here x h k g e f = rw (eq-eqb (k + 1) x.bridge_port e, eq-eqb g x.number f) refl
 
-given_else : (x : Group) (h : Held) (k g : ℕ) → ((k + 1 ≡ x.bridge_port) → g ≢ x.number) → (give x h).set k g ≡ h.set k g
+pub given_else : (x : Group) (h : Held) (k g : ℕ) → ((k + 1 ≡ x.bridge_port) → g ≢ x.number) → (give x h).set k g ≡ h.set k g
 given_else x h k g n =
     elim (cases_eq (k + 1) x.bridge_port) [
       | inl e ↦ rw (eq-eqb (k + 1) x.bridge_port e, ne_eqb g x.number (n e)) refl
@@ -146,7 +146,7 @@ module _ (groups : ℕ) where
        are_fresh (give x h) sets apart.2 low.1 (all_absent h x s sets refl refl low.0 low.1 apart.2 apart.1 absent.1) (room_after h x s sets refl room))
 
   -- a group that is given was free
-  free_set : (h : Held) (k : ℕ) → is_some (lowest_free (group_used h k) 4096 groups) ≡ true → h.set k (free_group groups h k) ≡ []
+  pub free_set : (h : Held) (k : ℕ) → is_some (lowest_free (group_used h k) 4096 groups) ≡ true → h.set k (free_group groups h k) ≡ []
   free_set h k some = by_lowest (lowest_free (group_used h k) 4096 groups) refl some
     where
       empty_is : (xs : List ℕ) → not (is_empty_set xs) ≡ false → xs ≡ []

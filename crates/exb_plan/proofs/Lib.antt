@@ -15,3 +15,7 @@ pub mod Fresh
 pub mod Channels
 pub mod SpaceHeld
 pub mod Finding
+pub mod Commanded
+pub mod RowSteps
+pub mod Counts
+pub mod Owning

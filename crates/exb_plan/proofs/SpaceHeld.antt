@@ -1,15 +1,16 @@
 -- What spaces hold once numbers of one of them are claimed.
 use Rattle.std.proofs.Common.{◌≡◌, ◌≢◌, ℕ, ◌+◌, ◌-◌, ◌/◌, ◌<◌, ◌≤◌, ◌==◌, ◌&&◌, cond, Bool, true, false, List, [], ◌∷◌, Option, Some, None, length, get_or, refl, sym, ◌∙◌, ap, subst, arith, inl, inr, eq-eqb}
 use Rattle.std.specs.Prelude.{is_some, nat_lt, unwrap_or, Result, Ok, Err, MatchResult, IfOk, IsOk, slice_index_or}
-use Rattle.std.proofs.lemmas.Bool.{cases_eq, cases_Bool, and_parts, ltb-true, ne_eqb, false≢true}
+use Rattle.std.proofs.lemmas.Bool.{cases_eq, cases_Bool, and_parts, ltb-true, eqb-true, ne_eqb, false≢true}
 use Rattle.std.proofs.lemmas.List.{get_or-set_same, get_or-set_other}
 use mathlib.Core.Path.{fun_ext}
 use Rattle.exb_model.specs.Tree.{Shape, IsTree, device, trunk, is_extended}
-use Rattle.exb_numbers.specs.Channels.{holder, channel_of}
+use Rattle.exb_numbers.specs.Channels.{holder, channel_of, is_used, lowest_channel}
 use Rattle.exb_numbers.specs.Groups.{Groups, set_of, group_of}
 use Rattle.exb_numbers.specs.Spaces.{Spaces, has_space, channels_at, groups_at, no_groups, with_channels, with_groups}
-use Rattle.exb_plan.specs.Held.{Held, Group, held_by, channel_in, group_in, or_zero, give, give_channel}
+use Rattle.exb_plan.specs.Held.{Held, Group, held_by, channel_in, group_in, or_zero, give, channel_used, give_channel, free_port_of}
 use Rattle.exb_plan.specs.Working.{SpacesOf}
+use Rattle.exb_plan.proofs.Counting.{lowest_unused}
 use Rattle.exb_plan.proofs.Trunks.{home_low, home_cascade}
 
 pub group_in_is : (v : Spaces) (k : ℕ) (set : List ℕ) → group_in (held_by v) k set ≡ group_of (groups_at v k) set
@@ -39,10 +40,13 @@ met (Ok c) o some is = refl
 met (Err e) o some is = absurd (false≢true (sym (ap is_some is) ∙ some))
 
 pub claimed_is : {E : Type 0} (r : Result ℕ E) (o : Option ℕ) (c : ℕ) → r ≡ Ok c → MatchResult r (λ c. o ≡ Some c) (λ _. o ≡ None) → c ≡ or_zero o
-claimed_is r o c e is = let f : MatchResult (Ok c) (λ c. o ≡ Some c) (λ _. o ≡ None) = subst (λ (x : Result ℕ _). MatchResult x (λ c. o ≡ Some c) (λ _. o ≡ None)) e is in sym (ap or_zero f)
+claimed_is {E} r o c e is =
+    let P : Result ℕ E → Type 0 = λ x. MatchResult x (λ c. o ≡ Some c) (λ _. o ≡ None) in
+    let f : P (Ok c) = subst P e is in
+    sym (ap or_zero f)
 
 pub of_ok : {E : Type 0} (r : Result ℕ E) (c : ℕ) (P : ℕ → Type 0) → r ≡ Ok c → IfOk r P → P c
-of_ok r c P e is = subst (λ (x : Result ℕ _). IfOk x P) e is
+of_ok {E} r c P e is = let Q : Result ℕ E → Type 0 = λ x. IfOk x P in subst Q e is
 
 space_parts : (v : Spaces) (k : ℕ) → has_space v k ≡ true → (k < length v.channels) × (k < length v.groups)
 space_parts v k there =
@@ -88,3 +92,32 @@ group_given v k g ports bridge_port x there place is =
               let here : groups_at (with_groups v k x) j ≡ groups_at v j = get_or-set_other v.groups k j x no_groups other in
               ap (λ (l : Groups). set_of l e) here ∙ (rw (ne_eqb (j + 1) bridge_port (λ f. other (omega (arith, f, place)))) refl)
         ]
+
+-- the channel that was claimed was free
+pub claimed_free : {E : Type 0} (v : Spaces) (k : ℕ) (r : Result ℕ E) (c : ℕ) → r ≡ Ok c →
+    MatchResult r (λ m. lowest_channel (channels_at v k) ≡ Some m) (λ _. lowest_channel (channels_at v k) ≡ None) → holder (channels_at v k) c ≡ None
+claimed_free {E} v k r c e is =
+    let P : Result ℕ E → Type 0 = λ x. MatchResult x (λ m. lowest_channel (channels_at v k) ≡ Some m) (λ _. lowest_channel (channels_at v k) ≡ None) in
+    let f : P (Ok c) = subst P e is in
+    none_of (holder (channels_at v k) c) (lowest_unused (is_used (channels_at v k)) 1 (length (channels_at v k) - 1) c f)
+  where
+    none_of : (o : Option ℕ) → is_some o ≡ false → o ≡ None
+    none_of None e = refl
+    none_of (Some x) e = absurd (false≢true (sym e))
+
+-- a channel that is given is in use, and once it is freed all is as before
+pub given_used : (t : Shape) (p c : ℕ) (h : Held) → channel_used (give_channel t p c h) (trunk t (p / 64)) c ≡ true
+given_used t p c h = rw (eq-eqb (trunk t (p / 64)) (trunk t (p / 64)) refl, eq-eqb c c refl) refl
+
+pub given_back : (t : Shape) (p c : ℕ) (h : Held) → h.port (trunk t (p / 64)) c ≡ None → free_port_of t p c (give_channel t p c h) ≡ h
+given_back t p c h free =
+    ap (λ (port : ℕ → ℕ → Option ℕ). let n : Held = record { port = port; set = h.set } in n)
+    (fun_ext (λ k. fun_ext (λ e. by_test k e (k == trunk t (device p) && e == c) refl)))
+  where
+    by_test : (k e : ℕ) (b : Bool) → (k == trunk t (device p) && e == c) ≡ b → cond b None (cond b (Some p) (h.port k e)) ≡ h.port k e
+    by_test k e false q = refl
+    by_test k e true q =
+        let parts = and_parts (k == trunk t (device p)) (e == c) q in
+        let a : k ≡ trunk t (device p) = eqb-true _ _ parts.0 in
+        let b : e ≡ c = eqb-true _ _ parts.1 in
+        sym (rw (a, b) free)

@@ -3,3 +3,4 @@ pub mod Between
 pub mod Asks
 pub mod Plans
 pub mod Working
+pub mod Laws

@@ -132,8 +132,9 @@ fn put_channel(
     let own = (port.number() / 64) as u8;
     let mut set = PortSet::empty();
     set.insert(port);
-    let rows = rows(alloc, tree, &set)?;
-    for row in rows.as_slice() {
+    let all = rows(alloc, tree, &set)?;
+    let rows = all.as_slice();
+    for row in rows {
         put_above(asks, step, own, channel, row)?;
     }
     Ok(())

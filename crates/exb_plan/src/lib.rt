@@ -10,6 +10,7 @@ pub mod change;
 mod claims;
 mod group_asks;
 mod groups;
+pub mod laws;
 pub mod planning;
 mod refusals;
 

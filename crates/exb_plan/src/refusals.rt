@@ -100,6 +100,15 @@ fn cascades_under(tree: &Tree, bridge_port: u8) -> u16
     count
 }
 
+// Whether a port is a present extended port under a bridge port.
+fn is_present_under(tree: &Tree, config: &Config, bridge_port: u8, port: PortId) -> bool
+    requires { 1 ≤ bridge_port }
+    ensures { result ≡ (is_under tree.now (bridge_port - 1) port && (bridge_of config.now).present port) }
+{
+    let is_under = is_under(tree, bridge_port, port);
+    is_under && config.present(port)
+}
+
 // How many extended ports under a bridge port are present.
 fn present_under(tree: &Tree, config: &Config, bridge_port: u8) -> u16
     requires { 1 ≤ bridge_port }
@@ -109,8 +118,7 @@ fn present_under(tree: &Tree, config: &Config, bridge_port: u8) -> u16
     let mut count = 0;
     for number in 0..PORTS {
         let port = PortId::new(number).unwrap();
-        let is_under = is_under(tree, bridge_port, port);
-        if is_under && config.present(port) {
+        if is_present_under(tree, config, bridge_port, port) {
             count += 1;
         }
     }

@@ -5,4 +5,4 @@ use Rattle.exb_plan.proofs.asks.put_channel.Given as goal
 
 -- the ancestors so far are asked
 abbrev pub invariant-loop-row : goal.invariant-loop-row
-invariant-loop-row l = l.asks ≡ l.fn.asks ++ flat_map (put_above l.step l.own l.channel) (take l.row-index l.rows.items)
+invariant-loop-row l = l.asks ≡ l.fn.asks ++ flat_map (put_above l.step l.own l.channel) (take l.row-index l.rows)
