@@ -17,7 +17,7 @@ use Rattle.exb_numbers.specs.Spaces.{Spaces, has_space, channels_at}
 use Rattle.exb_plan.specs.Held.{Held, held_by, HoldsNeeded, HasSpaces, channel_in, channel_used, needs_channel, or_zero}
 use Rattle.exb_plan.specs.Between.{rises, goes_up, trunk_of}
 use Rattle.exb_plan.specs.Working.{CanClaimUp, CanClaimChannel, SpacesOf, IsAnyExtended, channel_limit, how_many}
-use Rattle.exb_plan.proofs.Ranges.{IsFound, found}
+use Rattle.exb_plan.proofs.Ranges.{IsFound, found, none_passes}
 use Rattle.exb_plan.proofs.Counting.{IsLowest, lowest_there, few_used}
 use Rattle.exb_plan.proofs.Each.{in_filter}
 use Rattle.exb_plan.proofs.Trunks.{under_extended, extended_below, extended_extender, extended_external, home_low, home_cascade}
@@ -41,6 +41,11 @@ rises_is t old new p e =
     not_true : (b : Bool) → not b ≡ true → b ≡ false
     not_true true e = sym e
     not_true false e = refl
+
+-- where none goes up no extended port does
+pub never_rises : (t : Shape) → IsTree t → (old new : Bridge) (q : ℕ) → is_extended t q ≡ true → goes_up t old new ≡ None → (not (old.present q) && new.present q) ≡ false
+unfolding goes_up below
+never_rises t valid old new q ext e = (let r = none_passes (rises t old new) 0 4160 e q (omega arith) (let l = extended_below t valid q ext in omega (arith, l)) in rw ext at r)
 
 pub any_extended : (t : Shape) (old new : Bridge) (o : Option ℕ) → goes_up t old new ≡ o → IsAnyExtended t o
 any_extended t old new None e = tt
@@ -70,7 +75,7 @@ not_cascade t q e = not_true (is_cascade t q) (and_parts (is_port t q) (not (is_
     not_true true e = sym e
     not_true false e = refl
 
-no_cascade_under : (t : Shape) (k q : ℕ) → is_extended t q ≡ true → is_cascade_under t k q ≡ false
+pub no_cascade_under : (t : Shape) (k q : ℕ) → is_extended t q ≡ true → is_cascade_under t k q ≡ false
 no_cascade_under t k q e = rw (not_cascade t q e) (none (nat_le 64 q) (is_port t q) (trunk t (device q) == k))
   where
     none : (a b c : Bool) → (a && b && false && c) ≡ false
@@ -119,6 +124,24 @@ module _ (t : Shape) (valid : IsTree t) (old : Bridge) (h : Held) (needed : Hold
           subst (λ (x : ℕ). list_any (λ q. x == q) (filter (needs_channel t old k) all_ports) ≡ true) (sym (ap or_zero p.1))
           (in_filter (needs_channel t old k) 0 4160 p.0 (omega arith) (let b = needing_below k p.0 needs in omega (arith, b)) needs)
 
+  -- the lowest free channel at the trunk of a port that goes up
+  pub free_there : (l : Limits) (p : ℕ) → is_extended t p ≡ true → channels_short t l old (Some (trunk t (device p))) ≡ None →
+      (m : ℕ) × IsLowest (channel_used h (trunk t (device p))) 1 l.channels m
+  free_there l p ext fits =
+      let k = trunk t (device p) in
+      let room : channels_needed t k old ≤ l.channels = ltb-false l.channels _ (not_short (nat_lt l.channels (channels_needed t k old)) (cause.Channels (channels_needed t k old) l.channels) fits) in
+      let count = count_is k in
+      let few = few_channels k l.channels (home_low t valid p ext) (home_cascade t valid p ext) in
+      lowest_there (channel_used h k) 1 l.channels (fewer k l.channels few count room)
+    where
+      not_short : (b : Bool) (x : Cause) → cond b (Some x) None ≡ None → b ≡ false
+      not_short true x e = cc
+      not_short false x e = refl
+
+      fewer : (k n : ℕ) → how_many (channel_used h k) (range_with_len 1 n) ≤ length (filter (needs_channel t old k) all_ports) →
+          length (filter (needs_channel t old k) all_ports) ≡ cascades_under t k + present_under t k old → channels_needed t k old ≤ n → how_many (channel_used h k) (range_with_len 1 n) < n
+      fewer k n a b c = omega arith
+
   can_up : (v : Spaces) (l : Limits) (new : Bridge) (p : ℕ) → held_by v ≡ h → SpacesOf t v → HasSpaces t l v → Rises t old new p →
       channels_short t l old (Some (trunk t (device p))) ≡ None → CanClaimChannel t v p
   can_up v l new p is spaces has r fits =
@@ -127,10 +150,7 @@ module _ (t : Shape) (valid : IsTree t) (old : Bridge) (h : Held) (needed : Hold
       let c = home_cascade t valid p r.extended in
       let space = spaces k low c in
       let none : channel_in h k p ≡ None = is_none_at (channel_in h k p) (needed.channels k p low c ∙ (rw (r.absent, no_cascade_under t k p r.extended) (absent_only (is_under t k p)))) in
-      let room : channels_needed t k old ≤ l.channels = ltb-false l.channels _ (not_short (nat_lt l.channels (channels_needed t k old)) (cause.Channels (channels_needed t k old) l.channels) fits) in
-      let count = count_is k in
-      let few = few_channels k l.channels low c in
-      let there : (m : ℕ) × IsLowest (channel_used h k) 1 l.channels m = lowest_there (channel_used h k) 1 l.channels (fewer k l.channels few count room) in
+      let there : (m : ℕ) × IsLowest (channel_used h k) 1 l.channels m = free_there l p r.extended fits in
       let limit : channel_limit v k ≡ l.channels = (let e = has.channels k space in omega (arith, e)) in
       record {
         extender = extended_extender t p r.extended;
@@ -146,14 +166,6 @@ module _ (t : Shape) (valid : IsTree t) (old : Bridge) (h : Held) (needed : Hold
       absent_only : (b : Bool) → (b && false || false) ≡ false
       absent_only true = refl
       absent_only false = refl
-
-      not_short : (b : Bool) (x : Cause) → cond b (Some x) None ≡ None → b ≡ false
-      not_short true x e = cc
-      not_short false x e = refl
-
-      fewer : (k n : ℕ) → how_many (channel_used h k) (range_with_len 1 n) ≤ length (filter (needs_channel t old k) all_ports) →
-          length (filter (needs_channel t old k) all_ports) ≡ cascades_under t k + present_under t k old → channels_needed t k old ≤ n → how_many (channel_used h k) (range_with_len 1 n) < n
-      fewer k n a b c = omega arith
 
   pub can_claim_up : (v : Spaces) (l : Limits) (new : Bridge) (o : Option ℕ) → held_by v ≡ h → SpacesOf t v → HasSpaces t l v → goes_up t old new ≡ o →
       channels_short t l old (trunk_of t o) ≡ None → CanClaimUp t v o

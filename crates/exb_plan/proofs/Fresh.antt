@@ -68,6 +68,9 @@ module _ (t : Shape) (valid : IsTree t) (old new : Bridge) (h : Held) (needed : 
   low_all [] a = tt
   low_all (x ∷ xs) a = (a.0.0.from1, low_all xs a.1)
 
+  pub fresh_low : AreLow (fresh_sets t old new)
+  fresh_low = low_all (fresh_sets t old new) fresh_below
+
   absent_all : (xs : List PortsAt) → Each (λ s. IsBelow t s × (not (has_set (sets_of t old) s) ≡ true)) xs → AreAbsent h xs
   absent_all [] a = tt
   absent_all (x ∷ xs) a =

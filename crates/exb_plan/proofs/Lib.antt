@@ -19,3 +19,6 @@ pub mod Commanded
 pub mod RowSteps
 pub mod Counts
 pub mod Owning
+pub mod Planning
+pub mod Giving
+pub mod GoesOn

@@ -175,10 +175,10 @@ absent_has h k has owns set e y = none_true (ap is_some (sym e) ∙ (owns_groups
     none_true = false≢true
 
 -- ---- sets that get groups in turn
-module _ (groups k : ℕ) (few : groups ≤ 12288) where
-  abbrev pub at_port_of : List PortsAt → List (List ℕ)
-  at_port_of sets = map (λ (s : PortsAt). s.ports) (filter (is_at (k + 1)) sets)
+abbrev pub at_port_of : ℕ → List PortsAt → List (List ℕ)
+at_port_of k sets = map (λ (s : PortsAt). s.ports) (filter (is_at (k + 1)) sets)
 
+module _ (groups k : ℕ) (few : groups ≤ 12288) where
   free_range : (h : Held) (o : Option ℕ) → lowest_free (group_used h k) 4096 groups ≡ o → is_some o ≡ true → (4096 ≤ or_zero o) × (or_zero o < 16384)
   unfolding lowest_free
   free_range h None e s = absurd (false≢true s)
@@ -187,7 +187,7 @@ module _ (groups k : ℕ) (few : groups ≤ 12288) where
       let a = f.low in let b = f.high in (a, omega (arith, b, few))
 
   pub owns_all : (sets : List PortsAt) (h : Held) (has : List ℕ → Bool) → AreFresh groups h sets → AreLow sets → Owns h k has →
-      Owns (give_all (numbered groups h sets) h) k (λ set. has set || list_any (bytes_eq set) (at_port_of sets))
+      Owns (give_all (numbered groups h sets) h) k (λ set. has set || list_any (bytes_eq set) (at_port_of k sets))
   unfolding give_all numbered
   owns_all [] h has fresh low owns = owns_same h k has (λ set. has set || false) (λ set. or_false (has set)) owns
     where
@@ -197,16 +197,18 @@ module _ (groups k : ℕ) (few : groups ≤ 12288) where
   owns_all (s ∷ sets) h has fresh low owns =
       elim (cases_eq s.bridge_port (k + 1)) [
         | inr n ↦ rw (ne_eqb s.bridge_port (k + 1) n) (owns_all sets (give (group_for groups h s) h) has fresh.1 low.1 (owns_elsewhere h k has owns (group_for groups h s) (λ e. n (sym e))))
-        | inl e ↦ rw (eq-eqb s.bridge_port (k + 1) e) (at_here e)
+        | inl e ↦ rw (eq-eqb s.bridge_port (k + 1) e) (at_here e (λ o. owns_all sets (give (group_for groups h s) h) (λ set. has set || bytes_eq set s.ports) fresh.1 low.1 o))
       ]
     where
       assoc : (a b c : Bool) → (a || b || c) ≡ (a || (b || c))
       assoc true b c = refl
       assoc false b c = refl
 
-      at_here : s.bridge_port ≡ k + 1 → Owns (give_all (numbered groups (give (group_for groups h s) h) sets) (give (group_for groups h s) h)) k
-          (λ set. has set || (bytes_eq set s.ports || list_any (bytes_eq set) (at_port_of sets)))
-      at_here e =
+      at_here : s.bridge_port ≡ k + 1 → (Owns (give (group_for groups h s) h) k (λ set. has set || bytes_eq set s.ports) →
+          Owns (give_all (numbered groups (give (group_for groups h s) h) sets) (give (group_for groups h s) h)) k (λ set. has set || bytes_eq set s.ports || list_any (bytes_eq set) (at_port_of k sets))) →
+          Owns (give_all (numbered groups (give (group_for groups h s) h) sets) (give (group_for groups h s) h)) k
+          (λ set. has set || (bytes_eq set s.ports || list_any (bytes_eq set) (at_port_of k sets)))
+      at_here e rest =
           let x : Group = group_for groups h s in
           let place : s.bridge_port - 1 ≡ k = omega (arith, e) in
           let there : is_some (lowest_free (group_used h k) 4096 groups) ≡ true = subst (λ (j : ℕ). is_some (lowest_free (group_used h j) 4096 groups) ≡ true) place fresh.0.free in
@@ -214,10 +216,9 @@ module _ (groups k : ℕ) (few : groups ≤ 12288) where
           let range = free_range h (lowest_free (group_used h k) 4096 groups) refl there in
           let free : h.set k x.number ≡ [] = ap (h.set k) number ∙ free_set groups h k there in
           let new : has s.ports ≡ false = false_from_ne_true (has s.ports) (λ y. absent_has h k has owns s.ports (subst (λ (j : ℕ). group_in h j s.ports ≡ None) place fresh.0.absent) y) in
-          owns_same _ k (λ set. has set || bytes_eq set s.ports || list_any (bytes_eq set) (at_port_of sets)) (λ set. has set || (bytes_eq set s.ports || list_any (bytes_eq set) (at_port_of sets)))
-          (λ set. assoc (has set) (bytes_eq set s.ports) (list_any (bytes_eq set) (at_port_of sets)))
-          (owns_all sets (give x h) (λ set. has set || bytes_eq set s.ports) fresh.1 low.1
-          (owns_given h k has owns x (sym e) fresh.0.some new (rw number range.0) (rw number range.1) free))
+          owns_same _ k (λ set. has set || bytes_eq set s.ports || list_any (bytes_eq set) (at_port_of k sets)) (λ set. has set || (bytes_eq set s.ports || list_any (bytes_eq set) (at_port_of k sets)))
+          (λ set. assoc (has set) (bytes_eq set s.ports) (list_any (bytes_eq set) (at_port_of k sets)))
+          (rest (owns_given h k has owns x (sym e) fresh.0.some new (rw number range.0) (rw number range.1) free))
 
 -- ---- groups that are freed
 pub owns_kept : (h : Held) (k : ℕ) (has keep : List ℕ → Bool) (gone : ℕ → ℕ → Bool) → ((g : ℕ) → gone k g ≡ (group_used h k g && not (keep (h.set k g)))) → Owns h k has → Owns (free_where gone h) k (λ set. has set && keep set)

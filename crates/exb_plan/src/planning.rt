@@ -248,6 +248,7 @@ pub fn plan(
     ensures no_memory { OnErr result (held_by spaces.new ≡ held_by spaces.old) }
     ensures spaces { (l : Limits) → HasSpaces tree.now l spaces.old → HasSpaces tree.now l spaces.new }
 {
+    tree.is_tree();
     let had = sets(alloc, tree, old)?;
     let wanted = sets(alloc, tree, new)?;
     let fresh = without_group(alloc, spaces, wanted.as_slice())?;
