@@ -22,3 +22,4 @@ pub mod Owning
 pub mod Planning
 pub mod Giving
 pub mod GoesOn
+pub mod Beginning

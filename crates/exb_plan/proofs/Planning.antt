@@ -52,6 +52,13 @@ pub refusal_is : (t : Shape) → IsTree t → (l : Limits) (old new : Bridge) �
 unfolding refusal_between
 refusal_is t valid l old new = ap (first_cause (channels_short t l old (trunk_of t (goes_up t old new)))) (groups_short_is t old new valid l)
 
+pub refusal_are : (t : Shape) → IsTree t → (l : Limits) (old new : Bridge) (up : Option ℕ) (had fresh : List PortsAt) → up ≡ goes_up t old new → had ≡ sets_of t old → fresh ≡ fresh_sets t old new →
+    refusal_by t l old up had fresh ≡ refusal_between t l old new
+refusal_are t valid l old new up had fresh a b c =
+    ap (λ (o : Option ℕ). refusal_by t l old o had fresh) a
+    ∙ (ap (λ (x : List PortsAt). refusal_by t l old (goes_up t old new) x fresh) b
+    ∙ (ap (λ (x : List PortsAt). refusal_by t l old (goes_up t old new) (sets_of t old) x) c ∙ refusal_is t valid l old new))
+
 pub refused_is : (t : Shape) (l : Limits) (old new : Bridge) (h : Held) (x : Cause) → refusal_between t l old new ≡ Some x → Refused x ≡ decision t l old new h
 unfolding decision
 refused_is t l old new h x e = sym (ap (λ (o : Option Cause). decision_by o (change_of t l old new h)) e)
@@ -74,6 +81,21 @@ pub ready_held : (t : Shape) (l : Limits) (old new : Bridge) (h : Held) → refu
     claimed_by t l h (goes_up t old new) (fresh_sets t old new) ≡ held_after t l old new h
 unfolding held_after claimed fresh_groups
 ready_held t l old new h e = sym (ap (λ (o : Option Cause). held_by_cause o h (claimed t l old new h)) e)
+
+pub ready_are : (t : Shape) (l : Limits) (old new : Bridge) (h : Held) (up down : Option ℕ) (kept fresh : List PortsAt) (x : Change) → up ≡ goes_up t old new → down ≡ goes_down t old new →
+    kept ≡ sets_of t new → fresh ≡ fresh_sets t old new → refusal_between t l old new ≡ None → x ≡ change_by t l h up down kept fresh → Ready x ≡ decision t l old new h
+ready_are t l old new h up down kept fresh x a b c d none is =
+    ap (λ (y : Change). Ready y) (is
+    ∙ (ap (λ (o : Option ℕ). change_by t l h o down kept fresh) a
+    ∙ (ap (λ (o : Option ℕ). change_by t l h (goes_up t old new) o kept fresh) b
+    ∙ (ap (λ (s : List PortsAt). change_by t l h (goes_up t old new) (goes_down t old new) s fresh) c
+    ∙ ap (λ (s : List PortsAt). change_by t l h (goes_up t old new) (goes_down t old new) (sets_of t new) s) d))))
+    ∙ ready_is t l old new h none
+
+pub ready_held_are : (t : Shape) (l : Limits) (old new : Bridge) (h now : Held) (up : Option ℕ) (fresh : List PortsAt) → up ≡ goes_up t old new →
+    fresh ≡ fresh_sets t old new → refusal_between t l old new ≡ None → now ≡ claimed_by t l h up fresh → now ≡ held_after t l old new h
+ready_held_are t l old new h now up fresh a d none is =
+    is ∙ (ap (λ (o : Option ℕ). claimed_by t l h o fresh) a ∙ (ap (λ (s : List PortsAt). claimed_by t l h (goes_up t old new) s) d ∙ ready_held t l old new h none))
 
 pub none_short : (t : Shape) (valid : IsTree t) (l : Limits) (old new : Bridge) → refusal_between t l old new ≡ None →
     (channels_short t l old (trunk_of t (goes_up t old new)) ≡ None) × (short_by t l (sets_of t old) (fresh_sets t old new) ≡ None)

@@ -1,5 +1,5 @@
 //! What is asked of extenders, in messages.
-ghost use Rattle.std.specs.Prelude.{◌≡◌, ◌≤◌, ◌<◌, ◌++◌, ◌∷◌, [], length, OnOk};
+ghost use Rattle.std.specs.Prelude.{◌≡◌, ◌≤◌, ◌<◌, ◌++◌, ◌∷◌, [], length, min, OnOk};
 ghost use Rattle.exb_plan.specs.Asks.{ask, register, unregister, numbers_of, message, asks_with, channel_ask, channel_asks, create_asks, delete_asks, put_above};
 
 use exb_csp::{Ecids, GroupRow, GroupRows, Request};
@@ -74,6 +74,13 @@ fn message(step: Step, rows: &[GroupRow]) -> Request
     }
 }
 
+// How many rows go into the next message.
+fn next(rows: &[GroupRow]) -> usize
+    ensures { result ≡ min (length rows.now) 64 }
+{
+    if rows.len() < MOST { rows.len() } else { MOST }
+}
+
 /// Asks an extender for all of these rows, in messages of 64 and a last one of 1 to 64.
 pub(crate) fn put_messages(
     asks: &mut List<AskAt>,
@@ -85,7 +92,7 @@ pub(crate) fn put_messages(
 {
     let mut left = rows;
     while !left.is_empty() {
-        let (piece, rest) = left.split_at(left.len().min(MOST));
+        let (piece, rest) = left.split_at(next(left));
         asks.push(AskAt {
             extender,
             request: message(step, piece),

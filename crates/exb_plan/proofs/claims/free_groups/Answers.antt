@@ -1,5 +1,5 @@
-use Rattle.std.proofs.Common.{◌≡◌, ◌∙◌, ◌-◌, ◌++◌, ◌∷◌, [], List, map, sym, ap, subst}
-use Rattle.std.proofs.lemmas.List.{map-append}
+use Rattle.std.proofs.Common.{◌≡◌, ◌∙◌, ◌-◌, ◌++◌, ◌∷◌, [], ℕ, List, take, map, sym, ap, subst}
+use Rattle.std.proofs.lemmas.List.{append-nil, map-append}
 use Rattle.exb_plan.specs.declared.groups.GroupAt.{GroupAt}
 use Rattle.exb_plan.specs.Held.{Held, Group, held_by, take_back}
 use Rattle.exb_plan.specs.Working.{seen_group, IsLaterBy}
@@ -50,4 +50,8 @@ loop-group-preserved c =
     }
 
 pub returns-clause-held : goal.returns-clause-held
-returns-clause-held c h later = ?
+returns-clause-held c h later =
+    let empty : c.pop.new.self.items ≡ [] = c.in_default.ensures.rest ∙ ap (λ (n : ℕ). take (n - 1) c.loop-group.given.items) c.in_default.ensures.cases.0 in
+    let all : c.loop-group.given.items ≡ [] = c.in_default.ensures.items ∙ (append-nil c.pop.new.self.items ∙ empty) in
+    none_given c.args.spaces.now h (held_by c.loop-group.spaces)
+    (subst (λ (l : List Group). IsLaterBy c.args.spaces.now h l (held_by c.loop-group.spaces)) (ap (map seen_group) all) (c.loop-group.invariant.later h later))
