@@ -19,7 +19,7 @@ use Rattle.exb_plan.proofs.Owning.{Owns, owns_from, owns_groups, owns_one, owns_
 use Rattle.exb_plan.proofs.Giving.{Gives, gives_from, gives_channels, gives_one, gives_same, gives_port, gives_elsewhere, freed_elsewhere, gives_more, gives_less}
 use Rattle.exb_plan.proofs.Counting.{IsLowest}
 use Rattle.exb_plan.proofs.Fresh.{fresh_can, fresh_low}
-use Rattle.exb_plan.proofs.Planning.{fresh_with, none_short}
+use Rattle.exb_plan.proofs.WholePlans.{fresh_with, none_short}
 use Rattle.exb_plan.proofs.Trunks.{under_extended, under_trunk, under_home}
 use Rattle.exb_plan.proofs.Channels.{Rises, rises_is, goes_up_rises, never_rises, no_cascade_under, free_there}
 

@@ -19,7 +19,7 @@ pub mod Commanded
 pub mod RowSteps
 pub mod Counts
 pub mod Owning
-pub mod Planning
+pub mod WholePlans
 pub mod Giving
 pub mod GoesOn
 pub mod Beginning

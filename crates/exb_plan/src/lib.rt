@@ -17,3 +17,6 @@ mod refusals;
 pub use asks::AskAt;
 pub use change::{Change, Decision, Number};
 pub use planning::plan;
+
+#[cfg(test)]
+mod tests;

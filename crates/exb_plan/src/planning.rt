@@ -99,8 +99,8 @@ fn numbers_of(alloc: Global, groups: &[GroupAt]) -> Result<List<Number>, NoMemor
     Ok(numbers)
 }
 
-// What is asked after the commit.
-fn cleanup(
+/// What is asked after the commit.
+pub(crate) fn cleanup(
     alloc: Global,
     tree: &Tree,
     channel: u16,
@@ -117,8 +117,8 @@ fn cleanup(
     Ok(asks)
 }
 
-// What is asked before the commit.
-fn prepare(
+/// What is asked before the commit.
+pub(crate) fn prepare(
     alloc: Global,
     tree: &Tree,
     channel: u16,

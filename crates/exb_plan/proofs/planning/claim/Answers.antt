@@ -4,7 +4,7 @@ use Rattle.exb_plan.specs.Held.{Held, held_by}
 use Rattle.exb_plan.specs.Plans.{without_channel}
 use Rattle.exb_plan.specs.Working.{seen_group}
 use Rattle.exb_plan.proofs.ClaimLoop.{alike_more}
-use Rattle.exb_plan.proofs.Planning.{can_after, later_than, has_up_same}
+use Rattle.exb_plan.proofs.WholePlans.{can_after, later_than, has_up_same}
 use Rattle.exb_plan.proofs.planning.claim.Goals as goal
 
 pub claim_groups-requires-clause-fresh : goal.claim_groups-requires-clause-fresh

@@ -7,7 +7,7 @@ use Rattle.exb_plan.specs.Held.{held_by}
 use Rattle.exb_plan.specs.Working.{IsPlaced, CanClaim, CanClaimUp, has_group}
 use Rattle.exb_plan.proofs.Channels.{any_extended}
 use Rattle.exb_plan.proofs.Fresh.{fresh_are}
-use Rattle.exb_plan.proofs.Planning.{spaces_of, placed_sets, refusal_are, refused_is, refused_held, ready_are, ready_held_are, up_can, fresh_claim}
+use Rattle.exb_plan.proofs.WholePlans.{spaces_of, placed_sets, refusal_are, refused_is, refused_held, ready_are, ready_held_are, up_can, fresh_claim}
 use Rattle.exb_plan.proofs.planning.plan.Goals as goal
 
 pub without_group-requires : goal.without_group-requires
