@@ -79,6 +79,18 @@ fn numbers(ask: &AskAt) -> &[u16] {
     }
 }
 
+// The port, the kind and the channel of a port that is created.
+fn creation(request: &Request) -> Option<(u8, bool, u16)> {
+    match request {
+        Request::PortCreate {
+            port,
+            cascade,
+            channel,
+        } => Some((*port, *cascade, *channel)),
+        _ => None,
+    }
+}
+
 #[test]
 fn rows_without_the_port_come_first_and_the_port_is_deleted_last(
     rt: HostRuntime,
@@ -87,15 +99,28 @@ fn rows_without_the_port_come_first_and_the_port_is_deleted_last(
     let port = PortId::new(64);
     let fresh = [group(0x1000, &[65]), group(0x1003, &[66])];
     let asks = prepare(rt.alloc(), &tree, 0, &None, &fresh)?;
-    let asks = asks.as_slice();
-    assert_eq!(rt; asks.len(), 1);
-    assert_eq!(rt; rows(&asks[0]), &[GroupRow { ecid: 0x1000, mask: 2 }, GroupRow { ecid: 0x1003, mask: 4 }]);
+    let [ask] = asks.as_slice() else {
+        return Err(Fail::from("not one request"));
+    };
+    let wanted = [
+        GroupRow {
+            ecid: 0x1000,
+            mask: 2,
+        },
+        GroupRow {
+            ecid: 0x1003,
+            mask: 4,
+        },
+    ];
+    assert_eq!(rt; rows(ask), wanted.as_slice());
     let gone = [group(0x1001, &[64, 65]), group(0x1002, &[64, 66])];
     let asks = cleanup(rt.alloc(), &tree, 1, &port, &gone)?;
-    let asks = asks.as_slice();
-    assert_eq!(rt; asks.len(), 2);
-    assert_eq!(rt; numbers(&asks[0]), &[0x1001, 0x1002]);
-    assert_eq!(rt; matches!(asks[1].request, Request::PortDelete { port: 1 }), true);
+    let [first, last] = asks.as_slice() else {
+        return Err(Fail::from("not two requests"));
+    };
+    let wanted = [0x1001, 0x1002];
+    assert_eq!(rt; numbers(first), wanted.as_slice());
+    assert_eq!(rt; matches!(&last.request, Request::PortDelete { port: 1 }), true);
     Ok(())
 }
 
@@ -108,12 +133,13 @@ fn an_ancestor_registers_a_channel_before_the_port_is_created(
     if let Some(port) = PortId::new(129) {
         put_create(rt.alloc(), &tree, port, false, 7, &mut asks)?;
     }
-    let asks = asks.as_slice();
-    assert_eq!(rt; asks.len(), 2);
-    assert_eq!(rt; asks[0].extender, 1);
-    assert_eq!(rt; matches!(asks[0].request, Request::Register { ecid: 7, mask: 8 }), true);
-    assert_eq!(rt; asks[1].extender, 2);
-    assert_eq!(rt; matches!(asks[1].request, Request::PortCreate { port: 2, cascade: false, channel: 7 }), true);
+    let [first, last] = asks.as_slice() else {
+        return Err(Fail::from("not two requests"));
+    };
+    assert_eq!(rt; first.extender, 1);
+    assert_eq!(rt; matches!(&first.request, Request::Register { ecid: 7, mask: 8 }), true);
+    assert_eq!(rt; last.extender, 2);
+    assert_eq!(rt; creation(&last.request), Some((2, false, 7)));
     Ok(())
 }
 
