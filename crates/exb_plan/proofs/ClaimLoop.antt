@@ -54,9 +54,9 @@ claiming_step groups h all v w s rest given x is a e f =
       placed = alike_placed v w rest a is.placed.1;
       fresh = subst (λ (k : Held). AreFresh groups k rest) (sym f) is.fresh.1;
       numbers =
-      append_assoc given (x ∷ []) (numbered groups (held_by w) rest)
-      ∙ (ap (λ (k : Held). given ++ (x ∷ numbered groups k rest)) f
-      ∙ (ap (λ (y : Group). given ++ (y ∷ numbered groups (give g (held_by v)) rest)) e ∙ is.numbers));
+          append_assoc given (x ∷ []) (numbered groups (held_by w) rest)
+          ∙ (ap (λ (k : Held). given ++ (x ∷ numbered groups k rest)) f
+          ∙ (ap (λ (y : Group). given ++ (y ∷ numbered groups (give g (held_by v)) rest)) e ∙ is.numbers));
       held = ap (λ (k : Held). give_all (numbered groups k rest) k) f ∙ is.held;
     }
 

@@ -141,9 +141,10 @@ module _ (groups : ℕ) where
   pub are_fresh : (h : Held) (sets : List PortsAt) → AreApart sets → AreLow sets → AreAbsent h sets → HasRoom groups h sets → AreFresh groups h sets
   are_fresh h [] apart low absent room = tt
   are_fresh h (s ∷ sets) apart low absent room =
-      let x : Group = group_for groups h s in
-      (record { some = apart.0; absent = absent.0; free = free_there h s sets low.0 room },
-       are_fresh (give x h) sets apart.2 low.1 (all_absent h x s sets refl refl low.0 low.1 apart.2 apart.1 absent.1) (room_after h x s sets refl room))
+      let x : Group = group_for groups h s in (
+        record { some = apart.0; absent = absent.0; free = free_there h s sets low.0 room },
+        are_fresh (give x h) sets apart.2 low.1 (all_absent h x s sets refl refl low.0 low.1 apart.2 apart.1 absent.1) (room_after h x s sets refl room),
+      )
 
   -- a group that is given was free
   pub free_set : (h : Held) (k : ℕ) → is_some (lowest_free (group_used h k) 4096 groups) ≡ true → h.set k (free_group groups h k) ≡ []
@@ -161,6 +162,7 @@ module _ (groups : ℕ) where
   unfolding numbered
   are_given v h [] fresh placed = tt
   are_given v h (s ∷ sets) fresh placed =
-      let x : Group = group_for groups h s in
-      (record { from1 = placed.0.0; cascade = placed.0.1; some = fresh.0.some; free = free_set h (s.bridge_port - 1) fresh.0.free },
-       are_given v (give x h) sets fresh.1 placed.1)
+      let x : Group = group_for groups h s in (
+        record { from1 = placed.0.0; cascade = placed.0.1; some = fresh.0.some; free = free_set h (s.bridge_port - 1) fresh.0.free },
+        are_given v (give x h) sets fresh.1 placed.1,
+      )

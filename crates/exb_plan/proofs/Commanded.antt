@@ -49,9 +49,9 @@ module _ (t : Shape) (old : Bridge) where
         last true false = refl
         last false b = refl
     risen true true e a = ap (trunk_of t) (find_none (rises t old up) 0 4160 (λ c l h. elim (cases_eq c p) [
-        | inl s ↦ rw (s, a) (and_false (is_extended t p))
-        | inr s ↦ rw (ne_eqb c p s) (last (is_extended t c) (old.present c))
-      ]))
+      | inl s ↦ rw (s, a) (and_false (is_extended t p))
+      | inr s ↦ rw (ne_eqb c p s) (last (is_extended t c) (old.present c))
+    ]))
       where
         and_false : (b : Bool) → (b && false) ≡ false
         and_false true = refl
@@ -62,9 +62,9 @@ module _ (t : Shape) (old : Bridge) where
         last true false = refl
         last false b = refl
     risen false a e f = ap (trunk_of t) (find_none (rises t old up) 0 4160 (λ c l h. elim (cases_eq c p) [
-        | inl s ↦ rw (s, e) refl
-        | inr s ↦ rw (ne_eqb c p s) (last (is_extended t c) (old.present c))
-      ]))
+      | inl s ↦ rw (s, e) refl
+      | inr s ↦ rw (ne_eqb c p s) (last (is_extended t c) (old.present c))
+    ]))
       where
         last : (x b : Bool) → (x && (not b && (false || b))) ≡ false
         last true true = refl

@@ -38,10 +38,11 @@ module _ {X : Type 0} (empty : X → Bool) (same : X → X → Bool) (to : (x y 
   one_more : (sets : List X) (s : X) → AreSets empty same sets → empty s ≡ false → list_any (same s) sets ≡ false → AreSets empty same (sets ++ s ∷ [])
   one_more [] s are some new = (some, refl, tt)
   one_more (x ∷ xs) s are some new =
-      let parts = and_out (same s x) (list_any (same s) xs) new in
-      (are.0,
-       any-append (same x) xs (s ∷ []) ∙ or_from _ _ are.1 (or_from (same x s) false (apart s x parts.0) refl),
-       one_more xs s are.2 some parts.1)
+      let parts = and_out (same s x) (list_any (same s) xs) new in (
+        are.0,
+        any-append (same x) xs (s ∷ []) ∙ or_from _ _ are.1 (or_from (same x s) false (apart s x parts.0) refl),
+        one_more xs s are.2 some parts.1,
+      )
 
   pub put_sets : (sets : List X) (s : X) → AreSets empty same sets → AreSets empty same (put empty same sets s)
   put_sets sets s are = by_test (empty s) (list_any (same s) sets) refl refl
@@ -93,6 +94,6 @@ module _ {X : Type 0} (empty : X → Bool) (same : X → X → Bool) (to : (x y 
       elim (cases_Bool (list_any (same x) sets)) [
         | inl e ↦ rw (are.0, e) (fold_put xs sets are.2)
         | inr e ↦ rw (are.0, e) (
-          fold_put xs (sets ++ x ∷ []) are.2
-          ∙ (ap (λ l. (sets ++ x ∷ []) ++ l) (others-more sets xs x are.1) ∙ append_assoc sets (x ∷ []) (others empty same sets xs)))
+            fold_put xs (sets ++ x ∷ []) are.2
+            ∙ (ap (λ l. (sets ++ x ∷ []) ++ l) (others-more sets xs x are.1) ∙ append_assoc sets (x ∷ []) (others empty same sets xs)))
       ]

@@ -159,12 +159,12 @@ module _ (t : Shape) (h : Held) (k p c : ℕ) (needs : ℕ → Bool) (gives : Gi
       high = λ e q f. gives.high e q (sym (stays e (not_freed e q f)) ∙ f);
       one = λ e d q f g. gives.one e d q (sym (stays e (not_freed e q f)) ∙ f) (sym (stays d (not_freed d q g)) ∙ g);
       sound = λ e q f.
-      let before = sym (stays e (not_freed e q f)) ∙ f in
-      and_from (needs q) (not (q == p)) (gives.sound e q before) (ap not (ne_eqb q p (λ s. not_freed e q f (gives.one e c q before (is ∙ ap (λ (x : ℕ). Some x) (sym s))))));
+          let before = sym (stays e (not_freed e q f)) ∙ f in
+          and_from (needs q) (not (q == p)) (gives.sound e q before) (ap not (ne_eqb q p (λ s. not_freed e q f (gives.one e c q before (is ∙ ap (λ (x : ℕ). Some x) (sym s))))));
       full = λ q f.
-      let both = and_parts (needs q) (not (q == p)) f in
-      let g = gives.full q both.0 in
-      (g.0, stays g.0 (λ s. other q both.1 (some_is q p (sym g.1 ∙ (ap (h.port k) s ∙ is)))) ∙ g.1);
+          let both = and_parts (needs q) (not (q == p)) f in
+          let g = gives.full q both.0 in
+          (g.0, stays g.0 (λ s. other q both.1 (some_is q p (sym g.1 ∙ (ap (h.port k) s ∙ is)))) ∙ g.1);
     }
       where
         other : (q : ℕ) → not (q == p) ≡ true → q ≡ p → ⊥

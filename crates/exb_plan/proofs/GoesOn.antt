@@ -177,7 +177,7 @@ module _ (t : Shape) (valid : IsTree t) (l : Limits) (old new : Bridge) (h : Hel
       let e = owns_kept h2 k (λ set. has set || list_any (bytes_eq set) (at_port_of k f)) (λ set. has_set (sets_of t new) (record { bridge_port = k + 1; ports = set })) (is_gone (sets_of t new) h2) (λ g. refl) d in
       let down = goes_down t old new in
       let g = owns_set (free_where (is_gone (sets_of t new) h2) h2) (without_channel t (own_channel t h2 down) down (free_where (is_gone (sets_of t new) h2) h2)) k _
-          (λ m. without_set t (own_channel t h2 down) down (free_where (is_gone (sets_of t new) h2) h2) k m) e in
+      (λ m. without_set t (own_channel t h2 down) down (free_where (is_gone (sets_of t new) h2) h2) k m) e in
       owns_same _ k _ (λ set. list_any (bytes_eq set) (sets_at t k new)) (kept_are t old new k low) g
 
   gives_start : (k : ℕ) → k < 64 → is_cascade t k ≡ true → Gives h k (needs_channel t old k)
@@ -209,14 +209,14 @@ module _ (t : Shape) (valid : IsTree t) (l : Limits) (old new : Bridge) (h : Hel
       gives_port h1 (free_where (is_gone (sets_of t new) (give_all g h1)) (give_all g h1)) k (needs_channel t new k) (λ m. give_port g h1 k m)
       (elim (cases_eq k (trunk t (device p))) [
         | inr other ↦ gives_same h1 k (needs_channel t old k) (needs_channel t new k)
-          (λ q. elim (cases_eq q p) [ inl s ↦ rw s (needs_outside t old new k p (under_only t k p other)) | inr s ↦ needs_by t old new k q (same_but p q d s) ])
-          (gives_elsewhere t h k p n (needs_channel t old k) (gives_start k low c) other)
+            (λ q. elim (cases_eq q p) [ inl s ↦ rw s (needs_outside t old new k p (under_only t k p other)) | inr s ↦ needs_by t old new k q (same_but p q d s) ])
+            (gives_elsewhere t h k p n (needs_channel t old k) (gives_start k low c) other)
         | inl here ↦ gives_same h1 k (λ q. needs_channel t old k q || q == p) (needs_channel t new k)
-          (λ q. needs_more t old new p k q (λ q s. same_but p q d s) r.present (subst (λ (m : ℕ). is_under t m p ≡ true) (sym here) (under_home t p r.extended)))
-          (gives_more t h k p n (needs_channel t old k) (gives_start k low c) here
-          (let a = there.1.low in omega (arith, a, number)) (let b = there.1.high in omega (arith, b, number, few))
-          (subst (λ (m : ℕ). needs_channel t old m p ≡ false) (sym here) absent)
-          (subst (λ (m : ℕ). h.port m n ≡ None) (sym here) (ap (h.port (trunk t (device p))) number ∙ is_none_at (h.port (trunk t (device p)) there.0) there.1.free)))
+            (λ q. needs_more t old new p k q (λ q s. same_but p q d s) r.present (subst (λ (m : ℕ). is_under t m p ≡ true) (sym here) (under_home t p r.extended)))
+            (gives_more t h k p n (needs_channel t old k) (gives_start k low c) here
+            (let a = there.1.low in omega (arith, a, number)) (let b = there.1.high in omega (arith, b, number, few))
+            (subst (λ (m : ℕ). needs_channel t old m p ≡ false) (sym here) absent)
+            (subst (λ (m : ℕ). h.port m n ≡ None) (sym here) (ap (h.port (trunk t (device p))) number ∙ is_none_at (h.port (trunk t (device p)) there.0) there.1.free)))
       ])
     where
       none_there : (b : Bool) → (b && false || false) ≡ false
@@ -236,8 +236,8 @@ module _ (t : Shape) (valid : IsTree t) (l : Limits) (old new : Bridge) (h : Hel
       let h3 : Held = free_where (is_gone (sets_of t new) h2) h2 in
       elim (cases_eq k (trunk t (device p))) [
         | inr other ↦ gives_same _ k (needs_channel t old k) (needs_channel t new k)
-          (λ q. elim (cases_eq q p) [ inl a ↦ rw a (needs_outside t old new k p (under_only t k p other)) | inr a ↦ needs_by t old new k q (same_but p q d a) ])
-          (freed_elsewhere t h3 k p n (needs_channel t old k) (gives_port h2 h3 k (needs_channel t old k) (λ m. refl) before) other)
+            (λ q. elim (cases_eq q p) [ inl a ↦ rw a (needs_outside t old new k p (under_only t k p other)) | inr a ↦ needs_by t old new k q (same_but p q d a) ])
+            (freed_elsewhere t h3 k p n (needs_channel t old k) (gives_port h2 h3 k (needs_channel t old k) (λ m. refl) before) other)
         | inl here ↦
             let needs : needs_channel t old k p ≡ true = rw (s.present, subst (λ (m : ℕ). is_under t m p ≡ true) (sym here) (under_home t p s.extended)) refl in
             let m = before.full p needs in

@@ -123,9 +123,10 @@ group_in_port port other set k s = refl
 fresh_port : (groups : ℕ) (sets : List PortsAt) (port other : ℕ → ℕ → Option ℕ) (set : ℕ → ℕ → List ℕ) →
     AreFresh groups (record { port = port; set = set }) sets → AreFresh groups (record { port = other; set = set }) sets
 fresh_port groups [] port other set fresh = tt
-fresh_port groups (s ∷ sets) port other set fresh =
-    (record { some = fresh.0.some; absent = sym (group_in_port port other set (s.bridge_port - 1) s.ports) ∙ fresh.0.absent; free = fresh.0.free },
-     fresh_port groups sets port other (λ k g. (give (group_for groups (record { port = port; set = set }) s) (record { port = port; set = set })).set k g) fresh.1)
+fresh_port groups (s ∷ sets) port other set fresh = (
+  record { some = fresh.0.some; absent = sym (group_in_port port other set (s.bridge_port - 1) s.ports) ∙ fresh.0.absent; free = fresh.0.free },
+  fresh_port groups sets port other (λ k g. (give (group_for groups (record { port = port; set = set }) s) (record { port = port; set = set })).set k g) fresh.1,
+)
 
 pub fresh_with : (t : Shape) (groups c : ℕ) (o : Option ℕ) (h : Held) (sets : List PortsAt) → AreFresh groups h sets → AreFresh groups (with_channel t c o h) sets
 fresh_with t groups c None h sets fresh = fresh

@@ -21,10 +21,7 @@ fn claim_group(spaces: &mut Spaces, set: &SetAt) -> u16
         ≡ give (group_for (groups_at spaces.old (set.now.bridge_port - 1)).limit (held_by spaces.old) (seen set.now)) (held_by spaces.old) }
     ensures alike { IsAlike spaces.old spaces.new }
 {
-    spaces
-        .groups_mut(set.bridge_port)
-        .claim(&set.set)
-        .unwrap()
+    spaces.groups_mut(set.bridge_port).claim(&set.set).unwrap()
 }
 
 /// Gives each set in turn the lowest free group of its space. There is room for the groups.

@@ -257,6 +257,14 @@ pub fn plan(
         return Ok(Decision::Refused(cause));
     }
     let down = goes_up(tree, new, old);
-    let change = change(alloc, tree, spaces, &up, &down, wanted.as_slice(), fresh.as_slice())?;
+    let change = change(
+        alloc,
+        tree,
+        spaces,
+        &up,
+        &down,
+        wanted.as_slice(),
+        fresh.as_slice(),
+    )?;
     Ok(Decision::Ready(change))
 }

@@ -1,11 +1,9 @@
 //! The lists of plans, request by request.
-ghost use Rattle.std.specs.Prelude.{◌<◌, ◌≤◌, ◌≡◌};
-
 use crate::asks::{AskAt, put_create};
 use crate::groups::GroupAt;
 use crate::laws::{begins, held_goes_on, refused_as_commanded};
 use crate::planning::{cleanup, prepare};
-use exb_csp::{GroupRow, Request};
+use exb_csp::Request;
 use exb_model::list::List;
 use exb_model::port::PortId;
 use exb_model::port_set::PortSet;
@@ -64,82 +62,92 @@ fn group(number: u16, ports: &[u16]) -> GroupAt {
     }
 }
 
-// A request in a few words: its extender, and its E-CIDs with their masks.
-fn rows(ask: &AskAt) -> &[GroupRow] {
-    match &ask.request {
-        Request::RegisterMany { rows } => rows.as_slice(),
-        _ => &[],
-    }
+// The groups that two fresh sets got.
+fn fresh() -> [GroupAt; 2] {
+    [group(0x1000, &[65]), group(0x1003, &[66])]
 }
 
-fn numbers(ask: &AskAt) -> &[u16] {
-    match &ask.request {
-        Request::UnregisterMany { ecids } => ecids.as_slice(),
-        _ => &[],
-    }
+// The groups of two sets that are gone.
+fn gone() -> [GroupAt; 2] {
+    [group(0x1001, &[64, 65]), group(0x1002, &[64, 66])]
 }
 
-// The port, the kind and the channel of a port that is created.
-fn creation(request: &Request) -> Option<(u8, bool, u16)> {
-    match request {
-        Request::PortCreate {
-            port,
-            cascade,
-            channel,
-        } => Some((*port, *cascade, *channel)),
-        _ => None,
-    }
+// One request, for a row of each fresh set.
+fn lays_the_fresh_sets(asks: &[AskAt]) -> bool {
+    let [ask] = asks else {
+        return false;
+    };
+    let Request::RegisterMany { rows } = &ask.request else {
+        return false;
+    };
+    let [first, second] = rows.as_slice() else {
+        return false;
+    };
+    first.ecid == 0x1000 && first.mask == 2 && second.ecid == 0x1003 && second.mask == 4
+}
+
+// A request for both numbers, by rising number.
+fn clears_both(ask: &AskAt) -> bool {
+    let Request::UnregisterMany { ecids } = &ask.request else {
+        return false;
+    };
+    let [first, second] = ecids.as_slice() else {
+        return false;
+    };
+    *first == 0x1001 && *second == 0x1002
+}
+
+// A request for both numbers, then the port is deleted.
+fn clears_and_deletes(asks: &[AskAt]) -> bool {
+    let [first, last] = asks else {
+        return false;
+    };
+    let Request::PortDelete { port } = &last.request else {
+        return false;
+    };
+    clears_both(first) && *port == 1
+}
+
+// Register at extender 1, then PortCreate at extender 2.
+fn registers_and_creates(asks: &[AskAt]) -> bool {
+    let [first, last] = asks else {
+        return false;
+    };
+    let Request::Register { ecid, mask } = &first.request else {
+        return false;
+    };
+    let Request::PortCreate { port, .. } = &last.request else {
+        return false;
+    };
+    first.extender == 1 && *ecid == 7 && *mask == 8 && last.extender == 2 && *port == 2
 }
 
 #[test]
-fn rows_without_the_port_come_first_and_the_port_is_deleted_last(
-    rt: HostRuntime,
-) -> Result<(), Fail> {
+fn fresh_sets_are_laid_in_one_message(rt: HostRuntime) -> Result<(), Fail> {
+    let fresh = fresh();
     let tree = two_extenders(rt.alloc(), 4)?;
-    let port = PortId::new(64);
-    let fresh = [group(0x1000, &[65]), group(0x1003, &[66])];
     let asks = prepare(rt.alloc(), &tree, 0, &None, &fresh)?;
-    let [ask] = asks.as_slice() else {
-        return Err(Fail::from("not one request"));
-    };
-    let wanted = [
-        GroupRow {
-            ecid: 0x1000,
-            mask: 2,
-        },
-        GroupRow {
-            ecid: 0x1003,
-            mask: 4,
-        },
-    ];
-    assert_eq!(rt; rows(ask), wanted.as_slice());
-    let gone = [group(0x1001, &[64, 65]), group(0x1002, &[64, 66])];
-    let asks = cleanup(rt.alloc(), &tree, 1, &port, &gone)?;
-    let [first, last] = asks.as_slice() else {
-        return Err(Fail::from("not two requests"));
-    };
-    let wanted = [0x1001, 0x1002];
-    assert_eq!(rt; numbers(first), wanted.as_slice());
-    assert_eq!(rt; matches!(&last.request, Request::PortDelete { port: 1 }), true);
+    assert_eq!(rt; lays_the_fresh_sets(asks.as_slice()), true);
     Ok(())
 }
 
 #[test]
-fn an_ancestor_registers_a_channel_before_the_port_is_created(
-    rt: HostRuntime,
-) -> Result<(), Fail> {
+fn the_port_is_deleted_after_all_clears(rt: HostRuntime) -> Result<(), Fail> {
+    let gone = gone();
+    let tree = two_extenders(rt.alloc(), 4)?;
+    let asks = cleanup(rt.alloc(), &tree, 1, &PortId::new(64), &gone)?;
+    assert_eq!(rt; clears_and_deletes(asks.as_slice()), true);
+    Ok(())
+}
+
+#[test]
+fn an_ancestor_registers_a_channel_before_the_port_is_created(rt: HostRuntime) -> Result<(), Fail> {
     let tree = two_extenders(rt.alloc(), 4)?;
     let mut asks = List::new(rt.alloc());
     if let Some(port) = PortId::new(129) {
         put_create(rt.alloc(), &tree, port, false, 7, &mut asks)?;
     }
-    let [first, last] = asks.as_slice() else {
-        return Err(Fail::from("not two requests"));
-    };
-    assert_eq!(rt; first.extender, 1);
-    assert_eq!(rt; matches!(&first.request, Request::Register { ecid: 7, mask: 8 }), true);
-    assert_eq!(rt; last.extender, 2);
-    assert_eq!(rt; creation(&last.request), Some((2, false, 7)));
+    assert_eq!(rt; registers_and_creates(asks.as_slice()), true);
     Ok(())
 }
 

@@ -56,17 +56,17 @@ loop-set-preserved c =
       count = ap length items ∙ (length-append c.loop-set.given.items (g ∷ []) ∙ ap (λ (n : ℕ). n + 1) c.loop-set.invariant.count);
       room = (let a = c.loop-set.invariant.room in let b = c.push.ensures.capacity in omega (arith, a, b));
       claims = λ groups limited.
-      let rest = image_rest seen sets i s c.loop-set-test.true c.set-item.is in
-      let is : IsClaiming groups (held_by c.args.spaces.now) (map seen sets) v (seen s ∷ map seen (drop (i + 1) sets)) (map seen_group c.loop-set.given.items) =
-      subst (λ (l : List PortsAt). IsClaiming groups (held_by c.args.spaces.now) (map seen sets) v l (map seen_group c.loop-set.given.items)) rest (c.loop-set.invariant.claims groups limited) in
-      let limit = limit_here groups c.args.spaces.now v (seen s) limited c.loop-set.invariant.alike is.placed.0 in
-      let x : seen_group g ≡ group_for groups (held_by v) (seen s) =
-      ap (λ (n : ℕ). let y : Group = record { bridge_port = s.bridge_port; number = n; ports = ports_of s.set } in y)
-      (c.claim_group-number.ensures.number ∙ ap (λ (n : ℕ). free_group n (held_by v) (s.bridge_port - 1)) limit) in
-      let held = c.claim_group-number.ensures.held ∙ ap (λ (n : ℕ). give (group_for n (held_by v) (seen s)) (held_by v)) limit in
-      let step = claiming_step groups (held_by c.args.spaces.now) (map seen sets) v w (seen s) (map seen (drop (i + 1) sets)) (map seen_group c.loop-set.given.items) (seen_group g) is c.claim_group-number.ensures.alike x held in
-      let all : map seen_group c.push.new.self.items ≡ map seen_group c.loop-set.given.items ++ seen_group g ∷ [] = ap (map seen_group) items ∙ map-append seen_group c.loop-set.given.items (g ∷ []) in
-      subst (λ (l : List Group). IsClaiming groups (held_by c.args.spaces.now) (map seen sets) w (map seen (drop (i + 1) sets)) l) (sym all) step;
+          let rest = image_rest seen sets i s c.loop-set-test.true c.set-item.is in
+          let is : IsClaiming groups (held_by c.args.spaces.now) (map seen sets) v (seen s ∷ map seen (drop (i + 1) sets)) (map seen_group c.loop-set.given.items) =
+          subst (λ (l : List PortsAt). IsClaiming groups (held_by c.args.spaces.now) (map seen sets) v l (map seen_group c.loop-set.given.items)) rest (c.loop-set.invariant.claims groups limited) in
+          let limit = limit_here groups c.args.spaces.now v (seen s) limited c.loop-set.invariant.alike is.placed.0 in
+          let x : seen_group g ≡ group_for groups (held_by v) (seen s) =
+          ap (λ (n : ℕ). let y : Group = record { bridge_port = s.bridge_port; number = n; ports = ports_of s.set } in y)
+          (c.claim_group-number.ensures.number ∙ ap (λ (n : ℕ). free_group n (held_by v) (s.bridge_port - 1)) limit) in
+          let held = c.claim_group-number.ensures.held ∙ ap (λ (n : ℕ). give (group_for n (held_by v) (seen s)) (held_by v)) limit in
+          let step = claiming_step groups (held_by c.args.spaces.now) (map seen sets) v w (seen s) (map seen (drop (i + 1) sets)) (map seen_group c.loop-set.given.items) (seen_group g) is c.claim_group-number.ensures.alike x held in
+          let all : map seen_group c.push.new.self.items ≡ map seen_group c.loop-set.given.items ++ seen_group g ∷ [] = ap (map seen_group) items ∙ map-append seen_group c.loop-set.given.items (g ∷ []) in
+          subst (λ (l : List Group). IsClaiming groups (held_by c.args.spaces.now) (map seen sets) w (map seen (drop (i + 1) sets)) l) (sym all) step;
     }
 
 pub returns-clause-claimed : goal.returns-clause-claimed

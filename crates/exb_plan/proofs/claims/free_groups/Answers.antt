@@ -42,11 +42,11 @@ loop-group-preserved c =
     record {
       alike = alike_more c.args.spaces.now c.loop-group.spaces c.free_group.new.spaces c.loop-group.invariant.alike c.free_group.ensures.alike;
       later = λ h is.
-      let now = held_by c.loop-group.spaces in
-      let xs = map seen_group c.pop.new.self.items in
-      let later = subst (λ (l : List Group). IsLaterBy c.args.spaces.now h l now) (split c.pop.new.self.items c.loop-group.given.items c.in-Some.group c.in-Some.ensures.items) (c.loop-group.invariant.later h is) in
-      let last : IsLast c.args.spaces.now h xs (seen_group c.in-Some.group) now = last_given c.args.spaces.now h xs (seen_group c.in-Some.group) now later in
-      subst (λ (k : Held). IsLaterBy c.args.spaces.now h xs k) (sym c.free_group.ensures.held) last.back;
+          let now = held_by c.loop-group.spaces in
+          let xs = map seen_group c.pop.new.self.items in
+          let later = subst (λ (l : List Group). IsLaterBy c.args.spaces.now h l now) (split c.pop.new.self.items c.loop-group.given.items c.in-Some.group c.in-Some.ensures.items) (c.loop-group.invariant.later h is) in
+          let last : IsLast c.args.spaces.now h xs (seen_group c.in-Some.group) now = last_given c.args.spaces.now h xs (seen_group c.in-Some.group) now later in
+          subst (λ (k : Held). IsLaterBy c.args.spaces.now h xs k) (sym c.free_group.ensures.held) last.back;
     }
 
 pub returns-clause-held : goal.returns-clause-held

@@ -15,17 +15,18 @@ claim_groups-requires-clause-fresh c =
 pub free_groups-requires : goal.free_groups-requires
 free_groups-requires c =
     let can = can_after c.args.tree.now c.claim_up-channel.result c.args.up.now c.args.spaces.now c.claim_up-channel.new.spaces (map seen c.args.fresh.now)
-        c.claim_up-channel.ensures.alike c.claim_up-channel.ensures.held c.requires.fresh in
-    (held_by c.claim_up-channel.new.spaces,
-     later_than c.claim_up-channel.new.spaces c.claim_groups.new.spaces (map seen c.args.fresh.now) (map seen_group c.claim_groups.new.given.items)
-     c.claim_groups.ensures.alike can c.claim_groups.ensures.claimed)
+    c.claim_up-channel.ensures.alike c.claim_up-channel.ensures.held c.requires.fresh in (
+      held_by c.claim_up-channel.new.spaces,
+      later_than c.claim_up-channel.new.spaces c.claim_groups.new.spaces (map seen c.args.fresh.now) (map seen_group c.claim_groups.new.given.items)
+          c.claim_groups.ensures.alike can c.claim_groups.ensures.claimed,
+    )
 
 pub free_up-requires : goal.free_up-requires
 free_up-requires c =
     let can = can_after c.args.tree.now c.claim_up-channel.result c.args.up.now c.args.spaces.now c.claim_up-channel.new.spaces (map seen c.args.fresh.now)
-        c.claim_up-channel.ensures.alike c.claim_up-channel.ensures.held c.requires.fresh in
+    c.claim_up-channel.ensures.alike c.claim_up-channel.ensures.held c.requires.fresh in
     let later = later_than c.claim_up-channel.new.spaces c.claim_groups.new.spaces (map seen c.args.fresh.now) (map seen_group c.claim_groups.new.given.items)
-        c.claim_groups.ensures.alike can c.claim_groups.ensures.claimed in
+    c.claim_groups.ensures.alike can c.claim_groups.ensures.claimed in
     has_up_same c.args.tree.now c.claim_up-channel.new.spaces c.free_groups.new.spaces c.args.up.now c.claim_up-channel.result
     (alike_more c.claim_up-channel.new.spaces c.claim_groups.new.spaces c.free_groups.new.spaces c.claim_groups.ensures.alike c.free_groups.ensures.alike)
     (c.free_groups.ensures.held (held_by c.claim_up-channel.new.spaces) later) c.claim_up-channel.ensures.has
@@ -33,9 +34,9 @@ free_up-requires c =
 pub returns-in-Err-clause-err : goal.returns-in-Err-clause-err
 returns-in-Err-clause-err c =
     let can = can_after c.args.tree.now c.claim_up-channel.result c.args.up.now c.args.spaces.now c.claim_up-channel.new.spaces (map seen c.args.fresh.now)
-        c.claim_up-channel.ensures.alike c.claim_up-channel.ensures.held c.requires.fresh in
+    c.claim_up-channel.ensures.alike c.claim_up-channel.ensures.held c.requires.fresh in
     let later = later_than c.claim_up-channel.new.spaces c.claim_groups.new.spaces (map seen c.args.fresh.now) (map seen_group c.claim_groups.new.given.items)
-        c.claim_groups.ensures.alike can c.claim_groups.ensures.claimed in
+    c.claim_groups.ensures.alike can c.claim_groups.ensures.claimed in
     c.free_up.ensures.held
     ∙ (ap (without_channel c.args.tree.now c.claim_up-channel.result c.args.up.now) (c.free_groups.ensures.held (held_by c.claim_up-channel.new.spaces) later)
     ∙ c.claim_up-channel.ensures.back)

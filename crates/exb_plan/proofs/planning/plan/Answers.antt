@@ -34,7 +34,7 @@ returns-in-Some-clause-decision c l has =
     let h = held_by v in
     let valid = c.is_tree.ensures in
     let fresh_is = c.in_ok-fresh.ensures ∙ (ap (λ (xs : List SetAt). filter (λ s. not (has_group h s)) (map seen xs)) c.as_slice.ensures.value
-        ∙ (ap (filter (λ s. not (has_group h s))) c.in_ok-wanted.ensures ∙ fresh_are t valid old new h c.requires.held)) in
+    ∙ (ap (filter (λ s. not (has_group h s))) c.in_ok-wanted.ensures ∙ fresh_are t valid old new h c.requires.held)) in
     let had_now = ap (map seen) c.as_slice-2.ensures.value ∙ c.in_ok-had.ensures in
     let fresh_now = ap (map seen) c.as_slice-3.ensures.value ∙ fresh_is in
     let is = c.refusal.ensures l has ∙ refusal_are t valid l old new c.goes_up-up.result (map seen c.as_slice-2.result.now) (map seen c.as_slice-3.result.now) c.goes_up-up.ensures had_now fresh_now in
@@ -49,7 +49,7 @@ returns-in-Some-clause-claimed c l has =
     let h = held_by v in
     let valid = c.is_tree.ensures in
     let fresh_is = c.in_ok-fresh.ensures ∙ (ap (λ (xs : List SetAt). filter (λ s. not (has_group h s)) (map seen xs)) c.as_slice.ensures.value
-        ∙ (ap (filter (λ s. not (has_group h s))) c.in_ok-wanted.ensures ∙ fresh_are t valid old new h c.requires.held)) in
+    ∙ (ap (filter (λ s. not (has_group h s))) c.in_ok-wanted.ensures ∙ fresh_are t valid old new h c.requires.held)) in
     let had_now = ap (map seen) c.as_slice-2.ensures.value ∙ c.in_ok-had.ensures in
     let fresh_now = ap (map seen) c.as_slice-3.ensures.value ∙ fresh_is in
     let is = c.refusal.ensures l has ∙ refusal_are t valid l old new c.goes_up-up.result (map seen c.as_slice-2.result.now) (map seen c.as_slice-3.result.now) c.goes_up-up.ensures had_now fresh_now in
@@ -64,7 +64,7 @@ change-requires-clause-up c =
     let h = held_by v in
     let valid = c.is_tree.ensures in
     let fresh_is = c.in_ok-fresh.ensures ∙ (ap (λ (xs : List SetAt). filter (λ s. not (has_group h s)) (map seen xs)) c.as_slice.ensures.value
-        ∙ (ap (filter (λ s. not (has_group h s))) c.in_ok-wanted.ensures ∙ fresh_are t valid old new h c.requires.held)) in
+    ∙ (ap (filter (λ s. not (has_group h s))) c.in_ok-wanted.ensures ∙ fresh_are t valid old new h c.requires.held)) in
     let had_now = ap (map seen) c.as_slice-2.ensures.value ∙ c.in_ok-had.ensures in
     let fresh_now = ap (map seen) c.as_slice-3.ensures.value ∙ fresh_is in
     let is = c.refusal.ensures c.requires.limits.0 c.requires.limits.1 ∙ refusal_are t valid c.requires.limits.0 old new c.goes_up-up.result (map seen c.as_slice-2.result.now) (map seen c.as_slice-3.result.now) c.goes_up-up.ensures had_now fresh_now in
@@ -83,7 +83,7 @@ change-requires-clause-fresh c =
     let h = held_by v in
     let valid = c.is_tree.ensures in
     let fresh_is = c.in_ok-fresh.ensures ∙ (ap (λ (xs : List SetAt). filter (λ s. not (has_group h s)) (map seen xs)) c.as_slice.ensures.value
-        ∙ (ap (filter (λ s. not (has_group h s))) c.in_ok-wanted.ensures ∙ fresh_are t valid old new h c.requires.held)) in
+    ∙ (ap (filter (λ s. not (has_group h s))) c.in_ok-wanted.ensures ∙ fresh_are t valid old new h c.requires.held)) in
     let had_now = ap (map seen) c.as_slice-2.ensures.value ∙ c.in_ok-had.ensures in
     let fresh_now = ap (map seen) c.as_slice-3.ensures.value ∙ fresh_is in
     let is = c.refusal.ensures c.requires.limits.0 c.requires.limits.1 ∙ refusal_are t valid c.requires.limits.0 old new c.goes_up-up.result (map seen c.as_slice-2.result.now) (map seen c.as_slice-3.result.now) c.goes_up-up.ensures had_now fresh_now in
@@ -99,7 +99,7 @@ returns-clause-decision c l has =
     let h = held_by v in
     let valid = c.is_tree.ensures in
     let fresh_is = c.in_ok-fresh.ensures ∙ (ap (λ (xs : List SetAt). filter (λ s. not (has_group h s)) (map seen xs)) c.as_slice.ensures.value
-        ∙ (ap (filter (λ s. not (has_group h s))) c.in_ok-wanted.ensures ∙ fresh_are t valid old new h c.requires.held)) in
+    ∙ (ap (filter (λ s. not (has_group h s))) c.in_ok-wanted.ensures ∙ fresh_are t valid old new h c.requires.held)) in
     let had_now = ap (map seen) c.as_slice-2.ensures.value ∙ c.in_ok-had.ensures in
     let fresh_now = ap (map seen) c.as_slice-3.ensures.value ∙ fresh_is in
     let is = c.refusal.ensures l has ∙ refusal_are t valid l old new c.goes_up-up.result (map seen c.as_slice-2.result.now) (map seen c.as_slice-3.result.now) c.goes_up-up.ensures had_now fresh_now in
@@ -116,7 +116,7 @@ returns-clause-claimed c l has =
     let h = held_by v in
     let valid = c.is_tree.ensures in
     let fresh_is = c.in_ok-fresh.ensures ∙ (ap (λ (xs : List SetAt). filter (λ s. not (has_group h s)) (map seen xs)) c.as_slice.ensures.value
-        ∙ (ap (filter (λ s. not (has_group h s))) c.in_ok-wanted.ensures ∙ fresh_are t valid old new h c.requires.held)) in
+    ∙ (ap (filter (λ s. not (has_group h s))) c.in_ok-wanted.ensures ∙ fresh_are t valid old new h c.requires.held)) in
     let had_now = ap (map seen) c.as_slice-2.ensures.value ∙ c.in_ok-had.ensures in
     let fresh_now = ap (map seen) c.as_slice-3.ensures.value ∙ fresh_is in
     let is = c.refusal.ensures l has ∙ refusal_are t valid l old new c.goes_up-up.result (map seen c.as_slice-2.result.now) (map seen c.as_slice-3.result.now) c.goes_up-up.ensures had_now fresh_now in
