@@ -80,7 +80,7 @@ static void leave(Port *port, uint64_t when, const unsigned char *frame, uint32_
 int main(int count, char **words) {
     int learns = count > 2 && words[1][0] == '1', ports = count - 3;
     static Port all[4160];
-    static const uint32_t header[6] = {0xa1b2c3d4, 0x00040002, 0, 0, 262144, 1};
+    static const uint32_t header[6] = {0xa1b2c3d4, 0x00040002, 0, 0, 65535, 1};
     if (ports < 1 || ports > 4160)
         return 2;
     grow();

@@ -1,8 +1,9 @@
 #!/usr/bin/env python3
-"""Measures how long exbr takes to read topology files, and how much memory: one at the limits of the format, and one of
-many small tables. Both ask for what isn't built yet or are refused, so nothing is played: the time is that of reading.
+"""Measures how long exbr takes to read topology files, and how much memory: one at the limits of the format, and with
+--hostile files of up to 16 MB: many small tables, many static entries, and a long prefix with thousands of ports. All ask
+for what isn't built yet or are refused, so nothing is played: the time is that of reading.
 
-    bench/topology.py            (in a folder for its files; the program is built before where that is needed)
+    bench/topology.py [--hostile]    (in a folder for its files; the program is built before where that is needed)
 """
 import os
 import resource
@@ -15,14 +16,35 @@ TOP = os.path.dirname(os.path.dirname(os.path.abspath(__file__)))
 
 def at_the_limits():
     """64 extenders of 64 ports in a chain of four each, 4,094 VLANs by ranges, and 65,536 commands."""
-    lines = ["[bridge]", "ports = 64"]
-    for number in range(1, 65):
-        on = f"b{number}" if number <= 16 else f"x{number - 16}.64"
-        lines += ["[[extender]]", f"number = {number}", f'on = "{on}"', "ports = 64"]
+    lines = ["[bridge]", "ports = 64"] + tree()
     lines += ["[[vlan]]", "vid = 1", "last = 2000", 'untagged = ["*"]']
     lines += ["[[vlan]]", "vid = 2001", "last = 4094", 'tagged = ["x64.*", "b17-64"]']
     for number in range(65536):
         lines += ["[[command]]", f"at = {number}", 'op = "up"', 'port = "x64.1"']
+    return "\n".join(lines) + "\n"
+
+
+def tree():
+    """64 extenders of 64 ports in a chain of four each, below 64 ports of the bridge."""
+    lines = []
+    for number in range(1, 65):
+        on = f"b{number}" if number <= 16 else f"x{number - 16}.64"
+        lines += ["[[extender]]", f"number = {number}", f'on = "{on}"', "ports = 64"]
+    return lines
+
+
+def static_entries():
+    """Hundreds of thousands of static entries, no two for one address."""
+    entries = ",".join(
+        "{vid=1,mac='%s',ports=[]}" % number.to_bytes(6, "big").hex("-") for number in range(360_000)
+    )
+    return f"bridge = {{ports = 1}}\nstatic = [{entries}]\n"
+
+
+def long_prefix():
+    """Output files of 4,096 ports with a prefix of 16 MB, and a capture that has the name of none."""
+    lines = ["[bridge]", "ports = 64", f"out = '{'a' * 16_700_000}'"] + tree()
+    lines += ["[captures]", '"b64" = "a.pcap"']
     return "\n".join(lines) + "\n"
 
 
@@ -47,4 +69,6 @@ if __name__ == "__main__":
     subprocess.run([f"{TOP}/exbr"], capture_output=True, check=False)
     measure("limits.toml", at_the_limits())
     if "--hostile" in sys.argv:
+        measure("static.toml", static_entries())
+        measure("prefix.toml", long_prefix())
         measure("hostile.toml", hostile())

@@ -83,6 +83,39 @@ fn an_acknowledgement_goes_up_before_the_answer_to_open(rt: HostRuntime) {
 }
 
 #[test]
+fn an_extender_of_two_ports_announces_itself_then_acknowledges_and_answers_open(rt: HostRuntime) {
+    let announcement = [
+        0x01, 0x80, 0xC2, 0, 0, 0x0E, 0x02, 0x45, 0x42, 0x01, 0, 0x01, 0x88, 0xCC, 0x02, 0x07,
+        0x04, 0x02, 0x45, 0x42, 0x01, 0, 0x01, 0x04, 0x03, 0x07, 0x75, 0x70, 0x06, 0x02, 0, 0x78,
+        0xFE, 0x05, 0x02, 0x45, 0x42, 0x01, 0x02, 0, 0,
+    ];
+    let request = [
+        0x01, 0x80, 0xC2, 0, 0, 0x0E, 0x02, 0x45, 0x42, 0, 0, 0, 0x89, 0x40, 0x10, 0x02, 0, 0x01,
+        0x01, 0, 0, 0, 0, 0, 0, 0, 0x01, 0, 0,
+    ];
+    let acknowledgement = [
+        0x01, 0x80, 0xC2, 0, 0, 0x0E, 0x02, 0x45, 0x42, 0x01, 0, 0x01, 0x89, 0x40, 0x14, 0x02, 0,
+        0x01,
+    ];
+    let answer = [
+        0x01, 0x80, 0xC2, 0, 0, 0x0E, 0x02, 0x45, 0x42, 0x01, 0, 0x01, 0x89, 0x40, 0x10, 0x02, 0,
+        0x01, 0x81, 0, 0, 0, 0, 0, 0, 0, 0x01, 0, 0x02, 0, 0x02,
+    ];
+    let mut extender = Extender::new(rt.alloc(), 1, 2).expect(&rt, "an extender");
+    let mut sends = Sends::new();
+    extender.beat(&mut sends);
+    assert_eq!(rt; sends.first.as_slice(), announcement.as_slice());
+    assert!(rt; sends.second.is_empty());
+    extender.take(Side::Up, &request, &mut sends);
+    assert_eq!(rt; sends.first.as_slice(), acknowledgement.as_slice());
+    assert_eq!(rt; sends.second.as_slice(), answer.as_slice());
+    assert!(rt; sends.frames.is_empty());
+    extender.beat(&mut sends);
+    assert!(rt; sends.first.is_empty());
+    assert!(rt; sends.second.is_empty());
+}
+
+#[test]
 fn an_answer_goes_up_again_at_the_third_sixth_and_ninth_beat(rt: HostRuntime) {
     let mut fixture = Fixture::new(&rt, rt.alloc());
     fixture.hear(&OPEN);
@@ -306,10 +339,158 @@ fn an_external_port_ignores_short_long_and_reserved_frames(rt: HostRuntime) {
     assert_eq!(rt; entry_of(&rt, &mut fixture, 60), Entry::Ignored);
 }
 
+// What becomes of a frame that comes in at the external port 1, from the cascade port 3, and from upstream.
+// The extender sends nothing of its own.
+fn goes(
+    rt: &impl Abort,
+    fixture: &mut Fixture,
+    frame: &[u8],
+    from_station: &[Out],
+    from_below: &[Out],
+    from_above: &[Out],
+) {
+    let entry = fixture.arrive(rt, frame);
+    assert_eq!(rt; fixture.outs(), from_station);
+    assert_eq!(rt; entry == Entry::Ignored, from_station.is_empty());
+    fixture.up(rt, frame);
+    assert_eq!(rt; fixture.outs(), from_below);
+    assert!(rt; fixture.first().is_empty() && fixture.second().is_empty());
+    fixture.down(frame);
+    assert_eq!(rt; fixture.outs(), from_above);
+    assert!(rt; fixture.first().is_empty() && fixture.second().is_empty());
+}
+
+#[test]
+fn frames_of_each_size_and_destination_from_each_side(rt: HostRuntime) {
+    let mut fixture = laid(&rt, rt.alloc());
+    let by_channel = [up(Form::Tagged { channel: 1 })];
+    let below = [up(Form::Tagged { channel: 3 })];
+    // Short, the shortest and the longest that are let in, and long.
+    let mut frame = [0; 9217];
+    frame[..14].copy_from_slice(&DATA);
+    goes(&rt, &mut fixture, &frame[..0], &[], &[], &[]);
+    goes(&rt, &mut fixture, &frame[..13], &[], &[], &[]);
+    goes(&rt, &mut fixture, &frame[..14], &by_channel, &[], &[]);
+    goes(&rt, &mut fixture, &frame[..9216], &by_channel, &[], &[]);
+    goes(&rt, &mut fixture, &frame, &[], &[], &[]);
+    // Reserved destinations. Of them that of control frames alone is let up from a cascade port.
+    let mut reserved = data();
+    reserved[..6].copy_from_slice(&[0x01, 0x80, 0xC2, 0, 0, 0]);
+    goes(&rt, &mut fixture, &reserved, &[], &[], &[]);
+    reserved[5] = 0x0F;
+    goes(&rt, &mut fixture, &reserved, &[], &[], &[]);
+    reserved[5] = 0x0E;
+    goes(&rt, &mut fixture, &reserved, &[], &below, &[]);
+    reserved[5] = 0x10;
+    goes(&rt, &mut fixture, &reserved, &by_channel, &[], &[]);
+}
+
+#[test]
+fn frames_with_an_e_tag_from_each_side(rt: HostRuntime) {
+    let mut fixture = laid(&rt, rt.alloc());
+    let by_channel = [up(Form::Tagged { channel: 1 })];
+    let as_is = [up(Form::AsIs)];
+    // The channel of port 2, a channel below the cascade port, and one that no port has.
+    let channel = with_etag([0x89, 0x3F, 0, 0, 0, 2, 0, 0]);
+    let port_2 = [at(2, Form::Stripped)];
+    goes(&rt, &mut fixture, &channel, &by_channel, &as_is, &port_2);
+    let deeper = with_etag([0x89, 0x3F, 0, 0, 0, 9, 0, 0]);
+    let port_3 = [at(3, Form::AsIs)];
+    goes(&rt, &mut fixture, &deeper, &by_channel, &as_is, &port_3);
+    let unknown = with_etag([0x89, 0x3F, 0, 0, 0x0F, 0xFE, 0, 0]);
+    goes(&rt, &mut fixture, &unknown, &by_channel, &as_is, &[]);
+    // A group that came in at port 2, and one that has no port.
+    let group = with_etag([0x89, 0x3F, 0xB0, 0x02, 0x10, 0, 0, 0]);
+    let others = [at(1, Form::Stripped), at(3, Form::AsIs)];
+    goes(&rt, &mut fixture, &group, &by_channel, &[], &others);
+    let unlaid = with_etag([0x89, 0x3F, 0xB0, 0x03, 0x10, 0x02, 0, 0]);
+    goes(&rt, &mut fixture, &unlaid, &by_channel, &[], &[]);
+    // Behind the destination of control frames no station gets in; from upstream it is for an extender below.
+    let control = control_with_etag([0x89, 0x3F, 0, 0, 0, 9, 0, 0]);
+    goes(&rt, &mut fixture, &control, &[], &as_is, &port_3);
+}
+
+// The same as `with_etag` behind the destination of control frames.
+fn control_with_etag(etag: [u8; 8]) -> [u8; 60] {
+    let mut frame = with_etag(etag);
+    frame[..6].copy_from_slice(&[0x01, 0x80, 0xC2, 0, 0, 0x0E]);
+    frame
+}
+
+#[test]
+fn the_type_of_an_e_tag_alone_is_a_stations_own_matter(rt: HostRuntime) {
+    let mut fixture = laid(&rt, rt.alloc());
+    let by_channel = [up(Form::Tagged { channel: 1 })];
+    // With an extension byte that is not 0, and cut within the E-TAG.
+    let extended = with_etag([0x89, 0x3F, 0, 0, 0, 1, 0, 1]);
+    goes(&rt, &mut fixture, &extended, &by_channel, &[], &[]);
+    let whole = with_etag([0x89, 0x3F, 0, 0, 0, 1, 0, 0]);
+    goes(&rt, &mut fixture, &whole[..19], &by_channel, &[], &[]);
+}
+
+#[test]
+fn control_frames_of_another_kind_change_nothing(rt: HostRuntime) {
+    let mut fixture = laid(&rt, rt.alloc());
+    fixture.silence();
+    // An announcement, a version and an operation that ECP doesn't have, and an ECP frame that is cut.
+    fixture.down(&[
+        0x01, 0x80, 0xC2, 0, 0, 0x0E, 0x02, 0x45, 0x42, 0, 0, 0, 0x88, 0xCC, 0x10, 0x02, 0, 9,
+    ]);
+    assert!(rt; fixture.is_silent());
+    fixture.down(&[
+        0x01, 0x80, 0xC2, 0, 0, 0x0E, 0x02, 0x45, 0x42, 0, 0, 0, 0x89, 0x40, 0x20, 0x02, 0, 9,
+    ]);
+    assert!(rt; fixture.is_silent());
+    fixture.down(&[
+        0x01, 0x80, 0xC2, 0, 0, 0x0E, 0x02, 0x45, 0x42, 0, 0, 0, 0x89, 0x40, 0x18, 0x02, 0, 9,
+    ]);
+    assert!(rt; fixture.is_silent());
+    fixture.down(&[
+        0x01, 0x80, 0xC2, 0, 0, 0x0E, 0x02, 0x45, 0x42, 0, 0, 0, 0x89, 0x40, 0x10, 0x02, 0,
+    ]);
+    assert!(rt; fixture.is_silent());
+    assert!(rt; fixture.idle());
+}
+
+#[test]
+fn a_frame_goes_up_behind_the_e_tag_of_its_channel(rt: HostRuntime) {
+    let mut fixture = laid(&rt, rt.alloc());
+    let frame = data();
+    assert_eq!(rt; fixture.arrive(&rt, &frame), Entry::Sent);
+    assert_eq!(rt;
+        fixture.outs(),
+        [up(Form::Tagged { channel: 1 })].as_slice()
+    );
+    let mut word = FrameBuf::new();
+    let tag = exb_frame::etag::ETag {
+        pcp: 0,
+        dei: false,
+        ingress: 0,
+        ecid: 1,
+    };
+    let _ = exb_frame::etag::tag_into(&frame, &tag, &mut word);
+    let wanted = data_behind([0x89, 0x3F, 0, 0, 0, 1, 0, 0]);
+    assert_eq!(rt; word.as_slice(), wanted.as_slice());
+}
+
+// The frame of `data` with these eight bytes put in behind its addresses.
+fn data_behind(etag: [u8; 8]) -> [u8; 68] {
+    let mut frame = [0; 68];
+    frame[..12].copy_from_slice(&DATA[..12]);
+    frame[12..20].copy_from_slice(&etag);
+    frame[20..22].copy_from_slice(&DATA[12..]);
+    frame
+}
+
 #[test]
 fn an_e_tag_of_a_station_comes_out_as_it_was(rt: HostRuntime) {
     let mut fixture = laid(&rt, rt.alloc());
     let frame = with_etag([0x89, 0x3F, 0, 0, 0x10, 0, 0, 0]);
+    assert_eq!(rt; fixture.arrive(&rt, &frame), Entry::Sent);
+    assert_eq!(rt;
+        fixture.outs(),
+        [up(Form::Tagged { channel: 1 })].as_slice()
+    );
     let tag = exb_frame::etag::ETag {
         pcp: 0,
         dei: false,

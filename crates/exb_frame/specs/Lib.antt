@@ -1,1 +1,2 @@
 pub mod TagValues
+pub mod Egress

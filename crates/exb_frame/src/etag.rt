@@ -1,10 +1,10 @@
 //! The E-TAG.
-ghost use Rattle.std.specs.Prelude.{◌≡◌, ℕ, ◌+◌, ◌≤◌, ◌<◌, ◌++◌, ◌↔◌, [], length, IsErr, OnOk, OnErr};
+ghost use Rattle.std.specs.Prelude.{◌≡◌, ℕ, ◌+◌, ◌≤◌, ◌<◌, ◌↔◌, [], length, IsErr, OnOk, OnErr};
 ghost use Rattle.std.specs.Option.{option_map};
-ghost use Rattle.arrayvec.specs.ArrayVec.{array_vec_len};
 ghost use Rattle.exb_model.specs.ETags.{TagFits, read_etag, etag_bytes, tagged, stripped};
 ghost use Rattle.exb_frame.specs.TagValues.{tag_of};
 
+use crate::append::append;
 use byteorder::{BigEndian, ByteOrder};
 use exb_model::buffers::FrameBuf;
 
@@ -62,14 +62,6 @@ impl ETag {
         BigEndian::write_u16(&mut bytes[4..], self.ecid);
         bytes
     }
-}
-
-/// Appends bytes for which there is room.
-fn append(out: &mut FrameBuf, bytes: &[u8])
-    requires { array_vec_len out.old + length bytes.now ≤ 9232 }
-    ensures { out.new.items ≡ out.old.items ++ bytes.now }
-{
-    let _ = out.try_extend_from_slice(bytes);
 }
 
 /// Puts an E-TAG in at byte 12. Full exactly where the result exceeds 9,232 bytes; `out` is then empty.

@@ -1,16 +1,15 @@
 -- What the words ask for, which is one topology, seen in one way.
-use Rattle.std.proofs.Common.{◌≡◌, ℕ, Bool, List, [], ◌∷◌, Option, Some, None, Result, Ok, Err, map, refl, ap, sym, ◌∙◌}
-use Rattle.exb_model.specs.Ports.{port_in}
+use Rattle.std.proofs.Common.{◌≡◌, ◌||◌, ℕ, Bool, true, false, List, [], ◌∷◌, Option, Some, None, Result, Ok, Err, map, length, refl, ap, sym, ◌∙◌}
+use Rattle.std.specs.List.{list_any}
 use Rattle.exb_model.specs.Setup.{shape_of}
-use Rattle.exb_model.specs.declared.port_set.PortSet.{PortSet}
 use Rattle.exb_model.specs.declared.command.Command.{Command}
 use Rattle.exb_model.specs.declared.command.Command.TheVariants as command
 use Rattle.exb_model.specs.declared.setup.ExtenderSetup.{ExtenderSetup}
 use Rattle.exb_model.specs.declared.setup.Setup.{Setup}
-use Rattle.exb_world.specs.Setups.{IsFirst}
+use Rattle.exb_world.specs.Setups.{restricts}
 use Rattle.exb_shelf.specs.Files.{Files}
 use Rattle.exb_topology.specs.declared.topology.Topology.{Topology}
-use Rattle.exb_topology.specs.Seen.{Seen, seen, set_vlan, timed_view}
+use Rattle.exb_topology.specs.Seen.{Seen, seen, set_isolated, put_static, timed_view}
 use Rattle.exb_topology.specs.Topologies.{TopologySeen, topology_view, topology_of}
 use Rattle.exb_run.specs.Words.{words_of}
 use Rattle.exb_run.specs.Inputs.{IsBuilt}
@@ -35,79 +34,41 @@ asks_once words file t u p q =
     ok_once (topology_of q.bytes) (topology_view t) (topology_view u) (ap topology_of (sym bytes) ∙ p.read) q.read
 
 -- ---- seen in the same way
-head_is : (x y : Seen) (xs : List Seen) → x ∷ xs ≡ y ∷ [] → x ≡ y
-head_is x y xs e = cc
+-- what isolates a port or puts a static entry, by how it is seen
+abbrev restricts_seen : Seen → Bool
+restricts_seen (set_isolated p on) = on
+restricts_seen (put_static v m ports) = true
+restricts_seen _ = false
 
--- a command that is seen as one that sets a VLAN is one
-pub record SetsVlan (c : Command) (v : ℕ) (f g : ℕ → Bool) : Type 0 where
-  pub tagged : PortSet
-  pub untagged : PortSet
-  pub is : c ≡ command.Vlan v tagged untagged
-  pub tagged_is : port_in tagged ≡ f
-  pub untagged_is : port_in untagged ≡ g
+restricts_same : (c : Command) → restricts_seen (seen c) ≡ restricts c
+restricts_same (command.Vlan v tagged untagged) = refl
+restricts_same (command.Member v p kind) = refl
+restricts_same (command.Unmember v p) = refl
+restricts_same (command.Pvid p v) = refl
+restricts_same (command.Accept p types) = refl
+restricts_same (command.Filter p on) = refl
+restricts_same (command.Isolate p on) = refl
+restricts_same (command.Static v m ports) = refl
+restricts_same (command.Unstatic v m) = refl
+restricts_same (command.Up p) = refl
+restricts_same (command.Down p) = refl
 
-sets_vlan : (c : Command) (v : ℕ) (f g : ℕ → Bool) → seen c ≡ set_vlan v f g → SetsVlan c v f g
-sets_vlan (command.Vlan w tagged untagged) v f g e = record {
-  tagged = tagged;
-  untagged = untagged;
-  is = let same : w ≡ v = cc in ap (λ x. command.Vlan x tagged untagged) same;
-  tagged_is = cc;
-  untagged_is = cc;
-}
-sets_vlan (command.Member w p kind) v f g e = absurd (cc)
-sets_vlan (command.Unmember w p) v f g e = absurd (cc)
-sets_vlan (command.Pvid p w) v f g e = absurd (cc)
-sets_vlan (command.Accept p types) v f g e = absurd (cc)
-sets_vlan (command.Filter p on) v f g e = absurd (cc)
-sets_vlan (command.Isolate p on) v f g e = absurd (cc)
-sets_vlan (command.Static w m ports) v f g e = absurd (cc)
-sets_vlan (command.Unstatic w m) v f g e = absurd (cc)
-sets_vlan (command.Up p) v f g e = absurd (cc)
-sets_vlan (command.Down p) v f g e = absurd (cc)
-
--- a list that is seen as one command is one command
-pub record IsOne (cs : List Command) (x : Seen) : Type 0 where
-  pub command : Command
-  pub is : cs ≡ command ∷ []
-  pub seen_as : seen command ≡ x
-
-is_one : (cs : List Command) (x : Seen) → map seen cs ≡ x ∷ [] → IsOne cs x
-is_one [] x e = absurd (cc)
-is_one (c ∷ []) x e = record { command = c; is = refl; seen_as = head_is (seen c) x [] e }
-is_one (c ∷ d ∷ cs) x e = absurd (cc)
+any_seen : (cs : List Command) → list_any restricts_seen (map seen cs) ≡ list_any restricts cs
+any_seen [] = refl
+any_seen (c ∷ cs) = ap (λ (b : Bool). b || list_any restricts_seen (map seen cs)) (restricts_same c) ∙ ap (λ (b : Bool). restricts c || b) (any_seen cs)
 
 none_from_map : {X Y : Type 0} (f : X → Y) (xs : List X) → map f xs ≡ [] → xs ≡ []
 none_from_map f [] e = refl
 none_from_map f (x ∷ xs) e = absurd (cc)
 
-first_same : (t u : Topology) → topology_view t ≡ topology_view u → IsFirst t.setup → IsFirst u.setup
-first_same t u e (n, ports, untagged, tagged, first) =
-    let start : map seen u.setup.start ≡ set_vlan 1 (port_in tagged) (port_in untagged) ∷ [] = sym (ap (λ (v : TopologySeen). v.start) e) ∙ ap (map seen) first.start in
-    let one = is_one u.setup.start (set_vlan 1 (port_in tagged) (port_in untagged)) start in
-    let vlan = sets_vlan one.command 1 (port_in tagged) (port_in untagged) one.seen_as in (
-      n,
-      ports,
-      vlan.untagged,
-      vlan.tagged,
-      record {
-        bridge = sym (ap (λ (v : TopologySeen). v.ports) e) ∙ first.bridge;
-        extenders = sym (ap (λ (v : TopologySeen). v.extenders) e) ∙ first.extenders;
-        channels = sym (ap (λ (v : TopologySeen). v.channels) e) ∙ first.channels;
-        groups = sym (ap (λ (v : TopologySeen). v.groups) e) ∙ first.groups;
-        ageing = sym (ap (λ (v : TopologySeen). v.ageing) e) ∙ first.ageing;
-        start = one.is ∙ ap (λ (c : Command). c ∷ []) vlan.is;
-        numbered = first.numbered;
-        some_ports = first.some_ports;
-        none_tagged = λ q. ap (λ (f : ℕ → Bool). f q) vlan.tagged_is ∙ first.none_tagged q;
-        all_untagged = λ q. ap (λ (f : ℕ → Bool). f q) vlan.untagged_is ∙ first.all_untagged q;
-      },
-    )
-
 pub built_same : (t u : Topology) → topology_view t ≡ topology_view u → IsBuilt t → IsBuilt u
 built_same t u e built = record {
-  first = first_same t u e built.first;
-  commands = none_from_map timed_view u.commands (sym (ap (λ (v : TopologySeen). v.commands) e) ∙ ap (map timed_view) built.commands);
-  fate = sym (ap (λ (v : TopologySeen). v.fate) e) ∙ built.fate;
+  one_extender = ap (λ (v : TopologySeen). length v.extenders) (sym e) ∙ built.one_extender;
+  channels = ap (λ (v : TopologySeen). v.channels) (sym e) ∙ built.channels;
+  groups = ap (λ (v : TopologySeen). v.groups) (sym e) ∙ built.groups;
+  unrestricted = sym (any_seen u.setup.start) ∙ ap (λ (v : TopologySeen). list_any restricts_seen v.start) (sym e) ∙ any_seen t.setup.start ∙ built.unrestricted;
+  commands = none_from_map timed_view u.commands (ap (λ (v : TopologySeen). v.commands) (sym e) ∙ ap (map timed_view) built.commands);
+  fate = ap (λ (v : TopologySeen). v.fate) (sym e) ∙ built.fate;
 }
 
 pub captures_same : (t u : Topology) → topology_view t ≡ topology_view u → t.captures ≡ u.captures

@@ -1,14 +1,10 @@
 -- Faults of captures: of the records that are left, of one capture, and which is the first.
-use Rattle.std.proofs.Common.{◌≡◌, ◌≢◌, ◌<◌, ◌≤◌, ◌+◌, ◌++◌, ◌&&◌, ◌==◌, ◌⊎◌, inl, inr, ℕ, zero, suc, Bool, true, false, List, [], ◌∷◌, Option, Some, None, Result, Ok, Err, length, ap, sym, ◌∙◌, refl, arith, subst, add-one, add-zero, map, filter, drop, get_or}
-use Rattle.std.specs.Prelude.{is_some, nat_lt, if◌then◌else◌, slice_index_or, All}
-use Rattle.std.specs.List.{list_all}
+use Rattle.std.proofs.Common.{◌≡◌, ◌≢◌, ◌<◌, ◌≤◌, ◌+◌, ◌++◌, ◌==◌, inl, inr, ℕ, zero, suc, Bool, true, false, List, [], ◌∷◌, Option, Some, None, Result, Ok, Err, length, ap, sym, ◌∙◌, refl, arith, subst, add-one, add-zero, map, filter, drop, get_or}
+use Rattle.std.specs.Prelude.{is_some, nat_lt, if◌then◌else◌, slice_index_or, All, IsOk}
 use Rattle.std.proofs.Math.Seq.{drop-cons, drop-length}
 use Rattle.std.proofs.lemmas.Bool.{cases_lt, ltb-false}
 use Rattle.std.proofs.lemmas.List.{append-nil, map-append}
 use Rattle.std.proofs.lemmas.List.Elements.{All-append, filter-append}
-use Rattle.exb_model.specs.declared.frame_kind.Seen.{Seen}
-use Rattle.exb_model.specs.declared.frame_kind.Seen.TheVariants as seen
-use Rattle.exb_model.specs.Frames.{kind_of}
 use Rattle.exb_model.specs.Input.{Record}
 use Rattle.exb_model.specs.Ports.{below}
 use Rattle.exb_model.proofs.PortLemmas.{below-more}
@@ -20,53 +16,31 @@ use Rattle.exb_run.specs.declared.captures.Capture.{Capture}
 use Rattle.exb_run.specs.declared.fault.Flaw.{Flaw}
 use Rattle.exb_run.specs.declared.fault.Flaw.TheVariants.{Large, Broken}
 use Rattle.exb_run.specs.declared.fault.Fault.{Fault}
-use Rattle.exb_run.specs.declared.fault.Fault.TheVariants.{Missing, NotBuilt, Capture as Faulty, Read}
-use Rattle.exb_run.specs.Inputs.{IsPlain, IsPlayable, Taken, name_of, is_named, bytes_named, bytes_at, captures_of}
-use Rattle.exb_run.specs.Flaws.{is_plain, is_plain_record, flaw_in, flaw_of_bytes, flaw_of, flaw_named, size_below, flaw_at, FirstFlaw, AreGood}
+use Rattle.exb_run.specs.declared.fault.Fault.TheVariants.{Missing, Capture as Faulty, Read}
+use Rattle.exb_run.specs.Inputs.{Taken, name_of, is_named, bytes_named, bytes_at, captures_of}
+use Rattle.exb_run.specs.Flaws.{flaw_in, flaw_of_bytes, flaw_of, flaw_named, size_below, flaw_at, FirstFlaw, AreGood}
 use Rattle.exb_run.specs.Reading.{contents, IsOfCapture}
 
 -- ---- the records that are left
--- the fault of a capture of which all records so far are plain, or not, and of which this is left
-abbrev pub flaw_left : ℕ → Bool → Option PcapFault → List Record → Option Fault
-flaw_left p plain None records = if plain && list_all is_plain_record records then None else Some NotBuilt
-flaw_left p plain (Some fault) records = Some (Faulty p (Broken fault))
+-- the fault of a capture of which this is left
+abbrev pub flaw_left : ℕ → Option PcapFault → Option Fault
+flaw_left p None = None
+flaw_left p (Some fault) = Some (Faulty p (Broken fault))
 
-pub left_at_first : (p : ℕ) (fault : Option PcapFault) (records : List Record) → flaw_left p true fault records ≡ flaw_in p (whole fault records)
+pub left_at_first : (p : ℕ) (fault : Option PcapFault) (records : List Record) → flaw_left p fault ≡ flaw_in p (whole fault records)
 left_at_first p None records = refl
 left_at_first p (Some fault) records = refl
 
 -- ---- one capture
-is_plain_kind : (k : Seen) → is_plain k ≡ true → k ≡ seen.Plain
-is_plain_kind seen.Plain e = refl
-is_plain_kind seen.Short e = cc
-is_plain_kind seen.Long e = cc
-is_plain_kind seen.Reserved e = cc
-is_plain_kind seen.BadTag e = cc
-is_plain_kind (seen.Priority p d) e = cc
-is_plain_kind (seen.Tagged p d v) e = cc
-
-both : (a b : Bool) → (a && b) ≡ true → (a ≡ true) × (b ≡ true)
-both true b e = (refl, e)
-both false b e = absurd (cc)
-
-all_are_plain : (rs : List Record) → list_all is_plain_record rs ≡ true → (k : ℕ) (d : Record) → k < length rs → IsPlain (slice_index_or rs k d)
-all_are_plain [] e k d h = absurd (omega arith)
-all_are_plain (r ∷ rs) e zero d h = is_plain_kind (kind_of r.bytes) (both (is_plain_record r) (list_all is_plain_record rs) e).0
-all_are_plain (r ∷ rs) e (suc k) d h = all_are_plain rs (both (is_plain_record r) (list_all is_plain_record rs) e).1 k d (omega arith)
-
-plain_by : (plain : Bool) → (if plain then None else Some NotBuilt) ≡ None → plain ≡ true
-plain_by true e = refl
-plain_by false e = absurd (cc)
-
-no_flaw_in : (p : ℕ) (r : Result (List Record) PcapFault) → flaw_in p r ≡ None → IsPlayable r
-no_flaw_in p (Ok records) e = all_are_plain records (plain_by (list_all is_plain_record records) e)
+no_flaw_in : (p : ℕ) (r : Result (List Record) PcapFault) → flaw_in p r ≡ None → IsOk r
+no_flaw_in p (Ok records) e = refl
 no_flaw_in p (Err fault) e = absurd (cc)
 
 -- a capture without a fault
 pub record IsGood (bytes : List ℕ) (before : ℕ) : Type 0 where
   pub small : length bytes ≤ 67_108_864
   pub room : before + length bytes ≤ 536_870_912
-  pub playable : IsPlayable (pcap_records bytes)
+  pub whole : IsOk (pcap_records bytes)
 
 unless : (test : Bool) (fault : Fault) (rest : Option Fault) → (if test then Some fault else rest) ≡ None → (test ≡ false) × (rest ≡ None)
 unless true fault rest e = absurd (cc)
@@ -79,47 +53,33 @@ no_flaw p bytes before e =
     record {
       small = ltb-false _ _ first.0;
       room = ltb-false _ _ second.0;
-      playable = no_flaw_in p (pcap_records bytes) second.1;
+      whole = no_flaw_in p (pcap_records bytes) second.1;
     }
 
 -- ---- which faults a capture that is there can have
-in_flaw : (p : ℕ) (r : Result (List Record) PcapFault) (x : Fault) → flaw_in p r ≡ Some x → (x ≡ NotBuilt) ⊎ ((flaw : Flaw) × (x ≡ Faulty p flaw))
-in_flaw p (Ok records) x e = by_plain (list_all is_plain_record records) e
-  where
-    by_plain : (b : Bool) → (if b then None else Some NotBuilt) ≡ Some x → (x ≡ NotBuilt) ⊎ ((flaw : Flaw) × (x ≡ Faulty p flaw))
-    by_plain true e = absurd (cc)
-    by_plain false e = inl (cc)
-in_flaw p (Err fault) x e = inr (Broken fault, cc)
+in_flaw : (p : ℕ) (r : Result (List Record) PcapFault) (x : Fault) → flaw_in p r ≡ Some x → (flaw : Flaw) × (x ≡ Faulty p flaw)
+in_flaw p (Ok records) x e = absurd (cc)
+in_flaw p (Err fault) x e = (Broken fault, cc)
 
 found : (b : Bool) (p : ℕ) (flaw : Flaw) (rest : Option Fault) (x : Fault) →
-    (rest ≡ Some x → (x ≡ NotBuilt) ⊎ ((f : Flaw) × (x ≡ Faulty p f))) → (if b then Some (Faulty p flaw) else rest) ≡ Some x →
-    (x ≡ NotBuilt) ⊎ ((f : Flaw) × (x ≡ Faulty p f))
-found true p flaw rest x go e = inr (flaw, cc)
+    (rest ≡ Some x → (f : Flaw) × (x ≡ Faulty p f)) → (if b then Some (Faulty p flaw) else rest) ≡ Some x → (f : Flaw) × (x ≡ Faulty p f)
+found true p flaw rest x go e = (flaw, cc)
 found false p flaw rest x go e = go e
 
-pub in_bytes : (p : ℕ) (bytes : List ℕ) (before : ℕ) (x : Fault) → flaw_of_bytes p bytes before ≡ Some x → (x ≡ NotBuilt) ⊎ ((flaw : Flaw) × (x ≡ Faulty p flaw))
+pub in_bytes : (p : ℕ) (bytes : List ℕ) (before : ℕ) (x : Fault) → flaw_of_bytes p bytes before ≡ Some x → (flaw : Flaw) × (x ≡ Faulty p flaw)
 in_bytes p bytes before x e =
     found (nat_lt 67_108_864 (length bytes)) p (Large 67_108_864) _ x
     (found (nat_lt 536_870_912 (before + length bytes)) p (Large 536_870_912) _ x (in_flaw p (pcap_records bytes) x)) e
 
 module _ (p : ℕ) (bytes : List ℕ) (before : ℕ) (x : Fault) (low : p < 4160) (e : flaw_of_bytes p bytes before ≡ Some x) where
   pub bytes_cause : IsOfCapture x
-  bytes_cause = elim (in_bytes p bytes before x e) [
-    | inl is ↦ subst IsOfCapture (sym is) tt
-    | inr is ↦ subst IsOfCapture (sym is.1) low
-  ]
+  bytes_cause = let is = in_bytes p bytes before x e in subst IsOfCapture (sym is.1) low
 
   pub bytes_not_missing : (name : List ℕ) → x ≢ Missing name
-  bytes_not_missing name m = elim (in_bytes p bytes before x e) [
-    | inl is ↦ absurd (let h : NotBuilt ≡ Missing name = sym is ∙ m in cc)
-    | inr is ↦ absurd (let h : Faulty p is.0 ≡ Missing name = sym is.1 ∙ m in cc)
-  ]
+  bytes_not_missing name m = let is = in_bytes p bytes before x e in let h : Faulty p is.0 ≡ Missing name = sym is.1 ∙ m in cc
 
   pub bytes_not_read : x ≢ Read
-  bytes_not_read m = elim (in_bytes p bytes before x e) [
-    | inl is ↦ absurd (let h : NotBuilt ≡ Read = sym is ∙ m in cc)
-    | inr is ↦ absurd (let h : Faulty p is.0 ≡ Read = sym is.1 ∙ m in cc)
-  ]
+  bytes_not_read m = let is = in_bytes p bytes before x e in let h : Faulty p is.0 ≡ Read = sym is.1 ∙ m in cc
 
 -- the fault in a result
 pub err_same : {T : Type 0} (x y : Fault) → ◌≡◌ {A = Result T Fault} (Err x) (Err y) → x ≡ y

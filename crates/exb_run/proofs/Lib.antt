@@ -2,6 +2,7 @@ pub mod Texts
 pub mod Counting
 pub mod Segmenting
 pub mod Tallying
+pub mod Places
 pub mod Turning
 pub mod Turned
 pub mod Opened
@@ -11,7 +12,7 @@ pub mod Taking
 pub mod Filling
 pub mod OutputLemmas
 pub mod FlawLemmas
-pub mod PlanLemmas
+pub mod BuiltLemmas
 pub mod Refusing
 pub mod Asking
 pub mod Stopping

@@ -1,6 +1,6 @@
 -- The outputs as they fill: their names differ, and each file followed by its piece is its text.
-use Rattle.std.proofs.Common.{◌≡◌, ◌≢◌, ◌<◌, ◌≤◌, ◌+◌, ◌-◌, ◌*◌, ◌++◌, ◌⊎◌, inl, inr, ℕ, List, [], ◌∷◌, true, length, take, get_or, set, map, ap, sym, ◌∙◌, refl, arith, subst, append_assoc, eq-eqb, get_or-set_same, get_or-set_other, flat_map}
-use Rattle.std.proofs.lemmas.Bool.{cases_lt, cases_eq, lt-ltb, le-ltb, ne_eqb, leb-true, ltb-true, and_parts}
+use Rattle.std.proofs.Common.{◌≡◌, ◌≢◌, ◌<◌, ◌≤◌, ◌+◌, ◌++◌, ◌⊎◌, inl, inr, ℕ, Bool, true, false, if◌then◌else◌, ◌==◌, List, [], ◌∷◌, length, take, get_or, set, map, ap, sym, ◌∙◌, refl, arith, subst, append_assoc, eq-eqb, get_or-set_same, get_or-set_other, flat_map}
+use Rattle.std.proofs.lemmas.Bool.{cases_lt, cases_eq, lt-ltb, le-ltb, ne_eqb}
 use Rattle.std.proofs.lemmas.List.{append-nil, map-set, get_or-map, get_or_read_under, get_or_append_left, length-map, take_more}
 use Rattle.std.proofs.lemmas.Grind.{flat_map-append}
 use Rattle.std.proofs.Math.Seq.{get_or-append_seam}
@@ -13,36 +13,49 @@ use Rattle.exb_shelf.proofs.FileLemmas.{Apart}
 use Rattle.exb_text.specs.Names.{capture_name, journal_name}
 use Rattle.exb_world.specs.declared.world.Left.{Left}
 use Rattle.exb_world.specs.Worlds.{left_at}
-use Rattle.exb_world.proofs.Leaving.{left_at-append, left_at-nil}
-use Rattle.exb_run.specs.declared.plan.Plan.{Plan}
-use Rattle.exb_run.specs.Plans.{IsInRange}
+use Rattle.exb_run.specs.Plans.{Planned, port_count, port_at, place_in}
 use Rattle.exb_run.specs.Outputs.{output_name}
 use Rattle.exb_run.specs.Writing.{Holds, HasTexts, with_more, lines_of, with_left_frames, CanBeWritten}
 use Rattle.exb_run.proofs.Filling.{weaker, still_filled, one_more}
+use Rattle.exb_run.proofs.Places.{port_is, place_low, port_of_place, place_of_port}
+
+-- what left a port, of two lists of frames
+head_at : (b : Bool) (x : Sent) (xs ys : List Sent) → (if b then x ∷ (xs ++ ys) else xs ++ ys) ≡ (if b then x ∷ xs else xs) ++ ys
+head_at true x xs ys = refl
+head_at false x xs ys = refl
+
+left_at-append : (xs ys : List Left) (q : ℕ) → left_at (xs ++ ys) q ≡ left_at xs q ++ left_at ys q
+unfolding left_at
+left_at-append [] ys q = refl
+left_at-append (x ∷ xs) ys q = rw (left_at-append xs ys q) (head_at (x.port == q) (x.moment, x.bytes) (left_at xs q) (left_at ys q))
+
+left_at-nil : (q : ℕ) → left_at [] q ≡ []
+unfolding left_at
+left_at-nil q = refl
 
 -- the names of the outputs
-pub name_of_capture : (plan : Plan) (j : ℕ) → j < plan.ports → output_name plan j ≡ capture_name plan.prefix (64 * plan.number + j)
-name_of_capture plan j h = rw (lt-ltb j plan.ports h) refl
+pub name_of_capture : (plan : Planned) (j : ℕ) → j < port_count plan → output_name plan j ≡ capture_name plan.prefix (port_at plan j)
+name_of_capture plan j h = rw (lt-ltb j (port_count plan) h) refl
 
-pub name_of_journal : (plan : Plan) (j : ℕ) → plan.ports ≤ j → output_name plan j ≡ journal_name plan.prefix
-name_of_journal plan j h = rw (le-ltb j plan.ports h) refl
+pub name_of_journal : (plan : Planned) (j : ℕ) → port_count plan ≤ j → output_name plan j ≡ journal_name plan.prefix
+name_of_journal plan j h = rw (le-ltb j (port_count plan) h) refl
 
 -- they differ, as those of a run do
 pub names_apart : ((prefix : List ℕ) (p q : ℕ) → p < 4160 → q < 4160 → capture_name prefix p ≡ capture_name prefix q → p ≡ q)
     → ((prefix : List ℕ) (p : ℕ) → capture_name prefix p ≢ journal_name prefix)
-    → (plan : Plan) → IsInRange plan → Apart (plan.ports + 1) (output_name plan)
-names_apart captures journal plan range i j li lj differ e = elim (cases_lt i plan.ports) [
-  | inl hi ↦ elim (cases_lt j plan.ports) [
+    → (plan : Planned) → Apart (port_count plan + 1) (output_name plan)
+names_apart captures journal plan i j li lj differ e = elim (cases_lt i (port_count plan)) [
+  | inl hi ↦ elim (cases_lt j (port_count plan)) [
     | inl hj ↦
-        let same : 64 * plan.number + i ≡ 64 * plan.number + j =
-        captures plan.prefix (64 * plan.number + i) (64 * plan.number + j) (let n = range.number in let m = range.ports in omega arith) (let n = range.number in let m = range.ports in omega arith)
+        let same : port_at plan i ≡ port_at plan j =
+        captures plan.prefix (port_at plan i) (port_at plan j) (port_is plan i hi).low (port_is plan j hj).low
         (sym (name_of_capture plan i hi) ∙ e ∙ name_of_capture plan j hj)
         in
-        differ (omega arith)
-    | inr hj ↦ journal plan.prefix (64 * plan.number + i) (sym (name_of_capture plan i hi) ∙ e ∙ name_of_journal plan j hj)
+        differ (sym (place_of_port plan i hi) ∙ ap (place_in plan.tree) same ∙ place_of_port plan j hj)
+    | inr hj ↦ journal plan.prefix (port_at plan i) (sym (name_of_capture plan i hi) ∙ e ∙ name_of_journal plan j hj)
   ]
-  | inr hi ↦ elim (cases_lt j plan.ports) [
-    | inl hj ↦ journal plan.prefix (64 * plan.number + j) (sym (name_of_capture plan j hj) ∙ sym e ∙ name_of_journal plan i hi)
+  | inr hi ↦ elim (cases_lt j (port_count plan)) [
+    | inl hj ↦ journal plan.prefix (port_at plan j) (sym (name_of_capture plan j hj) ∙ sym e ∙ name_of_journal plan i hi)
     | inr hj ↦ differ (omega arith)
   ]
 ]
@@ -61,13 +74,13 @@ holds_other pieces text j piece more k bytes ne h =
     ap (λ (xs : List ℕ). bytes ++ xs) (get_or-set_other pieces j k piece [] ne) ∙ h ∙ sym (with_more_other text j more k ne)
 
 -- an output has more in its piece, or in its file
-pub has_more : (plan : Plan) (f g h : Files) (pieces : List (List ℕ)) (text : ℕ → List ℕ) (j : ℕ) (piece more : List ℕ)
-    → Apart (plan.ports + 1) (output_name plan) → j < plan.ports + 1 → j < length pieces → HasTexts plan pieces f g text
+pub has_more : (plan : Planned) (f g h : Files) (pieces : List (List ℕ)) (text : ℕ → List ℕ) (j : ℕ) (piece more : List ℕ)
+    → Apart (port_count plan + 1) (output_name plan) → j < port_count plan + 1 → j < length pieces → HasTexts plan pieces f g text
     → (SameFiles g h × (piece ≡ get_or pieces j [] ++ more)) ⊎ (Adds g h (output_name plan j) (get_or pieces j [] ++ more) × (piece ≡ []))
     → HasTexts plan (set pieces j piece) f h (with_more text j more)
 has_more plan f g h pieces text j piece more apart lt in_pieces p (inl kept) =
-    still_filled f g h (plan.ports + 1) (output_name plan) (Holds (set pieces j piece) (with_more text j more))
-    (weaker f g (plan.ports + 1) (output_name plan) (Holds pieces text) (Holds (set pieces j piece) (with_more text j more)) p
+    still_filled f g h (port_count plan + 1) (output_name plan) (Holds (set pieces j piece) (with_more text j more))
+    (weaker f g (port_count plan + 1) (output_name plan) (Holds pieces text) (Holds (set pieces j piece) (with_more text j more)) p
     (λ k bytes _ held. elim (cases_eq k j) [
       | inl same ↦ subst (λ (i : ℕ). Holds (set pieces j piece) (with_more text j more) i bytes) (sym same)
           (ap (λ (xs : List ℕ). bytes ++ xs) (get_or-set_same pieces j piece [] in_pieces ∙ kept.1)
@@ -78,7 +91,7 @@ has_more plan f g h pieces text j piece more apart lt in_pieces p (inl kept) =
     ]))
     kept.0
 has_more plan f g h pieces text j piece more apart lt in_pieces p (inr written) =
-    one_more f g h (plan.ports + 1) j (output_name plan) (Holds pieces text) (Holds (set pieces j piece) (with_more text j more))
+    one_more f g h (port_count plan + 1) j (output_name plan) (Holds pieces text) (Holds (set pieces j piece) (with_more text j more))
     (get_or pieces j [] ++ more) apart lt p written.0
     (λ k bytes other held. holds_other pieces text j piece more k bytes other held)
     (λ bytes held.
@@ -95,8 +108,8 @@ name_of_id given ids at id name read inside is =
     ap (λ (i : ℕ). (given i).name) (get_or_read_under ids at (length ids) id 0 read inside refl) ∙ ap (λ (i : Id). i.name) is
 
 -- the same of the pieces of values, where one is read and written
-pub has_more_at : {X : Type 0} (of : X → List ℕ) (plan : Plan) (f g h : Files) (all : List X) (text : ℕ → List ℕ) (j : ℕ) (was now : X) (name more : List ℕ)
-    → Apart (plan.ports + 1) (output_name plan) → j < plan.ports + 1 → length all ≡ plan.ports + 1 → was ≡ get_or all j was → name ≡ output_name plan j
+pub has_more_at : {X : Type 0} (of : X → List ℕ) (plan : Planned) (f g h : Files) (all : List X) (text : ℕ → List ℕ) (j : ℕ) (was now : X) (name more : List ℕ)
+    → Apart (port_count plan + 1) (output_name plan) → j < port_count plan + 1 → length all ≡ port_count plan + 1 → was ≡ get_or all j was → name ≡ output_name plan j
     → HasTexts plan (map of all) f g text
     → (SameFiles g h × (of now ≡ of was ++ more)) ⊎ (Adds g h name (of was ++ more) × (of now ≡ []))
     → HasTexts plan (map of (set all j now)) f h (with_more text j more)
@@ -124,12 +137,12 @@ with_more_nothing text j k = elim (cases_eq k j) [
 ]
 
 -- a piece is written
-pub is_flushed : {X : Type 0} (of : X → List ℕ) (plan : Plan) (f g h : Files) (all : List X) (text : ℕ → List ℕ) (j : ℕ) (was now : X) (name : List ℕ)
-    → Apart (plan.ports + 1) (output_name plan) → j < plan.ports + 1 → length all ≡ plan.ports + 1 → was ≡ get_or all j was → name ≡ output_name plan j
+pub is_flushed : {X : Type 0} (of : X → List ℕ) (plan : Planned) (f g h : Files) (all : List X) (text : ℕ → List ℕ) (j : ℕ) (was now : X) (name : List ℕ)
+    → Apart (port_count plan + 1) (output_name plan) → j < port_count plan + 1 → length all ≡ port_count plan + 1 → was ≡ get_or all j was → name ≡ output_name plan j
     → HasTexts plan (map of all) f g text → Adds g h name (of was) → of now ≡ []
     → HasTexts plan (map of (set all j now)) f h text
 is_flushed of plan f g h all text j was now name apart lt long read named p add empty =
-    weaker f h (plan.ports + 1) (output_name plan) (Holds (map of (set all j now)) (with_more text j [])) (Holds (map of (set all j now)) text)
+    weaker f h (port_count plan + 1) (output_name plan) (Holds (map of (set all j now)) (with_more text j [])) (Holds (map of (set all j now)) text)
     (has_more_at of plan f g h all text j was now name [] apart lt long read named p
     (inr (subst (λ (xs : List ℕ). Adds g h name xs) (sym (append-nil (of was))) add, empty)))
     (λ k bytes _ held. held ∙ with_more_nothing text j k)
@@ -147,19 +160,19 @@ more_empty of all i now inside empty before j lt =
     ]
 
 -- with nothing left in the pieces, each file is its text
-pub all_written : (plan : Plan) (f g : Files) (pieces : List (List ℕ)) (text : ℕ → List ℕ)
-    → ((j : ℕ) → j < plan.ports + 1 → get_or pieces j [] ≡ []) → HasTexts plan pieces f g text
-    → Filled f g (plan.ports + 1) (output_name plan) (λ j bytes. bytes ≡ text j)
+pub all_written : (plan : Planned) (f g : Files) (pieces : List (List ℕ)) (text : ℕ → List ℕ)
+    → ((j : ℕ) → j < port_count plan + 1 → get_or pieces j [] ≡ []) → HasTexts plan pieces f g text
+    → Filled f g (port_count plan + 1) (output_name plan) (λ j bytes. bytes ≡ text j)
 all_written plan f g pieces text empty p =
-    weaker f g (plan.ports + 1) (output_name plan) (Holds pieces text) (λ j bytes. bytes ≡ text j) p
+    weaker f g (port_count plan + 1) (output_name plan) (Holds pieces text) (λ j bytes. bytes ≡ text j) p
     (λ j bytes l held. sym (append-nil bytes) ∙ ap (λ (xs : List ℕ). bytes ++ xs) (sym (empty j l)) ∙ held)
 
 -- empty files have the texts that their pieces are
-pub none_written : (plan : Plan) (f g : Files) (pieces : List (List ℕ)) (text : ℕ → List ℕ)
-    → ((j : ℕ) → j < plan.ports + 1 → get_or pieces j [] ≡ text j)
-    → Filled f g (plan.ports + 1) (output_name plan) (λ j bytes. bytes ≡ []) → HasTexts plan pieces f g text
+pub none_written : (plan : Planned) (f g : Files) (pieces : List (List ℕ)) (text : ℕ → List ℕ)
+    → ((j : ℕ) → j < port_count plan + 1 → get_or pieces j [] ≡ text j)
+    → Filled f g (port_count plan + 1) (output_name plan) (λ j bytes. bytes ≡ []) → HasTexts plan pieces f g text
 none_written plan f g pieces text is p =
-    weaker f g (plan.ports + 1) (output_name plan) (λ j bytes. bytes ≡ []) (Holds pieces text) p
+    weaker f g (port_count plan + 1) (output_name plan) (λ j bytes. bytes ≡ []) (Holds pieces text) p
     (λ j bytes l empty. ap (λ (xs : List ℕ). xs ++ get_or pieces j []) empty ∙ is j l)
 
 -- one more id has its name, and one more piece its text
@@ -204,18 +217,18 @@ with_more_twice text j xs ys k = elim (cases_eq k j) [
       with_more_other (with_more text j xs) j ys k other ∙ with_more_other text j xs k other ∙ sym (with_more_other text j (xs ++ ys) k other)
 ]
 
-pub more_spelled : (plan : Plan) (f g : Files) (pieces : List (List ℕ)) (text : ℕ → List ℕ) (i j : ℕ) (xs ys : List ℕ)
+pub more_spelled : (plan : Planned) (f g : Files) (pieces : List (List ℕ)) (text : ℕ → List ℕ) (i j : ℕ) (xs ys : List ℕ)
     → i ≡ j → xs ≡ ys → HasTexts plan pieces f g (with_more text i xs) → HasTexts plan pieces f g (with_more text j ys)
 more_spelled plan f g pieces text i j xs ys ei ex p =
     subst (λ (k : ℕ). HasTexts plan pieces f g (with_more text k ys)) ei
     (subst (λ (zs : List ℕ). HasTexts plan pieces f g (with_more text i zs)) ex p)
 
 -- no events
-pub no_lines : (plan : Plan) (f g : Files) (pieces : List (List ℕ)) (text : ℕ → List ℕ)
-    → HasTexts plan pieces f g text → HasTexts plan pieces f g (with_more text plan.ports [])
+pub no_lines : (plan : Planned) (f g : Files) (pieces : List (List ℕ)) (text : ℕ → List ℕ)
+    → HasTexts plan pieces f g text → HasTexts plan pieces f g (with_more text (port_count plan) [])
 no_lines plan f g pieces text p =
-    weaker f g (plan.ports + 1) (output_name plan) (Holds pieces text) (Holds pieces (with_more text plan.ports [])) p
-    (λ k bytes _ held. held ∙ sym (with_more_nothing text plan.ports k))
+    weaker f g (port_count plan + 1) (output_name plan) (Holds pieces text) (Holds pieces (with_more text (port_count plan) [])) p
+    (λ k bytes _ held. held ∙ sym (with_more_nothing text (port_count plan) k))
 
 -- the lines of one event more
 lines_more : (events : List Event) (i : ℕ) (e : Event) → i < length events → e ≡ get_or events i e
@@ -226,30 +239,30 @@ lines_more events i e inside is =
     ∙ ap (λ (x : Event). lines_of (take i events ++ x ∷ [])) is
     ∙ ap lines_of (sym (take_more events i e inside))
 
-pub more_lines : (plan : Plan) (f g : Files) (pieces : List (List ℕ)) (text : ℕ → List ℕ) (events : List Event) (i : ℕ) (e : Event)
+pub more_lines : (plan : Planned) (f g : Files) (pieces : List (List ℕ)) (text : ℕ → List ℕ) (events : List Event) (i : ℕ) (e : Event)
     → i < length events → e ≡ get_or events i e
-    → HasTexts plan pieces f g (with_more (with_more text plan.ports (lines_of (take i events))) plan.ports (line_of e ++ 10 ∷ []))
-    → HasTexts plan pieces f g (with_more text plan.ports (lines_of (take (i + 1) events)))
+    → HasTexts plan pieces f g (with_more (with_more text (port_count plan) (lines_of (take i events))) (port_count plan) (line_of e ++ 10 ∷ []))
+    → HasTexts plan pieces f g (with_more text (port_count plan) (lines_of (take (i + 1) events)))
 more_lines plan f g pieces text events i e inside is p =
-    let new = with_more text plan.ports (lines_of (take (i + 1) events)) in
-    weaker f g (plan.ports + 1) (output_name plan) (Holds pieces (with_more (with_more text plan.ports (lines_of (take i events))) plan.ports (line_of e ++ 10 ∷ []))) (Holds pieces new) p
+    let new = with_more text (port_count plan) (lines_of (take (i + 1) events)) in
+    weaker f g (port_count plan + 1) (output_name plan) (Holds pieces (with_more (with_more text (port_count plan) (lines_of (take i events))) (port_count plan) (line_of e ++ 10 ∷ []))) (Holds pieces new) p
     (λ k bytes _ held.
     held
-    ∙ with_more_twice text plan.ports (lines_of (take i events)) (line_of e ++ 10 ∷ []) k
-    ∙ ap (λ (xs : List ℕ). with_more text plan.ports xs k) (lines_more events i e inside is))
+    ∙ with_more_twice text (port_count plan) (lines_of (take i events)) (line_of e ++ 10 ∷ []) k
+    ∙ ap (λ (xs : List ℕ). with_more text (port_count plan) xs k) (lines_more events i e inside is))
 
 -- no frames
-left_nothing : (plan : Plan) (text : ℕ → List ℕ) (k : ℕ) → with_left_frames plan text [] k ≡ text k
-left_nothing plan text k = elim (cases_lt k plan.ports) [
+left_nothing : (plan : Planned) (text : ℕ → List ℕ) (k : ℕ) → with_left_frames plan text [] k ≡ text k
+left_nothing plan text k = elim (cases_lt k (port_count plan)) [
   | inl below ↦
-      rw (lt-ltb k plan.ports below) (ap (λ (xs : List Sent). text k ++ flat_map record_text xs) (left_at-nil (64 * plan.number + k)) ∙ append-nil (text k))
-  | inr above ↦ rw (le-ltb k plan.ports above) refl
+      rw (lt-ltb k (port_count plan) below) (ap (λ (xs : List Sent). text k ++ flat_map record_text xs) (left_at-nil (port_at plan k)) ∙ append-nil (text k))
+  | inr above ↦ rw (le-ltb k (port_count plan) above) refl
 ]
 
-pub no_frames : (plan : Plan) (f g : Files) (pieces : List (List ℕ)) (text : ℕ → List ℕ)
+pub no_frames : (plan : Planned) (f g : Files) (pieces : List (List ℕ)) (text : ℕ → List ℕ)
     → HasTexts plan pieces f g text → HasTexts plan pieces f g (with_left_frames plan text [])
 no_frames plan f g pieces text p =
-    weaker f g (plan.ports + 1) (output_name plan) (Holds pieces text) (Holds pieces (with_left_frames plan text [])) p
+    weaker f g (port_count plan + 1) (output_name plan) (Holds pieces text) (Holds pieces (with_left_frames plan text [])) p
     (λ k bytes _ held. held ∙ sym (left_nothing plan text k))
 
 -- what one frame is at its port and at others
@@ -262,12 +275,12 @@ unfolding left_at
 left_elsewhere x q not = rw (ne_eqb x.port q not) refl
 
 -- the text of a capture with what left its port
-capture_left : (plan : Plan) (text : ℕ → List ℕ) (left : List Left) (k : ℕ) → k < plan.ports
-    → with_left_frames plan text left k ≡ text k ++ flat_map record_text (left_at left (64 * plan.number + k))
-capture_left plan text left k below = rw (lt-ltb k plan.ports below) refl
+capture_left : (plan : Planned) (text : ℕ → List ℕ) (left : List Left) (k : ℕ) → k < port_count plan
+    → with_left_frames plan text left k ≡ text k ++ flat_map record_text (left_at left (port_at plan k))
+capture_left plan text left k below = rw (lt-ltb k (port_count plan) below) refl
 
-journal_left : (plan : Plan) (text : ℕ → List ℕ) (left : List Left) (k : ℕ) → plan.ports ≤ k → with_left_frames plan text left k ≡ text k
-journal_left plan text left k above = rw (le-ltb k plan.ports above) refl
+journal_left : (plan : Planned) (text : ℕ → List ℕ) (left : List Left) (k : ℕ) → port_count plan ≤ k → with_left_frames plan text left k ≡ text k
+journal_left plan text left k above = rw (le-ltb k (port_count plan) above) refl
 
 -- frames in two parts
 left_in_parts : (text : List ℕ) (left : List Left) (x : Left) (q : ℕ) (more : List ℕ) → flat_map record_text (left_at (x ∷ []) q) ≡ more
@@ -278,47 +291,43 @@ left_in_parts text left x q more is =
     ∙ sym (append_assoc text (flat_map record_text (left_at left q)) (flat_map record_text (left_at (x ∷ []) q)))
     ∙ ap (λ (xs : List ℕ). (text ++ flat_map record_text (left_at left q)) ++ xs) is
 
--- a port of the extender is one of its captures
-port_within : (plan : Plan) (x : Left) → CanBeWritten plan x → (64 * plan.number ≤ x.port) × (x.port < 64 * plan.number + plan.ports)
-port_within plan x can =
-    let parts = and_parts _ _ can.port in
-    (leb-true (64 * plan.number) x.port parts.0, ltb-true x.port (64 * plan.number + plan.ports) parts.1)
-
-left_more : (plan : Plan) (text : ℕ → List ℕ) (left : List Left) (x : Left) (k : ℕ) → CanBeWritten plan x
-    → with_more (with_left_frames plan text left) (x.port - 64 * plan.number) (record_text (x.moment, x.bytes)) k ≡ with_left_frames plan text (left ++ x ∷ []) k
+left_more : (plan : Planned) (text : ℕ → List ℕ) (left : List Left) (x : Left) (k : ℕ) → CanBeWritten plan x
+    → with_more (with_left_frames plan text left) (place_in plan.tree x.port) (record_text (x.moment, x.bytes)) k ≡ with_left_frames plan text (left ++ x ∷ []) k
 left_more plan text left x k can =
-    let inside = port_within plan x can in
-    elim (cases_eq k (x.port - 64 * plan.number)) [
+    let place = place_in plan.tree x.port in
+    let inside : place < port_count plan = place_low plan x.port can.low can.port in
+    let more = record_text (x.moment, x.bytes) in
+    elim (cases_eq k place) [
       | inl same ↦
-          let below : k < plan.ports = omega arith in
-          let port : x.port ≡ 64 * plan.number + k = omega arith in
-          ap (with_more (with_left_frames plan text left) (x.port - 64 * plan.number) (record_text (x.moment, x.bytes))) same
-          ∙ with_more_here (with_left_frames plan text left) (x.port - 64 * plan.number) (record_text (x.moment, x.bytes))
-          ∙ ap (λ (i : ℕ). with_left_frames plan text left i ++ record_text (x.moment, x.bytes)) (sym same)
-          ∙ ap (λ (xs : List ℕ). xs ++ record_text (x.moment, x.bytes)) (capture_left plan text left k below)
-          ∙ sym (left_in_parts (text k) left x (64 * plan.number + k) (record_text (x.moment, x.bytes)) (ap (flat_map record_text) (left_here x (64 * plan.number + k) port) ∙ append-nil (record_text (x.moment, x.bytes))))
+          let below : k < port_count plan = omega arith in
+          let port : x.port ≡ port_at plan k = sym (port_of_place plan x.port can.low can.port) ∙ ap (port_at plan) (sym same) in
+          ap (with_more (with_left_frames plan text left) place more) same
+          ∙ with_more_here (with_left_frames plan text left) place more
+          ∙ ap (λ (i : ℕ). with_left_frames plan text left i ++ more) (sym same)
+          ∙ ap (λ (xs : List ℕ). xs ++ more) (capture_left plan text left k below)
+          ∙ sym (left_in_parts (text k) left x (port_at plan k) more (ap (flat_map record_text) (left_here x (port_at plan k) port) ∙ append-nil more))
           ∙ sym (capture_left plan text (left ++ x ∷ []) k below)
       | inr other ↦
-          with_more_other (with_left_frames plan text left) (x.port - 64 * plan.number) (record_text (x.moment, x.bytes)) k other
-          ∙ elim (cases_lt k plan.ports) [
+          with_more_other (with_left_frames plan text left) place more k other
+          ∙ elim (cases_lt k (port_count plan)) [
             | inl below ↦
-                let port : x.port ≢ 64 * plan.number + k = λ e. other (omega arith) in
+                let port : x.port ≢ port_at plan k = λ e. other (sym (place_of_port plan k below) ∙ ap (place_in plan.tree) (sym e)) in
                 capture_left plan text left k below
-                ∙ sym (append-nil (text k ++ flat_map record_text (left_at left (64 * plan.number + k))))
-                ∙ sym (left_in_parts (text k) left x (64 * plan.number + k) [] (ap (flat_map record_text) (left_elsewhere x (64 * plan.number + k) port)))
+                ∙ sym (append-nil (text k ++ flat_map record_text (left_at left (port_at plan k))))
+                ∙ sym (left_in_parts (text k) left x (port_at plan k) [] (ap (flat_map record_text) (left_elsewhere x (port_at plan k) port)))
                 ∙ sym (capture_left plan text (left ++ x ∷ []) k below)
             | inr above ↦ journal_left plan text left k above ∙ sym (journal_left plan text (left ++ x ∷ []) k above)
           ]
     ]
 
 -- one frame more
-pub more_frames : (plan : Plan) (f g : Files) (pieces : List (List ℕ)) (text : ℕ → List ℕ) (left : List Left) (i : ℕ) (x : Left)
+pub more_frames : (plan : Planned) (f g : Files) (pieces : List (List ℕ)) (text : ℕ → List ℕ) (left : List Left) (i : ℕ) (x : Left)
     → i < length left → x ≡ get_or left i x → CanBeWritten plan x
-    → HasTexts plan pieces f g (with_more (with_left_frames plan text (take i left)) (x.port - 64 * plan.number) (record_text (x.moment, x.bytes)))
+    → HasTexts plan pieces f g (with_more (with_left_frames plan text (take i left)) (place_in plan.tree x.port) (record_text (x.moment, x.bytes)))
     → HasTexts plan pieces f g (with_left_frames plan text (take (i + 1) left))
 more_frames plan f g pieces text left i x inside is can p =
-    weaker f g (plan.ports + 1) (output_name plan)
-    (Holds pieces (with_more (with_left_frames plan text (take i left)) (x.port - 64 * plan.number) (record_text (x.moment, x.bytes))))
+    weaker f g (port_count plan + 1) (output_name plan)
+    (Holds pieces (with_more (with_left_frames plan text (take i left)) (place_in plan.tree x.port) (record_text (x.moment, x.bytes))))
     (Holds pieces (with_left_frames plan text (take (i + 1) left))) p
     (λ k bytes _ held.
     held

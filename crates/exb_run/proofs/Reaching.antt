@@ -9,16 +9,16 @@ use Rattle.exb_world.specs.Worlds.{State}
 use Rattle.exb_schedule.specs.Segments.{segment}
 use Rattle.exb_shelf.specs.Files.{Files}
 use Rattle.exb_run.specs.declared.outputs.Outputs.{Outputs}
-use Rattle.exb_run.specs.declared.plan.Plan.{Plan}
+use Rattle.exb_run.specs.Plans.{Planned}
 use Rattle.exb_run.specs.Playing.{IsWritten, seconds_after, segments_after}
 use Rattle.exb_run.proofs.Segmenting.{segments_after-next, segments_after-end}
 
-pub record Reaches (i : Input) (h : History) (all : List Coming) (last : Option ℕ) (rest : List Coming) (plan : Plan) (orig now : Files) (w : State) (c : Counts) (o : Outputs) : Type 0 where
+pub record Reaches (i : Input) (h : History) (all : List Coming) (last : Option ℕ) (rest : List Coming) (plan : Planned) (orig now : Files) (w : State) (c : Counts) (o : Outputs) : Type 0 where
   pub at : History
   pub written : IsWritten i at plan orig now w c o
   pub same : eagerly (tree_of i) (bounds_of i) (basis_of i) h (segments_after None all) ≡ eagerly (tree_of i) (bounds_of i) (basis_of i) at (segments_after last rest)
 
-module _ (i : Input) (h : History) (all : List Coming) (plan : Plan) (orig : Files) where
+module _ (i : Input) (h : History) (all : List Coming) (plan : Planned) (orig : Files) where
   pub starts : (now : Files) (w : State) (c : Counts) (o : Outputs) → IsWritten i h plan orig now w c o → Reaches i h all None all plan orig now w c o
   starts now w c o is = record { at = h; written = is; same = refl }
 

@@ -212,10 +212,7 @@ module _ (s : ℕ) (two : s ≢ 2) (three : s ≢ 3) (four : s ≢ 4) (five : s 
   refusal_status (at fault key) e = three (sym e)
 
   bytes_status : (p : ℕ) (bytes : List ℕ) (before : ℕ) (x : Fault) → flaw_of_bytes p bytes before ≡ Some x → fault_status x ≢ s
-  bytes_status p bytes before x e = elim (in_bytes p bytes before x e) [
-    | inl is ↦ λ h. eight (sym h ∙ ap fault_status is)
-    | inr is ↦ λ h. four (sym h ∙ ap fault_status is.1)
-  ]
+  bytes_status p bytes before x e = let is = in_bytes p bytes before x e in λ h. four (sym h ∙ ap fault_status is.1)
 
   file_status : (p : ℕ) (name : List ℕ) (o : Option (List ℕ)) (before : ℕ) (x : Fault) → flaw_of p name o before ≡ Some x → fault_status x ≢ s
   file_status p name None before x e = let is : x ≡ Missing name = cc in λ h. five (sym h ∙ ap fault_status is)

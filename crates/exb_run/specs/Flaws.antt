@@ -1,9 +1,5 @@
 -- What can be wrong with the captures of a run.
-use Rattle.std.specs.Prelude.{◌≡◌, ◌<◌, ◌+◌, ℕ, zero, suc, Bool, true, false, nat_lt, if◌then◌else◌, List, length, Option, Some, None, Result, Ok, Err}
-use Rattle.std.specs.List.{list_all}
-use Rattle.exb_model.specs.declared.frame_kind.Seen.{Seen}
-use Rattle.exb_model.specs.declared.frame_kind.Seen.TheVariants as seen
-use Rattle.exb_model.specs.Frames.{kind_of}
+use Rattle.std.specs.Prelude.{◌≡◌, ◌<◌, ◌+◌, ℕ, zero, suc, nat_lt, if◌then◌else◌, List, length, Option, Some, None, Result, Ok, Err}
 use Rattle.exb_model.specs.Input.{Record}
 use Rattle.exb_pcap.specs.declared.reader.PcapFault.{PcapFault}
 use Rattle.exb_pcap.specs.Captures.{pcap_records}
@@ -11,20 +7,12 @@ use Rattle.exb_shelf.specs.Files.{Files}
 use Rattle.exb_tables.specs.declared.rows.Named.{Named}
 use Rattle.exb_run.specs.declared.fault.Flaw.TheVariants.{Large, Broken}
 use Rattle.exb_run.specs.declared.fault.Fault.{Fault}
-use Rattle.exb_run.specs.declared.fault.Fault.TheVariants.{Missing, NotBuilt, Capture}
+use Rattle.exb_run.specs.declared.fault.Fault.TheVariants.{Missing, Capture}
 use Rattle.exb_run.specs.Inputs.{name_of, bytes_at}
 
--- whether frames of this kind can be played
-abbrev pub is_plain : Seen → Bool
-is_plain seen.Plain = true
-is_plain _ = false
-
-abbrev pub is_plain_record : Record → Bool
-is_plain_record r = is_plain (kind_of r.bytes)
-
--- the capture of port p breaks the grammar, or else holds a frame that can't be played
+-- the capture of port p breaks the grammar
 abbrev pub flaw_in : ℕ → Result (List Record) PcapFault → Option Fault
-flaw_in p (Ok records) = if list_all is_plain_record records then None else Some NotBuilt
+flaw_in p (Ok records) = None
 flaw_in p (Err fault) = Some (Capture p (Broken fault))
 
 -- the first fault of a capture of port p that is there, where the captures before it have that many bytes

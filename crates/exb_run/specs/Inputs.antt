@@ -1,32 +1,25 @@
 -- What a run is given: its topology, the captures that this names, and the input that they make.
-use Rattle.std.specs.Prelude.{◌≡◌, ℕ, Bool, ◌==◌, if◌then◌else◌, List, [], ◌∷◌, Option, Some, None, Result, Ok, Err, All, map, filter, is_some}
-use Rattle.exb_model.specs.declared.frame_kind.Seen.TheVariants as seen
-use Rattle.exb_model.specs.Frames.{kind_of}
+use Rattle.std.specs.Prelude.{◌≡◌, ℕ, Bool, false, ◌==◌, if◌then◌else◌, List, [], ◌∷◌, length, Option, Some, None, Result, Ok, Err, map, filter, is_some}
+use Rattle.std.specs.List.{list_any}
 use Rattle.exb_model.specs.Input.{Input, Record, given_by}
 use Rattle.exb_pcap.specs.declared.reader.PcapFault.{PcapFault}
 use Rattle.exb_pcap.specs.Captures.{pcap_records}
 use Rattle.exb_shelf.specs.Files.{Files, bytes_of}
 use Rattle.exb_tables.specs.declared.rows.Named.{Named}
 use Rattle.exb_topology.specs.declared.topology.Topology.{Topology}
-use Rattle.exb_world.specs.Setups.{IsFirst}
+use Rattle.exb_world.specs.Setups.{restricts}
 
--- A topology that can be played today: one extender on b1 with all its ports in VLAN 1, untagged, nothing
--- is learned, and there are no commands and no fates.
+-- A topology that can be played today: it has one extender and the default numbers of channels and groups,
+-- isolates no port, and has no static entry, no command and no fate.
 pub record IsBuilt (t : Topology) : Type 0 where
-  pub first : IsFirst t.setup
+  pub one_extender : length t.setup.extenders ≡ 1
+  pub channels : t.setup.channels ≡ 4094
+  pub groups : t.setup.groups ≡ 12288
+  pub unrestricted : list_any restricts t.setup.start ≡ false
   pub commands : t.commands ≡ []
   pub fate : t.fate ≡ []
 
 -- ---- captures
--- a frame without a VLAN tag, which is neither short nor long nor reserved
-abbrev pub IsPlain : Record → Type 0
-IsPlain r = kind_of r.bytes ≡ seen.Plain
-
--- a capture that can be played: it is one of the grammar, and each of its frames is plain
-abbrev pub IsPlayable : Result (List Record) PcapFault → Type 0
-IsPlayable (Ok records) = All IsPlain records
-IsPlayable (Err fault) = ⊥
-
 -- the name of the file with the capture of port q, if it has one
 abbrev pub name_of : List Named → ℕ → Option (List ℕ)
 name_of [] q = None

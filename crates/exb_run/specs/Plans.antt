@@ -1,31 +1,27 @@
--- What a run writes of one extender.
-use Rattle.std.specs.Prelude.{◌≡◌, ◌≤◌, ℕ, false}
-use Rattle.exb_model.specs.Ports.{port_in}
-use Rattle.exb_model.specs.declared.port_set.PortSet.{PortSet}
-use Rattle.exb_model.specs.declared.command.Command.{Command}
-use Rattle.exb_model.specs.declared.command.Command.TheVariants as command
-use Rattle.exb_model.specs.declared.setup.Setup.{Setup}
-use Rattle.exb_world.specs.Setups.{IsFirst, is_port_of}
-use Rattle.exb_world.specs.Worlds.{first_number, first_ports}
-use Rattle.exb_run.specs.declared.plan.Plan.{Plan}
+-- What a run writes: a capture for each external port of a tree, and the journal.
+use Rattle.std.specs.Prelude.{◌≡◌, ◌<◌, ℕ, List, filter, length, slice_index}
+use Rattle.exb_model.specs.Ports.{below}
+use Rattle.exb_model.specs.Tree.{Shape, is_external, external_ports}
 
--- its numbers are within their ranges
-pub record IsInRange (plan : Plan) : Type 0 where
-  pub some_number : 1 ≤ plan.number
-  pub number : plan.number ≤ 64
-  pub some_ports : 1 ≤ plan.ports
-  pub ports : plan.ports ≤ 64
+-- a tree, and what the names of all files begin with
+pub record Planned : Type 0 where
+  pub tree : Shape
+  pub prefix : List ℕ
 
--- it is that of the one extender of a setup
-pub record IsOf (plan : Plan) (s : Setup) : Type 0 where
-  pub first : IsFirst s
-  pub number : first_number s.extenders ≡ plan.number
-  pub ports : first_ports s.extenders ≡ plan.ports
+-- how many captures there are
+abbrev pub port_count : Planned → ℕ
+port_count plan = length (external_ports plan.tree)
 
--- the command puts the ports of extender n into VLAN 1, untagged, and no other
-pub record PutsAll (n ports : ℕ) (c : Command) : Type 0 where
-  pub untagged : PortSet
-  pub tagged : PortSet
-  pub is : c ≡ command.Vlan 1 tagged untagged
-  pub none_tagged : (q : ℕ) → port_in tagged q ≡ false
-  pub all_untagged : (q : ℕ) → port_in untagged q ≡ is_port_of n ports q
+-- the port of capture j, counted from 0
+abbrev pub port_at : Planned → ℕ → ℕ
+port_at plan j = slice_index (external_ports plan.tree) j
+
+-- the place of port q among the external ports of a tree
+abbrev pub place_in : Shape → ℕ → ℕ
+place_in tree q = length (filter (is_external tree) (below q))
+
+-- a row with the external ports of a tree in order, and a table with the place of each port
+pub record ArePlaced (tree : Shape) (row table : List ℕ) : Type 0 where
+  pub ports : row ≡ external_ports tree
+  pub sized : length table ≡ 4160
+  pub placed : (q : ℕ) → q < 4160 → slice_index table q ≡ place_in tree q

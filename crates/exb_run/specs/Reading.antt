@@ -5,7 +5,7 @@ use Rattle.exb_keys.specs.Faults.{Refusal}
 use Rattle.exb_topology.specs.Topologies.{topology_of}
 use Rattle.exb_run.specs.declared.captures.Capture.{Capture}
 use Rattle.exb_run.specs.declared.fault.Fault.{Fault}
-use Rattle.exb_run.specs.declared.fault.Fault.TheVariants.{Usage, Missing, Topology, Capture as Faulty, Read, Write, Memory}
+use Rattle.exb_run.specs.declared.fault.Fault.TheVariants.{Usage, Missing, Topology, NotBuilt, Capture as Faulty, Read, Write, Memory}
 use Rattle.exb_run.specs.Inputs.{Taken}
 use Rattle.exb_run.specs.Answers.{refused_by}
 
@@ -17,6 +17,7 @@ contents captures = map (λ c. (c.port, c.file.items)) captures
 abbrev pub IsOfCapture : Fault → Type 0
 IsOfCapture Usage = ⊥
 IsOfCapture (Topology fault) = ⊥
+IsOfCapture NotBuilt = ⊥
 IsOfCapture Write = ⊥
 IsOfCapture (Faulty p flaw) = p < 4160
 IsOfCapture _ = ⊤

@@ -2,14 +2,14 @@
 -- text so far.
 use Rattle.std.specs.Prelude.{◌≡◌, ◌<◌, ◌+◌, ◌*◌, ◌^◌, ◌==◌, ◌++◌, true, ℕ, List, [], ◌∷◌, map, flat_map, length, nat_lt, if◌then◌else◌, slice_index, slice_index_or}
 use Rattle.exb_model.specs.declared.event.Event.{Event}
+use Rattle.exb_model.specs.Tree.{is_external}
 use Rattle.exb_model.specs.Texts.{capture_header, record_text, line_of}
 use Rattle.exb_world.specs.declared.world.Left.{Left}
-use Rattle.exb_world.specs.Setups.{is_port_of}
 use Rattle.exb_world.specs.Worlds.{left_at}
 use Rattle.exb_shelf.specs.Files.{Files, Filled}
 use Rattle.exb_shelf.specs.Shelf.{Id, writing}
 use Rattle.exb_run.specs.declared.outputs.Outputs.{Outputs}
-use Rattle.exb_run.specs.declared.plan.Plan.{Plan}
+use Rattle.exb_run.specs.Plans.{Planned, port_count, port_at}
 use Rattle.exb_run.specs.Outputs.{output_name}
 
 -- the pieces that are not written yet
@@ -21,18 +21,18 @@ abbrev pub Holds : List (List ℕ) → (ℕ → List ℕ) → ℕ → List ℕ �
 Holds pieces text j bytes = bytes ++ slice_index_or pieces j [] ≡ text j
 
 -- each output has its text, and no other file has changed
-abbrev pub HasTexts : Plan → List (List ℕ) → Files → Files → (ℕ → List ℕ) → Type 0
-HasTexts plan pieces old new text = Filled old new (plan.ports + 1) (output_name plan) (Holds pieces text)
+abbrev pub HasTexts : Planned → List (List ℕ) → Files → Files → (ℕ → List ℕ) → Type 0
+HasTexts plan pieces old new text = Filled old new (port_count plan + 1) (output_name plan) (Holds pieces text)
 
 -- the outputs of a plan: each has an id of its file, and a piece
-pub record IsReady (plan : Plan) (given : ℕ → Id) (o : Outputs) : Type 0 where
-  pub ids : length o.ids.items ≡ plan.ports + 1
-  pub pieces : length o.pieces.items ≡ plan.ports + 1
-  pub named : (j : ℕ) → j < plan.ports + 1 → given (slice_index o.ids.items j) ≡ writing (output_name plan j)
+pub record IsReady (plan : Planned) (given : ℕ → Id) (o : Outputs) : Type 0 where
+  pub ids : length o.ids.items ≡ port_count plan + 1
+  pub pieces : length o.pieces.items ≡ port_count plan + 1
+  pub named : (j : ℕ) → j < port_count plan + 1 → given (slice_index o.ids.items j) ≡ writing (output_name plan j)
 
 -- what the outputs begin with: captures with their header
-abbrev pub first_text : Plan → ℕ → List ℕ
-first_text plan j = if nat_lt j plan.ports then capture_header else []
+abbrev pub first_text : Planned → ℕ → List ℕ
+first_text plan j = if nat_lt j (port_count plan) then capture_header else []
 
 -- the texts, where that of output j has this more
 abbrev pub with_more : (ℕ → List ℕ) → ℕ → List ℕ → ℕ → List ℕ
@@ -43,12 +43,13 @@ abbrev pub lines_of : List Event → List ℕ
 lines_of events = flat_map (λ e. line_of e ++ 10 ∷ []) events
 
 -- the texts, where each capture has what left its port
-abbrev pub with_left_frames : Plan → (ℕ → List ℕ) → List Left → ℕ → List ℕ
+abbrev pub with_left_frames : Planned → (ℕ → List ℕ) → List Left → ℕ → List ℕ
 with_left_frames plan text left j =
-    if nat_lt j plan.ports then text j ++ flat_map record_text (left_at left (64 * plan.number + j)) else text j
+    if nat_lt j (port_count plan) then text j ++ flat_map record_text (left_at left (port_at plan j)) else text j
 
--- a frame that can be written: it left a port of the extender, below 2^32 seconds
-pub record CanBeWritten (plan : Plan) (x : Left) : Type 0 where
-  pub port : is_port_of plan.number plan.ports x.port ≡ true
+-- a frame that can be written: it left an external port, below 2^32 seconds
+pub record CanBeWritten (plan : Planned) (x : Left) : Type 0 where
+  pub port : is_external plan.tree x.port ≡ true
+  pub low : x.port < 4160
   pub moment : x.moment < 2 ^ 32 * 1_000_000_000
   pub bytes : length x.bytes < 2 ^ 32

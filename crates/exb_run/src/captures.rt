@@ -1,17 +1,14 @@
 //! Reading and checking the captures.
-ghost use Rattle.std.specs.Prelude.{◌≡◌, ◌≢◌, ◌≤◌, ◌<◌, ◌+◌, ◌⊎◌, true, ℕ, List, Some, None, Ok, Err, All, length, sum_by, IfOk, OnOk, IfErr, IfSome, IfNone, IsErrOf};
-ghost use Rattle.exb_model.specs.Frames.{kind_of};
+ghost use Rattle.std.specs.Prelude.{◌≡◌, ◌≢◌, ◌≤◌, ◌<◌, ◌+◌, ◌⊎◌, true, ℕ, List, Some, None, Ok, Err, All, length, sum_by, IfOk, OnOk, IfErr, IfSome, IfNone, IsOk, IsErrOf};
 ghost use Rattle.exb_model.specs.Ports.{all_ports};
 ghost use Rattle.exb_pcap.specs.Captures.{pcap_records};
 ghost use Rattle.exb_shelf.specs.Files.{SameFiles};
 ghost use Rattle.exb_shelf.specs.Shelf.{Rose, NoFewer};
-ghost use Rattle.exb_run.specs.Inputs.{IsPlayable, name_of, is_named, captures_of};
-ghost use Rattle.exb_run.specs.Flaws.{is_plain, flaw_in, flaw_of_bytes, flaw_of, AreGood, FirstFlaw};
+ghost use Rattle.exb_run.specs.Inputs.{name_of, is_named, captures_of};
+ghost use Rattle.exb_run.specs.Flaws.{flaw_in, flaw_of_bytes, flaw_of, AreGood, FirstFlaw};
 ghost use Rattle.exb_run.specs.Reading.{contents, IsOfCapture};
 
 use crate::fault::{Fault, Flaw};
-use exb_frame::classify::classify;
-use exb_model::frame_kind::Seen;
 use exb_model::port::PortId;
 use exb_model::text::Text;
 use exb_pcap::Reader;
@@ -35,15 +32,7 @@ pub(crate) struct Capture {
     pub(crate) file: Vec<u8>,
 }
 
-/// Whether a frame can be played.
-fn is_plain(frame: &[u8]) -> bool
-    ensures { result ≡ is_plain (kind_of frame.now) }
-{
-    matches!(classify(frame), Seen::Plain)
-}
-
-/// The first fault of the capture of a port but its size: that it breaks the grammar, or else that it
-/// holds a frame that can't be played yet.
+/// The first fault of the capture of a port but its size: that it breaks the grammar.
 fn flaw_in(port: PortId, file: &[u8]) -> Option<Fault>
     ensures { result ≡ flaw_in port (pcap_records file.now) }
 {
@@ -54,11 +43,10 @@ fn flaw_in(port: PortId, file: &[u8]) -> Option<Fault>
             return Some(Fault::Capture { port, flaw });
         }
     };
-    let mut plain = true;
     'records: loop {
         match reader.next() {
-            Ok(Some(record)) => plain = plain && is_plain(record.bytes),
-            Ok(None) => return if plain { None } else { Some(Fault::NotBuilt) },
+            Ok(Some(_)) => {}
+            Ok(None) => return None,
             Err(fault) => {
                 let flaw = Flaw::Broken { fault };
                 return Some(Fault::Capture { port, flaw });
@@ -159,7 +147,7 @@ pub(crate) fn read_captures<S: Shelf>(
     ensures there { S.tells → IfOk result (λ captures. contents captures.items ≡ captures_of names.now (S.file shelf.old) all_ports) }
     ensures good { S.tells → OnOk result (AreGood names.now (S.file shelf.old)) }
     ensures named { IfOk result (λ captures. All (λ c. is_named names.now c.port ≡ true) captures.items) }
-    ensures playable { IfOk result (λ captures. All (λ c. IsPlayable (pcap_records c.file.items)) captures.items) }
+    ensures whole { IfOk result (λ captures. All (λ c. IsOk (pcap_records c.file.items)) captures.items) }
     ensures all { IfOk result (λ captures. sum_by (λ c. length c.file.items) captures.items ≤ 536_870_912) }
     ensures flaw { S.tells → IfErr result (λ fault. ((p : ℕ) × FirstFlaw names.now (S.file shelf.old) p fault) ⊎ (fault ≡ Fault.Read) ⊎ (fault ≡ Fault.Memory)) }
     ensures causes { IfErr result IsOfCapture }

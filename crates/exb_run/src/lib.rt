@@ -3,6 +3,7 @@
 //! files through `exb_shelf`'s traits.
 #![tactic(auto)]
 
+mod built;
 mod captures;
 mod fault;
 mod outputs;

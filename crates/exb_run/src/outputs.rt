@@ -2,13 +2,12 @@
 ghost use Rattle.std.specs.Prelude.{◌≡◌, ◌≢◌, ◌≤◌, ◌<◌, ◌+◌, ◌-◌, ◌*◌, ◌++◌, ℕ, List, [], length, IfOk, OnOk, OnErr, IsErrOf, string_bytes, ◌∷◌, ◌⊎◌, true, All};
 ghost use Rattle.exb_shelf.specs.Files.{Files, SameFiles, Puts, Adds, Filled};
 ghost use Rattle.exb_shelf.specs.Shelf.{Rose, NoFewer, IsWriting, writing};
-ghost use Rattle.exb_run.specs.declared.plan.Plan.{Plan};
-ghost use Rattle.exb_run.specs.Plans.{IsInRange};
+ghost use Rattle.exb_run.specs.Plans.{Planned, port_count, place_in};
 ghost use Rattle.exb_run.specs.Outputs.{output_name, OnlyPlanned};
 ghost use Rattle.exb_model.specs.Texts.{line_of, record_text as record_of};
 ghost use Rattle.exb_run.specs.Writing.{pieces_of, Holds, HasTexts, IsReady, first_text, with_more, lines_of, with_left_frames, CanBeWritten};
 
-use crate::plan::{Plan, port_at};
+use crate::plan::Plan;
 use exb_model::event::Event;
 use exb_model::memory::NoMemory;
 use exb_pcap::{header_text, record_text};
@@ -27,13 +26,12 @@ pub(crate) struct Outputs {
 }
 
 /// The name of output `at`.
-fn output_name(alloc: Global, plan: &Plan, at: u8) -> Result<String, NoMemory>
-    requires { IsInRange plan.now }
+fn output_name(alloc: Global, plan: &Plan, at: u16) -> Result<String, NoMemory>
     ensures { IfOk result (λ name. string_bytes name ≡ output_name plan.now at) }
 {
-    let prefix = plan.prefix.as_str();
-    if at < plan.ports {
-        capture_file_name(alloc, prefix, port_at(plan.number, at))
+    let prefix = plan.prefix();
+    if at < plan.count() {
+        capture_file_name(alloc, prefix, plan.port(at))
     } else {
         journal_file_name(alloc, prefix)
     }
@@ -41,17 +39,17 @@ fn output_name(alloc: Global, plan: &Plan, at: u8) -> Result<String, NoMemory>
 
 /// The outputs of a plan have different names.
 fn output_names_differ()
-    ensures { (plan : Plan) → IsInRange plan → (i j : ℕ) → i < plan.ports + 1 → j < plan.ports + 1 → i ≢ j → output_name plan i ≢ output_name plan j }
+    ensures { (plan : Planned) (i j : ℕ) → i < port_count plan + 1 → j < port_count plan + 1 → i ≢ j → output_name plan i ≢ output_name plan j }
 {
     capture_names_differ();
     no_capture_is_the_journal();
 }
 
 /// What output `at` begins with.
-fn first_piece(alloc: Global, plan: &Plan, at: u8) -> Result<Vec<u8>, AllocError>
+fn first_piece(alloc: Global, plan: &Plan, at: u16) -> Result<Vec<u8>, AllocError>
     ensures { IfOk result (λ piece. piece.items ≡ first_text plan.now at) }
 {
-    if at < plan.ports {
+    if at < plan.count() {
         header_text().to_vec(alloc)
     } else {
         Ok(Vec::new(alloc))
@@ -63,10 +61,9 @@ fn create_one<S: Shelf>(
     alloc: Global,
     shelf: &mut S,
     plan: &Plan,
-    at: u8,
+    at: u16,
     outputs: &mut Outputs,
 ) -> Result<(), ShelfFault>
-    requires plan { IsInRange plan.now }
     requires ids { length outputs.old.ids.items ≡ at }
     requires pieces { length outputs.old.pieces.items ≡ at }
     ensures ids { OnOk result ((id : ℕ) × (outputs.new.ids.items ≡ outputs.old.ids.items ++ id ∷ []) × (S.ids shelf.new id ≡ writing (output_name plan.now at))) }
@@ -100,7 +97,6 @@ pub(crate) fn create_all<S: Shelf>(
     shelf: &mut S,
     plan: &Plan,
 ) -> Result<Outputs, ShelfFault>
-    requires { IsInRange plan.now }
     ensures ready { IfOk result (λ outputs. IsReady plan.now (S.ids shelf.new) outputs) }
     ensures texts { S.tells → IfOk result (λ outputs. HasTexts plan.now (pieces_of outputs) (S.file shelf.old) (S.file shelf.new) (first_text plan.now)) }
     ensures others { S.tells → OnErr result (OnlyPlanned plan.now (S.file shelf.old) (S.file shelf.new)) }
@@ -112,7 +108,7 @@ pub(crate) fn create_all<S: Shelf>(
         pieces: Vec::new(alloc),
     };
     output_names_differ();
-    for at in 0..plan.ports + 1 {
+    for at in 0..plan.count() + 1 {
         match create_one(alloc, shelf, plan, at, &mut outputs) {
             Ok(()) => {}
             Err(fault) => return Err(fault),
@@ -175,11 +171,10 @@ impl Outputs {
         line: &mut String,
         events: &[Event],
     ) -> Result<(), ShelfFault>
-        requires plan { IsInRange plan.now }
         requires ready { IsReady plan.now (S.ids shelf.old) self.old }
         ensures ready { IsReady plan.now (S.ids shelf.new) self.new }
         ensures texts { S.tells → OnOk result ((orig : Files) (text : ℕ → List ℕ) → HasTexts plan.now (pieces_of self.old) orig (S.file shelf.old) text
-            → HasTexts plan.now (pieces_of self.new) orig (S.file shelf.new) (with_more text plan.now.ports (lines_of events.now))) }
+            → HasTexts plan.now (pieces_of self.new) orig (S.file shelf.new) (with_more text (port_count plan.now) (lines_of events.now))) }
         ensures others { S.tells → OnlyPlanned plan.now (S.file shelf.old) (S.file shelf.new) }
         ensures faults { NoFewer (S.faults shelf.old) (S.faults shelf.new) }
         ensures failed { IsErrOf result ShelfFault.Failed → Rose (S.faults shelf.old).writes (S.faults shelf.new).writes }
@@ -197,7 +192,6 @@ impl Outputs {
         plan: &Plan,
         left: &[Left],
     ) -> Result<(), ShelfFault>
-        requires plan { IsInRange plan.now }
         requires ready { IsReady plan.now (S.ids shelf.old) self.old }
         requires frames { All (λ x. CanBeWritten plan.now x) left.now }
         ensures ready { IsReady plan.now (S.ids shelf.new) self.new }
@@ -215,10 +209,9 @@ impl Outputs {
 
     /// Writes all that is not written yet.
     pub(crate) fn finish<S: Shelf>(&mut self, shelf: &mut S, plan: &Plan) -> Result<(), ShelfFault>
-        requires plan { IsInRange plan.now }
         requires ready { IsReady plan.now (S.ids shelf.old) self.old }
         ensures texts { S.tells → OnOk result ((orig : Files) (text : ℕ → List ℕ) → HasTexts plan.now (pieces_of self.old) orig (S.file shelf.old) text
-            → Filled orig (S.file shelf.new) (plan.now.ports + 1) (output_name plan.now) (λ j bytes. bytes ≡ text j)) }
+            → Filled orig (S.file shelf.new) (port_count plan.now + 1) (output_name plan.now) (λ j bytes. bytes ≡ text j)) }
         ensures others { S.tells → OnlyPlanned plan.now (S.file shelf.old) (S.file shelf.new) }
         ensures faults { NoFewer (S.faults shelf.old) (S.faults shelf.new) }
         ensures failed { IsErrOf result ShelfFault.Failed → Rose (S.faults shelf.old).writes (S.faults shelf.new).writes }
@@ -238,11 +231,10 @@ impl Outputs {
         line: &mut String,
         event: &Event,
     ) -> Result<(), ShelfFault>
-        requires plan { IsInRange plan.now }
         requires ready { IsReady plan.now (S.ids shelf.old) self.old }
         ensures ready { IsReady plan.now (S.ids shelf.new) self.new }
         ensures texts { S.tells → OnOk result ((orig : Files) (text : ℕ → List ℕ) → HasTexts plan.now (pieces_of self.old) orig (S.file shelf.old) text
-            → HasTexts plan.now (pieces_of self.new) orig (S.file shelf.new) (with_more text plan.now.ports (line_of event.now ++ 10 ∷ []))) }
+            → HasTexts plan.now (pieces_of self.new) orig (S.file shelf.new) (with_more text (port_count plan.now) (line_of event.now ++ 10 ∷ []))) }
         ensures others { S.tells → OnlyPlanned plan.now (S.file shelf.old) (S.file shelf.new) }
         ensures faults { NoFewer (S.faults shelf.old) (S.faults shelf.new) }
         ensures failed { IsErrOf result ShelfFault.Failed → Rose (S.faults shelf.old).writes (S.faults shelf.new).writes }
@@ -251,7 +243,7 @@ impl Outputs {
         if write_line(line, event).is_err() {
             return Err(ShelfFault::Memory);
         }
-        self.add_to(shelf, plan, plan.ports as usize, &[], line.as_bytes())
+        self.add_to(shelf, plan, plan.count() as usize, &[], line.as_bytes())
     }
 
     /// Puts a frame that left a port behind the port's capture.
@@ -261,17 +253,16 @@ impl Outputs {
         plan: &Plan,
         left: &Left,
     ) -> Result<(), ShelfFault>
-        requires plan { IsInRange plan.now }
         requires ready { IsReady plan.now (S.ids shelf.old) self.old }
         requires frame { CanBeWritten plan.now left.now }
         ensures ready { IsReady plan.now (S.ids shelf.new) self.new }
         ensures texts { S.tells → OnOk result ((orig : Files) (text : ℕ → List ℕ) → HasTexts plan.now (pieces_of self.old) orig (S.file shelf.old) text
-            → HasTexts plan.now (pieces_of self.new) orig (S.file shelf.new) (with_more text (left.now.port - 64 * plan.now.number) (record_of (left.now.moment, left.now.bytes)))) }
+            → HasTexts plan.now (pieces_of self.new) orig (S.file shelf.new) (with_more text (place_in plan.now.tree left.now.port) (record_of (left.now.moment, left.now.bytes)))) }
         ensures others { S.tells → OnlyPlanned plan.now (S.file shelf.old) (S.file shelf.new) }
         ensures faults { NoFewer (S.faults shelf.old) (S.faults shelf.new) }
         ensures failed { IsErrOf result ShelfFault.Failed → Rose (S.faults shelf.old).writes (S.faults shelf.new).writes }
     {
-        let at = left.port.number() as usize - 64 * plan.number as usize;
+        let at = plan.place(left.port) as usize;
         let bytes = left.bytes.as_slice();
         let head = record_text(left.moment, bytes.len() as u32);
         self.add_to(shelf, plan, at, &head, bytes)
@@ -286,9 +277,8 @@ impl Outputs {
         head: &[u8],
         bytes: &[u8],
     ) -> Result<(), ShelfFault>
-        requires plan { IsInRange plan.now }
         requires ready { IsReady plan.now (S.ids shelf.old) self.old }
-        requires within { at ≤ plan.now.ports }
+        requires within { at ≤ port_count plan.now }
         ensures ready { IsReady plan.now (S.ids shelf.new) self.new }
         ensures texts { S.tells → OnOk result ((orig : Files) (text : ℕ → List ℕ) → HasTexts plan.now (pieces_of self.old) orig (S.file shelf.old) text
             → HasTexts plan.now (pieces_of self.new) orig (S.file shelf.new) (with_more text at (head.now ++ bytes.now))) }

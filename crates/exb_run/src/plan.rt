@@ -1,129 +1,137 @@
-//! What a run writes: the captures of the ports of one extender, and the journal, under a prefix.
-ghost use Rattle.std.specs.Prelude.{◌≡◌, ◌==◌, ◌&&◌, ◌<◌, ◌≤◌, ◌+◌, ◌*◌, ◌↔◌, ℕ, IsTrue, IfOk};
-ghost use Rattle.exb_model.specs.Ports.{port_in};
-ghost use Rattle.exb_model.specs.Setup.{IsValid};
-ghost use Rattle.exb_world.specs.Setups.{IsFirst, is_port_of};
-ghost use Rattle.exb_world.specs.Worlds.{first_number, first_ports};
-ghost use Rattle.exb_run.specs.Inputs.{IsBuilt};
-ghost use Rattle.exb_run.specs.Plans.{IsInRange, IsOf, PutsAll};
+//! What a run writes: a capture for each external port of a tree, and the journal, under a prefix.
+ghost use Rattle.std.specs.Prelude.{◌≡◌, ◌<◌, ◌≤◌, ◌++◌, ◌∷◌, [], true, if◌then◌else◌, IfOk, OnOk};
+ghost use Rattle.exb_model.specs.Setup.{IsValid, shape_of};
+ghost use Rattle.exb_model.specs.Tree.{IsTree, is_external};
+ghost use Rattle.exb_run.specs.Plans.{ArePlaced, place_in, port_at, port_count};
 
-use exb_model::command::Command;
 use exb_model::memory::NoMemory;
 use exb_model::port::PortId;
-use exb_model::port_set::PortSet;
-use exb_model::setup::{Place, Setup};
+use exb_model::role::Role;
+use exb_model::setup::Setup;
 use exb_model::text::Text;
-use exb_topology::Topology;
+use exb_model::tree::Tree;
 use std::alloc::Global;
+use std::marker::Model;
 
-/// What a run writes: the extender whose ports have captures, and the prefix of the names of its files.
-#[derive(Debug, Drop)]
+/// How many ports bridge and extenders have at most.
+const PORTS: u16 = 4160;
+
+/// The external ports of a tree, and the place of each among them.
+#[derive(Drop)]
+struct Places {
+    /// The external ports, in port order.
+    ports: Vec<PortId>,
+    /// How many of them come before a port, by its number.
+    places: Vec<u16>,
+}
+
+/// What a run writes: the capture of each external port of a tree in port order, and last the journal.
+#[derive(Drop)]
 pub(crate) struct Plan {
-    /// The number of the extender, 1 to 64.
-    pub(crate) number: u8,
-    /// How many ports it has, 1 to 64.
-    pub(crate) ports: u8,
+    tree: Tree,
+    places: Places,
     /// What each name of a file begins with.
-    pub(crate) prefix: Text,
+    prefix: Text,
 }
 
-/// Port `at` of an extender, counted from 0.
-pub(crate) fn port_at(number: u8, at: u8) -> PortId
-    requires number { number ≤ 64 }
-    requires port { at < 64 }
-    ensures { result ≡ 64 * number + at }
-{
-    PortId::new(64 * number as u16 + at as u16).unwrap()
+impl Model for Plan {
+    ghost use Rattle.exb_run.specs.Plans.{ArePlaced, Planned};
+
+    ghost Value = { Planned };
+
+    ghost view = { λ p. record { tree = p.tree; prefix = p.prefix } };
+
+    ghost invariant = { λ p. ArePlaced p.tree p.places.ports.items p.places.places.items };
 }
 
-/// The first ports of an extender.
-fn first_ports(number: u8, ports: u8) -> PortSet
-    requires number { number ≤ 64 }
-    requires few { ports ≤ 64 }
-    ensures { (q : ℕ) → port_in result q ≡ is_port_of number ports q }
+/// Whether a port is one of the tree on which no extender hangs.
+fn is_external(tree: &Tree, port: PortId) -> bool
+    ensures { result ≡ is_external tree.now port }
 {
-    let mut set = PortSet::empty();
-    for at in 0..ports {
-        set.insert(port_at(number, at));
-    }
-    set
-}
-
-/// Whether a command puts all ports of an extender into VLAN 1, untagged, and no other.
-fn puts_all(command: &Command, number: u8, ports: u8) -> bool
-    requires number { number ≤ 64 }
-    requires few { ports ≤ 64 }
-    ensures { IsTrue result ↔ PutsAll number ports command.now }
-{
-    match command {
-        Command::Vlan {
-            vid,
-            tagged,
-            untagged,
-        } => {
-            let first = vid.number() == 1;
-            let none = tagged.is_same(&PortSet::empty());
-            let all = untagged.is_same(&first_ports(number, ports));
-            first && none && all
-        }
-        _ => false,
+    tree.is_tree();
+    match tree.role(port) {
+        Role::External => true,
+        Role::Unknown => false,
+        Role::Cascade { extender: _ } => false,
     }
 }
 
-/// Whether a place is the first port of the bridge.
-fn is_first_port(place: Place) -> bool
-    ensures { IsTrue result ↔ (place ≡ Place.Bridge 1) }
+/// Puts a port behind others, where it is wanted.
+fn put_if(ports: &mut Vec<PortId>, wanted: bool, port: PortId) -> Result<(), NoMemory>
+    ensures { OnOk result (ports.new.items ≡ ports.old.items ++ (if wanted then port ∷ [] else [])) }
 {
-    matches!(place, Place::Bridge { port: 1 })
-}
-
-/// Whether the bridge of a setup has one port, the default numbers of channels and groups, and learns
-/// nothing.
-fn has_defaults(setup: &Setup) -> bool
-    ensures { result ≡ (setup.now.ports == 1 && setup.now.channels == 4094 && setup.now.groups == 12288 && setup.now.ageing == 0) }
-{
-    setup.ports == 1 && setup.channels == 4094 && setup.groups == 12288 && setup.ageing == 0
-}
-
-/// Whether a world can be made of a setup today.
-fn is_first(setup: &Setup) -> bool
-    requires { IsValid setup.now }
-    ensures { IsTrue result ↔ IsFirst setup.now }
-{
-    let extenders = setup.extenders.as_slice();
-    let start = setup.start.as_slice();
-    if extenders.len() != 1 || start.len() != 1 {
-        return false;
+    if wanted {
+        ports.push(port)?;
     }
-    let extender = extenders[0];
-    let on_first = is_first_port(extender.on);
-    let defaults = has_defaults(setup);
-    let all = puts_all(&start[0], extender.number, extender.ports);
-    on_first && defaults && all
+    Ok(())
 }
 
-/// Whether a topology can be played today.
-pub(crate) fn is_built(topology: &Topology) -> bool
-    requires { IsValid topology.now.setup }
-    ensures { IsTrue result ↔ IsBuilt topology.now }
+/// The external ports of a tree with their places.
+fn places_of(alloc: Global, tree: &Tree) -> Result<Places, NoMemory>
+    ensures { IfOk result (λ p. ArePlaced tree.now p.ports.items p.places.items) }
 {
-    let first = is_first(&topology.setup);
-    let commands = topology.commands.as_slice().is_empty();
-    let fate = topology.fate.as_slice().is_empty();
-    first && commands && fate
+    let mut ports = Vec::new(alloc);
+    let mut places = Vec::new(alloc);
+    'ports: for number in 0..PORTS {
+        let port = PortId::new(number).unwrap();
+        places.push(ports.len() as u16)?;
+        put_if(&mut ports, is_external(tree, port), port)?;
+    }
+    Ok(Places { ports, places })
 }
 
-/// What a run of a topology that can be played writes.
-pub(crate) fn plan_of(alloc: Global, topology: &Topology) -> Result<Plan, NoMemory>
-    requires { IsFirst topology.now.setup }
-    ensures of { IfOk result (λ plan. IsOf plan topology.now.setup) }
-    ensures prefix { IfOk result (λ plan. plan.prefix ≡ topology.now.prefix) }
-    ensures range { IfOk result (λ plan. IsInRange plan) }
-{
-    let extender = topology.setup.extenders.as_slice()[0];
-    Ok(Plan {
-        number: extender.number,
-        ports: extender.ports,
-        prefix: Text::from_str(alloc, topology.prefix.as_str())?,
-    })
+impl Plan {
+    /// What a run of a setup writes under a prefix.
+    pub(crate) fn new(alloc: Global, setup: &Setup, prefix: &str) -> Result<Plan, NoMemory>
+        requires { IsValid setup.now }
+        ensures tree { IfOk result (λ plan. plan.tree ≡ shape_of setup.now) }
+        ensures prefix { IfOk result (λ plan. plan.prefix ≡ prefix.now) }
+    {
+        let tree = Tree::new(alloc, setup)?;
+        let places = places_of(alloc, &tree)?;
+        let prefix = Text::from_str(alloc, prefix)?;
+        Ok(Plan {
+            tree,
+            places,
+            prefix,
+        })
+    }
+
+    /// That its tree is one, as a fact for whoever calls it. It does nothing.
+    pub(crate) fn is_tree(&self)
+        ensures { IsTree self.now.tree }
+    {
+        self.tree.is_tree();
+    }
+
+    /// How many captures there are, at most 4,160.
+    #[tactic(auto, using(crate::proofs::Places::few_external))]
+    pub(crate) fn count(&self) -> u16
+        ensures value { result ≡ port_count self.now }
+        ensures range { result ≤ 4160 }
+    {
+        self.places.ports.len() as u16
+    }
+
+    /// The port of capture `at`, counted from 0.
+    pub(crate) fn port(&self, at: u16) -> PortId
+        requires { at < port_count self.now }
+        ensures { result ≡ port_at self.now at }
+    {
+        self.places.ports[at as usize]
+    }
+
+    /// The place of a port's capture.
+    pub(crate) fn place(&self, port: PortId) -> u16
+        ensures { result ≡ place_in self.now.tree port }
+    {
+        self.places.places[port.number() as usize]
+    }
+
+    /// What each name of a file begins with.
+    pub(crate) fn prefix(&self) -> &str
+        ensures { result.now ≡ self.now.prefix }
+    {
+        self.prefix.as_str()
+    }
 }

@@ -1,8 +1,7 @@
 //! Playing the captures: the opening, then each record in its turn.
-ghost use Rattle.std.specs.Prelude.{◌≡◌, ◌≢◌, ◌≤◌, ◌<◌, ◌+◌, ◌*◌, ◌^◌, ◌++◌, ◌∷◌, [], ◌⊎◌, ℕ, List, true, length, All, fold, IfOk, OnOk, OnErr, IfErr, IsErrOf, OnErr, None, map, sum_by, string_bytes};
+ghost use Rattle.std.specs.Prelude.{◌≡◌, ◌≢◌, ◌≤◌, ◌<◌, ◌+◌, ◌*◌, ◌^◌, ◌++◌, ◌∷◌, [], ◌⊎◌, ℕ, List, true, length, All, fold, IsOk, IfOk, OnOk, OnErr, IfErr, IsErrOf, OnErr, None, map, sum_by, string_bytes};
 ghost use Rattle.exb_model.specs.History.{History};
 ghost use Rattle.exb_model.specs.Input.{Input, basis_of, tree_of, bounds_of, merge};
-ghost use Rattle.exb_model.specs.Frames.{kind_of};
 ghost use Rattle.exb_model.specs.Texts.{counted, with_left, summary_line};
 ghost use Rattle.exb_merge.specs.Arrivals.{arrival_of};
 ghost use Rattle.exb_merge.specs.Streams.{to_come};
@@ -12,12 +11,11 @@ ghost use Rattle.exb_shelf.specs.Shelf.{Rose, NoFewer};
 ghost use Rattle.exb_text.specs.Tallies.{counts_of};
 ghost use Rattle.exb_model.specs.Tree.{is_external};
 ghost use Rattle.exb_model.specs.EagerHistory.{eager_segment, eagerly, opening};
-ghost use Rattle.exb_world.specs.Setups.{is_port_of, IsFirst};
-ghost use Rattle.exb_world.specs.Worlds.{Stands};
+ghost use Rattle.exb_world.specs.Setups.{IsSingle};
+ghost use Rattle.exb_world.specs.Worlds.{Stands, state_of};
 ghost use Rattle.exb_schedule.specs.Segments.{arrived, segment, CanArrive};
-ghost use Rattle.exb_run.specs.Inputs.{IsPlayable};
-ghost use Rattle.exb_run.specs.Plans.{IsInRange, IsOf};
-ghost use Rattle.exb_run.specs.Playing.{text_after, seconds_after, segments_after, played, IsAtRest, IsUnderWay, IsCounted, IsWritten, CanCome, opened_of, stream_in, CanBePlayed};
+ghost use Rattle.exb_run.specs.Plans.{port_count};
+ghost use Rattle.exb_run.specs.Playing.{text_after, seconds_after, segments_after, played, IsAtRest, IsUnderWay, IsCounted, IsWritten, CanCome, begun_of, stream_in, CanBePlayed, IsOf};
 ghost use Rattle.exb_run.specs.Outputs.{OnlyPlanned, HasPlayed, output_name};
 ghost use Rattle.exb_run.specs.Writing.{HasTexts, IsReady, pieces_of, lines_of, with_more, with_left_frames, CanBeWritten};
 
@@ -28,13 +26,12 @@ use crate::plan::Plan;
 use exb_merge::{Captures, Coming};
 use exb_model::bytes::Bytes;
 use exb_model::event::Event;
-use exb_model::frame_kind::Seen;
 use exb_model::memory::NoMemory;
 use exb_model::setup::Setup;
 use exb_schedule::segment::{Arrival, eager, settle};
 use exb_shelf::{Shelf, ShelfFault};
 use exb_text::Tally;
-use exb_world::laws::{externals_of_first, opened_stands, opening_raises};
+use exb_world::laws::{opened_stands, opening_raises};
 use exb_world::{Step, World};
 use std::alloc::Global;
 
@@ -78,7 +75,6 @@ pub(crate) struct Game {
 impl Game {
     /// Writes and counts what has happened in the world since it was cleared, and clears it.
     fn note<S: Shelf>(&mut self, shelf: &mut S, plan: &Plan) -> Result<(), Fault>
-        requires plan { IsInRange plan.now }
         requires ready { IsReady plan.now (S.ids shelf.old) self.old.outputs }
         requires frames { All (λ x. CanBeWritten plan.now x) self.old.world.left }
         requires relayed { self.old.tally.relayed + length self.old.world.events < 2 ^ 64 }
@@ -90,7 +86,7 @@ impl Game {
         ensures cleared { OnOk result (self.new.world ≡ record self.old.world { events = []; left = [] }) }
         ensures texts { S.tells → OnOk result ((orig : Files) (text : ℕ → List ℕ) → HasTexts plan.now (pieces_of self.old.outputs) orig (S.file shelf.old) text
             → HasTexts plan.now (pieces_of self.new.outputs) orig (S.file shelf.new)
-            (with_left_frames plan.now (with_more text plan.now.ports (lines_of self.old.world.events)) self.old.world.left)) }
+            (with_left_frames plan.now (with_more text (port_count plan.now) (lines_of self.old.world.events)) self.old.world.left)) }
         ensures counts { OnOk result (counts_of self.new.tally
             ≡ with_left (length self.old.world.left) (fold (λ c e. counted e c) (counts_of self.old.tally) self.old.world.events)) }
         ensures others { S.tells → OnlyPlanned plan.now (S.file shelf.old) (S.file shelf.new) }
@@ -121,22 +117,20 @@ impl Game {
         seconds: u32,
         arrival: Arrival,
     ) -> Result<(), Fault>
-        requires plan { IsInRange plan.now }
         requires ready { IsReady plan.now (S.ids shelf.old) self.old.outputs }
-        requires rest { IsAtRest plan.now self.old.world }
-        requires counted { IsCounted (counts_of self.old.tally) self.old.world.clock }
+        requires rest { IsAtRest plan.now (state_of self.old.world) }
+        requires counted { IsCounted (counts_of self.old.tally) (state_of self.old.world).table.clock }
         requires room { played (counts_of self.old.tally) < 2 ^ 30 }
-        requires arrival { CanArrive self.old.world (arrived arrival) }
+        requires arrival { CanArrive (state_of self.old.world) (arrived arrival) }
         requires moment { arrival.moment < 2 ^ 32 * 1_000_000_000 }
-        requires bytes { length arrival.bytes < 2 ^ 32 }
         ensures ready { IsReady plan.now (S.ids shelf.new) self.new.outputs }
-        ensures rest { OnOk result (IsAtRest plan.now self.new.world) }
-        ensures counted { OnOk result (IsCounted (counts_of self.new.tally) self.new.world.clock) }
+        ensures rest { OnOk result (IsAtRest plan.now (state_of self.new.world)) }
+        ensures counted { OnOk result (IsCounted (counts_of self.new.tally) (state_of self.new.world).table.clock) }
         ensures played { OnOk result (played (counts_of self.new.tally) ≡ played (counts_of self.old.tally) + 1) }
-        ensures under_way { OnOk result ((i : Input) (h : History) → ((q : ℕ) → is_external (tree_of i) q ≡ is_port_of plan.now.number plan.now.ports q)
-            → IsUnderWay i h self.old.world (counts_of self.old.tally)
-            → IsUnderWay i (eager_segment (tree_of i) (bounds_of i) (basis_of i) h (segment seconds (arrived arrival ∷ []))) self.new.world (counts_of self.new.tally)) }
-        ensures texts { S.tells → OnOk result ((i : Input) (h : History) (orig : Files) → IsUnderWay i h self.old.world (counts_of self.old.tally)
+        ensures under_way { OnOk result ((i : Input) (h : History) → plan.now.tree ≡ tree_of i
+            → IsUnderWay i h (state_of self.old.world) (counts_of self.old.tally)
+            → IsUnderWay i (eager_segment (tree_of i) (bounds_of i) (basis_of i) h (segment seconds (arrived arrival ∷ []))) (state_of self.new.world) (counts_of self.new.tally)) }
+        ensures texts { S.tells → OnOk result ((i : Input) (h : History) (orig : Files) → IsUnderWay i h (state_of self.old.world) (counts_of self.old.tally)
             → HasTexts plan.now (pieces_of self.old.outputs) orig (S.file shelf.old) (text_after i plan.now h)
             → HasTexts plan.now (pieces_of self.new.outputs) orig (S.file shelf.new)
             (text_after i plan.now (eager_segment (tree_of i) (bounds_of i) (basis_of i) h (segment seconds (arrived arrival ∷ []))))) }
@@ -145,6 +139,7 @@ impl Game {
         ensures faults { NoFewer (S.faults shelf.old) (S.faults shelf.new) }
         ensures write { IsErrOf result Fault.Write → Rose (S.faults shelf.old).writes (S.faults shelf.new).writes }
     {
+        plan.is_tree();
         let arrivals = [arrival];
         if eager(&mut self.world, seconds, &[], &arrivals).is_err() {
             return Err(Fault::Memory);
@@ -161,22 +156,20 @@ impl Game {
         seconds: u32,
         coming: &Coming<'_>,
     ) -> Result<(), Fault>
-        requires plan { IsInRange plan.now }
         requires ready { IsReady plan.now (S.ids shelf.old) self.old.outputs }
-        requires rest { IsAtRest plan.now self.old.world }
-        requires counted { IsCounted (counts_of self.old.tally) self.old.world.clock }
+        requires rest { IsAtRest plan.now (state_of self.old.world) }
+        requires counted { IsCounted (counts_of self.old.tally) (state_of self.old.world).table.clock }
         requires room { played (counts_of self.old.tally) < 2 ^ 30 }
-        requires port { is_port_of plan.now.number plan.now.ports coming.now.port ≡ true }
-        requires plain { kind_of coming.now.bytes.now ≡ Seen.Plain }
+        requires port { is_external plan.now.tree coming.now.port ≡ true }
         requires moment { coming.now.moment < 2 ^ 32 * 1_000_000_000 }
         requires bytes { length coming.now.bytes.now ≤ 262_144 }
         ensures ready { IsReady plan.now (S.ids shelf.new) self.new.outputs }
-        ensures rest { OnOk result (IsAtRest plan.now self.new.world) }
-        ensures counted { OnOk result (IsCounted (counts_of self.new.tally) self.new.world.clock) }
+        ensures rest { OnOk result (IsAtRest plan.now (state_of self.new.world)) }
+        ensures counted { OnOk result (IsCounted (counts_of self.new.tally) (state_of self.new.world).table.clock) }
         ensures played { OnOk result (played (counts_of self.new.tally) ≡ played (counts_of self.old.tally) + 1) }
-        ensures goes_on { S.tells → OnOk result ((i : Input) (h : History) (orig : Files) → ((q : ℕ) → is_external (tree_of i) q ≡ is_port_of plan.now.number plan.now.ports q)
-            → IsWritten i h plan.now orig (S.file shelf.old) self.old.world (counts_of self.old.tally) self.old.outputs
-            → IsWritten i (eager_segment (tree_of i) (bounds_of i) (basis_of i) h (segment seconds (arrival_of coming.now ∷ []))) plan.now orig (S.file shelf.new) self.new.world (counts_of self.new.tally) self.new.outputs) }
+        ensures goes_on { S.tells → OnOk result ((i : Input) (h : History) (orig : Files) → plan.now.tree ≡ tree_of i
+            → IsWritten i h plan.now orig (S.file shelf.old) (state_of self.old.world) (counts_of self.old.tally) self.old.outputs
+            → IsWritten i (eager_segment (tree_of i) (bounds_of i) (basis_of i) h (segment seconds (arrival_of coming.now ∷ []))) plan.now orig (S.file shelf.new) (state_of self.new.world) (counts_of self.new.tally) self.new.outputs) }
         ensures others { S.tells → OnlyPlanned plan.now (S.file shelf.old) (S.file shelf.new) }
         ensures causes { IfErr result (λ fault. (fault ≡ Fault.Write) ⊎ (fault ≡ Fault.Memory)) }
         ensures faults { NoFewer (S.faults shelf.old) (S.faults shelf.new) }
@@ -202,17 +195,16 @@ impl Game {
         plan: &Plan,
         captures: &mut Captures<'_>,
     ) -> Result<(), Fault>
-        requires plan { IsInRange plan.now }
         requires ready { IsReady plan.now (S.ids shelf.old) self.old.outputs }
-        requires rest { IsAtRest plan.now self.old.world }
-        requires counted { IsCounted (counts_of self.old.tally) self.old.world.clock }
+        requires rest { IsAtRest plan.now (state_of self.old.world) }
+        requires counted { IsCounted (counts_of self.old.tally) (state_of self.old.world).table.clock }
         requires room { played (counts_of self.old.tally) + length (to_come captures.old) ≤ 2 ^ 30 }
-        requires comes { CanCome plan.now (to_come captures.old) }
+        requires comes { CanCome plan.now.tree (to_come captures.old) }
         ensures ready { IsReady plan.now (S.ids shelf.new) self.new.outputs }
         ensures few { OnOk result (played (counts_of self.new.tally) ≤ 2 ^ 30) }
-        ensures goes_on { S.tells → OnOk result ((i : Input) (h : History) (orig : Files) → ((q : ℕ) → is_external (tree_of i) q ≡ is_port_of plan.now.number plan.now.ports q)
-            → IsWritten i h plan.now orig (S.file shelf.old) self.old.world (counts_of self.old.tally) self.old.outputs
-            → IsWritten i (eagerly (tree_of i) (bounds_of i) (basis_of i) h (segments_after None (to_come captures.old))) plan.now orig (S.file shelf.new) self.new.world (counts_of self.new.tally) self.new.outputs) }
+        ensures goes_on { S.tells → OnOk result ((i : Input) (h : History) (orig : Files) → plan.now.tree ≡ tree_of i
+            → IsWritten i h plan.now orig (S.file shelf.old) (state_of self.old.world) (counts_of self.old.tally) self.old.outputs
+            → IsWritten i (eagerly (tree_of i) (bounds_of i) (basis_of i) h (segments_after None (to_come captures.old))) plan.now orig (S.file shelf.new) (state_of self.new.world) (counts_of self.new.tally) self.new.outputs) }
         ensures others { S.tells → OnlyPlanned plan.now (S.file shelf.old) (S.file shelf.new) }
         ensures causes { IfErr result (λ fault. (fault ≡ Fault.Write) ⊎ (fault ≡ Fault.Memory)) }
         ensures faults { NoFewer (S.faults shelf.old) (S.faults shelf.new) }
@@ -232,11 +224,10 @@ impl Game {
 
     /// Writes what is still to be written, and answers the summary line.
     fn end<S: Shelf>(&mut self, alloc: Global, shelf: &mut S, plan: &Plan) -> Result<String, Fault>
-        requires plan { IsInRange plan.now }
         requires ready { IsReady plan.now (S.ids shelf.old) self.old.outputs }
         requires room { played (counts_of self.old.tally) ≤ 2 ^ 30 }
         ensures texts { S.tells → OnOk result ((orig : Files) (text : ℕ → List ℕ) → HasTexts plan.now (pieces_of self.old.outputs) orig (S.file shelf.old) text
-            → Filled orig (S.file shelf.new) (plan.now.ports + 1) (output_name plan.now) (λ j bytes. bytes ≡ text j)) }
+            → Filled orig (S.file shelf.new) (port_count plan.now + 1) (output_name plan.now) (λ j bytes. bytes ≡ text j)) }
         ensures line { IfOk result (λ line. string_bytes line ≡ summary_line (counts_of self.old.tally)) }
         ensures others { S.tells → OnlyPlanned plan.now (S.file shelf.old) (S.file shelf.new) }
         ensures causes { IfErr result (λ fault. (fault ≡ Fault.Write) ⊎ (fault ≡ Fault.Memory)) }
@@ -255,10 +246,10 @@ impl Game {
 
 /// The world of a setup after its opening, which is settled and marked.
 fn opened(alloc: Global, setup: &Setup) -> Result<World, Fault>
-    requires { IsFirst setup.now }
-    ensures world { IfOk result (λ world. world ≡ opened_of setup.now) }
+    requires { IsSingle setup.now }
+    ensures world { IfOk result (λ world. state_of world ≡ begun_of setup.now) }
     ensures stands { IfOk result (λ world. (i : Input) → i.setup ≡ setup.now
-        → Stands (basis_of i) world [] (opening (tree_of i) (bounds_of i) (basis_of i)) (λ q. [])) }
+        → Stands (basis_of i) (state_of world) [] (opening (tree_of i) (bounds_of i) (basis_of i)) (λ q. [])) }
     ensures memory { IfErr result (λ fault. fault ≡ Fault.Memory) }
 {
     opened_stands();
@@ -273,21 +264,19 @@ fn opened(alloc: Global, setup: &Setup) -> Result<World, Fault>
 
 /// Makes the outputs, and writes and counts the opening of a setup.
 fn begin<S: Shelf>(alloc: Global, shelf: &mut S, plan: &Plan, setup: &Setup) -> Result<Game, Fault>
-    requires plan { IsInRange plan.now }
     requires of { IsOf plan.now setup.now }
     ensures ready { IfOk result (λ game. IsReady plan.now (S.ids shelf.new) game.outputs) }
-    ensures rest { IfOk result (λ game. IsAtRest plan.now game.world) }
-    ensures counted { IfOk result (λ game. IsCounted (counts_of game.tally) game.world.clock) }
+    ensures rest { IfOk result (λ game. IsAtRest plan.now (state_of game.world)) }
+    ensures counted { IfOk result (λ game. IsCounted (counts_of game.tally) (state_of game.world).table.clock) }
     ensures played { IfOk result (λ game. played (counts_of game.tally) ≡ 0) }
     ensures written { S.tells → IfOk result (λ game. (i : Input) → i.setup ≡ setup.now
-        → IsWritten i (opening (tree_of i) (bounds_of i) (basis_of i)) plan.now (S.file shelf.old) (S.file shelf.new) game.world (counts_of game.tally) game.outputs) }
+        → IsWritten i (opening (tree_of i) (bounds_of i) (basis_of i)) plan.now (S.file shelf.old) (S.file shelf.new) (state_of game.world) (counts_of game.tally) game.outputs) }
     ensures others { S.tells → OnlyPlanned plan.now (S.file shelf.old) (S.file shelf.new) }
     ensures causes { IfErr result (λ fault. (fault ≡ Fault.Write) ⊎ (fault ≡ Fault.Memory)) }
     ensures faults { NoFewer (S.faults shelf.old) (S.faults shelf.new) }
     ensures write { IsErrOf result Fault.Write → Rose (S.faults shelf.old).writes (S.faults shelf.new).writes }
 {
     opening_raises();
-    externals_of_first();
     let world = match opened(alloc, setup) {
         Ok(world) => world,
         Err(fault) => return Err(fault),
@@ -323,7 +312,7 @@ fn seconds_since(last: Option<u64>, second: u64) -> u32
 fn add_all<'a>(sources: &mut Captures<'a>, captures: &'a [Capture]) -> Result<(), NoMemory>
     requires none { sources.old ≡ [] }
     requires nothing { to_come sources.old ≡ [] }
-    requires playable { All (λ c. IsPlayable (pcap_records c.file.items)) captures.now }
+    requires whole { All (λ c. IsOk (pcap_records c.file.items)) captures.now }
     ensures streams { OnOk result (sources.new ≡ map stream_in captures.now) }
     ensures few { OnOk result (length (to_come sources.new) ≤ sum_by (λ c. length c.file.items) captures.now) }
 {
@@ -344,9 +333,8 @@ fn play_with<'a, S: Shelf>(
     captures: &'a [Capture],
     sources: &mut Captures<'a>,
 ) -> Result<String, Fault>
-    requires plan { IsInRange plan.now }
     requires of { IsOf plan.now setup.now }
-    requires can { All (λ c. CanBePlayed plan.now c) captures.now }
+    requires can { All (λ c. CanBePlayed plan.now.tree c) captures.now }
     requires all { sum_by (λ c. length c.file.items) captures.now ≤ 536_870_912 }
     requires none { sources.old ≡ [] }
     requires nothing { to_come sources.old ≡ [] }
@@ -357,7 +345,6 @@ fn play_with<'a, S: Shelf>(
     ensures faults { NoFewer (S.faults shelf.old) (S.faults shelf.new) }
     ensures write { IsErrOf result Fault.Write → Rose (S.faults shelf.old).writes (S.faults shelf.new).writes }
 {
-    externals_of_first();
     if add_all(sources, captures).is_err() {
         return Err(Fault::Memory);
     }
@@ -379,9 +366,8 @@ pub(crate) fn play<S: Shelf>(
     setup: &Setup,
     captures: &[Capture],
 ) -> Result<String, Fault>
-    requires plan { IsInRange plan.now }
     requires of { IsOf plan.now setup.now }
-    requires can { All (λ c. CanBePlayed plan.now c) captures.now }
+    requires can { All (λ c. CanBePlayed plan.now.tree c) captures.now }
     requires all { sum_by (λ c. length c.file.items) captures.now ≤ 536_870_912 }
     ensures done { S.tells → IfOk result (λ line. (i : Input) → i.setup ≡ setup.now → to_come (map stream_in captures.now) ≡ merge i
         → HasPlayed i plan.now (S.file shelf.old) (S.file shelf.new) (string_bytes line)) }

@@ -13,9 +13,10 @@ ghost use Rattle.exb_run.specs.Outputs.{IsPlayed, OnlyOutputs};
 ghost use Rattle.exb_run.specs.Flaws.{AreGood, FirstFlaw};
 ghost use Rattle.exb_run.specs.Answers.{Ran, IsReady, OnlyAsked, Stops, StopsWith, IsFailure, CanBe, fault_status, fault_line, IsFaultLine, IsLine, IsStatus};
 
+use crate::built::is_built;
 use crate::captures::read_captures;
 use crate::fault::Fault;
-use crate::plan::{is_built, plan_of};
+use crate::plan::Plan;
 use crate::play::play;
 use crate::report::report;
 use crate::topology::read_topology;
@@ -23,7 +24,6 @@ use crate::words::accept;
 use exb_merge::laws::merge_of_chosen;
 use exb_shelf::{Shelf, Sink};
 use exb_topology::Topology;
-use exb_world::laws::externals_of_first;
 use std::alloc::Global;
 
 /// Reads and checks the captures of a topology, plays them, and answers the summary line.
@@ -55,13 +55,12 @@ fn run_topology<S: Shelf>(
     ensures read { IsErrOf result Fault.Read → Rose (S.faults shelf.old).reads (S.faults shelf.new).reads }
     ensures write { IsErrOf result Fault.Write → Rose (S.faults shelf.old).writes (S.faults shelf.new).writes }
 {
-    externals_of_first();
     merge_of_chosen();
     let captures = match read_captures(alloc, shelf, topology.captures.as_slice()) {
         Ok(captures) => captures,
         Err(fault) => return Err(fault),
     };
-    let Ok(plan) = plan_of(alloc, topology) else {
+    let Ok(plan) = Plan::new(alloc, &topology.setup, topology.prefix.as_str()) else {
         return Err(Fault::Memory);
     };
     play(alloc, shelf, &plan, &topology.setup, captures.as_slice())

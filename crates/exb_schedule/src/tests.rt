@@ -1,89 +1,135 @@
-ghost use Rattle.std.specs.Prelude.{◌≡◌, ◌≤◌, ◌<◌, ◌+◌, ℕ, IfOk};
-ghost use Rattle.exb_model.specs.Frames.{kind_of};
-ghost use Rattle.exb_model.specs.Ports.{port_in};
-ghost use Rattle.exb_world.specs.Setups.{IsFirst, is_port_of};
-ghost use Rattle.exb_world.specs.Worlds.{first_number, first_ports};
+//! Segments of the eager run over a bridge with one extender.
+ghost use Rattle.std.specs.Prelude.{◌≡◌, true, IfOk};
+ghost use Rattle.std.specs.List.{list_any};
+ghost use Rattle.exb_world.specs.Setups.{IsSingle, restricts};
+ghost use Rattle.exb_world.specs.Worlds.{state_of};
 
 use crate::segment::{Arrival, eager, settle};
 use exb_model::bytes::Bytes;
 use exb_model::command::Command;
 use exb_model::event::Event;
-use exb_model::frame_kind::Seen;
 use exb_model::list::List;
-use exb_model::memory::NoMemory;
 use exb_model::port::PortId;
 use exb_model::port_set::PortSet;
+use exb_model::role::Role;
 use exb_model::setup::{ExtenderSetup, Place, Setup};
+use exb_model::tree::Tree;
 use exb_model::vlan::Vid;
 use exb_world::World;
 use std::alloc::Global;
 use std::process::Abort;
 use std::test::Fail;
 
-/// Port `at` of the extender, counted from 0.
-fn port(at: u8) -> PortId
-    requires { at < 64 }
-    ensures { result ≡ 64 + at }
-{
-    PortId::new(64 + at as u16).unwrap()
+fn port(rt: &impl Abort, number: u16) -> PortId {
+    PortId::new(number).expect(rt, "a port below 4160")
 }
 
-/// The first ports of the extender.
-fn first(ports: u8) -> PortSet
-    requires { ports ≤ 64 }
-    ensures { (q : ℕ) → port_in result q ≡ is_port_of 1 ports q }
+/// Whether a command isolates a port or puts a static entry.
+fn restricts(command: &Command) -> bool
+    ensures { result ≡ restricts command.now }
 {
-    let mut set = PortSet::empty();
-    for at in 0..ports {
-        set.insert(port(at));
+    match command {
+        Command::Isolate { on, port: _ } => *on,
+        Command::Static { .. } => true,
+        _ => false,
     }
-    set
 }
 
-/// Extender 1 on `b1` with that many ports, all untagged in VLAN 1.
-fn one_extender(alloc: Global, ports: u8) -> Result<Setup, NoMemory>
-    requires some { 1 ≤ ports }
-    requires few { ports ≤ 64 }
-    ensures first { IfOk result (λ setup. IsFirst setup) }
-    ensures number { IfOk result (λ setup. first_number setup.extenders ≡ 1) }
-    ensures ports { IfOk result (λ setup. first_ports setup.extenders ≡ ports) }
+/// Whether one of these commands does.
+fn is_any_restricting(commands: &[Command]) -> bool
+    ensures { result ≡ list_any restricts commands.now }
+{
+    commands.iter().any(|command| restricts(command))
+}
+
+/// A bridge of two ports with extender 1, which has three ports, on `b1`: ports 1, and 64 to 66. The ageing time
+/// is 10 seconds.
+fn setup(alloc: Global, start: List<Command>) -> Result<Setup, Fail>
+    ensures { IfOk result (λ setup. IsSingle setup) }
 {
     let mut extenders = List::new(alloc);
     extenders.push(ExtenderSetup {
         number: 1,
-        ports,
+        ports: 3,
         on: Place::Bridge { port: 1 },
     })?;
+    let setup = Setup {
+        ports: 2,
+        extenders,
+        channels: 4094,
+        groups: 12288,
+        ageing: 10,
+        start,
+    };
+    if !setup.valid() {
+        return Err(Fail::from("not a valid setup"));
+    }
+    if is_any_restricting(setup.start.as_slice()) {
+        return Err(Fail::from("a start that isolates ports or has static entries"));
+    }
+    Ok(setup)
+}
+
+/// VLAN 1 with all ports, untagged.
+fn one_vlan(rt: &impl Abort, alloc: Global) -> Result<List<Command>, Fail> {
+    let mut untagged = PortSet::empty();
+    for number in [1u16, 64, 65, 66] {
+        untagged.insert(port(rt, number));
+    }
     let mut start = List::new(alloc);
     start.push(Command::Vlan {
         vid: Vid::default(),
         tagged: PortSet::empty(),
-        untagged: first(ports),
+        untagged,
     })?;
-    Ok(Setup {
-        ports: 1,
-        extenders,
-        channels: 4094,
-        groups: 12288,
-        ageing: 0,
-        start,
-    })
+    Ok(start)
 }
 
-/// A broadcast without a VLAN tag arrives.
-#[tactic(auto, unfolding(exb_model::specs::Frames::kind_of))]
-fn broadcast(alloc: Global, at: u8, index: u64, moment: u64) -> Result<Arrival, NoMemory>
-    requires { at < 64 }
-    ensures port { IfOk result (λ arrival. arrival.port ≡ 64 + at) }
-    ensures plain { IfOk result (λ arrival. kind_of arrival.bytes ≡ Seen.Plain) }
-{
-    let bytes = Bytes::from_slice(alloc, &[0xFF; 60])?;
-    Ok(Arrival {
-        port: port(at),
-        index,
-        moment,
-        bytes,
-    })
+/// A world that has settled in its first second, with its tree.
+#[derive(Drop)]
+struct Bench {
+    world: World,
+    tree: Tree,
+    pub ghost same: { world.shape ≡ tree },
+    pub ghost open: { world.is_open ≡ true },
+    pub ghost early: { (state_of world).table.clock ≡ 0 },
+}
+
+impl Bench {
+    /// The world of a setup with all ports in VLAN 1.
+    fn new(rt: &impl Abort, alloc: Global) -> Result<Bench, Fail> {
+        let setup = setup(alloc, one_vlan(rt, alloc)?)?;
+        let tree = Tree::new(alloc, &setup)?;
+        let mut world = World::new(alloc, &setup)?;
+        settle(&mut world).expect(rt, "memory");
+        world.clear();
+        Ok(Bench { world, tree })
+    }
+
+    /// A segment in which a frame of 60 bytes to all stations arrives at an external port, as record 1.
+    fn play(
+        self,
+        rt: &impl Abort,
+        alloc: Global,
+        seconds: u32,
+        port: PortId,
+        moment: u64,
+    ) -> Result<World, Fail> {
+        let mut world = self.world;
+        match self.tree.role(port) {
+            Role::External => {}
+            _ => return Err(Fail::from("not an external port")),
+        }
+        let bytes = Bytes::from_slice(alloc, &[0xFF; 60])?;
+        let arrivals = [Arrival {
+            port,
+            index: 1,
+            moment,
+            bytes,
+        }];
+        eager(&mut world, seconds, &[], &arrivals).expect(rt, "memory");
+        Ok(world)
+    }
 }
 
 /// A word for an event, with its port or its seconds.
@@ -106,7 +152,7 @@ fn expect_events(rt: &impl Abort, world: &World, want: &[(&str, u64)]) {
 }
 
 /// What left, by port and moment.
-fn expect_copies(rt: &impl Abort, world: &World, want: &[(u16, u64)]) {
+fn expect_left(rt: &impl Abort, world: &World, want: &[(u16, u64)]) {
     let left = world.left();
     assert_eq!(rt; left.len(), want.len());
     for at in 0..want.len() {
@@ -116,35 +162,30 @@ fn expect_copies(rt: &impl Abort, world: &World, want: &[(u16, u64)]) {
 
 #[test]
 fn settling_opens_the_world_once(rt: HostRuntime) -> Result<(), Fail> {
-    let mut world = World::new(rt.alloc(), &one_extender(rt.alloc(), 2)?)?;
+    let start = one_vlan(&rt, rt.alloc())?;
+    let mut world = World::new(rt.alloc(), &setup(rt.alloc(), start)?)?;
     assert_eq!(rt; settle(&mut world)?, 1);
     assert!(rt; world.is_settled());
-    expect_events(&rt, &world, &[("up", 64), ("up", 65)]);
+    expect_events(&rt, &world, &[("up", 64), ("up", 65), ("up", 66)]);
     assert_eq!(rt; settle(&mut world)?, 0);
-    expect_events(&rt, &world, &[("up", 64), ("up", 65)]);
+    expect_events(&rt, &world, &[("up", 64), ("up", 65), ("up", 66)]);
     Ok(())
 }
 
 #[test]
 fn a_later_segment_ticks_relays_and_settles(rt: HostRuntime) -> Result<(), Fail> {
-    let mut world = World::new(rt.alloc(), &one_extender(rt.alloc(), 3)?)?;
-    settle(&mut world)?;
-    world.clear();
-    let arrivals = [broadcast(rt.alloc(), 2, 1, 7)?];
-    eager(&mut world, 5, &[], &arrivals)?;
+    let bench = Bench::new(&rt, rt.alloc())?;
+    let world = bench.play(&rt, rt.alloc(), 5, port(&rt, 66), 7)?;
     expect_events(&rt, &world, &[("tick", 5), ("relay", 66), ("settled", 0)]);
-    expect_copies(&rt, &world, &[(64, 7), (65, 7)]);
+    expect_left(&rt, &world, &[(64, 7), (65, 7), (1, 7)]);
     Ok(())
 }
 
 #[test]
 fn a_segment_in_the_same_second_has_no_tick(rt: HostRuntime) -> Result<(), Fail> {
-    let mut world = World::new(rt.alloc(), &one_extender(rt.alloc(), 3)?)?;
-    settle(&mut world)?;
-    world.clear();
-    let arrivals = [broadcast(rt.alloc(), 0, 4, 9)?];
-    eager(&mut world, 0, &[], &arrivals)?;
-    expect_events(&rt, &world, &[("relay", 64), ("settled", 0)]);
-    expect_copies(&rt, &world, &[(65, 9), (66, 9)]);
+    let bench = Bench::new(&rt, rt.alloc())?;
+    let world = bench.play(&rt, rt.alloc(), 0, port(&rt, 1), 9)?;
+    expect_events(&rt, &world, &[("relay", 1), ("settled", 0)]);
+    expect_left(&rt, &world, &[(64, 9), (65, 9), (66, 9)]);
     Ok(())
 }

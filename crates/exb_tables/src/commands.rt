@@ -154,67 +154,122 @@ fn op_in(value: &Value) -> Result<Op, KeyFault>
     }
 }
 
+/// The action of the operation `vlan`.
+#[tactic(auto, unfolding(crate::specs::Commands::action))]
+fn set_vlan(alloc: Global, place: Place, table: &Table) -> Result<Action, TopoFault>
+    ensures { Gives result (action Op.Vlan (place_text place) (table_view table.now)) }
+{
+    let vid = keys::vid_key(alloc, place, table, "vid", None)?;
+    let tagged = keys::words_key(alloc, place, table, "tagged", false)?;
+    let untagged = keys::words_key(alloc, place, table, "untagged", false)?;
+    Ok(Action::Vlan {
+        vid,
+        tagged,
+        untagged,
+    })
+}
+
+/// The action of the operation `member`.
+#[tactic(auto, unfolding(crate::specs::Commands::action))]
+fn put_member(alloc: Global, place: Place, table: &Table) -> Result<Action, TopoFault>
+    ensures { Gives result (action Op.Member (place_text place) (table_view table.now)) }
+{
+    let vid = keys::vid_key(alloc, place, table, "vid", None)?;
+    let port = keys::port_key(alloc, place, table, "port")?;
+    let kind = keys::kind_key(alloc, place, table, "kind")?;
+    Ok(Action::Member { vid, port, kind })
+}
+
+/// The action of the operation `unmember`.
+#[tactic(auto, unfolding(crate::specs::Commands::action))]
+fn take_member(alloc: Global, place: Place, table: &Table) -> Result<Action, TopoFault>
+    ensures { Gives result (action Op.Unmember (place_text place) (table_view table.now)) }
+{
+    let vid = keys::vid_key(alloc, place, table, "vid", None)?;
+    let port = keys::port_key(alloc, place, table, "port")?;
+    Ok(Action::Unmember { vid, port })
+}
+
+/// The action of the operation `pvid`.
+#[tactic(auto, unfolding(crate::specs::Commands::action))]
+fn set_pvid(alloc: Global, place: Place, table: &Table) -> Result<Action, TopoFault>
+    ensures { Gives result (action Op.Pvid (place_text place) (table_view table.now)) }
+{
+    let vid = keys::vid_key(alloc, place, table, "vid", None)?;
+    let port = keys::port_key(alloc, place, table, "port")?;
+    Ok(Action::Pvid { port, vid })
+}
+
+/// The action of the operation `accept`.
+#[tactic(auto, unfolding(crate::specs::Commands::action))]
+fn set_accept(alloc: Global, place: Place, table: &Table) -> Result<Action, TopoFault>
+    ensures { Gives result (action Op.Accept (place_text place) (table_view table.now)) }
+{
+    let port = keys::port_key(alloc, place, table, "port")?;
+    let accept = keys::accept_key(alloc, place, table, "accept", None)?;
+    Ok(Action::Accept { port, accept })
+}
+
+/// The action of the operation `filter`.
+#[tactic(auto, unfolding(crate::specs::Commands::action))]
+fn set_filter(alloc: Global, place: Place, table: &Table) -> Result<Action, TopoFault>
+    ensures { Gives result (action Op.Filter (place_text place) (table_view table.now)) }
+{
+    let port = keys::port_key(alloc, place, table, "port")?;
+    let on = keys::flag_key(alloc, place, table, "filter", None)?;
+    Ok(Action::Filter { port, on })
+}
+
+/// The action of the operation `isolate`.
+#[tactic(auto, unfolding(crate::specs::Commands::action))]
+fn set_isolated(alloc: Global, place: Place, table: &Table) -> Result<Action, TopoFault>
+    ensures { Gives result (action Op.Isolate (place_text place) (table_view table.now)) }
+{
+    let port = keys::port_key(alloc, place, table, "port")?;
+    let on = keys::flag_key(alloc, place, table, "isolated", None)?;
+    Ok(Action::Isolate { port, on })
+}
+
+/// The action of the operation `static`.
+#[tactic(auto, unfolding(crate::specs::Commands::action))]
+fn put_static(alloc: Global, place: Place, table: &Table) -> Result<Action, TopoFault>
+    ensures { Gives result (action Op.Static (place_text place) (table_view table.now)) }
+{
+    let vid = keys::vid_key(alloc, place, table, "vid", None)?;
+    let address = keys::address_key(alloc, place, table, "mac")?;
+    let ports = keys::words_key(alloc, place, table, "ports", true)?;
+    Ok(Action::Static {
+        vid,
+        address,
+        ports,
+    })
+}
+
+/// The action of the operation `unstatic`.
+#[tactic(auto, unfolding(crate::specs::Commands::action))]
+fn take_static(alloc: Global, place: Place, table: &Table) -> Result<Action, TopoFault>
+    ensures { Gives result (action Op.Unstatic (place_text place) (table_view table.now)) }
+{
+    let vid = keys::vid_key(alloc, place, table, "vid", None)?;
+    let address = keys::address_key(alloc, place, table, "mac")?;
+    Ok(Action::Unstatic { vid, address })
+}
+
+/// What a command with that operation does.
 #[tactic(auto, unfolding(crate::specs::Commands::action))]
 fn action_of(alloc: Global, op: Op, place: Place, table: &Table) -> Result<Action, TopoFault>
     ensures { Gives result (action op (place_text place) (table_view table.now)) }
 {
     match op {
-        Op::Vlan => {
-            let vid = keys::vid_key(alloc, place, table, "vid", None)?;
-            let tagged = keys::words_key(alloc, place, table, "tagged", false)?;
-            let untagged = keys::words_key(alloc, place, table, "untagged", false)?;
-            Ok(Action::Vlan {
-                vid,
-                tagged,
-                untagged,
-            })
-        }
-        Op::Member => {
-            let vid = keys::vid_key(alloc, place, table, "vid", None)?;
-            let port = keys::port_key(alloc, place, table, "port")?;
-            let kind = keys::kind_key(alloc, place, table, "kind")?;
-            Ok(Action::Member { vid, port, kind })
-        }
-        Op::Unmember => {
-            let vid = keys::vid_key(alloc, place, table, "vid", None)?;
-            let port = keys::port_key(alloc, place, table, "port")?;
-            Ok(Action::Unmember { vid, port })
-        }
-        Op::Pvid => {
-            let vid = keys::vid_key(alloc, place, table, "vid", None)?;
-            let port = keys::port_key(alloc, place, table, "port")?;
-            Ok(Action::Pvid { port, vid })
-        }
-        Op::Accept => {
-            let port = keys::port_key(alloc, place, table, "port")?;
-            let accept = keys::accept_key(alloc, place, table, "accept", None)?;
-            Ok(Action::Accept { port, accept })
-        }
-        Op::Filter => {
-            let port = keys::port_key(alloc, place, table, "port")?;
-            let on = keys::flag_key(alloc, place, table, "filter", None)?;
-            Ok(Action::Filter { port, on })
-        }
-        Op::Isolate => {
-            let port = keys::port_key(alloc, place, table, "port")?;
-            let on = keys::flag_key(alloc, place, table, "isolated", None)?;
-            Ok(Action::Isolate { port, on })
-        }
-        Op::Static => {
-            let vid = keys::vid_key(alloc, place, table, "vid", None)?;
-            let address = keys::address_key(alloc, place, table, "mac")?;
-            let ports = keys::words_key(alloc, place, table, "ports", true)?;
-            Ok(Action::Static {
-                vid,
-                address,
-                ports,
-            })
-        }
-        Op::Unstatic => {
-            let vid = keys::vid_key(alloc, place, table, "vid", None)?;
-            let address = keys::address_key(alloc, place, table, "mac")?;
-            Ok(Action::Unstatic { vid, address })
-        }
+        Op::Vlan => set_vlan(alloc, place, table),
+        Op::Member => put_member(alloc, place, table),
+        Op::Unmember => take_member(alloc, place, table),
+        Op::Pvid => set_pvid(alloc, place, table),
+        Op::Accept => set_accept(alloc, place, table),
+        Op::Filter => set_filter(alloc, place, table),
+        Op::Isolate => set_isolated(alloc, place, table),
+        Op::Static => put_static(alloc, place, table),
+        Op::Unstatic => take_static(alloc, place, table),
         Op::Up => {
             let port = keys::port_key(alloc, place, table, "port")?;
             Ok(Action::Up { port })

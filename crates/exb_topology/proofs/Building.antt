@@ -1,16 +1,14 @@
 -- Commands that are put at the end one after the other.
 use mathlib.Core.Path.{fun_ext}
-use Rattle.std.proofs.Common.{◌≡◌, ℕ, zero, suc, ◌+◌, ◌-◌, ◌<◌, ◌≤◌, Bool, List, [], ◌∷◌, ◌++◌, length, get_or, take, drop, map, refl, sym, ap, ◌∙◌, append_assoc, append-nil, arith, filter, true, false, cond}
+use Rattle.std.proofs.Common.{◌≡◌, ℕ, suc, ◌+◌, ◌-◌, ◌<◌, ◌≤◌, Bool, List, [], ◌∷◌, ◌++◌, length, get_or, drop, map, refl, sym, ap, ◌∙◌, append_assoc, append-nil, arith, filter, true, false, cond}
 use Rattle.std.specs.List.{flat_map, range_with_len}
-use Rattle.std.proofs.lemmas.List.{drop_more, drop_all, map_push, take_more, take_all}
-use Rattle.exb_model.specs.declared.command.Command.{Command}
+use Rattle.std.proofs.lemmas.List.{drop_more, drop_all, map_push}
 use Rattle.exb_model.specs.Ports.{below}
 use Rattle.exb_model.specs.Tree.{Shape, is_external, external_ports}
 use Rattle.exb_model.proofs.PortLemmas.{below-more}
 use Rattle.exb_tables.specs.declared.rows.VlanTable.{VlanTable}
 use Rattle.exb_topology.specs.Checks.{listed}
-use Rattle.exb_topology.specs.Seen.{Seen, seen, set_vlan}
-use Rattle.exb_topology.specs.Topologies.{vlan_start}
+use Rattle.exb_topology.specs.Seen.{Seen, set_vlan}
 
 -- ---- what each element gives
 pub parts_more : {X Y : Type 0} (f : X → List Y) (front total : List Y) (xs : List X) (i : ℕ) (x : X) → i < length xs → get_or xs i x ≡ x

@@ -4,3 +4,5 @@ pub mod Sets
 pub mod Building
 pub mod Valid
 pub mod Starting
+pub mod Given
+pub mod Ends

@@ -1,5 +1,5 @@
 -- A setup whose extenders the second pass lets through is valid.
-use Rattle.std.proofs.Common.{◌≡◌, ◌≢◌, ◌↔◌, ℕ, zero, suc, ◌+◌, ◌*◌, ◌-◌, ◌/◌, ◌%◌, ◌<◌, ◌≤◌, ◌==◌, Bool, true, false, not, cond, nat_lt, List, [], ◌∷◌, ◌++◌, codes, length, slice_index, get_or, set, take, replicate, Result, Ok, All, AllPairs, refl, sym, ap, ◌∙◌, arith, inl, inr, IsTrue}
+use Rattle.std.proofs.Common.{◌≡◌, ◌≢◌, ◌↔◌, ℕ, zero, suc, ◌/◌, ◌%◌, ◌<◌, ◌≤◌, ◌==◌, Bool, true, false, not, cond, nat_lt, List, [], ◌++◌, codes, length, slice_index, get_or, set, take, replicate, Ok, AllPairs, refl, sym, ap, ◌∙◌, arith, inl, inr, IsTrue}
 use Rattle.std.specs.List.{list_any}
 use Rattle.std.proofs.lemmas.Bool.{cases_Bool, cases_lt, cases_eq, eq-eqb, ne_eqb, ltb-true, lt-ltb, le-ltb, not-false, false≢true}
 use Rattle.std.proofs.lemmas.List.{length-take, get_or-take, get_or-set_other, get_or_past}
@@ -9,13 +9,13 @@ use Rattle.exb_model.specs.declared.setup.Place.{Place}
 use Rattle.exb_model.specs.declared.setup.Place.TheVariants as place
 use Rattle.exb_model.specs.declared.setup.Setup.{Setup}
 use Rattle.exb_model.specs.Tree.{Shape, HangsOn, IsTree, is_port, any_below, top, on, cascades_under}
-use Rattle.exb_model.specs.Setup.{IsPlace, IsStart, IsValid, lay, port_at, shape_of}
+use Rattle.exb_model.specs.Setup.{IsPlace, IsValid, port_at, shape_of}
 use Rattle.exb_model.proofs.TreeWays.{any_below-true, any_below-from}
 use Rattle.exb_model.proofs.Words.{get_or-same}
 use Rattle.exb_keys.specs.declared.faults.KeyFault.TheVariants as fault
-use Rattle.exb_keys.specs.Faults.{Refusal, in_table}
+use Rattle.exb_keys.specs.Faults.{in_table}
 use Rattle.exb_topology.specs.Each.{each_ok, refuse}
-use Rattle.exb_topology.specs.Trees.{ports_of, has_port, extender_key, hung, rooted, has_few, tree_ok, HasRanges}
+use Rattle.exb_topology.specs.Trees.{ports_of, has_port, hung, rooted, has_few, tree_ok, HasRanges}
 use Rattle.exb_topology.proofs.Checking.{ok_at, both_ok, refuse_ok}
 use Rattle.exb_topology.proofs.Laid.{length-lay, has_number, Apart, apart_from, first_or, ports_of_first, first_laid, first_none, Entry, entry}
 

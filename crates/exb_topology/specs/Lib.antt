@@ -1,5 +1,6 @@
 pub mod Each
 pub mod Trees
 pub mod Checks
+pub mod Given
 pub mod Seen
 pub mod Topologies

@@ -1,12 +1,11 @@
 -- The topology of a file, or its first fault.
-use Rattle.std.specs.Prelude.{◌≡◌, ◌≤◌, ◌<◌, ℕ, ◌+◌, ◌-◌, Bool, true, false, List, [], ◌∷◌, ◌++◌, Option, Some, None, Result, Ok, map, flat_map, length, sum_by, All}
+use Rattle.std.specs.Prelude.{ℕ, ◌+◌, ◌-◌, false, List, [], ◌∷◌, ◌++◌, Option, Some, None, Result, Ok, map, flat_map}
 use Rattle.std.specs.List.{range_with_len}
 use Rattle.exb_model.specs.declared.setup.ExtenderSetup.{ExtenderSetup}
 use Rattle.exb_model.specs.declared.setup.Setup.{Setup}
-use Rattle.exb_model.specs.declared.setup.Timed.{Timed}
 use Rattle.exb_model.specs.declared.setup.Verdict.{Verdict}
 use Rattle.exb_model.specs.Tree.{Shape, is_external}
-use Rattle.exb_model.specs.Setup.{shape_of, NamesExternal}
+use Rattle.exb_model.specs.Setup.{shape_of}
 use Rattle.exb_keys.specs.Faults.{Refusal, ◌>>=◌}
 use Rattle.exb_tables.specs.declared.rows.PortTable.{PortTable}
 use Rattle.exb_tables.specs.declared.rows.VlanTable.{VlanTable}

@@ -1,21 +1,26 @@
 //! The third pass: that ports are external ports of the tree, and that nothing is given twice.
-ghost use Rattle.std.specs.Prelude.{◌≡◌, ◌==◌, ◌++◌, [], codes};
+ghost use Rattle.std.specs.Prelude.{◌≡◌, ◌==◌, ◌++◌, ◌∷◌, [], List, codes, IfOk, OnOk};
 ghost use Rattle.std.specs.List.{list_any};
 ghost use Rattle.std.specs.Str.{bytes_eq};
+ghost use Rattle.exb_model.specs.Tree.{Shape};
 ghost use Rattle.exb_keys.specs.Faults.{Gives, place_text, in_element};
 ghost use Rattle.exb_topology.specs.Each.{each_ok, refuse};
-ghost use Rattle.exb_topology.specs.Checks.{port_ok, words_ok, port_table_ok, overlap, vlan_ok, vlans_ok, same_entry, static_ok, action_ok, command_ok, capture_key, capture_ok, file_ok};
+ghost use Rattle.exb_topology.specs.Checks.{port_ok, words_ok, port_table_ok, overlap, vlan_ok, vlans_ok, same_entry, static_ok, action_ok, command_ok, capture_key, capture_ok, output_names, file_ok};
+ghost use Rattle.exb_topology.specs.Given.{Knows};
 
+use crate::outputs::output_names;
 use crate::tree_ports::TreePorts;
 use exb_keys::faults::{KeyFault, TopoFault};
 use exb_keys::place::Place;
 use exb_keys::words::Word;
 use exb_model::list::List;
+use exb_model::memory::NoMemory;
 use exb_model::port::PortId;
 use exb_model::text::Text;
 use exb_tables::{Action, CommandTable, Named, PortTable, StaticTable, VlanTable};
 use exb_text::PortName;
 use std::alloc::Global;
+use std::collections::BTreeSet;
 
 /// Refuses a key for that fault, where the test passes.
 pub(crate) fn refuse(
@@ -157,36 +162,38 @@ fn check_each_vlan(alloc: Global, ports: &TreePorts, vlans: &[VlanTable]) -> Res
     Ok(())
 }
 
-/// Whether an entry for the VLAN and address was given before.
-fn is_given(entry: &StaticTable, before: &[StaticTable]) -> bool
-    ensures { result ≡ list_any (same_entry entry.now) before.now }
+/// What static entries are for, each by its VLAN and address.
+type Destinations = BTreeSet<(u16, [u8; 6])>;
+
+/// Notes what an entry is for, and answers whether that was given before.
+fn note(given: &mut Destinations, entry: &StaticTable) -> Result<bool, NoMemory>
+    ensures again { IfOk result (λ again. (before : List StaticTable) → Knows given.old before → again ≡ list_any (same_entry entry.now) before) }
+    ensures noted { OnOk result ((before : List StaticTable) → Knows given.old before → Knows given.new (before ++ entry.now ∷ [])) }
 {
-    for other in before {
-        if other.vid == entry.vid && other.address == entry.address {
-            return true;
-        }
-    }
-    false
+    let is_new = given.insert((entry.vid.number(), entry.address.0))?;
+    Ok(!is_new)
 }
 
 fn check_static(
     alloc: Global,
     ports: &TreePorts,
-    before: &[StaticTable],
+    given: &mut Destinations,
     index: usize,
     entry: &StaticTable,
 ) -> Result<(), TopoFault>
-    ensures { Gives result (static_ok ports.now before.now index entry.now) }
+    ensures value { (before : List StaticTable) → Knows given.old before → Gives result (static_ok ports.now before index entry.now) }
+    ensures noted { (before : List StaticTable) → Knows given.old before → OnOk result (Knows given.new (before ++ entry.now ∷ [])) }
 {
     let place = Place::Element {
         table: "static",
         index,
     };
     check_words(alloc, ports, place, "ports", &entry.ports)?;
-    let again = is_given(entry, before);
+    let again = note(given, entry)?;
     refuse(alloc, again, place, "mac", KeyFault::Repeat)
 }
 
+#[tactic(auto, using(crate::proofs::Given::knows_none))]
 pub(crate) fn check_statics(
     alloc: Global,
     ports: &TreePorts,
@@ -194,8 +201,9 @@ pub(crate) fn check_statics(
 ) -> Result<(), TopoFault>
     ensures { Gives result (each_ok (static_ok ports.now) statics.now 0 statics.now) }
 {
+    let mut given = BTreeSet::new(alloc);
     for (index, entry) in statics.iter().enumerate() {
-        check_static(alloc, ports, &statics[..index], index, entry)?;
+        check_static(alloc, ports, &mut given, index, entry)?;
     }
     Ok(())
 }
@@ -287,35 +295,59 @@ pub(crate) fn check_captures(
     Ok(())
 }
 
-/// Whether a file has one of these names.
-fn is_output(name: &str, outputs: &[Text]) -> bool
-    ensures { result ≡ list_any (λ o. bytes_eq name.now o) outputs.now }
+/// Whether one of these ends is that.
+fn is_end(end: &[u8], ends: &[Text]) -> bool
+    ensures { result ≡ list_any (λ o. bytes_eq end.now o) ends.now }
 {
-    for output in outputs {
-        if name == output.as_str() {
+    for other in ends {
+        if end == other.as_str().as_bytes() {
             return true;
         }
     }
     false
 }
 
-fn check_file(alloc: Global, outputs: &[Text], capture: &Named) -> Result<(), TopoFault>
-    ensures { Gives result (file_ok outputs.now [] 0 capture.now) }
+/// Whether a file has the name of an output file: the prefix, and then one of the ends that output files have.
+fn is_output(name: &str, prefix: &str, ends: &[Text]) -> bool
+    ensures { (t : Shape) → ends.now ≡ output_names [] t → result ≡ list_any (λ o. bytes_eq name.now o) (output_names prefix.now t) }
 {
-    let again = is_output(capture.name.as_str(), outputs);
+    match name.as_bytes().strip_prefix(prefix.as_bytes()) {
+        Some(end) => is_end(end, ends),
+        None => false,
+    }
+}
+
+fn check_file(alloc: Global, prefix: &str, ends: &[Text], capture: &Named) -> Result<(), TopoFault>
+    ensures { (t : Shape) → ends.now ≡ output_names [] t → Gives result (file_ok (output_names prefix.now t) [] 0 capture.now) }
+{
+    let again = is_output(capture.name.as_str(), prefix, ends);
     refuse_capture(alloc, again, capture.port, KeyFault::Repeat)
 }
 
-/// Refuses captures that have the name of an output file.
-pub(crate) fn check_files(
+fn check_each_file(
     alloc: Global,
-    outputs: &[Text],
+    prefix: &str,
+    ends: &[Text],
     captures: &[Named],
 ) -> Result<(), TopoFault>
-    ensures { Gives result (each_ok (file_ok outputs.now) captures.now 0 captures.now) }
+    ensures { (t : Shape) → ends.now ≡ output_names [] t → Gives result (each_ok (file_ok (output_names prefix.now t)) captures.now 0 captures.now) }
 {
     for capture in captures {
-        check_file(alloc, outputs, capture)?;
+        check_file(alloc, prefix, ends, capture)?;
     }
     Ok(())
+}
+
+/// Refuses captures that have the name of an output file. Names are compared by their ends, since thousands
+/// of names with a long prefix would take much memory.
+pub(crate) fn check_files(
+    alloc: Global,
+    ports: &TreePorts,
+    prefix: &str,
+    captures: &[Named],
+) -> Result<(), TopoFault>
+    ensures { Gives result (each_ok (file_ok (output_names prefix.now ports.now)) captures.now 0 captures.now) }
+{
+    let ends = output_names(alloc, "", ports)?;
+    check_each_file(alloc, prefix, ends.as_slice(), captures)
 }

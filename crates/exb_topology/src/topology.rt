@@ -7,7 +7,6 @@ ghost use Rattle.exb_topology.specs.Each.{each_ok};
 ghost use Rattle.exb_topology.specs.Checks.{port_table_ok, ports_ok};
 ghost use Rattle.exb_topology.specs.Topologies.{topology_view, topology_seen, topology_of, bare, resolved};
 
-use crate::outputs::output_names;
 use crate::tree_ports::TreePorts;
 use crate::trees::check_tree;
 use crate::{checks, start};
@@ -71,8 +70,8 @@ fn check_ports(alloc: Global, ports: &TreePorts, tables: &Tables) -> Result<(), 
     checks::check_statics(alloc, ports, tables.statics.as_slice())?;
     checks::check_commands(alloc, ports, tables.commands.as_slice())?;
     checks::check_captures(alloc, ports, tables.captures.as_slice())?;
-    let outputs = output_names(alloc, tables.bridge.out.as_str(), ports)?;
-    checks::check_files(alloc, outputs.as_slice(), tables.captures.as_slice())
+    let prefix = tables.bridge.out.as_str();
+    checks::check_files(alloc, ports, prefix, tables.captures.as_slice())
 }
 
 /// The topology of tables that passed, from its valid setup with nothing at the start.

@@ -2,6 +2,10 @@
 //! it serves tests alone, above `exb_run` and `exb_flat_run`.
 #![tactic(auto)]
 
+mod draws;
+mod site;
+mod stations;
+mod tables;
 #[cfg(test)]
 mod tests;
 pub mod trial;

@@ -1,5 +1,6 @@
--- The numbers below n that pass a test, one number more at a time.
-use Rattle.std.proofs.Common.{◌≡◌, ℕ, ◌+◌, Bool, true, false, cond, filter, [], ◌∷◌, ◌++◌, refl, ap, ◌∙◌, arith, nat_lt, ◌<◌, All}
+-- Tests that are joined, and the numbers below n that pass a test, one number more at a time.
+use Rattle.std.proofs.Common.{◌≡◌, ℕ, ◌+◌, ◌&&◌, Bool, true, false, cond, filter, [], ◌∷◌, ◌++◌, refl, ap, ◌∙◌, arith, nat_lt, ◌<◌, All}
+use Rattle.std.proofs.lemmas.Bool.{false≢true}
 use Rattle.std.proofs.lemmas.List.{append-nil}
 use Rattle.std.proofs.lemmas.List.Elements.{filter-append, All-filter}
 use Rattle.std.proofs.lemmas.List.FromFn.{get_or-range_with_len, length-range_with_len}
@@ -7,6 +8,20 @@ use Rattle.std.proofs.lemmas.Bool.Decides.{nat_tests}
 use Rattle.exb_model.specs.Ports.{below}
 use Rattle.exb_model.proofs.PortLemmas.{below-more}
 
+-- ---- tests
+pub and_first : (a b : Bool) → (a && b) ≡ true → a ≡ true
+and_first true b e = refl
+and_first false b e = e
+
+pub and_second : (a b : Bool) → (a && b) ≡ true → b ≡ true
+and_second true b e = e
+and_second false b e = absurd (false≢true e)
+
+pub and_false : (a : Bool) → (a && false) ≡ false
+and_false true = refl
+and_false false = refl
+
+-- ---- filters
 last_one : (p : ℕ → Bool) (n : ℕ) → filter p (below (n + 1)) ≡ filter p (below n) ++ cond (p n) (n ∷ []) []
 last_one p n = ap (filter p) (below-more n) ∙ filter-append p (below n) (n ∷ [])
 

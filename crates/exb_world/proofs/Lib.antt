@@ -1,12 +1,20 @@
-pub mod Filters
-pub mod Trips
-pub mod Plain
+mod Ranges
+mod Filters
+mod Only
+mod Singles
+mod Carried
 pub mod Leaving
-pub mod Flooding
-pub mod Standing
-pub mod FirstTree
-pub mod Opening
-pub mod Ranges
-pub mod SetLists
-pub mod FirstOrder
-pub mod Rising
+mod Frames
+mod Standing
+mod Raising
+mod Replicating
+mod Registering
+mod Living
+mod FewSets
+mod FewPorts
+mod OpeningRaises
+mod NextSets
+mod Bringing
+mod Beginning
+mod Arriving
+mod Opened

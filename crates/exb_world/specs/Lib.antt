@@ -1,7 +1,8 @@
 pub mod Tables
+pub mod Bridges
 pub mod Extenders
 pub mod Setups
 pub mod Worlds
-pub mod Arrivals
+pub mod Sending
 pub mod Insides
 pub mod Opening

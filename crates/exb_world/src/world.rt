@@ -1,20 +1,23 @@
 //! The world, and the steps that move it.
-ghost use Rattle.std.specs.Prelude.{◌≡◌, ◌≢◌, ◌++◌, ◌∷◌, ◌+◌, ◌<◌, ◌≤◌, ◌^◌, [], ℕ, List, true, false, IfOk, OnOk, OnErr, IsErrOf, ◌↔◌, ◌*◌, map, take, drop, length, All};
-ghost use Rattle.std.specs.List.{range_with_len};
-ghost use Rattle.exb_model.specs.Frames.{kind_of};
-ghost use Rattle.exb_model.specs.History.{Basis, History, ◌then◌, seconds_of};
-ghost use Rattle.exb_model.specs.FlatBridge.{Sent, sent_by};
+ghost use Rattle.std.specs.Prelude.{◌≡◌, ◌++◌, ◌∷◌, ◌+◌, ◌<◌, ◌^◌, [], ℕ, List, true, false, IfOk, OnOk, OnErr, ◌↔◌, take, drop, length, All};
+ghost use Rattle.exb_model.specs.History.{Basis, History};
+ghost use Rattle.exb_model.specs.FlatBridge.{Sent};
 ghost use Rattle.exb_model.specs.Input.{Arrival};
 
-use crate::arrival::{Buffers, Recorded, arrive, port_at};
+use crate::arrival::{Buffers, Log, Recorded, arrive};
+use crate::bridge::{Controller, are_bytes};
 use crate::extender::Extender;
+use crate::opening::open;
+use exb_frame::laws::tag_round_trip;
+use exb_learn::Learned;
 use exb_model::bytes::Bytes;
 use exb_model::event::Event;
-use exb_model::frame_kind::Seen;
 use exb_model::list::List;
 use exb_model::memory::NoMemory;
 use exb_model::port::PortId;
 use exb_model::setup::Setup;
+use exb_numbers::laws::{channels_are_apart, groups_are_apart};
+use exb_relay::laws::{sends_are_words, sends_leave_as_flat, spaces_number};
 use std::alloc::Global;
 use std::marker::Model;
 
@@ -29,14 +32,15 @@ pub struct Left {
 /// One step.
 #[derive(Clone, Copy)]
 pub enum Step<'a> {
-    /// A frame arrives at a port: record `index` (from 1) of that port, at `moment` nanoseconds.
+    /// A frame arrives at an external port: record `index` (from 1) of that port, at `moment` nanoseconds. It has
+    /// at most 262,144 bytes.
     Arrive {
         port: PortId,
         index: u64,
         moment: u64,
         bytes: &'a [u8],
     },
-    /// The clock goes on.
+    /// The clock goes on. It stays below 2^63.
     Tick {
         seconds: u32,
     },
@@ -53,85 +57,62 @@ pub enum WorldFault {
     Failed,
 }
 
-/// The extender of the world, with its number, how many ports it has, and whether it is opened.
-#[derive(Drop)]
-struct Device {
-    number: u8,
-    ports: u8,
-    is_open: bool,
-    extender: Extender,
-}
-
-/// The clock in seconds, and what has happened since the last `clear`.
-#[derive(Drop)]
-struct Log {
-    clock: u64,
-    events: List<Event>,
-    left: List<Left>,
-}
-
-/// The controlling bridge with one extender, and what has happened since the last `clear`.
+/// The controlling bridge with one extender, what the bridge has learned, and what has happened since the last
+/// `clear`.
 #[derive(Drop)]
 pub struct World {
     alloc: Global,
-    device: Device,
+    bridge: Controller,
+    learned: Learned,
+    extender: Extender,
     buffers: Buffers,
     log: Log,
+    is_open: bool,
     failed: bool,
 }
 
 impl Model for World {
-    ghost use Rattle.exb_world.specs.Worlds.{State};
+    ghost use Rattle.exb_world.specs.Worlds.{Parts};
 
-    ghost Value = { State };
+    ghost Value = { Parts };
 
-    ghost use Rattle.exb_world.specs.Insides.{state_of, IsDevice};
+    ghost use Rattle.exb_world.specs.Insides.{parts_of, IsKept};
 
-    ghost view = { λ w. record (state_of w.device w.log) { failed = w.failed } };
+    ghost view = { λ w. parts_of w.bridge w.learned w.log w.is_open w.failed };
 
-    ghost invariant = { λ w. IsDevice w.device };
-}
-
-/// Adds the events of the automatic ups, in port order.
-fn raise(events: &mut List<Event>, number: u8, ports: u8) -> Result<(), NoMemory>
-    requires numbered { number ≤ 64 }
-    requires few { ports ≤ 64 }
-    ensures { OnOk result (events.new ≡ events.old ++ map Event.Up (range_with_len (64 * number) ports)) }
-{
-    for at in 0..ports {
-        let port = port_at(number, at);
-        events.push(Event::Up { port })?;
-    }
-    Ok(())
+    ghost invariant = { λ w. IsKept w.bridge w.extender w.is_open w.failed };
 }
 
 impl World {
     ghost use Rattle.exb_model.specs.Input.{Input, basis_of};
-    ghost use Rattle.exb_world.specs.Setups.{IsFirst, is_port_of};
+    ghost use Rattle.exb_model.specs.Tree.{is_external};
+    ghost use Rattle.exb_model.specs.EagerHistory.{arrival_event};
+    ghost use Rattle.exb_world.specs.Setups.{IsSingle};
     ghost use Rattle.exb_world.specs.Insides.{arrival_of};
-    ghost use Rattle.exb_world.specs.Worlds.{CanStep, IsAfter, IsAfterArrival, IsCopyOf, IsCopyIn, Stands, fresh_of, ups_of, event_of, sent_in, given_by};
+    ghost use Rattle.exb_world.specs.Worlds.{CanStep, IsAfter, IsAfterEvent, IsCopyOf, IsCopyIn, Stands, state_of, fresh_of, opened_of, event_of, sent_in, given_by};
 
     /// The world of a setup. Nothing has happened in it yet.
     pub fn new(alloc: Global, setup: &Setup) -> Result<World, NoMemory>
-        requires { IsFirst setup.now }
-        ensures fresh { IfOk result (λ world. world ≡ fresh_of setup.now) }
-        ensures stands { IfOk result (λ world. (i : Input) → i.setup ≡ setup.now → Stands (basis_of i) world [] [] (λ q. [])) }
+        requires { IsSingle setup.now }
+        ensures fresh { IfOk result (λ world. state_of world ≡ fresh_of setup.now) }
+        ensures stands { IfOk result (λ world. (i : Input) → i.setup ≡ setup.now → Stands (basis_of i) (state_of world) [] [] (λ q. [])) }
     {
-        let extender = setup.extenders.as_slice()[0];
+        channels_are_apart();
+        groups_are_apart();
+        let device = setup.extenders.as_slice()[0];
+        let bridge = Controller::new(alloc, setup)?;
+        let extender = Extender::new(alloc, device.number, device.ports)?;
         Ok(World {
             alloc,
-            device: Device {
-                number: extender.number,
-                ports: extender.ports,
-                is_open: false,
-                extender: Extender::new(),
-            },
+            bridge,
+            learned: Learned::new(alloc, setup.ageing),
+            extender,
             buffers: Buffers::new(),
             log: Log {
-                clock: 0,
                 events: List::new(alloc),
                 left: List::new(alloc),
             },
+            is_open: false,
             failed: false,
         })
     }
@@ -140,36 +121,42 @@ impl World {
     pub fn is_settled(&self) -> bool
         ensures { result ≡ self.now.is_open }
     {
-        self.device.is_open
+        self.is_open
     }
 
-    /// Opens the extender: creates its ports, and raises each.
+    /// Opens the extender: lets its ports go up, and gives numbers to all that the bridge reaches through it.
     pub fn open(&mut self) -> Result<(), WorldFault>
         requires { self.old.is_open ≡ false }
-        ensures ok { OnOk result (self.new ≡ record self.old { is_open = true; events = self.old.events ++ ups_of self.old }) }
+        ensures ok { OnOk result (state_of self.new ≡ opened_of (state_of self.old)) }
         ensures failed { (result ≡ Err WorldFault.Failed) ↔ (self.old.failed ≡ true) }
         ensures memory { OnErr result (self.new.failed ≡ true) }
     {
         if self.failed {
             return Err(WorldFault::Failed);
         }
-        if raise(&mut self.log.events, self.device.number, self.device.ports).is_err() {
+        let opened = open(
+            self.alloc,
+            &mut self.bridge,
+            &mut self.extender,
+            &mut self.log.events,
+        );
+        if opened.is_err() {
             self.failed = true;
             return Err(WorldFault::Memory);
         }
-        self.device.extender.lay(self.device.ports);
-        self.device.is_open = true;
+        self.is_open = true;
         Ok(())
     }
 
     /// Makes a step. A frame that arrives goes up, through the bridge and down again in this step.
     pub fn step(&mut self, step: Step<'_>) -> Result<(), WorldFault>
-        requires { CanStep self.old step }
-        ensures ok { OnOk result (IsAfter self.old self.new step.entry) }
+        requires { CanStep (state_of self.old) step }
+        ensures ok { OnOk result (IsAfter (state_of self.old) (state_of self.new) step.entry) }
         ensures appends { OnOk result (take (length self.old.left) self.new.left ≡ self.old.left) }
-        ensures copies { OnOk result (All (IsCopyIn self.old step.entry) (drop (length self.old.left) self.new.left)) }
-        ensures stands { OnOk result ((i : Basis) (given : List Arrival) (h : History) (left : ℕ → List Sent) → Stands i self.old given h left
-            → Stands i self.new (given ++ given_by step.entry) (event_of self.old step.entry ∷ h) (λ q. left q ++ sent_in self.old step.entry q)) }
+        ensures copies { OnOk result (All (IsCopyIn (state_of self.old) step.entry) (drop (length self.old.left) self.new.left)) }
+        ensures stands { OnOk result ((i : Basis) (given : List Arrival) (h : History) (left : ℕ → List Sent) → Stands i (state_of self.old) given h left
+            → Stands i (state_of self.new) (given ++ given_by step.entry) (event_of (state_of self.old) step.entry ∷ h)
+            (λ q. left q ++ sent_in (state_of self.old) step.entry q)) }
         ensures failed { (result ≡ Err WorldFault.Failed) ↔ (self.old.failed ≡ true) }
         ensures memory { OnErr result (self.new.failed ≡ true) }
     {
@@ -190,26 +177,30 @@ impl World {
         }
     }
 
-    fn arrive(&mut self, record: &Recorded<'_>) -> Result<(), WorldFault>
-        requires port { is_port_of self.old.number self.old.ports record.now.port ≡ true }
-        requires plain { kind_of record.now.bytes.now ≡ Seen.Plain }
-        ensures ok { OnOk result (IsAfterArrival self.old self.new (arrival_of record.now)) }
+    fn arrive(&mut self, recorded: &Recorded<'_>) -> Result<(), WorldFault>
+        requires { is_external self.old.shape recorded.now.port ≡ true }
+        ensures ok { OnOk result (IsAfterEvent (state_of self.old) (state_of self.new) (arrival_event (state_of self.old).bridge (arrival_of recorded.now))) }
         ensures appends { OnOk result (take (length self.old.left) self.new.left ≡ self.old.left) }
-        ensures copies { OnOk result (All (IsCopyOf self.old (arrival_of record.now)) (drop (length self.old.left) self.new.left)) }
+        ensures copies { OnOk result (All (IsCopyOf (state_of self.old) (arrival_of recorded.now)) (drop (length self.old.left) self.new.left)) }
         ensures failed { (result ≡ Err WorldFault.Failed) ↔ (self.old.failed ≡ true) }
         ensures memory { OnErr result (self.new.failed ≡ true) }
     {
         if self.failed {
             return Err(WorldFault::Failed);
         }
+        are_bytes(recorded.bytes);
+        tag_round_trip();
+        spaces_number();
+        sends_are_words();
+        sends_leave_as_flat();
         let arrived = arrive(
             self.alloc,
-            self.device.number,
-            &self.device.extender,
+            &self.bridge,
+            &self.extender,
+            &mut self.learned,
             &mut self.buffers,
-            record,
-            &mut self.log.events,
-            &mut self.log.left,
+            recorded,
+            &mut self.log,
         );
         if arrived.is_err() {
             self.failed = true;
@@ -218,12 +209,11 @@ impl World {
         Ok(())
     }
 
+    #[tactic(auto, unfolding(exb_learn::specs::Entries::table_of))]
     fn tick(&mut self, seconds: u32) -> Result<(), WorldFault>
-        requires { self.old.clock + seconds < 2 ^ 63 }
-        ensures ok { OnOk result (self.new ≡ record self.old {
-          clock = self.old.clock + seconds;
-          events = self.old.events ++ Event.Tick seconds ∷ [];
-        }) }
+        requires { (state_of self.old).table.clock + seconds < 2 ^ 63 }
+        ensures ok { OnOk result (IsAfterEvent (state_of self.old) (state_of self.new) (Event.Tick seconds)) }
+        ensures left { self.new.left ≡ self.old.left }
         ensures failed { (result ≡ Err WorldFault.Failed) ↔ (self.old.failed ≡ true) }
         ensures memory { OnErr result (self.new.failed ≡ true) }
     {
@@ -234,12 +224,13 @@ impl World {
             self.failed = true;
             return Err(WorldFault::Memory);
         }
-        self.log.clock += u64::from(seconds);
+        self.learned.tick(seconds);
         Ok(())
     }
 
     fn mark(&mut self) -> Result<(), WorldFault>
-        ensures ok { OnOk result (self.new ≡ record self.old { events = self.old.events ++ Event.Settled ∷ [] }) }
+        ensures ok { OnOk result (IsAfterEvent (state_of self.old) (state_of self.new) Event.Settled) }
+        ensures left { self.new.left ≡ self.old.left }
         ensures failed { (result ≡ Err WorldFault.Failed) ↔ (self.old.failed ≡ true) }
         ensures memory { OnErr result (self.new.failed ≡ true) }
     {

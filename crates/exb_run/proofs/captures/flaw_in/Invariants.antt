@@ -5,7 +5,7 @@ use Rattle.exb_run.proofs.FlawLemmas.{flaw_left}
 use Rattle.exb_run.proofs.captures.flaw_in.Given as goal
 
 abbrev pub invariant-records : goal.invariant-records
-invariant-records l = flaw_left l.port l.plain l.reader.fault l.reader.records ≡ flaw_in l.port (pcap_records l.file)
+invariant-records l = flaw_left l.port l.reader.fault ≡ flaw_in l.port (pcap_records l.file)
 
 abbrev pub decreases-records : goal.decreases-records
 decreases-records l = length l.reader.records

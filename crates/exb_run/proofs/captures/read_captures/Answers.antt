@@ -1,8 +1,9 @@
 use Rattle.std.proofs.Common.{rules, ◌≡◌, ◌+◌, ◌++◌, ◌∷◌, [], ◌∙◌, inl, inr, ℕ, List, Some, None, true, length, sum_by, ap, sym, arith, below_more, refl}
+use Rattle.std.specs.Prelude.{IsOk}
 use Rattle.std.proofs.lemmas.List.Sums.{sum_by_push}
 use Rattle.exb_pcap.specs.Captures.{pcap_records}
 use Rattle.exb_run.specs.declared.captures.Capture.{Capture}
-use Rattle.exb_run.specs.Inputs.{IsPlayable, name_of, is_named}
+use Rattle.exb_run.specs.Inputs.{name_of, is_named}
 use Rattle.exb_run.specs.Flaws.{flaw_of, flaw_of_bytes, size_below}
 use Rattle.exb_run.proofs.FlawLemmas.{IsGood, no_flaw, flaw_nowhere, size_nowhere, flaw_here, size_here, bytes_here, contents_none, contents_same, contents_more, is_named_by, all_more}
 use Rattle.exb_run.proofs.captures.read_captures.Goals as goal
@@ -16,7 +17,7 @@ reading-init g c =
       total = λ t. refl;
       room = omega arith;
       named = search (rules, empty);
-      playable = search (rules, empty);
+      whole = search (rules, empty);
       all = search (rules, empty);
       files = λ n. refl;
       faults = search rules;
@@ -36,7 +37,7 @@ reading-preserved-in_default g c =
       total = λ t. size_nowhere names f (S.file c.reading.shelf) inv.files p c.reading.size none (inv.total t);
       room = inv.room;
       named = inv.named;
-      playable = inv.playable;
+      whole = inv.whole;
       all = inv.all;
       files = inv.files;
       faults = inv.faults;
@@ -92,7 +93,7 @@ reading-preserved g c =
       total = λ t. ap (λ (n : ℕ). c.reading.size + n) more ∙ total t;
       room = search (arith, fine.room, more);
       named = all_more (λ (x : Capture). is_named names x.port ≡ true) _ _ capture pushed inv.named (is_named_by names capture.port name (ap (name_of names) port ∙ named));
-      playable = all_more (λ (x : Capture). IsPlayable (pcap_records x.file.items)) _ _ capture pushed inv.playable fine.playable;
+      whole = all_more (λ (x : Capture). IsOk (pcap_records x.file.items)) _ _ capture pushed inv.whole fine.whole;
       all = ap (λ (xs : List Capture). sum_by (λ x. length x.file.items) xs) pushed ∙ sum_by_push (λ x. length x.file.items) c.reading.captures.items capture
           ∙ ap (λ (n : ℕ). n + length bytes) inv.all ∙ ap (λ (n : ℕ). c.reading.size + n) (sym more);
       files = λ m. c.in-Ok.ensures.files m ∙ inv.files m;

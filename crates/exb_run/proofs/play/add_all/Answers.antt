@@ -1,8 +1,9 @@
 use Rattle.std.proofs.Common.{rules, ◌<◌, ◌++◌, ◌∷◌, [], List, length, map, take, ap, sym, subst, ◌∙◌, arith}
+use Rattle.std.specs.Prelude.{IsOk}
 use Rattle.exb_merge.specs.Streams.{Stream, stream_of}
 use Rattle.exb_pcap.specs.Captures.{pcap_records}
 use Rattle.exb_run.specs.declared.captures.Capture.{Capture}
-use Rattle.exb_run.specs.Inputs.{IsPlayable, records_or_none}
+use Rattle.exb_run.specs.Inputs.{records_or_none}
 use Rattle.exb_run.specs.Playing.{stream_in}
 use Rattle.exb_run.proofs.Coming.{added, streams_more, size_more}
 use Rattle.exb_run.proofs.Turned.{when_ok}
@@ -16,9 +17,9 @@ adding-preserved c =
     let ok = sym c.is_err.ensures.value ∙ c.if-is_err.false in
     let low : at < length captures = omega arith in
     let bytes = c.as_slice.ensures.value in
-    let own : IsPlayable (pcap_records capture.file.items) = search (rules, c.requires.playable) in
-    let playable = subst (λ bs. IsPlayable (pcap_records bs)) (sym bytes) own in
-    let more = added c.add.result (pcap_records c.as_slice.result.now) capture.port c.adding.sources c.add.new.self playable c.add.ensures.ok ok in
+    let own : IsOk (pcap_records capture.file.items) = search (rules, c.requires.whole) in
+    let whole = subst (λ bs. IsOk (pcap_records bs)) (sym bytes) own in
+    let more = added c.add.result (pcap_records c.as_slice.result.now) capture.port c.adding.sources c.add.new.self whole c.add.ensures.ok ok in
     record {
       streams =
           more

@@ -4,9 +4,9 @@ use Rattle.exb_model.specs.Input.{basis_of, tree_of, bounds_of}
 use Rattle.exb_model.specs.EagerHistory.{opening}
 use Rattle.exb_model.specs.Texts.{Counts, with_left}
 use Rattle.exb_text.specs.Tallies.{counts_of, nothing_counted}
-use Rattle.exb_world.specs.Worlds.{State, Stands}
-use Rattle.exb_run.specs.Plans.{IsOf}
-use Rattle.exb_run.specs.Playing.{IsUnderWay, IsCounted, played, text_after, opened_of}
+use Rattle.exb_world.specs.Worlds.{Parts, State, Stands, state_of}
+use Rattle.exb_run.specs.Plans.{port_count}
+use Rattle.exb_run.specs.Playing.{IsOf, IsUnderWay, IsCounted, played, text_after, begun_of}
 use Rattle.exb_run.specs.Writing.{HasTexts, first_text, pieces_of, lines_of, with_more, with_left_frames}
 use Rattle.exb_run.proofs.Counting.{count_events}
 use Rattle.exb_run.proofs.Opened.{opening_counts, nothing_is_counted, first_texts, opening_text, opening_under_way}
@@ -18,9 +18,9 @@ returns-in-Ok-note-clause-counted g c =
     let none : counts_of c.note.new.self.tally ≡ with_left 0 nothing_counted =
     c.in-Ok-note.ensures.counts
     ∙ ap (λ (w : State). with_left (length w.left) (count_events (counts_of c.new.result) w.events)) c.in-Ok.ensures.world
-    ∙ ap (λ (d : Counts). with_left 0 (count_events d (opened_of c.args.setup.now).events)) c.new.ensures
+    ∙ ap (λ (d : Counts). with_left 0 (count_events d (begun_of c.args.setup.now).events)) c.new.ensures
     ∙ opening_counts c.args.setup.now nothing_counted in
-    let clock : c.note.new.self.world.clock ≡ 0 = ap (λ (w : State). w.clock) c.in-Ok-note.ensures.cleared ∙ ap (λ (w : State). w.clock) c.in-Ok.ensures.world in
+    let clock : (state_of c.note.new.self.world).table.clock ≡ 0 = ap (λ (w : Parts). (state_of w).table.clock) c.in-Ok-note.ensures.cleared ∙ ap (λ (w : State). w.table.clock) c.in-Ok.ensures.world in
     subst (λ (n : ℕ). IsCounted (counts_of c.note.new.self.tally) n) (sym clock) (subst (λ (d : Counts). IsCounted d 0) (sym none) nothing_is_counted)
 
 pub returns-in-Ok-note-clause-played : goal.returns-in-Ok-note-clause-played
@@ -28,7 +28,7 @@ returns-in-Ok-note-clause-played g c =
     let none : counts_of c.note.new.self.tally ≡ with_left 0 nothing_counted =
     c.in-Ok-note.ensures.counts
     ∙ ap (λ (w : State). with_left (length w.left) (count_events (counts_of c.new.result) w.events)) c.in-Ok.ensures.world
-    ∙ ap (λ (d : Counts). with_left 0 (count_events d (opened_of c.args.setup.now).events)) c.new.ensures
+    ∙ ap (λ (d : Counts). with_left 0 (count_events d (begun_of c.args.setup.now).events)) c.new.ensures
     ∙ opening_counts c.args.setup.now nothing_counted in
     ap played none
 
@@ -39,23 +39,23 @@ returns-in-Ok-note-clause-written g c tells i same =
     let plan = c.args.plan.now in
     let of : IsOf plan i.setup = subst (λ (x : Setup). IsOf plan x) (sym same) c.requires.of in
     let start = opening (tree_of i) (bounds_of i) (basis_of i) in
-    let world : c.in-Ok.world ≡ opened_of i.setup = c.in-Ok.ensures.world ∙ ap opened_of (sym same) in
+    let world : state_of c.in-Ok.world ≡ begun_of i.setup = c.in-Ok.ensures.world ∙ ap begun_of (sym same) in
     let stands = subst (λ (w : State). Stands (basis_of i) w [] start (λ q. [])) world (c.in-Ok.ensures.stands i same) in
-    let cleared : c.note.new.self.world ≡ record (opened_of i.setup) { events = []; left = [] } =
-    c.in-Ok-note.ensures.cleared ∙ ap (λ (w : State). record w { events = []; left = [] }) world in
-    let counts : counts_of c.note.new.self.tally ≡ with_left 0 (count_events nothing_counted (opened_of i.setup).events) =
+    let cleared : state_of c.note.new.self.world ≡ record (begun_of i.setup) { events = []; left = [] } =
+    ap state_of c.in-Ok-note.ensures.cleared ∙ ap (λ (w : State). record w { events = []; left = [] }) world in
+    let counts : counts_of c.note.new.self.tally ≡ with_left 0 (count_events nothing_counted (begun_of i.setup).events) =
     c.in-Ok-note.ensures.counts
     ∙ ap (λ (w : State). with_left (length w.left) (count_events (counts_of c.new.result) w.events)) world
-    ∙ ap (λ (d : Counts). with_left 0 (count_events d (opened_of i.setup).events)) c.new.ensures in
-    let under_way = opening_under_way i plan c.requires.plan of c.opening_raises.ensures c.externals_of_first.ensures stands in
+    ∙ ap (λ (d : Counts). with_left 0 (count_events d (begun_of i.setup).events)) c.new.ensures in
+    let under_way = opening_under_way i plan of c.opening_raises.ensures stands in
     let begun = same_texts plan (pieces_of c.in-Ok-create_all.outputs) (S.file c.args.shelf.now) (S.file c.create_all.new.shelf) (first_text plan) (text_after i plan [])
     (λ j low. first_texts i plan j) (c.in-Ok-create_all.ensures.texts tells) in
     let noted = c.in-Ok-note.ensures.texts tells (S.file c.args.shelf.now) (text_after i plan []) begun in
     let noted' = subst (λ (w : State). HasTexts plan (pieces_of c.note.new.self.outputs) (S.file c.args.shelf.now) (S.file c.note.new.shelf)
-    (with_left_frames plan (with_more (text_after i plan []) plan.ports (lines_of w.events)) w.left)) world noted in
+    (with_left_frames plan (with_more (text_after i plan []) (port_count plan) (lines_of w.events)) w.left)) world noted in
     record {
       under_way = subst (λ (w : State). IsUnderWay i start w (counts_of c.note.new.self.tally)) (sym cleared)
-          (subst (λ (d : Counts). IsUnderWay i start (record (opened_of i.setup) { events = []; left = [] }) d) (sym counts) under_way);
+          (subst (λ (d : Counts). IsUnderWay i start (record (begun_of i.setup) { events = []; left = [] }) d) (sym counts) under_way);
       texts = same_texts plan (pieces_of c.note.new.self.outputs) (S.file c.args.shelf.now) (S.file c.note.new.shelf) _ (text_after i plan start)
-          (opening_text i plan c.requires.plan of c.opening_raises.ensures c.externals_of_first.ensures stands) noted';
+          (opening_text i plan of c.opening_raises.ensures stands) noted';
     }

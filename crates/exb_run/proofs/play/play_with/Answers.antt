@@ -1,16 +1,13 @@
-use Rattle.std.proofs.Common.{◌≡◌, None, ℕ, List, ap, sym, subst, ◌∙◌}
+use Rattle.std.proofs.Common.{◌≡◌, None, List, ap, sym, subst, ◌∙◌}
 use Rattle.exb_model.specs.History.{History}
 use Rattle.exb_model.specs.Input.{Coming, basis_of, tree_of, bounds_of, merge}
 use Rattle.exb_model.specs.declared.setup.Setup.{Setup}
 use Rattle.exb_model.specs.EagerHistory.{opening, eagerly, eager}
-use Rattle.exb_model.specs.Tree.{is_external}
 use Rattle.exb_model.specs.Texts.{summary_line}
 use Rattle.exb_merge.specs.Streams.{Stream, to_come}
 use Rattle.exb_text.specs.Tallies.{counts_of}
-use Rattle.exb_world.specs.Setups.{is_port_of}
-use Rattle.exb_world.specs.Worlds.{first_ports}
-use Rattle.exb_run.specs.Plans.{IsOf}
-use Rattle.exb_run.specs.Playing.{CanCome, IsWritten, segments_after, text_after}
+use Rattle.exb_world.specs.Worlds.{state_of}
+use Rattle.exb_run.specs.Playing.{IsOf, CanCome, IsWritten, segments_after, text_after}
 use Rattle.exb_run.proofs.Coming.{all_come, if_ok_both}
 use Rattle.exb_run.proofs.Segmenting.{eager_is}
 use Rattle.exb_run.proofs.Turned.{when_ok}
@@ -19,8 +16,8 @@ use Rattle.exb_run.proofs.play.play_with.Goals as goal
 pub play_all-requires-clause-comes : goal.play_all-requires-clause-comes
 play_all-requires-clause-comes g c =
     let ok = sym c.is_err.ensures.value ∙ c.if-is_err.false in
-    subst (λ (xs : List Stream). CanCome c.args.plan.now (to_come xs)) (sym (when_ok _ ok c.add_all.ensures.streams))
-    (all_come c.args.plan.now c.args.captures.now c.requires.can)
+    subst (λ (xs : List Stream). CanCome c.args.plan.now.tree (to_come xs)) (sym (when_ok _ ok c.add_all.ensures.streams))
+    (all_come c.args.plan.now.tree c.args.captures.now c.requires.can)
 
 pub returns-in-Ok-play_all-clause-done : goal.returns-in-Ok-play_all-clause-done
 returns-in-Ok-play_all-clause-done g c tells =
@@ -31,13 +28,10 @@ returns-in-Ok-play_all-clause-done g c tells =
     let of : IsOf plan i.setup = subst (λ (x : Setup). IsOf plan x) (sym same) c.requires.of in
     let start = opening (tree_of i) (bounds_of i) (basis_of i) in
     let row : to_come c.add_all.new.sources ≡ merge i = ap (λ (xs : List Stream). to_come xs) (when_ok _ ok c.add_all.ensures.streams) ∙ merged in
-    let external : (q : ℕ) → is_external (tree_of i) q ≡ is_port_of plan.number plan.ports q = λ q.
-    c.externals_of_first.ensures i of.first q
-    ∙ ap (λ (n : ℕ). is_port_of n (first_ports i.setup.extenders) q) of.number ∙ ap (λ (n : ℕ). is_port_of plan.number n q) of.ports in
-    let gone = c.in-Ok-play_all.ensures.goes_on tells i start (S.file c.args.shelf.now) external (c.in-Ok.ensures.written tells i same) in
+    let gone = c.in-Ok-play_all.ensures.goes_on tells i start (S.file c.args.shelf.now) of.tree (c.in-Ok.ensures.written tells i same) in
     let whole : eagerly (tree_of i) (bounds_of i) (basis_of i) start (segments_after None (to_come c.add_all.new.sources)) ≡ eager i =
     ap (λ (xs : List Coming). eagerly (tree_of i) (bounds_of i) (basis_of i) start (segments_after None xs)) row ∙ sym (eager_is i) in
-    let written = subst (λ (h : History). IsWritten i h plan (S.file c.args.shelf.now) (S.file c.play_all.new.shelf) c.play_all.new.self.world (counts_of c.play_all.new.self.tally) c.play_all.new.self.outputs) whole gone in
+    let written = subst (λ (h : History). IsWritten i h plan (S.file c.args.shelf.now) (S.file c.play_all.new.shelf) (state_of c.play_all.new.self.world) (counts_of c.play_all.new.self.tally) c.play_all.new.self.outputs) whole gone in
     record {
       outputs = texts (S.file c.args.shelf.now) (text_after i plan (eager i)) written.texts;
       says = says ∙ ap summary_line written.under_way.counted;

@@ -1,12 +1,10 @@
-use Rattle.std.proofs.Common.{◌≡◌, ℕ, List, true, All, map, refl, ap, sym, subst, ◌∙◌}
+use Rattle.std.proofs.Common.{◌≡◌, List, true, All, map, refl, ap, sym, subst, ◌∙◌}
 use Rattle.std.specs.Prelude.{string_bytes}
 use Rattle.exb_model.specs.Ports.{all_ports}
-use Rattle.exb_model.specs.Input.{Input, tree_of, merge}
+use Rattle.exb_model.specs.Input.{Input, merge}
 use Rattle.exb_model.specs.Setup.{shape_of}
-use Rattle.exb_model.specs.Tree.{is_external}
+use Rattle.exb_model.specs.Tree.{Shape, is_external}
 use Rattle.exb_merge.specs.Streams.{to_come}
-use Rattle.exb_world.specs.Setups.{is_port_of}
-use Rattle.exb_world.specs.Worlds.{first_ports}
 use Rattle.exb_shelf.specs.Files.{Files}
 use Rattle.exb_tables.specs.declared.rows.Named.{Named}
 use Rattle.exb_run.specs.declared.captures.Capture.{Capture}
@@ -14,34 +12,34 @@ use Rattle.exb_run.specs.Inputs.{input_of, captures_of}
 use Rattle.exb_run.specs.Outputs.{HasPlayed, OnlyPlanned}
 use Rattle.exb_run.specs.Playing.{CanBePlayed, stream_in}
 use Rattle.exb_run.specs.Reading.{contents}
+use Rattle.exb_run.proofs.BuiltLemmas.{is_single}
 use Rattle.exb_run.proofs.Running.{files_same, only_by, played_by, can_be_played, if_ok_map}
 use Rattle.exb_run.proofs.Taking.{comes_merged}
 use Rattle.exb_run.proofs.top.run_topology.Goals as goal
 
+pub play-requires-clause-of : goal.play-requires-clause-of
+play-requires-clause-of g c = record {
+  single = is_single c.args.topology.now c.requires.valid c.requires.built;
+  tree = c.in-Ok-new.ensures.tree;
+}
+
 pub play-requires-clause-can : goal.play-requires-clause-can
 play-requires-clause-can g c =
     let t = c.args.topology.now in
-    let plan = c.in-Ok-plan_of.plan in
-    let of = c.in-Ok-plan_of.ensures.of in
-    let i : Input = input_of t (g.S.Shelf.file c.args.shelf.now) in
-    let external : (q : ℕ) → is_external (shape_of t.setup) q ≡ is_port_of plan.number plan.ports q = λ q.
-    c.externals_of_first.ensures i of.first q ∙ ap (λ (n : ℕ). is_port_of n (first_ports t.setup.extenders) q) of.number ∙ ap (λ (n : ℕ). is_port_of plan.number n q) of.ports in
     let own = subst (λ (names : List Named). All (λ x. is_external (shape_of t.setup) x.port ≡ true) names) (sym c.as_slice.ensures) c.requires.external in
-    subst (λ (cs : List Capture). All (λ x. CanBePlayed plan x) cs) (sym c.as_slice-2.ensures.value)
-    (can_be_played plan c.as_slice.result.now (is_external (shape_of t.setup)) c.in-Ok.captures.items external own c.in-Ok.ensures.named c.in-Ok.ensures.playable)
+    let all = can_be_played (shape_of t.setup) c.as_slice.result.now c.in-Ok.captures.items own c.in-Ok.ensures.named c.in-Ok.ensures.whole in
+    subst (λ (cs : List Capture). All (λ x. CanBePlayed c.in-Ok-new.plan.tree x) cs) (sym c.as_slice-2.ensures.value)
+    (subst (λ (s : Shape). All (λ x. CanBePlayed s x) c.in-Ok.captures.items) (sym c.in-Ok-new.ensures.tree) all)
 
 pub returns-clause-done : goal.returns-clause-done
 returns-clause-done g c tells =
     let S = g.S.Shelf in
     let t = c.args.topology.now in
-    let plan = c.in-Ok-plan_of.plan in
-    let of = c.in-Ok-plan_of.ensures.of in
+    let plan = c.in-Ok-new.plan in
     let before = S.file c.args.shelf.now in
     let read = S.file c.read_captures.new.shelf in
     let after = S.file c.play.new.shelf in
     let i : Input = input_of t before in
-    let external : (q : ℕ) → is_external (tree_of i) q ≡ is_port_of plan.number plan.ports q = λ q.
-    c.externals_of_first.ensures i of.first q ∙ ap (λ (n : ℕ). is_port_of n (first_ports t.setup.extenders) q) of.number ∙ ap (λ (n : ℕ). is_port_of plan.number n q) of.ports in
     let there : contents c.in-Ok.captures.items ≡ captures_of t.captures before all_ports =
     c.in-Ok.ensures.there tells ∙ ap (λ (names : List Named). captures_of names before all_ports) c.as_slice.ensures in
     let merged : to_come (map stream_in c.as_slice-2.result.now) ≡ merge i =
@@ -49,7 +47,7 @@ returns-clause-done g c tells =
     ∙ comes_merged t before c.in-Ok.captures.items c.requires.built.commands there c.merge_of_chosen.ensures in
     if_ok_map c.play.result
     (λ line played.
-    played_by i plan t.prefix c.in-Ok-plan_of.ensures.prefix external before after (string_bytes line)
+    played_by i plan t.prefix (c.in-Ok-new.ensures.prefix ∙ c.as_str.ensures) c.in-Ok-new.ensures.tree c.requires.valid.tree before after (string_bytes line)
     (subst (λ (f : Files). HasPlayed i plan f after (string_bytes line)) (files_same before read c.in-Ok.ensures.files) (played i refl merged)))
     (c.play.ensures.done tells)
 
@@ -57,13 +55,10 @@ pub returns-clause-others : goal.returns-clause-others
 returns-clause-others g c tells =
     let S = g.S.Shelf in
     let t = c.args.topology.now in
-    let plan = c.in-Ok-plan_of.plan in
-    let of = c.in-Ok-plan_of.ensures.of in
+    let plan = c.in-Ok-new.plan in
     let before = S.file c.args.shelf.now in
     let read = S.file c.read_captures.new.shelf in
     let after = S.file c.play.new.shelf in
     let i : Input = input_of t before in
-    let external : (q : ℕ) → is_external (tree_of i) q ≡ is_port_of plan.number plan.ports q = λ q.
-    c.externals_of_first.ensures i of.first q ∙ ap (λ (n : ℕ). is_port_of n (first_ports t.setup.extenders) q) of.number ∙ ap (λ (n : ℕ). is_port_of plan.number n q) of.ports in
-    only_by i plan t.prefix c.in-Ok-plan_of.ensures.prefix external before after
+    only_by i plan t.prefix (c.in-Ok-new.ensures.prefix ∙ c.as_str.ensures) c.in-Ok-new.ensures.tree before after
     (subst (λ (f : Files). OnlyPlanned plan f after) (files_same before read c.in-Ok.ensures.files) (c.play.ensures.others tells))

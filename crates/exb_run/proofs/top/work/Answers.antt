@@ -2,7 +2,7 @@ use Rattle.std.proofs.Common.{map}
 use Rattle.std.specs.Prelude.{string_bytes}
 use Rattle.exb_run.specs.Inputs.{IsBuilt}
 use Rattle.exb_run.specs.Answers.{Asks}
-use Rattle.exb_run.proofs.PlanLemmas.{is_true, not_true}
+use Rattle.exb_run.proofs.BuiltLemmas.{is_true, not_true}
 use Rattle.exb_run.proofs.Running.{files_same}
 use Rattle.exb_run.proofs.RunLemmas.{asked, stops_by_other, done_by, cause_by, stops_by, stopped_by, others_by}
 use Rattle.exb_run.proofs.top.work.Goals as goal

@@ -1,6 +1,8 @@
+use Rattle.std.proofs.Common.{take}
 use Rattle.exb_topology.specs.Checks.{static_ok}
+use Rattle.exb_topology.specs.Given.{Knows}
 use Rattle.exb_topology.proofs.Checking.{So}
 use Rattle.exb_topology.proofs.checks.check_statics.Given as goal
 
 abbrev pub invariant-loop-index : goal.invariant-loop-index
-invariant-loop-index l = So (static_ok l.ports) l.statics l.index
+invariant-loop-index l = So (static_ok l.ports) l.statics l.index × Knows l.given (take l.index l.statics)

@@ -1,4 +1,4 @@
-use Rattle.std.proofs.Common.{◌≡◌, ◌==◌, drop}
+use Rattle.std.proofs.Common.{◌≡◌, drop}
 use Rattle.std.specs.List.{list_any}
 use Rattle.exb_topology.specs.Checks.{overlap}
 use Rattle.exb_topology.proofs.checks.overlaps.Given as goal

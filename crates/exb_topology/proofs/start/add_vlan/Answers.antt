@@ -1,10 +1,10 @@
-use Rattle.std.proofs.Common.{◌≡◌, ◌++◌, ◌∷◌, [], ◌+◌, ◌<◌, ◌≤◌, ◌∙◌, ℕ, sym, ap, map, arith}
+use Rattle.std.proofs.Common.{◌≡◌, ◌++◌, ◌∷◌, [], ◌+◌, ◌<◌, ◌∙◌, ℕ, ap, map, arith}
 use Rattle.std.proofs.lemmas.List.{map_push}
 use Rattle.exb_model.specs.declared.command.Command.TheVariants as command
 use Rattle.exb_model.specs.Ports.{port_in}
 use Rattle.exb_topology.specs.Checks.{listed}
 use Rattle.exb_topology.specs.Seen.{Seen, seen, set_vlan}
-use Rattle.exb_topology.proofs.Building.{range_goes_on, range_done, same_vlan}
+use Rattle.exb_topology.proofs.Building.{range_goes_on, same_vlan}
 use Rattle.exb_topology.proofs.start.add_vlan.Goals as goal
 
 pub loop-number-preserved : goal.loop-number-preserved

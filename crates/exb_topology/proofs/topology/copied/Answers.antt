@@ -1,4 +1,4 @@
-use Rattle.std.proofs.Common.{◌≡◌, ◌∙◌, ◌++◌, ◌∷◌, [], sym, ap, get_or, List}
+use Rattle.std.proofs.Common.{◌∙◌, ◌++◌, ◌∷◌, [], sym, ap, get_or, List}
 use Rattle.std.proofs.lemmas.List.{take_more}
 use Rattle.exb_model.specs.declared.setup.ExtenderSetup.{ExtenderSetup}
 use Rattle.exb_model.specs.declared.setup.Place.TheVariants as place

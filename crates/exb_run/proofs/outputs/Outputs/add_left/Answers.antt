@@ -1,9 +1,17 @@
-use Rattle.std.proofs.Common.{◌≡◌, ◌-◌, ◌*◌, ◌++◌, ℕ, List, ap, sym, ◌∙◌, length}
+use Rattle.std.proofs.Common.{◌≡◌, ◌++◌, ℕ, List, ap, sym, ◌∙◌, length, arith}
 use Rattle.std.proofs.lemmas.Result.{on_ok_weaker}
 use Rattle.exb_model.specs.Texts.{record_text}
+use Rattle.exb_run.specs.Plans.{place_in}
 use Rattle.exb_run.specs.Writing.{pieces_of}
 use Rattle.exb_run.proofs.OutputLemmas.{more_spelled}
+use Rattle.exb_run.proofs.Places.{place_low}
 use Rattle.exb_run.proofs.outputs.Outputs.add_left.Goals as goal
+
+pub add_to-requires-clause-within : goal.add_to-requires-clause-within
+add_to-requires-clause-within g c =
+    let can = c.requires.frame in
+    let low = place_low c.args.plan.now c.args.left.now.port can.low can.port in
+    omega (arith, c.place-at.ensures, low)
 
 pub returns-clause-texts : goal.returns-clause-texts
 returns-clause-texts g c = λ t.
@@ -15,6 +23,6 @@ returns-clause-texts g c = λ t.
     in
     on_ok_weaker c.add_to.result
     (λ added orig text p.
-    more_spelled c.args.plan.now orig (S.file c.add_to.new.shelf) (pieces_of c.add_to.new.self) text (c.number.result - 64 * c.args.plan.now.number) (left.port - 64 * c.args.plan.now.number) _ _
-    (ap (λ (n : ℕ). n - 64 * c.args.plan.now.number) c.number.ensures.value) written (added orig text p))
+    more_spelled c.args.plan.now orig (S.file c.add_to.new.shelf) (pieces_of c.add_to.new.self) text c.place-at.result (place_in c.args.plan.now.tree left.port) _ _
+    c.place-at.ensures written (added orig text p))
     (c.add_to.ensures.texts t)

@@ -1,4 +1,5 @@
 use Rattle.std.proofs.Common.{rules, ◌≡◌, ◌<◌, ◌+◌, ◌∙◌, length, arith}
+use Rattle.exb_run.specs.Plans.{port_count}
 use Rattle.exb_run.specs.Outputs.{output_name}
 use Rattle.exb_run.specs.Writing.{pieces_of}
 use Rattle.exb_run.proofs.OutputLemmas.{name_of_id, is_flushed, more_empty, all_written}
@@ -11,7 +12,7 @@ loop-at-preserved g c =
     let given = S.ids c.loop-at.shelf in
     let ids = c.loop-at.self.ids.items in
     let pieces = c.loop-at.self.pieces.items in
-    let lt : c.loop-at.at < c.args.plan.now.ports + 1 = omega arith in
+    let lt : c.loop-at.at < port_count c.args.plan.now + 1 = omega arith in
     let in_ids : c.loop-at.at < length ids = omega arith in
     let in_pieces : c.loop-at.at < length pieces = omega arith in
     let named : (given c.index.result.now).name ≡ output_name c.args.plan.now c.loop-at.at =
@@ -22,7 +23,7 @@ loop-at-preserved g c =
       empty = more_empty (λ v. v.items) pieces c.loop-at.at c.flush.new.piece in_pieces c.in_ok-flush.ensures.empty before.empty;
       texts = λ t orig text p.
           is_flushed (λ v. v.items) c.args.plan.now orig (S.file c.loop-at.shelf) (S.file c.flush.new.shelf) pieces text c.loop-at.at c.index_mut.result.now
-          c.flush.new.piece _ (c.output_names_differ.ensures c.args.plan.now c.requires.plan) lt before.ready.pieces c.index_mut.ensures.value named
+          c.flush.new.piece _ (c.output_names_differ.ensures c.args.plan.now) lt before.ready.pieces c.index_mut.ensures.value named
           (before.texts t orig text p) (c.in_ok-flush.ensures.written t) c.in_ok-flush.ensures.empty;
       others = λ t m away. c.in_ok-flush.ensures.others t m (λ e. away c.loop-at.at lt (e ∙ named)) ∙ before.others t m away;
       faults = search (arith, c.in_ok-flush.ensures.faults, before.faults);

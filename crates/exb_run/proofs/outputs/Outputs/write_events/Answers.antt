@@ -1,4 +1,5 @@
 use Rattle.std.proofs.Common.{rules, ◌<◌, ◌∙◌, take, length, refl, arith}
+use Rattle.exb_run.specs.Plans.{port_count}
 use Rattle.exb_run.specs.Writing.{pieces_of, with_more, lines_of}
 use Rattle.exb_run.proofs.OutputLemmas.{no_lines, more_lines}
 use Rattle.exb_run.proofs.outputs.Outputs.write_events.Goals as goal
@@ -24,7 +25,7 @@ loop-event-preserved g c =
       texts = λ t orig text p.
           more_lines c.args.plan.now orig (g.S.Shelf.file c.add_event.new.shelf) (pieces_of c.add_event.new.self) text events c.loop-event.event-index c.event-item.result
           inside c.event-item.is
-          (added.texts t orig (with_more text c.args.plan.now.ports (lines_of (take c.loop-event.event-index events))) (before.texts t orig text p));
+          (added.texts t orig (with_more text (port_count c.args.plan.now) (lines_of (take c.loop-event.event-index events))) (before.texts t orig text p));
       others = λ t m away. added.others t m away ∙ before.others t m away;
       faults = search (arith, added.faults, before.faults);
     }

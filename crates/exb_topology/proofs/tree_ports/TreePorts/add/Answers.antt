@@ -1,4 +1,4 @@
-use Rattle.std.proofs.Common.{◌≡◌, ◌∙◌, sym, ap}
+use Rattle.std.proofs.Common.{◌≡◌, ◌∙◌, ap}
 use Rattle.exb_model.specs.Ports.{port_in}
 use Rattle.exb_model.specs.Tree.{Shape, is_external}
 use Rattle.exb_topology.proofs.Sets.{whole_past}

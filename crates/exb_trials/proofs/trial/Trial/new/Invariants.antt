@@ -3,4 +3,4 @@ use Rattle.exb_trials.proofs.trial.Trial.new.Given as goal
 
 -- one capture for each port so far
 abbrev pub invariant-loop-port : goal.invariant-loop-port
-invariant-loop-port l = length l.captures.items ≡ l.port
+invariant-loop-port l = length l.captures.items ≡ l.port-index

@@ -1,26 +1,27 @@
-use Rattle.std.proofs.Common.{arith, sym, refl, ◌∙◌}
+use Rattle.std.proofs.Common.{ℕ, List, length, ap, arith}
+use Rattle.arrayvec.specs.ArrayVec.{array_vec_len}
 use Rattle.exb_frame.specs.TagValues.{tag_of}
-use Rattle.exb_world.specs.Tables.{goes_out}
+use Rattle.exb_world.specs.Tables.{sends_out}
 use Rattle.exb_world.specs.Extenders.{tables_of}
-use Rattle.exb_world.proofs.Filters.{filter_below-in, filter_below-out, filter_below-start}
+use Rattle.exb_world.proofs.Replicating.{lowest, cleared_lower, begins, goes_on, ends}
 use Rattle.exb_world.proofs.extender.Extender.replicate.Goals as goal
-use Rattle.exb_world.proofs.extender.Extender.replicate.Goals.{then-sends_out, else-sends_out}
 
-pub loop-port-init : goal.loop-port-init
-loop-port-init c =
-    let p = goes_out (tables_of c.args.self.now) (tag_of c.args.tag.now) in
-    (rw c.clear.ensures (omega arith), rw (c.clear.ensures, filter_below-start p) refl)
+pub ports-init : goal.ports-init
+ports-init c =
+    begins c.args.self.now.own c.args.self.now.rows (tag_of c.args.tag.now) c.row-left.result (array_vec_len c.clear.new.self) c.clear.new.self.items c.clear.ensures
+    (ap (λ (xs : List ℕ). length xs) c.clear.ensures) c.row-left.ensures
 
-pub loop-port-preserved : goal.loop-port-preserved
-loop-port-preserved c =
-    let p = goes_out (tables_of c.args.self.now) (tag_of c.args.tag.now) in
-    elim c.if-sends_out.branch [
-      | then-sends_out w ↦ (
-        rw w.out-is (omega (arith, c.loop-port.invariant.0, w.push.ensures.len)),
-        rw (w.out-is, w.push.ensures.items, filter_below-in p c.loop-port.port (sym c.sends_out.ensures ∙ w.if-sends_out.true), c.loop-port.invariant.1) refl,
-      )
-      | else-sends_out w ↦ (
-        rw w.out-is (omega (arith, c.loop-port.invariant.0)),
-        rw (w.out-is, filter_below-out p c.loop-port.port (sym c.sends_out.ensures ∙ w.if-sends_out.false)) c.loop-port.invariant.1,
-      )
-    ]
+pub put_port-requires-clause-room : goal.put_port-requires-clause-room
+put_port-requires-clause-room c =
+    let low = lowest c.ports.left c.ports-test.true (omega (arith, c.ports.auto.left-fits)) in c.ports.invariant.room _ low.few low.bit
+
+pub ports-smaller : goal.ports-smaller
+ports-smaller c = let low = lowest c.ports.left c.ports-test.true (omega (arith, c.ports.auto.left-fits)) in cleared_lower c.ports.left _ low
+
+pub ports-preserved : goal.ports-preserved
+ports-preserved c =
+    let low = lowest c.ports.left c.ports-test.true (omega (arith, c.ports.auto.left-fits)) in
+    goes_on (sends_out (tables_of c.args.self.now) (tag_of c.args.tag.now)) c.ports.left _ _ _ c.ports.out.items _ _ low c.ports.invariant c.put_port.ensures.items c.put_port.ensures.few
+
+pub returns : goal.returns
+returns c = ends (sends_out (tables_of c.args.self.now) (tag_of c.args.tag.now)) c.ports.left _ c.ports.out.items _ c.ports-test.false c.ports.invariant

@@ -1,33 +1,31 @@
-use Rattle.std.proofs.Common.{◌≡◌, true, All, drop, length, sym, subst, refl, ◌∙◌}
-use Rattle.exb_world.specs.Insides.{state_of, arrival_of}
-use Rattle.exb_world.specs.Extenders.{tables_of}
-use Rattle.exb_world.specs.Setups.{is_port_of}
-use Rattle.exb_world.specs.Worlds.{State, IsAfterArrival, IsCopyOf}
-use Rattle.exb_world.proofs.Plain.{plain_long, plain_short}
-use Rattle.exb_world.proofs.Standing.{when_ok, after_arrival, copies_are}
+use Rattle.std.proofs.Common.{◌≡◌, true, All, drop, length, sym, subst, ◌∙◌}
+use Rattle.exb_model.specs.EagerHistory.{arrival_event}
+use Rattle.exb_relay.specs.Spaces.{numbers_of}
+use Rattle.exb_world.specs.Insides.{parts_of, arrival_of}
+use Rattle.exb_world.specs.Worlds.{Parts, IsAfterEvent, IsCopyOf, state_of}
+use Rattle.exb_world.proofs.Standing.{when_ok}
+use Rattle.exb_world.proofs.Arriving.{after_arrival, copies_are}
 use Rattle.exb_world.proofs.world.World.arrive.Goals as goal
-
-pub arrive-arrived-requires-clause-long : goal.arrive-arrived-requires-clause-long
-arrive-arrived-requires-clause-long c = plain_long c.args.record.now.bytes.now c.requires.plain
-
-pub arrive-arrived-requires-clause-fits : goal.arrive-arrived-requires-clause-fits
-arrive-arrived-requires-clause-fits c = plain_short c.args.record.now.bytes.now c.requires.plain
 
 pub returns-clause-ok : goal.returns-clause-ok
 returns-clause-ok c =
-    let a = arrival_of c.args.record.now in
-    let inside = record (state_of c.self.inside.device c.self.inside.log) { failed = c.self.inside.failed } in
-    let new : State = record inside { events = c.arrive-arrived.new.events; left = c.arrive-arrived.new.left } in
-    let port = subst (λ (s : State). is_port_of s.number s.ports a.port ≡ true) (sym c.self.view_is) c.requires.port in
-    subst (λ (s : State). IsAfterArrival s new a) c.self.view_is
-    (after_arrival inside new a c.self.invariant.number c.self.invariant.few port c.requires.plain (tables_of c.self.inside.device.extender) c.self.invariant.laid refl
-    (when_ok _ (sym c.is_err.ensures.value ∙ c.if-is_err.false) c.arrive-arrived.ensures.events) (when_ok _ (sym c.is_err.ensures.value ∙ c.if-is_err.false) c.arrive-arrived.ensures.left))
+    let a = arrival_of c.args.recorded.now in
+    let w = c.self.inside in
+    let now = c.arrive-arrived.new in
+    let fine = sym c.is_err.ensures.value ∙ c.if-is_err.false in
+    let live = (c.self.invariant c.if-self.false).live in
+    subst (λ (p : Parts). IsAfterEvent (state_of p) (state_of (parts_of w.bridge now.learned now.log w.is_open w.failed)) (arrival_event (state_of p).bridge a)) c.self.view_is
+    (after_arrival w.bridge w.extender live w.learned now.learned w.log now.log w.is_open w.failed a c.are_bytes.ensures (c.spaces_number.ensures w.bridge.spaces)
+    c.tag_round_trip.ensures c.sends_are_words.ensures c.sends_leave_as_flat.ensures
+    (when_ok _ fine c.arrive-arrived.ensures.events) (when_ok _ fine c.arrive-arrived.ensures.table) (when_ok _ fine c.arrive-arrived.ensures.left))
 
 pub returns-clause-copies : goal.returns-clause-copies
 returns-clause-copies c =
-    let a = arrival_of c.args.record.now in
-    let inside = record (state_of c.self.inside.device c.self.inside.log) { failed = c.self.inside.failed } in
-    let port = subst (λ (s : State). is_port_of s.number s.ports a.port ≡ true) (sym c.self.view_is) c.requires.port in
-    subst (λ (s : State). All (IsCopyOf s a) (drop (length s.left) c.arrive-arrived.new.left)) c.self.view_is
-    (copies_are inside c.self.invariant.few a.port a.bytes port c.requires.plain (tables_of c.self.inside.device.extender) c.self.invariant.laid c.self.invariant.number a.index a.moment
-    c.self.inside.log.left c.arrive-arrived.new.left (when_ok _ (sym c.is_err.ensures.value ∙ c.if-is_err.false) c.arrive-arrived.ensures.left))
+    let a = arrival_of c.args.recorded.now in
+    let w = c.self.inside in
+    let now = c.arrive-arrived.new in
+    let fine = sym c.is_err.ensures.value ∙ c.if-is_err.false in
+    let live = (c.self.invariant c.if-self.false).live in
+    subst (λ (p : Parts). All (IsCopyOf (state_of p) a) (drop (length p.left) now.log.left)) c.self.view_is
+    (copies_are w.bridge w.extender live w.learned now.learned w.log now.log w.is_open w.failed a c.are_bytes.ensures (c.spaces_number.ensures w.bridge.spaces)
+    c.tag_round_trip.ensures c.sends_are_words.ensures c.sends_leave_as_flat.ensures (when_ok _ fine c.arrive-arrived.ensures.left))
