@@ -1,0 +1,17 @@
+use Rattle.std.proofs.Common.{◌≡◌, ◌≤◌, ℕ, map, drop, length}
+use Rattle.std.specs.Prelude.{vec_capacity}
+use Rattle.exb_rows.specs.Sets.{seen}
+use Rattle.exb_plan.specs.Held.{held_by}
+use Rattle.exb_plan.specs.Working.{seen_group, AreLimited, IsAlike}
+use Rattle.exb_plan.proofs.ClaimLoop.{IsClaiming}
+use Rattle.exb_plan.proofs.claims.claim_groups.Given as goal
+
+-- what was claimed, and what claiming the rest leads to, are all
+abbrev pub invariant-loop-set : goal.invariant-loop-set
+invariant-loop-set l = record {
+  alike : IsAlike l.fn.spaces l.spaces;
+  count : length l.given.items ≡ l.set-index;
+  room : length l.sets ≤ vec_capacity l.given;
+  claims : (groups : ℕ) → AreLimited groups l.fn.spaces →
+      IsClaiming groups (held_by l.fn.spaces) (map seen l.sets) l.spaces (map seen (drop l.set-index l.sets)) (map seen_group l.given.items);
+}

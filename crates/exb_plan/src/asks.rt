@@ -1,0 +1,191 @@
+//! What is asked of extenders, in messages.
+ghost use Rattle.std.specs.Prelude.{◌≡◌, ◌≤◌, ◌<◌, ◌++◌, ◌∷◌, [], length, min, OnOk};
+ghost use Rattle.exb_plan.specs.Asks.{ask, register, unregister, numbers_of, message, asks_with, channel_ask, channel_asks, create_asks, delete_asks, put_above};
+
+use exb_csp::{Ecids, GroupRow, GroupRows, Request};
+use exb_model::list::List;
+use exb_model::memory::NoMemory;
+use exb_model::port::PortId;
+use exb_model::port_set::PortSet;
+use exb_model::tree::Tree;
+use exb_rows::{Row, rows};
+use std::alloc::Global;
+
+/// How many rows or numbers one message has at most.
+const MOST: usize = 64;
+
+/// A request to an extender, which has a number of 1 to 64.
+#[derive(Debug, Drop)]
+pub struct AskAt {
+    pub extender: u8,
+    pub request: Request,
+}
+
+/// What becomes of rows.
+#[derive(Clone, Copy, Debug, PartialEq, Eq)]
+pub enum Step {
+    /// They are laid.
+    Lay,
+    /// Their numbers are cleared.
+    Clear,
+}
+
+// A request for these rows: for one of them Register.
+fn register(rows: &[GroupRow]) -> Request
+    requires { length rows.now ≤ 64 }
+    ensures { result ≡ register rows.now }
+{
+    if let [row] = rows {
+        return Request::Register {
+            ecid: row.ecid,
+            mask: row.mask,
+        };
+    }
+    let mut many = GroupRows::new();
+    for row in rows {
+        many.push(*row);
+    }
+    Request::RegisterMany { rows: many }
+}
+
+// A request to clear the numbers of these rows: for one of them Unregister.
+fn unregister(rows: &[GroupRow]) -> Request
+    requires { length rows.now ≤ 64 }
+    ensures { result ≡ unregister (numbers_of rows.now) }
+{
+    if let [row] = rows {
+        return Request::Unregister { ecid: row.ecid };
+    }
+    let mut many = Ecids::new();
+    for row in rows {
+        many.push(row.ecid);
+    }
+    Request::UnregisterMany { ecids: many }
+}
+
+// A request for at most 64 rows.
+fn message(step: Step, rows: &[GroupRow]) -> Request
+    requires { length rows.now ≤ 64 }
+    ensures { result ≡ message step rows.now }
+{
+    match step {
+        Step::Lay => register(rows),
+        Step::Clear => unregister(rows),
+    }
+}
+
+// How many rows go into the next message.
+fn next(rows: &[GroupRow]) -> usize
+    ensures { result ≡ min (length rows.now) 64 }
+{
+    if rows.len() < MOST { rows.len() } else { MOST }
+}
+
+/// Asks an extender for all of these rows, in messages of 64 and a last one of 1 to 64.
+pub(crate) fn put_messages(
+    asks: &mut List<AskAt>,
+    step: Step,
+    extender: u8,
+    rows: &[GroupRow],
+) -> Result<(), NoMemory>
+    ensures { OnOk result (asks.new ≡ asks.old ++ asks_with step rows.now extender) }
+{
+    let mut left = rows;
+    while !left.is_empty() {
+        let (piece, rest) = left.split_at(next(left));
+        asks.push(AskAt {
+            extender,
+            request: message(step, piece),
+        })?;
+        left = rest;
+    }
+    Ok(())
+}
+
+// Asks an extender for the row of a channel, unless it is that of the channel's port.
+fn put_above(
+    asks: &mut List<AskAt>,
+    step: Step,
+    own: u8,
+    channel: u16,
+    row: &Row,
+) -> Result<(), NoMemory>
+    ensures { OnOk result (asks.new ≡ asks.old ++ put_above step own channel row.now) }
+{
+    if row.extender == own {
+        return Ok(());
+    }
+    let rows = [GroupRow {
+        ecid: channel,
+        mask: row.mask,
+    }];
+    asks.push(AskAt {
+        extender: row.extender,
+        request: message(step, &rows),
+    })
+}
+
+// Asks each ancestor of a port, from the bridge down, for the row of the port's channel.
+fn put_channel(
+    alloc: Global,
+    tree: &Tree,
+    step: Step,
+    port: PortId,
+    channel: u16,
+    asks: &mut List<AskAt>,
+) -> Result<(), NoMemory>
+    ensures { OnOk result (asks.new ≡ asks.old ++ channel_asks step tree.now port channel) }
+{
+    let own = (port.number() / 64) as u8;
+    let mut set = PortSet::empty();
+    set.insert(port);
+    let all = rows(alloc, tree, &set)?;
+    let rows = all.as_slice();
+    for row in rows {
+        put_above(asks, step, own, channel, row)?;
+    }
+    Ok(())
+}
+
+/// Asks that a port gets a channel: Register at each ancestor from the bridge down, then PortCreate.
+pub fn put_create(
+    alloc: Global,
+    tree: &Tree,
+    port: PortId,
+    cascade: bool,
+    channel: u16,
+    asks: &mut List<AskAt>,
+) -> Result<(), NoMemory>
+    ensures { OnOk result (asks.new ≡ asks.old ++ create_asks tree.now port cascade channel) }
+{
+    put_channel(alloc, tree, Step::Lay, port, channel, asks)?;
+    let number = port.number();
+    asks.push(AskAt {
+        extender: (number / 64) as u8,
+        request: Request::PortCreate {
+            port: (number % 64) as u8 + 1,
+            cascade,
+            channel,
+        },
+    })
+}
+
+/// Asks that a port loses its channel: Unregister at each ancestor from the bridge down, then PortDelete.
+pub fn put_delete(
+    alloc: Global,
+    tree: &Tree,
+    port: PortId,
+    channel: u16,
+    asks: &mut List<AskAt>,
+) -> Result<(), NoMemory>
+    ensures { OnOk result (asks.new ≡ asks.old ++ delete_asks tree.now port channel) }
+{
+    put_channel(alloc, tree, Step::Clear, port, channel, asks)?;
+    let number = port.number();
+    asks.push(AskAt {
+        extender: (number / 64) as u8,
+        request: Request::PortDelete {
+            port: (number % 64) as u8 + 1,
+        },
+    })
+}

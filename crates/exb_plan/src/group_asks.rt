@@ -1,0 +1,83 @@
+//! What is asked for the rows of groups.
+ghost use Rattle.std.specs.Prelude.{◌≡◌, ℕ, ◌<◌, ◌++◌, filter_map, map, IfOk, OnOk};
+ghost use Rattle.exb_plan.specs.Asks.{rows_at, group_asks};
+ghost use Rattle.exb_plan.specs.Working.{seen_group, row_of_covered, rows_of_covered};
+
+use crate::asks::{AskAt, Step, put_messages};
+use crate::groups::GroupAt;
+use exb_csp::GroupRow;
+use exb_model::list::List;
+use exb_model::memory::NoMemory;
+use exb_model::port_set::PortSet;
+use exb_model::tree::Tree;
+use std::alloc::Global;
+
+/// A group's number, and the ports with a port of its set in their subtree.
+#[derive(Clone, Copy, Debug, PartialEq, Eq)]
+pub(crate) struct Covered {
+    pub(crate) number: u16,
+    pub(crate) ports: PortSet,
+}
+
+impl Covered {
+    // The row at an extender, if there is one.
+    fn row(&self, extender: u8) -> Option<GroupRow>
+        requires { extender < 65 }
+        ensures { result ≡ row_of_covered extender self.now }
+    {
+        let mask = self.ports.mask(extender);
+        if mask == 0 {
+            return None;
+        }
+        Some(GroupRow {
+            ecid: self.number,
+            mask,
+        })
+    }
+}
+
+// Of each group, the ports with a port of its set in their subtree.
+fn cover_all(alloc: Global, tree: &Tree, groups: &[GroupAt]) -> Result<Vec<Covered>, NoMemory>
+    ensures { IfOk result (λ made. (n : ℕ) → rows_of_covered made.items n ≡ rows_at tree.now (map seen_group groups.now) n) }
+{
+    let mut covered = Vec::new(alloc);
+    for group in groups {
+        covered.push(Covered {
+            number: group.number,
+            ports: tree.covered(&group.set),
+        })?;
+    }
+    Ok(covered)
+}
+
+// The rows at an extender, in the order of the groups.
+fn rows_at(alloc: Global, covered: &[Covered], extender: u8) -> Result<Vec<GroupRow>, NoMemory>
+    requires { extender < 65 }
+    ensures { IfOk result (λ made. made.items ≡ rows_of_covered covered.now extender) }
+{
+    let mut rows = Vec::new(alloc);
+    for group in covered {
+        if let Some(row) = group.row(extender) {
+            rows.push(row)?;
+        }
+    }
+    Ok(rows)
+}
+
+/// Asks each extender, by depth and number, for the rows there of all groups.
+pub(crate) fn put_groups(
+    alloc: Global,
+    tree: &Tree,
+    step: Step,
+    groups: &[GroupAt],
+    asks: &mut List<AskAt>,
+) -> Result<(), NoMemory>
+    ensures { OnOk result (asks.new ≡ asks.old ++ group_asks step tree.now (map seen_group groups.now)) }
+{
+    let covered = cover_all(alloc, tree, groups)?;
+    for extender in tree.order() {
+        let rows = rows_at(alloc, covered.as_slice(), *extender)?;
+        put_messages(asks, step, *extender, rows.as_slice())?;
+    }
+    Ok(())
+}

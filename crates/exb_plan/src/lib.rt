@@ -1,0 +1,22 @@
+//! Plans of changes: from one configuration to another, what the bridge asks of its extenders before the
+//! change takes effect and after it (after IEEE 802.1BR; the protocol is this project's own), which numbers
+//! it claims and which it frees, or why it is refused. Upwards it promises exactly these lists, and that
+//! executing them lays the new sets and takes back the old ones, no extender answering a code but 0. It
+//! stands on `exb_rows`, `exb_numbers`, `exb_config`, `exb_csp` and `exb_model`.
+#![tactic(auto)]
+
+pub mod asks;
+pub mod change;
+mod claims;
+mod group_asks;
+mod groups;
+pub mod laws;
+pub mod planning;
+mod refusals;
+
+pub use asks::AskAt;
+pub use change::{Change, Decision, Number};
+pub use planning::plan;
+
+#[cfg(test)]
+mod tests;
