@@ -1,7 +1,7 @@
 //! Plans of changes: from one configuration to another, what the bridge asks of its extenders before the
 //! change takes effect and after it (after IEEE 802.1BR; the protocol is this project's own), which numbers
-//! it claims and which it frees, or why it is refused. Upwards it promises exactly these lists, and that
-//! executing them lays the new sets and takes back the old ones, no extender answering a code but 0. It
+//! it claims and which it frees, or why it is refused. Upwards it promises exactly these lists and
+//! numbers, and by its laws that a plan is refused where a command is and that the next plan may follow. It
 //! stands on `exb_rows`, `exb_numbers`, `exb_config`, `exb_csp` and `exb_model`.
 #![tactic(auto)]
 
