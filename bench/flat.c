@@ -99,6 +99,8 @@ int main(int count, char **words) {
         snprintf(name, sizeof name, "%s%d.pcap", words[2], p + 1);
         if (!(all[p].out = fopen(name, "wb")))
             return 7;
+        /* pieces as large as those of exbr, so that the ratio isn't one of buffers */
+        setvbuf(all[p].out, NULL, _IOFBF, 65536);
         fwrite(header, 1, HEADER, all[p].out);
     }
     unsigned long frames = 0, left = 0;
