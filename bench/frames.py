@@ -21,6 +21,7 @@ import time
 
 TOP = os.path.dirname(os.path.dirname(os.path.abspath(__file__)))
 PROGRAM = f"{TOP}/crates/exbr/out/exbr"
+TURNS = 3  # each program runs so often in turn with the other, and its best time counts
 BROADCAST = b"\xff" * 6
 HEADER = struct.pack("<IHHIIII", 0xA1B23C4D, 2, 4, 0, 0, 65535, 1)
 
@@ -92,8 +93,9 @@ def measure(name, ports, frames, vlans=1, ageing=300, active=None):
     write_captures(ports, frames, active or ports)
     write_topology(ports, vlans, ageing)
     flat_words = ["./flat", "1" if ageing else "0", "flat-"] + [f"in-{port}.pcap" for port in range(1, ports + 1)]
-    flat_time, flat_memory = run(flat_words)
-    own_time, own_memory = run([PROGRAM, "run", "topology.toml"])
+    turns = [(run(flat_words), run([PROGRAM, "run", "topology.toml"])) for _ in range(TURNS)]
+    flat_time, flat_memory = min(flat for flat, _ in turns)
+    own_time, own_memory = min(own for _, own in turns)
     same = all(filecmp.cmp(f"out-x1.{port}.pcap", f"flat-{port}.pcap", shallow=False) for port in range(1, ports + 1))
     count, size = len(frames), sum(map(len, frames))
     print(f"{name:42} {count:8} frames {own_time:8.2f} s {count / own_time:9.0f} frames/s {size / own_time / 1e6:8.1f} MB/s "
