@@ -1,15 +1,14 @@
 -- Where no port of an extender is present no group is needed.
-use Rattle.std.proofs.Common.{◌≡◌, ℕ, ◌+◌, ◌<◌, ◌==◌, ◌&&◌, ◌||◌, cond, Bool, true, false, not, List, [], ◌∷◌, Option, Some, None, filter, fold, refl, sym, ◌∙◌, ap, subst}
-use Rattle.std.specs.Prelude.{is_some, bytes_eq, find}
-use Rattle.std.specs.List.{list_any, flat_map, range_with_len}
-use Rattle.std.proofs.lemmas.Bool.{cases_Bool, and_parts, false≢true, false_from_ne_true}
-use Rattle.exb_model.specs.Ports.{all_ports}
-use Rattle.exb_model.specs.Tree.{Shape, IsTree, is_cascade, is_extended, is_under, is_cascade_under}
+use Rattle.std.proofs.Common.{◌≡◌, ℕ, ◌<◌, ◌&&◌, ◌||◌, true, false, not, List, [], ◌∷◌, Option, Some, None, fold, refl, sym, ◌∙◌, ap}
+use Rattle.std.specs.Prelude.{is_some, bytes_eq}
+use Rattle.std.specs.List.{list_any, flat_map}
+use Rattle.std.proofs.lemmas.Bool.{and_parts, false≢true, false_from_ne_true}
+use Rattle.exb_model.specs.Tree.{Shape, is_cascade, is_extended, is_under, is_cascade_under}
 use Rattle.exb_model.specs.Configuration.{Bridge}
 use Rattle.exb_model.specs.Refusals.{Source, sources, part, parts, without_isolated, with_set, sets_at, is_kind, is_empty_set}
 use Rattle.exb_model.proofs.PortLemmas.{filter_below-none}
-use Rattle.exb_plan.specs.Held.{Held, HoldsNeeded, channel_in, group_in, group_used, needs_channel}
-use Rattle.exb_plan.specs.Laws.{IsBeginning, Begins}
+use Rattle.exb_plan.specs.Held.{group_in, needs_channel}
+use Rattle.exb_plan.specs.Laws.{Begins}
 use Rattle.exb_plan.proofs.Trunks.{under_extended}
 use Rattle.exb_plan.proofs.Owning.{IsGroupOf, group_found}
 

@@ -1,19 +1,19 @@
 -- A port that goes up can be given a channel where the channels suffice.
-use Rattle.std.proofs.Common.{◌≡◌, ◌≢◌, ℕ, zero, suc, ◌+◌, ◌-◌, ◌/◌, ◌<◌, ◌≤◌, ◌==◌, ◌||◌, ◌&&◌, cond, Bool, true, false, not, List, [], ◌∷◌, ◌++◌, Option, Some, None, length, filter, refl, sym, ◌∙◌, ap, subst, arith, inl, inr, eq-eqb}
-use Rattle.std.specs.Prelude.{nat_lt, nat_le, is_some, find, count_by}
+use Rattle.std.proofs.Common.{◌≡◌, ℕ, ◌+◌, ◌<◌, ◌≤◌, ◌==◌, ◌||◌, ◌&&◌, cond, Bool, true, false, not, List, [], ◌∷◌, Option, Some, None, length, filter, refl, sym, ◌∙◌, ap, subst, arith, inl, inr}
+use Rattle.std.specs.Prelude.{nat_lt, nat_le, is_some, count_by}
 use Rattle.std.specs.List.{list_any, range_with_len}
-use Rattle.std.proofs.lemmas.Bool.{cases_Bool, and_parts, or_cases, eqb-true, ltb-false, leb-true, false≢true, false_from_ne_true}
+use Rattle.std.proofs.lemmas.Bool.{cases_Bool, and_parts, or_cases, eqb-true, ltb-false, leb-true, false≢true}
 use Rattle.std.proofs.lemmas.List.Sums.{length-filter}
 use Rattle.exb_model.specs.declared.event.Cause.{Cause}
 use Rattle.exb_model.specs.declared.event.Cause.TheVariants as cause
 use Rattle.exb_model.specs.Ports.{below, all_ports}
-use Rattle.exb_model.specs.Tree.{Shape, IsTree, device, trunk, is_port, is_cascade, is_extended, is_external, is_under, is_cascade_under, cascades_under}
+use Rattle.exb_model.specs.Tree.{Shape, IsTree, device, trunk, is_port, is_cascade, is_extended, is_under, is_cascade_under, cascades_under}
 use Rattle.exb_model.specs.Setup.{Limits}
 use Rattle.exb_model.specs.Configuration.{Bridge}
 use Rattle.exb_model.specs.Refusals.{present_under, channels_needed, channels_short}
 use Rattle.exb_model.proofs.TreeWays.{port_below}
 use Rattle.exb_numbers.specs.Lowest.{lowest_free}
-use Rattle.exb_numbers.specs.Spaces.{Spaces, has_space, channels_at}
+use Rattle.exb_numbers.specs.Spaces.{Spaces}
 use Rattle.exb_plan.specs.Held.{Held, held_by, HoldsNeeded, HasSpaces, channel_in, channel_used, needs_channel, or_zero}
 use Rattle.exb_plan.specs.Between.{rises, goes_up, trunk_of}
 use Rattle.exb_plan.specs.Working.{CanClaimUp, CanClaimChannel, SpacesOf, IsAnyExtended, channel_limit, how_many}

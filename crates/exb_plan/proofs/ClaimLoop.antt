@@ -1,10 +1,10 @@
 -- Claiming groups for sets, one after another.
-use Rattle.std.proofs.Common.{◌≡◌, ℕ, ◌+◌, ◌-◌, ◌≤◌, true, List, [], ◌∷◌, ◌++◌, length, refl, sym, ◌∙◌, ap, subst}
+use Rattle.std.proofs.Common.{◌≡◌, ℕ, ◌-◌, List, [], ◌∷◌, ◌++◌, refl, sym, ◌∙◌, ap, subst}
 use Rattle.std.proofs.lemmas.List.{append-nil, append_assoc}
-use Rattle.exb_numbers.specs.Spaces.{Spaces, has_space, channels_at, groups_at}
+use Rattle.exb_numbers.specs.Spaces.{Spaces, groups_at}
 use Rattle.exb_rows.specs.Sets.{PortsAt}
 use Rattle.exb_plan.specs.Held.{Held, Group, held_by, group_for, numbered, give, give_all}
-use Rattle.exb_plan.specs.Working.{IsPlaced, ArePlaced, IsFresh, AreFresh, AreLimited, IsAlike, CanClaim, AreClaimed}
+use Rattle.exb_plan.specs.Working.{IsPlaced, ArePlaced, AreFresh, AreLimited, IsAlike, CanClaim, AreClaimed}
 
 -- what was given, with what the rest gets, is what all get
 pub record IsClaiming (groups : ℕ) (h : Held) (all : List PortsAt) (v : Spaces) (rest : List PortsAt) (given : List Group) : Type 0 where

@@ -1,15 +1,15 @@
 -- Fresh sets get groups one after another.
-use Rattle.std.proofs.Common.{◌≡◌, ◌≢◌, ℕ, zero, suc, ◌+◌, ◌-◌, ◌<◌, ◌≤◌, ◌==◌, ◌&&◌, ◌||◌, ◌++◌, cond, Bool, true, false, not, List, [], ◌∷◌, Option, Some, None, length, refl, sym, ◌∙◌, ap, subst, arith, inl, inr, ◌⊎◌, eq-eqb}
+use Rattle.std.proofs.Common.{◌≡◌, ◌≢◌, ℕ, ◌+◌, ◌-◌, ◌<◌, ◌≤◌, ◌==◌, ◌||◌, cond, Bool, true, false, not, List, [], ◌∷◌, Option, Some, None, refl, sym, ◌∙◌, ap, arith, inl, inr, eq-eqb}
 use Rattle.std.specs.Prelude.{is_some, bytes_eq, find}
 use Rattle.std.specs.List.{list_any, range_with_len}
-use Rattle.std.proofs.lemmas.Bool.{cases_eq, cases_Bool, or_cases, or_left, or_right, or_from, and_parts, ne_eqb, eqb-true, false≢true, false_from_ne_true}
+use Rattle.std.proofs.lemmas.Bool.{cases_eq, and_parts, ne_eqb, eqb-true, false≢true, false_from_ne_true}
 use Rattle.std.proofs.lemmas.Slice.Eq.{bytes_eq-Decides}
 use Rattle.exb_rows.specs.Sets.{PortsAt, is_same_set}
 use Rattle.exb_model.specs.Refusals.{is_empty_set}
-use Rattle.exb_plan.specs.Held.{Held, Group, group_in, group_used, or_zero, free_group, group_for, numbered, give, give_all}
+use Rattle.exb_plan.specs.Held.{Held, Group, group_in, group_used, or_zero, free_group, group_for, numbered, give}
 use Rattle.exb_numbers.specs.Lowest.{lowest_free}
-use Rattle.exb_numbers.specs.Spaces.{Spaces, has_space}
-use Rattle.exb_plan.specs.Working.{IsPlaced, IsFresh, AreFresh, IsGiven, AreGiven, ArePlaced, is_at, how_many}
+use Rattle.exb_numbers.specs.Spaces.{Spaces}
+use Rattle.exb_plan.specs.Working.{AreFresh, AreGiven, ArePlaced, is_at, how_many}
 use Rattle.exb_plan.proofs.Ranges.{find_none, none_passes}
 use Rattle.exb_plan.proofs.Counting.{IsLowest, lowest_there, lowest_unused, count_less, count_more}
 use Rattle.exb_plan.proofs.Distinct.{AreSets}

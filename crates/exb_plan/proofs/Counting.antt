@@ -1,11 +1,10 @@
 -- How many numbers of a range are used.
-use Rattle.std.proofs.Common.{◌≡◌, ◌≢◌, ℕ, zero, suc, ◌+◌, ◌<◌, ◌≤◌, ◌==◌, cond, Bool, true, false, not, List, [], ◌∷◌, Option, Some, None, length, refl, sym, ◌∙◌, ap, subst, arith, inl, inr, ◌⊎◌}
-use Rattle.std.specs.Prelude.{filter}
+use Rattle.std.proofs.Common.{◌≡◌, ℕ, zero, suc, ◌+◌, ◌<◌, ◌≤◌, cond, Bool, true, false, not, List, [], ◌∷◌, Some, length, refl, sym, ◌∙◌, ap, arith, inl, inr, ◌⊎◌}
 use Rattle.std.specs.List.{list_any, range_with_len}
 use Rattle.std.proofs.lemmas.Bool.{cases_eq, cases_Bool, or_cases, or_left, or_right, false≢true, false_from_ne_true}
 use Rattle.exb_numbers.specs.Lowest.{lowest_free}
 use Rattle.exb_plan.specs.Working.{how_many}
-use Rattle.exb_plan.proofs.Ranges.{IsFound, found}
+use Rattle.exb_plan.proofs.Ranges.{found}
 
 pub record IsLowest (used : ℕ → Bool) (a n m : ℕ) : Type 0 where
   pub is : lowest_free used a n ≡ Some m

@@ -1,5 +1,5 @@
 -- How many ports below a bridge port need a channel.
-use Rattle.std.proofs.Common.{◌≡◌, ◌∙◌, ◌+◌, ◌&&◌, ℕ, ap}
+use Rattle.std.proofs.Common.{◌≡◌, ◌∙◌, ◌&&◌, ℕ, ap}
 use Rattle.std.specs.Prelude.{count_by}
 use Rattle.exb_model.specs.Ports.{below}
 use Rattle.exb_model.specs.Tree.{Shape, is_under, is_cascade_under, cascades_under}

@@ -1,6 +1,6 @@
 -- The first port or bridge port of which something holds.
-use Rattle.std.proofs.Common.{◌≡◌, ℕ, zero, suc, ◌+◌, ◌-◌, ◌<◌, ◌≤◌, ◌&&◌, Bool, true, false, cond, List, Option, Some, None, refl, sym, ◌∙◌, ap, arith}
-use Rattle.std.specs.Prelude.{find, nat_lt}
+use Rattle.std.proofs.Common.{◌≡◌, ℕ, ◌+◌, ◌<◌, ◌≤◌, ◌&&◌, Bool, true, false, cond, List, Some, None, refl, sym, ap, arith}
+use Rattle.std.specs.Prelude.{nat_lt}
 use Rattle.exb_model.specs.declared.event.Cause.{Cause}
 use Rattle.exb_model.specs.Ports.{below}
 use Rattle.exb_model.specs.Tree.{Shape, is_cascade}
@@ -10,7 +10,6 @@ use Rattle.exb_rows.specs.Sets.{PortsAt}
 use Rattle.exb_plan.specs.Between.{rises, goes_up}
 use Rattle.exb_plan.specs.Working.{needed_at, short_at, is_short, short_of, short_by}
 use Rattle.exb_plan.proofs.Ranges.{find_first, find_none}
-use Rattle.std.proofs.lemmas.Bool.{false≢true, cases_Bool}
 
 pub goes_up_found : (t : Shape) (old new : Bridge) (n : ℕ) → n < 4160 → ((k : ℕ) → k < n → rises t old new k ≡ false) → rises t old new n ≡ true → Some n ≡ goes_up t old new
 unfolding goes_up below

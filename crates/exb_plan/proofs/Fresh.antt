@@ -1,7 +1,7 @@
 -- Fresh sets can be given groups where the groups suffice.
-use Rattle.std.proofs.Common.{◌≡◌, ◌≢◌, ℕ, zero, suc, ◌+◌, ◌-◌, ◌<◌, ◌≤◌, ◌==◌, ◌||◌, ◌&&◌, cond, Bool, true, false, not, List, [], ◌∷◌, ◌++◌, Option, Some, None, length, map, filter, refl, sym, ◌∙◌, ap, subst, arith, inl, inr, eq-eqb}
+use Rattle.std.proofs.Common.{◌≡◌, ◌≢◌, ℕ, zero, suc, ◌+◌, ◌-◌, ◌<◌, ◌≤◌, cond, Bool, true, false, not, List, [], ◌∷◌, Option, Some, None, length, filter, refl, sym, ◌∙◌, ap, arith, inl, inr}
 use Rattle.std.specs.Prelude.{bytes_eq, nat_lt, is_some, find}
-use Rattle.std.specs.List.{list_any, range_with_len}
+use Rattle.std.specs.List.{range_with_len}
 use Rattle.std.proofs.lemmas.Bool.{cases_Bool, cases_lt, and_parts, ltb-false, ne_eqb, false≢true}
 use Rattle.exb_model.specs.declared.event.Cause.{Cause}
 use Rattle.exb_model.specs.declared.event.Cause.TheVariants as cause
@@ -9,15 +9,15 @@ use Rattle.exb_model.specs.Ports.{below}
 use Rattle.exb_model.specs.Tree.{Shape, IsTree, is_cascade}
 use Rattle.exb_model.specs.Setup.{Limits}
 use Rattle.exb_model.specs.Configuration.{Bridge}
-use Rattle.exb_model.specs.Refusals.{is_empty_set, sets_at, bridge_ports}
-use Rattle.exb_numbers.specs.Spaces.{Spaces, has_space}
+use Rattle.exb_model.specs.Refusals.{sets_at}
+use Rattle.exb_numbers.specs.Spaces.{Spaces}
 use Rattle.exb_rows.specs.Sets.{PortsAt, is_same_set, sets_of}
-use Rattle.exb_plan.specs.Held.{Held, held_by, HoldsNeeded, HasSpaces, group_in, group_used}
+use Rattle.exb_plan.specs.Held.{Held, HoldsNeeded, group_in, group_used}
 use Rattle.exb_plan.specs.Between.{has_set, fresh_sets}
-use Rattle.exb_plan.specs.Working.{IsPlaced, ArePlaced, AreFresh, CanClaim, SpacesOf, has_group, how_many, is_at, needed_at, is_short, short_by, short_of, short_at}
+use Rattle.exb_plan.specs.Working.{ArePlaced, AreFresh, SpacesOf, has_group, how_many, is_at, needed_at, is_short, short_by, short_of}
 use Rattle.exb_plan.proofs.Ranges.{IsFound, found, none_passes}
 use Rattle.exb_plan.proofs.Counting.{few_used}
-use Rattle.exb_plan.proofs.Distinct.{AreSets, filter_sets}
+use Rattle.exb_plan.proofs.Distinct.{filter_sets}
 use Rattle.exb_plan.proofs.Each.{Each, each_map, each_filter, filter_each, few-filter, how_many-none}
 use Rattle.exb_plan.proofs.SetFacts.{IsBelow, sets_below, sets_apart, bytes_is, has_at, count_at}
 use Rattle.exb_plan.proofs.Claiming.{set_is, set_itself, is_none, AreApart, AreLow, AreAbsent, HasRoom, are_fresh}

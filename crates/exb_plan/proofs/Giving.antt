@@ -1,11 +1,10 @@
 -- The channels of one bridge port are those of just some ports.
-use Rattle.std.proofs.Common.{◌≡◌, ◌≢◌, ℕ, zero, suc, ◌+◌, ◌-◌, ◌<◌, ◌≤◌, ◌==◌, ◌&&◌, ◌||◌, cond, Bool, true, false, not, List, Option, Some, None, refl, sym, ◌∙◌, ap, subst, arith, inl, inr, eq-eqb}
-use Rattle.std.specs.Prelude.{is_some, find}
-use Rattle.std.specs.List.{range_with_len}
-use Rattle.std.proofs.lemmas.Bool.{cases_Bool, cases_eq, or_cases, or_left, or_right, and_parts, and_from, ne_eqb, eqb-true, false≢true, false_from_ne_true}
+use Rattle.std.proofs.Common.{◌≡◌, ◌≢◌, ℕ, ◌<◌, ◌≤◌, ◌==◌, ◌&&◌, ◌||◌, Bool, true, false, not, Option, Some, None, refl, sym, ◌∙◌, ap, arith, inl, inr, eq-eqb}
+use Rattle.std.specs.Prelude.{is_some}
+use Rattle.std.proofs.lemmas.Bool.{cases_eq, or_cases, or_left, or_right, and_parts, and_from, ne_eqb, eqb-true, false≢true, false_from_ne_true}
 use Rattle.exb_model.specs.Tree.{Shape, device, trunk}
 use Rattle.exb_numbers.specs.Channels.{is_port}
-use Rattle.exb_plan.specs.Held.{Held, channel_in, or_zero, give_channel, free_port_of}
+use Rattle.exb_plan.specs.Held.{Held, channel_in, give_channel, free_port_of}
 use Rattle.exb_plan.proofs.Ranges.{IsFound, found, none_passes}
 
 pub record Gives (h : Held) (k : ℕ) (needs : ℕ → Bool) : Type 0 where

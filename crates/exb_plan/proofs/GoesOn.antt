@@ -1,20 +1,19 @@
 -- Just what the new configuration needs is held in the end.
-use Rattle.std.proofs.Common.{◌≡◌, ◌≢◌, ℕ, zero, suc, ◌+◌, ◌-◌, ◌<◌, ◌≤◌, ◌==◌, ◌&&◌, ◌||◌, cond, Bool, true, false, not, List, [], ◌∷◌, Option, Some, None, map, filter, refl, sym, ◌∙◌, ap, subst, arith, inl, inr, ◌⊎◌, eq-eqb}
-use Rattle.std.specs.Prelude.{is_some, bytes_eq, nat_le}
-use Rattle.std.specs.List.{list_any, range_with_len}
-use Rattle.std.proofs.lemmas.Bool.{cases_Bool, cases_eq, or_cases, or_left, or_right, and_parts, ne_eqb, eqb-true, false≢true, false_from_ne_true}
-use Rattle.exb_model.specs.Tree.{Shape, IsTree, device, trunk, is_cascade, is_extended, is_external, is_under, is_cascade_under}
+use Rattle.std.proofs.Common.{◌≡◌, ◌≢◌, ℕ, ◌+◌, ◌-◌, ◌<◌, ◌≤◌, ◌==◌, ◌&&◌, ◌||◌, cond, Bool, true, false, not, List, [], ◌∷◌, Option, Some, None, filter, refl, sym, ◌∙◌, ap, subst, arith, inl, inr, ◌⊎◌, eq-eqb}
+use Rattle.std.specs.Prelude.{is_some, bytes_eq}
+use Rattle.std.specs.List.{list_any}
+use Rattle.std.proofs.lemmas.Bool.{cases_Bool, cases_eq, or_cases, or_left, or_right, ne_eqb, false≢true, false_from_ne_true}
+use Rattle.exb_model.specs.Tree.{Shape, IsTree, device, trunk, is_cascade, is_under, is_cascade_under}
 use Rattle.exb_model.specs.Setup.{Limits}
 use Rattle.exb_model.specs.Configuration.{Bridge}
 use Rattle.exb_rows.specs.Sets.{PortsAt, is_same_set, sets_of}
 use Rattle.exb_model.specs.Refusals.{is_empty_set, sets_at, channels_short}
-use Rattle.exb_plan.specs.Held.{Held, Group, group_used, HoldsNeeded, needs_channel, channel_in, channel_used, or_zero, give, give_all, numbered, free_where, give_channel, free_port_of}
+use Rattle.exb_plan.specs.Held.{Held, Group, group_used, HoldsNeeded, needs_channel, channel_in, channel_used, or_zero, give, give_all, numbered, free_where, give_channel}
 use Rattle.exb_plan.specs.Between.{has_set, is_gone, goes_up, goes_down, trunk_of, fresh_sets, refusal_between}
-use Rattle.exb_plan.specs.Plans.{with_channel, without_channel, new_channel, own_channel, with_up, fresh_groups, claimed, freed}
-use Rattle.exb_plan.specs.Working.{AreFresh, is_at}
+use Rattle.exb_plan.specs.Plans.{with_channel, without_channel, new_channel, own_channel, fresh_groups, claimed, freed}
 use Rattle.exb_plan.specs.Laws.{IsStep, HeldGoesOn}
 use Rattle.exb_plan.proofs.SetFacts.{at_port, has_at}
-use Rattle.exb_plan.proofs.Claiming.{set_is, AreLow}
+use Rattle.exb_plan.proofs.Claiming.{set_is}
 use Rattle.exb_plan.proofs.Owning.{Owns, owns_from, owns_groups, owns_one, owns_same, owns_all, owns_kept, at_port_of}
 use Rattle.exb_plan.proofs.Giving.{Gives, gives_from, gives_channels, gives_one, gives_same, gives_port, gives_elsewhere, freed_elsewhere, gives_more, gives_less}
 use Rattle.exb_plan.proofs.Counting.{IsLowest}

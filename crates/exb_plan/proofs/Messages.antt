@@ -1,17 +1,16 @@
 -- Messages with rows.
-use Rattle.std.proofs.Common.{◌≡◌, ◌≢◌, ℕ, zero, suc, ◌+◌, ◌/◌, ◌%◌, ◌<◌, ◌≤◌, ◌==◌, cond, Bool, true, false, not, List, [], ◌∷◌, ◌++◌, length, map, filter, take, drop, refl, sym, ◌∙◌, ap, arith, inl, inr, min}
+use Rattle.std.proofs.Common.{◌≡◌, ◌≢◌, ℕ, ◌<◌, ◌==◌, not, List, [], ◌∷◌, ◌++◌, length, map, filter, take, drop, refl, sym, ◌∙◌, ap, inl, inr, min}
 use Rattle.std.specs.List.{flat_map}
 use Rattle.std.proofs.lemmas.Bool.{cases_Bool}
 use Rattle.std.proofs.lemmas.List.{append-nil, append_assoc}
 use Rattle.exb_csp.specs.declared.group_rows.GroupRow.{GroupRow}
-use Rattle.exb_csp.specs.declared.message.Request.TheVariants.{PortCreate, PortDelete, RegisterMany, UnregisterMany}
+use Rattle.exb_csp.specs.declared.message.Request.TheVariants.{RegisterMany, UnregisterMany}
 use Rattle.exb_model.specs.Tree.{Shape, device}
 use Rattle.exb_rows.specs.declared.set_rows.Row.{Row}
 use Rattle.exb_rows.specs.Rows.{rows_of}
 use Rattle.exb_plan.specs.declared.asks.AskAt.{AskAt}
 use Rattle.exb_plan.specs.declared.asks.Step.{Step}
-use Rattle.exb_plan.specs.declared.asks.Step.TheVariants.{Lay, Clear}
-use Rattle.exb_plan.specs.Asks.{ask, register, unregister, numbers_of, message, pieces, in_messages, asks_with, channel_rows, channel_ask, channel_asks, put_above, create_asks, delete_asks}
+use Rattle.exb_plan.specs.Asks.{ask, register, unregister, numbers_of, message, pieces, in_messages, asks_with, channel_rows, channel_ask, channel_asks, put_above}
 use Rattle.exb_plan.proofs.Pieces.{cut_message}
 
 pub register_many : (rows : List GroupRow) → length rows ≢ 1 → register rows ≡ RegisterMany rows
@@ -48,20 +47,3 @@ above_are step t p c = each (rows_of t (λ q. q == p))
           | inl e ↦ rw e (each rows)
           | inr e ↦ rw e (ap (λ l. channel_ask step c row ∷ l) (each rows))
         ]
-
--- the port is created or deleted after them
-pub create_are : (t : Shape) (p : ℕ) (cascade : Bool) (c n : ℕ) (old now last : List AskAt) → n ≡ p → now ≡ old ++ channel_asks Lay t p c →
-    last ≡ now ++ record { extender = n / 64; request = PortCreate (n % 64 + 1) cascade c } ∷ [] → last ≡ old ++ create_asks t p cascade c
-unfolding create_asks
-create_are t p cascade c n old now last at one two =
-    two ∙ (ap (λ (l : List AskAt). l ++ record { extender = n / 64; request = PortCreate (n % 64 + 1) cascade c } ∷ []) one
-    ∙ (append_assoc old (channel_asks Lay t p c) (record { extender = n / 64; request = PortCreate (n % 64 + 1) cascade c } ∷ [])
-    ∙ ap (λ (m : ℕ). old ++ (channel_asks Lay t p c ++ record { extender = m / 64; request = PortCreate (m % 64 + 1) cascade c } ∷ [])) at))
-
-pub delete_are : (t : Shape) (p c n : ℕ) (old now last : List AskAt) → n ≡ p → now ≡ old ++ channel_asks Clear t p c →
-    last ≡ now ++ record { extender = n / 64; request = PortDelete (n % 64 + 1) } ∷ [] → last ≡ old ++ delete_asks t p c
-unfolding delete_asks
-delete_are t p c n old now last at one two =
-    two ∙ (ap (λ (l : List AskAt). l ++ record { extender = n / 64; request = PortDelete (n % 64 + 1) } ∷ []) one
-    ∙ (append_assoc old (channel_asks Clear t p c) (record { extender = n / 64; request = PortDelete (n % 64 + 1) } ∷ [])
-    ∙ ap (λ (m : ℕ). old ++ (channel_asks Clear t p c ++ record { extender = m / 64; request = PortDelete (m % 64 + 1) } ∷ [])) at))

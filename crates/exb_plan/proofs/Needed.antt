@@ -1,22 +1,21 @@
 -- How many groups are needed for two configurations.
-use Rattle.std.proofs.Common.{◌≡◌, ◌≢◌, ℕ, zero, suc, ◌+◌, ◌-◌, ◌<◌, ◌≤◌, ◌==◌, ◌||◌, ◌&&◌, cond, Bool, true, false, not, List, [], ◌∷◌, ◌++◌, Option, Some, None, length, map, filter, fold, refl, sym, ◌∙◌, ap, subst, arith, inl, inr, eq-eqb, length-append}
+use Rattle.std.proofs.Common.{◌≡◌, ℕ, zero, suc, ◌+◌, ◌-◌, ◌<◌, ◌≤◌, cond, Bool, true, false, not, List, [], ◌∷◌, Option, Some, None, length, map, filter, refl, sym, ◌∙◌, ap, arith, inl, inr, length-append}
 use Rattle.std.specs.Prelude.{bytes_eq, nat_lt, find}
 use Rattle.std.specs.List.{list_any, range_with_len}
-use Rattle.std.proofs.lemmas.Bool.{cases_Bool, cases_eq, eqb-true, ne_eqb, le-ltb, false≢true}
-use Rattle.exb_model.specs.declared.event.Cause.{Cause}
+use Rattle.std.proofs.lemmas.Bool.{cases_Bool, eqb-true, ne_eqb, le-ltb, false≢true}
 use Rattle.exb_model.specs.declared.event.Cause.TheVariants as cause
 use Rattle.exb_model.specs.Ports.{below}
 use Rattle.exb_model.specs.Tree.{Shape, IsTree, is_cascade}
 use Rattle.exb_model.specs.Setup.{Limits}
 use Rattle.exb_model.specs.Configuration.{Bridge}
-use Rattle.exb_model.specs.Refusals.{with_set, is_empty_set, sets_at, groups_needed, groups_short_at, groups_cause, groups_short, bridge_ports}
-use Rattle.exb_rows.specs.Sets.{PortsAt, is_same_set, sets_of}
+use Rattle.exb_model.specs.Refusals.{is_empty_set, sets_at, groups_needed, groups_short_at, groups_cause, groups_short}
+use Rattle.exb_rows.specs.Sets.{PortsAt, sets_of}
 use Rattle.exb_rows.proofs.SpaceSets.{sets_of_each}
 use Rattle.exb_plan.specs.Between.{has_set, fresh_sets}
-use Rattle.exb_plan.specs.Working.{how_many, is_at, needed_at, short_at, is_short, short_of, short_by}
+use Rattle.exb_plan.specs.Working.{how_many, is_at, needed_at, is_short, short_of, short_by}
 use Rattle.exb_plan.proofs.Ranges.{IsFound, found}
-use Rattle.exb_plan.proofs.Distinct.{AreSets, fold_put, others}
-use Rattle.exb_plan.proofs.Each.{Each, each_map, filter_each, how_many-none, image_passes}
+use Rattle.exb_plan.proofs.Distinct.{fold_put, others}
+use Rattle.exb_plan.proofs.Each.{Each, each_map, how_many-none, image_passes}
 use Rattle.exb_plan.proofs.SetFacts.{IsBelow, sets_below, space_sets_apart, bytes_is, bytes_itself, at_port, count_at}
 
 module _ (t : Shape) (old new : Bridge) where

@@ -1,14 +1,14 @@
 -- The groups of one bridge port are those of just some sets.
-use Rattle.std.proofs.Common.{◌≡◌, ◌≢◌, ℕ, zero, suc, ◌+◌, ◌-◌, ◌<◌, ◌≤◌, ◌==◌, ◌&&◌, ◌||◌, ◌++◌, cond, Bool, true, false, not, List, [], ◌∷◌, Option, Some, None, map, filter, refl, sym, ◌∙◌, ap, subst, arith, inl, inr, eq-eqb}
+use Rattle.std.proofs.Common.{◌≡◌, ◌≢◌, ℕ, ◌+◌, ◌-◌, ◌<◌, ◌≤◌, ◌&&◌, ◌||◌, cond, Bool, true, false, not, List, [], ◌∷◌, Option, Some, None, map, filter, refl, sym, ◌∙◌, ap, subst, arith, inl, inr, eq-eqb}
 use Rattle.std.specs.Prelude.{is_some, bytes_eq, find}
 use Rattle.std.specs.List.{list_any, range_with_len}
-use Rattle.std.proofs.lemmas.Bool.{cases_Bool, cases_eq, or_cases, or_left, or_right, and_parts, and_from, ne_eqb, false≢true, false_from_ne_true}
+use Rattle.std.proofs.lemmas.Bool.{cases_eq, or_cases, or_left, or_right, and_parts, and_from, ne_eqb, false≢true, false_from_ne_true}
 use Rattle.exb_model.specs.Refusals.{is_empty_set}
 use Rattle.exb_rows.specs.Sets.{PortsAt}
 use Rattle.exb_numbers.specs.Lowest.{lowest_free}
 use Rattle.exb_plan.specs.Held.{Held, Group, group_in, group_used, or_zero, free_group, group_for, numbered, give, give_all, free_where}
-use Rattle.exb_plan.specs.Working.{IsFresh, AreFresh, is_at}
-use Rattle.exb_plan.proofs.Ranges.{IsFound, found, none_passes}
+use Rattle.exb_plan.specs.Working.{AreFresh, is_at}
+use Rattle.exb_plan.proofs.Ranges.{IsFound, found}
 use Rattle.exb_plan.proofs.SetFacts.{bytes_is, bytes_itself}
 use Rattle.exb_plan.proofs.Claiming.{AreLow, absent_each, given_here, given_else, free_set}
 

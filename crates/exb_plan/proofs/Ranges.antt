@@ -1,8 +1,8 @@
 -- The first number of a range that passes a test.
-use Rattle.std.proofs.Common.{◌≡◌, ℕ, zero, suc, ◌+◌, ◌<◌, ◌≤◌, Bool, true, false, not, refl, sym, ap, ◌∙◌, inl, inr, arith}
+use Rattle.std.proofs.Common.{◌≡◌, ℕ, zero, suc, ◌+◌, ◌<◌, ◌≤◌, Bool, true, false, refl, sym, ap, ◌∙◌, inl, inr, arith}
 use Rattle.std.specs.Prelude.{Some, None, find}
 use Rattle.std.specs.List.{range_with_len}
-use Rattle.std.proofs.lemmas.Bool.{cases_eq, cases_Bool, false≢true}
+use Rattle.std.proofs.lemmas.Bool.{cases_eq, cases_Bool}
 
 pub find_first : (test : ℕ → Bool) (a n k : ℕ) → a ≤ k → k < a + n → test k ≡ true → ((c : ℕ) → a ≤ c → c < k → test c ≡ false) → find test (range_with_len a n) ≡ Some k
 find_first test a zero k low high is before = absurd (omega arith)

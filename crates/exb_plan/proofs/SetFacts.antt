@@ -1,13 +1,13 @@
 -- The sets of a configuration: none is empty or stands twice, and each is below a cascade port of the bridge.
-use Rattle.std.proofs.Common.{◌≡◌, ◌≢◌, ℕ, zero, suc, ◌+◌, ◌-◌, ◌<◌, ◌≤◌, ◌==◌, ◌||◌, ◌&&◌, cond, Bool, true, false, not, List, [], ◌∷◌, ◌++◌, length, map, filter, fold, refl, sym, ◌∙◌, ap, subst, arith, inl, inr, eq-eqb}
+use Rattle.std.proofs.Common.{◌≡◌, ℕ, suc, ◌+◌, ◌-◌, ◌<◌, ◌≤◌, ◌||◌, ◌&&◌, cond, Bool, true, false, not, List, [], ◌∷◌, ◌++◌, length, map, filter, fold, refl, sym, ◌∙◌, ap, subst, arith, inl, inr, eq-eqb}
 use Rattle.std.specs.Prelude.{bytes_eq}
-use Rattle.std.specs.List.{list_any, flat_map, range_with_len}
-use Rattle.std.proofs.lemmas.Bool.{cases_Bool, cases_eq, and_parts, ne_eqb, false≢true}
+use Rattle.std.specs.List.{list_any, flat_map}
+use Rattle.std.proofs.lemmas.Bool.{cases_eq, and_parts, ne_eqb, false≢true}
 use Rattle.exb_model.specs.Ports.{below, all_ports}
-use Rattle.exb_model.specs.Tree.{Shape, IsTree, device, trunk, is_cascade, is_under}
+use Rattle.exb_model.specs.Tree.{Shape, IsTree, is_cascade, is_under}
 use Rattle.exb_model.specs.Configuration.{Bridge}
-use Rattle.exb_model.specs.Refusals.{Source, sources, part, without_isolated, parts, bridge_ports, with_set, is_empty_set, sets_at, is_kind}
-use Rattle.exb_rows.specs.Sets.{PortsAt, parts_of, parts_below, is_same_set, with_set_at, sets_of, SetsOfEach}
+use Rattle.exb_model.specs.Refusals.{Source, sources, part, parts, is_empty_set, sets_at, is_kind}
+use Rattle.exb_rows.specs.Sets.{PortsAt, parts_of, parts_below, is_same_set, with_set_at, sets_of}
 use Rattle.exb_rows.proofs.SpaceSets.{sets_of_each}
 use Rattle.exb_plan.specs.Between.{has_set}
 use Rattle.exb_plan.specs.Working.{how_many, is_at}

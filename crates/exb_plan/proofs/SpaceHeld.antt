@@ -1,14 +1,14 @@
 -- What spaces hold once numbers of one of them are claimed.
-use Rattle.std.proofs.Common.{◌≡◌, ◌≢◌, ℕ, ◌+◌, ◌-◌, ◌/◌, ◌<◌, ◌≤◌, ◌==◌, ◌&&◌, cond, Bool, true, false, List, [], ◌∷◌, Option, Some, None, length, get_or, refl, sym, ◌∙◌, ap, subst, arith, inl, inr, eq-eqb}
+use Rattle.std.proofs.Common.{◌≡◌, ℕ, ◌+◌, ◌-◌, ◌/◌, ◌<◌, ◌==◌, ◌&&◌, cond, Bool, true, false, List, [], Option, Some, None, length, refl, sym, ◌∙◌, ap, subst, arith, inl, inr, eq-eqb}
 use Rattle.std.specs.Prelude.{is_some, nat_lt, unwrap_or, Result, Ok, Err, MatchResult, IfOk, IsOk, slice_index_or}
-use Rattle.std.proofs.lemmas.Bool.{cases_eq, cases_Bool, and_parts, ltb-true, eqb-true, ne_eqb, false≢true}
+use Rattle.std.proofs.lemmas.Bool.{cases_eq, and_parts, ltb-true, eqb-true, ne_eqb, false≢true}
 use Rattle.std.proofs.lemmas.List.{get_or-set_same, get_or-set_other}
 use mathlib.Core.Path.{fun_ext}
 use Rattle.exb_model.specs.Tree.{Shape, IsTree, device, trunk, is_extended}
 use Rattle.exb_numbers.specs.Channels.{holder, channel_of, is_used, lowest_channel}
 use Rattle.exb_numbers.specs.Groups.{Groups, set_of, group_of}
 use Rattle.exb_numbers.specs.Spaces.{Spaces, has_space, channels_at, groups_at, no_groups, with_channels, with_groups}
-use Rattle.exb_plan.specs.Held.{Held, Group, held_by, channel_in, group_in, or_zero, give, channel_used, give_channel, free_port_of}
+use Rattle.exb_plan.specs.Held.{Held, held_by, channel_in, group_in, or_zero, give, channel_used, give_channel, free_port_of}
 use Rattle.exb_plan.specs.Working.{SpacesOf}
 use Rattle.exb_plan.proofs.Counting.{lowest_unused}
 use Rattle.exb_plan.proofs.Trunks.{home_low, home_cascade}

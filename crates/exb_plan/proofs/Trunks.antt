@@ -1,6 +1,6 @@
 -- Ports of extenders and the bridge ports above them.
-use Rattle.std.proofs.Common.{◌≡◌, ◌≢◌, ℕ, zero, suc, ◌+◌, ◌-◌, ◌/◌, ◌<◌, ◌≤◌, ◌==◌, ◌&&◌, Bool, true, false, not, List, nat_lt, nat_le, slice_index, refl, sym, ◌∙◌, ap, subst, arith, inl, inr, eq-eqb}
-use Rattle.std.proofs.lemmas.Bool.{cases_Bool, cases_lt, eqb-true, ne_eqb, ltb-true, lt-ltb, leb-true, le-leb, lt-leb, and_parts, and_from, false≢true, false_from_ne_true}
+use Rattle.std.proofs.Common.{◌≡◌, ℕ, zero, suc, ◌+◌, ◌-◌, ◌/◌, ◌<◌, ◌≤◌, ◌==◌, ◌&&◌, Bool, true, false, not, nat_le, slice_index, refl, sym, ◌∙◌, ap, subst, arith, inl, inr, eq-eqb}
+use Rattle.std.proofs.lemmas.Bool.{cases_Bool, eqb-true, ne_eqb, ltb-true, lt-ltb, leb-true, le-leb, and_parts, and_from, false≢true, false_from_ne_true}
 use Rattle.exb_model.specs.declared.role.Role.{Role}
 use Rattle.exb_model.specs.declared.role.Role.TheVariants as role
 use Rattle.exb_model.specs.Tree.{Shape, IsTree, HangsOn, IsCascade, HasRole, device, on, top, trunk, is_port, is_cascade, is_extender, is_external, is_extended, is_under, is_cascade_under}

@@ -1,29 +1,28 @@
 -- The plan, put together.
-use Rattle.std.proofs.Common.{◌≡◌, ◌∙◌, ◌+◌, ◌-◌, ◌<◌, ◌≤◌, ◌&&◌, ◌/◌, ℕ, zero, suc, Bool, true, false, cond, List, [], ◌∷◌, Option, Some, None, length, get_or, map, refl, sym, ap, subst, arith}
-use Rattle.std.specs.Prelude.{nat_lt, is_some, All}
-use Rattle.std.proofs.lemmas.Bool.{lt-ltb, false≢true}
+use Rattle.std.proofs.Common.{◌≡◌, ◌∙◌, ◌-◌, ◌<◌, ◌/◌, ℕ, zero, suc, List, [], ◌∷◌, Option, Some, None, length, get_or, map, refl, sym, ap, subst, arith}
+use Rattle.std.specs.Prelude.{All}
+use Rattle.std.proofs.lemmas.Bool.{lt-ltb}
 use Rattle.exb_model.specs.declared.event.Cause.{Cause}
-use Rattle.exb_model.specs.Tree.{Shape, IsTree, is_cascade, trunk}
+use Rattle.exb_model.specs.Tree.{Shape, IsTree, trunk}
 use Rattle.exb_model.specs.Setup.{Limits}
 use Rattle.exb_model.specs.Configuration.{Bridge}
-use Rattle.exb_model.specs.Refusals.{channels_short, groups_short, first_cause}
-use Rattle.exb_numbers.specs.Spaces.{Spaces, has_space, channels_at, groups_at}
+use Rattle.exb_model.specs.Refusals.{channels_short, first_cause}
+use Rattle.exb_numbers.specs.Spaces.{Spaces}
 use Rattle.exb_rows.specs.declared.group_sets.SetAt.{SetAt}
 use Rattle.exb_rows.specs.Sets.{PortsAt, sets_of, seen}
 use Rattle.exb_plan.specs.declared.change.Change.{Change}
-use Rattle.exb_plan.specs.declared.change.Decision.{Decision}
 use Rattle.exb_plan.specs.declared.change.Decision.TheVariants.{Refused, Ready}
-use Rattle.exb_plan.specs.Held.{Held, Group, held_by, HoldsNeeded, HasSpaces, group_in, group_for, give, give_all, numbered, channel_used}
-use Rattle.exb_plan.specs.Between.{goes_up, goes_down, trunk_of, refusal_between, fresh_sets, gone_groups}
-use Rattle.exb_plan.specs.Plans.{new_channel, with_channel, with_up, fresh_groups, prepare_of, cleanup_of, claimed, change_of, decision, decision_by, held_after, held_by_cause}
-use Rattle.exb_plan.specs.Working.{IsPlaced, ArePlaced, IsFresh, AreFresh, AreLimited, IsAlike, CanClaim, CanClaimUp, HasUp, HasChannel, SpacesOf, AreClaimed, IsLaterBy, AreGiven, refusal_by, short_by, claimed_by, change_by}
+use Rattle.exb_plan.specs.Held.{Held, Group, held_by, HoldsNeeded, HasSpaces, group_in, group_for, give, channel_used}
+use Rattle.exb_plan.specs.Between.{goes_up, goes_down, trunk_of, refusal_between, fresh_sets}
+use Rattle.exb_plan.specs.Plans.{with_channel, fresh_groups, prepare_of, cleanup_of, claimed, change_of, decision, decision_by, held_after, held_by_cause}
+use Rattle.exb_plan.specs.Working.{IsPlaced, AreFresh, AreLimited, IsAlike, CanClaim, CanClaimUp, HasUp, SpacesOf, AreClaimed, IsLaterBy, AreGiven, refusal_by, short_by, claimed_by, change_by}
 use Rattle.exb_plan.proofs.Each.{Each}
 use Rattle.exb_plan.proofs.SetFacts.{IsBelow, sets_below}
 use Rattle.exb_plan.proofs.Needed.{groups_short_is}
 use Rattle.exb_plan.proofs.Fresh.{fresh_can, placed_fresh}
 use Rattle.exb_plan.proofs.Channels.{can_claim_up}
 use Rattle.exb_plan.proofs.Claiming.{are_given}
-use Rattle.exb_plan.proofs.ClaimLoop.{alike_limited, alike_placed, alike_more}
+use Rattle.exb_plan.proofs.ClaimLoop.{alike_limited, alike_placed}
 
 -- ---- the spaces
 pub spaces_of : (t : Shape) (l : Limits) (v : Spaces) → HasSpaces t l v → SpacesOf t v

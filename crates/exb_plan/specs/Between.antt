@@ -1,6 +1,6 @@
 -- What changes from one configuration to another: the port that goes up or down, the sets that come and go,
 -- and whether the numbers suffice.
-use Rattle.std.specs.Prelude.{ℕ, ◌+◌, ◌==◌, ◌&&◌, Bool, true, not, List, [], ◌∷◌, Option, Some, None, filter, find, map, flat_map}
+use Rattle.std.specs.Prelude.{ℕ, ◌+◌, ◌&&◌, Bool, not, List, Option, Some, None, filter, find, map, flat_map}
 use Rattle.std.specs.List.{list_any, range_with_len}
 use Rattle.exb_model.specs.declared.event.Cause.{Cause}
 use Rattle.exb_model.specs.Ports.{all_ports}

@@ -1,6 +1,6 @@
 -- What the spaces hold: by the place of a bridge port, which is its number less 1, the port of each channel
 -- and the set of each group.
-use Rattle.std.specs.Prelude.{◌≡◌, ℕ, ◌+◌, ◌-◌, ◌<◌, ◌==◌, ◌&&◌, ◌||◌, Bool, true, not, bytes_eq, List, [], ◌∷◌, ◌++◌, Option, Some, None, is_some, find, length, nat_lt, if◌then◌else◌}
+use Rattle.std.specs.Prelude.{◌≡◌, ℕ, ◌+◌, ◌-◌, ◌<◌, ◌==◌, ◌&&◌, ◌||◌, Bool, true, not, bytes_eq, List, [], ◌∷◌, Option, Some, None, is_some, find, length, nat_lt, if◌then◌else◌}
 use Rattle.std.specs.List.{list_any, range_with_len}
 use Rattle.exb_model.specs.Tree.{Shape, device, is_cascade, is_under, is_cascade_under, trunk}
 use Rattle.exb_model.specs.Setup.{Limits}

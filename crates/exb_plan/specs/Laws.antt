@@ -1,5 +1,5 @@
 -- What is true of all plans.
-use Rattle.std.specs.Prelude.{◌≡◌, ◌≢◌, ℕ, ◌<◌, ◌≤◌, true, false, List, [], Option, Some, None, is_some}
+use Rattle.std.specs.Prelude.{◌≡◌, ◌≢◌, ℕ, ◌<◌, ◌≤◌, true, false, [], Some, None, is_some}
 use Rattle.exb_model.specs.declared.command.Command.{Command}
 use Rattle.exb_model.specs.Tree.{Shape, IsTree, is_cascade, is_external, is_extended, is_cascade_under}
 use Rattle.exb_model.specs.Setup.{Limits}

@@ -1,6 +1,5 @@
 -- The values with which the code makes a plan.
-use Rattle.std.specs.Prelude.{◌≡◌, ◌≢◌, ℕ, ◌+◌, ◌-◌, ◌*◌, ◌/◌, ◌<◌, ◌≤◌, ◌==◌, ◌&&◌, Bool, true, false, not, List, [], ◌∷◌, Option, Some, None, is_some, filter, filter_map, map, length, find, nat_lt, if◌then◌else◌}
-use Rattle.std.specs.List.{range_with_len}
+use Rattle.std.specs.Prelude.{◌≡◌, ℕ, ◌+◌, ◌-◌, ◌*◌, ◌/◌, ◌<◌, ◌≤◌, ◌==◌, ◌&&◌, Bool, true, false, List, [], ◌∷◌, Option, Some, None, is_some, filter, filter_map, map, length, find, nat_lt, if◌then◌else◌}
 use Rattle.exb_model.specs.declared.port_set.PortSet.{PortSet}
 use Rattle.exb_model.specs.Masks.{bits_of}
 use Rattle.exb_model.specs.Ports.{port_in, ports_of}
@@ -177,11 +176,15 @@ prepare_by t l h up fresh = prepare_with t (new_channel t l h up) up (numbered l
 abbrev pub claimed_by : Shape → Limits → Held → Option ℕ → List PortsAt → Held
 claimed_by t l h up fresh = give_all (numbered l.groups (with_up_by t l h up) fresh) (with_up_by t l h up)
 
-abbrev pub change_by : Shape → Limits → Held → Option ℕ → Option ℕ → List PortsAt → List PortsAt → Change
-change_by t l h up down kept fresh =
+-- the change, by the groups that go
+abbrev pub change_with : Shape → Limits → Held → Option ℕ → Option ℕ → List Group → List PortsAt → Change
+change_with t l h up down gone fresh =
     record {
       prepare = prepare_by t l h up fresh;
-      cleanup = cleanup_with t (own_channel t h down) down (gone_groups t kept h);
+      cleanup = cleanup_with t (own_channel t h down) down gone;
       channels = freed_channel t (own_channel t h down) down;
-      groups = map number_of (gone_groups t kept h);
+      groups = map number_of gone;
     }
+
+abbrev pub change_by : Shape → Limits → Held → Option ℕ → Option ℕ → List PortsAt → List PortsAt → Change
+change_by t l h up down kept fresh = change_with t l h up down (gone_groups t kept h) fresh

@@ -1,6 +1,7 @@
 //! What is asked of extenders, in messages.
 ghost use Rattle.std.specs.Prelude.{◌≡◌, ◌≤◌, ◌<◌, ◌++◌, ◌∷◌, [], length, min, OnOk};
-ghost use Rattle.exb_plan.specs.Asks.{ask, register, unregister, numbers_of, message, asks_with, channel_ask, channel_asks, create_asks, delete_asks, put_above};
+ghost use Rattle.exb_model.specs.Tree.{device};
+ghost use Rattle.exb_plan.specs.Asks.{ask, register, unregister, numbers_of, message, asks_with, channel_ask, channel_asks, create_asks, delete_asks, put_above, port_number};
 
 use exb_csp::{Ecids, GroupRow, GroupRows, Request};
 use exb_model::list::List;
@@ -147,7 +148,25 @@ fn put_channel(
     Ok(())
 }
 
+// The number of a port at its extender.
+fn own_number(port: PortId) -> u8
+    ensures { result ≡ port_number port }
+{
+    (port.number() % 64) as u8 + 1
+}
+
+// Asks the extender of a port.
+fn put_own(asks: &mut List<AskAt>, port: PortId, request: Request) -> Result<(), NoMemory>
+    ensures { OnOk result (asks.new ≡ asks.old ++ ask (device port) request ∷ []) }
+{
+    asks.push(AskAt {
+        extender: (port.number() / 64) as u8,
+        request,
+    })
+}
+
 /// Asks that a port gets a channel: Register at each ancestor from the bridge down, then PortCreate.
+#[tactic(auto, using(std::proofs::lemmas::List::append_assoc), unfolding(crate::specs::Asks::create_asks))]
 pub fn put_create(
     alloc: Global,
     tree: &Tree,
@@ -158,19 +177,17 @@ pub fn put_create(
 ) -> Result<(), NoMemory>
     ensures { OnOk result (asks.new ≡ asks.old ++ create_asks tree.now port cascade channel) }
 {
+    let create = Request::PortCreate {
+        port: own_number(port),
+        cascade,
+        channel,
+    };
     put_channel(alloc, tree, Step::Lay, port, channel, asks)?;
-    let number = port.number();
-    asks.push(AskAt {
-        extender: (number / 64) as u8,
-        request: Request::PortCreate {
-            port: (number % 64) as u8 + 1,
-            cascade,
-            channel,
-        },
-    })
+    put_own(asks, port, create)
 }
 
 /// Asks that a port loses its channel: Unregister at each ancestor from the bridge down, then PortDelete.
+#[tactic(auto, using(std::proofs::lemmas::List::append_assoc), unfolding(crate::specs::Asks::delete_asks))]
 pub fn put_delete(
     alloc: Global,
     tree: &Tree,
@@ -180,12 +197,9 @@ pub fn put_delete(
 ) -> Result<(), NoMemory>
     ensures { OnOk result (asks.new ≡ asks.old ++ delete_asks tree.now port channel) }
 {
+    let delete = Request::PortDelete {
+        port: own_number(port),
+    };
     put_channel(alloc, tree, Step::Clear, port, channel, asks)?;
-    let number = port.number();
-    asks.push(AskAt {
-        extender: (number / 64) as u8,
-        request: Request::PortDelete {
-            port: (number % 64) as u8 + 1,
-        },
-    })
+    put_own(asks, port, delete)
 }

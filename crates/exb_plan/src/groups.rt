@@ -21,10 +21,13 @@ use std::alloc::Global;
 
 /// A group with its set, in the space of a bridge port, which is numbered from 1.
 #[derive(Clone, Copy, Debug, PartialEq, Eq)]
-pub(crate) struct GroupAt {
-    pub(crate) bridge_port: u8,
-    pub(crate) number: u16,
-    pub(crate) set: PortSet,
+pub struct GroupAt {
+    /// The bridge port.
+    pub bridge_port: u8,
+    /// The number of the group.
+    pub number: u16,
+    /// Its set.
+    pub set: PortSet,
 }
 
 // Whether a set has a group.
@@ -113,8 +116,8 @@ fn put_gone_at(
     Ok(())
 }
 
-// Whether an extender hangs on a port of the bridge, which is numbered from 1.
-pub(crate) fn is_cascade(tree: &Tree, bridge_port: u8) -> bool
+/// Whether an extender hangs on a port of the bridge, which is numbered from 1.
+pub fn is_cascade(tree: &Tree, bridge_port: u8) -> bool
     requires from1 { 1 ≤ bridge_port }
     requires to64 { bridge_port ≤ 64 }
     ensures { result ≡ is_cascade tree.now (bridge_port - 1) }

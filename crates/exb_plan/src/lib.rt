@@ -9,14 +9,16 @@ pub mod asks;
 pub mod change;
 mod claims;
 mod group_asks;
-mod groups;
+pub mod groups;
 pub mod laws;
 pub mod planning;
-mod refusals;
+pub mod refusals;
 
 pub use asks::AskAt;
 pub use change::{Change, Decision, Number};
-pub use planning::plan;
+pub use groups::GroupAt;
+pub use planning::{make_change, plan};
+pub use refusals::channels_short;
 
 #[cfg(test)]
 mod tests;

@@ -7,7 +7,7 @@ ghost use Rattle.exb_rows.specs.Sets.{seen};
 ghost use Rattle.exb_plan.specs.Held.{held_by, HoldsNeeded, HasSpaces};
 ghost use Rattle.exb_plan.specs.Between.{goes_up};
 ghost use Rattle.exb_plan.specs.Plans.{own_channel, new_channel, with_channel, without_channel, freed_channel, number_of, prepare_with, cleanup_with, decision, held_after};
-ghost use Rattle.exb_plan.specs.Working.{seen_group, IsAlike, CanClaim, CanClaimUp, HasUp, IsAnyExtended, SpacesOf, refusal_by, prepare_by, claimed_by, change_by};
+ghost use Rattle.exb_plan.specs.Working.{seen_group, IsAlike, CanClaim, CanClaimUp, HasUp, IsAnyExtended, SpacesOf, refusal_by, prepare_by, claimed_by, change_with, change_by};
 
 use crate::asks::{AskAt, Step, put_create, put_delete};
 use crate::change::{Change, Decision, Number};
@@ -189,6 +189,41 @@ fn claim(
     }
 }
 
+/// The change in which a port goes up or down, these groups go and these fresh sets get one. The new numbers are
+/// claimed, the lowest free ones, and the asks are those that lay and clear what changes. Out of memory nothing is
+/// claimed.
+pub fn make_change(
+    alloc: Global,
+    tree: &Tree,
+    spaces: &mut Spaces,
+    up: &Option<PortId>,
+    down: &Option<PortId>,
+    gone: &[GroupAt],
+    fresh: &[SetAt],
+) -> Result<Change, NoMemory>
+    requires up { CanClaimUp tree.now spaces.old up.now }
+    requires down { IsAnyExtended tree.now down.now }
+    requires fresh { CanClaim spaces.old (map seen fresh.now) }
+    requires spaces { SpacesOf tree.now spaces.old }
+    ensures change { (l : Limits) → HasSpaces tree.now l spaces.old → IfOk result (λ made. made
+        ≡ change_with tree.now l (held_by spaces.old) up.now down.now (map seen_group gone.now) (map seen fresh.now)) }
+    ensures held { (l : Limits) → HasSpaces tree.now l spaces.old → OnOk result (held_by spaces.new ≡ claimed_by tree.now l (held_by spaces.old) up.now (map seen fresh.now)) }
+    ensures err { OnErr result (held_by spaces.new ≡ held_by spaces.old) }
+    ensures alike { IsAlike spaces.old spaces.new }
+{
+    let channel = own_channel(tree, spaces, down);
+    let channels = freed_channel(alloc, tree, channel, down)?;
+    let groups = numbers_of(alloc, gone)?;
+    let cleanup = cleanup(alloc, tree, channel, down, gone)?;
+    let prepare = claim(alloc, tree, spaces, up, fresh)?;
+    Ok(Change {
+        prepare,
+        cleanup,
+        channels,
+        groups,
+    })
+}
+
 // The change, where it isn't refused.
 fn change(
     alloc: Global,
@@ -210,17 +245,7 @@ fn change(
     ensures alike { IsAlike spaces.old spaces.new }
 {
     let gone = gone_groups(alloc, tree, spaces, wanted)?;
-    let channel = own_channel(tree, spaces, down);
-    let channels = freed_channel(alloc, tree, channel, down)?;
-    let groups = numbers_of(alloc, gone.as_slice())?;
-    let cleanup = cleanup(alloc, tree, channel, down, gone.as_slice())?;
-    let prepare = claim(alloc, tree, spaces, up, fresh)?;
-    Ok(Change {
-        prepare,
-        cleanup,
-        channels,
-        groups,
-    })
+    make_change(alloc, tree, spaces, up, down, gone.as_slice(), fresh)
 }
 
 /// The plan of a change from one configuration to another, in which the presence of at most one port

@@ -126,12 +126,7 @@ fn present_under(tree: &Tree, config: &Config, bridge_port: u8) -> u16
 }
 
 /// Why a port can't get a channel more, if it can't.
-pub(crate) fn channels_short(
-    tree: &Tree,
-    spaces: &Spaces,
-    config: &Config,
-    port: PortId,
-) -> Option<Cause>
+pub fn channels_short(tree: &Tree, spaces: &Spaces, config: &Config, port: PortId) -> Option<Cause>
     requires extender { is_extender tree.now (port / 64) ≡ true }
     requires cascade { has_space spaces.now (trunk tree.now (port / 64)) ≡ true }
     ensures { (l : Limits) → HasSpaces tree.now l spaces.now

@@ -1,4 +1,4 @@
-use Rattle.std.proofs.Common.{◌≡◌, ◌∙◌, ◌++◌, ◌∷◌, [], ℕ, List, map, take, sym, ap, refl}
+use Rattle.std.proofs.Common.{◌∙◌, List, map, take, sym, ap, refl}
 use Rattle.exb_plan.specs.Held.{Group}
 use Rattle.exb_plan.specs.Asks.{rows_at}
 use Rattle.exb_plan.specs.Working.{seen_group}

@@ -1,4 +1,4 @@
-use Rattle.std.proofs.Common.{◌≡◌, ◌∙◌, List, take, sym, ap}
+use Rattle.std.proofs.Common.{◌∙◌, List, take, sym, ap}
 use Rattle.exb_plan.specs.declared.group_asks.Covered.{Covered}
 use Rattle.exb_plan.specs.Working.{rows_of_covered}
 use Rattle.exb_plan.proofs.Lists.{taken_next}

@@ -1,7 +1,6 @@
-use Rattle.std.proofs.Common.{◌≡◌, ◌∙◌, ◌++◌, ◌+◌, ◌-◌, ◌≤◌, ℕ, List, [], Option, Some, None, true, map, refl, sym, ap, subst, arith}
+use Rattle.std.proofs.Common.{◌≡◌, ◌∙◌, ◌++◌, ◌+◌, ◌-◌, List, [], Option, Some, None, map, refl, sym, ap, arith}
 use Rattle.std.specs.Prelude.{MatchOption}
 use Rattle.std.proofs.lemmas.List.{append_assoc}
-use Rattle.exb_model.specs.Ports.{ports_of}
 use Rattle.exb_numbers.specs.Groups.{Groups, set_of, is_used}
 use Rattle.exb_rows.specs.Sets.{seen}
 use Rattle.exb_plan.specs.Held.{Group, held_by}

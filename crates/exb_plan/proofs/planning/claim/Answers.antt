@@ -1,6 +1,6 @@
-use Rattle.std.proofs.Common.{◌≡◌, ◌∙◌, Option, ℕ, map, sym, ap}
+use Rattle.std.proofs.Common.{◌∙◌, map, ap}
 use Rattle.exb_rows.specs.Sets.{seen}
-use Rattle.exb_plan.specs.Held.{Held, held_by}
+use Rattle.exb_plan.specs.Held.{held_by}
 use Rattle.exb_plan.specs.Plans.{without_channel}
 use Rattle.exb_plan.specs.Working.{seen_group}
 use Rattle.exb_plan.proofs.ClaimLoop.{alike_more}

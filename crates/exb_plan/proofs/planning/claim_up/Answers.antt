@@ -1,4 +1,4 @@
-use Rattle.std.proofs.Common.{◌≡◌, ◌∙◌, ◌/◌, true, Option, ℕ, sym, ap, subst}
+use Rattle.std.proofs.Common.{◌∙◌, ◌/◌, Option, ℕ, sym, ap, subst}
 use Rattle.exb_model.specs.Tree.{trunk}
 use Rattle.exb_plan.specs.Held.{Held, held_by, channel_used, free_port_of}
 use Rattle.exb_plan.specs.Plans.{without_channel}

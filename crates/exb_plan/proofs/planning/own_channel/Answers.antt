@@ -1,9 +1,8 @@
-use Rattle.std.proofs.Common.{◌≡◌, ℕ, ◌+◌, ◌-◌, ◌/◌, true, List, Option, Some, ap, sym, subst, ◌∙◌, arith}
-use Rattle.std.specs.Prelude.{unwrap_or}
+use Rattle.std.proofs.Common.{◌≡◌, ℕ, ◌+◌, ◌-◌, ◌/◌, true, List, Option, ap, sym, subst, ◌∙◌, arith}
 use Rattle.exb_model.specs.Tree.{trunk, is_extended}
 use Rattle.exb_numbers.specs.Channels.{channel_of}
 use Rattle.exb_numbers.specs.Spaces.{channels_at}
-use Rattle.exb_plan.specs.Held.{held_by, channel_in, or_zero}
+use Rattle.exb_plan.specs.Held.{held_by, or_zero}
 use Rattle.exb_plan.specs.Plans.{own_channel}
 use Rattle.exb_plan.specs.Working.{IsAnyExtended}
 use Rattle.exb_plan.proofs.SpaceHeld.{home_space, channel_in_is, unwrap_is}

@@ -1,4 +1,4 @@
-use Rattle.std.proofs.Common.{◌≡◌, ◌∙◌, ℕ, Option, Some, None, List, not, filter, map, sym, ap, subst}
+use Rattle.std.proofs.Common.{◌∙◌, ℕ, Option, List, not, filter, map, sym, ap, subst}
 use Rattle.std.specs.Prelude.{All}
 use Rattle.exb_config.specs.Tables.{bridge_of}
 use Rattle.exb_rows.specs.declared.group_sets.SetAt.{SetAt}

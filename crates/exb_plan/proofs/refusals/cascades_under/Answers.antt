@@ -1,6 +1,4 @@
-use Rattle.std.proofs.Common.{◌≡◌, ◌∙◌, ◌+◌, ◌-◌, ◌<◌, ◌≤◌, ℕ, true, false, sym, ap, subst, arith}
-use Rattle.std.specs.Prelude.{count_by}
-use Rattle.exb_model.specs.Ports.{below}
+use Rattle.std.proofs.Common.{◌≡◌, ◌∙◌, ◌+◌, ◌-◌, ℕ, true, false, sym, ap, arith}
 use Rattle.exb_model.specs.Tree.{is_cascade_under}
 use Rattle.exb_model.proofs.Validity.{count_more_yes, count_more_no, count_none}
 use Rattle.exb_plan.proofs.Counts.{cascades_are}

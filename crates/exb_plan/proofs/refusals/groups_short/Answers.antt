@@ -1,10 +1,9 @@
-use Rattle.std.proofs.Common.{◌≡◌, ◌∙◌, ◌+◌, ◌-◌, ◌<◌, ◌≤◌, ℕ, Bool, true, false, Option, Some, None, map, refl, sym, ap, subst, arith}
+use Rattle.std.proofs.Common.{◌≡◌, ◌∙◌, ◌+◌, ◌-◌, true, Option, Some, None, map, refl, sym, ap, arith}
 use Rattle.std.specs.Prelude.{is_some}
 use Rattle.std.proofs.lemmas.Bool.{false≢true}
 use Rattle.exb_model.specs.declared.event.Cause.{Cause}
-use Rattle.exb_model.specs.Tree.{is_cascade}
 use Rattle.exb_rows.specs.Sets.{seen}
-use Rattle.exb_plan.specs.Working.{is_short, short_at}
+use Rattle.exb_plan.specs.Working.{short_at}
 use Rattle.exb_plan.proofs.Finding.{short_cause, short_found, short_none}
 use Rattle.exb_plan.proofs.refusals.groups_short.Goals as goal
 
