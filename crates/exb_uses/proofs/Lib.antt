@@ -1,0 +1,10 @@
+pub mod Tests
+pub mod Putting
+pub mod Differing
+pub mod Untouched
+pub mod Commands
+pub mod Uses
+pub mod Coming
+pub mod Going
+pub mod Covered
+pub mod InUse
