@@ -1,0 +1,169 @@
+-- The parts of a source below all bridge ports, and what is put of sources.
+use Rattle.std.proofs.Common.{◌≡◌, ℕ, zero, suc, ◌+◌, ◌-◌, ◌/◌, ◌≤◌, ◌==◌, ◌&&◌, Bool, true, false, not, List, [], ◌∷◌, ◌++◌, slice_index, filter, map, refl, sym, ◌∙◌, ap, inl, inr, arith, nat_lt}
+use Rattle.std.specs.List.{flat_map}
+use Rattle.std.proofs.lemmas.Bool.{cases_lt, lt-ltb, le-ltb}
+use Rattle.std.proofs.lemmas.List.{append-nil, append_assoc}
+use Rattle.std.proofs.lemmas.List.Concat.{flat_map-append}
+use Rattle.std.proofs.lemmas.List.Elements.{filter-append}
+use Rattle.exb_model.specs.declared.vlan.Kind.{Kind}
+use Rattle.exb_model.specs.declared.port_set.PortSet.{PortSet}
+use Rattle.exb_model.specs.Ports.{port_in, ports_of, below, all_ports}
+use Rattle.exb_model.specs.Tree.{Shape, IsTree, is_extended, is_under}
+use Rattle.exb_model.specs.Configuration.{Bridge}
+use Rattle.exb_model.specs.Refusals.{Source, part, without_isolated, is_kind, is_empty_set}
+use Rattle.exb_model.proofs.PortLemmas.{below-more}
+use Rattle.exb_rows.specs.declared.group_sets.SetAt.{SetAt}
+use Rattle.exb_rows.specs.Ground.{IsPart}
+use Rattle.exb_rows.specs.Sets.{PortsAt, parts_of, parts_below, seen}
+use Rattle.exb_rows.proofs.SetPorts.{ports_by}
+use Rattle.exb_rows.proofs.SetFolds.{rest_is, place_is}
+use Rattle.exb_rows.proofs.GroundLemmas.{under_is, past_extended}
+use Rattle.exb_model.specs.declared.command.Command.{Command}
+use Rattle.exb_uses.specs.Touched.{touched_before, touched_after, parts_before, parts_after}
+use Rattle.exb_planning.specs.declared.touched.ground.Ground.{Ground}
+use Rattle.exb_planning.specs.declared.touched.ground.When.{When}
+use Rattle.exb_planning.specs.declared.touched.ground.When.TheVariants as when
+use Rattle.exb_planning.specs.Some.{has_ports}
+use Rattle.exb_planning.specs.Cutting.{state_at, IsGround, IsAmong, some_parts, Adds}
+
+-- ---- the present ports
+pub all_present : (t : Shape) (present : ℕ → Bool) (n q : ℕ) → IsTree t → 4160 ≤ n → (nat_lt q n && (is_extended t q && present q)) ≡ (is_extended t q && present q)
+all_present t present n q valid h =
+    elim (cases_lt q n) [
+      | inl l ↦ rw (lt-ltb q n l) refl
+      | inr g ↦ rw (le-ltb q n g) (sym (ap (λ c. c && present q) (past_extended t q valid (omega arith))))
+    ]
+
+-- ---- one set
+pub none_more : (xs : List PortsAt) (s : PortsAt) → is_empty_set s.ports ≡ true → xs ≡ xs ++ filter has_ports (s ∷ [])
+none_more xs s h = rw h (sym (append-nil xs))
+
+pub one_more : (xs : List PortsAt) (s : PortsAt) → is_empty_set s.ports ≡ false → xs ++ s ∷ [] ≡ xs ++ filter has_ports (s ∷ [])
+one_more xs s h = rw h refl
+
+-- ---- the ports of a part
+part_is : (t : Shape) (k : ℕ) (b : Bridge) (x : Source) →
+    part t k b x ≡ filter (λ q. is_under t k q && b.present q && x.among q && is_kind x.kind (b.member x.vid q)) all_ports
+unfolding part
+part_is t k b x = refl
+
+and_turned : (u p a c : Bool) → (u && (p && a && c)) ≡ (u && p && a && c)
+and_turned true p a c = refl
+and_turned false p a c = refl
+
+cut_is : (t : Shape) (b : Bridge) (x : Source) (g : Ground) (whole : PortSet) → IsGround t b g → IsPart t b x whole → (k : ℕ) (set : PortSet) →
+    ((q : ℕ) → port_in set q ≡ (slice_index g.trunks (q / 64) == k + 1 && port_in whole q)) → ports_of set ≡ part t k b x
+cut_is t b x g whole ground is_part k set is =
+    ports_by set (λ q. is_under t k q && b.present q && x.among q && is_kind x.kind (b.member x.vid q))
+    (λ q l.
+    is q ∙ (ap (λ c. slice_index g.trunks (q / 64) == k + 1 && c) (is_part q) ∙ (
+    under_is t k q (slice_index g.trunks (q / 64)) (b.present q && x.among q && is_kind x.kind (b.member x.vid q)) (ground.trunks (q / 64) (omega arith))
+    ∙ and_turned (is_under t k q) (b.present q) (x.among q) (is_kind x.kind (b.member x.vid q)))))
+    ∙ sym (part_is t k b x)
+
+-- ---- one bridge port more
+-- two more elements, of which those with ports are put
+two_more : (old done now first second : List PortsAt) (r s : PortsAt) → now ≡ old ++ filter has_ports done →
+    first ≡ now ++ filter has_ports (r ∷ []) → second ≡ first ++ filter has_ports (s ∷ []) → second ≡ old ++ filter has_ports (done ++ r ∷ s ∷ [])
+two_more old done now first second r s before one two =
+    let f : List PortsAt → List PortsAt = filter has_ports in
+    two ∙ (ap (λ (l : List PortsAt). l ++ f (s ∷ [])) (one ∙ ap (λ (l : List PortsAt). l ++ f (r ∷ [])) before)
+    ∙ (append_assoc (old ++ f done) (f (r ∷ [])) (f (s ∷ [])) ∙ (append_assoc old (f done) (f (r ∷ []) ++ f (s ∷ []))
+    ∙ ap (λ (l : List PortsAt). old ++ l) (ap (λ (l : List PortsAt). f done ++ l) (sym (filter-append has_ports (r ∷ []) (s ∷ []))) ∙ sym (filter-append has_ports done (r ∷ s ∷ []))))))
+
+parts_more : (t : Shape) (b : Bridge) (x : Source) (k : ℕ) (old now first second : List PortsAt) (r s : PortsAt) →
+    now ≡ old ++ filter has_ports (flat_map (parts_of t b x) (below k)) → first ≡ now ++ filter has_ports (r ∷ []) → second ≡ first ++ filter has_ports (s ∷ []) →
+    r ≡ record { bridge_port = k + 1; ports = part t k b x } → s ≡ record { bridge_port = k + 1; ports = without_isolated b (part t k b x) } →
+    second ≡ old ++ filter has_ports (flat_map (parts_of t b x) (below (k + 1)))
+parts_more t b x k old now first second r s before one two is_r is_s =
+    let parts = parts_of t b x in
+    let more : flat_map parts (below k) ++ r ∷ s ∷ [] ≡ flat_map parts (below (k + 1)) =
+    rw (is_r, is_s, below-more k, flat_map-append parts (below k) (k ∷ []), append-nil) refl in
+    two_more old (flat_map parts (below k)) now first second r s before one two ∙ ap (λ (l : List PortsAt). old ++ filter has_ports l) more
+
+pub parts_none : (t : Shape) (b : Bridge) (x : Source) (old : List PortsAt) → old ≡ old ++ filter has_ports (flat_map (parts_of t b x) (below 0))
+unfolding below
+parts_none t b x old = sym (append-nil old)
+
+pub parts_all : (t : Shape) (b : Bridge) (x : Source) → filter has_ports (flat_map (parts_of t b x) (below 64)) ≡ some_parts t b (x ∷ [])
+unfolding parts_below some_parts
+parts_all t b x = ap (filter has_ports) (sym (append-nil (flat_map (parts_of t b x) (below 64))))
+
+-- a turn of the loop over bridge ports, which are numbered from 1
+pub parts_step : (t : Shape) (b : Bridge) (x : Source) (g : Ground) (whole cut left : PortSet) (p : ℕ) (old now first second : List PortsAt) →
+    IsGround t b g → IsPart t b x whole → 1 ≤ p → ((q : ℕ) → port_in cut q ≡ (slice_index g.trunks (q / 64) == p && port_in whole q)) →
+    ((q : ℕ) → port_in left q ≡ (port_in cut q && not (port_in g.isolated q))) → now ≡ old ++ filter has_ports (flat_map (parts_of t b x) (below (p - 1))) →
+    first ≡ now ++ filter has_ports (record { bridge_port = p; ports = ports_of cut } ∷ []) →
+    second ≡ first ++ filter has_ports (record { bridge_port = p; ports = ports_of left } ∷ []) →
+    second ≡ old ++ filter has_ports (flat_map (parts_of t b x) (below (p + 1 - 1)))
+parts_step t b x g whole cut left zero old now first second ground is_part some is_cut is_left before one two = absurd (omega arith)
+parts_step t b x g whole cut left (suc k) old now first second ground is_part some is_cut is_left before one two =
+    let place : suc k ≡ k + 1 = omega arith in
+    let done : suc k - 1 ≡ k = omega arith in
+    let next : k + 1 ≡ suc k + 1 - 1 = omega arith in
+    let cut_part : ports_of cut ≡ part t k b x =
+    cut_is t b x g whole ground is_part k cut (λ q. is_cut q ∙ ap (λ (n : ℕ). slice_index g.trunks (q / 64) == n && port_in whole q) place) in
+    let left_part : ports_of left ≡ without_isolated b (part t k b x) = rest_is b g.isolated cut left (part t k b x) ground.isolated cut_part is_left in
+    parts_more t b x k old now first second (record { bridge_port = suc k; ports = ports_of cut }) (record { bridge_port = suc k; ports = ports_of left })
+    (before ∙ ap (λ (n : ℕ). old ++ filter has_ports (flat_map (parts_of t b x) (below n))) done) one two
+    (place_is (suc k) (k + 1) (ports_of cut) (part t k b x) place cut_part)
+    (place_is (suc k) (k + 1) (ports_of left) (without_isolated b (part t k b x)) place left_part)
+    ∙ ap (λ (n : ℕ). old ++ filter has_ports (flat_map (parts_of t b x) (below n))) next
+
+-- ---- the part of a source
+pub among_part : (t : Shape) (b : Bridge) (vid : ℕ) (kind : Kind) (test : ℕ → Bool) (among whole : PortSet) → IsAmong t b test among →
+    ((q : ℕ) → (port_in among q ≡ true → b.present q ≡ true) → port_in whole q ≡ (port_in among q && is_kind kind (b.member vid q))) →
+    IsPart t b (record { vid = vid; kind = kind; among = test }) whole
+among_part t b vid kind test among whole is_among is q =
+    is q (λ h. within (is_extended t q) (b.present q) (test q) (sym (is_among q) ∙ h))
+    ∙ (ap (λ c. c && is_kind kind (b.member vid q)) (is_among q) ∙ moved (is_extended t q) (b.present q) (test q) (is_kind kind (b.member vid q)))
+  where
+    within : (e p a : Bool) → (e && p && a) ≡ true → p ≡ true
+    within e true a h = refl
+    within true false a h = h
+    within false false a h = h
+
+    moved : (e p a k : Bool) → ((e && p && a) && k) ≡ (e && (p && a && k))
+    moved true p a k = refl
+    moved false p a k = refl
+
+-- all of the ground
+pub all_among : (t : Shape) (b : Bridge) (g : Ground) → IsGround t b g → IsAmong t b (λ q. true) g.present
+all_among t b g ground q = ground.present q ∙ and_true (is_extended t q && b.present q)
+  where
+    and_true : (c : Bool) → c ≡ (c && true)
+    and_true true = refl
+    and_true false = refl
+
+-- ---- one source after another
+some-append : (t : Shape) (b : Bridge) (xs ys : List Source) → some_parts t b (xs ++ ys) ≡ some_parts t b xs ++ some_parts t b ys
+unfolding some_parts
+some-append t b xs ys = ap (filter has_ports) (flat_map-append (parts_below t b) xs ys) ∙ filter-append has_ports (flat_map (parts_below t b) xs) (flat_map (parts_below t b) ys)
+
+pub adds_none : (t : Shape) (b : Bridge) (items : List SetAt) → Adds t b [] items items
+unfolding some_parts
+adds_none t b items = sym (append-nil (map seen items))
+
+pub adds_more : (t : Shape) (b : Bridge) (xs ys : List Source) (old now new : List SetAt) → Adds t b xs old now → Adds t b ys now new → Adds t b (xs ++ ys) old new
+adds_more t b xs ys old now new one two =
+    two ∙ (ap (λ (l : List PortsAt). l ++ some_parts t b ys) one
+    ∙ (append_assoc (map seen old) (some_parts t b xs) (some_parts t b ys) ∙ ap (λ (l : List PortsAt). map seen old ++ l) (sym (some-append t b xs ys))))
+
+-- the same sources by another name
+pub adds_same : (t : Shape) (b : Bridge) (xs ys : List Source) (old new : List SetAt) → xs ≡ ys → Adds t b xs old new → Adds t b ys old new
+adds_same t b xs ys old new same adds = adds ∙ ap (λ (l : List Source). map seen old ++ some_parts t b l) same
+
+-- ---- all of them
+pub before_is : (t : Shape) (c : Command) (b : Bridge) (g : Ground) (old new : List SetAt) → g.when ≡ when.Before → old ≡ [] →
+    Adds t (state_at g.when c b) (touched_before c b) old new → map seen new ≡ filter has_ports (parts_before t c b)
+unfolding some_parts parts_before
+before_is t c b g old new is none adds =
+    adds ∙ (ap (λ (l : List SetAt). map seen l ++ some_parts t (state_at g.when c b) (touched_before c b)) none
+    ∙ ap (λ (w : When). some_parts t (state_at w c b) (touched_before c b)) is)
+
+pub after_is : (t : Shape) (c : Command) (b : Bridge) (g : Ground) (old new : List SetAt) → g.when ≡ when.After → old ≡ [] →
+    Adds t (state_at g.when c b) (touched_after c b) old new → map seen new ≡ filter has_ports (parts_after t c b)
+unfolding some_parts parts_after
+after_is t c b g old new is none adds =
+    adds ∙ (ap (λ (l : List SetAt). map seen l ++ some_parts t (state_at g.when c b) (touched_after c b)) none
+    ∙ ap (λ (w : When). some_parts t (state_at w c b) (touched_after c b)) is)

@@ -1,0 +1,13 @@
+pub mod Rows
+pub mod Cuts
+pub mod Touching
+pub mod InOrder
+pub mod GoneNumbers
+pub mod Recounting
+pub mod Presences
+pub mod Leaving
+pub mod TouchedSets
+pub mod Moving
+pub mod Claimed
+pub mod Afterwards
+pub mod Freed
