@@ -1,0 +1,16 @@
+pub mod Places
+pub mod Commands
+pub mod Claims
+pub mod Bools
+pub mod Counted
+pub mod FreshGroups
+pub mod GoneGroups
+pub mod Released
+pub mod Short
+pub mod FirstClaims
+pub mod Decided
+pub mod Roles
+pub mod Freeing
+pub mod Copies
+pub mod Openings
+pub mod Kept
