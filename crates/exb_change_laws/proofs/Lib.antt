@@ -1,0 +1,17 @@
+pub mod Machine
+pub mod Taking
+pub mod Waiting
+pub mod Steps
+pub mod Counting
+pub mod Telling
+pub mod Serials
+pub mod Both
+pub mod Adding
+pub mod Plans
+pub mod Middle
+pub mod Queue
+pub mod Beginning
+pub mod Strays
+pub mod Growing
+pub mod LaidMidway
+pub mod Carried

@@ -1,0 +1,11 @@
+pub mod Growing
+pub mod Systems
+pub mod Standing
+pub mod Counts
+pub mod Strays
+pub mod Starting
+pub mod Journal
+pub mod Asking
+pub mod Planned
+pub mod Begins
+pub mod Midway

@@ -1,0 +1,116 @@
+//! What is true of every run of the machine of changes.
+ghost use Rattle.exb_change_laws.specs.Begins.{Begins, RunsFromTheBeginning};
+ghost use Rattle.exb_change_laws.specs.Asking.{StepsWait, OneWaitsAlways, StepsNumber, SerialsCount};
+ghost use Rattle.exb_change_laws.specs.Counts.{AnswersCount, HearingCounts, OthersLeaveCounts};
+ghost use Rattle.exb_change_laws.specs.Journal.{StepsTell, DecidedOnce};
+ghost use Rattle.exb_change_laws.specs.Strays.{StraysChangeNothing, OldAreStray};
+ghost use Rattle.exb_change_laws.specs.Midway.{LaidMidway, CarriesMidway};
+ghost use Rattle.exb_change_laws.specs.Planned.{PlannedStepsStand, PlannedRunsStand, ReadyMidway, AnswersAreTaken, HeldAreNumbers};
+
+/// The machine and the tables stand at the beginning, where no port of an extender is present and each extender has
+/// the tables of power-on.
+pub fn begins()
+    ensures { Begins }
+{}
+
+/// Each step keeps what stands, and no extender answers another code than 0. At rest just what is held is laid in
+/// the tables of all extenders, and just what the configuration needs is held. While a request is outstanding, the
+/// requests that are left lead to the next tables that are laid.
+pub fn steps_stand()
+    ensures { PlannedStepsStand }
+{}
+
+/// So it is over every run.
+pub fn runs_stand()
+    ensures { PlannedRunsStand }
+{}
+
+/// Over every run from the beginning the machine and the tables stand, and no extender answers another code than 0.
+pub fn runs_from_the_beginning()
+    ensures { RunsFromTheBeginning }
+{}
+
+/// Each step tells what the jobs that it decides tell, in order, and no more.
+pub fn steps_tell()
+    ensures { StepsTell }
+{}
+
+/// Over each run from the beginning, each job is decided once, in order. It is refused exactly where the
+/// configuration that those before it left refuses its command, with the cause of that; else it commits.
+pub fn decided_once()
+    ensures { DecidedOnce }
+{}
+
+/// Each answer that is taken makes one planned exchange less.
+pub fn answers_count()
+    ensures { AnswersCount }
+{}
+
+/// So does each extender that is heard and wasn't before.
+pub fn hearing_counts()
+    ensures { HearingCounts }
+{}
+
+/// Any other message and a beat leave the number of planned exchanges as it is.
+pub fn others_leave_counts()
+    ensures { OthersLeaveCounts }
+{}
+
+/// Each step keeps that an asker waits exactly where its extender is that of the outstanding request.
+pub fn steps_wait()
+    ensures { StepsWait }
+{}
+
+/// Over each run from the beginning, an asker waits exactly where its extender is that of the outstanding
+/// request. So no request is asked while one waits.
+pub fn one_waits_always()
+    ensures { OneWaitsAlways }
+{}
+
+/// A step adds the requests that it asks to the serial of each asker, and they go out under the new serial.
+pub fn steps_number()
+    ensures { StepsNumber }
+{}
+
+/// The serial of each asker is the number of requests that were asked of it.
+pub fn serials_count()
+    ensures { SerialsCount }
+{}
+
+/// At every moment, also in the middle of a change, the configuration in force has its numbers: each of its sets
+/// a group, and each of its present ports a channel.
+pub fn ready_midway()
+    ensures { ReadyMidway }
+{}
+
+/// The channels that are found are 1 to 4094, each of one port, and the groups 4,096 to 16,383.
+pub fn held_are_numbers()
+    ensures { HeldAreNumbers }
+{}
+
+/// At every moment, whatever requests were executed, the tables have the rows of each set of the configuration in force
+/// for its group, and of each of its present ports for its channel, which is the port's own.
+pub fn laid_midway()
+    ensures { LaidMidway }
+{}
+
+/// So they carry at every moment what the configuration in force uses: a word with the group of a set comes out once at
+/// each port of the set, and a word with the channel of a present port at that port.
+pub fn carries_midway()
+    ensures { CarriesMidway }
+{}
+
+/// The answer to the outstanding request is taken as that, and its code is 0.
+pub fn answers_are_taken()
+    ensures { AnswersAreTaken }
+{}
+
+/// A message that is no answer changes nothing, and nothing happens or goes out.
+pub fn strays_change_nothing()
+    ensures { StraysChangeNothing }
+{}
+
+/// A message is no answer where its serial is that of an earlier request, or where its extender isn't waited for.
+pub fn old_are_stray()
+    ensures { OldAreStray }
+{}
