@@ -1,0 +1,150 @@
+-- The calls of the control, from what its parts do.
+use Rattle.std.proofs.Common.{◌≡◌, ℕ, ◌^◌, ◌<◌, ◌==◌, Bool, true, false, List, [], ◌∷◌, Option, Some, None, ◌++◌, drop, refl, ap, sym, subst, ◌∙◌, arith, inl, inr, eq-eqb}
+use Rattle.std.proofs.lemmas.Bool.{cases_eq, cases_Bool, ne_eqb}
+use Rattle.std.proofs.lemmas.List.{append-nil}
+use Rattle.std.specs.Result.{OnOk, is_err}
+use Rattle.std.specs.declared.result.Result.{Result}
+use Rattle.std.specs.declared.result.Result.TheVariants.{Ok, Err}
+use Rattle.exb_model.specs.declared.event.Event.{Event}
+use Rattle.exb_csp.specs.declared.message.Request.{Request}
+use Rattle.exb_session.specs.Asking.{AskerState, beaten, beaten_while}
+use Rattle.exb_learn.specs.Calls.{Table}
+use Rattle.exb_learn.specs.Entries.{table_of}
+use Rattle.exb_plan.specs.declared.asks.AskAt.{AskAt}
+use Rattle.exb_plan.specs.declared.change.Change.{Change}
+use Rattle.exb_changes.specs.declared.asked.Asked.{Asked}
+use Rattle.exb_changes.specs.declared.job.Job.{Job}
+use Rattle.exb_changes.specs.declared.job.Phase.{Phase}
+use Rattle.exb_changes.specs.declared.job.Phase.TheVariants.{Preparing, Cleaning}
+use Rattle.exb_changes.specs.declared.stage.Stage.{Stage}
+use Rattle.exb_changes.specs.declared.stage.Stage.TheVariants.{AtRest, Prepared, InForce}
+use Rattle.exb_changes.specs.Machine.{Work, State, Moved, beats, beats_in, wakes}
+use Rattle.exb_control.specs.declared.working.Core.{Core}
+use Rattle.exb_control.specs.declared.outbox.Outbox.{Outbox}
+use Rattle.exb_model.specs.Tree.{Shape}
+use Rattle.exb_lldp.specs.declared.announce.Announce.{Announce}
+use Rattle.exb_changes.specs.Deciding.{Decide}
+use Rattle.exb_control.specs.Queues.{first_in}
+use Rattle.exb_control.specs.Controls.{Parts, state_of, work_from, work_at, announced, is_announced, is_of}
+use Rattle.exb_control.specs.Boxes.{IsQuiet, IsMoved}
+use Rattle.exb_control.specs.Steps.{Heard, askers_of, Reached, reached, reached_by, put, noted, ask_at, after_beat, messages_at_beat}
+use Rattle.exb_control.specs.Soundness.{IsSteady, to_come}
+use Rattle.exb_control.specs.Insides.{parts_of, IsKept}
+use Rattle.exb_control.proofs.Steps.{drop-nil}
+
+pub when_ok : {T E P : Type 0} (r : Result T E) → is_err r ≡ false → OnOk r P → P
+when_ok (Ok x) fine p = p
+when_ok (Err e) fine p = absurd (cc)
+
+-- ---- a step of the machine
+pub moved : (m : Moved) (old : Parts) (core : Core) (queue : List Job) (heard : Heard) (given : ℕ) (failed : Bool) (events : List Event) (asks : List Asked) (out : Outbox) →
+    events ≡ [] → asks ≡ [] →
+    reached (state_of (parts_of core queue heard given failed)) out.events out.asks (table_of core.learned) ≡ reached_by m events asks (table_of old.learned) →
+    core.fabric.shape ≡ old.fabric.shape → core.fabric.limits ≡ old.fabric.limits → failed ≡ old.failed → IsQuiet out →
+    IsMoved m old (parts_of core queue heard given failed) out
+moved m old core queue heard given failed events asks out none no_ask e shape limits same quiet =
+    let r : reached (state_of (parts_of core queue heard given failed)) out.events out.asks (table_of core.learned) ≡ reached_by m [] [] (table_of old.learned) =
+    e ∙ ap (λ (es : List Event). reached_by m es asks (table_of old.learned)) none ∙ ap (λ (qs : List Asked). reached_by m [] qs (table_of old.learned)) no_ask in
+    record {
+      state = ap (λ (x : Reached). x.state) r;
+      events = ap (λ (x : Reached). x.events) r;
+      asks = ap (λ (x : Reached). x.asks) r;
+      table = ap (λ (x : Reached). x.table) r;
+      shape = shape;
+      limits = limits;
+      failed = same;
+      quiet = quiet;
+    }
+
+-- the same number, written another way
+pub steady_at : (n k : ℕ) (o : Option Work) (askers : ℕ → AskerState) → n ≡ k → IsSteady n o askers → IsSteady k o askers
+steady_at n k o askers same steady = subst (λ (x : ℕ). IsSteady x o askers) same steady
+
+-- ---- beats
+beaten_by : (s : AskerState) (o : Option Request) → ((beaten_while s o).0.waiting ≡ s.waiting) × ((beaten_while s o).0.serial ≡ s.serial)
+beaten_by s None = (refl, refl)
+beaten_by s (Some q) = elim (cases_Bool (s.beats == 15)) [ inl e ↦ rw e (refl, refl) | inr e ↦ rw e (refl, refl) ]
+
+put_keeps : (e : ℕ) (a : AskerState) (askers : ℕ → AskerState) → (a.waiting ≡ (askers e).waiting) × (a.serial ≡ (askers e).serial) → (n : ℕ) →
+    ((put e a askers n).waiting ≡ (askers n).waiting) × ((put e a askers n).serial ≡ (askers n).serial)
+put_keeps e a askers same n = elim (cases_eq n e) [ inl is ↦ rw (is, eq-eqb e e refl) same | inr ne ↦ rw (ne_eqb n e ne) (refl, refl) ]
+
+beat_keeps : (o : Option AskAt) (askers : ℕ → AskerState) (n : ℕ) → ((after_beat o askers n).waiting ≡ (askers n).waiting) × ((after_beat o askers n).serial ≡ (askers n).serial)
+beat_keeps None askers n = (refl, refl)
+beat_keeps (Some a) askers n = put_keeps a.extender (beaten (askers a.extender)).0 askers (beaten_by (askers a.extender) (askers a.extender).waiting) n
+
+pub steady_beat : (k : ℕ) (o : Option Work) (q : Option AskAt) (askers : ℕ → AskerState) → IsSteady k o askers → IsSteady k o (after_beat q askers)
+steady_beat k None q askers may =
+    record {
+      idle = λ n. (beat_keeps q askers n).0 ∙ may.idle n;
+      room = λ n. rw (beat_keeps q askers n).1 (may.room n);
+    }
+steady_beat k (Some w) q askers waits =
+    record {
+      others = λ n ne. (beat_keeps q askers n).0 ∙ waits.others n ne;
+      room = λ n. rw (beat_keeps q askers n).1 (waits.room n);
+      first = waits.first;
+      rest = waits.rest;
+      later = waits.later;
+    }
+
+beats_from : (j : Job) (x : Change) (phase : Phase) (xs : List AskAt) (s : State) (events : List Event) (asks : List Asked) (t : Table) →
+    reached (record s { askers = after_beat (first_in xs) s.askers }) (events) (asks ++ messages_at_beat (first_in xs) s.askers) t ≡ reached_by (beats_in (work_from j x phase xs) s) events asks t
+beats_from j x phase [] s events asks t = rw (append-nil events) refl
+beats_from j x phase (a ∷ rest) s events asks t = rw (append-nil events) refl
+
+pub beats_as : (stage : Stage) (place : ℕ) (s : State) (askers : ℕ → AskerState) (events : List Event) (asks asks' : List Asked) (t : Table) → s.work ≡ work_at stage place →
+    askers ≡ after_beat (ask_at stage place) s.askers → asks' ≡ asks ++ messages_at_beat (ask_at stage place) s.askers →
+    reached (record s { askers = askers }) events asks' t ≡ reached_by (beats s) events asks t
+beats_as stage place s askers events asks asks' t work is told =
+    rw (is, told) (by_stage stage ∙ ap (λ (o : Option Work). reached_by (beats_in o s) events asks t) (sym work))
+  where
+    by_stage : (st : Stage) → reached (record s { askers = after_beat (ask_at st place) s.askers }) events (asks ++ messages_at_beat (ask_at st place) s.askers) t
+        ≡ reached_by (beats_in (work_at st place) s) events asks t
+    by_stage AtRest = rw (drop-nil {X = AskAt} place, append-nil events) refl
+    by_stage (Prepared j x) = beats_from j x Preparing (drop place x.prepare) s events asks t
+    by_stage (InForce j x) = beats_from j x Cleaning (drop place x.cleanup) s events asks t
+
+pub kept_beat : (core core' : Core) (queue : List Job) (heard : Heard) (given : ℕ) (failed : Bool) → core' ≡ record core { sessions = core'.sessions } →
+    askers_of core'.sessions ≡ after_beat (ask_at core.fabric.stage core.place) (askers_of core.sessions) → IsKept core queue heard given failed → IsKept core' queue heard given failed
+kept_beat core core' queue heard given failed rest askers kept =
+    subst (λ (x : Core). IsKept x queue heard given failed) (sym rest)
+    (record {
+      ports = kept.ports;
+      sound = λ fine.
+          let sound = kept.sound fine in
+          record {
+            fit = sound.fit;
+            asks = sound.asks;
+            steady = rw askers (steady_beat (to_come queue given) _ (ask_at core.fabric.stage core.place) (askers_of core.sessions) sound.steady);
+          };
+    })
+
+pub beat_moves : (core core' : Core) (queue : List Job) (heard : Heard) (given : ℕ) (failed : Bool) (events : List Event) (asks asks' : List Asked) →
+    core' ≡ record core { sessions = core'.sessions } →
+    askers_of core'.sessions ≡ after_beat (ask_at core.fabric.stage core.place) (askers_of core.sessions) →
+    asks' ≡ asks ++ messages_at_beat (ask_at core.fabric.stage core.place) (askers_of core.sessions) →
+    reached (state_of (parts_of core' queue heard given failed)) events asks' (table_of core'.learned)
+    ≡ reached_by (beats (state_of (parts_of core queue heard given failed))) events asks (table_of core.learned)
+beat_moves core core' queue heard given failed events asks asks' rest askers told =
+    ap (λ (x : Core). reached (state_of (parts_of x queue heard given failed)) events asks' (table_of x.learned)) rest
+    ∙ beats_as core.fabric.stage core.place (state_of (parts_of core queue heard given failed)) (askers_of core'.sessions) events asks asks' (table_of core.learned) refl askers told
+
+-- ---- announcements
+pub heard_it : (decide : Decide) (t : Shape) (ports : List ℕ) (n : ℕ) (a : Announce) (s : State) (heard' : ℕ → Bool) (events : List Event) (asks : List Asked) (table : Table) →
+    ports ≡ t.ports → is_announced ports n a ≡ true → heard' ≡ noted n s.heard →
+    reached_by (wakes decide (record s { heard = heard' })) events asks table ≡ reached_by (announced decide t n a s) events asks table
+heard_it decide t ports n a s heard' events asks table same its heard_is =
+    let here : is_of t n a ≡ true = ap (λ (ps : List ℕ). is_announced ps n a) (sym same) ∙ its in
+    rw (here, heard_is) refl
+
+pub ignored : (decide : Decide) (t : Shape) (ports : List ℕ) (n : ℕ) (a : Announce) (v : Parts) (out : Outbox) →
+    ports ≡ t.ports → is_announced ports n a ≡ false → out.events ≡ [] → out.asks ≡ [] → IsQuiet out → IsMoved (announced decide t n a (state_of v)) v v out
+ignored decide t ports n a v out same other none no_ask quiet =
+    let here : is_of t n a ≡ false = ap (λ (ps : List ℕ). is_announced ps n a) (sym same) ∙ other in
+    rw here (record { state = refl; events = none; asks = no_ask; table = refl; shape = refl; limits = refl; failed = refl; quiet = quiet })
+
+-- ---- numbers
+pub room_of : (k : ℕ) (o : Option Work) (askers : ℕ → AskerState) → IsSteady k o askers → k < 2 ^ 63
+room_of k None askers may = let room = may.room 0 in omega arith
+room_of k (Some w) askers waits = let room = waits.room 0 in omega arith

@@ -1,0 +1,37 @@
+-- The control as it begins.
+use Rattle.std.proofs.Common.{◌≡◌, ◌≤◌, false, List, length, refl, ap, sym, ◌∙◌, arith}
+use Rattle.exb_model.specs.declared.setup.Setup.{Setup}
+use Rattle.exb_model.specs.Setup.{shape_of, limits_of, start_of}
+use Rattle.exb_session.specs.Asking.{begun}
+use Rattle.exb_changes.specs.declared.job.Job.{Job}
+use Rattle.exb_changes.specs.declared.stage.Stage.TheVariants.{AtRest}
+use Rattle.exb_changes.specs.Beginning.{first_jobs, first_held}
+use Rattle.exb_changes.specs.Fabrics.{bridge_in, held_in}
+use Rattle.exb_control.specs.declared.working.Core.{Core}
+use Rattle.exb_control.specs.Controls.{state_of, first_of}
+use Rattle.exb_control.specs.Steps.{Heard, heard_of, askers_of}
+use Rattle.exb_control.specs.Soundness.{MayAsk, to_come}
+use Rattle.exb_control.specs.Insides.{parts_of, IsKept}
+use Rattle.exb_control.proofs.FirstJobs.{few_first, fit_first}
+
+module _ (s : Setup) (core : Core) (queue : List Job) (heard : Heard) (shape : core.fabric.shape ≡ shape_of s) (rest : core.fabric.stage ≡ AtRest)
+    (jobs : queue ≡ first_jobs (shape_of s)) (askers : askers_of core.sessions ≡ λ n. begun) where
+  pub begins_as : bridge_in core.fabric ≡ start_of s → held_in core.fabric ≡ first_held (shape_of s) (limits_of s) → heard_of heard.heard ≡ (λ n. false) →
+      state_of (parts_of core queue heard 0 false) ≡ first_of s
+  begins_as bridge held none = rw (jobs, rest, bridge, held, none, askers) refl
+
+  may_begin : MayAsk (to_come queue 0) (askers_of core.sessions)
+  may_begin =
+      let few : length queue ≤ 266240 = rw jobs (few_first (shape_of s)) in
+      rw askers (record { idle = λ n. refl; room = λ n. omega arith })
+
+  pub begins_kept : heard.ports ≡ (shape_of s).ports → IsKept core queue heard 0 false
+  begins_kept ports =
+      record {
+        ports = ports ∙ ap (λ t. t.ports) (sym shape);
+        sound = λ _. record {
+          fit = rw (shape, jobs) (fit_first (shape_of s));
+          asks = λ _. rest;
+          steady = rw rest may_begin;
+        };
+      }

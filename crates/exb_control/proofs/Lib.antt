@@ -1,0 +1,14 @@
+pub mod Steps
+pub mod Soundness
+pub mod Starting
+pub mod Known
+pub mod NextJobs
+pub mod Askers
+pub mod Answering
+pub mod FirstJobs
+pub mod Unheard
+pub mod Hearing
+pub mod Calls
+pub mod FirstState
+pub mod Counts
+pub mod TrunkChannels

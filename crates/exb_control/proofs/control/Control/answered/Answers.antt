@@ -1,0 +1,45 @@
+use Rattle.std.proofs.Common.{◌≡◌, ◌+◌, ◌-◌, ◌*◌, ◌^◌, length, true, refl, sym, ap, subst, ◌∙◌, arith}
+use Rattle.exb_model.specs.Tree.{is_extender}
+use Rattle.exb_changes.specs.Machine.{answered}
+use Rattle.exb_control.specs.declared.outbox.Outbox.{Outbox}
+use Rattle.exb_control.specs.Boxes.{IsMoved}
+use Rattle.exb_control.specs.Controls.{Parts, state_of, decide_of}
+use Rattle.exb_control.specs.Soundness.{to_come, AreFit}
+use Rattle.exb_control.specs.Insides.{parts_of}
+use Rattle.exb_control.proofs.Calls.{moved, steady_at}
+use Rattle.exb_control.proofs.Known.{extender_low}
+use Rattle.exb_control.proofs.control.Control.answered.Goals as goal
+
+pub take-done-requires-clause-known : goal.take-done-requires-clause-known
+take-done-requires-clause-known c =
+    extender_low c.self.inside.core.fabric.shape c.is_fabric.ensures.tree c.args.extender
+    (subst (λ (p : Parts). is_extender p.fabric.shape c.args.extender ≡ true) (sym c.self.view_is) c.requires)
+
+pub invariant_of-self : goal.invariant_of-self
+invariant_of-self c =
+    let w = c.self.inside in
+    let made = c.in-Ok.ensures in
+    let sound = c.self.invariant.sound c.if-self.false in
+    let k = 2 ^ 28 * (65536 - w.given) in
+    let before : to_come w.queue w.given ≡ 2 ^ 28 * length w.queue + k = omega arith in
+    let after : 2 ^ 28 * length c.take-done.new.queue + k ≡ to_come c.take-done.new.queue w.given = omega arith in
+    record {
+      ports = c.self.invariant.ports ∙ ap (λ t. t.ports) (sym made.shape);
+      sound = λ _. record {
+        fit = subst (λ t. AreFit t c.take-done.new.queue) (sym made.shape) made.fit;
+        asks = made.rests;
+        steady = steady_at (2 ^ 28 * length c.take-done.new.queue + k) _ _ _ after (made.steady k (steady_at (to_come w.queue w.given) _ _ _ before sound.steady));
+      };
+    }
+
+pub returns-in-Ok-clause-ok : goal.returns-in-Ok-clause-ok
+returns-in-Ok-clause-ok c =
+    let w = c.self.inside in
+    let made = c.in-Ok.ensures in
+    let out : Outbox = record { events = c.take-done.new.events; asks = c.take-done.new.asks; sends = c.empty.new.self.sends; ingress = c.empty.new.self.ingress } in
+    let new = parts_of c.take-done.new.core c.take-done.new.queue w.heard w.given w.failed in
+    subst (λ (p : Parts). IsMoved (answered (decide_of p.fabric) c.args.extender c.args.message.now (state_of p)) p new out) c.self.view_is
+    (moved _ (parts_of w.core w.queue w.heard w.given w.failed) c.take-done.new.core c.take-done.new.queue w.heard w.given w.failed c.empty.new.self.events c.empty.new.self.asks out
+    c.empty.ensures.events c.empty.ensures.asks
+    (made.reached (record { queue = w.queue; heard = w.heard.heard; given = w.given }) refl refl)
+    made.shape made.limits refl (record { sends = c.empty.ensures.quiet.sends; ingress = c.empty.ensures.quiet.ingress }))

@@ -1,0 +1,28 @@
+use Rattle.std.proofs.Common.{refl, sym, ap, subst, ◌∙◌}
+use Rattle.exb_changes.specs.Machine.{beats}
+use Rattle.exb_control.specs.declared.working.Core.{Core}
+use Rattle.exb_control.specs.declared.outbox.Outbox.{Outbox}
+use Rattle.exb_control.specs.Boxes.{IsMoved}
+use Rattle.exb_control.specs.Controls.{Parts, state_of}
+use Rattle.exb_control.specs.Insides.{parts_of}
+use Rattle.exb_control.proofs.Calls.{when_ok, moved, kept_beat, beat_moves}
+use Rattle.exb_control.proofs.control.Control.beat.Goals as goal
+
+pub invariant_of-self-else-is_err : goal.invariant_of-self-else-is_err
+invariant_of-self-else-is_err c =
+    let w = c.self.inside in
+    kept_beat w.core c.beat.new.core w.queue w.heard w.given w.failed c.beat.ensures.rest c.beat.ensures.sessions c.self.invariant
+
+pub returns-clause-ok : goal.returns-clause-ok
+returns-clause-ok c =
+    let w = c.self.inside in
+    let made = c.beat.ensures in
+    let fine = sym c.is_err.ensures.value ∙ c.if-is_err.false in
+    let out : Outbox = record { events = c.empty.new.self.events; asks = c.beat.new.asks; sends = c.empty.new.self.sends; ingress = c.empty.new.self.ingress } in
+    let new = parts_of c.beat.new.core w.queue w.heard w.given w.failed in
+    subst (λ (p : Parts). IsMoved (beats (state_of p)) p new out) c.self.view_is
+    (moved _ (parts_of w.core w.queue w.heard w.given w.failed) c.beat.new.core w.queue w.heard w.given w.failed c.empty.new.self.events c.empty.new.self.asks out
+    c.empty.ensures.events c.empty.ensures.asks
+    (beat_moves w.core c.beat.new.core w.queue w.heard w.given w.failed c.empty.new.self.events c.empty.new.self.asks c.beat.new.asks made.rest made.sessions (when_ok _ fine made.asks))
+    (ap (λ (x : Core). x.fabric.shape) made.rest) (ap (λ (x : Core). x.fabric.limits) made.rest) refl
+    (record { sends = c.empty.ensures.quiet.sends; ingress = c.empty.ensures.quiet.ingress }))

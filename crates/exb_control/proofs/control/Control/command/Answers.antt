@@ -1,0 +1,43 @@
+use Rattle.std.proofs.Common.{◌≡◌, ◌+◌, ◌-◌, ◌*◌, ◌^◌, ◌<◌, [], ◌∷◌, ◌++◌, length, refl, sym, ap, subst, ◌∙◌, arith}
+use Rattle.exb_changes.specs.declared.job.Job.TheVariants as job
+use Rattle.exb_changes.specs.Machine.{ordered}
+use Rattle.exb_control.specs.declared.outbox.Outbox.{Outbox}
+use Rattle.exb_control.specs.Boxes.{IsMoved}
+use Rattle.exb_control.specs.Controls.{Parts, state_of, decide_of}
+use Rattle.exb_control.specs.Soundness.{to_come, AreFit}
+use Rattle.exb_control.specs.Insides.{parts_of}
+use Rattle.exb_control.proofs.Calls.{when_ok, moved, steady_at}
+use Rattle.exb_control.proofs.control.Control.command.Goals as goal
+
+pub invariant_of-self-else-is_err : goal.invariant_of-self-else-is_err
+invariant_of-self-else-is_err c =
+    let w = c.self.inside in
+    let made = c.give-done.ensures in
+    let fine = sym c.is_err.ensures.value ∙ c.if-is_err.false in
+    let sound = c.self.invariant.sound c.if-self.false in
+    let n = length w.queue in
+    let k = 2 ^ 28 * (65536 - (w.given + 1)) in
+    let few : w.given < 65536 = rw (← c.self.view_is) at c.requires.few in
+    let before : to_come w.queue w.given ≡ 2 ^ 28 * (n + 1) + k = omega arith in
+    let after : 2 ^ 28 * length c.give-done.new.queue + k ≡ to_come c.give-done.new.queue (w.given + 1) = omega arith in
+    record {
+      ports = c.self.invariant.ports ∙ ap (λ t. t.ports) (sym made.shape);
+      sound = λ _. record {
+        fit = subst (λ t. AreFit t c.give-done.new.queue) (sym made.shape) (when_ok _ fine made.fit);
+        asks = when_ok _ fine made.rests;
+        steady = steady_at (2 ^ 28 * length c.give-done.new.queue + k) _ _ _ after (when_ok _ fine made.steady k (steady_at (to_come w.queue w.given) _ _ _ before sound.steady));
+      };
+    }
+
+pub returns-clause-ok : goal.returns-clause-ok
+returns-clause-ok c =
+    let w = c.self.inside in
+    let made = c.give-done.ensures in
+    let fine = sym c.is_err.ensures.value ∙ c.if-is_err.false in
+    let out : Outbox = record { events = c.give-done.new.events; asks = c.give-done.new.asks; sends = c.empty.new.self.sends; ingress = c.empty.new.self.ingress } in
+    let new = parts_of c.give-done.new.core c.give-done.new.queue w.heard (w.given + 1) w.failed in
+    subst (λ (p : Parts). IsMoved (ordered (decide_of p.fabric) c.args.command.now (state_of p)) p new out) c.self.view_is
+    (moved _ (parts_of w.core w.queue w.heard w.given w.failed) c.give-done.new.core c.give-done.new.queue w.heard (w.given + 1) w.failed c.empty.new.self.events c.empty.new.self.asks out
+    c.empty.ensures.events c.empty.ensures.asks
+    (when_ok _ fine made.reached (record { queue = w.queue ++ job.Ordered (w.given + 1) c.args.command.now ∷ []; heard = w.heard.heard; given = w.given + 1 }) refl refl)
+    made.shape made.limits refl (record { sends = c.empty.ensures.quiet.sends; ingress = c.empty.ensures.quiet.ingress }))

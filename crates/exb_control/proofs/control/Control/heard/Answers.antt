@@ -1,0 +1,65 @@
+use Rattle.std.proofs.Common.{◌≡◌, ◌+◌, ◌-◌, ◌*◌, ◌^◌, length, true, refl, sym, ap, subst, ◌∙◌, arith}
+use Rattle.exb_learn.specs.Entries.{table_of}
+use Rattle.exb_model.specs.Tree.{is_extender}
+use Rattle.exb_control.specs.declared.outbox.Outbox.{Outbox}
+use Rattle.exb_control.specs.Boxes.{IsMoved}
+use Rattle.exb_control.specs.Controls.{Parts, state_of, decide_of, announced}
+use Rattle.exb_control.specs.Soundness.{to_come, AreFit}
+use Rattle.exb_control.specs.Insides.{parts_of}
+use Rattle.exb_control.proofs.Calls.{when_ok, moved, steady_at, heard_it, ignored}
+use Rattle.exb_control.proofs.Known.{extender_low}
+use Rattle.exb_control.proofs.control.Control.heard.Goals as goal
+
+pub is_of-requires : goal.is_of-requires
+is_of-requires c =
+    extender_low c.self.inside.core.fabric.shape c.is_fabric.ensures.tree c.args.extender
+    (subst (λ (p : Parts). is_extender p.fabric.shape c.args.extender ≡ true) (sym c.self.view_is) c.requires)
+
+pub note-requires : goal.note-requires
+note-requires c =
+    extender_low c.self.inside.core.fabric.shape c.is_fabric.ensures.tree c.args.extender
+    (subst (λ (p : Parts). is_extender p.fabric.shape c.args.extender ≡ true) (sym c.self.view_is) c.requires)
+
+pub invariant_of-self-else-is_err : goal.invariant_of-self-else-is_err
+invariant_of-self-else-is_err c =
+    let w = c.self.inside in
+    let made = c.wake-done.ensures in
+    let fine = sym c.is_err.ensures.value ∙ c.if-is_err.false in
+    let sound = c.self.invariant.sound c.if-self.false in
+    let k = 2 ^ 28 * (65536 - w.given) in
+    let before : to_come w.queue w.given ≡ 2 ^ 28 * length w.queue + k = omega arith in
+    let after : 2 ^ 28 * length c.wake-done.new.queue + k ≡ to_come c.wake-done.new.queue w.given = omega arith in
+    record {
+      ports = c.note.ensures.ports ∙ c.self.invariant.ports ∙ ap (λ t. t.ports) (sym made.shape);
+      sound = λ _. record {
+        fit = subst (λ t. AreFit t c.wake-done.new.queue) (sym made.shape) (when_ok _ fine made.fit);
+        asks = when_ok _ fine made.rests;
+        steady = steady_at (2 ^ 28 * length c.wake-done.new.queue + k) _ _ _ after (when_ok _ fine made.steady k (steady_at (to_come w.queue w.given) _ _ _ before sound.steady));
+      };
+    }
+
+pub returns-clause-ok : goal.returns-clause-ok
+returns-clause-ok c =
+    let w = c.self.inside in
+    let made = c.wake-done.ensures in
+    let fine = sym c.is_err.ensures.value ∙ c.if-is_err.false in
+    let out : Outbox = record { events = c.wake-done.new.events; asks = c.wake-done.new.asks; sends = c.empty.new.self.sends; ingress = c.empty.new.self.ingress } in
+    let old = parts_of w.core w.queue w.heard w.given w.failed in
+    let new = parts_of c.wake-done.new.core c.wake-done.new.queue c.note.new.self w.given w.failed in
+    subst (λ (p : Parts). IsMoved (announced (decide_of p.fabric) p.fabric.shape c.args.extender c.args.announce.now (state_of p)) p new out) c.self.view_is
+    (moved (announced (decide_of w.core.fabric) w.core.fabric.shape c.args.extender c.args.announce.now (state_of old))
+    old c.wake-done.new.core c.wake-done.new.queue c.note.new.self w.given w.failed c.empty.new.self.events c.empty.new.self.asks out
+    c.empty.ensures.events c.empty.ensures.asks
+    (when_ok _ fine made.reached (record { queue = w.queue; heard = c.note.new.self.heard; given = w.given }) refl refl
+    ∙ heard_it (decide_of w.core.fabric) w.core.fabric.shape w.heard.ports c.args.extender c.args.announce.now (state_of old) _ c.empty.new.self.events c.empty.new.self.asks (table_of w.core.learned)
+    c.self.invariant.ports (sym c.is_of.ensures ∙ c.if-not-is_of.false) c.note.ensures.heard)
+    made.shape made.limits refl (record { sends = c.empty.ensures.quiet.sends; ingress = c.empty.ensures.quiet.ingress }))
+
+pub returns-then-not-is_of-clause-ok : goal.returns-then-not-is_of-clause-ok
+returns-then-not-is_of-clause-ok c =
+    let w = c.self.inside in
+    let out = c.empty.new.self in
+    let old = parts_of w.core w.queue w.heard w.given w.failed in
+    subst (λ (p : Parts). IsMoved (announced (decide_of p.fabric) p.fabric.shape c.args.extender c.args.announce.now (state_of p)) p p out) c.self.view_is
+    (ignored (decide_of w.core.fabric) w.core.fabric.shape w.heard.ports c.args.extender c.args.announce.now old out c.self.invariant.ports (sym c.is_of.ensures ∙ c.if-not-is_of.true)
+    c.empty.ensures.events c.empty.ensures.asks c.empty.ensures.quiet)

@@ -1,0 +1,21 @@
+use Rattle.std.proofs.Common.{refl, ap, ◌∙◌}
+use Rattle.std.proofs.lemmas.Result.{on_ok_weaker}
+use Rattle.exb_config.specs.Tables.{bridge_of}
+use Rattle.exb_learn.specs.Entries.{table_of}
+use Rattle.exb_changes.specs.Machine.{Moved}
+use Rattle.exb_control.specs.Steps.{rest_of, reached_by}
+use Rattle.exb_control.proofs.Steps.{prepared_ends, finished, in_force_is}
+use Rattle.exb_control.proofs.working.end_phase.Goals as goal
+
+pub returns-then-is_prepared-clause-reached : goal.returns-then-is_prepared-clause-reached
+returns-then-is_prepared-clause-reached c =
+    let old = c.args.core.now in
+    on_ok_weaker c.commit.result (λ reached f.
+    reached f ∙ ap (λ (m : Moved). reached_by m c.args.events.now c.args.asks.now (table_of old.learned)) (prepared_ends old.fabric.stage (rest_of f old) (c.is_prepared.ensures.yes c.if-is_prepared.true))) c.commit.ensures.reached
+
+pub returns-clause-reached : goal.returns-clause-reached
+returns-clause-reached c f =
+    let old = c.args.core.now in
+    let force = in_force_is old.fabric.stage (c.is_prepared.ensures.no c.if-is_prepared.false c.requires.busy) in
+    finished (rest_of f old) force.job force.change old.fabric.stage c.finish.new.self.stage old.place _ _ _ c.args.events.now c.args.asks.now _ _
+    force.is c.finish.ensures.stage refl refl (ap bridge_of c.finish.ensures.config) (c.finish.ensures.held force.job force.change force.is)

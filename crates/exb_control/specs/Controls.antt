@@ -1,0 +1,105 @@
+-- What the bridge's control is to its contracts: plain data, and the state of the machine of changes that it
+-- stands for.
+use Rattle.std.specs.Prelude.{ℕ, ◌==◌, ◌&&◌, Bool, false, if◌then◌else◌, List, [], ◌∷◌, Option, Some, None, is_none, bytes_eq, drop, slice_index, slice_index_or}
+use Rattle.exb_model.specs.declared.setup.Setup.{Setup}
+use Rattle.exb_model.specs.Tree.{Shape, device, trunk, is_extender}
+use Rattle.exb_model.specs.Setup.{shape_of, limits_of, start_of}
+use Rattle.exb_lldp.specs.declared.announce.Announce.{Announce}
+use Rattle.exb_session.specs.Asking.{AskerState, begun}
+use Rattle.exb_learn.specs.Calls.{Table, Forget, after_call}
+use Rattle.exb_learn.specs.Entries.{Entries}
+use Rattle.exb_plan.specs.declared.asks.AskAt.{AskAt}
+use Rattle.exb_plan.specs.declared.change.Change.{Change}
+use Rattle.exb_plan.specs.Held.{Held, channel_in}
+use Rattle.exb_changes.specs.declared.job.Job.{Job}
+use Rattle.exb_changes.specs.declared.job.Phase.{Phase}
+use Rattle.exb_changes.specs.declared.job.Phase.TheVariants.{Preparing, Cleaning}
+use Rattle.exb_changes.specs.declared.stage.Stage.{Stage}
+use Rattle.exb_changes.specs.declared.stage.Stage.TheVariants.{AtRest, Prepared, InForce}
+use Rattle.exb_changes.specs.Deciding.{Decide, decide}
+use Rattle.exb_changes.specs.Fabrics.{Fabric, bridge_in, held_in}
+use Rattle.exb_changes.specs.Machine.{Work, State, Moved, still, heard}
+use Rattle.exb_changes.specs.Beginning.{first_state}
+use Rattle.exb_control.specs.Queues.{is_empty}
+
+-- The configuration with its numbers and the change at work, the place of the outstanding request among those
+-- of its phase, the jobs that wait, which extenders were heard, the bridge's ends of the sessions by extender,
+-- how many commands were given, what is learned, and whether memory ran out.
+pub record Parts : Type 0 where
+  pub fabric : Fabric
+  pub place : ℕ
+  pub queue : List Job
+  pub heard : List Bool
+  pub askers : List AskerState
+  pub given : ℕ
+  pub learned : Entries
+  pub failed : Bool
+
+-- ---- the state that it stands for
+abbrev pub is_heard : List Bool → ℕ → Bool
+is_heard heard n = slice_index_or heard n false
+
+abbrev pub asker_at : List AskerState → ℕ → AskerState
+asker_at askers n = slice_index_or askers n begun
+
+-- a phase of which these requests aren't answered yet
+abbrev pub work_from : Job → Change → Phase → List AskAt → Option Work
+work_from j x phase [] = None
+work_from j x phase (first ∷ rest) = Some (record { job = j; change = x; phase = phase; first = first; rest = rest })
+
+-- the change at work, with the outstanding request at this place
+abbrev pub work_at : Stage → ℕ → Option Work
+work_at AtRest i = None
+work_at (Prepared j x) i = work_from j x Preparing (drop i x.prepare)
+work_at (InForce j x) i = work_from j x Cleaning (drop i x.cleanup)
+
+abbrev pub state_of : Parts → State
+state_of v =
+    record {
+      queue = v.queue;
+      work = work_at v.fabric.stage v.place;
+      bridge = bridge_in v.fabric;
+      held = held_in v.fabric;
+      heard = λ n. is_heard v.heard n;
+      askers = λ n. asker_at v.askers n;
+      given = v.given;
+    }
+
+-- how its jobs are decided
+abbrev pub decide_of : Fabric → Decide
+decide_of f = decide f.shape f.limits
+
+-- no job waits and no change is at work
+abbrev pub is_settled : State → Bool
+is_settled s = is_empty s.queue && is_none s.work
+
+-- as it begins
+abbrev pub first_of : Setup → State
+first_of s = first_state (shape_of s) (limits_of s) (start_of s)
+
+-- ---- announcements
+-- the address of extender n: 02-45-42-01-00-n
+abbrev pub address_of : ℕ → List ℕ
+address_of n = 2 ∷ 69 ∷ 66 ∷ 1 ∷ 0 ∷ n ∷ []
+
+-- the announcement has the address and the port count of extender n, by the port counts of all
+abbrev pub is_announced : List ℕ → ℕ → Announce → Bool
+is_announced ports n a = bytes_eq a.chassis.0 (address_of n) && a.ports == slice_index ports n
+
+abbrev pub is_of : Shape → ℕ → Announce → Bool
+is_of t n a = is_announced t.ports n a
+
+-- such an announcement is heard, and another one changes nothing
+abbrev pub announced : Decide → Shape → ℕ → Announce → State → Moved
+announced decide t n a s = if is_of t n a then heard decide n s else still s
+
+-- ---- numbers
+-- the channel that a port of an extender holds at its trunk
+abbrev pub channel_at_trunk : Shape → Held → ℕ → Option ℕ
+channel_at_trunk t h p = if is_extender t (device p) then channel_in h (trunk t (device p)) p else None
+
+-- ---- what is learned
+-- these ports are forgotten
+abbrev pub forgotten_all : List ℕ → Table → Table
+forgotten_all [] t = t
+forgotten_all (p ∷ ps) t = forgotten_all ps (after_call (Forget p) t)

@@ -1,0 +1,24 @@
+-- The value of a control by its parts, and what they keep.
+use Rattle.std.specs.Prelude.{◌≡◌, ℕ, Bool, false, List}
+use Rattle.exb_changes.specs.declared.job.Job.{Job}
+use Rattle.exb_control.specs.declared.working.Core.{Core}
+use Rattle.exb_control.specs.Controls.{Parts}
+use Rattle.exb_control.specs.Steps.{Heard}
+use Rattle.exb_control.specs.Soundness.{IsSound}
+
+abbrev pub parts_of : Core → List Job → Heard → ℕ → Bool → Parts
+parts_of c queue heard given failed =
+    record {
+      fabric = c.fabric;
+      place = c.place;
+      queue = queue;
+      heard = heard.heard;
+      askers = c.sessions;
+      given = given;
+      learned = c.learned;
+      failed = failed;
+    }
+
+pub record IsKept (c : Core) (queue : List Job) (heard : Heard) (given : ℕ) (failed : Bool) : Type 0 where
+  pub ports : heard.ports ≡ c.fabric.shape.ports
+  pub sound : failed ≡ false → IsSound c queue given

@@ -1,0 +1,333 @@
+//! The control, and its calls.
+ghost use Rattle.std.specs.Prelude.{◌≡◌, ◌+◌, ◌-◌, ◌<◌, ◌≤◌, ◌^◌, ◌↔◌, true, false, IfOk, OnOk, OnErr};
+ghost use Rattle.exb_model.specs.Setup.{IsValid, NamesExternal, shape_of, limits_of};
+ghost use Rattle.exb_model.specs.Tree.{is_extender, is_external, is_cascade};
+ghost use Rattle.exb_session.specs.Asking.{took};
+ghost use Rattle.exb_learn.specs.Calls.{empty_table};
+ghost use Rattle.exb_learn.specs.Entries.{table_of};
+
+use crate::announcements::Heard;
+use crate::frames::{Arrived, arrive};
+use crate::jobs::first_jobs;
+use crate::numbers::{channel_of, port_of};
+use crate::outbox::Outbox;
+use crate::planned::planned;
+use crate::queue::Queue;
+use crate::sessions::Sessions;
+use crate::turns::{give, take, wake};
+use crate::working::{Core, beat, outstanding};
+use exb_changes::{Fabric, Job};
+use exb_csp::Message;
+use exb_learn::Learned;
+use exb_lldp::Announce;
+use exb_model::command::Command;
+use exb_model::event::Event;
+use exb_model::memory::NoMemory;
+use exb_model::port::PortId;
+use exb_model::setup::Setup;
+use exb_model::tree::Tree;
+use exb_session::Taken;
+use std::alloc::Global;
+use std::marker::Model;
+
+/// Why a call did not come to its end.
+#[derive(Clone, Copy, Debug, PartialEq, Eq)]
+pub enum ControlFault {
+    /// Memory ran out in this call.
+    Memory,
+    /// Memory ran out in an earlier call.
+    Failed,
+}
+
+/// The controlling bridge's control.
+#[derive(Drop)]
+pub struct Control {
+    alloc: Global,
+    core: Core,
+    queue: Queue<Job>,
+    heard: Heard,
+    given: u32,
+    failed: bool,
+}
+
+impl Model for Control {
+    ghost use Rattle.exb_control.specs.Controls.{Parts};
+
+    ghost Value = { Parts };
+
+    ghost use Rattle.exb_control.specs.Insides.{parts_of, IsKept};
+
+    ghost view = { λ c. parts_of c.core c.queue c.heard c.given c.failed };
+
+    ghost invariant = { λ c. IsKept c.core c.queue c.heard c.given c.failed };
+}
+
+impl Control {
+    ghost use Rattle.exb_changes.specs.Counting.{planned};
+    ghost use Rattle.exb_changes.specs.Fabrics.{IsFabric, held_in};
+    ghost use Rattle.exb_changes.specs.Machine.{ordered, answered, beats};
+    ghost use Rattle.exb_control.specs.Boxes.{IsMoved, HasCome, HasTicked};
+    ghost use Rattle.exb_control.specs.Controls.{state_of, decide_of, first_of, is_settled, announced, channel_at_trunk};
+
+    /// The control of a setup: nothing was heard, given or learned yet.
+    pub fn new(alloc: Global, setup: &Setup) -> Result<Control, NoMemory>
+        requires { IsValid setup.now }
+        ensures state { IfOk result (λ made. state_of made ≡ first_of setup.now) }
+        ensures learned { IfOk result (λ made. table_of made.learned ≡ empty_table setup.now.ageing) }
+        ensures shape { IfOk result (λ made. made.fabric.shape ≡ shape_of setup.now) }
+        ensures limits { IfOk result (λ made. made.fabric.limits ≡ limits_of setup.now) }
+        ensures failed { IfOk result (λ made. made.failed ≡ false) }
+    {
+        let mut queue = Queue::new(alloc);
+        let fabric = Fabric::new(alloc, setup)?;
+        first_jobs(fabric.tree(), &mut queue)?;
+        let sessions = Sessions::new(alloc)?;
+        let core = Core {
+            fabric,
+            place: 0,
+            sessions,
+            learned: Learned::new(alloc, setup.ageing),
+        };
+        Ok(Control {
+            alloc,
+            core,
+            queue,
+            heard: Heard::new(setup),
+            given: 0,
+            failed: false,
+        })
+    }
+
+    /// A command is given. Commands are numbered from 1 in the order in which they are given.
+    pub fn command(&mut self, command: &Command, out: &mut Outbox) -> Result<(), ControlFault>
+        requires few { self.old.given < 65536 }
+        requires names { NamesExternal self.old.fabric.shape command.now }
+        ensures ok { OnOk result (IsMoved (ordered (decide_of self.old.fabric) command.now (state_of self.old)) self.old self.new out.new) }
+        ensures failed { (result ≡ Err ControlFault.Failed) ↔ (self.old.failed ≡ true) }
+        ensures memory { OnErr result (self.new.failed ≡ true) }
+    {
+        out.empty(self.alloc);
+        if self.failed {
+            return Err(ControlFault::Failed);
+        }
+        let given = self.given + 1;
+        let done = give(
+            given,
+            command,
+            &self.heard,
+            &mut self.queue,
+            &mut self.core,
+            &mut out.events,
+            &mut out.asks,
+        );
+        self.given = given;
+        if done.is_err() {
+            self.failed = true;
+            return Err(ControlFault::Memory);
+        }
+        Ok(())
+    }
+
+    /// An announcement comes from an extender. It is heard where it has the extender's address and port count.
+    pub fn heard(
+        &mut self,
+        extender: u8,
+        announce: &Announce,
+        out: &mut Outbox,
+    ) -> Result<(), ControlFault>
+        requires { is_extender self.old.fabric.shape extender ≡ true }
+        ensures ok { OnOk result (IsMoved (announced (decide_of self.old.fabric) self.old.fabric.shape extender announce.now (state_of self.old)) self.old self.new out.new) }
+        ensures failed { (result ≡ Err ControlFault.Failed) ↔ (self.old.failed ≡ true) }
+        ensures memory { OnErr result (self.new.failed ≡ true) }
+    {
+        out.empty(self.alloc);
+        if self.failed {
+            return Err(ControlFault::Failed);
+        }
+        self.core.fabric.is_fabric();
+        if !self.heard.is_of(extender, announce) {
+            return Ok(());
+        }
+        self.heard.note(extender);
+        let done = wake(
+            &self.heard,
+            &mut self.queue,
+            &mut self.core,
+            &mut out.events,
+            &mut out.asks,
+        );
+        if done.is_err() {
+            self.failed = true;
+            return Err(ControlFault::Memory);
+        }
+        Ok(())
+    }
+
+    /// A message of the control protocol comes from an extender; says what it is to the session with it.
+    pub fn answered(
+        &mut self,
+        extender: u8,
+        message: &Message,
+        out: &mut Outbox,
+    ) -> Result<Taken, ControlFault>
+        requires { is_extender self.old.fabric.shape extender ≡ true }
+        ensures ok { OnOk result (IsMoved (answered (decide_of self.old.fabric) extender message.now (state_of self.old)) self.old self.new out.new) }
+        ensures taken { IfOk result (λ taken. taken ≡ (took ((state_of self.old).askers extender) message.now).1) }
+        ensures failed { (result ≡ Err ControlFault.Failed) ↔ (self.old.failed ≡ true) }
+        ensures memory { OnErr result (self.new.failed ≡ true) }
+    {
+        out.empty(self.alloc);
+        if self.failed {
+            return Err(ControlFault::Failed);
+        }
+        self.core.fabric.is_fabric();
+        let done = take(
+            extender,
+            message,
+            &self.heard,
+            &mut self.queue,
+            &mut self.core,
+            &mut out.events,
+            &mut out.asks,
+        );
+        match done {
+            Ok(taken) => Ok(taken),
+            Err(_) => {
+                self.failed = true;
+                Err(ControlFault::Memory)
+            }
+        }
+    }
+
+    /// A frame comes to the bridge: record `index` (from 1) of an external port, at `moment` nanoseconds. It is ignored, or
+    /// relayed by what is learned before it, and then learned from.
+    pub fn frame(
+        &mut self,
+        port: PortId,
+        index: u64,
+        moment: u64,
+        frame: &[u8],
+        out: &mut Outbox,
+    ) -> Result<(), ControlFault>
+        requires { is_external self.old.fabric.shape port ≡ true }
+        ensures ok { OnOk result (HasCome (record { port = port; index = index; moment = moment; bytes = frame.now }) self.old self.new out.new) }
+        ensures failed { (result ≡ Err ControlFault.Failed) ↔ (self.old.failed ≡ true) }
+        ensures memory { OnErr result (self.new.failed ≡ true) }
+    {
+        out.empty(self.alloc);
+        if self.failed {
+            return Err(ControlFault::Failed);
+        }
+        let arrived = Arrived {
+            port,
+            index,
+            moment,
+            bytes: frame,
+        };
+        let done = arrive(
+            self.alloc,
+            &self.core.fabric,
+            &mut self.core.learned,
+            &arrived,
+            out,
+        );
+        if done.is_err() {
+            self.failed = true;
+            return Err(ControlFault::Memory);
+        }
+        Ok(())
+    }
+
+    /// The clock goes on.
+    #[tactic(auto, unfolding(exb_learn::specs::Entries::table_of))]
+    pub fn tick(&mut self, seconds: u32, out: &mut Outbox) -> Result<(), ControlFault>
+        requires { (table_of self.old.learned).clock + seconds < 2 ^ 63 }
+        ensures ok { OnOk result (HasTicked seconds self.old self.new out.new) }
+        ensures failed { (result ≡ Err ControlFault.Failed) ↔ (self.old.failed ≡ true) }
+        ensures memory { OnErr result (self.new.failed ≡ true) }
+    {
+        out.empty(self.alloc);
+        if self.failed {
+            return Err(ControlFault::Failed);
+        }
+        if out.events.push(Event::Tick { seconds }).is_err() {
+            self.failed = true;
+            return Err(ControlFault::Memory);
+        }
+        self.core.learned.tick(seconds);
+        Ok(())
+    }
+
+    /// A beat: the outstanding request goes out again at each sixteenth beat without its answer.
+    pub fn beat(&mut self, out: &mut Outbox) -> Result<(), ControlFault>
+        ensures ok { OnOk result (IsMoved (beats (state_of self.old)) self.old self.new out.new) }
+        ensures failed { (result ≡ Err ControlFault.Failed) ↔ (self.old.failed ≡ true) }
+        ensures memory { OnErr result (self.new.failed ≡ true) }
+    {
+        out.empty(self.alloc);
+        if self.failed {
+            return Err(ControlFault::Failed);
+        }
+        if beat(&mut self.core, &mut out.asks).is_err() {
+            self.failed = true;
+            return Err(ControlFault::Memory);
+        }
+        Ok(())
+    }
+
+    /// Whether no job waits and no change is at work.
+    pub fn settled(&self) -> bool
+        ensures { result ≡ is_settled (state_of self.now) }
+    {
+        self.queue.is_empty() && outstanding(&self.core.fabric, self.core.place).is_none()
+    }
+
+    /// The channel that a port of an extender holds; None for other ports, and where it holds none.
+    pub fn of(&self, port: PortId) -> Option<u16>
+        ensures { result ≡ channel_at_trunk self.now.fabric.shape (held_in self.now.fabric) port }
+    {
+        channel_of(&self.core.fabric, &self.heard, port)
+    }
+
+    /// The port that holds a channel of a cascade port of the bridge, 1 to 64.
+    pub fn port(&self, bridge_port: u8, channel: u16) -> Option<PortId>
+        requires from1 { 1 ≤ bridge_port }
+        requires to64 { bridge_port ≤ 64 }
+        requires cascade { is_cascade self.now.fabric.shape (bridge_port - 1) ≡ true }
+        ensures { result ≡ (held_in self.now.fabric).port (bridge_port - 1) channel }
+    {
+        port_of(&self.core.fabric, bridge_port, channel)
+    }
+
+    /// How many requests and announcements are still to come before all jobs are done: requests that aren't answered,
+    /// and extenders that weren't heard.
+    pub fn planned(&self) -> Result<u64, NoMemory>
+        ensures { IfOk result (λ count. count ≡ planned self.now.fabric.shape (decide_of self.now.fabric) (state_of self.now)) }
+    {
+        if self.failed {
+            return Err(NoMemory);
+        }
+        planned(&self.core, &self.queue, &self.heard)
+    }
+
+    /// The tree of extenders.
+    pub fn tree(&self) -> &Tree
+        ensures { result.now ≡ self.now.fabric.shape }
+    {
+        self.core.fabric.tree()
+    }
+
+    /// How many commands were given.
+    pub fn given(&self) -> u32
+        ensures { result ≡ self.now.given }
+    {
+        self.given
+    }
+
+    /// What holds of the fabric, as a fact for whoever calls it. It does nothing.
+    pub fn is_fabric(&self)
+        ensures { IsFabric self.now.fabric }
+    {
+        self.core.fabric.is_fabric();
+    }
+}

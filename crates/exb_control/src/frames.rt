@@ -1,0 +1,137 @@
+//! Frames that come to the bridge: they are ignored, or relayed and then learned from.
+ghost use Rattle.std.specs.Prelude.{◌≡◌, ◌≤◌, ◌++◌, ◌∷◌, [], List, ℕ, true, length, IfOk, OnOk};
+ghost use Rattle.exb_model.specs.Frames.{kind_of, source};
+ghost use Rattle.exb_model.specs.Tree.{is_external};
+ghost use Rattle.exb_model.specs.EagerHistory.{is_relayed, is_relayed_kind, arrival_event};
+ghost use Rattle.exb_config.specs.Tables.{bridge_of};
+ghost use Rattle.exb_learn.specs.Entries.{table_of, look_of};
+ghost use Rattle.exb_learn.specs.Histories.{relay_call, after_any};
+ghost use Rattle.exb_relay.specs.Spaces.{numbers_of};
+ghost use Rattle.exb_relay.specs.Sends.{sends_of, ingress_of};
+ghost use Rattle.exb_changes.specs.Fabrics.{bridge_in};
+ghost use Rattle.exb_control.specs.Arrivals.{arrival_of};
+ghost use Rattle.exb_control.specs.Boxes.{taught, sends_for, ingress_for, vid_in};
+
+use crate::outbox::Outbox;
+use exb_changes::Fabric;
+use exb_config::Config;
+use exb_frame::classify::classify;
+use exb_learn::Learned;
+use exb_model::address::Mac;
+use exb_model::bytes::Bytes;
+use exb_model::event::Event;
+use exb_model::frame_kind::Seen;
+use exb_model::memory::NoMemory;
+use exb_model::port::PortId;
+use exb_relay::{Ingress, relay};
+use std::alloc::Global;
+
+/// A frame that came: record `index` of its port, at `moment` nanoseconds.
+#[derive(Clone, Copy)]
+pub(crate) struct Arrived<'a> {
+    pub(crate) port: PortId,
+    pub(crate) index: u64,
+    pub(crate) moment: u64,
+    pub(crate) bytes: &'a [u8],
+}
+
+/// Whether frames of a kind may be relayed: it isn't short, long or reserved.
+fn may_be_relayed(seen: Seen) -> bool
+    ensures { result ≡ is_relayed_kind seen }
+{
+    !matches!(seen, Seen::Short | Seen::Long | Seen::Reserved)
+}
+
+/// Whether a frame isn't short, long or reserved, so that it may be relayed.
+fn is_relayed_kind(frame: &[u8]) -> bool
+    ensures kind { result ≡ is_relayed_kind (kind_of frame.now) }
+    ensures long { result ≡ true → 14 ≤ length frame.now }
+{
+    may_be_relayed(classify(frame))
+}
+
+/// Whether a frame that comes to a port is relayed: the port is present, and the frame isn't short, long or
+/// reserved.
+fn is_relayed(config: &Config, port: PortId, frame: &[u8]) -> bool
+    ensures kind { result ≡ is_relayed (bridge_of config.now) port frame.now }
+    ensures long { result ≡ true → 14 ≤ length frame.now }
+{
+    let is_kind = is_relayed_kind(frame);
+    config.present(port) && is_kind
+}
+
+/// The address from which a frame comes.
+fn source(frame: &[u8]) -> Mac
+    requires { 12 ≤ length frame.now }
+    ensures { result.0 ≡ source frame.now }
+{
+    let mut address = [0u8; 6];
+    address.copy_from_slice(&frame[6..12]);
+    Mac(address)
+}
+
+/// A frame that passes at a port teaches where its source is, if that is an individual address.
+fn learn(learned: &mut Learned, port: PortId, frame: &[u8], ingress: &Ingress)
+    requires frame { 12 ≤ length frame.now }
+    requires room { 1 ≤ learned.old.spare }
+    ensures { table_of learned.new ≡ after_any (relay_call port frame.now (vid_in ingress.now)) (table_of learned.old) }
+{
+    if let Ingress::Passed { vid, .. } = *ingress {
+        let address = source(frame);
+        if address.0[0] % 2 == 0 {
+            learned.see(vid, address, port);
+        }
+    }
+}
+
+/// The event of a frame that is relayed.
+fn relayed(alloc: Global, arrived: &Arrived) -> Result<Event, NoMemory>
+    ensures { IfOk result (λ event. event ≡ Event.Relay arrived.now.port arrived.now.index arrived.now.moment arrived.now.bytes.now) }
+{
+    let bytes = Bytes::from_slice(alloc, arrived.bytes)?;
+    Ok(Event::Relay {
+        port: arrived.port,
+        index: arrived.index,
+        moment: arrived.moment,
+        bytes,
+    })
+}
+
+/// A frame comes into an empty outbox. It is looked up before it is learned from.
+pub(crate) fn arrive(
+    alloc: Global,
+    fabric: &Fabric,
+    learned: &mut Learned,
+    arrived: &Arrived,
+    out: &mut Outbox,
+) -> Result<(), NoMemory>
+    requires events { out.old.events ≡ [] }
+    requires sends { out.old.sends.items ≡ [] }
+    requires ingress { out.old.ingress ≡ Ingress.Dropped }
+    ensures events { OnOk result (out.new.events ≡ arrival_event (bridge_in fabric.now) (arrival_of arrived.now) ∷ []) }
+    ensures asks { out.new.asks ≡ out.old.asks }
+    ensures sends { OnOk result (out.new.sends.items ≡ sends_for fabric.now learned.old (arrival_of arrived.now)) }
+    ensures ingress { OnOk result (out.new.ingress ≡ ingress_for (bridge_in fabric.now) (arrival_of arrived.now)) }
+    ensures table { OnOk result (table_of learned.new ≡ taught (bridge_in fabric.now) (arrival_of arrived.now) (table_of learned.old)) }
+{
+    if !is_relayed(fabric.config(), arrived.port, arrived.bytes) {
+        return out.events.push(Event::Ignored {
+            port: arrived.port,
+            index: arrived.index,
+        });
+    }
+    learned.reserve()?;
+    out.events.push(relayed(alloc, arrived)?)?;
+    fabric.is_fabric();
+    out.ingress = relay(
+        fabric.tree(),
+        fabric.config(),
+        learned,
+        fabric.spaces(),
+        arrived.port,
+        arrived.bytes,
+        &mut out.sends,
+    );
+    learn(learned, arrived.port, arrived.bytes, &out.ingress);
+    Ok(())
+}

@@ -1,0 +1,180 @@
+//! Whose turn it is: jobs are started until a request is outstanding, an opening waits, or none is left.
+ghost use Rattle.std.specs.Prelude.{◌≡◌, ◌++◌, ◌∷◌, [], ◌+◌, ◌*◌, ◌<◌, ◌^◌, ℕ, OnOk, IfOk, true, false, length};
+ghost use Rattle.exb_model.specs.Setup.{NamesExternal};
+ghost use Rattle.exb_learn.specs.Entries.{table_of};
+ghost use Rattle.exb_session.specs.Asking.{took};
+ghost use Rattle.exb_changes.specs.Fabrics.{bridge_in};
+ghost use Rattle.exb_changes.specs.Machine.{goes_on, wakes, answered};
+ghost use Rattle.exb_control.specs.Controls.{work_at, decide_of};
+ghost use Rattle.exb_control.specs.Steps.{Front, askers_of, rest_of, state_in, reached, reached_by, with_queue};
+ghost use Rattle.exb_control.specs.Soundness.{AreFit, MayAsk, IsSteady, AsksOrRests};
+
+use crate::announcements::Heard;
+use crate::queue::Queue;
+use crate::working::{Core, is_at_rest, proceed, start};
+use exb_changes::{Asked, Job, Stage};
+use exb_csp::Message;
+use exb_model::command::Command;
+use exb_model::event::Event;
+use exb_model::list::List;
+use exb_model::memory::NoMemory;
+use exb_session::Taken;
+
+/// Starts the next job; false where the jobs that follow have to wait.
+fn turn(
+    heard: &Heard,
+    queue: &mut Queue<Job>,
+    core: &mut Core,
+    events: &mut List<Event>,
+    asks: &mut List<Asked>,
+) -> Result<bool, NoMemory>
+    requires stage { core.old.fabric.stage ≡ Stage.AtRest }
+    requires fit { AreFit core.old.fabric.shape queue.old }
+    requires may { MayAsk (2 ^ 28 * length queue.old) (askers_of core.old.sessions) }
+    ensures ends { IfOk result (λ goes. goes ≡ false → (f : Front) → f.heard ≡ heard.now.heard →
+        reached (state_in (with_queue queue.new f) core.new) events.new asks.new (table_of core.new.learned)
+        ≡ reached_by (goes_on (decide_of core.old.fabric) queue.old (rest_of f core.old)) events.old asks.old (table_of core.old.learned)) }
+    ensures goes { IfOk result (λ goes. goes ≡ true → (f : Front) → f.heard ≡ heard.now.heard →
+        reached_by (goes_on (decide_of core.old.fabric) queue.new (rest_of f core.new)) events.new asks.new (table_of core.new.learned)
+        ≡ reached_by (goes_on (decide_of core.old.fabric) queue.old (rest_of f core.old)) events.old asks.old (table_of core.old.learned)) }
+    ensures steady { OnOk result ((k : ℕ) → MayAsk (2 ^ 28 * length queue.old + k) (askers_of core.old.sessions) →
+        IsSteady (2 ^ 28 * length queue.new + k) (work_at core.new.fabric.stage core.new.place) (askers_of core.new.sessions)) }
+    ensures rests { OnOk result (AsksOrRests core.new) }
+    ensures stage { IfOk result (λ goes. goes ≡ true → core.new.fabric.stage ≡ Stage.AtRest) }
+    ensures fit { OnOk result (AreFit core.old.fabric.shape queue.new) }
+    ensures shorter { IfOk result (λ goes. goes ≡ true → length queue.new < length queue.old) }
+    ensures shape { core.new.fabric.shape ≡ core.old.fabric.shape }
+    ensures limits { core.new.fabric.limits ≡ core.old.fabric.limits }
+{
+    let Some(job) = queue.first() else {
+        return Ok(false);
+    };
+    if heard.waits(&job) {
+        return Ok(false);
+    }
+    start(core, &job, events, asks)?;
+    queue.remove_first();
+    Ok(is_at_rest(&core.fabric))
+}
+
+/// Goes on with the jobs that wait, where no change is at work.
+pub(crate) fn go_on(
+    heard: &Heard,
+    queue: &mut Queue<Job>,
+    core: &mut Core,
+    events: &mut List<Event>,
+    asks: &mut List<Asked>,
+) -> Result<(), NoMemory>
+    requires stage { core.old.fabric.stage ≡ Stage.AtRest }
+    requires fit { AreFit core.old.fabric.shape queue.old }
+    requires may { MayAsk (2 ^ 28 * length queue.old) (askers_of core.old.sessions) }
+    ensures reached { OnOk result ((f : Front) → f.heard ≡ heard.now.heard →
+        reached (state_in (with_queue queue.new f) core.new) events.new asks.new (table_of core.new.learned)
+        ≡ reached_by (goes_on (decide_of core.old.fabric) queue.old (rest_of f core.old)) events.old asks.old (table_of core.old.learned)) }
+    ensures steady { OnOk result ((k : ℕ) → MayAsk (2 ^ 28 * length queue.old + k) (askers_of core.old.sessions) →
+        IsSteady (2 ^ 28 * length queue.new + k) (work_at core.new.fabric.stage core.new.place) (askers_of core.new.sessions)) }
+    ensures rests { OnOk result (AsksOrRests core.new) }
+    ensures fit { OnOk result (AreFit core.old.fabric.shape queue.new) }
+    ensures shape { core.new.fabric.shape ≡ core.old.fabric.shape }
+    ensures limits { core.new.fabric.limits ≡ core.old.fabric.limits }
+{
+    'turns: loop {
+        if !turn(heard, queue, core, events, asks)? {
+            return Ok(());
+        }
+    }
+}
+
+/// Goes on with the jobs that wait, unless a change is at work.
+pub(crate) fn wake(
+    heard: &Heard,
+    queue: &mut Queue<Job>,
+    core: &mut Core,
+    events: &mut List<Event>,
+    asks: &mut List<Asked>,
+) -> Result<(), NoMemory>
+    requires rests { AsksOrRests core.old }
+    requires fit { AreFit core.old.fabric.shape queue.old }
+    requires steady { IsSteady (2 ^ 28 * length queue.old) (work_at core.old.fabric.stage core.old.place) (askers_of core.old.sessions) }
+    ensures reached { OnOk result ((f : Front) → f.heard ≡ heard.now.heard → f.queue ≡ queue.old →
+        reached (state_in (with_queue queue.new f) core.new) events.new asks.new (table_of core.new.learned)
+        ≡ reached_by (wakes (decide_of core.old.fabric) (state_in f core.old)) events.old asks.old (table_of core.old.learned)) }
+    ensures steady { OnOk result ((k : ℕ) → IsSteady (2 ^ 28 * length queue.old + k) (work_at core.old.fabric.stage core.old.place) (askers_of core.old.sessions) →
+        IsSteady (2 ^ 28 * length queue.new + k) (work_at core.new.fabric.stage core.new.place) (askers_of core.new.sessions)) }
+    ensures rests { OnOk result (AsksOrRests core.new) }
+    ensures fit { OnOk result (AreFit core.old.fabric.shape queue.new) }
+    ensures shape { core.new.fabric.shape ≡ core.old.fabric.shape }
+    ensures limits { core.new.fabric.limits ≡ core.old.fabric.limits }
+{
+    if is_at_rest(&core.fabric) {
+        go_on(heard, queue, core, events, asks)
+    } else {
+        Ok(())
+    }
+}
+
+/// A command is put at the end of the queue, and the queue goes on.
+pub(crate) fn give(
+    number: u32,
+    command: &Command,
+    heard: &Heard,
+    queue: &mut Queue<Job>,
+    core: &mut Core,
+    events: &mut List<Event>,
+    asks: &mut List<Asked>,
+) -> Result<(), NoMemory>
+    requires rests { AsksOrRests core.old }
+    requires names { NamesExternal core.old.fabric.shape command.now }
+    requires fit { AreFit core.old.fabric.shape queue.old }
+    requires steady { IsSteady (2 ^ 28 * (length queue.old + 1)) (work_at core.old.fabric.stage core.old.place) (askers_of core.old.sessions) }
+    ensures reached { OnOk result ((f : Front) → f.heard ≡ heard.now.heard → f.queue ≡ queue.old ++ Job.Ordered number command.now ∷ [] →
+        reached (state_in (with_queue queue.new f) core.new) events.new asks.new (table_of core.new.learned)
+        ≡ reached_by (wakes (decide_of core.old.fabric) (state_in f core.old)) events.old asks.old (table_of core.old.learned)) }
+    ensures steady { OnOk result ((k : ℕ) → IsSteady (2 ^ 28 * (length queue.old + 1) + k) (work_at core.old.fabric.stage core.old.place) (askers_of core.old.sessions) →
+        IsSteady (2 ^ 28 * length queue.new + k) (work_at core.new.fabric.stage core.new.place) (askers_of core.new.sessions)) }
+    ensures rests { OnOk result (AsksOrRests core.new) }
+    ensures fit { OnOk result (AreFit core.old.fabric.shape queue.new) }
+    ensures shape { core.new.fabric.shape ≡ core.old.fabric.shape }
+    ensures limits { core.new.fabric.limits ≡ core.old.fabric.limits }
+{
+    queue.push(&Job::Ordered {
+        number,
+        command: *command,
+    })?;
+    wake(heard, queue, core, events, asks)
+}
+
+/// A message comes from an extender. If it is the answer that is waited for, the change at work goes on.
+pub(crate) fn take(
+    extender: u8,
+    message: &Message,
+    heard: &Heard,
+    queue: &mut Queue<Job>,
+    core: &mut Core,
+    events: &mut List<Event>,
+    asks: &mut List<Asked>,
+) -> Result<Taken, NoMemory>
+    requires known { extender < 65 }
+    requires rests { AsksOrRests core.old }
+    requires fit { AreFit core.old.fabric.shape queue.old }
+    requires steady { IsSteady (2 ^ 28 * length queue.old) (work_at core.old.fabric.stage core.old.place) (askers_of core.old.sessions) }
+    ensures taken { IfOk result (λ taken. taken ≡ (took (askers_of core.old.sessions extender) message.now).1) }
+    ensures reached { OnOk result ((f : Front) → f.heard ≡ heard.now.heard → f.queue ≡ queue.old →
+        reached (state_in (with_queue queue.new f) core.new) events.new asks.new (table_of core.new.learned)
+        ≡ reached_by (answered (decide_of core.old.fabric) extender message.now (state_in f core.old)) events.old asks.old (table_of core.old.learned)) }
+    ensures steady { OnOk result ((k : ℕ) → IsSteady (2 ^ 28 * length queue.old + k) (work_at core.old.fabric.stage core.old.place) (askers_of core.old.sessions) →
+        IsSteady (2 ^ 28 * length queue.new + k) (work_at core.new.fabric.stage core.new.place) (askers_of core.new.sessions)) }
+    ensures rests { OnOk result (AsksOrRests core.new) }
+    ensures fit { OnOk result (AreFit core.old.fabric.shape queue.new) }
+    ensures shape { core.new.fabric.shape ≡ core.old.fabric.shape }
+    ensures limits { core.new.fabric.limits ≡ core.old.fabric.limits }
+{
+    let taken = core.sessions.take(extender, message);
+    if let Taken::Answer(_) = taken {
+        core.fabric.is_fabric();
+        core.place += 1;
+        proceed(core, events, asks)?;
+        wake(heard, queue, core, events, asks)?;
+    }
+    Ok(taken)
+}

@@ -1,0 +1,277 @@
+//! How changes are carried out: one request at a time.
+ghost use Rattle.std.specs.Prelude.{◌≡◌, ◌+◌, ◌<◌, ◌^◌, ◌++◌, [], true, false, ℕ, List, OnOk, IfOk, Some, drop, is_some, length};
+ghost use Rattle.std.specs.Option.{option_copied};
+ghost use Rattle.exb_learn.specs.Entries.{table_of};
+ghost use Rattle.exb_changes.specs.Fabrics.{IsPrepared, IsInForce, Fits, bridge_in, held_in};
+ghost use Rattle.exb_changes.specs.Machine.{commanded_down, committed, refused, downs_of, starts};
+ghost use Rattle.exb_control.specs.Controls.{work_at, forgotten_all, decide_of};
+ghost use Rattle.exb_control.specs.Steps.{Front, is_at_rest, advances, after_beat, messages_at_beat, rest_of, state_in, askers_of, commits_at, left_at, reached, reached_by, asks_in, asks_after, ask_at, after_ask, messages_for};
+ghost use Rattle.exb_control.specs.Soundness.{AreKnown, MayAsk, CanAsk, IsSteady, AsksOrRests};
+
+use crate::sessions::Sessions;
+use exb_changes::{Asked, Fabric, Job, Stage};
+use exb_learn::Learned;
+use exb_model::command::Command;
+use exb_model::event::{Cause, Event};
+use exb_model::list::List;
+use exb_model::memory::NoMemory;
+use exb_plan::{AskAt, Change};
+
+/// The configuration with the change at work, the place of the outstanding request among those of its phase,
+/// the sessions, and what is learned.
+#[derive(Drop)]
+pub(crate) struct Core {
+    pub(crate) fabric: Fabric,
+    pub(crate) place: usize,
+    pub(crate) sessions: Sessions,
+    pub(crate) learned: Learned,
+}
+
+/// The requests of the phase.
+pub(crate) fn asks_in(stage: &Stage) -> &[AskAt]
+    ensures { result.now ≡ asks_in stage.now }
+{
+    match stage {
+        Stage::AtRest => &[],
+        Stage::Prepared { job: _, change } => change.prepare.as_slice(),
+        Stage::InForce { job: _, change } => change.cleanup.as_slice(),
+    }
+}
+
+/// The requests after those of the phase.
+pub(crate) fn asks_after(stage: &Stage) -> &[AskAt]
+    ensures { result.now ≡ asks_after stage.now }
+{
+    match stage {
+        Stage::Prepared { job: _, change } => change.cleanup.as_slice(),
+        _ => &[],
+    }
+}
+
+/// The outstanding request.
+pub(crate) fn outstanding(fabric: &Fabric, place: usize) -> Option<&AskAt>
+    ensures { option_copied result ≡ ask_at fabric.now.stage place }
+{
+    asks_in(fabric.stage()).get(place)
+}
+
+/// Whether no change is at work.
+pub(crate) fn is_at_rest(fabric: &Fabric) -> bool
+    ensures { result ≡ is_at_rest fabric.now.stage }
+{
+    matches!(fabric.stage(), Stage::AtRest)
+}
+
+/// Whether the change at work is prepared and not yet in force.
+fn is_prepared(fabric: &Fabric) -> bool
+    ensures yes { result ≡ true → IsPrepared fabric.now.stage }
+    ensures no { result ≡ false → is_at_rest fabric.now.stage ≡ false → IsInForce fabric.now.stage }
+{
+    matches!(fabric.stage(), Stage::Prepared { .. })
+}
+
+/// Asks the request at a place of the phase; false where there is none.
+fn ask_at(
+    fabric: &Fabric,
+    place: usize,
+    sessions: &mut Sessions,
+    asks: &mut List<Asked>,
+) -> Result<bool, NoMemory>
+    requires { CanAsk (ask_at fabric.now.stage place) (askers_of sessions.old) }
+    ensures asked { IfOk result (λ done. done ≡ is_some (ask_at fabric.now.stage place)) }
+    ensures sessions { OnOk result (askers_of sessions.new ≡ after_ask (ask_at fabric.now.stage place) (askers_of sessions.old)) }
+    ensures asks { OnOk result (asks.new ≡ asks.old ++ messages_for (ask_at fabric.now.stage place) (askers_of sessions.old)) }
+{
+    match outstanding(fabric, place) {
+        None => Ok(false),
+        Some(ask) => {
+            let message = sessions.ask(ask.extender, ask.request.copy());
+            asks.push(Asked {
+                extender: ask.extender,
+                message,
+            })?;
+            Ok(true)
+        }
+    }
+}
+
+/// Forgets what was learned at a port that a command makes go down.
+fn forget_down(command: &Command, learned: &mut Learned)
+    ensures { table_of learned.new ≡ forgotten_all (commanded_down command.now) (table_of learned.old) }
+{
+    if let Command::Down { port } = command {
+        learned.forget(*port);
+    }
+}
+
+/// A job takes effect: its event, and what is forgotten.
+fn tell_commit(job: &Job, learned: &mut Learned, events: &mut List<Event>) -> Result<(), NoMemory>
+    ensures events { OnOk result (events.new ≡ events.old ++ committed job.now) }
+    ensures table { OnOk result (table_of learned.new ≡ forgotten_all (downs_of job.now) (table_of learned.old)) }
+{
+    match job {
+        Job::Opening { extender: _ } => Ok(()),
+        Job::AutomaticUp { port } => events.push(Event::Up { port: *port }),
+        Job::Ordered { number, command } => {
+            forget_down(command, learned);
+            events.push(Event::Commit { number: *number })
+        }
+    }
+}
+
+/// A job is refused: its event.
+fn tell_refusal(job: &Job, cause: Cause, events: &mut List<Event>) -> Result<(), NoMemory>
+    ensures { OnOk result (events.new ≡ events.old ++ refused job.now cause) }
+{
+    match job {
+        Job::Opening { extender: _ } => Ok(()),
+        Job::AutomaticUp { port } => events.push(Event::NoUp { port: *port, cause }),
+        Job::Ordered { number, command: _ } => events.push(Event::Refuse {
+            number: *number,
+            cause,
+        }),
+    }
+}
+
+/// The change at work takes effect: its event, and what is forgotten.
+fn tell(stage: &Stage, learned: &mut Learned, events: &mut List<Event>) -> Result<(), NoMemory>
+    ensures events { OnOk result ((j : Job) (x : Change) → stage.now ≡ Stage.InForce j x → events.new ≡ events.old ++ committed j) }
+    ensures table { OnOk result ((j : Job) (x : Change) → stage.now ≡ Stage.InForce j x → table_of learned.new ≡ forgotten_all (downs_of j) (table_of learned.old)) }
+{
+    match stage {
+        Stage::InForce { job, change: _ } => tell_commit(job, learned, events),
+        _ => Ok(()),
+    }
+}
+
+/// The cleanup of the change in force begins; without one the change is done.
+fn clean(core: &mut Core, asks: &mut List<Asked>) -> Result<(), NoMemory>
+    requires stage { IsInForce core.old.fabric.stage }
+    requires known { AreKnown (asks_in core.old.fabric.stage) }
+    requires may { MayAsk (length (asks_in core.old.fabric.stage)) (askers_of core.old.sessions) }
+    ensures reached { OnOk result ((f : Front) (events : List Event) →
+        reached (state_in f core.new) events asks.new (table_of core.new.learned)
+        ≡ reached_by (advances core.old.fabric.stage (asks_in core.old.fabric.stage) (rest_of f core.old)) events asks.old (table_of core.old.learned)) }
+    ensures rests { OnOk result (AsksOrRests core.new) }
+    ensures shape { core.new.fabric.shape ≡ core.old.fabric.shape }
+    ensures limits { core.new.fabric.limits ≡ core.old.fabric.limits }
+{
+    core.place = 0;
+    if ask_at(&core.fabric, core.place, &mut core.sessions, asks)? {
+        return Ok(());
+    }
+    core.fabric.finish();
+    Ok(())
+}
+
+/// The prepared change takes effect, and its cleanup begins.
+fn commit(core: &mut Core, events: &mut List<Event>, asks: &mut List<Asked>) -> Result<(), NoMemory>
+    requires stage { IsPrepared core.old.fabric.stage }
+    requires known { AreKnown (asks_after core.old.fabric.stage) }
+    requires may { MayAsk (length (asks_after core.old.fabric.stage)) (askers_of core.old.sessions) }
+    ensures reached { OnOk result ((f : Front) →
+        reached (state_in f core.new) events.new asks.new (table_of core.new.learned)
+        ≡ reached_by (commits_at core.old.fabric.stage (rest_of f core.old)) events.old asks.old (table_of core.old.learned)) }
+    ensures rests { OnOk result (AsksOrRests core.new) }
+    ensures shape { core.new.fabric.shape ≡ core.old.fabric.shape }
+    ensures limits { core.new.fabric.limits ≡ core.old.fabric.limits }
+{
+    core.fabric.commit()?;
+    tell(core.fabric.stage(), &mut core.learned, events)?;
+    clean(core, asks)
+}
+
+/// The phase ends: a prepared change takes effect, and one in force is done.
+fn end_phase(
+    core: &mut Core,
+    events: &mut List<Event>,
+    asks: &mut List<Asked>,
+) -> Result<(), NoMemory>
+    requires busy { is_at_rest core.old.fabric.stage ≡ false }
+    requires known { AreKnown (asks_after core.old.fabric.stage) }
+    requires may { MayAsk (length (asks_after core.old.fabric.stage)) (askers_of core.old.sessions) }
+    ensures reached { OnOk result ((f : Front) →
+        reached (state_in f core.new) events.new asks.new (table_of core.new.learned)
+        ≡ reached_by (advances core.old.fabric.stage [] (rest_of f core.old)) events.old asks.old (table_of core.old.learned)) }
+    ensures rests { OnOk result (AsksOrRests core.new) }
+    ensures shape { core.new.fabric.shape ≡ core.old.fabric.shape }
+    ensures limits { core.new.fabric.limits ≡ core.old.fabric.limits }
+{
+    if is_prepared(&core.fabric) {
+        return commit(core, events, asks);
+    }
+    core.fabric.finish();
+    Ok(())
+}
+
+/// The request at the place goes out; where there is none, the phase ends.
+pub(crate) fn proceed(
+    core: &mut Core,
+    events: &mut List<Event>,
+    asks: &mut List<Asked>,
+) -> Result<(), NoMemory>
+    requires busy { is_at_rest core.old.fabric.stage ≡ false }
+    requires known { AreKnown (drop core.old.place (asks_in core.old.fabric.stage)) }
+    requires after { AreKnown (asks_after core.old.fabric.stage) }
+    requires may { MayAsk (left_at core.old.fabric.stage core.old.place) (askers_of core.old.sessions) }
+    ensures reached { OnOk result ((f : Front) →
+        reached (state_in f core.new) events.new asks.new (table_of core.new.learned)
+        ≡ reached_by (advances core.old.fabric.stage (drop core.old.place (asks_in core.old.fabric.stage)) (rest_of f core.old))
+        events.old asks.old (table_of core.old.learned)) }
+    ensures steady { OnOk result ((k : ℕ) → MayAsk (left_at core.old.fabric.stage core.old.place + k) (askers_of core.old.sessions) →
+        IsSteady k (work_at core.new.fabric.stage core.new.place) (askers_of core.new.sessions)) }
+    ensures rests { OnOk result (AsksOrRests core.new) }
+    ensures shape { core.new.fabric.shape ≡ core.old.fabric.shape }
+    ensures limits { core.new.fabric.limits ≡ core.old.fabric.limits }
+{
+    if ask_at(&core.fabric, core.place, &mut core.sessions, asks)? {
+        return Ok(());
+    }
+    end_phase(core, events, asks)
+}
+
+/// A job's turn has come: it is refused, or its change begins.
+pub(crate) fn start(
+    core: &mut Core,
+    job: &Job,
+    events: &mut List<Event>,
+    asks: &mut List<Asked>,
+) -> Result<(), NoMemory>
+    requires stage { core.old.fabric.stage ≡ Stage.AtRest }
+    requires fits { Fits core.old.fabric.shape job.now }
+    requires may { MayAsk (2 ^ 28) (askers_of core.old.sessions) }
+    ensures reached { OnOk result ((f : Front) →
+        reached (state_in f core.new) events.new asks.new (table_of core.new.learned)
+        ≡ reached_by (starts job.now (decide_of core.old.fabric (bridge_in core.old.fabric) (held_in core.old.fabric) job.now) (rest_of f core.old))
+        events.old asks.old (table_of core.old.learned)) }
+    ensures steady { OnOk result ((k : ℕ) → MayAsk (2 ^ 28 + k) (askers_of core.old.sessions) →
+        IsSteady k (work_at core.new.fabric.stage core.new.place) (askers_of core.new.sessions)) }
+    ensures rests { OnOk result (AsksOrRests core.new) }
+    ensures shape { core.new.fabric.shape ≡ core.old.fabric.shape }
+    ensures limits { core.new.fabric.limits ≡ core.old.fabric.limits }
+{
+    match core.fabric.start(job)? {
+        Some(cause) => tell_refusal(job, cause, events),
+        None => {
+            core.fabric.is_fabric();
+            core.place = 0;
+            proceed(core, events, asks)
+        }
+    }
+}
+
+/// A beat of waiting: at each sixteenth the outstanding request goes out again.
+pub(crate) fn beat(core: &mut Core, asks: &mut List<Asked>) -> Result<(), NoMemory>
+    requires { (a : AskAt) → ask_at core.old.fabric.stage core.old.place ≡ Some a → a.extender < 65 }
+    ensures sessions { askers_of core.new.sessions ≡ after_beat (ask_at core.old.fabric.stage core.old.place) (askers_of core.old.sessions) }
+    ensures asks { OnOk result (asks.new ≡ asks.old ++ messages_at_beat (ask_at core.old.fabric.stage core.old.place) (askers_of core.old.sessions)) }
+    ensures rest { core.new ≡ record core.old { sessions = core.new.sessions } }
+{
+    if let Some(ask) = outstanding(&core.fabric, core.place) {
+        let extender = ask.extender;
+        if let Some(message) = core.sessions.beat(extender) {
+            asks.push(Asked { extender, message })?;
+        }
+    }
+    Ok(())
+}
