@@ -15,3 +15,4 @@ pub mod Strays
 pub mod Growing
 pub mod LaidMidway
 pub mod Carried
+pub mod Knowing

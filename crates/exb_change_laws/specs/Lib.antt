@@ -9,3 +9,4 @@ pub mod Asking
 pub mod Planned
 pub mod Begins
 pub mod Midway
+pub mod Knowing

@@ -1,6 +1,7 @@
 //! What is true of every run of the machine of changes.
 ghost use Rattle.exb_change_laws.specs.Begins.{Begins, RunsFromTheBeginning};
 ghost use Rattle.exb_change_laws.specs.Asking.{StepsWait, OneWaitsAlways, StepsNumber, SerialsCount};
+ghost use Rattle.exb_change_laws.specs.Knowing.{BeginsKnowing, StepsKnow};
 ghost use Rattle.exb_change_laws.specs.Counts.{AnswersCount, HearingCounts, OthersLeaveCounts};
 ghost use Rattle.exb_change_laws.specs.Journal.{StepsTell, DecidedOnce};
 ghost use Rattle.exb_change_laws.specs.Strays.{StraysChangeNothing, OldAreStray};
@@ -113,4 +114,14 @@ pub fn strays_change_nothing()
 /// A message is no answer where its serial is that of an earlier request, or where its extender isn't waited for.
 pub fn old_are_stray()
     ensures { OldAreStray }
+{}
+
+/// At the beginning all jobs are ones of the tree, and no request is outstanding.
+pub fn begins_knowing()
+    ensures { BeginsKnowing }
+{}
+
+/// Each message that goes out goes to an extender of the tree, whatever comes.
+pub fn steps_know()
+    ensures { StepsKnow }
 {}

@@ -1,10 +1,10 @@
 -- How long the lists of a plan are.
-use Rattle.std.proofs.Common.{◌≡◌, ℕ, zero, suc, ◌+◌, ◌-◌, ◌*◌, ◌<◌, ◌≤◌, ◌==◌, Bool, true, false, not, List, [], ◌∷◌, Option, Some, None, length, map, filter, drop, refl, ap, arith, inl, inr, eq-eqb, length-append, length-drop}
-use Rattle.std.specs.Prelude.{filter_map}
+use Rattle.std.proofs.Common.{◌≡◌, ℕ, zero, suc, ◌+◌, ◌-◌, ◌*◌, ◌<◌, ◌≤◌, ◌==◌, ◌&&◌, cond, nat_lt, Bool, true, false, not, List, [], ◌∷◌, Option, Some, None, length, map, filter, drop, refl, ap, arith, inl, inr, eq-eqb, length-append, length-drop}
+use Rattle.std.specs.Prelude.{filter_map, slice_index}
 use Rattle.std.specs.List.{cons_option, flat_map, range_with_len}
-use Rattle.std.proofs.lemmas.Bool.{cases_Bool, cases_eq, cases_lt}
+use Rattle.std.proofs.lemmas.Bool.{cases_Bool, cases_eq, cases_lt, and_parts, eqb-true, ne_eqb}
 use Rattle.std.proofs.lemmas.List.{length-map}
-use Rattle.exb_model.specs.Tree.{Shape, is_cascade, level, levels, by_depth, hangs_at_depth}
+use Rattle.exb_model.specs.Tree.{Shape, is_cascade, depth, level, levels, by_depth, hangs_at_depth}
 use Rattle.exb_model.specs.Refusals.{bridge_ports}
 use Rattle.exb_model.specs.Ports.{below}
 use Rattle.exb_rows.specs.Sets.{PortsAt}
@@ -59,27 +59,73 @@ unfolding in_messages
 few_messages xs = few_pieces (length xs) xs
 
 -- ---- extenders
-few_level : (t : Shape) (d k : ℕ) → length (level t d k) ≤ k
-unfolding level
-few_level t d zero = omega arith
-few_level t d (suc k) =
-    let rest = few_level t d k in
-    elim (cases_Bool (hangs_at_depth t (suc k) d)) [
-      | inl e ↦ rw (e, length-append (level t d k) (suc k ∷ [])) (omega (arith, rest))
-      | inr e ↦ rw (e, length-append (level t d k) []) (omega (arith, rest))
-    ]
+-- 1 where extender n hangs at depth d
+one_at : Shape → ℕ → ℕ → ℕ
+one_at t n d = cond (hangs_at_depth t n d) 1 0
 
-few_levels : (t : Shape) (d : ℕ) → length (levels t d) ≤ 64 * d
-unfolding levels
-few_levels t zero = omega arith
-few_levels t (suc d) =
-    let rest = few_levels t d in
-    let more = few_level t (suc d) 64 in
-    rw (length-append (levels t d) (level t (suc d) 64)) (omega (arith, rest, more))
+-- at the depths up to d
+ones_to : Shape → ℕ → ℕ → ℕ
+ones_to t n zero = 0
+ones_to t n (suc d) = ones_to t n d + one_at t n (suc d)
 
-pub few_extenders : (t : Shape) → length (by_depth t) ≤ 4096
+none_above : (t : Shape) (n d : ℕ) → d < depth t n → ones_to t n d ≡ 0
+unfolding ones_to one_at
+none_above t n zero deep = refl
+none_above t n (suc d) deep =
+    let rest = none_above t n d (omega (arith, deep)) in
+    let other = ne_eqb (depth t n) (suc d) (λ e. omega (arith, deep, e)) in
+    rw (rest, other) (by_test (nat_lt 0 (slice_index t.ports n)))
+  where
+    by_test : (b : Bool) → 0 + cond (b && false) 1 0 ≡ 0
+    by_test true = refl
+    by_test false = refl
+
+-- an extender hangs at one depth alone
+one_most : (t : Shape) (n d : ℕ) → ones_to t n d ≤ 1
+unfolding ones_to one_at
+one_most t n zero = omega arith
+one_most t n (suc d) = elim (cases_Bool (hangs_at_depth t n (suc d))) [
+  | inl e ↦
+      let at = eqb-true (depth t n) (suc d) (and_parts (nat_lt 0 (slice_index t.ports n)) (depth t n == suc d) e).1 in
+      let none = none_above t n d (omega (arith, at)) in
+      rw e (omega (arith, none))
+  | inr e ↦ let rest = one_most t n d in rw e (omega (arith, rest))
+]
+
+level_more : (t : Shape) (d k : ℕ) → length (level t d (suc k)) ≡ length (level t d k) + one_at t (suc k) d
+unfolding level one_at
+level_more t d k = elim (cases_Bool (hangs_at_depth t (suc k) d)) [
+  | inl e ↦ rw (e, length-append (level t d k) (suc k ∷ [])) refl
+  | inr e ↦ rw (e, length-append (level t d k) []) refl
+]
+
+-- the extenders up to number n at the depths up to d
+many_to : Shape → ℕ → ℕ → ℕ
+many_to t n zero = 0
+many_to t n (suc d) = many_to t n d + length (level t (suc d) n)
+
+many_more : (t : Shape) (k d : ℕ) → many_to t (suc k) d ≡ many_to t k d + ones_to t (suc k) d
+unfolding many_to ones_to
+many_more t k zero = refl
+many_more t k (suc d) = let rest = many_more t k d in let here = level_more t (suc d) k in omega (arith, rest, here)
+
+many_none : (t : Shape) (d : ℕ) → many_to t 0 d ≡ 0
+unfolding many_to level
+many_none t zero = refl
+many_none t (suc d) = let rest = many_none t d in omega (arith, rest)
+
+many_most : (t : Shape) (n d : ℕ) → many_to t n d ≤ n
+many_most t zero d = let none = many_none t d in omega (arith, none)
+many_most t (suc k) d = let rest = many_most t k d in let more = many_more t k d in let one = one_most t (suc k) d in omega (arith, rest, more, one)
+
+levels_are : (t : Shape) (d : ℕ) → length (levels t d) ≡ many_to t 64 d
+unfolding levels many_to
+levels_are t zero = refl
+levels_are t (suc d) = let rest = levels_are t d in rw (length-append (levels t d) (level t (suc d) 64)) (omega (arith, rest))
+
+pub few_extenders : (t : Shape) → length (by_depth t) ≤ 64
 unfolding by_depth
-few_extenders t = few_levels t 64
+few_extenders t = let same = levels_are t 64 in let most = many_most t 64 64 in omega (arith, same, most)
 
 -- ---- requests for groups
 asks_few : (step : Step) (rows : List _) (n : ℕ) → 64 * length (asks_with step rows n) ≤ length rows + 63
@@ -88,13 +134,13 @@ asks_few step rows n =
     let same = length-map (in_messages rows) (λ piece. ask n (message step piece)) in
     omega (arith, few, same)
 
-pub group_asks_few : (t : Shape) (step : Step) (groups : List Group) (b : ℕ) → length groups + 63 ≤ 64 * b → length (group_asks step t groups) ≤ b * 4096
+pub group_asks_few : (t : Shape) (step : Step) (groups : List Group) (b : ℕ) → length groups + 63 ≤ 64 * b → length (group_asks step t groups) ≤ b * 64
 unfolding group_asks
 group_asks_few t step groups b few =
     let each : length (flat_map (λ n. asks_with step (rows_at t groups n) n) (by_depth t)) ≤ b * length (by_depth t) =
     flat_at_most (λ n. asks_with step (rows_at t groups n) n) b (λ n. at_each n) (by_depth t) in
     let extenders = few_extenders t in
-    omega (arith, each, mul_most b (length (by_depth t)) 4096 extenders)
+    omega (arith, each, mul_most b (length (by_depth t)) 64 extenders)
   where
     at_each : (n : ℕ) → length (asks_with step (rows_at t groups n) n) ≤ b
     at_each n =

@@ -130,13 +130,13 @@ unfolding opening_asks cascades_of create_asks
 opening_short t n h =
     let cascades = few-filter (λ q. is_port t q && is_cascade t q) (range_with_len (64 * n) 64) in
     let range = few_range (64 * n) 64 in
-    let asks = flat_at_most (λ q. create_asks t q true (channel_of t h q)) 4097 (λ q. channel_few t Lay q (channel_of t h q) (ask (device q) (PortCreate (port_number q) true (channel_of t h q))))
+    let asks = flat_at_most (λ q. create_asks t q true (channel_of t h q)) 65 (λ q. channel_few t Lay q (channel_of t h q) (ask (device q) (PortCreate (port_number q) true (channel_of t h q))))
     (filter (λ q. is_port t q && is_cascade t q) (range_with_len (64 * n) 64)) in
     record { prepare = omega (arith, asks, cascades, range); cleanup = omega arith }
 
 module _ (t : Shape) (valid : IsTree t) (l : Limits) (few : l.channels ≤ 4094) (enough : l.groups ≤ 12288) (b : Bridge) (external : HasExternals t b) (h : Held)
     (needed : HoldsNeeded t b h) where
-  planned : (c : Command) → NamesExternal t c → refusal_between t l b (after c b) ≡ None → IsPlanned t l b (after c b) h
+  pub planned : (c : Command) → NamesExternal t c → refusal_between t l b (after c b) ≡ None → IsPlanned t l b (after c b) h
   planned c names fits = record { tree = valid; channels = few; groups = enough; step = step_of t b c names external; needed = needed; fits = fits }
 
   short_of : (c : Command) → IsPlanned t l b (after c b) h → IsShort (change_of t l b (after c b) h)

@@ -43,7 +43,7 @@ new_fabric s valid t is config v start pvids has first = record {
 
 -- ---- a job is decided
 module _ (f : Fabric) (is : IsFabric f) (rest : f.stage ≡ AtRest) where
-  rest_needed : HoldsNeeded f.shape (bridge_in f) (held_in f)
+  pub rest_needed : HoldsNeeded f.shape (bridge_in f) (held_in f)
   rest_needed = subst (HoldsIn f.shape (bridge_in f) (held_in f)) rest is.holds
 
   -- just what the configuration needs is held

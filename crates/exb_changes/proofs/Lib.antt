@@ -13,4 +13,7 @@ pub mod Roles
 pub mod Freeing
 pub mod Copies
 pub mod Openings
+pub mod Known
 pub mod Kept
+pub mod GroupUses
+pub mod FirstJobs

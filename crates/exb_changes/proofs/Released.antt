@@ -134,7 +134,7 @@ module _ (t : Shape) (l : Limits) (old new : Bridge) (h : Held) (p : IsPlanned t
   number_gone : (k g : ℕ) → is_number (map number_of (gone_groups t (sets_of t new) h)) k g ≡ list_any (is_it k g) (gone_groups t (sets_of t new) h)
   number_gone k g = list_any-map (λ (x : Number). x.bridge_port == k + 1 && x.number == g) number_of (gone_groups t (sets_of t new) h)
 
-  freed_set : (k g : ℕ) → (freed t old new (claimed t l old new h)).set k g ≡ cond (is_gone (sets_of t new) (claimed t l old new h) k g) [] ((claimed t l old new h).set k g)
+  pub freed_set : (k g : ℕ) → (freed t old new (claimed t l old new h)).set k g ≡ cond (is_gone (sets_of t new) (claimed t l old new h) k g) [] ((claimed t l old new h).set k g)
   unfolding freed
   freed_set k g =
       let x : Held = claimed t l old new h in

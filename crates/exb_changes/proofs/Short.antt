@@ -28,7 +28,7 @@ use Rattle.exb_changes.proofs.FreshGroups.{fresh_below}
 use Rattle.exb_changes.proofs.Counted.{few-filter_map, few_extenders, group_asks_few, numbered_many, all_gone_few, IsUpTo, sets_few}
 
 -- ---- channels
-rows_few : (t : Shape) (p : ℕ) → length (channel_rows t p) ≤ 4096
+rows_few : (t : Shape) (p : ℕ) → length (channel_rows t p) ≤ 64
 unfolding channel_rows rows_of
 rows_few t p =
     let out = few-filter (λ (row : Row). not (row.extender == device p)) (filter_map (row_of t (λ q. q == p)) (by_depth t)) in
@@ -36,18 +36,18 @@ rows_few t p =
     let extenders = few_extenders t in
     omega (arith, out, rows, extenders)
 
-pub channel_few : (t : Shape) (step : Step) (p c : ℕ) (last : AskAt) → length (channel_asks step t p c ++ last ∷ []) ≤ 4097
+pub channel_few : (t : Shape) (step : Step) (p c : ℕ) (last : AskAt) → length (channel_asks step t p c ++ last ∷ []) ≤ 65
 channel_few t step p c last =
     let rows = rows_few t p in
     let same = length-map (channel_rows t p) (channel_ask step c) in
     rw (length-append (channel_asks step t p c) (last ∷ [])) (omega (arith, rows, same))
 
-up_few : (t : Shape) (c : ℕ) (o : Option ℕ) → length (up_asks t c o) ≤ 4097
+up_few : (t : Shape) (c : ℕ) (o : Option ℕ) → length (up_asks t c o) ≤ 65
 unfolding create_asks
 up_few t c None = omega arith
 up_few t c (Some p) = channel_few t Lay p c _
 
-down_few : (t : Shape) (c : ℕ) (o : Option ℕ) → length (down_asks t c o) ≤ 4097
+down_few : (t : Shape) (c : ℕ) (o : Option ℕ) → length (down_asks t c o) ≤ 65
 unfolding delete_asks
 down_few t c None = omega arith
 down_few t c (Some p) = channel_few t Clear p c _
@@ -95,21 +95,21 @@ pub changes_are_short : ChangesAreShort
 unfolding prepare_of cleanup_of fresh_groups
 changes_are_short t l old new h p = (before, after)
   where
-    before : length (prepare_of t l old new h) ≤ 134217728
+    before : length (prepare_of t l old new h) ≤ 1048576
     before =
         let groups = fresh_groups t l old new h in
         let up = up_asks t (new_channel t l h (goes_up t old new)) (goes_up t old new) in
         let same : length (fresh_groups t l old new h) ≡ length (fresh_sets t old new) = numbered_many l.groups (with_up t l old new h) (fresh_sets t old new) in
         let few = fresh_few t p.tree l old new p.groups (none_short t p.tree l old new p.fits).1 in
-        let asks : length (group_asks Lay t groups) ≤ 12289 * 4096 = group_asks_few t Lay groups 12289 (omega (arith, same, few)) in
-        let ups : length up ≤ 4097 = up_few t (new_channel t l h (goes_up t old new)) (goes_up t old new) in
+        let asks : length (group_asks Lay t groups) ≤ 12289 * 64 = group_asks_few t Lay groups 12289 (omega (arith, same, few)) in
+        let ups : length up ≤ 65 = up_few t (new_channel t l h (goes_up t old new)) (goes_up t old new) in
         rw (length-append up (group_asks Lay t groups)) (omega (arith, asks, ups))
 
-    after : length (cleanup_of t old new h) ≤ 134217728
+    after : length (cleanup_of t old new h) ≤ 1048576
     after =
         let groups = gone_groups t (sets_of t new) h in
         let down = down_asks t (own_channel t h (goes_down t old new)) (goes_down t old new) in
         let few = all_gone_few t (sets_of t new) h in
-        let asks : length (group_asks Clear t groups) ≤ 12289 * 4096 = group_asks_few t Clear groups 12289 (omega (arith, few)) in
-        let downs : length down ≤ 4097 = down_few t (own_channel t h (goes_down t old new)) (goes_down t old new) in
+        let asks : length (group_asks Clear t groups) ≤ 12289 * 64 = group_asks_few t Clear groups 12289 (omega (arith, few)) in
+        let downs : length down ≤ 65 = down_few t (own_channel t h (goes_down t old new)) (goes_down t old new) in
         rw (length-append (group_asks Clear t groups) down) (omega (arith, asks, downs))

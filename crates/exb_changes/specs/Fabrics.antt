@@ -1,5 +1,5 @@
 -- The configuration in force, the numbers that are held, and the change at work, as the code keeps them.
-use Rattle.std.specs.Prelude.{◌≡◌, ℕ, ◌^◌, ◌≤◌, ◌&&◌, true, nat_lt, Bool, [], Option, Some, None, length, if◌then◌else◌}
+use Rattle.std.specs.Prelude.{◌≡◌, ℕ, ◌^◌, ◌≤◌, ◌&&◌, true, nat_lt, Bool, List, [], ◌∷◌, Option, Some, None, length, if◌then◌else◌}
 use Rattle.exb_model.specs.Tree.{Shape, IsTree, is_external, is_extended, is_extender, is_cascade}
 use Rattle.exb_model.specs.Setup.{Limits, NamesExternal}
 use Rattle.exb_model.specs.Configuration.{Bridge}
@@ -53,6 +53,11 @@ Fits t (job.Opening n) = is_extender t n ≡ true
 Fits t (job.AutomaticUp p) = is_extended t p ≡ true
 Fits t (job.Ordered n c) = NamesExternal t c
 
+-- so it is of each job of a queue
+abbrev pub AreFit : Shape → List Job → Type 0
+AreFit t [] = Unit {0}
+AreFit t (j ∷ js) = Fits t j × AreFit t js
+
 -- the stage of a job that was decided
 abbrev pub stage_of : Job → Outcome → Stage
 stage_of j (Refused cause) = AtRest
@@ -102,8 +107,8 @@ held_at_end (InForce j x) h = release x h
 -- ---- what holds of every fabric
 -- a change has at most so many requests in each phase
 pub record IsShort (x : Change) : Type 0 where
-  pub prepare : length x.prepare ≤ 2 ^ 27
-  pub cleanup : length x.cleanup ≤ 2 ^ 27
+  pub prepare : length x.prepare ≤ 2 ^ 20
+  pub cleanup : length x.cleanup ≤ 2 ^ 20
 
 -- At rest just what the configuration needs is held; in the middle of a change it will be so at its end.
 abbrev pub HoldsIn : Shape → Bridge → Held → Stage → Type 0

@@ -4,3 +4,4 @@ pub mod Counting
 pub mod Beginning
 pub mod Fabrics
 pub mod Planned
+pub mod GroupUses

@@ -1,13 +1,17 @@
 -- What is true of the requests of all plans.
-use Rattle.std.specs.Prelude.{◌≡◌, ℕ, ◌≤◌, ◌^◌, ◌&&◌, false, nat_lt, [], None, length}
-use Rattle.exb_model.specs.Tree.{Shape, IsTree, is_cascade}
+use Rattle.std.specs.Prelude.{◌≡◌, ℕ, ◌≤◌, ◌^◌, ◌&&◌, true, false, nat_lt, List, [], ◌∷◌, None, length}
+use Rattle.exb_model.specs.Tree.{Shape, IsTree, is_cascade, is_extender}
 use Rattle.exb_model.specs.Setup.{Limits}
 use Rattle.exb_model.specs.Configuration.{Bridge}
+use Rattle.exb_plan.specs.declared.asks.AskAt.{AskAt}
+use Rattle.exb_plan.specs.declared.change.Change.{Change}
 use Rattle.exb_plan.specs.Held.{Held, HoldsNeeded}
 use Rattle.exb_plan.specs.Between.{refusal_between}
 use Rattle.exb_plan.specs.Plans.{prepare_of, cleanup_of, claimed, freed, change_of}
 use Rattle.exb_plan.specs.Laws.{IsStep}
-use Rattle.exb_changes.specs.Deciding.{release}
+use Rattle.exb_changes.specs.declared.job.Job.{Job}
+use Rattle.exb_changes.specs.Deciding.{Ready, decide, release}
+use Rattle.exb_changes.specs.Fabrics.{Fits}
 
 -- a change that is planned from one configuration to another
 pub record IsPlanned (t : Shape) (l : Limits) (old new : Bridge) (h : Held) : Type 0 where
@@ -23,11 +27,11 @@ pub record IsPlanned (t : Shape) (l : Limits) (old new : Bridge) (h : Held) : Ty
   -- there are enough numbers
   pub fits : refusal_between t l old new ≡ None
 
--- A plan has at most 2 ^ 27 requests before its commit, and as many after it.
+-- A plan has at most 2 ^ 20 requests before its commit, and as many after it.
 abbrev pub ChangesAreShort : Type 0
 ChangesAreShort =
     (t : Shape) (l : Limits) (old new : Bridge) (h : Held) → IsPlanned t l old new h →
-    (length (prepare_of t l old new h) ≤ 2 ^ 27) × (length (cleanup_of t old new h) ≤ 2 ^ 27)
+    (length (prepare_of t l old new h) ≤ 2 ^ 20) × (length (cleanup_of t old new h) ≤ 2 ^ 20)
 
 -- no group is held but at the cascade ports of the bridge
 abbrev pub IsHeldAtCascades : Shape → Held → Type 0
@@ -44,3 +48,16 @@ abbrev pub ReleasedIsNeeded : Type 0
 ReleasedIsNeeded =
     (t : Shape) (l : Limits) (old new : Bridge) (h : Held) → IsPlanned t l old new h →
     HoldsNeeded t new (release (change_of t l old new h) (claimed t l old new h))
+
+-- each request goes to an extender of the tree
+abbrev pub AreKnown : Shape → List AskAt → Type 0
+AreKnown t [] = Unit {0}
+AreKnown t (a ∷ rest) = (is_extender t a.extender ≡ true) × AreKnown t rest
+
+pub record IsKnown (t : Shape) (x : Change) : Type 0 where
+  pub prepare : AreKnown t x.prepare
+  pub cleanup : AreKnown t x.cleanup
+
+-- So do those of each change that is decided.
+abbrev pub PlansAreKnown : Type 0
+PlansAreKnown = (t : Shape) (l : Limits) (b : Bridge) (h : Held) (j : Job) (x : Change) (claimed : Held) → Fits t j → decide t l b h j ≡ Ready x claimed → IsKnown t x

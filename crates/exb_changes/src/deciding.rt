@@ -1,14 +1,16 @@
 //! What becomes of a job when its turn comes.
-ghost use Rattle.std.specs.Prelude.{◌≡◌, ◌/◌, ◌++◌, true, IfOk, OnOk, OnErr};
-ghost use Rattle.exb_model.specs.Tree.{is_extender};
-ghost use Rattle.exb_model.specs.Setup.{Limits, NamesExternal};
-ghost use Rattle.exb_model.specs.Configuration.{after};
+ghost use Rattle.std.specs.Prelude.{◌≡◌, ℕ, ◌/◌, ◌<◌, ◌≤◌, ◌++◌, true, [], length, slice_index_or, IfOk, OnOk, OnErr};
+ghost use Rattle.exb_model.specs.Tree.{is_extender, is_cascade};
+ghost use Rattle.exb_model.specs.Setup.{Limits};
 ghost use Rattle.exb_config.specs.Tables.{bridge_of};
+ghost use Rattle.exb_numbers.specs.Spaces.{groups_at};
 ghost use Rattle.exb_plan.specs.Held.{HasSpaces, HoldsNeeded, held_by};
 ghost use Rattle.exb_plan.specs.Working.{SpacesOf};
-ghost use Rattle.exb_plan.specs.Plans.{decision, held_after as held_by_plan};
-ghost use Rattle.exb_changes.specs.Deciding.{cascade_asks, opening_asks, opening_change, decide};
-ghost use Rattle.exb_changes.specs.Fabrics.{Fits, HasExternals, decision_of, held_after};
+ghost use Rattle.exb_planning.specs.Counted.{IsCounted};
+ghost use Rattle.exb_planning.specs.Decided.{IfDecided};
+ghost use Rattle.exb_planning.specs.Recount.{HaveRowsOf};
+ghost use Rattle.exb_changes.specs.Deciding.{cascade_asks, opening_asks, opening_change, bridge_after, decide};
+ghost use Rattle.exb_changes.specs.Fabrics.{Fits, decision_of, held_after};
 
 use crate::job::Job;
 use exb_config::Config;
@@ -21,7 +23,8 @@ use exb_model::role::Role;
 use exb_model::tree::Tree;
 use exb_numbers::Spaces;
 use exb_plan::asks::put_create;
-use exb_plan::{AskAt, Change, Decision, plan};
+use exb_plan::{AskAt, Change, Decision};
+use exb_planning::{Uses, plan_command};
 use std::alloc::Global;
 
 // Asks that a port of an extender is created, if it is a cascade port.
@@ -88,42 +91,20 @@ fn opening_change(
     })
 }
 
-// The plan of a command.
-fn plan_command(
-    alloc: Global,
-    tree: &Tree,
-    spaces: &mut Spaces,
-    config: &Config,
-    command: &Command,
-) -> Result<Decision, NoMemory>
-    requires limits { (l : Limits) × HasSpaces tree.now l spaces.old }
-    requires held { HoldsNeeded tree.now (bridge_of config.now) (held_by spaces.old) }
-    requires external { HasExternals tree.now (bridge_of config.now) }
-    requires names { NamesExternal tree.now command.now }
-    ensures decision { (l : Limits) → HasSpaces tree.now l spaces.old
-        → IfOk result (λ made. made ≡ decision tree.now l (bridge_of config.now) (after command.now (bridge_of config.now)) (held_by spaces.old)) }
-    ensures claimed { (l : Limits) → HasSpaces tree.now l spaces.old
-        → OnOk result (held_by spaces.new ≡ held_by_plan tree.now l (bridge_of config.now) (after command.now (bridge_of config.now)) (held_by spaces.old)) }
-    ensures no_memory { OnErr result (held_by spaces.new ≡ held_by spaces.old) }
-    ensures spaces { (l : Limits) → HasSpaces tree.now l spaces.old → HasSpaces tree.now l spaces.new }
-{
-    let mut next = config.copy()?;
-    next.apply(command)?;
-    plan(alloc, tree, spaces, config, &next)
-}
-
-/// Decides a job: says why it is refused, or claims the numbers of its change. Refused or out of memory nothing
-/// is claimed.
+/// Decides a job: says why it is refused, or claims the numbers of its change. The uses are then those after the job.
+/// Refused or out of memory nothing is claimed, and no use changes.
 pub(crate) fn decide(
     alloc: Global,
     tree: &Tree,
     spaces: &mut Spaces,
+    uses: &mut Uses,
     config: &Config,
     job: &Job,
 ) -> Result<Decision, NoMemory>
-    requires limits { (l : Limits) × HasSpaces tree.now l spaces.old }
+    requires limits { (l : Limits) × HasSpaces tree.now l spaces.old × (l.groups ≤ 12288) }
+    requires rows { (k : ℕ) → k < 64 → is_cascade tree.now k ≡ true → length (slice_index_or uses.old k []) ≡ (groups_at spaces.old k).limit }
     requires held { HoldsNeeded tree.now (bridge_of config.now) (held_by spaces.old) }
-    requires external { HasExternals tree.now (bridge_of config.now) }
+    requires counted { IsCounted tree.now (bridge_of config.now) (held_by spaces.old) uses.old }
     requires fits { Fits tree.now job.now }
     ensures decision { (l : Limits) → HasSpaces tree.now l spaces.old
         → IfOk result (λ made. made ≡ decision_of (decide tree.now l (bridge_of config.now) (held_by spaces.old) job.now)) }
@@ -131,6 +112,9 @@ pub(crate) fn decide(
         → OnOk result (held_by spaces.new ≡ held_after (decide tree.now l (bridge_of config.now) (held_by spaces.old) job.now) (held_by spaces.old)) }
     ensures no_memory { OnErr result (held_by spaces.new ≡ held_by spaces.old) }
     ensures spaces { (l : Limits) → HasSpaces tree.now l spaces.old → HasSpaces tree.now l spaces.new }
+    ensures counted { IfOk result (λ made. IfDecided made (uses.new ≡ uses.old) (IsCounted tree.now (bridge_after job.now (bridge_of config.now)) (held_by spaces.new) uses.new)) }
+    ensures unchanged { OnErr result (uses.new ≡ uses.old) }
+    ensures rows { HaveRowsOf uses.old uses.new }
 {
     match job {
         Job::Opening { extender } => {
@@ -139,10 +123,10 @@ pub(crate) fn decide(
         }
         Job::AutomaticUp { port } => {
             let command = Command::Up { port: *port };
-            plan_command(alloc, tree, spaces, config, &command)
+            plan_command(alloc, tree, spaces, uses, config, &command)
         }
         Job::Ordered { number: _, command } => {
-            plan_command(alloc, tree, spaces, config, command)
+            plan_command(alloc, tree, spaces, uses, config, command)
         }
     }
 }

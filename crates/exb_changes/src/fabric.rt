@@ -23,6 +23,7 @@ use exb_model::setup::Setup;
 use exb_model::tree::Tree;
 use exb_numbers::Spaces;
 use exb_plan::Decision;
+use exb_planning::Uses;
 use std::alloc::Global;
 use std::marker::Model;
 use std::mem;
@@ -42,17 +43,20 @@ pub struct Fabric {
     /// The configuration in force.
     config: Config,
     spaces: Spaces,
+    /// How often the set of each group is a part of the configuration at the end of the change at work.
+    uses: Uses,
     stage: Stage,
 }
 
 impl Model for Fabric {
-    ghost use Rattle.exb_changes.specs.Fabrics.{Fabric, IsFabric, fabric_of};
+    ghost use Rattle.exb_changes.specs.Fabrics.{Fabric, fabric_of};
+    ghost use Rattle.exb_changes.specs.GroupUses.{IsKept};
 
     ghost Value = { Fabric };
 
     ghost view = { λ f. fabric_of f.tree.value f.channels f.groups f.config f.spaces f.stage };
 
-    ghost invariant = { λ f. IsFabric (fabric_of f.tree.value f.channels f.groups f.config f.spaces f.stage) };
+    ghost invariant = { λ f. IsKept (fabric_of f.tree.value f.channels f.groups f.config f.spaces f.stage) f.uses };
 }
 
 // A tree that copies share.
@@ -121,6 +125,7 @@ impl Fabric {
         let tree = shared(alloc, Tree::new(alloc, setup)?)?;
         let config = first_config(alloc, &tree, setup)?;
         let spaces = first_spaces(alloc, &tree, setup.channels, setup.groups)?;
+        let uses = Uses::new(alloc, &tree, setup.groups)?;
         Ok(Fabric {
             alloc,
             tree,
@@ -128,6 +133,7 @@ impl Fabric {
             groups: setup.groups,
             config,
             spaces,
+            uses,
             stage: Stage::AtRest,
         })
     }
@@ -146,7 +152,15 @@ impl Fabric {
         ensures shape { self.new.shape ≡ self.old.shape }
         ensures limits { self.new.limits ≡ self.old.limits }
     {
-        match decide(self.alloc, &self.tree, &mut self.spaces, &self.config, job)? {
+        let decision = decide(
+            self.alloc,
+            &self.tree,
+            &mut self.spaces,
+            &mut self.uses,
+            &self.config,
+            job,
+        )?;
+        match decision {
             Decision::Refused(cause) => Ok(Some(cause)),
             Decision::Ready(change) => {
                 self.stage = Stage::Prepared { job: *job, change };
@@ -228,6 +242,7 @@ impl Fabric {
             self.channels,
             self.groups,
         )?;
+        let uses = self.uses.copy()?;
         take_effect(&self.stage, &mut config)?;
         free_numbers(&self.stage, &self.tree, &mut spaces);
         Ok(Fabric {
@@ -237,6 +252,7 @@ impl Fabric {
             groups: self.groups,
             config,
             spaces,
+            uses,
             stage: Stage::AtRest,
         })
     }

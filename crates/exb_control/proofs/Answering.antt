@@ -121,7 +121,7 @@ put_answered e s askers k idle serial others room = record { idle = by_idle; roo
     by_idle : (n : ℕ) → (put e s askers n).waiting ≡ None
     by_idle n = elim (cases_eq n e) [ inl is ↦ rw (is, eq-eqb e e refl) idle | inr ne ↦ rw (ne_eqb n e ne) (others n ne) ]
 
-    by_room : (n : ℕ) → (put e s askers n).serial + k < 2 ^ 63
+    by_room : (n : ℕ) → (put e s askers n).serial + k < 2 ^ 40
     by_room n = elim (cases_eq n e) [ inl is ↦ rw (is, eq-eqb e e refl, serial) (room e) | inr ne ↦ rw (ne_eqb n e ne) (room n) ]
 
 proceeds : (k : ℕ) (j : Job) (x : Change) (phase : Phase) (place : ℕ) (xs ys : List AskAt) (askers : ℕ → AskerState) (e : ℕ) (s : AskerState) → drop place xs ≡ ys →

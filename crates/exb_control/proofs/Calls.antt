@@ -145,6 +145,11 @@ ignored decide t ports n a v out same other none no_ask quiet =
     rw here (record { state = refl; events = none; asks = no_ask; table = refl; shape = refl; limits = refl; failed = refl; quiet = quiet })
 
 -- ---- numbers
-pub room_of : (k : ℕ) (o : Option Work) (askers : ℕ → AskerState) → IsSteady k o askers → k < 2 ^ 63
+pub room_of : (k : ℕ) (o : Option Work) (askers : ℕ → AskerState) → IsSteady k o askers → k < 2 ^ 40
 room_of k None askers may = let room = may.room 0 in omega arith
 room_of k (Some w) askers waits = let room = waits.room 0 in omega arith
+
+-- no serial is as large
+pub low_serials : (k : ℕ) (o : Option Work) (askers : ℕ → AskerState) → IsSteady k o askers → (n : ℕ) → (askers n).serial < 2 ^ 40
+low_serials k None askers may n = let room = may.room n in omega arith
+low_serials k (Some w) askers waits n = let room = waits.room n in omega arith

@@ -13,13 +13,13 @@ use Rattle.exb_changes.specs.declared.job.Phase.TheVariants.{Preparing, Cleaning
 use Rattle.exb_changes.specs.declared.stage.Stage.{Stage}
 use Rattle.exb_changes.specs.declared.stage.Stage.TheVariants.{AtRest, Prepared, InForce}
 use Rattle.exb_changes.specs.Deciding.{Decide, bridge_after, release}
-use Rattle.exb_changes.specs.Fabrics.{Fabric, Fits, bridge_in, held_in, bridge_at_end, held_at_end}
+use Rattle.exb_changes.specs.Fabrics.{Fabric, Fits, bridge_in, held_in, bridge_at_end, held_at_end, AreFit}
 use Rattle.exb_changes.specs.Machine.{Work, State}
 use Rattle.exb_changes.specs.Counting.{requests_of, requests_in, requests_by, bridge_left, held_left, unheard, planned}
 use Rattle.exb_control.specs.declared.working.Core.{Core}
 use Rattle.exb_control.specs.Controls.{decide_of, work_from, work_at}
 use Rattle.exb_control.specs.Steps.{Front, Heard, heard_of, state_in, left_at, unheard_to}
-use Rattle.exb_control.specs.Soundness.{AreFit, AsksOrRests}
+use Rattle.exb_control.specs.Soundness.{AsksOrRests}
 
 pub drop_at : (js : List Job) (i : ℕ) (j : Job) → slice_get js i ≡ Some j → drop i js ≡ j ∷ drop (suc i) js
 drop_at [] i j e = absurd (cc)
@@ -34,7 +34,7 @@ pub record IsCounting (v0 v : Fabric) (q : List Job) (place count : ℕ) : Type 
   pub limits : v.limits ≡ v0.limits
   pub fit : AreFit v0.shape (drop place q)
   pub rest : count + requests_in (decide_of v0) (bridge_in v) (held_in v) (drop place q) ≡ requests_in (decide_of v0) (bridge_in v0) (held_in v0) q
-  pub few : count ≤ 2 ^ 28 * place
+  pub few : count ≤ 2 ^ 21 * place
 
 pub next_fits : (t : Shape) (q : List Job) (i : ℕ) (j : Job) → slice_get q i ≡ Some j → AreFit t (drop i q) → Fits t j × AreFit t (drop (i + 1) q)
 next_fits t q i j e fit = let both = rw (drop_at q i j e) at fit in (both.0, rw add-one both.1)

@@ -12,7 +12,7 @@ use Rattle.exb_control.specs.Controls.{state_of, first_of}
 use Rattle.exb_control.specs.Steps.{Heard, heard_of, askers_of}
 use Rattle.exb_control.specs.Soundness.{MayAsk, to_come}
 use Rattle.exb_control.specs.Insides.{parts_of, IsKept}
-use Rattle.exb_control.proofs.FirstJobs.{few_first, fit_first}
+use Rattle.exb_changes.proofs.FirstJobs.{few_first, fit_first}
 
 module _ (s : Setup) (core : Core) (queue : List Job) (heard : Heard) (shape : core.fabric.shape ≡ shape_of s) (rest : core.fabric.stage ≡ AtRest)
     (jobs : queue ≡ first_jobs (shape_of s)) (askers : askers_of core.sessions ≡ λ n. begun) where
@@ -22,7 +22,7 @@ module _ (s : Setup) (core : Core) (queue : List Job) (heard : Heard) (shape : c
 
   may_begin : MayAsk (to_come queue 0) (askers_of core.sessions)
   may_begin =
-      let few : length queue ≤ 266240 = rw jobs (few_first (shape_of s)) in
+      let few : length queue ≤ 4160 = rw jobs (few_first (shape_of s)) in
       rw askers (record { idle = λ n. refl; room = λ n. omega arith })
 
   pub begins_kept : heard.ports ≡ (shape_of s).ports → IsKept core queue heard 0 false

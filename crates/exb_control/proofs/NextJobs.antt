@@ -5,7 +5,7 @@ use Rattle.std.specs.Option.{is_none}
 use Rattle.exb_model.specs.declared.event.Event.{Event}
 use Rattle.exb_learn.specs.Calls.{Table}
 use Rattle.exb_learn.specs.Entries.{table_of}
-use Rattle.exb_changes.specs.Fabrics.{Fabric, bridge_in, held_in}
+use Rattle.exb_changes.specs.Fabrics.{Fabric, bridge_in, held_in, AreFit}
 use Rattle.exb_changes.specs.declared.asked.Asked.{Asked}
 use Rattle.exb_changes.specs.declared.job.Job.{Job}
 use Rattle.exb_changes.specs.declared.job.Job.TheVariants as job
@@ -18,7 +18,7 @@ use Rattle.exb_control.specs.Queues.{first_in, after_first}
 use Rattle.exb_control.specs.Controls.{work_at, decide_of}
 use Rattle.exb_control.specs.Steps.{Front, askers_of, Reached, reached, reached_by, rest_of, state_in, with_queue, waits_for, is_at_rest}
 use Rattle.exb_session.specs.Asking.{AskerState}
-use Rattle.exb_control.specs.Soundness.{AreFit, MayAsk, IsSteady, AsksOrRests}
+use Rattle.exb_control.specs.Soundness.{MayAsk, IsSteady, AsksOrRests}
 use Rattle.exb_control.proofs.Steps.{joined}
 
 -- ---- nothing is started
@@ -122,7 +122,7 @@ pub record IsOnWay (heard : List Bool) (q0 q : List Job) (c0 c : Core) (events0 
   pub way : (f : Front) → f.heard ≡ heard →
       reached_by (goes_on (decide_of c0.fabric) q (rest_of f c)) events asks (table_of c.learned)
       ≡ reached_by (goes_on (decide_of c0.fabric) q0 (rest_of f c0)) events0 asks0 (table_of c0.learned)
-  pub steady : (k : ℕ) → MayAsk (2 ^ 28 * length q0 + k) (askers_of c0.sessions) → MayAsk (2 ^ 28 * length q + k) (askers_of c.sessions)
+  pub steady : (k : ℕ) → MayAsk (2 ^ 21 * length q0 + k) (askers_of c0.sessions) → MayAsk (2 ^ 21 * length q + k) (askers_of c.sessions)
 
 -- jobs are decided as before
 pub same_decide : (c0 c : Fabric) → c.shape ≡ c0.shape → c.limits ≡ c0.limits → decide_of c ≡ decide_of c0

@@ -1,5 +1,5 @@
 -- Requests can be asked.
-use Rattle.std.proofs.Common.{◌≡◌, ◌≢◌, ℕ, suc, ◌+◌, ◌^◌, ◌<◌, ◌≤◌, ◌==◌, Bool, true, false, cond, List, [], ◌∷◌, ◌++◌, Option, Some, None, length, refl, ap, sym, subst, ◌∙◌, arith}
+use Rattle.std.proofs.Common.{◌≡◌, ◌≢◌, ℕ, suc, ◌+◌, ◌^◌, ◌<◌, ◌≤◌, ◌==◌, Bool, true, false, cond, List, [], ◌∷◌, Option, Some, None, length, refl, ap, sym, subst, ◌∙◌, arith}
 use Rattle.std.proofs.lemmas.Bool.{ne_eqb}
 use Rattle.exb_session.specs.Asking.{AskerState}
 use Rattle.exb_plan.specs.declared.asks.AskAt.{AskAt}
@@ -14,11 +14,9 @@ use Rattle.exb_changes.specs.declared.job.Phase.TheVariants.{Preparing, Cleaning
 use Rattle.exb_changes.specs.declared.stage.Stage.{Stage}
 use Rattle.exb_changes.specs.declared.stage.Stage.TheVariants.{AtRest, Prepared, InForce}
 use Rattle.exb_changes.specs.Deciding.{bridge_after}
-use Rattle.exb_model.specs.Tree.{Shape}
-use Rattle.exb_changes.specs.Fabrics.{Fits}
 use Rattle.exb_changes.specs.Machine.{Work, State, Moved, cleans, asking}
 use Rattle.exb_control.specs.Steps.{Reached, reached, reached_by, put, is_at_rest, asks_after, advances}
-use Rattle.exb_control.specs.Soundness.{AreKnown, HasRoom, MayAsk, CanAsk, IsWaiting, IsSteady, AreFit, later, following}
+use Rattle.exb_control.specs.Soundness.{AreKnown, HasRoom, MayAsk, CanAsk, IsWaiting, IsSteady, later, following}
 
 pub room_for : (k n : ℕ) (askers : ℕ → AskerState) → n ≤ k → HasRoom k askers → HasRoom n askers
 room_for k n askers le room m = let r = room m in omega arith
@@ -46,10 +44,10 @@ may_still k n old new same le may = rw same (may_ask k n old le may)
 put_other : (e n : ℕ) (a : AskerState) (askers : ℕ → AskerState) → n ≢ e → put e a askers n ≡ askers n
 put_other e n a askers ne = rw (ne_eqb n e ne) refl
 
-put_serial : (e n k : ℕ) (a : AskerState) (askers : ℕ → AskerState) → a.serial + k < 2 ^ 63 → (askers n).serial + k < 2 ^ 63 → (put e a askers n).serial + k < 2 ^ 63
+put_serial : (e n k : ℕ) (a : AskerState) (askers : ℕ → AskerState) → a.serial + k < 2 ^ 40 → (askers n).serial + k < 2 ^ 40 → (put e a askers n).serial + k < 2 ^ 40
 put_serial e n k a askers here there = by_test (n == e)
   where
-    by_test : (b : Bool) → (cond b a (askers n)).serial + k < 2 ^ 63
+    by_test : (b : Bool) → (cond b a (askers n)).serial + k < 2 ^ 40
     by_test true = here
     by_test false = there
 
@@ -95,8 +93,3 @@ advances_steady (InForce j x) xs s k busy known after may = ends_steady j x xs s
 pub steady_by : (k : ℕ) (s : State) (m : Moved) (events events' : List Event) (asks asks' : List Asked) (t t' : Table) →
     reached s events asks t ≡ reached_by m events' asks' t' → IsSteady k m.state.work m.state.askers → IsSteady k s.work s.askers
 steady_by k s m events events' asks asks' t t' e steady = subst (λ (r : Reached). IsSteady k r.state.work r.state.askers) (sym e) steady
-
--- ---- jobs
-pub fit_more : (t : Shape) (js : List Job) (j : Job) → AreFit t js → Fits t j → AreFit t (js ++ j ∷ [])
-fit_more t [] j fit one = (one, tt)
-fit_more t (i ∷ js) j fit one = (fit.0, fit_more t js j fit.1 one)

@@ -44,7 +44,7 @@ pub short : (t : Shape) (b : Bridge) (h : Held) (stage : Stage) (j : Job) (x : C
 short t b h stage j x is holds = (subst (λ (st : Stage). HoldsIn t b h st) is holds).0
 
 -- so is the phase
-pub short_phase : (t : Shape) (b : Bridge) (h : Held) (stage : Stage) (place : ℕ) → HoldsIn t b h stage → place < length (asks_in stage) → place < 2 ^ 27
+pub short_phase : (t : Shape) (b : Bridge) (h : Held) (stage : Stage) (place : ℕ) → HoldsIn t b h stage → place < length (asks_in stage) → place < 2 ^ 20
 short_phase t b h AtRest place holds within = omega arith
 short_phase t b h (Prepared j x) place holds within = let few = holds.0.prepare in omega arith
 short_phase t b h (InForce j x) place holds within = let few = holds.0.cleanup in omega arith

@@ -1,6 +1,5 @@
 -- What holds of the control while memory hasn't run out.
 use Rattle.std.specs.Prelude.{◌≡◌, ◌≢◌, ℕ, ◌+◌, ◌-◌, ◌*◌, ◌^◌, ◌<◌, true, List, [], ◌∷◌, Option, Some, None, is_none, length}
-use Rattle.exb_model.specs.Tree.{Shape}
 use Rattle.exb_session.specs.Asking.{AskerState}
 use Rattle.exb_plan.specs.declared.asks.AskAt.{AskAt}
 use Rattle.exb_plan.specs.declared.change.Change.{Change}
@@ -8,17 +7,11 @@ use Rattle.exb_changes.specs.declared.job.Job.{Job}
 use Rattle.exb_changes.specs.declared.job.Phase.{Phase}
 use Rattle.exb_changes.specs.declared.job.Phase.TheVariants.{Preparing, Cleaning}
 use Rattle.exb_changes.specs.declared.stage.Stage.TheVariants.{AtRest}
-use Rattle.exb_changes.specs.Fabrics.{Fits}
+use Rattle.exb_changes.specs.Fabrics.{AreFit}
 use Rattle.exb_changes.specs.Machine.{Work}
 use Rattle.exb_control.specs.declared.working.Core.{Core}
 use Rattle.exb_control.specs.Controls.{work_at}
 use Rattle.exb_control.specs.Steps.{askers_of}
-
--- ---- jobs
--- each job of the queue is one of this tree
-abbrev pub AreFit : Shape → List Job → Type 0
-AreFit t [] = Unit {0}
-AreFit t (j ∷ js) = Fits t j × AreFit t js
 
 -- ---- requests
 -- each request is to an extender with a number of 1 to 64
@@ -28,7 +21,7 @@ AreKnown (a ∷ rest) = (a.extender < 65) × AreKnown rest
 
 -- so many more requests can have serials, whomever they go to
 abbrev pub HasRoom : ℕ → (ℕ → AskerState) → Type 0
-HasRoom k askers = (n : ℕ) → (askers n).serial + k < 2 ^ 63
+HasRoom k askers = (n : ℕ) → (askers n).serial + k < 2 ^ 40
 
 -- no answer is waited for, and so many more requests can be asked
 pub record MayAsk (k : ℕ) (askers : ℕ → AskerState) : Type 0 where
@@ -66,9 +59,9 @@ IsSteady k (Some w) askers = IsWaiting k w askers
 abbrev pub AsksOrRests : Core → Type 0
 AsksOrRests c = is_none (work_at c.fabric.stage c.place) ≡ true → c.fabric.stage ≡ AtRest
 
--- the requests of these jobs and of the commands that may still be given, at most 2^28 each
+-- the requests of these jobs and of the commands that may still be given, at most 2^21 each
 abbrev pub to_come : List Job → ℕ → ℕ
-to_come queue given = 2 ^ 28 * (length queue + (65536 - given))
+to_come queue given = 2 ^ 21 * (length queue + (65536 - given))
 
 -- what holds while memory hasn't run out
 pub record IsSound (c : Core) (queue : List Job) (given : ℕ) : Type 0 where

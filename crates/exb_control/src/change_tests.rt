@@ -6,6 +6,7 @@ use exb_model::command::Command;
 use exb_model::list::List;
 use exb_model::port::PortId;
 use exb_model::port_set::PortSet;
+use exb_model::rules::Accept;
 use exb_model::setup::{ExtenderSetup, Place, Setup};
 use exb_model::vlan::{Kind, Vid};
 use std::alloc::Global;
@@ -185,6 +186,11 @@ fn each_change_of_a_rule_takes_effect_without_an_exchange(rt: HostRuntime) {
         on: true,
     };
     assert_eq!(rt; played(&rt, &mut drive, &filter).as_str(), "commit 2; ");
+    let accept = Command::Accept {
+        port: port(&rt, 64),
+        accept: Accept::TaggedOnly,
+    };
+    assert_eq!(rt; played(&rt, &mut drive, &accept).as_str(), "commit 3; ");
 }
 
 #[test]

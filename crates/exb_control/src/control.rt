@@ -1,5 +1,5 @@
 //! The control, and its calls.
-ghost use Rattle.std.specs.Prelude.{◌≡◌, ◌+◌, ◌-◌, ◌<◌, ◌≤◌, ◌^◌, ◌↔◌, true, false, IfOk, OnOk, OnErr};
+ghost use Rattle.std.specs.Prelude.{◌≡◌, ℕ, ◌+◌, ◌-◌, ◌<◌, ◌≤◌, ◌^◌, ◌↔◌, true, false, IfOk, OnOk, OnErr};
 ghost use Rattle.exb_model.specs.Setup.{IsValid, NamesExternal, shape_of, limits_of};
 ghost use Rattle.exb_model.specs.Tree.{is_extender, is_external, is_cascade};
 ghost use Rattle.exb_session.specs.Asking.{took};
@@ -322,6 +322,14 @@ impl Control {
         ensures { result ≡ self.now.given }
     {
         self.given
+    }
+
+    /// That the serials of all requests stay below 2 to the power of 40, however many changes come, as a fact for
+    /// whoever calls it. It does nothing.
+    pub fn has_low_serials(&self)
+        ensures { self.now.failed ≡ false → (n : ℕ) → ((state_of self.now).askers n).serial < 2 ^ 40 }
+    {
+        let _ = &self.core;
     }
 
     /// What holds of the fabric, as a fact for whoever calls it. It does nothing.

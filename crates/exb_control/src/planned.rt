@@ -1,10 +1,10 @@
 //! How many exchanges are still to come.
 ghost use Rattle.std.specs.Prelude.{◌≡◌, ◌+◌, ◌*◌, ◌≤◌, ◌<◌, ◌^◌, IfOk, OnOk, length};
 ghost use Rattle.exb_changes.specs.Counting.{requests_of, requests_in, bridge_left, held_left, planned};
-ghost use Rattle.exb_changes.specs.Fabrics.{Fits, bridge_in, held_in};
+ghost use Rattle.exb_changes.specs.Fabrics.{Fits, bridge_in, held_in, AreFit};
 ghost use Rattle.exb_control.specs.Controls.{decide_of};
 ghost use Rattle.exb_control.specs.Steps.{Front, state_in, left_at};
-ghost use Rattle.exb_control.specs.Soundness.{AreFit, AsksOrRests};
+ghost use Rattle.exb_control.specs.Soundness.{AsksOrRests};
 
 use crate::announcements::Heard;
 use crate::queue::Queue;
@@ -17,7 +17,7 @@ fn run(fabric: &mut Fabric, job: &Job) -> Result<u64, NoMemory>
     requires stage { fabric.old.stage ≡ Stage.AtRest }
     requires fits { Fits fabric.old.shape job.now }
     ensures count { IfOk result (λ count. count ≡ requests_of (decide_of fabric.old (bridge_in fabric.old) (held_in fabric.old) job.now)) }
-    ensures few { IfOk result (λ count. count ≤ 2 ^ 28) }
+    ensures few { IfOk result (λ count. count ≤ 2 ^ 21) }
     ensures bridge { OnOk result (bridge_in fabric.new ≡ bridge_left job.now (decide_of fabric.old (bridge_in fabric.old) (held_in fabric.old) job.now) (bridge_in fabric.old)) }
     ensures held { OnOk result (held_in fabric.new ≡ held_left (decide_of fabric.old (bridge_in fabric.old) (held_in fabric.old) job.now) (held_in fabric.old)) }
     ensures stage { OnOk result (fabric.new.stage ≡ Stage.AtRest) }
@@ -37,7 +37,7 @@ fn run(fabric: &mut Fabric, job: &Job) -> Result<u64, NoMemory>
 /// The requests of the change at work from a place of its phase on.
 fn left(fabric: &Fabric, place: usize) -> u64
     ensures value { result ≡ left_at fabric.now.stage place }
-    ensures few { result ≤ 2 ^ 28 }
+    ensures few { result ≤ 2 ^ 21 }
 {
     fabric.is_fabric();
     let stage = fabric.stage();
@@ -48,9 +48,9 @@ fn left(fabric: &Fabric, place: usize) -> u64
 fn count_jobs(fabric: &mut Fabric, queue: &Queue<Job>) -> Result<u64, NoMemory>
     requires stage { fabric.old.stage ≡ Stage.AtRest }
     requires fit { AreFit fabric.old.shape queue.now }
-    requires few { 2 ^ 28 * length queue.now < 2 ^ 63 }
+    requires few { 2 ^ 21 * length queue.now < 2 ^ 63 }
     ensures count { IfOk result (λ count. count ≡ requests_in (decide_of fabric.old) (bridge_in fabric.old) (held_in fabric.old) queue.now) }
-    ensures few { IfOk result (λ count. count ≤ 2 ^ 28 * length queue.now) }
+    ensures few { IfOk result (λ count. count ≤ 2 ^ 21 * length queue.now) }
 {
     let mut count = 0;
     'jobs: for at in 0..queue.len() {
@@ -64,7 +64,7 @@ pub(crate) fn planned(core: &Core, queue: &Queue<Job>, heard: &Heard) -> Result<
     requires ports { heard.now.ports ≡ core.now.fabric.shape.ports }
     requires fit { AreFit core.now.fabric.shape queue.now }
     requires rests { AsksOrRests core.now }
-    requires few { 2 ^ 28 * length queue.now < 2 ^ 63 }
+    requires few { 2 ^ 21 * length queue.now < 2 ^ 63 }
     ensures { IfOk result (λ count. (f : Front) → f.queue ≡ queue.now → f.heard ≡ heard.now.heard →
         count ≡ planned core.now.fabric.shape (decide_of core.now.fabric) (state_in f core.now)) }
 {

@@ -3,11 +3,11 @@ ghost use Rattle.std.specs.Prelude.{◌≡◌, ◌++◌, ◌∷◌, [], ◌+◌,
 ghost use Rattle.exb_model.specs.Setup.{NamesExternal};
 ghost use Rattle.exb_learn.specs.Entries.{table_of};
 ghost use Rattle.exb_session.specs.Asking.{took};
-ghost use Rattle.exb_changes.specs.Fabrics.{bridge_in};
+ghost use Rattle.exb_changes.specs.Fabrics.{bridge_in, AreFit};
 ghost use Rattle.exb_changes.specs.Machine.{goes_on, wakes, answered};
 ghost use Rattle.exb_control.specs.Controls.{work_at, decide_of};
 ghost use Rattle.exb_control.specs.Steps.{Front, askers_of, rest_of, state_in, reached, reached_by, with_queue};
-ghost use Rattle.exb_control.specs.Soundness.{AreFit, MayAsk, IsSteady, AsksOrRests};
+ghost use Rattle.exb_control.specs.Soundness.{MayAsk, IsSteady, AsksOrRests};
 
 use crate::announcements::Heard;
 use crate::queue::Queue;
@@ -30,15 +30,15 @@ fn turn(
 ) -> Result<bool, NoMemory>
     requires stage { core.old.fabric.stage ≡ Stage.AtRest }
     requires fit { AreFit core.old.fabric.shape queue.old }
-    requires may { MayAsk (2 ^ 28 * length queue.old) (askers_of core.old.sessions) }
+    requires may { MayAsk (2 ^ 21 * length queue.old) (askers_of core.old.sessions) }
     ensures ends { IfOk result (λ goes. goes ≡ false → (f : Front) → f.heard ≡ heard.now.heard →
         reached (state_in (with_queue queue.new f) core.new) events.new asks.new (table_of core.new.learned)
         ≡ reached_by (goes_on (decide_of core.old.fabric) queue.old (rest_of f core.old)) events.old asks.old (table_of core.old.learned)) }
     ensures goes { IfOk result (λ goes. goes ≡ true → (f : Front) → f.heard ≡ heard.now.heard →
         reached_by (goes_on (decide_of core.old.fabric) queue.new (rest_of f core.new)) events.new asks.new (table_of core.new.learned)
         ≡ reached_by (goes_on (decide_of core.old.fabric) queue.old (rest_of f core.old)) events.old asks.old (table_of core.old.learned)) }
-    ensures steady { OnOk result ((k : ℕ) → MayAsk (2 ^ 28 * length queue.old + k) (askers_of core.old.sessions) →
-        IsSteady (2 ^ 28 * length queue.new + k) (work_at core.new.fabric.stage core.new.place) (askers_of core.new.sessions)) }
+    ensures steady { OnOk result ((k : ℕ) → MayAsk (2 ^ 21 * length queue.old + k) (askers_of core.old.sessions) →
+        IsSteady (2 ^ 21 * length queue.new + k) (work_at core.new.fabric.stage core.new.place) (askers_of core.new.sessions)) }
     ensures rests { OnOk result (AsksOrRests core.new) }
     ensures stage { IfOk result (λ goes. goes ≡ true → core.new.fabric.stage ≡ Stage.AtRest) }
     ensures fit { OnOk result (AreFit core.old.fabric.shape queue.new) }
@@ -67,12 +67,12 @@ pub(crate) fn go_on(
 ) -> Result<(), NoMemory>
     requires stage { core.old.fabric.stage ≡ Stage.AtRest }
     requires fit { AreFit core.old.fabric.shape queue.old }
-    requires may { MayAsk (2 ^ 28 * length queue.old) (askers_of core.old.sessions) }
+    requires may { MayAsk (2 ^ 21 * length queue.old) (askers_of core.old.sessions) }
     ensures reached { OnOk result ((f : Front) → f.heard ≡ heard.now.heard →
         reached (state_in (with_queue queue.new f) core.new) events.new asks.new (table_of core.new.learned)
         ≡ reached_by (goes_on (decide_of core.old.fabric) queue.old (rest_of f core.old)) events.old asks.old (table_of core.old.learned)) }
-    ensures steady { OnOk result ((k : ℕ) → MayAsk (2 ^ 28 * length queue.old + k) (askers_of core.old.sessions) →
-        IsSteady (2 ^ 28 * length queue.new + k) (work_at core.new.fabric.stage core.new.place) (askers_of core.new.sessions)) }
+    ensures steady { OnOk result ((k : ℕ) → MayAsk (2 ^ 21 * length queue.old + k) (askers_of core.old.sessions) →
+        IsSteady (2 ^ 21 * length queue.new + k) (work_at core.new.fabric.stage core.new.place) (askers_of core.new.sessions)) }
     ensures rests { OnOk result (AsksOrRests core.new) }
     ensures fit { OnOk result (AreFit core.old.fabric.shape queue.new) }
     ensures shape { core.new.fabric.shape ≡ core.old.fabric.shape }
@@ -95,12 +95,12 @@ pub(crate) fn wake(
 ) -> Result<(), NoMemory>
     requires rests { AsksOrRests core.old }
     requires fit { AreFit core.old.fabric.shape queue.old }
-    requires steady { IsSteady (2 ^ 28 * length queue.old) (work_at core.old.fabric.stage core.old.place) (askers_of core.old.sessions) }
+    requires steady { IsSteady (2 ^ 21 * length queue.old) (work_at core.old.fabric.stage core.old.place) (askers_of core.old.sessions) }
     ensures reached { OnOk result ((f : Front) → f.heard ≡ heard.now.heard → f.queue ≡ queue.old →
         reached (state_in (with_queue queue.new f) core.new) events.new asks.new (table_of core.new.learned)
         ≡ reached_by (wakes (decide_of core.old.fabric) (state_in f core.old)) events.old asks.old (table_of core.old.learned)) }
-    ensures steady { OnOk result ((k : ℕ) → IsSteady (2 ^ 28 * length queue.old + k) (work_at core.old.fabric.stage core.old.place) (askers_of core.old.sessions) →
-        IsSteady (2 ^ 28 * length queue.new + k) (work_at core.new.fabric.stage core.new.place) (askers_of core.new.sessions)) }
+    ensures steady { OnOk result ((k : ℕ) → IsSteady (2 ^ 21 * length queue.old + k) (work_at core.old.fabric.stage core.old.place) (askers_of core.old.sessions) →
+        IsSteady (2 ^ 21 * length queue.new + k) (work_at core.new.fabric.stage core.new.place) (askers_of core.new.sessions)) }
     ensures rests { OnOk result (AsksOrRests core.new) }
     ensures fit { OnOk result (AreFit core.old.fabric.shape queue.new) }
     ensures shape { core.new.fabric.shape ≡ core.old.fabric.shape }
@@ -126,12 +126,12 @@ pub(crate) fn give(
     requires rests { AsksOrRests core.old }
     requires names { NamesExternal core.old.fabric.shape command.now }
     requires fit { AreFit core.old.fabric.shape queue.old }
-    requires steady { IsSteady (2 ^ 28 * (length queue.old + 1)) (work_at core.old.fabric.stage core.old.place) (askers_of core.old.sessions) }
+    requires steady { IsSteady (2 ^ 21 * (length queue.old + 1)) (work_at core.old.fabric.stage core.old.place) (askers_of core.old.sessions) }
     ensures reached { OnOk result ((f : Front) → f.heard ≡ heard.now.heard → f.queue ≡ queue.old ++ Job.Ordered number command.now ∷ [] →
         reached (state_in (with_queue queue.new f) core.new) events.new asks.new (table_of core.new.learned)
         ≡ reached_by (wakes (decide_of core.old.fabric) (state_in f core.old)) events.old asks.old (table_of core.old.learned)) }
-    ensures steady { OnOk result ((k : ℕ) → IsSteady (2 ^ 28 * (length queue.old + 1) + k) (work_at core.old.fabric.stage core.old.place) (askers_of core.old.sessions) →
-        IsSteady (2 ^ 28 * length queue.new + k) (work_at core.new.fabric.stage core.new.place) (askers_of core.new.sessions)) }
+    ensures steady { OnOk result ((k : ℕ) → IsSteady (2 ^ 21 * (length queue.old + 1) + k) (work_at core.old.fabric.stage core.old.place) (askers_of core.old.sessions) →
+        IsSteady (2 ^ 21 * length queue.new + k) (work_at core.new.fabric.stage core.new.place) (askers_of core.new.sessions)) }
     ensures rests { OnOk result (AsksOrRests core.new) }
     ensures fit { OnOk result (AreFit core.old.fabric.shape queue.new) }
     ensures shape { core.new.fabric.shape ≡ core.old.fabric.shape }
@@ -157,13 +157,13 @@ pub(crate) fn take(
     requires known { extender < 65 }
     requires rests { AsksOrRests core.old }
     requires fit { AreFit core.old.fabric.shape queue.old }
-    requires steady { IsSteady (2 ^ 28 * length queue.old) (work_at core.old.fabric.stage core.old.place) (askers_of core.old.sessions) }
+    requires steady { IsSteady (2 ^ 21 * length queue.old) (work_at core.old.fabric.stage core.old.place) (askers_of core.old.sessions) }
     ensures taken { IfOk result (λ taken. taken ≡ (took (askers_of core.old.sessions extender) message.now).1) }
     ensures reached { OnOk result ((f : Front) → f.heard ≡ heard.now.heard → f.queue ≡ queue.old →
         reached (state_in (with_queue queue.new f) core.new) events.new asks.new (table_of core.new.learned)
         ≡ reached_by (answered (decide_of core.old.fabric) extender message.now (state_in f core.old)) events.old asks.old (table_of core.old.learned)) }
-    ensures steady { OnOk result ((k : ℕ) → IsSteady (2 ^ 28 * length queue.old + k) (work_at core.old.fabric.stage core.old.place) (askers_of core.old.sessions) →
-        IsSteady (2 ^ 28 * length queue.new + k) (work_at core.new.fabric.stage core.new.place) (askers_of core.new.sessions)) }
+    ensures steady { OnOk result ((k : ℕ) → IsSteady (2 ^ 21 * length queue.old + k) (work_at core.old.fabric.stage core.old.place) (askers_of core.old.sessions) →
+        IsSteady (2 ^ 21 * length queue.new + k) (work_at core.new.fabric.stage core.new.place) (askers_of core.new.sessions)) }
     ensures rests { OnOk result (AsksOrRests core.new) }
     ensures fit { OnOk result (AreFit core.old.fabric.shape queue.new) }
     ensures shape { core.new.fabric.shape ≡ core.old.fabric.shape }

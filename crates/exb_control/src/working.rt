@@ -239,12 +239,12 @@ pub(crate) fn start(
 ) -> Result<(), NoMemory>
     requires stage { core.old.fabric.stage ≡ Stage.AtRest }
     requires fits { Fits core.old.fabric.shape job.now }
-    requires may { MayAsk (2 ^ 28) (askers_of core.old.sessions) }
+    requires may { MayAsk (2 ^ 21) (askers_of core.old.sessions) }
     ensures reached { OnOk result ((f : Front) →
         reached (state_in f core.new) events.new asks.new (table_of core.new.learned)
         ≡ reached_by (starts job.now (decide_of core.old.fabric (bridge_in core.old.fabric) (held_in core.old.fabric) job.now) (rest_of f core.old))
         events.old asks.old (table_of core.old.learned)) }
-    ensures steady { OnOk result ((k : ℕ) → MayAsk (2 ^ 28 + k) (askers_of core.old.sessions) →
+    ensures steady { OnOk result ((k : ℕ) → MayAsk (2 ^ 21 + k) (askers_of core.old.sessions) →
         IsSteady k (work_at core.new.fabric.stage core.new.place) (askers_of core.new.sessions)) }
     ensures rests { OnOk result (AsksOrRests core.new) }
     ensures shape { core.new.fabric.shape ≡ core.old.fabric.shape }

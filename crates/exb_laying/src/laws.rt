@@ -2,7 +2,7 @@
 ghost use Rattle.exb_changes.specs.Planned.{ChangesAreShort, ReleasedIsFreed, ReleasedIsNeeded};
 ghost use Rattle.exb_laying.specs.Laws.{PlansRun, OpeningsRun, RestIsLaidOut, ClaimedIsLaidOut, NothingIsLaid};
 
-/// A plan has at most 2 to the power of 27 requests before its commit, and as many after it.
+/// A plan has at most 2 to the power of 20 requests before its commit, and as many after it.
 pub fn changes_are_short()
     ensures { ChangesAreShort }
 {}

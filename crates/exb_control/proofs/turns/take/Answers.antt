@@ -14,7 +14,7 @@ use Rattle.exb_control.proofs.turns.take.Goals as goal
 pub overflow_add-core : goal.overflow_add-core
 overflow_add-core c =
     let old = c.args.core.now in
-    let able = can_proceed (2 ^ 28 * length c.args.queue.now) old.fabric.stage old.place (askers_of old.sessions) c.args.extender c.args.message.now _ c.requires.steady
+    let able = can_proceed (2 ^ 21 * length c.args.queue.now) old.fabric.stage old.place (askers_of old.sessions) c.args.extender c.args.message.now _ c.requires.steady
     (sym c.take-taken.ensures.taken ∙ c.in-Answer.is) in
     let few = short_phase old.fabric.shape (bridge_in old.fabric) (held_in old.fabric) old.fabric.stage old.place c.is_fabric.ensures.holds able.on.within in
     omega arith
@@ -22,48 +22,48 @@ overflow_add-core c =
 pub proceed-requires-clause-busy : goal.proceed-requires-clause-busy
 proceed-requires-clause-busy c =
     let old = c.args.core.now in
-    (can_proceed (2 ^ 28 * length c.args.queue.now) old.fabric.stage old.place (askers_of old.sessions) c.args.extender c.args.message.now _ c.requires.steady
+    (can_proceed (2 ^ 21 * length c.args.queue.now) old.fabric.stage old.place (askers_of old.sessions) c.args.extender c.args.message.now _ c.requires.steady
     (sym c.take-taken.ensures.taken ∙ c.in-Answer.is)).busy
 
 pub proceed-requires-clause-known : goal.proceed-requires-clause-known
 proceed-requires-clause-known c =
     let old = c.args.core.now in
-    (can_proceed (2 ^ 28 * length c.args.queue.now) old.fabric.stage old.place (askers_of old.sessions) c.args.extender c.args.message.now _ c.requires.steady
+    (can_proceed (2 ^ 21 * length c.args.queue.now) old.fabric.stage old.place (askers_of old.sessions) c.args.extender c.args.message.now _ c.requires.steady
     (sym c.take-taken.ensures.taken ∙ c.in-Answer.is)).on.known
 
 pub proceed-requires-clause-after : goal.proceed-requires-clause-after
 proceed-requires-clause-after c =
     let old = c.args.core.now in
-    (can_proceed (2 ^ 28 * length c.args.queue.now) old.fabric.stage old.place (askers_of old.sessions) c.args.extender c.args.message.now _ c.requires.steady
+    (can_proceed (2 ^ 21 * length c.args.queue.now) old.fabric.stage old.place (askers_of old.sessions) c.args.extender c.args.message.now _ c.requires.steady
     (sym c.take-taken.ensures.taken ∙ c.in-Answer.is)).on.after
 
 pub proceed-requires-clause-may : goal.proceed-requires-clause-may
 proceed-requires-clause-may c =
     let old = c.args.core.now in
-    let able = can_proceed (2 ^ 28 * length c.args.queue.now) old.fabric.stage old.place (askers_of old.sessions) c.args.extender c.args.message.now _ c.requires.steady
+    let able = can_proceed (2 ^ 21 * length c.args.queue.now) old.fabric.stage old.place (askers_of old.sessions) c.args.extender c.args.message.now _ c.requires.steady
     (sym c.take-taken.ensures.taken ∙ c.in-Answer.is) in
-    rw c.take-taken.ensures.state (may_ask (left_at old.fabric.stage (old.place + 1) + 2 ^ 28 * length c.args.queue.now) _ _ (omega arith) able.on.may)
+    rw c.take-taken.ensures.state (may_ask (left_at old.fabric.stage (old.place + 1) + 2 ^ 21 * length c.args.queue.now) _ _ (omega arith) able.on.may)
 
 pub wake-requires-clause-steady : goal.wake-requires-clause-steady
 wake-requires-clause-steady c =
     let old = c.args.core.now in
-    let able = can_proceed (2 ^ 28 * length c.args.queue.now) old.fabric.stage old.place (askers_of old.sessions) c.args.extender c.args.message.now _ c.requires.steady
+    let able = can_proceed (2 ^ 21 * length c.args.queue.now) old.fabric.stage old.place (askers_of old.sessions) c.args.extender c.args.message.now _ c.requires.steady
     (sym c.take-taken.ensures.taken ∙ c.in-Answer.is) in
-    c.in_ok-proceed.ensures.steady (2 ^ 28 * length c.args.queue.now) (rw c.take-taken.ensures.state able.on.may)
+    c.in_ok-proceed.ensures.steady (2 ^ 21 * length c.args.queue.now) (rw c.take-taken.ensures.state able.on.may)
 
 pub returns-in_ok-wake-clause-steady : goal.returns-in_ok-wake-clause-steady
 returns-in_ok-wake-clause-steady c k steady =
     let old = c.args.core.now in
-    let able = can_proceed (2 ^ 28 * length c.args.queue.now + k) old.fabric.stage old.place (askers_of old.sessions) c.args.extender c.args.message.now _ steady
+    let able = can_proceed (2 ^ 21 * length c.args.queue.now + k) old.fabric.stage old.place (askers_of old.sessions) c.args.extender c.args.message.now _ steady
     (sym c.take-taken.ensures.taken ∙ c.in-Answer.is) in
-    c.in_ok-wake.ensures.steady k (c.in_ok-proceed.ensures.steady (2 ^ 28 * length c.args.queue.now + k) (rw c.take-taken.ensures.state able.on.may))
+    c.in_ok-wake.ensures.steady k (c.in_ok-proceed.ensures.steady (2 ^ 21 * length c.args.queue.now + k) (rw c.take-taken.ensures.state able.on.may))
 
 pub returns-in_ok-wake-clause-reached : goal.returns-in_ok-wake-clause-reached
 returns-in_ok-wake-clause-reached c f same is =
     let old = c.args.core.now in
     let e = c.args.extender in
     let took_it = took (askers_of old.sessions e) c.args.message.now in
-    let able = can_proceed (2 ^ 28 * length c.args.queue.now) old.fabric.stage old.place (askers_of old.sessions) e c.args.message.now _ c.requires.steady
+    let able = can_proceed (2 ^ 21 * length c.args.queue.now) old.fabric.stage old.place (askers_of old.sessions) e c.args.message.now _ c.requires.steady
     (sym c.take-taken.ensures.taken ∙ c.in-Answer.is) in
     let d = decide_of old.fabric in
     let s = with_asker e took_it.0 (state_in f old) in

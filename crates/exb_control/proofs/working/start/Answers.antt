@@ -48,7 +48,7 @@ proceed-requires-clause-may c =
     let ready = is_ready o c.in_ok-cause.field-0 made.cause c.in-None.is in
     let stage : c.start.new.self.stage ≡ Prepared c.args.job.now ready.change = made.stage ∙ ap (stage_of c.args.job.now) ready.is in
     let few = short c.start.new.self.shape (bridge_in c.start.new.self) (held_in c.start.new.self) c.start.new.self.stage c.args.job.now ready.change stage c.is_fabric.ensures.holds in
-    rw stage (may_ask (2 ^ 28) _ (askers_of old.sessions) (omega arith) c.requires.may)
+    rw stage (may_ask (2 ^ 21) _ (askers_of old.sessions) (omega arith) c.requires.may)
 
 pub returns-in-None-clause-reached : goal.returns-in-None-clause-reached
 returns-in-None-clause-reached c =
@@ -69,4 +69,4 @@ returns-in-None-clause-steady c =
     let stage : c.start.new.self.stage ≡ Prepared c.args.job.now ready.change = made.stage ∙ ap (stage_of c.args.job.now) ready.is in
     let few = short c.start.new.self.shape (bridge_in c.start.new.self) (held_in c.start.new.self) c.start.new.self.stage c.args.job.now ready.change stage c.is_fabric.ensures.holds in
     on_ok_weaker c.proceed.result (λ steady k may.
-    steady k (rw stage (may_ask (2 ^ 28 + k) _ (askers_of old.sessions) (omega arith) may))) c.proceed.ensures.steady
+    steady k (rw stage (may_ask (2 ^ 21 + k) _ (askers_of old.sessions) (omega arith) may))) c.proceed.ensures.steady

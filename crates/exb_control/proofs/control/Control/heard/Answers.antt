@@ -4,7 +4,8 @@ use Rattle.exb_model.specs.Tree.{is_extender}
 use Rattle.exb_control.specs.declared.outbox.Outbox.{Outbox}
 use Rattle.exb_control.specs.Boxes.{IsMoved}
 use Rattle.exb_control.specs.Controls.{Parts, state_of, decide_of, announced}
-use Rattle.exb_control.specs.Soundness.{to_come, AreFit}
+use Rattle.exb_changes.specs.Fabrics.{AreFit}
+use Rattle.exb_control.specs.Soundness.{to_come}
 use Rattle.exb_control.specs.Insides.{parts_of}
 use Rattle.exb_control.proofs.Calls.{when_ok, moved, steady_at, heard_it, ignored}
 use Rattle.exb_control.proofs.Known.{extender_low}
@@ -26,15 +27,15 @@ invariant_of-self-else-is_err c =
     let made = c.wake-done.ensures in
     let fine = sym c.is_err.ensures.value ∙ c.if-is_err.false in
     let sound = c.self.invariant.sound c.if-self.false in
-    let k = 2 ^ 28 * (65536 - w.given) in
-    let before : to_come w.queue w.given ≡ 2 ^ 28 * length w.queue + k = omega arith in
-    let after : 2 ^ 28 * length c.wake-done.new.queue + k ≡ to_come c.wake-done.new.queue w.given = omega arith in
+    let k = 2 ^ 21 * (65536 - w.given) in
+    let before : to_come w.queue w.given ≡ 2 ^ 21 * length w.queue + k = omega arith in
+    let after : 2 ^ 21 * length c.wake-done.new.queue + k ≡ to_come c.wake-done.new.queue w.given = omega arith in
     record {
       ports = c.note.ensures.ports ∙ c.self.invariant.ports ∙ ap (λ t. t.ports) (sym made.shape);
       sound = λ _. record {
         fit = subst (λ t. AreFit t c.wake-done.new.queue) (sym made.shape) (when_ok _ fine made.fit);
         asks = when_ok _ fine made.rests;
-        steady = steady_at (2 ^ 28 * length c.wake-done.new.queue + k) _ _ _ after (when_ok _ fine made.steady k (steady_at (to_come w.queue w.given) _ _ _ before sound.steady));
+        steady = steady_at (2 ^ 21 * length c.wake-done.new.queue + k) _ _ _ after (when_ok _ fine made.steady k (steady_at (to_come w.queue w.given) _ _ _ before sound.steady));
       };
     }
 
