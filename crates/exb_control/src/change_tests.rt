@@ -1,74 +1,16 @@
 //! Changes, by what they ask of extenders and what they tell. Port 64 n + k - 1 is port k of extender n; the first group is
 //! 4096; a row's mask has bit k - 1 for port k.
-use crate::drive::Drive;
+use crate::drive::{Drive, extender, port, ports, setup, vid, vlan};
 use exb_model::address::Mac;
 use exb_model::command::Command;
-use exb_model::list::List;
-use exb_model::port::PortId;
-use exb_model::port_set::PortSet;
 use exb_model::rules::Accept;
-use exb_model::setup::{ExtenderSetup, Place, Setup};
-use exb_model::vlan::{Kind, Vid};
+use exb_model::vlan::Kind;
 use std::alloc::Global;
 use std::process::Abort;
 use std::test::*;
 
-fn port(rt: &impl Abort, number: u16) -> PortId {
-    PortId::new(number).expect(rt, "a port below 4160")
-}
-
-fn vid(rt: &impl Abort, number: u16) -> Vid {
-    Vid::new(number).expect(rt, "a VLAN")
-}
-
-fn ports(rt: &impl Abort, numbers: &[u16]) -> PortSet {
-    let mut set = PortSet::empty();
-    for number in numbers {
-        set.insert(port(rt, *number));
-    }
-    set
-}
-
-fn vlan(rt: &impl Abort, number: u16, tagged: &[u16], untagged: &[u16]) -> Command {
-    Command::Vlan {
-        vid: vid(rt, number),
-        tagged: ports(rt, tagged),
-        untagged: ports(rt, untagged),
-    }
-}
-
-// One extender of so many ports on b1, with so many channels and groups, and these commands at the start.
-fn setup(
-    rt: &impl Abort,
-    alloc: Global,
-    ports: u8,
-    channels: u16,
-    groups: u16,
-    start: &[Command],
-) -> Setup {
-    let mut extenders = List::new(alloc);
-    extenders
-        .push(ExtenderSetup {
-            number: 1,
-            ports,
-            on: Place::Bridge { port: 1 },
-        })
-        .expect(rt, "memory for an extender");
-    let mut commands = List::new(alloc);
-    for command in start {
-        commands.push(*command).expect(rt, "memory for a command");
-    }
-    Setup {
-        ports: 1,
-        extenders,
-        channels,
-        groups,
-        ageing: 300,
-        start: commands,
-    }
-}
-
-// That setup, heard and opened; what the opening asked and told is taken out of the log.
+// One extender of so many ports, opened, with so many channels and groups, and these commands at the start. What the opening
+// asked and told is taken out of the log.
 fn opened(
     rt: &impl Abort,
     alloc: Global,
@@ -77,7 +19,8 @@ fn opened(
     groups: u16,
     start: &[Command],
 ) -> Drive {
-    let setup = setup(rt, alloc, ports, channels, groups, start);
+    let one = extender(1, ports, 1);
+    let setup = setup(rt, alloc, &[one], channels, groups, start);
     let mut drive = Drive::new(rt, alloc, &setup);
     drive.hear(rt, 1, ports);
     drive.answer_all(rt, 100);
@@ -95,7 +38,8 @@ fn played(rt: &impl Abort, drive: &mut Drive, command: &Command) -> String {
 #[test]
 fn an_extender_of_three_ports_opens_with_ten_exchanges(rt: HostRuntime) {
     let start = [vlan(&rt, 1, &[], &[64, 65, 66])];
-    let setup = setup(&rt, rt.alloc(), 3, 4094, 12288, &start);
+    let one = extender(1, 3, 1);
+    let setup = setup(&rt, rt.alloc(), &[one], 4094, 12288, &start);
     let mut drive = Drive::new(&rt, rt.alloc(), &setup);
     assert_eq!(rt; drive.planned(&rt), 10);
     drive.hear(&rt, 1, 3);
@@ -104,6 +48,9 @@ fn an_extender_of_three_ports_opens_with_ten_exchanges(rt: HostRuntime) {
         assert!(rt; drive.answer_one(&rt));
     }
     assert_eq!(rt; drive.planned(&rt), 0);
+    assert!(rt; drive.control().settled());
+    assert_eq!(rt; drive.control().of(port(&rt, 65)), Some(2));
+    assert_eq!(rt; drive.control().of(port(&rt, 0)), None);
     assert_eq!(rt;
         drive.log().as_str(),
         "x1 open; x1 create 1 1; x1 lay 4096=1; up 64; x1 create 2 2; x1 lay 4097=3; up 65; x1 clear 4096; \
@@ -135,7 +82,8 @@ fn a_command_that_needs_a_third_group_of_two_is_refused_and_the_next_is_not(rt: 
 #[test]
 fn a_channel_is_given_again_once_the_port_that_had_it_is_down(rt: HostRuntime) {
     let start = [vlan(&rt, 1, &[], &[64, 65])];
-    let setup = setup(&rt, rt.alloc(), 2, 1, 12288, &start);
+    let one = extender(1, 2, 1);
+    let setup = setup(&rt, rt.alloc(), &[one], 1, 12288, &start);
     let mut drive = Drive::new(&rt, rt.alloc(), &setup);
     drive.hear(&rt, 1, 2);
     drive.answer_all(&rt, 100);

@@ -10,16 +10,78 @@ use exb_lldp::Announce;
 use exb_model::address::Mac;
 use exb_model::command::Command;
 use exb_model::event::{Cause, Event};
+use exb_model::list::List;
 use exb_model::port::PortId;
 use exb_model::port_set::PortSet;
 use exb_model::role::Role;
-use exb_model::setup::Setup;
+use exb_model::setup::{ExtenderSetup, Place, Setup};
 use exb_model::tree::Tree;
+use exb_model::vlan::Vid;
 use std::alloc::{AllocError, Global};
 use std::process::Abort;
 
 /// How many ports there can be.
 const PORTS: u16 = 4160;
+
+pub(crate) fn port(rt: &impl Abort, number: u16) -> PortId {
+    PortId::new(number).expect(rt, "a port below 4160")
+}
+
+pub(crate) fn vid(rt: &impl Abort, number: u16) -> Vid {
+    Vid::new(number).expect(rt, "a VLAN")
+}
+
+pub(crate) fn ports(rt: &impl Abort, numbers: &[u16]) -> PortSet {
+    let mut set = PortSet::empty();
+    for number in numbers {
+        set.insert(port(rt, *number));
+    }
+    set
+}
+
+pub(crate) fn vlan(rt: &impl Abort, number: u16, tagged: &[u16], untagged: &[u16]) -> Command {
+    Command::Vlan {
+        vid: vid(rt, number),
+        tagged: ports(rt, tagged),
+        untagged: ports(rt, untagged),
+    }
+}
+
+/// An extender of so many ports on a port of the bridge.
+pub(crate) fn extender(number: u8, ports: u8, port: u8) -> ExtenderSetup {
+    ExtenderSetup {
+        number,
+        ports,
+        on: Place::Bridge { port },
+    }
+}
+
+/// A bridge of two ports with these extenders, so many channels and groups, and these commands at the start.
+pub(crate) fn setup(
+    rt: &impl Abort,
+    alloc: Global,
+    extenders: &[ExtenderSetup],
+    channels: u16,
+    groups: u16,
+    start: &[Command],
+) -> Setup {
+    let mut all = List::new(alloc);
+    for extender in extenders {
+        all.push(*extender).expect(rt, "memory for an extender");
+    }
+    let mut commands = List::new(alloc);
+    for command in start {
+        commands.push(*command).expect(rt, "memory for a command");
+    }
+    Setup {
+        ports: 2,
+        extenders: all,
+        channels,
+        groups,
+        ageing: 300,
+        start: commands,
+    }
+}
 
 fn is_external(tree: &Tree, port: PortId) -> bool
     ensures { result ≡ true → is_external tree.now port ≡ true }
@@ -264,6 +326,30 @@ impl Drive {
                 return;
             }
         }
+    }
+
+    /// A beat passes.
+    pub(crate) fn beat(&mut self, rt: &impl Abort) {
+        let beaten = self.control.beat(&mut self.out);
+        assert!(rt; beaten.is_ok());
+        self.note(rt);
+    }
+
+    /// A frame comes at a port.
+    pub(crate) fn come(&mut self, rt: &impl Abort, number: u16, frame: &[u8]) {
+        let port = port(rt, number);
+        assert!(rt; is_external(self.control.tree(), port));
+        let come = self.control.frame(port, 1, 5, frame, &mut self.out);
+        assert!(rt; come.is_ok());
+    }
+
+    pub(crate) fn control(&self) -> &Control {
+        &self.control
+    }
+
+    /// What the last call gave.
+    pub(crate) fn out(&self) -> &Outbox {
+        &self.out
     }
 
     /// How many exchanges are planned.
