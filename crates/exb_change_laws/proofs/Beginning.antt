@@ -16,10 +16,11 @@ use Rattle.exb_laying.proofs.Beginning.{nothing_is_laid}
 use Rattle.exb_changes.specs.Beginning.{nothing_held, with_channel_of, is_deep, deep_cascades, first_held, first_jobs, jobs_of, HasChannels, HoldsFirst}
 use Rattle.exb_changes.specs.Planned.{IsHeldAtCascades}
 use Rattle.exb_changes.specs.Fabrics.{is_place, in_spaces}
+use Rattle.exb_changes.proofs.Commands.{start_external, start_absent}
 use Rattle.exb_changes.proofs.FirstClaims.{AreFirst, first_below, none_first, none_below, not_first, none_more, one_more, still_first, first_end, held_end}
 use Rattle.exb_change_laws.specs.Starting.{first_system}
 use Rattle.exb_change_laws.specs.Standing.{is_opening, opened_by}
-use Rattle.exb_change_laws.specs.Begins.{Begins, RunsFromTheBeginning}
+use Rattle.exb_change_laws.specs.Begins.{Begins, RunsFromTheBeginning, SetupsBegin}
 use Rattle.exb_change_laws.proofs.Plans.{planned_runs_stand}
 use Rattle.exb_change_laws.proofs.Queue.{openings_are, first_fit}
 
@@ -78,6 +79,12 @@ module _ (t : Shape) (valid : IsTree t) where
 
   nobody_opened : opened_by (is_extender t) (first_jobs t) ≡ (λ n. false)
   nobody_opened = fun_ext none_opened
+
+pub setups_begin : SetupsBegin
+setups_begin s valid = (
+  record { tree = valid.tree; channels = valid.channels; groups = valid.groups },
+  record { external = start_external s valid; absent = start_absent s valid; enough = valid.enough_channels },
+)
 
 pub begins : Begins
 begins t l b setting may =

@@ -1,7 +1,8 @@
 -- The machine stands at the beginning.
 use Rattle.std.specs.Prelude.{◌≡◌, ℕ, ◌<◌, ◌≤◌, true, false, List}
 use Rattle.exb_model.specs.Tree.{Shape, is_external, is_extended, cascades_under}
-use Rattle.exb_model.specs.Setup.{Limits}
+use Rattle.exb_model.specs.declared.setup.Setup.{Setup}
+use Rattle.exb_model.specs.Setup.{Limits, IsValid, shape_of, limits_of, start_of}
 use Rattle.exb_model.specs.Configuration.{Bridge}
 use Rattle.exb_changes.specs.Deciding.{decide}
 use Rattle.exb_change_laws.specs.Systems.{Step, run}
@@ -15,6 +16,11 @@ pub record MayBegin (t : Shape) (l : Limits) (b : Bridge) : Type 0 where
   pub absent : (q : ℕ) → is_extended t q ≡ true → b.present q ≡ false
   pub enough : (k : ℕ) → k < 64 → cascades_under t k ≤ l.channels
 
+-- Each valid setup is such a beginning.
+abbrev pub SetupsBegin : Type 0
+SetupsBegin = (s : Setup) → IsValid s → IsSetting (shape_of s) (limits_of s) × MayBegin (shape_of s) (limits_of s) (start_of s)
+
+-- The machine and the tables stand there.
 abbrev pub Begins : Type 0
 Begins = (t : Shape) (l : Limits) (b : Bridge) → IsSetting t l → MayBegin t l b → Stands (planning t) (first_system t l b)
 

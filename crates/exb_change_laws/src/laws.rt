@@ -1,5 +1,5 @@
 //! What is true of every run of the machine of changes.
-ghost use Rattle.exb_change_laws.specs.Begins.{Begins, RunsFromTheBeginning};
+ghost use Rattle.exb_change_laws.specs.Begins.{SetupsBegin, Begins, RunsFromTheBeginning};
 ghost use Rattle.exb_change_laws.specs.Asking.{StepsWait, OneWaitsAlways, StepsNumber, SerialsCount};
 ghost use Rattle.exb_change_laws.specs.Knowing.{BeginsKnowing, StepsKnow};
 ghost use Rattle.exb_change_laws.specs.Counts.{AnswersCount, HearingCounts, OthersLeaveCounts};
@@ -7,6 +7,11 @@ ghost use Rattle.exb_change_laws.specs.Journal.{StepsTell, DecidedOnce};
 ghost use Rattle.exb_change_laws.specs.Strays.{StraysChangeNothing, OldAreStray};
 ghost use Rattle.exb_change_laws.specs.Midway.{LaidMidway, CarriesMidway};
 ghost use Rattle.exb_change_laws.specs.Planned.{PlannedStepsStand, PlannedRunsStand, ReadyMidway, AnswersAreTaken, HeldAreNumbers};
+
+/// Each valid setup is a beginning of the machine: what the laws below ask of a beginning holds of it.
+pub fn setups_begin()
+    ensures { SetupsBegin }
+{}
 
 /// The machine and the tables stand at the beginning, where no port of an extender is present and each extender has
 /// the tables of power-on.
