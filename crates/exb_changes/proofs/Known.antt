@@ -1,12 +1,11 @@
 -- All that is asked goes to extenders of the tree.
-use Rattle.std.proofs.Common.{◌≡◌, ℕ, zero, suc, ◌+◌, ◌*◌, ◌<◌, ◌≤◌, ◌==◌, ◌&&◌, Bool, true, false, not, nat_lt, List, [], ◌∷◌, ◌++◌, Option, Some, None, length, map, filter, find, slice_index, refl, subst, arith, inl, inr}
+use Rattle.std.proofs.Common.{◌≡◌, ℕ, zero, suc, ◌+◌, ◌*◌, ◌<◌, ◌≤◌, ◌==◌, ◌&&◌, Bool, true, false, not, nat_lt, List, [], ◌∷◌, ◌++◌, Option, Some, None, length, map, filter, slice_index, refl, subst, arith, inl, inr}
 use Rattle.std.specs.List.{flat_map, filter_map, range_with_len}
 use Rattle.std.proofs.lemmas.Bool.{cases_Bool, lt-ltb, ltb-true, and_parts, and_from}
 use Rattle.std.proofs.lemmas.List.Concat.{flat_map-cons}
 use Rattle.exb_model.specs.declared.command.Command.TheVariants as command
 use Rattle.exb_model.specs.declared.event.Cause.{Cause}
-use Rattle.exb_model.specs.Ports.{all_ports}
-use Rattle.exb_model.specs.Tree.{Shape, device, is_port, is_cascade, is_extender, is_extended, by_depth}
+use Rattle.exb_model.specs.Tree.{Shape, device, is_port, is_cascade, is_extender, by_depth}
 use Rattle.exb_model.specs.TreeSets.{mask_of}
 use Rattle.exb_model.specs.Setup.{Limits}
 use Rattle.exb_model.specs.Configuration.{Bridge, after}
@@ -18,10 +17,11 @@ use Rattle.exb_plan.specs.declared.asks.Step.TheVariants.{Lay, Clear}
 use Rattle.exb_plan.specs.declared.change.Change.{Change}
 use Rattle.exb_plan.specs.Held.{Held, Group}
 use Rattle.exb_plan.specs.Asks.{ask, message, asks_with, rows_at, in_messages, group_asks, channel_rows, channel_ask, channel_asks, create_asks, delete_asks}
-use Rattle.exb_plan.specs.Between.{rises, goes_up, refusal_between}
+use Rattle.exb_plan.specs.Between.{goes_up, refusal_between}
 use Rattle.exb_plan.specs.Plans.{change_of, prepare_of, cleanup_of, up_asks, down_asks}
 use Rattle.exb_model.proofs.TreeOrder.{by_depth-hangs}
-use Rattle.exb_plan.proofs.Each.{Each}
+use Rattle.exb_plan.proofs.Channels.{any_extended}
+use Rattle.exb_plan.proofs.Each.{Each, each_map, each_filter}
 use Rattle.exb_plan.proofs.Trunks.{extended_extender, port_extender}
 use Rattle.exb_changes.specs.declared.job.Job.TheVariants as job
 use Rattle.exb_changes.specs.Deciding.{Ready, decide, outcome_by, opening_asks, opening_change, cascades_of, channel_of}
@@ -70,8 +70,7 @@ rows_here t set (n ∷ ns) all =
     elim (cases_Bool (mask_of t set n == 0)) [ inl e ↦ rw e rest | inr e ↦ rw e (all.0, rest) ]
 
 filter_here : (t : Shape) (test : Row → Bool) (rs : List Row) → Each (IsRow t) rs → Each (IsRow t) (filter test rs)
-filter_here t test [] all = tt
-filter_here t test (r ∷ rs) all = elim (cases_Bool (test r)) [ inl e ↦ rw e (all.0, filter_here t test rs all.1) | inr e ↦ rw e (filter_here t test rs all.1) ]
+filter_here t test rs all = each_map (λ r. IsRow t r × (test r ≡ true)) (IsRow t) (filter test rs) (λ r p. p.0) (each_filter (IsRow t) test rs all)
 
 known_rows : (t : Shape) (step : Step) (c : ℕ) (rs : List Row) → Each (IsRow t) rs → AreKnown t (map (channel_ask step c) rs)
 known_rows t step c [] all = tt
@@ -91,18 +90,8 @@ unfolding delete_asks
 known_delete t p c here = known_append t (channel_asks Clear t p c) _ (known_channel Clear t p c) (here, tt)
 
 -- ---- ports
-find_passes : (test : ℕ → Bool) (xs : List ℕ) (p : ℕ) → find test xs ≡ Some p → test p ≡ true
-find_passes test [] p e = absurd (cc)
-find_passes test (x ∷ xs) p e = elim (cases_Bool (test x)) [
-  | inl here ↦ let at : Some x ≡ Some p = rw here at e in let same : x ≡ p = cc in subst (λ (q : ℕ). test q ≡ true) same here
-  | inr other ↦ find_passes test xs p (rw other at e)
-]
-
 up_here : (t : Shape) (old new : Bridge) (p : ℕ) → goes_up t old new ≡ Some p → IsHere t (device p)
-unfolding goes_up
-up_here t old new p e =
-    let test = find_passes (rises t old new) all_ports p e in
-    extended_extender t p (and_parts (is_extended t p) (not (old.present p) && new.present p) test).0
+up_here t old new p e = extended_extender t p (any_extended t old new (Some p) e)
 
 -- ---- changes
 known_up : (t : Shape) (c : ℕ) (o : Option ℕ) → ((p : ℕ) → o ≡ Some p → IsHere t (device p)) → AreKnown t (up_asks t c o)

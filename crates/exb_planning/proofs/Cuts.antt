@@ -1,8 +1,11 @@
 -- The parts of a source below all bridge ports, and what is put of sources.
-use Rattle.std.proofs.Common.{◌≡◌, ℕ, zero, suc, ◌+◌, ◌-◌, ◌/◌, ◌≤◌, ◌==◌, ◌&&◌, Bool, true, false, not, List, [], ◌∷◌, ◌++◌, slice_index, filter, map, refl, sym, ◌∙◌, ap, inl, inr, arith, nat_lt}
-use Rattle.std.specs.List.{flat_map}
-use Rattle.std.proofs.lemmas.Bool.{cases_lt, lt-ltb, le-ltb}
-use Rattle.std.proofs.lemmas.List.{append-nil, append_assoc}
+use Rattle.std.proofs.Common.{◌≡◌, ◌≢◌, ℕ, zero, suc, ◌+◌, ◌-◌, ◌/◌, ◌%◌, ◌<◌, ◌≤◌, ◌==◌, ◌&&◌, Bool, true, false, not, List, [], ◌∷◌, ◌++◌, slice_index, length, filter, map, refl, sym, ◌∙◌, ap, inl, inr, arith, nat_lt}
+use Rattle.std.specs.List.{flat_map, range_with_len}
+use Rattle.std.proofs.lemmas.Bool.{cases_lt, lt-ltb, le-ltb, false≢true}
+use Rattle.std.proofs.lemmas.List.{append-nil, append_assoc, get_or_past}
+use Rattle.std.specs.Int.{bit_at}
+use Rattle.std.proofs.lemmas.Nat.Bits.{bit_at-zero}
+use Rattle.exb_model.specs.PortBits.{has_port}
 use Rattle.std.proofs.lemmas.List.Concat.{flat_map-append}
 use Rattle.std.proofs.lemmas.List.Elements.{filter-append}
 use Rattle.exb_model.specs.declared.vlan.Kind.{Kind}
@@ -61,26 +64,69 @@ cut_is t b x g whole ground is_part k set is =
     ∙ and_turned (is_under t k q) (b.present q) (x.among q) (is_kind x.kind (b.member x.vid q)))))
     ∙ sym (part_is t k b x)
 
--- ---- one bridge port more
--- two more elements, of which those with ports are put
-two_more : (old done now first second : List PortsAt) (r s : PortsAt) → now ≡ old ++ filter has_ports done →
-    first ≡ now ++ filter has_ports (r ∷ []) → second ≡ first ++ filter has_ports (s ∷ []) → second ≡ old ++ filter has_ports (done ++ r ∷ s ∷ [])
-two_more old done now first second r s before one two =
+-- ---- below one bridge port
+-- two elements, of which those with ports are put
+two_more : (now first second : List PortsAt) (r s : PortsAt) → first ≡ now ++ filter has_ports (r ∷ []) → second ≡ first ++ filter has_ports (s ∷ []) →
+    second ≡ now ++ filter has_ports (r ∷ s ∷ [])
+two_more now first second r s one two =
     let f : List PortsAt → List PortsAt = filter has_ports in
-    two ∙ (ap (λ (l : List PortsAt). l ++ f (s ∷ [])) (one ∙ ap (λ (l : List PortsAt). l ++ f (r ∷ [])) before)
-    ∙ (append_assoc (old ++ f done) (f (r ∷ [])) (f (s ∷ [])) ∙ (append_assoc old (f done) (f (r ∷ []) ++ f (s ∷ []))
-    ∙ ap (λ (l : List PortsAt). old ++ l) (ap (λ (l : List PortsAt). f done ++ l) (sym (filter-append has_ports (r ∷ []) (s ∷ []))) ∙ sym (filter-append has_ports done (r ∷ s ∷ []))))))
+    two ∙ (ap (λ (l : List PortsAt). l ++ f (s ∷ [])) one
+    ∙ (append_assoc now (f (r ∷ [])) (f (s ∷ [])) ∙ ap (λ (l : List PortsAt). now ++ l) (sym (filter-append has_ports (r ∷ []) (s ∷ [])))))
 
-parts_more : (t : Shape) (b : Bridge) (x : Source) (k : ℕ) (old now first second : List PortsAt) (r s : PortsAt) →
-    now ≡ old ++ filter has_ports (flat_map (parts_of t b x) (below k)) → first ≡ now ++ filter has_ports (r ∷ []) → second ≡ first ++ filter has_ports (s ∷ []) →
-    r ≡ record { bridge_port = k + 1; ports = part t k b x } → s ≡ record { bridge_port = k + 1; ports = without_isolated b (part t k b x) } →
-    second ≡ old ++ filter has_ports (flat_map (parts_of t b x) (below (k + 1)))
-parts_more t b x k old now first second r s before one two is_r is_s =
-    let parts = parts_of t b x in
-    let more : flat_map parts (below k) ++ r ∷ s ∷ [] ≡ flat_map parts (below (k + 1)) =
-    rw (is_r, is_s, below-more k, flat_map-append parts (below k) (k ∷ []), append-nil) refl in
-    two_more old (flat_map parts (below k)) now first second r s before one two ∙ ap (λ (l : List PortsAt). old ++ filter has_ports l) more
+-- the part of a source and the part without its isolated ports are put; bridge ports are numbered from 1
+pub parts_put : (t : Shape) (b : Bridge) (x : Source) (g : Ground) (whole cut left : PortSet) (p : ℕ) (now first second : List PortsAt) →
+    IsGround t b g → IsPart t b x whole → 1 ≤ p → ((q : ℕ) → port_in cut q ≡ (slice_index g.trunks (q / 64) == p && port_in whole q)) →
+    ((q : ℕ) → port_in left q ≡ (port_in cut q && not (port_in g.isolated q))) →
+    first ≡ now ++ filter has_ports (record { bridge_port = p; ports = ports_of cut } ∷ []) →
+    second ≡ first ++ filter has_ports (record { bridge_port = p; ports = ports_of left } ∷ []) →
+    second ≡ now ++ filter has_ports (parts_of t b x (p - 1))
+parts_put t b x g whole cut left zero now first second ground is_part some is_cut is_left one two = absurd (omega arith)
+parts_put t b x g whole cut left (suc k) now first second ground is_part some is_cut is_left one two =
+    let place : suc k ≡ k + 1 = omega arith in
+    let done : k ≡ suc k - 1 = omega arith in
+    let cut_part : ports_of cut ≡ part t k b x =
+    cut_is t b x g whole ground is_part k cut (λ q. is_cut q ∙ ap (λ (n : ℕ). slice_index g.trunks (q / 64) == n && port_in whole q) place) in
+    let left_part : ports_of left ≡ without_isolated b (part t k b x) = rest_is b g.isolated cut left (part t k b x) ground.isolated cut_part is_left in
+    let is_r = place_is (suc k) (k + 1) (ports_of cut) (part t k b x) place cut_part in
+    let is_s = place_is (suc k) (k + 1) (ports_of left) (without_isolated b (part t k b x)) place left_part in
+    two_more now first second _ _ one two
+    ∙ (ap (λ (r : PortsAt). now ++ filter has_ports (r ∷ record { bridge_port = suc k; ports = ports_of left } ∷ [])) is_r
+    ∙ (ap (λ (s : PortsAt). now ++ filter has_ports (record { bridge_port = k + 1; ports = part t k b x } ∷ s ∷ [])) is_s
+    ∙ ap (λ (n : ℕ). now ++ filter has_ports (parts_of t b x n)) done))
 
+none_pass : (test : ℕ → Bool) (a n : ℕ) → ((q : ℕ) → q < a + n → test q ≡ false) → filter test (range_with_len a n) ≡ []
+none_pass test a zero none = refl
+none_pass test a (suc n) none = rw (none a (omega arith)) (none_pass test (a + 1) n (λ q low. none q (omega (arith, low))))
+
+none_below : (test : ℕ → Bool) (n : ℕ) → ((q : ℕ) → q < n → test q ≡ false) → filter test (below n) ≡ []
+unfolding below
+none_below test n none = none_pass test 0 n (λ q low. none q (omega (arith, low)))
+
+-- no port of a set is below a bridge port that it doesn't reach
+part_none : (t : Shape) (b : Bridge) (x : Source) (g : Ground) (whole : PortSet) → IsGround t b g → IsPart t b x whole → (k : ℕ) →
+    ((q : ℕ) → (slice_index g.trunks (q / 64) == k + 1 && port_in whole q) ≡ false) → part t k b x ≡ []
+part_none t b x g whole ground is_part k none =
+    part_is t k b x
+    ∙ none_below (λ q. is_under t k q && b.present q && x.among q && is_kind x.kind (b.member x.vid q)) 4160
+    (λ q l.
+    sym (ap (λ c. slice_index g.trunks (q / 64) == k + 1 && c) (is_part q) ∙ (
+    under_is t k q (slice_index g.trunks (q / 64)) (b.present q && x.among q && is_kind x.kind (b.member x.vid q)) (ground.trunks (q / 64) (omega (arith, l)))
+    ∙ and_turned (is_under t k q) (b.present q) (x.among q) (is_kind x.kind (b.member x.vid q))))
+    ∙ none q)
+
+-- so nothing is put there
+pub parts_left_out : (t : Shape) (b : Bridge) (x : Source) (g : Ground) (whole : PortSet) (p : ℕ) (now : List PortsAt) → IsGround t b g → IsPart t b x whole → 1 ≤ p →
+    ((q : ℕ) → (slice_index g.trunks (q / 64) == p && port_in whole q) ≡ false) → now ≡ now ++ filter has_ports (parts_of t b x (p - 1))
+parts_left_out t b x g whole zero now ground is_part some none = absurd (omega arith)
+parts_left_out t b x g whole (suc k) now ground is_part some none =
+    let place : suc k ≡ k + 1 = omega arith in
+    let done : suc k - 1 ≡ k = omega arith in
+    let empty : part t k b x ≡ [] = part_none t b x g whole ground is_part k (λ q. ap (λ (n : ℕ). slice_index g.trunks (q / 64) == n && port_in whole q) (sym place) ∙ none q) in
+    sym (append-nil now)
+    ∙ ap (λ (l : List PortsAt). now ++ l) (sym (ap (λ (n : ℕ). filter has_ports (parts_of t b x n)) done
+    ∙ ap (λ (set : List ℕ). let r : PortsAt = record { bridge_port = k + 1; ports = set } in let s : PortsAt = record { bridge_port = k + 1; ports = without_isolated b set } in filter has_ports (r ∷ s ∷ [])) empty))
+
+-- ---- one bridge port more
 pub parts_none : (t : Shape) (b : Bridge) (x : Source) (old : List PortsAt) → old ≡ old ++ filter has_ports (flat_map (parts_of t b x) (below 0))
 unfolding below
 parts_none t b x old = sym (append-nil old)
@@ -89,26 +135,34 @@ pub parts_all : (t : Shape) (b : Bridge) (x : Source) → filter has_ports (flat
 unfolding parts_below some_parts
 parts_all t b x = ap (filter has_ports) (sym (append-nil (flat_map (parts_of t b x) (below 64))))
 
--- a turn of the loop over bridge ports, which are numbered from 1
-pub parts_step : (t : Shape) (b : Bridge) (x : Source) (g : Ground) (whole cut left : PortSet) (p : ℕ) (old now first second : List PortsAt) →
-    IsGround t b g → IsPart t b x whole → 1 ≤ p → ((q : ℕ) → port_in cut q ≡ (slice_index g.trunks (q / 64) == p && port_in whole q)) →
-    ((q : ℕ) → port_in left q ≡ (port_in cut q && not (port_in g.isolated q))) → now ≡ old ++ filter has_ports (flat_map (parts_of t b x) (below (p - 1))) →
-    first ≡ now ++ filter has_ports (record { bridge_port = p; ports = ports_of cut } ∷ []) →
-    second ≡ first ++ filter has_ports (record { bridge_port = p; ports = ports_of left } ∷ []) →
-    second ≡ old ++ filter has_ports (flat_map (parts_of t b x) (below (p + 1 - 1)))
-parts_step t b x g whole cut left zero old now first second ground is_part some is_cut is_left before one two = absurd (omega arith)
-parts_step t b x g whole cut left (suc k) old now first second ground is_part some is_cut is_left before one two =
-    let place : suc k ≡ k + 1 = omega arith in
+pub parts_next : (t : Shape) (b : Bridge) (x : Source) (p : ℕ) (old now next : List PortsAt) → 1 ≤ p → now ≡ old ++ filter has_ports (flat_map (parts_of t b x) (below (p - 1))) →
+    next ≡ now ++ filter has_ports (parts_of t b x (p - 1)) → next ≡ old ++ filter has_ports (flat_map (parts_of t b x) (below (p + 1 - 1)))
+parts_next t b x zero old now next some before one = absurd (omega arith)
+parts_next t b x (suc k) old now next some before one =
+    let f : List PortsAt → List PortsAt = filter has_ports in
+    let parts = parts_of t b x in
     let done : suc k - 1 ≡ k = omega arith in
-    let next : k + 1 ≡ suc k + 1 - 1 = omega arith in
-    let cut_part : ports_of cut ≡ part t k b x =
-    cut_is t b x g whole ground is_part k cut (λ q. is_cut q ∙ ap (λ (n : ℕ). slice_index g.trunks (q / 64) == n && port_in whole q) place) in
-    let left_part : ports_of left ≡ without_isolated b (part t k b x) = rest_is b g.isolated cut left (part t k b x) ground.isolated cut_part is_left in
-    parts_more t b x k old now first second (record { bridge_port = suc k; ports = ports_of cut }) (record { bridge_port = suc k; ports = ports_of left })
-    (before ∙ ap (λ (n : ℕ). old ++ filter has_ports (flat_map (parts_of t b x) (below n))) done) one two
-    (place_is (suc k) (k + 1) (ports_of cut) (part t k b x) place cut_part)
-    (place_is (suc k) (k + 1) (ports_of left) (without_isolated b (part t k b x)) place left_part)
-    ∙ ap (λ (n : ℕ). old ++ filter has_ports (flat_map (parts_of t b x) (below n))) next
+    let after : k + 1 ≡ suc k + 1 - 1 = omega arith in
+    let more : flat_map parts (below k) ++ parts k ≡ flat_map parts (below (k + 1)) = rw (below-more k, flat_map-append parts (below k) (k ∷ []), append-nil) refl in
+    one ∙ (ap (λ (n : ℕ). now ++ f (parts n)) done
+    ∙ (ap (λ (l : List PortsAt). l ++ f (parts k)) (before ∙ ap (λ (n : ℕ). old ++ f (flat_map parts (below n))) done)
+    ∙ (append_assoc old (f (flat_map parts (below k))) (f (parts k))
+    ∙ (ap (λ (l : List PortsAt). old ++ l) (sym (filter-append has_ports (flat_map parts (below k)) (parts k)))
+    ∙ (ap (λ (l : List PortsAt). old ++ f l) more ∙ ap (λ (n : ℕ). old ++ f (flat_map parts (below n))) after)))))
+
+-- ---- which bridge ports a set reaches
+pub word_some : (words : List ℕ) (q : ℕ) → has_port words q ≡ true → slice_index words (q / 64) ≢ 0
+unfolding has_port
+word_some words q e none_there =
+    let none : (bit_at (slice_index words (q / 64)) (q % 64) == 1) ≡ false = rw (none_there, bit_at-zero (q % 64)) refl in
+    false≢true (sym none ∙ e)
+
+pub word_within : (words : List ℕ) (q : ℕ) → length words ≡ 65 → has_port words q ≡ true → q / 64 < 65
+word_within words q sized e =
+    elim (cases_lt (q / 64) 65) [
+      | inl low ↦ low
+      | inr high ↦ absurd (word_some words q e (get_or_past words (q / 64) 0 (omega (arith, sized, high))))
+    ]
 
 -- ---- the part of a source
 pub among_part : (t : Shape) (b : Bridge) (vid : ℕ) (kind : Kind) (test : ℕ → Bool) (among whole : PortSet) → IsAmong t b test among →

@@ -1,12 +1,12 @@
 //! The parts that a command touches.
-ghost use Rattle.std.specs.Prelude.{◌≡◌, ℕ, ◌≤◌, ◌++◌, ◌∷◌, Bool, true, if◌then◌else◌, [], filter, flat_map, map, IfOk, OnOk};
+ghost use Rattle.std.specs.Prelude.{◌≡◌, ℕ, ◌-◌, ◌/◌, ◌≤◌, ◌==◌, ◌&&◌, ◌++◌, ◌∷◌, Bool, true, false, if◌then◌else◌, [], filter, flat_map, map, slice_index, IfOk, OnOk};
 ghost use Rattle.exb_model.specs.Ports.{port_in};
 ghost use Rattle.exb_model.specs.Tree.{Shape};
 ghost use Rattle.exb_model.specs.Configuration.{Bridge, is_for};
 ghost use Rattle.exb_model.specs.Refusals.{Source, both_kinds};
 ghost use Rattle.exb_config.specs.Tables.{bridge_of};
 ghost use Rattle.exb_rows.specs.Ground.{IsPart};
-ghost use Rattle.exb_rows.specs.Sets.{seen};
+ghost use Rattle.exb_rows.specs.Sets.{seen, parts_of};
 ghost use Rattle.exb_uses.specs.Touched.{has_port, sources_of_entry, touched_before, touched_after, parts_before as parts_touched_before, parts_after as parts_touched_after};
 ghost use Rattle.exb_planning.specs.Some.{has_ports};
 ghost use Rattle.exb_planning.specs.Cutting.{state_at, IsGround, IsGroundOf, IsAmong, Adds, is_of, sources_of_vlans, vlans_touched, entry_touched};
@@ -42,16 +42,39 @@ fn add(parts: &mut Vec<SetAt>, part: SetAt) -> Result<(), NoMemory>
     Ok(())
 }
 
+/// Puts, below a bridge port, the part of a source and the part without its isolated ports. Where the set doesn't
+/// reach the bridge port there is nothing to put.
+fn add_parts_below(
+    parts: &mut Vec<SetAt>,
+    ground: &Ground,
+    whole: &PortSet,
+    bridge_port: u8,
+    is_reached: bool,
+) -> Result<(), NoMemory>
+    requires from1 { 1 ≤ bridge_port }
+    requires reached { is_reached ≡ false → (q : ℕ) → (slice_index ground.now.trunks (q / 64) == bridge_port && port_in whole.now q) ≡ false }
+    ensures { (t : Shape) → (b : Bridge) → (x : Source) → IsGround t b ground.now → IsPart t b x whole.now →
+        OnOk result (map seen parts.new.items ≡ map seen parts.old.items ++ filter has_ports (parts_of t b x (bridge_port - 1))) }
+{
+    if !is_reached {
+        return Ok(());
+    }
+    let set = ground.under(whole, bridge_port);
+    add(parts, SetAt { bridge_port, set })?;
+    let set = except(&set, &ground.isolated);
+    add(parts, SetAt { bridge_port, set })?;
+    Ok(())
+}
+
 /// Puts, below each bridge port in order, the part of a source and the part without its isolated ports.
 fn add_parts(parts: &mut Vec<SetAt>, ground: &Ground, whole: &PortSet) -> Result<(), NoMemory>
     ensures { (t : Shape) → (b : Bridge) → (x : Source) → IsGround t b ground.now → IsPart t b x whole.now →
         OnOk result (Adds t b (x ∷ []) parts.old.items parts.new.items) }
 {
+    let reached = ground.reached(whole);
     for bridge_port in 1..65u8 {
-        let set = ground.under(whole, bridge_port);
-        add(parts, SetAt { bridge_port, set })?;
-        let set = except(&set, &ground.isolated);
-        add(parts, SetAt { bridge_port, set })?;
+        let is_reached = reached[bridge_port as usize];
+        add_parts_below(parts, ground, whole, bridge_port, is_reached)?;
     }
     Ok(())
 }

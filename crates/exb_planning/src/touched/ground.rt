@@ -1,5 +1,5 @@
 //! What the touched parts are cut out of: the present extended ports by trunk, and the isolated ports.
-ghost use Rattle.std.specs.Prelude.{◌≡◌, ◌<◌, ◌==◌, ◌&&◌, ◌/◌, ℕ, slice_index};
+ghost use Rattle.std.specs.Prelude.{◌≡◌, ◌≢◌, ◌<◌, ◌==◌, ◌&&◌, ◌/◌, ℕ, true, false, slice_index, slice_index_or};
 ghost use Rattle.exb_model.specs.Ports.{port_in};
 ghost use Rattle.exb_model.specs.Tree.{is_extender, is_extended};
 ghost use Rattle.exb_model.specs.Configuration.{after};
@@ -137,6 +137,17 @@ fn isolated_at(config: &Config, command: &Command, when: When) -> PortSet
     }
 }
 
+// Marks a bridge port, where a word has a port.
+fn mark(reached: &mut [bool; 65], bridge_port: u8, word: u64)
+    ensures marked { word ≢ 0 → bridge_port < 65 → slice_index_or reached.new bridge_port false ≡ true }
+    ensures kept { (k : ℕ) → slice_index_or reached.old k false ≡ true → slice_index_or reached.new k false ≡ true }
+{
+    if word == 0 || bridge_port > 64 {
+        return;
+    }
+    reached[bridge_port as usize] = true;
+}
+
 impl Ground {
     /// Of a tree and the configuration before a command or after it. The given one is that before it.
     pub(crate) fn new(tree: &Tree, config: &Config, command: &Command, when: When) -> Ground
@@ -149,6 +160,18 @@ impl Ground {
             isolated: isolated_at(config, command, when),
             when,
         }
+    }
+
+    /// The bridge ports, from 1, above the extenders that have a port of a set.
+    pub(crate) fn reached(&self, set: &PortSet) -> [bool; 65]
+        ensures { (q : ℕ) → port_in set.now q ≡ true → slice_index self.now.trunks (q / 64) < 65
+            → slice_index_or result (slice_index self.now.trunks (q / 64)) false ≡ true }
+    {
+        let mut reached = [false; 65];
+        for device in 0..65usize {
+            mark(&mut reached, self.trunks[device], set.words[device]);
+        }
+        reached
     }
 
     /// The ports of a set whose extenders have that trunk.

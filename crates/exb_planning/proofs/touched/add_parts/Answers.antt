@@ -3,7 +3,7 @@ use Rattle.std.specs.List.{flat_map}
 use Rattle.exb_model.specs.Ports.{below}
 use Rattle.exb_rows.specs.Sets.{seen, parts_of}
 use Rattle.exb_planning.specs.Some.{has_ports}
-use Rattle.exb_planning.proofs.Cuts.{parts_none, parts_step, parts_all}
+use Rattle.exb_planning.proofs.Cuts.{parts_none, parts_next, parts_all}
 use Rattle.exb_planning.proofs.touched.add_parts.Goals as goal
 
 pub loop-bridge_port-init : goal.loop-bridge_port-init
@@ -11,10 +11,8 @@ loop-bridge_port-init c t b x ground is_part = parts_none t b x (map seen c.args
 
 pub loop-bridge_port-preserved : goal.loop-bridge_port-preserved
 loop-bridge_port-preserved c t b x ground is_part =
-    parts_step t b x c.args.ground.now c.args.whole.now c.under-set.result c.except-set.result c.loop-bridge_port.bridge_port
-    (map seen c.args.parts.now.items) (map seen c.loop-bridge_port.parts.items) (map seen c.add.new.parts.items) (map seen c.add-in-loop-bridge_port.new.parts.items)
-    ground is_part (omega (arith, c.loop-bridge_port.auto.bridge_port)) c.under-set.ensures c.except-set.ensures
-    (c.loop-bridge_port.invariant t b x ground is_part) c.in_ok-add.ensures c.in_ok-add-2.ensures
+    parts_next t b x c.loop-bridge_port.bridge_port (map seen c.args.parts.now.items) (map seen c.loop-bridge_port.parts.items) (map seen c.add_parts_below.new.parts.items)
+    (omega (arith, c.loop-bridge_port.auto.bridge_port)) (c.loop-bridge_port.invariant t b x ground is_part) (c.in_ok-add_parts_below.ensures t b x ground is_part)
 
 pub returns : goal.returns
 returns c t b x ground is_part =
