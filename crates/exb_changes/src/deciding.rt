@@ -24,7 +24,7 @@ use exb_model::tree::Tree;
 use exb_numbers::Spaces;
 use exb_plan::asks::put_create;
 use exb_plan::{AskAt, Change, Decision};
-use exb_planning::{Uses, plan_command};
+use exb_planning::{Uses, plan};
 use std::alloc::Global;
 
 // Asks that a port of an extender is created, if it is a cascade port.
@@ -123,10 +123,10 @@ pub(crate) fn decide(
         }
         Job::AutomaticUp { port } => {
             let command = Command::Up { port: *port };
-            plan_command(alloc, tree, spaces, uses, config, &command)
+            plan(alloc, tree, spaces, uses, config, &command)
         }
         Job::Ordered { number: _, command } => {
-            plan_command(alloc, tree, spaces, uses, config, command)
+            plan(alloc, tree, spaces, uses, config, command)
         }
     }
 }

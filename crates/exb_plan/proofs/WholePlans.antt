@@ -1,6 +1,5 @@
 -- The plan, put together.
-use Rattle.std.proofs.Common.{◌≡◌, ◌∙◌, ◌-◌, ◌<◌, ◌/◌, ℕ, zero, suc, List, [], ◌∷◌, Option, Some, None, length, get_or, map, refl, sym, ap, subst, arith}
-use Rattle.std.specs.Prelude.{All}
+use Rattle.std.proofs.Common.{◌≡◌, ◌∙◌, ◌-◌, ◌/◌, ℕ, List, [], ◌∷◌, Option, Some, None, refl, sym, ap, subst}
 use Rattle.std.proofs.lemmas.Bool.{lt-ltb}
 use Rattle.exb_model.specs.declared.event.Cause.{Cause}
 use Rattle.exb_model.specs.Tree.{Shape, IsTree, trunk}
@@ -8,16 +7,13 @@ use Rattle.exb_model.specs.Setup.{Limits}
 use Rattle.exb_model.specs.Configuration.{Bridge}
 use Rattle.exb_model.specs.Refusals.{channels_short, first_cause}
 use Rattle.exb_numbers.specs.Spaces.{Spaces}
-use Rattle.exb_rows.specs.declared.group_sets.SetAt.{SetAt}
-use Rattle.exb_rows.specs.Sets.{PortsAt, sets_of, seen}
+use Rattle.exb_rows.specs.Sets.{PortsAt, sets_of}
 use Rattle.exb_plan.specs.declared.change.Change.{Change}
 use Rattle.exb_plan.specs.declared.change.Decision.TheVariants.{Refused, Ready}
 use Rattle.exb_plan.specs.Held.{Held, Group, held_by, HoldsNeeded, HasSpaces, group_in, group_for, give, channel_used}
 use Rattle.exb_plan.specs.Between.{goes_up, goes_down, trunk_of, refusal_between, fresh_sets}
 use Rattle.exb_plan.specs.Plans.{with_channel, fresh_groups, prepare_of, cleanup_of, claimed, change_of, decision, decision_by, held_after, held_by_cause}
-use Rattle.exb_plan.specs.Working.{IsPlaced, AreFresh, AreLimited, IsAlike, CanClaim, CanClaimUp, HasUp, SpacesOf, AreClaimed, IsLaterBy, AreGiven, refusal_by, short_by, claimed_by, change_by}
-use Rattle.exb_plan.proofs.Each.{Each}
-use Rattle.exb_plan.proofs.SetFacts.{IsBelow, sets_below}
+use Rattle.exb_plan.specs.Working.{AreFresh, AreLimited, IsAlike, CanClaim, CanClaimUp, HasUp, SpacesOf, AreClaimed, IsLaterBy, AreGiven, refusal_by, short_by, claimed_by, change_by}
 use Rattle.exb_plan.proofs.Needed.{groups_short_is}
 use Rattle.exb_plan.proofs.Fresh.{fresh_can, placed_fresh}
 use Rattle.exb_plan.proofs.Channels.{can_claim_up}
@@ -37,14 +33,6 @@ alike_has t l v w a has = record {
   channels = λ k there. a.channels k ∙ has.channels k (sym (a.spaces k) ∙ there);
   groups = λ k there. a.groups k ∙ has.groups k (sym (a.spaces k) ∙ there);
 }
-
-placed_each : (t : Shape) (v : Spaces) → SpacesOf t v → (xs : List SetAt) → Each (IsBelow t) (map seen xs) → (k : ℕ) (d : SetAt) → k < length xs → IsPlaced v (seen (get_or xs k d))
-placed_each t v spaces [] each k d within = absurd (omega arith)
-placed_each t v spaces (x ∷ xs) each zero d within = (each.0.from1, spaces (x.bridge_port - 1) each.0.low each.0.cascade)
-placed_each t v spaces (x ∷ xs) each (suc k) d within = placed_each t v spaces xs each.1 k d (omega arith)
-
-pub placed_sets : (t : Shape) → IsTree t → (b : Bridge) (v : Spaces) → SpacesOf t v → (xs : List SetAt) → map seen xs ≡ sets_of t b → All (λ s. IsPlaced v (seen s)) xs
-placed_sets t valid b v spaces xs e = placed_each t v spaces xs (subst (λ (l : List PortsAt). Each (IsBelow t) l) (sym e) (sets_below t valid b))
 
 -- ---- refused
 pub refusal_is : (t : Shape) → IsTree t → (l : Limits) (old new : Bridge) → refusal_by t l old (goes_up t old new) (sets_of t old) (fresh_sets t old new) ≡ refusal_between t l old new

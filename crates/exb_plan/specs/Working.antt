@@ -1,6 +1,5 @@
 -- The values with which the code makes a plan.
 use Rattle.std.specs.Prelude.{◌≡◌, ℕ, ◌+◌, ◌-◌, ◌*◌, ◌/◌, ◌<◌, ◌≤◌, ◌==◌, ◌&&◌, Bool, true, false, List, [], ◌∷◌, Option, Some, None, is_some, filter, filter_map, map, length, find, nat_lt, if◌then◌else◌}
-use Rattle.exb_model.specs.declared.port_set.PortSet.{PortSet}
 use Rattle.exb_model.specs.Masks.{bits_of}
 use Rattle.exb_model.specs.Ports.{port_in, ports_of}
 use Rattle.exb_model.specs.Tree.{Shape, is_extender, is_cascade, is_extended, trunk}
@@ -16,7 +15,7 @@ use Rattle.exb_rows.specs.Sets.{PortsAt}
 use Rattle.exb_plan.specs.declared.groups.GroupAt.{GroupAt}
 use Rattle.exb_plan.specs.declared.group_asks.Covered.{Covered}
 use Rattle.exb_plan.specs.Held.{Held, Group, held_by, channel_in, channel_used, group_in, group_used, group_for, numbered, give, give_all}
-use Rattle.exb_plan.specs.Between.{has_set, trunk_of, gone_groups}
+use Rattle.exb_plan.specs.Between.{trunk_of, gone_groups}
 use Rattle.exb_plan.specs.declared.asks.AskAt.{AskAt}
 use Rattle.exb_plan.specs.declared.change.Change.{Change}
 use Rattle.exb_plan.specs.Plans.{new_channel, own_channel, with_channel, freed_channel, number_of, prepare_with, cleanup_with}
@@ -29,14 +28,6 @@ seen_group x = record { bridge_port = x.bridge_port; number = x.number; ports = 
 -- the set is below a bridge port that has a space
 abbrev pub IsPlaced : Spaces → PortsAt → Type 0
 IsPlaced v s = (1 ≤ s.bridge_port) × (has_space v (s.bridge_port - 1) ≡ true)
-
-abbrev pub placed : ℕ → PortSet → PortsAt
-placed bridge_port set = record { bridge_port = bridge_port; ports = ports_of set }
-
--- the group of a set that isn't kept
-abbrev pub put_gone : List PortsAt → ℕ → ℕ → PortSet → List Group
-put_gone kept bridge_port number set =
-    if has_set kept (placed bridge_port set) then [] else record { bridge_port = bridge_port; number = number; ports = ports_of set } ∷ []
 
 -- each space has so many groups
 abbrev pub AreLimited : ℕ → Spaces → Type 0

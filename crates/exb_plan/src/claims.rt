@@ -1,7 +1,7 @@
 //! How numbers are claimed, and given back where a plan comes to nothing.
-ghost use Rattle.std.specs.Prelude.{◌≡◌, ℕ, ◌+◌, ◌-◌, ◌*◌, ◌/◌, ◌≤◌, ◌<◌, [], true, None, map, length, vec_len, vec_capacity};
-ghost use Rattle.exb_model.specs.Tree.{Shape, trunk, is_extender};
-ghost use Rattle.exb_numbers.specs.Spaces.{has_space, channels_at, groups_at};
+ghost use Rattle.std.specs.Prelude.{◌≡◌, ℕ, ◌-◌, ◌/◌, ◌≤◌, ◌<◌, [], true, None, map, length, vec_capacity};
+ghost use Rattle.exb_model.specs.Tree.{trunk, is_extender};
+ghost use Rattle.exb_numbers.specs.Spaces.{has_space, groups_at};
 ghost use Rattle.exb_rows.specs.Sets.{seen};
 ghost use Rattle.exb_plan.specs.Held.{Held, held_by, group_for, group_used, give, take_back, free_channel, channel_used, give_channel, free_port_of};
 ghost use Rattle.exb_plan.specs.Working.{seen_group, IsPlaced, IsFresh, CanClaim, AreLimited, AreClaimed, IsLaterBy, IsAlike, CanClaimChannel, channel_limit};

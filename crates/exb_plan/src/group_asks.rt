@@ -1,5 +1,5 @@
 //! What is asked for the rows of groups.
-ghost use Rattle.std.specs.Prelude.{◌≡◌, ℕ, ◌<◌, ◌++◌, filter_map, map, IfOk, OnOk};
+ghost use Rattle.std.specs.Prelude.{◌≡◌, ℕ, ◌<◌, ◌++◌, map, IfOk, OnOk};
 ghost use Rattle.exb_plan.specs.Asks.{rows_at, group_asks};
 ghost use Rattle.exb_plan.specs.Working.{seen_group, row_of_covered, rows_of_covered};
 

@@ -120,10 +120,12 @@ fn refusal(
     groups_short(tree, spaces, uses, fresh)
 }
 
-/// The plan of a command, by what it touches: exactly that of `exb_plan::plan` from a configuration to the one after
-/// the command. The spaces hold just what the configuration needs, and the uses are those of its sets; afterwards the
-/// uses are those after the command. Refused or out of memory nothing is claimed, and no use changes.
-pub fn plan_command(
+/// The plan of a command, by what it touches. Refused exactly where the numbers of a bridge port don't suffice for the
+/// configurations before and after the command; else the new numbers are claimed, the lowest free ones, and the asks
+/// are those that lay and clear what changes. The spaces hold just what the configuration needs, and the uses are
+/// those of its sets; afterwards the uses are those after the command. Refused or out of memory nothing is claimed, and
+/// no use changes.
+pub fn plan(
     alloc: Global,
     tree: &Tree,
     spaces: &mut Spaces,

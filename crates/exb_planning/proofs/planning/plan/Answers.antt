@@ -9,7 +9,7 @@ use Rattle.exb_plan.proofs.Channels.{any_extended}
 use Rattle.exb_plan.proofs.WholePlans.{spaces_of, refusal_are, refused_is, refused_held, ready_are, ready_held_are}
 use Rattle.exb_planning.proofs.TouchedSets.{after_within, some_below, parts_placed, fresh_made}
 use Rattle.exb_planning.proofs.Moving.{used_sets}
-use Rattle.exb_planning.proofs.planning.plan_command.Goals as goal
+use Rattle.exb_planning.proofs.planning.plan.Goals as goal
 
 pub unfound-requires : goal.unfound-requires
 unfound-requires c =
