@@ -112,6 +112,14 @@ impl Config {
         self.present.contains(port)
     }
 
+    /// The present ports.
+    #[tactic(auto, unfolding(crate::specs::Tables::bridge_of))]
+    pub fn present_ports(&self) -> PortSet
+        ensures { (q : ℕ) → port_in result q ≡ (bridge_of self.now).present q }
+    {
+        self.present
+    }
+
     /// The rule of a port.
     #[tactic(auto, unfolding(crate::specs::Tables::bridge_of))]
     pub fn rule(&self, port: PortId) -> PortRule

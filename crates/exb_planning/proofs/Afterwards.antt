@@ -7,7 +7,7 @@ use Rattle.exb_model.specs.Setup.{Limits}
 use Rattle.exb_model.specs.Configuration.{Bridge, after}
 use Rattle.exb_model.specs.Refusals.{is_empty_set}
 use Rattle.exb_numbers.specs.Spaces.{Spaces, has_space, groups_at}
-use Rattle.exb_rows.specs.declared.group_sets.SetAt.{SetAt}
+use Rattle.exb_rows.specs.declared.parts.SetAt.{SetAt}
 use Rattle.exb_rows.specs.Sets.{PortsAt, seen}
 use Rattle.exb_plan.specs.Held.{Held, HoldsNeeded, HasSpaces, held_by, group_in, group_used}
 use Rattle.exb_plan.specs.Between.{fresh_sets, refusal_between}
@@ -19,7 +19,7 @@ use Rattle.exb_plan.proofs.Fresh.{fresh_can, fresh_low}
 use Rattle.exb_plan.proofs.Owning.{IsGroupOf, group_found}
 use Rattle.exb_plan.proofs.WholePlans.{spaces_of, alike_has, none_short}
 use Rattle.exb_uses.specs.Touched.{parts_after}
-use Rattle.exb_planning.specs.Some.{has_ports}
+use Rattle.exb_rows.specs.Parts.{has_ports}
 use Rattle.exb_planning.specs.Counted.{count_at, uses_at, IsCounted}
 use Rattle.exb_planning.specs.Recount.{AreOwn, HavePlaces, HaveRowsOf, AreRaised, AreUnused}
 use Rattle.exb_planning.proofs.TouchedSets.{after_within, some_below, parts_placed}

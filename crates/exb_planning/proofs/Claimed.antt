@@ -22,7 +22,7 @@ use Rattle.exb_plan.proofs.SetFacts.{has_at}
 use Rattle.exb_uses.specs.Touched.{uses_in, uses_of, parts_after}
 use Rattle.exb_uses.proofs.Tests.{count-cons}
 use Rattle.exb_uses.proofs.Uses.{uses_change, sets_are_used}
-use Rattle.exb_planning.specs.Some.{has_ports}
+use Rattle.exb_rows.specs.Parts.{has_ports}
 use Rattle.exb_planning.specs.Counted.{count_at, uses_at}
 use Rattle.exb_planning.specs.Recount.{parts_at}
 use Rattle.exb_planning.proofs.TouchedSets.{before_within, some_uses}

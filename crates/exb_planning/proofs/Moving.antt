@@ -20,7 +20,7 @@ use Rattle.exb_uses.specs.Touched.{uses_in, uses_of, parts_before, parts_after}
 use Rattle.exb_uses.proofs.Uses.{uses_change, sets_are_used}
 use Rattle.exb_uses.proofs.Going.{gone_are_touched}
 use Rattle.exb_uses.proofs.InUse.{used_are_sets}
-use Rattle.exb_planning.specs.Some.{has_ports}
+use Rattle.exb_rows.specs.Parts.{has_ports}
 use Rattle.exb_planning.specs.Counted.{count_at, used_in, used_at, uses_at, IsCounted}
 use Rattle.exb_planning.specs.Recount.{parts_at, AreOwn, HavePlaces, AreRaised, AreLowered, AreEnough}
 use Rattle.exb_planning.specs.Going.{AreLeft}

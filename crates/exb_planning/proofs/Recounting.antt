@@ -6,7 +6,7 @@ use Rattle.std.proofs.lemmas.Bool.{and_parts, and_from, eqb-true, false≢true, 
 use Rattle.exb_model.specs.Refusals.{is_empty_set}
 use Rattle.exb_numbers.specs.Groups.{Groups, group_of}
 use Rattle.exb_numbers.specs.Spaces.{Spaces, has_space, groups_at}
-use Rattle.exb_rows.specs.declared.group_sets.SetAt.{SetAt}
+use Rattle.exb_rows.specs.declared.parts.SetAt.{SetAt}
 use Rattle.exb_rows.specs.Sets.{PortsAt, is_same_set}
 use Rattle.exb_plan.specs.Held.{Held, held_by, group_in}
 use Rattle.exb_plan.specs.Working.{IsPlaced}

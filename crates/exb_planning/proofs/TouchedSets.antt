@@ -9,7 +9,7 @@ use Rattle.exb_model.specs.Tree.{Shape, IsTree}
 use Rattle.exb_model.specs.Configuration.{Bridge, after}
 use Rattle.exb_model.specs.Refusals.{is_empty_set}
 use Rattle.exb_numbers.specs.Spaces.{Spaces}
-use Rattle.exb_rows.specs.declared.group_sets.SetAt.{SetAt}
+use Rattle.exb_rows.specs.declared.parts.SetAt.{SetAt}
 use Rattle.exb_rows.specs.Sets.{PortsAt, is_same_set, with_set_at, sets_of, parts_below, seen}
 use Rattle.exb_plan.specs.Held.{Held, HoldsNeeded}
 use Rattle.exb_plan.specs.Between.{has_set, fresh_sets}
@@ -25,7 +25,7 @@ use Rattle.exb_uses.proofs.Commands.{command_differs}
 use Rattle.exb_uses.proofs.Covered.{each_there}
 use Rattle.exb_uses.proofs.Uses.{sets_are_used}
 use Rattle.exb_uses.proofs.Coming.{fresh_are_touched}
-use Rattle.exb_planning.specs.Some.{has_ports}
+use Rattle.exb_rows.specs.Parts.{has_ports}
 
 -- ---- what goes and comes is of the lists
 module _ {X Y : Type 0} (f g : X → List Y) (p : Y → Bool) where

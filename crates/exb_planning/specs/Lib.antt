@@ -1,6 +1,5 @@
-pub mod Some
 pub mod Counted
-pub mod Cutting
+pub mod TouchedSources
 pub mod Rising
 pub mod Recount
 pub mod Going

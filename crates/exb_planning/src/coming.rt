@@ -1,11 +1,10 @@
-//! The sets that come: those of the touched parts that have no group yet, each once.
-ghost use Rattle.std.specs.Prelude.{◌≡◌, not, [], filter, fold, map, IfOk, OnOk};
-ghost use Rattle.std.specs.List.{All, list_any};
-ghost use Rattle.exb_rows.specs.Sets.{is_same_set, with_set_at, seen};
+//! The touched parts that have no group yet.
+ghost use Rattle.std.specs.Prelude.{◌≡◌, not, filter, map, IfOk};
+ghost use Rattle.std.specs.List.{All};
+ghost use Rattle.exb_rows.specs.Sets.{seen};
 ghost use Rattle.exb_plan.specs.Held.{held_by};
 ghost use Rattle.exb_plan.specs.Working.{IsPlaced, has_group};
 
-use exb_config::port_sets::is_empty;
 use exb_model::memory::NoMemory;
 use exb_numbers::Spaces;
 use exb_rows::SetAt;
@@ -20,7 +19,7 @@ fn has_group(spaces: &Spaces, set: &SetAt) -> bool
 }
 
 /// The parts whose sets have no group, in their order.
-pub(crate) fn unfound(
+pub(crate) fn without_group(
     alloc: Global,
     spaces: &Spaces,
     parts: &[SetAt],
@@ -35,45 +34,4 @@ pub(crate) fn unfound(
         }
     }
     Ok(fresh)
-}
-
-// Whether both are the same ports below the same bridge port.
-fn is_same(set: &SetAt, other: &SetAt) -> bool
-    ensures { result ≡ is_same_set (seen set.now) (seen other.now) }
-{
-    set.bridge_port == other.bridge_port && set.set.is_same(&other.set)
-}
-
-// Whether one of these is the same.
-fn has(sets: &[SetAt], set: &SetAt) -> bool
-    ensures { result ≡ list_any (λ s. is_same_set (seen set.now) (seen s)) sets.now }
-{
-    for other in sets {
-        if is_same(set, other) {
-            return true;
-        }
-    }
-    false
-}
-
-// Puts one set more, if it isn't empty and isn't there yet.
-fn put_once(sets: &mut Vec<SetAt>, set: &SetAt) -> Result<(), NoMemory>
-    ensures { OnOk result (map seen sets.new.items ≡ with_set_at (map seen sets.old.items) (seen set.now)) }
-{
-    if is_empty(&set.set) || has(sets.as_slice(), set) {
-        return Ok(());
-    }
-    sets.push(*set)?;
-    Ok(())
-}
-
-/// The sets that aren't empty, each once, where it comes first.
-pub(crate) fn each_once(alloc: Global, sets: &[SetAt]) -> Result<Vec<SetAt>, NoMemory>
-    ensures { IfOk result (λ made. map seen made.items ≡ fold with_set_at [] (map seen sets.now)) }
-{
-    let mut once = Vec::new(alloc);
-    for set in sets {
-        put_once(&mut once, set)?;
-    }
-    Ok(once)
 }

@@ -6,6 +6,7 @@
 
 mod coming;
 mod going;
+mod pending;
 pub mod planning;
 mod presence;
 mod recount;
@@ -18,5 +19,7 @@ pub use planning::plan;
 pub use touched::{parts_after, parts_before};
 pub use uses::Uses;
 
+#[cfg(test)]
+mod touched_tests;
 #[cfg(test)]
 mod uses_tests;

@@ -11,14 +11,14 @@ ghost use Rattle.exb_uses.specs.Touched.{parts_before as parts_touched_before, p
 ghost use Rattle.exb_plan.specs.Held.{held_by, HoldsNeeded, HasSpaces};
 ghost use Rattle.exb_plan.specs.Between.{goes_up, goes_down, fresh_sets, refusal_between};
 ghost use Rattle.exb_plan.specs.Plans.{decision, held_after};
-ghost use Rattle.exb_plan.specs.Working.{IsPlaced, IsAlike, IsAnyExtended, SpacesOf, AreLimited, has_group, how_many, is_at, refusal_by, claimed_by, change_by};
-ghost use Rattle.exb_planning.specs.Some.{has_ports};
+ghost use Rattle.exb_plan.specs.Working.{IsPlaced, IsAlike, IsAnyExtended, SpacesOf, has_group, how_many, is_at, refusal_by, claimed_by, change_by};
+ghost use Rattle.exb_rows.specs.Parts.{has_ports};
 ghost use Rattle.exb_planning.specs.Counted.{IsCounted, used_at};
 ghost use Rattle.exb_planning.specs.Recount.{AreOwn, HavePlaces, AreEnough, HaveRowsOf};
 ghost use Rattle.exb_planning.specs.Moved.{AreMoved};
 ghost use Rattle.exb_planning.specs.Decided.{IfDecided};
 
-use crate::coming;
+use crate::coming::without_group;
 use crate::going::gone_groups;
 use crate::presence::{goes_down, goes_up};
 use crate::recount::{lower_all, raise_all, raise_new};
@@ -33,7 +33,7 @@ use exb_model::port::PortId;
 use exb_model::tree::Tree;
 use exb_numbers::Spaces;
 use exb_plan::{Change, Decision, channels_short, make_change};
-use exb_rows::SetAt;
+use exb_rows::{SetAt, each_once};
 use std::alloc::Global;
 
 // The uses after a command, at the groups that there are.
@@ -150,8 +150,8 @@ pub fn plan(
     tree.is_tree();
     let before = parts_before(alloc, tree, config, command)?;
     let later = parts_after(alloc, tree, config, command)?;
-    let unfound = coming::unfound(alloc, spaces, later.as_slice())?;
-    let fresh = coming::each_once(alloc, unfound.as_slice())?;
+    let unfound = without_group(alloc, spaces, later.as_slice())?;
+    let fresh = each_once(alloc, unfound.as_slice())?;
     let up = goes_up(tree, config, command);
     if let Some(cause) = refusal(tree, spaces, uses, config, &up, fresh.as_slice()) {
         return Ok(Decision::Refused(cause));

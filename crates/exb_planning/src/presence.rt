@@ -5,7 +5,7 @@ ghost use Rattle.exb_model.specs.Configuration.{after};
 ghost use Rattle.exb_config.specs.Tables.{bridge_of};
 ghost use Rattle.exb_plan.specs.Between.{goes_up, goes_down};
 
-use crate::touched::ground::is_extended;
+use exb_rows::branches::is_extended;
 use exb_config::Config;
 use exb_model::command::Command;
 use exb_model::port::PortId;

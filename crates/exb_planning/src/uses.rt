@@ -1,5 +1,5 @@
 //! How often the set of each group is a part of a configuration.
-ghost use Rattle.std.specs.Prelude.{◌≡◌, ◌^◌, ℕ, ◌+◌, ◌-◌, ◌<◌, ◌≤◌, ◌==◌, ◌&&◌, true, [], length, replicate, slice_index, slice_index_or, slice_set, if◌then◌else◌, IfOk, IsOk, OnOk, OnErr};
+ghost use Rattle.std.specs.Prelude.{◌≡◌, ◌^◌, ℕ, ◌+◌, ◌-◌, ◌<◌, ◌≤◌, ◌==◌, ◌&&◌, true, [], length, replicate, slice_index_or, slice_set, if◌then◌else◌, IfOk, IsOk, OnOk, OnErr};
 ghost use Rattle.exb_model.specs.Tree.{is_cascade};
 ghost use Rattle.exb_planning.specs.Counted.{count_in, count_at, used_in, used_at};
 

@@ -5,6 +5,8 @@ pub mod RowsCover
 pub mod RowLists
 pub mod Carrying
 pub mod SetPorts
-pub mod GroundLemmas
+pub mod Trunks
 pub mod SetFolds
 pub mod SpaceSets
+pub mod PartLists
+pub mod Once

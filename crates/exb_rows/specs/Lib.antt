@@ -1,5 +1,6 @@
 pub mod Rows
 pub mod Laying
 pub mod Carrying
-pub mod Ground
+pub mod Branches
 pub mod Sets
+pub mod Parts

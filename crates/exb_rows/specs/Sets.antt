@@ -5,7 +5,7 @@ use Rattle.exb_model.specs.Ports.{ports_of}
 use Rattle.exb_model.specs.Tree.{Shape}
 use Rattle.exb_model.specs.Configuration.{Bridge}
 use Rattle.exb_model.specs.Refusals.{Source, sources, part, without_isolated, bridge_ports, is_empty_set, sets_at}
-use Rattle.exb_rows.specs.declared.group_sets.SetAt.{SetAt}
+use Rattle.exb_rows.specs.declared.parts.SetAt.{SetAt}
 
 -- ports below a bridge port, which is numbered from 1
 pub record PortsAt : Type 0 where

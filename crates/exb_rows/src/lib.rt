@@ -3,12 +3,17 @@
 //! It lists the sets that a configuration needs. It stands on `exb_model` and `exb_config`.
 #![tactic(auto)]
 
-mod ground;
+pub mod branches;
 pub mod group_sets;
 pub mod laws;
+pub mod parts;
 pub mod set_rows;
+pub mod view;
 #[cfg(test)]
 mod tests;
 
-pub use group_sets::{SetAt, sets};
+pub use branches::Branches;
+pub use group_sets::{each_once, sets};
+pub use parts::SetAt;
 pub use set_rows::{Row, rows};
+pub use view::View;

@@ -23,7 +23,7 @@ use Rattle.exb_relay.specs.Spaces.{HasSpaces}
 use Rattle.exb_relay.specs.Laws.{HasPvids}
 use Rattle.exb_world.specs.declared.bridge.Controller.{Controller}
 use Rattle.exb_world.specs.Bridges.{HasFreeSpaces}
-use Rattle.exb_rows.specs.declared.group_sets.SetAt.{SetAt}
+use Rattle.exb_rows.specs.declared.parts.SetAt.{SetAt}
 use Rattle.exb_rows.specs.Sets.{PortsAt, seen, sets_of}
 use Rattle.exb_rows.proofs.SpaceSets.{sets_of_each}
 use Rattle.exb_world.specs.Setups.{IsSingle}

@@ -18,7 +18,7 @@ use Rattle.exb_numbers.specs.Groups.{Groups, set_of, is_used, group_of, lowest_g
 use Rattle.exb_numbers.specs.Lowest.{lowest_free}
 use Rattle.exb_numbers.specs.Spaces.{Spaces, has_space, channels_at, groups_at, with_groups}
 use Rattle.exb_world.specs.Extenders.{AreTables, with_group}
-use Rattle.exb_rows.specs.declared.group_sets.SetAt.{SetAt}
+use Rattle.exb_rows.specs.declared.parts.SetAt.{SetAt}
 use Rattle.exb_rows.specs.Sets.{seen}
 use Rattle.exb_world.specs.Insides.{AreRegistered, IsNext, sets_below}
 use Rattle.exb_world.proofs.Raising.{lowest_is, groups_changed}

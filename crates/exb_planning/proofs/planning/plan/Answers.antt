@@ -11,8 +11,8 @@ use Rattle.exb_planning.proofs.TouchedSets.{after_within, some_below, parts_plac
 use Rattle.exb_planning.proofs.Moving.{used_sets}
 use Rattle.exb_planning.proofs.planning.plan.Goals as goal
 
-pub unfound-requires : goal.unfound-requires
-unfound-requires c =
+pub without_group-requires : goal.without_group-requires
+without_group-requires c =
     let t = c.args.tree.now in
     let b = bridge_of c.args.config.now in
     let v = c.args.spaces.now in

@@ -1,0 +1,126 @@
+//! The branches of a tree below the bridge's ports, out of which the sets of a configuration are cut.
+ghost use Rattle.std.specs.Prelude.{◌≡◌, ◌≢◌, ◌<◌, ◌==◌, ◌&&◌, ◌/◌, ℕ, true, false, slice_index, slice_index_or};
+ghost use Rattle.exb_model.specs.Ports.{port_in};
+ghost use Rattle.exb_model.specs.Tree.{is_extender, is_extended};
+ghost use Rattle.exb_rows.specs.Branches.{AreTrunks, AreBranches};
+
+use crate::view::View;
+use exb_model::port::PortId;
+use exb_model::port_set::PortSet;
+use exb_model::role::Role;
+use exb_model::tree::Tree;
+
+/// The extended ports of a tree by the bridge port above them, and the isolated ports of a configuration.
+#[derive(Drop)]
+pub struct Branches {
+    /// By device: the bridge port above an extender, from 1; 0 where there is no extender.
+    pub trunks: [u8; 65],
+    pub extended: PortSet,
+    pub isolated: PortSet,
+}
+
+/// Whether there is an extender of that number.
+fn is_extender(tree: &Tree, number: u8) -> bool
+    requires { number < 65 }
+    ensures { result ≡ is_extender tree.now number }
+{
+    if number == 0 {
+        return false;
+    }
+    match tree.role(PortId::new(64 * number as u16).unwrap()) {
+        Role::Unknown => false,
+        _ => true,
+    }
+}
+
+/// The bridge port above each extender, from 1; 0 where there is no extender.
+fn trunks_of(tree: &Tree) -> [u8; 65]
+    ensures { AreTrunks tree.now result }
+{
+    let mut trunks = [0; 65];
+    for number in 0..65u8 {
+        if is_extender(tree, number) {
+            trunks[number as usize] = tree.trunk(number);
+        }
+    }
+    trunks
+}
+
+/// Whether a port is an external port of an extender.
+pub fn is_extended(tree: &Tree, port: PortId) -> bool
+    ensures { result ≡ is_extended tree.now port }
+{
+    tree.is_tree();
+    if port.number() < 64 {
+        return false;
+    }
+    match tree.role(port) {
+        Role::External => true,
+        _ => false,
+    }
+}
+
+/// The external ports of extenders.
+fn extended_ports(tree: &Tree) -> PortSet
+    ensures { (q : ℕ) → port_in result q ≡ is_extended tree.now q }
+{
+    tree.is_tree();
+    let mut extended = PortSet::empty();
+    for number in 0..4160u16 {
+        let port = PortId::new(number).unwrap();
+        if is_extended(tree, port) {
+            extended.insert(port);
+        }
+    }
+    extended
+}
+
+// Marks a bridge port, where a word has a port.
+fn mark(reached: &mut [bool; 65], bridge_port: u8, word: u64)
+    ensures marked { word ≢ 0 → bridge_port < 65 → slice_index_or reached.new bridge_port false ≡ true }
+    ensures kept { (k : ℕ) → slice_index_or reached.old k false ≡ true → slice_index_or reached.new k false ≡ true }
+{
+    if word == 0 || bridge_port > 64 {
+        return;
+    }
+    reached[bridge_port as usize] = true;
+}
+
+impl Branches {
+    /// Of a tree and a view of a configuration.
+    pub fn new<V: View>(tree: &Tree, view: &V) -> Branches
+        ensures { AreBranches tree.now (V.bridge view.now) result }
+    {
+        Branches {
+            trunks: trunks_of(tree),
+            extended: extended_ports(tree),
+            isolated: view.isolated(),
+        }
+    }
+
+    /// The bridge ports, from 1, above the extenders that have a port of a set.
+    pub fn reached(&self, set: &PortSet) -> [bool; 65]
+        ensures { (q : ℕ) → port_in set.now q ≡ true → slice_index self.now.trunks (q / 64) < 65
+            → slice_index_or result (slice_index self.now.trunks (q / 64)) false ≡ true }
+    {
+        let mut reached = [false; 65];
+        for device in 0..65usize {
+            mark(&mut reached, self.trunks[device], set.words[device]);
+        }
+        reached
+    }
+
+    /// The ports of a set whose extenders have that trunk.
+    pub fn under(&self, set: &PortSet, bridge_port: u8) -> PortSet
+        requires { 0 < bridge_port }
+        ensures { (q : ℕ) → port_in result q ≡ (slice_index self.now.trunks (q / 64) == bridge_port && port_in set.now q) }
+    {
+        let mut words = [0; 65];
+        for device in 0..65usize {
+            if self.trunks[device] == bridge_port {
+                words[device] = set.words[device];
+            }
+        }
+        PortSet { words }
+    }
+}
