@@ -19,7 +19,7 @@ use Rattle.exb_plan.specs.Plans.{change_of, claimed}
 use Rattle.exb_plan.proofs.Trunks.{extended_external}
 use Rattle.exb_uses.specs.Touched.{uses_of}
 use Rattle.exb_planning.specs.Counted.{IsCounted, count_at}
-use Rattle.exb_planning.specs.Decided.{IfDecided}
+use Rattle.exb_planning.specs.Decisions.{IfDecided}
 use Rattle.exb_planning.specs.Recount.{HaveRowsOf}
 use Rattle.exb_planning.proofs.Freed.{counted_freed}
 use Rattle.exb_changes.specs.declared.job.Job.{Job}

@@ -7,7 +7,7 @@ ghost use Rattle.exb_numbers.specs.Spaces.{groups_at};
 ghost use Rattle.exb_plan.specs.Held.{HasSpaces, HoldsNeeded, held_by};
 ghost use Rattle.exb_plan.specs.Working.{SpacesOf};
 ghost use Rattle.exb_planning.specs.Counted.{IsCounted};
-ghost use Rattle.exb_planning.specs.Decided.{IfDecided};
+ghost use Rattle.exb_planning.specs.Decisions.{IfDecided};
 ghost use Rattle.exb_planning.specs.Recount.{HaveRowsOf};
 ghost use Rattle.exb_changes.specs.Deciding.{cascade_asks, opening_asks, opening_change, bridge_after, decide};
 ghost use Rattle.exb_changes.specs.Fabrics.{Fits, decision_of, held_after};
@@ -24,7 +24,7 @@ use exb_model::tree::Tree;
 use exb_numbers::Spaces;
 use exb_plan::asks::put_create;
 use exb_plan::{AskAt, Change, Decision};
-use exb_planning::{Uses, plan};
+use exb_planning::{GroupUses, plan};
 use std::alloc::Global;
 
 // Asks that a port of an extender is created, if it is a cascade port.
@@ -97,7 +97,7 @@ pub(crate) fn decide(
     alloc: Global,
     tree: &Tree,
     spaces: &mut Spaces,
-    uses: &mut Uses,
+    uses: &mut GroupUses,
     config: &Config,
     job: &Job,
 ) -> Result<Decision, NoMemory>

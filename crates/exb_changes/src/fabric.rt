@@ -23,7 +23,7 @@ use exb_model::setup::Setup;
 use exb_model::tree::Tree;
 use exb_numbers::Spaces;
 use exb_plan::Decision;
-use exb_planning::Uses;
+use exb_planning::GroupUses;
 use std::alloc::Global;
 use std::marker::Model;
 use std::mem;
@@ -44,7 +44,7 @@ pub struct Fabric {
     config: Config,
     spaces: Spaces,
     /// How often the set of each group is a part of the configuration at the end of the change at work.
-    uses: Uses,
+    uses: GroupUses,
     stage: Stage,
 }
 
@@ -125,7 +125,7 @@ impl Fabric {
         let tree = shared(alloc, Tree::new(alloc, setup)?)?;
         let config = first_config(alloc, &tree, setup)?;
         let spaces = first_spaces(alloc, &tree, setup.channels, setup.groups)?;
-        let uses = Uses::new(alloc, &tree, setup.groups)?;
+        let uses = GroupUses::new(alloc, &tree, setup.groups)?;
         Ok(Fabric {
             alloc,
             tree,

@@ -8,12 +8,11 @@ use Rattle.exb_model.specs.Configuration.{Bridge}
 use Rattle.exb_model.specs.Refusals.{channels_short, first_cause}
 use Rattle.exb_numbers.specs.Spaces.{Spaces}
 use Rattle.exb_rows.specs.Sets.{PortsAt, sets_of}
-use Rattle.exb_plan.specs.declared.change.Change.{Change}
 use Rattle.exb_plan.specs.declared.change.Decision.TheVariants.{Refused, Ready}
 use Rattle.exb_plan.specs.Held.{Held, Group, held_by, HoldsNeeded, HasSpaces, group_in, group_for, give, channel_used}
-use Rattle.exb_plan.specs.Between.{goes_up, goes_down, trunk_of, refusal_between, fresh_sets}
+use Rattle.exb_plan.specs.Between.{goes_up, goes_down, trunk_of, refusal_between, fresh_sets, gone_groups}
 use Rattle.exb_plan.specs.Plans.{with_channel, fresh_groups, prepare_of, cleanup_of, claimed, change_of, decision, decision_by, held_after, held_by_cause}
-use Rattle.exb_plan.specs.Working.{AreFresh, AreLimited, IsAlike, CanClaim, CanClaimUp, HasUp, SpacesOf, AreClaimed, IsLaterBy, AreGiven, refusal_by, short_by, claimed_by, change_by}
+use Rattle.exb_plan.specs.Working.{AreFresh, AreLimited, IsAlike, CanClaim, CanClaimUp, HasUp, SpacesOf, AreClaimed, IsLaterBy, AreGiven, refusal_by, short_by, claimed_by, change_by, change_with}
 use Rattle.exb_plan.proofs.Needed.{groups_short_is}
 use Rattle.exb_plan.proofs.Fresh.{fresh_can, placed_fresh}
 use Rattle.exb_plan.proofs.Channels.{can_claim_up}
@@ -59,30 +58,35 @@ neither None b e = (refl, e)
 neither (Some x) b e = absurd (cc)
 
 -- ---- not refused
-pub ready_is : (t : Shape) (l : Limits) (old new : Bridge) (h : Held) → refusal_between t l old new ≡ None →
-    Ready (change_by t l h (goes_up t old new) (goes_down t old new) (sets_of t new) (fresh_sets t old new)) ≡ decision t l old new h
-unfolding decision change_of prepare_of cleanup_of fresh_groups
-ready_is t l old new h e = sym (ap (λ (o : Option Cause). decision_by o (change_of t l old new h)) e)
+pub decided : (t : Shape) (l : Limits) (old new : Bridge) (h : Held) → refusal_between t l old new ≡ None → Ready (change_of t l old new h) ≡ decision t l old new h
+unfolding decision
+decided t l old new h e = sym (ap (λ (o : Option Cause). decision_by o (change_of t l old new h)) e)
 
-pub ready_held : (t : Shape) (l : Limits) (old new : Bridge) (h : Held) → refusal_between t l old new ≡ None →
-    claimed_by t l h (goes_up t old new) (fresh_sets t old new) ≡ held_after t l old new h
-unfolding held_after claimed fresh_groups
-ready_held t l old new h e = sym (ap (λ (o : Option Cause). held_by_cause o h (claimed t l old new h)) e)
+pub decided_held : (t : Shape) (l : Limits) (old new : Bridge) (h : Held) → refusal_between t l old new ≡ None → claimed t l old new h ≡ held_after t l old new h
+unfolding held_after
+decided_held t l old new h e = sym (ap (λ (o : Option Cause). held_by_cause o h (claimed t l old new h)) e)
 
-pub ready_are : (t : Shape) (l : Limits) (old new : Bridge) (h : Held) (up down : Option ℕ) (kept fresh : List PortsAt) (x : Change) → up ≡ goes_up t old new → down ≡ goes_down t old new →
-    kept ≡ sets_of t new → fresh ≡ fresh_sets t old new → refusal_between t l old new ≡ None → x ≡ change_by t l h up down kept fresh → Ready x ≡ decision t l old new h
-ready_are t l old new h up down kept fresh x a b c d none is =
-    ap (λ (y : Change). Ready y) (is
-    ∙ (ap (λ (o : Option ℕ). change_by t l h o down kept fresh) a
-    ∙ (ap (λ (o : Option ℕ). change_by t l h (goes_up t old new) o kept fresh) b
-    ∙ (ap (λ (s : List PortsAt). change_by t l h (goes_up t old new) (goes_down t old new) s fresh) c
-    ∙ ap (λ (s : List PortsAt). change_by t l h (goes_up t old new) (goes_down t old new) (sets_of t new) s) d))))
-    ∙ ready_is t l old new h none
+change_is : (t : Shape) (l : Limits) (old new : Bridge) (h : Held) →
+    change_by t l h (goes_up t old new) (goes_down t old new) (sets_of t new) (fresh_sets t old new) ≡ change_of t l old new h
+unfolding change_of prepare_of cleanup_of fresh_groups
+change_is t l old new h = refl
 
-pub ready_held_are : (t : Shape) (l : Limits) (old new : Bridge) (h now : Held) (up : Option ℕ) (fresh : List PortsAt) → up ≡ goes_up t old new →
-    fresh ≡ fresh_sets t old new → refusal_between t l old new ≡ None → now ≡ claimed_by t l h up fresh → now ≡ held_after t l old new h
-ready_held_are t l old new h now up fresh a d none is =
-    is ∙ (ap (λ (o : Option ℕ). claimed_by t l h o fresh) a ∙ (ap (λ (s : List PortsAt). claimed_by t l h (goes_up t old new) s) d ∙ ready_held t l old new h none))
+claimed_is : (t : Shape) (l : Limits) (old new : Bridge) (h : Held) → claimed_by t l h (goes_up t old new) (fresh_sets t old new) ≡ claimed t l old new h
+unfolding claimed fresh_groups
+claimed_is t l old new h = refl
+
+pub changes_are : (t : Shape) (l : Limits) (old new : Bridge) (h : Held) (up down : Option ℕ) (gone : List Group) (fresh : List PortsAt) → up ≡ goes_up t old new → down ≡ goes_down t old new →
+    gone ≡ gone_groups t (sets_of t new) h → fresh ≡ fresh_sets t old new → change_with t l h up down gone fresh ≡ change_of t l old new h
+changes_are t l old new h up down gone fresh a b c d =
+    ap (λ (o : Option ℕ). change_with t l h o down gone fresh) a
+    ∙ (ap (λ (o : Option ℕ). change_with t l h (goes_up t old new) o gone fresh) b
+    ∙ (ap (λ (xs : List Group). change_with t l h (goes_up t old new) (goes_down t old new) xs fresh) c
+    ∙ (ap (λ (s : List PortsAt). change_by t l h (goes_up t old new) (goes_down t old new) (sets_of t new) s) d ∙ change_is t l old new h)))
+
+pub claims_are : (t : Shape) (l : Limits) (old new : Bridge) (h : Held) (up : Option ℕ) (fresh : List PortsAt) → up ≡ goes_up t old new → fresh ≡ fresh_sets t old new →
+    claimed_by t l h up fresh ≡ claimed t l old new h
+claims_are t l old new h up fresh a d =
+    ap (λ (o : Option ℕ). claimed_by t l h o fresh) a ∙ (ap (λ (s : List PortsAt). claimed_by t l h (goes_up t old new) s) d ∙ claimed_is t l old new h)
 
 pub none_short : (t : Shape) (valid : IsTree t) (l : Limits) (old new : Bridge) → refusal_between t l old new ≡ None →
     (channels_short t l old (trunk_of t (goes_up t old new)) ≡ None) × (short_by t l (sets_of t old) (fresh_sets t old new) ≡ None)

@@ -8,7 +8,7 @@ use Rattle.exb_plan.specs.Held.{held_by, group_in}
 use Rattle.exb_plan.specs.Working.{IsPlaced}
 use Rattle.exb_planning.specs.Counted.{count_at}
 use Rattle.exb_planning.specs.Recount.{parts_at, AreOwn}
-use Rattle.exb_planning.specs.Going.{is_left}
+use Rattle.exb_planning.specs.LostUses.{is_left}
 use Rattle.exb_planning.proofs.Recounting.{both_ways, one_at, none_at}
 
 some_cond : (b : Bool) → nat_lt 0 (cond b 1 0) ≡ true → b ≡ true

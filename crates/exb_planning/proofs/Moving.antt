@@ -23,7 +23,7 @@ use Rattle.exb_uses.proofs.InUse.{used_are_sets}
 use Rattle.exb_rows.specs.Parts.{has_ports}
 use Rattle.exb_planning.specs.Counted.{count_at, used_in, used_at, uses_at, IsCounted}
 use Rattle.exb_planning.specs.Recount.{parts_at, AreOwn, HavePlaces, AreRaised, AreLowered, AreEnough}
-use Rattle.exb_planning.specs.Going.{AreLeft}
+use Rattle.exb_planning.specs.LostUses.{AreLeft}
 use Rattle.exb_planning.proofs.Rows.{counted_alike}
 use Rattle.exb_planning.proofs.TouchedSets.{before_within, some_uses}
 

@@ -2,6 +2,6 @@ pub mod Counted
 pub mod TouchedSources
 pub mod Rising
 pub mod Recount
-pub mod Going
-pub mod Moved
-pub mod Decided
+pub mod LostUses
+pub mod Decisions
+pub mod TouchedSets

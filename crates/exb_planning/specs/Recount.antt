@@ -38,3 +38,10 @@ AreEnough v parts uses = (k g : ℕ) → has_space v k ≡ true → 4096 ≤ g �
 -- the groups whose sets stand among the parts have no use
 abbrev pub AreUnused : Spaces → List PortsAt → List (List ℕ) → Type 0
 AreUnused v parts uses = (k g : ℕ) → has_space v k ≡ true → 4096 ≤ g → 0 < parts_at (held_by v) parts k g → count_at uses k g ≡ 0
+
+-- the uses after a command, at the groups that there are before it: lowered by the parts before it, then raised by those after it
+pub record AreMoved (v : Spaces) (before come : List PortsAt) (old new : List (List ℕ)) : Type 0 where
+  pub less : List (List ℕ)
+  pub lowered : AreLowered v before old less
+  pub raised : AreRaised v come less new
+  pub rows : HaveRowsOf old new

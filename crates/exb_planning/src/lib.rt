@@ -4,8 +4,8 @@
 //! stand on.
 #![tactic(auto)]
 
-mod coming;
-mod going;
+pub mod group_uses;
+mod lost_uses;
 mod pending;
 pub mod planning;
 mod presence;
@@ -13,13 +13,13 @@ mod recount;
 pub mod rising;
 mod shortage;
 pub mod touched;
-pub mod uses;
+pub mod touched_sets;
 
+pub use group_uses::GroupUses;
 pub use planning::plan;
 pub use touched::{parts_after, parts_before};
-pub use uses::Uses;
 
 #[cfg(test)]
-mod touched_tests;
+mod group_uses_tests;
 #[cfg(test)]
-mod uses_tests;
+mod touched_tests;

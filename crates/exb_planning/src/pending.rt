@@ -14,6 +14,7 @@ use exb_model::vlan::{Kind, Vid};
 use exb_rows::View;
 
 /// The configuration after a command, seen through the one before it.
+#[derive(Clone, Copy)]
 pub(crate) struct Pending<'a> {
     /// The configuration before the command.
     pub(crate) config: &'a Config,

@@ -7,13 +7,13 @@ ghost use Rattle.exb_plan.specs.Working.{IsPlaced};
 ghost use Rattle.exb_planning.specs.Counted.{count_at};
 ghost use Rattle.exb_planning.specs.Recount.{AreOwn, HavePlaces, HaveRowsOf, AreRaised, AreLowered, AreEnough, AreUnused};
 
-use crate::uses::Uses;
+use crate::group_uses::GroupUses;
 use exb_model::memory::NoMemory;
 use exb_numbers::Spaces;
 use exb_rows::SetAt;
 
 // A use more of the group of a part's set, if it has one.
-fn raise(uses: &mut Uses, spaces: &Spaces, part: &SetAt) -> Result<(), NoMemory>
+fn raise(uses: &mut GroupUses, spaces: &Spaces, part: &SetAt) -> Result<(), NoMemory>
     requires placed { IsPlaced spaces.now (seen part.now) }
     requires own { AreOwn spaces.now }
     requires places { HavePlaces spaces.now uses.old }
@@ -29,7 +29,7 @@ fn raise(uses: &mut Uses, spaces: &Spaces, part: &SetAt) -> Result<(), NoMemory>
 }
 
 // A use less.
-fn lower(uses: &mut Uses, spaces: &Spaces, part: &SetAt)
+fn lower(uses: &mut GroupUses, spaces: &Spaces, part: &SetAt)
     requires placed { IsPlaced spaces.now (seen part.now) }
     requires own { AreOwn spaces.now }
     requires used { (g : ℕ) → group_in (held_by spaces.now) (part.now.bridge_port - 1) (seen part.now).ports ≡ Some g
@@ -43,7 +43,7 @@ fn lower(uses: &mut Uses, spaces: &Spaces, part: &SetAt)
 }
 
 /// Each group has a use more for each part that is its set.
-pub(crate) fn raise_all(uses: &mut Uses, spaces: &Spaces, parts: &[SetAt]) -> Result<(), NoMemory>
+pub(crate) fn raise_all(uses: &mut GroupUses, spaces: &Spaces, parts: &[SetAt]) -> Result<(), NoMemory>
     requires placed { All (λ s. IsPlaced spaces.now (seen s)) parts.now }
     requires own { AreOwn spaces.now }
     requires places { HavePlaces spaces.now uses.old }
@@ -57,7 +57,7 @@ pub(crate) fn raise_all(uses: &mut Uses, spaces: &Spaces, parts: &[SetAt]) -> Re
 }
 
 // A use more of the group of a part's set, if it has one, which has fewer than 2^63 uses.
-fn raise_few(uses: &mut Uses, spaces: &Spaces, part: &SetAt)
+fn raise_few(uses: &mut GroupUses, spaces: &Spaces, part: &SetAt)
     requires placed { IsPlaced spaces.now (seen part.now) }
     requires own { AreOwn spaces.now }
     requires places { HavePlaces spaces.now uses.old }
@@ -70,7 +70,7 @@ fn raise_few(uses: &mut Uses, spaces: &Spaces, part: &SetAt)
 }
 
 /// Each group has a use more for each part that is its set. None of those groups has a use before.
-pub(crate) fn raise_new(uses: &mut Uses, spaces: &Spaces, parts: &[SetAt])
+pub(crate) fn raise_new(uses: &mut GroupUses, spaces: &Spaces, parts: &[SetAt])
     requires placed { All (λ s. IsPlaced spaces.now (seen s)) parts.now }
     requires own { AreOwn spaces.now }
     requires places { HavePlaces spaces.now uses.old }
@@ -84,7 +84,7 @@ pub(crate) fn raise_new(uses: &mut Uses, spaces: &Spaces, parts: &[SetAt])
 }
 
 /// Each group has a use less for each part that is its set.
-pub(crate) fn lower_all(uses: &mut Uses, spaces: &Spaces, parts: &[SetAt])
+pub(crate) fn lower_all(uses: &mut GroupUses, spaces: &Spaces, parts: &[SetAt])
     requires placed { All (λ s. IsPlaced spaces.now (seen s)) parts.now }
     requires own { AreOwn spaces.now }
     requires enough { AreEnough spaces.now (map seen parts.now) uses.old }

@@ -7,7 +7,7 @@ ghost use Rattle.exb_rows.specs.Sets.{PortsAt, seen};
 ghost use Rattle.exb_plan.specs.Working.{AreLimited, how_many, is_at, short_by, short_at};
 ghost use Rattle.exb_planning.specs.Counted.{used_at};
 
-use crate::uses::Uses;
+use crate::group_uses::GroupUses;
 use exb_model::event::Cause;
 use exb_model::tree::Tree;
 use exb_numbers::Spaces;
@@ -29,7 +29,7 @@ fn count_at(sets: &[SetAt], bridge_port: u8) -> u64
 }
 
 // Why the groups of a cascade port of the bridge don't suffice for those in use and fresh sets, if they don't.
-fn groups_short_at(spaces: &Spaces, uses: &Uses, fresh: &[SetAt], bridge_port: u8) -> Option<Cause>
+fn groups_short_at(spaces: &Spaces, uses: &GroupUses, fresh: &[SetAt], bridge_port: u8) -> Option<Cause>
     requires from1 { 1 ≤ bridge_port }
     requires cascade { has_space spaces.now (bridge_port - 1) ≡ true }
     ensures { (l : Limits) → (had : List PortsAt) → AreLimited l.groups spaces.now → used_at uses.now (bridge_port - 1) ≡ how_many (is_at bridge_port) had
@@ -49,7 +49,7 @@ fn groups_short_at(spaces: &Spaces, uses: &Uses, fresh: &[SetAt], bridge_port: u
 pub(crate) fn groups_short(
     tree: &Tree,
     spaces: &Spaces,
-    uses: &Uses,
+    uses: &GroupUses,
     fresh: &[SetAt],
 ) -> Option<Cause>
     requires { (k : ℕ) → k < 64 → is_cascade tree.now k ≡ true → has_space spaces.now k ≡ true }

@@ -5,7 +5,7 @@ pub mod RowsCover
 pub mod RowLists
 pub mod Carrying
 pub mod SetPorts
-pub mod Trunks
+pub mod BranchLemmas
 pub mod SetFolds
 pub mod SpaceSets
 pub mod PartLists

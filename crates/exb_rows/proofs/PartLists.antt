@@ -21,7 +21,7 @@ use Rattle.exb_rows.specs.Branches.{AreBranches, IsPart, IsAmong}
 use Rattle.exb_rows.specs.Parts.{has_ports, some_parts, Adds}
 use Rattle.exb_rows.specs.Sets.{PortsAt, parts_of, parts_below, seen}
 use Rattle.exb_rows.proofs.SetPorts.{ports_are, ports_by}
-use Rattle.exb_rows.proofs.Trunks.{under_is}
+use Rattle.exb_rows.proofs.BranchLemmas.{under_is}
 
 -- ---- one set
 pub none_more : (xs : List PortsAt) (s : PortsAt) → is_empty_set s.ports ≡ true → xs ≡ xs ++ filter has_ports (s ∷ [])

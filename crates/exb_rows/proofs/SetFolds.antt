@@ -28,6 +28,9 @@ list_any-map p f [] = refl
 list_any-map p f (x ∷ xs) = ap (λ b. p (f x) || b) (list_any-map p f xs)
 
 -- ---- several sets
+put_some : (sets : List PortsAt) (x : PortsAt) → is_empty_set x.ports ≡ false → with_set_at sets x ≡ cond (list_any (is_same_set x) sets) sets (sets ++ x ∷ [])
+put_some sets x h = rw h refl
+
 -- those without a port are left out anyway
 fold_some : (sets xs : List PortsAt) → fold with_set_at sets (filter has_ports xs) ≡ fold with_set_at sets xs
 fold_some sets [] = refl
@@ -36,7 +39,7 @@ fold_some sets (x ∷ xs) = by_test (is_empty_set x.ports) refl (λ l. fold_some
     by_test : (e : Bool) → is_empty_set x.ports ≡ e → ((l : List PortsAt) → fold with_set_at l (filter has_ports xs) ≡ fold with_set_at l xs) →
         fold with_set_at sets (filter has_ports (x ∷ xs)) ≡ fold with_set_at (with_set_at sets x) xs
     by_test true h rest = rw h (rest sets)
-    by_test false h rest = rw h (rest (cond (list_any (is_same_set x) sets) sets (sets ++ x ∷ [])))
+    by_test false h rest = rw h (rest (with_set_at sets x) ∙ ap (λ (l : List PortsAt). fold with_set_at l xs) (put_some sets x h))
 
 -- the parts of sources, gathered first
 pub gathered : (t : Shape) (b : Bridge) (xs : List Source) (none parts : List SetAt) (old : List PortsAt) → none ≡ [] → Adds t b xs none parts →

@@ -2,22 +2,15 @@ use Rattle.std.proofs.Common.{◌∙◌, map, refl, sym, ap}
 use Rattle.exb_model.specs.Configuration.{after}
 use Rattle.exb_config.specs.Tables.{bridge_of}
 use Rattle.exb_rows.specs.Sets.{seen, sets_of}
-use Rattle.exb_uses.specs.Touched.{parts_after}
 use Rattle.exb_plan.specs.Held.{held_by}
-use Rattle.exb_plan.specs.Between.{goes_down}
+use Rattle.exb_plan.specs.declared.change.Decision.TheVariants.{Ready}
 use Rattle.exb_plan.proofs.Channels.{any_extended}
-use Rattle.exb_plan.proofs.WholePlans.{spaces_of, refusal_are, refused_is, refused_held, ready_are, ready_held_are}
-use Rattle.exb_planning.proofs.TouchedSets.{after_within, some_below, parts_placed, fresh_made}
+use Rattle.exb_plan.proofs.WholePlans.{spaces_of, refusal_are, refused_is, refused_held, decided, decided_held}
 use Rattle.exb_planning.proofs.Moving.{used_sets}
 use Rattle.exb_planning.proofs.planning.plan.Goals as goal
 
-pub without_group-requires : goal.without_group-requires
-without_group-requires c =
-    let t = c.args.tree.now in
-    let b = bridge_of c.args.config.now in
-    let v = c.args.spaces.now in
-    parts_placed t v (spaces_of t c.requires.limits.0 v c.requires.limits.1) c.as_slice.result.now _ (ap (map seen) c.as_slice.ensures.value ∙ c.in_ok-later.ensures)
-    (some_below t c.is_tree.ensures (after c.args.command.now b) (parts_after t c.args.command.now b) (after_within t c.args.command.now b))
+pub touched_sets-requires-clause-spaces : goal.touched_sets-requires-clause-spaces
+touched_sets-requires-clause-spaces c = spaces_of c.args.tree.now c.requires.limits.0 c.args.spaces.now c.requires.limits.1
 
 pub refusal-requires-clause-up : goal.refusal-requires-clause-up
 refusal-requires-clause-up c =
@@ -33,49 +26,26 @@ returns-in-Some-clause-decision c l has =
     let t = c.args.tree.now in
     let b = bridge_of c.args.config.now in
     let d = after c.args.command.now b in
-    let h = held_by c.args.spaces.now in
-    let valid = c.is_tree.ensures in
-    let made = fresh_made t valid c.args.command.now b h c.requires.held (map seen c.in_ok-fresh.fresh.items) (map seen c.as_slice-2.result.now) (map seen c.as_slice.result.now) c.in_ok-fresh.ensures
-    (ap (map seen) c.as_slice-2.ensures.value ∙ c.in_ok-unfound.ensures) (ap (map seen) c.as_slice.ensures.value ∙ c.in_ok-later.ensures) in
-    let fresh = ap (map seen) c.as_slice-3.ensures.value ∙ made in
-    let is = c.refusal.ensures l has ∙ refusal_are t valid l b d c.goes_up-up.result (sets_of t b) (map seen c.as_slice-3.result.now) c.goes_up-up.ensures refl fresh in
-    refused_is t l b d h c.in-Some.cause (sym is ∙ c.in-Some.is)
+    let fresh = ap (map seen) c.as_slice-fresh.ensures.value ∙ c.in_ok-touched.ensures.fresh in
+    let is = c.refusal.ensures l has ∙ refusal_are t c.is_tree.ensures l b d c.goes_up-up.result (sets_of t b) (map seen c.as_slice-fresh.result.now) c.goes_up-up.ensures refl fresh in
+    refused_is t l b d (held_by c.args.spaces.now) c.in-Some.cause (sym is ∙ c.in-Some.is)
 
 pub returns-in-Some-clause-claimed : goal.returns-in-Some-clause-claimed
 returns-in-Some-clause-claimed c l has =
     let t = c.args.tree.now in
     let b = bridge_of c.args.config.now in
     let d = after c.args.command.now b in
-    let h = held_by c.args.spaces.now in
-    let valid = c.is_tree.ensures in
-    let made = fresh_made t valid c.args.command.now b h c.requires.held (map seen c.in_ok-fresh.fresh.items) (map seen c.as_slice-2.result.now) (map seen c.as_slice.result.now) c.in_ok-fresh.ensures
-    (ap (map seen) c.as_slice-2.ensures.value ∙ c.in_ok-unfound.ensures) (ap (map seen) c.as_slice.ensures.value ∙ c.in_ok-later.ensures) in
-    let fresh = ap (map seen) c.as_slice-3.ensures.value ∙ made in
-    let is = c.refusal.ensures l has ∙ refusal_are t valid l b d c.goes_up-up.result (sets_of t b) (map seen c.as_slice-3.result.now) c.goes_up-up.ensures refl fresh in
-    refused_held t l b d h c.in-Some.cause (sym is ∙ c.in-Some.is)
-
-pub ready-requires-clause-fresh : goal.ready-requires-clause-fresh
-ready-requires-clause-fresh c =
-    let t = c.args.tree.now in
-    let b = bridge_of c.args.config.now in
-    let d = after c.args.command.now b in
-    let h = held_by c.args.spaces.now in
-    let valid = c.is_tree.ensures in
-    let made = fresh_made t valid c.args.command.now b h c.requires.held (map seen c.in_ok-fresh.fresh.items) (map seen c.as_slice-2.result.now) (map seen c.as_slice.result.now) c.in_ok-fresh.ensures
-    (ap (map seen) c.as_slice-2.ensures.value ∙ c.in_ok-unfound.ensures) (ap (map seen) c.as_slice.ensures.value ∙ c.in_ok-later.ensures) in
-    ap (map seen) c.as_slice-7.ensures.value ∙ made
+    let fresh = ap (map seen) c.as_slice-fresh.ensures.value ∙ c.in_ok-touched.ensures.fresh in
+    let is = c.refusal.ensures l has ∙ refusal_are t c.is_tree.ensures l b d c.goes_up-up.result (sets_of t b) (map seen c.as_slice-fresh.result.now) c.goes_up-up.ensures refl fresh in
+    refused_held t l b d (held_by c.args.spaces.now) c.in-Some.cause (sym is ∙ c.in-Some.is)
 
 pub ready-requires-clause-fits : goal.ready-requires-clause-fits
 ready-requires-clause-fits c l has =
     let t = c.args.tree.now in
     let b = bridge_of c.args.config.now in
     let d = after c.args.command.now b in
-    let h = held_by c.args.spaces.now in
-    let valid = c.is_tree.ensures in
-    let made = fresh_made t valid c.args.command.now b h c.requires.held (map seen c.in_ok-fresh.fresh.items) (map seen c.as_slice-2.result.now) (map seen c.as_slice.result.now) c.in_ok-fresh.ensures
-    (ap (map seen) c.as_slice-2.ensures.value ∙ c.in_ok-unfound.ensures) (ap (map seen) c.as_slice.ensures.value ∙ c.in_ok-later.ensures) in
-    let fresh = ap (map seen) c.as_slice-3.ensures.value ∙ made in
-    let is = c.refusal.ensures l has ∙ refusal_are t valid l b d c.goes_up-up.result (sets_of t b) (map seen c.as_slice-3.result.now) c.goes_up-up.ensures refl fresh in
+    let fresh = ap (map seen) c.as_slice-fresh.ensures.value ∙ c.in_ok-touched.ensures.fresh in
+    let is = c.refusal.ensures l has ∙ refusal_are t c.is_tree.ensures l b d c.goes_up-up.result (sets_of t b) (map seen c.as_slice-fresh.result.now) c.goes_up-up.ensures refl fresh in
     sym is ∙ c.in_default.is
 
 pub returns-clause-decision : goal.returns-clause-decision
@@ -83,25 +53,15 @@ returns-clause-decision c l has =
     let t = c.args.tree.now in
     let b = bridge_of c.args.config.now in
     let d = after c.args.command.now b in
-    let h = held_by c.args.spaces.now in
-    let valid = c.is_tree.ensures in
-    let made = fresh_made t valid c.args.command.now b h c.requires.held (map seen c.in_ok-fresh.fresh.items) (map seen c.as_slice-2.result.now) (map seen c.as_slice.result.now) c.in_ok-fresh.ensures
-    (ap (map seen) c.as_slice-2.ensures.value ∙ c.in_ok-unfound.ensures) (ap (map seen) c.as_slice.ensures.value ∙ c.in_ok-later.ensures) in
-    let fresh = ap (map seen) c.as_slice-3.ensures.value ∙ made in
-    let is = c.refusal.ensures l has ∙ refusal_are t valid l b d c.goes_up-up.result (sets_of t b) (map seen c.as_slice-3.result.now) c.goes_up-up.ensures refl fresh in
-    ready_are t l b d h c.goes_up-up.result (goes_down t b d) (sets_of t d) (map seen c.as_slice-7.result.now) c.in_ok-change.change c.goes_up-up.ensures refl refl
-    (ap (map seen) c.as_slice-7.ensures.value ∙ made) (sym is ∙ c.in_default.is) (c.in_ok-change.ensures.change l has)
+    let fresh = ap (map seen) c.as_slice-fresh.ensures.value ∙ c.in_ok-touched.ensures.fresh in
+    let is = c.refusal.ensures l has ∙ refusal_are t c.is_tree.ensures l b d c.goes_up-up.result (sets_of t b) (map seen c.as_slice-fresh.result.now) c.goes_up-up.ensures refl fresh in
+    ap Ready (c.in_ok-change.ensures.change l has) ∙ decided t l b d (held_by c.args.spaces.now) (sym is ∙ c.in_default.is)
 
 pub returns-clause-claimed : goal.returns-clause-claimed
 returns-clause-claimed c l has =
     let t = c.args.tree.now in
     let b = bridge_of c.args.config.now in
     let d = after c.args.command.now b in
-    let h = held_by c.args.spaces.now in
-    let valid = c.is_tree.ensures in
-    let made = fresh_made t valid c.args.command.now b h c.requires.held (map seen c.in_ok-fresh.fresh.items) (map seen c.as_slice-2.result.now) (map seen c.as_slice.result.now) c.in_ok-fresh.ensures
-    (ap (map seen) c.as_slice-2.ensures.value ∙ c.in_ok-unfound.ensures) (ap (map seen) c.as_slice.ensures.value ∙ c.in_ok-later.ensures) in
-    let fresh = ap (map seen) c.as_slice-3.ensures.value ∙ made in
-    let is = c.refusal.ensures l has ∙ refusal_are t valid l b d c.goes_up-up.result (sets_of t b) (map seen c.as_slice-3.result.now) c.goes_up-up.ensures refl fresh in
-    ready_held_are t l b d h (held_by c.ready.new.spaces) c.goes_up-up.result (map seen c.as_slice-7.result.now) c.goes_up-up.ensures
-    (ap (map seen) c.as_slice-7.ensures.value ∙ made) (sym is ∙ c.in_default.is) (c.in_ok-change.ensures.held l has)
+    let fresh = ap (map seen) c.as_slice-fresh.ensures.value ∙ c.in_ok-touched.ensures.fresh in
+    let is = c.refusal.ensures l has ∙ refusal_are t c.is_tree.ensures l b d c.goes_up-up.result (sets_of t b) (map seen c.as_slice-fresh.result.now) c.goes_up-up.ensures refl fresh in
+    c.in_ok-change.ensures.held l has ∙ decided_held t l b d (held_by c.args.spaces.now) (sym is ∙ c.in_default.is)

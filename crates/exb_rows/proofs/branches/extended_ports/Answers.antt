@@ -1,5 +1,5 @@
 use Rattle.std.proofs.Common.{◌∙◌, arith}
-use Rattle.exb_rows.proofs.Trunks.{all_extended}
+use Rattle.exb_rows.proofs.BranchLemmas.{all_extended}
 use Rattle.exb_rows.proofs.branches.extended_ports.Goals as goal
 
 pub returns : goal.returns

@@ -15,7 +15,7 @@ pub loop-number-preserved : goal.loop-number-preserved
 loop-number-preserved c t branches =
     let b = bridge_of c.args.config.now in
     let n = c.loop-number.number - 1 in
-    let old = map seen c.args.sets.now.items in
+    let old = map seen c.args.sets.now.keys in
     let now = map seen c.loop-number.sets.keys in
     let v = c.unwrap-vid.result in
     let f = λ (u : ℕ). both_kinds u (λ q. true) in
@@ -35,7 +35,7 @@ loop-number-preserved c t branches =
 pub returns : goal.returns
 returns c t branches =
     let b = bridge_of c.args.config.now in
-    let old = map seen c.args.sets.now.items in
+    let old = map seen c.args.sets.now.keys in
     let f = λ (u : ℕ). both_kinds u (λ q. true) in
     let last : c.loop-number.number - 1 ≡ 4094 = omega (arith, c.loop-number.auto.number-end, c.loop-number-test.false) in
     c.loop-number.invariant t branches
