@@ -12,3 +12,4 @@ pub mod TreeOrder
 pub mod TreeHung
 pub mod TreeCovered
 pub mod Validity
+pub mod FrameKinds
