@@ -1,10 +1,9 @@
 //! The configuration.
-ghost use Rattle.std.specs.Prelude.{◌≡◌, ℕ, ◌&&◌, fold, slice_get, option_map, IfOk, OnOk, OnErr};
+ghost use Rattle.std.specs.Prelude.{◌≡◌, ℕ, ◌&&◌, slice_get, option_map, IfOk, OnOk, OnErr};
 ghost use Rattle.exb_model.specs.Ports.{port_in};
 ghost use Rattle.exb_model.specs.Configuration.{Bridge, after, empty_bridge, is_known};
 ghost use Rattle.exb_model.specs.Targets.{static_for};
 ghost use Rattle.exb_model.specs.Refusals.{is_kind};
-ghost use Rattle.exb_model.specs.Setup.{shape_of, start_of};
 ghost use Rattle.exb_config.specs.Pvids.{HasPvids, IsVlan};
 ghost use Rattle.exb_config.specs.Tables.{bridge_of};
 
@@ -18,8 +17,6 @@ use exb_model::memory::NoMemory;
 use exb_model::port::PortId;
 use exb_model::port_set::PortSet;
 use exb_model::rules::{Accept, PortRule, StaticAt};
-use exb_model::setup::Setup;
-use exb_model::tree::Tree;
 use exb_model::vlan::{Kind, Vid};
 use std::alloc::Global;
 use std::marker::Model;
@@ -76,19 +73,6 @@ impl Config {
         })
     }
 
-    /// The configuration with which the bridge of a setup begins: the bridge's own external ports are present,
-    /// and the commands of the start are done.
-    #[tactic(auto, unfolding(exb_model::specs::Setup::start_of))]
-    pub fn first(alloc: Global, tree: &Tree, setup: &Setup) -> Result<Config, NoMemory>
-        requires { tree.now ≡ shape_of setup.now }
-        ensures config { IfOk result (λ made. bridge_of made ≡ start_of setup.now) }
-        ensures pvids { IfOk result (λ made. HasPvids (bridge_of made)) }
-    {
-        let mut config = Config::new(alloc, &tree.local_ports())?;
-        config.apply_all(setup.start.as_slice())?;
-        Ok(config)
-    }
-
     /// Does a command. After `NoMemory` the configuration is unchanged. The PVIDs stay VLANs.
     pub fn apply(&mut self, command: &Command) -> Result<(), NoMemory>
         ensures ok { OnOk result (bridge_of self.new ≡ after command.now (bridge_of self.old)) }
@@ -97,17 +81,6 @@ impl Config {
     {
         names_vlan(command);
         self.change(command)
-    }
-
-    /// Does commands in order.
-    fn apply_all(&mut self, commands: &[Command]) -> Result<(), NoMemory>
-        ensures config { OnOk result (bridge_of self.new ≡ fold (λ k c. after c k) (bridge_of self.old) commands.now) }
-        ensures pvids { HasPvids (bridge_of self.old) → HasPvids (bridge_of self.new) }
-    {
-        for command in commands {
-            self.apply(command)?;
-        }
-        Ok(())
     }
 
     /// Does a command. After `NoMemory` the configuration is unchanged.
