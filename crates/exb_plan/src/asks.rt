@@ -137,7 +137,7 @@ fn put_channel(
 ) -> Result<(), NoMemory>
     ensures { OnOk result (asks.new ≡ asks.old ++ channel_asks step tree.now port channel) }
 {
-    let own = (port.number() / 64) as u8;
+    let own = port.device();
     let mut set = PortSet::empty();
     set.insert(port);
     let all = rows(alloc, tree, &set)?;
@@ -152,7 +152,7 @@ fn put_channel(
 fn own_number(port: PortId) -> u8
     ensures { result ≡ port_number port }
 {
-    (port.number() % 64) as u8 + 1
+    port.place() + 1
 }
 
 // Asks the extender of a port.
@@ -160,7 +160,7 @@ fn put_own(asks: &mut List<AskAt>, port: PortId, request: Request) -> Result<(),
     ensures { OnOk result (asks.new ≡ asks.old ++ ask (device port) request ∷ []) }
 {
     asks.push(AskAt {
-        extender: (port.number() / 64) as u8,
+        extender: port.device(),
         request,
     })
 }

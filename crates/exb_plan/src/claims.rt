@@ -75,7 +75,7 @@ pub(crate) fn claim_channel(spaces: &mut Spaces, tree: &Tree, port: PortId) -> u
     ensures free { (held_by spaces.old).port (trunk tree.now (port / 64)) result ≡ None }
     ensures alike { IsAlike spaces.old spaces.new }
 {
-    let trunk = tree.trunk((port.number() / 64) as u8);
+    let trunk = tree.trunk(port.device());
     spaces.channels_mut(trunk).claim(port).unwrap()
 }
 
@@ -87,6 +87,6 @@ pub(crate) fn free_channel(spaces: &mut Spaces, tree: &Tree, port: PortId, chann
     ensures held { held_by spaces.new ≡ free_port_of tree.now port channel (held_by spaces.old) }
     ensures alike { IsAlike spaces.old spaces.new }
 {
-    let trunk = tree.trunk((port.number() / 64) as u8);
+    let trunk = tree.trunk(port.device());
     spaces.channels_mut(trunk).release(channel);
 }

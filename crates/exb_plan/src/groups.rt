@@ -1,10 +1,9 @@
 //! Groups with their sets.
-ghost use Rattle.std.specs.Prelude.{◌≡◌, ◌-◌, ◌≤◌, true};
+ghost use Rattle.std.specs.Prelude.{◌≡◌, ◌-◌, ◌≤◌};
 ghost use Rattle.exb_model.specs.Tree.{is_cascade};
 
 use exb_model::port::PortId;
 use exb_model::port_set::PortSet;
-use exb_model::role::Role;
 use exb_model::tree::Tree;
 
 /// A group with its set, in the space of a bridge port, which is numbered from 1.
@@ -24,9 +23,5 @@ pub fn is_cascade(tree: &Tree, bridge_port: u8) -> bool
     requires to64 { bridge_port ≤ 64 }
     ensures { result ≡ is_cascade tree.now (bridge_port - 1) }
 {
-    tree.is_tree();
-    match tree.role(PortId::new(bridge_port as u16 - 1).unwrap()) {
-        Role::Cascade { .. } => true,
-        _ => false,
-    }
+    tree.is_cascade(PortId::at(0, bridge_port - 1))
 }

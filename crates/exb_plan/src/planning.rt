@@ -28,7 +28,7 @@ fn own_channel(tree: &Tree, spaces: &Spaces, down: &Option<PortId>) -> u16
     tree.is_tree();
     match down {
         Some(port) => {
-            let bridge_port = tree.trunk((port.number() / 64) as u8);
+            let bridge_port = tree.trunk(port.device());
             spaces.channels(bridge_port).of(*port).unwrap_or(0)
         }
         None => 0,
@@ -48,7 +48,7 @@ fn freed_channel(
     let mut channels = List::new(alloc);
     if let Some(port) = down {
         channels.push(Number {
-            bridge_port: tree.trunk((port.number() / 64) as u8),
+            bridge_port: tree.trunk(port.device()),
             number: channel,
         })?;
     }

@@ -9,27 +9,10 @@ ghost use Rattle.exb_plan.specs.Held.{HasSpaces};
 
 use exb_config::Config;
 use exb_model::event::Cause;
-use exb_model::port::PortId;
+use exb_model::port::{PORTS, PortId};
 use exb_model::role::Role;
 use exb_model::tree::Tree;
 use exb_numbers::Spaces;
-
-/// The number of ports there can be.
-const PORTS: u16 = 4160;
-
-// Whether a port is an external port of an extender.
-fn is_extended(tree: &Tree, port: PortId) -> bool
-    ensures { result ≡ is_extended tree.now port }
-{
-    tree.is_tree();
-    if port.number() < 64 {
-        return false;
-    }
-    match tree.role(port) {
-        Role::External => true,
-        _ => false,
-    }
-}
 
 // Whether a port is a cascade port of an extender under a bridge port, which is numbered from 1.
 fn is_cascade_under(tree: &Tree, bridge_port: u8, port: PortId) -> bool
@@ -37,7 +20,7 @@ fn is_cascade_under(tree: &Tree, bridge_port: u8, port: PortId) -> bool
     ensures { result ≡ is_cascade_under tree.now (bridge_port - 1) port }
 {
     tree.is_tree();
-    let extender = (port.number() / 64) as u8;
+    let extender = port.device();
     if extender == 0 {
         return false;
     }
@@ -52,10 +35,10 @@ fn is_under(tree: &Tree, bridge_port: u8, port: PortId) -> bool
     requires { 1 ≤ bridge_port }
     ensures { result ≡ is_under tree.now (bridge_port - 1) port }
 {
-    if !is_extended(tree, port) {
+    if !tree.is_extended(port) {
         return false;
     }
-    tree.trunk((port.number() / 64) as u8) == bridge_port
+    tree.trunk(port.device()) == bridge_port
 }
 
 // How many cascade ports the extenders under a bridge port have.
@@ -105,7 +88,7 @@ pub fn channels_short(tree: &Tree, spaces: &Spaces, config: &Config, port: PortI
     ensures { (l : Limits) → HasSpaces tree.now l spaces.now
         → result ≡ channels_short tree.now l (bridge_of config.now) (Some (trunk tree.now (port / 64))) }
 {
-    let trunk = tree.trunk((port.number() / 64) as u8);
+    let trunk = tree.trunk(port.device());
     let needed = cascades_under(tree, trunk) as u64 + present_under(tree, config, trunk) as u64 + 1;
     let limit = spaces.channels(trunk).limit() as u32;
     if needed > limit as u64 {

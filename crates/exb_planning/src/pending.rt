@@ -6,7 +6,6 @@ ghost use Rattle.exb_model.specs.Refusals.{is_kind};
 ghost use Rattle.exb_config.specs.Tables.{bridge_of};
 
 use exb_config::Config;
-use exb_config::port_sets::except;
 use exb_model::command::Command;
 use exb_model::port::PortId;
 use exb_model::port_set::PortSet;
@@ -50,7 +49,7 @@ fn in_lists(among: &PortSet, kind: Kind, tagged: &PortSet, untagged: &PortSet) -
     ensures { (q : ℕ) → port_in result q ≡ (port_in among.now q && is_kind kind (kind_in tagged.now untagged.now q)) }
 {
     match kind {
-        Kind::Tagged => except(&among.both(tagged), untagged),
+        Kind::Tagged => among.both(tagged).except(untagged),
         Kind::Untagged => among.both(untagged),
     }
 }

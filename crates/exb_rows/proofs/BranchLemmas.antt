@@ -1,53 +1,8 @@
--- Trunks and extended ports, as they are gathered from a tree.
-use Rattle.std.proofs.Common.{◌≡◌, ℕ, ◌+◌, ◌*◌, ◌/◌, ◌%◌, ◌<◌, ◌≤◌, ◌==◌, ◌&&◌, Bool, true, false, not, cond, List, length, slice_index, slice_set, refl, sym, ◌∙◌, ap, inl, inr, arith, nat_lt, nat_le}
-use Rattle.std.proofs.lemmas.Bool.{cases_eq, cases_lt, cases_Bool, lt-leb, lt-ltb, le-ltb, ltb-true, leb-true, and_parts, eq-eqb, ne_eqb}
-use Rattle.std.proofs.lemmas.List.{get_or_past, get_or-set_same, get_or-set_other}
-use Rattle.exb_model.specs.declared.role.Role.{Role}
-use Rattle.exb_model.specs.declared.role.Role.TheVariants as role
-use Rattle.exb_model.specs.Tree.{Shape, device, IsTree, HasRole, is_port, is_extender, is_cascade, is_extended, is_under, trunk}
-use Rattle.exb_rows.proofs.Ways.{hung_cascade}
-
--- an extender's first port is there where it is
-pub first_port : (t : Shape) (n : ℕ) → is_port t (64 * n) ≡ nat_lt 0 (slice_index t.ports n)
-first_port t n =
-    let place : 64 * n % 64 ≡ 0 = omega arith in
-    let at : 64 * n / 64 ≡ n = omega arith in
-    rw (place, at) refl
-
--- a port with another role is no external one
-pub not_extended : (t : Shape) (p : ℕ) (r : Role) → IsTree t → HasRole t p r → (r ≡ role.External → ⊥) → is_extended t p ≡ false
-not_extended t p role.Unknown valid h other = rw h (none (nat_le 64 p))
-  where
-    none : (b : Bool) → (b && false) ≡ false
-    none true = refl
-    none false = refl
-not_extended t p role.External valid h other = absurd (other refl)
-not_extended t p (role.Cascade n) valid h other = rw (h.0, hung_cascade t valid n p h.1) (none (nat_le 64 p))
-  where
-    none : (b : Bool) → (b && false) ≡ false
-    none true = refl
-    none false = refl
-
-pub local_not_extended : (t : Shape) (p : ℕ) → p < 64 → is_extended t p ≡ false
-local_not_extended t p h = rw (lt-leb 64 p h) refl
-
--- no extended port from 4,160 on
-pub past_extended : (t : Shape) (q : ℕ) → IsTree t → 4160 ≤ q → is_extended t q ≡ false
-past_extended t q valid h =
-    let none : slice_index t.ports (device q) ≡ 0 = get_or_past t.ports (device q) 0 (omega (arith, valid.sized)) in
-    let known : is_port t q ≡ false = rw none (le-ltb (q % 64) 0 (omega arith)) in
-    rw known (last (nat_le 64 q))
-  where
-    last : (b : Bool) → (b && false) ≡ false
-    last true = refl
-    last false = refl
-
-pub all_extended : (t : Shape) (n q : ℕ) → IsTree t → 4160 ≤ n → (nat_lt q n && is_extended t q) ≡ is_extended t q
-all_extended t n q valid h =
-    elim (cases_lt q n) [
-      | inl l ↦ rw (lt-ltb q n l) refl
-      | inr g ↦ rw (le-ltb q n g) (sym (past_extended t q valid (omega arith)))
-    ]
+-- The trunks of extenders, and the ports below a bridge port.
+use Rattle.std.proofs.Common.{◌≡◌, ℕ, ◌+◌, ◌/◌, ◌%◌, ◌<◌, ◌≤◌, ◌==◌, ◌&&◌, Bool, true, false, not, cond, List, length, slice_index, slice_set, refl, ◌∙◌, ap, inl, inr, arith, nat_le}
+use Rattle.std.proofs.lemmas.Bool.{cases_eq, cases_Bool, lt-ltb, ltb-true, leb-true, and_parts, eq-eqb, ne_eqb}
+use Rattle.std.proofs.lemmas.List.{get_or-set_same, get_or-set_other}
+use Rattle.exb_model.specs.Tree.{Shape, is_port, is_extender, is_cascade, is_extended, is_under, trunk}
 
 -- ---- one trunk more
 pub trunks-in : (t : Shape) (trunks : List ℕ) (k x : ℕ) → length trunks ≡ 65 → k < 65 →

@@ -1,13 +1,12 @@
 //! The branches of a tree below the bridge's ports, out of which the sets of a configuration are cut.
 ghost use Rattle.std.specs.Prelude.{◌≡◌, ◌≢◌, ◌<◌, ◌==◌, ◌&&◌, ◌/◌, ℕ, true, false, slice_index, slice_index_or};
 ghost use Rattle.exb_model.specs.Ports.{port_in};
-ghost use Rattle.exb_model.specs.Tree.{is_extender, is_extended};
+ghost use Rattle.exb_model.specs.Tree.{is_extender};
 ghost use Rattle.exb_rows.specs.Branches.{AreTrunks, AreBranches};
 
 use crate::view::View;
-use exb_model::port::PortId;
+use exb_model::port::DEVICES;
 use exb_model::port_set::PortSet;
-use exb_model::role::Role;
 use exb_model::tree::Tree;
 
 /// The extended ports of a tree by the bridge port above them, and the isolated ports of a configuration.
@@ -19,60 +18,17 @@ pub struct Branches {
     pub isolated: PortSet,
 }
 
-/// Whether there is an extender of that number.
-fn is_extender(tree: &Tree, number: u8) -> bool
-    requires { number < 65 }
-    ensures { result ≡ is_extender tree.now number }
-{
-    if number == 0 {
-        return false;
-    }
-    match tree.role(PortId::new(64 * number as u16).unwrap()) {
-        Role::Unknown => false,
-        _ => true,
-    }
-}
-
 /// The bridge port above each extender, from 1; 0 where there is no extender.
 fn trunks_of(tree: &Tree) -> [u8; 65]
     ensures { AreTrunks tree.now result }
 {
     let mut trunks = [0; 65];
-    for number in 0..65u8 {
-        if is_extender(tree, number) {
+    for number in 0..DEVICES {
+        if tree.is_extender(number) {
             trunks[number as usize] = tree.trunk(number);
         }
     }
     trunks
-}
-
-/// Whether a port is an external port of an extender.
-pub fn is_extended(tree: &Tree, port: PortId) -> bool
-    ensures { result ≡ is_extended tree.now port }
-{
-    tree.is_tree();
-    if port.number() < 64 {
-        return false;
-    }
-    match tree.role(port) {
-        Role::External => true,
-        _ => false,
-    }
-}
-
-/// The external ports of extenders.
-fn extended_ports(tree: &Tree) -> PortSet
-    ensures { (q : ℕ) → port_in result q ≡ is_extended tree.now q }
-{
-    tree.is_tree();
-    let mut extended = PortSet::empty();
-    for number in 0..4160u16 {
-        let port = PortId::new(number).unwrap();
-        if is_extended(tree, port) {
-            extended.insert(port);
-        }
-    }
-    extended
 }
 
 // Marks a bridge port, where a word has a port.
@@ -93,7 +49,7 @@ impl Branches {
     {
         Branches {
             trunks: trunks_of(tree),
-            extended: extended_ports(tree),
+            extended: tree.extended_ports(),
             isolated: view.isolated(),
         }
     }

@@ -10,7 +10,6 @@ ghost use Rattle.exb_rows.specs.Sets.{with_set_at, parts_below, sets_of, seen};
 use crate::branches::Branches;
 use crate::parts::{SetAt, put_kinds};
 use exb_config::Config;
-use exb_config::port_sets::is_empty;
 use exb_model::memory::NoMemory;
 use exb_model::port_set::PortSet;
 use exb_model::tree::Tree;
@@ -22,7 +21,7 @@ use std::alloc::Global;
 fn put_once(sets: &mut IndexSet<SetAt>, set: &SetAt) -> Result<(), NoMemory>
     ensures { OnOk result (map seen sets.new.keys ≡ with_set_at (map seen sets.old.keys) (seen set.now)) }
 {
-    if is_empty(&set.set) {
+    if set.set.is_empty() {
         return Ok(());
     }
     sets.insert(*set)?;

@@ -11,7 +11,6 @@ ghost use Rattle.exb_rows.specs.Sets.{parts_of, seen};
 
 use crate::branches::Branches;
 use crate::view::View;
-use exb_config::port_sets::{except, is_empty};
 use exb_model::memory::NoMemory;
 use exb_model::port_set::PortSet;
 use exb_model::vlan::{Kind, Vid};
@@ -44,7 +43,7 @@ impl Hash for SetAt {
 fn put(parts: &mut Vec<SetAt>, part: SetAt) -> Result<(), NoMemory>
     ensures { OnOk result (map seen parts.new.items ≡ map seen parts.old.items ++ filter has_ports (seen part ∷ [])) }
 {
-    if is_empty(&part.set) {
+    if part.set.is_empty() {
         return Ok(());
     }
     parts.push(part)?;
@@ -70,7 +69,7 @@ fn put_below(
     }
     let set = branches.under(members, bridge_port);
     put(parts, SetAt { bridge_port, set })?;
-    let set = except(&set, &branches.isolated);
+    let set = set.except(&branches.isolated);
     put(parts, SetAt { bridge_port, set })?;
     Ok(())
 }

@@ -26,6 +26,6 @@ returns c =
     let rows = c.as_slice-rows.result.now in
     let set : ◌≡◌ {A = ℕ → Bool} (port_in c.insert.new.self) (λ q. q == p) = fun_ext (λ q. c.insert.ensures q ∙ (ap (λ b. q == p || b) (c.empty-set.ensures q) ∙ or_false (q == p))) in
     c.loop-row.invariant
-    ∙ (ap (λ (m : ℕ). old ++ flat_map (put_above step (m / 64) n) (take i rows)) c.number.ensures.value
+    ∙ (ap (λ (m : ℕ). old ++ flat_map (put_above step m n) (take i rows)) c.device-own.ensures.value
     ∙ (ap (λ (l : List Row). old ++ flat_map (put_above step (device p) n) l) (take_all i rows c.loop-row-test.false ∙ (c.as_slice-rows.ensures.value ∙ (c.in_ok-all.ensures ∙ ap (rows_of t) set)))
     ∙ ap (λ (l : List AskAt). old ++ l) (above_are step t p n)))

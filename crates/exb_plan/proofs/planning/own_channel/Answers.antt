@@ -14,7 +14,7 @@ channels-requires-clause-cascade c =
     let p = c.in-Some.port in
     let ext : is_extended t p ≡ true = subst (λ (o : Option ℕ). IsAnyExtended t o) c.in-Some.is c.requires.down in
     let is : c.trunk-bridge_port.result ≡ trunk t (p / 64) + 1 =
-    subst (λ (x : ℕ). c.trunk-bridge_port.result ≡ trunk t (x / 64) + 1) c.number.ensures.value c.trunk-bridge_port.ensures.value in
+    subst (λ (x : ℕ). c.trunk-bridge_port.result ≡ trunk t x + 1) c.device.ensures.value c.trunk-bridge_port.ensures.value in
     home_space t c.is_tree.ensures c.args.spaces.now p c.trunk-bridge_port.result c.requires.spaces ext is
 
 pub returns-in-Some : goal.returns-in-Some
@@ -23,7 +23,7 @@ returns-in-Some c =
     let v = c.args.spaces.now in
     let p = c.in-Some.port in
     let is : c.trunk-bridge_port.result ≡ trunk t (p / 64) + 1 =
-    subst (λ (x : ℕ). c.trunk-bridge_port.result ≡ trunk t (x / 64) + 1) c.number.ensures.value c.trunk-bridge_port.ensures.value in
+    subst (λ (x : ℕ). c.trunk-bridge_port.result ≡ trunk t x + 1) c.device.ensures.value c.trunk-bridge_port.ensures.value in
     let place : c.trunk-bridge_port.result - 1 ≡ trunk t (p / 64) = omega (arith, is) in
     c.unwrap_or.ensures
     ∙ (unwrap_is c.of.result
