@@ -1,5 +1,5 @@
 -- Fresh sets, and the groups that they get, stand in spaces.
-use Rattle.std.proofs.Common.{◌≡◌, ℕ, ◌-◌, Bool, true, not, List, [], ◌∷◌}
+use Rattle.std.proofs.Common.{◌≡◌, ℕ, ◌-◌, true, not, List, [], ◌∷◌}
 use Rattle.exb_model.specs.Tree.{Shape, IsTree}
 use Rattle.exb_model.specs.Configuration.{Bridge}
 use Rattle.exb_numbers.specs.Spaces.{Spaces}

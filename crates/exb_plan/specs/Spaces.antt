@@ -1,6 +1,5 @@
 -- The spaces as what is held in them.
-use Rattle.std.specs.Prelude.{◌≡◌, ℕ, ◌+◌, ◌-◌, ◌<◌, ◌==◌, ◌&&◌, ◌||◌, Bool, true, not, bytes_eq, List, [], ◌∷◌, Option, Some, None, is_some, find, length, nat_lt, if◌then◌else◌}
-use Rattle.std.specs.List.{list_any, range_with_len}
+use Rattle.std.specs.Prelude.{◌≡◌, ℕ, ◌+◌, ◌&&◌, true, length, nat_lt}
 use Rattle.exb_model.specs.Tree.{Shape, is_cascade}
 use Rattle.exb_model.specs.Setup.{Limits}
 use Rattle.exb_numbers.specs.Channels.{holder}

@@ -1,5 +1,5 @@
 -- The values with which the code makes a plan.
-use Rattle.std.specs.Prelude.{◌≡◌, ℕ, ◌+◌, ◌-◌, ◌*◌, ◌/◌, ◌<◌, ◌≤◌, ◌==◌, ◌&&◌, Bool, true, false, List, [], ◌∷◌, Option, Some, None, is_some, filter, filter_map, map, length, find, nat_lt, if◌then◌else◌}
+use Rattle.std.specs.Prelude.{◌≡◌, ℕ, ◌+◌, ◌-◌, ◌*◌, ◌/◌, ◌<◌, ◌≤◌, true, false, List, [], ◌∷◌, Option, Some, None, is_some, filter_map, map, length, if◌then◌else◌}
 use Rattle.exb_model.specs.declared.port_set.PortSet.{PortSet}
 use Rattle.exb_model.specs.Masks.{bits_of}
 use Rattle.exb_model.specs.Ports.{port_in, ports_of}
