@@ -1,21 +1,9 @@
-//! Groups with their sets.
+//! The ports of the bridge that have groups.
 ghost use Rattle.std.specs.Prelude.{◌≡◌, ◌-◌, ◌≤◌};
 ghost use Rattle.exb_model.specs.Tree.{is_cascade};
 
 use exb_model::port::PortId;
-use exb_model::port_set::PortSet;
 use exb_model::tree::Tree;
-
-/// A group with its set, in the space of a bridge port, which is numbered from 1.
-#[derive(Clone, Copy, Debug, PartialEq, Eq)]
-pub struct GroupAt {
-    /// The bridge port.
-    pub bridge_port: u8,
-    /// The number of the group.
-    pub number: u16,
-    /// Its set.
-    pub set: PortSet,
-}
 
 /// Whether an extender hangs on a port of the bridge, which is numbered from 1.
 pub fn is_cascade(tree: &Tree, bridge_port: u8) -> bool

@@ -5,7 +5,7 @@ ghost use Rattle.exb_model.specs.Setup.{Limits};
 ghost use Rattle.exb_model.specs.Refusals.{present_under, channels_short};
 ghost use Rattle.exb_config.specs.Tables.{bridge_of};
 ghost use Rattle.exb_numbers.specs.Spaces.{has_space};
-ghost use Rattle.exb_plan.specs.Held.{HasSpaces};
+ghost use Rattle.exb_plan.specs.Spaces.{HasSpaces};
 
 use exb_config::Config;
 use exb_model::event::Cause;

@@ -3,12 +3,12 @@ use Rattle.std.specs.Prelude.{◌≡◌, not, filter, map}
 use Rattle.exb_model.specs.declared.command.Command.{Command}
 use Rattle.exb_model.specs.Tree.{Shape}
 use Rattle.exb_model.specs.Configuration.{Bridge, after}
-use Rattle.exb_rows.specs.Parts.{has_ports}
-use Rattle.exb_rows.specs.Sets.{seen}
-use Rattle.exb_plan.specs.Held.{Held}
-use Rattle.exb_plan.specs.Between.{fresh_sets}
-use Rattle.exb_plan.specs.Working.{has_group}
-use Rattle.exb_uses.specs.Touched.{parts_before, parts_after}
+use Rattle.exb_plan.specs.Parts.{has_ports}
+use Rattle.exb_plans.specs.Sets.{seen}
+use Rattle.exb_plans.specs.Held.{Held}
+use Rattle.exb_plans.specs.Between.{fresh_sets}
+use Rattle.exb_plans.specs.Making.{has_group}
+use Rattle.exb_plans.specs.Touched.{parts_before, parts_after}
 use Rattle.exb_planning.specs.declared.touched_sets.TouchedSets.{TouchedSets}
 
 -- the parts with a port before the command and after it, those of the latter without a group, and the sets that the

@@ -10,7 +10,7 @@ use exb_model::command::Command;
 use exb_model::port::PortId;
 use exb_model::port_set::PortSet;
 use exb_model::vlan::{Kind, Vid};
-use exb_rows::View;
+use exb_plan::View;
 
 /// The configuration after a command, seen through the one before it.
 #[derive(Clone, Copy)]

@@ -5,10 +5,10 @@ ghost use Rattle.exb_model.specs.Tree.{Shape};
 ghost use Rattle.exb_model.specs.Configuration.{is_for};
 ghost use Rattle.exb_model.specs.Refusals.{both_kinds};
 ghost use Rattle.exb_config.specs.Tables.{bridge_of};
-ghost use Rattle.exb_rows.specs.Branches.{AreBranches, IsAmong};
-ghost use Rattle.exb_rows.specs.Parts.{has_ports, Adds};
-ghost use Rattle.exb_rows.specs.Sets.{seen};
-ghost use Rattle.exb_uses.specs.Touched.{has_port, sources_of_entry, touched_before, touched_after, parts_before as parts_touched_before, parts_after as parts_touched_after};
+ghost use Rattle.exb_plan.specs.Branches.{AreBranches, IsAmong};
+ghost use Rattle.exb_plan.specs.Parts.{has_ports, Adds};
+ghost use Rattle.exb_plans.specs.Sets.{seen};
+ghost use Rattle.exb_plans.specs.Touched.{has_port, sources_of_entry, touched_before, touched_after, parts_before as parts_touched_before, parts_after as parts_touched_after};
 ghost use Rattle.exb_planning.specs.TouchedSources.{is_of, sources_of_vlans, vlans_touched, entry_touched};
 
 use crate::pending::Pending;
@@ -21,8 +21,9 @@ use exb_model::port_set::PortSet;
 use exb_model::rules::StaticAt;
 use exb_model::tree::Tree;
 use exb_model::vlan::Vid;
-use exb_rows::parts::{put_kind, put_kinds};
-use exb_rows::{Branches, SetAt, View};
+use exb_plan::parts::{put_kind, put_kinds};
+use exb_plan::{Branches, View};
+use exb_plans::SetAt;
 use std::alloc::Global;
 
 // Puts the parts of a VLAN's members among some ports, in the kind in which a port of these is a member.

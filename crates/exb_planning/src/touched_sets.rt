@@ -2,9 +2,11 @@
 ghost use Rattle.std.specs.Prelude.{◌≡◌, not, filter, map, IfOk};
 ghost use Rattle.std.specs.List.{All};
 ghost use Rattle.exb_config.specs.Tables.{bridge_of};
-ghost use Rattle.exb_rows.specs.Sets.{seen};
-ghost use Rattle.exb_plan.specs.Held.{held_by, HoldsNeeded};
-ghost use Rattle.exb_plan.specs.Working.{IsPlaced, SpacesOf, has_group};
+ghost use Rattle.exb_plans.specs.Sets.{seen};
+ghost use Rattle.exb_plan.specs.Spaces.{held_by};
+ghost use Rattle.exb_plans.specs.Held.{HoldsNeeded};
+ghost use Rattle.exb_plan.specs.Working.{IsPlaced, SpacesOf};
+ghost use Rattle.exb_plans.specs.Making.{has_group};
 ghost use Rattle.exb_planning.specs.TouchedSets.{AreTouched};
 
 use crate::touched::{parts_after, parts_before};
@@ -13,7 +15,8 @@ use exb_model::command::Command;
 use exb_model::memory::NoMemory;
 use exb_model::tree::Tree;
 use exb_numbers::Spaces;
-use exb_rows::{SetAt, each_once};
+use exb_plans::SetAt;
+use exb_plan::each_once;
 use std::alloc::Global;
 
 /// What a command touches.

@@ -2,7 +2,7 @@ use Rattle.std.specs.List.{flat_map}
 use Rattle.std.proofs.lemmas.Result.{on_ok_weaker}
 use Rattle.exb_config.specs.Tables.{bridge_of}
 use Rattle.exb_planning.specs.TouchedSources.{vlans_touched, entry_touched}
-use Rattle.exb_rows.proofs.PartLists.{adds_more}
+use Rattle.exb_plan.proofs.PartLists.{adds_more}
 use Rattle.exb_planning.proofs.touched.add_all.Goals as goal
 
 pub returns : goal.returns

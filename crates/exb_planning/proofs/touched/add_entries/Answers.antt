@@ -5,7 +5,7 @@ use Rattle.std.proofs.lemmas.Option.{get_or_from_slice_get, slice_get_within}
 use Rattle.exb_model.specs.declared.rules.StaticAt.{StaticAt}
 use Rattle.exb_config.specs.Tables.{bridge_of}
 use Rattle.exb_planning.specs.TouchedSources.{entry_touched}
-use Rattle.exb_rows.proofs.PartLists.{adds_none, adds_more, adds_same}
+use Rattle.exb_plan.proofs.PartLists.{adds_none, adds_more, adds_same}
 use Rattle.exb_planning.proofs.Touching.{entry_more, whole_list}
 use Rattle.exb_planning.proofs.touched.add_entries.Goals as goal
 

@@ -2,8 +2,8 @@ use Rattle.std.proofs.Common.{take}
 use Rattle.std.specs.List.{flat_map}
 use Rattle.exb_model.specs.Tree.{Shape}
 use Rattle.exb_config.specs.Tables.{bridge_of}
-use Rattle.exb_rows.specs.Branches.{AreBranches}
-use Rattle.exb_rows.specs.Parts.{Adds}
+use Rattle.exb_plan.specs.Branches.{AreBranches}
+use Rattle.exb_plan.specs.Parts.{Adds}
 use Rattle.exb_planning.specs.TouchedSources.{entry_touched}
 use Rattle.exb_planning.proofs.touched.add_entries.Given as goal
 

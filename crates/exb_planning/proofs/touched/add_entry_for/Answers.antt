@@ -1,6 +1,6 @@
 use Rattle.std.proofs.Common.{◌∙◌, sym}
 use Rattle.exb_config.specs.Tables.{bridge_of}
-use Rattle.exb_rows.proofs.PartLists.{adds_none}
+use Rattle.exb_plan.proofs.PartLists.{adds_none}
 use Rattle.exb_planning.proofs.touched.add_entry_for.Goals as goal
 
 pub returns-else-is_for : goal.returns-else-is_for

@@ -4,7 +4,7 @@ use Rattle.exb_model.specs.Ports.{port_in}
 use Rattle.exb_model.specs.Refusals.{both_kinds}
 use Rattle.exb_config.specs.Tables.{bridge_of}
 use Rattle.exb_planning.specs.TouchedSources.{is_of}
-use Rattle.exb_rows.proofs.PartLists.{adds_none, adds_same}
+use Rattle.exb_plan.proofs.PartLists.{adds_none, adds_same}
 use Rattle.exb_planning.proofs.Touching.{kinds_of, kinds_off}
 use Rattle.exb_planning.proofs.touched.add_entry_in.Goals as goal
 

@@ -3,7 +3,7 @@ use Rattle.std.proofs.lemmas.Result.{on_ok_weaker}
 use Rattle.exb_model.specs.Refusals.{both_kinds}
 use Rattle.exb_config.specs.Tables.{bridge_of}
 use Rattle.exb_planning.specs.TouchedSources.{is_of, sources_of_vlans}
-use Rattle.exb_rows.proofs.PartLists.{all_among, adds_same}
+use Rattle.exb_plan.proofs.PartLists.{all_among, adds_same}
 use Rattle.exb_planning.proofs.Touching.{one_vlan}
 use Rattle.exb_planning.proofs.touched.add_vlan.Goals as goal
 

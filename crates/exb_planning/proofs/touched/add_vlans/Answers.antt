@@ -1,6 +1,6 @@
 use Rattle.std.proofs.Common.{sym}
 use Rattle.exb_config.specs.Tables.{bridge_of}
-use Rattle.exb_rows.proofs.PartLists.{adds_none, adds_same}
+use Rattle.exb_plan.proofs.PartLists.{adds_none, adds_same}
 use Rattle.exb_planning.proofs.Touching.{no_vlan}
 use Rattle.exb_planning.proofs.touched.add_vlans.Goals as goal
 

@@ -3,9 +3,9 @@ use Rattle.std.specs.List.{flat_map, range_with_len}
 use Rattle.exb_model.specs.Tree.{Shape}
 use Rattle.exb_model.specs.Refusals.{both_kinds}
 use Rattle.exb_config.specs.Tables.{bridge_of}
-use Rattle.exb_uses.specs.Touched.{has_port}
-use Rattle.exb_rows.specs.Branches.{AreBranches}
-use Rattle.exb_rows.specs.Parts.{Adds}
+use Rattle.exb_plans.specs.Touched.{has_port}
+use Rattle.exb_plan.specs.Branches.{AreBranches}
+use Rattle.exb_plan.specs.Parts.{Adds}
 use Rattle.exb_planning.proofs.touched.add_vlans_with.Given as goal
 
 -- the parts of the VLANs so far are put
