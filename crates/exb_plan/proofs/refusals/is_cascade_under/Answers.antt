@@ -8,5 +8,5 @@ returns-in-Cascade c =
     let t = c.args.tree.now in
     let p = c.args.port in
     let high : 64 ≤ p = omega (arith, c.if-extender-eq0.false, c.device-extender.ensures.value) in
-    let is : c.trunk.result ≡ trunk t (p / 64) + 1 = subst (λ (x : ℕ). c.trunk.result ≡ trunk t (x / 64) + 1) c.device-extender.ensures.value c.trunk.ensures.value in
+    let is : c.trunk.result ≡ trunk t (p / 64) + 1 = subst (λ (x : ℕ). c.trunk.result ≡ trunk t x + 1) c.device-extender.ensures.value c.trunk.ensures.value in
     cascade_under_is t c.is_tree.ensures p c.in-Cascade.extender c.args.bridge_port c.trunk.result high c.in-Cascade.ensures.0 c.in-Cascade.ensures.1 is c.requires
