@@ -3,6 +3,7 @@ use Rattle.std.proofs.Common.{◌≡◌, ℕ, suc, ◌+◌, ◌*◌, ◌/◌, �
 use Rattle.std.specs.Prelude.{nat_le, nat_lt}
 use Rattle.std.proofs.lemmas.Bool.{le-leb, le-ltb}
 use Rattle.exb_model.specs.declared.address.Mac.{Mac}
+use Rattle.exb_model.specs.Frames.{is_control_frame}
 use Rattle.exb_ecp.specs.declared.pdu.Pdu.{Pdu}
 use Rattle.exb_ecp.specs.Frames.{pdu_in, spelling, carried, header_word, CanBeWritten}
 
@@ -24,6 +25,7 @@ bit b = cond b 1 0
 framed : (a b c d e f word sequence subtype : ℕ) (acknowledgement : Bool) (rest : List ℕ) → word ≡ 4096 + cond acknowledgement 1 0 * 1024 + subtype → subtype < 1024
     → pdu_in (1 ∷ 128 ∷ 194 ∷ 0 ∷ 0 ∷ 14 ∷ a ∷ b ∷ c ∷ d ∷ e ∷ f ∷ 137 ∷ 64 ∷ word / 256 ∷ word % 256 ∷ sequence / 256 ∷ sequence % 256 ∷ rest)
     ≡ Ok (record { acknowledgement = acknowledgement; subtype = subtype; sequence = sequence; payload_at = 18 })
+unfolding is_control_frame
 framed a b c d e f word sequence subtype acknowledgement rest is few =
     let whole : word / 256 * 256 + word % 256 ≡ word = omega arith in
     let other : sequence / 256 * 256 + sequence % 256 ≡ sequence = omega arith in

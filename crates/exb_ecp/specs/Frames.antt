@@ -1,14 +1,14 @@
 -- ECP frames: what a header says, and its one spelling.
 use Rattle.std.specs.Prelude.{◌≡◌, ℕ, ◌+◌, ◌*◌, ◌/◌, ◌%◌, ◌<◌, ◌≤◌, ◌==◌, ◌&&◌, ◌++◌, Bool, List, [], ◌∷◌, length, Result, Ok, Err, nat_le, nat_lt, if◌then◌else◌}
 use Rattle.exb_model.specs.declared.address.Mac.{Mac}
-use Rattle.exb_model.specs.Frames.{number_at, two_bytes}
+use Rattle.exb_model.specs.Frames.{control_address, is_control_frame, number_at, two_bytes}
 use Rattle.exb_ecp.specs.declared.pdu.Pdu.{Pdu}
 use Rattle.exb_ecp.specs.declared.pdu.EcpFault.{EcpFault}
 use Rattle.exb_ecp.specs.declared.pdu.EcpFault.TheVariants.{NotEcp, Cut, Version, Operation}
 
 -- the destination 01-80-C2-00-00-0E, and EtherType 8940 at byte 12
 abbrev pub is_ecp : List ℕ → Bool
-is_ecp frame = nat_le 14 (length frame) && ((number_at frame 0 == 384 && (number_at frame 2 == 49664 && number_at frame 4 == 14)) && number_at frame 12 == 35136)
+is_ecp frame = nat_le 14 (length frame) && (is_control_frame frame && number_at frame 12 == 35136)
 
 -- version (4 bits), operation (2) and subtype (10) at byte 14
 abbrev pub version : List ℕ → ℕ
@@ -47,4 +47,4 @@ header_word p = 4096 + (if p.acknowledgement then 1 else 0) * 1024 + p.subtype
 
 abbrev pub spelling : Mac → Pdu → List ℕ → List ℕ
 spelling source p payload =
-    (1 ∷ 128 ∷ 194 ∷ 0 ∷ 0 ∷ 14 ∷ []) ++ source.0 ++ two_bytes 35136 ++ two_bytes (header_word p) ++ two_bytes p.sequence ++ carried p payload
+    control_address ++ source.0 ++ two_bytes 35136 ++ two_bytes (header_word p) ++ two_bytes p.sequence ++ carried p payload

@@ -4,9 +4,12 @@ ghost use Rattle.std.specs.Prelude.{◌≡◌, ◌+◌, ◌≤◌, ◌++◌, dro
 ghost use Rattle.arrayvec.specs.ArrayVec.{array_vec_len};
 ghost use Rattle.exb_ecp.specs.Frames.{is_ecp, pdu_in, spelling, carried, CanBeWritten};
 
-use exb_model::address::Mac;
+use exb_model::address::{CONTROL_ADDRESS, Mac, is_control_frame};
 use exb_model::buffers::ControlBuf;
+use exb_model::bytes::number_at;
 
+/// The EtherType of ECP.
+const ECP_TYPE: u16 = 0x8940;
 /// Where the header begins.
 const HEADER: usize = 14;
 /// Where the payload begins.
@@ -42,10 +45,10 @@ pub enum EcpFault {
 fn is_ecp_frame(frame: &[u8]) -> bool
     ensures { result ≡ is_ecp frame.now }
 {
-    let [0x01, 0x80, 0xC2, 0x00, 0x00, 0x0E, rest @ ..] = frame else {
+    if frame.len() < HEADER {
         return false;
-    };
-    matches!(rest, [_, _, _, _, _, _, 0x89, 0x40, ..])
+    }
+    is_control_frame(frame) && number_at(frame, 12) == ECP_TYPE
 }
 
 /// What the header of a frame says, or its first fault.
@@ -58,8 +61,8 @@ pub fn read(frame: &[u8]) -> Result<Pdu, EcpFault>
     if frame.len() < PAYLOAD {
         return Err(EcpFault::Cut);
     }
-    let header = u16::from_be_bytes([frame[HEADER], frame[HEADER + 1]]);
-    let sequence = u16::from_be_bytes([frame[HEADER + 2], frame[HEADER + 3]]);
+    let header = number_at(frame, HEADER);
+    let sequence = number_at(frame, HEADER + 2);
     if header / 4096 != 1 {
         return Err(EcpFault::Version);
     }
@@ -94,9 +97,9 @@ pub fn write(source: Mac, pdu: &Pdu, payload: &[u8], out: &mut ControlBuf)
     let operation: u16 = if pdu.acknowledgement { 1 } else { 0 };
     let header = 4096 + operation * 1024 + pdu.subtype;
     out.clear();
-    append(out, &[0x01, 0x80, 0xC2, 0x00, 0x00, 0x0E]);
+    append(out, &CONTROL_ADDRESS);
     append(out, &source.0);
-    append(out, &[0x89, 0x40]);
+    append(out, &ECP_TYPE.to_be_bytes());
     append(out, &header.to_be_bytes());
     append(out, &pdu.sequence.to_be_bytes());
     if !pdu.acknowledgement {

@@ -4,7 +4,7 @@ use Rattle.std.specs.Prelude.{ℕ, ◌==◌, ◌&&◌, ◌||◌, Bool, true, fal
 use Rattle.std.specs.List.{flat_map, range_with_len}
 use Rattle.exb_model.specs.declared.frame_kind.Seen.{Seen}
 use Rattle.exb_model.specs.declared.frame_kind.Seen.TheVariants as seen
-use Rattle.exb_model.specs.Frames.{number_at, kind_of}
+use Rattle.exb_model.specs.Frames.{is_control_frame, number_at, kind_of}
 use Rattle.exb_model.specs.ETags.{Tag, read_etag, tagged}
 use Rattle.exb_model.specs.ExtenderForwarding.{Tables, emits}
 use Rattle.exb_csp.specs.Execute.{ExtenderTables, is_channel}
@@ -39,13 +39,9 @@ channel_tag channel = record { pcp = 0; dei = false; ingress = 0; ecid = channel
 abbrev pub has_etag_type : List ℕ → Bool
 has_etag_type f = number_at f 12 == 35135
 
--- the destination 01-80-C2-00-00-0E
-abbrev pub is_to_control : List ℕ → Bool
-is_to_control f = number_at f 0 == 384 && (number_at f 2 == 49664 && number_at f 4 == 14)
-
 -- a control frame without an E-TAG; a frame of under 14 bytes has no type, and is none
 unfoldable pub is_bare_control : List ℕ → Bool
-is_bare_control f = nat_le 14 (length f) && (not (has_etag_type f) && is_to_control f)
+is_bare_control f = nat_le 14 (length f) && (not (has_etag_type f) && is_control_frame f)
 
 -- the E-TAG names a channel: GRP 0 and base 1 to 4094
 abbrev pub names_channel : Option Tag → Bool

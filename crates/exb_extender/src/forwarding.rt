@@ -1,10 +1,9 @@
 //! Where a frame goes that comes from one side, and in which form (after IEEE 802.1BR).
 ghost use Rattle.std.specs.Prelude.{◌≡◌, ℕ, ◌+◌, ◌<◌, ◌≤◌, ◌==◌, ◌++◌, [], length, map, not, is_none, All, IfSome, IsTrue};
 ghost use Rattle.arrayvec.specs.ArrayVec.{array_vec_len};
-ghost use Rattle.exb_model.specs.Frames.{number_at};
 ghost use Rattle.exb_model.specs.ETags.{read_etag};
 ghost use Rattle.exb_frame.specs.TagValues.{tag_of};
-ghost use Rattle.exb_extender.specs.Forwarding.{emitted, is_to_control, is_bare_control, names_channel, is_refused_kind, is_ignored, sent_from_cascade, sent_from_external};
+ghost use Rattle.exb_extender.specs.Forwarding.{emitted, is_bare_control, names_channel, is_refused_kind, is_ignored, sent_from_cascade, sent_from_external};
 ghost use Rattle.exb_extender.specs.Sending.{out_sent, form_sent, form_at, outs_at, outs_where, CanBeGiven};
 ghost use Rattle.exb_extender.specs.Tables.{tables_of};
 
@@ -13,25 +12,12 @@ use crate::tables::Tables;
 use arrayvec::ArrayVec;
 use exb_frame::classify::classify;
 use exb_frame::etag::{E_TAG_TYPE, ETag};
+use exb_model::address::is_control_frame;
+use exb_model::bytes::number_at;
 use exb_model::frame_kind::Seen;
 
 /// Where a frame goes, and in which form.
 pub(crate) type Outs = ArrayVec<Out, 65>;
-
-fn number_at(frame: &[u8], at: usize) -> u16
-    requires { at + 1 < length frame.now }
-    ensures { result ≡ number_at frame.now at }
-{
-    u16::from_be_bytes([frame[at], frame[at + 1]])
-}
-
-// Whether the destination is 01-80-C2-00-00-0E.
-fn is_to_control(frame: &[u8]) -> bool
-    requires { 14 ≤ length frame.now }
-    ensures { result ≡ is_to_control frame.now }
-{
-    number_at(frame, 0) == 0x0180 && number_at(frame, 2) == 0xC200 && number_at(frame, 4) == 0x000E
-}
 
 /// Whether it is a control frame without an E-TAG.
 #[tactic(auto, unfolding(crate::specs::Forwarding::is_bare_control))]
@@ -45,7 +31,7 @@ pub(crate) fn is_bare_control(frame: &[u8]) -> bool
     if number_at(frame, 12) == E_TAG_TYPE {
         return false;
     }
-    is_to_control(frame)
+    is_control_frame(frame)
 }
 
 // The form in which a frame with that E-TAG goes out at a port that has the pair. None without a
