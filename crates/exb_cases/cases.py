@@ -208,6 +208,16 @@ def files(cases):
     cases.runs("falling-time", TWO_PORTS, {"a.pcap": [(100, F), (99, later)]},
                {"out-x1.1.pcap": [], "out-x1.2.pcap": [(100, F), (100, later)],
                 "out-journal.txt": journal(*UP, *relays("x1.1 1", "x1.1 2"))}, summary(2, 2, 0, 2))
+    # By moment, and then by port. The record at 101 s that stands behind one at 102 s comes at 102 s.
+    first = [(102, frame(rest=b"\x08\x01")), (101, frame(rest=b"\x08\x02")), (105, frame(rest=b"\x08\x03"))]
+    second = [(101, frame(rest=b"\x08\x04")), (102, frame(rest=b"\x08\x05")), (104, frame(rest=b"\x08\x06"))]
+    raised = [first[0], (102, first[1][1]), first[2]]
+    cases.runs("order-in-time", one_extender(3, {"x1.1": "a.pcap", "x1.2": "b.pcap", "x1.3": "c.pcap"}),
+               {"a.pcap": first, "b.pcap": second, "c.pcap": []},
+               {"out-x1.1.pcap": second, "out-x1.2.pcap": raised,
+                "out-x1.3.pcap": [second[0], raised[0], raised[1], second[1], second[2], raised[2]],
+                "out-journal.txt": journal(*UP3, *relays("x1.2 1"), "tick 1", *relays("x1.1 1", "x1.1 2", "x1.2 2"), "tick 2",
+                                           *relays("x1.2 3"), "tick 1", *relays("x1.1 3"))}, summary(6, 6, 0, 12))
     nanoseconds = struct.pack(">IHHIIII", 0xA1B23C4D, 2, 4, 0, 0, 65535, 1) + struct.pack(">IIII", 100, 999, 60, 60) + F
     cases.runs("nanoseconds", TWO_PORTS, {"a.pcap": nanoseconds},
                {"out-x1.1.pcap": [], "out-x1.2.pcap": [(100, F)], "out-journal.txt": journal(*UP, *relays("x1.1 1"))},
