@@ -24,6 +24,3 @@ pub use group_rows::{GroupRow, GroupRows};
 pub use message::{Body, Message, Request, RequestKind, Response};
 pub use reading::read;
 pub use writing::write;
-
-#[cfg(test)]
-mod tests;

@@ -10,6 +10,3 @@ mod stop_and_wait;
 
 pub use pdu::{EcpFault, Pdu, read, write};
 pub use stop_and_wait::{Beat, Ecp};
-
-#[cfg(test)]
-mod tests;

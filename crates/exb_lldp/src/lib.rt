@@ -13,6 +13,3 @@ mod writing;
 pub use announce::{Announce, LldpFault};
 pub use reading::read;
 pub use writing::write;
-
-#[cfg(test)]
-mod tests;

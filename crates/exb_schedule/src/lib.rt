@@ -5,5 +5,3 @@
 #![tactic(auto)]
 
 pub mod segment;
-#[cfg(test)]
-mod tests;

@@ -13,6 +13,3 @@ pub mod laws;
 
 pub use answerer::{Answerer, Due};
 pub use asker::{Asker, Taken};
-
-#[cfg(test)]
-mod tests;

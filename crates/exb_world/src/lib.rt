@@ -15,6 +15,3 @@ mod sending;
 mod world;
 
 pub use world::{Left, Step, World, WorldFault};
-
-#[cfg(test)]
-mod tests;

@@ -1,0 +1,299 @@
+#!/usr/bin/env python3
+"""Writes the folder data/ and the file stdout of this crate: topologies, captures, and what a run of each must answer and write.
+
+The expected files come from what is said here of each case, which frames leave which port and when, and never from exbr. It knows
+the layout of a capture and of a frame, and nothing of how a bridge works. Run it in any folder: `crates/exb_cases/cases.py`.
+"""
+import os
+import shutil
+import struct
+
+HERE = os.path.dirname(os.path.abspath(__file__))
+EXAMPLES = os.path.join(HERE, "..", "..", "examples")
+DATA = os.path.join(HERE, "data")
+
+HEADER = struct.pack("<IHHIIII", 0xA1B2C3D4, 2, 4, 0, 0, 65535, 1)
+ALL = b"\xff" * 6
+ONE = b"\x02\x00\x00\x00\x00\x01"
+TWO = b"\x02\x00\x00\x00\x00\x02"
+PLAIN = b"\x08\x00"
+USAGE = "exbr: usage: exbr run TOPOLOGY"
+
+
+def frame(destination=ALL, source=ONE, rest=PLAIN, size=60):
+    """A frame: addresses, these bytes behind them, and zeros."""
+    return (destination + source + rest).ljust(size, b"\0")[:size]
+
+
+def tagged(vid, high=0, destination=ALL, source=ONE, size=64):
+    """A frame with a VLAN tag; `high` is PCP and DEI in the tag's first four bits."""
+    return frame(destination, source, b"\x81\x00" + struct.pack(">H", high << 12 | vid) + PLAIN, size)
+
+
+def capture(*records):
+    """A capture in microseconds. A record is a frame with its seconds."""
+    return HEADER + b"".join(
+        struct.pack("<IIII", int(at), round(at % 1 * 1_000_000), len(data), len(data)) + data for at, data in records
+    )
+
+
+def one_extender(ports, captures, bridge="ports = 1", more=""):
+    """The topology of an extender 1 on b1."""
+    return (
+        f"bridge = {{ {bridge}, out = 'FOLDER/out-' }}\nextender = [{{ number = 1, on = 'b1', ports = {ports} }}]\n{more}"
+        + "captures = { "
+        + ", ".join(f"'{port}' = 'FOLDER/{name}'" for port, name in captures.items())
+        + " }\n"
+    )
+
+
+def journal(*lines):
+    return "".join(f"{line}\n" for line in lines).encode()
+
+
+def summary(arrivals, relayed, ignored, left, commits=0, refusals=0):
+    return f"arrivals {arrivals} relayed {relayed} ignored {ignored} left {left} commits {commits} refusals {refusals}"
+
+
+class Cases:
+    """The lines of the list and of what is printed."""
+
+    def __init__(self):
+        shutil.rmtree(DATA, ignore_errors=True)
+        os.makedirs(DATA)
+        self.lines, self.printed = [], []
+
+    def put(self, name, files):
+        """Puts files into the folder of a case."""
+        for file, data in files.items():
+            path = os.path.join(DATA, name, file)
+            os.makedirs(os.path.dirname(path), exist_ok=True)
+            if isinstance(data, str):
+                data = data.replace("FOLDER", name).encode()
+            with open(path, "wb") as out:
+                out.write(data)
+
+    def end(self, name, status, words, files, line):
+        """What the case is told, must answer, write and print."""
+        self.lines.append(f"{name} {status} {words.replace('FOLDER', name)} : {' '.join(files)}".rstrip())
+        how = f"0, {len(files)} files as expected" if status == 0 else f"{status}, none of {len(files)} files is there"
+        self.printed += [line.replace("FOLDER", name), f"{name}: {how}"]
+
+    def runs(self, name, topology, captures, expected, line, before=None):
+        """A case that is played to its end. Frames of an expected capture are given as records."""
+        whole = {file: capture(*data) if isinstance(data, list) else data for file, data in expected.items()}
+        given = {file: capture(*data) if isinstance(data, list) else data for file, data in captures.items()}
+        self.put(name, {"topology.toml": topology, **given, **(before or {})})
+        self.put(name, {f"expected/{file}": data for file, data in whole.items()})
+        self.end(name, 0, "run FOLDER/topology.toml", sorted(whole), line)
+
+    def stops(self, name, status, topology, captures, line, words="run FOLDER/topology.toml"):
+        """A case that makes no file."""
+        self.put(name, {"topology.toml": topology, **captures})
+        self.end(name, status, words, ["out-journal.txt", "out-x1.1.pcap", "out-x1.2.pcap"], line)
+
+    def write(self):
+        with open(os.path.join(DATA, "cases.txt"), "w", encoding="utf-8") as out:
+            out.write("".join(f"{line}\n" for line in self.lines))
+        with open(os.path.join(HERE, "stdout"), "w", encoding="utf-8") as out:
+            out.write("".join(f"{line}\n" for line in self.printed))
+
+
+F = frame()
+A = {"x1.1": "a.pcap"}
+AB = {"x1.1": "a.pcap", "x1.2": "b.pcap"}
+TWO_PORTS = one_extender(2, A)
+UP = ["up x1.1", "up x1.2", "settled"]
+UP3 = ["up x1.1", "up x1.2", "up x1.3", "settled"]
+
+
+def relays(*ports_and_numbers):
+    """The lines of frames that are relayed without a tick between them."""
+    return [line for it in ports_and_numbers for line in (f"relay {it}", "settled")]
+
+
+def examples(cases):
+    """The examples of the repository, with the folder in the names of their files."""
+    for name, line in [("first-path", summary(1, 1, 0, 3)), ("office", summary(7, 6, 1, 8))]:
+        folder = os.path.join(EXAMPLES, name)
+        with open(os.path.join(folder, "topology.toml"), encoding="utf-8") as it:
+            topology = it.read().replace('"in-', '"FOLDER/in-').replace("[bridge]\n", "[bridge]\nout = 'FOLDER/out-'\n")
+        given, expected = {}, {}
+        for where, files in [(folder, given), (os.path.join(folder, "expected"), expected)]:
+            for file in sorted(os.listdir(where)):
+                if file.endswith(".pcap") and file.startswith("in-" if where == folder else "out-") or file == "out-journal.txt" and where != folder:
+                    with open(os.path.join(where, file), "rb") as it:
+                        files[file] = it.read()
+        cases.runs(name, topology, given, expected, line)
+
+
+def frames(cases):
+    """Frames of every kind through one extender of two ports."""
+    one = {"out-x1.1.pcap": [], "out-x1.2.pcap": [(100, F)], "out-journal.txt": journal(*UP, *relays("x1.1 1"))}
+    cases.runs("broadcast", TWO_PORTS, {"a.pcap": [(100, F)]}, one, summary(1, 1, 0, 1))
+    cases.runs("no-frame", TWO_PORTS, {"a.pcap": []},
+               {"out-x1.1.pcap": [], "out-x1.2.pcap": [], "out-journal.txt": journal(*UP)}, summary(0, 0, 0, 0))
+    # Files that are there before are longer than what is written, and are replaced.
+    cases.runs("files-before", TWO_PORTS, {"a.pcap": [(100, F)]}, one, summary(1, 1, 0, 1),
+               {file: b"before" * 50 for file in one})
+    short, shortest, longest, long = [frame(size=size) for size in (13, 14, 9216, 9217)]
+    cases.runs("lengths", TWO_PORTS, {"a.pcap": [(100, it) for it in (short, shortest, longest, long)]},
+               {"out-x1.1.pcap": [], "out-x1.2.pcap": [(100, shortest), (100, longest)],
+                "out-journal.txt": journal(*UP, "ignore x1.1 1", "settled", *relays("x1.1 2", "x1.1 3"), "ignore x1.1 4", "settled")},
+               summary(4, 2, 2, 2))
+    # More than one piece of 65,536 bytes is read and written.
+    many = [(100 + at / 10, frame(size=9216, rest=PLAIN + bytes([at]))) for at in range(8)]
+    cases.runs("long-files", TWO_PORTS, {"a.pcap": many},
+               {"out-x1.1.pcap": [], "out-x1.2.pcap": many,
+                "out-journal.txt": journal(*UP, *relays(*[f"x1.1 {at}" for at in range(1, 9)]))}, summary(8, 8, 0, 8))
+    lldp = bytes.fromhex("0180C200000E 024542010001 88CC 02070402454201000104030775700602 0078FE0502454201020000")
+    cases.runs("announcement", TWO_PORTS, {"a.pcap": [(100, lldp)]},
+               {"out-x1.1.pcap": [], "out-x1.2.pcap": [], "out-journal.txt": journal(*UP, "ignore x1.1 1", "settled")},
+               summary(1, 0, 1, 0))
+    etags = [frame(rest=b"\x89\x3f"), frame(rest=bytes.fromhex("893F000010000000"))]
+    cases.runs("e-tag-of-a-station", TWO_PORTS, {"a.pcap": [(100, it) for it in etags]},
+               {"out-x1.1.pcap": [], "out-x1.2.pcap": [(100, it) for it in etags],
+                "out-journal.txt": journal(*UP, *relays("x1.1 1", "x1.1 2"))}, summary(2, 2, 0, 2))
+    tags = [tagged(0xFFF), tagged(0), tagged(1, size=17)]
+    cases.runs("tagged-only", one_extender(2, A, more="port = [{ name = 'x1.1', accept = 'tagged' }]\n"),
+               {"a.pcap": [(100, it) for it in tags]},
+               {"out-x1.1.pcap": [], "out-x1.2.pcap": [],
+                "out-journal.txt": journal(*UP, *relays("x1.1 1", "x1.1 2", "x1.1 3"))}, summary(3, 3, 0, 0))
+
+
+def vlans(cases):
+    """VLANs, learning, and local ports."""
+    sent = tagged(10, high=0xB)
+    cases.runs("tagged-and-untagged", one_extender(3, A, more="vlan = [{ vid = 10, tagged = ['x1.1-2'], untagged = ['x1.3'] }]\n"),
+               {"a.pcap": [(100, sent)]},
+               {"out-x1.1.pcap": [], "out-x1.2.pcap": [(100, sent)], "out-x1.3.pcap": [(100, F)],
+                "out-journal.txt": journal(*UP3, *relays("x1.1 1"))}, summary(1, 1, 0, 2))
+    back = frame(ONE, TWO)
+    cases.runs("station-of-its-own-port", TWO_PORTS, {"a.pcap": [(100, F), (100, back)]},
+               {"out-x1.1.pcap": [], "out-x1.2.pcap": [(100, F)], "out-journal.txt": journal(*UP, *relays("x1.1 1", "x1.1 2"))},
+               summary(2, 2, 0, 1))
+    itself = frame(ONE, ONE)
+    cases.runs("address-of-itself", TWO_PORTS, {"a.pcap": [(100, itself), (100, itself)]},
+               {"out-x1.1.pcap": [], "out-x1.2.pcap": [(100, itself)], "out-journal.txt": journal(*UP, *relays("x1.1 1", "x1.1 2"))},
+               summary(2, 2, 0, 1))
+    cases.runs("ageing", one_extender(3, AB, bridge="ports = 1, ageing = 10"),
+               {"a.pcap": [(100, F)], "b.pcap": [(109, back), (110, back)]},
+               {"out-x1.1.pcap": [(109, back), (110, back)], "out-x1.2.pcap": [(100, F)], "out-x1.3.pcap": [(100, F), (110, back)],
+                "out-journal.txt": journal(*UP3, *relays("x1.1 1"), "tick 9", *relays("x1.2 1"), "tick 1", *relays("x1.2 2"))},
+               summary(3, 3, 0, 5))
+    local = ("bridge = { ports = 3, out = 'FOLDER/out-' }\nextender = [{ number = 7, on = 'b2', ports = 2 }]\n"
+             "captures = { b1 = 'FOLDER/a.pcap', 'x7.2' = 'FOLDER/b.pcap' }\n")
+    control = frame(bytes.fromhex("0180C200000F"))
+    cases.runs("local-ports", local, {"a.pcap": [(100, F), (102, control)], "b.pcap": [(101, back)]},
+               {"out-b1.pcap": [(101, back)], "out-b3.pcap": [(100, F)], "out-x7.1.pcap": [(100, F)], "out-x7.2.pcap": [(100, F)],
+                "out-journal.txt": journal("up x7.1", "up x7.2", "settled", *relays("b1 1"), "tick 1", *relays("x7.2 1"),
+                                           "tick 1", "ignore b1 2", "settled")}, summary(3, 2, 1, 4))
+    rules = ("port = [{ name = 'x1.1', pvid = 20 }, { name = 'b2', filter = true }]\n"
+             "vlan = [{ vid = 20, tagged = ['b2'] }, { vid = 30, untagged = ['x1.2'] }]\n")
+    other = tagged(30, source=TWO)
+    # b2 filters what is not of its VLANs; x1.1 doesn't, so its frame of VLAN 30 passes.
+    cases.runs("vlan-of-the-port", one_extender(2, {"b2": "b.pcap", "x1.1": "a.pcap"}, bridge="ports = 2", more=rules),
+               {"a.pcap": [(100, F), (100, other)], "b.pcap": [(100, other)]},
+               {"out-b2.pcap": [(100, tagged(20))], "out-x1.1.pcap": [], "out-x1.2.pcap": [(100, frame(source=TWO))],
+                "out-journal.txt": journal(*UP, *relays("b2 1", "x1.1 1", "x1.1 2"))}, summary(3, 3, 0, 2))
+    forty = one_extender(3, A, more="vlan = [{ vid = 20, last = 59, tagged = ['x1.1', 'x1.3'] }, { vid = 1, untagged = ['*'] }]\n")
+    cases.runs("forty-vlans", forty, {"a.pcap": [(100, tagged(59)), (100, tagged(60))]},
+               {"out-x1.1.pcap": [], "out-x1.2.pcap": [], "out-x1.3.pcap": [(100, tagged(59))],
+                "out-journal.txt": journal(*UP3, *relays("x1.1 1", "x1.1 2"))}, summary(2, 2, 0, 1))
+
+
+def files(cases):
+    """Captures and names of files."""
+    later = frame(rest=b"\x08\x01")
+    cases.runs("falling-time", TWO_PORTS, {"a.pcap": [(100, F), (99, later)]},
+               {"out-x1.1.pcap": [], "out-x1.2.pcap": [(100, F), (100, later)],
+                "out-journal.txt": journal(*UP, *relays("x1.1 1", "x1.1 2"))}, summary(2, 2, 0, 2))
+    # By moment, and then by port. The record at 101 s that stands behind one at 102 s comes at 102 s.
+    first = [(102, frame(rest=b"\x08\x01")), (101, frame(rest=b"\x08\x02")), (105, frame(rest=b"\x08\x03"))]
+    second = [(101, frame(rest=b"\x08\x04")), (102, frame(rest=b"\x08\x05")), (104, frame(rest=b"\x08\x06"))]
+    raised = [first[0], (102, first[1][1]), first[2]]
+    cases.runs("order-in-time", one_extender(3, {"x1.1": "a.pcap", "x1.2": "b.pcap", "x1.3": "c.pcap"}),
+               {"a.pcap": first, "b.pcap": second, "c.pcap": []},
+               {"out-x1.1.pcap": second, "out-x1.2.pcap": raised,
+                "out-x1.3.pcap": [second[0], raised[0], raised[1], second[1], second[2], raised[2]],
+                "out-journal.txt": journal(*UP3, *relays("x1.2 1"), "tick 1", *relays("x1.1 1", "x1.1 2", "x1.2 2"), "tick 2",
+                                           *relays("x1.2 3"), "tick 1", *relays("x1.1 3"))}, summary(6, 6, 0, 12))
+    nanoseconds = struct.pack(">IHHIIII", 0xA1B23C4D, 2, 4, 0, 0, 65535, 1) + struct.pack(">IIII", 100, 999, 60, 60) + F
+    cases.runs("nanoseconds", TWO_PORTS, {"a.pcap": nanoseconds},
+               {"out-x1.1.pcap": [], "out-x1.2.pcap": [(100, F)], "out-journal.txt": journal(*UP, *relays("x1.1 1"))},
+               summary(1, 1, 0, 1))
+    seven = ("[bridge]\nports = 1\nout = 'FOLDER/run-'\n[[extender]]\nnumber = 7\non = 'b1'\nports = 3\n"
+             "[captures]\n'x7.2' = 'FOLDER/b.pcap'\n'x7.1' = 'FOLDER/a.pcap'\n")
+    cases.runs("extender-7", seven, {"a.pcap": [(100, F)], "b.pcap": [(103, later)]},
+               {"run-x7.1.pcap": [(103, later)], "run-x7.2.pcap": [(100, F)], "run-x7.3.pcap": [(100, F), (103, later)],
+                "run-journal.txt": journal("up x7.1", "up x7.2", "up x7.3", "settled", *relays("x7.1 1"), "tick 3", *relays("x7.2 1"))},
+               summary(2, 2, 0, 4))
+    cases.runs("one-capture-for-two-ports", one_extender(2, {"x1.1": "a.pcap", "x1.2": "a.pcap"}), {"a.pcap": [(100, F)]},
+               {"out-x1.1.pcap": [(100, F)], "out-x1.2.pcap": [(100, F)], "out-journal.txt": journal(*UP, *relays("x1.1 1", "x1.2 1"))},
+               summary(2, 2, 0, 2))
+    # The journal takes the place of the topology.
+    name = "journal-over-topology"
+    cases.put(name, {"journal.txt": "bridge = { ports = 1, out = 'FOLDER/' }\nextender = [{ number = 1, on = 'b1', ports = 1 }]\n",
+                     "expected/journal.txt": journal("up x1.1", "settled"), "expected/x1.1.pcap": HEADER})
+    cases.end(name, 0, "run FOLDER/journal.txt", ["journal.txt", "x1.1.pcap"], summary(0, 0, 0, 0))
+    opening = {"out-x1.1.pcap": [], "out-x1.2.pcap": [], "out-journal.txt": journal(*UP)}
+    said = one_extender(2, A, bridge="ports = 1, channels = 4094, groups = 12288",
+                        more="vlan = [{ vid = 1, untagged = ['*'] }]\nport = [{ name = 'x1.1', isolated = false }]\n"
+                             "links = { fate = '' }\nstatic = []\ncommand = []\n")
+    cases.runs("defaults-that-are-said", said, {"a.pcap": []}, opening, summary(0, 0, 0, 0))
+
+
+def faults(cases):
+    """Runs that make no file: words, topologies and captures with a fault."""
+    for name, words in [("run-alone", "run"), ("a-word-too-many", "run FOLDER/topology.toml FOLDER/topology.toml"),
+                        ("another-word", "walk FOLDER/topology.toml"), ("a-dash", "run -"), ("an-option", "run --trace"),
+                        ("number-of-ports", "run 04 2")]:
+        cases.stops(name, 2, TWO_PORTS, {"a.pcap": HEADER}, USAGE, words)
+    two = "bridge = {{ ports = 1, out = 'FOLDER/out-' }}\nextender = [{{ number = 1, on = '{}', ports = 1 }}, {{ number = 2, on = '{}', ports = 1 }}]\n"
+    for name, topology, fault in [("not-toml", "nothing of the kind", "NotToml"), ("empty-topology", "", "Missing at bridge"),
+                                  ("shared-port", two.format("b1", "b1"), "SharedPort at extender[1].on"),
+                                  ("loop", two.format("x2.1", "x1.1"), "Loop at extender[0].on"),
+                                  ("vlan-0", "bridge = { ports = 1 }\nvlan = [{ vid = 0 }]\n", "Range at vlan[0].vid")]:
+        cases.stops(name, 3, topology, {}, f"exbr: topology: {fault}")
+    whole = bytearray(capture((100, F)))
+    for name, place, byte, size, fault in [("empty-capture", 0, 0xD4, 0, "NotPcap at 0"), ("capture-of-3-bytes", 0, 0xD4, 3, "NotPcap at 0"),
+                                           ("another-magic", 0, 0x0A, 100, "NotPcap at 0"), ("cut-header", 0, 0xD4, 23, "Cut at 0"),
+                                           ("version-3", 4, 3, 100, "Version at 4"), ("link-type-2", 20, 2, 100, "LinkType at 20"),
+                                           ("cut-record-header", 0, 0xD4, 25, "Cut at 24"), ("a-million-microseconds", 31, 1, 100, "Time at 28"),
+                                           ("record-too-long", 35, 0xFF, 100, "Length at 32"), ("cut-frame", 0, 0xD4, 99, "Cut at 24")]:
+        file = bytearray(whole)
+        file[place] = byte
+        cases.stops(name, 4, TWO_PORTS, {"a.pcap": bytes(file[:size])}, f"exbr: capture x1.1: {fault}")
+    cases.stops("topology-as-capture", 4, one_extender(2, {"x1.2": "topology.toml"}), {}, "exbr: capture x1.2: NotPcap at 0")
+    # The first capture in port order with a fault decides, in whatever order the file has them.
+    both = one_extender(2, {"x1.2": "b.pcap", "x1.1": "a.pcap"})
+    cases.stops("first-missing", 5, both, {"b.pcap": HEADER[:20]}, "exbr: missing FOLDER/a.pcap")
+    cases.stops("first-broken", 4, both, {"a.pcap": HEADER[:3]}, "exbr: capture x1.1: NotPcap at 0")
+    cases.stops("second-broken", 4, both, {"a.pcap": HEADER, "b.pcap": HEADER[:20]}, "exbr: capture x1.2: Cut at 0")
+    cases.stops("no-topology", 5, "", {}, "exbr: missing FOLDER/other.toml", "run FOLDER/other.toml")
+
+
+def not_built(cases):
+    """Topologies that can be read and not yet played."""
+    isolated, static = "port = [{ name = 'x1.1', isolated = true }]\n", "static = [{ vid = 1, mac = '02-00-00-00-00-01', ports = [] }]\n"
+    command, fate = "command = [{ at = 0, op = 'down', port = 'x1.1' }]\n", "links = { fate = 'P' }\n"
+    for name, topology in [
+        ("no-extender", "bridge = { ports = 1, out = 'FOLDER/out-' }\n"),
+        ("two-extenders", "bridge = { ports = 2, out = 'FOLDER/out-' }\n"
+                          "extender = [{ number = 1, on = 'b1', ports = 2 }, { number = 2, on = 'b2', ports = 2 }]\n"),
+        ("three-groups", one_extender(2, A, bridge="ports = 1, groups = 3")),
+        ("nine-channels", one_extender(2, A, bridge="ports = 1, channels = 9")),
+        ("isolated-port", one_extender(2, A, more=isolated)), ("static-entry", one_extender(2, A, more=static)),
+        ("a-command", one_extender(2, A, more=command)), ("a-fate", one_extender(2, A, more=fate)),
+    ]:
+        cases.stops(name, 8, topology, {"a.pcap": HEADER}, "exbr: not built")
+
+
+def main():
+    cases = Cases()
+    for part in (examples, frames, vlans, files, faults, not_built):
+        part(cases)
+    cases.write()
+
+
+main()
