@@ -1,5 +1,5 @@
 -- What was written is read again as the same message.
-use Rattle.std.proofs.Common.{◌≡◌, ℕ, suc, ◌/◌, ◌^◌, ◌<◌, ◌≤◌, ◌==◌, true, false, nat_lt, slice_index, List, [], ◌∷◌, ◌++◌, length, Some, Ok, refl, ap, sym, ◌∙◌, arith}
+use Rattle.std.proofs.Common.{◌≡◌, ℕ, suc, ◌/◌, ◌^◌, ◌<◌, ◌≤◌, ◌==◌, true, false, nat_lt, slice_index, List, [], ◌∷◌, ◌++◌, length, Some, Ok, refl, ap, sym, ◌∙◌, ◌+◌, length-append, arith}
 use Rattle.std.specs.List.{flat_map, AllByRecursion}
 use Rattle.std.specs.Int.{w16, w64, to_be_bytes, from_be_bytes}
 use Rattle.std.proofs.lemmas.Bool.{le-ltb, ne_eqb}
@@ -19,6 +19,7 @@ use Rattle.exb_csp.specs.declared.form.Form.TheVariants as form
 use Rattle.exb_csp.specs.Kinds.{kind_of, type_of, form_of, is_length}
 use Rattle.exb_csp.specs.Reading.{rows_at, ecids_at, request_in, ports_in, response_in, body_in, form_at, serial_at, read_message}
 use Rattle.exb_csp.specs.Spelling.{row_bytes, ecid_bytes, request_bytes, answer_bytes, form_in, body_bytes, message_bytes, IsSpelledRequest, IsPortCount, IsSpelledBody, HasSpelling, IsRow, FitsRequest, FitsBody, Fits}
+use Rattle.exb_csp.specs.Laws.{MessagesAreShort}
 use Rattle.exb_csp.proofs.Lengths.{length_rows, length_ecids}
 
 -- ---- lists of many
@@ -172,3 +173,15 @@ message_again m spelled fits =
     let s : serial_at (message_bytes m) ≡ Ok m.serial = serial_again (type_of (form_in m.body)) m.serial (body_bytes m.body) small spelled.numbered fits.serial in
     let b : body_in (form_in m.body) (body_bytes m.body) ≡ Ok m.body = body_again m.body spelled.spelled fits.content in
     rw (f, s, b) refl
+
+-- ---- lengths
+
+message_long : (m : Message) → length (message_bytes m) ≡ 11 + length (body_bytes m.body)
+unfolding message_bytes
+message_long m =
+    let head = length-append (to_be_bytes w64 m.serial) (to_be_bytes w16 (length (body_bytes m.body)) ++ body_bytes m.body) in
+    let tail = length-append (to_be_bytes w16 (length (body_bytes m.body))) (body_bytes m.body) in
+    omega (arith, head, tail)
+
+pub are_short : MessagesAreShort
+are_short m h = (message_long m, (let few = (body_whole m.body h.spelled).1 in omega (arith, message_long m, few)))

@@ -1,11 +1,11 @@
 -- The laws of this crate.
-use Rattle.std.specs.Prelude.{◌≡◌, ◌≢◌, ◌↔◌, ℕ, ◌<◌, ◌≤◌, ◌==◌, ◌^◌, not, Bool, true, false, Ok, List, [], ◌∷◌, map}
+use Rattle.std.specs.Prelude.{◌≡◌, ◌≢◌, ◌↔◌, ℕ, ◌<◌, ◌≤◌, ◌==◌, ◌^◌, ◌+◌, not, Bool, true, false, Ok, List, [], ◌∷◌, length, map}
 use Rattle.exb_csp.specs.declared.group_rows.GroupRow.{GroupRow}
 use Rattle.exb_csp.specs.declared.message.Message.{Message}
 use Rattle.exb_csp.specs.declared.message.Request.{Request}
 use Rattle.exb_csp.specs.declared.message.Request.TheVariants.{Register, Unregister, RegisterMany, UnregisterMany}
 use Rattle.exb_csp.specs.Reading.{read_message}
-use Rattle.exb_csp.specs.Spelling.{message_bytes, HasSpelling, Fits, IsBytes}
+use Rattle.exb_csp.specs.Spelling.{body_bytes, message_bytes, HasSpelling, Fits, IsBytes}
 use Rattle.exb_csp.specs.Execute.{ExtenderTables, in_mask, some_port, has_pair, execute}
 
 -- What is written is read again as the same message.
@@ -15,6 +15,10 @@ WrittenIsRead = (m : Message) → HasSpelling m → Fits m → read_message (mes
 -- What is read is spelled by the bytes that were read, so a message has one spelling.
 abbrev pub ReadIsSpelled : Type 0
 ReadIsSpelled = (bytes : List ℕ) (m : Message) → IsBytes bytes → read_message bytes ≡ Ok m → HasSpelling m × (bytes ≡ message_bytes m)
+
+-- A message has 11 bytes before its body, and at most 651 bytes.
+abbrev pub MessagesAreShort : Type 0
+MessagesAreShort = (m : Message) → HasSpelling m → (length (message_bytes m) ≡ 11 + length (body_bytes m.body)) × (length (message_bytes m) ≤ 651)
 
 -- A code other than 0 leaves the tables.
 abbrev pub RefusedChangesNothing : Type 0

@@ -1,6 +1,6 @@
 //! What holds of every message, and of every extender that executes requests.
 
-ghost use Rattle.exb_csp.specs.Laws.{WrittenIsRead, ReadIsSpelled, RefusedChangesNothing, RegisterSetsTheMask, UnregisterClearsTheRow, RegisterManyIsItsRows, UnregisterManyIsItsEcids, HasPairExactly, SomeBitExactly};
+ghost use Rattle.exb_csp.specs.Laws.{WrittenIsRead, ReadIsSpelled, MessagesAreShort, RefusedChangesNothing, RegisterSetsTheMask, UnregisterClearsTheRow, RegisterManyIsItsRows, UnregisterManyIsItsEcids, HasPairExactly, SomeBitExactly};
 ghost use Rattle.exb_csp.specs.AllLaws.{DoneAtEachPort, RefusedAtNoPort, RunsLayRows};
 
 /// What is written is read again as the same message.
@@ -11,6 +11,11 @@ pub fn written_is_read()
 /// What is read is spelled by the bytes that were read: a message has one spelling.
 pub fn read_is_spelled()
     ensures { ReadIsSpelled }
+{}
+
+/// A message has 11 bytes before its body, and at most 651 bytes.
+pub fn messages_are_short()
+    ensures { MessagesAreShort }
 {}
 
 /// A request that is answered with a code other than 0 leaves the tables.

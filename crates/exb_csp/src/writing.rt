@@ -118,11 +118,12 @@ fn append_header(out: &mut ControlBuf, kind: u8, serial: u64, length: u16)
 
 /// The one spelling of a message, in place of what was in `out`. The condition holds of every message
 /// that is read: a serial above 0, 2 to 64 members in a list of many, a code of at most 3, and a port
-/// count of 1 to 64 in the answer to Open and else 0.
-#[tactic(auto, unfolding(crate::specs::Spelling::message_bytes))]
+/// count of 1 to 64 in the answer to Open and else 0. A message has at most 651 bytes.
+#[tactic(auto, unfolding(crate::specs::Spelling::message_bytes), using(crate::proofs::Again::are_short))]
 pub fn write(message: &Message, out: &mut ControlBuf)
     requires { HasSpelling message.now }
-    ensures { out.new.items ≡ message_bytes message.now }
+    ensures spelled { out.new.items ≡ message_bytes message.now }
+    ensures few { length out.new.items ≤ 651 }
 {
     out.clear();
     match &message.body {

@@ -21,6 +21,13 @@ id_at-kept [] e j h = cc
 id_at-kept (x ∷ es) e zero h = refl
 id_at-kept (x ∷ es) e (suc j) h = id_at-kept es e j h
 
+-- nor any other id
+pub id_at-others : (es : List Entry) (e : Entry) (j : ℕ) → j ≢ length es → id_at (es ++ e ∷ []) j ≡ id_at es j
+id_at-others [] e zero h = absurd (h refl)
+id_at-others [] e (suc j) h = refl
+id_at-others (x ∷ es) e zero h = refl
+id_at-others (x ∷ es) e (suc j) h = id_at-others es e j (λ q. h (ap suc q))
+
 -- a given id has an entry
 pub id_at-within : (es : List Entry) (j : ℕ) → (id_at es j).given ≡ true → j < length es
 id_at-within [] j h = cc
@@ -47,4 +54,4 @@ id_at-set_other (x ∷ es) zero (suc j) e h = refl
 id_at-set_other (x ∷ es) (suc i) zero e h = refl
 id_at-set_other (x ∷ es) (suc i) (suc j) e h = id_at-set_other es i j e (λ q. h (ap suc q))
 
-pub ruleset entries = (id_at-end, id_at-free, id_at-kept, id_at-within, id_at-get, id_at-set_same, id_at-set_other)
+pub ruleset entries = (id_at-end, id_at-free, id_at-kept, id_at-others, id_at-within, id_at-get, id_at-set_same, id_at-set_other)

@@ -1,8 +1,10 @@
 -- Pieces that follow one another.
-use Rattle.std.proofs.Common.{◌≡◌, ◌+◌, ◌-◌, ℕ, List, [], ◌++◌, Option, Some, length, take, drop, ap, sym, ◌∙◌, refl, arith, append_assoc, take-add}
+use Rattle.std.proofs.Common.{◌≡◌, ◌≢◌, inl, inr, subst, ◌+◌, ◌-◌, ℕ, zero, suc, List, [], ◌∷◌, ◌++◌, Option, Some, length, take, drop, ap, sym, ◌∙◌, refl, arith, append_assoc, take-add}
 use Rattle.std.proofs.lemmas.List.{take_rest}
 use Rattle.std.proofs.lemmas.Grind.{common_steps}
+use Rattle.std.proofs.lemmas.Bool.{cases_eq, false≢true}
 use Rattle.exb_shelf.specs.Files.{Files, Puts, SameFiles, bytes_of, Adds}
+use Rattle.exb_shelf.specs.Shelf.{Id, reading, IsReadingOf, NewIds}
 
 -- a front, and what is taken behind it
 pub take_on : (xs : List ℕ) (a n : ℕ) → take a xs ++ take n (take (length xs - a) (drop a xs)) ≡ take (a + n) xs
@@ -30,3 +32,32 @@ adds_same f g h name xs p q = record {
   here = λ had e. q name ∙ p.here had e;
   others = λ n d. q n ∙ p.others n d;
 }
+
+-- the one id that was given reads the file
+pub one_new : (old new : ℕ → Id) (id : ℕ) (name : List ℕ) → ((j : ℕ) → j ≢ id → new j ≡ old j) → IsReadingOf name (new id) → NewIds (IsReadingOf name) old new
+one_new old new id name rest is j was now =
+    elim (cases_eq j id) [
+      | inl e ↦ subst (λ (k : ℕ). IsReadingOf name (new k)) (sym e) is
+      | inr n ↦ absurd (false≢true (sym was ∙ ap (λ (i : Id). i.given) (sym (rest j n)) ∙ now))
+    ]
+
+pub reads_of : (i : Id) (name : List ℕ) (place : ℕ) → i ≡ reading name place → IsReadingOf name i
+reads_of i name place e = subst (IsReadingOf name) (sym e) (record { given = refl; reads = refl; named = refl })
+
+take_again : (xs : List ℕ) (n : ℕ) → take (length (take n xs)) xs ≡ take n xs
+take_again [] zero = refl
+take_again [] (suc n) = refl
+take_again (x ∷ xs) zero = refl
+take_again (x ∷ xs) (suc n) = ap (λ (ys : List ℕ). x ∷ ys) (take_again xs n)
+
+-- what was read is a front of the file, with one piece more
+front_more : (bytes old new : List ℕ) (n : ℕ) → take (length old) bytes ≡ old → new ≡ old ++ take n (drop (length old) bytes) → take (length new) bytes ≡ new
+front_more bytes old new n front is =
+    let e : new ≡ take (length old + n) bytes = is ∙ ap (λ (xs : List ℕ). xs ++ take n (drop (length old) bytes)) (sym front) ∙ sym (take-add (length old) n bytes) in
+    ap (λ (xs : List ℕ). take (length xs) bytes) e ∙ take_again bytes (length old + n) ∙ sym e
+
+pub front_read : (f g : Files) (i : Id) (name old new : List ℕ) (n : ℕ) → i ≡ reading name (length old) → SameFiles f g → take (length old) (bytes_of (f name)) ≡ old
+    → new ≡ old ++ take n (drop i.place (bytes_of (g i.name))) → take (length new) (bytes_of (f name)) ≡ new
+front_read f g i name old new n e same front is =
+    front_more (bytes_of (f name)) old new n front
+    (is ∙ ap (λ (x : Id). old ++ take n (drop x.place (bytes_of (g x.name)))) e ∙ ap (λ (o : Option (List ℕ)). old ++ take n (drop (length old) (bytes_of o))) (same name))

@@ -35,6 +35,16 @@ pub record IsWriting (i : Id) : Type 0 where
   pub given : i.given ≡ true
   pub writes : i.reads ≡ false
 
+-- the id was given by `open`, for the file of this name
+pub record IsReadingOf (name : List ℕ) (i : Id) : Type 0 where
+  pub given : i.given ≡ true
+  pub reads : i.reads ≡ true
+  pub named : i.name ≡ name
+
+-- whatever id is given now, and wasn't before, is such a one
+abbrev pub NewIds : (Id → Type 0) → (ℕ → Id) → (ℕ → Id) → Type 0
+NewIds P old new = (j : ℕ) → (old j).given ≡ false → (new j).given ≡ true → P (new j)
+
 -- how often a shelf has answered that a file is missing, has failed to read, and has failed to write
 pub record Faults : Type 0 where
   pub missing : ℕ

@@ -211,6 +211,7 @@ impl Shelf for MemShelf {
     fn open(&mut self, name: &str) -> Result<u32, OpenFault>
         ensures id { IfOk result (λ id. ids_of self.new id ≡ reading name.now 0) }
         ensures fresh { IfOk result (λ id. (ids_of self.old id).given ≡ false) }
+        ensures others { IfOk result (λ id. (j : ℕ) → j ≢ id → ids_of self.new j ≡ ids_of self.old j) }
         ensures kept { (j : ℕ) → (ids_of self.old j).given ≡ true → ids_of self.new j ≡ ids_of self.old j }
         ensures none_given { OnErr result ((j : ℕ) → ids_of self.new j ≡ ids_of self.old j) }
         ensures files { SameFiles (files_of self.old) (files_of self.new) }
@@ -274,6 +275,7 @@ impl Shelf for MemShelf {
     fn create(&mut self, name: &str) -> Result<u32, ShelfFault>
         ensures id { IfOk result (λ id. ids_of self.new id ≡ writing name.now) }
         ensures fresh { IfOk result (λ id. (ids_of self.old id).given ≡ false) }
+        ensures others { IfOk result (λ id. (j : ℕ) → j ≢ id → ids_of self.new j ≡ ids_of self.old j) }
         ensures kept { (j : ℕ) → (ids_of self.old j).given ≡ true → ids_of self.new j ≡ ids_of self.old j }
         ensures none_given { OnErr result ((j : ℕ) → ids_of self.new j ≡ ids_of self.old j) }
         ensures empty { OnOk result (Puts (files_of self.old) (files_of self.new) name.now []) }

@@ -1,7 +1,7 @@
 //! Whole files and texts, through calls that take pieces.
 ghost use Rattle.std.specs.Prelude.{◌≡◌, ◌≢◌, ◌<◌, ◌≤◌, ◌+◌, ◌++◌, [], ℕ, List, true, Some, None, length, take, drop, IfOk, OnOk, OnErr, IsErrOf};
 ghost use Rattle.exb_shelf.specs.Files.{bytes_of, SameFiles, Puts, Adds, AddsFront, AppendsFront};
-ghost use Rattle.exb_shelf.specs.Shelf.{IsReading, IsWriting, moved, Rose, NoFewer};
+ghost use Rattle.exb_shelf.specs.Shelf.{IsReading, IsWriting, IsReadingOf, NewIds, moved, Rose, NoFewer};
 
 use crate::{OpenFault, Shelf, ShelfFault, Sink};
 use std::alloc::{AllocError, Global};
@@ -44,6 +44,7 @@ fn read_on<S: Shelf>(
     ensures end { S.tells → result ≡ Ok 0
         → drop (S.ids shelf.old id).place (bytes_of (S.file shelf.old (S.ids shelf.old id).name)) ≡ [] }
     ensures id { IfOk result (λ n. S.ids shelf.new id ≡ moved (S.ids shelf.old id) n) }
+    ensures file { (name : List ℕ) → IsReadingOf name (S.ids shelf.old id) → IsReadingOf name (S.ids shelf.new id) }
     ensures others { (j : ℕ) → j ≢ id → S.ids shelf.new j ≡ S.ids shelf.old j }
     ensures files { SameFiles (S.file shelf.old) (S.file shelf.new) }
     ensures faults { NoFewer (S.faults shelf.old) (S.faults shelf.new) }
@@ -79,6 +80,7 @@ pub fn read_file<S: Shelf>(
     // What stays.
     ensures files { SameFiles (S.file shelf.old) (S.file shelf.new) }
     ensures kept { (j : ℕ) → (S.ids shelf.old j).given ≡ true → S.ids shelf.new j ≡ S.ids shelf.old j }
+    ensures opened { NewIds (IsReadingOf name.now) (S.ids shelf.old) (S.ids shelf.new) }
 
     ensures faults { NoFewer (S.faults shelf.old) (S.faults shelf.new) }
     ensures missing { IsErrOf result ReadFault.Missing → Rose (S.faults shelf.old).missing (S.faults shelf.new).missing }

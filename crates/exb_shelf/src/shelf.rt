@@ -45,6 +45,7 @@ pub trait Shelf {
     fn open(&mut self, name: &str) -> Result<u32, OpenFault>
         ensures id { IfOk result (λ id. ids self.new id ≡ reading name.now 0) }
         ensures fresh { IfOk result (λ id. (ids self.old id).given ≡ false) }
+        ensures others { IfOk result (λ id. (j : ℕ) → j ≢ id → ids self.new j ≡ ids self.old j) }
         ensures kept { (j : ℕ) → (ids self.old j).given ≡ true → ids self.new j ≡ ids self.old j }
         ensures none_given { OnErr result ((j : ℕ) → ids self.new j ≡ ids self.old j) }
 
@@ -79,6 +80,7 @@ pub trait Shelf {
     fn create(&mut self, name: &str) -> Result<u32, ShelfFault>
         ensures id { IfOk result (λ id. ids self.new id ≡ writing name.now) }
         ensures fresh { IfOk result (λ id. (ids self.old id).given ≡ false) }
+        ensures others { IfOk result (λ id. (j : ℕ) → j ≢ id → ids self.new j ≡ ids self.old j) }
         ensures kept { (j : ℕ) → (ids self.old j).given ≡ true → ids self.new j ≡ ids self.old j }
         ensures none_given { OnErr result ((j : ℕ) → ids self.new j ≡ ids self.old j) }
 

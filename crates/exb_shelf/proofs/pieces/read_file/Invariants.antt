@@ -1,4 +1,4 @@
-use Rattle.std.proofs.Common.{◌≡◌, ◌+◌, ◌-◌, ℕ, true, false, Some, length, take}
+use Rattle.std.proofs.Common.{◌≡◌, ◌≢◌, ◌+◌, ◌-◌, ℕ, true, false, Some, length, take}
 use Rattle.exb_shelf.specs.Files.{SameFiles, bytes_of}
 use Rattle.exb_shelf.specs.Shelf.{NoFewer, reading}
 use Rattle.exb_shelf.proofs.pieces.read_file.Given as goal
@@ -12,6 +12,7 @@ invariant-pieces g l =
       piece : length l.piece ≡ 65536;
       id : S.ids l.shelf l.id ≡ reading l.name (length l.bytes.items);
       kept : (j : ℕ) → (S.ids l.fn.shelf j).given ≡ true → S.ids l.shelf j ≡ S.ids l.fn.shelf j;
+      others : (j : ℕ) → j ≢ l.id → S.ids l.shelf j ≡ S.ids l.fn.shelf j;
       fresh : (S.ids l.fn.shelf l.id).given ≡ false;
       files : SameFiles (S.file l.fn.shelf) (S.file l.shelf);
       faults : NoFewer (S.faults l.fn.shelf) (S.faults l.shelf);

@@ -4,14 +4,14 @@ use Rattle.exb_extender.proofs.control.Control.answer.Goals as goal
 
 pub submit-sequence-requires-clause-fits : goal.submit-sequence-requires-clause-fits
 submit-sequence-requires-clause-fits c =
-    subst (λ (xs : List ℕ). length xs ≤ 1024) (sym (c.as_slice.ensures.value ∙ c.write.ensures)) (answer_fits c.in-Some.message c.self.inside.session.last c.self.inside.session.answer c.in-Some.ensures)
+    subst (λ (xs : List ℕ). length xs ≤ 1024) (sym (c.as_slice.ensures.value ∙ c.write.ensures.spelled)) (answer_fits c.in-Some.message c.self.inside.session.last c.self.inside.session.answer c.in-Some.ensures)
 
 pub write_request-requires : goal.write_request-requires
 write_request-requires c =
-    subst (λ (xs : List ℕ). length xs ≤ 1024) (sym (c.as_slice-2.ensures.value ∙ c.write.ensures)) (answer_fits c.in-Some.message c.self.inside.session.last c.self.inside.session.answer c.in-Some.ensures)
+    subst (λ (xs : List ℕ). length xs ≤ 1024) (sym (c.as_slice-2.ensures.value ∙ c.write.ensures.spelled)) (answer_fits c.in-Some.message c.self.inside.session.last c.self.inside.session.answer c.in-Some.ensures)
 
 pub invariant_of-self : goal.invariant_of-self
 invariant_of-self c =
     order_submitted _ _ _ _ c.as_slice.result.now c.stop.new.self c.submit-sequence.new.self
-    (subst (λ (xs : List ℕ). length xs ≤ 1024) (sym (c.as_slice.ensures.value ∙ c.write.ensures)) (answer_fits c.in-Some.message c.self.inside.session.last c.self.inside.session.answer c.in-Some.ensures))
+    (subst (λ (xs : List ℕ). length xs ≤ 1024) (sym (c.as_slice.ensures.value ∙ c.write.ensures.spelled)) (answer_fits c.in-Some.message c.self.inside.session.last c.self.inside.session.answer c.in-Some.ensures))
     c.stop.ensures c.submit-sequence.ensures.step c.self.invariant

@@ -1,0 +1,6 @@
+//! What the one VLAN bridge does, as laws over its definitions in `exb_model`: where each frame arrives, what
+//! is learned and for how long, and what a tag keeps. An empty bridge, or one that forgets, meets none of
+//! them. Its laws on what never happens stand in `exb_flat`.
+#![tactic(auto)]
+
+pub mod laws;
