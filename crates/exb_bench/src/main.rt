@@ -9,7 +9,6 @@
 #![tactic(auto)]
 
 ghost use Rattle.std.specs.Prelude.{◌≡◌, ◌≤◌, ◌<◌, true, length, IsSome};
-ghost use Rattle.exb_model.specs.Tree.{is_external};
 ghost use Rattle.exb_changing.specs.Fitting.{Fits};
 ghost use Rattle.exb_changes.specs.Fabrics.{IsPrepared, IsInForce};
 
@@ -19,9 +18,8 @@ use exb_extender::{Extender, Sends, Side};
 use exb_model::command::Command;
 use exb_model::list::List;
 use exb_model::memory::NoMemory;
-use exb_model::port::PortId;
+use exb_model::port::{PORTS, PortId};
 use exb_model::port_set::PortSet;
-use exb_model::role::Role;
 use exb_model::setup::{ExtenderSetup, Place, Setup};
 use exb_model::tree::Tree;
 use exb_model::vlan::{Kind, Vid};
@@ -123,7 +121,7 @@ fn all_rows(alloc: Global, times: u64) -> Result<u64, NoMemory> {
     }
     let tree = Tree::new(alloc, &setup)?;
     let mut set = PortSet::empty();
-    for number in 127..4160u16 {
+    for number in 127..PORTS {
         if let Some(port) = PortId::new(number) {
             set.insert(port);
         }
@@ -139,7 +137,7 @@ fn all_rows(alloc: Global, times: u64) -> Result<u64, NoMemory> {
 fn port(place: u8) -> PortId
     requires { place < 64 }
 {
-    PortId::new(64 + place as u16).unwrap()
+    PortId::at(1, place)
 }
 
 // The ports whose bits a VLAN's number has, and the port in all VLANs.
@@ -180,15 +178,6 @@ fn vlans(alloc: Global, count: u16) -> Result<Setup, NoMemory> {
         ageing: 300,
         start,
     })
-}
-
-fn is_external(tree: &Tree, port: PortId) -> bool
-    ensures { result ≡ true → is_external tree.now port ≡ true }
-{
-    match tree.role(port) {
-        Role::External => true,
-        _ => false,
-    }
 }
 
 fn is_at_rest(stage: &Stage) -> bool
@@ -238,7 +227,7 @@ fn play(fabric: &mut Fabric, job: &Job) -> Result<u64, NoMemory>
 
 // Carries out a command on a port, if it is an external one.
 fn order(fabric: &mut Fabric, port: PortId, doing: Doing) -> Result<u64, NoMemory> {
-    if !is_external(fabric.tree(), port) {
+    if !fabric.tree().is_external(port) {
         return Ok(0);
     }
     let vid = Vid::default();

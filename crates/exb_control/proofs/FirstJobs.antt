@@ -1,15 +1,11 @@
 -- The jobs to begin with.
 use Rattle.std.proofs.Common.{◌≡◌, ℕ, suc, ◌+◌, ◌<◌, ◌++◌, ◌==◌, ◌&&◌, Bool, true, false, cond, List, [], ◌∷◌, length, map, filter, take, get_or, slice_index, refl, ap, sym, ◌∙◌, arith, add-one, eq-eqb, append_assoc}
 use Rattle.std.specs.List.{flat_map, range_with_len}
-use Rattle.std.proofs.lemmas.Bool.{and_from, lt-ltb}
 use Rattle.std.proofs.lemmas.List.{append-nil, take_more}
 use Rattle.std.proofs.lemmas.List.Elements.{filter-append}
 use Rattle.std.proofs.lemmas.List.Concat.{flat_map-append}
-use Rattle.exb_model.specs.declared.role.Role.{Role}
-use Rattle.exb_model.specs.declared.role.Role.TheVariants as role
-use Rattle.exb_model.specs.Tree.{Shape, IsTree, HasRole, HangsOn, on, is_cascade, is_external, is_extender, by_depth, externals_of}
+use Rattle.exb_model.specs.Tree.{Shape, is_external, by_depth, externals_of}
 use Rattle.exb_model.proofs.PortLemmas.{range-more}
-use Rattle.exb_model.proofs.TreeWays.{any_below-from, number_at_most}
 use Rattle.exb_model.proofs.TreeLoops.{by_depth-range}
 use Rattle.exb_changing.specs.declared.job.Job.{Job}
 use Rattle.exb_changing.specs.declared.job.Job.TheVariants as job
@@ -35,16 +31,6 @@ ups_more t a n =
     ∙ ap (map job.AutomaticUp) (filter-append (is_external t) (range_with_len a n) ((a + n) ∷ []))
     ∙ map-append (filter (is_external t) (range_with_len a n)) (filter (is_external t) ((a + n) ∷ []))
     ∙ ap (λ (js : List Job). ups t (range_with_len a n) ++ js) (one_up t (a + n))
-
--- a port with another role is no external one
-pub hung : (t : Shape) (n p : ℕ) → n < 65 → HangsOn t n p → is_cascade t p ≡ true
-unfolding is_cascade
-hung t n p low h = any_below-from (λ m. is_extender t m && on t m == p) 65 n low (and_from _ _ (and_from _ _ (lt-ltb 0 n h.extender) (lt-ltb 0 (slice_index t.ports n) h.there)) (eq-eqb (on t n) p h.at))
-
-pub not_external : (t : Shape) (p : ℕ) (r : Role) → IsTree t → HasRole t p r → (r ≡ role.External → ⊥) → is_external t p ≡ false
-not_external t p role.Unknown valid h other = rw h refl
-not_external t p role.External valid h other = absurd (other refl)
-not_external t p (role.Cascade m) valid h other = rw (h.0, hung t m p (let l = number_at_most t valid m p h.1 in omega arith) h.1) refl
 
 -- one extender more
 pub starts_more : (t : Shape) (ns : List ℕ) (i : ℕ) → i < length ns → flat_map (jobs_of t) (take (i + 1) ns) ≡ flat_map (jobs_of t) (take i ns) ++ jobs_of t (get_or ns i 0)

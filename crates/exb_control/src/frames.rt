@@ -1,8 +1,7 @@
 //! Frames that come to the bridge: they are ignored, or relayed and then learned from.
 ghost use Rattle.std.specs.Prelude.{◌≡◌, ◌≤◌, ◌++◌, ◌∷◌, [], List, ℕ, true, length, IfOk, OnOk};
-ghost use Rattle.exb_model.specs.Frames.{kind_of, source};
 ghost use Rattle.exb_model.specs.Tree.{is_external};
-ghost use Rattle.exb_model.specs.EagerHistory.{is_relayed, is_relayed_kind, arrival_event};
+ghost use Rattle.exb_model.specs.EagerHistory.{is_relayed, arrival_event};
 ghost use Rattle.exb_config.specs.Tables.{bridge_of};
 ghost use Rattle.exb_learn.specs.Entries.{table_of, look_of};
 ghost use Rattle.exb_learn.specs.Histories.{relay_call, after_any};
@@ -15,12 +14,10 @@ ghost use Rattle.exb_control.specs.Boxes.{taught, sends_for, ingress_for, vid_in
 use crate::outbox::Outbox;
 use exb_changes::Fabric;
 use exb_config::Config;
-use exb_frame::classify::classify;
+use exb_frame::{is_relayed_kind, source};
 use exb_learn::Learned;
-use exb_model::address::Mac;
 use exb_model::bytes::Bytes;
 use exb_model::event::Event;
-use exb_model::frame_kind::Seen;
 use exb_model::memory::NoMemory;
 use exb_model::port::PortId;
 use exb_relay::{Ingress, relay};
@@ -35,21 +32,6 @@ pub(crate) struct Arrived<'a> {
     pub(crate) bytes: &'a [u8],
 }
 
-/// Whether frames of a kind may be relayed: it isn't short, long or reserved.
-fn may_be_relayed(seen: Seen) -> bool
-    ensures { result ≡ is_relayed_kind seen }
-{
-    !matches!(seen, Seen::Short | Seen::Long | Seen::Reserved)
-}
-
-/// Whether a frame isn't short, long or reserved, so that it may be relayed.
-fn is_relayed_kind(frame: &[u8]) -> bool
-    ensures kind { result ≡ is_relayed_kind (kind_of frame.now) }
-    ensures long { result ≡ true → 14 ≤ length frame.now }
-{
-    may_be_relayed(classify(frame))
-}
-
 /// Whether a frame that comes to a port is relayed: the port is present, and the frame isn't short, long or
 /// reserved.
 fn is_relayed(config: &Config, port: PortId, frame: &[u8]) -> bool
@@ -60,16 +42,6 @@ fn is_relayed(config: &Config, port: PortId, frame: &[u8]) -> bool
     config.present(port) && is_kind
 }
 
-/// The address from which a frame comes.
-fn source(frame: &[u8]) -> Mac
-    requires { 12 ≤ length frame.now }
-    ensures { result.0 ≡ source frame.now }
-{
-    let mut address = [0u8; 6];
-    address.copy_from_slice(&frame[6..12]);
-    Mac(address)
-}
-
 /// A frame that passes at a port teaches where its source is, if that is an individual address.
 fn learn(learned: &mut Learned, port: PortId, frame: &[u8], ingress: &Ingress)
     requires frame { 12 ≤ length frame.now }
@@ -78,7 +50,7 @@ fn learn(learned: &mut Learned, port: PortId, frame: &[u8], ingress: &Ingress)
 {
     if let Ingress::Passed { vid, .. } = *ingress {
         let address = source(frame);
-        if address.0[0] % 2 == 0 {
+        if !address.is_group() {
             learned.see(vid, address, port);
         }
     }

@@ -8,43 +8,27 @@ use crate::queue::Queue;
 use exb_changing::Job;
 use exb_model::memory::NoMemory;
 use exb_model::port::PortId;
-use exb_model::role::Role;
 use exb_model::tree::Tree;
-
-/// How many ports an extender can have.
-const PORTS: u16 = 64;
 
 /// Puts the automatic ups of an extender at the end of the queue, in port order.
 fn put_ups(tree: &Tree, extender: u8, queue: &mut Queue<Job>) -> Result<(), NoMemory>
     requires { extender < 65 }
     ensures { OnOk result (queue.new ≡ queue.old ++ map (λ p. Job.AutomaticUp p) (externals_of tree.now extender)) }
 {
-    for place in 0..PORTS {
-        let number = PORTS * extender as u16 + place;
-        put_up(tree, number, queue)?;
+    for place in 0..64u8 {
+        put_up(tree, PortId::at(extender, place), queue)?;
     }
     Ok(())
 }
 
-/// Whether it is a port of the tree on which no extender hangs.
-fn is_external(tree: &Tree, port: PortId) -> bool
-    ensures { result ≡ is_external tree.now port }
-{
-    tree.is_tree();
-    match tree.role(port) {
-        Role::External => true,
-        _ => false,
-    }
-}
-
 /// Puts the automatic up of a port at the end of the queue, if it is an external port.
-fn put_up(tree: &Tree, number: u16, queue: &mut Queue<Job>) -> Result<(), NoMemory>
-    requires { number < 4160 }
-    ensures { OnOk result (queue.new ≡ queue.old ++ up_if (is_external tree.now number) number) }
+fn put_up(tree: &Tree, port: PortId, queue: &mut Queue<Job>) -> Result<(), NoMemory>
+    ensures { OnOk result (queue.new ≡ queue.old ++ up_if (is_external tree.now port) port) }
 {
-    match PortId::new(number) {
-        Some(port) if is_external(tree, port) => queue.push(&Job::AutomaticUp { port }),
-        _ => Ok(()),
+    if tree.is_external(port) {
+        queue.push(&Job::AutomaticUp { port })
+    } else {
+        Ok(())
     }
 }
 

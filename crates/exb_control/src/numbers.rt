@@ -14,7 +14,7 @@ pub(crate) fn channel_of(fabric: &Fabric, heard: &Heard, port: PortId) -> Option
     ensures { result ≡ channel_at_trunk fabric.now.shape (held_in fabric.now) port }
 {
     fabric.is_fabric();
-    let extender = (port.number() / 64) as u8;
+    let extender = port.device();
     if !heard.is_extender(extender) {
         return None;
     }

@@ -23,7 +23,8 @@ use Rattle.exb_relay.specs.declared.send.SendTo.{SendTo}
 use Rattle.exb_relay.specs.Numbers.{Numbers, IsReady, IsNumbering, has_set}
 use Rattle.exb_relay.specs.Choices.{choice}
 use Rattle.exb_relay.specs.Sends.{etag_to, word_to, words_to, set_for, group_word, group_words, channel_word, words_down, local_send, sends_at, sends_in, sends_of}
-use Rattle.exb_relay.specs.Laws.{IsBytes, HasPvids, listed_kind, local_kind, local_kinds, has_tag, words_of, IsAt}
+use Rattle.exb_config.specs.Pvids.{HasPvids}
+use Rattle.exb_relay.specs.Laws.{IsBytes, listed_kind, local_kind, local_kinds, has_tag, words_of, IsAt}
 use Rattle.exb_relay.proofs.Lists.{filter_flat, flat_flat, only_one, no_one, each_below}
 use Rattle.exb_relay.proofs.Under.{under_trunk, none_under, under_cascade, under_extended, home_low, external_free}
 use Rattle.exb_relay.proofs.Choosing.{target_is, target_says}

@@ -17,7 +17,8 @@ use Rattle.exb_frame.specs.TagValues.{TagRoundTrip}
 use Rattle.exb_relay.specs.Numbers.{Numbers, IsReady, IsNumbering}
 use Rattle.exb_relay.specs.Sends.{sends_of}
 use Rattle.exb_relay.specs.Leaving.{Carries}
-use Rattle.exb_relay.specs.Laws.{IsBytes, HasPvids, left_by}
+use Rattle.exb_config.specs.Pvids.{HasPvids}
+use Rattle.exb_relay.specs.Laws.{IsBytes, left_by}
 use Rattle.exb_relay.proofs.Leaving.{listed_out, leaves_as_target}
 
 -- the VLAN of a tag is 1 to 4094

@@ -11,6 +11,7 @@ use Rattle.exb_model.specs.Configuration.{Bridge}
 use Rattle.exb_model.specs.Learning.{Look, passes}
 use Rattle.exb_model.specs.Targets.{target, is_chosen}
 use Rattle.exb_model.specs.FlatBridge.{sent_by}
+use Rattle.exb_config.specs.Pvids.{HasPvids}
 use Rattle.exb_frame.specs.declared.etag.ETag.{ETag}
 use Rattle.exb_frame.specs.TagValues.{tag_of}
 use Rattle.exb_relay.specs.declared.choice.Choice.TheVariants.{Learned}
@@ -19,10 +20,6 @@ use Rattle.exb_relay.specs.Numbers.{Numbers, IsReady, IsNumbering, has_set}
 use Rattle.exb_relay.specs.Choices.{choice, is_chosen_in}
 use Rattle.exb_relay.specs.Sends.{ingress_at, channel_word, sends_of, pcp_of, dei_of}
 use Rattle.exb_relay.specs.Leaving.{Carries, all_leaving}
-
--- the PVID of each port is a VLAN
-abbrev pub HasPvids : Bridge → Type 0
-HasPvids b = (p : ℕ) → (1 ≤ (b.rule p).pvid) × ((b.rule p).pvid ≤ 4094)
 
 -- the frame's bytes are bytes
 abbrev pub IsBytes : List ℕ → Type 0

@@ -1,5 +1,5 @@
 //! How the ports of a frame are chosen.
-ghost use Rattle.std.specs.Prelude.{◌≡◌, ◌==◌, ◌%◌, slice_index, if◌then◌else◌, None};
+ghost use Rattle.std.specs.Prelude.{◌≡◌, if◌then◌else◌, None};
 ghost use Rattle.exb_model.specs.Frames.{is_group};
 ghost use Rattle.exb_config.specs.Tables.{bridge_of};
 ghost use Rattle.exb_learn.specs.Entries.{look_of};
@@ -21,18 +21,11 @@ pub enum Choice {
     Learned(PortId),
 }
 
-/// Whether the address is a group's: the lowest bit of its first byte is 1.
-fn is_group(address: Mac) -> bool
-    ensures { result ≡ is_group address.0 }
-{
-    address.0[0] % 2 == 1
-}
-
 /// The port that was learned for an individual address; none for a group's.
 fn learned_port(learned: &Learned, vid: Vid, address: Mac) -> Option<PortId>
     ensures { result ≡ (if is_group address.0 then None else look_of learned.now vid address.0) }
 {
-    if is_group(address) {
+    if address.is_group() {
         None
     } else {
         learned.look(vid, address)

@@ -1,7 +1,7 @@
 //! What the bridge sends for a frame.
 ghost use Rattle.std.specs.Prelude.{◌≡◌, ◌≤◌, ◌<◌, ◌+◌, ◌*◌, ◌++◌, ℕ, true, [], Some, length};
 ghost use Rattle.arrayvec.specs.ArrayVec.{array_vec_len};
-ghost use Rattle.exb_model.specs.Frames.{destination, kind_of};
+ghost use Rattle.exb_model.specs.Frames.{kind_of};
 ghost use Rattle.exb_model.specs.Tree.{is_external, is_cascade};
 ghost use Rattle.exb_model.specs.Ports.{port_in};
 ghost use Rattle.exb_model.specs.Learning.{passes};
@@ -20,10 +20,9 @@ use crate::sending::{send_at_once, send_word};
 use crate::source::{Source, Uplink};
 use arrayvec::ArrayVec;
 use exb_config::Config;
-use exb_config::port_sets::is_empty;
 use exb_frame::classify::classify;
+use exb_frame::destination;
 use exb_learn::Learned;
-use exb_model::address::Mac;
 use exb_model::frame_kind::Seen;
 use exb_model::port::PortId;
 use exb_model::port_set::PortSet;
@@ -32,16 +31,6 @@ use exb_model::tree::Tree;
 use exb_model::vlan::{Kind, Vid};
 use exb_numbers::Spaces;
 
-/// The address to which a frame goes.
-fn destination(frame: &[u8]) -> Mac
-    requires { 6 ≤ length frame.now }
-    ensures { result.0 ≡ destination frame.now }
-{
-    let mut address = [0u8; 6];
-    address.copy_from_slice(&frame[..6]);
-    Mac(address)
-}
-
 /// The way up of an external port of the tree; none for a port of the bridge.
 fn uplink_of(tree: &Tree, spaces: &Spaces, port: PortId) -> Option<Uplink>
     requires external { is_external tree.now port ≡ true }
@@ -49,7 +38,7 @@ fn uplink_of(tree: &Tree, spaces: &Spaces, port: PortId) -> Option<Uplink>
     ensures { (k : ℕ) → ingress_for result k ≡ ingress_at tree.now (numbers_of spaces.now) port k }
 {
     tree.is_tree();
-    let extender = (port.number() / 64) as u8;
+    let extender = port.device();
     if extender == 0 {
         return None;
     }
@@ -79,7 +68,7 @@ fn send_to_set(
 {
     tree.is_tree();
     let set = below(tree, place + 1, set);
-    if !is_empty(&set) {
+    if !set.is_empty() {
         let group = spaces.groups(place + 1).find(&set);
         send_word(sends, place, source, kind, group);
     }
@@ -104,9 +93,7 @@ fn send_at(
     ensures few { array_vec_len sends.new ≤ array_vec_len sends.old + 2 }
 {
     tree.is_tree();
-    let Some(port) = PortId::new(u16::from(place)) else {
-        return;
-    };
+    let port = PortId::at(0, place);
     match tree.role(port) {
         Role::Unknown => {}
         Role::External => send_at_once(sends, place, members.target(source.port, port)),
@@ -172,7 +159,7 @@ fn send_to_port(
     if number < 64 {
         send_at_once(sends, number as u8, Some(kind));
     } else {
-        let trunk = tree.trunk((number / 64) as u8);
+        let trunk = tree.trunk(port.device());
         let channel = spaces.channels(trunk).of(port);
         send_word(sends, trunk - 1, source, kind, channel);
     }

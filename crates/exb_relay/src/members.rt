@@ -6,7 +6,6 @@ ghost use Rattle.exb_config.specs.Tables.{bridge_of};
 ghost use Rattle.exb_relay.specs.Words.{kind_among, kind_at, member_in};
 
 use exb_config::Config;
-use exb_config::port_sets::except;
 use exb_model::port::PortId;
 use exb_model::port_set::PortSet;
 use exb_model::vlan::{Kind, Vid};
@@ -33,7 +32,7 @@ fn hearing(config: &Config, source: PortId, set: &PortSet) -> PortSet
     ensures { (q : ℕ) → port_in result q ≡ (port_in set.now q && not (both_isolated (bridge_of config.now) source q)) }
 {
     if config.rule(source).isolated {
-        except(set, &config.isolated())
+        set.except(&config.isolated())
     } else {
         *set
     }

@@ -145,8 +145,8 @@ fn place_of(port: PortId) -> Place
         }
     } else {
         Place::Extender {
-            number: (number / 64) as u8,
-            port: (number % 64) as u8 + 1,
+            number: port.device(),
+            port: port.place() + 1,
         }
     }
 }

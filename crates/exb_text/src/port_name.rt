@@ -14,8 +14,7 @@ impl fmt::Display for PortName {
     ghost output = { λ name. Some (port_name name.0) };
 
     fn fmt<W: fmt::Write>(&self, f: &mut fmt::Formatter<W>) -> fmt::Result {
-        let number = self.0.number();
-        let (extender, port) = (number / 64, number % 64 + 1);
+        let (extender, port) = (self.0.device(), self.0.place() + 1);
         if extender == 0 {
             write!(f, "b{port}")
         } else {

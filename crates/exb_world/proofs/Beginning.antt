@@ -20,7 +20,7 @@ use Rattle.exb_numbers.specs.Channels.{holder, channel_of}
 use Rattle.exb_numbers.specs.Groups.{Groups, set_of, group_of}
 use Rattle.exb_numbers.specs.Spaces.{Spaces, has_space, channels_at, groups_at}
 use Rattle.exb_relay.specs.Spaces.{HasSpaces}
-use Rattle.exb_relay.specs.Laws.{HasPvids}
+use Rattle.exb_config.specs.Pvids.{HasPvids}
 use Rattle.exb_world.specs.declared.bridge.Controller.{Controller}
 use Rattle.exb_world.specs.Bridges.{HasFreeSpaces}
 use Rattle.exb_plans.specs.declared.set_at.SetAt.{SetAt}

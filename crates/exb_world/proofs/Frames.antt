@@ -21,6 +21,7 @@ use Rattle.exb_model.specs.Targets.{target, target_in}
 use Rattle.exb_model.specs.FlatBridge.{Sent, sent_by, sent_as}
 use Rattle.exb_model.specs.Input.{Arrival}
 use Rattle.exb_model.specs.EagerHistory.{is_relayed, is_relayed_kind, arrival_event}
+use Rattle.exb_model.proofs.FrameKinds.{relayed_fits, relayed_long}
 use Rattle.exb_frame.specs.declared.etag.ETag.{ETag}
 use Rattle.exb_frame.specs.TagValues.{tag_of, TagRoundTrip}
 use Rattle.exb_relay.specs.declared.send.SendTo.{SendTo}
@@ -30,7 +31,8 @@ use Rattle.exb_relay.specs.declared.send.Ingress.{Ingress}
 use Rattle.exb_relay.specs.declared.send.Ingress.TheVariants as ingress
 use Rattle.exb_relay.specs.Sends.{sends_of, pcp_of, dei_of, ingress_by}
 use Rattle.exb_relay.specs.Leaving.{Carries, extender_on, coming_out, leaving_by, leaving, all_leaving}
-use Rattle.exb_relay.specs.Laws.{HasPvids, IsBytes, IsSent, IsAt, SendsAreWords, SendsLeaveAsFlat, left_by as carried_by}
+use Rattle.exb_config.specs.Pvids.{HasPvids}
+use Rattle.exb_relay.specs.Laws.{IsBytes, IsSent, IsAt, SendsAreWords, SendsLeaveAsFlat, left_by as carried_by}
 use Rattle.exb_world.specs.declared.world.Left.{Left}
 use Rattle.exb_world.specs.Tables.{goes_out, among_all}
 use Rattle.exb_world.specs.Worlds.{left_at}
@@ -179,31 +181,6 @@ module _ (t : Shape) (n ports : ℕ) (only : IsOnly t n ports) (u : Tables) (ext
           (tag_out x.bridge_port at.port x.tag x.kind at.at at.sent) (sends_out xs (All-tail (IsAt t b m p f) x xs all))
 
 -- ---- an arrival
-relayed_kinds : (s : Seen) → is_relayed_kind s ≡ true → (s ≢ seen.Short) × (s ≢ seen.Long)
-relayed_kinds seen.Plain e = (λ d. cc, λ d. cc)
-relayed_kinds seen.BadTag e = (λ d. cc, λ d. cc)
-relayed_kinds (seen.Priority pcp dei) e = (λ d. cc, λ d. cc)
-relayed_kinds (seen.Tagged pcp dei v) e = (λ d. cc, λ d. cc)
-relayed_kinds seen.Short e = absurd (false≢true e)
-relayed_kinds seen.Long e = absurd (false≢true e)
-relayed_kinds seen.Reserved e = absurd (false≢true e)
-
-pub relayed_long : (f : List ℕ) → is_relayed_kind (kind_of f) ≡ true → 14 ≤ length f
-unfolding kind_of
-relayed_long f h =
-    elim (cases_lt (length f) 14) [
-      | inl low ↦ absurd ((relayed_kinds (kind_of f) h).0 (rw (lt-ltb (length f) 14 low) refl))
-      | inr high ↦ high
-    ]
-
-pub relayed_fits : (f : List ℕ) → is_relayed_kind (kind_of f) ≡ true → length f ≤ 9216
-unfolding kind_of
-relayed_fits f h =
-    elim (cases_lt 9216 (length f)) [
-      | inl high ↦ absurd ((relayed_kinds (kind_of f) h).1 (rw (le-ltb (length f) 14 (omega arith), lt-ltb 9216 (length f) high) refl))
-      | inr low ↦ low
-    ]
-
 none_to : (f : List ℕ) (moment : ℕ) (o : Option ℕ) → sent_as moment f o None ≡ []
 none_to f moment None = refl
 none_to f moment (Some v) = refl

@@ -4,25 +4,11 @@ use Rattle.std.specs.Prelude.{flat_map}
 use Rattle.std.specs.List.{range_with_len}
 use Rattle.std.proofs.lemmas.Bool.{cases_Bool, cases_eq, cases_lt, ne_eqb, lt-ltb, le-ltb, lt-leb, le-leb, ltb-true}
 use Rattle.std.proofs.lemmas.List.{append-nil}
-use Rattle.exb_model.specs.declared.role.Role.{Role}
-use Rattle.exb_model.specs.declared.role.Role.TheVariants as role
 use Rattle.exb_model.specs.Tree.{Shape, IsTree, HasRole, HangsOn, on, device, path, depth, is_port, is_extender, is_cascade, is_external, is_extended, is_under, any_below, trunk, hangs_at_depth, level, levels, by_depth, externals_of, opening_ports}
 use Rattle.exb_model.proofs.TreeWays.{any_below-from, number_at_most, up_low, top_low, path_is}
-use Rattle.exb_model.proofs.TreeHung.{cascade_hangs}
+use Rattle.exb_model.proofs.TreeHung.{cascade_hangs, hung_cascade}
 use Rattle.exb_world.specs.Insides.{IsOnly}
 use Rattle.exb_world.proofs.Ranges.{filter_range-first}
-
-cascade_is : (t : Shape) (n q : ℕ) → n < 65 → HangsOn t n q → is_cascade t q ≡ true
-unfolding is_cascade
-cascade_is t n q low hung =
-    any_below-from (λ m. is_extender t m && on t m == q) 65 n low
-    (rw (lt-ltb 0 n hung.extender, lt-ltb 0 (slice_index t.ports n) hung.there, eq-eqb (on t n) q hung.at) refl)
-
--- a port with another role is no external one
-pub not_external : (t : Shape) (p : ℕ) (r : Role) → IsTree t → HasRole t p r → (r ≡ role.External → ⊥) → is_external t p ≡ false
-not_external t p role.Unknown valid h other = rw h refl
-not_external t p role.External valid h other = absurd (other refl)
-not_external t p (role.Cascade m) valid h other = rw (h.0, cascade_is t m p (let l = number_at_most t valid m p h.1 in omega arith) h.1) refl
 
 -- a port of the tree at an extender is the only extender's
 pub device_is : (t : Shape) (n : ℕ) → ((m : ℕ) → 0 < m → m ≢ n → slice_index t.ports m ≡ 0) → (p : ℕ) → 64 ≤ p → is_port t p ≡ true → device p ≡ n
@@ -47,7 +33,7 @@ module _ (t : Shape) (n ports : ℕ) (only : IsOnly t n ports) where
       ]
 
   trunk_cascade : is_cascade t (on t n) ≡ true
-  trunk_cascade = cascade_is t n (on t n) only.number hangs_on
+  trunk_cascade = hung_cascade t only.tree n (on t n) hangs_on
 
   pub is_cascade_is : (p : ℕ) → is_cascade t p ≡ (p == on t n)
   is_cascade_is p =

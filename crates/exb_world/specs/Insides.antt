@@ -16,7 +16,7 @@ use Rattle.exb_plans.specs.Sets.{seen}
 use Rattle.exb_relay.specs.Numbers.{IsReady}
 use Rattle.exb_relay.specs.Spaces.{numbers_of, HasSpaces}
 use Rattle.exb_relay.specs.Leaving.{Carries}
-use Rattle.exb_relay.specs.Laws.{HasPvids}
+use Rattle.exb_config.specs.Pvids.{HasPvids}
 use Rattle.exb_world.specs.declared.bridge.Controller.{Controller}
 use Rattle.exb_world.specs.declared.extender.Extender.{Extender}
 use Rattle.exb_world.specs.declared.arrival.Log.{Log}

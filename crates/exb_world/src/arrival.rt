@@ -125,7 +125,7 @@ fn bring_up(
     ensures port { result ≡ (if is_relayed (bridge_of bridge.now.config) port frame.now then Some port else None) }
     ensures frame { is_relayed (bridge_of bridge.now.config) port frame.now ≡ true → into.new.items ≡ frame.now }
 {
-    let at = (port.number() % 64) as u8;
+    let at = port.place();
     if !extender.take_up(at, frame, word) {
         return None;
     }

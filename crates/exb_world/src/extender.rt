@@ -10,9 +10,9 @@ ghost use Rattle.exb_model.specs.EagerHistory.{is_relayed_kind};
 ghost use Rattle.exb_frame.specs.TagValues.{tag_of};
 ghost use Rattle.exb_world.specs.Tables.{channel_tag, goes_out, sends_out};
 
-use crate::bridge::is_relayed_kind;
 use arrayvec::ArrayVec;
 use exb_frame::etag::{ETag, strip_into, tag_into};
+use exb_frame::is_relayed_kind;
 use exb_members::MemberSets;
 use exb_model::buffers::FrameBuf;
 use exb_model::memory::NoMemory;

@@ -12,11 +12,11 @@ ghost use Rattle.exb_world.specs.Worlds.{with_up};
 
 use crate::bridge::Controller;
 use crate::extender::Extender;
-use crate::sending::port_at;
 use exb_model::command::Command;
 use exb_model::event::Event;
 use exb_model::list::List;
 use exb_model::memory::NoMemory;
+use exb_model::port::PortId;
 use exb_model::port_set::PortSet;
 use exb_numbers::Spaces;
 use exb_numbers::laws::{channels_are_apart, groups_are_apart};
@@ -44,7 +44,7 @@ fn raise(
 {
     channels_are_apart();
     let trunk = bridge.tree.trunk(extender.number);
-    let port = port_at(extender.number, at);
+    let port = PortId::at(extender.number, at);
     let channel = bridge.spaces.channels_mut(trunk).claim(port).unwrap();
     extender.create(at, channel);
     bridge.config.apply(&Command::Up { port })?;

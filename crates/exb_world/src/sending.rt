@@ -54,15 +54,6 @@ impl Outgoing {
     }
 }
 
-/// Port `at` of extender `number`, counted from 0; extender 0 is the bridge.
-pub(crate) fn port_at(number: u8, at: u8) -> PortId
-    requires numbered { number ≤ 64 }
-    requires port { at < 64 }
-    ensures { result ≡ 64 * number + at }
-{
-    PortId::new(64 * number as u16 + at as u16).unwrap()
-}
-
 /// A frame leaves at a port.
 fn put_left(
     alloc: Global,
@@ -95,7 +86,7 @@ fn leave_at(
     ensures { OnOk result (left.new ≡ left.old ++ leaving_at number moment frame.now ports.now) }
 {
     for at in ports {
-        put_left(alloc, port_at(number, *at), moment, frame, left)?;
+        put_left(alloc, PortId::at(number, *at), moment, frame, left)?;
     }
     Ok(())
 }
@@ -161,7 +152,7 @@ fn send(
     match &send.tag {
         None => put_left(
             alloc,
-            port_at(0, send.bridge_port - 1),
+            PortId::at(0, send.bridge_port - 1),
             passed.moment,
             outgoing.frame.as_slice(),
             left,

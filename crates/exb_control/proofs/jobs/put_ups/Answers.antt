@@ -13,6 +13,7 @@ loop-place-preserved c =
     let a = 64 * c.args.extender in
     let p = c.loop-place.place in
     c.in_ok-put_up.ensures
+    ∙ ap (λ q. c.loop-place.queue ++ up_if (is_external t q) q) c.at.ensures
     ∙ ap (λ (js : List Job). js ++ up_if (is_external t (a + p)) (a + p)) c.loop-place.invariant
     ∙ append_assoc c.args.queue.now (ups t (range_with_len a p)) (up_if (is_external t (a + p)) (a + p))
     ∙ ap (λ (js : List Job). c.args.queue.now ++ js) (sym (ups_more t a p))

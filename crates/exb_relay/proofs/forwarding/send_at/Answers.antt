@@ -1,4 +1,4 @@
-use Rattle.std.proofs.Common.{◌≡◌, ℕ, ◌++◌, true, false, List, None, ◌==◌, cond, sym, ◌∙◌, ap, subst}
+use Rattle.std.proofs.Common.{◌≡◌, ℕ, ◌++◌, true, false, List, None, ◌==◌, cond, sym, ◌∙◌, ap, subst, arith}
 use Rattle.std.proofs.lemmas.List.{append-nil, append_assoc}
 use Rattle.exb_model.specs.Ports.{port_in}
 use Rattle.exb_model.specs.Tree.{is_port, is_cascade, is_external}
@@ -16,17 +16,17 @@ joined xs ys zs a b e d = d ∙ (ap (λ w. w ++ b) e ∙ append_assoc xs a b)
 
 pub send_to_set-requires-clause-cascade : goal.send_to_set-requires-clause-cascade
 send_to_set-requires-clause-cascade c =
-    let at : c.in-Some.port ≡ c.args.place = c.in-Some.ensures.value ∙ c.from.ensures in
-    subst (λ (x : ℕ). is_cascade c.args.tree.now x ≡ true) at (cascade_from c.args.tree.now c.is_tree.ensures c.in-Cascade.extender c.in-Some.port c.in-Cascade.ensures.1)
+    let at : c.at-port.result ≡ c.args.place = omega (arith, c.at-port.ensures) in
+    subst (λ (x : ℕ). is_cascade c.args.tree.now x ≡ true) at (cascade_from c.args.tree.now c.is_tree.ensures c.in-Cascade.extender c.at-port.result c.in-Cascade.ensures.1)
 
 pub send_to_set-requires-in-Cascade-clause-cascade : goal.send_to_set-requires-in-Cascade-clause-cascade
 send_to_set-requires-in-Cascade-clause-cascade c =
-    let at : c.in-Some.port ≡ c.args.place = c.in-Some.ensures.value ∙ c.from.ensures in
-    subst (λ (x : ℕ). is_cascade c.args.tree.now x ≡ true) at (cascade_from c.args.tree.now c.is_tree.ensures c.in-Cascade.extender c.in-Some.port c.in-Cascade.ensures.1)
+    let at : c.at-port.result ≡ c.args.place = omega (arith, c.at-port.ensures) in
+    subst (λ (x : ℕ). is_cascade c.args.tree.now x ≡ true) at (cascade_from c.args.tree.now c.is_tree.ensures c.in-Cascade.extender c.at-port.result c.in-Cascade.ensures.1)
 
 pub returns-in-Unknown-clause-items : goal.returns-in-Unknown-clause-items
 returns-in-Unknown-clause-items c =
-    let at : c.in-Some.port ≡ c.args.place = c.in-Some.ensures.value ∙ c.from.ensures in
+    let at : c.at-port.result ≡ c.args.place = omega (arith, c.at-port.ensures) in
     let none : is_port c.args.tree.now c.args.place ≡ false = subst (λ (x : ℕ). is_port c.args.tree.now x ≡ false) at c.in-Unknown.ensures in
     rw (at_unknown c.args.tree.now c.is_tree.ensures (numbers_of c.args.spaces.now) c.args.source.now (port_in c.args.members.now.tagged) (port_in c.args.members.now.untagged) c.args.place c.requires.tagged c.requires.untagged none)
     (sym (append-nil c.args.sends.now.items))
@@ -35,7 +35,7 @@ pub returns-in-External-clause-items : goal.returns-in-External-clause-items
 returns-in-External-clause-items c =
     let t = c.args.tree.now in
     let k = c.args.place in
-    let at : c.in-Some.port ≡ k = c.in-Some.ensures.value ∙ c.from.ensures in
+    let at : c.at-port.result ≡ k = omega (arith, c.at-port.ensures) in
     let ext : is_external t k ≡ true = subst (λ (x : ℕ). is_external t x ≡ true) at c.in-External.ensures in
     let tagged = port_in c.args.members.now.tagged in
     let untagged = port_in c.args.members.now.untagged in
@@ -47,9 +47,9 @@ pub returns-in-Cascade-clause-items : goal.returns-in-Cascade-clause-items
 returns-in-Cascade-clause-items c =
     let t = c.args.tree.now in
     let k = c.args.place in
-    let at : c.in-Some.port ≡ k = c.in-Some.ensures.value ∙ c.from.ensures in
+    let at : c.at-port.result ≡ k = omega (arith, c.at-port.ensures) in
     let cascade : is_cascade t k ≡ true =
-    subst (λ (x : ℕ). is_cascade t x ≡ true) at (cascade_from t c.is_tree.ensures c.in-Cascade.extender c.in-Some.port c.in-Cascade.ensures.1) in
+    subst (λ (x : ℕ). is_cascade t x ≡ true) at (cascade_from t c.is_tree.ensures c.in-Cascade.extender c.at-port.result c.in-Cascade.ensures.1) in
     let tagged = port_in c.args.members.now.tagged in
     let untagged = port_in c.args.members.now.untagged in
     rw (at_cascade t c.is_tree.ensures (numbers_of c.args.spaces.now) c.args.source.now tagged untagged k c.requires.tagged c.requires.untagged cascade)

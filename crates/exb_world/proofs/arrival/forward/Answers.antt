@@ -9,7 +9,8 @@ use Rattle.exb_relay.specs.Sends.{sends_of}
 use Rattle.exb_relay.specs.Spaces.{numbers_of}
 use Rattle.exb_world.specs.Sending.{CanSend}
 use Rattle.exb_world.proofs.Filters.{and_first, and_second}
-use Rattle.exb_world.proofs.Frames.{relayed_long, priority_small, pcp_small, passed_is, can_send_all}
+use Rattle.exb_model.proofs.FrameKinds.{relayed_long}
+use Rattle.exb_world.proofs.Frames.{priority_small, pcp_small, passed_is, can_send_all}
 use Rattle.exb_world.proofs.arrival.forward.Goals as goal
 
 pub learn-requires-clause-frame : goal.learn-requires-clause-frame

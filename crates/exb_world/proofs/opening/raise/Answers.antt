@@ -20,7 +20,7 @@ claim-requires c =
     let t = c.args.bridge.now.tree in
     let s = c.args.bridge.now.spaces in
     let place : c.trunk-trunk.result - 1 ≡ on t x.number = omega (arith, c.trunk-trunk.ensures.value, trunk_is t x.number x.ports c.requires.only) in
-    ap (λ v. channel_of v c.port_at-port.result) (c.channels_mut.ensures.value ∙ ap (channels_at s) place) ∙ ap (channel_of (channels_at s (on t x.number))) c.port_at-port.ensures
+    ap (λ v. channel_of v c.at-port.result) (c.channels_mut.ensures.value ∙ ap (channels_at s) place) ∙ ap (channel_of (channels_at s (on t x.number))) c.at-port.ensures
     ∙ no_channel s (on t x.number) x.number (tables_of x) c.args.at c.requires.raised (c.channels_are_apart.ensures.holder (channels_at s (on t x.number)))
 
 pub unwrap-channel-requires : goal.unwrap-channel-requires
@@ -59,5 +59,5 @@ returns-clause-raised c =
     c.unwrap-channel.ensures in
     on_ok c.push.result
     (raise_step s (on t x.number) (c.trunk-trunk.result - 1) x.number (tables_of x) (tables_of c.create.new.self) c.args.at c.unwrap-channel.result c.channels_mut.result.now c.claim.new.self
-    c.port_at-port.result c.requires.raised place small is c.port_at-port.ensures c.channels_mut.ensures.value
+    c.at-port.result c.requires.raised place small is c.at-port.ensures c.channels_mut.ensures.value
     (rw c.unwrap-channel.ensures at c.claim.ensures.ok) (rw c.unwrap-channel.ensures at c.claim.ensures.holders) c.create.ensures.tables)
