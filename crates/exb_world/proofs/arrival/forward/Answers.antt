@@ -1,4 +1,4 @@
-use Rattle.std.proofs.Common.{◌≡◌, ℕ, ◌<◌, ◌≤◌, List, All, length, arith, ap, sym, subst, ◌∙◌}
+use Rattle.std.proofs.Common.{arith, sym, ◌∙◌}
 use Rattle.exb_model.specs.Frames.{kind_of}
 use Rattle.exb_model.specs.Learning.{passes}
 use Rattle.exb_model.specs.EagerHistory.{is_relayed_kind}
