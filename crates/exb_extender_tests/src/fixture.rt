@@ -2,8 +2,8 @@
 ghost use Rattle.std.specs.Prelude.{◌≡◌, ◌≤◌, length};
 ghost use Rattle.exb_extender.specs.Fields.{state_of};
 
-use crate::{Entry, Extender, Out, Sends, Side};
 use exb_ecp::Pdu;
+use exb_extender::{Entry, Extender, Out, Sends, Side};
 use exb_model::address::Mac;
 use exb_model::buffers::ControlBuf;
 use std::alloc::Global;
