@@ -19,6 +19,3 @@ pub use asked::Asked;
 pub use fabric::Fabric;
 pub use job::{Job, Phase};
 pub use stage::Stage;
-
-#[cfg(test)]
-mod tests;

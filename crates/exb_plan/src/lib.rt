@@ -19,6 +19,3 @@ pub use change::{Change, Decision, Number};
 pub use groups::GroupAt;
 pub use planning::{make_change, plan};
 pub use refusals::channels_short;
-
-#[cfg(test)]
-mod tests;

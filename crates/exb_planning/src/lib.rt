@@ -17,6 +17,3 @@ pub mod uses;
 pub use planning::plan_command;
 pub use touched::{parts_after, parts_before};
 pub use uses::Uses;
-
-#[cfg(test)]
-mod uses_tests;

@@ -13,8 +13,6 @@ ghost use Rattle.exb_planning.specs.Cutting.{state_at, IsGround, IsGroundOf, IsA
 
 pub(crate) mod ground;
 mod members;
-#[cfg(test)]
-mod tests;
 
 use crate::touched::ground::{Ground, When};
 use crate::touched::members::members_at;

@@ -7,8 +7,6 @@ mod ground;
 pub mod group_sets;
 pub mod laws;
 pub mod set_rows;
-#[cfg(test)]
-mod tests;
 
 pub use group_sets::{SetAt, sets};
 pub use set_rows::{Row, rows};

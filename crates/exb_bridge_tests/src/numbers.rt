@@ -1,9 +1,9 @@
 //! Claims and releases, with the numbers that are told of them.
-use super::*;
-use crate::groups::has_ports;
-use crate::laws::{channels_are_apart, groups_are_apart};
 use exb_model::port::PortId;
 use exb_model::port_set::PortSet;
+use exb_numbers::groups::has_ports;
+use exb_numbers::laws::{channels_are_apart, groups_are_apart};
+use exb_numbers::{Channels, Groups, NoChannel, NoGroup};
 use std::process::Abort;
 use std::test::Fail;
 

@@ -1,5 +1,5 @@
 //! What is learned, aged and forgotten, second by second.
-use super::*;
+use exb_learn::Learned;
 use exb_model::address::Mac;
 use exb_model::memory::NoMemory;
 use exb_model::port::PortId;

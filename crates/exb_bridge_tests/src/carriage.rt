@@ -1,6 +1,7 @@
+//! Words through whole trees of extenders, by tables that are laid by hand.
 ghost use Rattle.std.specs.Prelude.{◌<◌, ◌≤◌};
 
-use crate::{PlainTables, carried, emits};
+use exb_carriage::{PlainTables, carried, emits};
 use exb_model::list::List;
 use exb_model::memory::NoMemory;
 use exb_model::port::PortId;
@@ -10,63 +11,60 @@ use exb_model::tree::Tree;
 use exb_rows::rows;
 use std::alloc::Global;
 use std::process::Abort;
-use std::test::*;
 
 /// The first group of a space.
 const GROUP: u16 = 0x1000;
 
-impl PlainTables {
-    // No extender, and empty tables.
-    fn new(alloc: Global) -> Result<PlainTables, NoMemory> {
-        let mut tables = PlainTables {
-            on: Vec::new(alloc),
-            channels: Vec::new(alloc),
-            cascades: Vec::new(alloc),
-            ecids: Vec::new(alloc),
-        };
-        tables.on.resize(65, 0)?;
-        tables.channels.resize(4160, 0)?;
-        tables.cascades.resize(4160, false)?;
-        for _port in 0..4160u16 {
-            tables.ecids.push(List::new(alloc))?;
-        }
-        Ok(tables)
+// No extender, and empty tables.
+fn empty_tables(alloc: Global) -> Result<PlainTables, NoMemory> {
+    let mut tables = PlainTables {
+        on: Vec::new(alloc),
+        channels: Vec::new(alloc),
+        cascades: Vec::new(alloc),
+        ecids: Vec::new(alloc),
+    };
+    tables.on.resize(65, 0)?;
+    tables.channels.resize(4160, 0)?;
+    tables.cascades.resize(4160, false)?;
+    for _port in 0..4160u16 {
+        tables.ecids.push(List::new(alloc))?;
     }
+    Ok(tables)
+}
 
-    // Hangs an extender on a port.
-    fn hang(&mut self, extender: u8, on: PortId) {
-        if let Some(at) = self.on.as_mut_slice().get_mut(extender as usize) {
-            *at = on.number();
+// Hangs an extender on a port.
+fn hang(tables: &mut PlainTables, extender: u8, on: PortId) {
+    if let Some(at) = tables.on.as_mut_slice().get_mut(extender as usize) {
+        *at = on.number();
+    }
+}
+
+// Gives a port a channel and a kind.
+fn create(tables: &mut PlainTables, port: PortId, channel: u16, cascade: bool) {
+    let number = port.number() as usize;
+    if let Some(own) = tables.channels.as_mut_slice().get_mut(number) {
+        *own = channel;
+    }
+    if let Some(kind) = tables.cascades.as_mut_slice().get_mut(number) {
+        *kind = cascade;
+    }
+}
+
+// Gives the E-CID a pair with each port of an extender in the mask, whose bit k - 1 is port k.
+fn register(tables: &mut PlainTables, extender: u8, ecid: u16, mask: u64) -> Result<(), NoMemory> {
+    for place in 0..64u16 {
+        if mask >> place & 1 == 1 {
+            add(tables, 64 * extender as u16 + place, ecid)?;
         }
     }
+    Ok(())
+}
 
-    // Gives a port a channel and a kind.
-    fn create(&mut self, port: PortId, channel: u16, cascade: bool) {
-        let number = port.number() as usize;
-        if let Some(own) = self.channels.as_mut_slice().get_mut(number) {
-            *own = channel;
-        }
-        if let Some(kind) = self.cascades.as_mut_slice().get_mut(number) {
-            *kind = cascade;
-        }
-    }
-
-    // Gives the E-CID a pair with each port of an extender in the mask, whose bit k - 1 is port k.
-    fn register(&mut self, extender: u8, ecid: u16, mask: u64) -> Result<(), NoMemory> {
-        for place in 0..64u16 {
-            if mask >> place & 1 == 1 {
-                self.add(64 * extender as u16 + place, ecid)?;
-            }
-        }
-        Ok(())
-    }
-
-    // Gives the E-CID a pair with a port.
-    fn add(&mut self, port: u16, ecid: u16) -> Result<(), NoMemory> {
-        match self.ecids.as_mut_slice().get_mut(port as usize) {
-            Some(ecids) => ecids.push(ecid),
-            None => Ok(()),
-        }
+// Gives the E-CID a pair with a port.
+fn add(tables: &mut PlainTables, port: u16, ecid: u16) -> Result<(), NoMemory> {
+    match tables.ecids.as_mut_slice().get_mut(port as usize) {
+        Some(ecids) => ecids.push(ecid),
+        None => Ok(()),
     }
 }
 
@@ -123,7 +121,7 @@ struct Fixture {
 
 // These extenders below a bridge with 64 ports, with empty tables.
 fn below_bridge(rt: &impl Abort, alloc: Global, extenders: List<ExtenderSetup>) -> Fixture {
-    let mut tables = PlainTables::new(alloc).expect(rt, "memory");
+    let mut tables = empty_tables(alloc).expect(rt, "memory");
     for extender in extenders.as_slice() {
         let on = match extender.on {
             Place::Bridge { port } => PortId::new(port.saturating_sub(1) as u16),
@@ -131,7 +129,7 @@ fn below_bridge(rt: &impl Abort, alloc: Global, extenders: List<ExtenderSetup>) 
                 PortId::new(64 * number as u16 + port.saturating_sub(1) as u16)
             }
         };
-        tables.hang(extender.number, on.expect(rt, "a port"));
+        hang(&mut tables, extender.number, on.expect(rt, "a port"));
     }
     let setup = Setup {
         ports: 64,
@@ -154,9 +152,7 @@ impl Fixture {
     fn lay(&mut self, rt: &impl Abort, set: &PortSet, group: u16) {
         let rows = rows(self.alloc, &self.tree, set).expect(rt, "memory");
         for row in rows.as_slice() {
-            self.tables
-                .register(row.extender, group, row.mask)
-                .expect(rt, "memory");
+            register(&mut self.tables, row.extender, group, row.mask).expect(rt, "memory");
         }
     }
 
@@ -182,38 +178,15 @@ fn chain(rt: &impl Abort, alloc: Global) -> Fixture {
     }
     let mut fixture = below_bridge(rt, alloc, extenders);
     for number in 1..64u8 {
-        fixture.tables.create(port(number, 64), number as u16, true);
+        create(&mut fixture.tables, port(number, 64), number as u16, true);
     }
-    fixture.tables.create(port(1, 1), 64, false);
-    fixture.tables.create(port(64, 1), 65, false);
+    create(&mut fixture.tables, port(1, 1), 64, false);
+    create(&mut fixture.tables, port(64, 1), 65, false);
     let mut set = PortSet::empty();
     set.insert(port(1, 1));
     set.insert(port(64, 1));
     fixture.lay(rt, &set, GROUP);
     fixture
-}
-
-#[test]
-fn a_group_word_goes_down_a_chain_of_64_to_both_ends_and_not_back_to_its_source(rt: HostRuntime) {
-    let fixture = chain(&rt, rt.alloc());
-    assert_eq!(rt; fixture.bytes_at(&rt, 1, &word(0, GROUP), port(64, 1)), 52);
-    assert_eq!(rt; fixture.bytes_at(&rt, 1, &word(0, GROUP), port(1, 1)), 52);
-    assert_eq!(rt; fixture.bytes_at(&rt, 1, &word(64, GROUP), port(64, 1)), 52);
-    assert_eq!(rt; fixture.bytes_at(&rt, 1, &word(64, GROUP), port(1, 1)), 0);
-    assert_eq!(rt; fixture.bytes_at(&rt, 1, &word(65, GROUP), port(64, 1)), 0);
-}
-
-#[test]
-fn a_group_word_leaves_at_no_port_of_a_chain_that_is_not_in_its_set(rt: HostRuntime) {
-    let fixture = chain(&rt, rt.alloc());
-    let mut leaving = 0u64;
-    for number in 64..4160u16 {
-        let port = PortId::new(number).unwrap();
-        if number % 64 != 63 && fixture.bytes_at(&rt, 1, &word(0, GROUP), port) > 0 {
-            leaving = leaving.saturating_add(1);
-        }
-    }
-    assert_eq!(rt; leaving, 2u64);
 }
 
 // 64 extenders below one bridge port, 63 of them on the ports of the first. All their external ports have
@@ -230,26 +203,13 @@ fn broom(rt: &impl Abort, alloc: Global) -> Fixture {
     let mut set = PortSet::empty();
     for number in 64..4160u16 {
         let port = PortId::new(number).unwrap();
-        fixture.tables.create(port, number - 63, number < 127);
+        create(&mut fixture.tables, port, number - 63, number < 127);
         if number >= 127 {
             set.insert(port);
         }
     }
     fixture.lay(rt, &set, GROUP);
     fixture
-}
-
-#[test]
-fn a_group_word_comes_out_at_all_4033_external_ports_below_one_bridge_port(rt: HostRuntime) {
-    let fixture = broom(&rt, rt.alloc());
-    let mut leaving = 0u64;
-    for number in 127..4160u16 {
-        let port = PortId::new(number).unwrap();
-        if fixture.bytes_at(&rt, 1, &word(0, GROUP), port) == 52 {
-            leaving = leaving.saturating_add(1);
-        }
-    }
-    assert_eq!(rt; leaving, 4033u64);
 }
 
 // An extender on b1 with one port in use and one on b2 with two. In each space the first port has channel
@@ -259,9 +219,9 @@ fn two_spaces(rt: &impl Abort, alloc: Global) -> Fixture {
     extenders.push(extender(1, 0, 1)).expect(rt, "memory");
     extenders.push(extender(2, 0, 2)).expect(rt, "memory");
     let mut fixture = below_bridge(rt, alloc, extenders);
-    fixture.tables.create(port(1, 1), 1, false);
-    fixture.tables.create(port(2, 1), 1, false);
-    fixture.tables.create(port(2, 2), 2, false);
+    create(&mut fixture.tables, port(1, 1), 1, false);
+    create(&mut fixture.tables, port(2, 1), 1, false);
+    create(&mut fixture.tables, port(2, 2), 2, false);
     let mut first = PortSet::empty();
     first.insert(port(1, 1));
     fixture.lay(rt, &first, GROUP);
@@ -272,38 +232,72 @@ fn two_spaces(rt: &impl Abort, alloc: Global) -> Fixture {
     fixture
 }
 
-#[test]
-fn one_number_means_another_set_below_each_bridge_port(rt: HostRuntime) {
-    let fixture = two_spaces(&rt, rt.alloc());
-    assert_eq!(rt; fixture.bytes_at(&rt, 1, &word(0, GROUP), port(1, 1)), 52);
-    assert_eq!(rt; fixture.bytes_at(&rt, 1, &word(0, GROUP), port(2, 1)), 0);
-    assert_eq!(rt; fixture.bytes_at(&rt, 2, &word(0, GROUP), port(1, 1)), 0);
-    assert_eq!(rt; fixture.bytes_at(&rt, 2, &word(0, GROUP), port(2, 2)), 52);
+// At how many ports of these numbers that are of an extender and no cascade ports of a chain the frame leaves.
+fn leaving(rt: &impl Abort, fixture: &Fixture, first: u16, but: u16) -> u64 {
+    let mut leaving = 0u64;
+    for number in first..4160 {
+        if let Some(port) = PortId::new(number) {
+            if number % 64 != but && fixture.bytes_at(rt, 1, &word(0, GROUP), port) == 52 {
+                leaving = leaving.saturating_add(1);
+            }
+        }
+    }
+    leaving
 }
 
-#[test]
-fn an_ingress_number_of_another_space_would_leave_a_port_out(rt: HostRuntime) {
-    let fixture = two_spaces(&rt, rt.alloc());
-    // A frame of x1.1, whose channel is 1 too, must come to b2 with 0.
-    assert_eq!(rt; fixture.bytes_at(&rt, 2, &word(1, GROUP), port(2, 1)), 0);
-    assert_eq!(rt; fixture.bytes_at(&rt, 2, &word(0, GROUP), port(2, 1)), 52);
+// The extender that a word enters, its ingress number, the port at which it leaves, and how many bytes leave there.
+type Word = (u16, u8, (u8, u8), usize);
+
+/// Down a chain of 64 to both ends, and not back to the source.
+const CHAIN: [Word; 5] = [
+    (1, 0, (64, 1), 52),
+    (1, 0, (1, 1), 52),
+    (1, 64, (64, 1), 52),
+    (1, 64, (1, 1), 0),
+    (1, 65, (64, 1), 0),
+];
+
+/// One number means another set below each port of the bridge. An ingress number of another space would leave a port out:
+/// a frame of x1.1, whose channel is 1 as that of x2.1, must come to b2 with 0.
+const SPACES: [Word; 6] = [
+    (1, 0, (1, 1), 52),
+    (1, 0, (2, 1), 0),
+    (2, 0, (1, 1), 0),
+    (2, 0, (2, 2), 52),
+    (2, 1, (2, 1), 0),
+    (2, 0, (2, 1), 52),
+];
+
+// Asserts that each word leaves with so many bytes.
+fn judge(rt: &impl Abort, fixture: &Fixture, words: &[Word]) {
+    for (extender, ingress, (number, at), wanted) in words {
+        assert!(rt; *number < 65 && *at > 0 && *at < 65);
+        let bytes = fixture.bytes_at(rt, *extender, &word(*ingress, GROUP), port(*number, *at));
+        assert_eq!(rt; bytes, *wanted, "at x{number}.{at} from {ingress}");
+    }
 }
 
-#[test]
-fn a_word_with_an_extension_byte_is_dropped(rt: HostRuntime) {
-    let mut fixture = two_spaces(&rt, rt.alloc());
-    fixture.tables.register(1, 1, 1).expect(&rt, "memory");
+// Whether a word of channel 1 with this last byte of its E-TAG leaves x1.1.
+fn leaves_with(rt: &impl Abort, fixture: &mut Fixture, extension: u8) -> bool {
+    register(&mut fixture.tables, 1, 1, 1).expect(rt, "memory");
     let mut frame = word(0, 1);
+    frame[19] = extension;
     let at = port(1, 1).number();
-    assert!(rt;
-        emits(rt.alloc(), &fixture.tables, at, &frame)
-            .expect(&rt, "memory")
-            .is_some()
-    );
-    frame[19] = 1;
-    assert!(rt;
-        emits(rt.alloc(), &fixture.tables, at, &frame)
-            .expect(&rt, "memory")
-            .is_none()
-    );
+    let left = emits(fixture.alloc, &fixture.tables, at, &frame);
+    left.expect(rt, "memory").is_some()
+}
+
+#[test]
+fn words_leave_where_they_must(rt: HostRuntime) {
+    let alloc = rt.alloc();
+    let chain = chain(&rt, alloc);
+    judge(&rt, &chain, &CHAIN);
+    // At no port of the chain that is not in the set; at all 4,033 external ports below one port of the bridge.
+    assert_eq!(rt; leaving(&rt, &chain, 64, 63), 2);
+    assert_eq!(rt; leaving(&rt, &broom(&rt, alloc), 127, 64), 4033);
+    let mut spaces = two_spaces(&rt, alloc);
+    judge(&rt, &spaces, &SPACES);
+    // A word with an extension byte that isn't 0 is dropped.
+    assert!(rt; leaves_with(&rt, &mut spaces, 0));
+    assert!(rt; !leaves_with(&rt, &mut spaces, 1));
 }
