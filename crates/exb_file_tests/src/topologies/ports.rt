@@ -267,19 +267,10 @@ const EARLIER_TABLE: [(&str, &str); 5] = [
 ];
 
 #[test]
-fn each_port_that_is_not_external(rt: HostRuntime) -> Result<(), AllocError> {
-    judge(&rt, rt.alloc(), SITE, &UNKNOWN)
-}
-
-#[test]
-fn each_thing_that_is_given_twice(rt: HostRuntime) -> Result<(), AllocError> {
-    judge(&rt, rt.alloc(), SITE, &REPEAT)?;
-    judge(&rt, rt.alloc(), "", &PREFIXED)
-}
-
-#[test]
-fn the_third_pass_takes_an_earlier_table_before_a_later_one(
-    rt: HostRuntime,
-) -> Result<(), AllocError> {
-    judge(&rt, rt.alloc(), SITE, &EARLIER_TABLE)
+fn each_fault_of_words_for_ports(rt: HostRuntime) {
+    let alloc = rt.alloc();
+    judge(&rt, alloc, SITE, &UNKNOWN);
+    judge(&rt, alloc, SITE, &REPEAT);
+    judge(&rt, alloc, "", &PREFIXED);
+    judge(&rt, alloc, SITE, &EARLIER_TABLE);
 }

@@ -283,89 +283,32 @@ const GO: [(&str, &str); 5] = [
     ("port = 'b1'\n", "ok"),
 ];
 
-#[test]
-fn each_fault_that_any_command_can_have(rt: HostRuntime) -> Result<(), AllocError> {
-    judge(&rt, rt.alloc(), SITE, &ANY)
+// Asserts that commands of an operation have these verdicts.
+fn judge_operation(rt: &impl Abort, alloc: Global, operation: &str, cases: &[(&str, &str)]) {
+    let head = format!(in alloc;
+        "bridge = {{ports = 3}}\n[[command]]\nat = 5\nop = '{operation}'\n"
+    );
+    let head = head.expect(rt, "memory");
+    judge(rt, alloc, head.as_str(), cases);
 }
 
 #[test]
-fn each_fault_at_commands_for_vlans(rt: HostRuntime) -> Result<(), AllocError> {
-    judge(
-        &rt,
-        rt.alloc(),
-        "bridge = {ports = 3}\n[[command]]\nat = 5\nop = 'vlan'\n",
-        &SET_VLAN,
-    )?;
-    judge(
-        &rt,
-        rt.alloc(),
-        "bridge = {ports = 3}\n[[command]]\nat = 5\nop = 'member'\n",
-        &PUT_MEMBER,
-    )?;
-    judge(
-        &rt,
-        rt.alloc(),
-        "bridge = {ports = 3}\n[[command]]\nat = 5\nop = 'unmember'\n",
-        &TAKE_MEMBER,
-    )
-}
-
-#[test]
-fn each_fault_at_commands_for_rules_of_ports(rt: HostRuntime) -> Result<(), AllocError> {
-    judge(
-        &rt,
-        rt.alloc(),
-        "bridge = {ports = 3}\n[[command]]\nat = 5\nop = 'pvid'\n",
-        &SET_PVID,
-    )?;
-    judge(
-        &rt,
-        rt.alloc(),
-        "bridge = {ports = 3}\n[[command]]\nat = 5\nop = 'accept'\n",
-        &SET_ACCEPT,
-    )?;
-    judge(
-        &rt,
-        rt.alloc(),
-        "bridge = {ports = 3}\n[[command]]\nat = 5\nop = 'filter'\n",
-        &SET_FILTER,
-    )?;
-    judge(
-        &rt,
-        rt.alloc(),
-        "bridge = {ports = 3}\n[[command]]\nat = 5\nop = 'isolate'\n",
-        &ISOLATE,
-    )
-}
-
-#[test]
-fn each_fault_at_commands_for_static_entries(rt: HostRuntime) -> Result<(), AllocError> {
-    judge(
-        &rt,
-        rt.alloc(),
-        "bridge = {ports = 3}\n[[command]]\nat = 5\nop = 'static'\n",
-        &PUT_STATIC,
-    )?;
-    judge(
-        &rt,
-        rt.alloc(),
-        "bridge = {ports = 3}\n[[command]]\nat = 5\nop = 'unstatic'\n",
-        &TAKE_STATIC,
-    )
-}
-
-#[test]
-fn each_fault_at_commands_for_presence(rt: HostRuntime) -> Result<(), AllocError> {
-    judge(
-        &rt,
-        rt.alloc(),
-        "bridge = {ports = 3}\n[[command]]\nat = 5\nop = 'up'\n",
-        &GO,
-    )?;
-    judge(
-        &rt,
-        rt.alloc(),
-        "bridge = {ports = 3}\n[[command]]\nat = 5\nop = 'down'\n",
-        &GO,
-    )
+fn each_fault_of_commands(rt: HostRuntime) {
+    let alloc = rt.alloc();
+    judge(&rt, alloc, SITE, &ANY);
+    for (operation, cases) in [
+        ("vlan", SET_VLAN.as_slice()),
+        ("member", PUT_MEMBER.as_slice()),
+        ("unmember", TAKE_MEMBER.as_slice()),
+        ("pvid", SET_PVID.as_slice()),
+        ("accept", SET_ACCEPT.as_slice()),
+        ("filter", SET_FILTER.as_slice()),
+        ("isolate", ISOLATE.as_slice()),
+        ("static", PUT_STATIC.as_slice()),
+        ("unstatic", TAKE_STATIC.as_slice()),
+        ("up", GO.as_slice()),
+        ("down", GO.as_slice()),
+    ] {
+        judge_operation(&rt, alloc, operation, cases);
+    }
 }

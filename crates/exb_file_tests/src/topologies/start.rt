@@ -1,7 +1,5 @@
 //! What a good file says: defaults, words for ports, addresses, and the order of the start.
 use super::*;
-use exb_model::setup::{ExtenderSetup, Place, Verdict};
-use std::test::Fail;
 
 const WORDS: [(&str, &str); 17] = [
     ("['b1']", "vlan 7 tagged b1 untagged; "),
@@ -130,76 +128,48 @@ const COMMANDS: [(&str, &str); 12] = [
     ),
 ];
 
-#[test]
-fn each_form_of_a_word_for_ports(rt: HostRuntime) -> Result<(), AllocError> {
-    let head = format!(in rt.alloc(); "{SITE}[[vlan]]\nvid = 7\ntagged = ")?;
-    tell(&rt, rt.alloc(), head.as_str(), &WORDS)
-}
-
-#[test]
-fn the_start_is_ports_then_vlans_then_static_entries_in_file_order(
-    rt: HostRuntime,
-) -> Result<(), AllocError> {
-    tell(&rt, rt.alloc(), SITE, &START)
-}
-
-#[test]
-fn each_operation_has_its_command(rt: HostRuntime) -> Result<(), AllocError> {
-    for (command, wanted) in COMMANDS {
-        let file = format!(in rt.alloc(); "{SITE}vlan = []\ncommand = [{command}]\n")?;
-        tell(&rt, rt.alloc(), "", &[(file.as_str(), wanted)])?;
+/// All but start and commands of a file, in words.
+fn setup_text(alloc: Global, topology: &Topology) -> Result<String, AllocError> {
+    let setup = &topology.setup;
+    let fate = topology.fate.as_slice();
+    let mut text = format!(in alloc;
+        "{} {} {} {} {} {fate:?};",
+        setup.ports,
+        setup.channels,
+        setup.groups,
+        setup.ageing,
+        topology.prefix.as_str()
+    )?;
+    for extender in setup.extenders.as_slice() {
+        let one = format!(in alloc; " {extender:?};")?;
+        text.push_str(one.as_str())?;
     }
-    Ok(())
+    for capture in topology.captures.as_slice() {
+        let one = format!(in alloc; " {} {};", PortName(capture.port), capture.name.as_str())?;
+        text.push_str(one.as_str())?;
+    }
+    Ok(text)
 }
 
-#[test]
-fn what_a_file_leaves_out_has_its_default(rt: HostRuntime) -> Result<(), Fail> {
-    match read(rt.alloc(), b"bridge.ports = 1\n") {
-        Ok(topology) => {
-            assert_eq!(rt; topology.setup.ports, 1);
-            assert_eq!(rt; topology.setup.channels, 4094);
-            assert_eq!(rt; topology.setup.groups, 12288);
-            assert_eq!(rt; topology.setup.ageing, 300);
-            assert_eq!(rt; topology.prefix.as_str(), "out-");
-            assert!(rt; topology.setup.extenders.as_slice().is_empty());
-            assert!(rt; topology.commands.as_slice().is_empty());
-            assert!(rt; topology.fate.as_slice().is_empty());
-            assert!(rt; topology.captures.as_slice().is_empty());
-        }
-        Err(_) => return Err(Fail::from("the file is a topology")),
-    }
-    Ok(())
-}
+const SETUPS: [(&str, &str); 2] = [
+    ("bridge.ports = 1\n", "1 4094 12288 300 out- [];"),
+    (
+        "[captures]\nb10 = 'b.pcap'\nb9 = 'a.pcap'\n[[extender]]\nports = 3\non = 'b2'\nnumber = 4\n[links]\nfate = 'LP'\n[bridge]\nports = 10\nchannels = 9\ngroups = 8\nageing = 70\nout = 'r/'\n",
+        "10 9 8 70 r/ [Lose, Pass]; ExtenderSetup { number: 4, ports: 3, on: Bridge { port: 2 } }; b10 b.pcap; b9 a.pcap;",
+    ),
+];
 
 #[test]
-fn what_a_file_gives_is_read(rt: HostRuntime) -> Result<(), Fail> {
-    let file =
-        "[captures]\nb10 = 'b.pcap'\nb9 = 'a.pcap'\n[[extender]]\nports = 3\non = 'b2'\nnumber = 4\n[links]\nfate = 'LP'\n[bridge]\nports = 10\nchannels = 9\ngroups = 8\nageing = 70\nout = 'r/'\n";
-    match read(rt.alloc(), file.as_bytes()) {
-        Ok(topology) => {
-            assert_eq!(rt; topology.setup.ports, 10);
-            assert_eq!(rt; topology.setup.channels, 9);
-            assert_eq!(rt; topology.setup.groups, 8);
-            assert_eq!(rt; topology.setup.ageing, 70);
-            assert_eq!(rt; topology.prefix.as_str(), "r/");
-            let hung = ExtenderSetup {
-                number: 4,
-                ports: 3,
-                on: Place::Bridge { port: 2 },
-            };
-            assert!(rt; topology.setup.extenders.as_slice() == [hung].as_slice());
-            assert!(rt; topology.fate.as_slice() == [Verdict::Lose, Verdict::Pass].as_slice());
-            match topology.captures.as_slice() {
-                [first, second] => {
-                    assert_eq!(rt; first.port.number(), 9);
-                    assert_eq!(rt; first.name.as_str(), "b.pcap");
-                    assert_eq!(rt; second.port.number(), 8);
-                    assert_eq!(rt; second.name.as_str(), "a.pcap");
-                }
-                _ => return Err(Fail::from("there are two captures")),
-            }
-        }
-        Err(_) => return Err(Fail::from("the file is a topology")),
+fn what_a_file_gives_is_read_and_what_it_leaves_out_has_its_default(rt: HostRuntime) {
+    let alloc = rt.alloc();
+    let head = format!(in alloc; "{SITE}[[vlan]]\nvid = 7\ntagged = ").expect(&rt, "memory");
+    tell(&rt, alloc, head.as_str(), "", &WORDS);
+    tell(&rt, alloc, SITE, "", &START);
+    let head = format!(in alloc; "{SITE}vlan = []\ncommand = [").expect(&rt, "memory");
+    tell(&rt, alloc, head.as_str(), "]\n", &COMMANDS);
+    for (file, wanted) in SETUPS {
+        let topology = read(alloc, file.as_bytes()).expect(&rt, "a topology");
+        let text = setup_text(alloc, &topology).expect(&rt, "memory");
+        assert_eq!(rt; text.as_str(), wanted, "of {file}");
     }
-    Ok(())
 }

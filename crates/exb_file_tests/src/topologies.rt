@@ -1,9 +1,9 @@
 //! What topology files give: each fault at each key where it can come, and what a good file says.
-use super::*;
 use exb_model::command::Command;
 use exb_model::port::PortId;
 use exb_model::port_set::PortSet;
 use exb_text::PortName;
+use exb_topology::{TopoFault, Topology, read};
 use std::alloc::{AllocError, Global};
 use std::process::Abort;
 
@@ -112,32 +112,25 @@ fn content(alloc: Global, file: &[u8]) -> Result<String, AllocError> {
     }
 }
 
-// Asserts that each file, behind a head, has the verdict that stands beside it.
-fn judge(
-    rt: &impl Abort,
-    alloc: Global,
-    head: &str,
-    cases: &[(&str, &str)],
-) -> Result<(), AllocError> {
-    for (tail, wanted) in cases {
-        let file = format!(in alloc; "{head}{tail}")?;
-        let given = verdict(alloc, file.as_bytes())?;
-        assert_eq!(rt; given.as_str(), *wanted, "of {tail}");
-    }
-    Ok(())
+// The verdict of a file behind a head.
+fn headed(alloc: Global, head: &str, tail: &str) -> Result<String, AllocError> {
+    let file = format!(in alloc; "{head}{tail}")?;
+    verdict(alloc, file.as_bytes())
 }
 
-// Asserts that each file, behind a head, says what stands beside it.
-fn tell(
-    rt: &impl Abort,
-    alloc: Global,
-    head: &str,
-    cases: &[(&str, &str)],
-) -> Result<(), AllocError> {
+// Asserts that each file, behind a head, has the verdict that stands beside it.
+fn judge(rt: &impl Abort, alloc: Global, head: &str, cases: &[(&str, &str)]) {
     for (tail, wanted) in cases {
-        let file = format!(in alloc; "{head}{tail}")?;
-        let given = content(alloc, file.as_bytes())?;
-        assert_eq!(rt; given.as_str(), *wanted, "of {tail}");
+        let given = headed(alloc, head, tail).expect(rt, "memory");
+        assert_eq!(rt; given.as_str(), *wanted, "of {head}{tail}");
     }
-    Ok(())
+}
+
+// Asserts that each file, behind a head and before a tail, says what stands beside it.
+fn tell(rt: &impl Abort, alloc: Global, head: &str, tail: &str, cases: &[(&str, &str)]) {
+    for (middle, wanted) in cases {
+        let file = format!(in alloc; "{head}{middle}{tail}").expect(rt, "memory");
+        let given = content(alloc, file.as_bytes()).expect(rt, "memory");
+        assert_eq!(rt; given.as_str(), *wanted, "of {middle}");
+    }
 }

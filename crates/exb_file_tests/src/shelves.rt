@@ -1,4 +1,6 @@
-use super::*;
+use exb_shelf::{
+    MemShelf, MemSink, PIECE, ReadFault, Shelf, ShelfFault, print_text, read_file, write_text,
+};
 use std::alloc::{AllocError, Global};
 use std::test::Fail;
 

@@ -130,36 +130,25 @@ fn chain(alloc: Global, channels: u32) -> Result<String, AllocError> {
 }
 
 #[test]
-fn each_fault_of_the_tree(rt: HostRuntime) -> Result<(), AllocError> {
+fn each_fault_of_the_tree(rt: HostRuntime) {
+    let alloc = rt.alloc();
     judge(
         &rt,
-        rt.alloc(),
+        alloc,
         "bridge = {ports = 2, channels = 1}\nextender = ",
         &TREE,
-    )
-}
-
-#[test]
-fn each_pass_is_whole_before_the_next(rt: HostRuntime) -> Result<(), AllocError> {
+    );
+    judge(&rt, alloc, "bridge = {ports = 2, channels = 1}\n", &PASSES);
+    // A chain of 64 extenders needs 63 channels.
+    let enough = chain(alloc, 63).expect(&rt, "memory");
+    let few = chain(alloc, 62).expect(&rt, "memory");
     judge(
         &rt,
-        rt.alloc(),
-        "bridge = {ports = 2, channels = 1}\n",
-        &PASSES,
-    )
-}
-
-#[test]
-fn a_chain_of_64_extenders_needs_63_channels(rt: HostRuntime) -> Result<(), AllocError> {
-    let enough = chain(rt.alloc(), 63)?;
-    let few = chain(rt.alloc(), 62)?;
-    judge(
-        &rt,
-        rt.alloc(),
+        alloc,
         "",
         &[
             (enough.as_str(), "ok"),
             (few.as_str(), "FewChannels at bridge.channels"),
         ],
-    )
+    );
 }

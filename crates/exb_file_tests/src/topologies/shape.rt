@@ -1,6 +1,9 @@
 //! The first pass: tables and keys that are there, of the right type, in range, and of their form.
 use super::*;
 
+/// A bridge of two ports.
+const TWO_PORTS: &str = "bridge = {ports = 2}\n";
+
 const TOP: [(&str, &str); 14] = [
     ("", "Missing at bridge"),
     ("bridge", "NotToml"),
@@ -512,49 +515,18 @@ const EARLIER_TABLE: [(&str, &str); 9] = [
 ];
 
 #[test]
-fn each_fault_at_the_top_and_at_the_bridge(rt: HostRuntime) -> Result<(), AllocError> {
-    judge(&rt, rt.alloc(), "", &TOP)?;
-    judge(&rt, rt.alloc(), "[bridge]\n", &BRIDGE)
-}
-
-#[test]
-fn each_fault_at_the_links(rt: HostRuntime) -> Result<(), AllocError> {
-    judge(&rt, rt.alloc(), "bridge = {ports = 1}\n", &LINKS)
-}
-
-#[test]
-fn each_fault_of_shape_at_extenders(rt: HostRuntime) -> Result<(), AllocError> {
-    judge(&rt, rt.alloc(), "bridge = {ports = 2}\n", &EXTENDER)
-}
-
-#[test]
-fn each_fault_of_shape_at_ports(rt: HostRuntime) -> Result<(), AllocError> {
-    judge(&rt, rt.alloc(), "bridge = {ports = 2}\n", &PORT)
-}
-
-#[test]
-fn each_fault_of_shape_at_vlans(rt: HostRuntime) -> Result<(), AllocError> {
-    judge(&rt, rt.alloc(), "bridge = {ports = 2}\n", &VLAN)
-}
-
-#[test]
-fn each_fault_of_shape_at_static_entries(rt: HostRuntime) -> Result<(), AllocError> {
-    judge(&rt, rt.alloc(), "bridge = {ports = 2}\n", &STATIC)
-}
-
-#[test]
-fn each_fault_of_shape_at_captures(rt: HostRuntime) -> Result<(), AllocError> {
-    judge(&rt, rt.alloc(), "bridge = {ports = 2}\n", &CAPTURES)
-}
-
-#[test]
-fn an_earlier_table_comes_before_a_later_one(rt: HostRuntime) -> Result<(), AllocError> {
-    judge(&rt, rt.alloc(), "", &EARLIER_TABLE)
-}
-
-#[test]
-fn a_file_that_is_no_text(rt: HostRuntime) -> Result<(), AllocError> {
-    let given = verdict(rt.alloc(), b"a = \"\xff\"")?;
+fn each_fault_of_shape(rt: HostRuntime) {
+    let alloc = rt.alloc();
+    judge(&rt, alloc, "", &TOP);
+    judge(&rt, alloc, "[bridge]\n", &BRIDGE);
+    judge(&rt, alloc, "bridge = {ports = 1}\n", &LINKS);
+    judge(&rt, alloc, TWO_PORTS, &EXTENDER);
+    judge(&rt, alloc, TWO_PORTS, &PORT);
+    judge(&rt, alloc, TWO_PORTS, &VLAN);
+    judge(&rt, alloc, TWO_PORTS, &STATIC);
+    judge(&rt, alloc, TWO_PORTS, &CAPTURES);
+    judge(&rt, alloc, "", &EARLIER_TABLE);
+    // A file that is no text.
+    let given = verdict(alloc, b"a = \"\xff\"").expect(&rt, "memory");
     assert_eq!(rt; given.as_str(), "NotToml");
-    Ok(())
 }
