@@ -8,6 +8,3 @@ pub mod tables;
 
 pub use carrying::{carried, emits};
 pub use tables::PlainTables;
-
-#[cfg(test)]
-mod tests;

@@ -13,6 +13,3 @@ pub mod stage;
 
 pub use fabric::Fabric;
 pub use stage::Stage;
-
-#[cfg(test)]
-mod tests;

@@ -13,6 +13,3 @@ pub mod static_entries;
 pub mod vlan_table;
 
 pub use config::Config;
-
-#[cfg(test)]
-mod tests;

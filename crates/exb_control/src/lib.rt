@@ -22,10 +22,3 @@ pub use exb_changing::{Asked, Job};
 pub use exb_relay::{Ingress, SendTo};
 pub use exb_session::Taken;
 pub use outbox::Outbox;
-
-#[cfg(test)]
-mod change_tests;
-#[cfg(test)]
-mod drive;
-#[cfg(test)]
-mod tests;

@@ -16,8 +16,3 @@ mod tables;
 
 pub use extender::Extender;
 pub use sends::{Entry, Form, Out, Sends, Side};
-
-#[cfg(test)]
-mod fixture;
-#[cfg(test)]
-mod tests;

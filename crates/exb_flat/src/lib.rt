@@ -11,5 +11,3 @@ pub mod history;
 pub mod laws;
 pub mod learning;
 pub mod targets;
-#[cfg(test)]
-mod tests;

@@ -13,6 +13,4 @@ pub mod outcome;
 pub mod refusal;
 pub mod sets;
 pub mod site;
-#[cfg(test)]
-mod tests;
 pub mod texts;

@@ -8,6 +8,3 @@ pub mod laws;
 pub mod learned;
 
 pub use learned::Learned;
-
-#[cfg(test)]
-mod tests;

@@ -70,23 +70,3 @@ impl MemberSets {
         self.rows[ecid as usize] = 0;
     }
 }
-
-#[cfg(test)]
-mod tests {
-    use super::*;
-    use std::test::Fail;
-
-    #[test]
-    fn a_row_is_set_and_cleared_and_its_neighbours_stay(rt: HostRuntime) -> Result<(), Fail> {
-        let mut sets = MemberSets::new(rt.alloc())?;
-        sets.put(4096, 1);
-        sets.put(4097, u64::MAX);
-        sets.put(16383, 1 << 63);
-        sets.clear(4097);
-        assert_eq!(rt; sets.row(4096), 1);
-        assert_eq!(rt; sets.row(4097), 0);
-        assert_eq!(rt; sets.row(16383), 1 << 63);
-        assert_eq!(rt; sets.row(0), 0);
-        Ok(())
-    }
-}

@@ -10,6 +10,3 @@ mod source;
 
 pub use captures::Captures;
 pub use source::Coming;
-
-#[cfg(test)]
-mod tests;

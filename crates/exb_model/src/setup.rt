@@ -5,9 +5,6 @@ ghost use Rattle.exb_model.specs.Ports.{port_in};
 ghost use Rattle.exb_model.specs.Tree.{Shape, is_external};
 ghost use Rattle.exb_model.specs.Setup.{InRange, IsPlace, IsAgeing, IsStart, IsValid};
 
-#[cfg(test)]
-mod tests;
-
 use crate::command::Command;
 use crate::layout::Layout;
 use crate::list::List;

@@ -12,6 +12,3 @@ pub mod spaces;
 pub use channels::{Channels, NoChannel};
 pub use groups::{Groups, NoGroup};
 pub use spaces::Spaces;
-
-#[cfg(test)]
-mod tests;

@@ -11,6 +11,3 @@ mod writer;
 
 pub use reader::{PcapFault, Reader, Record};
 pub use writer::{header_text, record_text};
-
-#[cfg(test)]
-mod tests;

@@ -23,6 +23,3 @@ pub use planning::make_change;
 pub use refusals::channels_short;
 pub use set_rows::rows;
 pub use view::View;
-
-#[cfg(test)]
-mod tests;

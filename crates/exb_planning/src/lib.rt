@@ -18,8 +18,3 @@ pub mod touched_sets;
 pub use group_uses::GroupUses;
 pub use planning::plan;
 pub use touched::{parts_after, parts_before};
-
-#[cfg(test)]
-mod group_uses_tests;
-#[cfg(test)]
-mod touched_tests;

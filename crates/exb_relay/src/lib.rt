@@ -18,6 +18,3 @@ mod source;
 pub use choice::Choice;
 pub use forwarding::relay;
 pub use send::{Ingress, SendTo};
-
-#[cfg(test)]
-mod tests;

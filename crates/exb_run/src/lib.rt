@@ -15,6 +15,3 @@ mod topology;
 mod words;
 
 pub use top::run;
-
-#[cfg(test)]
-mod tests;

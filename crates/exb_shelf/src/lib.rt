@@ -14,6 +14,3 @@ pub use files::{FileShelf, OutSink};
 pub use memory::{MemShelf, MemSink};
 pub use pieces::{PIECE, ReadFault, print_text, read_file, write_text};
 pub use shelf::{OpenFault, Shelf, ShelfFault, Sink};
-
-#[cfg(test)]
-mod tests;

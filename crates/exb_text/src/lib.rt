@@ -14,6 +14,3 @@ pub use event_line::{EventLine, write_line};
 pub use file_name::{capture_file_name, journal_file_name};
 pub use port_name::PortName;
 pub use tally::Tally;
-
-#[cfg(test)]
-mod tests;

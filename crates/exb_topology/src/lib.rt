@@ -14,6 +14,3 @@ mod trees;
 pub use exb_keys::faults::{KeyFault, TopoFault};
 pub use exb_tables::Named;
 pub use topology::{Topology, read};
-
-#[cfg(test)]
-mod tests;

@@ -1,0 +1,162 @@
+//! Announcements, acknowledgements and answers.
+use crate::drive::{Step, judge};
+use crate::fixture::Fixture;
+use crate::hex::{bytes_of, text_of};
+use exb_extender::{Extender, Sends, Side};
+use std::alloc::Global;
+use std::process::Abort;
+
+/// It announces itself at the first beat and each sixteenth after, until it is opened. Its answer goes out again at the
+/// third, sixth and ninth beat.
+const ANNOUNCES: [Step; 19] = [
+    (
+        "beat 1",
+        "first 88CC020704024542010001040307757006020078FE0502454201030000;",
+    ),
+    ("beat 15", ""),
+    (
+        "beat 1",
+        "first 88CC020704024542010001040307757006020078FE0502454201030000;",
+    ),
+    ("beat 15", ""),
+    (
+        "beat 1",
+        "first 88CC020704024542010001040307757006020078FE0502454201030000;",
+    ),
+    ("idle", "true"),
+    (
+        "hear 0100000000000000010000",
+        "first 894014020001; second 89401002000181000000000000000100020003;",
+    ),
+    ("idle", "false"),
+    ("beat 2", ""),
+    ("beat 1", "second 89401002000181000000000000000100020003;"),
+    ("beat 2", ""),
+    ("beat 1", "second 89401002000181000000000000000100020003;"),
+    ("beat 2", ""),
+    ("beat 1", "second 89401002000181000000000000000100020003;"),
+    ("beat 2", ""),
+    ("idle", "false"),
+    ("beat 1", ""),
+    ("idle", "true"),
+    ("beat 40", ""),
+];
+
+/// The acknowledgement of its sequence alone ends an answer.
+const ACKNOWLEDGED: [Step; 6] = [
+    (
+        "hear 0100000000000000010000",
+        "first 894014020001; second 89401002000181000000000000000100020003;",
+    ),
+    ("acked 2", ""),
+    ("idle", "false"),
+    ("acked 1", ""),
+    ("idle", "true"),
+    ("beat 40", ""),
+];
+
+/// The next serial is executed, the last answered again, and any other acknowledged alone.
+const SERIALS: [Step; 6] = [
+    (
+        "hear 0100000000000000010000",
+        "first 894014020001; second 89401002000181000000000000000100020003;",
+    ),
+    (
+        "hear 020000000000000002000401000001",
+        "first 894014020002; second 894010020002820000000000000002000100;",
+    ),
+    (
+        "hear 020000000000000002000401000001",
+        "first 894014020003; second 894010020003820000000000000002000100;",
+    ),
+    ("hear 030000000000000004000101", "first 894014020004;"),
+    // Port 1 is created once more, which is refused.
+    (
+        "hear 020000000000000003000401000002",
+        "first 894014020005; second 894010020004820000000000000003000103;",
+    ),
+    ("hear 0100000000000000010000", "first 894014020006;"),
+];
+
+/// What is no request of the control protocol.
+const OTHERS: [Step; 9] = [
+    // An answer, and bytes that are no message, are acknowledged alone.
+    ("hear 81000000000000000100020003", "first 894014020001;"),
+    ("hear 0800000000000000010000", "first 894014020002;"),
+    // The same sequence again is acknowledged, and its payload not looked at.
+    ("repeat 0100000000000000010000", "first 894014020002;"),
+    // Another subtype isn't acknowledged.
+    (
+        "down 29 0180C200000E0245420000008940100300090100000000000000010000",
+        "",
+    ),
+    // An announcement, a version and an operation that ECP doesn't have, and a frame of ECP that is cut.
+    ("down 18 0180C200000E02454200000088CC10020009", ""),
+    ("down 18 0180C200000E024542000000894020020009", ""),
+    ("down 18 0180C200000E024542000000894018020009", ""),
+    ("down 17 0180C200000E0245420000008940100200", ""),
+    ("idle", "true"),
+];
+
+/// An E-CID twice in a message is refused whole, so a word of that group goes nowhere.
+const TWICE: [Step; 4] = [
+    (
+        "hear 0100000000000000010000",
+        "first 894014020001; second 89401002000181000000000000000100020003;",
+    ),
+    (
+        "hear 020000000000000002000401000001",
+        "first 894014020002; second 894010020002820000000000000002000100;",
+    ),
+    (
+        "hear 06000000000000000300141000000000000000000110000000000000000001",
+        "first 894014020003; second 894010020003860000000000000003000103;",
+    ),
+    ("down 60 FFFFFFFFFFFF020000000001893F000010000000", ""),
+];
+
+#[test]
+fn control_frames_are_answered_as_they_must(rt: HostRuntime) {
+    let alloc = rt.alloc();
+    for steps in [
+        ANNOUNCES.as_slice(),
+        ACKNOWLEDGED.as_slice(),
+        SERIALS.as_slice(),
+        OTHERS.as_slice(),
+        TWICE.as_slice(),
+    ] {
+        let mut fixture = Fixture::new(&rt, alloc);
+        judge(&rt, alloc, &mut fixture, steps);
+    }
+}
+
+// What the extender sent, whole.
+fn expect_sent(rt: &impl Abort, alloc: Global, sends: &Sends, first: &str, second: &str) {
+    let sent = text_of(alloc, sends.first.as_slice()).expect(rt, "memory");
+    assert_eq!(rt; sent.as_str(), first);
+    let sent = text_of(alloc, sends.second.as_slice()).expect(rt, "memory");
+    assert_eq!(rt; sent.as_str(), second);
+    assert!(rt; sends.frames.is_empty());
+}
+
+#[test]
+fn an_extender_of_two_ports_announces_itself_then_acknowledges_and_answers(rt: HostRuntime) {
+    let alloc = rt.alloc();
+    let mut extender = Extender::new(alloc, 1, 2).expect(&rt, "an extender");
+    let mut sends = Sends::new();
+    extender.beat(&mut sends);
+    let announcement =
+        "0180C200000E02454201000188CC020704024542010001040307757006020078FE0502454201020000";
+    expect_sent(&rt, alloc, &sends, announcement, "");
+    let request = bytes_of(
+        &rt,
+        alloc,
+        "0180C200000E024542000000894010020001 0100000000000000010000",
+    );
+    extender.take(Side::Up, request.as_slice(), &mut sends);
+    let acknowledgement = "0180C200000E024542010001894014020001";
+    let answer = "0180C200000E02454201000189401002000181000000000000000100020002";
+    expect_sent(&rt, alloc, &sends, acknowledgement, answer);
+    extender.beat(&mut sends);
+    expect_sent(&rt, alloc, &sends, "", "");
+}

@@ -1,0 +1,14 @@
+//! Tests of files: captures, texts, topologies, shelves, and runs whose files fail. The topologies are
+//! texts behind a driver; whole runs are the cases of `exb_cases`. Nothing stands on this crate.
+#![tactic(auto)]
+
+#[cfg(test)]
+mod captures;
+#[cfg(test)]
+mod failures;
+#[cfg(test)]
+mod shelves;
+#[cfg(test)]
+mod texts;
+#[cfg(test)]
+mod topologies;
