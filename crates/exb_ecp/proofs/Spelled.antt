@@ -5,7 +5,7 @@ use Rattle.std.proofs.lemmas.Bool.{le-leb, le-ltb}
 use Rattle.exb_model.specs.declared.address.Mac.{Mac}
 use Rattle.exb_model.specs.Frames.{is_control_frame}
 use Rattle.exb_ecp.specs.declared.pdu.Pdu.{Pdu}
-use Rattle.exb_ecp.specs.Frames.{pdu_in, spelling, carried, header_word, CanBeWritten}
+use Rattle.exb_ecp.specs.Frames.{pdu_in, spelling, carried, header_word, CanBeWritten, WrittenIsRead}
 
 -- the six bytes of an address
 pub six : (m : List ℕ) → length m ≡ 6 → m ≡ get_or m 0 0 ∷ get_or m 1 0 ∷ get_or m 2 0 ∷ get_or m 3 0 ∷ get_or m 4 0 ∷ get_or m 5 0 ∷ []
@@ -52,3 +52,15 @@ pub drop-spelling : (source : Mac) (p : Pdu) (payload : List ℕ) → length sou
 drop-spelling source p payload h =
     let P : List ℕ → Type 0 = λ m. drop 18 (spelling (record { 0 = m }) p payload) ≡ carried p payload in
     subst P (sym (six source.0 h)) refl
+
+pub length_spelling : (source : Mac) (p : Pdu) (payload : List ℕ) → length source.0 ≡ 6 → length (spelling source p payload) ≡ 18 + length (carried p payload)
+length_spelling source p payload h =
+    let P : List ℕ → Type 0 = λ m. length (spelling (record { 0 = m }) p payload) ≡ 18 + length (carried p payload) in
+    subst P (sym (six source.0 h)) (omega arith)
+
+pub is_read_again : WrittenIsRead
+is_read_again source p payload h fits = record {
+  header = pdu_in-spelling source p payload h fits;
+  carries = drop-spelling source p payload h;
+  long = length_spelling source p payload h;
+}

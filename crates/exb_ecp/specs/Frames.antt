@@ -1,5 +1,5 @@
 -- ECP frames: what a header says, and its one spelling.
-use Rattle.std.specs.Prelude.{◌≡◌, ℕ, ◌+◌, ◌*◌, ◌/◌, ◌%◌, ◌<◌, ◌≤◌, ◌==◌, ◌&&◌, ◌++◌, Bool, List, [], ◌∷◌, length, Result, Ok, Err, nat_le, nat_lt, if◌then◌else◌}
+use Rattle.std.specs.Prelude.{◌≡◌, ℕ, ◌+◌, ◌*◌, ◌/◌, ◌%◌, ◌<◌, ◌≤◌, ◌==◌, ◌&&◌, ◌++◌, Bool, List, [], ◌∷◌, drop, length, Result, Ok, Err, nat_le, nat_lt, if◌then◌else◌}
 use Rattle.exb_model.specs.declared.address.Mac.{Mac}
 use Rattle.exb_model.specs.Frames.{control_address, is_control_frame, number_at, two_bytes}
 use Rattle.exb_ecp.specs.declared.pdu.Pdu.{Pdu}
@@ -48,3 +48,13 @@ header_word p = 4096 + (if p.acknowledgement then 1 else 0) * 1024 + p.subtype
 abbrev pub spelling : Mac → Pdu → List ℕ → List ℕ
 spelling source p payload =
     control_address ++ source.0 ++ two_bytes 35136 ++ two_bytes (header_word p) ++ two_bytes p.sequence ++ carried p payload
+
+-- a frame that is written is read again, as the header and the payload that it carries
+pub record IsReadAgain (source : Mac) (p : Pdu) (payload : List ℕ) : Type 0 where
+  pub header : pdu_in (spelling source p payload) ≡ Ok p
+  pub carries : drop 18 (spelling source p payload) ≡ carried p payload
+  pub long : length (spelling source p payload) ≡ 18 + length (carried p payload)
+
+-- Whatever can be written is read again. An address has six bytes.
+abbrev pub WrittenIsRead : Type 0
+WrittenIsRead = (source : Mac) (p : Pdu) (payload : List ℕ) → length source.0 ≡ 6 → CanBeWritten p payload → IsReadAgain source p payload

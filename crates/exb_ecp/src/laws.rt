@@ -1,7 +1,8 @@
-//! Laws over the steps of the machine, for whatever calls are made and whatever befalls the words on
-//! their way.
+//! Laws over frames, and over the steps of the machine, for whatever calls are made and whatever befalls
+//! the words on their way.
 ghost use Rattle.std.specs.Prelude.{List};
 ghost use Rattle.exb_ecp.specs.Calls.{Call, IsTold, KeepsSound};
+ghost use Rattle.exb_ecp.specs.Frames.{WrittenIsRead};
 ghost use Rattle.exb_ecp.specs.Line.{Step, InOrder, run, new_line};
 
 /// Over every list of calls: what is sent is the payload of the last submit, with the next sequence in turn
@@ -23,4 +24,9 @@ pub fn calls_keep_sound()
 /// a prefix, and all of it where nothing is sent.
 pub fn stop_and_wait_in_order()
     ensures { (steps : List Step) → InOrder (run new_line steps) }
+{}
+
+/// A frame that is written is read again, as the header and the payload that it carries.
+pub fn written_is_read()
+    ensures { WrittenIsRead }
 {}

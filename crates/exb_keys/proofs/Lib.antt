@@ -3,3 +3,4 @@ pub mod Fates
 pub mod WordLists
 pub mod Each
 pub mod Documents
+pub mod Went

@@ -1,5 +1,5 @@
 -- Fronts of lists, and what stands at a place.
-use Rattle.std.proofs.Common.{◌≡◌, ℕ, zero, suc, List, [], ◌∷◌, ◌++◌, length, Some, slice_get, refl, ap, sym, ◌∙◌, append_assoc, subst}
+use Rattle.std.proofs.Common.{◌≡◌, ℕ, zero, suc, ◌<◌, All, get_or, List, [], ◌∷◌, ◌++◌, length, Some, slice_get, refl, ap, sym, ◌∙◌, append_assoc, subst, arith}
 use Rattle.std.specs.List.{AllByRecursion}
 use Rattle.exb_session.specs.Sessions.{IsFront}
 
@@ -46,3 +46,17 @@ front_by front all (y ∷ rest) x is e =
 -- the member behind a front makes a longer front
 pub front_next : {A : Type 0} (front all : List A) (x : A) → IsFront front all → slice_get all (length front) ≡ Some x → IsFront (front ++ x ∷ []) all
 front_next front all x h e = front_by front all h.0 x h.1 (sym (get_behind front h.0) ∙ sym (ap (λ xs. slice_get xs (length front)) h.1) ∙ e)
+
+-- each by recursion, and each by its place
+pub all_from : {A : Type 0} (P : A → Type 0) (xs : List A) → AllByRecursion P xs → All P xs
+all_from P [] h k d low = absurd (omega arith)
+all_from P (x ∷ xs) h zero d low = h.0
+all_from P (x ∷ xs) h (suc k) d low = all_from P xs h.1 k d (omega arith)
+
+get_low : {A : Type 0} (xs : List A) (k : ℕ) (x : A) → slice_get xs k ≡ Some x → (k < length xs) × (get_or xs k x ≡ x)
+get_low [] k x e = absurd (cc)
+get_low (y ∷ ys) zero x e = (omega arith, (let is : y ≡ x = cc in is))
+get_low (y ∷ ys) (suc k) x e = let l = get_low ys k x e in (omega (arith, l.0), l.1)
+
+pub all_get : {A : Type 0} (P : A → Type 0) (xs : List A) (k : ℕ) (x : A) → All P xs → slice_get xs k ≡ Some x → P x
+all_get P xs k x all e = let l = get_low xs k x e in subst P l.1 (all k x l.0)

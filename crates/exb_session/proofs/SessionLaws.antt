@@ -1,5 +1,5 @@
 -- Each request once: an invariant that every event keeps.
-use Rattle.std.proofs.Common.{◌≡◌, ℕ, suc, ◌+◌, ◌≤◌, ◌==◌, ◌||◌, not, Bool, true, false, cond, nat_lt, is_none, List, [], ◌∷◌, ◌++◌, length, Option, Some, None, slice_get, refl, ap, sym, ◌∙◌, subst, append-nil, length-append, arith}
+use Rattle.std.proofs.Common.{◌≡◌, ℕ, suc, ◌+◌, ◌<◌, ◌≤◌, All, ◌==◌, ◌||◌, not, Bool, true, false, cond, nat_lt, is_none, List, [], ◌∷◌, ◌++◌, length, Option, Some, None, slice_get, refl, ap, sym, ◌∙◌, subst, append-nil, length-append, arith}
 use Rattle.std.specs.List.{AllByRecursion}
 use Rattle.std.specs.Option.{option_map, option_to_list}
 use Rattle.std.proofs.lemmas.Bool.{eq-eqb, eqb-true, ltb-false, and_right, or_parts, lt-ltb, ne_eqb}
@@ -8,6 +8,7 @@ use Rattle.exb_csp.specs.declared.message.Response.{Response}
 use Rattle.exb_csp.specs.declared.message.Body.TheVariants as body
 use Rattle.exb_csp.specs.declared.message.Message.{Message}
 use Rattle.exb_csp.specs.Kinds.{kind_of, number_of}
+use Rattle.exb_csp.specs.Spelling.{IsSpelledRequest, IsSpelledBody, HasSpelling}
 use Rattle.exb_session.specs.declared.asker.Taken.{Taken}
 use Rattle.exb_session.specs.declared.asker.Taken.TheVariants as taken
 use Rattle.exb_session.specs.declared.answerer.Due.{Due}
@@ -15,16 +16,8 @@ use Rattle.exb_session.specs.declared.answerer.Due.TheVariants.{Execute, Again, 
 use Rattle.exb_session.specs.Kinds.{same_kind}
 use Rattle.exb_session.specs.Asking.{AskerState, message_again, took_body}
 use Rattle.exb_session.specs.Answering.{AnswererState, is_owing, arrived, stored_message}
-use Rattle.exb_session.specs.Sessions.{Event, Asks, AsksAgain, RequestComes, Stores, SendsAnswer, AnswerComes, Session, opened, executed_by, answered_by, asking, arriving, storing, taking, arriving_body, arriving_message, taking_message, stepped, run, IsFront, EachRequestOnce, RequestsAreAnswered}
-use Rattle.exb_session.proofs.Fronts.{each_weaker, each_push, each_append, each_at, get_front, get_last, front_more, front_next}
-
--- a message is the request that was asked under its serial
-IsAsked : List Request → Message → Type 0
-IsAsked asks m = (k : ℕ) × (request : Request) × (m ≡ record { serial = suc k; body = body.Ask request }) × (slice_get asks k ≡ Some request)
-
--- a message is the response that was stored under its serial
-IsStored : List Response → Message → Type 0
-IsStored responses m = (k : ℕ) × (response : Response) × (m ≡ record { serial = suc k; body = body.Answer response }) × (slice_get responses k ≡ Some response)
+use Rattle.exb_session.specs.Sessions.{Event, Asks, AsksAgain, RequestComes, Stores, SendsAnswer, AnswerComes, Session, opened, executed_by, answered_by, asking, arriving, storing, taking, arriving_body, arriving_message, taking_message, stepped, run, IsFront, EachRequestOnce, RequestsAreAnswered, IsAsked, IsStored, MessagesAreNumbered, MessagesAreSpelled}
+use Rattle.exb_session.proofs.Fronts.{each_weaker, each_push, each_append, each_at, get_front, get_last, front_more, front_next, all_from, all_get}
 
 abbrev one_if : Bool → ℕ
 one_if true = 1
@@ -63,14 +56,12 @@ holds_opened = record {
 -- ---- asking
 
 asked_later : (asks : List Request) (request : Request) (m : Message) → IsAsked asks m → IsAsked (asks ++ request ∷ []) m
-unfolding IsAsked
-asked_later asks request m h = (h.0, h.1, h.2, get_front asks (request ∷ []) h.0 h.1 h.3)
+asked_later asks request m h = record { before = h.before; request = h.request; is = h.is; there = get_front asks (request ∷ []) h.before h.request h.there }
 
 asked_now : (asks : List Request) (request : Request) (serial : ℕ) → serial ≡ length asks → IsAsked (asks ++ request ∷ []) (record { serial = serial + 1; body = body.Ask request })
-unfolding IsAsked
 asked_now asks request serial is =
     let next : serial + 1 ≡ suc (length asks) = omega arith in
-    (length asks, request, ap (λ (n : ℕ). record { serial = n; body = body.Ask request }) next, get_last asks request)
+    record { before = length asks; request = request; is = ap (λ (n : ℕ). record { serial = n; body = body.Ask request }) next; there = get_last asks request }
 
 keeps_asking : (s : Session) (request : Request) → s.asker.waiting ≡ None → Holds s → Holds (asking s request)
 keeps_asking s request idle h =
@@ -161,9 +152,8 @@ keeps_arrives true s k request e at h = h
 keeps_arrives false s k request e at h = keeps_arriving s k request at e h
 
 keeps_request : (s : Session) (m : Message) → IsAsked s.asks m → Holds s → Holds (arriving_body s m.serial m.body)
-unfolding IsAsked
 keeps_request s m is h =
-    subst (λ (n : Message). Holds (arriving_body s n.serial n.body)) (sym is.2) (keeps_arrives (is_owing s.answerer) s is.0 is.1 refl is.3 h)
+    subst (λ (n : Message). Holds (arriving_body s n.serial n.body)) (sym is.is) (keeps_arrives (is_owing s.answerer) s is.before is.request refl is.there h)
 
 keeps_requests : (s : Session) (found : Option Message) → ((m : Message) → found ≡ Some m → IsAsked s.asks m) → Holds s → Holds (arriving_message s found)
 keeps_requests s None is h = h
@@ -172,14 +162,12 @@ keeps_requests s (Some m) is h = keeps_request s m (is m refl) h
 -- ---- a response is stored
 
 stored_later : (responses : List Response) (response : Response) (m : Message) → IsStored responses m → IsStored (responses ++ response ∷ []) m
-unfolding IsStored
-stored_later responses response m h = (h.0, h.1, h.2, get_front responses (response ∷ []) h.0 h.1 h.3)
+stored_later responses response m h = record { before = h.before; response = h.response; is = h.is; there = get_front responses (response ∷ []) h.before h.response h.there }
 
 stored_now : (responses : List Response) (response : Response) (last : ℕ) → length responses + 1 ≡ last → IsStored (responses ++ response ∷ []) (record { serial = last; body = body.Answer response })
-unfolding IsStored
 stored_now responses response last is =
     let next : last ≡ suc (length responses) = omega arith in
-    (length responses, response, ap (λ (n : ℕ). record { serial = n; body = body.Answer response }) next, get_last responses response)
+    record { before = length responses; response = response; is = ap (λ (n : ℕ). record { serial = n; body = body.Answer response }) next; there = get_last responses response }
 
 not_owing : (last : ℕ) (response : Response) → is_owing (record { last = last; answer = Some response }) ≡ false
 not_owing last response = and_right (nat_lt 0 last) false refl
@@ -263,8 +251,7 @@ keeps_taken s None k response e at h = keeps_waiting s h
 keeps_taken s (Some request) k response e at h = keeps_answer (nat_lt (suc k) s.asker.serial) s k request response refl e at h
 
 keeps_taking : (s : Session) (m : Message) → IsStored s.responses m → Holds s → Holds (taking s m)
-unfolding IsStored
-keeps_taking s m is h = subst (λ (n : Message). Holds (taking s n)) (sym is.2) (keeps_taken s s.asker.waiting is.0 is.1 refl is.3 h)
+keeps_taking s m is h = subst (λ (n : Message). Holds (taking s n)) (sym is.is) (keeps_taken s s.asker.waiting is.before is.response refl is.there h)
 
 keeps_answers : (s : Session) (found : Option Message) → ((m : Message) → found ≡ Some m → IsStored s.responses m) → Holds s → Holds (taking_message s found)
 keeps_answers s None is h = h
@@ -331,3 +318,27 @@ pub are_answered : RequestsAreAnswered
 are_answered request response is =
     let same : same_kind response.to (kind_of request) ≡ true = eq-eqb (number_of response.to) (number_of (kind_of request)) (ap number_of is) in
     (refl, rw same refl)
+
+pub are_numbered : MessagesAreNumbered
+are_numbered events =
+    let h = holds_after events opened holds_opened in
+    record { requests = all_from (IsAsked (run events opened).asks) (run events opened).requests h.requests; answers = all_from (IsStored (run events opened).responses) (run events opened).answers h.answers }
+
+-- ---- spellings
+
+request_spelled : (asks : List Request) → All IsSpelledRequest asks → (m : Message) → IsAsked asks m → HasSpelling m
+request_spelled asks spelled m h =
+    subst HasSpelling (sym h.is) (record { numbered = omega arith; spelled = all_get IsSpelledRequest asks h.before h.request spelled h.there })
+
+answer_spelled : (responses : List Response) → All (λ response. IsSpelledBody (body.Answer response)) responses → (m : Message) → IsStored responses m → HasSpelling m
+answer_spelled responses spelled m h =
+    subst HasSpelling (sym h.is) (record { numbered = omega arith; spelled = all_get (λ response. IsSpelledBody (body.Answer response)) responses h.before h.response spelled h.there })
+
+pub are_spelled : MessagesAreSpelled
+are_spelled events =
+    let s : Session = run events opened in
+    let h = holds_after events opened holds_opened in
+    record {
+      requests = λ spelled. all_from HasSpelling s.requests (each_weaker (IsAsked s.asks) HasSpelling (request_spelled s.asks spelled) s.requests h.requests);
+      answers = λ spelled. all_from HasSpelling s.answers (each_weaker (IsStored s.responses) HasSpelling (answer_spelled s.responses spelled) s.answers h.answers);
+    }

@@ -1,5 +1,5 @@
 -- The end of a session that asks, as a pure machine.
-use Rattle.std.specs.Prelude.{ℕ, ◌+◌, ◌==◌, ◌||◌, not, nat_lt, Bool, true, false, if◌then◌else◌, Option, Some, None}
+use Rattle.std.specs.Prelude.{◌≡◌, ◌<◌, ℕ, ◌+◌, ◌==◌, ◌||◌, not, nat_lt, Bool, true, false, if◌then◌else◌, Option, Some, None, IfSome}
 use Rattle.std.specs.Option.{option_map}
 use Rattle.exb_csp.specs.declared.message.Response.{Response}
 use Rattle.exb_csp.specs.declared.message.Request.{Request}
@@ -7,6 +7,7 @@ use Rattle.exb_csp.specs.declared.message.Body.{Body}
 use Rattle.exb_csp.specs.declared.message.Body.TheVariants as body
 use Rattle.exb_csp.specs.declared.message.Message.{Message}
 use Rattle.exb_csp.specs.Kinds.{kind_of}
+use Rattle.exb_csp.specs.Spelling.{IsSpelledRequest, HasSpelling}
 use Rattle.exb_session.specs.declared.asker.Taken.{Taken}
 use Rattle.exb_session.specs.declared.asker.Taken.TheVariants as taken
 use Rattle.exb_session.specs.Kinds.{same_kind}
@@ -55,3 +56,20 @@ beaten_while s (Some request) =
 -- one beat, and whether it is a sixteenth one of waiting
 abbrev pub beaten : AskerState → AskerState × Bool
 beaten s = beaten_while s s.waiting
+
+-- fewer than sixteen beats of waiting are counted, and what is waited for has a serial
+pub record IsSound (s : AskerState) : Type 0 where
+  pub beats : s.beats < 16
+  pub numbered : (request : Request) → s.waiting ≡ Some request → 0 < s.serial
+
+-- An asker is sound at its beginning, and whatever it asks, takes and counts.
+pub record StaysSound : Type 0 where
+  pub begins : IsSound begun
+  pub asks : (s : AskerState) (request : Request) → IsSound s → IsSound (asked s request).0
+  pub takes : (s : AskerState) (m : Message) → IsSound s → IsSound (took s m).0
+  pub beats : (s : AskerState) → IsSound s → IsSound (beaten s).0
+
+-- What an asker asks has a spelling where its request can be spelled, the first time and once more.
+pub record AsksAreSpelled : Type 0 where
+  pub asks : (s : AskerState) (request : Request) → IsSpelledRequest request → HasSpelling (asked s request).1
+  pub again : (s : AskerState) (m : Message) → IsSound s → IfSome s.waiting IsSpelledRequest → message_again s ≡ Some m → HasSpelling m

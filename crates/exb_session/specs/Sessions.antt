@@ -1,5 +1,5 @@
 -- A session of an asker and an answerer, whose messages come in any order and number, or not at all.
-use Rattle.std.specs.Prelude.{◌≡◌, ℕ, is_none, if◌then◌else◌, Option, Some, None, List, [], ◌∷◌, ◌++◌, slice_get}
+use Rattle.std.specs.Prelude.{◌≡◌, ℕ, suc, All, is_none, if◌then◌else◌, Option, Some, None, List, [], ◌∷◌, ◌++◌, slice_get}
 use Rattle.std.specs.Option.{option_to_list}
 use Rattle.exb_csp.specs.declared.message.Request.{Request}
 use Rattle.exb_csp.specs.declared.message.Response.{Response}
@@ -7,6 +7,7 @@ use Rattle.exb_csp.specs.declared.message.Body.{Body}
 use Rattle.exb_csp.specs.declared.message.Body.TheVariants as body
 use Rattle.exb_csp.specs.declared.message.Message.{Message}
 use Rattle.exb_csp.specs.Kinds.{kind_of}
+use Rattle.exb_csp.specs.Spelling.{IsSpelledRequest, IsSpelledBody, HasSpelling}
 use Rattle.exb_session.specs.declared.asker.Taken.{Taken}
 use Rattle.exb_session.specs.declared.asker.Taken.TheVariants as taken
 use Rattle.exb_session.specs.declared.answerer.Due.{Due}
@@ -108,3 +109,34 @@ RequestsAreAnswered =
     (request : Request) (response : Response) → response.to ≡ kind_of request →
     let s = run (Asks request ∷ RequestComes 0 ∷ Stores response ∷ SendsAnswer ∷ AnswerComes 0 ∷ []) opened in
     (s.executed ≡ request ∷ []) × (s.answered ≡ response ∷ [])
+
+-- the message is the request that was asked under its serial: that of the k-th is k
+pub record IsAsked (asks : List Request) (m : Message) : Type 0 where
+  pub before : ℕ
+  pub request : Request
+  pub is : m ≡ record { serial = suc before; body = body.Ask request }
+  pub there : slice_get asks before ≡ Some request
+
+-- the message is the response that was stored under its serial
+pub record IsStored (responses : List Response) (m : Message) : Type 0 where
+  pub before : ℕ
+  pub response : Response
+  pub is : m ≡ record { serial = suc before; body = body.Answer response }
+  pub there : slice_get responses before ≡ Some response
+
+pub record AreNumbered (s : Session) : Type 0 where
+  pub requests : All (IsAsked s.asks) s.requests
+  pub answers : All (IsStored s.responses) s.answers
+
+-- Over every list of events, a request that was sent under serial k is the k-th that was asked, and an
+-- answer under serial k the k-th response that was stored.
+abbrev pub MessagesAreNumbered : Type 0
+MessagesAreNumbered = (events : List Event) → AreNumbered (run events opened)
+
+-- where each request that is asked can be spelled, and each response that is stored, so can each message
+pub record AreSpelled (s : Session) : Type 0 where
+  pub requests : All IsSpelledRequest s.asks → All HasSpelling s.requests
+  pub answers : All (λ response. IsSpelledBody (body.Answer response)) s.responses → All HasSpelling s.answers
+
+abbrev pub MessagesAreSpelled : Type 0
+MessagesAreSpelled = (events : List Event) → AreSpelled (run events opened)

@@ -2,3 +2,4 @@ pub mod EntryLemmas
 pub mod FileLemmas
 pub mod PieceLemmas
 pub mod MemoryLemmas
+pub mod IdLemmas

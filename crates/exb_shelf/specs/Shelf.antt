@@ -45,6 +45,11 @@ pub record IsReadingOf (name : List ℕ) (i : Id) : Type 0 where
 abbrev pub NewIds : (Id → Type 0) → (ℕ → Id) → (ℕ → Id) → Type 0
 NewIds P old new = (j : ℕ) → (old j).given ≡ false → (new j).given ≡ true → P (new j)
 
+-- whatever was opened is such, and each id that was given stays as it was
+pub record Opens (P : Id → Type 0) (before after : ℕ → Id) : Type 0 where
+  pub fresh : NewIds P before after
+  pub kept : (j : ℕ) → (before j).given ≡ true → after j ≡ before j
+
 -- how often a shelf has answered that a file is missing, has failed to read, and has failed to write
 pub record Faults : Type 0 where
   pub missing : ℕ

@@ -6,3 +6,4 @@ pub mod Valid
 pub mod Starting
 pub mod Given
 pub mod Ends
+pub mod Sound

@@ -36,7 +36,7 @@ each_parts : {X Y : Type 0} (P : Y → Type 0) (Q : X → Type 0) (f : X → Lis
 each_parts P Q f [] each all = tt
 each_parts P Q f (x ∷ xs) each all = each_append P (f x) (flat_map f xs) (all x each.0) (each_parts P Q f xs each.1 all)
 
-each_from : {X : Type 0} (P : X → Type 0) (xs : List X) → ((k : ℕ) (d : X) → k < length xs → P (get_or xs k d)) → Each P xs
+pub each_from : {X : Type 0} (P : X → Type 0) (xs : List X) → ((k : ℕ) (d : X) → k < length xs → P (get_or xs k d)) → Each P xs
 each_from P [] all = tt
 each_from P (x ∷ xs) all = (all 0 x (omega arith), each_from P xs (λ k d lt. all (suc k) d (omega (arith, lt))))
 
@@ -81,7 +81,7 @@ names_out t q word.All is = is
 names_out t q (word.Whole n) is = (and_parts _ _ is).1
 names_out t q (word.Ports a b) is = (and_parts _ _ is).1
 
-listed_out : (t : Shape) (ws : List Word) → AreOut t (listed t ws)
+pub listed_out : (t : Shape) (ws : List Word) → AreOut t (listed t ws)
 listed_out t [] q is = absurd (false≢true is)
 listed_out t (w ∷ ws) q is =
     elim (or_cases (names t q w) (listed t ws q) is) [

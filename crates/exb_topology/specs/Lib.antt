@@ -4,3 +4,4 @@ pub mod Checks
 pub mod Given
 pub mod Seen
 pub mod Topologies
+pub mod Sound

@@ -5,6 +5,7 @@
 #![tactic(auto)]
 
 mod checks;
+pub mod laws;
 mod outputs;
 mod start;
 mod topology;

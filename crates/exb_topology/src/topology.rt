@@ -5,6 +5,7 @@ ghost use Rattle.exb_model.specs.Setup.{IsValid, shape_of};
 ghost use Rattle.exb_tables.specs.Tables.{AreInRange};
 ghost use Rattle.exb_topology.specs.Each.{each_ok};
 ghost use Rattle.exb_topology.specs.Checks.{port_table_ok, ports_ok};
+ghost use Rattle.exb_topology.specs.Sound.{IsSound};
 ghost use Rattle.exb_topology.specs.Topologies.{topology_view, topology_seen, topology_of, bare, resolved};
 
 use crate::tree_ports::TreePorts;
@@ -133,6 +134,7 @@ fn resolved(alloc: Global, tables: Tables) -> Result<Topology, TopoFault>
 pub fn read(alloc: Global, file: &[u8]) -> Result<Topology, TopoFault>
     ensures exact { GivesSeen topology_view result (topology_of file.now) }
     ensures valid { IfOk result (λ t. IsValid t.setup) }
+    ensures sound { IfOk result IsSound }
 {
     let tables = tables_of(alloc, file)?;
     resolved(alloc, tables)

@@ -1,0 +1,5 @@
+use Rattle.exb_ecp.proofs.Spelled.{is_read_again}
+use Rattle.exb_ecp.proofs.laws.written_is_read.Goals as goal
+
+pub returns : goal.returns
+returns c = is_read_again

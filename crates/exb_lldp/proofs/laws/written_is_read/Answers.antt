@@ -1,0 +1,5 @@
+use Rattle.exb_lldp.proofs.Spelled.{announced-spelling}
+use Rattle.exb_lldp.proofs.laws.written_is_read.Goals as goal
+
+pub returns : goal.returns
+returns c = announced-spelling

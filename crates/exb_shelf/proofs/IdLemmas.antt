@@ -1,0 +1,21 @@
+-- Ids that are given one after the other.
+use Rattle.std.proofs.Common.{◌≡◌, ℕ, true, false, inl, inr, refl, sym, ap, subst, ◌∙◌}
+use Rattle.std.proofs.lemmas.Bool.{cases_Bool, false≢true}
+use Rattle.exb_shelf.specs.Shelf.{Id, NewIds, Opens}
+
+-- nothing is opened
+pub opens_none : (P : Id → Type 0) (a : ℕ → Id) → Opens P a a
+opens_none P a = record { fresh = λ j was now. absurd (false≢true (sym was ∙ now)); kept = λ j given. refl }
+
+pub opens_weaker : (P Q : Id → Type 0) (a b : ℕ → Id) → ((i : Id) → P i → Q i) → Opens P a b → Opens Q a b
+opens_weaker P Q a b so h = record { fresh = λ j was now. so (b j) (h.fresh j was now); kept = h.kept }
+
+-- something is opened, and then something else
+pub opens_then : (P : Id → Type 0) (a b c : ℕ → Id) → Opens P a b → Opens P b c → Opens P a c
+opens_then P a b c h k = record {
+  fresh = λ j was now. elim (cases_Bool (b j).given) [
+    | inl given ↦ subst P (sym (k.kept j given)) (h.fresh j was given)
+    | inr free ↦ k.fresh j free now
+  ];
+  kept = λ j given. k.kept j (ap (λ (i : Id). i.given) (h.kept j given) ∙ given) ∙ h.kept j given;
+}

@@ -1,0 +1,5 @@
+use Rattle.exb_topology.proofs.Sound.{read_sound}
+use Rattle.exb_topology.proofs.laws.read_is_sound.Goals as goal
+
+pub returns : goal.returns
+returns c = read_sound
