@@ -1,20 +1,14 @@
 //! The kind of a frame.
 ghost use Rattle.std.specs.Prelude.{◌≡◌, ◌≢◌, ◌≤◌, ◌<◌, ◌+◌, true, length};
-ghost use Rattle.exb_model.specs.Frames.{kind_of, priority_of, number_at, is_reserved, kind_of_tag};
+ghost use Rattle.exb_model.specs.Frames.{kind_of, priority_of, is_reserved, kind_of_tag};
 ghost use Rattle.exb_model.specs.EagerHistory.{is_relayed_kind};
 
+use exb_model::bytes::number_at;
 use exb_model::frame_kind::Seen;
 use exb_model::vlan::Vid;
 
 /// The EtherType of a VLAN tag (IEEE 802.1Q).
 const VLAN_TYPE: u16 = 0x8100;
-
-fn number_at(frame: &[u8], at: usize) -> u16
-    requires { at + 1 < length frame.now }
-    ensures { result ≡ number_at frame.now at }
-{
-    u16::from(frame[at]) * 256 + u16::from(frame[at + 1])
-}
 
 fn is_reserved(frame: &[u8]) -> bool
     requires { 6 ≤ length frame.now }

@@ -1,9 +1,11 @@
 -- How long a frame is that may be relayed.
-use Rattle.std.proofs.Common.{◌≡◌, ◌≢◌, ◌≤◌, List, arith, inl, inr, length, refl, true, ℕ}
+use Rattle.std.proofs.Common.{◌≡◌, ◌≢◌, ◌≤◌, ◌++◌, List, ap, arith, inl, inr, length, refl, true, ℕ}
+use Rattle.std.specs.Prelude.{nat_eq}
+use Rattle.std.proofs.lemmas.List.{take-append-le}
 use Rattle.std.proofs.lemmas.Bool.{cases_lt, false≢true, le-ltb, lt-ltb}
 use Rattle.exb_model.specs.declared.frame_kind.Seen.{Seen}
 use Rattle.exb_model.specs.declared.frame_kind.Seen.TheVariants as seen
-use Rattle.exb_model.specs.Frames.{kind_of}
+use Rattle.exb_model.specs.Frames.{control_address, is_control_frame, kind_of}
 use Rattle.exb_model.specs.EagerHistory.{is_relayed_kind}
 
 relayed_kinds : (s : Seen) → is_relayed_kind s ≡ true → (s ≢ seen.Short) × (s ≢ seen.Long)
@@ -30,3 +32,8 @@ relayed_fits f h =
       | inl high ↦ absurd ((relayed_kinds (kind_of f) h).1 (rw (le-ltb (length f) 14 (omega arith), lt-ltb 9216 (length f) high) refl))
       | inr low ↦ low
     ]
+
+-- more bytes behind a destination don't change whether it is that of control frames
+pub control_longer : (f more : List ℕ) → 6 ≤ length f → is_control_frame (f ++ more) ≡ is_control_frame f
+unfolding is_control_frame
+control_longer f more long = rw (take-append-le 6 f more long) refl
