@@ -6,6 +6,7 @@ use Rattle.exb_model.specs.Setup.{IsValid, shape_of, limits_of, start_of}
 use Rattle.exb_model.specs.Configuration.{Bridge}
 use Rattle.exb_config.specs.Tables.{Tables, bridge_of}
 use Rattle.exb_numbers.specs.Spaces.{Spaces}
+use Rattle.exb_config.specs.Pvids.{HasPvids}
 use Rattle.exb_plans.specs.declared.change.Decision.{Decision}
 use Rattle.exb_plans.specs.Held.{Held, HoldsNeeded}
 use Rattle.exb_plan.specs.Spaces.{HasSpaces, held_by}
@@ -16,7 +17,7 @@ use Rattle.exb_changes.specs.declared.stage.Stage.{Stage}
 use Rattle.exb_changes.specs.declared.stage.Stage.TheVariants.{AtRest, Prepared, InForce}
 use Rattle.exb_changing.specs.Beginning.{HoldsFirst}
 use Rattle.exb_changing.specs.Deciding.{decide}
-use Rattle.exb_changes.specs.Fabrics.{Fabric, IsFabric, IsPrepared, IsInForce, HasPvids, HoldsIn, fabric_of, bridge_in, held_in, stage_of, cause_of, held_after, decision_of, in_force, bridge_at_end, held_at_end}
+use Rattle.exb_changes.specs.Fabrics.{Fabric, IsFabric, IsPrepared, IsInForce, HoldsIn, fabric_of, bridge_in, held_in, stage_of, cause_of, held_after, decision_of, in_force, bridge_at_end, held_at_end}
 use Rattle.exb_changing.specs.Fitting.{Fits, HasExternals}
 use Rattle.exb_plans.specs.Held.{in_spaces}
 use Rattle.exb_changing.proofs.Places.{needed_placed, placed_needed}

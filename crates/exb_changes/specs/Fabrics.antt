@@ -1,18 +1,18 @@
 -- The configuration in force, the numbers that are held, and the change at work, as the code keeps them.
-use Rattle.std.specs.Prelude.{◌≡◌, ℕ, ◌^◌, ◌≤◌, ◌&&◌, true, nat_lt, Bool, List, [], ◌∷◌, Option, Some, None, length, if◌then◌else◌}
+use Rattle.std.specs.Prelude.{ℕ, ◌^◌, ◌≤◌, Option, Some, None, length}
 use Rattle.exb_model.specs.Tree.{Shape, IsTree}
 use Rattle.exb_model.specs.Setup.{Limits}
 use Rattle.exb_model.specs.Configuration.{Bridge}
 use Rattle.exb_model.specs.declared.event.Cause.{Cause}
 use Rattle.exb_config.specs.Tables.{Tables, bridge_of}
 use Rattle.exb_numbers.specs.Spaces.{Spaces}
+use Rattle.exb_config.specs.Pvids.{HasPvids}
 use Rattle.exb_plans.specs.declared.change.Change.{Change}
 use Rattle.exb_plans.specs.declared.change.Decision.{Decision}
 use Rattle.exb_plans.specs.declared.change.Decision.TheVariants as decision
 use Rattle.exb_plans.specs.Held.{Held, HoldsNeeded, in_spaces}
 use Rattle.exb_plan.specs.Spaces.{HasSpaces, held_by}
 use Rattle.exb_changing.specs.declared.job.Job.{Job}
-use Rattle.exb_changing.specs.declared.job.Job.TheVariants as job
 use Rattle.exb_changes.specs.declared.stage.Stage.{Stage}
 use Rattle.exb_changes.specs.declared.stage.Stage.TheVariants.{AtRest, Prepared, InForce}
 use Rattle.exb_changing.specs.Fitting.{Fits, HasExternals}
@@ -95,12 +95,7 @@ HoldsIn t b h AtRest = HoldsNeeded t b h
 HoldsIn t b h (Prepared j x) = IsShort x × Fits t j × HoldsNeeded t (bridge_after j b) (release x h)
 HoldsIn t b h (InForce j x) = IsShort x × HoldsNeeded t b (release x h)
 
-abbrev pub IsVlan : ℕ → Type 0
-IsVlan v = (1 ≤ v) × (v ≤ 4094)
-
-abbrev pub HasPvids : Bridge → Type 0
-HasPvids b = (p : ℕ) → IsVlan (b.rule p).pvid
-
+-- what the type keeps of its value
 pub record IsFabric (v : Fabric) : Type 0 where
   pub tree : IsTree v.shape
   pub channels : v.limits.channels ≤ 4094

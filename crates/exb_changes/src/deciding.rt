@@ -16,7 +16,7 @@ ghost use Rattle.exb_changes.specs.Fabrics.{decision_of, held_after};
 
 use exb_changing::Job;
 use exb_config::Config;
-use exb_csp::Request;
+use exb_csp::{AskAt, Request};
 use exb_model::command::Command;
 use exb_model::list::List;
 use exb_model::memory::NoMemory;
@@ -25,9 +25,8 @@ use exb_model::role::Role;
 use exb_model::tree::Tree;
 use exb_numbers::Spaces;
 use exb_plan::asks::put_create;
-use exb_csp::AskAt;
-use exb_plans::{Change, Decision};
 use exb_planning::{GroupUses, plan};
+use exb_plans::{Change, Decision};
 use std::alloc::Global;
 
 // Asks that a port of an extender is created, if it is a cascade port.
@@ -44,7 +43,7 @@ fn put_cascade(
 {
     tree.is_tree();
     if let Role::Cascade { .. } = tree.role(port) {
-        let trunk = tree.trunk((port.number() / 64) as u8);
+        let trunk = tree.trunk(port.device());
         let channel = spaces.channels(trunk).of(port).unwrap_or(0);
         put_create(alloc, tree, port, true, channel, asks)?;
     }
@@ -68,8 +67,8 @@ fn opening_asks(
         extender,
         request: Request::Open,
     })?;
-    for place in 0..64u16 {
-        let port = PortId::new(64 * extender as u16 + place).unwrap();
+    for place in 0..64u8 {
+        let port = PortId::at(extender, place);
         put_cascade(alloc, tree, spaces, port, &mut asks)?;
     }
     Ok(asks)
@@ -128,8 +127,6 @@ pub(crate) fn decide(
             let command = Command::Up { port: *port };
             plan(alloc, tree, spaces, uses, config, &command)
         }
-        Job::Ordered { number: _, command } => {
-            plan(alloc, tree, spaces, uses, config, command)
-        }
+        Job::Ordered { number: _, command } => { plan(alloc, tree, spaces, uses, config, command) }
     }
 }

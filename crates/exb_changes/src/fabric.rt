@@ -7,15 +7,16 @@ ghost use Rattle.exb_plan.specs.Working.{IsAlike};
 ghost use Rattle.exb_plans.specs.declared.change.Change.{Change};
 ghost use Rattle.exb_changing.specs.Beginning.{first_held};
 ghost use Rattle.exb_changing.specs.Deciding.{bridge_after, release, decide};
-ghost use Rattle.exb_changes.specs.Fabrics.{HasPvids, bridge_at_end, held_at_end};
+ghost use Rattle.exb_config.specs.Pvids.{HasPvids};
+ghost use Rattle.exb_changes.specs.Fabrics.{bridge_at_end, held_at_end};
 ghost use Rattle.exb_plans.specs.Held.{in_spaces};
 
-use crate::beginning::{apply, first_config, first_spaces};
+use crate::beginning::first_spaces;
 use crate::copying::copy_spaces;
 use crate::deciding::decide;
-use exb_changing::Job;
 use crate::releasing::release;
 use crate::stage::Stage;
+use exb_changing::Job;
 use exb_config::Config;
 use exb_model::command::Command;
 use exb_model::event::Cause;
@@ -23,8 +24,8 @@ use exb_model::memory::NoMemory;
 use exb_model::setup::Setup;
 use exb_model::tree::Tree;
 use exb_numbers::Spaces;
-use exb_plans::Decision;
 use exb_planning::GroupUses;
+use exb_plans::Decision;
 use std::alloc::Global;
 use std::marker::Model;
 use std::mem;
@@ -79,8 +80,8 @@ fn apply_job(config: &mut Config, job: &Job) -> Result<(), NoMemory>
 {
     match job {
         Job::Opening { extender: _ } => Ok(()),
-        Job::AutomaticUp { port } => apply(config, &Command::Up { port: *port }),
-        Job::Ordered { number: _, command } => apply(config, command),
+        Job::AutomaticUp { port } => config.apply(&Command::Up { port: *port }),
+        Job::Ordered { number: _, command } => config.apply(command),
     }
 }
 
@@ -125,7 +126,7 @@ impl Fabric {
         ensures stage { IfOk result (λ made. made.stage ≡ Stage.AtRest) }
     {
         let tree = shared(alloc, Tree::new(alloc, setup)?)?;
-        let config = first_config(alloc, &tree, setup)?;
+        let config = Config::first(alloc, &tree, setup)?;
         let spaces = first_spaces(alloc, &tree, setup.channels, setup.groups)?;
         let uses = GroupUses::new(alloc, &tree, setup.groups)?;
         Ok(Fabric {

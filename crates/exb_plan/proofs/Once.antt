@@ -23,14 +23,14 @@ same_at a c = a.bridge_port == c.bridge_port && pointwise nat_eq a.set.words c.s
 
 words_tell : (a c : PortSet) → Decides (pointwise nat_eq a.words c.words) ((q : ℕ) → port_in a q ≡ port_in c q)
 words_tell a c = (
-      λ h p. ap (λ (ws : List ℕ). has_port ws p) (same_text a.words c.words (sym h)),
-      λ same.
-          let e : a.words ≡ c.words = same_number_lists a.words c.words (a.sized ∙ sym c.sized) (λ k h. same_word a.words c.words 65 k (omega arith) (a.fits k) (c.fits k) (λ q _. same q)) in
-          elim (cases_Bool (pointwise nat_eq a.words c.words)) [
-            | inl t ↦ t
-            | inr f ↦ absurd (other_text a.words c.words (sym f) e)
-          ],
-    )
+  λ h p. ap (λ (ws : List ℕ). has_port ws p) (same_text a.words c.words (sym h)),
+  λ same.
+      let e : a.words ≡ c.words = same_number_lists a.words c.words (a.sized ∙ sym c.sized) (λ k h. same_word a.words c.words 65 k (omega arith) (a.fits k) (c.fits k) (λ q _. same q)) in
+      elim (cases_Bool (pointwise nat_eq a.words c.words)) [
+        | inl t ↦ t
+        | inr f ↦ absurd (other_text a.words c.words (sym f) e)
+      ],
+)
 
 same_seen : (a c : SetAt) → same_at a c ≡ is_same_set (seen a) (seen c)
 same_seen a c = ap (λ b. a.bridge_port == c.bridge_port && b) (same_sets a.set c.set (pointwise nat_eq a.set.words c.set.words) (words_tell a.set c.set))

@@ -8,12 +8,13 @@ ghost use Rattle.exb_plan.specs.Branches.{AreBranches, IsAmong};
 ghost use Rattle.exb_plans.specs.Sets.{with_set_at, parts_below, sets_of, seen};
 
 use crate::branches::Branches;
-use crate::parts::{SetAt, put_kinds};
+use crate::parts::put_kinds;
 use exb_config::Config;
 use exb_model::memory::NoMemory;
 use exb_model::port_set::PortSet;
 use exb_model::tree::Tree;
 use exb_model::vlan::Vid;
+use exb_plans::SetAt;
 use indexmap::IndexSet;
 use std::alloc::Global;
 

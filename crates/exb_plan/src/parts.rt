@@ -14,6 +14,7 @@ use crate::view::View;
 use exb_model::memory::NoMemory;
 use exb_model::port_set::PortSet;
 use exb_model::vlan::{Kind, Vid};
+use exb_plans::SetAt;
 
 // Puts a part, if it has a port.
 fn put(parts: &mut Vec<SetAt>, part: SetAt) -> Result<(), NoMemory>

@@ -1,6 +1,6 @@
 //! The uses of a tree with one extender, and rising numbers.
-use crate::rising::put_rising;
 use crate::group_uses::GroupUses;
+use crate::rising::put_rising;
 use exb_model::list::List;
 use exb_model::setup::{ExtenderSetup, Place, Setup};
 use exb_model::tree::Tree;

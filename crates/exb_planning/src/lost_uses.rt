@@ -12,8 +12,8 @@ ghost use Rattle.exb_planning.specs.Rising.{is_among, IsRising};
 ghost use Rattle.exb_planning.specs.Recount.{AreOwn};
 ghost use Rattle.exb_planning.specs.LostUses.{is_left, AreGroups, AreLeft, AreInUse};
 
-use crate::rising::put_rising;
 use crate::group_uses::GroupUses;
+use crate::rising::put_rising;
 use exb_model::memory::NoMemory;
 use exb_model::tree::Tree;
 use exb_numbers::Spaces;

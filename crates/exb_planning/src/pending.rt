@@ -74,7 +74,12 @@ fn after_membership(
             untagged,
         } => {
             if vid.number() == of.number() {
-                in_lists(&config.present_ports().both(among), kind, &tagged, &untagged)
+                in_lists(
+                    &config.present_ports().both(among),
+                    kind,
+                    &tagged,
+                    &untagged,
+                )
             } else {
                 before
             }

@@ -18,12 +18,12 @@ ghost use Rattle.exb_planning.specs.Counted.{IsCounted, used_at};
 ghost use Rattle.exb_planning.specs.Recount.{AreOwn, HavePlaces, AreEnough, AreMoved, HaveRowsOf};
 ghost use Rattle.exb_planning.specs.Decisions.{IfDecided};
 
-use crate::touched_sets::{TouchedSets, touched_sets};
+use crate::group_uses::GroupUses;
 use crate::lost_uses::gone_groups;
 use crate::presence::{goes_down, goes_up};
 use crate::recount::{lower_all, raise_all, raise_new};
 use crate::shortage::groups_short;
-use crate::group_uses::GroupUses;
+use crate::touched_sets::{TouchedSets, touched_sets};
 use exb_config::Config;
 use exb_model::command::Command;
 use exb_model::event::Cause;
@@ -31,13 +31,17 @@ use exb_model::memory::NoMemory;
 use exb_model::port::PortId;
 use exb_model::tree::Tree;
 use exb_numbers::Spaces;
-use exb_plans::{Change, Decision};
 use exb_plan::{channels_short, make_change};
-use exb_plans::SetAt;
+use exb_plans::{Change, Decision, SetAt};
 use std::alloc::Global;
 
 // The uses after a command, at the groups that there are.
-fn moved(spaces: &Spaces, uses: &GroupUses, before: &[SetAt], later: &[SetAt]) -> Result<GroupUses, NoMemory>
+fn moved(
+    spaces: &Spaces,
+    uses: &GroupUses,
+    before: &[SetAt],
+    later: &[SetAt],
+) -> Result<GroupUses, NoMemory>
     requires before { All (λ s. IsPlaced spaces.now (seen s)) before.now }
     requires later { All (λ s. IsPlaced spaces.now (seen s)) later.now }
     requires own { AreOwn spaces.now }

@@ -44,7 +44,11 @@ fn lower(uses: &mut GroupUses, spaces: &Spaces, part: &SetAt)
 }
 
 /// Each group has a use more for each part that is its set.
-pub(crate) fn raise_all(uses: &mut GroupUses, spaces: &Spaces, parts: &[SetAt]) -> Result<(), NoMemory>
+pub(crate) fn raise_all(
+    uses: &mut GroupUses,
+    spaces: &Spaces,
+    parts: &[SetAt],
+) -> Result<(), NoMemory>
     requires placed { All (λ s. IsPlaced spaces.now (seen s)) parts.now }
     requires own { AreOwn spaces.now }
     requires places { HavePlaces spaces.now uses.old }

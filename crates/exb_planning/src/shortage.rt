@@ -30,7 +30,12 @@ fn count_at(sets: &[SetAt], bridge_port: u8) -> u64
 }
 
 // Why the groups of a cascade port of the bridge don't suffice for those in use and fresh sets, if they don't.
-fn groups_short_at(spaces: &Spaces, uses: &GroupUses, fresh: &[SetAt], bridge_port: u8) -> Option<Cause>
+fn groups_short_at(
+    spaces: &Spaces,
+    uses: &GroupUses,
+    fresh: &[SetAt],
+    bridge_port: u8,
+) -> Option<Cause>
     requires from1 { 1 ≤ bridge_port }
     requires cascade { has_space spaces.now (bridge_port - 1) ≡ true }
     ensures { (l : Limits) → (had : List PortsAt) → AreLimited l.groups spaces.now → used_at uses.now (bridge_port - 1) ≡ how_many (is_at bridge_port) had

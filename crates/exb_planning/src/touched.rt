@@ -292,9 +292,7 @@ fn add_after<V: View>(
         (touched_after command.now (bridge_of config.now)) parts.old.items parts.new.items) }
 {
     match *command {
-        Command::Static { vid, ports, .. } => {
-            add_entry(parts, branches, view, vid, &ports)
-        }
+        Command::Static { vid, ports, .. } => { add_entry(parts, branches, view, vid, &ports) }
         Command::Unstatic { .. } => Ok(()),
         _ => add_all(parts, branches, view, config, command),
     }

@@ -15,8 +15,8 @@ use exb_model::command::Command;
 use exb_model::memory::NoMemory;
 use exb_model::tree::Tree;
 use exb_numbers::Spaces;
-use exb_plans::SetAt;
 use exb_plan::each_once;
+use exb_plans::SetAt;
 use std::alloc::Global;
 
 /// What a command touches.
@@ -41,11 +41,7 @@ fn has_group(spaces: &Spaces, set: &SetAt) -> bool
 }
 
 // The parts whose sets have no group, in their order.
-fn without_group(
-    alloc: Global,
-    spaces: &Spaces,
-    parts: &[SetAt],
-) -> Result<Vec<SetAt>, NoMemory>
+fn without_group(alloc: Global, spaces: &Spaces, parts: &[SetAt]) -> Result<Vec<SetAt>, NoMemory>
     requires { All (λ s. IsPlaced spaces.now (seen s)) parts.now }
     ensures { IfOk result (λ made. map seen made.items ≡ filter (λ s. not (has_group (held_by spaces.now) s)) (map seen parts.now)) }
 {

@@ -19,7 +19,7 @@ channels-requires-clause-cascade c =
     let v = c.args.spaces.now in
     let high = extender_high t p c.requires.extender in
     let known = c.in-Cascade.ensures.0 in
-    let is : c.trunk-trunk.result ≡ trunk t (p / 64) + 1 = subst (λ (x : ℕ). c.trunk-trunk.result ≡ trunk t (x / 64) + 1) c.number.ensures.value c.trunk-trunk.ensures.value in
+    let is : c.trunk-trunk.result ≡ trunk t (p / 64) + 1 = subst (λ (x : ℕ). c.trunk-trunk.result ≡ trunk t x + 1) c.device.ensures.value c.trunk-trunk.ensures.value in
     let place : trunk t (p / 64) ≡ c.trunk-trunk.result - 1 = omega (arith, is) in
     subst (λ (x : ℕ). has_space v x ≡ true) place (c.requires.spaces (trunk t (p / 64)) (trunk_low t c.is_tree.ensures p high known) (trunk_cascade t c.is_tree.ensures p high known))
 
@@ -28,7 +28,7 @@ returns-in_ok-put_create c =
     let t = c.args.tree.now in
     let p = c.args.port in
     let v = c.args.spaces.now in
-    let is : c.trunk-trunk.result ≡ trunk t (p / 64) + 1 = subst (λ (x : ℕ). c.trunk-trunk.result ≡ trunk t (x / 64) + 1) c.number.ensures.value c.trunk-trunk.ensures.value in
+    let is : c.trunk-trunk.result ≡ trunk t (p / 64) + 1 = subst (λ (x : ℕ). c.trunk-trunk.result ≡ trunk t x + 1) c.device.ensures.value c.trunk-trunk.ensures.value in
     let place : c.trunk-trunk.result - 1 ≡ trunk t (p / 64) = omega (arith, is) in
     let channel : c.unwrap_or-channel.result ≡ channel_of t (held_by v) p =
     c.unwrap_or-channel.ensures ∙ (unwrap_is c.of.result
