@@ -14,11 +14,11 @@ use Rattle.exb_model.specs.Tree.{Shape, device, trunk, is_extended}
 use Rattle.exb_model.specs.Setup.{Limits}
 use Rattle.exb_model.specs.Configuration.{Bridge}
 use Rattle.exb_model.specs.History.{Basis, History, ◌then◌, bridge_after}
-use Rattle.exb_plan.specs.Held.{channel_in}
-use Rattle.exb_plan.proofs.Trunks.{under_home}
+use Rattle.exb_plans.specs.Held.{channel_in}
+use Rattle.exb_plans.proofs.Trunks.{under_home}
 use Rattle.exb_frame.specs.TagValues.{TagRoundTrip}
 use Rattle.exb_relay.specs.Laws.{SendsAreWords, SendsLeaveAsFlat}
-use Rattle.exb_changes.specs.Deciding.{decide}
+use Rattle.exb_changing.specs.Deciding.{decide}
 use Rattle.exb_change_laws.specs.Planned.{IsSetting}
 use Rattle.exb_change_laws.specs.Systems as systems
 use Rattle.exb_change_laws.proofs.Middle.{ready_midway, held_are_numbers}
@@ -26,7 +26,7 @@ use Rattle.exb_change_laws.proofs.LaidMidway.{laid_midway}
 use Rattle.exb_flight.specs.Flight.{Flight, Step, Arrive, CarryUp, CarryIn, Relay, CarryDown, SendDown, SendUp, LoseDown, LoseUp, Move, Note, tables_of, bridge_of, held_of, arrive, stepped}
 use Rattle.exb_flight.specs.Steps.{run, Runs}
 use Rattle.exb_flight.specs.Facts.{Facts, beginning}
-use Rattle.exb_flight.specs.Naming.{told_by, told_at, Given, with_given, Deed, Comes, Taken, Other, next_index, steps_of, given_after, IsOther, IsDeed, done_by, given_by, Does, IsWordOf, AreNamed, IsEntered, AreEntered, ToldIsOfPort, EnteredRightly}
+use Rattle.exb_flight.specs.Naming.{told_by, told_at, Given, with_given, Deed, Comes, Ignores, Taken, Other, next_index, steps_of, given_after, IsOther, IsDeed, done_by, given_by, Does, IsWordOf, AreNamed, IsEntered, AreEntered, ToldIsOfPort, EnteredRightly}
 use Rattle.exb_flight.proofs.Lists.{each_first}
 use Rattle.exb_flight.proofs.Events.{IsOfChange, AreOfChanges, moved_are}
 use Rattle.exb_flight.proofs.NamingLists.{numbered_last}
@@ -34,7 +34,7 @@ use Rattle.exb_flight.proofs.Naming.{given_here, number_more, deep_of, deed_name
 use Rattle.exb_flight.proofs.Runs.{begins_with, facts_run}
 
 -- ---- the events of a port
-of_append : (r : ℕ) (xs ys : List Event) → events_of r (xs ++ ys) ≡ events_of r xs ++ events_of r ys
+pub of_append : (r : ℕ) (xs ys : List Event) → events_of r (xs ++ ys) ≡ events_of r xs ++ events_of r ys
 of_append r [] ys = refl
 of_append r (event.Relay p n t f ∷ xs) ys =
     elim (cases_Bool (p == r)) [
@@ -160,6 +160,15 @@ module _ (s : Shape) (l : Limits) (i : Basis) (setting : IsSetting s l) (w : Fli
     where
       arrives : nat_lt 0 ((tables_of w).own p) ≡ true → (arrive w (record { port = p; index = next_index g p; moment = t }) bytes).history ≡ w.history
       arrives e = rw e refl
+  deed_entered (Ignores p t f) is runs =
+      (
+        (λ ext. ((t, f), ap (λ (xs : List (ℕ × List ℕ)). numbered xs (next_index g p)) (given_here g p (t, f)) ∙ numbered_last (g p) (t, f), ap (λ (b : Bool). (bridge_after i w.history).present p && b) is.1 ∙ and_none ((bridge_after i w.history).present p))),
+        all_more s i g p (t, f) w.history k,
+      )
+    where
+      and_none : (b : Bool) → (b && false) ≡ false
+      and_none true = refl
+      and_none false = refl
   deed_entered (Taken n f) is runs =
       let c = runs.0 in
       let of : IsWordOf g f = each_first (IsWordOf g) (w.up n) f c.0.rest c.0.first (named.words n c.0.link) in

@@ -13,21 +13,21 @@ use Rattle.exb_link.specs.Words.{is_control, is_data, without_data}
 use Rattle.exb_relay.specs.Laws.{HasPvids, SendsAreWords, SendsLeaveAsFlat}
 use Rattle.exb_change_laws.specs.Planned.{IsSetting}
 use Rattle.exb_model.specs.Tree.{trunk}
-use Rattle.exb_rows.proofs.Ways.{from_extended}
+use Rattle.exb_plans.proofs.Ways.{from_extended}
 use Rattle.exb_extender.specs.declared.sends.Side.TheVariants as side
-use Rattle.exb_extender.specs.AllTables.{tables_at}
+use Rattle.exb_csp.specs.AllTables.{tables_at}
 use Rattle.exb_extender.specs.Forwarding.{Sent, up, names_channel, emitted}
 use Rattle.exb_extender.specs.Machine.{ExtenderState, IsExtender}
-use Rattle.exb_plan.specs.Held.{Held, channel_in}
+use Rattle.exb_plans.specs.Held.{Held, channel_in}
 use Rattle.exb_relay.specs.Sends.{or_zero}
 use Rattle.exb_change_laws.specs.Systems.{System}
 use Rattle.exb_change_laws.proofs.Middle.{held_are_numbers}
 use Rattle.exb_machine.specs.Worlds.{World, Way, Up, Left, at, with_up, with_far, push_up}
 use Rattle.exb_machine.specs.Extending.{port_number, does, takes_from_below}
 use Rattle.exb_machine.specs.Stepping.{takes_any}
-use Rattle.exb_machine.proofs.Hearing.{seen_as}
-use Rattle.exb_machine.proofs.Steps.{home}
-use Rattle.exb_machine.proofs.Words.{at_itself}
+use Rattle.exb_machine_laws.proofs.Hearing.{seen_as}
+use Rattle.exb_machine_laws.proofs.Steps.{home}
+use Rattle.exb_machine_laws.proofs.Words.{at_itself}
 use Rattle.exb_flight.specs.Flight.{CarryUp, add}
 use Rattle.exb_flight.specs.Facts.{IsUp}
 use Rattle.exb_flight.proofs.Lists.{each_first}
@@ -38,9 +38,9 @@ use Rattle.exb_standing.proofs.Flying.{none_left}
 use Rattle.exb_standing.proofs.Items.{thins_append, items_append, items_data}
 use Rattle.exb_machine.specs.Relaying.{arrival_by, holder_by, comes_from, bridge_takes}
 use Rattle.exb_machine.specs.Stepping.{first_data}
-use Rattle.exb_machine.specs.Simulation.{IsSound}
-use Rattle.exb_machine.proofs.Bridging.{stripped_bytes}
-use Rattle.exb_machine.proofs.Words.{each_filter, each_get}
+use Rattle.exb_machine_laws.specs.Simulation.{IsSound}
+use Rattle.exb_machine_laws.proofs.Bridging.{stripped_bytes}
+use Rattle.exb_machine_laws.proofs.Words.{each_filter, each_get}
 use Rattle.exb_flight.specs.Items.{Word as Datum, Item, Data, words_of}
 use Rattle.exb_flight.specs.Items as items
 use Rattle.exb_flight.specs.Tree.{IsLink}

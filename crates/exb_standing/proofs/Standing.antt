@@ -14,7 +14,7 @@ use Rattle.exb_frame.specs.TagValues.{TagRoundTrip}
 use Rattle.exb_learn.specs.Calls.{Table}
 use Rattle.exb_learn.specs.Histories.{table_after}
 use Rattle.exb_learn.proofs.Bridges.{follows}
-use Rattle.exb_extender.specs.AllTables.{tables_at}
+use Rattle.exb_csp.specs.AllTables.{tables_at}
 use Rattle.exb_relay.specs.Laws.{SendsAreWords, SendsLeaveAsFlat}
 use Rattle.exb_change_laws.specs.Systems.{System}
 use Rattle.exb_change_laws.specs.Planned.{IsSetting}
@@ -22,7 +22,7 @@ use Rattle.exb_machine.specs.Worlds.{World, Step, Left}
 use Rattle.exb_machine.specs.Stepping.{Stepped, stepped, done_by}
 use Rattle.exb_machine.specs.Allowing.{IsSettled}
 use Rattle.exb_machine.specs.Settling.{run}
-use Rattle.exb_machine.specs.Simulation.{system_of}
+use Rattle.exb_machine_laws.specs.Simulation.{system_of}
 use Rattle.exb_flight.specs.Items.{Word as Datum, words_of, Each, stamped}
 use Rattle.std.specs.List.{flat_map}
 use Rattle.exb_flight.specs.Tree.{IsLink}
@@ -32,7 +32,7 @@ use Rattle.exb_flight.specs.Flight.{Flight, owes, tables_of}
 use Rattle.exb_flight.specs.Facts.{CleanDown, CleanUp, Clean, beginning}
 use Rattle.exb_flight.proofs.Runs.{begins_with, facts_are_clean, facts_run}
 use Rattle.exb_flight.proofs.Overs.{home_link, link_above}
-use Rattle.exb_machine.proofs.Runs.{begins_sound, runs_stay_sound}
+use Rattle.exb_machine_laws.proofs.Runs.{begins_sound, runs_stay_sound}
 use Rattle.exb_standing.specs.Tokens.{data_words, none}
 use Rattle.exb_standing.specs.Showing.{left_at, Stood}
 use Rattle.exb_standing.specs.Flying.{Flown, MayFly, StepsFly}
