@@ -160,11 +160,10 @@ module _ (s : Shape) (l : Limits) (i : Basis) (setting : IsSetting s l) (w : Fli
     where
       arrives : nat_lt 0 ((tables_of w).own p) ≡ true → (arrive w (record { port = p; index = next_index g p; moment = t }) bytes).history ≡ w.history
       arrives e = rw e refl
-  deed_entered (Ignores p t f) is runs =
-      (
-        (λ ext. ((t, f), ap (λ (xs : List (ℕ × List ℕ)). numbered xs (next_index g p)) (given_here g p (t, f)) ∙ numbered_last (g p) (t, f), ap (λ (b : Bool). (bridge_after i w.history).present p && b) is.1 ∙ and_none ((bridge_after i w.history).present p))),
-        all_more s i g p (t, f) w.history k,
-      )
+  deed_entered (Ignores p t f) is runs = (
+    (λ ext. ((t, f), ap (λ (xs : List (ℕ × List ℕ)). numbered xs (next_index g p)) (given_here g p (t, f)) ∙ numbered_last (g p) (t, f), ap (λ (b : Bool). (bridge_after i w.history).present p && b) is.1 ∙ and_none ((bridge_after i w.history).present p))),
+    all_more s i g p (t, f) w.history k,
+  )
     where
       and_none : (b : Bool) → (b && false) ≡ false
       and_none true = refl
