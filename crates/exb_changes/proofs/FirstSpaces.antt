@@ -1,13 +1,10 @@
 -- The spaces to begin with: a cascade port may claim a channel, and what is held then.
-use Rattle.std.proofs.Common.{◌≡◌, ◌≢◌, ℕ, zero, suc, ◌+◌, ◌-◌, ◌/◌, ◌<◌, ◌≤◌, ◌==◌, ◌&&◌, ◌||◌, cond, Bool, true, false, List, [], ◌∷◌, ◌++◌, Option, Some, None, length, filter, fold, refl, sym, ◌∙◌, ap, subst, arith, inl, inr, eq-eqb, length-append, nat_lt, nat_le}
-use Rattle.std.specs.Prelude.{is_some, count_by, replicate}
+use Rattle.std.proofs.Common.{◌≡◌, ℕ, zero, suc, ◌+◌, ◌/◌, ◌&&◌, cond, Bool, true, false, List, [], Option, Some, None, length, refl, sym, ◌∙◌, ap, subst, arith, nat_lt}
+use Rattle.std.specs.Prelude.{is_some, replicate}
 use Rattle.exb_numbers.specs.Channels.{holder}
 use Rattle.exb_numbers.specs.Groups.{set_of}
-use Rattle.std.specs.List.{list_any, range_with_len}
-use Rattle.std.proofs.lemmas.Bool.{cases_eq, cases_lt, and_parts, eqb-true, ne_eqb, leb-true, ltb-true, lt-ltb, le-ltb, false≢true}
-use Rattle.std.proofs.lemmas.List.Elements.{filter-append}
-use Rattle.std.proofs.lemmas.List.Sums.{length-filter}
-use Rattle.std.proofs.lemmas.List.{append-nil, length-replicate}
+use Rattle.std.proofs.lemmas.Bool.{false≢true}
+use Rattle.std.proofs.lemmas.List.{length-replicate}
 use Rattle.exb_model.specs.Tree.{Shape, IsTree, device, trunk, is_cascade_under}
 use Rattle.exb_model.specs.Setup.{Limits}
 use Rattle.exb_model.specs.Numbering.{lowest_free}

@@ -1,7 +1,7 @@
 -- A bridge and its extender as they begin, and as the opening leaves them.
-use Rattle.std.proofs.Common.{◌≡◌, ◌≢◌, ◌⊎◌, ℕ, zero, suc, ◌+◌, ◌-◌, ◌*◌, ◌<◌, ◌≤◌, ◌==◌, ◌&&◌, ◌||◌, ◌++◌, Bool, true, false, cond, fold, take, drop, map, filter, All, List, [], ◌∷◌, length, get_or, replicate, Option, Some, None, nat_lt, nat_le, eq-eqb, refl, ap, sym, subst, ◌∙◌, arith, inl, inr, add-one}
-use Rattle.std.specs.List.{list_any, range_with_len}
-use Rattle.std.proofs.lemmas.Bool.{cases_Bool, cases_lt, cases_eq, ne_eqb, lt-ltb, le-ltb, lt-leb, le-leb, ltb-true, leb-true, false≢true}
+use Rattle.std.proofs.Common.{◌≡◌, ◌≢◌, ◌⊎◌, ℕ, zero, suc, ◌+◌, ◌-◌, ◌*◌, ◌<◌, ◌≤◌, ◌==◌, ◌&&◌, ◌||◌, ◌++◌, Bool, true, false, cond, fold, take, drop, map, filter, All, List, [], ◌∷◌, length, get_or, Option, Some, None, nat_lt, nat_le, eq-eqb, refl, ap, sym, subst, ◌∙◌, arith, inl, inr, add-one}
+use Rattle.std.specs.List.{range_with_len}
+use Rattle.std.proofs.lemmas.Bool.{cases_Bool, cases_lt, cases_eq, ne_eqb, lt-ltb, le-ltb, lt-leb, le-leb, ltb-true, leb-true}
 use Rattle.std.proofs.lemmas.List.{length-take, length-replicate, map-append}
 use Rattle.std.proofs.lemmas.List.Elements.{All-head, All-tail}
 use Rattle.exb_model.specs.declared.command.Command.{Command}
@@ -18,7 +18,7 @@ use Rattle.exb_model.proofs.PortLemmas.{range-more}
 use Rattle.exb_config.specs.Tables.{bridge_of}
 use Rattle.exb_numbers.specs.Channels.{holder, channel_of}
 use Rattle.exb_numbers.specs.Groups.{Groups, set_of, group_of}
-use Rattle.exb_numbers.specs.Spaces.{Spaces, has_space, channels_at, groups_at}
+use Rattle.exb_numbers.specs.Spaces.{Spaces, has_space, channels_at}
 use Rattle.exb_relay.specs.Spaces.{HasSpaces}
 use Rattle.exb_relay.specs.Laws.{HasPvids}
 use Rattle.exb_world.specs.declared.bridge.Controller.{Controller}

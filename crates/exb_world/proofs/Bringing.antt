@@ -1,10 +1,10 @@
 -- A frame that comes up as a word, and the port that the bridge finds by it.
-use Rattle.std.proofs.Common.{◌≡◌, ℕ, ◌+◌, ◌-◌, ◌*◌, ◌/◌, ◌%◌, ◌<◌, ◌≤◌, ◌==◌, ◌&&◌, Bool, true, false, not, cond, List, [], ◌∷◌, length, Option, Some, None, nat_lt, eq-eqb, refl, ap, sym, subst, ◌∙◌, arith, inl, inr}
+use Rattle.std.proofs.Common.{◌≡◌, ℕ, ◌+◌, ◌-◌, ◌*◌, ◌/◌, ◌%◌, ◌<◌, ◌&&◌, true, List, Option, Some, None, nat_lt, eq-eqb, refl, ap, ◌∙◌, arith}
 use Rattle.std.specs.Prelude.{option_map}
-use Rattle.std.proofs.lemmas.Bool.{cases_Bool, ltb-true, false≢true}
+use Rattle.std.proofs.lemmas.Bool.{ltb-true}
 use Rattle.exb_model.specs.Frames.{kind_of}
 use Rattle.exb_model.specs.ETags.{Tag, TagFits, read_etag, tagged, stripped}
-use Rattle.exb_model.specs.Tree.{on, trunk, is_cascade}
+use Rattle.exb_model.specs.Tree.{on, trunk}
 use Rattle.exb_model.specs.EagerHistory.{is_relayed, is_relayed_kind}
 use Rattle.exb_config.specs.Tables.{bridge_of}
 use Rattle.exb_frame.specs.declared.etag.ETag.{ETag}
@@ -16,7 +16,7 @@ use Rattle.exb_world.specs.declared.extender.Extender.{Extender}
 use Rattle.exb_world.specs.Tables.{channel_tag, IsWordOf}
 use Rattle.exb_world.specs.Extenders.{tables_of}
 use Rattle.exb_world.specs.Insides.{IsLive}
-use Rattle.exb_world.proofs.Filters.{and_first, and_second, and_false}
+use Rattle.exb_world.proofs.Filters.{and_first, and_second}
 use Rattle.exb_world.proofs.Only.{is_cascade_is, trunk_is}
 use Rattle.exb_world.proofs.Frames.{relayed_long}
 

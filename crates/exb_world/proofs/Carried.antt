@@ -1,13 +1,12 @@
 -- Where a word comes out of the one extender.
-use Rattle.std.proofs.Common.{◌≡◌, ◌≢◌, ℕ, ◌+◌, ◌*◌, ◌/◌, ◌%◌, ◌<◌, ◌≤◌, ◌==◌, ◌&&◌, Bool, true, false, not, cond, List, [], ◌∷◌, length, get_or, Option, Some, None, nat_lt, nat_le, eq-eqb, zero-add, refl, ap, sym, ◌∙◌, arith, inl, inr, ◌||◌}
-use Rattle.std.specs.Prelude.{find}
+use Rattle.std.proofs.Common.{◌≡◌, ◌≢◌, ℕ, ◌+◌, ◌*◌, ◌/◌, ◌%◌, ◌<◌, ◌==◌, ◌&&◌, Bool, true, false, not, cond, List, [], ◌∷◌, get_or, Some, nat_lt, nat_le, eq-eqb, zero-add, refl, ap, sym, ◌∙◌, arith, inl, inr, ◌||◌}
 use Rattle.std.specs.List.{range_with_len}
-use Rattle.std.proofs.lemmas.Bool.{cases_eq, ne_eqb, lt-ltb, le-ltb, le-leb}
+use Rattle.std.proofs.lemmas.Bool.{cases_eq, ne_eqb, lt-ltb}
 use Rattle.std.proofs.lemmas.List.FromFn.{get_or-range_with_len, length-range_with_len}
 use Rattle.exb_model.specs.ETags.{Tag, read_etag, stripped}
-use Rattle.exb_model.specs.Tree.{Shape, on, device, is_extender}
+use Rattle.exb_model.specs.Tree.{Shape, on, is_extender}
 use Rattle.exb_model.specs.Ports.{below}
-use Rattle.exb_model.specs.ExtenderForwarding.{Tables, takes, left_out, bare, emits}
+use Rattle.exb_model.specs.ExtenderForwarding.{Tables, emits}
 use Rattle.exb_model.specs.Carriage.{carried, carried_in}
 use Rattle.exb_model.proofs.Lists.{find-at}
 use Rattle.exb_relay.specs.Leaving.{extender_on}

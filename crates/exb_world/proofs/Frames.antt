@@ -1,5 +1,5 @@
 -- The frames that an arrival makes leave are those that the one bridge sends.
-use Rattle.std.proofs.Common.{◌≡◌, ◌≢◌, ℕ, ◌+◌, ◌-◌, ◌*◌, ◌/◌, ◌%◌, ◌<◌, ◌≤◌, ◌==◌, ◌&&◌, Bool, true, false, not, cond, map, filter, List, [], ◌∷◌, ◌++◌, length, take, drop, Option, Some, None, nat_lt, eq-eqb, get_or, refl, ap, sym, subst, ◌∙◌, arith, inl, inr}
+use Rattle.std.proofs.Common.{◌≡◌, ◌≢◌, ℕ, ◌+◌, ◌-◌, ◌*◌, ◌/◌, ◌%◌, ◌<◌, ◌≤◌, ◌==◌, ◌&&◌, Bool, true, false, cond, map, filter, List, [], ◌∷◌, ◌++◌, length, take, Option, Some, None, nat_lt, eq-eqb, get_or, refl, ap, sym, subst, ◌∙◌, arith, inl, inr}
 use Rattle.std.specs.Prelude.{flat_map, All}
 use Rattle.std.proofs.lemmas.Bool.{cases_Bool, cases_eq, cases_lt, ne_eqb, ltb-true, lt-ltb, le-ltb, false≢true}
 use Rattle.std.proofs.lemmas.List.{length-take, length-drop, length-append, map-append}
@@ -8,10 +8,9 @@ use Rattle.exb_model.specs.declared.vlan.Kind.{Kind}
 use Rattle.exb_model.specs.declared.vlan.Kind.TheVariants.{Tagged, Untagged}
 use Rattle.exb_model.specs.declared.frame_kind.Seen.{Seen}
 use Rattle.exb_model.specs.declared.frame_kind.Seen.TheVariants as seen
-use Rattle.exb_model.specs.declared.event.Event.TheVariants as event
 use Rattle.exb_model.specs.Ports.{below}
 use Rattle.exb_model.specs.Frames.{kind_of, kind_of_tag, number_at, is_reserved, egress, body_after, two_bytes, priority_of}
-use Rattle.exb_model.specs.ETags.{Tag, TagFits, tagged, stripped, read_etag}
+use Rattle.exb_model.specs.ETags.{Tag, TagFits, tagged}
 use Rattle.exb_model.specs.Tree.{Shape, on, is_external, is_cascade}
 use Rattle.exb_model.specs.ExtenderForwarding.{Tables}
 use Rattle.exb_model.specs.Carriage.{carried}
@@ -26,10 +25,9 @@ use Rattle.exb_frame.specs.TagValues.{tag_of, TagRoundTrip}
 use Rattle.exb_relay.specs.declared.send.SendTo.{SendTo}
 use Rattle.exb_relay.specs.Numbers.{Numbers, IsReady, IsNumbering}
 use Rattle.exb_frame.specs.Egress.{can_leave, priority}
-use Rattle.exb_relay.specs.declared.send.Ingress.{Ingress}
 use Rattle.exb_relay.specs.declared.send.Ingress.TheVariants as ingress
 use Rattle.exb_relay.specs.Sends.{sends_of, pcp_of, dei_of, ingress_by}
-use Rattle.exb_relay.specs.Leaving.{Carries, extender_on, coming_out, leaving_by, leaving, all_leaving}
+use Rattle.exb_relay.specs.Leaving.{Carries, leaving_by, leaving}
 use Rattle.exb_relay.specs.Laws.{HasPvids, IsBytes, IsSent, IsAt, SendsAreWords, SendsLeaveAsFlat, left_by as carried_by}
 use Rattle.exb_world.specs.declared.world.Left.{Left}
 use Rattle.exb_world.specs.Tables.{goes_out, among_all}

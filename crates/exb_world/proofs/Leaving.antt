@@ -1,5 +1,5 @@
 -- What leaves, port by port.
-use Rattle.std.proofs.Common.{◌≡◌, ◌≢◌, ℕ, zero, suc, ◌+◌, ◌*◌, ◌<◌, ◌≤◌, ◌==◌, Bool, true, false, cond, filter, List, [], ◌∷◌, ◌++◌, eq-eqb, refl, ap, sym, ◌∙◌, arith, inl, inr}
+use Rattle.std.proofs.Common.{◌≡◌, ◌≢◌, ℕ, zero, suc, ◌+◌, ◌*◌, ◌<◌, ◌≤◌, ◌==◌, Bool, true, false, cond, filter, List, [], ◌∷◌, ◌++◌, eq-eqb, refl, ap, ◌∙◌, arith, inl, inr}
 use Rattle.std.specs.Prelude.{flat_map, All}
 use Rattle.std.specs.List.{range_with_len}
 use Rattle.std.proofs.lemmas.Bool.{cases_eq, ne_eqb}

@@ -1,29 +1,28 @@
 -- A bridge whose sets have groups and whose present ports have channels, and the extender's tables beside it.
-use Rattle.std.proofs.Common.{◌≡◌, ◌≢◌, ℕ, zero, suc, ◌+◌, ◌-◌, ◌*◌, ◌/◌, ◌%◌, ◌<◌, ◌≤◌, ◌==◌, ◌&&◌, ◌||◌, ◌++◌, Bool, true, false, not, cond, filter, fold, List, [], ◌∷◌, length, get_or, Option, Some, None, nat_lt, nat_le, eq-eqb, refl, ap, sym, subst, ◌∙◌, arith, inl, inr}
+use Rattle.std.proofs.Common.{◌≡◌, ◌≢◌, ℕ, zero, suc, ◌+◌, ◌-◌, ◌*◌, ◌/◌, ◌%◌, ◌<◌, ◌≤◌, ◌==◌, ◌&&◌, ◌||◌, Bool, true, false, not, cond, filter, fold, List, [], ◌∷◌, length, get_or, Option, Some, None, nat_lt, nat_le, eq-eqb, refl, ap, sym, subst, ◌∙◌, arith, inl, inr}
 use Rattle.std.specs.Prelude.{bytes_eq, flat_map, find, is_some, IsSome, All}
 use Rattle.std.specs.List.{list_any, range_with_len}
-use Rattle.std.proofs.lemmas.Bool.{cases_Bool, cases_eq, cases_lt, ne_eqb, lt-ltb, le-ltb, le-leb, lt-leb, ltb-true, eqb-true, false≢true}
-use Rattle.std.proofs.lemmas.List.Elements.{All-nil, All-cons, All-append, All-head, All-tail}
+use Rattle.std.proofs.lemmas.Bool.{cases_Bool, cases_eq, ne_eqb, lt-ltb, le-leb, lt-leb, ltb-true, eqb-true, false≢true}
+use Rattle.std.proofs.lemmas.List.Elements.{All-nil, All-cons, All-head, All-tail}
 use Rattle.std.proofs.lemmas.Slice.Eq.{bytes_eq-Decides}
-use Rattle.exb_model.specs.declared.command.Command.TheVariants as command
-use Rattle.exb_model.specs.Ports.{below, all_ports}
+use Rattle.exb_model.specs.Ports.{all_ports}
 use Rattle.exb_model.specs.ETags.{Tag, read_etag, stripped}
-use Rattle.exb_model.specs.Tree.{Shape, HangsOn, on, device, is_port, is_cascade, is_external, is_extended, is_under}
+use Rattle.exb_model.specs.Tree.{Shape, on, is_external, is_extended, is_under}
 use Rattle.exb_model.specs.ExtenderForwarding.{Tables}
 use Rattle.exb_model.specs.Carriage.{carried}
-use Rattle.exb_model.specs.Configuration.{Bridge, after}
+use Rattle.exb_model.specs.Configuration.{Bridge}
 use Rattle.exb_model.specs.Refusals.{Source, part, parts, sources, without_isolated, with_set, sets_at, is_empty_set}
 use Rattle.exb_numbers.specs.Channels.{holder, channel_of}
 use Rattle.exb_model.specs.Numbering.{is_port as is_held_by}
 use Rattle.exb_numbers.specs.Groups.{Groups, set_of, group_of}
-use Rattle.exb_numbers.specs.Spaces.{Spaces, has_space, channels_at, groups_at}
-use Rattle.exb_relay.specs.Numbers.{Numbers, IsReady, has_set}
+use Rattle.exb_numbers.specs.Spaces.{Spaces, channels_at, groups_at}
+use Rattle.exb_relay.specs.Numbers.{IsReady, has_set}
 use Rattle.exb_relay.specs.Spaces.{numbers_of}
 use Rattle.exb_relay.specs.Leaving.{Carries, is_listed}
 use Rattle.exb_world.specs.Tables.{goes_out, among_all}
 use Rattle.exb_world.specs.Insides.{IsOnly, AreRegistered}
 use Rattle.exb_world.proofs.Filters.{and_first, and_second, and_false}
-use Rattle.exb_world.proofs.Only.{IsPlaced, is_cascade_is, trunk_is, hangs_on, hanging_is, placed_extended, external_is, extended_is, under_is}
+use Rattle.exb_world.proofs.Only.{IsPlaced, hanging_is, placed_extended, under_is}
 use Rattle.exb_world.proofs.Carried.{carried_here}
 
 -- ---- finding

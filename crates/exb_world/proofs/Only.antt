@@ -1,12 +1,12 @@
 -- The tree with one extender, which hangs on the bridge.
-use Rattle.std.proofs.Common.{◌≡◌, ◌≢◌, ℕ, zero, suc, ◌+◌, ◌*◌, ◌/◌, ◌%◌, ◌<◌, ◌≤◌, ◌==◌, ◌&&◌, ◌++◌, Bool, true, false, not, cond, List, [], ◌∷◌, length, slice_index, nat_lt, nat_le, ◌-◌, eq-eqb, subst, refl, ap, sym, ◌∙◌, arith, inl, inr}
+use Rattle.std.proofs.Common.{◌≡◌, ◌≢◌, ℕ, zero, suc, ◌+◌, ◌*◌, ◌/◌, ◌%◌, ◌<◌, ◌≤◌, ◌==◌, ◌&&◌, ◌++◌, Bool, true, false, not, cond, List, [], ◌∷◌, length, slice_index, nat_lt, ◌-◌, eq-eqb, subst, refl, ap, sym, ◌∙◌, arith, inl, inr}
 use Rattle.std.specs.Prelude.{flat_map}
 use Rattle.std.specs.List.{range_with_len}
-use Rattle.std.proofs.lemmas.Bool.{cases_Bool, cases_eq, cases_lt, ne_eqb, lt-ltb, le-ltb, lt-leb, le-leb, ltb-true}
+use Rattle.std.proofs.lemmas.Bool.{cases_Bool, cases_eq, cases_lt, ne_eqb, lt-ltb, lt-leb, le-leb, ltb-true}
 use Rattle.std.proofs.lemmas.List.{append-nil}
 use Rattle.exb_model.specs.declared.role.Role.{Role}
 use Rattle.exb_model.specs.declared.role.Role.TheVariants as role
-use Rattle.exb_model.specs.Tree.{Shape, IsTree, HasRole, HangsOn, on, device, path, depth, is_port, is_extender, is_cascade, is_external, is_extended, is_under, any_below, trunk, hangs_at_depth, level, levels, by_depth, externals_of, opening_ports}
+use Rattle.exb_model.specs.Tree.{Shape, IsTree, HasRole, HangsOn, on, device, depth, is_port, is_extender, is_cascade, is_external, is_extended, is_under, trunk, hangs_at_depth, level, levels, by_depth, externals_of, opening_ports}
 use Rattle.exb_model.proofs.TreeWays.{any_below-from, number_at_most, up_low, top_low, path_is}
 use Rattle.exb_model.proofs.TreeHung.{cascade_hangs}
 use Rattle.exb_world.specs.Insides.{IsOnly}

@@ -1,5 +1,5 @@
 -- The world that is opened stands at the history of the opening, and a fresh one at the empty history.
-use Rattle.std.proofs.Common.{◌≡◌, ℕ, false, List, [], ◌∷◌, ◌++◌, map, reverse, Option, None, refl, ap, sym, subst, ◌∙◌, add-zero}
+use Rattle.std.proofs.Common.{◌≡◌, ℕ, false, List, [], ◌∷◌, map, reverse, None, refl, ap, sym, subst, ◌∙◌, add-zero}
 use Rattle.std.specs.Prelude.{filter_map}
 use Rattle.std.proofs.lemmas.List.{append-nil, reverse-append}
 use Rattle.std.proofs.lemmas.List.Elements.{filter_map-append}
@@ -7,7 +7,7 @@ use Rattle.exb_model.specs.declared.command.Command.TheVariants as command
 use Rattle.exb_model.specs.declared.event.Event.TheVariants as event
 use Rattle.exb_model.specs.declared.setup.Setup.{Setup}
 use Rattle.exb_model.specs.Tree.{opening_ports}
-use Rattle.exb_model.specs.Setup.{shape_of, start_of}
+use Rattle.exb_model.specs.Setup.{shape_of}
 use Rattle.exb_model.specs.Configuration.{Bridge, after}
 use Rattle.exb_model.specs.History.{Basis, History, ◌then◌, bridge_after, now_after}
 use Rattle.exb_model.specs.Learning.{kept_unless, remembered}
@@ -15,8 +15,8 @@ use Rattle.exb_model.specs.FlatBridge.{flat}
 use Rattle.exb_model.specs.LegalHistory.{place_of}
 use Rattle.exb_model.specs.Input.{Input, basis_of}
 use Rattle.exb_model.proofs.Remembering.{remembered-none, remembered-other}
-use Rattle.exb_world.specs.Opening.{opened, OpenedStands}
-use Rattle.exb_world.specs.Worlds.{Stands, fresh_of, opened_of, with_up}
+use Rattle.exb_world.specs.Opening.{OpenedStands}
+use Rattle.exb_world.specs.Worlds.{Stands, fresh_of, with_up}
 use Rattle.exb_world.proofs.OpeningRaises.{opening_raises_law}
 
 -- a history in which no time has passed, nothing was sent, nothing came and nothing was learned

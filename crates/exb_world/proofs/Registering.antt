@@ -1,12 +1,11 @@
 -- The sets get their groups one by one.
-use Rattle.std.proofs.Common.{◌≡◌, ◌≢◌, ℕ, zero, suc, ◌+◌, ◌-◌, ◌*◌, ◌<◌, ◌≤◌, ◌==◌, ◌&&◌, ◌||◌, ◌++◌, Bool, true, false, not, cond, filter, List, [], ◌∷◌, length, get_or, Option, Some, None, nat_lt, eq-eqb, map, take, drop, refl, ap, sym, subst, ◌∙◌, arith, inl, inr, add-one}
+use Rattle.std.proofs.Common.{◌≡◌, ◌≢◌, ℕ, zero, suc, ◌+◌, ◌-◌, ◌*◌, ◌<◌, ◌≤◌, ◌==◌, ◌||◌, ◌++◌, Bool, true, false, not, cond, filter, List, [], ◌∷◌, length, get_or, Option, Some, None, eq-eqb, map, take, drop, refl, ap, sym, subst, ◌∙◌, arith, inl, inr, add-one}
 use Rattle.std.specs.Prelude.{bytes_eq}
 use Rattle.std.specs.List.{list_any, range_with_len}
 use Rattle.std.specs.Int.{bit_at}
 use Rattle.std.proofs.lemmas.Bool.{cases_Bool, cases_eq, cases_lt, ne_eqb, false≢true}
 use Rattle.std.proofs.lemmas.Slice.Eq.{bytes_eq-Decides}
 use Rattle.std.proofs.lemmas.List.{get_or_push, get_or_past}
-use Rattle.std.proofs.lemmas.List.FromFn.{get_or-range_with_len, length-range_with_len}
 use Rattle.exb_model.specs.Masks.{bits_of}
 use Rattle.exb_model.specs.Ports.{port_in, below, ports_of}
 use Rattle.exb_model.specs.declared.port_set.PortSet.{PortSet}

@@ -1,8 +1,8 @@
 -- The ports of a row, lowest first, and the tables with a port or a group more.
-use Rattle.std.proofs.Common.{◌≡◌, ◌≢◌, ℕ, zero, suc, ◌+◌, ◌*◌, ◌%◌, ◌^◌, ◌<◌, ◌≤◌, ◌==◌, ◌&&◌, ◌||◌, not, Bool, true, false, cond, filter, bit_and, nat_lt, nat_le, length, slice_index, slice_set, eq-eqb, List, [], ◌∷◌, ◌++◌, refl, ap, sym, ◌∙◌, arith, inl, inr, append_assoc}
+use Rattle.std.proofs.Common.{◌≡◌, ◌≢◌, ℕ, zero, suc, ◌+◌, ◌*◌, ◌%◌, ◌^◌, ◌<◌, ◌≤◌, ◌==◌, ◌&&◌, not, Bool, true, false, cond, filter, bit_and, nat_lt, length, slice_index, slice_set, eq-eqb, List, [], ◌∷◌, ◌++◌, refl, ap, sym, ◌∙◌, arith, inl, inr, append_assoc}
 use Rattle.std.specs.List.{range_with_len}
 use Rattle.std.specs.Int.{w64, bit_at, bit_not, trailing_zeros}
-use Rattle.std.proofs.lemmas.Bool.{cases_eq, cases_lt, cases_Bool, ne_eqb, eqb-true}
+use Rattle.std.proofs.lemmas.Bool.{cases_eq, cases_lt, ne_eqb}
 use Rattle.std.proofs.lemmas.Nat.{and_le_l, one_shl}
 use Rattle.std.proofs.lemmas.Nat.Bits.{bit_at-trailing_zeros, bit_at-zero, bit_at-pow_same, bit_at-pow_other, bit_at_clear_same, bit_at_clear_other}
 use Rattle.std.proofs.lemmas.List.{append-nil, get_or-set_same, get_or-set_other}
@@ -12,7 +12,6 @@ use Rattle.exb_model.specs.ExtenderForwarding.{Tables, left_out}
 use Rattle.exb_members.specs.Rows.{row_of}
 use Rattle.exb_world.specs.Tables.{goes_out, sends_out}
 use Rattle.exb_world.specs.Extenders.{AreTables, with_port, with_group}
-use Rattle.exb_world.proofs.Filters.{and_false}
 
 -- ---- tables by lists
 abbrev pub tables_from : List ℕ → List ℕ → Tables

@@ -1,12 +1,12 @@
 -- The tree of a setup with one extender.
-use Rattle.std.proofs.Common.{◌≡◌, ◌≢◌, ℕ, zero, suc, ◌+◌, ◌<◌, ◌≤◌, All, List, [], ◌∷◌, set, replicate, slice_index, refl, ap, sym, subst, ◌∙◌, arith, inl, inr}
+use Rattle.std.proofs.Common.{◌≡◌, ◌≢◌, ℕ, zero, suc, ◌<◌, ◌≤◌, All, List, [], set, replicate, slice_index, refl, ap, subst, ◌∙◌, arith, inl, inr}
 use Rattle.std.proofs.lemmas.Bool.{cases_lt}
 use Rattle.std.proofs.lemmas.List.{get_or-set_other, get_or-set_same}
 use Rattle.std.proofs.lemmas.List.Elements.{All-head}
 use Rattle.exb_model.specs.declared.setup.ExtenderSetup.{ExtenderSetup}
 use Rattle.exb_model.specs.declared.setup.Setup.{Setup}
-use Rattle.exb_model.specs.Setup.{shape_of, lay, port_at, IsValid, InRange}
-use Rattle.exb_model.specs.Tree.{Shape, on, device, is_port, top, IsTree}
+use Rattle.exb_model.specs.Setup.{shape_of, lay, InRange}
+use Rattle.exb_model.specs.Tree.{Shape, on, device, top, IsTree}
 use Rattle.exb_model.proofs.Words.{get_or-same}
 use Rattle.exb_model.proofs.TreeWays.{top_high, top_none}
 use Rattle.exb_world.specs.Setups.{IsSingle}

@@ -1,12 +1,12 @@
 -- What an event makes of a world, and where it stands.
-use Rattle.std.proofs.Common.{◌≡◌, ℕ, ◌+◌, Bool, true, false, cond, List, [], ◌∷◌, ◌++◌, map, reverse, length, drop, Option, Some, None, refl, ap, sym, ◌∙◌}
+use Rattle.std.proofs.Common.{◌≡◌, ℕ, Bool, true, false, cond, List, [], ◌∷◌, ◌++◌, map, reverse, Option, Some, None, refl, ap, sym, ◌∙◌}
 use Rattle.std.specs.Prelude.{filter_map, Result, Ok, Err, is_err, OnOk}
 use Rattle.std.proofs.lemmas.List.{reverse-append, map-append}
 use Rattle.std.proofs.lemmas.List.Elements.{filter_map-append}
 use Rattle.exb_model.specs.declared.event.Event.{Event}
 use Rattle.exb_model.specs.declared.event.Event.TheVariants as event
 use Rattle.exb_model.specs.Configuration.{Bridge}
-use Rattle.exb_model.specs.History.{Basis, History, changed, bridge_after, now_after}
+use Rattle.exb_model.specs.History.{Basis, History, changed, bridge_after}
 use Rattle.exb_model.specs.Learning.{Look, learned, passes}
 use Rattle.exb_model.specs.FlatBridge.{Sent, sent_by, flat}
 use Rattle.exb_model.specs.Input.{Arrival}

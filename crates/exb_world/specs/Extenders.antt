@@ -1,5 +1,5 @@
 -- The tables of the one extender, by its ports from 0.
-use Rattle.std.specs.Prelude.{◌≡◌, ℕ, ◌<◌, ◌==◌, ◌&&◌, Bool, false, nat_lt, slice_index, if◌then◌else◌}
+use Rattle.std.specs.Prelude.{◌≡◌, ℕ, ◌<◌, ◌==◌, Bool, false, slice_index, if◌then◌else◌}
 use Rattle.std.specs.Int.{bit_at}
 use Rattle.exb_model.specs.ExtenderForwarding.{Tables}
 use Rattle.exb_members.specs.Rows.{row_of}

@@ -1,9 +1,8 @@
 -- The value of a world's parts, and what they keep.
-use Rattle.std.specs.Prelude.{◌≡◌, ◌≢◌, ℕ, ◌+◌, ◌-◌, ◌*◌, ◌<◌, ◌≤◌, ◌==◌, ◌&&◌, ◌++◌, Bool, true, false, not, nat_lt, List, [], ◌∷◌, map, filter, bytes_eq, if◌then◌else◌, Option, Some, None, length, slice_index, slice_index_or}
+use Rattle.std.specs.Prelude.{◌≡◌, ◌≢◌, ℕ, ◌+◌, ◌-◌, ◌*◌, ◌<◌, ◌≤◌, ◌==◌, ◌&&◌, ◌++◌, Bool, true, false, nat_lt, List, [], ◌∷◌, map, filter, bytes_eq, if◌then◌else◌, Some, None, length, slice_index, slice_index_or}
 use Rattle.std.specs.List.{list_any}
 use Rattle.exb_model.specs.Tree.{Shape, IsTree, on, is_external}
 use Rattle.exb_model.specs.ExtenderForwarding.{Tables}
-use Rattle.exb_model.specs.Configuration.{Bridge}
 use Rattle.exb_model.specs.Input.{Arrival}
 use Rattle.exb_model.specs.Refusals.{is_empty_set}
 use Rattle.exb_config.specs.Tables.{bridge_of}

@@ -1,5 +1,5 @@
 -- Laws of the opening: each port of the extender goes up, none is refused, and the opened world stands there.
-use Rattle.std.specs.Prelude.{◌≡◌, ℕ, []}
+use Rattle.std.specs.Prelude.{◌≡◌, []}
 use Rattle.exb_model.specs.Tree.{opening_ports}
 use Rattle.exb_model.specs.History.{History, ◌then◌}
 use Rattle.exb_model.specs.Input.{Input, basis_of, bounds_of, tree_of}

@@ -1,5 +1,5 @@
 -- The setups of which a world can be made today: one extender, no isolated port and no static entry.
-use Rattle.std.specs.Prelude.{◌≡◌, ℕ, Bool, true, false, [], ◌∷◌}
+use Rattle.std.specs.Prelude.{◌≡◌, Bool, true, false, [], ◌∷◌}
 use Rattle.std.specs.List.{list_any}
 use Rattle.exb_model.specs.declared.setup.ExtenderSetup.{ExtenderSetup}
 use Rattle.exb_model.specs.declared.setup.Setup.{Setup}

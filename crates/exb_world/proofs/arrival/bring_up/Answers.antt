@@ -1,4 +1,4 @@
-use Rattle.std.proofs.Common.{◌≡◌, ℕ, List, ◌-◌, ◌/◌, ◌%◌, true, cond, Option, Some, None, ap, sym, subst, ◌∙◌}
+use Rattle.std.proofs.Common.{◌≡◌, ℕ, ◌-◌, ◌/◌, cond, Some, None, ap, sym, subst, ◌∙◌}
 use Rattle.exb_model.specs.EagerHistory.{is_relayed}
 use Rattle.exb_config.specs.Tables.{bridge_of}
 use Rattle.exb_world.proofs.Bringing.{trunk_space, trunk_place, word_is}

@@ -1,15 +1,10 @@
-use Rattle.std.proofs.Common.{◌≡◌, ℕ, ◌<◌, ◌≤◌, List, All, length, arith, ap, sym, subst, ◌∙◌}
+use Rattle.std.proofs.Common.{arith, sym, ◌∙◌}
 use Rattle.exb_model.specs.Frames.{kind_of}
 use Rattle.exb_model.specs.Learning.{passes}
 use Rattle.exb_model.specs.EagerHistory.{is_relayed_kind}
 use Rattle.exb_config.specs.Tables.{bridge_of}
-use Rattle.exb_learn.specs.Entries.{look_of}
-use Rattle.exb_relay.specs.declared.send.SendTo.{SendTo}
-use Rattle.exb_relay.specs.Sends.{sends_of}
-use Rattle.exb_relay.specs.Spaces.{numbers_of}
-use Rattle.exb_world.specs.Sending.{CanSend}
-use Rattle.exb_world.proofs.Filters.{and_first, and_second}
-use Rattle.exb_world.proofs.Frames.{relayed_long, priority_small, pcp_small, passed_is, can_send_all}
+use Rattle.exb_world.proofs.Filters.{and_second}
+use Rattle.exb_world.proofs.Frames.{relayed_long, priority_small, pcp_small, passed_is}
 use Rattle.exb_world.proofs.arrival.forward.Goals as goal
 
 pub learn-requires-clause-frame : goal.learn-requires-clause-frame

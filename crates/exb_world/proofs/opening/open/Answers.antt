@@ -1,13 +1,10 @@
-use Rattle.std.proofs.Common.{◌≡◌, ℕ, ◌+◌, ◌-◌, ◌*◌, ◌++◌, List, [], map, refl, arith, ap, sym, subst, ◌∙◌}
-use Rattle.std.specs.List.{range_with_len}
-use Rattle.exb_model.specs.declared.event.Event.{Event}
+use Rattle.std.proofs.Common.{◌≡◌, ℕ, ◌+◌, ◌-◌, ◌++◌, List, [], map, refl, arith, ap, sym, subst, ◌∙◌}
 use Rattle.exb_model.specs.declared.event.Event.TheVariants as event
-use Rattle.exb_model.specs.Tree.{Shape, on, trunk, opening_ports}
+use Rattle.exb_model.specs.Tree.{Shape, on, trunk}
 use Rattle.exb_config.specs.Tables.{bridge_of}
-use Rattle.exb_plans.specs.declared.set_at.SetAt.{SetAt}
 use Rattle.exb_plans.specs.Sets.{seen, sets_of}
 use Rattle.exb_world.specs.Extenders.{tables_of}
-use Rattle.exb_world.specs.Insides.{AreRegistered, IsRunning, AreNext, sets_below}
+use Rattle.exb_world.specs.Insides.{AreNext, sets_below}
 use Rattle.exb_world.specs.Worlds.{with_up}
 use Rattle.exb_world.proofs.Only.{trunk_is, opening_ports_are}
 use Rattle.exb_world.proofs.Registering.{registered_as}

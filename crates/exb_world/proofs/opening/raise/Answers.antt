@@ -1,5 +1,5 @@
-use Rattle.std.proofs.Common.{◌≡◌, ℕ, ◌+◌, ◌-◌, ◌*◌, ◌<◌, Option, Some, None, arith, ap, sym, subst, refl, ◌∙◌}
-use Rattle.exb_model.specs.Tree.{on, trunk}
+use Rattle.std.proofs.Common.{◌≡◌, ◌+◌, ◌-◌, ◌<◌, arith, ap, ◌∙◌}
+use Rattle.exb_model.specs.Tree.{on}
 use Rattle.exb_numbers.specs.Channels.{lowest_channel, channel_of}
 use Rattle.exb_numbers.specs.Spaces.{has_space, channels_at}
 use Rattle.exb_world.specs.Extenders.{tables_of}

@@ -1,13 +1,12 @@
-use Rattle.std.proofs.Common.{◌≡◌, ℕ, ◌+◌, ◌*◌, ◌++◌, ◌∷◌, [], map, ap, sym, subst, ◌∙◌, append_assoc}
+use Rattle.std.proofs.Common.{ℕ, ◌+◌, ◌*◌, ◌++◌, ◌∷◌, [], map, ap, sym, subst, ◌∙◌, append_assoc}
 use Rattle.std.specs.List.{range_with_len}
 use Rattle.exb_model.specs.declared.command.Command.TheVariants as command
 use Rattle.exb_model.specs.declared.event.Event.TheVariants as event
 use Rattle.exb_model.specs.Tree.{Shape, on}
-use Rattle.exb_model.specs.Configuration.{Bridge, after}
+use Rattle.exb_model.specs.Configuration.{after}
 use Rattle.exb_config.specs.Tables.{bridge_of}
 use Rattle.exb_world.specs.Extenders.{tables_of}
 use Rattle.exb_world.specs.Insides.{AreRaised}
-use Rattle.exb_world.specs.Worlds.{with_up}
 use Rattle.exb_world.proofs.Beginning.{with_up-more, ups_more}
 use Rattle.exb_world.proofs.opening.raise_all.Goals as goal
 

@@ -1,4 +1,4 @@
-use Rattle.std.proofs.Common.{◌≡◌, ℕ, ◌+◌, ◌-◌, ◌<◌, length, arith, ap, sym, ◌∙◌}
+use Rattle.std.proofs.Common.{◌≡◌, ◌+◌, ◌-◌, length, arith, ap, ◌∙◌}
 use Rattle.exb_model.specs.Ports.{ports_of}
 use Rattle.exb_numbers.specs.Groups.{lowest_group, group_of}
 use Rattle.exb_numbers.specs.Spaces.{groups_at}

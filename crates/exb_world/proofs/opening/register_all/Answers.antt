@@ -1,10 +1,10 @@
-use Rattle.std.proofs.Common.{◌≡◌, ℕ, suc, ◌-◌, ◌+◌, ◌++◌, ◌∷◌, [], Bool, List, cond, take, drop, eq-eqb, refl, ap, sym, ◌∙◌}
+use Rattle.std.proofs.Common.{suc, ◌-◌, ◌+◌, ◌++◌, ◌∷◌, [], cond, take, drop, eq-eqb, refl, ap, sym, ◌∙◌}
 use Rattle.std.proofs.lemmas.Bool.{ne_eqb}
 use Rattle.std.proofs.lemmas.List.{append-nil}
 use Rattle.exb_model.specs.Ports.{ports_of}
 use Rattle.exb_world.specs.declared.extender.Extender.{Extender}
 use Rattle.exb_world.specs.Extenders.{tables_of}
-use Rattle.exb_world.specs.Insides.{AreRegistered, IsNext, sets_below}
+use Rattle.exb_world.specs.Insides.{sets_below}
 use Rattle.exb_world.proofs.Registering.{below_split, below_more, registered_as}
 use Rattle.exb_world.proofs.opening.register_all.Goals as goal
 use Rattle.exb_world.proofs.opening.register_all.Goals.{then-set-trunk, else-set-trunk}

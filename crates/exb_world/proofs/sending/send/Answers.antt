@@ -1,4 +1,4 @@
-use Rattle.std.proofs.Common.{◌≡◌, ℕ, ◌≤◌, List, length, arith, ap, sym, subst}
+use Rattle.std.proofs.Common.{ℕ, ◌≤◌, List, length, arith, sym, subst}
 use Rattle.exb_world.proofs.Frames.{egress_long, leaves_long}
 use Rattle.exb_world.proofs.sending.send.Goals as goal
 

@@ -1,6 +1,5 @@
-use Rattle.std.proofs.Common.{◌≡◌, ℕ, ◌+◌, ◌<◌, ◌≤◌, ◌++◌, List, filter, All, length, arith, ap, sym, subst, ◌∙◌}
+use Rattle.std.proofs.Common.{◌≡◌, ℕ, ◌<◌, ◌++◌, List, All, length, arith, ap, sym, subst, ◌∙◌}
 use Rattle.std.proofs.lemmas.Result.{on_ok_weaker}
-use Rattle.exb_model.specs.Ports.{below}
 use Rattle.exb_model.specs.ETags.{read_etag, tagged, stripped}
 use Rattle.exb_frame.specs.TagValues.{tag_of}
 use Rattle.exb_world.specs.Tables.{goes_out}

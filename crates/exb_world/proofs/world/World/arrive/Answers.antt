@@ -1,6 +1,5 @@
-use Rattle.std.proofs.Common.{◌≡◌, true, All, drop, length, sym, subst, ◌∙◌}
+use Rattle.std.proofs.Common.{All, drop, length, sym, subst, ◌∙◌}
 use Rattle.exb_model.specs.EagerHistory.{arrival_event}
-use Rattle.exb_relay.specs.Spaces.{numbers_of}
 use Rattle.exb_world.specs.Insides.{parts_of, arrival_of}
 use Rattle.exb_world.specs.Worlds.{Parts, IsAfterEvent, IsCopyOf, state_of}
 use Rattle.exb_world.proofs.Standing.{when_ok}

@@ -1,8 +1,6 @@
-use Rattle.std.proofs.Common.{◌≡◌, ℕ, List, [], ◌∷◌, get_or, false, refl, ap, sym, subst, ◌∙◌}
+use Rattle.std.proofs.Common.{◌≡◌, List, [], ◌∷◌, get_or, refl, ap, ◌∙◌}
 use Rattle.exb_model.specs.declared.setup.ExtenderSetup.{ExtenderSetup}
-use Rattle.exb_model.specs.Input.{basis_of}
 use Rattle.exb_world.specs.Extenders.{tables_of}
-use Rattle.exb_world.specs.Worlds.{State, Stands, fresh_of}
 use Rattle.exb_world.proofs.Beginning.{begun_as, raised_as, begun_present, begun_plain}
 use Rattle.exb_world.proofs.Opened.{fresh_stands}
 use Rattle.exb_world.proofs.world.World.new.Goals as goal
