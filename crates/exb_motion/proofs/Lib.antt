@@ -6,5 +6,7 @@ mod Deciding
 mod Jobs
 mod Keeping
 pub mod Standing
+mod Pairs
 mod Marks
+mod Telling
 mod Setups

@@ -16,8 +16,9 @@ use Rattle.exb_changing.specs.Machine.{Work}
 use Rattle.exb_change_laws.specs.Journal.{StepsTell, undecided_of, pending}
 use Rattle.exb_machine.specs.Allowing.{IsSettled}
 use Rattle.exb_machine.specs.Settling.{run}
-use Rattle.exb_machine.specs.Worlds.{World}
-use Rattle.exb_flight.specs.Items.{Word as Datum, Item, words_of, data_of}
+use Rattle.exb_machine.specs.Stepping.{stepped}
+use Rattle.exb_machine.specs.Worlds.{World, Step, Arrive, Carry, Control, Lose, Beat, Tick, Order, Mark}
+use Rattle.exb_flight.specs.Items.{Word as Datum, Item, Each, words_of, data_of}
 use Rattle.exb_flight.specs.Tree.{IsLink}
 use Rattle.exb_flight.specs.Order.{waiting_up, waiting}
 use Rattle.exb_flight.specs.Order as order
@@ -26,13 +27,14 @@ use Rattle.exb_flight.proofs.Entering.{of_append, told_is_of_port}
 use Rattle.exb_flight.proofs.NamingLists.{times_append, once_more, firsts_append}
 use Rattle.exb_flight.proofs.Overs.{home_link, link_above}
 use Rattle.exb_standing.specs.Tokens.{data_words}
-use Rattle.exb_motion.specs.Given.{Given, arrivals_at, commands_of, indices_of, basis_with}
-use Rattle.exb_motion.specs.Stands.{command_number, automatic_port, up_port, upward, waiting_at, IsNamed, IsRightly, Stands}
-use Rattle.exb_motion.specs.Kept.{given_in}
+use Rattle.exb_motion.specs.Given.{Given, Came, Told, given_by, arrivals_of, arrivals_at, commands_of, indices_of, basis_with}
+use Rattle.exb_motion.specs.Stands.{command_number, automatic_port, up_port, upward, waiting_at, IsNamed, IsOfArrival, IsRightly, Stands}
+use Rattle.exb_motion.specs.Kept.{MayDo, MayDoAll, given_in}
 use Rattle.exb_motion.specs.Marks.{IsOrderly, SettledIsOrderly, SegmentsArePlayed}
 use Rattle.exb_motion.proofs.Jobs.{reverse_then}
 use Rattle.exb_motion.proofs.Keeping.{range_more, commands_append}
 use Rattle.exb_motion.proofs.Naming.{arrivals_append, low_named, deep_named}
+use Rattle.exb_motion.proofs.Pairs.{each_new, named_once, relays_given}
 use Rattle.exb_motion.proofs.Standing.{kept_stands, runs_kept}
 
 -- ---- nothing is on its way
@@ -189,23 +191,59 @@ segments_are_played round words leave law t l i start w g h left k settled steps
     ∙ (b.commands
     ∙ (ap (range_with_len 1) size
     ∙ (range_append 1 (length (commands_of g)) (length (commands_of more)) ∙ ap (λ (xs : List ℕ). xs ++ range_with_len (1 + length (commands_of g)) (length (commands_of more))) (sym a.commands))))) in
+    let named : (p : ℕ) → is_external t p ≡ true → (n : ℕ) → times n (firsts (of_port p es)) ≡ times n (indices_of (arrivals_at p more)) = λ p ext n.
+    let was = a.named p ext n in
+    let is = b.named p ext n in
+    let told = ap (λ (xs : List (ℕ × Bool)). times n (firsts xs)) (sym (told_is_of_port p (h then es)) ∙ of_port-append p h es) in
+    let parts = ap (times n) (firsts_append (told_at p h) (of_port p es)) ∙ times_append n (firsts (told_at p h)) (firsts (of_port p es)) in
+    let first = ap (λ (xs : List (ℕ × Bool)). times n (firsts xs)) (told_is_of_port p h) in
+    let given = ap (λ (xs : List Arrival). times n (indices_of xs)) (arrivals_append p g more) ∙ (ap (times n) (indices_append (arrivals_at p g) (arrivals_at p more)) ∙ times_append n (indices_of (arrivals_at p g)) (indices_of (arrivals_at p more))) in
+    cancels _ _ _ _ _ _ _ was is told parts first _ given in
+    let events : Each (IsOfArrival t (g ++ more)) es = each_new (IsOfArrival t (g ++ more)) h es next.names.events in
+    let first : (p : ℕ) → indices_of (arrivals_at p more) ≡ range_with_len (length (arrivals_at p g) + 1) (length (arrivals_at p more)) = λ p.
+    let whole = arrivals_append p g more in
+    front_same (indices_of (arrivals_at p g)) (indices_of (arrivals_at p more)) (range_with_len (length (arrivals_at p g) + 1) (length (arrivals_at p more)))
+    (sym (indices_append (arrivals_at p g) (arrivals_at p more))
+    ∙ (ap indices_of (sym whole)
+    ∙ (next.follows.indexed p
+    ∙ (ap (range_with_len 1) (ap (λ (xs : List Arrival). length xs) whole ∙ length-append (arrivals_at p g) (arrivals_at p more))
+    ∙ (range_append 1 (length (arrivals_at p g)) (length (arrivals_at p more))
+    ∙ (ap (λ (xs : List ℕ). xs ++ range_with_len (1 + length (arrivals_at p g)) (length (arrivals_at p more))) (sym (k.follows.indexed p))
+    ∙ ap (λ (x : ℕ). indices_of (arrivals_at p g) ++ range_with_len x (length (arrivals_at p more))) (swapped (length (arrivals_at p g))))))))) in
     record {
       none_opened = front_same (filter_map up_port (reverse h)) (filter_map up_port es) [] ups;
       commands =
           front_same (filter_map number_of (reverse h)) (filter_map number_of es) (range_with_len (1 + length (commands_of g)) (length (commands_of more))) numbers
           ∙ ap (λ (n : ℕ). range_with_len n (length (commands_of more))) (omega arith);
-      named = λ p ext n.
-          let was = a.named p ext n in
-          let is = b.named p ext n in
-          let told = ap (λ (xs : List (ℕ × Bool)). times n (firsts xs)) (sym (told_is_of_port p (h then es)) ∙ of_port-append p h es) in
-          let parts = ap (times n) (firsts_append (told_at p h) (of_port p es)) ∙ times_append n (firsts (told_at p h)) (firsts (of_port p es)) in
-          let first = ap (λ (xs : List (ℕ × Bool)). times n (firsts xs)) (told_is_of_port p h) in
-          let given = ap (λ (xs : List Arrival). times n (indices_of xs)) (arrivals_append p g more) ∙ (ap (times n) (indices_append (arrivals_at p g) (arrivals_at p more)) ∙ times_append n (indices_of (arrivals_at p g)) (indices_of (arrivals_at p more))) in
-          cancels _ _ _ _ _ _ _ was is told parts first _ given;
+      once = named_once t (g ++ more) more es events (all_external steps w may) named;
+      relays = relays_given t g more es (λ p. first p) named events;
     }
   where
     cancels : (a b c d e f x : ℕ) → a ≡ b → c ≡ d → c ≡ e → e ≡ f + x → f ≡ a → (y : ℕ) → d ≡ b + y → x ≡ y
     cancels a b c d e f x p q r s u y v = omega (arith, p, q, r, s, u, v)
+
+    swapped : (m : ℕ) → 1 + m ≡ m + 1
+    swapped m = omega arith
+
+    -- what steps give comes at external ports
+    step_external : (step : Step) (u : World) → MayDo t l u step → Each (λ (x : Arrival). is_external t x.port ≡ true) (arrivals_of (given_by step))
+    step_external (Arrive x) u may = (may.may.can.external, tt)
+    step_external (Carry n way) u may = tt
+    step_external (Control n way j keep) u may = tt
+    step_external (Lose n way j) u may = tt
+    step_external Beat u may = tt
+    step_external (Tick seconds) u may = tt
+    step_external (Order c) u may = tt
+    step_external Mark u may = tt
+
+    joined : (xs ys : List Given) → Each (λ (x : Arrival). is_external t x.port ≡ true) (arrivals_of xs) → Each (λ (x : Arrival). is_external t x.port ≡ true) (arrivals_of ys) → Each (λ (x : Arrival). is_external t x.port ≡ true) (arrivals_of (xs ++ ys))
+    joined [] ys a b = b
+    joined (Came x ∷ xs) ys a b = (a.0, joined xs ys a.1 b)
+    joined (Told c ∷ xs) ys a b = joined xs ys a b
+
+    all_external : (steps : List Step) (u : World) → MayDoAll t l u steps → Each (λ (x : Arrival). is_external t x.port ≡ true) (arrivals_of (given_in steps))
+    all_external [] u may = tt
+    all_external (step ∷ steps) u may = joined (given_by step) (given_in steps) (step_external step u may.0) (all_external steps (stepped t l step u).world may.1)
 
     indices_append : (xs ys : List Arrival) → indices_of (xs ++ ys) ≡ indices_of xs ++ indices_of ys
     indices_append [] ys = refl

@@ -21,6 +21,12 @@ arrivals_at p [] = []
 arrivals_at p (Came a ∷ g) = if a.port == p then a ∷ arrivals_at p g else arrivals_at p g
 arrivals_at p (Told c ∷ g) = arrivals_at p g
 
+-- all arrivals
+abbrev pub arrivals_of : List Given → List Arrival
+arrivals_of [] = []
+arrivals_of (Came a ∷ g) = a ∷ arrivals_of g
+arrivals_of (Told c ∷ g) = arrivals_of g
+
 abbrev pub commands_of : List Given → List Command
 commands_of [] = []
 commands_of (Came a ∷ g) = commands_of g

@@ -2,3 +2,4 @@ pub mod Given
 pub mod Stands
 pub mod Kept
 pub mod Marks
+pub mod Events

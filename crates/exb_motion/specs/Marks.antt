@@ -1,16 +1,17 @@
 -- What the history of a settled world is, and what lies between two settled moments: the rules on histories, by what was given.
-use Rattle.std.specs.Prelude.{◌≡◌, ℕ, ◌+◌, true, List, [], length, filter_map, reverse}
+use Rattle.std.specs.Prelude.{◌≡◌, ℕ, ◌+◌, true, List, [], length, map, filter_map, reverse, All, IsPermutation}
 use Rattle.std.specs.List.{range_with_len}
 use Rattle.exb_model.specs.declared.event.Event.{Event}
 use Rattle.exb_model.specs.History.{Basis, History}
-use Rattle.exb_model.specs.LegalHistory.{EachEvent, number_of, of_port, IsInOrder, IsDecided, IsEntered}
+use Rattle.exb_model.specs.LegalHistory.{EachEvent, number_of, of_port, place_of, IsRelayOf, IsInOrder, IsDecided, IsEntered}
+use Rattle.exb_model.specs.Input.{Arrival}
 use Rattle.exb_model.specs.Setup.{Limits}
 use Rattle.exb_model.specs.Tree.{Shape, is_external, opening_ports}
 use Rattle.exb_machine.specs.Allowing.{IsSettled}
 use Rattle.exb_machine.specs.Settling.{run}
 use Rattle.exb_machine.specs.Worlds.{World, Step, Left}
 use Rattle.exb_flight.specs.Naming.{times, firsts}
-use Rattle.exb_motion.specs.Given.{Given, arrivals_at, commands_of, indices_of, basis_with}
+use Rattle.exb_motion.specs.Given.{Given, arrivals_of, arrivals_at, commands_of, indices_of, basis_with}
 use Rattle.exb_motion.specs.Stands.{up_port}
 use Rattle.exb_motion.specs.Kept.{MayStart, MayDoAll, given_in, Kept}
 
@@ -26,11 +27,12 @@ pub record IsOrderly (t : Shape) (l : Limits) (i : Basis) (g : List Given) (h : 
   pub entered : EachEvent (IsEntered (basis_with i g) (λ p. arrivals_at p g)) h
 
 -- Between two settled moments no automatic up is told; the commands given in between are decided, each once, in order; and the
--- arrivals given in between are named, each once, and no others.
+-- arrivals given in between are named, each once, and no others, a Relay with its arrival's moment and bytes.
 pub record IsPlayed (t : Shape) (g more : List Given) (es : List Event) : Type 0 where
   pub none_opened : filter_map up_port es ≡ []
   pub commands : filter_map number_of es ≡ range_with_len (length (commands_of g) + 1) (length (commands_of more))
-  pub named : (p : ℕ) → is_external t p ≡ true → (n : ℕ) → times n (firsts (of_port p es)) ≡ times n (indices_of (arrivals_at p more))
+  pub once : IsPermutation (filter_map place_of es) (map (λ (a : Arrival). (a.port, a.index)) (arrivals_of more))
+  pub relays : All (IsRelayOf (arrivals_of more)) es
 
 -- ---- the laws
 abbrev pub SettledIsOrderly : Type 0

@@ -1,5 +1,6 @@
 //! What is true of a world after every step and every list of steps.
 ghost use Rattle.exb_motion.specs.Kept.{SetupsMayStart, BeginsKept, StepsKeep, KeptStands, KeptIsClean, SettledOwesNothing, RunsStand};
+ghost use Rattle.exb_motion.specs.Events.{StepsTellSo};
 ghost use Rattle.exb_motion.specs.Marks.{SettledIsOrderly, SegmentsArePlayed};
 
 use exb_change_laws::laws::steps_tell;
@@ -26,6 +27,12 @@ pub fn steps_keep()
     sends_leave_as_flat();
     steps_tell();
 }
+
+/// The events that a step adds are by its kind, and it adds no others: one of each frame that comes to the bridge, Ignored where an
+/// extender ignores an arrival, those of jobs where the bridge takes a control word or a command, a Tick, a Settled.
+pub fn steps_tell_so()
+    ensures { StepsTellSo }
+{}
 
 /// A world that has it stands: configuration, clock and live entries are those of the history; what has left each port, followed
 /// by what is owed to it, is what the one bridge sends there; each arrival is named once, in order; each command and each
