@@ -1,0 +1,12 @@
+mod Quiet
+mod Rising
+mod Naming
+pub mod Histories
+mod Deciding
+mod Jobs
+mod Keeping
+pub mod Standing
+mod Pairs
+mod Marks
+mod Telling
+mod Setups

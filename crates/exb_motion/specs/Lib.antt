@@ -1,0 +1,5 @@
+pub mod Given
+pub mod Stands
+pub mod Kept
+pub mod Marks
+pub mod Events
