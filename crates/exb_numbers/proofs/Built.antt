@@ -1,50 +1,11 @@
 -- The spaces, bridge port by bridge port.
-use Rattle.std.proofs.Common.{◌≡◌, ℕ, zero, suc, ◌+◌, ◌<◌, ◌==◌, Bool, true, false, cond, not, ◌&&◌, List, [], ◌∷◌, ◌++◌, length, get_or, replicate, refl, sym, ap, ◌∙◌, inl, inr, arith, eq-eqb, length-append}
-use Rattle.std.specs.Prelude.{Option, None, nat_lt, slice_index}
-use Rattle.std.proofs.lemmas.Bool.{cases_Bool, cases_eq, cases_lt, false≢true, and_parts, or_left, or_right, lt-ltb, le-ltb}
-use Rattle.exb_model.specs.declared.role.Role.{Role}
-use Rattle.exb_model.specs.declared.role.Role.TheVariants as role
-use Rattle.exb_model.specs.Tree.{Shape, on, HangsOn, HasRole, IsTree, is_port, is_extender, is_cascade, any_below}
-use Rattle.exb_model.proofs.TreeHung.{cascade_hangs}
-use Rattle.std.proofs.lemmas.List.{get_or_past, get_or_push, get_or_append_left}
+use Rattle.std.proofs.Common.{◌≡◌, ℕ, ◌+◌, ◌<◌, Bool, true, false, cond, ◌&&◌, List, [], ◌∷◌, ◌++◌, length, get_or, replicate, refl, sym, ap, ◌∙◌, inl, inr, arith, length-append}
+use Rattle.std.specs.Prelude.{Option, None, nat_lt}
+use Rattle.std.proofs.lemmas.Bool.{cases_eq, cases_lt, false≢true, and_parts, lt-ltb, le-ltb}
+use Rattle.exb_model.specs.Tree.{Shape, is_cascade}
+use Rattle.std.proofs.lemmas.List.{get_or_push, get_or_append_left}
 use Rattle.exb_numbers.specs.Groups.{Groups, set_of}
 use Rattle.exb_numbers.specs.Spaces.{Spaces, has_space, channels_at, groups_at, no_groups, IsAdded}
-
--- ---- which ports are cascade ports
-any_at : (test : ℕ → Bool) (m k : ℕ) → k < m → test k ≡ true → any_below test m ≡ true
-unfolding any_below
-any_at test zero k low is = absurd (omega arith)
-any_at test (suc m) k low is =
-    elim (cases_eq k m) [
-      | inl e ↦ or_right (any_below test m) (test m) (ap test (sym e) ∙ is)
-      | inr e ↦ or_left (any_below test m) (test m) (any_at test m k (omega arith) is)
-    ]
-
-pub hung : (t : Shape) (n p : ℕ) → IsTree t → HangsOn t n p → is_cascade t p ≡ true
-unfolding is_cascade
-hung t n p tree h = any_at (λ n. is_extender t n && on t n == p) 65 n n_in (rw (lt-ltb 0 n h.extender, lt-ltb 0 (slice_index t.ports n) h.there, eq-eqb (on t n) p h.at) refl)
-  where
-    n_in : n < 65
-    n_in =
-        elim (cases_lt n (length t.ports)) [
-          | inl l ↦ let z = tree.sized in omega (arith, l, z)
-          | inr l ↦ let z : slice_index t.ports n ≡ 0 = get_or_past t.ports n 0 l in let there = h.there in absurd (omega (arith, z, there))
-        ]
-
-pub not_hung : (t : Shape) (p : ℕ) → IsTree t → (r : Role) → HasRole t p r → ((n : ℕ) → r ≡ role.Cascade n → ⊥) → false ≡ is_cascade t p
-not_hung t p tree role.Unknown is other =
-    elim (cases_Bool (is_cascade t p)) [
-      | inl hit ↦
-          let x = cascade_hangs t p hit in
-          absurd (false≢true (sym is ∙ ap (is_port t) (sym x.1.at) ∙ tree.on_port x.0 x.1.extender x.1.there))
-      | inr miss ↦ sym miss
-    ]
-not_hung t p tree role.External is other = by_test (is_cascade t p) (and_parts (is_port t p) (not (is_cascade t p)) is).1
-  where
-    by_test : (b : Bool) → not b ≡ true → false ≡ b
-    by_test true h = h
-    by_test false h = refl
-not_hung t p tree (role.Cascade n) is other = absurd (other n refl)
 
 -- ---- one list more
 read_new : {X : Type 0} (xs : List X) (y d : X) → get_or (xs ++ y ∷ []) (length xs) d ≡ y

@@ -3,12 +3,9 @@ ghost use Rattle.std.specs.Prelude.{◌≡◌, ℕ, ◌+◌, ◌==◌, ◌<◌, 
 ghost use Rattle.exb_numbers.specs.Channels.{holder, is_used, channel_of, lowest_channel};
 
 use exb_model::memory::NoMemory;
-use exb_model::port::PortId;
+use exb_model::port::{PORTS, PortId};
 use std::alloc::Global;
 use std::marker::Model;
-
-/// How many ports there can be.
-const PORTS: usize = 4160;
 
 /// All channels are in use.
 #[derive(Clone, Copy, Debug, PartialEq, Eq)]
@@ -76,7 +73,7 @@ impl Channels {
     {
         Ok(Channels {
             ports: no_ports(alloc, limit as usize + 1)?,
-            channels: no_channels(alloc, PORTS)?,
+            channels: no_channels(alloc, PORTS as usize)?,
             free: 1,
         })
     }

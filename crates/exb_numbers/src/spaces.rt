@@ -9,7 +9,6 @@ use crate::channels::Channels;
 use crate::groups::Groups;
 use exb_model::memory::NoMemory;
 use exb_model::port::PortId;
-use exb_model::role::Role;
 use exb_model::tree::Tree;
 use std::alloc::Global;
 use std::marker::Model;
@@ -38,21 +37,6 @@ impl Model for Spaces {
     ghost view = { λ s. record { cascades = s.cascades.items; channels = s.channels.items; groups = s.groups.items } };
 }
 
-// Whether an extender hangs on a port of the bridge, counted from 0.
-fn is_cascade_port(tree: &Tree, number: u8) -> bool
-    requires { number < 64 }
-    ensures { result ≡ is_cascade tree.now number }
-{
-    tree.is_tree();
-    match PortId::new(number as u16) {
-        Some(port) => match tree.role(port) {
-            Role::Cascade { extender: _ } => true,
-            _ => false,
-        },
-        None => false,
-    }
-}
-
 // How many numbers a bridge port gets.
 fn granted(is_cascade: bool, count: u16) -> u16
     ensures { result ≡ (if is_cascade then count else 0) }
@@ -78,7 +62,8 @@ impl Spaces {
             groups: Vec::new(alloc),
         };
         for number in 0..BRIDGE_PORTS {
-            spaces.add(alloc, is_cascade_port(tree, number), channels, groups)?;
+            let is_cascade = tree.is_cascade(PortId::at(0, number));
+            spaces.add(alloc, is_cascade, channels, groups)?;
         }
         Ok(spaces)
     }

@@ -1,4 +1,5 @@
-use Rattle.std.proofs.Common.{arith}
+use Rattle.std.proofs.Common.{ap, arith, ◌∙◌}
+use Rattle.exb_model.specs.Tree.{is_cascade}
 use Rattle.exb_numbers.proofs.Built.{built_none, built_more, all_spaces, spaced}
 use Rattle.exb_numbers.proofs.spaces.Spaces.new.Goals as goal
 
@@ -7,7 +8,8 @@ loop-number-init c = built_none c.args.tree.now c.args.channels c.args.groups _ 
 
 pub loop-number-preserved : goal.loop-number-preserved
 loop-number-preserved c =
-    built_more c.args.tree.now c.args.channels c.args.groups c.loop-number.spaces c.add.new.self c.loop-number.number c.is_cascade_port.result c.loop-number.invariant c.is_cascade_port.ensures c.in_ok-add.ensures
+    built_more c.args.tree.now c.args.channels c.args.groups c.loop-number.spaces c.add.new.self c.loop-number.number c.is_cascade-is_cascade.result c.loop-number.invariant
+    (c.is_cascade-is_cascade.ensures ∙ ap (is_cascade c.args.tree.now) (omega (arith, c.at.ensures))) c.in_ok-add.ensures
 
 pub returns-clause-spaces : goal.returns-clause-spaces
 returns-clause-spaces c = all_spaces c.args.tree.now c.args.channels c.args.groups c.loop-number.spaces c.loop-number.number c.loop-number.invariant (omega arith)
