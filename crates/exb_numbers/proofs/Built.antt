@@ -1,9 +1,9 @@
 -- The spaces, bridge port by bridge port.
-use Rattle.std.proofs.Common.{◌≡◌, ℕ, zero, suc, ◌+◌, ◌<◌, ◌==◌, Bool, true, false, cond, not, ◌&&◌, List, [], ◌∷◌, ◌++◌, length, get_or, replicate, refl, sym, ap, ◌∙◌, inl, inr, arith, eq-eqb, length-append}
-use Rattle.std.specs.Prelude.{Option, None, nat_lt, slice_index}
-use Rattle.std.proofs.lemmas.Bool.{cases_Bool, cases_eq, cases_lt, false≢true, and_parts, or_left, or_right, lt-ltb, le-ltb}
-use Rattle.exb_model.specs.Tree.{Shape, on, HangsOn, HasRole, IsTree, is_port, is_extender, is_cascade, any_below}
-use Rattle.std.proofs.lemmas.List.{get_or_past, get_or_push, get_or_append_left}
+use Rattle.std.proofs.Common.{◌≡◌, ℕ, ◌+◌, ◌<◌, Bool, true, false, cond, ◌&&◌, List, [], ◌∷◌, ◌++◌, length, get_or, replicate, refl, sym, ap, ◌∙◌, inl, inr, arith, length-append}
+use Rattle.std.specs.Prelude.{Option, None, nat_lt}
+use Rattle.std.proofs.lemmas.Bool.{cases_eq, cases_lt, false≢true, and_parts, lt-ltb, le-ltb}
+use Rattle.exb_model.specs.Tree.{Shape, is_cascade}
+use Rattle.std.proofs.lemmas.List.{get_or_push, get_or_append_left}
 use Rattle.exb_numbers.specs.Groups.{Groups, set_of}
 use Rattle.exb_numbers.specs.Spaces.{Spaces, has_space, channels_at, groups_at, no_groups, IsAdded}
 
