@@ -3,15 +3,9 @@ use Rattle.std.proofs.Common.{◌≡◌, ℕ, ◌≤◌, ◌&&◌, Bool, true, f
 use Rattle.std.proofs.lemmas.Bool.{le-leb, and_from}
 use Rattle.exb_model.specs.declared.role.Role.{Role}
 use Rattle.exb_model.specs.declared.role.Role.TheVariants as role
-use Rattle.exb_model.specs.Tree.{Shape, IsTree, HasRole, is_port, is_cascade, is_external}
-use Rattle.exb_plan.proofs.Trunks.{hung_cascade, other_role}
-use Rattle.exb_changes.specs.Beginning.{is_deep}
-
--- a port with another role is no external one
-pub not_external : (t : Shape) (p : ℕ) (r : Role) → IsTree t → HasRole t p r → (r ≡ role.External → ⊥) → is_external t p ≡ false
-not_external t p role.Unknown valid h other = rw h refl
-not_external t p role.External valid h other = absurd (other refl)
-not_external t p (role.Cascade m) valid h other = rw (h.0, hung_cascade t valid m p h.1) refl
+use Rattle.exb_model.specs.Tree.{Shape, IsTree, HasRole, is_port, is_cascade}
+use Rattle.exb_plans.proofs.Trunks.{hung_cascade, other_role}
+use Rattle.exb_changing.specs.Beginning.{is_deep}
 
 -- a port on which an extender hangs
 pub cascade_there : (t : Shape) (p n : ℕ) → IsTree t → HasRole t p (role.Cascade n) → (is_port t p && is_cascade t p) ≡ true

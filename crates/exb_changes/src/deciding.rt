@@ -4,17 +4,19 @@ ghost use Rattle.exb_model.specs.Tree.{is_extender, is_cascade};
 ghost use Rattle.exb_model.specs.Setup.{Limits};
 ghost use Rattle.exb_config.specs.Tables.{bridge_of};
 ghost use Rattle.exb_numbers.specs.Spaces.{groups_at};
-ghost use Rattle.exb_plan.specs.Held.{HasSpaces, HoldsNeeded, held_by};
+ghost use Rattle.exb_plan.specs.Spaces.{HasSpaces, held_by};
+ghost use Rattle.exb_plans.specs.Held.{HoldsNeeded};
 ghost use Rattle.exb_plan.specs.Working.{SpacesOf};
 ghost use Rattle.exb_planning.specs.Counted.{IsCounted};
-ghost use Rattle.exb_planning.specs.Decided.{IfDecided};
+ghost use Rattle.exb_planning.specs.Decisions.{IfDecided};
 ghost use Rattle.exb_planning.specs.Recount.{HaveRowsOf};
-ghost use Rattle.exb_changes.specs.Deciding.{cascade_asks, opening_asks, opening_change, bridge_after, decide};
-ghost use Rattle.exb_changes.specs.Fabrics.{Fits, decision_of, held_after};
+ghost use Rattle.exb_changing.specs.Deciding.{cascade_asks, opening_asks, opening_change, bridge_after, decide};
+ghost use Rattle.exb_changing.specs.Fitting.{Fits};
+ghost use Rattle.exb_changes.specs.Fabrics.{decision_of, held_after};
 
-use crate::job::Job;
+use exb_changing::Job;
 use exb_config::Config;
-use exb_csp::Request;
+use exb_csp::{AskAt, Request};
 use exb_model::command::Command;
 use exb_model::list::List;
 use exb_model::memory::NoMemory;
@@ -23,8 +25,8 @@ use exb_model::role::Role;
 use exb_model::tree::Tree;
 use exb_numbers::Spaces;
 use exb_plan::asks::put_create;
-use exb_plan::{AskAt, Change, Decision};
-use exb_planning::{Uses, plan_command};
+use exb_planning::{GroupUses, plan};
+use exb_plans::{Change, Decision};
 use std::alloc::Global;
 
 // Asks that a port of an extender is created, if it is a cascade port.
@@ -41,7 +43,7 @@ fn put_cascade(
 {
     tree.is_tree();
     if let Role::Cascade { .. } = tree.role(port) {
-        let trunk = tree.trunk((port.number() / 64) as u8);
+        let trunk = tree.trunk(port.device());
         let channel = spaces.channels(trunk).of(port).unwrap_or(0);
         put_create(alloc, tree, port, true, channel, asks)?;
     }
@@ -65,8 +67,8 @@ fn opening_asks(
         extender,
         request: Request::Open,
     })?;
-    for place in 0..64u16 {
-        let port = PortId::new(64 * extender as u16 + place).unwrap();
+    for place in 0..64u8 {
+        let port = PortId::at(extender, place);
         put_cascade(alloc, tree, spaces, port, &mut asks)?;
     }
     Ok(asks)
@@ -97,7 +99,7 @@ pub(crate) fn decide(
     alloc: Global,
     tree: &Tree,
     spaces: &mut Spaces,
-    uses: &mut Uses,
+    uses: &mut GroupUses,
     config: &Config,
     job: &Job,
 ) -> Result<Decision, NoMemory>
@@ -123,10 +125,8 @@ pub(crate) fn decide(
         }
         Job::AutomaticUp { port } => {
             let command = Command::Up { port: *port };
-            plan_command(alloc, tree, spaces, uses, config, &command)
+            plan(alloc, tree, spaces, uses, config, &command)
         }
-        Job::Ordered { number: _, command } => {
-            plan_command(alloc, tree, spaces, uses, config, command)
-        }
+        Job::Ordered { number: _, command } => { plan(alloc, tree, spaces, uses, config, command) }
     }
 }

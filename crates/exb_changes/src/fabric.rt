@@ -2,19 +2,21 @@
 ghost use Rattle.std.specs.Prelude.{◌≡◌, IfOk, OnOk, OnErr};
 ghost use Rattle.exb_model.specs.Setup.{Limits, IsValid, shape_of, limits_of, start_of};
 ghost use Rattle.exb_config.specs.Tables.{bridge_of};
-ghost use Rattle.exb_plan.specs.Held.{HasSpaces, held_by};
+ghost use Rattle.exb_plan.specs.Spaces.{HasSpaces, held_by};
 ghost use Rattle.exb_plan.specs.Working.{IsAlike};
-ghost use Rattle.exb_plan.specs.declared.change.Change.{Change};
-ghost use Rattle.exb_changes.specs.Beginning.{first_held};
-ghost use Rattle.exb_changes.specs.Deciding.{bridge_after, release, decide};
-ghost use Rattle.exb_changes.specs.Fabrics.{HasPvids, in_spaces, bridge_at_end, held_at_end};
+ghost use Rattle.exb_plans.specs.declared.change.Change.{Change};
+ghost use Rattle.exb_changing.specs.Beginning.{first_held};
+ghost use Rattle.exb_changing.specs.Deciding.{bridge_after, release, decide};
+ghost use Rattle.exb_config.specs.Pvids.{HasPvids};
+ghost use Rattle.exb_changes.specs.Fabrics.{bridge_at_end, held_at_end};
+ghost use Rattle.exb_plans.specs.Held.{in_spaces};
 
-use crate::beginning::{apply, first_config, first_spaces};
+use crate::beginning::first_spaces;
 use crate::copying::copy_spaces;
 use crate::deciding::decide;
-use crate::job::Job;
 use crate::releasing::release;
 use crate::stage::Stage;
+use exb_changing::Job;
 use exb_config::Config;
 use exb_model::command::Command;
 use exb_model::event::Cause;
@@ -22,8 +24,8 @@ use exb_model::memory::NoMemory;
 use exb_model::setup::Setup;
 use exb_model::tree::Tree;
 use exb_numbers::Spaces;
-use exb_plan::Decision;
-use exb_planning::Uses;
+use exb_planning::GroupUses;
+use exb_plans::Decision;
 use std::alloc::Global;
 use std::marker::Model;
 use std::mem;
@@ -44,7 +46,7 @@ pub struct Fabric {
     config: Config,
     spaces: Spaces,
     /// How often the set of each group is a part of the configuration at the end of the change at work.
-    uses: Uses,
+    uses: GroupUses,
     stage: Stage,
 }
 
@@ -78,8 +80,8 @@ fn apply_job(config: &mut Config, job: &Job) -> Result<(), NoMemory>
 {
     match job {
         Job::Opening { extender: _ } => Ok(()),
-        Job::AutomaticUp { port } => apply(config, &Command::Up { port: *port }),
-        Job::Ordered { number: _, command } => apply(config, command),
+        Job::AutomaticUp { port } => config.apply(&Command::Up { port: *port }),
+        Job::Ordered { number: _, command } => config.apply(command),
     }
 }
 
@@ -110,7 +112,8 @@ fn free_numbers(stage: &Stage, tree: &Tree, spaces: &mut Spaces)
 }
 
 impl Fabric {
-    ghost use Rattle.exb_changes.specs.Fabrics.{IsFabric, Fits, IsPrepared, IsInForce, bridge_in, held_in, stage_of, cause_of, held_after};
+    ghost use Rattle.exb_changes.specs.Fabrics.{IsFabric, IsPrepared, IsInForce, bridge_in, held_in, stage_of, cause_of, held_after};
+    ghost use Rattle.exb_changing.specs.Fitting.{Fits};
 
     /// The bridge of a setup: its local external ports are present, and the commands of its start are applied. The
     /// cascade ports of its extenders have channels, in port order.
@@ -123,9 +126,9 @@ impl Fabric {
         ensures stage { IfOk result (λ made. made.stage ≡ Stage.AtRest) }
     {
         let tree = shared(alloc, Tree::new(alloc, setup)?)?;
-        let config = first_config(alloc, &tree, setup)?;
+        let config = Config::first(alloc, &tree, setup)?;
         let spaces = first_spaces(alloc, &tree, setup.channels, setup.groups)?;
-        let uses = Uses::new(alloc, &tree, setup.groups)?;
+        let uses = GroupUses::new(alloc, &tree, setup.groups)?;
         Ok(Fabric {
             alloc,
             tree,

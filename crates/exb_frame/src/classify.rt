@@ -1,6 +1,7 @@
 //! The kind of a frame.
-ghost use Rattle.std.specs.Prelude.{◌≡◌, ◌≢◌, ◌≤◌, ◌<◌, ◌+◌, length};
+ghost use Rattle.std.specs.Prelude.{◌≡◌, ◌≢◌, ◌≤◌, ◌<◌, ◌+◌, true, length};
 ghost use Rattle.exb_model.specs.Frames.{kind_of, priority_of, number_at, is_reserved, kind_of_tag};
+ghost use Rattle.exb_model.specs.EagerHistory.{is_relayed_kind};
 
 use exb_model::frame_kind::Seen;
 use exb_model::vlan::Vid;
@@ -67,4 +68,20 @@ pub fn classify(frame: &[u8]) -> Seen
         return kind_of_tag(number_at(frame, 14));
     }
     Seen::Plain
+}
+
+/// Whether frames of a kind may be relayed: it isn't short, long or reserved.
+fn may_be_relayed(seen: Seen) -> bool
+    ensures { result ≡ is_relayed_kind seen }
+{
+    !matches!(seen, Seen::Short | Seen::Long | Seen::Reserved)
+}
+
+/// Whether a frame isn't short, long or reserved, so that a bridge may relay it (IEEE 802.1Q, clause 8.6.3).
+pub fn is_relayed_kind(frame: &[u8]) -> bool
+    ensures kind { result ≡ is_relayed_kind (kind_of frame.now) }
+    ensures long { result ≡ true → 14 ≤ length frame.now }
+    ensures fits { result ≡ true → length frame.now ≤ 9216 }
+{
+    may_be_relayed(classify(frame))
 }

@@ -1,30 +1,30 @@
 -- Rows of groups, one group more.
-use Rattle.std.proofs.Common.{◌≡◌, ℕ, suc, ◌+◌, ◌-◌, ◌*◌, ◌≤◌, ◌==◌, ◌&&◌, cond, Bool, true, false, not, List, [], ◌∷◌, ◌++◌, Option, Some, None, map, filter, refl, sym, ◌∙◌, ap, arith, inl, inr, eq-eqb}
+use Rattle.std.proofs.Common.{◌≡◌, ℕ, ◌+◌, ◌-◌, ◌*◌, ◌==◌, ◌&&◌, Bool, true, false, List, [], ◌∷◌, ◌++◌, Option, Some, None, filter, refl, sym, ◌∙◌, ap, inl, inr, eq-eqb}
 use Rattle.std.specs.Prelude.{filter_map}
-use Rattle.std.specs.List.{flat_map, range_with_len}
+use Rattle.std.specs.List.{flat_map}
 use Rattle.std.proofs.lemmas.Bool.{cases_Bool, cases_eq, cases_lt, ne_eqb}
-use Rattle.std.proofs.lemmas.List.{append-nil, map-append}
-use Rattle.std.proofs.lemmas.List.Elements.{filter-append, filter_map-append}
+use Rattle.std.proofs.lemmas.List.{append-nil}
+use Rattle.std.proofs.lemmas.List.Elements.{filter_map-append}
 use mathlib.Core.Path.{fun_ext}
 use Rattle.exb_model.specs.declared.port_set.PortSet.{PortSet}
 use Rattle.exb_model.specs.Masks.{bits_of}
 use Rattle.exb_model.specs.Ports.{port_in, ports_of, below, all_ports}
-use Rattle.exb_model.specs.Refusals.{is_empty_set}
 use Rattle.exb_model.specs.Tree.{Shape, is_cascade, by_depth}
 use Rattle.exb_model.specs.TreeSets.{covers, mask_of}
 use Rattle.exb_model.proofs.MaskLemmas.{bits_of-same}
-use Rattle.exb_model.proofs.PortLemmas.{any_below-true, range-more}
+use Rattle.exb_model.proofs.PortLemmas.{any_below-true}
 use Rattle.exb_csp.specs.declared.group_rows.GroupRow.{GroupRow}
-use Rattle.exb_rows.specs.Sets.{PortsAt}
-use Rattle.exb_rows.proofs.SetPorts.{ports_are, past_ports}
-use Rattle.exb_plan.specs.declared.asks.AskAt.{AskAt}
-use Rattle.exb_plan.specs.declared.asks.Step.{Step}
-use Rattle.exb_plan.specs.declared.groups.GroupAt.{GroupAt}
+use Rattle.exb_plans.specs.Sets.{PortsAt}
+use Rattle.exb_plan.proofs.SetPorts.{ports_are, past_ports}
+use Rattle.exb_csp.specs.declared.ask_at.AskAt.{AskAt}
+use Rattle.exb_plans.specs.declared.step.Step.{Step}
+use Rattle.exb_plans.specs.declared.group_at.GroupAt.{GroupAt}
 use Rattle.exb_plan.specs.declared.group_asks.Covered.{Covered}
-use Rattle.exb_plan.specs.Held.{Held, Group}
-use Rattle.exb_plan.specs.Between.{has_set, group_at, is_gone, gone_at, gone_groups}
-use Rattle.exb_plan.specs.Asks.{is_listed, row_by, row_at, rows_at, asks_with, group_asks}
-use Rattle.exb_plan.specs.Working.{seen_group, placed, put_gone, row_of_covered, rows_of_covered}
+use Rattle.exb_plans.specs.Held.{Held, Group}
+use Rattle.exb_plans.specs.Between.{gone_at, gone_groups}
+use Rattle.exb_plans.specs.Asks.{is_listed, row_by, row_at, rows_at, asks_with, group_asks}
+use Rattle.exb_plans.specs.Making.{seen_group}
+use Rattle.exb_plan.specs.Working.{row_of_covered, rows_of_covered}
 
 -- ---- the list of a set's ports as a test
 listed_filter : (test : ℕ → Bool) (q : ℕ) (xs : List ℕ) → is_listed (filter test xs) q ≡ (is_listed xs q && test q)
@@ -92,54 +92,7 @@ pub all_asks : (t : Shape) (step : Step) (groups : List Group) (covered : List C
 unfolding group_asks
 all_asks t step groups covered is = ap (λ (f : ℕ → List AskAt). flat_map f (by_depth t)) (fun_ext (λ n. ap (λ (rows : List GroupRow). asks_with step rows n) (is n)))
 
--- ---- groups that are gone, one number more
-module _ (kept : List PortsAt) (h : Held) (k : ℕ) where
-  abbrev pub gone_up_to : ℕ → List Group
-  gone_up_to n = map (group_at h k) (filter (is_gone kept h k) (range_with_len 4096 n))
-
-  gone_step : (n : ℕ) → gone_up_to (suc n) ≡ gone_up_to n ++ map (group_at h k) (filter (is_gone kept h k) ((4096 + n) ∷ []))
-  gone_step n =
-      ap (λ (xs : List ℕ). map (group_at h k) (filter (is_gone kept h k) xs)) (range-more 4096 n)
-      ∙ (ap (map (group_at h k)) (filter-append (is_gone kept h k) (range_with_len 4096 n) ((4096 + n) ∷ []))
-      ∙ map-append (group_at h k) (filter (is_gone kept h k) (range_with_len 4096 n)) (filter (is_gone kept h k) ((4096 + n) ∷ [])))
-
-  pub gone_none : (n : ℕ) → 4096 ≤ n → h.set k n ≡ [] → gone_up_to (n + 1 - 4096) ≡ gone_up_to (n - 4096)
-  gone_none n low free =
-      let next : n + 1 - 4096 ≡ suc (n - 4096) = omega arith in
-      let here : 4096 + (n - 4096) ≡ n = omega arith in
-      ap gone_up_to next ∙ (gone_step (n - 4096)
-      ∙ (ap (λ (m : ℕ). gone_up_to (n - 4096) ++ map (group_at h k) (filter (is_gone kept h k) (m ∷ []))) here
-      ∙ (ap (λ (b : Bool). gone_up_to (n - 4096) ++ map (group_at h k) (cond b (n ∷ []) [])) off ∙ append-nil (gone_up_to (n - 4096)))))
-    where
-      off : is_gone kept h k n ≡ false
-      off = ap (λ (s : List ℕ). not (is_empty_set s) && not (has_set kept (record { bridge_port = k + 1; ports = s }))) free
-
-  pub gone_more : (n bridge_port : ℕ) (set : PortSet) → 4096 ≤ n → bridge_port ≡ k + 1 → ports_of set ≡ h.set k n → not (is_empty_set (h.set k n)) ≡ true →
-      gone_up_to (n + 1 - 4096) ≡ gone_up_to (n - 4096) ++ put_gone kept bridge_port n set
-  gone_more n bridge_port set low place is used =
-      let next : n + 1 - 4096 ≡ suc (n - 4096) = omega arith in
-      let here : 4096 + (n - 4096) ≡ n = omega arith in
-      ap gone_up_to next ∙ (gone_step (n - 4096)
-      ∙ (ap (λ (m : ℕ). gone_up_to (n - 4096) ++ map (group_at h k) (filter (is_gone kept h k) (m ∷ []))) here
-      ∙ (ap (λ (b : Bool). gone_up_to (n - 4096) ++ map (group_at h k) (cond (b && not (has_set kept (record { bridge_port = k + 1; ports = h.set k n }))) (n ∷ []) [])) used
-      ∙ (by_kept (has_set kept (record { bridge_port = k + 1; ports = h.set k n }))
-      ∙ ap (λ (x : PortsAt). gone_up_to (n - 4096) ++ cond (has_set kept x) [] (record { bridge_port = x.bridge_port; number = n; ports = x.ports } ∷ [])) same))))
-    where
-      by_kept : (b : Bool) → gone_up_to (n - 4096) ++ map (group_at h k) (cond (true && not b) (n ∷ []) [])
-          ≡ gone_up_to (n - 4096) ++ cond b [] (record { bridge_port = k + 1; number = n; ports = h.set k n } ∷ [])
-      by_kept true = refl
-      by_kept false = refl
-
-      at : (p q : ℕ) (xs ys : List ℕ) → p ≡ q → xs ≡ ys → ◌≡◌ {A = PortsAt} (record { bridge_port = p; ports = xs }) (record { bridge_port = q; ports = ys })
-      at p q xs ys e f = rw (e, f) refl
-
-      same : ◌≡◌ {A = PortsAt} (record { bridge_port = k + 1; ports = h.set k n }) (placed bridge_port set)
-      same = at (k + 1) bridge_port (h.set k n) (ports_of set) (sym place) (sym is)
-
-  pub gone_all : (n : ℕ) → n ≡ 16384 → gone_up_to (n - 4096) ≡ gone_at kept h k
-  unfolding gone_at
-  gone_all n end = ap gone_up_to (let e : n - 4096 ≡ 12288 = omega (arith, end) in e)
-
+-- ---- groups that are gone
 pub gone_everywhere : (t : Shape) (kept : List PortsAt) (h : Held) (n : ℕ) → n ≡ 64 → flat_map (gone_at kept h) (filter (is_cascade t) (below n)) ≡ gone_groups t kept h
 unfolding gone_groups
 gone_everywhere t kept h n end = ap (λ (m : ℕ). flat_map (gone_at kept h) (filter (is_cascade t) (below m))) end

@@ -1,6 +1,4 @@
-pub mod Held
-pub mod Between
-pub mod Asks
-pub mod Plans
+pub mod Branches
+pub mod Parts
+pub mod Spaces
 pub mod Working
-pub mod Laws

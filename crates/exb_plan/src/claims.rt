@@ -1,16 +1,17 @@
 //! How numbers are claimed, and given back where a plan comes to nothing.
-ghost use Rattle.std.specs.Prelude.{◌≡◌, ℕ, ◌+◌, ◌-◌, ◌*◌, ◌/◌, ◌≤◌, ◌<◌, [], true, None, map, length, vec_len, vec_capacity};
-ghost use Rattle.exb_model.specs.Tree.{Shape, trunk, is_extender};
-ghost use Rattle.exb_numbers.specs.Spaces.{has_space, channels_at, groups_at};
-ghost use Rattle.exb_rows.specs.Sets.{seen};
-ghost use Rattle.exb_plan.specs.Held.{Held, held_by, group_for, group_used, give, take_back, free_channel, channel_used, give_channel, free_port_of};
-ghost use Rattle.exb_plan.specs.Working.{seen_group, IsPlaced, IsFresh, CanClaim, AreLimited, AreClaimed, IsLaterBy, IsAlike, CanClaimChannel, channel_limit};
+ghost use Rattle.std.specs.Prelude.{◌≡◌, ℕ, ◌-◌, ◌/◌, ◌≤◌, ◌<◌, [], true, None, map, length, vec_capacity};
+ghost use Rattle.exb_model.specs.Tree.{trunk, is_extender};
+ghost use Rattle.exb_numbers.specs.Spaces.{has_space, groups_at};
+ghost use Rattle.exb_plans.specs.Sets.{seen};
+ghost use Rattle.exb_plans.specs.Held.{Held, group_for, group_used, give, take_back, free_channel, channel_used, give_channel, free_port_of};
+ghost use Rattle.exb_plan.specs.Spaces.{held_by};
+ghost use Rattle.exb_plans.specs.Making.{seen_group, IsFresh};
+ghost use Rattle.exb_plan.specs.Working.{IsPlaced, CanClaim, AreLimited, AreClaimed, IsLaterBy, IsAlike, CanClaimChannel, channel_limit};
 
-use crate::groups::GroupAt;
 use exb_model::port::PortId;
 use exb_model::tree::Tree;
 use exb_numbers::Spaces;
-use exb_rows::SetAt;
+use exb_plans::{GroupAt, SetAt};
 
 // Gives a set the lowest free group.
 fn claim_group(spaces: &mut Spaces, set: &SetAt) -> u16
@@ -75,7 +76,7 @@ pub(crate) fn claim_channel(spaces: &mut Spaces, tree: &Tree, port: PortId) -> u
     ensures free { (held_by spaces.old).port (trunk tree.now (port / 64)) result ≡ None }
     ensures alike { IsAlike spaces.old spaces.new }
 {
-    let trunk = tree.trunk((port.number() / 64) as u8);
+    let trunk = tree.trunk(port.device());
     spaces.channels_mut(trunk).claim(port).unwrap()
 }
 
@@ -87,6 +88,6 @@ pub(crate) fn free_channel(spaces: &mut Spaces, tree: &Tree, port: PortId, chann
     ensures held { held_by spaces.new ≡ free_port_of tree.now port channel (held_by spaces.old) }
     ensures alike { IsAlike spaces.old spaces.new }
 {
-    let trunk = tree.trunk((port.number() / 64) as u8);
+    let trunk = tree.trunk(port.device());
     spaces.channels_mut(trunk).release(channel);
 }

@@ -1,53 +1,23 @@
 //! The plan of a change.
-ghost use Rattle.std.specs.Prelude.{◌≡◌, ◌≢◌, ℕ, true, map, IfOk, OnOk, OnErr};
-ghost use Rattle.exb_model.specs.Tree.{is_external};
+ghost use Rattle.std.specs.Prelude.{◌≡◌, map, IfOk, OnOk, OnErr};
 ghost use Rattle.exb_model.specs.Setup.{Limits};
-ghost use Rattle.exb_config.specs.Tables.{bridge_of};
-ghost use Rattle.exb_rows.specs.Sets.{seen};
-ghost use Rattle.exb_plan.specs.Held.{held_by, HoldsNeeded, HasSpaces};
-ghost use Rattle.exb_plan.specs.Between.{goes_up};
-ghost use Rattle.exb_plan.specs.Plans.{own_channel, new_channel, with_channel, without_channel, freed_channel, number_of, prepare_with, cleanup_with, decision, held_after};
-ghost use Rattle.exb_plan.specs.Working.{seen_group, IsAlike, CanClaim, CanClaimUp, HasUp, IsAnyExtended, SpacesOf, refusal_by, prepare_by, claimed_by, change_with, change_by};
+ghost use Rattle.exb_plans.specs.Sets.{seen};
+ghost use Rattle.exb_plan.specs.Spaces.{held_by, HasSpaces};
+ghost use Rattle.exb_plans.specs.Plans.{own_channel, new_channel, with_channel, without_channel, freed_channel, number_of, prepare_with, cleanup_with};
+ghost use Rattle.exb_plans.specs.Making.{seen_group, IsAnyExtended};
+ghost use Rattle.exb_plan.specs.Working.{IsAlike, CanClaim, CanClaimUp, HasUp, SpacesOf, prepare_by, claimed_by, change_with};
 
-use crate::asks::{AskAt, Step, put_create, put_delete};
-use crate::change::{Change, Decision, Number};
+use crate::asks::{put_create, put_delete};
 use crate::claims::{claim_channel, claim_groups, free_channel, free_groups};
 use crate::group_asks::put_groups;
-use crate::groups::{GroupAt, gone_groups, without_group};
-use crate::refusals::{channels_short, goes_up, groups_short};
-use exb_config::Config;
-use exb_model::event::Cause;
+use exb_csp::AskAt;
 use exb_model::list::List;
 use exb_model::memory::NoMemory;
 use exb_model::port::PortId;
 use exb_model::tree::Tree;
 use exb_numbers::Spaces;
-use exb_rows::{SetAt, sets};
+use exb_plans::{Change, GroupAt, Number, SetAt, Step};
 use std::alloc::Global;
-
-// Why a change is refused, if it is.
-fn refusal(
-    tree: &Tree,
-    spaces: &Spaces,
-    old: &Config,
-    up: &Option<PortId>,
-    had: &[SetAt],
-    fresh: &[SetAt],
-) -> Option<Cause>
-    requires up { IsAnyExtended tree.now up.now }
-    requires spaces { SpacesOf tree.now spaces.now }
-    ensures { (l : Limits) → HasSpaces tree.now l spaces.now
-        → result ≡ refusal_by tree.now l (bridge_of old.now) up.now (map seen had.now) (map seen fresh.now) }
-{
-    tree.is_tree();
-    if let Some(port) = up {
-        let short = channels_short(tree, spaces, old, *port);
-        if short.is_some() {
-            return short;
-        }
-    }
-    groups_short(tree, spaces, had, fresh)
-}
 
 // The channel of a port that goes down; 0 where none does.
 fn own_channel(tree: &Tree, spaces: &Spaces, down: &Option<PortId>) -> u16
@@ -58,7 +28,7 @@ fn own_channel(tree: &Tree, spaces: &Spaces, down: &Option<PortId>) -> u16
     tree.is_tree();
     match down {
         Some(port) => {
-            let bridge_port = tree.trunk((port.number() / 64) as u8);
+            let bridge_port = tree.trunk(port.device());
             spaces.channels(bridge_port).of(*port).unwrap_or(0)
         }
         None => 0,
@@ -78,7 +48,7 @@ fn freed_channel(
     let mut channels = List::new(alloc);
     if let Some(port) = down {
         channels.push(Number {
-            bridge_port: tree.trunk((port.number() / 64) as u8),
+            bridge_port: tree.trunk(port.device()),
             number: channel,
         })?;
     }
@@ -222,74 +192,4 @@ pub fn make_change(
         channels,
         groups,
     })
-}
-
-// The change, where it isn't refused.
-fn change(
-    alloc: Global,
-    tree: &Tree,
-    spaces: &mut Spaces,
-    up: &Option<PortId>,
-    down: &Option<PortId>,
-    wanted: &[SetAt],
-    fresh: &[SetAt],
-) -> Result<Change, NoMemory>
-    requires up { CanClaimUp tree.now spaces.old up.now }
-    requires down { IsAnyExtended tree.now down.now }
-    requires fresh { CanClaim spaces.old (map seen fresh.now) }
-    requires spaces { SpacesOf tree.now spaces.old }
-    ensures change { (l : Limits) → HasSpaces tree.now l spaces.old → IfOk result (λ made. made
-        ≡ change_by tree.now l (held_by spaces.old) up.now down.now (map seen wanted.now) (map seen fresh.now)) }
-    ensures held { (l : Limits) → HasSpaces tree.now l spaces.old → OnOk result (held_by spaces.new ≡ claimed_by tree.now l (held_by spaces.old) up.now (map seen fresh.now)) }
-    ensures err { OnErr result (held_by spaces.new ≡ held_by spaces.old) }
-    ensures alike { IsAlike spaces.old spaces.new }
-{
-    let gone = gone_groups(alloc, tree, spaces, wanted)?;
-    make_change(alloc, tree, spaces, up, down, gone.as_slice(), fresh)
-}
-
-/// The plan of a change from one configuration to another, in which the presence of at most one port
-/// differs. Below each cascade port of the bridge the spaces hold just the groups and channels that the old
-/// configuration needs. Refused exactly where the numbers of a bridge port don't suffice for both; else the
-/// new numbers are claimed, the lowest free ones, and the asks are those that lay and clear what changes.
-/// Refused or out of memory nothing is claimed.
-pub fn plan(
-    alloc: Global,
-    tree: &Tree,
-    spaces: &mut Spaces,
-    old: &Config,
-    new: &Config,
-) -> Result<Decision, NoMemory>
-    requires limits { (l : Limits) × HasSpaces tree.now l spaces.old }
-    requires held { HoldsNeeded tree.now (bridge_of old.now) (held_by spaces.old) }
-    requires one { (p q : ℕ) → (bridge_of old.now).present p ≢ (bridge_of new.now).present p
-        → (bridge_of old.now).present q ≢ (bridge_of new.now).present q → p ≡ q }
-    requires external_old { (q : ℕ) → (bridge_of old.now).present q ≡ true → is_external tree.now q ≡ true }
-    requires external_new { (q : ℕ) → (bridge_of new.now).present q ≡ true → is_external tree.now q ≡ true }
-    ensures decision { (l : Limits) → HasSpaces tree.now l spaces.old
-        → IfOk result (λ made. made ≡ decision tree.now l (bridge_of old.now) (bridge_of new.now) (held_by spaces.old)) }
-    ensures claimed { (l : Limits) → HasSpaces tree.now l spaces.old
-        → OnOk result (held_by spaces.new ≡ held_after tree.now l (bridge_of old.now) (bridge_of new.now) (held_by spaces.old)) }
-    ensures no_memory { OnErr result (held_by spaces.new ≡ held_by spaces.old) }
-    ensures spaces { (l : Limits) → HasSpaces tree.now l spaces.old → HasSpaces tree.now l spaces.new }
-{
-    tree.is_tree();
-    let had = sets(alloc, tree, old)?;
-    let wanted = sets(alloc, tree, new)?;
-    let fresh = without_group(alloc, spaces, wanted.as_slice())?;
-    let up = goes_up(tree, old, new);
-    if let Some(cause) = refusal(tree, spaces, old, &up, had.as_slice(), fresh.as_slice()) {
-        return Ok(Decision::Refused(cause));
-    }
-    let down = goes_up(tree, new, old);
-    let change = change(
-        alloc,
-        tree,
-        spaces,
-        &up,
-        &down,
-        wanted.as_slice(),
-        fresh.as_slice(),
-    )?;
-    Ok(Decision::Ready(change))
 }

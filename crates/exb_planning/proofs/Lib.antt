@@ -1,5 +1,5 @@
 pub mod Rows
-pub mod Cuts
+pub mod TouchedParts
 pub mod Touching
 pub mod InOrder
 pub mod GoneNumbers

@@ -17,8 +17,8 @@ use Rattle.exb_model.specs.declared.address.Mac.{Mac}
 use Rattle.exb_model.specs.declared.port_set.PortSet.{PortSet}
 use Rattle.exb_model.proofs.PortLemmas.{range-more}
 use Rattle.exb_model.specs.Refusals.{Source, sources, all_vids, both_kinds}
-use Rattle.exb_uses.specs.Touched.{has_port, sources_of_entry, sources_if, touched_before, touched_after}
-use Rattle.exb_planning.specs.Cutting.{sources_of_vlans, is_of, vlans_touched, entry_touched}
+use Rattle.exb_plans.specs.Touched.{has_port, sources_of_entry, sources_if, touched_before, touched_after}
+use Rattle.exb_planning.specs.TouchedSources.{sources_of_vlans, is_of, vlans_touched, entry_touched}
 
 -- ---- filters
 pub filter-flat_map : {X Y : Type 0} (test : Y → Bool) (f : X → List Y) (xs : List X) → filter test (flat_map f xs) ≡ flat_map (λ x. filter test (f x)) xs

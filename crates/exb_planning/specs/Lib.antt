@@ -1,8 +1,7 @@
-pub mod Some
 pub mod Counted
-pub mod Cutting
+pub mod TouchedSources
 pub mod Rising
 pub mod Recount
-pub mod Going
-pub mod Moved
-pub mod Decided
+pub mod LostUses
+pub mod Decisions
+pub mod TouchedSets

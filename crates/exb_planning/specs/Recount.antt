@@ -2,9 +2,10 @@
 use Rattle.std.specs.Prelude.{◌≡◌, ℕ, ◌+◌, ◌-◌, ◌<◌, ◌≤◌, true, List, [], Some, length, slice_index_or, if◌then◌else◌}
 use Rattle.exb_model.specs.Refusals.{is_empty_set}
 use Rattle.exb_numbers.specs.Spaces.{Spaces, has_space}
-use Rattle.exb_rows.specs.Sets.{PortsAt}
-use Rattle.exb_plan.specs.Held.{Held, held_by, group_in, group_used}
-use Rattle.exb_uses.specs.Touched.{uses_in}
+use Rattle.exb_plans.specs.Sets.{PortsAt}
+use Rattle.exb_plans.specs.Held.{Held, group_in, group_used}
+use Rattle.exb_plan.specs.Spaces.{held_by}
+use Rattle.exb_plans.specs.Touched.{uses_in}
 use Rattle.exb_planning.specs.Counted.{count_at}
 
 -- how often the set of group g at bridge port k, from 0, stands among parts; that of a free group doesn't
@@ -38,3 +39,10 @@ AreEnough v parts uses = (k g : ℕ) → has_space v k ≡ true → 4096 ≤ g �
 -- the groups whose sets stand among the parts have no use
 abbrev pub AreUnused : Spaces → List PortsAt → List (List ℕ) → Type 0
 AreUnused v parts uses = (k g : ℕ) → has_space v k ≡ true → 4096 ≤ g → 0 < parts_at (held_by v) parts k g → count_at uses k g ≡ 0
+
+-- the uses after a command, at the groups that there are before it: lowered by the parts before it, then raised by those after it
+pub record AreMoved (v : Spaces) (before come : List PortsAt) (old new : List (List ℕ)) : Type 0 where
+  pub less : List (List ℕ)
+  pub lowered : AreLowered v before old less
+  pub raised : AreRaised v come less new
+  pub rows : HaveRowsOf old new

@@ -1,30 +1,29 @@
 //! The plan of a command, by what it touches.
-ghost use Rattle.std.specs.Prelude.{◌≡◌, ℕ, ◌+◌, ◌≤◌, ◌<◌, true, None, [], map, not, filter, length, slice_index_or, IfOk, OnOk, OnErr};
+ghost use Rattle.std.specs.Prelude.{◌≡◌, ℕ, ◌+◌, ◌≤◌, ◌<◌, true, None, [], map, length, slice_index_or, IfOk, OnOk, OnErr};
 ghost use Rattle.std.specs.List.{All};
 ghost use Rattle.exb_model.specs.Tree.{is_cascade};
 ghost use Rattle.exb_model.specs.Setup.{Limits};
 ghost use Rattle.exb_model.specs.Configuration.{after};
 ghost use Rattle.exb_numbers.specs.Spaces.{groups_at};
 ghost use Rattle.exb_config.specs.Tables.{bridge_of};
-ghost use Rattle.exb_rows.specs.Sets.{seen, sets_of};
-ghost use Rattle.exb_uses.specs.Touched.{parts_before as parts_touched_before, parts_after as parts_touched_after};
-ghost use Rattle.exb_plan.specs.Held.{held_by, HoldsNeeded, HasSpaces};
-ghost use Rattle.exb_plan.specs.Between.{goes_up, goes_down, fresh_sets, refusal_between};
-ghost use Rattle.exb_plan.specs.Plans.{decision, held_after};
-ghost use Rattle.exb_plan.specs.Working.{IsPlaced, IsAlike, IsAnyExtended, SpacesOf, AreLimited, has_group, how_many, is_at, refusal_by, claimed_by, change_by};
-ghost use Rattle.exb_planning.specs.Some.{has_ports};
+ghost use Rattle.exb_plans.specs.Sets.{seen, sets_of};
+ghost use Rattle.exb_plan.specs.Spaces.{held_by, HasSpaces};
+ghost use Rattle.exb_plans.specs.Held.{HoldsNeeded};
+ghost use Rattle.exb_plans.specs.Between.{goes_up, goes_down, refusal_between};
+ghost use Rattle.exb_plans.specs.Plans.{change_of, claimed, decision, held_after};
+ghost use Rattle.exb_plan.specs.Working.{IsPlaced, IsAlike, SpacesOf};
+ghost use Rattle.exb_plans.specs.Making.{IsAnyExtended, how_many, is_at, refusal_by};
+ghost use Rattle.exb_planning.specs.TouchedSets.{AreTouched};
 ghost use Rattle.exb_planning.specs.Counted.{IsCounted, used_at};
-ghost use Rattle.exb_planning.specs.Recount.{AreOwn, HavePlaces, AreEnough, HaveRowsOf};
-ghost use Rattle.exb_planning.specs.Moved.{AreMoved};
-ghost use Rattle.exb_planning.specs.Decided.{IfDecided};
+ghost use Rattle.exb_planning.specs.Recount.{AreOwn, HavePlaces, AreEnough, AreMoved, HaveRowsOf};
+ghost use Rattle.exb_planning.specs.Decisions.{IfDecided};
 
-use crate::coming;
-use crate::going::gone_groups;
+use crate::group_uses::GroupUses;
+use crate::lost_uses::gone_groups;
 use crate::presence::{goes_down, goes_up};
 use crate::recount::{lower_all, raise_all, raise_new};
 use crate::shortage::groups_short;
-use crate::touched::{parts_after, parts_before};
-use crate::uses::Uses;
+use crate::touched_sets::{TouchedSets, touched_sets};
 use exb_config::Config;
 use exb_model::command::Command;
 use exb_model::event::Cause;
@@ -32,12 +31,17 @@ use exb_model::memory::NoMemory;
 use exb_model::port::PortId;
 use exb_model::tree::Tree;
 use exb_numbers::Spaces;
-use exb_plan::{Change, Decision, channels_short, make_change};
-use exb_rows::SetAt;
+use exb_plan::{channels_short, make_change};
+use exb_plans::{Change, Decision, SetAt};
 use std::alloc::Global;
 
 // The uses after a command, at the groups that there are.
-fn moved(spaces: &Spaces, uses: &Uses, before: &[SetAt], later: &[SetAt]) -> Result<Uses, NoMemory>
+fn moved(
+    spaces: &Spaces,
+    uses: &GroupUses,
+    before: &[SetAt],
+    later: &[SetAt],
+) -> Result<GroupUses, NoMemory>
     requires before { All (λ s. IsPlaced spaces.now (seen s)) before.now }
     requires later { All (λ s. IsPlaced spaces.now (seen s)) later.now }
     requires own { AreOwn spaces.now }
@@ -56,29 +60,23 @@ fn ready(
     alloc: Global,
     tree: &Tree,
     spaces: &mut Spaces,
-    uses: &mut Uses,
+    uses: &mut GroupUses,
     config: &Config,
     command: &Command,
     up: &Option<PortId>,
-    before: &[SetAt],
-    later: &[SetAt],
-    unfound: &[SetAt],
-    fresh: &[SetAt],
+    touched: &TouchedSets,
 ) -> Result<Change, NoMemory>
     requires limits { (l : Limits) × HasSpaces tree.now l spaces.old × (l.groups ≤ 12288) }
     requires rows { (k : ℕ) → k < 64 → is_cascade tree.now k ≡ true → length (slice_index_or uses.old k []) ≡ (groups_at spaces.old k).limit }
     requires held { HoldsNeeded tree.now (bridge_of config.now) (held_by spaces.old) }
     requires counted { IsCounted tree.now (bridge_of config.now) (held_by spaces.old) uses.old }
     requires up { up.now ≡ goes_up tree.now (bridge_of config.now) (after command.now (bridge_of config.now)) }
-    requires before { map seen before.now ≡ filter has_ports (parts_touched_before tree.now command.now (bridge_of config.now)) }
-    requires later { map seen later.now ≡ filter has_ports (parts_touched_after tree.now command.now (bridge_of config.now)) }
-    requires unfound { map seen unfound.now ≡ filter (λ s. not (has_group (held_by spaces.old) s)) (map seen later.now) }
-    requires fresh { map seen fresh.now ≡ fresh_sets tree.now (bridge_of config.now) (after command.now (bridge_of config.now)) }
+    requires touched { AreTouched tree.now command.now (bridge_of config.now) (held_by spaces.old) touched.now }
     requires fits { (l : Limits) → HasSpaces tree.now l spaces.old → refusal_between tree.now l (bridge_of config.now) (after command.now (bridge_of config.now)) ≡ None }
-    ensures change { (l : Limits) → HasSpaces tree.now l spaces.old → IfOk result (λ made. made
-        ≡ change_by tree.now l (held_by spaces.old) up.now (goes_down tree.now (bridge_of config.now) (after command.now (bridge_of config.now)))
-        (sets_of tree.now (after command.now (bridge_of config.now))) (map seen fresh.now)) }
-    ensures held { (l : Limits) → HasSpaces tree.now l spaces.old → OnOk result (held_by spaces.new ≡ claimed_by tree.now l (held_by spaces.old) up.now (map seen fresh.now)) }
+    ensures change { (l : Limits) → HasSpaces tree.now l spaces.old
+        → IfOk result (λ made. made ≡ change_of tree.now l (bridge_of config.now) (after command.now (bridge_of config.now)) (held_by spaces.old)) }
+    ensures held { (l : Limits) → HasSpaces tree.now l spaces.old
+        → OnOk result (held_by spaces.new ≡ claimed tree.now l (bridge_of config.now) (after command.now (bridge_of config.now)) (held_by spaces.old)) }
     ensures err { OnErr result (held_by spaces.new ≡ held_by spaces.old) }
     ensures alike { IsAlike spaces.old spaces.new }
     ensures counted { OnOk result (IsCounted tree.now (after command.now (bridge_of config.now)) (held_by spaces.new) uses.new) }
@@ -86,11 +84,13 @@ fn ready(
     ensures rows { HaveRowsOf uses.old uses.new }
 {
     tree.is_tree();
-    let mut next = moved(spaces, uses, before, later)?;
+    let before = touched.before.as_slice();
+    let fresh = touched.fresh.as_slice();
+    let mut next = moved(spaces, uses, before, touched.later.as_slice())?;
     let gone = gone_groups(alloc, tree, spaces, &next, before)?;
     let down = goes_down(tree, config, command);
     let change = make_change(alloc, tree, spaces, up, &down, gone.as_slice(), fresh)?;
-    raise_new(&mut next, spaces, unfound);
+    raise_new(&mut next, spaces, touched.unfound.as_slice());
     *uses = next;
     Ok(change)
 }
@@ -99,7 +99,7 @@ fn ready(
 fn refusal(
     tree: &Tree,
     spaces: &Spaces,
-    uses: &Uses,
+    uses: &GroupUses,
     config: &Config,
     up: &Option<PortId>,
     fresh: &[SetAt],
@@ -120,14 +120,16 @@ fn refusal(
     groups_short(tree, spaces, uses, fresh)
 }
 
-/// The plan of a command, by what it touches: exactly that of `exb_plan::plan` from a configuration to the one after
-/// the command. The spaces hold just what the configuration needs, and the uses are those of its sets; afterwards the
-/// uses are those after the command. Refused or out of memory nothing is claimed, and no use changes.
-pub fn plan_command(
+/// The plan of a command, by what it touches. Refused exactly where the numbers of a bridge port don't suffice for the
+/// configurations before and after the command; else the new numbers are claimed, the lowest free ones, and the asks
+/// are those that lay and clear what changes. The spaces hold just what the configuration needs, and the uses are
+/// those of its sets; afterwards the uses are those after the command. Refused or out of memory nothing is claimed, and
+/// no use changes.
+pub fn plan(
     alloc: Global,
     tree: &Tree,
     spaces: &mut Spaces,
-    uses: &mut Uses,
+    uses: &mut GroupUses,
     config: &Config,
     command: &Command,
 ) -> Result<Decision, NoMemory>
@@ -146,26 +148,12 @@ pub fn plan_command(
     ensures rows { HaveRowsOf uses.old uses.new }
 {
     tree.is_tree();
-    let before = parts_before(alloc, tree, config, command)?;
-    let later = parts_after(alloc, tree, config, command)?;
-    let unfound = coming::unfound(alloc, spaces, later.as_slice())?;
-    let fresh = coming::each_once(alloc, unfound.as_slice())?;
+    let touched = touched_sets(alloc, tree, spaces, config, command)?;
     let up = goes_up(tree, config, command);
-    if let Some(cause) = refusal(tree, spaces, uses, config, &up, fresh.as_slice()) {
+    let fresh = touched.fresh.as_slice();
+    if let Some(cause) = refusal(tree, spaces, uses, config, &up, fresh) {
         return Ok(Decision::Refused(cause));
     }
-    let change = ready(
-        alloc,
-        tree,
-        spaces,
-        uses,
-        config,
-        command,
-        &up,
-        before.as_slice(),
-        later.as_slice(),
-        unfound.as_slice(),
-        fresh.as_slice(),
-    )?;
+    let change = ready(alloc, tree, spaces, uses, config, command, &up, &touched)?;
     Ok(Decision::Ready(change))
 }

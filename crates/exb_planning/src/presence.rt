@@ -3,9 +3,8 @@ ghost use Rattle.std.specs.Prelude.{◌≡◌};
 ghost use Rattle.exb_model.specs.declared.command.Command.TheVariants as command;
 ghost use Rattle.exb_model.specs.Configuration.{after};
 ghost use Rattle.exb_config.specs.Tables.{bridge_of};
-ghost use Rattle.exb_plan.specs.Between.{goes_up, goes_down};
+ghost use Rattle.exb_plans.specs.Between.{goes_up, goes_down};
 
-use crate::touched::ground::is_extended;
 use exb_config::Config;
 use exb_model::command::Command;
 use exb_model::port::PortId;
@@ -17,7 +16,7 @@ fn risen(tree: &Tree, config: &Config, port: PortId) -> Option<PortId>
 {
     tree.is_tree();
     let is_present = config.present(port);
-    let is_extended = is_extended(tree, port);
+    let is_extended = tree.is_extended(port);
     if is_extended && !is_present {
         Some(port)
     } else {
@@ -31,7 +30,7 @@ fn fallen(tree: &Tree, config: &Config, port: PortId) -> Option<PortId>
 {
     tree.is_tree();
     let is_present = config.present(port);
-    let is_extended = is_extended(tree, port);
+    let is_extended = tree.is_extended(port);
     if is_extended && is_present {
         Some(port)
     } else {

@@ -1,19 +1,20 @@
 //! How the uses of groups follow the parts that go and come.
 ghost use Rattle.std.specs.Prelude.{◌≡◌, ◌^◌, ℕ, ◌-◌, ◌<◌, [], ◌∷◌, Some, map, IsOk, OnOk};
 ghost use Rattle.std.specs.List.{All};
-ghost use Rattle.exb_rows.specs.Sets.{seen};
-ghost use Rattle.exb_plan.specs.Held.{held_by, group_in};
+ghost use Rattle.exb_plans.specs.Sets.{seen};
+ghost use Rattle.exb_plan.specs.Spaces.{held_by};
+ghost use Rattle.exb_plans.specs.Held.{group_in};
 ghost use Rattle.exb_plan.specs.Working.{IsPlaced};
 ghost use Rattle.exb_planning.specs.Counted.{count_at};
 ghost use Rattle.exb_planning.specs.Recount.{AreOwn, HavePlaces, HaveRowsOf, AreRaised, AreLowered, AreEnough, AreUnused};
 
-use crate::uses::Uses;
+use crate::group_uses::GroupUses;
 use exb_model::memory::NoMemory;
 use exb_numbers::Spaces;
-use exb_rows::SetAt;
+use exb_plans::SetAt;
 
 // A use more of the group of a part's set, if it has one.
-fn raise(uses: &mut Uses, spaces: &Spaces, part: &SetAt) -> Result<(), NoMemory>
+fn raise(uses: &mut GroupUses, spaces: &Spaces, part: &SetAt) -> Result<(), NoMemory>
     requires placed { IsPlaced spaces.now (seen part.now) }
     requires own { AreOwn spaces.now }
     requires places { HavePlaces spaces.now uses.old }
@@ -29,7 +30,7 @@ fn raise(uses: &mut Uses, spaces: &Spaces, part: &SetAt) -> Result<(), NoMemory>
 }
 
 // A use less.
-fn lower(uses: &mut Uses, spaces: &Spaces, part: &SetAt)
+fn lower(uses: &mut GroupUses, spaces: &Spaces, part: &SetAt)
     requires placed { IsPlaced spaces.now (seen part.now) }
     requires own { AreOwn spaces.now }
     requires used { (g : ℕ) → group_in (held_by spaces.now) (part.now.bridge_port - 1) (seen part.now).ports ≡ Some g
@@ -43,7 +44,11 @@ fn lower(uses: &mut Uses, spaces: &Spaces, part: &SetAt)
 }
 
 /// Each group has a use more for each part that is its set.
-pub(crate) fn raise_all(uses: &mut Uses, spaces: &Spaces, parts: &[SetAt]) -> Result<(), NoMemory>
+pub(crate) fn raise_all(
+    uses: &mut GroupUses,
+    spaces: &Spaces,
+    parts: &[SetAt],
+) -> Result<(), NoMemory>
     requires placed { All (λ s. IsPlaced spaces.now (seen s)) parts.now }
     requires own { AreOwn spaces.now }
     requires places { HavePlaces spaces.now uses.old }
@@ -57,7 +62,7 @@ pub(crate) fn raise_all(uses: &mut Uses, spaces: &Spaces, parts: &[SetAt]) -> Re
 }
 
 // A use more of the group of a part's set, if it has one, which has fewer than 2^63 uses.
-fn raise_few(uses: &mut Uses, spaces: &Spaces, part: &SetAt)
+fn raise_few(uses: &mut GroupUses, spaces: &Spaces, part: &SetAt)
     requires placed { IsPlaced spaces.now (seen part.now) }
     requires own { AreOwn spaces.now }
     requires places { HavePlaces spaces.now uses.old }
@@ -70,7 +75,7 @@ fn raise_few(uses: &mut Uses, spaces: &Spaces, part: &SetAt)
 }
 
 /// Each group has a use more for each part that is its set. None of those groups has a use before.
-pub(crate) fn raise_new(uses: &mut Uses, spaces: &Spaces, parts: &[SetAt])
+pub(crate) fn raise_new(uses: &mut GroupUses, spaces: &Spaces, parts: &[SetAt])
     requires placed { All (λ s. IsPlaced spaces.now (seen s)) parts.now }
     requires own { AreOwn spaces.now }
     requires places { HavePlaces spaces.now uses.old }
@@ -84,7 +89,7 @@ pub(crate) fn raise_new(uses: &mut Uses, spaces: &Spaces, parts: &[SetAt])
 }
 
 /// Each group has a use less for each part that is its set.
-pub(crate) fn lower_all(uses: &mut Uses, spaces: &Spaces, parts: &[SetAt])
+pub(crate) fn lower_all(uses: &mut GroupUses, spaces: &Spaces, parts: &[SetAt])
     requires placed { All (λ s. IsPlaced spaces.now (seen s)) parts.now }
     requires own { AreOwn spaces.now }
     requires enough { AreEnough spaces.now (map seen parts.now) uses.old }

@@ -3,16 +3,17 @@ ghost use Rattle.std.specs.Prelude.{◌≡◌, ◌^◌, ℕ, ◌+◌, ◌-◌, �
 ghost use Rattle.exb_model.specs.Tree.{is_cascade};
 ghost use Rattle.exb_model.specs.Setup.{Limits};
 ghost use Rattle.exb_numbers.specs.Spaces.{has_space};
-ghost use Rattle.exb_rows.specs.Sets.{PortsAt, seen};
-ghost use Rattle.exb_plan.specs.Working.{AreLimited, how_many, is_at, short_by, short_at};
+ghost use Rattle.exb_plans.specs.Sets.{PortsAt, seen};
+ghost use Rattle.exb_plan.specs.Working.{AreLimited};
+ghost use Rattle.exb_plans.specs.Making.{how_many, is_at, short_by, short_at};
 ghost use Rattle.exb_planning.specs.Counted.{used_at};
 
-use crate::uses::Uses;
+use crate::group_uses::GroupUses;
 use exb_model::event::Cause;
 use exb_model::tree::Tree;
 use exb_numbers::Spaces;
 use exb_plan::groups::is_cascade;
-use exb_rows::SetAt;
+use exb_plans::SetAt;
 
 // How many of the sets are below a bridge port.
 fn count_at(sets: &[SetAt], bridge_port: u8) -> u64
@@ -29,7 +30,12 @@ fn count_at(sets: &[SetAt], bridge_port: u8) -> u64
 }
 
 // Why the groups of a cascade port of the bridge don't suffice for those in use and fresh sets, if they don't.
-fn groups_short_at(spaces: &Spaces, uses: &Uses, fresh: &[SetAt], bridge_port: u8) -> Option<Cause>
+fn groups_short_at(
+    spaces: &Spaces,
+    uses: &GroupUses,
+    fresh: &[SetAt],
+    bridge_port: u8,
+) -> Option<Cause>
     requires from1 { 1 ≤ bridge_port }
     requires cascade { has_space spaces.now (bridge_port - 1) ≡ true }
     ensures { (l : Limits) → (had : List PortsAt) → AreLimited l.groups spaces.now → used_at uses.now (bridge_port - 1) ≡ how_many (is_at bridge_port) had
@@ -49,7 +55,7 @@ fn groups_short_at(spaces: &Spaces, uses: &Uses, fresh: &[SetAt], bridge_port: u
 pub(crate) fn groups_short(
     tree: &Tree,
     spaces: &Spaces,
-    uses: &Uses,
+    uses: &GroupUses,
     fresh: &[SetAt],
 ) -> Option<Cause>
     requires { (k : ℕ) → k < 64 → is_cascade tree.now k ≡ true → has_space spaces.now k ≡ true }

@@ -3,11 +3,12 @@ use Rattle.std.specs.Prelude.{IfOk, OnOk}
 use Rattle.exb_model.specs.declared.command.Command.TheVariants as command
 use Rattle.exb_model.specs.Configuration.{after}
 use Rattle.exb_config.specs.Tables.{bridge_of}
-use Rattle.exb_plan.specs.declared.change.Decision.{Decision}
-use Rattle.exb_plan.specs.declared.change.Decision.TheVariants as decision
-use Rattle.exb_plan.specs.Held.{Held, held_by}
-use Rattle.exb_changes.specs.declared.job.Job.{Job}
-use Rattle.exb_changes.specs.Deciding.{decide}
+use Rattle.exb_plans.specs.declared.change.Decision.{Decision}
+use Rattle.exb_plans.specs.declared.change.Decision.TheVariants as decision
+use Rattle.exb_plans.specs.Held.{Held}
+use Rattle.exb_plan.specs.Spaces.{held_by}
+use Rattle.exb_changing.specs.declared.job.Job.{Job}
+use Rattle.exb_changing.specs.Deciding.{decide}
 use Rattle.exb_changes.specs.Fabrics.{decision_of, held_after}
 use Rattle.exb_changes.proofs.Decided.{plan_is, plan_held_is}
 use Rattle.exb_changes.proofs.deciding.decide.Goals as goal
@@ -34,8 +35,8 @@ returns-in-AutomaticUp-clause-decision c l has =
     let t = c.args.tree.now in
     let b = bridge_of c.args.config.now in
     let h = held_by c.args.spaces.now in
-    subst (λ (d : Decision). IfOk c.plan_command.result (λ made. made ≡ d))
-    (plan_is t l b (after (command.Up c.in-AutomaticUp.port) b) h ∙ ap (λ (j : Job). decision_of (decide t l b h j)) (sym c.in-AutomaticUp.is)) (c.plan_command.ensures.decision l has)
+    subst (λ (d : Decision). IfOk c.plan.result (λ made. made ≡ d))
+    (plan_is t l b (after (command.Up c.in-AutomaticUp.port) b) h ∙ ap (λ (j : Job). decision_of (decide t l b h j)) (sym c.in-AutomaticUp.is)) (c.plan.ensures.decision l has)
 
 pub returns-in-AutomaticUp-clause-claimed : goal.returns-in-AutomaticUp-clause-claimed
 unfolding decide
@@ -43,8 +44,8 @@ returns-in-AutomaticUp-clause-claimed c l has =
     let t = c.args.tree.now in
     let b = bridge_of c.args.config.now in
     let h = held_by c.args.spaces.now in
-    subst (λ (g : Held). OnOk c.plan_command.result (held_by c.plan_command.new.spaces ≡ g))
-    (plan_held_is t l b (after (command.Up c.in-AutomaticUp.port) b) h ∙ ap (λ (j : Job). held_after (decide t l b h j) h) (sym c.in-AutomaticUp.is)) (c.plan_command.ensures.claimed l has)
+    subst (λ (g : Held). OnOk c.plan.result (held_by c.plan.new.spaces ≡ g))
+    (plan_held_is t l b (after (command.Up c.in-AutomaticUp.port) b) h ∙ ap (λ (j : Job). held_after (decide t l b h j) h) (sym c.in-AutomaticUp.is)) (c.plan.ensures.claimed l has)
 
 pub returns-in-Ordered-clause-decision : goal.returns-in-Ordered-clause-decision
 unfolding decide
@@ -52,8 +53,8 @@ returns-in-Ordered-clause-decision c l has =
     let t = c.args.tree.now in
     let b = bridge_of c.args.config.now in
     let h = held_by c.args.spaces.now in
-    subst (λ (d : Decision). IfOk c.plan_command-in-Ordered.result (λ made. made ≡ d))
-    (plan_is t l b (after c.in-Ordered.command b) h ∙ ap (λ (j : Job). decision_of (decide t l b h j)) (sym c.in-Ordered.is)) (c.plan_command-in-Ordered.ensures.decision l has)
+    subst (λ (d : Decision). IfOk c.plan-in-Ordered.result (λ made. made ≡ d))
+    (plan_is t l b (after c.in-Ordered.command b) h ∙ ap (λ (j : Job). decision_of (decide t l b h j)) (sym c.in-Ordered.is)) (c.plan-in-Ordered.ensures.decision l has)
 
 pub returns-in-Ordered-clause-claimed : goal.returns-in-Ordered-clause-claimed
 unfolding decide
@@ -61,5 +62,5 @@ returns-in-Ordered-clause-claimed c l has =
     let t = c.args.tree.now in
     let b = bridge_of c.args.config.now in
     let h = held_by c.args.spaces.now in
-    subst (λ (g : Held). OnOk c.plan_command-in-Ordered.result (held_by c.plan_command-in-Ordered.new.spaces ≡ g))
-    (plan_held_is t l b (after c.in-Ordered.command b) h ∙ ap (λ (j : Job). held_after (decide t l b h j) h) (sym c.in-Ordered.is)) (c.plan_command-in-Ordered.ensures.claimed l has)
+    subst (λ (g : Held). OnOk c.plan-in-Ordered.result (held_by c.plan-in-Ordered.new.spaces ≡ g))
+    (plan_held_is t l b (after c.in-Ordered.command b) h ∙ ap (λ (j : Job). held_after (decide t l b h j) h) (sym c.in-Ordered.is)) (c.plan-in-Ordered.ensures.claimed l has)

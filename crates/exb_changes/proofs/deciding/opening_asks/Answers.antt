@@ -1,18 +1,16 @@
-use Rattle.std.proofs.Common.{◌≡◌, ◌+◌, ◌*◌, arith}
-use Rattle.exb_plan.specs.Held.{held_by}
+use Rattle.std.proofs.Common.{◌≡◌, arith}
+use Rattle.exb_plan.specs.Spaces.{held_by}
 use Rattle.exb_changes.proofs.Openings.{opening_is, cascade_more, extender_of}
 use Rattle.exb_changes.proofs.deciding.opening_asks.Goals as goal
 
 pub loop-place-preserved : goal.loop-place-preserved
 loop-place-preserved c =
-    let at : c.unwrap-port.result ≡ 64 * c.args.extender + c.loop-place.place = rw c.unwrap-port.ensures at c.new.ensures.value in
-    cascade_more c.args.tree.now c.args.extender (held_by c.args.spaces.now) c.loop-place.asks c.put_cascade.new.asks c.loop-place.place c.unwrap-port.result at
+    cascade_more c.args.tree.now c.args.extender (held_by c.args.spaces.now) c.loop-place.asks c.put_cascade.new.asks c.loop-place.place c.at-port.result c.at-port.ensures
     c.loop-place.invariant c.in_ok-put_cascade.ensures
 
 pub put_cascade-requires-clause-extender : goal.put_cascade-requires-clause-extender
 put_cascade-requires-clause-extender c =
-    let at : c.unwrap-port.result ≡ 64 * c.args.extender + c.loop-place.place = rw c.unwrap-port.ensures at c.new.ensures.value in
-    extender_of c.args.tree.now c.args.extender c.loop-place.place c.unwrap-port.result c.loop-place-test.true at c.requires.extender
+    extender_of c.args.tree.now c.args.extender c.loop-place.place c.at-port.result c.loop-place-test.true c.at-port.ensures c.requires.extender
 
 pub returns : goal.returns
 returns c =

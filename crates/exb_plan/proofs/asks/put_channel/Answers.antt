@@ -4,10 +4,10 @@ use Rattle.std.proofs.lemmas.List.{take_all}
 use mathlib.Core.Path.{fun_ext}
 use Rattle.exb_model.specs.Ports.{port_in}
 use Rattle.exb_model.specs.Tree.{device}
-use Rattle.exb_rows.specs.declared.set_rows.Row.{Row}
-use Rattle.exb_rows.specs.Rows.{rows_of}
-use Rattle.exb_plan.specs.declared.asks.AskAt.{AskAt}
-use Rattle.exb_plan.specs.Asks.{put_above}
+use Rattle.exb_plans.specs.declared.row.Row.{Row}
+use Rattle.exb_plans.specs.Rows.{rows_of}
+use Rattle.exb_csp.specs.declared.ask_at.AskAt.{AskAt}
+use Rattle.exb_plans.specs.Asks.{put_above}
 use Rattle.exb_plan.proofs.Messages.{above_are}
 use Rattle.exb_plan.proofs.asks.put_channel.Goals as goal
 
@@ -26,6 +26,6 @@ returns c =
     let rows = c.as_slice-rows.result.now in
     let set : ◌≡◌ {A = ℕ → Bool} (port_in c.insert.new.self) (λ q. q == p) = fun_ext (λ q. c.insert.ensures q ∙ (ap (λ b. q == p || b) (c.empty-set.ensures q) ∙ or_false (q == p))) in
     c.loop-row.invariant
-    ∙ (ap (λ (m : ℕ). old ++ flat_map (put_above step (m / 64) n) (take i rows)) c.number.ensures.value
+    ∙ (ap (λ (m : ℕ). old ++ flat_map (put_above step m n) (take i rows)) c.device-own.ensures.value
     ∙ (ap (λ (l : List Row). old ++ flat_map (put_above step (device p) n) l) (take_all i rows c.loop-row-test.false ∙ (c.as_slice-rows.ensures.value ∙ (c.in_ok-all.ensures ∙ ap (rows_of t) set)))
     ∙ ap (λ (l : List AskAt). old ++ l) (above_are step t p n)))

@@ -11,7 +11,7 @@ claim-requires c =
     let t = c.args.tree.now in
     let v = c.args.spaces.now in
     let p = c.args.port in
-    let is : c.trunk-trunk.result ≡ trunk t (p / 64) + 1 = subst (λ (x : ℕ). c.trunk-trunk.result ≡ trunk t (x / 64) + 1) c.number.ensures.value c.trunk-trunk.ensures.value in
+    let is : c.trunk-trunk.result ≡ trunk t (p / 64) + 1 = subst (λ (x : ℕ). c.trunk-trunk.result ≡ trunk t x + 1) c.device.ensures.value c.trunk-trunk.ensures.value in
     let place : c.trunk-trunk.result - 1 ≡ trunk t (p / 64) = omega (arith, is) in
     ap (λ (x : List (Option ℕ)). channel_of x p) (c.channels_mut.ensures.value ∙ ap (channels_at v) place)
     ∙ (sym (channel_in_is v (trunk t (p / 64)) p) ∙ c.requires.absent)
@@ -21,7 +21,7 @@ unwrap-requires c =
     let t = c.args.tree.now in
     let v = c.args.spaces.now in
     let p = c.args.port in
-    let is : c.trunk-trunk.result ≡ trunk t (p / 64) + 1 = subst (λ (x : ℕ). c.trunk-trunk.result ≡ trunk t (x / 64) + 1) c.number.ensures.value c.trunk-trunk.ensures.value in
+    let is : c.trunk-trunk.result ≡ trunk t (p / 64) + 1 = subst (λ (x : ℕ). c.trunk-trunk.result ≡ trunk t x + 1) c.device.ensures.value c.trunk-trunk.ensures.value in
     let place : c.trunk-trunk.result - 1 ≡ trunk t (p / 64) = omega (arith, is) in
     met c.claim.result (lowest_channel c.channels_mut.result.now)
     (ap (λ (x : List (Option ℕ)). is_some (lowest_channel x)) (c.channels_mut.ensures.value ∙ ap (channels_at v) place) ∙ c.requires.free)
@@ -33,7 +33,7 @@ returns-clause-held c =
     let v = c.args.spaces.now in
     let p = c.args.port in
     let k = c.trunk-trunk.result - 1 in
-    let is : c.trunk-trunk.result ≡ trunk t (p / 64) + 1 = subst (λ (x : ℕ). c.trunk-trunk.result ≡ trunk t (x / 64) + 1) c.number.ensures.value c.trunk-trunk.ensures.value in
+    let is : c.trunk-trunk.result ≡ trunk t (p / 64) + 1 = subst (λ (x : ℕ). c.trunk-trunk.result ≡ trunk t x + 1) c.device.ensures.value c.trunk-trunk.ensures.value in
     let place : k ≡ trunk t (p / 64) = omega (arith, is) in
     channel_given t v p c.unwrap.result k c.claim.new.self (subst (λ (x : ℕ). has_space v x ≡ true) (sym place) c.requires.cascade) place
     (λ e. of_ok c.claim.result c.unwrap.result (λ m. (e : ℕ) → holder c.claim.new.self e ≡ cond (e == m) (Some p) (holder c.channels_mut.result.now e)) c.unwrap.ensures c.claim.ensures.holders e
@@ -44,7 +44,7 @@ returns-clause-free c =
     let t = c.args.tree.now in
     let v = c.args.spaces.now in
     let p = c.args.port in
-    let is : c.trunk-trunk.result ≡ trunk t (p / 64) + 1 = subst (λ (x : ℕ). c.trunk-trunk.result ≡ trunk t (x / 64) + 1) c.number.ensures.value c.trunk-trunk.ensures.value in
+    let is : c.trunk-trunk.result ≡ trunk t (p / 64) + 1 = subst (λ (x : ℕ). c.trunk-trunk.result ≡ trunk t x + 1) c.device.ensures.value c.trunk-trunk.ensures.value in
     let place : c.trunk-trunk.result - 1 ≡ trunk t (p / 64) = omega (arith, is) in
     claimed_free v (trunk t (p / 64)) c.claim.result c.unwrap.result c.unwrap.ensures
     (subst (λ (x : List (Option ℕ)). MatchResult c.claim.result (λ m. lowest_channel x ≡ Some m) (λ e. lowest_channel x ≡ None)) (c.channels_mut.ensures.value ∙ ap (channels_at v) place) c.claim.ensures.lowest)

@@ -1,15 +1,16 @@
 use Rattle.std.proofs.Common.{◌≡◌, ◌∙◌, ℕ, List, Option, map, filter, not, sym, ap, subst}
 use Rattle.exb_model.specs.Configuration.{after}
 use Rattle.exb_config.specs.Tables.{bridge_of}
-use Rattle.exb_rows.specs.Sets.{PortsAt, seen, sets_of}
-use Rattle.exb_uses.specs.Touched.{parts_before, parts_after}
-use Rattle.exb_plan.specs.Held.{Group, held_by}
-use Rattle.exb_plan.specs.Between.{goes_down, gone_groups}
-use Rattle.exb_plan.specs.Working.{CanClaim, CanClaimUp, has_group, seen_group, change_with}
-use Rattle.exb_plan.proofs.Channels.{any_extended}
-use Rattle.exb_plan.proofs.WholePlans.{spaces_of, up_can, fresh_claim}
+use Rattle.exb_plans.specs.Sets.{PortsAt, seen, sets_of}
+use Rattle.exb_plans.specs.Touched.{parts_before, parts_after}
+use Rattle.exb_plan.specs.Spaces.{held_by}
+use Rattle.exb_plans.specs.Between.{gone_groups}
+use Rattle.exb_plan.specs.Working.{CanClaim, CanClaimUp}
+use Rattle.exb_plans.specs.Making.{has_group, seen_group}
+use Rattle.exb_plans.proofs.Channels.{any_extended}
+use Rattle.exb_plan.proofs.WholePlans.{spaces_of, up_can, fresh_claim, changes_are, claims_are}
 use Rattle.exb_planning.specs.Recount.{AreEnough, AreLowered, AreRaised, AreUnused}
-use Rattle.exb_planning.specs.Going.{AreLeft}
+use Rattle.exb_planning.specs.LostUses.{AreLeft}
 use Rattle.exb_planning.proofs.TouchedSets.{before_within, after_within, some_below, parts_placed}
 use Rattle.exb_planning.proofs.Moving.{places, enough, moved, left_go}
 use Rattle.exb_planning.proofs.Afterwards.{unfound_placed, own_now, places_now, unused_now, counted_now}
@@ -20,7 +21,7 @@ moved-requires-clause-before c =
     let t = c.args.tree.now in
     let b = bridge_of c.args.config.now in
     let v = c.args.spaces.now in
-    parts_placed t v (spaces_of t c.requires.limits.0 v c.requires.limits.1) c.args.before.now _ c.requires.before
+    parts_placed t v (spaces_of t c.requires.limits.0 v c.requires.limits.1) c.as_slice-before.result.now _ (ap (map seen) c.as_slice-before.ensures.value ∙ c.requires.touched.before)
     (some_below t c.is_tree.ensures b (parts_before t c.args.command.now b) (before_within t c.args.command.now b))
 
 pub moved-requires-clause-later : goal.moved-requires-clause-later
@@ -28,7 +29,7 @@ moved-requires-clause-later c =
     let t = c.args.tree.now in
     let b = bridge_of c.args.config.now in
     let v = c.args.spaces.now in
-    parts_placed t v (spaces_of t c.requires.limits.0 v c.requires.limits.1) c.args.later.now _ c.requires.later
+    parts_placed t v (spaces_of t c.requires.limits.0 v c.requires.limits.1) c.as_slice.result.now _ (ap (map seen) c.as_slice.ensures.value ∙ c.requires.touched.later)
     (some_below t c.is_tree.ensures (after c.args.command.now b) (parts_after t c.args.command.now b) (after_within t c.args.command.now b))
 
 pub moved-requires-clause-places : goal.moved-requires-clause-places
@@ -37,7 +38,7 @@ moved-requires-clause-places c =
 
 pub moved-requires-clause-enough : goal.moved-requires-clause-enough
 moved-requires-clause-enough c =
-    subst (λ (xs : List PortsAt). AreEnough c.args.spaces.now xs c.args.uses.now) (sym c.requires.before)
+    subst (λ (xs : List PortsAt). AreEnough c.args.spaces.now xs c.args.uses.now) (sym (ap (map seen) c.as_slice-before.ensures.value ∙ c.requires.touched.before))
     (enough c.args.tree.now (bridge_of c.args.config.now) c.args.spaces.now c.requires.limits.0 c.requires.limits.1 c.requires.held c.args.uses.now c.requires.counted c.args.command.now)
 
 pub gone_groups-requires-clause-placed : goal.gone_groups-requires-clause-placed
@@ -45,7 +46,7 @@ gone_groups-requires-clause-placed c =
     let t = c.args.tree.now in
     let b = bridge_of c.args.config.now in
     let v = c.args.spaces.now in
-    parts_placed t v (spaces_of t c.requires.limits.0 v c.requires.limits.1) c.args.before.now _ c.requires.before
+    parts_placed t v (spaces_of t c.requires.limits.0 v c.requires.limits.1) c.as_slice-before.result.now _ (ap (map seen) c.as_slice-before.ensures.value ∙ c.requires.touched.before)
     (some_below t c.is_tree.ensures b (parts_before t c.args.command.now b) (before_within t c.args.command.now b))
 
 pub make_change-requires-clause-up : goal.make_change-requires-clause-up
@@ -67,7 +68,7 @@ make_change-requires-clause-fresh c =
     let b = bridge_of c.args.config.now in
     let v = c.args.spaces.now in
     let l = c.requires.limits.0 in
-    subst (λ (xs : List PortsAt). CanClaim v xs) (sym c.requires.fresh) (fresh_claim t c.is_tree.ensures l b (after c.args.command.now b) v c.requires.limits.1 c.requires.held (c.requires.fits l c.requires.limits.1))
+    subst (λ (xs : List PortsAt). CanClaim v xs) (sym (ap (map seen) c.as_slice-fresh.ensures.value ∙ c.requires.touched.fresh)) (fresh_claim t c.is_tree.ensures l b (after c.args.command.now b) v c.requires.limits.1 c.requires.held (c.requires.fits l c.requires.limits.1))
 
 pub raise_new-requires-clause-placed : goal.raise_new-requires-clause-placed
 raise_new-requires-clause-placed c =
@@ -75,8 +76,8 @@ raise_new-requires-clause-placed c =
     let l = c.requires.limits.0 in
     let has = c.requires.limits.1 in
     unfound_placed c.args.tree.now c.is_tree.ensures c.args.command.now (bridge_of c.args.config.now) v c.make_change.new.spaces l has c.requires.limits.2 c.requires.held (c.requires.fits l has)
-    c.args.up.now (map seen c.args.fresh.now) c.requires.fresh c.in_ok-change.ensures.alike (c.in_ok-change.ensures.held l has) c.args.unfound.now
-    (c.requires.unfound ∙ ap (filter (λ s. not (has_group (held_by v) s))) c.requires.later)
+    c.args.up.now (map seen c.as_slice-fresh.result.now) (ap (map seen) c.as_slice-fresh.ensures.value ∙ c.requires.touched.fresh) c.in_ok-change.ensures.alike (c.in_ok-change.ensures.held l has) c.as_slice-3.result.now
+    (ap (map seen) c.as_slice-3.ensures.value ∙ (c.requires.touched.unfound ∙ ap (filter (λ s. not (has_group (held_by v) s))) c.requires.touched.later))
 
 pub raise_new-requires-clause-own : goal.raise_new-requires-clause-own
 raise_new-requires-clause-own c =
@@ -84,7 +85,7 @@ raise_new-requires-clause-own c =
     let l = c.requires.limits.0 in
     let has = c.requires.limits.1 in
     own_now c.args.tree.now c.is_tree.ensures c.args.command.now (bridge_of c.args.config.now) v c.make_change.new.spaces l has c.requires.limits.2 c.requires.held (c.requires.fits l has)
-    c.args.up.now (map seen c.args.fresh.now) c.requires.fresh c.in_ok-change.ensures.alike (c.in_ok-change.ensures.held l has)
+    c.args.up.now (map seen c.as_slice-fresh.result.now) (ap (map seen) c.as_slice-fresh.ensures.value ∙ c.requires.touched.fresh) c.in_ok-change.ensures.alike (c.in_ok-change.ensures.held l has)
 
 pub raise_new-requires-clause-places : goal.raise_new-requires-clause-places
 raise_new-requires-clause-places c =
@@ -94,7 +95,7 @@ raise_new-requires-clause-places c =
     let l = c.requires.limits.0 in
     let has = c.requires.limits.1 in
     places_now t c.is_tree.ensures c.args.command.now b v c.make_change.new.spaces l has c.requires.limits.2 c.requires.held (c.requires.fits l has)
-    c.args.up.now (map seen c.args.fresh.now) c.requires.fresh c.in_ok-change.ensures.alike (c.in_ok-change.ensures.held l has) c.args.uses.now c.in_ok-next.next
+    c.args.up.now (map seen c.as_slice-fresh.result.now) (ap (map seen) c.as_slice-fresh.ensures.value ∙ c.requires.touched.fresh) c.in_ok-change.ensures.alike (c.in_ok-change.ensures.held l has) c.args.uses.now c.in_ok-next.next
     (places t b v l has c.requires.held c.args.uses.now c.requires.counted) c.requires.rows c.in_ok-next.ensures.rows
 
 pub raise_new-requires-clause-unused : goal.raise_new-requires-clause-unused
@@ -106,11 +107,11 @@ raise_new-requires-clause-unused c =
     let l = c.requires.limits.0 in
     let has = c.requires.limits.1 in
     let is = c.in_ok-next.ensures in
-    let lowered = subst (λ (xs : List PortsAt). AreLowered v xs c.args.uses.now is.less) c.requires.before is.lowered in
-    let raised = subst (λ (xs : List PortsAt). AreRaised v xs is.less c.in_ok-next.next) c.requires.later is.raised in
-    subst (λ (xs : List PortsAt). AreUnused w xs c.in_ok-next.next) (sym (c.requires.unfound ∙ ap (filter (λ s. not (has_group (held_by v) s))) c.requires.later))
+    let lowered = subst (λ (xs : List PortsAt). AreLowered v xs c.args.uses.now is.less) (ap (map seen) c.as_slice-before.ensures.value ∙ c.requires.touched.before) is.lowered in
+    let raised = subst (λ (xs : List PortsAt). AreRaised v xs is.less c.in_ok-next.next) (ap (map seen) c.as_slice.ensures.value ∙ c.requires.touched.later) is.raised in
+    subst (λ (xs : List PortsAt). AreUnused w xs c.in_ok-next.next) (sym (ap (map seen) c.as_slice-3.ensures.value ∙ (c.requires.touched.unfound ∙ ap (filter (λ s. not (has_group (held_by v) s))) c.requires.touched.later)))
     (unused_now t c.is_tree.ensures c.args.command.now b v w l has c.requires.limits.2 c.requires.held (c.requires.fits l has)
-    c.args.up.now (map seen c.args.fresh.now) c.requires.fresh c.in_ok-change.ensures.alike (c.in_ok-change.ensures.held l has) c.in_ok-next.next
+    c.args.up.now (map seen c.as_slice-fresh.result.now) (ap (map seen) c.as_slice-fresh.ensures.value ∙ c.requires.touched.fresh) c.in_ok-change.ensures.alike (c.in_ok-change.ensures.held l has) c.in_ok-next.next
     (moved t b v l has c.requires.held c.args.uses.now c.requires.counted c.args.command.now is.less c.in_ok-next.next lowered raised))
 
 pub returns-clause-change : goal.returns-clause-change
@@ -120,18 +121,25 @@ returns-clause-change c l has =
     let d = after c.args.command.now b in
     let v = c.args.spaces.now in
     let h = held_by v in
-    let sets = map seen c.args.fresh.now in
     let next = c.in_ok-next.next in
     let is = c.in_ok-next.ensures in
-    let lowered = subst (λ (xs : List PortsAt). AreLowered v xs c.args.uses.now is.less) c.requires.before is.lowered in
-    let raised = subst (λ (xs : List PortsAt). AreRaised v xs is.less next) c.requires.later is.raised in
-    let gone : map seen_group c.as_slice.result.now ≡ gone_groups t (sets_of t d) h =
-    ap (map seen_group) c.as_slice.ensures.value ∙ c.in_ok-gone.ensures (sets_of t d) (λ k low cascade.
-    subst (λ (xs : List PortsAt). AreLeft h next xs (sets_of t d) k) (sym c.requires.before)
+    let before = ap (map seen) c.as_slice-before.ensures.value ∙ c.requires.touched.before in
+    let lowered = subst (λ (xs : List PortsAt). AreLowered v xs c.args.uses.now is.less) before is.lowered in
+    let raised = subst (λ (xs : List PortsAt). AreRaised v xs is.less next) (ap (map seen) c.as_slice.ensures.value ∙ c.requires.touched.later) is.raised in
+    let gone : map seen_group c.as_slice-2.result.now ≡ gone_groups t (sets_of t d) h =
+    ap (map seen_group) c.as_slice-2.ensures.value ∙ c.in_ok-gone.ensures (sets_of t d) (λ k low cascade.
+    subst (λ (xs : List PortsAt). AreLeft h next xs (sets_of t d) k) (sym before)
     (left_go t b v l has c.requires.held c.args.uses.now c.requires.counted c.args.command.now is.less next lowered raised k low cascade (spaces_of t l v has k low cascade))) in
     c.in_ok-change.ensures.change l has
-    ∙ (ap (λ (o : Option ℕ). change_with t l h c.args.up.now o (map seen_group c.as_slice.result.now) sets) c.goes_down-down.ensures
-    ∙ ap (λ (xs : List Group). change_with t l h c.args.up.now (goes_down t b d) xs sets) gone)
+    ∙ changes_are t l b d h c.args.up.now c.goes_down-down.result (map seen_group c.as_slice-2.result.now) (map seen c.as_slice-fresh.result.now)
+    c.requires.up c.goes_down-down.ensures gone (ap (map seen) c.as_slice-fresh.ensures.value ∙ c.requires.touched.fresh)
+
+pub returns-clause-held : goal.returns-clause-held
+returns-clause-held c l has =
+    let b = bridge_of c.args.config.now in
+    c.in_ok-change.ensures.held l has
+    ∙ claims_are c.args.tree.now l b (after c.args.command.now b) (held_by c.args.spaces.now) c.args.up.now (map seen c.as_slice-fresh.result.now)
+    c.requires.up (ap (map seen) c.as_slice-fresh.ensures.value ∙ c.requires.touched.fresh)
 
 pub returns-clause-counted : goal.returns-clause-counted
 returns-clause-counted c =
@@ -142,9 +150,9 @@ returns-clause-counted c =
     let l = c.requires.limits.0 in
     let has = c.requires.limits.1 in
     let is = c.in_ok-next.ensures in
-    let lowered = subst (λ (xs : List PortsAt). AreLowered v xs c.args.uses.now is.less) c.requires.before is.lowered in
-    let raised = subst (λ (xs : List PortsAt). AreRaised v xs is.less c.in_ok-next.next) c.requires.later is.raised in
-    let last = subst (λ (xs : List PortsAt). AreRaised w xs c.in_ok-next.next c.raise_new.new.uses) (c.requires.unfound ∙ ap (filter (λ s. not (has_group (held_by v) s))) c.requires.later) c.raise_new.ensures.counts in
+    let lowered = subst (λ (xs : List PortsAt). AreLowered v xs c.args.uses.now is.less) (ap (map seen) c.as_slice-before.ensures.value ∙ c.requires.touched.before) is.lowered in
+    let raised = subst (λ (xs : List PortsAt). AreRaised v xs is.less c.in_ok-next.next) (ap (map seen) c.as_slice.ensures.value ∙ c.requires.touched.later) is.raised in
+    let last = subst (λ (xs : List PortsAt). AreRaised w xs c.in_ok-next.next c.raise_new.new.uses) (ap (map seen) c.as_slice-3.ensures.value ∙ (c.requires.touched.unfound ∙ ap (filter (λ s. not (has_group (held_by v) s))) c.requires.touched.later)) c.raise_new.ensures.counts in
     counted_now t c.is_tree.ensures c.args.command.now b v w l has c.requires.limits.2 c.requires.held (c.requires.fits l has)
-    c.args.up.now (map seen c.args.fresh.now) c.requires.fresh c.in_ok-change.ensures.alike (c.in_ok-change.ensures.held l has) c.in_ok-next.next
+    c.args.up.now (map seen c.as_slice-fresh.result.now) (ap (map seen) c.as_slice-fresh.ensures.value ∙ c.requires.touched.fresh) c.in_ok-change.ensures.alike (c.in_ok-change.ensures.held l has) c.in_ok-next.next
     (moved t b v l has c.requires.held c.args.uses.now c.requires.counted c.args.command.now is.less c.in_ok-next.next lowered raised) c.raise_new.new.uses last

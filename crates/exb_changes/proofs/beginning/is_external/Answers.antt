@@ -1,6 +1,0 @@
-use Rattle.std.proofs.Common.{sym}
-use Rattle.exb_changes.proofs.Roles.{not_external}
-use Rattle.exb_changes.proofs.beginning.is_external.Goals as goal
-
-pub returns-in_default : goal.returns-in_default
-returns-in_default c = sym (not_external c.args.tree.now c.args.port c.role.result c.is_tree.ensures c.role.ensures c.in_default.not-External)

@@ -1,9 +1,0 @@
-use Rattle.std.proofs.Common.{◌≡◌, filter, map, not, take}
-use Rattle.exb_rows.specs.Sets.{seen}
-use Rattle.exb_plan.specs.Held.{held_by}
-use Rattle.exb_plan.specs.Working.{has_group}
-use Rattle.exb_planning.proofs.coming.unfound.Given as goal
-
--- those of the parts so far
-abbrev pub invariant-loop-part : goal.invariant-loop-part
-invariant-loop-part l = map seen l.fresh.items ≡ filter (λ s. not (has_group (held_by l.spaces) s)) (map seen (take l.part-index l.parts))
