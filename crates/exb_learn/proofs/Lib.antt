@@ -1,3 +1,5 @@
+pub mod Ageing
+pub mod Counting
 pub mod Places
 pub mod Runs
 pub mod Bridges

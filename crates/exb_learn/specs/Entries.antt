@@ -1,5 +1,5 @@
 -- What the list of entries stands for.
-use Rattle.std.specs.Prelude.{ℕ, Bool, true, ◌==◌, ◌&&◌, if◌then◌else◌, List, Option, Some, None, find, bytes_eq}
+use Rattle.std.specs.Prelude.{◌≡◌, ℕ, ◌-◌, Bool, ◌==◌, nat_lt, ◌&&◌, List, [], ◌∷◌, Option, Some, None, find, bytes_eq}
 use Rattle.exb_model.specs.Learning.{Look}
 use Rattle.exb_learn.specs.declared.entries.Entry.{Entry}
 use Rattle.exb_learn.specs.Calls.{Table, look_in}
@@ -14,13 +14,17 @@ pub record Entries : Type 0 where
 abbrev pub is_entry_of : ℕ → List ℕ → Entry → Bool
 is_entry_of v m e = e.vid == v && bytes_eq e.address.0 m
 
+-- no VLAN and address has two entries
+abbrev pub AreApart : List Entry → Type 0
+AreApart [] = Unit {0}
+AreApart (e ∷ es) = (find (is_entry_of e.vid e.address.0) es ≡ None) × AreApart es
+
 abbrev pub place_of : Option Entry → Option (ℕ × ℕ)
 place_of None = None
-place_of (Some e) = if e.forgotten then None else Some (e.port, e.at)
+place_of (Some e) = Some (e.port, e.at)
 
--- the entry, forgotten if it is of this port
-abbrev pub forgotten : ℕ → Entry → Entry
-forgotten p e = if e.port == p then record e { forgotten = true } else e
+abbrev pub is_live : ℕ → ℕ → Entry → Bool
+is_live now ageing e = nat_lt (now - e.at) ageing
 
 unfoldable pub table_of : Entries → Table
 table_of l = record { ageing = l.ageing; clock = l.clock; seen = λ v m. place_of (find (is_entry_of v m) l.entries) }

@@ -1,4 +1,5 @@
 pub mod Calls
 pub mod Sightings
 pub mod Entries
+pub mod Counts
 pub mod Histories

@@ -1,13 +1,13 @@
 //! The list of the entries.
-ghost use Rattle.std.specs.Prelude.{◌≡◌, ◌<◌, ℕ, true, map, find, vec_len, vec_capacity};
+ghost use Rattle.std.specs.Prelude.{◌≡◌, ◌<◌, ◌≤◌, ℕ, ◌==◌, not, filter, find, vec_len, vec_capacity};
 ghost use Rattle.exb_model.specs.Lists.{put_first};
-ghost use Rattle.exb_learn.specs.Entries.{is_entry_of, forgotten};
+ghost use Rattle.exb_learn.specs.Entries.{is_entry_of, is_live};
 
 use exb_model::address::Mac;
 use exb_model::port::PortId;
 use exb_model::vlan::Vid;
 
-/// Where an address was seen last in a VLAN, and when. One that was forgotten is kept to be used again.
+/// Where an address was seen last in a VLAN, and when.
 #[derive(Clone, Copy, Debug, PartialEq, Eq)]
 pub struct Entry {
     pub vid: Vid,
@@ -15,13 +15,19 @@ pub struct Entry {
     pub port: PortId,
     /// The clock in seconds.
     pub at: u64,
-    pub forgotten: bool,
 }
 
 fn is_entry_of(entry: &Entry, vid: Vid, address: Mac) -> bool
     ensures { result ≡ is_entry_of vid address.0 entry.now }
 {
     entry.vid == vid && entry.address == address
+}
+
+// The entry was seen less than the ageing time ago.
+fn is_live(entry: &Entry, clock: u64, ageing: u32) -> bool
+    ensures { result ≡ is_live clock ageing entry.now }
+{
+    clock.saturating_sub(entry.at) < u64::from(ageing)
 }
 
 /// Puts an entry in the place of the one for its VLAN and address, or at the end.
@@ -50,25 +56,20 @@ pub fn find_entry(entries: &[Entry], vid: Vid, address: Mac) -> Option<Entry>
     None
 }
 
-// The entry, marked where it is of this port.
-fn marked(entry: Entry, port: PortId) -> Entry
-    ensures { result ≡ forgotten port entry }
+/// Takes out the entries of a port.
+pub fn forget_port(entries: &mut Vec<Entry>, port: PortId)
+    ensures items { entries.new.items ≡ filter (λ e. not (e.port == port)) entries.old.items }
+    ensures room { vec_capacity entries.new ≡ vec_capacity entries.old }
+    ensures len { vec_len entries.new ≤ vec_len entries.old }
 {
-    let mut entry = entry;
-    if entry.port == port {
-        entry.forgotten = true;
-    }
-    entry
+    entries.retain(|entry| entry.port != port);
 }
 
-/// Marks the entries of a port as forgotten.
-pub fn forget_port(entries: &mut Vec<Entry>, port: PortId)
-    ensures items { entries.new.items ≡ map (forgotten port) entries.old.items }
+/// Takes out the entries that are dead at this clock.
+pub fn forget_dead(entries: &mut Vec<Entry>, clock: u64, ageing: u32)
+    ensures items { entries.new.items ≡ filter (is_live clock ageing) entries.old.items }
     ensures room { vec_capacity entries.new ≡ vec_capacity entries.old }
-    ensures len { vec_len entries.new ≡ vec_len entries.old }
+    ensures len { vec_len entries.new ≤ vec_len entries.old }
 {
-    for i in 0..entries.len() {
-        let entry = marked(entries[i], port);
-        entries[i] = entry;
-    }
+    entries.retain(|entry| is_live(entry, clock, ageing));
 }

@@ -1,6 +1,7 @@
 //! What a look-up answers over every list of calls.
 ghost use Rattle.std.specs.Prelude.{◌≡◌, ℕ, List};
-ghost use Rattle.exb_learn.specs.Calls.{Call, run, look_in};
+ghost use Rattle.exb_learn.specs.Calls.{Call, Table, run, look_in};
+ghost use Rattle.exb_learn.specs.Counts.{HasLive};
 ghost use Rattle.exb_learn.specs.Sightings.{look_after};
 ghost use Rattle.exb_learn.specs.Histories.{table_after};
 ghost use Rattle.exb_model.specs.History.{Basis, History};
@@ -17,4 +18,9 @@ pub fn looks_are_of_the_last_sighting()
 /// learned by that history.
 pub fn looks_are_what_the_bridge_learned()
     ensures { (i : Basis) (h : History) (v : ℕ) (m : List ℕ) → look_in (table_after i h) v m ≡ learned i h v m }
+{}
+
+/// No table has two numbers of live entries.
+pub fn a_table_has_one_number_of_entries()
+    ensures { (t : Table) (a b : ℕ) → HasLive t a → HasLive t b → a ≡ b }
 {}

@@ -1,11 +1,11 @@
 //! The learned entries.
 ghost use Rattle.std.specs.Prelude.{◌≡◌, ℕ, ◌+◌, ◌<◌, ◌≤◌, ◌^◌, false, OnOk, OnErr};
 ghost use Rattle.exb_model.specs.Frames.{is_group};
-ghost use Rattle.exb_model.specs.Learning.{live_port};
-ghost use Rattle.exb_learn.specs.Entries.{place_of, table_of, look_of};
+ghost use Rattle.exb_learn.specs.Entries.{table_of, look_of};
 ghost use Rattle.exb_learn.specs.Calls.{See, Tick, Forget, empty_table, after_call};
+ghost use Rattle.exb_learn.specs.Counts.{HasLive};
 
-use crate::entries::{Entry, find_entry, forget_port, put_entry};
+use crate::entries::{Entry, find_entry, forget_dead, forget_port, put_entry};
 use exb_model::address::Mac;
 use exb_model::memory::NoMemory;
 use exb_model::port::PortId;
@@ -13,7 +13,7 @@ use exb_model::vlan::Vid;
 use std::alloc::Global;
 use std::marker::Model;
 
-/// Where each address was seen last in each VLAN, with a clock in seconds.
+/// Where each address was seen last in each VLAN, with a clock in seconds. It holds live entries alone.
 #[derive(Drop)]
 pub struct Learned {
     entries: Vec<Entry>,
@@ -23,22 +23,13 @@ pub struct Learned {
 
 impl Model for Learned {
     ghost use Rattle.std.specs.Prelude.{◌-◌, vec_len, vec_capacity};
-    ghost use Rattle.exb_learn.specs.Entries.{Entries};
+    ghost use Rattle.exb_learn.specs.Entries.{Entries, AreApart};
 
     ghost Value = { Entries };
 
     ghost view = { λ l. record { entries = l.entries.items; clock = l.clock; ageing = l.ageing; spare = vec_capacity l.entries - vec_len l.entries } };
-}
 
-// The port of an entry that is live.
-fn live_port(entry: Option<Entry>, clock: u64, ageing: u32) -> Option<PortId>
-    ensures { result ≡ live_port clock ageing (place_of entry) }
-{
-    match entry {
-        Some(entry) if !entry.forgotten && clock.saturating_sub(entry.at) < u64::from(ageing) =>
-            Some(entry.port),
-        _ => None,
-    }
+    ghost invariant = { λ l. AreApart l.entries.items };
 }
 
 impl Learned {
@@ -86,9 +77,10 @@ impl Learned {
             address,
             port,
             at: self.clock,
-            forgotten: false,
         };
-        put_entry(&mut self.entries, entry);
+        if self.ageing > 0 {
+            put_entry(&mut self.entries, entry);
+        }
     }
 
     /// The port at which an address was seen last in a VLAN; None exactly where it wasn't, where that was the
@@ -97,29 +89,33 @@ impl Learned {
     pub fn look(&self, vid: Vid, address: Mac) -> Option<PortId>
         ensures { result ≡ look_of self.now vid address.0 }
     {
-        live_port(
-            find_entry(self.entries.as_slice(), vid, address),
-            self.clock,
-            self.ageing,
-        )
+        find_entry(self.entries.as_slice(), vid, address).map(|entry| entry.port)
     }
 
-    /// So many seconds go by. The clock stays below 2^63.
+    /// The number of entries that the table keeps, which is that of live entries.
+    pub fn held(&self) -> u64
+        ensures { HasLive (table_of self.now) result }
+    {
+        self.entries.as_slice().len() as u64
+    }
+
+    /// So many seconds go by, and what dies is taken out. The clock stays below 2^63.
     #[tactic(auto, unfolding(crate::specs::Entries::table_of))]
     pub fn tick(&mut self, seconds: u32)
         requires { self.old.clock + seconds < 2 ^ 63 }
         ensures table { table_of self.new ≡ after_call (Tick seconds) (table_of self.old) }
         ensures clock { self.new.clock ≡ self.old.clock + seconds }
-        ensures spare { self.new.spare ≡ self.old.spare }
+        ensures spare { self.old.spare ≤ self.new.spare }
     {
         self.clock += u64::from(seconds);
+        forget_dead(&mut self.entries, self.clock, self.ageing);
     }
 
     /// Forgets what was seen at a port.
     pub fn forget(&mut self, port: PortId)
         ensures table { table_of self.new ≡ after_call (Forget port) (table_of self.old) }
         ensures clock { self.new.clock ≡ self.old.clock }
-        ensures spare { self.new.spare ≡ self.old.spare }
+        ensures spare { self.old.spare ≤ self.new.spare }
     {
         forget_port(&mut self.entries, port);
     }

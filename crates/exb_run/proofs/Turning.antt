@@ -4,7 +4,7 @@ use Rattle.std.specs.Prelude.{Option, Some, None, if◌then◌else◌}
 use Rattle.std.proofs.lemmas.List.{append-nil}
 use Rattle.std.proofs.lemmas.List.Filters.{length-filter_both}
 use Rattle.std.proofs.lemmas.List.FromFn.{length-range_with_len}
-use Rattle.std.proofs.lemmas.Bool.{ne_eqb, ltb-true, ltb-false}
+use Rattle.std.proofs.lemmas.Bool.{eqb-true, ne_eqb, ltb-true, ltb-false}
 use Rattle.exb_model.specs.declared.event.Event.{Event}
 use Rattle.exb_model.specs.declared.event.Event.TheVariants as event
 use Rattle.exb_model.specs.declared.vlan.Kind.{Kind}
@@ -20,10 +20,10 @@ use Rattle.exb_model.specs.Input.{Input, Arrival, basis_of, tree_of}
 use Rattle.exb_model.specs.EagerHistory.{is_relayed, arrival_event}
 use Rattle.exb_model.specs.Texts.{Counts, with_left, counts, capture_text}
 use Rattle.exb_world.specs.declared.world.Left.{Left}
-use Rattle.exb_learn.specs.Calls.{See, Table}
+use Rattle.exb_learn.specs.Calls.{See, Tick, Table, after_call}
 use Rattle.exb_learn.specs.Histories.{relay_call, after_any}
 use Rattle.exb_world.specs.Worlds.{State, left_at, table_with, Stands}
-use Rattle.exb_schedule.specs.Segments.{segment_events}
+use Rattle.exb_schedule.specs.Segments.{segment_events, later}
 use Rattle.exb_run.specs.Plans.{Planned, port_count, port_at}
 use Rattle.exb_run.specs.Writing.{lines_of, with_more, with_left_frames, CanBeWritten}
 use Rattle.exb_run.specs.Playing.{text_after, played}
@@ -99,6 +99,13 @@ same_clock k t a = by_kind (is_relayed k a.port a.bytes)
     by_kind : (b : Bool) → (table_with k (cond b (event.Relay a.port a.index a.moment a.bytes) (event.Ignored a.port a.index)) t).clock ≡ t.clock
     by_kind true = taught a.port a.bytes t (passes k a.port a.bytes)
     by_kind false = refl
+
+pub later_clock : (seconds : ℕ) (t : Table) → (later seconds t).clock ≡ t.clock + seconds
+later_clock seconds t = by_seconds (seconds == 0) refl
+  where
+    by_seconds : (b : Bool) → (seconds == 0) ≡ b → (cond b t (after_call (Tick seconds) t)).clock ≡ t.clock + seconds
+    by_seconds true none = let zero = eqb-true seconds 0 none in omega (arith, zero)
+    by_seconds false some = refl
 
 length_below : (n : ℕ) → length (below n) ≡ n
 unfolding below

@@ -11,7 +11,7 @@ use Rattle.exb_model.specs.EagerHistory.{arrival_event, eager_segment, with_tick
 use Rattle.exb_model.specs.FlatBridge.{Sent, sent_by}
 use Rattle.exb_model.specs.Input.{Input, Arrival, basis_of, tree_of, bounds_of}
 use Rattle.std.specs.Prelude.{Result, Ok, Err, OnOk, slice_get}
-use Rattle.exb_learn.specs.Calls.{Table, look_in}
+use Rattle.exb_learn.specs.Calls.{Table, Tick, after_call, look_in}
 use Rattle.exb_world.specs.declared.world.Left.{Left}
 use Rattle.exb_world.specs.Worlds.{State, Stands, IsAfterEvent, IsCopyOf, place_at, left_at, table_with}
 use Rattle.exb_schedule.specs.declared.segment.Arrival.{Arrival as Recorded}
@@ -48,11 +48,11 @@ pub one_member : {X : Type 0} (xs : List X) (x a : X) → xs ≡ a ∷ [] → x 
 one_member xs x a is front = is ∙ ap (λ y. y ∷ []) (sym (front ∙ ap (λ ys. get_or ys 0 x) is))
 
 -- no second makes no difference
-pub later_zero : (t : Table) → later 0 t ≡ t
-later_zero t d = record { ageing = t.ageing; clock = add-zero t.clock d; seen = t.seen }
-
 pub at_once : (seconds : ℕ) (t : Table) → seconds ≡ 0 → later seconds t ≡ t
-at_once seconds t none = ap (λ n. later n t) none ∙ later_zero t
+at_once seconds t none = ap (λ n. later n t) none
+
+pub after_some : (seconds : ℕ) (t : Table) → seconds ≢ 0 → after_call (Tick seconds) t ≡ later seconds t
+after_some seconds t some = sym (ap (λ b. cond b t (after_call (Tick seconds) t)) (ne_eqb seconds 0 some))
 
 -- ---- an arrival, and a mark after it
 pub arrived_table : (w0 w1 w2 w3 : State) (e : Event) → IsAfterEvent w0 w1 e → w2 ≡ w1 → IsAfterEvent w2 w3 event.Settled →
@@ -116,12 +116,12 @@ left_later w ticking now seconds a q same table tick play =
     ∙ ap (λ (k : Bridge). left_at w.left q ++ sent_after k ticking.table (a ∷ []) q) same ∙ ap (λ (t : Table). left_at w.left q ++ sent_after w.bridge t (a ∷ []) q) table
 
 -- what else changes in such a segment
-pub rest_later : (w ticking new : State) (seconds : ℕ) (a : Arrival) → IsAfterEvent w ticking (event.Tick seconds) →
+pub rest_later : (w ticking new : State) (seconds : ℕ) (a : Arrival) → seconds ≢ 0 → IsAfterEvent w ticking (event.Tick seconds) →
     new ≡ record ticking { table = table_after ticking.bridge ticking.table (a ∷ []); events = new.events; left = new.left } →
     new ≡ record w { table = segment_table w seconds (a ∷ []); events = new.events; left = new.left }
-rest_later w ticking new seconds a tick play =
+rest_later w ticking new seconds a some tick play =
     play ∙ ap (λ (v : State). record v { table = table_after v.bridge v.table (a ∷ []); events = new.events; left = new.left }) tick.rest
-    ∙ ap (λ (t : Table). record w { table = table_after w.bridge t (a ∷ []); events = new.events; left = new.left }) tick.table
+    ∙ ap (λ (t : Table). record w { table = table_after w.bridge t (a ∷ []); events = new.events; left = new.left }) (tick.table ∙ after_some seconds w.table some)
 
 pub rest_at_once : (w new : State) (seconds : ℕ) (a : Arrival) → seconds ≡ 0 → new ≡ record w { table = table_after w.bridge w.table (a ∷ []); events = new.events; left = new.left } →
     new ≡ record w { table = segment_table w seconds (a ∷ []); events = new.events; left = new.left }

@@ -32,7 +32,7 @@ segment_events w seconds arrivals = tick seconds ++ map (arrival_event w.bridge)
 
 -- what is learned after so many seconds
 abbrev pub later : ℕ → Table → Table
-later seconds t = after_call (Tick seconds) t
+later seconds t = if seconds == 0 then t else after_call (Tick seconds) t
 
 -- what is learned after arrivals
 abbrev pub table_after : Bridge → Table → List Arrived → Table

@@ -15,6 +15,7 @@ use Rattle.exb_model.specs.FlatBridge.{flat}
 use Rattle.exb_model.specs.LegalHistory.{place_of}
 use Rattle.exb_model.specs.Input.{Input, basis_of}
 use Rattle.exb_model.proofs.Remembering.{remembered-none, remembered-other}
+use Rattle.exb_learn.specs.Calls.{if_live}
 use Rattle.exb_world.specs.Opening.{opened, OpenedStands}
 use Rattle.exb_world.specs.Worlds.{Stands, fresh_of, opened_of, with_up}
 use Rattle.exb_world.proofs.OpeningRaises.{opening_raises_law}
@@ -66,7 +67,7 @@ opened_law i single =
       ageing = refl;
       configuration = ap (λ (k : Bridge). with_up k ports) (sym (start_is (basis_of i))) ∙ sym (ups_after (basis_of i) ports []) ∙ ap (bridge_after (basis_of i)) (sym raised);
       clock = sym quiet.now;
-      seen = λ v m. sym (quiet.learned v m);
+      seen = λ v m. ap (if_live (now_after (opened i)) i.setup.ageing) (sym (quiet.learned v m));
       sent = λ q. sym (quiet.sent q);
       once = quiet.arrived;
     }
@@ -79,7 +80,7 @@ fresh_stands s i is =
       ageing = refl;
       configuration = sym (start_is (basis_of i));
       clock = sym quiet.now;
-      seen = λ v m. sym (quiet.learned v m);
+      seen = λ v m. ap (if_live (now_after []) i.setup.ageing) (sym (quiet.learned v m));
       sent = λ q. sym (quiet.sent q);
       once = quiet.arrived;
     })

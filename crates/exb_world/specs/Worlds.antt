@@ -14,7 +14,7 @@ use Rattle.exb_model.specs.Input.{Arrival}
 use Rattle.exb_model.specs.EagerHistory.{arrival_event}
 use Rattle.exb_model.specs.LegalHistory.{place_of}
 use Rattle.exb_config.specs.Tables.{Tables as ConfigTables, bridge_of}
-use Rattle.exb_learn.specs.Calls.{Call, Tick, Table, empty_table, look_in}
+use Rattle.exb_learn.specs.Calls.{Call, Tick, Table, empty_table, if_live, look_in}
 use Rattle.exb_learn.specs.Entries.{Entries, table_of}
 use Rattle.exb_learn.specs.Histories.{relay_call, after_any}
 use Rattle.exb_world.specs.declared.world.Left.{Left}
@@ -147,13 +147,13 @@ abbrev pub place_at : Arrival → ℕ × ℕ
 place_at a = (a.port, a.index)
 
 -- A world stands at a history, given the arrivals so far and what has left each port: its configuration and
--- its clock are those of the history, and it has seen each address where and when it was seen last there;
--- what has left a port is what the flat bridge sends there (nothing is in flight, so nothing is owed); and
--- each arrival has its event, once and in order.
+-- its clock are those of the history, and it knows of each address where and when it was seen last there, where
+-- that is live; what has left a port is what the flat bridge sends there (nothing is in flight, so nothing is
+-- owed); and each arrival has its event, once and in order.
 pub record Stands (i : Basis) (w : State) (given : List Arrival) (h : History) (left : ℕ → List Sent) : Type 0 where
   pub ageing : w.table.ageing ≡ i.ageing
   pub configuration : w.bridge ≡ bridge_after i h
   pub clock : w.table.clock ≡ now_after h
-  pub seen : (v : ℕ) (m : List ℕ) → w.table.seen v m ≡ remembered i h v m
+  pub seen : (v : ℕ) (m : List ℕ) → w.table.seen v m ≡ if_live (now_after h) i.ageing (remembered i h v m)
   pub sent : (q : ℕ) → left q ≡ flat i h q
   pub once : filter_map place_of (reverse h) ≡ map place_at given

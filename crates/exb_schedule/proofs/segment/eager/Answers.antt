@@ -4,7 +4,7 @@ use Rattle.exb_learn.specs.Calls.{Table}
 use Rattle.exb_world.specs.Worlds.{State, IsCopyOf, left_at, state_of}
 use Rattle.exb_world.specs.declared.world.Left.{Left}
 use Rattle.exb_schedule.specs.Segments.{arrived, sent_after}
-use Rattle.exb_schedule.proofs.Moving.{one_member, segment_history, left_later, stands_at_once, stands_later, rest_later, rest_at_once, at_once, nothing_added, any_copies}
+use Rattle.exb_schedule.proofs.Moving.{one_member, segment_history, left_later, stands_at_once, stands_later, rest_later, rest_at_once, at_once, after_some, nothing_added, any_copies}
 use Rattle.exb_schedule.proofs.segment.eager.Goals as goal
 
 pub returns-then-seconds-eq0-clause-stands : goal.returns-then-seconds-eq0-clause-stands
@@ -18,7 +18,7 @@ returns-clause-left c =
     let one = one_member c.args.arrivals.now c.index-arrivals-0.result c.requires.arrivals.0 c.requires.arrivals.1 c.index-arrivals-0.is in
     rw one (on_ok_weaker c.play-2.result (λ play q.
     left_later (state_of c.args.world.now) (state_of c.step.new.self) c.play-2.new.world.left c.args.seconds (arrived c.index-arrivals-0.result) q (ap (λ (v : State). v.bridge) c.in_ok-step.ensures.ok.rest)
-    c.in_ok-step.ensures.ok.table
+    (c.in_ok-step.ensures.ok.table ∙ after_some c.args.seconds (state_of c.args.world.now).table c.if-seconds-eq0.false)
     (c.in_ok-step.ensures.ok.left q) (play q)) c.play-2.ensures.left)
 
 pub returns-clause-stands : goal.returns-clause-stands
@@ -26,7 +26,7 @@ returns-clause-stands c =
     let one = one_member c.args.arrivals.now c.index-arrivals-0.result c.requires.arrivals.0 c.requires.arrivals.1 c.index-arrivals-0.is in
     rw one (on_ok_weaker c.play-2.result (λ play i given h left s.
     stands_later i (state_of c.args.world.now) given h left s c.args.seconds (arrived c.index-arrivals-0.result) (state_of c.step.new.self) (state_of c.play-2.new.world) c.if-seconds-eq0.false
-    (ap (λ (v : State). v.bridge) c.in_ok-step.ensures.ok.rest) c.in_ok-step.ensures.ok.table c.in_ok-step.ensures.stands (play i)) c.play-2.ensures.stands)
+    (ap (λ (v : State). v.bridge) c.in_ok-step.ensures.ok.rest) (c.in_ok-step.ensures.ok.table ∙ after_some c.args.seconds (state_of c.args.world.now).table c.if-seconds-eq0.false) c.in_ok-step.ensures.stands (play i)) c.play-2.ensures.stands)
 
 pub returns-clause-history : goal.returns-clause-history
 returns-clause-history c =
@@ -55,7 +55,7 @@ pub returns-clause-rest : goal.returns-clause-rest
 returns-clause-rest c =
     let one = one_member c.args.arrivals.now c.index-arrivals-0.result c.requires.arrivals.0 c.requires.arrivals.1 c.index-arrivals-0.is in
     rw one (on_ok_weaker c.play-2.result (λ play.
-    rest_later (state_of c.args.world.now) (state_of c.step.new.self) (state_of c.play-2.new.world) c.args.seconds (arrived c.index-arrivals-0.result) c.in_ok-step.ensures.ok play) c.play-2.ensures.rest)
+    rest_later (state_of c.args.world.now) (state_of c.step.new.self) (state_of c.play-2.new.world) c.args.seconds (arrived c.index-arrivals-0.result) c.if-seconds-eq0.false c.in_ok-step.ensures.ok play) c.play-2.ensures.rest)
 
 pub returns-then-seconds-eq0-clause-rest : goal.returns-then-seconds-eq0-clause-rest
 returns-then-seconds-eq0-clause-rest c =

@@ -10,7 +10,7 @@ use Rattle.exb_run.specs.Writing.{pieces_of}
 use Rattle.exb_text.specs.Tallies.{counts_of}
 use Rattle.exb_world.specs.Worlds.{Parts, State, state_of}
 use Rattle.exb_run.specs.Playing.{IsUnderWay, IsCounted, played, text_after}
-use Rattle.exb_run.proofs.Turning.{sends_small, same_clock}
+use Rattle.exb_run.proofs.Turning.{sends_small, same_clock, later_clock}
 use Rattle.exb_run.proofs.Turned.{when_ok, on_ok_both, same_texts, frames_fit, few, counts_counted, counts_played, text_is, under_way}
 use Rattle.exb_run.proofs.play.Game.turn.Goals as goal
 
@@ -52,7 +52,7 @@ returns-clause-counted g c =
     (omega arith) (counts_of c.args.self.now.tally) w.table.clock c.requires.counted in
     let clock = ap (λ (x : State). x.table.clock) (when_ok _ ok c.eager.ensures.rest) in
     on_ok_both c.note.result (λ cleared counts.
-    subst (λ (n : ℕ). IsCounted (counts_of c.note.new.self.tally) n) (sym (ap (λ (x : Parts). (state_of x).table.clock) cleared ∙ clock ∙ same_clock w.bridge (later c.args.seconds w.table) (arrived c.args.arrival)))
+    subst (λ (n : ℕ). IsCounted (counts_of c.note.new.self.tally) n) (sym (ap (λ (x : Parts). (state_of x).table.clock) cleared ∙ clock ∙ same_clock w.bridge (later c.args.seconds w.table) (arrived c.args.arrival) ∙ later_clock c.args.seconds w.table))
     (subst (λ (d : Counts). IsCounted d (w.table.clock + c.args.seconds)) (sym counts) is)) c.note.ensures.cleared c.note.ensures.counts
 
 pub returns-clause-played : goal.returns-clause-played
