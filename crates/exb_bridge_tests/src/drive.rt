@@ -11,7 +11,6 @@
 //! - `skip`: empties the log; `mark`: logs a bar
 ghost use Rattle.std.specs.Prelude.{◌≡◌, ℕ, true};
 ghost use Rattle.exb_model.specs.Setup.{AreExternal, NamesExternal};
-ghost use Rattle.exb_model.specs.Tree.{is_external, is_extender};
 
 use crate::site::{byte, number, port, small, topology_of};
 use exb_control::{Control, Ingress, Outbox, SendTo};
@@ -20,9 +19,8 @@ use exb_lldp::Announce;
 use exb_model::address::Mac;
 use exb_model::command::Command;
 use exb_model::event::{Cause, Event};
-use exb_model::port::PortId;
+use exb_model::port::{PORTS, PortId};
 use exb_model::port_set::PortSet;
-use exb_model::role::Role;
 use exb_model::tree::Tree;
 use exb_plan::groups::is_cascade;
 use exb_text::PortName;
@@ -30,41 +28,17 @@ use exb_topology::Topology;
 use std::alloc::{AllocError, Global};
 use std::process::Abort;
 
-/// How many ports there can be.
-const PORTS: u16 = 4160;
-
-fn is_external(tree: &Tree, port: PortId) -> bool
-    ensures { result ≡ true → is_external tree.now port ≡ true }
-{
-    match tree.role(port) {
-        Role::External => true,
-        _ => false,
-    }
-}
-
 // Whether each port of a set is an external port.
 fn are_external(tree: &Tree, set: &PortSet) -> bool
     ensures { result ≡ true → AreExternal tree.now set.now }
 {
     for number in 0..PORTS {
         let port = PortId::new(number).unwrap();
-        if set.contains(port) && !is_external(tree, port) {
+        if set.contains(port) && !tree.is_external(port) {
             return false;
         }
     }
     true
-}
-
-fn is_extender(tree: &Tree, number: u8) -> bool
-    ensures { result ≡ true → is_extender tree.now number ≡ true }
-{
-    if number == 0 || number > 64 {
-        return false;
-    }
-    match tree.role(PortId::new(64 * number as u16).unwrap()) {
-        Role::Unknown => false,
-        _ => true,
-    }
 }
 
 // Whether a command names external ports alone.
@@ -77,16 +51,16 @@ fn names_external(tree: &Tree, command: &Command) -> bool
             untagged,
             ..
         } => are_external(tree, tagged) && are_external(tree, untagged),
-        Command::Member { port, .. } => is_external(tree, *port),
-        Command::Unmember { port, .. } => is_external(tree, *port),
-        Command::Pvid { port, .. } => is_external(tree, *port),
-        Command::Accept { port, .. } => is_external(tree, *port),
-        Command::Filter { port, .. } => is_external(tree, *port),
-        Command::Isolate { port, .. } => is_external(tree, *port),
+        Command::Member { port, .. } => tree.is_external(*port),
+        Command::Unmember { port, .. } => tree.is_external(*port),
+        Command::Pvid { port, .. } => tree.is_external(*port),
+        Command::Accept { port, .. } => tree.is_external(*port),
+        Command::Filter { port, .. } => tree.is_external(*port),
+        Command::Isolate { port, .. } => tree.is_external(*port),
         Command::Static { ports, .. } => are_external(tree, ports),
         Command::Unstatic { .. } => true,
-        Command::Up { port } => is_external(tree, *port),
-        Command::Down { port } => is_external(tree, *port),
+        Command::Up { port } => tree.is_external(*port),
+        Command::Down { port } => tree.is_external(*port),
     }
 }
 
@@ -242,7 +216,7 @@ impl Drive {
 
     // Hears an extender of so many ports.
     fn hear(&mut self, rt: &impl Abort, extender: u8, ports: u8) {
-        assert!(rt; is_extender(self.control.tree(), extender));
+        assert!(rt; self.control.tree().is_extender(extender));
         let announce = Announce {
             chassis: Mac([0x02, 0x45, 0x42, 0x01, 0x00, extender]),
             ports,
@@ -270,7 +244,7 @@ impl Drive {
             return false;
         };
         self.due = None;
-        assert!(rt; is_extender(self.control.tree(), due.extender));
+        assert!(rt; self.control.tree().is_extender(due.extender));
         let message = Message {
             serial: due.serial,
             body: Body::Answer(due.response),
@@ -302,7 +276,7 @@ impl Drive {
 
     // A frame comes at a port; what is sent is logged.
     fn come(&mut self, rt: &impl Abort, port: PortId, frame: &[u8]) {
-        assert!(rt; is_external(self.control.tree(), port));
+        assert!(rt; self.control.tree().is_external(port));
         let come = self.control.frame(port, 1, 5, frame, &mut self.out);
         assert!(rt; come.is_ok());
         self.note(rt);

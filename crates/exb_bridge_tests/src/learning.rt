@@ -50,6 +50,31 @@ fn with_ageing_0_nothing_is_learned(rt: HostRuntime) -> Result<(), NoMemory> {
     let mut learned = Learned::new(rt.alloc(), 0);
     learned.reserve()?;
     learned.see(vid(&rt, 1), Mac([2, 0, 0, 0, 0, 1]), port(&rt, 64));
+    assert_eq!(rt; learned.held(), 0);
     assert!(rt; learned.look(vid(&rt, 1), ADDRESS).is_none());
+    Ok(())
+}
+
+#[test]
+fn dead_entries_are_not_held(rt: HostRuntime) -> Result<(), Fail> {
+    let mut learned = Learned::new(rt.alloc(), 10);
+    learned.reserve()?;
+    learned.see(vid(&rt, 1), Mac([2, 0, 0, 0, 0, 1]), port(&rt, 64));
+    learned.tick(4);
+    learned.reserve()?;
+    learned.see(vid(&rt, 1), Mac([2, 0, 0, 0, 0, 2]), port(&rt, 65));
+    learned.reserve()?;
+    learned.see(vid(&rt, 2), Mac([2, 0, 0, 0, 0, 1]), port(&rt, 64));
+    assert_eq!(rt; learned.held(), 3);
+    learned.tick(6);
+    assert_eq!(rt; learned.held(), 2);
+    learned.reserve()?;
+    learned.see(vid(&rt, 1), Mac([2, 0, 0, 0, 0, 2]), port(&rt, 66));
+    learned.tick(9);
+    assert_eq!(rt; learned.held(), 1);
+    let second = Mac([2, 0, 0, 0, 0, 2]);
+    assert_eq!(rt; learned.look(vid(&rt, 1), second), Some(port(&rt, 66)));
+    learned.forget(port(&rt, 66));
+    assert_eq!(rt; learned.held(), 0);
     Ok(())
 }

@@ -4,26 +4,12 @@ use crate::site::{names, topology_of};
 use exb_config::Config;
 use exb_model::port::PortId;
 use exb_model::port_set::PortSet;
-use exb_model::role::Role;
 use exb_model::tree::Tree;
 use exb_plan::{rows, sets};
 use exb_plans::{Row, SetAt};
 use exb_topology::Topology;
 use std::alloc::{AllocError, Global};
 use std::process::Abort;
-
-// The external ports of a tree.
-fn external(tree: &Tree) -> PortSet {
-    let mut ports = PortSet::empty();
-    for number in 0..4160u16 {
-        if let Some(port) = PortId::new(number) {
-            if let Role::External = tree.role(port) {
-                ports.insert(port);
-            }
-        }
-    }
-    ports
-}
 
 // How many ports a set has.
 fn count(set: &PortSet) -> u32 {
@@ -71,7 +57,7 @@ fn set_text(rt: &impl Abort, alloc: Global, tree: &Tree, at: &SetAt) -> String {
 fn sets_text(rt: &impl Abort, alloc: Global, topology: &Topology) -> String {
     assert!(rt; topology.setup.valid());
     let tree = Tree::new(alloc, &topology.setup).expect(rt, "memory");
-    let mut config = Config::new(alloc, &external(&tree)).expect(rt, "memory");
+    let mut config = Config::new(alloc, &tree.external_ports()).expect(rt, "memory");
     for command in topology.setup.start.as_slice() {
         config.apply(command).expect(rt, "memory");
     }
