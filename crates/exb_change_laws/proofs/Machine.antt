@@ -44,7 +44,7 @@ module _ (p : Planning) where
 
   -- ---- one change
   -- where the cleanup begins, or there is none
-  cleans_stands : (j : Job) (x : Change) (left : List AskAt) (s : State) (js : List Job) (all : ℕ → ExtenderTables) (old : Bridge) → s.work ≡ None →
+  pub cleans_stands : (j : Job) (x : Change) (left : List AskAt) (s : State) (js : List Job) (all : ℕ → ExtenderTables) (old : Bridge) → s.work ≡ None →
       p.During (opened_by p.there js) old (bridge_after j old) s.held → s.bridge ≡ bridge_after j old → RunsAt all left (p.laid (opened_by p.there js) (release x s.held)) →
       p.Exact (opened_by p.there js) (bridge_after j old) (release x s.held) → AllFit p js → (before : Held) (were : ℕ → Bool) → p.Exact were old before →
       Keeps before s.held → all ≡ p.laid (opened_by p.there js) s.held → AllClear left → StandsBy p (cleans j x left s).state.work (cleans j x left s).state js all None
@@ -93,7 +93,7 @@ module _ (p : Planning) where
       }
 
   module _ (decide : Decide) (plans : Plans p decide) where
-    starts_stands : (j : Job) (d : Outcome) (s : State) (js : List Job) (all : ℕ → ExtenderTables) → s.work ≡ None → decide s.bridge s.held j ≡ d → Rests p s (j ∷ js) all →
+    pub starts_stands : (j : Job) (d : Outcome) (s : State) (js : List Job) (all : ℕ → ExtenderTables) → s.work ≡ None → decide s.bridge s.held j ≡ d → Rests p s (j ∷ js) all →
         StandsBy p (starts j d s).state.work (starts j d s).state js all None
     starts_stands j (Refused cause) s js all n e r =
         let same : opened_by p.there (j ∷ js) ≡ opened_by p.there js = sym (plans.refused (opened_by p.there (j ∷ js)) s.bridge s.held j cause e) ∙ (r.fits.0).once in
