@@ -10,9 +10,11 @@
 
 ghost use Rattle.std.specs.Prelude.{◌≡◌, ◌≤◌, ◌<◌, true, length, IsSome};
 ghost use Rattle.exb_model.specs.Tree.{is_external};
-ghost use Rattle.exb_changes.specs.Fabrics.{Fits, IsPrepared, IsInForce};
+ghost use Rattle.exb_changing.specs.Fitting.{Fits};
+ghost use Rattle.exb_changes.specs.Fabrics.{IsPrepared, IsInForce};
 
-use exb_changes::{Fabric, Job, Stage};
+use exb_changes::{Fabric, Stage};
+use exb_changing::Job;
 use exb_extender::{Extender, Sends, Side};
 use exb_model::command::Command;
 use exb_model::list::List;
@@ -23,7 +25,7 @@ use exb_model::role::Role;
 use exb_model::setup::{ExtenderSetup, Place, Setup};
 use exb_model::tree::Tree;
 use exb_model::vlan::{Kind, Vid};
-use exb_rows::rows;
+use exb_plan::rows;
 use std::alloc::Global;
 use std::env;
 use std::process::ExitCode;

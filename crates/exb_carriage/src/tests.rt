@@ -7,7 +7,7 @@ use exb_model::port::PortId;
 use exb_model::port_set::PortSet;
 use exb_model::setup::{ExtenderSetup, Place, Setup};
 use exb_model::tree::Tree;
-use exb_rows::rows;
+use exb_plan::rows;
 use std::alloc::Global;
 use std::process::Abort;
 use std::test::*;

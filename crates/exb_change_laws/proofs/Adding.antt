@@ -7,14 +7,14 @@ use Rattle.exb_model.specs.Configuration.{Bridge}
 use Rattle.exb_csp.specs.declared.group_rows.GroupRow.{GroupRow}
 use Rattle.exb_csp.specs.declared.message.Request.{Request}
 use Rattle.exb_csp.specs.declared.message.Request.TheVariants.{PortCreate, PortDelete}
-use Rattle.exb_plan.specs.declared.asks.AskAt.{AskAt}
-use Rattle.exb_plan.specs.declared.asks.Step.TheVariants.{Lay, Clear}
-use Rattle.exb_plan.specs.Asks.{ask, register, unregister, numbers_of, message, rows_at, asks_with, in_messages, group_asks, channel_rows, channel_ask, channel_asks, port_number, create_asks, delete_asks}
-use Rattle.exb_plan.specs.Held.{Held, Group}
-use Rattle.exb_plan.specs.Between.{goes_up, goes_down, gone_groups}
-use Rattle.exb_rows.specs.Sets.{sets_of}
-use Rattle.exb_plan.specs.Plans.{new_channel, own_channel, up_asks, down_asks, fresh_groups, prepare_of, cleanup_of}
-use Rattle.exb_changes.specs.Deciding.{cascades_of, channel_of, opening_asks}
+use Rattle.exb_csp.specs.declared.ask_at.AskAt.{AskAt}
+use Rattle.exb_plans.specs.declared.step.Step.TheVariants.{Lay, Clear}
+use Rattle.exb_plans.specs.Asks.{ask, register, unregister, numbers_of, message, rows_at, asks_with, in_messages, group_asks, channel_rows, channel_ask, channel_asks, port_number, create_asks, delete_asks}
+use Rattle.exb_plans.specs.Held.{Held, Group}
+use Rattle.exb_plans.specs.Between.{goes_up, goes_down, gone_groups}
+use Rattle.exb_plans.specs.Sets.{sets_of}
+use Rattle.exb_plans.specs.Plans.{new_channel, own_channel, up_asks, down_asks, fresh_groups, prepare_of, cleanup_of}
+use Rattle.exb_changing.specs.Deciding.{cascades_of, channel_of, opening_asks}
 use Rattle.exb_change_laws.specs.Growing.{IsAdding, IsClearing, AllAsk, AllAdd, AllClear}
 
 -- ---- lists of requests

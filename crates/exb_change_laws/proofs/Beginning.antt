@@ -6,18 +6,18 @@ use Rattle.std.proofs.lemmas.Bool.{cases_Bool, and_parts, ltb-true, false≢true
 use mathlib.Core.Path.{fun_ext}
 use Rattle.exb_model.specs.Tree.{Shape, IsTree, device, is_extender, is_port, by_depth}
 use Rattle.exb_model.specs.Setup.{Limits}
-use Rattle.exb_plan.specs.Held.{Held}
+use Rattle.exb_plans.specs.Held.{Held}
 use Rattle.exb_model.proofs.TreeOrder.{in_order}
-use Rattle.exb_plan.specs.Asks.{is_listed}
-use Rattle.exb_plan.specs.Laws.{IsBeginning}
-use Rattle.exb_plan.proofs.Beginning.{begins as needed_first}
-use Rattle.exb_laying.specs.Laid.{laid}
-use Rattle.exb_laying.proofs.Beginning.{nothing_is_laid}
-use Rattle.exb_changes.specs.Beginning.{nothing_held, with_channel_of, is_deep, deep_cascades, first_held, first_jobs, jobs_of, HasChannels, HoldsFirst}
-use Rattle.exb_changes.specs.Planned.{IsHeldAtCascades}
-use Rattle.exb_changes.specs.Fabrics.{is_place, in_spaces}
-use Rattle.exb_changes.proofs.Commands.{start_external, start_absent}
-use Rattle.exb_changes.proofs.FirstClaims.{AreFirst, first_below, none_first, none_below, not_first, none_more, one_more, still_first, first_end, held_end}
+use Rattle.exb_plans.specs.Asks.{is_listed}
+use Rattle.exb_plans.specs.Laws.{IsBeginning}
+use Rattle.exb_plans.proofs.Beginning.{begins as needed_first}
+use Rattle.exb_change_laws.specs.Laid.{laid}
+use Rattle.exb_change_laws.proofs.NothingLaid.{nothing_is_laid}
+use Rattle.exb_changing.specs.Beginning.{nothing_held, with_channel_of, is_deep, deep_cascades, first_held, first_jobs, jobs_of, HasChannels, HoldsFirst}
+use Rattle.exb_changing.specs.Planned.{IsHeldAtCascades}
+use Rattle.exb_plans.specs.Held.{is_place, in_spaces}
+use Rattle.exb_changing.proofs.Commands.{start_external, start_absent}
+use Rattle.exb_changing.proofs.FirstClaims.{AreFirst, first_below, none_first, none_below, not_first, none_more, one_more, still_first, first_end, held_end}
 use Rattle.exb_change_laws.specs.Starting.{first_system}
 use Rattle.exb_change_laws.specs.Standing.{is_opening, opened_by}
 use Rattle.exb_change_laws.specs.Begins.{Begins, RunsFromTheBeginning, SetupsBegin}

@@ -3,14 +3,14 @@ use Rattle.std.proofs.Common.{◌≡◌, ℕ, ◌+◌, ◌-◌, ◌<◌, ◌==�
 use Rattle.exb_model.specs.Tree.{Shape, IsTree, is_under}
 use Rattle.exb_model.specs.ExtenderForwarding.{Tables}
 use Rattle.exb_model.specs.Configuration.{Bridge}
-use Rattle.exb_rows.specs.Laying.{IsLaid}
-use Rattle.exb_rows.proofs.Carrying.{group_words, channel_words}
-use Rattle.exb_extender.specs.AllTables.{tables_at}
-use Rattle.exb_plan.specs.Asks.{is_listed}
-use Rattle.exb_plan.specs.Held.{Held}
-use Rattle.exb_plan.proofs.Owning.{IsGroupOf, group_found}
-use Rattle.exb_plan.proofs.Giving.{IsChannelOf, channel_found}
-use Rattle.exb_laying.proofs.Members.{set_lies}
+use Rattle.exb_plans.specs.Laying.{IsLaid}
+use Rattle.exb_plans.proofs.Carrying.{group_words, channel_words}
+use Rattle.exb_csp.specs.AllTables.{tables_at}
+use Rattle.exb_plans.specs.Asks.{is_listed}
+use Rattle.exb_plans.specs.Held.{Held}
+use Rattle.exb_plans.proofs.Owning.{IsGroupOf, group_found}
+use Rattle.exb_plans.proofs.Giving.{IsChannelOf, channel_found}
+use Rattle.exb_change_laws.proofs.Members.{set_lies}
 use Rattle.exb_change_laws.specs.Midway.{IsLaidFor, CarriesFor, CarriesMidway}
 use Rattle.exb_change_laws.proofs.LaidMidway.{laid_midway}
 

@@ -10,14 +10,14 @@ use Rattle.exb_csp.specs.declared.message.Message.{Message}
 use Rattle.exb_session.specs.declared.asker.Taken.{Taken}
 use Rattle.exb_session.specs.declared.asker.Taken.TheVariants as taken
 use Rattle.exb_session.specs.Asking.{AskerState, took, took_body, beaten}
-use Rattle.exb_plan.specs.declared.asks.AskAt.{AskAt}
-use Rattle.exb_plan.specs.declared.change.Change.{Change}
-use Rattle.exb_changes.specs.declared.job.Job.{Job}
-use Rattle.exb_changes.specs.declared.job.Phase.{Phase}
-use Rattle.exb_changes.specs.declared.job.Phase.TheVariants.{Preparing, Cleaning}
-use Rattle.exb_changes.specs.Deciding.{Outcome, Refused, Ready, Decide, bridge_after, release}
-use Rattle.exb_changes.specs.Machine.{Work, State, Moved, cleans, prepares, starts, waits, after_start, goes_on, wakes_by, ends, answered_by, answered_in, answered_where, answered, with_asker, beats_in}
-use Rattle.exb_changes.specs.Counting.{requests_of, bridge_left, held_left, requests_in, requests_by, unheard, planned}
+use Rattle.exb_csp.specs.declared.ask_at.AskAt.{AskAt}
+use Rattle.exb_plans.specs.declared.change.Change.{Change}
+use Rattle.exb_changing.specs.declared.job.Job.{Job}
+use Rattle.exb_changing.specs.declared.job.Phase.{Phase}
+use Rattle.exb_changing.specs.declared.job.Phase.TheVariants.{Preparing, Cleaning}
+use Rattle.exb_changing.specs.Deciding.{Outcome, Refused, Ready, Decide, bridge_after, release}
+use Rattle.exb_changing.specs.Machine.{Work, State, Moved, cleans, prepares, starts, waits, after_start, goes_on, wakes_by, ends, answered_by, answered_in, answered_where, answered, with_asker, beats_in}
+use Rattle.exb_changing.specs.Counting.{requests_of, bridge_left, held_left, requests_in, requests_by, unheard, planned}
 use Rattle.exb_change_laws.specs.Standing.{waited_for}
 use Rattle.exb_change_laws.specs.Counts.{AnswersCount, HearingCounts, OthersLeaveCounts}
 use Rattle.exb_change_laws.proofs.Taking.{stray_is_still}

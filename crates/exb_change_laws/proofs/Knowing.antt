@@ -8,19 +8,19 @@ use Rattle.exb_session.specs.declared.asker.Taken.TheVariants as taken
 use Rattle.exb_session.specs.Asking.{AskerState, beaten, message_again, took}
 use Rattle.exb_model.specs.Tree.{Shape}
 use Rattle.exb_model.specs.Setup.{Limits}
-use Rattle.exb_plan.specs.declared.asks.AskAt.{AskAt}
-use Rattle.exb_plan.specs.declared.change.Change.{Change}
-use Rattle.exb_changes.specs.declared.asked.Asked.{Asked}
-use Rattle.exb_changes.specs.declared.job.Job.{Job}
-use Rattle.exb_changes.specs.declared.job.Job.TheVariants as job
-use Rattle.exb_changes.specs.declared.job.Phase.{Phase}
-use Rattle.exb_changes.specs.declared.job.Phase.TheVariants.{Preparing, Cleaning}
-use Rattle.exb_changes.specs.Deciding.{Outcome, Refused, Ready, decide, bridge_after}
-use Rattle.exb_changes.specs.Fabrics.{AreFit}
-use Rattle.exb_changes.specs.Machine.{Work, State, Moved, still, works, ends, cleans, commits, prepares, starts, waits, after_start, goes_on, wakes_by, answered_by, answered_in, answered_where, with_asker, messages_due, beats_in}
-use Rattle.exb_changes.specs.Planned.{AreKnown, IsKnown}
-use Rattle.exb_changes.proofs.Known.{plans_are_known}
-use Rattle.exb_changes.proofs.FirstJobs.{fit_more, fit_first}
+use Rattle.exb_csp.specs.declared.ask_at.AskAt.{AskAt}
+use Rattle.exb_plans.specs.declared.change.Change.{Change}
+use Rattle.exb_changing.specs.declared.asked.Asked.{Asked}
+use Rattle.exb_changing.specs.declared.job.Job.{Job}
+use Rattle.exb_changing.specs.declared.job.Job.TheVariants as job
+use Rattle.exb_changing.specs.declared.job.Phase.{Phase}
+use Rattle.exb_changing.specs.declared.job.Phase.TheVariants.{Preparing, Cleaning}
+use Rattle.exb_changing.specs.Deciding.{Outcome, Refused, Ready, decide, bridge_after}
+use Rattle.exb_changing.specs.Fitting.{AreFit}
+use Rattle.exb_changing.specs.Machine.{Work, State, Moved, still, works, ends, cleans, commits, prepares, starts, waits, after_start, goes_on, wakes_by, answered_by, answered_in, answered_where, with_asker, messages_due, beats_in}
+use Rattle.exb_changing.specs.Planned.{AreKnown, IsKnown}
+use Rattle.exb_changing.proofs.Known.{plans_are_known}
+use Rattle.exb_changing.proofs.FirstJobs.{fit_more, fit_first}
 use Rattle.exb_change_laws.specs.Systems.{Order, Hear, Execute, Answer, Stray, Beat, answer_message, takes_answer}
 use Rattle.exb_change_laws.specs.Knowing.{IsWorkKnown, KnowsWork, Knows, AreAddressed, BeginsKnowing, StepsKnow}
 

@@ -7,23 +7,23 @@ use Rattle.exb_model.specs.Tree.{Shape, IsTree, device, trunk, is_extender, is_c
 use Rattle.exb_model.specs.TreeSets.{covers}
 use Rattle.exb_model.specs.Configuration.{Bridge}
 use Rattle.exb_model.specs.Refusals.{is_empty_set, sets_at}
-use Rattle.exb_rows.specs.Laying.{is_port_under, SendsOn, IsLaid}
+use Rattle.exb_plans.specs.Laying.{is_port_under, SendsOn, IsLaid}
 use Rattle.exb_csp.specs.Execute.{ExtenderTables}
-use Rattle.exb_extender.specs.AllTables.{tables_at}
-use Rattle.exb_plan.specs.Asks.{is_listed}
-use Rattle.exb_plan.specs.Held.{Held, or_zero, needs_channel, channel_in, group_in, group_used}
-use Rattle.exb_plan.proofs.Owning.{IsGroupOf, group_found}
-use Rattle.exb_plan.proofs.Giving.{IsChannelOf, channel_found}
-use Rattle.exb_plan.proofs.Trunks.{under_extended, under_trunk, home_low, home_cascade, extended_external}
-use Rattle.exb_laying.specs.Laid.{is_shown, laid}
-use Rattle.exb_laying.specs.Laws.{IsLaidOut}
-use Rattle.exb_laying.proofs.LaidOut.{rest_is_laid_out}
-use Rattle.exb_plan.specs.declared.asks.AskAt.{AskAt}
+use Rattle.exb_csp.specs.AllTables.{tables_at}
+use Rattle.exb_plans.specs.Asks.{is_listed}
+use Rattle.exb_plans.specs.Held.{Held, or_zero, needs_channel, channel_in, group_in, group_used}
+use Rattle.exb_plans.proofs.Owning.{IsGroupOf, group_found}
+use Rattle.exb_plans.proofs.Giving.{IsChannelOf, channel_found}
+use Rattle.exb_plans.proofs.Trunks.{under_extended, under_trunk, home_low, home_cascade, extended_external}
+use Rattle.exb_change_laws.specs.Laid.{is_shown, laid}
+use Rattle.exb_change_laws.specs.Requests.{IsLaidOut}
+use Rattle.exb_change_laws.proofs.LaidOut.{rest_is_laid_out}
+use Rattle.exb_csp.specs.declared.ask_at.AskAt.{AskAt}
 use Rattle.exb_csp.specs.declared.message.Response.{Response}
-use Rattle.exb_changes.specs.declared.job.Phase.{Phase}
-use Rattle.exb_changes.specs.declared.job.Phase.TheVariants.{Preparing, Cleaning}
-use Rattle.exb_changes.specs.Machine.{Work}
-use Rattle.exb_changes.specs.Deciding.{channel_of, bridge_after, release}
+use Rattle.exb_changing.specs.declared.job.Phase.{Phase}
+use Rattle.exb_changing.specs.declared.job.Phase.TheVariants.{Preparing, Cleaning}
+use Rattle.exb_changing.specs.Machine.{Work}
+use Rattle.exb_changing.specs.Deciding.{channel_of, bridge_after, release}
 use Rattle.exb_change_laws.specs.Growing.{AreWithin, AllAdd, AllClear, Keeps}
 use Rattle.exb_change_laws.specs.Standing.{opened_by, RunsLeft, InPhase, IsBefore, IsSince, AreKinds, StandsBy}
 use Rattle.exb_change_laws.proofs.Growing.{runs_add, runs_clear}

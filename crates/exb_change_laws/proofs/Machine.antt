@@ -7,17 +7,17 @@ use Rattle.exb_model.specs.declared.command.Command.{Command}
 use Rattle.exb_model.specs.Configuration.{Bridge}
 use Rattle.exb_csp.specs.declared.message.Response.{Response}
 use Rattle.exb_csp.specs.Execute.{ExtenderTables, code_of, response_to}
-use Rattle.exb_extender.specs.AllTables.{executes_at}
-use Rattle.exb_plan.specs.declared.asks.AskAt.{AskAt}
-use Rattle.exb_plan.specs.declared.change.Change.{Change}
-use Rattle.exb_plan.specs.Held.{Held}
-use Rattle.exb_laying.specs.Runs.{RunsAt}
-use Rattle.exb_changes.specs.declared.job.Job.{Job}
-use Rattle.exb_changes.specs.declared.job.Job.TheVariants as job
-use Rattle.exb_changes.specs.declared.job.Phase.{Phase}
-use Rattle.exb_changes.specs.declared.job.Phase.TheVariants.{Preparing, Cleaning}
-use Rattle.exb_changes.specs.Deciding.{Outcome, Refused, Ready, Decide, bridge_after, release}
-use Rattle.exb_changes.specs.Machine.{Work, State, Moved, ends, cleans, prepares, starts, waits, after_start, goes_on, wakes_by, answered_by, answered_in}
+use Rattle.exb_csp.specs.AllTables.{executes_at}
+use Rattle.exb_csp.specs.declared.ask_at.AskAt.{AskAt}
+use Rattle.exb_plans.specs.declared.change.Change.{Change}
+use Rattle.exb_plans.specs.Held.{Held}
+use Rattle.exb_csp.specs.AllTables.{RunsAt}
+use Rattle.exb_changing.specs.declared.job.Job.{Job}
+use Rattle.exb_changing.specs.declared.job.Job.TheVariants as job
+use Rattle.exb_changing.specs.declared.job.Phase.{Phase}
+use Rattle.exb_changing.specs.declared.job.Phase.TheVariants.{Preparing, Cleaning}
+use Rattle.exb_changing.specs.Deciding.{Outcome, Refused, Ready, Decide, bridge_after, release}
+use Rattle.exb_changing.specs.Machine.{Work, State, Moved, ends, cleans, prepares, starts, waits, after_start, goes_on, wakes_by, answered_by, answered_in}
 use Rattle.exb_change_laws.specs.Systems.{executes, answer_of, code_by}
 use Rattle.exb_change_laws.specs.Growing.{AreWithin, AllAdd, AllClear, Keeps}
 use Rattle.exb_change_laws.proofs.Growing.{are_within, within_on, request_adds, request_clears}

@@ -4,11 +4,11 @@ use Rattle.exb_model.specs.Configuration.{Bridge}
 use Rattle.exb_csp.specs.declared.message.Response.{Response}
 use Rattle.exb_session.specs.declared.asker.Taken.{Taken}
 use Rattle.exb_session.specs.Asking.{AskerState}
-use Rattle.exb_plan.proofs.Owning.{IsGroupOf, group_found}
-use Rattle.exb_plan.proofs.Giving.{IsChannelOf, channel_found}
-use Rattle.exb_changes.specs.declared.job.Phase.{Phase}
-use Rattle.exb_changes.specs.declared.job.Phase.TheVariants.{Preparing, Cleaning}
-use Rattle.exb_changes.specs.Machine.{Work}
+use Rattle.exb_plans.proofs.Owning.{IsGroupOf, group_found}
+use Rattle.exb_plans.proofs.Giving.{IsChannelOf, channel_found}
+use Rattle.exb_changing.specs.declared.job.Phase.{Phase}
+use Rattle.exb_changing.specs.declared.job.Phase.TheVariants.{Preparing, Cleaning}
+use Rattle.exb_changing.specs.Machine.{Work}
 use Rattle.exb_change_laws.specs.Standing.{waited_for, IsBefore, StandsBy, Works}
 use Rattle.exb_change_laws.specs.Planned.{HasNumbers, planning, ReadyMidway, AnswersAreTaken, HeldAreNumbers}
 use Rattle.exb_change_laws.proofs.Taking.{takes}

@@ -7,31 +7,31 @@ use Rattle.exb_model.specs.declared.event.Cause.{Cause}
 use Rattle.exb_model.specs.Tree.{Shape, device, on, is_cascade, is_extender, is_extended, is_external}
 use Rattle.exb_model.specs.Setup.{Limits, NamesExternal}
 use Rattle.exb_model.specs.Configuration.{Bridge, after}
-use Rattle.exb_rows.specs.Sets.{PortsAt}
+use Rattle.exb_plans.specs.Sets.{PortsAt}
 use Rattle.exb_model.specs.Refusals.{is_empty_set}
-use Rattle.exb_plan.specs.declared.change.Change.{Change}
-use Rattle.exb_plan.specs.Held.{Held, HoldsNeeded, group_in, group_used}
-use Rattle.exb_plan.specs.Between.{goes_up, refusal_between, fresh_sets}
-use Rattle.exb_plan.specs.Plans.{claimed, freed, fresh_groups, with_up, new_channel, change_of, cleanup_of}
-use Rattle.exb_plan.specs.Laws.{IsStep}
-use Rattle.exb_plan.proofs.Each.{each_map}
-use Rattle.exb_plan.proofs.SetFacts.{IsBelow}
-use Rattle.exb_plan.proofs.Trunks.{extended_external}
-use Rattle.exb_plan.proofs.Channels.{Rises, rises_is, goes_up_rises}
-use Rattle.exb_laying.specs.Laid.{laid}
-use Rattle.exb_laying.specs.Runs.{RunsAt}
-use Rattle.exb_laying.specs.Laws.{AreOpened, IsLaidOut, IsReady, CanOpen, with_opened}
-use Rattle.exb_laying.proofs.Running.{plans_run, stands_claimed}
-use Rattle.exb_laying.proofs.LaidOut.{rest_is_laid_out}
-use Rattle.exb_laying.proofs.Midway.{claimed_is_laid_out}
-use Rattle.exb_laying.proofs.Openings.{openings_run}
-use Rattle.exb_changes.specs.declared.job.Job.{Job}
-use Rattle.exb_changes.specs.declared.job.Job.TheVariants as job
-use Rattle.exb_changes.specs.Deciding.{Refused, Ready, decide, release, is_number, outcome_by, outcome_between, opening_change}
-use Rattle.exb_changes.specs.Planned.{IsPlanned, IsHeldAtCascades}
-use Rattle.exb_changes.proofs.FreshGroups.{given_elsewhere, with_set, fresh_below}
-use Rattle.exb_changes.proofs.Released.{released_is_freed, released_is_needed}
-use Rattle.exb_changes.proofs.Commands.{step_of}
+use Rattle.exb_plans.specs.declared.change.Change.{Change}
+use Rattle.exb_plans.specs.Held.{Held, HoldsNeeded, group_in, group_used}
+use Rattle.exb_plans.specs.Between.{goes_up, refusal_between, fresh_sets}
+use Rattle.exb_plans.specs.Plans.{claimed, freed, fresh_groups, with_up, new_channel, change_of, cleanup_of}
+use Rattle.exb_plans.specs.Laws.{IsStep}
+use Rattle.exb_plans.proofs.Each.{each_map}
+use Rattle.exb_plans.proofs.SetFacts.{IsBelow}
+use Rattle.exb_plans.proofs.Trunks.{extended_external}
+use Rattle.exb_plans.proofs.Channels.{Rises, rises_is, goes_up_rises}
+use Rattle.exb_change_laws.specs.Laid.{laid}
+use Rattle.exb_csp.specs.AllTables.{RunsAt}
+use Rattle.exb_change_laws.specs.Requests.{AreOpened, IsLaidOut, IsReady, CanOpen, with_opened}
+use Rattle.exb_change_laws.proofs.Running.{plans_run, stands_claimed}
+use Rattle.exb_change_laws.proofs.LaidOut.{rest_is_laid_out}
+use Rattle.exb_change_laws.proofs.Midway.{claimed_is_laid_out}
+use Rattle.exb_change_laws.proofs.Openings.{openings_run}
+use Rattle.exb_changing.specs.declared.job.Job.{Job}
+use Rattle.exb_changing.specs.declared.job.Job.TheVariants as job
+use Rattle.exb_changing.specs.Deciding.{Refused, Ready, decide, release, is_number, outcome_by, outcome_between, opening_change}
+use Rattle.exb_changing.specs.Planned.{IsPlanned, IsHeldAtCascades}
+use Rattle.exb_changing.proofs.FreshGroups.{given_elsewhere, with_set, fresh_below}
+use Rattle.exb_changing.proofs.Released.{released_is_freed, released_is_needed}
+use Rattle.exb_changing.proofs.Commands.{step_of}
 use Rattle.exb_change_laws.specs.Growing.{AllAdd, AllClear, Keeps}
 use Rattle.exb_change_laws.proofs.Adding.{prepares_add, cleanups_clear, openings_add}
 use Rattle.exb_change_laws.specs.Standing.{opens, IsPlanned as IsSound, Plans}

@@ -6,13 +6,13 @@ use Rattle.std.proofs.lemmas.Bool.{cases_Bool, cases_eq, ne_eqb, eqb-true, or_ca
 use mathlib.Core.Path.{fun_ext}
 use Rattle.exb_model.specs.Tree.{Shape, IsTree, HangsOn, device, on, depth, is_extender, is_external, is_extended, is_port, by_depth, externals_of}
 use Rattle.exb_model.proofs.TreeOrder.{by_depth-sorted, by_depth-hangs, less_deep, place_of}
-use Rattle.exb_plan.specs.Asks.{is_listed}
-use Rattle.exb_plan.proofs.Trunks.{extended_extender, port_extender}
-use Rattle.exb_laying.proofs.Tables.{AreDistinct}
-use Rattle.exb_laying.proofs.Order.{distinct_by_depth}
-use Rattle.exb_changes.specs.declared.job.Job.{Job}
-use Rattle.exb_changes.specs.declared.job.Job.TheVariants as job
-use Rattle.exb_changes.specs.Beginning.{jobs_of, first_jobs}
+use Rattle.exb_plans.specs.Asks.{is_listed}
+use Rattle.exb_plans.proofs.Trunks.{extended_extender, port_extender}
+use Rattle.exb_change_laws.proofs.Tables.{AreDistinct}
+use Rattle.exb_change_laws.proofs.Order.{distinct_by_depth}
+use Rattle.exb_changing.specs.declared.job.Job.{Job}
+use Rattle.exb_changing.specs.declared.job.Job.TheVariants as job
+use Rattle.exb_changing.specs.Beginning.{jobs_of, first_jobs}
 use Rattle.exb_change_laws.specs.Standing.{is_opening, opened_by, AllFit}
 use Rattle.exb_change_laws.specs.Planned.{planning}
 

@@ -12,15 +12,15 @@ use Rattle.exb_session.specs.declared.asker.Taken.{Taken}
 use Rattle.exb_session.specs.declared.asker.Taken.TheVariants as taken
 use Rattle.exb_session.specs.Kinds.{same_kind}
 use Rattle.exb_session.specs.Asking.{AskerState, asked, beaten, took, took_body}
-use Rattle.exb_plan.specs.declared.asks.AskAt.{AskAt}
-use Rattle.exb_plan.specs.declared.change.Change.{Change}
-use Rattle.exb_changes.specs.declared.asked.Asked.{Asked}
-use Rattle.exb_changes.specs.declared.job.Job.{Job}
-use Rattle.exb_changes.specs.declared.job.Job.TheVariants as job
-use Rattle.exb_changes.specs.declared.job.Phase.{Phase}
-use Rattle.exb_changes.specs.declared.job.Phase.TheVariants.{Preparing, Cleaning}
-use Rattle.exb_changes.specs.Deciding.{Outcome, Refused, Ready, Decide, bridge_after}
-use Rattle.exb_changes.specs.Machine.{Work, State, Moved, still, followed_by, works, cleans, commits, prepares, starts, waits, after_start, goes_on, wakes_by, ends, answered_by, answered_in, answered_where, answered, with_asker, beats_in}
+use Rattle.exb_csp.specs.declared.ask_at.AskAt.{AskAt}
+use Rattle.exb_plans.specs.declared.change.Change.{Change}
+use Rattle.exb_changing.specs.declared.asked.Asked.{Asked}
+use Rattle.exb_changing.specs.declared.job.Job.{Job}
+use Rattle.exb_changing.specs.declared.job.Job.TheVariants as job
+use Rattle.exb_changing.specs.declared.job.Phase.{Phase}
+use Rattle.exb_changing.specs.declared.job.Phase.TheVariants.{Preparing, Cleaning}
+use Rattle.exb_changing.specs.Deciding.{Outcome, Refused, Ready, Decide, bridge_after}
+use Rattle.exb_changing.specs.Machine.{Work, State, Moved, still, followed_by, works, cleans, commits, prepares, starts, waits, after_start, goes_on, wakes_by, ends, answered_by, answered_in, answered_where, answered, with_asker, beats_in}
 use Rattle.exb_change_laws.specs.Systems.{System, Step, Order, Hear, Execute, Answer, Stray, Beat, takes_answer, answer_message, stepped, run}
 use Rattle.exb_change_laws.specs.Standing.{waited_for, OneWaits}
 use Rattle.exb_change_laws.specs.Starting.{first_system}

@@ -6,9 +6,9 @@ use Rattle.exb_csp.specs.Execute.{ExtenderTables}
 use Rattle.exb_session.specs.declared.asker.Taken.{Taken}
 use Rattle.exb_session.specs.declared.asker.Taken.TheVariants as taken
 use Rattle.exb_session.specs.Asking.{AskerState, took, beaten}
-use Rattle.exb_changes.specs.declared.job.Job.TheVariants as job
-use Rattle.exb_changes.specs.Deciding.{Decide, bridge_after, release}
-use Rattle.exb_changes.specs.Machine.{Work, State, Moved, answered, answered_in, answered_where, beats_in, with_asker}
+use Rattle.exb_changing.specs.declared.job.Job.TheVariants as job
+use Rattle.exb_changing.specs.Deciding.{Decide, bridge_after, release}
+use Rattle.exb_changing.specs.Machine.{Work, State, Moved, answered, answered_in, answered_where, beats_in, with_asker}
 use Rattle.exb_change_laws.specs.Systems.{System, Step, Order, Hear, Execute, Answer, Stray, Beat, answer_message, takes_answer, stepped, code_in, run}
 use Rattle.exb_change_laws.specs.Standing.{opened_by, Planning, Plans, IsSince, InPhase, StandsBy, waited_for, OneWaits, Stands, MayStep, StepsStand, RunsStand, MayRun, CodesAreZero}
 use Rattle.exb_change_laws.proofs.Machine.{opened_more, fits_more, wakes_stands, execute_stands, answered_stands}

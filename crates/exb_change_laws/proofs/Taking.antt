@@ -12,8 +12,8 @@ use Rattle.exb_session.specs.declared.asker.Taken.{Taken}
 use Rattle.exb_session.specs.declared.asker.Taken.TheVariants as taken
 use Rattle.exb_session.specs.Kinds.{same_kind}
 use Rattle.exb_session.specs.Asking.{AskerState, took, took_body, beaten, beaten_while}
-use Rattle.exb_changes.specs.Deciding.{Decide}
-use Rattle.exb_changes.specs.Machine.{State, still, with_asker, answered, answered_where}
+use Rattle.exb_changing.specs.Deciding.{Decide}
+use Rattle.exb_changing.specs.Machine.{State, still, with_asker, answered, answered_where}
 use Rattle.exb_change_laws.specs.Systems.{answer_message, IsStray}
 
 -- ---- the answer that is waited for

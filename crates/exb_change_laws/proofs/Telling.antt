@@ -13,18 +13,18 @@ use Rattle.exb_csp.specs.declared.message.Response.{Response}
 use Rattle.exb_session.specs.declared.asker.Taken.{Taken}
 use Rattle.exb_session.specs.declared.asker.Taken.TheVariants as taken
 use Rattle.exb_session.specs.Asking.{AskerState, took}
-use Rattle.exb_plan.specs.declared.asks.AskAt.{AskAt}
-use Rattle.exb_plan.specs.declared.change.Change.{Change}
-use Rattle.exb_plan.specs.Held.{Held}
-use Rattle.exb_plan.specs.Laws.{RefusedAsCommanded}
-use Rattle.exb_changes.specs.declared.job.Job.{Job}
-use Rattle.exb_changes.specs.declared.job.Job.TheVariants as job
-use Rattle.exb_changes.specs.declared.job.Phase.{Phase}
-use Rattle.exb_changes.specs.declared.job.Phase.TheVariants.{Preparing, Cleaning}
-use Rattle.exb_changes.specs.Deciding.{Outcome, Refused, Ready, decide, bridge_after, outcome_by}
-use Rattle.exb_changes.specs.Machine.{Work, State, Moved, still, cleans, commits, prepares, starts, waits, after_start, goes_on, wakes_by, wakes, ends, answered_by, answered_in, answered_where, answered, with_asker, committed, refused, downs_of, beats_in}
+use Rattle.exb_csp.specs.declared.ask_at.AskAt.{AskAt}
+use Rattle.exb_plans.specs.declared.change.Change.{Change}
+use Rattle.exb_plans.specs.Held.{Held}
+use Rattle.exb_plans.specs.Laws.{RefusedAsCommanded}
+use Rattle.exb_changing.specs.declared.job.Job.{Job}
+use Rattle.exb_changing.specs.declared.job.Job.TheVariants as job
+use Rattle.exb_changing.specs.declared.job.Phase.{Phase}
+use Rattle.exb_changing.specs.declared.job.Phase.TheVariants.{Preparing, Cleaning}
+use Rattle.exb_changing.specs.Deciding.{Outcome, Refused, Ready, decide, bridge_after, outcome_by}
+use Rattle.exb_changing.specs.Machine.{Work, State, Moved, still, cleans, commits, prepares, starts, waits, after_start, goes_on, wakes_by, wakes, ends, answered_by, answered_in, answered_where, answered, with_asker, committed, refused, downs_of, beats_in}
 use Rattle.exb_change_laws.specs.Systems.{System, Step, Order, Hear, Execute, Answer, Stray, Beat, moved, stepped, takes_answer, answer_message, run}
-use Rattle.exb_changes.specs.Beginning.{first_jobs}
+use Rattle.exb_changing.specs.Beginning.{first_jobs}
 use Rattle.exb_change_laws.specs.Starting.{first_system}
 use Rattle.exb_change_laws.specs.Journal.{cause_of, told_by, kept_by, downs_by, told, kept, downs_in, undecided_of, pending, jobs_with, WillCommit, Tells, StepsTell, jobs_over, events_over, downs_over, DecidedOnce}
 

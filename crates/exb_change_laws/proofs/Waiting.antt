@@ -2,13 +2,13 @@
 use Rattle.std.proofs.Common.{◌≡◌, ℕ, ◌==◌, List, [], ◌∷◌, Option, Some, None, refl, ◌∙◌, subst, inl, inr, eq-eqb}
 use Rattle.std.proofs.lemmas.Bool.{cases_Bool, cases_eq, ne_eqb}
 use Rattle.exb_session.specs.Asking.{AskerState}
-use Rattle.exb_plan.specs.declared.asks.AskAt.{AskAt}
-use Rattle.exb_plan.specs.declared.change.Change.{Change}
-use Rattle.exb_changes.specs.declared.job.Job.{Job}
-use Rattle.exb_changes.specs.declared.job.Phase.{Phase}
-use Rattle.exb_changes.specs.declared.job.Phase.TheVariants.{Preparing, Cleaning}
-use Rattle.exb_changes.specs.Deciding.{Outcome, Refused, Ready, Decide, bridge_after}
-use Rattle.exb_changes.specs.Machine.{Work, State, Moved, asking, works, ends, cleans, prepares, starts, waits, after_start, goes_on, wakes_by, answered_by, answered_in, beats_in, with_asker}
+use Rattle.exb_csp.specs.declared.ask_at.AskAt.{AskAt}
+use Rattle.exb_plans.specs.declared.change.Change.{Change}
+use Rattle.exb_changing.specs.declared.job.Job.{Job}
+use Rattle.exb_changing.specs.declared.job.Phase.{Phase}
+use Rattle.exb_changing.specs.declared.job.Phase.TheVariants.{Preparing, Cleaning}
+use Rattle.exb_changing.specs.Deciding.{Outcome, Refused, Ready, Decide, bridge_after}
+use Rattle.exb_changing.specs.Machine.{Work, State, Moved, asking, works, ends, cleans, prepares, starts, waits, after_start, goes_on, wakes_by, answered_by, answered_in, beats_in, with_asker}
 use Rattle.exb_change_laws.specs.Standing.{waited_for, OneWaits}
 use Rattle.exb_change_laws.proofs.Taking.{beat_waits}
 

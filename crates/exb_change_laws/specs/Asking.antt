@@ -3,9 +3,9 @@ use Rattle.std.specs.Prelude.{◌≡◌, ℕ, ◌+◌, ◌==◌, List, [], ◌�
 use Rattle.exb_model.specs.Tree.{Shape}
 use Rattle.exb_model.specs.Setup.{Limits}
 use Rattle.exb_model.specs.Configuration.{Bridge}
-use Rattle.exb_changes.specs.declared.asked.Asked.{Asked}
-use Rattle.exb_changes.specs.Deciding.{Decide}
-use Rattle.exb_changes.specs.Machine.{State}
+use Rattle.exb_changing.specs.declared.asked.Asked.{Asked}
+use Rattle.exb_changing.specs.Deciding.{Decide}
+use Rattle.exb_changing.specs.Machine.{State}
 use Rattle.exb_change_laws.specs.Systems.{System, Step, Beat, moved, stepped, run}
 use Rattle.exb_change_laws.specs.Standing.{OneWaits}
 use Rattle.exb_change_laws.specs.Starting.{first_system}

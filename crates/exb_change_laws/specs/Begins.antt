@@ -4,7 +4,7 @@ use Rattle.exb_model.specs.Tree.{Shape, is_external, is_extended, cascades_under
 use Rattle.exb_model.specs.declared.setup.Setup.{Setup}
 use Rattle.exb_model.specs.Setup.{Limits, IsValid, shape_of, limits_of, start_of}
 use Rattle.exb_model.specs.Configuration.{Bridge}
-use Rattle.exb_changes.specs.Deciding.{decide}
+use Rattle.exb_changing.specs.Deciding.{decide}
 use Rattle.exb_change_laws.specs.Systems.{Step, run}
 use Rattle.exb_change_laws.specs.Starting.{first_system}
 use Rattle.exb_change_laws.specs.Standing.{Stands, MayRun, CodesAreZero}

@@ -5,9 +5,9 @@ use Rattle.exb_csp.specs.declared.message.Response.{Response}
 use Rattle.exb_csp.specs.declared.message.Message.{Message}
 use Rattle.exb_session.specs.declared.asker.Taken.TheVariants as taken
 use Rattle.exb_session.specs.Asking.{took}
-use Rattle.exb_changes.specs.Deciding.{Decide}
-use Rattle.exb_changes.specs.Machine.{State, answered, heard, beats}
-use Rattle.exb_changes.specs.Counting.{planned}
+use Rattle.exb_changing.specs.Deciding.{Decide}
+use Rattle.exb_changing.specs.Machine.{State, answered, heard, beats}
+use Rattle.exb_changing.specs.Counting.{planned}
 use Rattle.exb_change_laws.specs.Systems.{IsStray}
 use Rattle.exb_change_laws.specs.Standing.{OneWaits}
 

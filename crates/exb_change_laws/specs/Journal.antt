@@ -7,13 +7,13 @@ use Rattle.exb_model.specs.Tree.{Shape, IsTree}
 use Rattle.exb_model.specs.Setup.{Limits}
 use Rattle.exb_model.specs.Configuration.{Bridge}
 use Rattle.exb_model.specs.Refusals.{refusal}
-use Rattle.exb_changes.specs.declared.job.Job.{Job}
-use Rattle.exb_changes.specs.declared.job.Job.TheVariants as job
-use Rattle.exb_changes.specs.declared.job.Phase.{Phase}
-use Rattle.exb_changes.specs.declared.job.Phase.TheVariants.{Preparing, Cleaning}
-use Rattle.exb_changes.specs.Deciding.{decide, bridge_after}
-use Rattle.exb_changes.specs.Machine.{Work, State, committed, refused, downs_of}
-use Rattle.exb_changes.specs.Beginning.{first_jobs}
+use Rattle.exb_changing.specs.declared.job.Job.{Job}
+use Rattle.exb_changing.specs.declared.job.Job.TheVariants as job
+use Rattle.exb_changing.specs.declared.job.Phase.{Phase}
+use Rattle.exb_changing.specs.declared.job.Phase.TheVariants.{Preparing, Cleaning}
+use Rattle.exb_changing.specs.Deciding.{decide, bridge_after}
+use Rattle.exb_changing.specs.Machine.{Work, State, committed, refused, downs_of}
+use Rattle.exb_changing.specs.Beginning.{first_jobs}
 use Rattle.exb_change_laws.specs.Systems.{System, Step, Order, moved, stepped, run}
 use Rattle.exb_change_laws.specs.Starting.{first_system}
 

@@ -3,11 +3,11 @@ use Rattle.std.specs.Prelude.{◌≡◌, true, List, [], ◌∷◌, Option, Some
 use Rattle.exb_model.specs.Tree.{Shape, is_extender}
 use Rattle.exb_model.specs.Setup.{Limits, NamesExternal}
 use Rattle.exb_model.specs.Configuration.{Bridge}
-use Rattle.exb_changes.specs.declared.asked.Asked.{Asked}
-use Rattle.exb_changes.specs.Deciding.{decide}
-use Rattle.exb_changes.specs.Fabrics.{AreFit}
-use Rattle.exb_changes.specs.Machine.{Work, State}
-use Rattle.exb_changes.specs.Planned.{AreKnown}
+use Rattle.exb_changing.specs.declared.asked.Asked.{Asked}
+use Rattle.exb_changing.specs.Deciding.{decide}
+use Rattle.exb_changing.specs.Fitting.{AreFit}
+use Rattle.exb_changing.specs.Machine.{Work, State}
+use Rattle.exb_changing.specs.Planned.{AreKnown}
 use Rattle.exb_change_laws.specs.Systems.{System, Step, Order, moved, stepped}
 use Rattle.exb_change_laws.specs.Starting.{first_system}
 

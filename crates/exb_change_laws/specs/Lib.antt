@@ -1,3 +1,5 @@
+pub mod Laid
+pub mod Requests
 pub mod Growing
 pub mod Systems
 pub mod Standing

@@ -7,10 +7,10 @@ use Rattle.exb_model.specs.Carriage.{carried}
 use Rattle.exb_model.specs.Tree.{Shape, IsTree, HangsOn, is_under, is_extended}
 use Rattle.exb_model.specs.Configuration.{Bridge}
 use Rattle.exb_model.specs.Refusals.{sets_at}
-use Rattle.exb_rows.specs.Laying.{IsLaid}
-use Rattle.exb_extender.specs.AllTables.{tables_at}
-use Rattle.exb_plan.specs.Asks.{is_listed}
-use Rattle.exb_plan.specs.Held.{Held, channel_in, group_in}
+use Rattle.exb_plans.specs.Laying.{IsLaid}
+use Rattle.exb_csp.specs.AllTables.{tables_at}
+use Rattle.exb_plans.specs.Asks.{is_listed}
+use Rattle.exb_plans.specs.Held.{Held, channel_in, group_in}
 use Rattle.exb_change_laws.specs.Systems.{System}
 use Rattle.exb_change_laws.specs.Standing.{Stands}
 use Rattle.exb_change_laws.specs.Planned.{planning}

@@ -9,14 +9,14 @@ use Rattle.exb_model.specs.Refusals.{sets_at}
 use Rattle.exb_csp.specs.declared.message.Response.{Response}
 use Rattle.exb_session.specs.declared.asker.Taken.TheVariants as taken
 use Rattle.exb_session.specs.Asking.{took}
-use Rattle.exb_plan.specs.Held.{Held, HoldsNeeded, channel_in, group_in, group_used}
-use Rattle.exb_laying.specs.Laid.{laid}
-use Rattle.exb_laying.specs.Laws.{AreOpened, IsLaidOut}
-use Rattle.exb_changes.specs.declared.job.Job.{Job}
-use Rattle.exb_changes.specs.declared.job.Job.TheVariants as job
-use Rattle.exb_changes.specs.Planned.{IsHeldAtCascades}
-use Rattle.exb_changes.specs.Deciding.{decide}
-use Rattle.exb_changes.specs.Machine.{Work}
+use Rattle.exb_plans.specs.Held.{Held, HoldsNeeded, channel_in, group_in, group_used}
+use Rattle.exb_change_laws.specs.Laid.{laid}
+use Rattle.exb_change_laws.specs.Requests.{AreOpened, IsLaidOut}
+use Rattle.exb_changing.specs.declared.job.Job.{Job}
+use Rattle.exb_changing.specs.declared.job.Job.TheVariants as job
+use Rattle.exb_changing.specs.Planned.{IsHeldAtCascades}
+use Rattle.exb_changing.specs.Deciding.{decide}
+use Rattle.exb_changing.specs.Machine.{Work}
 use Rattle.exb_change_laws.specs.Systems.{System, Step, answer_message, code_in, stepped, run}
 use Rattle.exb_change_laws.specs.Standing.{Planning, Stands, MayStep, MayRun, CodesAreZero}
 

@@ -5,7 +5,7 @@ use Rattle.exb_model.specs.Setup.{Limits}
 use Rattle.exb_model.specs.Configuration.{Bridge}
 use Rattle.exb_csp.specs.Execute.{ExtenderTables}
 use Rattle.exb_csp.specs.Plain.{powered_on}
-use Rattle.exb_changes.specs.Beginning.{first_state}
+use Rattle.exb_changing.specs.Beginning.{first_state}
 use Rattle.exb_change_laws.specs.Systems.{System}
 
 -- each extender at power-on

@@ -1,8 +1,8 @@
 -- Messages that are no answer.
 use Rattle.std.specs.Prelude.{◌≡◌, ℕ, ◌<◌, None}
 use Rattle.exb_csp.specs.declared.message.Message.{Message}
-use Rattle.exb_changes.specs.Deciding.{Decide}
-use Rattle.exb_changes.specs.Machine.{State, still, answered}
+use Rattle.exb_changing.specs.Deciding.{Decide}
+use Rattle.exb_changing.specs.Machine.{State, still, answered}
 use Rattle.exb_change_laws.specs.Systems.{IsStray}
 
 -- Such a message changes nothing, and nothing happens or goes out.

@@ -7,10 +7,10 @@ use Rattle.exb_csp.specs.declared.message.Message.{Message}
 use Rattle.exb_csp.specs.Execute.{ExtenderTables, code_of, response_to}
 use Rattle.exb_session.specs.declared.asker.Taken.TheVariants as taken
 use Rattle.exb_session.specs.Asking.{took}
-use Rattle.exb_extender.specs.AllTables.{executes_at}
-use Rattle.exb_plan.specs.declared.asks.AskAt.{AskAt}
-use Rattle.exb_changes.specs.Deciding.{Decide}
-use Rattle.exb_changes.specs.Machine.{Work, State, Moved, still, ordered, heard, answered, beats}
+use Rattle.exb_csp.specs.AllTables.{executes_at}
+use Rattle.exb_csp.specs.declared.ask_at.AskAt.{AskAt}
+use Rattle.exb_changing.specs.Deciding.{Decide}
+use Rattle.exb_changing.specs.Machine.{Work, State, Moved, still, ordered, heard, answered, beats}
 
 -- `answer`: the outstanding request was executed, and this is its answer, which wasn't taken yet
 pub record System : Type 0 where

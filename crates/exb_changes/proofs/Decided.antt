@@ -10,29 +10,31 @@ use Rattle.exb_model.specs.Tree.{Shape, IsTree, is_port, is_cascade, device}
 use Rattle.exb_model.specs.Setup.{Limits, NamesExternal}
 use Rattle.exb_model.specs.Configuration.{Bridge, after}
 use Rattle.exb_csp.specs.declared.message.Request.TheVariants.{PortCreate}
-use Rattle.exb_plan.specs.declared.asks.AskAt.{AskAt}
-use Rattle.exb_plan.specs.declared.asks.Step.TheVariants.{Lay}
-use Rattle.exb_plan.specs.declared.change.Change.{Change}
-use Rattle.exb_plan.specs.declared.change.Decision.{Decision}
-use Rattle.exb_plan.specs.declared.change.Decision.TheVariants as decision
-use Rattle.exb_plan.specs.Asks.{ask, create_asks, port_number}
-use Rattle.exb_plan.specs.Held.{Held, HoldsNeeded}
-use Rattle.exb_plan.specs.Between.{refusal_between}
-use Rattle.exb_plan.specs.Plans.{change_of, claimed, decision as plan_decision, decision_by, held_after as plan_held, held_by_cause}
-use Rattle.exb_plan.proofs.Each.{few-filter}
-use Rattle.exb_plan.proofs.Trunks.{extended_external}
-use Rattle.exb_changes.specs.declared.job.Job.{Job}
-use Rattle.exb_changes.specs.declared.job.Job.TheVariants as job
+use Rattle.exb_csp.specs.declared.ask_at.AskAt.{AskAt}
+use Rattle.exb_plans.specs.declared.step.Step.TheVariants.{Lay}
+use Rattle.exb_plans.specs.declared.change.Change.{Change}
+use Rattle.exb_plans.specs.declared.change.Decision.{Decision}
+use Rattle.exb_plans.specs.declared.change.Decision.TheVariants as decision
+use Rattle.exb_plans.specs.Asks.{ask, create_asks, port_number}
+use Rattle.exb_plans.specs.Held.{Held, HoldsNeeded}
+use Rattle.exb_plans.specs.Between.{refusal_between}
+use Rattle.exb_plans.specs.Plans.{change_of, claimed, decision as plan_decision, decision_by, held_after as plan_held, held_by_cause}
+use Rattle.exb_plans.proofs.Each.{few-filter}
+use Rattle.exb_plans.proofs.Trunks.{extended_external}
+use Rattle.exb_changing.specs.declared.job.Job.{Job}
+use Rattle.exb_changing.specs.declared.job.Job.TheVariants as job
 use Rattle.exb_changes.specs.declared.stage.Stage.{Stage}
 use Rattle.exb_changes.specs.declared.stage.Stage.TheVariants.{AtRest, Prepared}
-use Rattle.exb_changes.specs.Deciding.{Outcome, Refused, Ready, decide, outcome_by, outcome_between, opening_asks, opening_change, cascades_of, channel_of, bridge_after, release}
-use Rattle.exb_changes.specs.Fabrics.{Fits, HasExternals, HoldsIn, IsShort, in_spaces, stage_of, cause_of, held_after, decision_of}
-use Rattle.exb_changes.specs.Planned.{IsPlanned}
-use Rattle.exb_changes.proofs.Counted.{flat_at_most, few_range}
-use Rattle.exb_changes.proofs.Short.{channel_few, changes_are_short}
-use Rattle.exb_changes.proofs.Released.{released_is_needed}
-use Rattle.exb_changes.proofs.Commands.{step_of, external_after}
-use Rattle.exb_changes.proofs.Claims.{claimed_placed, change_placed, opening_placed}
+use Rattle.exb_changing.specs.Deciding.{Outcome, Refused, Ready, decide, outcome_by, outcome_between, opening_asks, opening_change, cascades_of, channel_of, bridge_after, release}
+use Rattle.exb_changing.specs.Fitting.{Fits, HasExternals}
+use Rattle.exb_changes.specs.Fabrics.{HoldsIn, IsShort, stage_of, cause_of, held_after, decision_of}
+use Rattle.exb_plans.specs.Held.{in_spaces}
+use Rattle.exb_changing.specs.Planned.{IsPlanned}
+use Rattle.exb_changing.proofs.Counted.{flat_at_most, few_range}
+use Rattle.exb_changing.proofs.Short.{channel_few, changes_are_short}
+use Rattle.exb_changing.proofs.Released.{released_is_needed}
+use Rattle.exb_changing.proofs.Commands.{step_of, external_after}
+use Rattle.exb_changing.proofs.Claims.{claimed_placed, change_placed, opening_placed}
 
 -- ---- what is said of an outcome
 abbrev pub said_cause : Decision → Option Cause

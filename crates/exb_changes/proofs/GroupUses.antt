@@ -10,28 +10,31 @@ use Rattle.exb_model.specs.Configuration.{Bridge, after}
 use Rattle.exb_model.specs.Refusals.{is_empty_set}
 use Rattle.exb_config.specs.Tables.{Tables, bridge_of}
 use Rattle.exb_numbers.specs.Spaces.{Spaces, groups_at}
-use Rattle.exb_rows.specs.Sets.{PortsAt, sets_of}
-use Rattle.exb_plan.specs.declared.change.Decision.{Decision}
-use Rattle.exb_plan.specs.declared.change.Decision.TheVariants as decision
-use Rattle.exb_plan.specs.Held.{Held, HoldsNeeded, held_by, free_where}
-use Rattle.exb_plan.specs.Between.{is_gone, refusal_between}
-use Rattle.exb_plan.specs.Plans.{change_of, claimed}
-use Rattle.exb_plan.proofs.Trunks.{extended_external}
-use Rattle.exb_uses.specs.Touched.{uses_of}
+use Rattle.exb_plans.specs.Sets.{PortsAt, sets_of}
+use Rattle.exb_plans.specs.declared.change.Decision.{Decision}
+use Rattle.exb_plans.specs.declared.change.Decision.TheVariants as decision
+use Rattle.exb_plans.specs.Held.{Held, HoldsNeeded, free_where}
+use Rattle.exb_plan.specs.Spaces.{held_by}
+use Rattle.exb_plans.specs.Between.{is_gone, refusal_between}
+use Rattle.exb_plans.specs.Plans.{change_of, claimed}
+use Rattle.exb_plans.proofs.Trunks.{extended_external}
+use Rattle.exb_plans.specs.Touched.{uses_of}
 use Rattle.exb_planning.specs.Counted.{IsCounted, count_at}
 use Rattle.exb_planning.specs.Decided.{IfDecided}
 use Rattle.exb_planning.specs.Recount.{HaveRowsOf}
 use Rattle.exb_planning.proofs.Freed.{counted_freed}
-use Rattle.exb_changes.specs.declared.job.Job.{Job}
-use Rattle.exb_changes.specs.declared.job.Job.TheVariants as job
+use Rattle.exb_changing.specs.declared.job.Job.{Job}
+use Rattle.exb_changing.specs.declared.job.Job.TheVariants as job
 use Rattle.exb_changes.specs.declared.stage.Stage.{Stage}
 use Rattle.exb_changes.specs.declared.stage.Stage.TheVariants.{AtRest, Prepared, InForce}
-use Rattle.exb_changes.specs.Deciding.{Outcome, Refused, Ready, decide, outcome_by, bridge_after, release}
-use Rattle.exb_changes.specs.Fabrics.{Fabric, Fits, IsPrepared, HasExternals, bridge_in, held_in, in_spaces, stage_of, held_after, in_force, bridge_at_end, held_at_end}
+use Rattle.exb_changing.specs.Deciding.{Outcome, Refused, Ready, decide, outcome_by, bridge_after, release}
+use Rattle.exb_changes.specs.Fabrics.{Fabric, IsPrepared, bridge_in, held_in, stage_of, held_after, in_force, bridge_at_end, held_at_end}
+use Rattle.exb_changing.specs.Fitting.{Fits, HasExternals}
+use Rattle.exb_plans.specs.Held.{in_spaces}
 use Rattle.exb_changes.specs.GroupUses.{AreUses, IsKept}
-use Rattle.exb_changes.specs.Planned.{IsPlanned}
-use Rattle.exb_changes.proofs.Places.{place_true, placed_alike, alike_back}
-use Rattle.exb_changes.proofs.Released.{sets_are, freed_set}
+use Rattle.exb_changing.specs.Planned.{IsPlanned}
+use Rattle.exb_changing.proofs.Places.{place_true, placed_alike, alike_back}
+use Rattle.exb_changing.proofs.Released.{sets_are, freed_set}
 use Rattle.exb_changes.proofs.Decided.{said_stage, planned}
 
 -- ---- what is held elsewhere than at the cascade ports of the bridge is no matter

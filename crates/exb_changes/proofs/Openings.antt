@@ -5,11 +5,11 @@ use Rattle.std.proofs.lemmas.Bool.{and_parts, ltb-true}
 use Rattle.exb_model.specs.Tree.{Shape, is_port, is_cascade, is_extender}
 use Rattle.exb_model.proofs.PortLemmas.{range-more}
 use Rattle.exb_csp.specs.declared.message.Request.TheVariants.{Open}
-use Rattle.exb_plan.specs.declared.asks.AskAt.{AskAt}
-use Rattle.exb_plan.specs.Asks.{ask, create_asks}
-use Rattle.exb_plan.specs.Held.{Held}
+use Rattle.exb_csp.specs.declared.ask_at.AskAt.{AskAt}
+use Rattle.exb_plans.specs.Asks.{ask, create_asks}
+use Rattle.exb_plans.specs.Held.{Held}
 use Rattle.exb_plan.proofs.Lists.{flat_more}
-use Rattle.exb_changes.specs.Deciding.{cascade_asks, cascades_of, channel_of, opening_asks}
+use Rattle.exb_changing.specs.Deciding.{cascade_asks, cascades_of, channel_of, opening_asks}
 
 flat_filter : {X Y : Type 0} (f : X → List Y) (test : X → Bool) (xs : List X) → flat_map (λ x. cond (test x) (f x) []) xs ≡ flat_map f (filter test xs)
 flat_filter f test [] = refl

@@ -4,8 +4,8 @@ use Rattle.std.proofs.lemmas.Bool.{le-leb, and_from}
 use Rattle.exb_model.specs.declared.role.Role.{Role}
 use Rattle.exb_model.specs.declared.role.Role.TheVariants as role
 use Rattle.exb_model.specs.Tree.{Shape, IsTree, HasRole, is_port, is_cascade, is_external}
-use Rattle.exb_plan.proofs.Trunks.{hung_cascade, other_role}
-use Rattle.exb_changes.specs.Beginning.{is_deep}
+use Rattle.exb_plans.proofs.Trunks.{hung_cascade, other_role}
+use Rattle.exb_changing.specs.Beginning.{is_deep}
 
 -- a port with another role is no external one
 pub not_external : (t : Shape) (p : ℕ) (r : Role) → IsTree t → HasRole t p r → (r ≡ role.External → ⊥) → is_external t p ≡ false

@@ -1,20 +1,22 @@
 -- The configuration in force, the numbers that are held, and the change at work, as the code keeps them.
 use Rattle.std.specs.Prelude.{◌≡◌, ℕ, ◌^◌, ◌≤◌, ◌&&◌, true, nat_lt, Bool, List, [], ◌∷◌, Option, Some, None, length, if◌then◌else◌}
-use Rattle.exb_model.specs.Tree.{Shape, IsTree, is_external, is_extended, is_extender, is_cascade}
-use Rattle.exb_model.specs.Setup.{Limits, NamesExternal}
+use Rattle.exb_model.specs.Tree.{Shape, IsTree}
+use Rattle.exb_model.specs.Setup.{Limits}
 use Rattle.exb_model.specs.Configuration.{Bridge}
 use Rattle.exb_model.specs.declared.event.Cause.{Cause}
 use Rattle.exb_config.specs.Tables.{Tables, bridge_of}
 use Rattle.exb_numbers.specs.Spaces.{Spaces}
-use Rattle.exb_plan.specs.declared.change.Change.{Change}
-use Rattle.exb_plan.specs.declared.change.Decision.{Decision}
-use Rattle.exb_plan.specs.declared.change.Decision.TheVariants as decision
-use Rattle.exb_plan.specs.Held.{Held, HoldsNeeded, HasSpaces, held_by}
-use Rattle.exb_changes.specs.declared.job.Job.{Job}
-use Rattle.exb_changes.specs.declared.job.Job.TheVariants as job
+use Rattle.exb_plans.specs.declared.change.Change.{Change}
+use Rattle.exb_plans.specs.declared.change.Decision.{Decision}
+use Rattle.exb_plans.specs.declared.change.Decision.TheVariants as decision
+use Rattle.exb_plans.specs.Held.{Held, HoldsNeeded, in_spaces}
+use Rattle.exb_plan.specs.Spaces.{HasSpaces, held_by}
+use Rattle.exb_changing.specs.declared.job.Job.{Job}
+use Rattle.exb_changing.specs.declared.job.Job.TheVariants as job
 use Rattle.exb_changes.specs.declared.stage.Stage.{Stage}
 use Rattle.exb_changes.specs.declared.stage.Stage.TheVariants.{AtRest, Prepared, InForce}
-use Rattle.exb_changes.specs.Deciding.{Outcome, Refused, Ready, bridge_after, release}
+use Rattle.exb_changing.specs.Fitting.{Fits, HasExternals}
+use Rattle.exb_changing.specs.Deciding.{Outcome, Refused, Ready, bridge_after, release}
 
 pub record Fabric : Type 0 where
   pub shape : Shape
@@ -27,37 +29,14 @@ abbrev pub fabric_of : Shape → ℕ → ℕ → Tables → Spaces → Stage →
 fabric_of t channels groups config spaces stage =
     record { shape = t; limits = record { channels = channels; groups = groups }; config = config; spaces = spaces; stage = stage }
 
--- ---- what is held
--- bridge port k has a space: an extender hangs on it
-abbrev pub is_place : Shape → ℕ → Bool
-is_place t k = nat_lt k 64 && is_cascade t k
-
--- Numbers are held in the spaces of the bridge's cascade ports alone.
-abbrev pub in_spaces : Shape → Held → Held
-in_spaces t h =
-    record {
-      port = λ k c. if is_place t k then h.port k c else None;
-      set = λ k g. if is_place t k then h.set k g else [];
-    }
-
+-- ---- what is in force
 abbrev pub bridge_in : Fabric → Bridge
 bridge_in v = bridge_of v.config
 
 abbrev pub held_in : Fabric → Held
 held_in v = in_spaces v.shape (held_by v.spaces)
 
--- ---- jobs
--- what a job needs when its turn comes
-abbrev pub Fits : Shape → Job → Type 0
-Fits t (job.Opening n) = is_extender t n ≡ true
-Fits t (job.AutomaticUp p) = is_extended t p ≡ true
-Fits t (job.Ordered n c) = NamesExternal t c
-
--- so it is of each job of a queue
-abbrev pub AreFit : Shape → List Job → Type 0
-AreFit t [] = Unit {0}
-AreFit t (j ∷ js) = Fits t j × AreFit t js
-
+-- ---- what was decided
 -- the stage of a job that was decided
 abbrev pub stage_of : Job → Outcome → Stage
 stage_of j (Refused cause) = AtRest
@@ -121,9 +100,6 @@ IsVlan v = (1 ≤ v) × (v ≤ 4094)
 
 abbrev pub HasPvids : Bridge → Type 0
 HasPvids b = (p : ℕ) → IsVlan (b.rule p).pvid
-
-abbrev pub HasExternals : Shape → Bridge → Type 0
-HasExternals t b = (q : ℕ) → b.present q ≡ true → is_external t q ≡ true
 
 pub record IsFabric (v : Fabric) : Type 0 where
   pub tree : IsTree v.shape

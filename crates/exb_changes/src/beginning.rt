@@ -5,10 +5,12 @@ ghost use Rattle.exb_model.specs.Tree.{trunk, is_external};
 ghost use Rattle.exb_model.specs.Configuration.{after};
 ghost use Rattle.exb_model.specs.Setup.{Limits, IsValid, shape_of, start_of};
 ghost use Rattle.exb_config.specs.Tables.{bridge_of};
-ghost use Rattle.exb_plan.specs.Held.{HasSpaces, held_by, free_channel, give_channel};
+ghost use Rattle.exb_plan.specs.Spaces.{HasSpaces, held_by};
+ghost use Rattle.exb_plans.specs.Held.{free_channel, give_channel};
 ghost use Rattle.exb_plan.specs.Working.{CanClaimChannel, IsAlike, channel_limit};
-ghost use Rattle.exb_changes.specs.Beginning.{nothing_held, is_deep, first_held, HasChannels, HoldsFirst};
-ghost use Rattle.exb_changes.specs.Fabrics.{HasPvids, IsVlan, in_spaces};
+ghost use Rattle.exb_changing.specs.Beginning.{nothing_held, is_deep, first_held, HasChannels, HoldsFirst};
+ghost use Rattle.exb_changes.specs.Fabrics.{HasPvids, IsVlan};
+ghost use Rattle.exb_plans.specs.Held.{in_spaces};
 
 use exb_config::Config;
 use exb_model::command::Command;

@@ -2,17 +2,18 @@
 ghost use Rattle.std.specs.Prelude.{◌≡◌, IfOk, OnOk, OnErr};
 ghost use Rattle.exb_model.specs.Setup.{Limits, IsValid, shape_of, limits_of, start_of};
 ghost use Rattle.exb_config.specs.Tables.{bridge_of};
-ghost use Rattle.exb_plan.specs.Held.{HasSpaces, held_by};
+ghost use Rattle.exb_plan.specs.Spaces.{HasSpaces, held_by};
 ghost use Rattle.exb_plan.specs.Working.{IsAlike};
-ghost use Rattle.exb_plan.specs.declared.change.Change.{Change};
-ghost use Rattle.exb_changes.specs.Beginning.{first_held};
-ghost use Rattle.exb_changes.specs.Deciding.{bridge_after, release, decide};
-ghost use Rattle.exb_changes.specs.Fabrics.{HasPvids, in_spaces, bridge_at_end, held_at_end};
+ghost use Rattle.exb_plans.specs.declared.change.Change.{Change};
+ghost use Rattle.exb_changing.specs.Beginning.{first_held};
+ghost use Rattle.exb_changing.specs.Deciding.{bridge_after, release, decide};
+ghost use Rattle.exb_changes.specs.Fabrics.{HasPvids, bridge_at_end, held_at_end};
+ghost use Rattle.exb_plans.specs.Held.{in_spaces};
 
 use crate::beginning::{apply, first_config, first_spaces};
 use crate::copying::copy_spaces;
 use crate::deciding::decide;
-use crate::job::Job;
+use exb_changing::Job;
 use crate::releasing::release;
 use crate::stage::Stage;
 use exb_config::Config;
@@ -22,7 +23,7 @@ use exb_model::memory::NoMemory;
 use exb_model::setup::Setup;
 use exb_model::tree::Tree;
 use exb_numbers::Spaces;
-use exb_plan::Decision;
+use exb_plans::Decision;
 use exb_planning::Uses;
 use std::alloc::Global;
 use std::marker::Model;
@@ -110,7 +111,8 @@ fn free_numbers(stage: &Stage, tree: &Tree, spaces: &mut Spaces)
 }
 
 impl Fabric {
-    ghost use Rattle.exb_changes.specs.Fabrics.{IsFabric, Fits, IsPrepared, IsInForce, bridge_in, held_in, stage_of, cause_of, held_after};
+    ghost use Rattle.exb_changes.specs.Fabrics.{IsFabric, IsPrepared, IsInForce, bridge_in, held_in, stage_of, cause_of, held_after};
+    ghost use Rattle.exb_changing.specs.Fitting.{Fits};
 
     /// The bridge of a setup: its local external ports are present, and the commands of its start are applied. The
     /// cascade ports of its extenders have channels, in port order.

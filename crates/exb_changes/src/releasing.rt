@@ -1,16 +1,16 @@
 //! How the numbers of a change are freed.
 ghost use Rattle.std.specs.Prelude.{◌≡◌, ◌-◌, ◌<◌, ◌&&◌, nat_lt};
 ghost use Rattle.exb_model.specs.Setup.{Limits};
-ghost use Rattle.exb_plan.specs.Held.{HasSpaces, held_by};
+ghost use Rattle.exb_plan.specs.Spaces.{HasSpaces, held_by};
 ghost use Rattle.exb_plan.specs.Working.{IsAlike};
-ghost use Rattle.exb_changes.specs.Deciding.{release, without_channel, without_group};
-ghost use Rattle.exb_changes.specs.Fabrics.{is_place, in_spaces};
+ghost use Rattle.exb_changing.specs.Deciding.{release, without_channel, without_group};
+ghost use Rattle.exb_plans.specs.Held.{is_place, in_spaces};
 
 use exb_model::port::PortId;
 use exb_model::role::Role;
 use exb_model::tree::Tree;
 use exb_numbers::Spaces;
-use exb_plan::{Change, Number};
+use exb_plans::{Change, Number};
 
 /// Whether a bridge port has a space. Bridge ports are numbered from 1.
 pub(crate) fn is_place(tree: &Tree, bridge_port: u8) -> bool

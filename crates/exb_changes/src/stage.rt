@@ -2,8 +2,8 @@
 ghost use Rattle.std.specs.Prelude.{◌≡◌};
 ghost use Rattle.exb_changes.specs.Fabrics.{in_force};
 
-use crate::job::Job;
-use exb_plan::Change;
+use exb_changing::Job;
+use exb_plans::Change;
 
 /// The change at work, and whether it is in force.
 #[derive(Debug, Drop)]

@@ -4,7 +4,7 @@ ghost use Rattle.exb_model.specs.Tree.{is_extended, is_extender};
 ghost use Rattle.exb_changes.specs.Fabrics.{IsPrepared, IsInForce};
 
 use crate::fabric::Fabric;
-use crate::job::Job;
+use exb_changing::Job;
 use crate::stage::Stage;
 use exb_csp::Request;
 use exb_model::command::Command;
@@ -16,7 +16,7 @@ use exb_model::role::Role;
 use exb_model::setup::{ExtenderSetup, Place, Setup};
 use exb_model::tree::Tree;
 use exb_model::vlan::Vid;
-use exb_plan::Change;
+use exb_plans::Change;
 use std::alloc::Global;
 use std::process::Abort;
 use std::test::*;

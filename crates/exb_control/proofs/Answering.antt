@@ -13,21 +13,21 @@ use Rattle.exb_session.specs.Kinds.{same_kind}
 use Rattle.exb_session.specs.declared.asker.Taken.{Taken}
 use Rattle.exb_session.specs.declared.asker.Taken.TheVariants as taken
 use Rattle.exb_session.specs.Asking.{AskerState, took, took_body}
-use Rattle.exb_plan.specs.declared.asks.AskAt.{AskAt}
-use Rattle.exb_plan.specs.declared.change.Change.{Change}
-use Rattle.exb_changes.specs.declared.job.Job.{Job}
-use Rattle.exb_changes.specs.declared.job.Phase.{Phase}
-use Rattle.exb_changes.specs.declared.job.Phase.TheVariants.{Preparing, Cleaning}
+use Rattle.exb_csp.specs.declared.ask_at.AskAt.{AskAt}
+use Rattle.exb_plans.specs.declared.change.Change.{Change}
+use Rattle.exb_changing.specs.declared.job.Job.{Job}
+use Rattle.exb_changing.specs.declared.job.Phase.{Phase}
+use Rattle.exb_changing.specs.declared.job.Phase.TheVariants.{Preparing, Cleaning}
 use Rattle.exb_changes.specs.declared.stage.Stage.{Stage}
 use Rattle.exb_changes.specs.declared.stage.Stage.TheVariants.{AtRest, Prepared, InForce}
-use Rattle.exb_changes.specs.Deciding.{Decide}
-use Rattle.exb_changes.specs.Machine.{Work, State, Moved, wakes, answered_where, answered_in, answered_by, still, followed_by}
+use Rattle.exb_changing.specs.Deciding.{Decide}
+use Rattle.exb_changing.specs.Machine.{Work, State, Moved, wakes, answered_where, answered_in, answered_by, still, followed_by}
 use Rattle.exb_control.specs.Controls.{work_from, work_at}
 use Rattle.exb_control.specs.Steps.{Reached, reached, reached_by, put, is_at_rest, asks_in, asks_after, advances}
 use Rattle.exb_control.specs.Soundness.{AreKnown, HasRoom, MayAsk, IsSteady, later}
 use Rattle.exb_model.specs.declared.event.Event.{Event}
 use Rattle.exb_learn.specs.Calls.{Table}
-use Rattle.exb_changes.specs.declared.asked.Asked.{Asked}
+use Rattle.exb_changing.specs.declared.asked.Asked.{Asked}
 use Rattle.exb_control.proofs.Steps.{joined}
 
 -- ---- what an answer does to an asker

@@ -10,20 +10,20 @@ use Rattle.exb_csp.specs.declared.message.Request.{Request}
 use Rattle.exb_session.specs.Asking.{AskerState, beaten, beaten_while}
 use Rattle.exb_learn.specs.Calls.{Table}
 use Rattle.exb_learn.specs.Entries.{table_of}
-use Rattle.exb_plan.specs.declared.asks.AskAt.{AskAt}
-use Rattle.exb_plan.specs.declared.change.Change.{Change}
-use Rattle.exb_changes.specs.declared.asked.Asked.{Asked}
-use Rattle.exb_changes.specs.declared.job.Job.{Job}
-use Rattle.exb_changes.specs.declared.job.Phase.{Phase}
-use Rattle.exb_changes.specs.declared.job.Phase.TheVariants.{Preparing, Cleaning}
+use Rattle.exb_csp.specs.declared.ask_at.AskAt.{AskAt}
+use Rattle.exb_plans.specs.declared.change.Change.{Change}
+use Rattle.exb_changing.specs.declared.asked.Asked.{Asked}
+use Rattle.exb_changing.specs.declared.job.Job.{Job}
+use Rattle.exb_changing.specs.declared.job.Phase.{Phase}
+use Rattle.exb_changing.specs.declared.job.Phase.TheVariants.{Preparing, Cleaning}
 use Rattle.exb_changes.specs.declared.stage.Stage.{Stage}
 use Rattle.exb_changes.specs.declared.stage.Stage.TheVariants.{AtRest, Prepared, InForce}
-use Rattle.exb_changes.specs.Machine.{Work, State, Moved, beats, beats_in, wakes}
+use Rattle.exb_changing.specs.Machine.{Work, State, Moved, beats, beats_in, wakes}
 use Rattle.exb_control.specs.declared.working.Core.{Core}
 use Rattle.exb_control.specs.declared.outbox.Outbox.{Outbox}
 use Rattle.exb_model.specs.Tree.{Shape}
 use Rattle.exb_lldp.specs.declared.announce.Announce.{Announce}
-use Rattle.exb_changes.specs.Deciding.{Decide}
+use Rattle.exb_changing.specs.Deciding.{Decide}
 use Rattle.exb_control.specs.Queues.{first_in}
 use Rattle.exb_control.specs.Controls.{Parts, state_of, work_from, work_at, announced, is_announced, is_of}
 use Rattle.exb_control.specs.Boxes.{IsQuiet, IsMoved}

@@ -5,17 +5,18 @@ use Rattle.std.specs.List.{range_with_len}
 use Rattle.exb_control.proofs.Steps.{drop-nil}
 use Rattle.exb_model.specs.Tree.{Shape}
 use Rattle.exb_model.specs.Configuration.{Bridge}
-use Rattle.exb_plan.specs.declared.asks.AskAt.{AskAt}
-use Rattle.exb_plan.specs.declared.change.Change.{Change}
-use Rattle.exb_plan.specs.Held.{Held}
-use Rattle.exb_changes.specs.declared.job.Job.{Job}
-use Rattle.exb_changes.specs.declared.job.Phase.TheVariants.{Preparing, Cleaning}
+use Rattle.exb_csp.specs.declared.ask_at.AskAt.{AskAt}
+use Rattle.exb_plans.specs.declared.change.Change.{Change}
+use Rattle.exb_plans.specs.Held.{Held}
+use Rattle.exb_changing.specs.declared.job.Job.{Job}
+use Rattle.exb_changing.specs.declared.job.Phase.TheVariants.{Preparing, Cleaning}
 use Rattle.exb_changes.specs.declared.stage.Stage.{Stage}
 use Rattle.exb_changes.specs.declared.stage.Stage.TheVariants.{AtRest, Prepared, InForce}
-use Rattle.exb_changes.specs.Deciding.{Decide, bridge_after, release}
-use Rattle.exb_changes.specs.Fabrics.{Fabric, Fits, bridge_in, held_in, bridge_at_end, held_at_end, AreFit}
-use Rattle.exb_changes.specs.Machine.{Work, State}
-use Rattle.exb_changes.specs.Counting.{requests_of, requests_in, requests_by, bridge_left, held_left, unheard, planned}
+use Rattle.exb_changing.specs.Deciding.{Decide, bridge_after, release}
+use Rattle.exb_changes.specs.Fabrics.{Fabric, bridge_in, held_in, bridge_at_end, held_at_end}
+use Rattle.exb_changing.specs.Fitting.{Fits, AreFit}
+use Rattle.exb_changing.specs.Machine.{Work, State}
+use Rattle.exb_changing.specs.Counting.{requests_of, requests_in, requests_by, bridge_left, held_left, unheard, planned}
 use Rattle.exb_control.specs.declared.working.Core.{Core}
 use Rattle.exb_control.specs.Controls.{decide_of, work_from, work_at}
 use Rattle.exb_control.specs.Steps.{Front, Heard, heard_of, state_in, left_at, unheard_to}

@@ -11,10 +11,10 @@ use Rattle.exb_model.specs.Tree.{Shape, IsTree, HasRole, HangsOn, on, is_cascade
 use Rattle.exb_model.proofs.PortLemmas.{range-more}
 use Rattle.exb_model.proofs.TreeWays.{any_below-from, number_at_most}
 use Rattle.exb_model.proofs.TreeLoops.{by_depth-range}
-use Rattle.exb_changes.specs.declared.job.Job.{Job}
-use Rattle.exb_changes.specs.declared.job.Job.TheVariants as job
-use Rattle.exb_changes.specs.Beginning.{jobs_of}
-use Rattle.exb_changes.proofs.FirstJobs.{ups}
+use Rattle.exb_changing.specs.declared.job.Job.{Job}
+use Rattle.exb_changing.specs.declared.job.Job.TheVariants as job
+use Rattle.exb_changing.specs.Beginning.{jobs_of}
+use Rattle.exb_changing.proofs.FirstJobs.{ups}
 use Rattle.exb_control.specs.Steps.{up_if}
 
 map-append : (xs ys : List ℕ) → map job.AutomaticUp (xs ++ ys) ≡ map job.AutomaticUp xs ++ map job.AutomaticUp ys

@@ -3,16 +3,16 @@ use Rattle.std.proofs.Common.{◌≡◌, ◌≤◌, false, List, length, refl, a
 use Rattle.exb_model.specs.declared.setup.Setup.{Setup}
 use Rattle.exb_model.specs.Setup.{shape_of, limits_of, start_of}
 use Rattle.exb_session.specs.Asking.{begun}
-use Rattle.exb_changes.specs.declared.job.Job.{Job}
+use Rattle.exb_changing.specs.declared.job.Job.{Job}
 use Rattle.exb_changes.specs.declared.stage.Stage.TheVariants.{AtRest}
-use Rattle.exb_changes.specs.Beginning.{first_jobs, first_held}
+use Rattle.exb_changing.specs.Beginning.{first_jobs, first_held}
 use Rattle.exb_changes.specs.Fabrics.{bridge_in, held_in}
 use Rattle.exb_control.specs.declared.working.Core.{Core}
 use Rattle.exb_control.specs.Controls.{state_of, first_of}
 use Rattle.exb_control.specs.Steps.{Heard, heard_of, askers_of}
 use Rattle.exb_control.specs.Soundness.{MayAsk, to_come}
 use Rattle.exb_control.specs.Insides.{parts_of, IsKept}
-use Rattle.exb_changes.proofs.FirstJobs.{few_first, fit_first}
+use Rattle.exb_changing.proofs.FirstJobs.{few_first, fit_first}
 
 module _ (s : Setup) (core : Core) (queue : List Job) (heard : Heard) (shape : core.fabric.shape ≡ shape_of s) (rest : core.fabric.stage ≡ AtRest)
     (jobs : queue ≡ first_jobs (shape_of s)) (askers : askers_of core.sessions ≡ λ n. begun) where

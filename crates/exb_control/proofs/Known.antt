@@ -5,14 +5,14 @@ use Rattle.std.proofs.lemmas.List.{get_or_past}
 use Rattle.exb_model.specs.Tree.{Shape, IsTree, is_extender}
 use Rattle.exb_model.specs.Setup.{Limits}
 use Rattle.exb_model.specs.Configuration.{Bridge}
-use Rattle.exb_plan.specs.declared.asks.AskAt.{AskAt}
-use Rattle.exb_plan.specs.declared.change.Change.{Change}
-use Rattle.exb_plan.specs.Held.{Held}
-use Rattle.exb_changes.specs.declared.job.Job.{Job}
-use Rattle.exb_changes.specs.Deciding.{Ready, decide}
-use Rattle.exb_changes.specs.Fabrics.{Fits}
-use Rattle.exb_changes.specs.Planned.{AreKnown as AreOfTree}
-use Rattle.exb_changes.proofs.Known.{plans_are_known}
+use Rattle.exb_csp.specs.declared.ask_at.AskAt.{AskAt}
+use Rattle.exb_plans.specs.declared.change.Change.{Change}
+use Rattle.exb_plans.specs.Held.{Held}
+use Rattle.exb_changing.specs.declared.job.Job.{Job}
+use Rattle.exb_changing.specs.Deciding.{Ready, decide}
+use Rattle.exb_changing.specs.Fitting.{Fits}
+use Rattle.exb_changing.specs.Planned.{AreKnown as AreOfTree}
+use Rattle.exb_changing.proofs.Known.{plans_are_known}
 use Rattle.exb_control.specs.Soundness.{AreKnown}
 
 pub extender_low : (t : Shape) → IsTree t → (n : ℕ) → is_extender t n ≡ true → n < 65

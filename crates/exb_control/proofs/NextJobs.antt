@@ -5,14 +5,15 @@ use Rattle.std.specs.Option.{is_none}
 use Rattle.exb_model.specs.declared.event.Event.{Event}
 use Rattle.exb_learn.specs.Calls.{Table}
 use Rattle.exb_learn.specs.Entries.{table_of}
-use Rattle.exb_changes.specs.Fabrics.{Fabric, bridge_in, held_in, AreFit}
-use Rattle.exb_changes.specs.declared.asked.Asked.{Asked}
-use Rattle.exb_changes.specs.declared.job.Job.{Job}
-use Rattle.exb_changes.specs.declared.job.Job.TheVariants as job
+use Rattle.exb_changes.specs.Fabrics.{Fabric, bridge_in, held_in}
+use Rattle.exb_changing.specs.Fitting.{AreFit}
+use Rattle.exb_changing.specs.declared.asked.Asked.{Asked}
+use Rattle.exb_changing.specs.declared.job.Job.{Job}
+use Rattle.exb_changing.specs.declared.job.Job.TheVariants as job
 use Rattle.exb_changes.specs.declared.stage.Stage.{Stage}
 use Rattle.exb_changes.specs.declared.stage.Stage.TheVariants.{AtRest, Prepared, InForce}
-use Rattle.exb_changes.specs.Deciding.{Decide}
-use Rattle.exb_changes.specs.Machine.{Work, State, Moved, waits, after_start, starts, goes_on}
+use Rattle.exb_changing.specs.Deciding.{Decide}
+use Rattle.exb_changing.specs.Machine.{Work, State, Moved, waits, after_start, starts, goes_on}
 use Rattle.exb_control.specs.declared.working.Core.{Core}
 use Rattle.exb_control.specs.Queues.{first_in, after_first}
 use Rattle.exb_control.specs.Controls.{work_at, decide_of}

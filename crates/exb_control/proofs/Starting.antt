@@ -5,17 +5,17 @@ use Rattle.exb_model.specs.declared.event.Cause.{Cause}
 use Rattle.exb_model.specs.Tree.{Shape}
 use Rattle.exb_model.specs.Configuration.{Bridge}
 use Rattle.exb_learn.specs.Calls.{Table}
-use Rattle.exb_plan.specs.declared.asks.AskAt.{AskAt}
-use Rattle.exb_plan.specs.declared.change.Change.{Change}
-use Rattle.exb_plan.specs.Held.{Held}
-use Rattle.exb_changes.specs.declared.asked.Asked.{Asked}
-use Rattle.exb_changes.specs.declared.job.Job.{Job}
-use Rattle.exb_changes.specs.declared.job.Phase.TheVariants.{Preparing}
+use Rattle.exb_csp.specs.declared.ask_at.AskAt.{AskAt}
+use Rattle.exb_plans.specs.declared.change.Change.{Change}
+use Rattle.exb_plans.specs.Held.{Held}
+use Rattle.exb_changing.specs.declared.asked.Asked.{Asked}
+use Rattle.exb_changing.specs.declared.job.Job.{Job}
+use Rattle.exb_changing.specs.declared.job.Phase.TheVariants.{Preparing}
 use Rattle.exb_changes.specs.declared.stage.Stage.{Stage}
 use Rattle.exb_changes.specs.declared.stage.Stage.TheVariants.{AtRest, Prepared, InForce}
-use Rattle.exb_changes.specs.Deciding.{Outcome, Refused, Ready}
+use Rattle.exb_changing.specs.Deciding.{Outcome, Refused, Ready}
 use Rattle.exb_changes.specs.Fabrics.{IsShort, HoldsIn, cause_of, held_after, stage_of}
-use Rattle.exb_changes.specs.Machine.{State, commits, prepares, starts}
+use Rattle.exb_changing.specs.Machine.{State, commits, prepares, starts}
 use Rattle.exb_control.specs.Steps.{reached_by, next_of, advances, asks_in}
 
 -- a job that isn't refused has its change

@@ -5,19 +5,19 @@ use Rattle.std.specs.Option.{is_some}
 use Rattle.exb_model.specs.declared.event.Event.{Event}
 use Rattle.exb_session.specs.Asking.{AskerState}
 use Rattle.exb_learn.specs.Calls.{Table, Forget, after_call}
-use Rattle.exb_plan.specs.declared.asks.AskAt.{AskAt}
-use Rattle.exb_plan.specs.declared.change.Change.{Change}
-use Rattle.exb_plan.specs.Held.{Held}
+use Rattle.exb_csp.specs.declared.ask_at.AskAt.{AskAt}
+use Rattle.exb_plans.specs.declared.change.Change.{Change}
+use Rattle.exb_plans.specs.Held.{Held}
 use Rattle.exb_model.specs.Configuration.{Bridge}
-use Rattle.exb_changes.specs.declared.asked.Asked.{Asked}
-use Rattle.exb_changes.specs.declared.job.Job.{Job}
-use Rattle.exb_changes.specs.declared.job.Phase.{Phase}
-use Rattle.exb_changes.specs.declared.job.Phase.TheVariants.{Preparing, Cleaning}
+use Rattle.exb_changing.specs.declared.asked.Asked.{Asked}
+use Rattle.exb_changing.specs.declared.job.Job.{Job}
+use Rattle.exb_changing.specs.declared.job.Phase.{Phase}
+use Rattle.exb_changing.specs.declared.job.Phase.TheVariants.{Preparing, Cleaning}
 use Rattle.exb_changes.specs.declared.stage.Stage.{Stage}
 use Rattle.exb_changes.specs.declared.stage.Stage.TheVariants.{AtRest, Prepared, InForce}
-use Rattle.exb_changes.specs.Deciding.{bridge_after, release}
+use Rattle.exb_changing.specs.Deciding.{bridge_after, release}
 use Rattle.exb_changes.specs.Fabrics.{IsPrepared, IsInForce}
-use Rattle.exb_changes.specs.Machine.{State, Moved, still, ends, cleans, commits, committed, downs_of, followed_by}
+use Rattle.exb_changing.specs.Machine.{State, Moved, still, ends, cleans, commits, committed, downs_of, followed_by}
 use Rattle.exb_control.specs.Queues.{first_in}
 use Rattle.exb_control.specs.Controls.{work_from, work_at, forgotten_all}
 use Rattle.exb_control.specs.Steps.{reached, reached_by, asks_in, ask_at, after_ask, messages_for, next_of, advances, commits_at}

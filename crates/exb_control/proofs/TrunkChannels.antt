@@ -6,10 +6,12 @@ use mathlib.Core.Path.{fun_ext}
 use Rattle.exb_model.specs.Tree.{Shape, IsTree, HangsOn, device, on, trunk, is_extender, is_cascade}
 use Rattle.exb_model.proofs.TreeLoops.{trunk_is}
 use Rattle.exb_model.proofs.TreeWays.{top_low, top_hangs, number_at_most}
-use Rattle.exb_numbers.specs.Channels.{is_port, channel_of}
+use Rattle.exb_model.specs.Numbering.{is_port}
+use Rattle.exb_numbers.specs.Channels.{channel_of}
 use Rattle.exb_numbers.specs.Spaces.{Spaces, has_space, channels_at}
-use Rattle.exb_plan.specs.Held.{Held, held_by, channel_in}
-use Rattle.exb_changes.specs.Fabrics.{is_place, in_spaces}
+use Rattle.exb_plans.specs.Held.{Held, channel_in}
+use Rattle.exb_plan.specs.Spaces.{held_by}
+use Rattle.exb_plans.specs.Held.{is_place, in_spaces}
 use Rattle.exb_control.proofs.FirstJobs.{hung}
 use Rattle.exb_control.proofs.Known.{extender_low}
 use Rattle.exb_control.specs.Controls.{channel_at_trunk}

@@ -8,18 +8,18 @@ use Rattle.exb_lldp.specs.declared.announce.Announce.{Announce}
 use Rattle.exb_session.specs.Asking.{AskerState, begun}
 use Rattle.exb_learn.specs.Calls.{Table, Forget, after_call}
 use Rattle.exb_learn.specs.Entries.{Entries}
-use Rattle.exb_plan.specs.declared.asks.AskAt.{AskAt}
-use Rattle.exb_plan.specs.declared.change.Change.{Change}
-use Rattle.exb_plan.specs.Held.{Held, channel_in}
-use Rattle.exb_changes.specs.declared.job.Job.{Job}
-use Rattle.exb_changes.specs.declared.job.Phase.{Phase}
-use Rattle.exb_changes.specs.declared.job.Phase.TheVariants.{Preparing, Cleaning}
+use Rattle.exb_csp.specs.declared.ask_at.AskAt.{AskAt}
+use Rattle.exb_plans.specs.declared.change.Change.{Change}
+use Rattle.exb_plans.specs.Held.{Held, channel_in}
+use Rattle.exb_changing.specs.declared.job.Job.{Job}
+use Rattle.exb_changing.specs.declared.job.Phase.{Phase}
+use Rattle.exb_changing.specs.declared.job.Phase.TheVariants.{Preparing, Cleaning}
 use Rattle.exb_changes.specs.declared.stage.Stage.{Stage}
 use Rattle.exb_changes.specs.declared.stage.Stage.TheVariants.{AtRest, Prepared, InForce}
-use Rattle.exb_changes.specs.Deciding.{Decide, decide}
+use Rattle.exb_changing.specs.Deciding.{Decide, decide}
 use Rattle.exb_changes.specs.Fabrics.{Fabric, bridge_in, held_in}
-use Rattle.exb_changes.specs.Machine.{Work, State, Moved, still, heard}
-use Rattle.exb_changes.specs.Beginning.{first_state}
+use Rattle.exb_changing.specs.Machine.{Work, State, Moved, still, heard}
+use Rattle.exb_changing.specs.Beginning.{first_state}
 use Rattle.exb_control.specs.Queues.{is_empty}
 
 -- The configuration with its numbers and the change at work, the place of the outstanding request among those

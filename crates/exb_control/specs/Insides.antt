@@ -1,6 +1,6 @@
 -- The value of a control by its parts, and what they keep.
 use Rattle.std.specs.Prelude.{◌≡◌, ℕ, Bool, false, List}
-use Rattle.exb_changes.specs.declared.job.Job.{Job}
+use Rattle.exb_changing.specs.declared.job.Job.{Job}
 use Rattle.exb_control.specs.declared.working.Core.{Core}
 use Rattle.exb_control.specs.Controls.{Parts}
 use Rattle.exb_control.specs.Steps.{Heard}

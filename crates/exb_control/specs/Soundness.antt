@@ -1,14 +1,14 @@
 -- What holds of the control while memory hasn't run out.
 use Rattle.std.specs.Prelude.{◌≡◌, ◌≢◌, ℕ, ◌+◌, ◌-◌, ◌*◌, ◌^◌, ◌<◌, true, List, [], ◌∷◌, Option, Some, None, is_none, length}
 use Rattle.exb_session.specs.Asking.{AskerState}
-use Rattle.exb_plan.specs.declared.asks.AskAt.{AskAt}
-use Rattle.exb_plan.specs.declared.change.Change.{Change}
-use Rattle.exb_changes.specs.declared.job.Job.{Job}
-use Rattle.exb_changes.specs.declared.job.Phase.{Phase}
-use Rattle.exb_changes.specs.declared.job.Phase.TheVariants.{Preparing, Cleaning}
+use Rattle.exb_csp.specs.declared.ask_at.AskAt.{AskAt}
+use Rattle.exb_plans.specs.declared.change.Change.{Change}
+use Rattle.exb_changing.specs.declared.job.Job.{Job}
+use Rattle.exb_changing.specs.declared.job.Phase.{Phase}
+use Rattle.exb_changing.specs.declared.job.Phase.TheVariants.{Preparing, Cleaning}
 use Rattle.exb_changes.specs.declared.stage.Stage.TheVariants.{AtRest}
-use Rattle.exb_changes.specs.Fabrics.{AreFit}
-use Rattle.exb_changes.specs.Machine.{Work}
+use Rattle.exb_changing.specs.Fitting.{AreFit}
+use Rattle.exb_changing.specs.Machine.{Work}
 use Rattle.exb_control.specs.declared.working.Core.{Core}
 use Rattle.exb_control.specs.Controls.{work_at}
 use Rattle.exb_control.specs.Steps.{askers_of}

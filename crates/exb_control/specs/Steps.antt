@@ -5,17 +5,17 @@ use Rattle.exb_model.specs.declared.event.Event.{Event}
 use Rattle.exb_csp.specs.declared.message.Message.{Message}
 use Rattle.exb_session.specs.Asking.{AskerState, asked, beaten, message_again}
 use Rattle.exb_learn.specs.Calls.{Table}
-use Rattle.exb_plan.specs.declared.asks.AskAt.{AskAt}
-use Rattle.exb_plan.specs.declared.change.Change.{Change}
-use Rattle.exb_changes.specs.declared.asked.Asked.{Asked}
-use Rattle.exb_changes.specs.declared.job.Job.{Job}
-use Rattle.exb_changes.specs.declared.job.Job.TheVariants as job
-use Rattle.exb_changes.specs.declared.job.Phase.{Phase}
-use Rattle.exb_changes.specs.declared.job.Phase.TheVariants.{Preparing, Cleaning}
+use Rattle.exb_csp.specs.declared.ask_at.AskAt.{AskAt}
+use Rattle.exb_plans.specs.declared.change.Change.{Change}
+use Rattle.exb_changing.specs.declared.asked.Asked.{Asked}
+use Rattle.exb_changing.specs.declared.job.Job.{Job}
+use Rattle.exb_changing.specs.declared.job.Job.TheVariants as job
+use Rattle.exb_changing.specs.declared.job.Phase.{Phase}
+use Rattle.exb_changing.specs.declared.job.Phase.TheVariants.{Preparing, Cleaning}
 use Rattle.exb_changes.specs.declared.stage.Stage.{Stage}
 use Rattle.exb_changes.specs.declared.stage.Stage.TheVariants.{AtRest, Prepared, InForce}
 use Rattle.exb_changes.specs.Fabrics.{bridge_in, held_in}
-use Rattle.exb_changes.specs.Machine.{State, Moved, still, ends, works, commits, messages_due}
+use Rattle.exb_changing.specs.Machine.{State, Moved, still, ends, works, commits, messages_due}
 use Rattle.exb_control.specs.declared.working.Core.{Core}
 use Rattle.exb_control.specs.Queues.{first_in}
 use Rattle.exb_control.specs.Controls.{is_heard, asker_at, work_at, forgotten_all}

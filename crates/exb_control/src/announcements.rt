@@ -4,7 +4,7 @@ ghost use Rattle.exb_model.specs.Setup.{IsValid, shape_of};
 ghost use Rattle.exb_control.specs.Controls.{address_of, is_announced, is_heard};
 ghost use Rattle.exb_control.specs.Steps.{heard_of, noted, waits_for, unheard_at, unheard_to};
 
-use exb_changes::Job;
+use exb_changing::Job;
 use exb_lldp::Announce;
 use exb_model::address::Mac;
 use exb_model::setup::Setup;

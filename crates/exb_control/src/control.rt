@@ -16,7 +16,8 @@ use crate::queue::Queue;
 use crate::sessions::Sessions;
 use crate::turns::{give, take, wake};
 use crate::working::{Core, beat, outstanding};
-use exb_changes::{Fabric, Job};
+use exb_changes::Fabric;
+use exb_changing::Job;
 use exb_csp::Message;
 use exb_learn::Learned;
 use exb_lldp::Announce;
@@ -63,9 +64,9 @@ impl Model for Control {
 }
 
 impl Control {
-    ghost use Rattle.exb_changes.specs.Counting.{planned};
+    ghost use Rattle.exb_changing.specs.Counting.{planned};
     ghost use Rattle.exb_changes.specs.Fabrics.{IsFabric, held_in};
-    ghost use Rattle.exb_changes.specs.Machine.{ordered, answered, beats};
+    ghost use Rattle.exb_changing.specs.Machine.{ordered, answered, beats};
     ghost use Rattle.exb_control.specs.Boxes.{IsMoved, HasCome, HasTicked};
     ghost use Rattle.exb_control.specs.Controls.{state_of, decide_of, first_of, is_settled, announced, channel_at_trunk};
 

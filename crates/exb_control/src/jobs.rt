@@ -1,11 +1,11 @@
 //! The jobs to begin with.
 ghost use Rattle.std.specs.Prelude.{◌≡◌, ◌<◌, ◌++◌, ◌∷◌, [], OnOk, map};
 ghost use Rattle.exb_model.specs.Tree.{externals_of, is_external};
-ghost use Rattle.exb_changes.specs.Beginning.{first_jobs};
+ghost use Rattle.exb_changing.specs.Beginning.{first_jobs};
 ghost use Rattle.exb_control.specs.Steps.{up_if};
 
 use crate::queue::Queue;
-use exb_changes::Job;
+use exb_changing::Job;
 use exb_model::memory::NoMemory;
 use exb_model::port::PortId;
 use exb_model::role::Role;

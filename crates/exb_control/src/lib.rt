@@ -18,7 +18,7 @@ mod turns;
 mod working;
 
 pub use control::{Control, ControlFault};
-pub use exb_changes::{Asked, Job};
+pub use exb_changing::{Asked, Job};
 pub use exb_relay::{Ingress, SendTo};
 pub use exb_session::Taken;
 pub use outbox::Outbox;

@@ -3,7 +3,7 @@ ghost use Rattle.std.specs.Prelude.{◌≡◌, []};
 ghost use Rattle.exb_control.specs.Boxes.{IsQuiet};
 
 use arrayvec::ArrayVec;
-use exb_changes::Asked;
+use exb_changing::Asked;
 use exb_model::event::Event;
 use exb_model::list::List;
 use exb_relay::{Ingress, SendTo};

@@ -1,7 +1,8 @@
 //! How many exchanges are still to come.
 ghost use Rattle.std.specs.Prelude.{◌≡◌, ◌+◌, ◌*◌, ◌≤◌, ◌<◌, ◌^◌, IfOk, OnOk, length};
-ghost use Rattle.exb_changes.specs.Counting.{requests_of, requests_in, bridge_left, held_left, planned};
-ghost use Rattle.exb_changes.specs.Fabrics.{Fits, bridge_in, held_in, AreFit};
+ghost use Rattle.exb_changing.specs.Counting.{requests_of, requests_in, bridge_left, held_left, planned};
+ghost use Rattle.exb_changing.specs.Fitting.{Fits, AreFit};
+ghost use Rattle.exb_changes.specs.Fabrics.{bridge_in, held_in};
 ghost use Rattle.exb_control.specs.Controls.{decide_of};
 ghost use Rattle.exb_control.specs.Steps.{Front, state_in, left_at};
 ghost use Rattle.exb_control.specs.Soundness.{AsksOrRests};
@@ -9,7 +10,8 @@ ghost use Rattle.exb_control.specs.Soundness.{AsksOrRests};
 use crate::announcements::Heard;
 use crate::queue::Queue;
 use crate::working::{Core, asks_after, asks_in};
-use exb_changes::{Fabric, Job, Stage};
+use exb_changes::{Fabric, Stage};
+use exb_changing::Job;
 use exb_model::memory::NoMemory;
 
 /// Runs a job to its end, and counts its requests.

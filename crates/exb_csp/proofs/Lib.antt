@@ -4,3 +4,4 @@ pub mod Again
 pub mod Executing
 pub mod Spelled
 pub mod PlainLemmas
+pub mod AllLemmas

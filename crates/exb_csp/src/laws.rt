@@ -1,6 +1,7 @@
 //! What holds of every message, and of every extender that executes requests.
 
 ghost use Rattle.exb_csp.specs.Laws.{WrittenIsRead, ReadIsSpelled, RefusedChangesNothing, RegisterSetsTheMask, UnregisterClearsTheRow, RegisterManyIsItsRows, UnregisterManyIsItsEcids, HasPairExactly, SomeBitExactly};
+ghost use Rattle.exb_csp.specs.AllLaws.{DoneAtEachPort, RefusedAtNoPort, RunsLayRows};
 
 /// What is written is read again as the same message.
 pub fn written_is_read()
@@ -45,4 +46,20 @@ pub fn has_pair_exactly()
 /// A word of 64 bits has the bit of some port exactly where it isn't 0.
 pub fn some_bit_exactly()
     ensures { SomeBitExactly }
+{}
+
+/// A request that is answered with code 0 does at each port what it asks, and changes nothing else in the
+/// tables of all extenders.
+pub fn done_at_each_port()
+    ensures { DoneAtEachPort }
+{}
+
+/// A request that is answered with another code changes nothing there.
+pub fn refused_at_no_port()
+    ensures { RefusedAtNoPort }
+{}
+
+/// A run of Registers of one number at any extenders, each of them done, lays exactly their masks.
+pub fn runs_lay_rows()
+    ensures { RunsLayRows }
 {}

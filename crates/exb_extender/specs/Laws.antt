@@ -1,12 +1,11 @@
 -- The laws of this crate.
 use Rattle.std.specs.Prelude.{◌≡◌, ◌≢◌, ◌↔◌, ◌⊎◌, ℕ, ◌<◌, ◌≤◌, ◌||◌, ◌++◌, Bool, true, List, ◌∷◌}
-use Rattle.exb_model.specs.ExtenderForwarding.{Tables, emits}
+use Rattle.exb_model.specs.ExtenderForwarding.{emits}
 use Rattle.exb_csp.specs.declared.group_rows.GroupRow.{GroupRow}
-use Rattle.exb_csp.specs.declared.message.Request.{Request}
 use Rattle.exb_csp.specs.declared.message.Request.TheVariants.{PortCreate, PortDelete, Register, Unregister, RegisterMany}
 use Rattle.exb_csp.specs.Execute.{ExtenderTables, in_mask, code_of, row_code}
 use Rattle.exb_csp.specs.Spelling.{IsBytes}
-use Rattle.exb_extender.specs.AllTables.{tables_at, port_of, executes_at, done_at, RunsAt, MaskAt, registers, in_masks}
+use Rattle.exb_csp.specs.AllTables.{tables_at, port_of}
 use Rattle.exb_extender.specs.Forwarding.{forwarding_of}
 use Rattle.exb_extender.specs.Machine.{ExtenderState, Input, Arrives, Beats, react, IsSameDevice, IsExtender, at_power_on}
 
@@ -15,31 +14,6 @@ abbrev pub EmitsOfAll : Type 0
 EmitsOfAll =
     (all : ℕ → ExtenderTables) (n port : ℕ) (f : List ℕ) → 0 < port → port ≤ 64
     → emits (tables_at all) (port_of n port) f ≡ emits (forwarding_of (all n)) port f
-
--- A request with code 0 does at each port what is asked, and nothing else anywhere.
-abbrev pub DoneAtEachPort : Type 0
-DoneAtEachPort =
-    (all : ℕ → ExtenderTables) (n : ℕ) (asked : Request) → (all n).ports ≤ 64 → code_of (all n) asked ≡ 0
-    → tables_at (executes_at n asked all) ≡ done_at n asked (tables_at all)
-
--- With another code nothing changes.
-abbrev pub RefusedAtNoPort : Type 0
-RefusedAtNoPort =
-    (all : ℕ → ExtenderTables) (n : ℕ) (asked : Request) → code_of (all n) asked ≢ 0
-    → tables_at (executes_at n asked all) ≡ tables_at all
-
--- the pairs of the number are those that were there and those of the masks, and nothing else has changed
-pub record IsLaid (old new : Tables) (number : ℕ) (masks : List MaskAt) : Type 0 where
-  pub row : (q : ℕ) → new.pair number q ≡ (old.pair number q || in_masks masks q)
-  pub others : (e q : ℕ) → e ≢ number → new.pair e q ≡ old.pair e q
-  pub own : (q : ℕ) → new.own q ≡ old.own q
-  pub cascade : (q : ℕ) → new.cascade q ≡ old.cascade q
-
--- A run of Registers of one number at any extenders, each done, lays exactly their masks.
-abbrev pub RunsLayRows : Type 0
-RunsLayRows =
-    (all end : ℕ → ExtenderTables) (number : ℕ) (masks : List MaskAt) → RunsAt all (registers number masks) end
-    → IsLaid (tables_at all) (tables_at end) number masks
 
 -- ---- codes
 

@@ -7,5 +7,4 @@ pub mod Machine
 pub mod Fields
 pub mod ControlState
 pub mod Control
-pub mod AllTables
 pub mod Laws

@@ -13,6 +13,7 @@ pub mod History
 pub mod Learning
 pub mod Targets
 pub mod FlatBridge
+pub mod Numbering
 pub mod Refusals
 pub mod Input
 pub mod EagerHistory

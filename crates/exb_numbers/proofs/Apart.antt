@@ -4,7 +4,8 @@ use Rattle.std.specs.Prelude.{Option, Some, None, find, bytes_eq, is_some}
 use Rattle.std.specs.List.{range_with_len}
 use Rattle.std.proofs.lemmas.Slice.Eq.{bytes_eq-Decides}
 use Rattle.exb_model.specs.Refusals.{is_empty_set}
-use Rattle.exb_numbers.specs.Channels.{holder, is_port, is_used, channel_of}
+use Rattle.exb_numbers.specs.Channels.{holder, is_used, channel_of}
+use Rattle.exb_model.specs.Numbering.{is_port}
 use Rattle.exb_numbers.specs.Groups.{Groups, set_of, is_used as group_in_use, group_of}
 use Rattle.exb_numbers.proofs.Kept.{none_some, is_port-is}
 

@@ -6,7 +6,8 @@ use Rattle.std.proofs.lemmas.Bool.{cases_Bool, cases_eq, cases_lt, ne_eqb, eqb-t
 use Rattle.std.proofs.lemmas.List.{length-set, get_or-set_other, get_or_past, length-replicate}
 use Rattle.std.proofs.lemmas.Grind.{get_or-set_at}
 use Rattle.exb_model.proofs.Words.{get_or-same}
-use Rattle.exb_numbers.specs.Channels.{holder, is_used, is_port, channel_of, lowest_channel, AreKept}
+use Rattle.exb_numbers.specs.Channels.{holder, is_used, channel_of, lowest_channel, AreKept}
+use Rattle.exb_model.specs.Numbering.{is_port}
 use Rattle.exb_numbers.proofs.Lowest.{find_first, find_none, lowest_is, lowest_none}
 
 abbrev pub own : List (Option ℕ) → ℕ → Option ℕ

@@ -3,7 +3,7 @@ use Rattle.std.proofs.Common.{◌≡◌, ℕ, zero, suc, ◌+◌, ◌<◌, ◌�
 use Rattle.std.specs.Prelude.{Some, None, find}
 use Rattle.std.specs.List.{range_with_len}
 use Rattle.std.proofs.lemmas.Bool.{cases_eq}
-use Rattle.exb_numbers.specs.Lowest.{lowest_free}
+use Rattle.exb_model.specs.Numbering.{lowest_free}
 
 pub find_first : (test : ℕ → Bool) (a n k : ℕ) → a ≤ k → k < a + n → test k ≡ true → ((c : ℕ) → a ≤ c → c < k → test c ≡ false) → find test (range_with_len a n) ≡ Some k
 find_first test a zero k low high is before = absurd (omega arith)

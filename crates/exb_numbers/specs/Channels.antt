@@ -1,7 +1,7 @@
 -- The channels of a space, as the list of the port of each, from channel 0 on, which is of none.
 use Rattle.std.specs.Prelude.{◌≡◌, ℕ, ◌-◌, ◌<◌, ◌≤◌, ◌==◌, Bool, true, false, List, Option, Some, None, is_some, find, length, slice_index_or}
 use Rattle.std.specs.List.{range_with_len}
-use Rattle.exb_numbers.specs.Lowest.{lowest_free}
+use Rattle.exb_model.specs.Numbering.{lowest_free, is_port}
 
 -- the port of a channel
 abbrev pub holder : List (Option ℕ) → ℕ → Option ℕ
@@ -9,10 +9,6 @@ holder ports c = slice_index_or ports c None
 
 abbrev pub is_used : List (Option ℕ) → ℕ → Bool
 is_used ports c = is_some (holder ports c)
-
-abbrev pub is_port : ℕ → Option ℕ → Bool
-is_port p None = false
-is_port p (Some q) = q == p
 
 -- the channel of a port, among all channels that there can be
 unfoldable pub channel_of : List (Option ℕ) → ℕ → Option ℕ

@@ -1,4 +1,3 @@
-pub mod Lowest
 pub mod Channels
 pub mod Groups
 pub mod Order

@@ -15,16 +15,17 @@ use Rattle.exb_model.specs.TreeSets.{covers, mask_of}
 use Rattle.exb_model.proofs.MaskLemmas.{bits_of-same}
 use Rattle.exb_model.proofs.PortLemmas.{any_below-true, range-more}
 use Rattle.exb_csp.specs.declared.group_rows.GroupRow.{GroupRow}
-use Rattle.exb_rows.specs.Sets.{PortsAt}
-use Rattle.exb_rows.proofs.SetPorts.{ports_are, past_ports}
-use Rattle.exb_plan.specs.declared.asks.AskAt.{AskAt}
-use Rattle.exb_plan.specs.declared.asks.Step.{Step}
-use Rattle.exb_plan.specs.declared.groups.GroupAt.{GroupAt}
+use Rattle.exb_plans.specs.Sets.{PortsAt}
+use Rattle.exb_plan.proofs.SetPorts.{ports_are, past_ports}
+use Rattle.exb_csp.specs.declared.ask_at.AskAt.{AskAt}
+use Rattle.exb_plans.specs.declared.step.Step.{Step}
+use Rattle.exb_plans.specs.declared.group_at.GroupAt.{GroupAt}
 use Rattle.exb_plan.specs.declared.group_asks.Covered.{Covered}
-use Rattle.exb_plan.specs.Held.{Held, Group}
-use Rattle.exb_plan.specs.Between.{has_set, group_at, is_gone, gone_at, gone_groups}
-use Rattle.exb_plan.specs.Asks.{is_listed, row_by, row_at, rows_at, asks_with, group_asks}
-use Rattle.exb_plan.specs.Working.{seen_group, placed, put_gone, row_of_covered, rows_of_covered}
+use Rattle.exb_plans.specs.Held.{Held, Group}
+use Rattle.exb_plans.specs.Between.{has_set, group_at, is_gone, gone_at, gone_groups}
+use Rattle.exb_plans.specs.Asks.{is_listed, row_by, row_at, rows_at, asks_with, group_asks}
+use Rattle.exb_plans.specs.Making.{seen_group}
+use Rattle.exb_plan.specs.Working.{placed, put_gone, row_of_covered, rows_of_covered}
 
 -- ---- the list of a set's ports as a test
 listed_filter : (test : ℕ → Bool) (q : ℕ) (xs : List ℕ) → is_listed (filter test xs) q ≡ (is_listed xs q && test q)

@@ -6,22 +6,23 @@ use Rattle.exb_model.specs.declared.event.Cause.{Cause}
 use Rattle.exb_model.specs.Tree.{Shape, IsTree, trunk}
 use Rattle.exb_model.specs.Setup.{Limits}
 use Rattle.exb_model.specs.Configuration.{Bridge}
-use Rattle.exb_model.specs.Refusals.{channels_short, first_cause}
 use Rattle.exb_numbers.specs.Spaces.{Spaces}
-use Rattle.exb_rows.specs.declared.group_sets.SetAt.{SetAt}
-use Rattle.exb_rows.specs.Sets.{PortsAt, sets_of, seen}
-use Rattle.exb_plan.specs.declared.change.Change.{Change}
-use Rattle.exb_plan.specs.declared.change.Decision.TheVariants.{Refused, Ready}
-use Rattle.exb_plan.specs.Held.{Held, Group, held_by, HoldsNeeded, HasSpaces, group_in, group_for, give, channel_used}
-use Rattle.exb_plan.specs.Between.{goes_up, goes_down, trunk_of, refusal_between, fresh_sets}
-use Rattle.exb_plan.specs.Plans.{with_channel, fresh_groups, prepare_of, cleanup_of, claimed, change_of, decision, decision_by, held_after, held_by_cause}
-use Rattle.exb_plan.specs.Working.{IsPlaced, AreFresh, AreLimited, IsAlike, CanClaim, CanClaimUp, HasUp, SpacesOf, AreClaimed, IsLaterBy, AreGiven, refusal_by, short_by, claimed_by, change_by}
-use Rattle.exb_plan.proofs.Each.{Each}
-use Rattle.exb_plan.proofs.SetFacts.{IsBelow, sets_below}
-use Rattle.exb_plan.proofs.Needed.{groups_short_is}
-use Rattle.exb_plan.proofs.Fresh.{fresh_can, placed_fresh}
-use Rattle.exb_plan.proofs.Channels.{can_claim_up}
-use Rattle.exb_plan.proofs.Claiming.{are_given}
+use Rattle.exb_plans.specs.declared.set_at.SetAt.{SetAt}
+use Rattle.exb_plans.specs.Sets.{PortsAt, sets_of, seen}
+use Rattle.exb_plans.specs.declared.change.Change.{Change}
+use Rattle.exb_plans.specs.declared.change.Decision.TheVariants.{Refused, Ready}
+use Rattle.exb_plans.specs.Held.{Held, Group, HoldsNeeded, channel_used}
+use Rattle.exb_plan.specs.Spaces.{held_by, HasSpaces}
+use Rattle.exb_plans.specs.Between.{goes_up, goes_down, refusal_between, fresh_sets}
+use Rattle.exb_plans.specs.Plans.{with_channel, fresh_groups, prepare_of, cleanup_of, claimed, change_of, decision, decision_by, held_after, held_by_cause}
+use Rattle.exb_plan.specs.Working.{IsPlaced, AreLimited, IsAlike, CanClaim, CanClaimUp, HasUp, SpacesOf, AreClaimed, IsLaterBy, AreGiven, claimed_by, change_by}
+use Rattle.exb_plans.specs.Making.{AreFresh, refusal_by}
+use Rattle.exb_plans.proofs.Each.{Each}
+use Rattle.exb_plans.proofs.SetFacts.{IsBelow, sets_below}
+use Rattle.exb_plans.proofs.Fresh.{fresh_can}
+use Rattle.exb_plans.proofs.NotShort.{refusal_is, none_short, fresh_with}
+use Rattle.exb_plan.proofs.ChannelClaims.{can_claim_up}
+use Rattle.exb_plan.proofs.Placing.{placed_fresh, are_given}
 use Rattle.exb_plan.proofs.ClaimLoop.{alike_limited, alike_placed}
 
 -- ---- the spaces
@@ -46,11 +47,6 @@ placed_each t v spaces (x ∷ xs) each (suc k) d within = placed_each t v spaces
 pub placed_sets : (t : Shape) → IsTree t → (b : Bridge) (v : Spaces) → SpacesOf t v → (xs : List SetAt) → map seen xs ≡ sets_of t b → All (λ s. IsPlaced v (seen s)) xs
 placed_sets t valid b v spaces xs e = placed_each t v spaces xs (subst (λ (l : List PortsAt). Each (IsBelow t) l) (sym e) (sets_below t valid b))
 
--- ---- refused
-pub refusal_is : (t : Shape) → IsTree t → (l : Limits) (old new : Bridge) → refusal_by t l old (goes_up t old new) (sets_of t old) (fresh_sets t old new) ≡ refusal_between t l old new
-unfolding refusal_between
-refusal_is t valid l old new = ap (first_cause (channels_short t l old (trunk_of t (goes_up t old new)))) (groups_short_is t old new valid l)
-
 pub refusal_are : (t : Shape) → IsTree t → (l : Limits) (old new : Bridge) (up : Option ℕ) (had fresh : List PortsAt) → up ≡ goes_up t old new → had ≡ sets_of t old → fresh ≡ fresh_sets t old new →
     refusal_by t l old up had fresh ≡ refusal_between t l old new
 refusal_are t valid l old new up had fresh a b c =
@@ -65,10 +61,6 @@ refused_is t l old new h x e = sym (ap (λ (o : Option Cause). decision_by o (ch
 pub refused_held : (t : Shape) (l : Limits) (old new : Bridge) (h : Held) (x : Cause) → refusal_between t l old new ≡ Some x → h ≡ held_after t l old new h
 unfolding held_after
 refused_held t l old new h x e = sym (ap (λ (o : Option Cause). held_by_cause o h (claimed t l old new h)) e)
-
-pub neither : (a b : Option Cause) → first_cause a b ≡ None → (a ≡ None) × (b ≡ None)
-neither None b e = (refl, e)
-neither (Some x) b e = absurd (cc)
 
 -- ---- not refused
 pub ready_is : (t : Shape) (l : Limits) (old new : Bridge) (h : Held) → refusal_between t l old new ≡ None →
@@ -96,11 +88,6 @@ pub ready_held_are : (t : Shape) (l : Limits) (old new : Bridge) (h now : Held) 
 ready_held_are t l old new h now up fresh a d none is =
     is ∙ (ap (λ (o : Option ℕ). claimed_by t l h o fresh) a ∙ (ap (λ (s : List PortsAt). claimed_by t l h (goes_up t old new) s) d ∙ ready_held t l old new h none))
 
-pub none_short : (t : Shape) (valid : IsTree t) (l : Limits) (old new : Bridge) → refusal_between t l old new ≡ None →
-    (channels_short t l old (trunk_of t (goes_up t old new)) ≡ None) × (short_by t l (sets_of t old) (fresh_sets t old new) ≡ None)
-none_short t valid l old new fits =
-    neither (channels_short t l old (trunk_of t (goes_up t old new))) (short_by t l (sets_of t old) (fresh_sets t old new)) (refusal_is t valid l old new ∙ fits)
-
 module _ (t : Shape) (valid : IsTree t) (l : Limits) (old new : Bridge) (v : Spaces) (has : HasSpaces t l v) (needed : HoldsNeeded t old (held_by v)) (fits : refusal_between t l old new ≡ None) where
   pub up_can : CanClaimUp t v (goes_up t old new)
   up_can = can_claim_up t valid old (held_by v) needed v l new (goes_up t old new) refl (spaces_of t l v has) has refl (none_short t valid l old new fits).0
@@ -112,24 +99,6 @@ module _ (t : Shape) (valid : IsTree t) (l : Limits) (old new : Bridge) (v : Spa
     placed = placed_fresh t valid old new (held_by v) needed v (spaces_of t l v has);
     fresh = fresh_can t valid old new (held_by v) needed l (none_short t valid l old new fits).1;
   }
-
--- ---- claims after that of a channel
-group_in_port : (port other : ℕ → ℕ → Option ℕ) (set : ℕ → ℕ → List ℕ) (k : ℕ) (s : List ℕ) →
-    (let a : Held = record { port = port; set = set } in group_in a k s) ≡ (let b : Held = record { port = other; set = set } in group_in b k s)
-unfolding group_in
-group_in_port port other set k s = refl
-
-fresh_port : (groups : ℕ) (sets : List PortsAt) (port other : ℕ → ℕ → Option ℕ) (set : ℕ → ℕ → List ℕ) →
-    AreFresh groups (record { port = port; set = set }) sets → AreFresh groups (record { port = other; set = set }) sets
-fresh_port groups [] port other set fresh = tt
-fresh_port groups (s ∷ sets) port other set fresh = (
-  record { some = fresh.0.some; absent = sym (group_in_port port other set (s.bridge_port - 1) s.ports) ∙ fresh.0.absent; free = fresh.0.free },
-  fresh_port groups sets port other (λ k g. (give (group_for groups (record { port = port; set = set }) s) (record { port = port; set = set })).set k g) fresh.1,
-)
-
-pub fresh_with : (t : Shape) (groups c : ℕ) (o : Option ℕ) (h : Held) (sets : List PortsAt) → AreFresh groups h sets → AreFresh groups (with_channel t c o h) sets
-fresh_with t groups c None h sets fresh = fresh
-fresh_with t groups c (Some p) h sets fresh = fresh_port groups sets h.port (with_channel t c (Some p) h).port h.set fresh
 
 pub can_after : (t : Shape) (c : ℕ) (o : Option ℕ) (v w : Spaces) (sets : List PortsAt) → IsAlike v w → held_by w ≡ with_channel t c o (held_by v) → CanClaim v sets → CanClaim w sets
 can_after t c o v w sets a e can = record {

@@ -1,6 +1,3 @@
-pub mod Held
-pub mod Between
-pub mod Asks
-pub mod Plans
+pub mod Ground
+pub mod Spaces
 pub mod Working
-pub mod Laws

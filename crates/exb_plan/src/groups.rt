@@ -5,10 +5,12 @@ ghost use Rattle.exb_model.specs.Tree.{is_cascade};
 ghost use Rattle.exb_model.specs.Configuration.{Bridge};
 ghost use Rattle.exb_model.specs.Setup.{Limits};
 ghost use Rattle.exb_numbers.specs.Spaces.{has_space};
-ghost use Rattle.exb_rows.specs.Sets.{seen, is_same_set, sets_of};
-ghost use Rattle.exb_plan.specs.Held.{held_by, HasSpaces, give, give_all, numbered, group_for};
-ghost use Rattle.exb_plan.specs.Between.{has_set, gone_at, gone_groups};
-ghost use Rattle.exb_plan.specs.Working.{seen_group, placed, has_group, put_gone, IsPlaced};
+ghost use Rattle.exb_plans.specs.Sets.{seen, is_same_set, sets_of};
+ghost use Rattle.exb_plan.specs.Spaces.{held_by, HasSpaces};
+ghost use Rattle.exb_plans.specs.Held.{give, give_all, numbered, group_for};
+ghost use Rattle.exb_plans.specs.Between.{has_set, gone_at, gone_groups};
+ghost use Rattle.exb_plans.specs.Making.{seen_group, has_group};
+ghost use Rattle.exb_plan.specs.Working.{placed, put_gone, IsPlaced};
 
 use exb_model::memory::NoMemory;
 use exb_model::port::PortId;
@@ -16,19 +18,8 @@ use exb_model::port_set::PortSet;
 use exb_model::role::Role;
 use exb_model::tree::Tree;
 use exb_numbers::Spaces;
-use exb_rows::SetAt;
+use exb_plans::{GroupAt, SetAt};
 use std::alloc::Global;
-
-/// A group with its set, in the space of a bridge port, which is numbered from 1.
-#[derive(Clone, Copy, Debug, PartialEq, Eq)]
-pub struct GroupAt {
-    /// The bridge port.
-    pub bridge_port: u8,
-    /// The number of the group.
-    pub number: u16,
-    /// Its set.
-    pub set: PortSet,
-}
 
 // Whether a set has a group.
 fn has_group(spaces: &Spaces, set: &SetAt) -> bool

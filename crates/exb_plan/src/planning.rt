@@ -3,26 +3,29 @@ ghost use Rattle.std.specs.Prelude.{◌≡◌, ◌≢◌, ℕ, true, map, IfOk, 
 ghost use Rattle.exb_model.specs.Tree.{is_external};
 ghost use Rattle.exb_model.specs.Setup.{Limits};
 ghost use Rattle.exb_config.specs.Tables.{bridge_of};
-ghost use Rattle.exb_rows.specs.Sets.{seen};
-ghost use Rattle.exb_plan.specs.Held.{held_by, HoldsNeeded, HasSpaces};
-ghost use Rattle.exb_plan.specs.Between.{goes_up};
-ghost use Rattle.exb_plan.specs.Plans.{own_channel, new_channel, with_channel, without_channel, freed_channel, number_of, prepare_with, cleanup_with, decision, held_after};
-ghost use Rattle.exb_plan.specs.Working.{seen_group, IsAlike, CanClaim, CanClaimUp, HasUp, IsAnyExtended, SpacesOf, refusal_by, prepare_by, claimed_by, change_with, change_by};
+ghost use Rattle.exb_plans.specs.Sets.{seen};
+ghost use Rattle.exb_plan.specs.Spaces.{held_by, HasSpaces};
+ghost use Rattle.exb_plans.specs.Held.{HoldsNeeded};
+ghost use Rattle.exb_plans.specs.Between.{goes_up};
+ghost use Rattle.exb_plans.specs.Plans.{own_channel, new_channel, with_channel, without_channel, freed_channel, number_of, prepare_with, cleanup_with, decision, held_after};
+ghost use Rattle.exb_plans.specs.Making.{seen_group, IsAnyExtended, refusal_by};
+ghost use Rattle.exb_plan.specs.Working.{IsAlike, CanClaim, CanClaimUp, HasUp, SpacesOf, prepare_by, claimed_by, change_with, change_by};
 
-use crate::asks::{AskAt, Step, put_create, put_delete};
-use crate::change::{Change, Decision, Number};
+use crate::asks::{put_create, put_delete};
 use crate::claims::{claim_channel, claim_groups, free_channel, free_groups};
 use crate::group_asks::put_groups;
-use crate::groups::{GroupAt, gone_groups, without_group};
+use crate::group_sets::sets;
+use crate::groups::{gone_groups, without_group};
 use crate::refusals::{channels_short, goes_up, groups_short};
 use exb_config::Config;
+use exb_csp::AskAt;
 use exb_model::event::Cause;
 use exb_model::list::List;
 use exb_model::memory::NoMemory;
 use exb_model::port::PortId;
 use exb_model::tree::Tree;
 use exb_numbers::Spaces;
-use exb_rows::{SetAt, sets};
+use exb_plans::{Change, Decision, GroupAt, Number, SetAt, Step};
 use std::alloc::Global;
 
 // Why a change is refused, if it is.

@@ -6,10 +6,11 @@ ghost use Rattle.exb_model.specs.Setup.{Limits};
 ghost use Rattle.exb_model.specs.Refusals.{present_under, channels_needed, channels_short};
 ghost use Rattle.exb_config.specs.Tables.{bridge_of};
 ghost use Rattle.exb_numbers.specs.Spaces.{has_space};
-ghost use Rattle.exb_rows.specs.Sets.{seen};
-ghost use Rattle.exb_plan.specs.Held.{HasSpaces};
-ghost use Rattle.exb_plan.specs.Between.{goes_up, rises};
-ghost use Rattle.exb_plan.specs.Working.{AreLimited, how_many, is_at, short_by, short_at};
+ghost use Rattle.exb_plans.specs.Sets.{seen};
+ghost use Rattle.exb_plan.specs.Spaces.{HasSpaces};
+ghost use Rattle.exb_plans.specs.Between.{goes_up, rises};
+ghost use Rattle.exb_plan.specs.Working.{AreLimited};
+ghost use Rattle.exb_plans.specs.Making.{how_many, is_at, short_by, short_at};
 
 use crate::groups::is_cascade;
 use exb_config::Config;
@@ -18,7 +19,7 @@ use exb_model::port::PortId;
 use exb_model::role::Role;
 use exb_model::tree::Tree;
 use exb_numbers::Spaces;
-use exb_rows::SetAt;
+use exb_plans::SetAt;
 
 /// The number of ports there can be.
 const PORTS: u16 = 4160;

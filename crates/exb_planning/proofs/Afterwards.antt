@@ -7,18 +7,21 @@ use Rattle.exb_model.specs.Setup.{Limits}
 use Rattle.exb_model.specs.Configuration.{Bridge, after}
 use Rattle.exb_model.specs.Refusals.{is_empty_set}
 use Rattle.exb_numbers.specs.Spaces.{Spaces, has_space, groups_at}
-use Rattle.exb_rows.specs.declared.group_sets.SetAt.{SetAt}
-use Rattle.exb_rows.specs.Sets.{PortsAt, seen}
-use Rattle.exb_plan.specs.Held.{Held, HoldsNeeded, HasSpaces, held_by, group_in, group_used}
-use Rattle.exb_plan.specs.Between.{fresh_sets, refusal_between}
-use Rattle.exb_plan.specs.Working.{IsPlaced, IsAlike, AreFresh, has_group, claimed_by}
-use Rattle.exb_plan.proofs.Each.{each_filter, each_map}
-use Rattle.exb_plan.proofs.SetFacts.{IsBelow}
-use Rattle.exb_plan.proofs.Claiming.{AreLow}
-use Rattle.exb_plan.proofs.Fresh.{fresh_can, fresh_low}
-use Rattle.exb_plan.proofs.Owning.{IsGroupOf, group_found}
-use Rattle.exb_plan.proofs.WholePlans.{spaces_of, alike_has, none_short}
-use Rattle.exb_uses.specs.Touched.{parts_after}
+use Rattle.exb_plans.specs.declared.set_at.SetAt.{SetAt}
+use Rattle.exb_plans.specs.Sets.{PortsAt, seen}
+use Rattle.exb_plans.specs.Held.{Held, HoldsNeeded, group_in, group_used}
+use Rattle.exb_plan.specs.Spaces.{HasSpaces, held_by}
+use Rattle.exb_plans.specs.Between.{fresh_sets, refusal_between}
+use Rattle.exb_plan.specs.Working.{IsPlaced, IsAlike, claimed_by}
+use Rattle.exb_plans.specs.Making.{AreFresh, has_group}
+use Rattle.exb_plans.proofs.Each.{each_filter, each_map}
+use Rattle.exb_plans.proofs.SetFacts.{IsBelow}
+use Rattle.exb_plans.proofs.Claiming.{AreLow}
+use Rattle.exb_plans.proofs.Fresh.{fresh_can, fresh_low}
+use Rattle.exb_plans.proofs.Owning.{IsGroupOf, group_found}
+use Rattle.exb_plan.proofs.WholePlans.{spaces_of, alike_has}
+use Rattle.exb_plans.proofs.NotShort.{none_short}
+use Rattle.exb_plans.specs.Touched.{parts_after}
 use Rattle.exb_planning.specs.Some.{has_ports}
 use Rattle.exb_planning.specs.Counted.{count_at, uses_at, IsCounted}
 use Rattle.exb_planning.specs.Recount.{AreOwn, HavePlaces, HaveRowsOf, AreRaised, AreUnused}

@@ -8,20 +8,21 @@ use Rattle.exb_model.specs.Tree.{Shape, is_cascade}
 use Rattle.exb_model.specs.Setup.{Limits}
 use Rattle.exb_model.specs.Configuration.{Bridge, after}
 use Rattle.exb_model.specs.Refusals.{is_empty_set}
-use Rattle.exb_numbers.specs.Lowest.{lowest_free}
-use Rattle.exb_rows.specs.Sets.{PortsAt, is_same_set, sets_of}
-use Rattle.exb_plan.specs.Held.{Held, Group, HoldsNeeded, group_in, group_used, group_for, or_zero, give, give_all, numbered}
-use Rattle.exb_plan.specs.Between.{has_set}
-use Rattle.exb_plan.specs.Working.{AreFresh, has_group, with_up_by, claimed_by}
-use Rattle.exb_plan.specs.Plans.{with_channel}
-use Rattle.exb_plan.proofs.Ranges.{IsFound, found}
-use Rattle.exb_plan.proofs.Claiming.{AreLow, set_is, free_set, given_else}
-use Rattle.exb_plan.proofs.Owning.{Owns, IsGroupOf, group_found, owns_from, owns_one, owns_all}
-use Rattle.exb_plan.proofs.WholePlans.{fresh_with}
-use Rattle.exb_plan.proofs.SetFacts.{has_at}
-use Rattle.exb_uses.specs.Touched.{uses_in, uses_of, parts_after}
-use Rattle.exb_uses.proofs.Tests.{count-cons}
-use Rattle.exb_uses.proofs.Uses.{uses_change, sets_are_used}
+use Rattle.exb_model.specs.Numbering.{lowest_free}
+use Rattle.exb_plans.specs.Sets.{PortsAt, is_same_set, sets_of}
+use Rattle.exb_plans.specs.Held.{Held, Group, HoldsNeeded, group_in, group_used, group_for, or_zero, give, give_all, numbered}
+use Rattle.exb_plans.specs.Between.{has_set}
+use Rattle.exb_plans.specs.Making.{AreFresh, has_group}
+use Rattle.exb_plan.specs.Working.{with_up_by, claimed_by}
+use Rattle.exb_plans.specs.Plans.{with_channel}
+use Rattle.exb_plans.proofs.Ranges.{IsFound, found}
+use Rattle.exb_plans.proofs.Claiming.{AreLow, set_is, free_set, given_else}
+use Rattle.exb_plans.proofs.Owning.{Owns, IsGroupOf, group_found, owns_from, owns_one, owns_all}
+use Rattle.exb_plans.proofs.NotShort.{fresh_with}
+use Rattle.exb_plans.proofs.SetFacts.{has_at}
+use Rattle.exb_plans.specs.Touched.{uses_in, uses_of, parts_after}
+use Rattle.exb_plans.proofs.Tests.{count-cons}
+use Rattle.exb_plans.proofs.Uses.{uses_change, sets_are_used}
 use Rattle.exb_planning.specs.Some.{has_ports}
 use Rattle.exb_planning.specs.Counted.{count_at, uses_at}
 use Rattle.exb_planning.specs.Recount.{parts_at}

@@ -15,14 +15,14 @@ use Rattle.exb_model.specs.Tree.{Shape, IsTree, is_extended, is_under}
 use Rattle.exb_model.specs.Configuration.{Bridge}
 use Rattle.exb_model.specs.Refusals.{Source, part, without_isolated, is_kind, is_empty_set}
 use Rattle.exb_model.proofs.PortLemmas.{below-more}
-use Rattle.exb_rows.specs.declared.group_sets.SetAt.{SetAt}
-use Rattle.exb_rows.specs.Ground.{IsPart}
-use Rattle.exb_rows.specs.Sets.{PortsAt, parts_of, parts_below, seen}
-use Rattle.exb_rows.proofs.SetPorts.{ports_by}
-use Rattle.exb_rows.proofs.SetFolds.{rest_is, place_is}
-use Rattle.exb_rows.proofs.GroundLemmas.{under_is, past_extended}
+use Rattle.exb_plans.specs.declared.set_at.SetAt.{SetAt}
+use Rattle.exb_plan.specs.Ground.{IsPart}
+use Rattle.exb_plans.specs.Sets.{PortsAt, parts_of, parts_below, seen}
+use Rattle.exb_plan.proofs.SetPorts.{ports_by}
+use Rattle.exb_plan.proofs.SetFolds.{rest_is, place_is}
+use Rattle.exb_plan.proofs.GroundLemmas.{under_is, past_extended}
 use Rattle.exb_model.specs.declared.command.Command.{Command}
-use Rattle.exb_uses.specs.Touched.{touched_before, touched_after, parts_before, parts_after}
+use Rattle.exb_plans.specs.Touched.{touched_before, touched_after, parts_before, parts_after}
 use Rattle.exb_planning.specs.declared.touched.ground.Ground.{Ground}
 use Rattle.exb_planning.specs.declared.touched.ground.When.{When}
 use Rattle.exb_planning.specs.declared.touched.ground.When.TheVariants as when

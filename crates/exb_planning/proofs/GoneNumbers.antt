@@ -1,8 +1,8 @@
 -- The groups of a bridge port that go, from their numbers in rising order.
 use Rattle.std.proofs.Common.{◌≡◌, ℕ, ◌<◌, ◌≤◌, true, List, map, ap}
-use Rattle.exb_rows.specs.Sets.{PortsAt}
-use Rattle.exb_plan.specs.Held.{Held}
-use Rattle.exb_plan.specs.Between.{group_at, is_gone, gone_at}
+use Rattle.exb_plans.specs.Sets.{PortsAt}
+use Rattle.exb_plans.specs.Held.{Held}
+use Rattle.exb_plans.specs.Between.{group_at, is_gone, gone_at}
 use Rattle.exb_planning.specs.Rising.{is_among, IsRising}
 use Rattle.exb_planning.proofs.InOrder.{rising_are}
 

@@ -10,16 +10,17 @@ use Rattle.exb_model.specs.Setup.{Limits}
 use Rattle.exb_model.specs.Configuration.{Bridge, after}
 use Rattle.exb_model.specs.Refusals.{is_empty_set, sets_at}
 use Rattle.exb_numbers.specs.Spaces.{Spaces, has_space}
-use Rattle.exb_rows.specs.Sets.{PortsAt, sets_of}
-use Rattle.exb_plan.specs.Held.{Held, HoldsNeeded, HasSpaces, held_by, group_used}
-use Rattle.exb_plan.specs.Between.{has_set}
-use Rattle.exb_plan.specs.Working.{how_many, is_at}
-use Rattle.exb_plan.proofs.SetFacts.{has_at}
-use Rattle.exb_plan.proofs.Owning.{IsGroupOf, group_found}
-use Rattle.exb_uses.specs.Touched.{uses_in, uses_of, parts_before, parts_after}
-use Rattle.exb_uses.proofs.Uses.{uses_change, sets_are_used}
-use Rattle.exb_uses.proofs.Going.{gone_are_touched}
-use Rattle.exb_uses.proofs.InUse.{used_are_sets}
+use Rattle.exb_plans.specs.Sets.{PortsAt, sets_of}
+use Rattle.exb_plans.specs.Held.{Held, HoldsNeeded, group_used}
+use Rattle.exb_plan.specs.Spaces.{HasSpaces, held_by}
+use Rattle.exb_plans.specs.Between.{has_set}
+use Rattle.exb_plans.specs.Making.{how_many, is_at}
+use Rattle.exb_plans.proofs.SetFacts.{has_at}
+use Rattle.exb_plans.proofs.Owning.{IsGroupOf, group_found}
+use Rattle.exb_plans.specs.Touched.{uses_in, uses_of, parts_before, parts_after}
+use Rattle.exb_plans.proofs.Uses.{uses_change, sets_are_used}
+use Rattle.exb_plans.proofs.Going.{gone_are_touched}
+use Rattle.exb_plans.proofs.InUse.{used_are_sets}
 use Rattle.exb_planning.specs.Some.{has_ports}
 use Rattle.exb_planning.specs.Counted.{count_at, used_in, used_at, uses_at, IsCounted}
 use Rattle.exb_planning.specs.Recount.{parts_at, AreOwn, HavePlaces, AreRaised, AreLowered, AreEnough}

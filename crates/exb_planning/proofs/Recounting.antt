@@ -6,16 +6,17 @@ use Rattle.std.proofs.lemmas.Bool.{and_parts, and_from, eqb-true, false≢true, 
 use Rattle.exb_model.specs.Refusals.{is_empty_set}
 use Rattle.exb_numbers.specs.Groups.{Groups, group_of}
 use Rattle.exb_numbers.specs.Spaces.{Spaces, has_space, groups_at}
-use Rattle.exb_rows.specs.declared.group_sets.SetAt.{SetAt}
-use Rattle.exb_rows.specs.Sets.{PortsAt, is_same_set}
-use Rattle.exb_plan.specs.Held.{Held, held_by, group_in}
+use Rattle.exb_plans.specs.declared.set_at.SetAt.{SetAt}
+use Rattle.exb_plans.specs.Sets.{PortsAt, is_same_set}
+use Rattle.exb_plans.specs.Held.{Held, group_in}
+use Rattle.exb_plan.specs.Spaces.{held_by}
 use Rattle.exb_plan.specs.Working.{IsPlaced}
-use Rattle.exb_plan.proofs.SetFacts.{bytes_is, bytes_itself}
-use Rattle.exb_plan.proofs.Owning.{IsGroupOf, group_found}
+use Rattle.exb_plans.proofs.SetFacts.{bytes_is, bytes_itself}
+use Rattle.exb_plans.proofs.Owning.{IsGroupOf, group_found}
 use Rattle.exb_plan.proofs.SpaceHeld.{group_in_is}
 use Rattle.exb_plan.proofs.Lists.{image_rest}
-use Rattle.exb_uses.proofs.Tests.{count-cons, count-append}
-use Rattle.exb_uses.specs.Touched.{uses_in}
+use Rattle.exb_plans.proofs.Tests.{count-cons, count-append}
+use Rattle.exb_plans.specs.Touched.{uses_in}
 use Rattle.exb_planning.specs.Counted.{count_at}
 use Rattle.exb_planning.specs.Recount.{parts_at, AreOwn, AreRaised, AreLowered, AreEnough, AreUnused}
 

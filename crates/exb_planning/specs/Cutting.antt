@@ -8,10 +8,10 @@ use Rattle.exb_model.specs.Ports.{port_in}
 use Rattle.exb_model.specs.Tree.{Shape, is_extended}
 use Rattle.exb_model.specs.Configuration.{Bridge, after, is_for}
 use Rattle.exb_model.specs.Refusals.{Source, all_vids, both_kinds}
-use Rattle.exb_rows.specs.declared.group_sets.SetAt.{SetAt}
-use Rattle.exb_rows.specs.Ground.{AreTrunks}
-use Rattle.exb_rows.specs.Sets.{PortsAt, parts_below, seen}
-use Rattle.exb_uses.specs.Touched.{has_port, sources_of_entry}
+use Rattle.exb_plans.specs.declared.set_at.SetAt.{SetAt}
+use Rattle.exb_plan.specs.Ground.{AreTrunks}
+use Rattle.exb_plans.specs.Sets.{PortsAt, parts_below, seen}
+use Rattle.exb_plans.specs.Touched.{has_port, sources_of_entry}
 use Rattle.exb_planning.specs.declared.touched.ground.When.{When}
 use Rattle.exb_planning.specs.declared.touched.ground.When.TheVariants as when
 use Rattle.exb_planning.specs.declared.touched.ground.Ground.{Ground}

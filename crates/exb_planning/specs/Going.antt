@@ -1,8 +1,8 @@
 -- Groups that lose their last use.
 use Rattle.std.specs.Prelude.{◌≡◌, ℕ, ◌<◌, ◌≤◌, ◌==◌, ◌&&◌, Bool, true, List, nat_lt}
-use Rattle.exb_plan.specs.Held.{Held, group_used}
-use Rattle.exb_plan.specs.Between.{is_gone}
-use Rattle.exb_rows.specs.Sets.{PortsAt}
+use Rattle.exb_plans.specs.Held.{Held, group_used}
+use Rattle.exb_plans.specs.Between.{is_gone}
+use Rattle.exb_plans.specs.Sets.{PortsAt}
 use Rattle.exb_planning.specs.Counted.{count_at}
 use Rattle.exb_planning.specs.Rising.{is_among}
 use Rattle.exb_planning.specs.Recount.{parts_at}

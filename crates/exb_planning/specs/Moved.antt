@@ -1,7 +1,7 @@
 -- The uses after a command, at the groups that there are before it.
 use Rattle.std.specs.Prelude.{ℕ, List}
 use Rattle.exb_numbers.specs.Spaces.{Spaces}
-use Rattle.exb_rows.specs.Sets.{PortsAt}
+use Rattle.exb_plans.specs.Sets.{PortsAt}
 use Rattle.exb_planning.specs.Recount.{AreLowered, AreRaised, HaveRowsOf}
 
 -- lowered by the parts before it, then raised by those after it

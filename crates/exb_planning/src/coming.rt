@@ -1,14 +1,15 @@
 //! The sets that come: those of the touched parts that have no group yet, each once.
 ghost use Rattle.std.specs.Prelude.{◌≡◌, not, [], filter, fold, map, IfOk, OnOk};
 ghost use Rattle.std.specs.List.{All, list_any};
-ghost use Rattle.exb_rows.specs.Sets.{is_same_set, with_set_at, seen};
-ghost use Rattle.exb_plan.specs.Held.{held_by};
-ghost use Rattle.exb_plan.specs.Working.{IsPlaced, has_group};
+ghost use Rattle.exb_plans.specs.Sets.{is_same_set, with_set_at, seen};
+ghost use Rattle.exb_plan.specs.Spaces.{held_by};
+ghost use Rattle.exb_plan.specs.Working.{IsPlaced};
+ghost use Rattle.exb_plans.specs.Making.{has_group};
 
 use exb_config::port_sets::is_empty;
 use exb_model::memory::NoMemory;
 use exb_numbers::Spaces;
-use exb_rows::SetAt;
+use exb_plans::SetAt;
 use std::alloc::Global;
 
 // Whether a set has a group.

@@ -3,10 +3,11 @@ ghost use Rattle.std.specs.Prelude.{◌≡◌, ℕ, ◌-◌, ◌≤◌, ◌<◌,
 ghost use Rattle.std.specs.List.{All};
 ghost use Rattle.exb_model.specs.Tree.{is_cascade};
 ghost use Rattle.exb_numbers.specs.Spaces.{has_space};
-ghost use Rattle.exb_rows.specs.Sets.{PortsAt, seen};
-ghost use Rattle.exb_plan.specs.Held.{held_by};
-ghost use Rattle.exb_plan.specs.Between.{group_at, gone_at, gone_groups};
-ghost use Rattle.exb_plan.specs.Working.{IsPlaced, seen_group};
+ghost use Rattle.exb_plans.specs.Sets.{PortsAt, seen};
+ghost use Rattle.exb_plan.specs.Spaces.{held_by};
+ghost use Rattle.exb_plans.specs.Between.{group_at, gone_at, gone_groups};
+ghost use Rattle.exb_plan.specs.Working.{IsPlaced};
+ghost use Rattle.exb_plans.specs.Making.{seen_group};
 ghost use Rattle.exb_planning.specs.Rising.{is_among, IsRising};
 ghost use Rattle.exb_planning.specs.Recount.{AreOwn};
 ghost use Rattle.exb_planning.specs.Going.{is_left, AreGroups, AreLeft, AreInUse};
@@ -16,9 +17,8 @@ use crate::uses::Uses;
 use exb_model::memory::NoMemory;
 use exb_model::tree::Tree;
 use exb_numbers::Spaces;
-use exb_plan::GroupAt;
 use exb_plan::groups::is_cascade;
-use exb_rows::SetAt;
+use exb_plans::{GroupAt, SetAt};
 use std::alloc::Global;
 
 // Puts the group of a part among rising numbers, if it is below that bridge port and has no use.

@@ -1,8 +1,9 @@
 //! How the uses of groups follow the parts that go and come.
 ghost use Rattle.std.specs.Prelude.{◌≡◌, ◌^◌, ℕ, ◌-◌, ◌<◌, [], ◌∷◌, Some, map, IsOk, OnOk};
 ghost use Rattle.std.specs.List.{All};
-ghost use Rattle.exb_rows.specs.Sets.{seen};
-ghost use Rattle.exb_plan.specs.Held.{held_by, group_in};
+ghost use Rattle.exb_plans.specs.Sets.{seen};
+ghost use Rattle.exb_plan.specs.Spaces.{held_by};
+ghost use Rattle.exb_plans.specs.Held.{group_in};
 ghost use Rattle.exb_plan.specs.Working.{IsPlaced};
 ghost use Rattle.exb_planning.specs.Counted.{count_at};
 ghost use Rattle.exb_planning.specs.Recount.{AreOwn, HavePlaces, HaveRowsOf, AreRaised, AreLowered, AreEnough, AreUnused};
@@ -10,7 +11,7 @@ ghost use Rattle.exb_planning.specs.Recount.{AreOwn, HavePlaces, HaveRowsOf, Are
 use crate::uses::Uses;
 use exb_model::memory::NoMemory;
 use exb_numbers::Spaces;
-use exb_rows::SetAt;
+use exb_plans::SetAt;
 
 // A use more of the group of a part's set, if it has one.
 fn raise(uses: &mut Uses, spaces: &Spaces, part: &SetAt) -> Result<(), NoMemory>

@@ -3,8 +3,9 @@ ghost use Rattle.std.specs.Prelude.{◌≡◌, ◌^◌, ℕ, ◌+◌, ◌-◌, �
 ghost use Rattle.exb_model.specs.Tree.{is_cascade};
 ghost use Rattle.exb_model.specs.Setup.{Limits};
 ghost use Rattle.exb_numbers.specs.Spaces.{has_space};
-ghost use Rattle.exb_rows.specs.Sets.{PortsAt, seen};
-ghost use Rattle.exb_plan.specs.Working.{AreLimited, how_many, is_at, short_by, short_at};
+ghost use Rattle.exb_plans.specs.Sets.{PortsAt, seen};
+ghost use Rattle.exb_plan.specs.Working.{AreLimited};
+ghost use Rattle.exb_plans.specs.Making.{how_many, is_at, short_by, short_at};
 ghost use Rattle.exb_planning.specs.Counted.{used_at};
 
 use crate::uses::Uses;
@@ -12,7 +13,7 @@ use exb_model::event::Cause;
 use exb_model::tree::Tree;
 use exb_numbers::Spaces;
 use exb_plan::groups::is_cascade;
-use exb_rows::SetAt;
+use exb_plans::SetAt;
 
 // How many of the sets are below a bridge port.
 fn count_at(sets: &[SetAt], bridge_port: u8) -> u64

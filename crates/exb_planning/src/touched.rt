@@ -5,9 +5,9 @@ ghost use Rattle.exb_model.specs.Tree.{Shape};
 ghost use Rattle.exb_model.specs.Configuration.{Bridge, is_for};
 ghost use Rattle.exb_model.specs.Refusals.{Source, both_kinds};
 ghost use Rattle.exb_config.specs.Tables.{bridge_of};
-ghost use Rattle.exb_rows.specs.Ground.{IsPart};
-ghost use Rattle.exb_rows.specs.Sets.{seen, parts_of};
-ghost use Rattle.exb_uses.specs.Touched.{has_port, sources_of_entry, touched_before, touched_after, parts_before as parts_touched_before, parts_after as parts_touched_after};
+ghost use Rattle.exb_plan.specs.Ground.{IsPart};
+ghost use Rattle.exb_plans.specs.Sets.{seen, parts_of};
+ghost use Rattle.exb_plans.specs.Touched.{has_port, sources_of_entry, touched_before, touched_after, parts_before as parts_touched_before, parts_after as parts_touched_after};
 ghost use Rattle.exb_planning.specs.Some.{has_ports};
 ghost use Rattle.exb_planning.specs.Cutting.{state_at, IsGround, IsGroundOf, IsAmong, Adds, is_of, sources_of_vlans, vlans_touched, entry_touched};
 
@@ -28,7 +28,7 @@ use exb_model::port_set::PortSet;
 use exb_model::rules::StaticAt;
 use exb_model::tree::Tree;
 use exb_model::vlan::{Kind, Vid};
-use exb_rows::SetAt;
+use exb_plans::SetAt;
 use std::alloc::Global;
 
 /// Puts a set, if it isn't empty.

@@ -8,13 +8,13 @@ use Rattle.exb_model.proofs.TreeHung.{trunk-low}
 use Rattle.exb_frame.specs.TagValues.{TagRoundTrip}
 use Rattle.exb_csp.specs.declared.message.Body.{Body}
 use Rattle.exb_extender.specs.declared.sends.Side.TheVariants as side
-use Rattle.exb_extender.specs.AllTables.{port_of}
+use Rattle.exb_csp.specs.AllTables.{port_of}
 use Rattle.exb_extender.specs.Forwarding.{forwarding_of, sent_at, is_bare_control, is_to_control, names_channel, emitted, channel_tag}
 use Rattle.exb_extender.specs.Machine.{ExtenderState, IsExtender}
 use Rattle.exb_link.specs.declared.word.Stamp.{Stamp}
 use Rattle.exb_link.specs.declared.word.Word.{Word}
 use Rattle.exb_model.specs.Setup.{Limits}
-use Rattle.exb_plan.specs.Held.{Held}
+use Rattle.exb_plans.specs.Held.{Held}
 use Rattle.exb_machine.specs.Extending.{port_number}
 use Rattle.exb_machine.specs.Sessions.{Each, IsTagged, Routes, IsNextHop}
 use Rattle.exb_machine.proofs.Fixing.{trunk_is_cascade}

@@ -39,11 +39,11 @@ use Rattle.exb_link.specs.Words.{is_control}
 use Rattle.exb_learn.specs.Calls.{look_in}
 use Rattle.exb_relay.specs.declared.send.SendTo.{SendTo}
 use Rattle.exb_relay.specs.Sends.{sends_of}
-use Rattle.exb_plan.specs.Held.{Held, channel_in}
-use Rattle.exb_plan.proofs.Giving.{IsChannelOf, channel_found}
-use Rattle.exb_changes.specs.declared.asked.Asked.{Asked}
-use Rattle.exb_changes.specs.Deciding.{decide}
-use Rattle.exb_changes.specs.Machine.{State, Moved, answered}
+use Rattle.exb_plans.specs.Held.{Held, channel_in}
+use Rattle.exb_plans.proofs.Giving.{IsChannelOf, channel_found}
+use Rattle.exb_changing.specs.declared.asked.Asked.{Asked}
+use Rattle.exb_changing.specs.Deciding.{decide}
+use Rattle.exb_changing.specs.Machine.{State, Moved, answered}
 use Rattle.exb_machine.specs.Worlds.{World, with_near, with_table, with_control, push_down, control_word}
 use Rattle.exb_machine.specs.Effects.{Effect, only, each}
 use Rattle.exb_machine.specs.Controls.{announced, channel_at_trunk, taught, numbers_in, forgotten_all}

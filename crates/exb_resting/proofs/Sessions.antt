@@ -5,10 +5,10 @@ use Rattle.std.proofs.lemmas.Bool.{cases_lt, lt-ltb, le-ltb}
 use Rattle.exb_model.specs.Tree.{Shape, IsTree, device, on, is_extender, depth, path, up, top, by_depth}
 use Rattle.exb_model.specs.Setup.{Limits}
 use Rattle.exb_link.specs.declared.word.Word.{Word}
-use Rattle.exb_plan.specs.Held.{Held}
-use Rattle.exb_changes.specs.declared.job.Job.{Job}
-use Rattle.exb_changes.specs.declared.job.Job.TheVariants as job
-use Rattle.exb_changes.specs.Machine.{State, Work}
+use Rattle.exb_plans.specs.Held.{Held}
+use Rattle.exb_changing.specs.declared.job.Job.{Job}
+use Rattle.exb_changing.specs.declared.job.Job.TheVariants as job
+use Rattle.exb_changing.specs.Machine.{State, Work}
 use Rattle.exb_machine.specs.Worlds.{World, Up, Down, Beat, with_up, with_down}
 use Rattle.exb_machine.specs.Stepping.{stepped, takes}
 use Rattle.exb_machine.specs.Settling.{direction, planned_in, deepest_first, directions}

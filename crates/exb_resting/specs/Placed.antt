@@ -3,7 +3,7 @@ use Rattle.std.specs.Prelude.{◌≡◌, ◌≢◌, ◌⊎◌, ℕ, true, List}
 use Rattle.exb_model.specs.Tree.{Shape, is_extender}
 use Rattle.exb_extender.specs.Forwarding.{is_bare_control, is_to_control}
 use Rattle.exb_link.specs.declared.word.Word.{Word}
-use Rattle.exb_plan.specs.Held.{Held}
+use Rattle.exb_plans.specs.Held.{Held}
 use Rattle.exb_machine.specs.Worlds.{World}
 use Rattle.exb_machine.specs.Sessions.{Each, IsTagged}
 use Rattle.exb_resting.specs.Streams.{note_of}

@@ -23,9 +23,9 @@ use Rattle.exb_relay.specs.Spaces.{HasSpaces}
 use Rattle.exb_relay.specs.Laws.{HasPvids}
 use Rattle.exb_world.specs.declared.bridge.Controller.{Controller}
 use Rattle.exb_world.specs.Bridges.{HasFreeSpaces}
-use Rattle.exb_rows.specs.declared.group_sets.SetAt.{SetAt}
-use Rattle.exb_rows.specs.Sets.{PortsAt, seen, sets_of}
-use Rattle.exb_rows.proofs.SpaceSets.{sets_of_each}
+use Rattle.exb_plans.specs.declared.set_at.SetAt.{SetAt}
+use Rattle.exb_plans.specs.Sets.{PortsAt, seen, sets_of}
+use Rattle.exb_plans.proofs.SpaceSets.{sets_of_each}
 use Rattle.exb_world.specs.Setups.{IsSingle}
 use Rattle.exb_world.specs.Insides.{IsOnly, AreRaised, AreRegistered, IsRunning, AreNext, sets_below}
 use Rattle.exb_world.specs.Worlds.{with_up}

@@ -13,7 +13,8 @@ use Rattle.exb_model.specs.ExtenderForwarding.{Tables}
 use Rattle.exb_model.specs.Carriage.{carried}
 use Rattle.exb_model.specs.Configuration.{Bridge, after}
 use Rattle.exb_model.specs.Refusals.{Source, part, parts, sources, without_isolated, with_set, sets_at, is_empty_set}
-use Rattle.exb_numbers.specs.Channels.{holder, is_port as is_held_by, channel_of}
+use Rattle.exb_numbers.specs.Channels.{holder, channel_of}
+use Rattle.exb_model.specs.Numbering.{is_port as is_held_by}
 use Rattle.exb_numbers.specs.Groups.{Groups, set_of, group_of}
 use Rattle.exb_numbers.specs.Spaces.{Spaces, has_space, channels_at, groups_at}
 use Rattle.exb_relay.specs.Numbers.{Numbers, IsReady, has_set}

@@ -4,9 +4,9 @@ use Rattle.std.specs.Prelude.{◌==◌}
 use Rattle.exb_model.specs.declared.command.Command.TheVariants as command
 use Rattle.exb_model.specs.Tree.{Shape}
 use Rattle.exb_model.specs.Configuration.{Bridge, after}
-use Rattle.exb_rows.specs.declared.group_sets.SetAt.{SetAt}
-use Rattle.exb_rows.specs.Sets.{PortsAt, seen, sets_of}
-use Rattle.exb_rows.proofs.SpaceSets.{sets_of_each}
+use Rattle.exb_plans.specs.declared.set_at.SetAt.{SetAt}
+use Rattle.exb_plans.specs.Sets.{PortsAt, seen, sets_of}
+use Rattle.exb_plans.proofs.SpaceSets.{sets_of_each}
 use Rattle.exb_world.specs.Insides.{AreNext, sets_below}
 use Rattle.exb_world.specs.Worlds.{with_up}
 use Rattle.exb_world.proofs.FewSets.{IsPlain, sets_are_next}

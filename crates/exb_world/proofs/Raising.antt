@@ -10,7 +10,7 @@ use Rattle.exb_model.proofs.Lists.{find-at}
 use Rattle.exb_model.specs.ExtenderForwarding.{Tables}
 use Rattle.exb_numbers.specs.Channels.{holder, is_used, lowest_channel, channel_of}
 use Rattle.exb_numbers.specs.Groups.{Groups, set_of}
-use Rattle.exb_numbers.specs.Lowest.{lowest_free}
+use Rattle.exb_model.specs.Numbering.{lowest_free}
 use Rattle.exb_numbers.specs.Spaces.{Spaces, has_space, channels_at, groups_at, no_groups, with_channels, with_groups}
 use Rattle.exb_world.specs.Extenders.{AreTables, with_port}
 use Rattle.exb_world.specs.Insides.{AreRaised}

@@ -15,11 +15,11 @@ use Rattle.exb_model.specs.ExtenderForwarding.{Tables}
 use Rattle.exb_model.proofs.MaskLemmas.{bit_at-bits_of, bit_is_one}
 use Rattle.exb_numbers.specs.Channels.{holder}
 use Rattle.exb_numbers.specs.Groups.{Groups, set_of, is_used, group_of, lowest_group}
-use Rattle.exb_numbers.specs.Lowest.{lowest_free}
+use Rattle.exb_model.specs.Numbering.{lowest_free}
 use Rattle.exb_numbers.specs.Spaces.{Spaces, has_space, channels_at, groups_at, with_groups}
 use Rattle.exb_world.specs.Extenders.{AreTables, with_group}
-use Rattle.exb_rows.specs.declared.group_sets.SetAt.{SetAt}
-use Rattle.exb_rows.specs.Sets.{seen}
+use Rattle.exb_plans.specs.declared.set_at.SetAt.{SetAt}
+use Rattle.exb_plans.specs.Sets.{seen}
 use Rattle.exb_world.specs.Insides.{AreRegistered, IsNext, sets_below}
 use Rattle.exb_world.proofs.Raising.{lowest_is, groups_changed}
 

@@ -11,8 +11,8 @@ use Rattle.exb_learn.specs.Entries.{Entries}
 use Rattle.exb_numbers.specs.Channels.{holder}
 use Rattle.exb_numbers.specs.Groups.{set_of}
 use Rattle.exb_numbers.specs.Spaces.{Spaces, has_space, channels_at, groups_at}
-use Rattle.exb_rows.specs.declared.group_sets.SetAt.{SetAt}
-use Rattle.exb_rows.specs.Sets.{seen}
+use Rattle.exb_plans.specs.declared.set_at.SetAt.{SetAt}
+use Rattle.exb_plans.specs.Sets.{seen}
 use Rattle.exb_relay.specs.Numbers.{IsReady}
 use Rattle.exb_relay.specs.Spaces.{numbers_of, HasSpaces}
 use Rattle.exb_relay.specs.Leaving.{Carries}

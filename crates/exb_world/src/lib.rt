@@ -2,7 +2,7 @@
 //! has one extender and any local ports, and a frame goes up, through the bridge and down again within its
 //! step, so that nothing is ever in flight. Upwards it promises that what has left each port is what the one
 //! VLAN bridge sends over the events, and that it has learned what that bridge has learned. It stands on
-//! `exb_relay`, `exb_config`, `exb_learn` and `exb_numbers` for the bridge, on `exb_rows` for the sets that need
+//! `exb_relay`, `exb_config`, `exb_learn` and `exb_numbers` for the bridge, on `exb_plan` for the sets that need
 //! groups, on `exb_members` for the extender's rows, and on `exb_frame` and `exb_model`.
 #![tactic(auto)]
 

@@ -20,7 +20,8 @@ use exb_model::memory::NoMemory;
 use exb_model::port_set::PortSet;
 use exb_numbers::Spaces;
 use exb_numbers::laws::{channels_are_apart, groups_are_apart};
-use exb_rows::{SetAt, sets};
+use exb_plan::sets;
+use exb_plans::SetAt;
 use std::alloc::Global;
 
 /// Gives the extender's port `at` the lowest free channel, and lets it go up.

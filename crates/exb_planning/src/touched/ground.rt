@@ -4,7 +4,7 @@ ghost use Rattle.exb_model.specs.Ports.{port_in};
 ghost use Rattle.exb_model.specs.Tree.{is_extender, is_extended};
 ghost use Rattle.exb_model.specs.Configuration.{after};
 ghost use Rattle.exb_config.specs.Tables.{bridge_of};
-ghost use Rattle.exb_rows.specs.Ground.{AreTrunks};
+ghost use Rattle.exb_plan.specs.Ground.{AreTrunks};
 ghost use Rattle.exb_planning.specs.Cutting.{state_at, IsGroundOf};
 
 use crate::touched::members::with_port;

@@ -11,7 +11,7 @@ use exb_model::port_set::PortSet;
 use exb_model::setup::{ExtenderSetup, Place, Setup};
 use exb_model::tree::Tree;
 use exb_model::vlan::{Kind, Vid};
-use exb_rows::SetAt;
+use exb_plans::SetAt;
 use std::alloc::Global;
 use std::process::Abort;
 use std::test::*;

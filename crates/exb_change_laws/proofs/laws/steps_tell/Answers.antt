@@ -1,5 +1,5 @@
 use Rattle.exb_change_laws.proofs.Telling.{steps_tell_of}
-use Rattle.exb_plan.proofs.Commanded.{refused_as_commanded}
+use Rattle.exb_plans.proofs.Commanded.{refused_as_commanded}
 use Rattle.exb_change_laws.proofs.laws.steps_tell.Goals as goal
 
 pub returns : goal.returns

@@ -1,11 +1,12 @@
 use Rattle.std.proofs.Common.{◌≡◌, ◌∙◌, ℕ, true, false, sym, ap, subst, refl, arith}
 use Rattle.exb_model.specs.Setup.{Limits}
-use Rattle.exb_plan.specs.Held.{HasSpaces, held_by}
+use Rattle.exb_plan.specs.Spaces.{HasSpaces, held_by}
 use Rattle.exb_plan.specs.Working.{CanClaimChannel}
 use Rattle.exb_plan.proofs.ClaimLoop.{alike_more}
 use Rattle.exb_plan.proofs.WholePlans.{alike_has}
-use Rattle.exb_changes.specs.Beginning.{is_deep}
-use Rattle.exb_changes.proofs.FirstClaims.{none_first, none_below, not_first, none_more, can_claim, claimed_first, claimed_held, first_end, held_end}
+use Rattle.exb_changing.specs.Beginning.{is_deep}
+use Rattle.exb_changing.proofs.FirstClaims.{none_first, none_below, not_first, none_more, first_end, held_end}
+use Rattle.exb_changes.proofs.FirstSpaces.{can_claim, claimed_first, claimed_held}
 use Rattle.exb_changes.proofs.beginning.claim_all.Goals as goal
 use Rattle.exb_changes.proofs.beginning.claim_all.Goals.{then-is_deep, else-is_deep}
 

@@ -1,9 +1,9 @@
 use Rattle.std.proofs.Common.{◌≡◌}
 use Rattle.exb_model.specs.Setup.{Limits}
-use Rattle.exb_plan.specs.Held.{HasSpaces, held_by}
+use Rattle.exb_plan.specs.Spaces.{HasSpaces, held_by}
 use Rattle.exb_plan.specs.Working.{IsAlike}
-use Rattle.exb_changes.specs.Fabrics.{in_spaces}
-use Rattle.exb_changes.proofs.FirstClaims.{AreFirst, first_below}
+use Rattle.exb_plans.specs.Held.{in_spaces}
+use Rattle.exb_changing.proofs.FirstClaims.{AreFirst, first_below}
 use Rattle.exb_changes.proofs.beginning.claim_all.Given as goal
 
 -- the ports below this one have channels

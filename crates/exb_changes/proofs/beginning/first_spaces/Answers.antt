@@ -1,5 +1,5 @@
 use Rattle.exb_model.specs.Setup.{Limits}
-use Rattle.exb_changes.proofs.FirstClaims.{new_has, new_none}
+use Rattle.exb_changes.proofs.FirstSpaces.{new_has, new_none}
 use Rattle.exb_changes.proofs.beginning.first_spaces.Goals as goal
 
 pub claim_all-requires-clause-limits : goal.claim_all-requires-clause-limits

@@ -1,5 +1,5 @@
 use Rattle.std.proofs.Common.{◌-◌}
-use Rattle.exb_plan.specs.Held.{HasSpaces}
+use Rattle.exb_plan.specs.Spaces.{HasSpaces}
 use Rattle.exb_changes.proofs.Copies.{AreCopied}
 use Rattle.exb_changes.proofs.copying.copy_spaces.Given as goal
 

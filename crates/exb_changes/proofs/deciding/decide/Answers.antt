@@ -3,11 +3,12 @@ use Rattle.std.specs.Prelude.{IfOk, OnOk}
 use Rattle.exb_model.specs.declared.command.Command.TheVariants as command
 use Rattle.exb_model.specs.Configuration.{after}
 use Rattle.exb_config.specs.Tables.{bridge_of}
-use Rattle.exb_plan.specs.declared.change.Decision.{Decision}
-use Rattle.exb_plan.specs.declared.change.Decision.TheVariants as decision
-use Rattle.exb_plan.specs.Held.{Held, held_by}
-use Rattle.exb_changes.specs.declared.job.Job.{Job}
-use Rattle.exb_changes.specs.Deciding.{decide}
+use Rattle.exb_plans.specs.declared.change.Decision.{Decision}
+use Rattle.exb_plans.specs.declared.change.Decision.TheVariants as decision
+use Rattle.exb_plans.specs.Held.{Held}
+use Rattle.exb_plan.specs.Spaces.{held_by}
+use Rattle.exb_changing.specs.declared.job.Job.{Job}
+use Rattle.exb_changing.specs.Deciding.{decide}
 use Rattle.exb_changes.specs.Fabrics.{decision_of, held_after}
 use Rattle.exb_changes.proofs.Decided.{plan_is, plan_held_is}
 use Rattle.exb_changes.proofs.deciding.decide.Goals as goal

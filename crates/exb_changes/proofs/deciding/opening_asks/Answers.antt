@@ -1,5 +1,5 @@
 use Rattle.std.proofs.Common.{◌≡◌, ◌+◌, ◌*◌, arith}
-use Rattle.exb_plan.specs.Held.{held_by}
+use Rattle.exb_plan.specs.Spaces.{held_by}
 use Rattle.exb_changes.proofs.Openings.{opening_is, cascade_more, extender_of}
 use Rattle.exb_changes.proofs.deciding.opening_asks.Goals as goal
 

@@ -2,11 +2,12 @@ use Rattle.std.proofs.Common.{◌≡◌, ◌∙◌, ◌++◌, ◌+◌, ◌-◌, 
 use Rattle.exb_model.specs.Tree.{trunk}
 use Rattle.exb_numbers.specs.Channels.{channel_of as channel_among}
 use Rattle.exb_numbers.specs.Spaces.{has_space, channels_at}
-use Rattle.exb_plan.specs.Asks.{create_asks}
-use Rattle.exb_plan.specs.Held.{held_by, or_zero}
+use Rattle.exb_plans.specs.Asks.{create_asks}
+use Rattle.exb_plan.specs.Spaces.{held_by}
+use Rattle.exb_plans.specs.Held.{or_zero}
 use Rattle.exb_plan.proofs.SpaceHeld.{channel_in_is, unwrap_is}
-use Rattle.exb_changes.specs.Deciding.{channel_of}
-use Rattle.exb_changes.proofs.Claims.{trunk_low, trunk_cascade}
+use Rattle.exb_changing.specs.Deciding.{channel_of}
+use Rattle.exb_changing.proofs.Claims.{trunk_low, trunk_cascade}
 use Rattle.exb_changes.proofs.Openings.{extender_high}
 use Rattle.exb_changes.proofs.Roles.{cascade_there}
 use Rattle.exb_changes.proofs.deciding.put_cascade.Goals as goal

@@ -1,9 +1,9 @@
 use Rattle.std.proofs.Common.{◌≡◌, ◌-◌, ◌&&◌, ◌∙◌, true, false, Bool, ℕ, nat_lt, sym, ap, arith, subst, refl}
 use Rattle.std.proofs.lemmas.Bool.{and_from, lt-ltb}
 use Rattle.exb_model.specs.Tree.{is_cascade}
-use Rattle.exb_plan.proofs.Trunks.{hung_cascade, other_role}
-use Rattle.exb_changes.specs.Fabrics.{is_place}
-use Rattle.exb_changes.proofs.Places.{place_true, place_false}
+use Rattle.exb_plans.proofs.Trunks.{hung_cascade, other_role}
+use Rattle.exb_plans.specs.Held.{is_place}
+use Rattle.exb_changing.proofs.Places.{place_true, place_false}
 use Rattle.exb_changes.proofs.releasing.is_place.Goals as goal
 
 pub returns-in-Cascade : goal.returns-in-Cascade

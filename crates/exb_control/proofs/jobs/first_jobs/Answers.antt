@@ -1,8 +1,8 @@
 use Rattle.std.proofs.Common.{◌≤◌, length, ap, ◌∙◌}
 use Rattle.std.specs.List.{flat_map}
 use Rattle.std.proofs.lemmas.List.{take_all}
-use Rattle.exb_changes.specs.Beginning.{jobs_of}
-use Rattle.exb_changes.proofs.FirstJobs.{all_starts}
+use Rattle.exb_changing.specs.Beginning.{jobs_of}
+use Rattle.exb_changing.proofs.FirstJobs.{all_starts}
 use Rattle.exb_control.proofs.FirstJobs.{starts_next, number_low}
 use Rattle.exb_control.proofs.jobs.first_jobs.Goals as goal
 

@@ -1,9 +1,9 @@
 use Rattle.std.proofs.Common.{◌≡◌, ◌+◌, ◌*◌, ◌++◌, List, sym, ap, ◌∙◌, arith, append_assoc}
 use Rattle.std.specs.List.{range_with_len}
 use Rattle.exb_model.specs.Tree.{is_external}
-use Rattle.exb_changes.specs.declared.job.Job.{Job}
+use Rattle.exb_changing.specs.declared.job.Job.{Job}
 use Rattle.exb_control.specs.Steps.{up_if}
-use Rattle.exb_changes.proofs.FirstJobs.{ups, all_ups}
+use Rattle.exb_changing.proofs.FirstJobs.{ups, all_ups}
 use Rattle.exb_control.proofs.FirstJobs.{ups_more}
 use Rattle.exb_control.proofs.jobs.put_ups.Goals as goal
 

@@ -1,6 +1,6 @@
 use Rattle.std.proofs.Common.{◌≡◌, ◌*◌, ◌++◌}
 use Rattle.std.specs.List.{range_with_len}
-use Rattle.exb_changes.proofs.FirstJobs.{ups}
+use Rattle.exb_changing.proofs.FirstJobs.{ups}
 use Rattle.exb_control.proofs.jobs.put_ups.Given as goal
 
 abbrev pub invariant-loop-place : goal.invariant-loop-place

@@ -1,7 +1,7 @@
 use Rattle.std.proofs.Common.{sym, ◌∙◌}
 use Rattle.std.proofs.lemmas.Result.{on_ok_weaker}
-use Rattle.exb_changes.specs.declared.job.Job.TheVariants as job
-use Rattle.exb_changes.proofs.FirstJobs.{fit_more}
+use Rattle.exb_changing.specs.declared.job.Job.TheVariants as job
+use Rattle.exb_changing.proofs.FirstJobs.{fit_more}
 use Rattle.exb_control.proofs.turns.give.Goals as goal
 
 pub wake-requires-clause-fit : goal.wake-requires-clause-fit

@@ -1,8 +1,8 @@
 use Rattle.std.proofs.Common.{List, sym, ap, ◌∙◌}
-use Rattle.exb_changes.specs.declared.job.Job.{Job}
+use Rattle.exb_changing.specs.declared.job.Job.{Job}
 use Rattle.exb_control.specs.Queues.{after_first}
 use Rattle.exb_control.specs.Controls.{decide_of}
-use Rattle.exb_changes.specs.Machine.{goes_on}
+use Rattle.exb_changing.specs.Machine.{goes_on}
 use Rattle.exb_learn.specs.Entries.{table_of}
 use Rattle.exb_control.specs.Steps.{rest_of, reached_by}
 use Rattle.exb_control.proofs.NextJobs.{none_waits, first_waits, starts_busy, starts_resting, first_is}

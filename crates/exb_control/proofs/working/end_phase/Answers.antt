@@ -2,7 +2,7 @@ use Rattle.std.proofs.Common.{refl, ap, ◌∙◌}
 use Rattle.std.proofs.lemmas.Result.{on_ok_weaker}
 use Rattle.exb_config.specs.Tables.{bridge_of}
 use Rattle.exb_learn.specs.Entries.{table_of}
-use Rattle.exb_changes.specs.Machine.{Moved}
+use Rattle.exb_changing.specs.Machine.{Moved}
 use Rattle.exb_control.specs.Steps.{rest_of, reached_by}
 use Rattle.exb_control.proofs.Steps.{prepared_ends, finished, in_force_is}
 use Rattle.exb_control.proofs.working.end_phase.Goals as goal

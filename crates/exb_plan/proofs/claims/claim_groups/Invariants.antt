@@ -1,8 +1,9 @@
 use Rattle.std.proofs.Common.{◌≡◌, ◌≤◌, ℕ, map, drop, length}
 use Rattle.std.specs.Prelude.{vec_capacity}
-use Rattle.exb_rows.specs.Sets.{seen}
-use Rattle.exb_plan.specs.Held.{held_by}
-use Rattle.exb_plan.specs.Working.{seen_group, AreLimited, IsAlike}
+use Rattle.exb_plans.specs.Sets.{seen}
+use Rattle.exb_plan.specs.Spaces.{held_by}
+use Rattle.exb_plans.specs.Making.{seen_group}
+use Rattle.exb_plan.specs.Working.{AreLimited, IsAlike}
 use Rattle.exb_plan.proofs.ClaimLoop.{IsClaiming}
 use Rattle.exb_plan.proofs.claims.claim_groups.Given as goal
 

@@ -1,8 +1,10 @@
 use Rattle.std.proofs.Common.{◌≡◌, ◌∙◌, ◌-◌, ◌++◌, ◌∷◌, [], ℕ, List, take, map, sym, ap, subst}
 use Rattle.std.proofs.lemmas.List.{append-nil, map-append}
-use Rattle.exb_plan.specs.declared.groups.GroupAt.{GroupAt}
-use Rattle.exb_plan.specs.Held.{Held, Group, held_by}
-use Rattle.exb_plan.specs.Working.{seen_group, IsLaterBy}
+use Rattle.exb_plans.specs.declared.group_at.GroupAt.{GroupAt}
+use Rattle.exb_plans.specs.Held.{Held, Group}
+use Rattle.exb_plan.specs.Spaces.{held_by}
+use Rattle.exb_plans.specs.Making.{seen_group}
+use Rattle.exb_plan.specs.Working.{IsLaterBy}
 use Rattle.exb_plan.proofs.GivenBack.{IsLast, last_given, none_given}
 use Rattle.exb_plan.proofs.ClaimLoop.{alike_more}
 use Rattle.exb_plan.proofs.claims.free_groups.Goals as goal

@@ -1,7 +1,9 @@
 use Rattle.std.proofs.Common.{map}
 use Rattle.std.specs.Prelude.{vec_len}
-use Rattle.exb_plan.specs.Held.{Held, held_by}
-use Rattle.exb_plan.specs.Working.{seen_group, IsLaterBy, IsAlike}
+use Rattle.exb_plans.specs.Held.{Held}
+use Rattle.exb_plan.specs.Spaces.{held_by}
+use Rattle.exb_plans.specs.Making.{seen_group}
+use Rattle.exb_plan.specs.Working.{IsLaterBy, IsAlike}
 use Rattle.exb_plan.proofs.claims.free_groups.Given as goal
 
 -- what is held came of what was held by the groups that are left

@@ -1,6 +1,7 @@
 use Rattle.std.proofs.Common.{◌≡◌, ℕ, take, map}
-use Rattle.exb_plan.specs.Asks.{rows_at}
-use Rattle.exb_plan.specs.Working.{seen_group, rows_of_covered}
+use Rattle.exb_plans.specs.Asks.{rows_at}
+use Rattle.exb_plans.specs.Making.{seen_group}
+use Rattle.exb_plan.specs.Working.{rows_of_covered}
 use Rattle.exb_plan.proofs.group_asks.cover_all.Given as goal
 
 -- the groups so far have the same rows

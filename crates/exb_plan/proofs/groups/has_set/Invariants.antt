@@ -1,6 +1,6 @@
 use Rattle.std.proofs.Common.{◌≡◌, drop, map}
-use Rattle.exb_rows.specs.Sets.{seen}
-use Rattle.exb_plan.specs.Between.{has_set}
+use Rattle.exb_plans.specs.Sets.{seen}
+use Rattle.exb_plans.specs.Between.{has_set}
 use Rattle.exb_plan.specs.Working.{placed}
 use Rattle.exb_plan.proofs.groups.has_set.Given as goal
 

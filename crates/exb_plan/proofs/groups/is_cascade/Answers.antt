@@ -1,6 +1,6 @@
 use Rattle.std.proofs.Common.{◌≡◌, ℕ, ◌-◌, true, false, sym, subst}
 use Rattle.exb_model.specs.Tree.{is_cascade}
-use Rattle.exb_plan.proofs.Trunks.{hung_cascade, other_role}
+use Rattle.exb_plans.proofs.Trunks.{hung_cascade, other_role}
 use Rattle.exb_plan.proofs.groups.is_cascade.Goals as goal
 
 pub returns-in-Cascade : goal.returns-in-Cascade

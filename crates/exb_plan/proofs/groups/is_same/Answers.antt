@@ -1,6 +1,6 @@
 use Rattle.std.proofs.Common.{sym}
 use Rattle.std.proofs.lemmas.Bool.{eq-eqb}
-use Rattle.exb_rows.proofs.SetPorts.{same_sets}
+use Rattle.exb_plan.proofs.SetPorts.{same_sets}
 use Rattle.exb_plan.proofs.groups.is_same.Goals as goal
 
 pub returns-then-set-bridge_port : goal.returns-then-set-bridge_port

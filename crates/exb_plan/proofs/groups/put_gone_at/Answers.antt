@@ -2,9 +2,11 @@ use Rattle.std.proofs.Common.{◌≡◌, ◌∙◌, ◌++◌, ◌+◌, ◌-◌, 
 use Rattle.std.specs.Prelude.{MatchOption}
 use Rattle.std.proofs.lemmas.List.{append_assoc}
 use Rattle.exb_numbers.specs.Groups.{Groups, set_of, is_used}
-use Rattle.exb_rows.specs.Sets.{seen}
-use Rattle.exb_plan.specs.Held.{Group, held_by}
-use Rattle.exb_plan.specs.Working.{seen_group, put_gone}
+use Rattle.exb_plans.specs.Sets.{seen}
+use Rattle.exb_plans.specs.Held.{Group}
+use Rattle.exb_plan.specs.Spaces.{held_by}
+use Rattle.exb_plans.specs.Making.{seen_group}
+use Rattle.exb_plan.specs.Working.{put_gone}
 use Rattle.exb_plan.proofs.RowSteps.{gone_up_to, gone_none, gone_more, gone_all}
 use Rattle.exb_plan.proofs.groups.put_gone_at.Goals as goal
 use Rattle.exb_plan.proofs.groups.put_gone_at.Goals.{in-Some+in_ok-put_gone, in_default}

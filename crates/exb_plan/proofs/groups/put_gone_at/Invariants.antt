@@ -1,9 +1,9 @@
 use Rattle.std.proofs.Common.{◌≡◌, ◌++◌, ◌-◌, filter, map}
 use Rattle.std.specs.List.{range_with_len}
-use Rattle.exb_rows.specs.Sets.{seen}
-use Rattle.exb_plan.specs.Held.{held_by}
-use Rattle.exb_plan.specs.Between.{group_at, is_gone}
-use Rattle.exb_plan.specs.Working.{seen_group}
+use Rattle.exb_plans.specs.Sets.{seen}
+use Rattle.exb_plan.specs.Spaces.{held_by}
+use Rattle.exb_plans.specs.Between.{group_at, is_gone}
+use Rattle.exb_plans.specs.Making.{seen_group}
 use Rattle.exb_plan.proofs.groups.put_gone_at.Given as goal
 
 -- those of the numbers so far

@@ -1,7 +1,7 @@
 use Rattle.std.proofs.Common.{◌≡◌, filter, map, not, take}
-use Rattle.exb_rows.specs.Sets.{seen}
-use Rattle.exb_plan.specs.Held.{held_by}
-use Rattle.exb_plan.specs.Working.{has_group}
+use Rattle.exb_plans.specs.Sets.{seen}
+use Rattle.exb_plan.specs.Spaces.{held_by}
+use Rattle.exb_plans.specs.Making.{has_group}
 use Rattle.exb_plan.proofs.groups.without_group.Given as goal
 
 -- those of the sets so far

@@ -1,7 +1,8 @@
 use Rattle.std.proofs.Common.{◌∙◌, ◌/◌, Option, ℕ, sym, ap, subst}
 use Rattle.exb_model.specs.Tree.{trunk}
-use Rattle.exb_plan.specs.Held.{Held, held_by, channel_used, free_port_of}
-use Rattle.exb_plan.specs.Plans.{without_channel}
+use Rattle.exb_plans.specs.Held.{Held, channel_used, free_port_of}
+use Rattle.exb_plan.specs.Spaces.{held_by}
+use Rattle.exb_plans.specs.Plans.{without_channel}
 use Rattle.exb_plan.specs.Working.{HasUp, HasChannel, CanClaimUp, CanClaimChannel}
 use Rattle.exb_plan.proofs.SpaceHeld.{given_used, given_back}
 use Rattle.exb_plan.proofs.planning.claim_up.Goals as goal

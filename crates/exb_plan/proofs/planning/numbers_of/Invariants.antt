@@ -1,6 +1,6 @@
 use Rattle.std.proofs.Common.{◌≡◌, map, take}
-use Rattle.exb_plan.specs.Plans.{number_of}
-use Rattle.exb_plan.specs.Working.{seen_group}
+use Rattle.exb_plans.specs.Plans.{number_of}
+use Rattle.exb_plans.specs.Making.{seen_group}
 use Rattle.exb_plan.proofs.planning.numbers_of.Given as goal
 
 -- the numbers so far

@@ -1,12 +1,13 @@
 use Rattle.std.proofs.Common.{◌∙◌, ℕ, Option, List, not, filter, map, sym, ap, subst}
 use Rattle.std.specs.Prelude.{All}
 use Rattle.exb_config.specs.Tables.{bridge_of}
-use Rattle.exb_rows.specs.declared.group_sets.SetAt.{SetAt}
-use Rattle.exb_rows.specs.Sets.{PortsAt, seen}
-use Rattle.exb_plan.specs.Held.{held_by}
-use Rattle.exb_plan.specs.Working.{IsPlaced, CanClaim, CanClaimUp, has_group}
-use Rattle.exb_plan.proofs.Channels.{any_extended}
-use Rattle.exb_plan.proofs.Fresh.{fresh_are}
+use Rattle.exb_plans.specs.declared.set_at.SetAt.{SetAt}
+use Rattle.exb_plans.specs.Sets.{PortsAt, seen}
+use Rattle.exb_plan.specs.Spaces.{held_by}
+use Rattle.exb_plan.specs.Working.{IsPlaced, CanClaim, CanClaimUp}
+use Rattle.exb_plans.specs.Making.{has_group}
+use Rattle.exb_plans.proofs.Channels.{any_extended}
+use Rattle.exb_plans.proofs.Fresh.{fresh_are}
 use Rattle.exb_plan.proofs.WholePlans.{spaces_of, placed_sets, refusal_are, refused_is, refused_held, ready_are, ready_held_are, up_can, fresh_claim}
 use Rattle.exb_plan.proofs.planning.plan.Goals as goal
 

@@ -1,6 +1,6 @@
 use Rattle.std.proofs.Common.{◌≡◌, ◌≤◌, map, take}
-use Rattle.exb_rows.specs.Sets.{seen}
-use Rattle.exb_plan.specs.Working.{how_many, is_at}
+use Rattle.exb_plans.specs.Sets.{seen}
+use Rattle.exb_plans.specs.Making.{how_many, is_at}
 use Rattle.exb_plan.proofs.refusals.count_at.Given as goal
 
 -- those of the sets so far

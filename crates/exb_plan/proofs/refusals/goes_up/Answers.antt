@@ -1,6 +1,6 @@
 use Rattle.std.proofs.Common.{◌≡◌, ℕ, true, Some, ap, sym, subst, ◌∙◌, arith}
 use Rattle.exb_config.specs.Tables.{bridge_of}
-use Rattle.exb_plan.specs.Between.{rises}
+use Rattle.exb_plans.specs.Between.{rises}
 use Rattle.exb_plan.proofs.Finding.{goes_up_found, goes_up_none}
 use Rattle.exb_plan.proofs.refusals.goes_up.Goals as goal
 

@@ -1,6 +1,6 @@
 use Rattle.std.proofs.Common.{◌≡◌, ◌<◌, ℕ, false}
 use Rattle.exb_config.specs.Tables.{bridge_of}
-use Rattle.exb_plan.specs.Between.{rises}
+use Rattle.exb_plans.specs.Between.{rises}
 use Rattle.exb_plan.proofs.refusals.goes_up.Given as goal
 
 -- no port so far rises

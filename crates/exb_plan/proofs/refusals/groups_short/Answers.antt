@@ -2,8 +2,8 @@ use Rattle.std.proofs.Common.{◌≡◌, ◌∙◌, ◌+◌, ◌-◌, true, Opti
 use Rattle.std.specs.Prelude.{is_some}
 use Rattle.std.proofs.lemmas.Bool.{false≢true}
 use Rattle.exb_model.specs.declared.event.Cause.{Cause}
-use Rattle.exb_rows.specs.Sets.{seen}
-use Rattle.exb_plan.specs.Working.{short_at}
+use Rattle.exb_plans.specs.Sets.{seen}
+use Rattle.exb_plans.specs.Making.{short_at}
 use Rattle.exb_plan.proofs.Finding.{short_cause, short_found, short_none}
 use Rattle.exb_plan.proofs.refusals.groups_short.Goals as goal
 

@@ -1,7 +1,8 @@
 use Rattle.std.proofs.Common.{◌≡◌, ◌<◌, ◌-◌, ℕ, false, map}
 use Rattle.exb_model.specs.Setup.{Limits}
-use Rattle.exb_rows.specs.Sets.{seen}
-use Rattle.exb_plan.specs.Working.{AreLimited, is_short}
+use Rattle.exb_plans.specs.Sets.{seen}
+use Rattle.exb_plan.specs.Working.{AreLimited}
+use Rattle.exb_plans.specs.Making.{is_short}
 use Rattle.exb_plan.proofs.refusals.groups_short.Given as goal
 
 -- no bridge port so far is short of groups

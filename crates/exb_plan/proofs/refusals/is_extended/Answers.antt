@@ -1,5 +1,5 @@
 use Rattle.std.proofs.Common.{sym}
-use Rattle.exb_plan.proofs.Trunks.{not_extended}
+use Rattle.exb_plans.proofs.Trunks.{not_extended}
 use Rattle.exb_plan.proofs.refusals.is_extended.Goals as goal
 
 pub returns-in_default : goal.returns-in_default

@@ -1,6 +1,6 @@
 use Rattle.std.proofs.Common.{◌≡◌, [], map, take}
 use Rattle.std.specs.Prelude.{fold}
-use Rattle.exb_rows.specs.Sets.{with_set_at, seen}
+use Rattle.exb_plans.specs.Sets.{with_set_at, seen}
 use Rattle.exb_planning.proofs.coming.each_once.Given as goal
 
 -- those of the sets so far

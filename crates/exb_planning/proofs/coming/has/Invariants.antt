@@ -1,6 +1,6 @@
 use Rattle.std.proofs.Common.{◌≡◌, drop}
 use Rattle.std.specs.List.{list_any}
-use Rattle.exb_rows.specs.Sets.{is_same_set, seen}
+use Rattle.exb_plans.specs.Sets.{is_same_set, seen}
 use Rattle.exb_planning.proofs.coming.has.Given as goal
 
 -- what is left has it where all have it

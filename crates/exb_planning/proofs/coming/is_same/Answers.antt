@@ -1,5 +1,5 @@
 use Rattle.std.proofs.lemmas.Bool.{eq-eqb}
-use Rattle.exb_rows.proofs.SetPorts.{same_sets}
+use Rattle.exb_plan.proofs.SetPorts.{same_sets}
 use Rattle.exb_planning.proofs.coming.is_same.Goals as goal
 
 pub returns-then-set-other : goal.returns-then-set-other

@@ -2,9 +2,10 @@ use Rattle.std.proofs.Common.{◌∙◌, sym, ap, map, [], ◌∷◌}
 use Rattle.std.specs.List.{list_any}
 use Rattle.std.proofs.lemmas.Bool.{or_left, or_right}
 use Rattle.std.proofs.lemmas.List.{map-append}
-use Rattle.exb_rows.specs.Sets.{seen, is_same_set}
-use Rattle.exb_rows.proofs.SetPorts.{empty_sets}
-use Rattle.exb_rows.proofs.SetFolds.{with_set-none, with_set-more, list_any-map}
+use Rattle.exb_plans.specs.Sets.{seen, is_same_set}
+use Rattle.exb_plan.proofs.SetPorts.{empty_sets}
+use Rattle.exb_plan.proofs.SetFolds.{with_set-none, with_set-more}
+use Rattle.exb_plans.proofs.Each.{list_any-map}
 use Rattle.exb_planning.proofs.coming.put_once.Goals as goal
 use Rattle.exb_planning.proofs.coming.put_once.Goals.{then-is_empty-via-then-is_empty, then-is_empty-via-else-is_empty+then-has}
 

@@ -3,9 +3,10 @@ use Rattle.std.specs.List.{flat_map}
 use Rattle.std.proofs.lemmas.List.{append-nil}
 use Rattle.exb_model.specs.Ports.{below}
 use Rattle.exb_model.specs.Tree.{is_cascade}
-use Rattle.exb_plan.specs.Held.{Group, held_by}
-use Rattle.exb_plan.specs.Between.{gone_at}
-use Rattle.exb_plan.specs.Working.{seen_group}
+use Rattle.exb_plans.specs.Held.{Group}
+use Rattle.exb_plan.specs.Spaces.{held_by}
+use Rattle.exb_plans.specs.Between.{gone_at}
+use Rattle.exb_plans.specs.Making.{seen_group}
 use Rattle.exb_plan.proofs.Lists.{filter_next}
 use Rattle.exb_plan.proofs.RowSteps.{none_below, gone_everywhere}
 use Rattle.exb_planning.proofs.going.gone_groups.Goals as goal

@@ -2,10 +2,10 @@ use Rattle.std.proofs.Common.{◌≡◌, ◌-◌, ◌<◌, ℕ, true, List, filt
 use Rattle.std.specs.List.{flat_map}
 use Rattle.exb_model.specs.Ports.{below}
 use Rattle.exb_model.specs.Tree.{is_cascade}
-use Rattle.exb_rows.specs.Sets.{PortsAt, seen}
-use Rattle.exb_plan.specs.Held.{held_by}
-use Rattle.exb_plan.specs.Between.{gone_at}
-use Rattle.exb_plan.specs.Working.{seen_group}
+use Rattle.exb_plans.specs.Sets.{PortsAt, seen}
+use Rattle.exb_plan.specs.Spaces.{held_by}
+use Rattle.exb_plans.specs.Between.{gone_at}
+use Rattle.exb_plans.specs.Making.{seen_group}
 use Rattle.exb_planning.specs.Going.{AreLeft}
 use Rattle.exb_planning.proofs.going.gone_groups.Given as goal
 

@@ -1,6 +1,6 @@
 use Rattle.std.proofs.Common.{◌≡◌, ◌-◌, ℕ, map, take}
-use Rattle.exb_rows.specs.Sets.{seen}
-use Rattle.exb_plan.specs.Held.{held_by}
+use Rattle.exb_plans.specs.Sets.{seen}
+use Rattle.exb_plan.specs.Spaces.{held_by}
 use Rattle.exb_planning.specs.Rising.{is_among, IsRising}
 use Rattle.exb_planning.specs.Going.{is_left, AreGroups}
 use Rattle.exb_planning.proofs.going.left_at.Given as goal

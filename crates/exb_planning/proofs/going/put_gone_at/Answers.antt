@@ -1,8 +1,9 @@
 use Rattle.std.proofs.Common.{◌≡◌, ◌∙◌, ◌-◌, ◌++◌, List, map, sym, ap}
 use Rattle.std.proofs.lemmas.Result.{on_ok_weaker}
-use Rattle.exb_plan.specs.Held.{Group, held_by}
-use Rattle.exb_plan.specs.Between.{group_at, gone_at}
-use Rattle.exb_plan.specs.Working.{seen_group}
+use Rattle.exb_plans.specs.Held.{Group}
+use Rattle.exb_plan.specs.Spaces.{held_by}
+use Rattle.exb_plans.specs.Between.{group_at, gone_at}
+use Rattle.exb_plans.specs.Making.{seen_group}
 use Rattle.exb_planning.proofs.GoneNumbers.{gone_at_are}
 use Rattle.exb_planning.proofs.going.put_gone_at.Goals as goal
 

@@ -1,7 +1,7 @@
 use Rattle.std.proofs.Common.{◌≡◌, ◌++◌, ◌-◌, map, take}
-use Rattle.exb_plan.specs.Held.{held_by}
-use Rattle.exb_plan.specs.Between.{group_at}
-use Rattle.exb_plan.specs.Working.{seen_group}
+use Rattle.exb_plan.specs.Spaces.{held_by}
+use Rattle.exb_plans.specs.Between.{group_at}
+use Rattle.exb_plans.specs.Making.{seen_group}
 use Rattle.exb_planning.proofs.going.put_groups.Given as goal
 
 -- those of the numbers so far

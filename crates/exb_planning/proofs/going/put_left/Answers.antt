@@ -1,7 +1,8 @@
 use Rattle.std.proofs.Common.{◌≡◌, ◌∙◌, ◌-◌, ◌<◌, ◌||◌, Bool, ℕ, Some, None, sym, ap, subst, arith}
 use Rattle.std.proofs.lemmas.Result.{on_ok_weaker}
-use Rattle.exb_rows.specs.Sets.{seen}
-use Rattle.exb_plan.specs.Held.{held_by, group_in}
+use Rattle.exb_plans.specs.Sets.{seen}
+use Rattle.exb_plan.specs.Spaces.{held_by}
+use Rattle.exb_plans.specs.Held.{group_in}
 use Rattle.exb_planning.specs.Counted.{count_at}
 use Rattle.exb_planning.specs.Rising.{is_among}
 use Rattle.exb_planning.proofs.Recounting.{looked_up}

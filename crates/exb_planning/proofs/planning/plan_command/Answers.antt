@@ -1,11 +1,11 @@
 use Rattle.std.proofs.Common.{◌∙◌, map, refl, sym, ap}
 use Rattle.exb_model.specs.Configuration.{after}
 use Rattle.exb_config.specs.Tables.{bridge_of}
-use Rattle.exb_rows.specs.Sets.{seen, sets_of}
-use Rattle.exb_uses.specs.Touched.{parts_after}
-use Rattle.exb_plan.specs.Held.{held_by}
-use Rattle.exb_plan.specs.Between.{goes_down}
-use Rattle.exb_plan.proofs.Channels.{any_extended}
+use Rattle.exb_plans.specs.Sets.{seen, sets_of}
+use Rattle.exb_plans.specs.Touched.{parts_after}
+use Rattle.exb_plan.specs.Spaces.{held_by}
+use Rattle.exb_plans.specs.Between.{goes_down}
+use Rattle.exb_plans.proofs.Channels.{any_extended}
 use Rattle.exb_plan.proofs.WholePlans.{spaces_of, refusal_are, refused_is, refused_held, ready_are, ready_held_are}
 use Rattle.exb_planning.proofs.TouchedSets.{after_within, some_below, parts_placed, fresh_made}
 use Rattle.exb_planning.proofs.Moving.{used_sets}

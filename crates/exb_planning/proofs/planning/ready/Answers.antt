@@ -1,12 +1,14 @@
 use Rattle.std.proofs.Common.{◌≡◌, ◌∙◌, ℕ, List, Option, map, filter, not, sym, ap, subst}
 use Rattle.exb_model.specs.Configuration.{after}
 use Rattle.exb_config.specs.Tables.{bridge_of}
-use Rattle.exb_rows.specs.Sets.{PortsAt, seen, sets_of}
-use Rattle.exb_uses.specs.Touched.{parts_before, parts_after}
-use Rattle.exb_plan.specs.Held.{Group, held_by}
-use Rattle.exb_plan.specs.Between.{goes_down, gone_groups}
-use Rattle.exb_plan.specs.Working.{CanClaim, CanClaimUp, has_group, seen_group, change_with}
-use Rattle.exb_plan.proofs.Channels.{any_extended}
+use Rattle.exb_plans.specs.Sets.{PortsAt, seen, sets_of}
+use Rattle.exb_plans.specs.Touched.{parts_before, parts_after}
+use Rattle.exb_plans.specs.Held.{Group}
+use Rattle.exb_plan.specs.Spaces.{held_by}
+use Rattle.exb_plans.specs.Between.{goes_down, gone_groups}
+use Rattle.exb_plan.specs.Working.{CanClaim, CanClaimUp, change_with}
+use Rattle.exb_plans.specs.Making.{has_group, seen_group}
+use Rattle.exb_plans.proofs.Channels.{any_extended}
 use Rattle.exb_plan.proofs.WholePlans.{spaces_of, up_can, fresh_claim}
 use Rattle.exb_planning.specs.Recount.{AreEnough, AreLowered, AreRaised, AreUnused}
 use Rattle.exb_planning.specs.Going.{AreLeft}

@@ -1,5 +1,5 @@
 use Rattle.std.proofs.Common.{map, take}
-use Rattle.exb_rows.specs.Sets.{seen}
+use Rattle.exb_plans.specs.Sets.{seen}
 use Rattle.exb_planning.specs.Recount.{AreRaised, HaveRowsOf}
 use Rattle.exb_planning.proofs.recount.raise_new.Given as goal
 

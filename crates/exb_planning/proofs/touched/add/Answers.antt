@@ -1,7 +1,7 @@
 use Rattle.std.proofs.Common.{◌∙◌, sym, ap, map, [], ◌∷◌}
 use Rattle.std.proofs.lemmas.List.{map-append}
-use Rattle.exb_rows.specs.Sets.{seen}
-use Rattle.exb_rows.proofs.SetPorts.{empty_sets}
+use Rattle.exb_plans.specs.Sets.{seen}
+use Rattle.exb_plan.proofs.SetPorts.{empty_sets}
 use Rattle.exb_planning.proofs.Cuts.{none_more, one_more}
 use Rattle.exb_planning.proofs.touched.add.Goals as goal
 

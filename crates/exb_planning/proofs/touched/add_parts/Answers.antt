@@ -1,7 +1,7 @@
 use Rattle.std.proofs.Common.{◌≡◌, ◌∙◌, ◌-◌, ◌++◌, ap, ℕ, map, filter, arith}
 use Rattle.std.specs.List.{flat_map}
 use Rattle.exb_model.specs.Ports.{below}
-use Rattle.exb_rows.specs.Sets.{seen, parts_of}
+use Rattle.exb_plans.specs.Sets.{seen, parts_of}
 use Rattle.exb_planning.specs.Some.{has_ports}
 use Rattle.exb_planning.proofs.Cuts.{parts_none, parts_next, parts_all}
 use Rattle.exb_planning.proofs.touched.add_parts.Goals as goal

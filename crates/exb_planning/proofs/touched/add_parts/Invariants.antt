@@ -4,8 +4,8 @@ use Rattle.exb_model.specs.Ports.{below}
 use Rattle.exb_model.specs.Tree.{Shape}
 use Rattle.exb_model.specs.Configuration.{Bridge}
 use Rattle.exb_model.specs.Refusals.{Source}
-use Rattle.exb_rows.specs.Ground.{IsPart}
-use Rattle.exb_rows.specs.Sets.{seen, parts_of}
+use Rattle.exb_plan.specs.Ground.{IsPart}
+use Rattle.exb_plans.specs.Sets.{seen, parts_of}
 use Rattle.exb_planning.specs.Some.{has_ports}
 use Rattle.exb_planning.specs.Cutting.{IsGround}
 use Rattle.exb_planning.proofs.touched.add_parts.Given as goal

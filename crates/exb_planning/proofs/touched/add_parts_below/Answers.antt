@@ -1,5 +1,5 @@
 use Rattle.std.proofs.Common.{map}
-use Rattle.exb_rows.specs.Sets.{seen}
+use Rattle.exb_plans.specs.Sets.{seen}
 use Rattle.exb_planning.proofs.Cuts.{parts_put, parts_left_out}
 use Rattle.exb_planning.proofs.touched.add_parts_below.Goals as goal
 

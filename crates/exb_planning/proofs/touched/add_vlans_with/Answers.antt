@@ -2,7 +2,7 @@ use Rattle.std.proofs.Common.{◌≡◌, ◌∙◌, ◌+◌, ◌-◌, true, ap, 
 use Rattle.std.specs.List.{flat_map, range_with_len}
 use Rattle.exb_model.specs.Refusals.{Source, both_kinds}
 use Rattle.exb_config.specs.Tables.{bridge_of}
-use Rattle.exb_uses.specs.Touched.{has_port}
+use Rattle.exb_plans.specs.Touched.{has_port}
 use Rattle.exb_planning.specs.Cutting.{state_at}
 use Rattle.exb_planning.proofs.Cuts.{all_among, adds_none, adds_more, adds_same}
 use Rattle.exb_planning.proofs.Touching.{vlans_more, vlans_are}

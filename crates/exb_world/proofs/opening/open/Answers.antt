@@ -4,8 +4,8 @@ use Rattle.exb_model.specs.declared.event.Event.{Event}
 use Rattle.exb_model.specs.declared.event.Event.TheVariants as event
 use Rattle.exb_model.specs.Tree.{Shape, on, trunk, opening_ports}
 use Rattle.exb_config.specs.Tables.{bridge_of}
-use Rattle.exb_rows.specs.declared.group_sets.SetAt.{SetAt}
-use Rattle.exb_rows.specs.Sets.{seen, sets_of}
+use Rattle.exb_plans.specs.declared.set_at.SetAt.{SetAt}
+use Rattle.exb_plans.specs.Sets.{seen, sets_of}
 use Rattle.exb_world.specs.Extenders.{tables_of}
 use Rattle.exb_world.specs.Insides.{AreRegistered, IsRunning, AreNext, sets_below}
 use Rattle.exb_world.specs.Worlds.{with_up}

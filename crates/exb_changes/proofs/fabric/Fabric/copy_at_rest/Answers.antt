@@ -3,8 +3,9 @@ use Rattle.exb_model.specs.Tree.{Shape}
 use Rattle.exb_config.specs.Tables.{Tables, bridge_of}
 use Rattle.exb_plan.proofs.WholePlans.{alike_has}
 use Rattle.exb_changes.specs.declared.stage.Stage.TheVariants.{AtRest}
-use Rattle.exb_plan.specs.Held.{held_by}
-use Rattle.exb_changes.specs.Fabrics.{Fabric, fabric_of, in_spaces, bridge_at_end, held_at_end}
+use Rattle.exb_plan.specs.Spaces.{held_by}
+use Rattle.exb_changes.specs.Fabrics.{Fabric, fabric_of, bridge_at_end, held_at_end}
+use Rattle.exb_plans.specs.Held.{in_spaces}
 use Rattle.exb_changes.specs.GroupUses.{AreUses, IsKept}
 use Rattle.exb_changes.proofs.Kept.{ended}
 use Rattle.exb_changes.proofs.GroupUses.{ended_uses}

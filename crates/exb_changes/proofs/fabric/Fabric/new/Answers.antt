@@ -1,6 +1,6 @@
 use Rattle.std.proofs.Common.{◌∙◌}
 use Rattle.exb_config.specs.Tables.{bridge_of}
-use Rattle.exb_plan.specs.Held.{held_by}
+use Rattle.exb_plan.specs.Spaces.{held_by}
 use Rattle.exb_changes.proofs.Kept.{new_fabric}
 use Rattle.exb_changes.proofs.GroupUses.{counted_placed, first_counted}
 use Rattle.exb_changes.proofs.fabric.Fabric.new.Goals as goal

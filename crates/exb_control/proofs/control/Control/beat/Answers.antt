@@ -1,5 +1,5 @@
 use Rattle.std.proofs.Common.{refl, sym, ap, subst, ◌∙◌}
-use Rattle.exb_changes.specs.Machine.{beats}
+use Rattle.exb_changing.specs.Machine.{beats}
 use Rattle.exb_control.specs.declared.working.Core.{Core}
 use Rattle.exb_control.specs.declared.outbox.Outbox.{Outbox}
 use Rattle.exb_control.specs.Boxes.{IsMoved}

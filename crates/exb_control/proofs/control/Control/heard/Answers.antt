@@ -4,7 +4,7 @@ use Rattle.exb_model.specs.Tree.{is_extender}
 use Rattle.exb_control.specs.declared.outbox.Outbox.{Outbox}
 use Rattle.exb_control.specs.Boxes.{IsMoved}
 use Rattle.exb_control.specs.Controls.{Parts, state_of, decide_of, announced}
-use Rattle.exb_changes.specs.Fabrics.{AreFit}
+use Rattle.exb_changing.specs.Fitting.{AreFit}
 use Rattle.exb_control.specs.Soundness.{to_come}
 use Rattle.exb_control.specs.Insides.{parts_of}
 use Rattle.exb_control.proofs.Calls.{when_ok, moved, steady_at, heard_it, ignored}

@@ -1,5 +1,5 @@
 use Rattle.std.proofs.Common.{ap, ◌∙◌}
-use Rattle.exb_changes.specs.Beginning.{first_jobs}
+use Rattle.exb_changing.specs.Beginning.{first_jobs}
 use Rattle.exb_control.specs.Steps.{askers_of}
 use Rattle.exb_control.proofs.Askers.{begun_all}
 use Rattle.exb_control.proofs.FirstState.{begins_as, begins_kept}

@@ -1,5 +1,5 @@
 use Rattle.std.proofs.Common.{sym}
-use Rattle.exb_rows.proofs.GroundLemmas.{not_extended}
+use Rattle.exb_plan.proofs.GroundLemmas.{not_extended}
 use Rattle.exb_planning.proofs.touched.ground.is_extended.Goals as goal
 
 pub returns-in_default : goal.returns-in_default

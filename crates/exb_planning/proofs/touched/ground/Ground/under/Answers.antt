@@ -1,6 +1,6 @@
 use Rattle.std.proofs.Common.{ℕ, refl, arith}
 use Rattle.exb_model.proofs.Words.{get_or-same}
-use Rattle.exb_rows.proofs.SetPorts.{has_port-chosen, fits-chosen}
+use Rattle.exb_plan.proofs.SetPorts.{has_port-chosen, fits-chosen}
 use Rattle.exb_planning.proofs.touched.ground.Ground.under.Goals as goal
 
 pub returns : goal.returns

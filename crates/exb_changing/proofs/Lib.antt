@@ -1,0 +1,12 @@
+pub mod Bools
+pub mod Counted
+pub mod FreshGroups
+pub mod GoneGroups
+pub mod Released
+pub mod Places
+pub mod Commands
+pub mod Claims
+pub mod Short
+pub mod FirstClaims
+pub mod FirstJobs
+pub mod Known

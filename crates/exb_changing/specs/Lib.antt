@@ -1,0 +1,6 @@
+pub mod Deciding
+pub mod Machine
+pub mod Counting
+pub mod Beginning
+pub mod Fitting
+pub mod Planned

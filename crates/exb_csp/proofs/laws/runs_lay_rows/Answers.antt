@@ -1,0 +1,5 @@
+use Rattle.exb_csp.proofs.AllLemmas.{runs_lay_rows}
+use Rattle.exb_csp.proofs.laws.runs_lay_rows.Goals as goal
+
+pub returns : goal.returns
+returns c = runs_lay_rows

@@ -1,5 +1,0 @@
-use Rattle.exb_extender.proofs.AllLemmas.{runs_lay_rows}
-use Rattle.exb_extender.proofs.laws.runs_lay_rows.Goals as goal
-
-pub returns : goal.returns
-returns c = runs_lay_rows

@@ -1,0 +1,16 @@
+use Rattle.std.proofs.Common.{◌≡◌, map, fold, take}
+use Rattle.std.specs.List.{flat_map}
+use Rattle.exb_model.specs.Ports.{port_in}
+use Rattle.exb_model.specs.Tree.{Shape}
+use Rattle.exb_model.specs.Refusals.{both_kinds}
+use Rattle.exb_config.specs.Tables.{bridge_of}
+use Rattle.exb_plan.specs.Ground.{IsGround}
+use Rattle.exb_plans.specs.Sets.{seen, with_set_at, parts_below}
+use Rattle.exb_plan.proofs.group_sets.add_statics.Given as goal
+
+-- the parts of the entries so far are put
+abbrev pub invariant-loop-at : goal.invariant-loop-at
+invariant-loop-at l =
+    (t : Shape) → IsGround t (bridge_of l.config) l.ground →
+    map seen l.sets.items ≡ fold with_set_at (map seen l.fn.sets.items)
+    (flat_map (parts_below t (bridge_of l.config)) (flat_map (λ e. both_kinds e.vid (port_in e.ports)) (take l.at (bridge_of l.config).statics)))

@@ -1,0 +1,12 @@
+pub mod Rows
+pub mod Laying
+pub mod Carrying
+pub mod Sets
+pub mod Held
+pub mod Between
+pub mod Asks
+pub mod Plans
+pub mod Making
+pub mod Laws
+pub mod Touched
+pub mod Uses

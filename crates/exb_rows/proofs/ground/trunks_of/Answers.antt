@@ -1,6 +1,0 @@
-use Rattle.std.proofs.Common.{ℕ, refl, arith}
-use Rattle.exb_model.proofs.Words.{get_or-same}
-use Rattle.exb_rows.proofs.ground.trunks_of.Goals as goal
-
-pub loop-number-init : goal.loop-number-init
-loop-number-init c = (refl, λ n h. absurd (omega arith), λ n h. get_or-same {X = ℕ} 65 n 0)
