@@ -65,5 +65,14 @@ pub mod EndsLeft
 mod Above
 mod Placing
 mod Putting
+-- what comes may be heard, and what goes out can be sent
+mod Hearable
+mod Well
+mod Speaking
+mod PlacedSteps
+mod Kept
+mod GoingBeat
+mod GoingSteps
 -- the laws
 mod Windows
+mod Orderly

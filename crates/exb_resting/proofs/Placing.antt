@@ -6,7 +6,6 @@ use Rattle.exb_model.specs.ETags.{Tag, read_etag, tagged, stripped}
 use Rattle.exb_model.specs.ExtenderForwarding.{emits, emits_tagged, takes, left_out, bare}
 use Rattle.exb_model.proofs.TreeHung.{trunk-low}
 use Rattle.exb_frame.specs.TagValues.{TagRoundTrip}
-use Rattle.exb_csp.specs.declared.message.Body.{Body}
 use Rattle.exb_extender.specs.declared.sends.Side.TheVariants as side
 use Rattle.exb_csp.specs.AllTables.{port_of}
 use Rattle.exb_extender.specs.Forwarding.{forwarding_of, sent_at, is_bare_control, is_to_control, names_channel, emitted, channel_tag}
@@ -16,10 +15,10 @@ use Rattle.exb_link.specs.declared.word.Word.{Word}
 use Rattle.exb_model.specs.Setup.{Limits}
 use Rattle.exb_plans.specs.Held.{Held}
 use Rattle.exb_machine.specs.Extending.{port_number}
-use Rattle.exb_machine.specs.Sessions.{Each, IsTagged, Routes, IsNextHop}
+use Rattle.exb_machine.specs.Sessions.{Each, IsTagged, KeepsCascades, Routes, IsNextHop}
 use Rattle.exb_machine.proofs.Fixing.{trunk_is_cascade}
-use Rattle.exb_machine.proofs.Forwarding.{bare_there, plain_there, read_way, tagged_bare}
-use Rattle.exb_machine.proofs.Frames.{bare_is, stripped_to_control}
+use Rattle.exb_machine.proofs.Forwarding.{bare_there, plain_there}
+use Rattle.exb_machine.proofs.Frames.{bare_is, read_typed, typed_not_bare, tag_fits, stripped_to_control}
 use Rattle.exb_machine.proofs.Trees.{trunk_above, above_there, hangs_there, extender_there, port_there}
 use Rattle.exb_machine.proofs.Words.{each_range}
 use Rattle.exb_resting.specs.Facts.{IsAbove}
@@ -46,16 +45,23 @@ same_port k q e = cc
 abbrev pub HasOnes : Shape → Held → Type 0
 HasOnes t h = (k c d p : ℕ) → k < 64 → is_cascade t k ≡ true → h.port k c ≡ Some p → h.port k d ≡ Some p → c ≡ d
 
--- the lemmas of exb_machine on forwarding speak of what frames hand up, of which nothing is needed here
-abbrev Nothing : ℕ → ℕ → Body → Type 0
-Nothing n serial b = Unit {0}
-
-module _ (t : Shape) (l : Limits) (tree : IsTree t) (h : Held) (round : TagRoundTrip) (D U : ℕ → List ℕ → Type 0) (far : ℕ → ExtenderState) (routes : Routes t h far) (ones : HasOnes t h) where
+-- The words have the channels of h, with which the world began; g is what is held now, by which the tables send on.
+module _ (t : Shape) (l : Limits) (tree : IsTree t) (h g : Held) (to : KeepsCascades t g h) (from : KeepsCascades t h g) (round : TagRoundTrip) (D U : ℕ → List ℕ → Type 0) (far : ℕ → ExtenderState) (routes : Routes t g far) (ones : HasOnes t g) where
   read_of : (m : ℕ) (f : List ℕ) (n : ℕ) (c : List ℕ) → is_bare_control c ≡ true → (k : IsTagged t h m f n c) → (read_etag f ≡ Some (channel_tag k.channel)) × (stripped f ≡ c)
-  read_of m f n c bare k = read_way t tree h round Nothing Nothing far routes m f n c bare k
+  read_of m f n c bare k =
+      let b = bare_is c bare in
+      let r = round c (channel_tag k.channel) (omega (arith, b.long)) (tag_fits k.channel k.small) in
+      (ap read_etag k.frame ∙ r.0, ap stripped k.frame ∙ r.1)
 
   no_bare : (m : ℕ) (f : List ℕ) (n : ℕ) (c : List ℕ) → is_bare_control c ≡ true → IsTagged t h m f n c → is_bare_control f ≡ true → ⊥
-  no_bare m f n c bare k is = tagged_bare t tree h round Nothing Nothing far routes m f n c bare k is
+  no_bare m f n c bare k is = both_ways (is_bare_control f) is (typed_not_bare f (read_typed f (channel_tag k.channel) (read_of m f n c bare k).0))
+
+  -- the channel of a word is held now
+  held_now : (m : ℕ) (f : List ℕ) (n : ℕ) (c : List ℕ) → is_extender t n ≡ true → (k : IsTagged t h m f n c) → g.port (trunk t m) k.channel ≡ Some (on t n)
+  held_now m f n c there k =
+      let P : ℕ → Type 0 = λ i. g.port i k.channel ≡ Some (on t n) in
+      let Q : ℕ → Type 0 = λ i. h.port i k.channel ≡ Some (on t n) in
+      subst P (sym k.home) (from n k.channel there k.deep k.some (subst Q k.home k.holds))
 
   abbrev Sends : ℕ → Option Stamp → Rattle.exb_extender.specs.Forwarding.Sent → Type 0
   Sends n stamp x = MaySend t l (WordPlaced t h D) (WordPlaced t h U) n stamp x
@@ -94,14 +100,14 @@ module _ (t : Shape) (l : Limits) (tree : IsTree t) (h : Held) (round : TagRound
         number = ap (λ (x : Tag). x.ecid) same
 
         next : IsNextHop t (far m) m q k.tag.channel k.placed.of
-        next = routes.down m q k.tag.channel k.placed.of there k.placed.there k.tag.deep k.tag.holds k.tag.some k.tag.small first (omega (arith, few, is.ports.1)) own (subst (λ (x : Tag). (far m).tables.pair x.ecid q ≡ true) same pair)
+        next = routes.down m q k.tag.channel k.placed.of there k.placed.there k.tag.deep (held_now m f k.placed.of k.placed.frame k.placed.there k.tag) k.tag.some k.tag.small first (omega (arith, few, is.ports.1)) own (subst (λ (x : Tag). (far m).tables.pair x.ecid q ≡ true) same pair)
 
         -- the extender that hangs there isn't its own, where the port's channel is another one
         other_there : (c : ℕ) → HangsOn t c (port_of m q) → (far m).tables.own q ≢ k.tag.channel → c ≢ k.placed.of
         other_there c hangs other e =
             let at_port : port_of m q ≡ on t k.placed.of = sym hangs.at ∙ ap (on t) e in
-            let mine : h.port (trunk t m) ((far m).tables.own q) ≡ Some (port_of m q) = routes.up m q c there hangs first (omega (arith, few, is.ports.1)) own in
-            let its : h.port (trunk t m) k.tag.channel ≡ Some (port_of m q) = k.tag.holds ∙ ap (λ (x : ℕ). Some x) (sym at_port) in
+            let mine : g.port (trunk t m) ((far m).tables.own q) ≡ Some (port_of m q) = routes.up m q c there hangs first (omega (arith, few, is.ports.1)) own in
+            let its : g.port (trunk t m) k.tag.channel ≡ Some (port_of m q) = held_now m f k.placed.of k.placed.frame k.placed.there k.tag ∙ ap (λ (x : ℕ). Some x) (sym at_port) in
             let cascade : is_cascade t (trunk t m) ≡ true = subst (λ (x : ℕ). is_cascade t x ≡ true) (sym k.tag.home) (trunk_is_cascade t tree k.placed.of k.placed.there k.tag.deep) in
             other (ones (trunk t m) ((far m).tables.own q) k.tag.channel (port_of m q) (trunk-low t tree m there) cascade mine its)
 
@@ -223,8 +229,10 @@ module _ (t : Shape) (l : Limits) (tree : IsTree t) (h : Held) (round : TagRound
         by_way : (k : IsPlaced t h U m f) → ((m ≡ k.of) × (f ≡ k.frame)) ⊎ ((m ≢ k.of) × IsTagged t h m f k.of k.frame) → IsPlaced t h U (device (on t m)) (tagged f (channel_tag ((far (device (on t m))).tables.own (port_number (on t m)))))
         by_way k (inr w) = absurd (no_bare m f k.of k.frame k.bare w.1 bare)
         by_way k (inl e) =
-            let held : h.port (trunk t (device (on t m))) ((far (device (on t m))).tables.own (port_number (on t m))) ≡ Some (port_of (device (on t m)) (port_number (on t m))) = routes.up (device (on t m)) (port_number (on t m)) m (above_there t tree m there deep) its (omega arith) (let r : on t m % 64 < 64 = omega arith in omega arith) own in
-            let same : port_of (device (on t m)) (port_number (on t m)) ≡ on t k.of = port_there (on t m) ∙ ap (on t) e.0 in
+            let now : g.port (trunk t (device (on t m))) ((far (device (on t m))).tables.own (port_number (on t m))) ≡ Some (port_of (device (on t m)) (port_number (on t m))) = routes.up (device (on t m)) (port_number (on t m)) m (above_there t tree m there deep) its (omega arith) (let r : on t m % 64 < 64 = omega arith in omega arith) own in
+            let P : ℕ → Type 0 = λ i. g.port i ((far (device (on t m))).tables.own (port_number (on t m))) ≡ Some (on t m) in
+            let mine : h.port (trunk t m) ((far (device (on t m))).tables.own (port_number (on t m))) ≡ Some (on t m) = to m ((far (device (on t m))).tables.own (port_number (on t m))) there deep own (subst P trunk_same (now ∙ ap (λ (x : ℕ). Some x) (port_there (on t m)))) in
+            let Q : ℕ → Type 0 = λ i. h.port i ((far (device (on t m))).tables.own (port_number (on t m))) ≡ Some (on t m) in
             record {
               of = k.of;
               frame = k.frame;
@@ -240,7 +248,7 @@ module _ (t : Shape) (l : Limits) (tree : IsTree t) (h : Held) (round : TagRound
                   frame = ap (λ (x : List ℕ). tagged x (channel_tag ((far (device (on t m))).tables.own (port_number (on t m))))) e.1;
                   deep = subst (λ (x : ℕ). 64 ≤ on t x) e.0 deep;
                   home = trunk_same ∙ ap (trunk t) e.0;
-                  holds = held ∙ ap Some same;
+                  holds = subst Q (sym trunk_same) mine ∙ ap (λ (x : ℕ). Some (on t x)) e.0;
                 },
               );
               reads = k.reads;

@@ -5,12 +5,14 @@ use Rattle.exb_model.specs.declared.setup.Verdict.{Verdict}
 use Rattle.exb_model.specs.Rounds.{rounds}
 use Rattle.exb_model.specs.Setup.{Limits, IsValid, shape_of, limits_of, start_of}
 use Rattle.exb_model.specs.Tree.{Shape, IsTree, is_extender}
+use Rattle.exb_change_laws.specs.Planned.{IsSetting}
 use Rattle.exb_machine.specs.Worlds.{World, Step, Beat, Up, first_world}
 use Rattle.exb_machine.specs.Allowing.{Can}
 use Rattle.exb_machine.specs.Stepping.{stepped}
 use Rattle.exb_machine.specs.Settling.{run, round, direction, deepest_first, directions, through_all, settled_within, is_settled, planned_in}
 use Rattle.exb_resting.specs.Costs.{costs}
 use Rattle.exb_resting.specs.Facts.{Facts, OnLink}
+use Rattle.exb_resting.specs.Going.{IsGoing, IsOrderly}
 
 -- ---- worlds of which the laws speak
 -- a step on a link that may be made, or a beat
@@ -24,6 +26,18 @@ MayMoveAll t l w (step ∷ steps) = MayMove t w step × MayMoveAll t l (stepped 
 -- Whatever words are delivered, lost or repeated, in whatever order, and whatever beats pass, the world has the facts.
 pub record KeepsFacts (t : Shape) (l : Limits) (w : World) : Type 0 where
   pub each : (steps : List Step) → MayMoveAll t l w steps → Facts t l (run t l steps w).world
+
+-- Likewise, what is left to be shown of a world stays so.
+pub record KeepsOrder (t : Shape) (l : Limits) (w : World) : Type 0 where
+  pub each : (steps : List Step) → MayMoveAll t l w steps → IsOrderly t (run t l steps w).world
+
+-- Then it keeps the facts, where what is shown of each world is so as they begin.
+abbrev pub OrderKeepsFacts : Type 0
+OrderKeepsFacts = (t : Shape) (l : Limits) (w : World) → IsSetting t l → IsGoing t l w → KeepsOrder t l w → KeepsFacts t l w
+
+-- It is so of the world of each valid setup.
+abbrev pub SetupsBeginGoing : Type 0
+SetupsBeginGoing = (s : Setup) → IsValid s → IsSetting (shape_of s) (limits_of s) × IsGoing (shape_of s) (limits_of s) (first_world (shape_of s) (limits_of s) (start_of s) s.ageing)
 
 -- The world of each valid setup has the facts as it begins.
 abbrev pub SetupsHaveFacts : Type 0

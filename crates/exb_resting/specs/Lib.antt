@@ -8,3 +8,4 @@ pub mod Costs
 pub mod Left
 pub mod Laws
 pub mod Placed
+pub mod Going

@@ -1,5 +1,5 @@
 //! What is true of rounds and of settling.
-ghost use Rattle.exb_resting.specs.Laws.{SetupsHaveFacts, SettlingEnds, RoundsSpend, RoundsPlanNothing, RoundsDeliver, WindowsGetOn};
+ghost use Rattle.exb_resting.specs.Laws.{SetupsHaveFacts, SettlingEnds, RoundsSpend, RoundsPlanNothing, RoundsDeliver, WindowsGetOn, OrderKeepsFacts, SetupsBeginGoing};
 
 use exb_frame::laws::tag_round_trip;
 
@@ -37,6 +37,20 @@ pub fn rounds_deliver()
 /// Within 64 rounds in which each word passes a planned exchange is done, or the world is settled.
 pub fn windows_get_on()
     ensures { WindowsGetOn }
+{
+    tag_round_trip();
+}
+
+/// The world of each valid setup begins with what is shown of each world: its sessions stand, both ends of each are as they
+/// should be, and control words stand on the way of their extenders.
+pub fn setups_begin_going()
+    ensures { SetupsBeginGoing }
+{}
+
+/// Where what is left to be shown stays so, whatever words are delivered, lost or repeated and whatever beats pass, a
+/// world with that keeps the facts that the laws on settling ask: each step keeps what is shown.
+pub fn order_keeps_facts()
+    ensures { OrderKeepsFacts }
 {
     tag_round_trip();
 }
