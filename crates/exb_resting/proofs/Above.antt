@@ -4,7 +4,7 @@ use Rattle.std.proofs.lemmas.Bool.{cases_eq, cases_lt}
 use Rattle.exb_model.specs.Tree.{Shape, IsTree, HangsOn, device, on, is_extender, depth, up, path, above}
 use Rattle.exb_model.proofs.TreeOrder.{less_deep}
 use Rattle.exb_model.proofs.TreeWays.{up_none, up_high, up_low, among, among_cases, among_none, among_above, path_is}
-use Rattle.exb_machine.proofs.Trees.{hangs_there, above_there}
+use Rattle.exb_machine_laws.proofs.Trees.{hangs_there, above_there}
 use Rattle.exb_resting.specs.Facts.{IsAbove}
 use Rattle.exb_resting.proofs.Streams.{depth_some}
 use Rattle.exb_resting.proofs.Sessions.{depth_few}

@@ -30,15 +30,15 @@ use Rattle.exb_change_laws.proofs.Steps.{any_steps_stand}
 use Rattle.exb_machine.specs.Worlds.{World, Beat, with_near, at}
 use Rattle.exb_machine.specs.Effects.{only, each}
 use Rattle.exb_machine.specs.Extending.{reacts}
-use Rattle.exb_machine.specs.Fixing.{fixing}
+use Rattle.exb_machine_laws.specs.Fixing.{fixing}
 use Rattle.exb_machine.specs.Hearing.{bridge_request, sends_again, beats_near, moves}
-use Rattle.exb_machine.specs.Sessions.{Each, AreLow, AreSent, KeepsCascades}
-use Rattle.exb_machine.specs.Simulation.{system_of, IsSound}
+use Rattle.exb_machine_laws.specs.Sessions.{Each, AreLow, AreSent, KeepsCascades}
+use Rattle.exb_machine_laws.specs.Simulation.{system_of, IsSound}
 use Rattle.exb_machine.specs.Stepping.{if_there, stepped}
-use Rattle.exb_machine.proofs.Beating.{has_beaten, beat_low}
-use Rattle.exb_machine.proofs.Fixing.{fixing_plans}
-use Rattle.exb_machine.proofs.Words.{at_same, at_here, at_other, each_weaker}
-use Rattle.exb_machine.proofs.Writing.{IsWritten, moved_wrote, all_be_sent}
+use Rattle.exb_machine_laws.proofs.Beating.{has_beaten, beat_low}
+use Rattle.exb_machine_laws.proofs.Fixing.{fixing_plans}
+use Rattle.exb_machine_laws.proofs.Words.{at_same, at_here, at_other, each_weaker}
+use Rattle.exb_machine_laws.proofs.Writing.{IsWritten, moved_wrote, all_be_sent}
 use Rattle.exb_resting.specs.Ends.{Request as Asks}
 use Rattle.exb_resting.specs.Going.{IsDevice, IsGoing, HasRoom}
 use Rattle.exb_resting.specs.Left.{IsOfSerial}

@@ -29,16 +29,16 @@ use Rattle.exb_change_laws.specs.Planned.{IsSetting}
 use Rattle.exb_machine.specs.Worlds.{World, Way, Up, Down, Step, Carry, Control, Lose, Beat, with_up, with_down, with_far, at}
 use Rattle.exb_machine.specs.Allowing.{Can}
 use Rattle.exb_machine.specs.Controls.{announced}
-use Rattle.exb_machine.specs.Laws.{HasBytes, ordered_by, StepsStaySound}
-use Rattle.exb_machine.specs.Sessions.{Each, AreLow, AreSent, CanBeSent, CanAsk, WasAsked, WritesIn, WritesWork}
-use Rattle.exb_machine.specs.Simulation.{IsSound}
+use Rattle.exb_machine_laws.specs.Laws.{HasBytes, ordered_by, StepsStaySound}
+use Rattle.exb_machine_laws.specs.Sessions.{Each, AreLow, AreSent, CanBeSent, CanAsk, WasAsked, WritesIn, WritesWork}
+use Rattle.exb_machine_laws.specs.Simulation.{IsSound}
 use Rattle.exb_machine.specs.Stepping.{words_on, with_words, takes, takes_any, first_data, control_at, rest_of, stepped}
-use Rattle.exb_machine.proofs.Beating.{sound_after}
-use Rattle.exb_machine.proofs.Runs.{steps_stay_sound}
-use Rattle.exb_machine.proofs.Steps.{kept}
-use Rattle.exb_machine.proofs.Taking.{IsOutstanding, outstanding}
-use Rattle.exb_machine.proofs.Words.{at_same, at_here, at_other, each_weaker, each_filter, each_get, each_without_data, each_without_control}
-use Rattle.exb_machine.proofs.Writing.{IsWritten, all_be_sent}
+use Rattle.exb_machine_laws.proofs.Beating.{sound_after}
+use Rattle.exb_machine_laws.proofs.Runs.{steps_stay_sound}
+use Rattle.exb_machine_laws.proofs.Steps.{kept}
+use Rattle.exb_machine_laws.proofs.Taking.{IsOutstanding, outstanding}
+use Rattle.exb_machine_laws.proofs.Words.{at_same, at_here, at_other, each_weaker, each_filter, each_get, each_without_data, each_without_control}
+use Rattle.exb_machine_laws.proofs.Writing.{IsWritten, all_be_sent}
 use Rattle.exb_resting.specs.Facts.{OnLink, carries, delivers, loses}
 use Rattle.exb_resting.specs.Going.{IsDevice, IsGoing, IsOrderly, HasRoom}
 use Rattle.exb_resting.specs.Placed.{WordPlaced, ReadsDown, ReadsUp, ArePlaced}

@@ -22,12 +22,12 @@ use Rattle.exb_extender.proofs.ControlLemmas.{answer_fits, response_spelled}
 use Rattle.exb_change_laws.specs.Planned.{IsSetting}
 use Rattle.exb_link.specs.declared.word.Word.{Word}
 use Rattle.exb_machine.specs.Worlds.{World}
-use Rattle.exb_machine.specs.Sessions.{Each, Hands, WasAsked, IsAsked, AskedOf, IsOnWay, WordFits, WorldFits, ArePaired, AreLow, CanBeSent}
-use Rattle.exb_machine.specs.Simulation.{IsSound}
-use Rattle.exb_machine.proofs.Forwarding.{tagged_bare}
-use Rattle.exb_machine.proofs.Frames.{bare_is}
-use Rattle.exb_machine.proofs.Reacting.{routes}
-use Rattle.exb_machine.proofs.Words.{each_weaker}
+use Rattle.exb_machine_laws.specs.Sessions.{Each, Hands, WasAsked, IsAsked, AskedOf, IsOnWay, WordFits, WorldFits, ArePaired, AreLow, CanBeSent}
+use Rattle.exb_machine_laws.specs.Simulation.{IsSound}
+use Rattle.exb_machine_laws.proofs.Forwarding.{tagged_bare}
+use Rattle.exb_machine_laws.proofs.Frames.{bare_is}
+use Rattle.exb_machine_laws.proofs.Reacting.{routes}
+use Rattle.exb_machine_laws.proofs.Words.{each_weaker}
 use Rattle.exb_resting.specs.Going.{OpensFirst}
 use Rattle.exb_resting.proofs.EndSteps.{MayAsk}
 use Rattle.exb_resting.proofs.FarLeft.{MayHear}

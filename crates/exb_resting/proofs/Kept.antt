@@ -22,14 +22,14 @@ use Rattle.exb_changing.specs.Machine.{Work}
 use Rattle.exb_change_laws.specs.Planned.{IsSetting}
 use Rattle.exb_change_laws.specs.Standing.{StandsBy, Works, Answers}
 use Rattle.exb_machine.specs.Worlds.{World}
-use Rattle.exb_machine.specs.Fixing.{fixing}
-use Rattle.exb_machine.specs.Sessions.{Each, Hands, IsAnswered, WasAnswered, IsTagged, IsFrameOn, IsOnWay, FitsOn, WordFits, AskedOf, StoredAt, ArePaired, KeepsCascades, Routes}
-use Rattle.exb_machine.specs.Simulation.{answer_at, answer_in, system_of, IsSound}
-use Rattle.exb_machine.proofs.Fixing.{forget, fixed_now}
-use Rattle.exb_machine.proofs.Frames.{bare_is, read_typed}
-use Rattle.exb_machine.proofs.Routing.{stands_route}
-use Rattle.exb_machine.proofs.Taking.{IsOutstanding, outstanding}
-use Rattle.exb_machine.proofs.Trees.{hangs_there}
+use Rattle.exb_machine_laws.specs.Fixing.{fixing}
+use Rattle.exb_machine_laws.specs.Sessions.{Each, Hands, IsAnswered, WasAnswered, IsTagged, IsFrameOn, IsOnWay, FitsOn, WordFits, AskedOf, StoredAt, ArePaired, KeepsCascades, Routes}
+use Rattle.exb_machine_laws.specs.Simulation.{answer_at, answer_in, system_of, IsSound}
+use Rattle.exb_machine_laws.proofs.Fixing.{forget, fixed_now}
+use Rattle.exb_machine_laws.proofs.Frames.{bare_is, read_typed}
+use Rattle.exb_machine_laws.proofs.Routing.{stands_route}
+use Rattle.exb_machine_laws.proofs.Taking.{IsOutstanding, outstanding}
+use Rattle.exb_machine_laws.proofs.Trees.{hangs_there}
 use Rattle.exb_resting.specs.Facts.{Facts, IsOfKind, IsAbove}
 use Rattle.exb_resting.specs.Going.{IsGoing, IsOrderly}
 use Rattle.exb_resting.specs.Left.{KindDown, KindUp, WordLeft, Left}

@@ -12,7 +12,7 @@ use Rattle.exb_change_laws.specs.Planned.{IsSetting}
 use Rattle.exb_machine.specs.Worlds.{World, Step, Beat}
 use Rattle.exb_machine.specs.Settling.{run}
 use Rattle.exb_machine.specs.Stepping.{stepped}
-use Rattle.exb_machine.proofs.Setups.{setups_begin_sound}
+use Rattle.exb_machine_laws.proofs.Setups.{setups_begin_sound}
 use Rattle.exb_resting.specs.Going.{IsDevice, IsGoing, IsOrderly}
 use Rattle.exb_resting.specs.Laws.{MayMove, MayMoveAll, KeepsOrder, KeepsFacts, OrderKeepsFacts, SetupsBeginGoing}
 use Rattle.exb_resting.specs.Left.{NearLeft, FarLeft}

@@ -22,13 +22,13 @@ use Rattle.exb_machine.specs.Effects.{only}
 use Rattle.exb_machine.specs.Extending.{port_number, reacts, takes_from_below}
 use Rattle.exb_machine.specs.Relaying.{bridge_takes}
 use Rattle.exb_machine.specs.Stepping.{takes}
-use Rattle.exb_machine.specs.Sessions.{Each, KeepsCascades, Routes}
-use Rattle.exb_machine.specs.Simulation.{system_of, IsSound}
-use Rattle.exb_machine.proofs.Fixing.{forget}
-use Rattle.exb_machine.proofs.Reacting.{routes}
-use Rattle.exb_machine.proofs.Routing.{under_laid}
-use Rattle.exb_machine.proofs.Trees.{above_there}
-use Rattle.exb_machine.proofs.Words.{each_append, each_weaker}
+use Rattle.exb_machine_laws.specs.Sessions.{Each, KeepsCascades, Routes}
+use Rattle.exb_machine_laws.specs.Simulation.{system_of, IsSound}
+use Rattle.exb_machine_laws.proofs.Fixing.{forget}
+use Rattle.exb_machine_laws.proofs.Reacting.{routes}
+use Rattle.exb_machine_laws.proofs.Routing.{under_laid}
+use Rattle.exb_machine_laws.proofs.Trees.{above_there}
+use Rattle.exb_machine_laws.proofs.Words.{each_append, each_weaker}
 use Rattle.exb_resting.specs.Placed.{IsPlaced, PlacedOn, WordPlaced, ReadsDown, ReadsUp, ArePlaced}
 use Rattle.exb_resting.proofs.FarLeft.{MayHear}
 use Rattle.exb_resting.proofs.Grows.{Longer, Grows, MaySend, none_grows, does_grows}

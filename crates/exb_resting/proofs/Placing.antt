@@ -15,12 +15,12 @@ use Rattle.exb_link.specs.declared.word.Word.{Word}
 use Rattle.exb_model.specs.Setup.{Limits}
 use Rattle.exb_plans.specs.Held.{Held}
 use Rattle.exb_machine.specs.Extending.{port_number}
-use Rattle.exb_machine.specs.Sessions.{Each, IsTagged, KeepsCascades, Routes, IsNextHop}
-use Rattle.exb_machine.proofs.Fixing.{trunk_is_cascade}
-use Rattle.exb_machine.proofs.Forwarding.{bare_there, plain_there}
-use Rattle.exb_machine.proofs.Frames.{bare_is, read_typed, typed_not_bare, tag_fits, stripped_to_control}
-use Rattle.exb_machine.proofs.Trees.{trunk_above, above_there, hangs_there, extender_there, port_there}
-use Rattle.exb_machine.proofs.Words.{each_range}
+use Rattle.exb_machine_laws.specs.Sessions.{Each, IsTagged, KeepsCascades, Routes, IsNextHop}
+use Rattle.exb_machine_laws.proofs.Fixing.{trunk_is_cascade}
+use Rattle.exb_machine_laws.proofs.Forwarding.{bare_there, plain_there}
+use Rattle.exb_machine_laws.proofs.Frames.{bare_is, read_typed, typed_not_bare, tag_fits, stripped_to_control}
+use Rattle.exb_machine_laws.proofs.Trees.{trunk_above, above_there, hangs_there, extender_there, port_there}
+use Rattle.exb_machine_laws.proofs.Words.{each_range}
 use Rattle.exb_resting.specs.Facts.{IsAbove}
 use Rattle.exb_resting.specs.Placed.{IsPlaced, PlacedOn, WordPlaced}
 use Rattle.exb_resting.proofs.Above.{above_by_port, one_higher, apart_above}

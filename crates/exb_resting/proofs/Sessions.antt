@@ -12,8 +12,8 @@ use Rattle.exb_changing.specs.Machine.{State, Work}
 use Rattle.exb_machine.specs.Worlds.{World, Up, Down, Beat, with_up, with_down}
 use Rattle.exb_machine.specs.Stepping.{stepped, takes}
 use Rattle.exb_machine.specs.Settling.{direction, planned_in, deepest_first, directions}
-use Rattle.exb_machine.specs.Sessions.{Each}
-use Rattle.exb_machine.proofs.Trees.{above_there}
+use Rattle.exb_machine_laws.specs.Sessions.{Each}
+use Rattle.exb_machine_laws.proofs.Trees.{above_there}
 use Rattle.exb_resting.specs.Ends.{Message as Note}
 use Rattle.exb_resting.specs.Pair.{Near, Far, Pair, near_all, near_beat, near_empty, near_up, far_all, far_beat, far_empty, far_down, pass_round}
 use Rattle.exb_resting.specs.Streams.{is_of, words_of, ups_of, downs_of, near_at, far_at, pair_at}
@@ -86,7 +86,7 @@ up_few on (suc d) p low =
 
 pub depth_few : (t : Shape) → IsTree t → (n : ℕ) → is_extender t n ≡ true → depth t n ≤ 64
 unfolding path
-depth_few t tree n there = let h = Rattle.exb_machine.proofs.Trees.hangs_there t n there in up_few t.on 63 (on t n) (tree.rooted n h.extender h.there)
+depth_few t tree n there = let h = Rattle.exb_machine_laws.proofs.Trees.hangs_there t n there in up_few t.on 63 (on t n) (tree.rooted n h.extender h.there)
 
 module _ (t : Shape) (l : Limits) (tree : IsTree t) (I : World → Type 0) (inv : IsInvariant t l I) (micro : Micro t l I) where
   -- ---- the upward phase

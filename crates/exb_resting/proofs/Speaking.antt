@@ -30,9 +30,9 @@ use Rattle.exb_extender.specs.declared.sends.Side.TheVariants as side
 use Rattle.exb_extender.specs.Forwarding.{Sent, up, is_bare_control}
 use Rattle.exb_extender.specs.Machine.{ExtenderState, Reaction, nothing, acknowledgement_frame, request_frame, announcement_frame, control_pdu, next_count, announces, sends_again, submits, answers, executes, takes_request, takes_body, takes_message, hears_request, hears_pdu, hears, beats}
 use Rattle.exb_machine.specs.Controls.{is_of, address_of}
-use Rattle.exb_machine.specs.Sessions.{Each, CanBeSent}
-use Rattle.exb_machine.proofs.Frames.{bare_spelled, bare_announcement}
-use Rattle.exb_machine.proofs.Words.{each_append}
+use Rattle.exb_machine_laws.specs.Sessions.{Each, CanBeSent}
+use Rattle.exb_machine_laws.proofs.Frames.{bare_spelled, bare_announcement}
+use Rattle.exb_machine_laws.proofs.Words.{each_append}
 use Rattle.exb_resting.specs.Ends.{Message as Note, Answer as Answers}
 use Rattle.exb_resting.specs.Facts.{IsAnnouncement}
 use Rattle.exb_resting.specs.Going.{IsDevice}

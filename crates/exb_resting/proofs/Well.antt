@@ -30,15 +30,15 @@ use Rattle.exb_change_laws.proofs.Strays.{strays_change_nothing}
 use Rattle.exb_change_laws.proofs.Taking.{unchanged}
 use Rattle.exb_machine.specs.Worlds.{World}
 use Rattle.exb_machine.specs.Controls.{is_of, announced}
-use Rattle.exb_machine.specs.Fixing.{fixing}
-use Rattle.exb_machine.specs.Sessions.{Each, KeepsCascades, AreLow, CanBeSent, Writes}
-use Rattle.exb_machine.specs.Simulation.{system_of, IsSound}
-use Rattle.exb_machine.proofs.Asking.{AtMostOne, none, one, Asks, answered_asks, heard_asks}
-use Rattle.exb_machine.proofs.Fixing.{forget, fixed_now, IsFixedNow, fixing_plans, trunk_is_cascade}
-use Rattle.exb_machine.proofs.Moving.{asked_now}
-use Rattle.exb_machine.proofs.Routing.{IsUnderLaid, under_laid}
-use Rattle.exb_machine.proofs.Taking.{IsTaken, NotTaken, took_cases, IsOutstanding, outstanding}
-use Rattle.exb_machine.proofs.Writing.{IsWritten, moved_wrote, all_be_sent}
+use Rattle.exb_machine_laws.specs.Fixing.{fixing}
+use Rattle.exb_machine_laws.specs.Sessions.{Each, KeepsCascades, AreLow, CanBeSent, Writes}
+use Rattle.exb_machine_laws.specs.Simulation.{system_of, IsSound}
+use Rattle.exb_machine_laws.proofs.Asking.{AtMostOne, none, one, Asks, answered_asks, heard_asks}
+use Rattle.exb_machine_laws.proofs.Fixing.{forget, fixed_now, IsFixedNow, fixing_plans, trunk_is_cascade}
+use Rattle.exb_machine_laws.proofs.Moving.{asked_now}
+use Rattle.exb_machine_laws.proofs.Routing.{IsUnderLaid, under_laid}
+use Rattle.exb_machine_laws.proofs.Taking.{IsTaken, NotTaken, took_cases, IsOutstanding, outstanding}
+use Rattle.exb_machine_laws.proofs.Writing.{IsWritten, moved_wrote, all_be_sent}
 use Rattle.exb_resting.specs.Going.{HasRoom}
 use Rattle.exb_resting.proofs.Putting.{IsAskable, GoesWell, HearsWell}
 

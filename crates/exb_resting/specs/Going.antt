@@ -7,8 +7,8 @@ use Rattle.exb_session.specs.Asking.{AskerState}
 use Rattle.exb_extender.specs.Machine.{ExtenderState, is_open}
 use Rattle.exb_changing.specs.Beginning.{first_held}
 use Rattle.exb_machine.specs.Worlds.{World}
-use Rattle.exb_machine.specs.Laws.{AreBytes}
-use Rattle.exb_machine.specs.Simulation.{IsSound}
+use Rattle.exb_machine_laws.specs.Laws.{AreBytes}
+use Rattle.exb_machine_laws.specs.Simulation.{IsSound}
 use Rattle.exb_resting.specs.Facts.{QueueFacts}
 use Rattle.exb_resting.specs.Left.{NearLeft, FarLeft}
 use Rattle.exb_resting.specs.Placed.{ArePlaced}

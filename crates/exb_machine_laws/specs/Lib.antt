@@ -1,0 +1,7 @@
+pub mod Fixing
+pub mod Sessions
+pub mod Simulation
+pub mod Laws
+pub mod Journal
+pub mod Stamped
+pub mod Carried

@@ -1,0 +1,160 @@
+//! What is true of every step and every run of the world.
+ghost use Rattle.exb_machine_laws.specs.Laws.{BeginsSound, StepsStaySound, RunsStaySound, ControlGoesOn, SettledIsAtRest, RoundsAreSteps, SettledExactly, TakingLeavesItsDirection, DirectionsGoInOrder, SetupsBeginSound};
+ghost use Rattle.exb_machine_laws.specs.Journal.{StepsTellByKind, StepsTellJobs, RunsTellJobs, JournalDecidesOnce, SetupsDecideOnce, IdleTellsAll};
+ghost use Rattle.exb_machine_laws.specs.Carried.{StepsKeepRecords, RunsKeepRecords, BeginsWithRecords, RecordsTellOnce};
+ghost use Rattle.exb_machine_laws.specs.Stamped.{DataIsStamped, CarriesTellOnce, ExtendersIgnore};
+
+use exb_change_laws::laws::steps_tell;
+use exb_frame::laws::tag_round_trip;
+
+/// The world is sound as it begins: nothing is on its links, no request was asked, and the machine of changes stands
+/// beside the tables of all extenders.
+pub fn begins_sound()
+    ensures { BeginsSound }
+{}
+
+/// Each step keeps the world sound, whatever frames and control messages do on their way as bytes. Each request on a
+/// link or in an end of the transport is one that was asked of the extender to which it goes: none has a later serial,
+/// and the one with the last serial is the outstanding one. Each answer there is one that its extender stored. For the
+/// machine of changes the step is nothing or one step, and the events of jobs that the world tells are those of that
+/// step.
+pub fn steps_stay_sound()
+    ensures { StepsStaySound }
+{
+    tag_round_trip();
+}
+
+/// So each run of the world is a run of the machine of changes, and all laws over its runs hold. It gives the commands
+/// of that run, and the events of jobs in its history are those of that run.
+pub fn runs_stay_sound()
+    ensures { RunsStaySound }
+{
+    tag_round_trip();
+}
+
+/// A control frame for a deeper extender is sent on towards it as it is, at its port without the E-TAG, and nowhere
+/// else.
+pub fn control_goes_on()
+    ensures { ControlGoesOn }
+{
+    tag_round_trip();
+}
+
+/// Where a world is settled just what is held is laid in the tables of all extenders, and just what the configuration
+/// needs is held.
+pub fn settled_is_at_rest()
+    ensures { SettledIsAtRest }
+{}
+
+/// Rounds and settling are made of steps alone.
+pub fn rounds_are_steps()
+    ensures { RoundsAreSteps }
+{}
+
+/// The test of a settled world passes exactly where the world is settled.
+pub fn settled_exactly()
+    ensures { SettledExactly }
+{}
+
+/// Whoever takes a word puts none on the direction from which it came; so the words that stand there when a round
+/// reaches it are those that it goes through.
+pub fn taking_leaves_its_direction()
+    ensures { TakingLeavesItsDirection }
+{}
+
+/// Where just control words stand before a word, that word is the next one, and may be taken.
+pub fn directions_go_in_order()
+    ensures { DirectionsGoInOrder }
+{}
+
+/// The world of each valid setup is sound as it begins.
+pub fn setups_begin_sound()
+    ensures { SetupsBeginSound }
+{}
+
+/// The events of a step, by its kind.
+pub fn steps_tell_by_kind()
+    ensures { StepsTellByKind }
+{}
+
+/// Each step tells of jobs what those tell that it decides, in order, and no more; and just the ports that their
+/// commands made go down are forgotten.
+pub fn steps_tell_jobs()
+    ensures { StepsTellJobs }
+{
+    tag_round_trip();
+    steps_tell();
+}
+
+/// So it is over each run.
+pub fn runs_tell_jobs()
+    ensures { RunsTellJobs }
+{
+    tag_round_trip();
+    steps_tell();
+}
+
+/// Over each run from the beginning each job is decided once, in order, and the journal tells so: a command is refused
+/// exactly where the configuration that those before it left refuses it, with the cause of that; else it commits.
+pub fn journal_decides_once()
+    ensures { JournalDecidesOnce }
+{
+    tag_round_trip();
+    steps_tell();
+}
+
+/// So it is over each run of the world of a valid setup.
+pub fn setups_decide_once()
+    ensures { SetupsDecideOnce }
+{
+    tag_round_trip();
+    steps_tell();
+}
+
+/// Where such a run ends with an empty queue and no change at work, all its commands and all ups of the extenders' ports
+/// are decided.
+pub fn idle_tells_all()
+    ensures { IdleTellsAll }
+{}
+
+/// Over each run from the beginning each data word on a link has a stamp.
+pub fn data_is_stamped()
+    ensures { DataIsStamped }
+{}
+
+/// So of a data word that the bridge takes exactly one event is told, with its stamp, where an external port holds its
+/// channel.
+pub fn carries_tell_once()
+    ensures { CarriesTellOnce }
+{}
+
+/// In a sound world an extender ignores a frame that arrives at an external port exactly where the port has no channel
+/// or the frame is short, long or reserved. A port that has a channel holds it.
+pub fn extenders_ignore()
+    ensures { ExtendersIgnore }
+{}
+
+/// Data words on their way up are of records, each with the channel that its stamp's port holds, as long as the channels
+/// of those on their way stay held by the same ports.
+pub fn steps_keep_records()
+    ensures { StepsKeepRecords }
+{
+    tag_round_trip();
+}
+
+/// Where they are, of each that the bridge takes exactly one event is told, that of its record.
+pub fn records_tell_once()
+    ensures { RecordsTellOnce }
+{}
+
+/// So it is over each run in which the channels of the data words on their way stay.
+pub fn runs_keep_records()
+    ensures { RunsKeepRecords }
+{
+    tag_round_trip();
+}
+
+/// And it is so at the beginning.
+pub fn begins_with_records()
+    ensures { BeginsWithRecords }
+{}

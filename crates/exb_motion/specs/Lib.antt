@@ -1,0 +1,4 @@
+pub mod Given
+pub mod Stands
+pub mod Kept
+pub mod Marks
