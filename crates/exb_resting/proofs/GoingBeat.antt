@@ -101,7 +101,7 @@ module _ (t : Shape) (l : Limits) (tree : IsTree t) (h : Held) where
           let P : (ℕ → Ecp) → Type 0 = λ f. (i : ℕ) → MayRepeat (f i) in
           let Q : State → Type 0 = λ s. KeepsCascades t s.held h in (
             grows_then t l (λ m y. WordPlaced t h ReadsDown m y) (λ m y. WordPlaced t h (ReadsUp t) m y) v (with_near n (beaten (v.near n)) v) (beats_near t n v).world (same_links t l (λ m y. WordPlaced t h ReadsDown m y) (λ m y. WordPlaced t h (ReadsUp t) m y) v (with_near n (beaten (v.near n)) v) refl refl)
-            (again_puts n (beat_of (v.near n).sending) (v.near n).sending (with_near n (beaten (v.near n)) v) e k.keeps (k.repeats n)),
+                (again_puts n (beat_of (v.near n).sending) (v.near n).sending (with_near n (beaten (v.near n)) v) e k.keeps (k.repeats n)),
             record {
               repeats = subst P (sym near_is) (at_same (λ i x. MayRepeat x) n (beaten (v.near n)) v.near (repeats_later (v.near n) (k.repeats n)) k.repeats);
               keeps = subst Q (sym control_is) k.keeps;

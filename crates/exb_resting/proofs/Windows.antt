@@ -104,8 +104,8 @@ module _ (t : Shape) (l : Limits) (tree : IsTree t) (round : TagRoundTrip) where
             (let few : rest.0 ≤ s = rest.1 in omega arith),
             elim rest.2 [
               | inl falls ↦ inl (
-                let e : planned_in t l (passing_rounds t l (suc rest.0) w) ≡ planned_in t l (passing_rounds t l rest.0 (pass_round t l w)) = ap (planned_in t l) (one_more rest.0 w) in
-                omega (arith, falls, same, e))
+                  let e : planned_in t l (passing_rounds t l (suc rest.0) w) ≡ planned_in t l (passing_rounds t l rest.0 (pass_round t l w)) = ap (planned_in t l) (one_more rest.0 w) in
+                  omega (arith, falls, same, e))
               | inr done ↦ inr (ap (is_settled t) (one_more rest.0 w) ∙ done)
             ],
           )
