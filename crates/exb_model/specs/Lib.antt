@@ -21,3 +21,4 @@ pub mod LegalHistory
 pub mod Texts
 pub mod ExtenderForwarding
 pub mod Carriage
+pub mod Rounds
