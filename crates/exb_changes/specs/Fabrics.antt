@@ -1,5 +1,5 @@
 -- The configuration in force, the numbers that are held, and the change at work, as the code keeps them.
-use Rattle.std.specs.Prelude.{◌≡◌, ℕ, ◌^◌, ◌≤◌, ◌&&◌, true, nat_lt, Bool, List, [], ◌∷◌, Option, Some, None, length, if◌then◌else◌}
+use Rattle.std.specs.Prelude.{ℕ, ◌^◌, ◌≤◌, Option, Some, None, length}
 use Rattle.exb_model.specs.Tree.{Shape, IsTree}
 use Rattle.exb_model.specs.Setup.{Limits}
 use Rattle.exb_model.specs.Configuration.{Bridge}
@@ -12,7 +12,6 @@ use Rattle.exb_plans.specs.declared.change.Decision.TheVariants as decision
 use Rattle.exb_plans.specs.Held.{Held, HoldsNeeded, in_spaces}
 use Rattle.exb_plan.specs.Spaces.{HasSpaces, held_by}
 use Rattle.exb_changing.specs.declared.job.Job.{Job}
-use Rattle.exb_changing.specs.declared.job.Job.TheVariants as job
 use Rattle.exb_changes.specs.declared.stage.Stage.{Stage}
 use Rattle.exb_changes.specs.declared.stage.Stage.TheVariants.{AtRest, Prepared, InForce}
 use Rattle.exb_changing.specs.Fitting.{Fits, HasExternals}
