@@ -8,7 +8,8 @@ ghost use Rattle.exb_config.specs.Tables.{bridge_of};
 ghost use Rattle.exb_plan.specs.Spaces.{HasSpaces, held_by};
 ghost use Rattle.exb_plans.specs.Held.{free_channel, give_channel};
 ghost use Rattle.exb_plan.specs.Working.{CanClaimChannel, IsAlike, channel_limit};
-ghost use Rattle.exb_changing.specs.Beginning.{nothing_held, is_deep, first_held, HasChannels, HoldsFirst};
+ghost use Rattle.exb_changing.specs.Beginning.{nothing_held, is_deep, first_held, HasChannels};
+ghost use Rattle.exb_plans.specs.Laws.{HoldsFirst};
 ghost use Rattle.exb_changes.specs.Fabrics.{HasPvids, IsVlan};
 ghost use Rattle.exb_plans.specs.Held.{in_spaces};
 
