@@ -1,25 +1,21 @@
 -- The spaces to begin with: a cascade port may claim a channel, and what is held then.
-use Rattle.std.proofs.Common.{◌≡◌, ◌≢◌, ℕ, zero, suc, ◌+◌, ◌-◌, ◌/◌, ◌<◌, ◌≤◌, ◌==◌, ◌&&◌, ◌||◌, cond, Bool, true, false, List, [], ◌∷◌, ◌++◌, Option, Some, None, length, filter, fold, refl, sym, ◌∙◌, ap, subst, arith, inl, inr, eq-eqb, length-append, nat_lt, nat_le}
-use Rattle.std.specs.Prelude.{is_some, count_by, replicate}
+use Rattle.std.proofs.Common.{◌≡◌, ℕ, zero, suc, ◌+◌, ◌/◌, ◌&&◌, cond, Bool, true, false, List, [], Option, Some, None, length, refl, sym, ◌∙◌, ap, subst, arith, nat_lt}
+use Rattle.std.specs.Prelude.{is_some, replicate}
 use Rattle.exb_numbers.specs.Channels.{holder}
 use Rattle.exb_numbers.specs.Groups.{set_of}
-use Rattle.std.specs.List.{list_any, range_with_len}
-use Rattle.std.proofs.lemmas.Bool.{cases_eq, cases_lt, and_parts, eqb-true, ne_eqb, leb-true, ltb-true, lt-ltb, le-ltb, false≢true}
-use Rattle.std.proofs.lemmas.List.Elements.{filter-append}
-use Rattle.std.proofs.lemmas.List.Sums.{length-filter}
-use Rattle.std.proofs.lemmas.List.{append-nil, length-replicate}
+use Rattle.std.proofs.lemmas.Bool.{false≢true}
+use Rattle.std.proofs.lemmas.List.{length-replicate}
 use Rattle.exb_model.specs.Tree.{Shape, IsTree, device, trunk, is_cascade_under}
 use Rattle.exb_model.specs.Setup.{Limits}
 use Rattle.exb_model.specs.Numbering.{lowest_free}
 use Rattle.exb_numbers.specs.Spaces.{Spaces, has_space, channels_at, groups_at}
-use Rattle.exb_plans.specs.Held.{Held, channel_in, channel_used, free_channel, give_channel}
+use Rattle.exb_plans.specs.Held.{Held, channel_in, channel_used, free_channel, give_channel, is_place, in_spaces}
 use Rattle.exb_plan.specs.Spaces.{HasSpaces, held_by}
 use Rattle.exb_plan.specs.Working.{CanClaimChannel, channel_limit}
 use Rattle.exb_plans.proofs.Counting.{IsLowest}
 use Rattle.exb_plans.proofs.Giving.{gives_channels}
 use Rattle.exb_plans.proofs.Trunks.{port_extender}
 use Rattle.exb_changing.specs.Beginning.{nothing_held, is_deep, HasChannels}
-use Rattle.exb_plans.specs.Held.{is_place, in_spaces}
 use Rattle.exb_changing.proofs.Places.{place_true}
 use Rattle.exb_changing.proofs.Released.{same_held}
 use Rattle.exb_changing.proofs.FirstClaims.{AreFirst, first_below, high, known, low_trunk, cascade_trunk, lowest, held_next, still_first, itself}

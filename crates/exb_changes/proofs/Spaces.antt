@@ -1,8 +1,8 @@
 -- A space that is there.
-use Rattle.std.proofs.Common.{◌≡◌, ℕ, ◌<◌, ◌&&◌, cond, Bool, true, false, [], None, refl, sym, ◌∙◌, ap}
+use Rattle.std.proofs.Common.{◌≡◌, ℕ, ◌<◌, ◌&&◌, true, false}
 use Rattle.std.specs.Prelude.{nat_lt, length, slice_index_or}
 use Rattle.exb_numbers.specs.Spaces.{Spaces, has_space}
-use Rattle.std.proofs.lemmas.Bool.{and_parts, lt-ltb, ltb-true}
+use Rattle.std.proofs.lemmas.Bool.{and_parts, ltb-true}
 
 pub space_parts : (v : Spaces) (k : ℕ) → has_space v k ≡ true → (k < length v.channels) × (k < length v.groups)
 space_parts v k there =

@@ -1,8 +1,6 @@
 -- What an extender sends by its own tables, and by the tables of all.
-use Rattle.std.proofs.Common.{◌≡◌, ◌≢◌, ◌⊎◌, ℕ, ◌+◌, ◌-◌, ◌%◌, ◌<◌, ◌≤◌, ◌==◌, ◌&&◌, ◌||◌, not, Bool, true, false, cond, nat_lt, nat_le, List, [], ◌∷◌, refl, ap, sym, ◌∙◌, subst, arith, inl, inr}
+use Rattle.std.proofs.Common.{◌≡◌, ◌+◌, ◌%◌, refl, arith}
 use Rattle.std.specs.Prelude.{Option, Some, None}
-use Rattle.std.specs.Int.{bit_at}
-use Rattle.std.proofs.lemmas.Bool.{and_parts, ltb-true, leb-true, cases_eq, cases_Bool, and_right, eq-eqb, ne_eqb, lt-ltb, le-leb}
 use Rattle.exb_model.specs.Tree.{device}
 use Rattle.exb_model.specs.ExtenderForwarding.{emits, emits_tagged}
 use Rattle.exb_model.specs.ETags.{Tag, read_etag}
