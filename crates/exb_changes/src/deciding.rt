@@ -16,7 +16,7 @@ ghost use Rattle.exb_changes.specs.Fabrics.{decision_of, held_after};
 
 use exb_changing::Job;
 use exb_config::Config;
-use exb_csp::Request;
+use exb_csp::{AskAt, Request};
 use exb_model::command::Command;
 use exb_model::list::List;
 use exb_model::memory::NoMemory;
@@ -25,9 +25,8 @@ use exb_model::role::Role;
 use exb_model::tree::Tree;
 use exb_numbers::Spaces;
 use exb_plan::asks::put_create;
-use exb_csp::AskAt;
-use exb_plans::{Change, Decision};
 use exb_planning::{Uses, plan_command};
+use exb_plans::{Change, Decision};
 use std::alloc::Global;
 
 // Asks that a port of an extender is created, if it is a cascade port.

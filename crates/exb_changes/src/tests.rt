@@ -4,8 +4,8 @@ ghost use Rattle.exb_model.specs.Tree.{is_extended, is_extender};
 ghost use Rattle.exb_changes.specs.Fabrics.{IsPrepared, IsInForce};
 
 use crate::fabric::Fabric;
-use exb_changing::Job;
 use crate::stage::Stage;
+use exb_changing::Job;
 use exb_csp::Request;
 use exb_model::command::Command;
 use exb_model::event::Cause;
