@@ -219,7 +219,6 @@ module _ (t : Shape) (valid : IsTree t) (l : Limits) (old new : Bridge) (h : Hel
       none_there : (b : Bool) → (b && false || false) ≡ false
       none_there true = refl
       none_there false = refl
-
   gives_by k low c None (Some p) e f =
       let s : Rises t new old p = rises_is t new old p (goes_up_rises t new old p f) in
       let g = numbered l.groups h (fresh_sets t old new) in

@@ -76,7 +76,6 @@ owns_groups h k has owns set = by_option (group_in h k set) refl
         let u : group_used h k f.0 ≡ true = used_is h k f.0 set some f.1 in
         let m : (m : ℕ) × (group_in h k set ≡ Some m) = group_there h k set f.0 some (owns.low f.0 u) (owns.high f.0 u) f.1 in
         none_some m.0 (sym e ∙ m.1)))
-
     by_option (Some g) e =
         let r = group_found h k set g e in
         sym (ap has (sym r.is) ∙ owns.sound g (used_is h k g set r.some r.is))

@@ -48,7 +48,6 @@ module _ (t : Shape) (valid : IsTree t) where
       false_from_ne_true _ (λ c. let h : (n : ℕ) × HangsOn t n p = cascade_hangs t p c in
       false≢true (sym is ∙ ap (is_port t) (sym h.1.at) ∙ valid.on_port h.0 h.1.extender h.1.there))
   other_role p role.External is other = is_not (is_cascade t p) (and_parts (is_port t p) (not (is_cascade t p)) is).1
-
   other_role p (role.Cascade n) is other = absurd (other n refl)
 
   pub not_extended : (p : ℕ) (r : Role) → HasRole t p r → (r ≡ role.External → ⊥) → is_extended t p ≡ false
