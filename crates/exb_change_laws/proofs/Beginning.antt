@@ -6,16 +6,15 @@ use Rattle.std.proofs.lemmas.Bool.{cases_Bool, and_parts, ltb-true, false≢true
 use mathlib.Core.Path.{fun_ext}
 use Rattle.exb_model.specs.Tree.{Shape, IsTree, device, is_extender, is_port, by_depth}
 use Rattle.exb_model.specs.Setup.{Limits}
-use Rattle.exb_plans.specs.Held.{Held}
+use Rattle.exb_plans.specs.Held.{Held, is_place, in_spaces}
 use Rattle.exb_model.proofs.TreeOrder.{in_order}
 use Rattle.exb_plans.specs.Asks.{is_listed}
-use Rattle.exb_plans.specs.Laws.{IsBeginning}
+use Rattle.exb_plans.specs.Laws.{IsBeginning, HoldsFirst}
 use Rattle.exb_plans.proofs.Beginning.{begins as needed_first}
 use Rattle.exb_change_laws.specs.Laid.{laid}
 use Rattle.exb_change_laws.proofs.NothingLaid.{nothing_is_laid}
-use Rattle.exb_changing.specs.Beginning.{nothing_held, with_channel_of, is_deep, deep_cascades, first_held, first_jobs, jobs_of, HasChannels, HoldsFirst}
+use Rattle.exb_changing.specs.Beginning.{nothing_held, with_channel_of, is_deep, deep_cascades, first_held, first_jobs, jobs_of, HasChannels}
 use Rattle.exb_changing.specs.Planned.{IsHeldAtCascades}
-use Rattle.exb_plans.specs.Held.{is_place, in_spaces}
 use Rattle.exb_changing.proofs.Commands.{start_external, start_absent}
 use Rattle.exb_changing.proofs.FirstClaims.{AreFirst, first_below, none_first, none_below, not_first, none_more, one_more, still_first, first_end, held_end}
 use Rattle.exb_change_laws.specs.Starting.{first_system}
@@ -90,7 +89,7 @@ pub begins : Begins
 begins t l b setting may =
     let enough : HasChannels t l = (setting.channels, may.enough) in
     let first : HoldsFirst t (first_held t l) = holds_first t l setting.tree enough in
-    let beginning : IsBeginning t b (first_held t l) = record { absent = may.absent; groups = first.groups; channels = first.channels; one_channel = first.one_channel } in
+    let beginning : IsBeginning t b (first_held t l) = record { absent = may.absent; held = first } in
     let closed : (n : ℕ) → opened_by (is_extender t) (first_jobs t) n ≡ false = none_opened t setting.tree in
     record {
       stands = (

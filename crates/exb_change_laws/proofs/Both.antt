@@ -2,13 +2,13 @@
 use Rattle.std.proofs.Common.{◌||◌, ◌≡◌, ℕ, ◌+◌, ◌-◌, ◌<◌, ◌≤◌, ◌==◌, ◌&&◌, cond, Bool, true, false, not, List, [], ◌∷◌, Option, Some, None, refl, sym, ◌∙◌, ap, subst, arith, inl, inr}
 use Rattle.std.specs.Prelude.{is_some, bytes_eq}
 use Rattle.std.specs.List.{list_any}
-use Rattle.std.proofs.lemmas.Bool.{cases_Bool, and_parts, or_cases, eqb-true, false≢true}
+use Rattle.std.proofs.lemmas.Bool.{cases_Bool, and_parts, eqb-true, false≢true}
 use Rattle.exb_model.specs.Tree.{Shape, IsTree, device, trunk, is_cascade, is_external}
 use Rattle.exb_model.specs.Setup.{Limits}
 use Rattle.exb_model.specs.Configuration.{Bridge}
 use Rattle.exb_model.specs.Refusals.{is_empty_set, sets_at}
 use Rattle.exb_model.specs.Numbering.{lowest_free}
-use Rattle.exb_plans.specs.Sets.{PortsAt, is_same_set, sets_of}
+use Rattle.exb_plans.specs.Sets.{PortsAt, sets_of}
 use Rattle.exb_plans.specs.declared.change.Change.{Change}
 use Rattle.exb_plans.specs.Held.{Held, HoldsNeeded, or_zero, needs_channel, channel_in, channel_used, group_in, group_used, free_channel, free_group, give, give_all, group_for, numbered}
 use Rattle.exb_plans.specs.Between.{has_set, goes_up, fresh_sets}
@@ -16,7 +16,6 @@ use Rattle.exb_plans.specs.Plans.{with_channel, new_channel, with_up, fresh_grou
 use Rattle.exb_plans.proofs.Counting.{lowest_unused}
 use Rattle.exb_plans.proofs.Each.{Each}
 use Rattle.exb_plans.proofs.SetFacts.{IsBelow, sets_below, has_at}
-use Rattle.exb_plans.proofs.Claiming.{set_is}
 use Rattle.exb_plans.proofs.Owning.{Owns, owns_all, at_port_of, IsGroupOf, group_found, group_there}
 use Rattle.exb_plans.proofs.Giving.{IsChannelOf, channel_found, channel_there}
 use Rattle.exb_plans.proofs.Trunks.{under_extended, under_trunk, home_low, home_cascade}
@@ -25,17 +24,10 @@ use Rattle.exb_changing.proofs.Released.{owned}
 use Rattle.exb_changing.proofs.FreshGroups.{with_set, fresh_now, fresh_placed}
 use Rattle.exb_changing.specs.Deciding.{release, is_number}
 use Rattle.exb_change_laws.specs.Growing.{Keeps}
+use Rattle.exb_change_laws.proofs.Members.{each_has}
 use Rattle.exb_change_laws.specs.Planned.{HasNumbers}
 
 -- ---- what a configuration needs
-each_has : (P : PortsAt → Type 0) (xs : List PortsAt) (s : PortsAt) → Each P xs → has_set xs s ≡ true → P s
-each_has P [] s all e = absurd (false≢true e)
-each_has P (x ∷ xs) s all e =
-    elim (or_cases (is_same_set s x) (has_set xs s) e) [
-      | inl f ↦ subst P (sym (set_is s x f)) all.0
-      | inr f ↦ each_has P xs s all.1 f
-    ]
-
 -- sets are there just below cascade ports of the bridge
 pub set_cascade : (t : Shape) → IsTree t → (b : Bridge) (k : ℕ) (set : List ℕ) → k < 64 → list_any (bytes_eq set) (sets_at t k b) ≡ true → is_cascade t k ≡ true
 set_cascade t valid b k set low e =

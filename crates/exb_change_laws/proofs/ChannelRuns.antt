@@ -11,16 +11,15 @@ use Rattle.exb_csp.specs.Execute.{is_channel, is_ecid, in_mask, in_rows, is_name
 use Rattle.exb_csp.proofs.Executing.{or_false, and_true, mask_empty}
 use Rattle.exb_plans.specs.declared.row.Row.{Row}
 use Rattle.exb_plans.specs.Rows.{row_of, rows_of}
-use Rattle.exb_csp.specs.AllTables.{port_of}
+use Rattle.exb_csp.specs.AllTables.{port_of, RunsAt}
 use Rattle.exb_csp.specs.declared.ask_at.AskAt.{AskAt}
 use Rattle.exb_plans.specs.declared.step.Step.{Step}
 use Rattle.exb_plans.specs.declared.step.Step.TheVariants.{Lay, Clear}
 use Rattle.exb_plans.specs.Held.{Held}
 use Rattle.exb_plans.specs.Asks.{is_listed, message, in_messages, pieces, asks_with, ask, channel_rows, channel_ask, channel_asks, create_asks, delete_asks}
 use Rattle.exb_changing.specs.Deciding.{channel_of}
-use Rattle.exb_changing.proofs.Bools.{and_false}
+use Rattle.exb_plans.proofs.Bools.{and_false}
 use Rattle.exb_change_laws.specs.Laid.{has_port, by_extender, channel_pair, group_pair, laid_by}
-use Rattle.exb_csp.specs.AllTables.{RunsAt}
 use Rattle.exb_change_laws.proofs.Tables.{port_at, port_from, port_back, runs_append}
 use Rattle.exb_change_laws.proofs.Order.{listed_hangs}
 use Rattle.exb_change_laws.proofs.Puts.{CanPut, AllPut, AreApart}

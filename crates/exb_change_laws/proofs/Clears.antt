@@ -8,14 +8,12 @@ use Rattle.exb_model.specs.ExtenderForwarding.{Tables}
 use Rattle.exb_csp.specs.declared.group_rows.GroupRow.{GroupRow}
 use Rattle.exb_csp.specs.Execute.{ExtenderTables, is_ecid, is_named, clear_code, clears_code, code_of, done}
 use Rattle.exb_csp.proofs.Executing.{or_false, and_true}
-use Rattle.exb_csp.specs.AllTables.{port_of, executes_at}
+use Rattle.exb_csp.specs.AllTables.{port_of, executes_at, RunsAt}
 use Rattle.exb_plans.specs.declared.step.Step.TheVariants.{Clear}
 use Rattle.exb_plans.specs.Asks.{ask, unregister, numbers_of, is_listed, message, pieces, in_messages, asks_with}
-use Rattle.exb_plans.proofs.Each.{Each}
-use Rattle.exb_plans.proofs.Each.{list_any-map}
-use Rattle.exb_changing.proofs.Bools.{and_false}
+use Rattle.exb_plans.proofs.Each.{Each, list_any-map}
+use Rattle.exb_plans.proofs.Bools.{and_false}
 use Rattle.exb_change_laws.specs.Laid.{has_port, by_extender}
-use Rattle.exb_csp.specs.AllTables.{RunsAt}
 use Rattle.exb_change_laws.proofs.Bools.{by_zero}
 use Rattle.exb_change_laws.proofs.Puts.{front_each, back_each}
 use Rattle.exb_change_laws.proofs.Tables.{port_at, same_tables, same_extender, runs_to, runs_from, executes_to}

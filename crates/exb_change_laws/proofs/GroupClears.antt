@@ -11,15 +11,14 @@ use Rattle.exb_csp.specs.Execute.{is_channel, is_ecid, is_named}
 use Rattle.exb_csp.proofs.Executing.{and_true}
 use Rattle.exb_plans.specs.Sets.{PortsAt}
 use Rattle.exb_plans.proofs.Ways.{from_under, trunk_along}
-use Rattle.exb_csp.specs.AllTables.{port_of}
+use Rattle.exb_csp.specs.AllTables.{port_of, RunsAt}
 use Rattle.exb_plans.specs.declared.step.Step.TheVariants.{Clear}
 use Rattle.exb_plans.specs.Held.{Held, Group, group_used, or_zero, free_where}
 use Rattle.exb_plans.specs.Between.{is_gone, group_at, gone_groups}
 use Rattle.exb_plans.specs.Asks.{is_listed, rows_at, group_asks}
 use Rattle.exb_changing.proofs.Released.{channel_by}
-use Rattle.exb_changing.proofs.GoneGroups.{IsGoneAt, gone_found, gone_there}
+use Rattle.exb_plans.proofs.GoneGroups.{IsGoneAt, gone_found, gone_there}
 use Rattle.exb_change_laws.specs.Laid.{is_shown, channel_pair, group_pair, laid_by, laid}
-use Rattle.exb_csp.specs.AllTables.{RunsAt}
 use Rattle.exb_change_laws.proofs.Bools.{not_both}
 use Rattle.exb_change_laws.proofs.Tables.{port_back}
 use Rattle.exb_change_laws.proofs.Clears.{AreKnown}

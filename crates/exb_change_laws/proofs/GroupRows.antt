@@ -9,7 +9,7 @@ use Rattle.exb_model.specs.Configuration.{Bridge}
 use Rattle.exb_csp.specs.declared.group_rows.GroupRow.{GroupRow}
 use Rattle.exb_csp.specs.Execute.{is_channel, in_mask, in_rows, is_named}
 use Rattle.exb_csp.proofs.Executing.{or_false, or_assoc, mask_empty}
-use Rattle.exb_csp.specs.AllTables.{port_of}
+use Rattle.exb_csp.specs.AllTables.{port_of, RunsAt}
 use Rattle.exb_plans.specs.declared.step.Step.TheVariants.{Lay}
 use Rattle.exb_plans.specs.Held.{Held, Group, group_used, or_zero, give, give_all}
 use Rattle.exb_plans.specs.Asks.{is_listed, rows_at, group_asks}
@@ -19,7 +19,6 @@ use Rattle.exb_changing.specs.Deciding.{channel_of}
 use Rattle.exb_changing.proofs.FreshGroups.{given_port}
 use Rattle.exb_changing.proofs.Released.{channel_by}
 use Rattle.exb_change_laws.specs.Laid.{has_port, is_shown, channel_pair, group_pair, laid_by, laid}
-use Rattle.exb_csp.specs.AllTables.{RunsAt}
 use Rattle.exb_change_laws.proofs.Tables.{port_at, port_from, port_back}
 use Rattle.exb_change_laws.proofs.Order.{listed_hangs}
 use Rattle.exb_change_laws.proofs.Puts.{CanPut, AllPut, AreApart}

@@ -4,9 +4,8 @@ use Rattle.std.proofs.lemmas.Bool.{cases_eq, ne_eqb, lt-ltb, and_parts, or_left}
 use Rattle.exb_csp.specs.declared.message.Request.{Request}
 use Rattle.exb_csp.specs.declared.message.Request.TheVariants.{Open, PortCreate, PortDelete, Register, Unregister, RegisterMany, UnregisterMany}
 use Rattle.exb_csp.specs.Execute.{ExtenderTables, is_port, is_channel, has_pair, create_code, code_of, done, executed}
-use Rattle.exb_csp.specs.AllTables.{executes_at}
+use Rattle.exb_csp.specs.AllTables.{executes_at, RunsAt}
 use Rattle.exb_csp.specs.declared.ask_at.AskAt.{AskAt}
-use Rattle.exb_csp.specs.AllTables.{RunsAt}
 use Rattle.exb_change_laws.specs.Growing.{IsWithin, AreWithin, IsAdding, IsClearing, AllAdd, AllClear}
 
 within_itself : (x : ExtenderTables) → IsWithin x x

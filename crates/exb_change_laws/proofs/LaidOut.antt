@@ -20,7 +20,8 @@ use Rattle.exb_plans.proofs.Owning.{owns_from}
 use Rattle.exb_changing.specs.Deciding.{channel_of}
 use Rattle.exb_change_laws.specs.Laid.{by_extender, is_shown, channel_pair, group_pair, laid_by, laid}
 use Rattle.exb_change_laws.specs.Requests.{IsLaidOut, RestIsLaidOut}
-use Rattle.exb_change_laws.proofs.Bools.{none_there, some_is}
+use Rattle.exb_change_laws.proofs.Bools.{none_there}
+use Rattle.exb_plans.proofs.Options.{some_is}
 use Rattle.exb_change_laws.proofs.Tables.{port_there, port_back}
 use Rattle.exb_change_laws.proofs.Reach.{ways}
 use Rattle.exb_change_laws.proofs.ChannelRuns.{covers_none}

@@ -13,6 +13,7 @@ use Rattle.exb_change_laws.specs.Standing.{waited_for, IsBefore, StandsBy, Works
 use Rattle.exb_change_laws.specs.Planned.{HasNumbers, planning, ReadyMidway, AnswersAreTaken, HeldAreNumbers}
 use Rattle.exb_change_laws.proofs.Taking.{takes}
 use Rattle.exb_change_laws.proofs.Both.{needed_numbers}
+use Rattle.exb_plans.proofs.Options.{some_is}
 
 pub ready_midway : ReadyMidway
 ready_midway t y valid stands = by_work y.state.work stands.stands
@@ -47,6 +48,3 @@ held_are_numbers h =
       high = λ k g set e. (let is : IsGroupOf h k set g = group_found h k set g e in is.low);
       fits = λ k g set e. (let is : IsGroupOf h k set g = group_found h k set g e in is.high);
     }
-  where
-    some_is : (q r : ℕ) → Some q ≡ Some r → q ≡ r
-    some_is q r e = cc

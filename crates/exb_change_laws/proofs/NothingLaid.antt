@@ -10,7 +10,7 @@ use Rattle.exb_plans.proofs.Ways.{from_cascade}
 use Rattle.exb_plans.specs.Held.{Held, channel_in, or_zero}
 use Rattle.exb_plans.specs.Laws.{IsBeginning}
 use Rattle.exb_changing.specs.Deciding.{channel_of}
-use Rattle.exb_changing.proofs.Bools.{and_false}
+use Rattle.exb_plans.proofs.Bools.{and_false}
 use Rattle.exb_change_laws.specs.Laid.{has_port, by_extender, is_shown, channel_pair, group_pair, laid_by}
 use Rattle.exb_change_laws.specs.Requests.{NothingIsLaid}
 use Rattle.exb_change_laws.proofs.Tables.{like_tables, same_extender}
@@ -39,13 +39,13 @@ module _ (t : Shape) (valid : IsTree t) (b : Bridge) (h : Held) (begins : IsBegi
       let k = trunk t (device q) in
       let low = home_low t valid q deep known in
       let c = home_cascade t valid q deep known in
-      let under : is_cascade_under t k p ≡ true = sym (begins.channels k p low c) ∙ ap is_some (begins.one_channel k p e low c is) in
+      let under : is_cascade_under t k p ≡ true = sym (begins.held.channels k p low c) ∙ ap is_some (begins.held.one_channel k p e low c is) in
       or_from _ _ (ap not (from_cascade t k p under).1) refl
 
   pair_is : (e : ℕ) → (laid_by t (is_shown t closed) h).pair e q ≡ false
   pair_is e =
       or_from _ _ (by_port (h.port (trunk t (device q)) e) refl)
-      (ap (group_pair t q) (begins.groups (trunk t (device q)) e (home_low t valid q deep known) (home_cascade t valid q deep known)) ∙ covers_none t q)
+      (ap (group_pair t q) (begins.held.groups (trunk t (device q)) e (home_low t valid q deep known) (home_cascade t valid q deep known)) ∙ covers_none t q)
     where
       by_port : (o : Option ℕ) → h.port (trunk t (device q)) e ≡ o → channel_pair t (is_shown t closed) q o ≡ false
       by_port None is = refl
@@ -63,7 +63,7 @@ module _ (t : Shape) (valid : IsTree t) (b : Bridge) (h : Held) (begins : IsBegi
       by_cascade true is = refl
       by_cascade false is =
           let k = trunk t (device q) in
-          no_channel (channel_in h k q) (begins.channels k q (home_low t valid q deep known) (home_cascade t valid q deep known)
+          no_channel (channel_in h k q) (begins.held.channels k q (home_low t valid q deep known) (home_cascade t valid q deep known)
           ∙ and_left _ (trunk t (device q) == k) (and_right (nat_le 64 q && is_port t q) _ is))
 
   kind_is : (laid_by t (is_shown t closed) h).cascade q ≡ false

@@ -12,7 +12,7 @@ use Rattle.exb_plans.specs.Held.{Held}
 use Rattle.exb_plans.specs.Asks.{ask, is_listed, create_asks}
 use Rattle.exb_plans.proofs.Each.{Each, each_map, each_filter}
 use Rattle.exb_changing.specs.Deciding.{channel_of, cascades_of, opening_asks}
-use Rattle.exb_changing.proofs.Bools.{same_tests, eq_turned, PassesIn, any_found, any_there}
+use Rattle.exb_plans.proofs.Bools.{same_tests, eq_turned, PassesIn, any_found, any_there}
 use Rattle.exb_change_laws.specs.Laid.{by_extender, is_shown, laid_by, laid}
 use Rattle.exb_csp.specs.AllTables.{RunsAt}
 use Rattle.exb_change_laws.specs.Requests.{CanOpen, with_opened, OpeningsRun}

@@ -38,6 +38,7 @@ use Rattle.exb_change_laws.specs.Standing.{opens, IsPlanned as IsSound, Plans}
 use Rattle.exb_change_laws.specs.Planned.{IsSetting, HasNumbers, IsExact, HasBoth, FitsJob, planning, PlannedStepsStand, PlannedRunsStand}
 use Rattle.exb_change_laws.proofs.Steps.{steps_stand, runs_stand}
 use Rattle.exb_change_laws.proofs.Both.{needed_numbers, numbers_kept, released_kept, claimed_kept, claimed_owns, all_kept}
+use Rattle.exb_plans.proofs.Options.{some_is}
 
 -- a port is present after a command where it was before, or the command made it go up
 present_or_up : (c : Command) (b : Bridge) (q : ℕ) → (after c b).present q ≡ true → (b.present q ≡ true) ⊎ (c ≡ command.Up q)
@@ -197,9 +198,6 @@ module _ (t : Shape) (l : Limits) (setting : IsSetting t l) where
             let w : group_used h k m ≡ true = ap (λ (x : List ℕ). not (is_empty_set x)) (sym e) ∙ u in
             some_is g m (sym (needed.one_group k g low cas u) ∙ (ap (group_in h k) e ∙ needed.one_group k m low cas w));
       }
-    where
-      some_is : (c d : ℕ) → Some c ≡ Some d → c ≡ d
-      some_is c d e = cc
 
   -- ---- what the machine takes
   sound : (opened : ℕ → Bool) (b : Bridge) (h : Held) (j : Job) (x : Change) (held : Held) → IsExact t opened b h → FitsJob t opened j → decide t l b h j ≡ Ready x held → IsSound (planning t) opened b h j x held

@@ -6,11 +6,10 @@ use Rattle.exb_model.specs.ExtenderForwarding.{Tables}
 use Rattle.exb_csp.specs.declared.message.Request.TheVariants.{PortCreate, PortDelete}
 use Rattle.exb_csp.specs.Execute.{is_channel, code_of, done}
 use Rattle.exb_csp.proofs.Executing.{or_false, and_true}
-use Rattle.exb_csp.specs.AllTables.{port_of}
+use Rattle.exb_csp.specs.AllTables.{port_of, RunsAt}
 use Rattle.exb_plans.specs.Asks.{ask, port_number}
-use Rattle.exb_changing.proofs.Bools.{same_tests}
+use Rattle.exb_plans.proofs.Bools.{same_tests}
 use Rattle.exb_change_laws.specs.Laid.{has_port, by_extender}
-use Rattle.exb_csp.specs.AllTables.{RunsAt}
 use Rattle.exb_change_laws.proofs.Tables.{Like, PortAt, port_at, port_there, port_back, like_tables, same_extender, runs_to, runs_one}
 use Rattle.exb_change_laws.proofs.Puts.{no_pair}
 

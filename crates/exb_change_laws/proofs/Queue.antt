@@ -38,13 +38,6 @@ by_depth_ordered : (t : Shape) → AreOrdered t (by_depth t)
 by_depth_ordered t = ordered t (by_depth t) (by_depth-hangs t) (by_depth-sorted t) (distinct_by_depth t)
 
 -- ---- whose openings are queued
-eq_turned : (a b : ℕ) → (a == b) ≡ (b == a)
-eq_turned a b =
-    elim (cases_eq a b) [
-      | inl e ↦ rw (eq-eqb a b e, eq-eqb b a (sym e)) refl
-      | inr e ↦ rw (ne_eqb a b e, ne_eqb b a (λ f. e (sym f))) refl
-    ]
-
 no_openings : (n : ℕ) (ports : List ℕ) (js : List Job) → list_any (is_opening n) (map job.AutomaticUp ports ++ js) ≡ list_any (is_opening n) js
 no_openings n [] js = refl
 no_openings n (p ∷ ports) js = no_openings n ports js

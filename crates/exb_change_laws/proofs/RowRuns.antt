@@ -8,11 +8,10 @@ use Rattle.exb_model.proofs.TreeOrder.{in_order}
 use Rattle.exb_csp.specs.declared.group_rows.GroupRow.{GroupRow}
 use Rattle.exb_csp.specs.Execute.{in_rows, is_named}
 use Rattle.exb_csp.proofs.Executing.{or_false, and_true}
-use Rattle.exb_csp.specs.AllTables.{port_of}
+use Rattle.exb_csp.specs.AllTables.{port_of, RunsAt}
 use Rattle.exb_plans.specs.declared.step.Step.TheVariants.{Lay, Clear}
 use Rattle.exb_plans.specs.Asks.{is_listed, asks_with}
 use Rattle.exb_change_laws.specs.Laid.{by_extender}
-use Rattle.exb_csp.specs.AllTables.{RunsAt}
 use Rattle.exb_change_laws.proofs.Tables.{Like, port_at, like_tables, same_tables, runs_to, runs_each, changed}
 use Rattle.exb_change_laws.proofs.Puts.{AllPut, AreApart, put_at, put_runs}
 use Rattle.exb_change_laws.proofs.Clears.{AreKnown, clear_at, clear_runs}

@@ -1,6 +1,5 @@
 -- Plans run.
 use Rattle.std.proofs.Common.{◌≡◌, ◌≢◌, ◌⊎◌, ℕ, ◌<◌, ◌≤◌, ◌==◌, ◌&&◌, ◌||◌, cond, Bool, true, false, not, List, [], Option, Some, None, refl, sym, ◌∙◌, ap, subst, inl, inr, eq-eqb}
-use Rattle.std.specs.Prelude.{is_some}
 use Rattle.std.proofs.lemmas.Bool.{cases_eq, cases_Bool, ne_eqb, and_from, and_left, or_left, or_right, false≢true}
 use Rattle.exb_model.specs.Tree.{Shape, device, trunk, is_port, is_cascade, is_extended, is_under}
 use Rattle.exb_model.specs.Setup.{Limits}
@@ -26,7 +25,7 @@ use Rattle.exb_changing.proofs.Released.{channel_by, none_up, own_stays, same_go
 use Rattle.exb_change_laws.specs.Laid.{by_extender, is_shown, laid_by, laid}
 use Rattle.exb_csp.specs.AllTables.{RunsAt}
 use Rattle.exb_change_laws.specs.Requests.{AreOpened, IsReady, PrepareRuns, CleanupRuns, PlansRun}
-use Rattle.exb_change_laws.proofs.Bools.{none_some}
+use Rattle.exb_plans.proofs.Options.{none_some, is_none_at}
 use Rattle.exb_change_laws.proofs.Tables.{runs_append, runs_to, runs_from}
 use Rattle.exb_change_laws.proofs.ChannelRuns.{IsHeld, channel_laid, channel_taken}
 use Rattle.exb_change_laws.proofs.FreeGroups.{AreFreeGroups, are_free, held_stays, given_low}
@@ -140,10 +139,6 @@ module _ (t : Shape) (l : Limits) (old new : Bridge) (h : Held) (opened : ℕ �
         gives_more = (let g = stands_up (Some p) up in g.gives);
       }
     where
-      is_none_at : (o : Option ℕ) → is_some o ≡ false → o ≡ None
-      is_none_at None e = refl
-      is_none_at (Some x) e = absurd (false≢true (sym e))
-
       given_here : (k c : ℕ) → cond (k == k && c == c) (Some p) (h.port k c) ≡ Some p
       given_here k c = rw (eq-eqb k k refl, eq-eqb c c refl) refl
 

@@ -7,11 +7,10 @@ use Rattle.exb_model.specs.ExtenderForwarding.{Tables}
 use Rattle.exb_csp.specs.declared.message.Request.{Request}
 use Rattle.exb_csp.specs.Execute.{ExtenderTables, code_of, done}
 use Rattle.exb_csp.proofs.Executing.{executed_done}
-use Rattle.exb_csp.specs.AllTables.{port_of, executes_at}
+use Rattle.exb_csp.specs.AllTables.{port_of, executes_at, RunsAt}
 use Rattle.exb_csp.specs.declared.ask_at.AskAt.{AskAt}
 use Rattle.exb_plans.specs.Asks.{is_listed}
 use Rattle.exb_change_laws.specs.Laid.{has_port, by_extender}
-use Rattle.exb_csp.specs.AllTables.{RunsAt}
 
 -- ---- ports
 -- a port of an extender of the tree, among all ports

@@ -7,7 +7,7 @@ use Rattle.exb_plans.specs.Held.{Held, channel_in, or_zero}
 use Rattle.exb_plans.proofs.Giving.{Gives, channel_found, gives_one}
 use Rattle.exb_changing.specs.Deciding.{channel_of}
 use Rattle.exb_change_laws.specs.Laid.{by_extender, channel_pair, group_pair, laid_by}
-use Rattle.exb_change_laws.proofs.Bools.{some_is, none_some}
+use Rattle.exb_plans.proofs.Options.{some_is, none_some}
 use Rattle.exb_change_laws.proofs.Tables.{Like, like_tables}
 use Rattle.exb_change_laws.proofs.Standing.{home_low, home_cascade}
 

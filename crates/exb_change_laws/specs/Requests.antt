@@ -5,7 +5,7 @@ use Rattle.exb_model.specs.Setup.{Limits}
 use Rattle.exb_model.specs.Configuration.{Bridge}
 use Rattle.exb_csp.specs.Plain.{powered_on}
 use Rattle.exb_plans.specs.Laying.{IsLaid, IsFree}
-use Rattle.exb_csp.specs.AllTables.{tables_at}
+use Rattle.exb_csp.specs.AllTables.{tables_at, RunsAt}
 use Rattle.exb_plans.specs.Asks.{is_listed}
 use Rattle.exb_plans.specs.Held.{Held, HoldsNeeded, needs_channel, group_used}
 use Rattle.exb_plans.specs.Between.{goes_up}
@@ -14,7 +14,6 @@ use Rattle.exb_plans.specs.Laws.{IsBeginning}
 use Rattle.exb_changing.specs.Planned.{IsPlanned}
 use Rattle.exb_changing.specs.Deciding.{channel_of, opening_asks}
 use Rattle.exb_change_laws.specs.Laid.{is_shown, laid}
-use Rattle.exb_csp.specs.AllTables.{RunsAt}
 
 -- ---- what executing the requests leads to
 -- Extenders are opened from the bridge down, and ports are present just at opened ones.

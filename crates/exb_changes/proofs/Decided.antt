@@ -16,7 +16,7 @@ use Rattle.exb_plans.specs.declared.change.Change.{Change}
 use Rattle.exb_plans.specs.declared.change.Decision.{Decision}
 use Rattle.exb_plans.specs.declared.change.Decision.TheVariants as decision
 use Rattle.exb_plans.specs.Asks.{ask, create_asks, port_number}
-use Rattle.exb_plans.specs.Held.{Held, HoldsNeeded}
+use Rattle.exb_plans.specs.Held.{Held, HoldsNeeded, in_spaces}
 use Rattle.exb_plans.specs.Between.{refusal_between}
 use Rattle.exb_plans.specs.Plans.{change_of, claimed, decision as plan_decision, decision_by, held_after as plan_held, held_by_cause}
 use Rattle.exb_plans.proofs.Each.{few-filter}
@@ -28,9 +28,8 @@ use Rattle.exb_changes.specs.declared.stage.Stage.TheVariants.{AtRest, Prepared}
 use Rattle.exb_changing.specs.Deciding.{Outcome, Refused, Ready, decide, outcome_by, outcome_between, opening_asks, opening_change, cascades_of, channel_of, bridge_after, release}
 use Rattle.exb_changing.specs.Fitting.{Fits, HasExternals}
 use Rattle.exb_changes.specs.Fabrics.{HoldsIn, IsShort, stage_of, cause_of, held_after, decision_of}
-use Rattle.exb_plans.specs.Held.{in_spaces}
 use Rattle.exb_changing.specs.Planned.{IsPlanned}
-use Rattle.exb_changing.proofs.Counted.{flat_at_most, few_range}
+use Rattle.exb_plans.proofs.Lengths.{flat_at_most, few_range}
 use Rattle.exb_changing.proofs.Short.{channel_few, changes_are_short}
 use Rattle.exb_changing.proofs.Released.{released_is_needed}
 use Rattle.exb_changing.proofs.Commands.{step_of, external_after}

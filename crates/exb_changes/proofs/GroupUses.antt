@@ -13,7 +13,7 @@ use Rattle.exb_numbers.specs.Spaces.{Spaces, groups_at}
 use Rattle.exb_plans.specs.Sets.{PortsAt, sets_of}
 use Rattle.exb_plans.specs.declared.change.Decision.{Decision}
 use Rattle.exb_plans.specs.declared.change.Decision.TheVariants as decision
-use Rattle.exb_plans.specs.Held.{Held, HoldsNeeded, free_where}
+use Rattle.exb_plans.specs.Held.{Held, HoldsNeeded, free_where, in_spaces}
 use Rattle.exb_plan.specs.Spaces.{held_by}
 use Rattle.exb_plans.specs.Between.{is_gone, refusal_between}
 use Rattle.exb_plans.specs.Plans.{change_of, claimed}
@@ -30,7 +30,6 @@ use Rattle.exb_changes.specs.declared.stage.Stage.TheVariants.{AtRest, Prepared,
 use Rattle.exb_changing.specs.Deciding.{Outcome, Refused, Ready, decide, outcome_by, bridge_after, release}
 use Rattle.exb_changes.specs.Fabrics.{Fabric, IsPrepared, bridge_in, held_in, stage_of, held_after, in_force, bridge_at_end, held_at_end}
 use Rattle.exb_changing.specs.Fitting.{Fits, HasExternals}
-use Rattle.exb_plans.specs.Held.{in_spaces}
 use Rattle.exb_changes.specs.GroupUses.{AreUses, IsKept}
 use Rattle.exb_changing.specs.Planned.{IsPlanned}
 use Rattle.exb_changing.proofs.Places.{place_true, placed_alike, alike_back}

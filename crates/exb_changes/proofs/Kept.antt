@@ -8,18 +8,16 @@ use Rattle.exb_config.specs.Tables.{Tables, bridge_of}
 use Rattle.exb_numbers.specs.Spaces.{Spaces}
 use Rattle.exb_config.specs.Pvids.{HasPvids}
 use Rattle.exb_plans.specs.declared.change.Decision.{Decision}
-use Rattle.exb_plans.specs.Held.{Held, HoldsNeeded}
+use Rattle.exb_plans.specs.Held.{Held, HoldsNeeded, in_spaces}
 use Rattle.exb_plan.specs.Spaces.{HasSpaces, held_by}
-use Rattle.exb_plans.specs.Laws.{IsBeginning}
+use Rattle.exb_plans.specs.Laws.{IsBeginning, HoldsFirst}
 use Rattle.exb_plans.proofs.Beginning.{begins}
 use Rattle.exb_changing.specs.declared.job.Job.{Job}
 use Rattle.exb_changes.specs.declared.stage.Stage.{Stage}
 use Rattle.exb_changes.specs.declared.stage.Stage.TheVariants.{AtRest, Prepared, InForce}
-use Rattle.exb_changing.specs.Beginning.{HoldsFirst}
 use Rattle.exb_changing.specs.Deciding.{decide}
 use Rattle.exb_changes.specs.Fabrics.{Fabric, IsFabric, IsPrepared, IsInForce, HoldsIn, fabric_of, bridge_in, held_in, stage_of, cause_of, held_after, decision_of, in_force, bridge_at_end, held_at_end}
 use Rattle.exb_changing.specs.Fitting.{Fits, HasExternals}
-use Rattle.exb_plans.specs.Held.{in_spaces}
 use Rattle.exb_changing.proofs.Places.{needed_placed, placed_needed}
 use Rattle.exb_changing.proofs.Commands.{start_external, start_absent}
 use Rattle.exb_changes.proofs.Decided.{said_cause, said_stage, cause_is, stage_is, cause_placed, stage_placed, held_placed, decided_holds, external_job}
@@ -40,9 +38,7 @@ new_fabric s valid t is config v start pvids has first = record {
     beginning : IsBeginning t (bridge_of config) (held_by v)
     beginning = record {
       absent = λ q e. ap (λ (b : Bridge). b.present q) start ∙ start_absent s valid q (ap (λ (x : Shape). is_extended x q) (sym is) ∙ e);
-      groups = first.groups;
-      channels = first.channels;
-      one_channel = first.one_channel;
+      held = first;
     }
 
 -- ---- a job is decided

@@ -1,8 +1,8 @@
 -- The cascade ports of extenders get channels in port order, and there are enough.
-use Rattle.std.proofs.Common.{◌≡◌, ◌≢◌, ℕ, zero, suc, ◌+◌, ◌-◌, ◌<◌, ◌≤◌, ◌==◌, ◌&&◌, ◌||◌, cond, Bool, true, false, List, [], ◌∷◌, ◌++◌, Option, Some, None, length, filter, fold, refl, sym, ◌∙◌, ap, subst, arith, inl, inr, eq-eqb, length-append, nat_lt, nat_le}
+use Rattle.std.proofs.Common.{◌≡◌, ◌≢◌, ℕ, zero, suc, ◌+◌, ◌-◌, ◌<◌, ◌≤◌, ◌==◌, ◌&&◌, ◌||◌, cond, Bool, true, false, List, [], ◌∷◌, ◌++◌, Some, None, length, filter, fold, refl, sym, ◌∙◌, ap, subst, arith, inl, inr, eq-eqb, length-append, nat_lt, nat_le}
 use Rattle.std.specs.Prelude.{is_some, count_by}
 use Rattle.std.specs.List.{list_any, range_with_len}
-use Rattle.std.proofs.lemmas.Bool.{cases_eq, cases_lt, and_parts, eqb-true, ne_eqb, leb-true, ltb-true, lt-ltb, le-ltb, false≢true}
+use Rattle.std.proofs.lemmas.Bool.{cases_eq, cases_lt, and_parts, eqb-true, ne_eqb, leb-true, ltb-true, lt-ltb, le-ltb}
 use Rattle.std.proofs.lemmas.List.Elements.{filter-append}
 use Rattle.std.proofs.lemmas.List.Sums.{length-filter}
 use Rattle.std.proofs.lemmas.List.{append-nil}
@@ -12,15 +12,17 @@ use Rattle.exb_model.specs.Setup.{Limits}
 use Rattle.exb_model.proofs.PortLemmas.{below-more}
 use Rattle.exb_model.proofs.TreeWays.{port_below}
 use Rattle.exb_model.specs.Numbering.{lowest_free}
-use Rattle.exb_plans.specs.Held.{Held, channel_used, free_channel, give_channel, or_zero}
+use Rattle.exb_plans.specs.Held.{Held, channel_used, free_channel, give_channel, or_zero, in_spaces}
 use Rattle.exb_plans.specs.Making.{how_many}
 use Rattle.exb_plans.proofs.Counting.{IsLowest, lowest_there, few_used}
 use Rattle.exb_plans.proofs.Each.{in_filter}
 use Rattle.exb_plans.proofs.Giving.{Gives, gives_channels, gives_one, gives_same, gives_elsewhere, gives_more}
-use Rattle.exb_changing.specs.Beginning.{nothing_held, with_channel_of, is_deep, deep_cascades, first_held, HasChannels, HoldsFirst}
-use Rattle.exb_plans.specs.Held.{in_spaces}
+use Rattle.exb_changing.specs.Beginning.{nothing_held, with_channel_of, is_deep, deep_cascades, first_held, HasChannels}
+use Rattle.exb_plans.specs.Laws.{HoldsFirst}
 use Rattle.exb_changing.proofs.Places.{place_true}
 use Rattle.exb_changing.proofs.Claims.{trunk_low, trunk_cascade, given_placed}
+use Rattle.exb_plans.proofs.Options.{is_none_at, none_some, of_some}
+use Rattle.exb_plans.proofs.Bools.{and_false}
 
 -- ---- how many pass below a number
 more_pass : (p : ℕ → Bool) (n : ℕ) → length (filter p (below (n + 1))) ≡ length (filter p (below n)) + length (cond (p n) (n ∷ []) [])
@@ -49,9 +51,6 @@ pub record AreFirst (t : Shape) (h : Held) (n : ℕ) : Type 0 where
 
 abbrev pub first_below : Shape → Limits → ℕ → Held
 first_below t l n = fold (with_channel_of t l) nothing_held (filter (is_deep t) (below n))
-
-none_some : (m : ℕ) → None ≡ Some m → ⊥
-none_some m e = cc
 
 pub none_first : (t : Shape) (h : Held) → in_spaces t h ≡ nothing_held → AreFirst t h 0
 none_first t h none = record {
@@ -167,10 +166,6 @@ module _ (t : Shape) (n : ℕ) where
     few_channels h k m g =
         few_used (λ p q. p == q) (λ p q e. eqb-true p q e) (λ c. or_zero (h.port k c)) (channel_used h k) one 1 m (filter (is_cascade_under t k) (range_with_len 0 n)) sound
       where
-        of_some : (o : Option ℕ) → is_some o ≡ true → (p : ℕ) × (o ≡ Some p)
-        of_some None e = absurd (false≢true e)
-        of_some (Some p) e = (p, refl)
-
         one : (c d : ℕ) → channel_used h k c ≡ true → channel_used h k d ≡ true → or_zero (h.port k c) ≡ or_zero (h.port k d) → c ≡ d
         one c d u w e =
             let p : (p : ℕ) × (h.port k c ≡ Some p) = of_some (h.port k c) u in
@@ -222,14 +217,6 @@ module _ (t : Shape) (n : ℕ) where
           ];
           groups = are.groups;
         }
-      where
-        and_false : (b : Bool) → (b && false) ≡ false
-        and_false true = refl
-        and_false false = refl
-
-        is_none_at : (o : Option ℕ) → is_some o ≡ false → o ≡ None
-        is_none_at None e = refl
-        is_none_at (Some x) e = absurd (false≢true (sym e))
 
     -- what is held is as it is defined
     pub held_next : (l : Limits) (h : Held) → in_spaces t h ≡ first_below t l n →
@@ -254,10 +241,6 @@ first_end t valid h n end are = record {
     below_all : (k p : ℕ) → (nat_lt p n && is_cascade_under t k p) ≡ is_cascade_under t k p
     below_all k p = by_under (is_cascade_under t k p) refl
       where
-        and_false : (b : Bool) → (b && false) ≡ false
-        and_false true = refl
-        and_false false = refl
-
         by_under : (b : Bool) → is_cascade_under t k p ≡ b → (nat_lt p n && b) ≡ b
         by_under false e = and_false (nat_lt p n)
         by_under true e =

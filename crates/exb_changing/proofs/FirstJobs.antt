@@ -11,7 +11,7 @@ use Rattle.exb_changing.specs.declared.job.Job.{Job}
 use Rattle.exb_changing.specs.declared.job.Job.TheVariants as job
 use Rattle.exb_changing.specs.Beginning.{jobs_of, first_jobs}
 use Rattle.exb_changing.specs.Fitting.{Fits, AreFit}
-use Rattle.exb_changing.proofs.Counted.{flat_at_most, few_extenders}
+use Rattle.exb_plans.proofs.Lengths.{flat_at_most, few_extenders}
 
 -- the automatic ups of the external ones of some ports
 abbrev pub ups : Shape → List ℕ → List Job

@@ -1,7 +1,4 @@
-pub mod Bools
-pub mod Counted
 pub mod FreshGroups
-pub mod GoneGroups
 pub mod Released
 pub mod Places
 pub mod Commands

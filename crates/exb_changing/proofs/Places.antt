@@ -4,19 +4,15 @@ use Rattle.std.specs.Prelude.{nat_lt}
 use Rattle.std.proofs.lemmas.Bool.{and_parts, lt-ltb, ltb-true}
 use Rattle.exb_model.specs.Tree.{Shape, is_cascade}
 use Rattle.exb_model.specs.Configuration.{Bridge}
-use Rattle.exb_plans.specs.Held.{Held, HoldsNeeded}
-use Rattle.exb_plans.specs.Held.{is_place, in_spaces}
+use Rattle.exb_plans.specs.Held.{Held, HoldsNeeded, is_place, in_spaces}
 use Rattle.exb_changing.proofs.Released.{same_held, needed_alike}
+use Rattle.exb_plans.proofs.Bools.{and_false}
 
 pub place_true : (t : Shape) (k : ℕ) → k < 64 → is_cascade t k ≡ true → is_place t k ≡ true
 place_true t k low c = rw (lt-ltb k 64 low, c) refl
 
 pub place_false : (t : Shape) (k : ℕ) → is_cascade t k ≡ false → is_place t k ≡ false
 place_false t k off = ap (λ b. nat_lt k 64 && b) off ∙ and_false (nat_lt k 64)
-  where
-    and_false : (b : Bool) → (b && false) ≡ false
-    and_false true = refl
-    and_false false = refl
 
 pub place_parts : (t : Shape) (k : ℕ) → is_place t k ≡ true → (k < 64) × (is_cascade t k ≡ true)
 place_parts t k e = (let p = and_parts (nat_lt k 64) (is_cascade t k) e in (ltb-true k 64 p.0, p.1))

@@ -25,7 +25,7 @@ use Rattle.exb_plans.proofs.SetFacts.{IsBelow}
 use Rattle.exb_plans.proofs.NotShort.{none_short}
 use Rattle.exb_changing.specs.Planned.{ChangesAreShort}
 use Rattle.exb_changing.proofs.FreshGroups.{fresh_below}
-use Rattle.exb_changing.proofs.Counted.{few-filter_map, few_extenders, group_asks_few, numbered_many, all_gone_few, IsUpTo, sets_few}
+use Rattle.exb_plans.proofs.Lengths.{few-filter_map, few_extenders, group_asks_few, numbered_many, all_gone_few, IsUpTo, sets_few}
 
 -- ---- channels
 rows_few : (t : Shape) (p : ℕ) → length (channel_rows t p) ≤ 64

@@ -1,11 +1,11 @@
 -- How the machine begins.
-use Rattle.std.specs.Prelude.{◌≡◌, ℕ, ◌<◌, ◌≤◌, Bool, true, false, List, [], ◌∷◌, Some, None, is_some, fold, filter, flat_map, map, nat_le, ◌&&◌}
+use Rattle.std.specs.Prelude.{ℕ, ◌<◌, ◌≤◌, Bool, false, List, [], ◌∷◌, None, fold, filter, flat_map, map, nat_le, ◌&&◌}
 use Rattle.exb_model.specs.Ports.{all_ports}
-use Rattle.exb_model.specs.Tree.{Shape, device, trunk, is_port, is_cascade, is_cascade_under, cascades_under, by_depth, externals_of}
+use Rattle.exb_model.specs.Tree.{Shape, device, trunk, is_port, is_cascade, cascades_under, by_depth, externals_of}
 use Rattle.exb_model.specs.Setup.{Limits}
 use Rattle.exb_model.specs.Configuration.{Bridge}
 use Rattle.exb_session.specs.Asking.{begun}
-use Rattle.exb_plans.specs.Held.{Held, channel_in, free_channel, give_channel}
+use Rattle.exb_plans.specs.Held.{Held, free_channel, give_channel}
 use Rattle.exb_changing.specs.declared.job.Job.{Job}
 use Rattle.exb_changing.specs.declared.job.Job.TheVariants as job
 use Rattle.exb_changing.specs.Machine.{State}
@@ -46,9 +46,3 @@ first_state t l b =
 -- The cascade ports of extenders suffice for the channels.
 abbrev pub HasChannels : Shape → Limits → Type 0
 HasChannels t l = (l.channels ≤ 4094) × ((k : ℕ) → k < 64 → cascades_under t k ≤ l.channels)
-
--- no group is held, and just the cascade ports of extenders have channels, each one
-pub record HoldsFirst (t : Shape) (h : Held) : Type 0 where
-  pub groups : (k g : ℕ) → k < 64 → is_cascade t k ≡ true → h.set k g ≡ []
-  pub channels : (k p : ℕ) → k < 64 → is_cascade t k ≡ true → is_some (channel_in h k p) ≡ is_cascade_under t k p
-  pub one_channel : (k p c : ℕ) → k < 64 → is_cascade t k ≡ true → h.port k c ≡ Some p → channel_in h k p ≡ Some c

@@ -2,10 +2,9 @@
 use Rattle.std.proofs.Common.{◌≡◌, ◌≢◌, ℕ, zero, suc, ◌+◌, ◌-◌, ◌<◌, ◌≤◌, ◌==◌, ◌&&◌, ◌||◌, not, Bool, true, false, cond, nat_lt, nat_le, List, [], ◌∷◌, ◌++◌, refl, ap, sym, ◌∙◌, subst, arith, inl, inr}
 use mathlib.Core.Path.{fun_ext}
 use Rattle.std.specs.List.{list_any, range_with_len}
-use Rattle.std.specs.Int.{w64, bit_at}
+use Rattle.std.specs.Int.{w64, bit_at, trailing_zeros}
 use Rattle.std.proofs.lemmas.Bool.{both_ways, cases_eq, or_cases, and_right, ne_eqb, eq-eqb, or_parts, or_from, and_from, lt-ltb, le-leb, false_from_ne_true}
 use Rattle.std.proofs.lemmas.Nat.Bits.{bit_at-trailing_zeros, bit_at-zero}
-use Rattle.std.specs.Int.{trailing_zeros}
 use Rattle.exb_model.specs.Ports.{below}
 use Rattle.exb_model.proofs.PortLemmas.{any_below-true, any_below-false}
 use Rattle.exb_csp.specs.declared.group_rows.GroupRow.{GroupRow}

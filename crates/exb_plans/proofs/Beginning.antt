@@ -33,10 +33,10 @@ module _ (t : Shape) (b : Bridge) (absent : (q : ℕ) → is_extended t q ≡ tr
 
 pub begins : Begins
 begins t b h is = record {
-  channels = λ k p low c. is.channels k p low c ∙ sym (needs k p);
-  one_channel = is.one_channel;
+  channels = λ k p low c. is.held.channels k p low c ∙ sym (needs k p);
+  one_channel = is.held.one_channel;
   groups = λ k set low c. no_group k set low c (group_in h k set) refl ∙ sym (ap (list_any (bytes_eq set)) (sets_none t b is.absent k));
-  one_group = λ k g low c u. absurd (false≢true (sym (ap (λ s. not (is_empty_set s)) (is.groups k g low c)) ∙ u));
+  one_group = λ k g low c u. absurd (false≢true (sym (ap (λ s. not (is_empty_set s)) (is.held.groups k g low c)) ∙ u));
 }
   where
     needs : (k p : ℕ) → needs_channel t b k p ≡ is_cascade_under t k p
@@ -47,4 +47,4 @@ begins t b h is = record {
 
     no_group : (k : ℕ) (set : List ℕ) → k < 64 → is_cascade t k ≡ true → (o : Option ℕ) → group_in h k set ≡ o → is_some o ≡ false
     no_group k set low c None e = refl
-    no_group k set low c (Some g) e = (let f : IsGroupOf h k set g = group_found h k set g e in absurd (empty_not set f.some (sym (is.groups k g low c) ∙ f.is)))
+    no_group k set low c (Some g) e = (let f : IsGroupOf h k set g = group_found h k set g e in absurd (empty_not set f.some (sym (is.held.groups k g low c) ∙ f.is)))

@@ -2,7 +2,7 @@
 use Rattle.std.proofs.Common.{◌≡◌, ℕ, ◌+◌, ◌<◌, ◌≤◌, ◌==◌, ◌||◌, ◌&&◌, cond, Bool, true, false, not, List, [], ◌∷◌, Option, Some, None, length, filter, refl, sym, ◌∙◌, ap, subst, arith, inl, inr}
 use Rattle.std.specs.Prelude.{nat_lt, nat_le, is_some, count_by}
 use Rattle.std.specs.List.{list_any, range_with_len}
-use Rattle.std.proofs.lemmas.Bool.{cases_Bool, and_parts, or_cases, eqb-true, ltb-false, leb-true, false≢true}
+use Rattle.std.proofs.lemmas.Bool.{cases_Bool, and_parts, or_cases, eqb-true, ltb-false, leb-true}
 use Rattle.std.proofs.lemmas.List.Sums.{length-filter}
 use Rattle.exb_model.specs.declared.event.Cause.{Cause}
 use Rattle.exb_model.specs.declared.event.Cause.TheVariants as cause
@@ -19,6 +19,8 @@ use Rattle.exb_plans.proofs.Ranges.{IsFound, found, none_passes}
 use Rattle.exb_plans.proofs.Counting.{IsLowest, lowest_there, few_used}
 use Rattle.exb_plans.proofs.Each.{in_filter}
 use Rattle.exb_plans.proofs.Trunks.{under_extended, extended_below, extended_external, home_low, home_cascade}
+use Rattle.exb_plans.proofs.Options.{of_some, some_is}
+use Rattle.exb_plans.proofs.Bools.{is_not}
 
 -- ---- the port that goes up
 pub goes_up_rises : (t : Shape) (old new : Bridge) (p : ℕ) → goes_up t old new ≡ Some p → rises t old new p ≡ true
@@ -34,11 +36,7 @@ pub rises_is : (t : Shape) (old new : Bridge) (p : ℕ) → rises t old new p �
 rises_is t old new p e =
     let one = and_parts (is_extended t p) (not (old.present p) && new.present p) e in
     let two = and_parts (not (old.present p)) (new.present p) one.1 in
-    record { extended = one.0; absent = not_true (old.present p) two.0; present = two.1 }
-  where
-    not_true : (b : Bool) → not b ≡ true → b ≡ false
-    not_true true e = sym e
-    not_true false e = refl
+    record { extended = one.0; absent = is_not (old.present p) two.0; present = two.1 }
 
 -- where none goes up no extended port does
 pub never_rises : (t : Shape) → IsTree t → (old new : Bridge) (q : ℕ) → is_extended t q ≡ true → goes_up t old new ≡ None → (not (old.present q) && new.present q) ≡ false
@@ -50,10 +48,6 @@ any_extended t old new None e = tt
 any_extended t old new (Some p) e = (let r : Rises t old new p = rises_is t old new p (goes_up_rises t old new p e) in r.extended)
 
 -- ---- how many channels are used
-of_some : (o : Option ℕ) → is_some o ≡ true → (p : ℕ) × (o ≡ Some p)
-of_some None e = absurd (false≢true e)
-of_some (Some p) e = (p, refl)
-
 either : (a b : ℕ → Bool) (xs : List ℕ) → ((x : ℕ) → a x ≡ true → b x ≡ false) → length (filter (λ x. a x || b x) xs) ≡ length (filter b xs) + length (filter a xs)
 either a b [] apart = refl
 either a b (x ∷ xs) apart =
@@ -67,11 +61,7 @@ either a b (x ∷ xs) apart =
     ]
 
 not_cascade : (t : Shape) (q : ℕ) → is_extended t q ≡ true → is_cascade t q ≡ false
-not_cascade t q e = not_true (is_cascade t q) (and_parts (is_port t q) (not (is_cascade t q)) (extended_external t q e)).1
-  where
-    not_true : (b : Bool) → not b ≡ true → b ≡ false
-    not_true true e = sym e
-    not_true false e = refl
+not_cascade t q e = is_not (is_cascade t q) (and_parts (is_port t q) (not (is_cascade t q)) (extended_external t q e)).1
 
 pub no_cascade_under : (t : Shape) (k q : ℕ) → is_extended t q ≡ true → is_cascade_under t k q ≡ false
 no_cascade_under t k q e = rw (not_cascade t q e) (none (nat_le 64 q) (is_port t q) (trunk t (device q) == k))
@@ -105,9 +95,6 @@ module _ (t : Shape) (valid : IsTree t) (old : Bridge) (h : Held) (needed : Hold
   few_channels k n low c =
       few_used (λ p q. p == q) (λ p q e. eqb-true p q e) (λ m. or_zero (h.port k m)) (channel_used h k) one 1 n (filter (needs_channel t old k) all_ports) sound
     where
-      some_is : (a b : ℕ) → Some a ≡ Some b → a ≡ b
-      some_is a b e = cc
-
       one : (g m : ℕ) → channel_used h k g ≡ true → channel_used h k m ≡ true → or_zero (h.port k g) ≡ or_zero (h.port k m) → g ≡ m
       one g m u w e =
           let p : (p : ℕ) × (h.port k g ≡ Some p) = of_some (h.port k g) u in

@@ -11,15 +11,12 @@ use Rattle.exb_plans.specs.Between.{rises, goes_up, trunk_of, refusal_between}
 use Rattle.exb_plans.specs.Laws.{RefusedAsCommanded}
 use Rattle.exb_plans.proofs.Ranges.{find_first, find_none}
 use Rattle.exb_plans.proofs.Trunks.{extended_below}
+use Rattle.exb_plans.proofs.Bools.{and_false}
 
 module _ (t : Shape) (old : Bridge) where
   none_rises : (new : Bridge) → ((q : ℕ) → (not (old.present q) && new.present q) ≡ false) → goes_up t old new ≡ None
   unfolding goes_up below
   none_rises new none = find_none (rises t old new) 0 4160 (λ c l h. ap (λ b. is_extended t c && b) (none c) ∙ and_false (is_extended t c))
-    where
-      and_false : (b : Bool) → (b && false) ≡ false
-      and_false true = refl
-      and_false false = refl
 
   same : (b : Bool) → (not b && b) ≡ false
   same true = refl
@@ -50,10 +47,6 @@ module _ (t : Shape) (old : Bridge) where
       | inr s ↦ rw (ne_eqb c p s) (last (is_extended t c) (old.present c))
     ]))
       where
-        and_false : (b : Bool) → (b && false) ≡ false
-        and_false true = refl
-        and_false false = refl
-
         last : (x b : Bool) → (x && (not b && (false || b))) ≡ false
         last true true = refl
         last true false = refl

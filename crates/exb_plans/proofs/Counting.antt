@@ -5,6 +5,7 @@ use Rattle.std.proofs.lemmas.Bool.{cases_eq, cases_Bool, or_cases, or_left, or_r
 use Rattle.exb_model.specs.Numbering.{lowest_free}
 use Rattle.exb_plans.specs.Making.{how_many}
 use Rattle.exb_plans.proofs.Ranges.{found}
+use Rattle.exb_plans.proofs.Bools.{is_not}
 
 pub record IsLowest (used : ℕ → Bool) (a n m : ℕ) : Type 0 where
   pub is : lowest_free used a n ≡ Some m
@@ -27,11 +28,7 @@ lowest_there used a (suc n) h =
 
 pub lowest_unused : (used : ℕ → Bool) (a n m : ℕ) → lowest_free used a n ≡ Some m → used m ≡ false
 unfolding lowest_free
-lowest_unused used a n m e = (let f = found (λ c. not (used c)) a n m e in not_true (used m) f.passes)
-  where
-    not_true : (b : Bool) → not b ≡ true → b ≡ false
-    not_true true h = sym h
-    not_true false h = refl
+lowest_unused used a n m e = (let f = found (λ c. not (used c)) a n m e in is_not (used m) f.passes)
 
 pub count_less : (t u : ℕ → Bool) (a n : ℕ) → ((g : ℕ) → a ≤ g → u g ≡ true → t g ≡ true) → how_many u (range_with_len a n) ≤ how_many t (range_with_len a n)
 count_less t u a zero h = omega arith

@@ -20,10 +20,8 @@ use Rattle.exb_plans.proofs.Distinct.{filter_sets}
 use Rattle.exb_plans.proofs.Each.{Each, each_map, each_filter, filter_each, few-filter, how_many-none}
 use Rattle.exb_plans.proofs.SetFacts.{IsBelow, sets_below, sets_apart, bytes_is, has_at, count_at}
 use Rattle.exb_plans.proofs.Claiming.{set_is, set_itself, is_none, AreApart, AreLow, AreAbsent, HasRoom, are_fresh}
-
-is_none_at : {X : Type 0} (o : Option X) → is_some o ≡ false → o ≡ None
-is_none_at None e = refl
-is_none_at (Some x) e = absurd (false≢true (sym e))
+use Rattle.exb_plans.proofs.Options.{is_none_at, some_is}
+use Rattle.exb_plans.proofs.Bools.{is_not}
 
 length_range : (a n : ℕ) → length (range_with_len a n) ≡ n
 length_range a zero = refl
@@ -45,15 +43,8 @@ module _ (t : Shape) (valid : IsTree t) (old new : Bridge) (h : Held) (needed : 
       few_used bytes_eq bytes_is (h.set k) (group_used h k) one 4096 n (sets_at t k old) (λ g a u.
       sym (needed.groups k (h.set k g) low c) ∙ ap is_some (needed.one_group k g low c u))
     where
-      some_is : (a b : ℕ) → Some a ≡ Some b → a ≡ b
-      some_is a b e = cc
-
       one : (g m : ℕ) → group_used h k g ≡ true → group_used h k m ≡ true → h.set k g ≡ h.set k m → g ≡ m
       one g m u w e = some_is g m (sym (needed.one_group k g low c u) ∙ (ap (group_in h k) e ∙ needed.one_group k m low c w))
-
-  not_true : (b : Bool) → not b ≡ true → b ≡ false
-  not_true true e = sym e
-  not_true false e = refl
 
   pub fresh_below : Each (λ s. IsBelow t s × (not (has_set (sets_of t old) s) ≡ true)) (fresh_sets t old new)
   unfolding fresh_sets
@@ -73,7 +64,7 @@ module _ (t : Shape) (valid : IsTree t) (old new : Bridge) (h : Held) (needed : 
   absent_all : (xs : List PortsAt) → Each (λ s. IsBelow t s × (not (has_set (sets_of t old) s) ≡ true)) xs → AreAbsent h xs
   absent_all [] a = tt
   absent_all (x ∷ xs) a =
-      (is_none_at (group_in h (x.bridge_port - 1) x.ports) (has_is x a.0.0 ∙ not_true (has_set (sets_of t old) x) a.0.1), absent_all xs a.1)
+      (is_none_at (group_in h (x.bridge_port - 1) x.ports) (has_is x a.0.0 ∙ is_not (has_set (sets_of t old) x) a.0.1), absent_all xs a.1)
 
   at_no_port : (k : ℕ) → ((s : PortsAt) → IsBelow t s → s.bridge_port ≢ k + 1) → how_many (is_at (k + 1)) (fresh_sets t old new) ≡ 0
   at_no_port k none = how_many-none (is_at (k + 1)) (fresh_sets t old new)

@@ -6,6 +6,7 @@ use Rattle.exb_model.specs.Tree.{Shape, device, trunk}
 use Rattle.exb_model.specs.Numbering.{is_port}
 use Rattle.exb_plans.specs.Held.{Held, channel_in, give_channel, free_port_of}
 use Rattle.exb_plans.proofs.Ranges.{IsFound, found, none_passes}
+use Rattle.exb_plans.proofs.Options.{none_some, of_some, some_is}
 
 pub record Gives (h : Held) (k : ℕ) (needs : ℕ → Bool) : Type 0 where
   pub low : (c p : ℕ) → h.port k c ≡ Some p → 1 ≤ c
@@ -13,16 +14,6 @@ pub record Gives (h : Held) (k : ℕ) (needs : ℕ → Bool) : Type 0 where
   pub one : (c d p : ℕ) → h.port k c ≡ Some p → h.port k d ≡ Some p → c ≡ d
   pub sound : (c p : ℕ) → h.port k c ≡ Some p → needs p ≡ true
   pub full : (p : ℕ) → needs p ≡ true → (c : ℕ) × (h.port k c ≡ Some p)
-
-some_is : (a b : ℕ) → Some a ≡ Some b → a ≡ b
-some_is a b e = cc
-
-none_some : (m : ℕ) → None ≡ Some m → ⊥
-none_some m e = cc
-
-of_some : (o : Option ℕ) → is_some o ≡ true → (p : ℕ) × (o ≡ Some p)
-of_some None e = absurd (false≢true e)
-of_some (Some p) e = (p, refl)
 
 is_of : (p : ℕ) (o : Option ℕ) → is_port p o ≡ true → o ≡ Some p
 is_of p None e = absurd (false≢true e)

@@ -1,6 +1,6 @@
 -- Just what the new configuration needs is held in the end.
 use Rattle.std.proofs.Common.{◌≡◌, ◌≢◌, ℕ, ◌+◌, ◌-◌, ◌<◌, ◌≤◌, ◌==◌, ◌&&◌, ◌||◌, cond, Bool, true, false, not, List, [], ◌∷◌, Option, Some, None, filter, refl, sym, ◌∙◌, ap, subst, arith, inl, inr, ◌⊎◌, eq-eqb}
-use Rattle.std.specs.Prelude.{is_some, bytes_eq}
+use Rattle.std.specs.Prelude.{bytes_eq}
 use Rattle.std.specs.List.{list_any}
 use Rattle.std.proofs.lemmas.Bool.{cases_Bool, cases_eq, or_cases, or_left, or_right, ne_eqb, false≢true, false_from_ne_true}
 use Rattle.exb_model.specs.Tree.{Shape, IsTree, device, trunk, is_cascade, is_under, is_cascade_under}
@@ -21,6 +21,8 @@ use Rattle.exb_plans.proofs.Fresh.{fresh_can, fresh_low}
 use Rattle.exb_plans.proofs.NotShort.{fresh_with, none_short}
 use Rattle.exb_plans.proofs.Trunks.{under_extended, under_trunk, under_home}
 use Rattle.exb_plans.proofs.Channels.{Rises, rises_is, goes_up_rises, never_rises, no_cascade_under, free_there}
+use Rattle.exb_plans.proofs.Options.{is_none_at}
+use Rattle.exb_plans.proofs.Bools.{and_false}
 
 -- ---- groups
 owns_set : (h g : Held) (k : ℕ) (has : List ℕ → Bool) → ((m : ℕ) → g.set k m ≡ h.set k m) → Owns h k has → Owns g k has
@@ -137,10 +139,6 @@ module _ (t : Shape) (old new : Bridge) where
         | inr n ↦ rw (ne_eqb q p n) (and_true (needs_channel t old k q) ∙ needs_by k q (same q n))
       ]
     where
-      and_false : (b : Bool) → (b && false) ≡ false
-      and_false true = refl
-      and_false false = refl
-
       and_true : (b : Bool) → (b && true) ≡ b
       and_true true = refl
       and_true false = refl
@@ -221,10 +219,6 @@ module _ (t : Shape) (valid : IsTree t) (l : Limits) (old new : Bridge) (h : Hel
       none_there : (b : Bool) → (b && false || false) ≡ false
       none_there true = refl
       none_there false = refl
-
-      is_none_at : (o : Option ℕ) → is_some o ≡ false → o ≡ None
-      is_none_at None e = refl
-      is_none_at (Some x) e = absurd (false≢true (sym e))
   gives_by k low c None (Some p) e f =
       let s : Rises t new old p = rises_is t new old p (goes_up_rises t new old p f) in
       let g = numbered l.groups h (fresh_sets t old new) in

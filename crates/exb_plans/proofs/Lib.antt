@@ -4,6 +4,8 @@ pub mod FromTop
 pub mod RowsCover
 pub mod Carrying
 pub mod SpaceSets
+pub mod Options
+pub mod Bools
 pub mod Ranges
 pub mod Counting
 pub mod Distinct
@@ -21,6 +23,8 @@ pub mod NotShort
 pub mod Giving
 pub mod GoesOn
 pub mod Beginning
+pub mod GoneGroups
+pub mod Lengths
 pub mod Tests
 pub mod Differing
 pub mod Untouched

@@ -11,6 +11,8 @@ use Rattle.exb_plans.specs.Making.{AreFresh, is_at}
 use Rattle.exb_plans.proofs.Ranges.{IsFound, found}
 use Rattle.exb_plans.proofs.SetFacts.{bytes_is, bytes_itself}
 use Rattle.exb_plans.proofs.Claiming.{AreLow, absent_each, given_here, given_else, free_set}
+use Rattle.exb_plans.proofs.Options.{none_some, of_some, some_is}
+use Rattle.exb_plans.proofs.Bools.{and_false}
 
 pub record Owns (h : Held) (k : ℕ) (has : List ℕ → Bool) : Type 0 where
   pub low : (g : ℕ) → group_used h k g ≡ true → 4096 ≤ g
@@ -63,13 +65,6 @@ owns_from h k has groups one = record {
   full = λ set e. (let f = of_some (group_in h k set) (groups set ∙ e) in (f.0, (let r = group_found h k set f.0 f.1 in r.is)));
   some = λ set e. (let f = of_some (group_in h k set) (groups set ∙ e) in (let r = group_found h k set f.0 f.1 in r.some));
 }
-  where
-    some_is : (a b : ℕ) → Some a ≡ Some b → a ≡ b
-    some_is a b e = cc
-
-    of_some : (o : Option ℕ) → is_some o ≡ true → (p : ℕ) × (o ≡ Some p)
-    of_some None e = absurd (false≢true e)
-    of_some (Some p) e = (p, refl)
 
 pub owns_groups : (h : Held) (k : ℕ) (has : List ℕ → Bool) → Owns h k has → (set : List ℕ) → is_some (group_in h k set) ≡ has set
 owns_groups h k has owns set = by_option (group_in h k set) refl
@@ -81,9 +76,6 @@ owns_groups h k has owns set = by_option (group_in h k set) refl
         let u : group_used h k f.0 ≡ true = used_is h k f.0 set some f.1 in
         let m : (m : ℕ) × (group_in h k set ≡ Some m) = group_there h k set f.0 some (owns.low f.0 u) (owns.high f.0 u) f.1 in
         none_some m.0 (sym e ∙ m.1)))
-      where
-        none_some : (m : ℕ) → None ≡ Some m → ⊥
-        none_some m e = cc
     by_option (Some g) e =
         let r = group_found h k set g e in
         sym (ap has (sym r.is) ∙ owns.sound g (used_is h k g set r.some r.is))
@@ -233,10 +225,6 @@ owns_kept h k has keep gone is owns = record {
   where
     stays : (g : ℕ) → keep (h.set k g) ≡ true → (free_where gone h).set k g ≡ h.set k g
     stays g e = ap (λ (b : Bool). cond b [] (h.set k g)) (is g ∙ (ap (λ b. group_used h k g && not b) e ∙ and_false (group_used h k g)))
-      where
-        and_false : (b : Bool) → (b && false) ≡ false
-        and_false true = refl
-        and_false false = refl
 
     was : (g : ℕ) → group_used (free_where gone h) k g ≡ true → (group_used h k g ≡ true) × (keep (h.set k g) ≡ true)
     was g u = by_gone (gone k g) refl u

@@ -5,6 +5,7 @@ use Rattle.std.proofs.lemmas.Bool.{or_from, or_left, or_right, false≢true}
 use Rattle.std.proofs.lemmas.List.{append-nil}
 use Rattle.std.proofs.lemmas.List.Elements.{filter-append}
 use Rattle.exb_plans.proofs.Distinct.{put, any-append}
+use Rattle.exb_plans.proofs.Bools.{and_false}
 
 module _ {X : Type 0} (empty : X → Bool) (same : X → X → Bool) (to : (x y : X) → same x y ≡ true → x ≡ y) (itself : (x : X) → same x x ≡ true) where
   -- ---- what is there
@@ -20,10 +21,6 @@ module _ {X : Type 0} (empty : X → Bool) (same : X → X → Bool) (to : (x y 
 
       or_true : (b c : Bool) → b ≡ true → b ≡ (b || c)
       or_true b c e = rw e refl
-
-      and_false : (b : Bool) → (b && false) ≡ false
-      and_false true = refl
-      and_false false = refl
 
       by_test : (e a f : Bool) → empty x ≡ e → list_any (same x) sets ≡ a → same s x ≡ f →
           list_any (same s) (cond (e || a) sets (sets ++ x ∷ [])) ≡ (list_any (same s) sets || (not (empty s) && f))

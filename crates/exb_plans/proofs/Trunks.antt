@@ -6,6 +6,7 @@ use Rattle.exb_model.specs.declared.role.Role.TheVariants as role
 use Rattle.exb_model.specs.Tree.{Shape, IsTree, HangsOn, IsCascade, HasRole, device, on, top, trunk, is_port, is_cascade, is_extender, is_external, is_extended, is_under, is_cascade_under}
 use Rattle.exb_model.proofs.TreeWays.{any_below-from, top_high, top_hangs, top_below, number_at_most, port_below}
 use Rattle.exb_model.proofs.TreeHung.{cascade_hangs}
+use Rattle.exb_plans.proofs.Bools.{is_not}
 
 pub extended_high : (t : Shape) (q : ℕ) → is_extended t q ≡ true → 64 ≤ q
 extended_high t q e = leb-true 64 q (and_parts _ (is_external t q) e).0
@@ -46,11 +47,7 @@ module _ (t : Shape) (valid : IsTree t) where
   other_role p role.Unknown is other =
       false_from_ne_true _ (λ c. let h : (n : ℕ) × HangsOn t n p = cascade_hangs t p c in
       false≢true (sym is ∙ ap (is_port t) (sym h.1.at) ∙ valid.on_port h.0 h.1.extender h.1.there))
-  other_role p role.External is other = not_true (is_cascade t p) (and_parts (is_port t p) (not (is_cascade t p)) is).1
-    where
-      not_true : (b : Bool) → not b ≡ true → b ≡ false
-      not_true true h = sym h
-      not_true false h = refl
+  other_role p role.External is other = is_not (is_cascade t p) (and_parts (is_port t p) (not (is_cascade t p)) is).1
   other_role p (role.Cascade n) is other = absurd (other n refl)
 
   pub not_extended : (p : ℕ) (r : Role) → HasRole t p r → (r ≡ role.External → ⊥) → is_extended t p ≡ false

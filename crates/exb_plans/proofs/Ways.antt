@@ -8,6 +8,7 @@ use Rattle.exb_model.proofs.TreeLoops.{trunk_is}
 use Rattle.exb_model.proofs.TreeOrder.{less_deep}
 use Rattle.exb_model.proofs.TreeCovered.{among_next}
 use Rattle.exb_plans.specs.Laying.{is_port_under}
+use Rattle.exb_plans.proofs.Bools.{is_not}
 
 -- a port of an extender with trunk k
 pub record Under (s : Shape) (k p : ℕ) : Type 0 where
@@ -26,10 +27,6 @@ from_test s k p h =
     let both = and_parts (nat_le 64 p && is_port s p) (trunk s (device p) == k) h in
     let rest = and_parts (nat_le 64 p) (is_port s p) both.0 in
     record { deep = leb-true 64 p rest.0; known = rest.1; at = eqb-true (trunk s (device p)) k both.1 }
-
-is_not : (b : Bool) → not b ≡ true → b ≡ false
-is_not true h = absurd (false≢true h)
-is_not false h = refl
 
 pub from_extended : (s : Shape) (q : ℕ) → is_extended s q ≡ true → (64 ≤ q) × (is_port s q ≡ true) × (is_cascade s q ≡ false)
 from_extended s q h =

@@ -26,13 +26,16 @@ HeldGoesOn =
     (t : Shape) (l : Limits) (old new : Bridge) (h : Held) → IsTree t → l.channels ≤ 4094 → l.groups ≤ 12288 → IsStep t old new → HoldsNeeded t old h →
     refusal_between t l old new ≡ None → HoldsNeeded t new (freed t old new (claimed t l old new h))
 
--- no external port of an extender is present, no group is held, and just the cascade ports of extenders have
--- channels, each one
-pub record IsBeginning (t : Shape) (b : Bridge) (h : Held) : Type 0 where
-  pub absent : (q : ℕ) → is_extended t q ≡ true → b.present q ≡ false
+-- no group is held, and just the cascade ports of extenders have channels, each one
+pub record HoldsFirst (t : Shape) (h : Held) : Type 0 where
   pub groups : (k g : ℕ) → k < 64 → is_cascade t k ≡ true → h.set k g ≡ []
   pub channels : (k p : ℕ) → k < 64 → is_cascade t k ≡ true → is_some (channel_in h k p) ≡ is_cascade_under t k p
   pub one_channel : (k p c : ℕ) → k < 64 → is_cascade t k ≡ true → h.port k c ≡ Some p → channel_in h k p ≡ Some c
+
+-- and no external port of an extender is present
+pub record IsBeginning (t : Shape) (b : Bridge) (h : Held) : Type 0 where
+  pub absent : (q : ℕ) → is_extended t q ≡ true → b.present q ≡ false
+  pub held : HoldsFirst t h
 
 -- Then just what the configuration needs is held.
 abbrev pub Begins : Type 0

@@ -8,7 +8,7 @@ use Rattle.exb_plans.specs.Sets.{PortsAt}
 use Rattle.exb_plans.proofs.Each.{list_any-map}
 use Rattle.exb_plans.specs.Held.{Held, Group}
 use Rattle.exb_plans.specs.Between.{is_gone, group_at, gone_at, gone_groups}
-use Rattle.exb_changing.proofs.Bools.{any_flat, PassesIn, any_found, any_there}
+use Rattle.exb_plans.proofs.Bools.{any_flat, PassesIn, any_found, any_there}
 
 -- a group that is gone, and passes a test
 pub record IsGoneAt (t : Shape) (kept : List PortsAt) (h : Held) (p : Group → Bool) : Type 0 where
