@@ -1,4 +1,3 @@
-pub mod Words
 pub mod Statics
 pub mod Rows
 pub mod Changes

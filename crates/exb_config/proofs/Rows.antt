@@ -13,7 +13,7 @@ use Rattle.exb_model.specs.Configuration.{kind_in}
 use Rattle.exb_model.proofs.PortLemmas.{any_below-true, any_below-false}
 use Rattle.exb_config.specs.declared.members.Members.{Members}
 use Rattle.exb_config.specs.Rows.{has_member, kind_by, member_of, KeepsKnown}
-use Rattle.exb_config.proofs.Words.{none_past}
+use Rattle.exb_model.proofs.JoinedWords.{none_past}
 
 none_of_below : (p : ℕ → Bool) (n : ℕ) → list_any p (below n) ≡ false → (k : ℕ) → k < n → p k ≡ false
 none_of_below p n none k low =

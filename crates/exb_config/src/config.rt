@@ -4,6 +4,7 @@ ghost use Rattle.exb_model.specs.Ports.{port_in};
 ghost use Rattle.exb_model.specs.Configuration.{Bridge, after, empty_bridge, is_known};
 ghost use Rattle.exb_model.specs.Targets.{static_for};
 ghost use Rattle.exb_model.specs.Refusals.{is_kind};
+ghost use Rattle.exb_config.specs.Pvids.{HasPvids, IsVlan};
 ghost use Rattle.exb_config.specs.Tables.{bridge_of};
 
 use crate::members::Members;
@@ -19,6 +20,15 @@ use exb_model::rules::{Accept, PortRule, StaticAt};
 use exb_model::vlan::{Kind, Vid};
 use std::alloc::Global;
 use std::marker::Model;
+
+/// That a PVID is a VLAN, as a fact for whoever calls it. It does nothing.
+fn names_vlan(command: &Command)
+    ensures { (p v : ℕ) → command.now ≡ Command.Pvid p v → IsVlan v }
+{
+    if let Command::Pvid { vid, port: _ } = command {
+        let _ = vid.number();
+    }
+}
 
 /// The configuration of the bridge.
 #[derive(Drop)]
@@ -63,8 +73,18 @@ impl Config {
         })
     }
 
-    /// Does a command. After `NoMemory` the configuration is unchanged.
+    /// Does a command. After `NoMemory` the configuration is unchanged. The PVIDs stay VLANs.
     pub fn apply(&mut self, command: &Command) -> Result<(), NoMemory>
+        ensures ok { OnOk result (bridge_of self.new ≡ after command.now (bridge_of self.old)) }
+        ensures err { OnErr result (self.new ≡ self.old) }
+        ensures pvids { HasPvids (bridge_of self.old) → HasPvids (bridge_of self.new) }
+    {
+        names_vlan(command);
+        self.change(command)
+    }
+
+    /// Does a command. After `NoMemory` the configuration is unchanged.
+    fn change(&mut self, command: &Command) -> Result<(), NoMemory>
         ensures ok { OnOk result (bridge_of self.new ≡ after command.now (bridge_of self.old)) }
         ensures err { OnErr result (self.new ≡ self.old) }
     {

@@ -4,6 +4,7 @@
 //! VLANs, ports or entries. It stands on `exb_model`, and on `indexmap` for its tables.
 #![tactic(auto)]
 
+mod beginning;
 pub mod config;
 pub mod members;
 pub mod port_rules;

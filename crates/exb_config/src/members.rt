@@ -4,7 +4,6 @@ ghost use Rattle.exb_model.specs.Ports.{port_in};
 ghost use Rattle.exb_model.specs.Configuration.{kind_in};
 ghost use Rattle.exb_model.specs.Refusals.{is_kind};
 
-use crate::port_sets::{except, is_empty};
 use exb_model::port::PortId;
 use exb_model::port_set::PortSet;
 use exb_model::vlan::Kind;
@@ -78,7 +77,7 @@ impl Members {
         ensures { (q : ℕ) → port_in result q ≡ is_kind kind (kind_in self.now.tagged self.now.untagged q) }
     {
         match kind {
-            Kind::Tagged => except(&self.tagged, &self.untagged),
+            Kind::Tagged => self.tagged.except(&self.untagged),
             Kind::Untagged => self.untagged,
         }
     }
@@ -87,6 +86,6 @@ impl Members {
     pub fn is_empty(&self) -> bool
         ensures { result ≡ not (has_member self.now) }
     {
-        is_empty(&self.tagged) && is_empty(&self.untagged)
+        self.tagged.is_empty() && self.untagged.is_empty()
     }
 }

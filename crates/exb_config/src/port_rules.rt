@@ -6,15 +6,12 @@ ghost use Rattle.exb_model.specs.declared.rules.PortRule.{PortRule};
 ghost use Rattle.exb_config.specs.Rows.{rule_of};
 
 use exb_model::memory::NoMemory;
-use exb_model::port::PortId;
+use exb_model::port::{PORTS, PortId};
 use exb_model::port_set::PortSet;
 use exb_model::rules::{Accept, PortRule};
 use exb_model::vlan::Vid;
 use std::alloc::Global;
 use std::marker::Model;
-
-/// How many ports there can be.
-const PORTS: usize = 4160;
 
 /// A rule for each port, and the set of the isolated ones.
 #[derive(Drop)]
@@ -58,7 +55,7 @@ impl PortRules {
         ensures { IfOk result (λ made. (q : ℕ) → rule_of made q ≡ default_rule) }
     {
         Ok(PortRules {
-            rules: first_rules(alloc, PORTS)?,
+            rules: first_rules(alloc, PORTS as usize)?,
             isolated: PortSet::empty(),
         })
     }

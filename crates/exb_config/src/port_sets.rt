@@ -1,4 +1,4 @@
-//! Sets of ports against others.
+//! Sets of ports against others: the calls of `PortSet` by their former names.
 ghost use Rattle.std.specs.Prelude.{◌≡◌, ℕ, ◌&&◌, ◌↔◌, not, false, IsTrue};
 ghost use Rattle.exb_model.specs.Ports.{port_in};
 
@@ -8,16 +8,12 @@ use exb_model::port_set::PortSet;
 pub fn except(a: &PortSet, b: &PortSet) -> PortSet
     ensures { (q : ℕ) → port_in result q ≡ (port_in a.now q && not (port_in b.now q)) }
 {
-    let mut words = [0; 65];
-    for i in 0..65usize {
-        words[i] = a.words[i] & !b.words[i];
-    }
-    PortSet { words }
+    a.except(b)
 }
 
 /// Whether no port is in the set.
 pub fn is_empty(set: &PortSet) -> bool
     ensures { IsTrue result ↔ ((q : ℕ) → port_in set.now q ≡ false) }
 {
-    set.is_same(&PortSet::empty())
+    set.is_empty()
 }

@@ -1,19 +1,14 @@
 //! The kind of a frame.
-ghost use Rattle.std.specs.Prelude.{◌≡◌, ◌≢◌, ◌≤◌, ◌<◌, ◌+◌, length};
-ghost use Rattle.exb_model.specs.Frames.{kind_of, priority_of, number_at, is_reserved, kind_of_tag};
+ghost use Rattle.std.specs.Prelude.{◌≡◌, ◌≢◌, ◌≤◌, ◌<◌, ◌+◌, true, length};
+ghost use Rattle.exb_model.specs.Frames.{kind_of, priority_of, is_reserved, kind_of_tag};
+ghost use Rattle.exb_model.specs.EagerHistory.{is_relayed_kind};
 
+use exb_model::bytes::number_at;
 use exb_model::frame_kind::Seen;
 use exb_model::vlan::Vid;
 
 /// The EtherType of a VLAN tag (IEEE 802.1Q).
 const VLAN_TYPE: u16 = 0x8100;
-
-fn number_at(frame: &[u8], at: usize) -> u16
-    requires { at + 1 < length frame.now }
-    ensures { result ≡ number_at frame.now at }
-{
-    u16::from(frame[at]) * 256 + u16::from(frame[at + 1])
-}
 
 fn is_reserved(frame: &[u8]) -> bool
     requires { 6 ≤ length frame.now }
@@ -67,6 +62,22 @@ pub fn classify(frame: &[u8]) -> Seen
         return kind_of_tag(number_at(frame, 14));
     }
     Seen::Plain
+}
+
+/// Whether frames of a kind may be relayed: it isn't short, long or reserved.
+fn may_be_relayed(seen: Seen) -> bool
+    ensures { result ≡ is_relayed_kind seen }
+{
+    !matches!(seen, Seen::Short | Seen::Long | Seen::Reserved)
+}
+
+/// Whether a frame isn't short, long or reserved, so that a bridge may relay it (IEEE 802.1Q, clause 8.6.3).
+pub fn is_relayed_kind(frame: &[u8]) -> bool
+    ensures kind { result ≡ is_relayed_kind (kind_of frame.now) }
+    ensures long { result ≡ true → 14 ≤ length frame.now }
+    ensures fits { result ≡ true → length frame.now ≤ 9216 }
+{
+    may_be_relayed(classify(frame))
 }
 
 #[cfg(test)]

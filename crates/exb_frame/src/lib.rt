@@ -3,8 +3,12 @@
 //! definitions of `exb_model` give, and takes no memory. It stands on `exb_model`.
 #![tactic(auto)]
 
+mod addresses;
 mod append;
 pub mod classify;
 pub mod egress;
 pub mod etag;
 pub mod laws;
+
+pub use addresses::{destination, source};
+pub use classify::is_relayed_kind;

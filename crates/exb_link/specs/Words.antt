@@ -1,15 +1,7 @@
 -- The words of one direction of a link, as a list in order of sending.
-use Rattle.std.specs.Prelude.{ℕ, suc, ◌-◌, ◌==◌, Bool, not, if◌then◌else◌, List, [], ◌∷◌, nat_eq}
-use Rattle.std.specs.List.{starts_with}
+use Rattle.std.specs.Prelude.{ℕ, suc, ◌-◌, ◌==◌, Bool, not, if◌then◌else◌, List, [], ◌∷◌}
+use Rattle.exb_model.specs.Frames.{is_control_frame}
 use Rattle.exb_link.specs.declared.word.Word.{Word}
-
--- 01-80-C2-00-00-0E
-abbrev pub control_address : List ℕ
-control_address = 1 ∷ 128 ∷ 194 ∷ 0 ∷ 0 ∷ 14 ∷ []
-
--- the destination of a frame is that of control frames
-unfoldable pub is_control_frame : List ℕ → Bool
-is_control_frame frame = starts_with nat_eq frame control_address
 
 abbrev pub is_control : Word → Bool
 is_control w = is_control_frame w.bytes

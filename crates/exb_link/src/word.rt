@@ -1,6 +1,7 @@
 //! What a link carries.
 ghost use Rattle.std.specs.Prelude.{◌≡◌};
 
+use exb_model::address::is_control_frame;
 use exb_model::bytes::Bytes;
 use exb_model::port::PortId;
 
@@ -20,17 +21,13 @@ pub struct Word {
     pub stamp: Option<Stamp>,
 }
 
-/// The destination of control frames.
-const CONTROL: [u8; 6] = [0x01, 0x80, 0xC2, 0x00, 0x00, 0x0E];
-
 impl Word {
     ghost use Rattle.exb_link.specs.Words.{is_control};
 
     /// Whether it is a control word: its destination is 01-80-C2-00-00-0E. Every other word is a data word.
-    #[tactic(auto, unfolding(crate::specs::Words::is_control_frame))]
     pub fn is_control(&self) -> bool
         ensures { result ≡ is_control self.now }
     {
-        self.bytes.as_slice().starts_with(&CONTROL)
+        is_control_frame(self.bytes.as_slice())
     }
 }

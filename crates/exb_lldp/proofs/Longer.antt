@@ -4,6 +4,7 @@ use Rattle.std.specs.Prelude.{nat_le}
 use Rattle.std.proofs.lemmas.Bool.{le-leb, leb-true}
 use Rattle.std.proofs.lemmas.List.{get_or_append_left, take-append-le, drop-append-le, length-drop}
 use Rattle.exb_model.specs.Frames.{number_at}
+use Rattle.exb_model.proofs.FrameKinds.{control_longer}
 use Rattle.exb_lldp.specs.declared.announce.Announce.{Announce}
 use Rattle.exb_lldp.specs.declared.announce.LldpFault.TheVariants.{NotLldp}
 use Rattle.exb_lldp.specs.declared.tlv.Place.TheVariants.{ChassisId}
@@ -81,7 +82,7 @@ lldp_longer : (frame more : List ℕ) → is_lldp frame ≡ true → is_lldp (fr
 lldp_longer frame more e =
     let long : 14 ≤ length frame = leb-true 14 (length frame) (and_true _ _ e).0 in
     let longer : nat_le 14 (length (frame ++ more)) ≡ true = le-leb 14 (length (frame ++ more)) (omega (arith, length-append frame more)) in
-    rw (longer, number_longer frame more 0 (omega arith), number_longer frame more 2 (omega arith), number_longer frame more 4 (omega arith), number_longer frame more 12 (omega arith)) (and_true _ _ e).1
+    rw (longer, control_longer frame more (omega arith), number_longer frame more 12 (omega arith)) (and_true _ _ e).1
 
 -- what tells an announcement is not cut
 not_cut : (misplaced cut count : Option ℕ) (chassis : List ℕ) (a : Announce) → announcing chassis (verdict misplaced cut count) ≡ Ok a → cut ≡ None

@@ -2,6 +2,7 @@
 use Rattle.std.proofs.Common.{◌≡◌, ℕ, ◌≤◌, true, List, [], ◌∷◌, length, get_or, Ok, refl, ap, sym, subst, arith}
 use Rattle.std.specs.Prelude.{nat_le}
 use Rattle.std.proofs.lemmas.Bool.{le-leb}
+use Rattle.exb_model.specs.Frames.{is_control_frame}
 use Rattle.exb_lldp.specs.declared.announce.Announce.{Announce}
 use Rattle.exb_lldp.specs.Tlvs.{tlv_in, tlvs_within, tlvs_from}
 use Rattle.exb_lldp.specs.Spelling.{CanBeAnnounced, spelling}
@@ -30,7 +31,7 @@ spelling_is a h = ap (λ m. spelling (record { chassis = record { 0 = m }; ports
 
 of_six : (a b c d e f ports : ℕ) → 1 ≤ ports → ports ≤ 64
     → announced (spelling (record { chassis = record { 0 = a ∷ b ∷ c ∷ d ∷ e ∷ f ∷ [] }; ports = ports })) ≡ Ok (record { chassis = record { 0 = a ∷ b ∷ c ∷ d ∷ e ∷ f ∷ [] }; ports = ports })
-unfolding announced tlvs_from tlvs_within tlv_in spelling
+unfolding announced is_control_frame tlvs_from tlvs_within tlv_in spelling
 of_six a b c d e f ports some few =
     let low : nat_le 1 ports ≡ true = le-leb 1 ports some in
     let high : nat_le ports 64 ≡ true = le-leb ports 64 few in

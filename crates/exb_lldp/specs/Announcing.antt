@@ -1,6 +1,6 @@
 -- What a frame announces, or its first fault.
 use Rattle.std.specs.Prelude.{ℕ, ◌==◌, ◌&&◌, Bool, List, [], ◌∷◌, length, Option, Some, None, Result, Ok, Err, nat_le, drop, if◌then◌else◌}
-use Rattle.exb_model.specs.Frames.{number_at}
+use Rattle.exb_model.specs.Frames.{is_control_frame, number_at}
 use Rattle.exb_lldp.specs.declared.announce.Announce.{Announce}
 use Rattle.exb_lldp.specs.declared.announce.LldpFault.{LldpFault}
 use Rattle.exb_lldp.specs.declared.announce.LldpFault.TheVariants.{NotLldp, Cut, Order, NoExtension}
@@ -10,7 +10,7 @@ use Rattle.exb_lldp.specs.Tlvs.{Tlv, Tlvs, tlvs_from, first_misplaced, first_cou
 
 -- the destination 01-80-C2-00-00-0E, and EtherType 88CC at byte 12
 abbrev pub is_lldp : List ℕ → Bool
-is_lldp frame = nat_le 14 (length frame) && ((number_at frame 0 == 384 && (number_at frame 2 == 49664 && number_at frame 4 == 14)) && number_at frame 12 == 35020)
+is_lldp frame = nat_le 14 (length frame) && (is_control_frame frame && number_at frame 12 == 35020)
 
 -- of the first misplaced TLV, the one that is cut and the first port count: all TLVs before the cut lie before it
 abbrev pub verdict : Option ℕ → Option ℕ → Option ℕ → Result ℕ LldpFault

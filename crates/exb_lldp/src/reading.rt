@@ -5,7 +5,11 @@ ghost use Rattle.exb_lldp.specs.Announcing.{is_lldp, announced, count_told};
 
 use crate::announce::{Announce, LldpFault};
 use crate::tlv::{END, Place, placed_at};
+use exb_model::address::is_control_frame;
+use exb_model::bytes::number_at;
 
+/// The EtherType of LLDP.
+const LLDP_TYPE: u16 = 0x88CC;
 /// Where the TLVs of a frame begin.
 const FIRST: usize = 14;
 
@@ -13,10 +17,10 @@ const FIRST: usize = 14;
 fn is_announcement(frame: &[u8]) -> bool
     ensures { result ≡ is_lldp frame.now }
 {
-    let [0x01, 0x80, 0xC2, 0x00, 0x00, 0x0E, rest @ ..] = frame else {
+    if frame.len() < FIRST {
         return false;
-    };
-    matches!(rest, [_, _, _, _, _, _, 0x88, 0xCC, ..])
+    }
+    is_control_frame(frame) && number_at(frame, 12) == LLDP_TYPE
 }
 
 /// The port count that the TLVs after a Time To Live tell.

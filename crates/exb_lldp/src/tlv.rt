@@ -6,6 +6,7 @@ ghost use Rattle.exb_lldp.specs.Readers.{Gives, tlv_of, placed_in};
 
 use crate::announce::LldpFault;
 use exb_model::address::Mac;
+use exb_model::bytes::number_at;
 
 /// The type of an End.
 pub const END: u8 = 0;
@@ -52,7 +53,7 @@ pub fn tlv_at(frame: &[u8], at: usize) -> Result<Tlv<'_>, LldpFault>
     if frame.len() - at < 2 {
         return Err(cut);
     }
-    let header = u16::from_be_bytes([frame[at], frame[at + 1]]);
+    let header = number_at(frame, at);
     let length = (header % 512) as usize;
     if frame.len() - at - 2 < length {
         return Err(cut);

@@ -6,6 +6,7 @@ ghost use Rattle.exb_lldp.specs.Announcing.{announced};
 
 use crate::announce::Announce;
 use crate::tlv::{CHASSIS_ID, CHASSIS_IS_MAC, END, PORT_ID, PORT_IS_LOCAL, SPECIFIC, TIME_TO_LIVE};
+use exb_model::address::CONTROL_ADDRESS;
 use exb_model::buffers::ControlBuf;
 
 /// Appends bytes for which there is room.
@@ -36,7 +37,7 @@ pub fn write(announce: &Announce, out: &mut ControlBuf)
 {
     let [a, b, c, d, e, f] = announce.chassis.0;
     out.clear();
-    append(out, &[0x01, 0x80, 0xC2, 0x00, 0x00, 0x0E]);
+    append(out, &CONTROL_ADDRESS);
     append(out, &[a, b, c, d, e, f]);
     append(out, &[0x88, 0xCC]);
     append_tlv(out, CHASSIS_ID, &[CHASSIS_IS_MAC, a, b, c, d, e, f]);

@@ -7,7 +7,9 @@ pub mod MaskLemmas
 pub mod TreeWays
 pub mod TreeLoops
 pub mod SharedPorts
+pub mod JoinedWords
 pub mod TreeOrder
 pub mod TreeHung
 pub mod TreeCovered
 pub mod Validity
+pub mod FrameKinds

@@ -1,10 +1,10 @@
 -- What hangs on a port, and the bridge port above an extender.
-use Rattle.std.proofs.Common.{List, ap, arith, false, inl, inr, length, nat_lt, slice_index, slice_set, subst, sym, true, ℕ, ◌&&◌, ◌+◌, ◌<◌, ◌==◌, ◌∙◌, ◌≡◌}
-use Rattle.std.proofs.lemmas.Bool.{and_from, and_parts, cases_eq, cases_lt, eqb-true, false_from_ne_true, false≢true, lt-ltb, ltb-true, not_from_false}
+use Rattle.std.proofs.Common.{List, ap, arith, false, inl, inr, length, nat_lt, not, slice_index, slice_set, subst, sym, true, ℕ, ◌&&◌, ◌+◌, ◌<◌, ◌≤◌, ◌==◌, ◌∙◌, ◌≡◌, refl}
+use Rattle.std.proofs.lemmas.Bool.{and_from, and_parts, cases_eq, cases_lt, eq-eqb, eqb-true, ne_eqb, false_from_ne_true, false≢true, lt-ltb, ltb-true, not_from_false}
 use Rattle.std.proofs.lemmas.List.{get_or-set_other, get_or-set_same, get_or_past, length-set}
 use Rattle.exb_model.specs.Tree.{Shape, on, HangsOn, IsTree, is_port, is_extender, is_cascade, is_external, top, trunk}
-use Rattle.exb_model.specs.TreeTables.{IsTopped}
-use Rattle.exb_model.proofs.TreeWays.{any_below-true}
+use Rattle.exb_model.specs.TreeTables.{IsHung, IsTopped}
+use Rattle.exb_model.proofs.TreeWays.{any_below-from, any_below-true}
 use Rattle.exb_model.proofs.TreeLoops.{trunk_is}
 
 pub cascade_hangs : (t : Shape) (p : ℕ) → is_cascade t p ≡ true → (n : ℕ) × HangsOn t n p
@@ -96,3 +96,23 @@ noted-out t below k none noted = (
   where
     there : (n p : ℕ) → HangsOn t n p → is_extender t n ≡ true
     there n p h = and_from (nat_lt 0 n) (nat_lt 0 (slice_index t.ports n)) (lt-ltb 0 n h.extender) (lt-ltb 0 (slice_index t.ports n) h.there)
+
+-- ---- what hangs on a port, as a test
+pub hung_cascade : (t : Shape) → IsTree t → (n p : ℕ) → HangsOn t n p → is_cascade t p ≡ true
+unfolding is_cascade
+hung_cascade t valid n p h =
+    let there : is_extender t n ≡ true = and_from (nat_lt 0 n) (nat_lt 0 (slice_index t.ports n)) (lt-ltb 0 n h.extender) (lt-ltb 0 (slice_index t.ports n) h.there) in
+    any_below-from (λ m. is_extender t m && on t m == p) 65 n (extender-low t valid n there) (and_from (is_extender t n) (on t n == p) there (eq-eqb (on t n) p h.at))
+
+pub noted_cascade : (t : Shape) (below : List ℕ) (p : ℕ) → IsTree t → IsHung t below → not (slice_index below p == 0) ≡ is_cascade t p
+noted_cascade t below p valid hung =
+    elim (cases_eq (slice_index below p) 0) [
+      | inl e ↦
+          let none : is_cascade t p ≡ false =
+          false_from_ne_true (is_cascade t p) (λ c. let found = cascade_hangs t p c in let is : slice_index below p ≡ found.0 = hung.found found.0 p found.1 in let some : 0 < found.0 = found.1.extender in omega (arith, is, some, e)) in
+          rw (eq-eqb (slice_index below p) 0 e, none) refl
+      | inr some ↦ rw (ne_eqb (slice_index below p) 0 some, hung_cascade t valid (slice_index below p) p (hung.there p (omega (arith, some)))) refl
+    ]
+
+pub past_devices : (t : Shape) → IsTree t → (n : ℕ) → 65 ≤ n → is_extender t n ≡ false
+past_devices t valid n past = false_from_ne_true (is_extender t n) (λ h. let low : n < 65 = extender-low t valid n h in omega (arith, low, past))

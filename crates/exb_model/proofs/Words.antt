@@ -82,3 +82,15 @@ pub fits-insert : (xs : List ℕ) (i k : ℕ) → ((n : ℕ) → slice_index xs 
     slice_index (set xs i (bit_or (get_or xs i 0) (1 * 2 ^ k % 2 ^ 64))) n < 2 ^ 64
 fits-insert xs i k all =
     fits-set xs i (bit_or (get_or xs i 0) (1 * 2 ^ k % 2 ^ 64)) (or_lt 64 (get_or xs i 0) (1 * 2 ^ k % 2 ^ 64) (all i) (mod_below (1 * 2 ^ k) (2 ^ 64) (omega arith))) all
+
+-- one word of a set alone
+pub has_port-of_device : (n : ℕ) (ws : List ℕ) (d q : ℕ) → d < n → has_port (set (replicate n 0) d (slice_index ws d)) q ≡ (q / 64 == d && has_port ws q)
+unfolding has_port
+has_port-of_device n ws d q low =
+    elim (cases_eq (q / 64) d) [
+      | inl e ↦ rw (e, eq-eqb d d refl, get_or-set_same (replicate n 0) d (slice_index ws d) 0 (rw length-replicate low)) refl
+      | inr other ↦ rw (ne_eqb (q / 64) d other, get_or-set_other (replicate n 0) d (q / 64) (slice_index ws d) 0 other, get_or-same {X = ℕ} n (q / 64) 0, bit_at-zero (q % 64)) refl
+    ]
+
+pub fits-of_device : (ws : List ℕ) (d : ℕ) → ((n : ℕ) → slice_index ws n < 2 ^ 64) → (n : ℕ) → slice_index (set (replicate 65 0) d (slice_index ws d)) n < 2 ^ 64
+fits-of_device ws d all = fits-set (replicate 65 0) d (slice_index ws d) (all d) fits-zeros

@@ -1,5 +1,6 @@
 -- Frames as lists of bytes (IEEE 802.1Q-2011, VLAN tag: clause 9; reserved addresses: clause 8.6.3).
-use Rattle.std.specs.Prelude.{ℕ, ◌+◌, ◌*◌, ◌/◌, ◌%◌, Bool, ◌==◌, ◌&&◌, nat_lt, if◌then◌else◌, List, [], ◌∷◌, ◌++◌, length, take, drop, slice_index}
+use Rattle.std.specs.Prelude.{ℕ, ◌+◌, ◌*◌, ◌/◌, ◌%◌, Bool, ◌==◌, ◌&&◌, nat_eq, nat_lt, if◌then◌else◌, List, [], ◌∷◌, ◌++◌, length, take, drop, slice_index}
+use Rattle.std.specs.List.{starts_with}
 use Rattle.exb_model.specs.declared.frame_kind.Seen.{Seen}
 use Rattle.exb_model.specs.declared.frame_kind.Seen.TheVariants as seen
 use Rattle.exb_model.specs.declared.vlan.Kind.{Kind}
@@ -18,6 +19,14 @@ abbrev pub is_reserved : List ℕ → Bool
 is_reserved f =
     slice_index f 0 == 1 && slice_index f 1 == 128 && slice_index f 2 == 194
     && slice_index f 3 == 0 && slice_index f 4 == 0 && nat_lt (slice_index f 5) 16
+
+-- 01-80-C2-00-00-0E
+abbrev pub control_address : List ℕ
+control_address = 1 ∷ 128 ∷ 194 ∷ 0 ∷ 0 ∷ 14 ∷ []
+
+-- the destination of a frame is that of control frames
+unfoldable pub is_control_frame : List ℕ → Bool
+is_control_frame f = starts_with nat_eq f control_address
 
 -- what a frame with the type 81 00 is, by its tag: PCP (3 bits), DEI (1), VID (12)
 abbrev pub kind_of_tag : ℕ → Seen

@@ -1,9 +1,18 @@
-//! Bytes on the heap.
-ghost use Rattle.std.specs.Prelude.{◌≡◌, IfOk};
+//! Bytes, and numbers among them.
+ghost use Rattle.std.specs.Prelude.{◌≡◌, ◌+◌, ◌<◌, length, IfOk};
+ghost use Rattle.exb_model.specs.Frames.{number_at};
 
 use crate::memory::NoMemory;
 use std::alloc::Global;
 use std::marker::Model;
+
+/// The 16 bits at a place, the higher byte first.
+pub fn number_at(bytes: &[u8], at: usize) -> u16
+    requires { at + 1 < length bytes.now }
+    ensures { result ≡ number_at bytes.now at }
+{
+    u16::from_be_bytes([bytes[at], bytes[at + 1]])
+}
 
 /// Bytes, seen as a list.
 #[derive(Debug, Drop)]

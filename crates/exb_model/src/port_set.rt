@@ -1,5 +1,5 @@
 //! Sets of ports.
-ghost use Rattle.std.specs.Prelude.{◌≡◌, ◌==◌, ℕ, ◌+◌, ◌*◌, ◌<◌, ◌^◌, ◌||◌, ◌&&◌, ◌↔◌, IsTrue, not, false, length, slice_index};
+ghost use Rattle.std.specs.Prelude.{◌≡◌, ◌==◌, ℕ, ◌+◌, ◌*◌, ◌/◌, ◌<◌, ◌^◌, ◌||◌, ◌&&◌, ◌↔◌, IsTrue, not, false, length, slice_index};
 
 use crate::port::PortId;
 
@@ -27,24 +27,21 @@ impl PortSet {
     pub fn contains(&self, port: PortId) -> bool
         ensures { result ≡ port_in self.now port }
     {
-        let number = port.number() as usize;
-        (self.words[number / 64] >> (number % 64)) & 1 == 1
+        (self.words[port.device() as usize] >> port.place()) & 1 == 1
     }
 
     /// Puts the port in.
     pub fn insert(&mut self, port: PortId)
         ensures { (q : ℕ) → port_in self.new q ≡ (q == port || port_in self.old q) }
     {
-        let number = port.number() as usize;
-        self.words[number / 64] |= 1 << (number % 64);
+        self.words[port.device() as usize] |= 1 << port.place();
     }
 
     /// Takes the port out.
     pub fn remove(&mut self, port: PortId)
         ensures { (q : ℕ) → port_in self.new q ≡ (not (q == port) && port_in self.old q) }
     {
-        let number = port.number() as usize;
-        self.words[number / 64] &= !(1 << (number % 64));
+        self.words[port.device() as usize] &= !(1 << port.place());
     }
 
     /// Whether two sets have the same ports.
@@ -62,6 +59,46 @@ impl PortSet {
         for device in 0..65usize {
             words[device] &= other.words[device];
         }
+        PortSet { words }
+    }
+
+    /// The ports that are in this set and not in the other one.
+    pub fn except(&self, other: &PortSet) -> PortSet
+        ensures { (q : ℕ) → port_in result q ≡ (port_in self.now q && not (port_in other.now q)) }
+    {
+        let mut words = [0; 65];
+        for device in 0..65usize {
+            words[device] = self.words[device] & !other.words[device];
+        }
+        PortSet { words }
+    }
+
+    /// Whether no port is in the set.
+    pub fn is_empty(&self) -> bool
+        ensures { IsTrue result ↔ ((q : ℕ) → port_in self.now q ≡ false) }
+    {
+        self.is_same(&PortSet::empty())
+    }
+
+    /// Whether each port of the set is in the wider one.
+    pub fn is_within(&self, wider: &PortSet) -> bool
+        ensures { IsTrue result ↔ ((q : ℕ) → IsTrue (port_in self.now q) → IsTrue (port_in wider.now q)) }
+    {
+        for device in 0..65usize {
+            if self.words[device] & wider.words[device] != self.words[device] {
+                return false;
+            }
+        }
+        true
+    }
+
+    /// The ports of the set that one device has, 0 for the bridge.
+    pub fn of_device(&self, device: u8) -> PortSet
+        requires { device < 65 }
+        ensures { (q : ℕ) → port_in result q ≡ (q / 64 == device && port_in self.now q) }
+    {
+        let mut words = [0; 65];
+        words[device as usize] = self.words[device as usize];
         PortSet { words }
     }
 

@@ -93,18 +93,6 @@ fn are_distinct(extenders: &[ExtenderSetup]) -> bool
     true
 }
 
-/// Whether each port of a set is in another one.
-fn is_within(set: &PortSet, wider: &PortSet) -> bool
-    ensures { IsTrue result ↔ ((q : ℕ) → IsTrue (port_in set.now q) → IsTrue (port_in wider.now q)) }
-{
-    for device in 0..65usize {
-        if set.words[device] & wider.words[device] != set.words[device] {
-            return false;
-        }
-    }
-    true
-}
-
 impl Command {
     /// Whether it may stand at the start: it names ports of this set alone, and makes none present or absent.
     fn is_start(&self, external: &PortSet) -> bool
@@ -115,7 +103,7 @@ impl Command {
                 vid: _,
                 tagged,
                 untagged,
-            } => is_within(tagged, external) && is_within(untagged, external),
+            } => tagged.is_within(external) && untagged.is_within(external),
             Command::Member {
                 vid: _,
                 port,
@@ -130,7 +118,7 @@ impl Command {
                 vid: _,
                 address: _,
                 ports,
-            } => is_within(ports, external),
+            } => ports.is_within(external),
             Command::Unstatic { vid: _, address: _ } => true,
             Command::Up { port: _ } => false,
             Command::Down { port: _ } => false,

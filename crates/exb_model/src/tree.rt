@@ -1,23 +1,20 @@
 //! The tree of extenders below the bridge.
-ghost use Rattle.std.specs.Prelude.{◌≡◌, ℕ, ◌+◌, ◌<◌, ◌≤◌, true, length, slice_index, IfOk};
+ghost use Rattle.std.specs.Prelude.{◌≡◌, ℕ, ◌+◌, ◌<◌, ◌≤◌, ◌&&◌, true, nat_lt, length, slice_index, IfOk};
 ghost use Rattle.exb_model.specs.Masks.{bits_of};
 ghost use Rattle.exb_model.specs.Ports.{port_in};
 ghost use Rattle.exb_model.specs.Setup.{shape_of, IsValid};
-ghost use Rattle.exb_model.specs.Tree.{HasRole, IsTree, by_depth, is_extender, trunk};
+ghost use Rattle.exb_model.specs.Tree.{HasRole, IsTree, by_depth, is_cascade, is_extended, is_extender, is_external, trunk};
 ghost use Rattle.exb_model.specs.TreeSets.{covers};
 
 use crate::layout::Layout;
 use crate::memory::NoMemory;
-use crate::port::PortId;
+use crate::port::{DEVICES, PORTS, PortId};
 use crate::port_set::PortSet;
 use crate::role::Role;
 use crate::setup::Setup;
 use crate::tree_tables::{hanging, known_ports, order_of, tops_of};
 use std::alloc::Global;
 use std::marker::Model;
-
-/// How many ports bridge and extenders have at most.
-const PORTS: usize = 4160;
 
 /// The tree of a setup: which ports there are, where each extender hangs, and what lies above a port. What
 /// is asked for each frame is looked up in a table.
@@ -29,6 +26,8 @@ pub struct Tree {
     tops: [u16; 65],
     /// The ports of the tree.
     known: PortSet,
+    /// Those of them on which no extender hangs.
+    external: PortSet,
     /// The extenders by depth and then number.
     order: Vec<u8>,
     /// The extender that hangs on a port, 0 for none.
@@ -43,7 +42,7 @@ impl Model for Tree {
 
     ghost view = { λ t. t.layout };
 
-    ghost invariant = { λ t. IsSound t.layout t.tops t.known.words t.order.items t.below.items };
+    ghost invariant = { λ t. IsSound t.layout t.tops t.known.words t.external.words t.order.items t.below.items };
 }
 
 impl Tree {
@@ -54,13 +53,15 @@ impl Tree {
     {
         let layout = Layout::new(setup);
         let order = order_of(alloc, &layout)?;
-        let below = hanging(alloc, &layout, PORTS)?;
+        let below = hanging(alloc, &layout, PORTS as usize)?;
         let tops = tops_of(&layout);
         let known = known_ports(&layout);
+        let external = layout.external(&layout.cascades());
         Ok(Tree {
             layout,
             tops,
             known,
+            external,
             order,
             below,
         })
@@ -84,6 +85,60 @@ impl Tree {
             0 => Role::External,
             extender => Role::Cascade { extender },
         }
+    }
+
+    /// Whether it is a port of the tree on which no extender hangs.
+    pub fn is_external(&self, port: PortId) -> bool
+        ensures { result ≡ is_external self.now port }
+    {
+        self.external.contains(port)
+    }
+
+    /// Whether it is an external port of an extender.
+    pub fn is_extended(&self, port: PortId) -> bool
+        ensures { result ≡ is_extended self.now port }
+    {
+        port.device() > 0 && self.is_external(port)
+    }
+
+    /// Whether an extender hangs on the port.
+    pub fn is_cascade(&self, port: PortId) -> bool
+        ensures { result ≡ is_cascade self.now port }
+    {
+        let below = self.below.as_slice();
+        below[port.number() as usize] != 0
+    }
+
+    /// Whether there is an extender of that number.
+    pub fn is_extender(&self, number: u8) -> bool
+        ensures { result ≡ is_extender self.now number }
+    {
+        let layout = &self.layout;
+        if number >= DEVICES {
+            return false;
+        }
+        layout.is_extender(u16::from(number))
+    }
+
+    /// The ports of the tree on which no extender hangs.
+    pub fn external_ports(&self) -> PortSet
+        ensures { (q : ℕ) → port_in result q ≡ is_external self.now q }
+    {
+        self.external
+    }
+
+    /// The external ports of the bridge itself.
+    pub fn local_ports(&self) -> PortSet
+        ensures { (q : ℕ) → port_in result q ≡ (nat_lt q 64 && is_external self.now q) }
+    {
+        self.external_ports().of_device(0)
+    }
+
+    /// The external ports of extenders.
+    pub fn extended_ports(&self) -> PortSet
+        ensures { (q : ℕ) → port_in result q ≡ is_extended self.now q }
+    {
+        self.external_ports().except(&self.local_ports())
     }
 
     /// The bridge port above an extender, 1 to 64.

@@ -6,7 +6,7 @@ ghost use Rattle.exb_model.specs.TreeTables.{IsHung, IsTopped};
 
 use crate::layout::Layout;
 use crate::memory::NoMemory;
-use crate::port::PortId;
+use crate::port::{PORTS, PortId};
 use crate::port_set::PortSet;
 use std::alloc::Global;
 
@@ -69,7 +69,7 @@ pub(crate) fn known_ports(layout: &Layout) -> PortSet
     ensures { (q : ℕ) → port_in result q ≡ is_port layout.now q }
 {
     let mut known = PortSet::empty();
-    for number in 0..4160u16 {
+    for number in 0..PORTS {
         if layout.is_port(number) {
             known.insert(PortId::new(number).unwrap());
         }

@@ -5,4 +5,4 @@ use Rattle.exb_model.proofs.port_set.PortSet.contains.Goals as goal
 
 pub returns : goal.returns
 unfolding has_port
-returns c = rw (c.number-number.ensures.value, shr_and_one (slice_index_or c.args.self.now.words (c.args.port / 64) 0) (c.args.port % 64))
+returns c = rw (c.device.ensures.value, c.place.ensures.value, shr_and_one (slice_index_or c.args.self.now.words (c.args.port / 64) 0) (c.args.port % 64))

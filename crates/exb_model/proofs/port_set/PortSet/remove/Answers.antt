@@ -3,4 +3,4 @@ use Rattle.exb_model.proofs.Words.{has_port-remove}
 use Rattle.exb_model.proofs.port_set.PortSet.remove.Goals as goal
 
 pub returns : goal.returns
-returns c q = rw c.number-number.ensures.value (has_port-remove c.args.self.now.words c.args.port q (omega arith))
+returns c q = rw (c.device.ensures.value, c.place.ensures.value) (has_port-remove c.args.self.now.words c.args.port q (omega arith))
