@@ -11,6 +11,7 @@ use Rattle.exb_shelf.specs.Files.{Files}
 use Rattle.exb_topology.specs.declared.topology.Topology.{Topology}
 use Rattle.exb_topology.specs.Seen.{Seen, seen, set_isolated, put_static, timed_view}
 use Rattle.exb_topology.specs.Topologies.{TopologySeen, topology_view, topology_of}
+use Rattle.exb_topology.proofs.Sound.{tree_alone, shape_alone}
 use Rattle.exb_run.specs.Words.{words_of}
 use Rattle.exb_run.specs.Inputs.{IsBuilt}
 use Rattle.exb_run.specs.Answers.{Asks}
@@ -76,14 +77,6 @@ captures_same t u e = ap (λ (v : TopologySeen). v.captures) e
 
 pub prefix_same : (t u : Topology) → topology_view t ≡ topology_view u → t.prefix ≡ u.prefix
 prefix_same t u e = ap (λ (v : TopologySeen). v.prefix) e
-
--- a setup of which only the tree is looked at
-abbrev pub tree_alone : ℕ → List ExtenderSetup → Setup
-tree_alone ports extenders = record { ports = ports; extenders = extenders; channels = 0; groups = 0; ageing = 0; start = [] }
-
-pub shape_alone : (s : Setup) → shape_of s ≡ shape_of (tree_alone s.ports s.extenders)
-unfolding shape_of
-shape_alone s = refl
 
 pub shape_same : (t u : Topology) → topology_view t ≡ topology_view u → shape_of t.setup ≡ shape_of u.setup
 shape_same t u e = shape_alone t.setup ∙ ap (λ (v : TopologySeen). shape_of (tree_alone v.ports v.extenders)) e ∙ sym (shape_alone u.setup)

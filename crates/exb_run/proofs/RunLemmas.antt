@@ -1,12 +1,14 @@
 -- The parts of a run make the whole.
 use Rattle.std.proofs.Common.{◌≡◌, ◌≢◌, ◌<◌, ◌++◌, ◌⊎◌, inl, inr, ℕ, List, Option, Some, None, Result, Ok, Err, ap, sym, ◌∙◌, refl, subst, arith}
-use Rattle.std.specs.Prelude.{String, IfOk, IfErr, IsErrOf, string_bytes, codes}
+use Rattle.std.specs.Prelude.{String, IfOk, IfErr, OnErr, IsErrOf, string_bytes, codes}
 use Rattle.std.specs.declared.alloc.Global.{Global}
 use Rattle.exb_model.specs.Setup.{shape_of}
 use Rattle.exb_model.specs.Tree.{Shape}
 use Rattle.exb_keys.specs.declared.faults.TopoFault.TheVariants as topology
 use Rattle.exb_keys.specs.Faults.{Refusal, not_toml, large, at}
 use Rattle.exb_shelf.specs.Files.{Files, SameFiles, AppendsFront}
+use Rattle.exb_shelf.specs.Shelf.{Id, Faults, Rose, Opens}
+use Rattle.exb_shelf.proofs.IdLemmas.{opens_weaker, opens_then}
 use Rattle.exb_topology.specs.declared.topology.Topology.{Topology}
 use Rattle.exb_topology.specs.Topologies.{topology_view, topology_of}
 use Rattle.exb_run.specs.declared.fault.Fault.{Fault}
@@ -18,7 +20,7 @@ use Rattle.exb_tables.specs.declared.rows.Named.{Named}
 use Rattle.exb_run.specs.Flaws.{AreGood, FirstFlaw, flaw_of_bytes, flaw_of, flaw_named, flaw_at, size_below}
 use Rattle.exb_run.proofs.FlawLemmas.{in_bytes}
 use Rattle.exb_run.specs.Reading.{IsRefused, IsOfTopology}
-use Rattle.exb_run.specs.Answers.{Asks, IsReady, Ran, OnlyAsked, Stops, StopsWith, IsFailure, CanBe, refused_by, IsFaultLine, IsLine, line_of, fault_line, fault_status, status_of}
+use Rattle.exb_run.specs.Answers.{Asks, IsReady, Ran, OnlyAsked, Stops, StopsWith, IsFailure, CanBe, refused_by, IsFaultLine, IsCause, IsLine, line_of, fault_line, fault_status, status_of}
 use Rattle.exb_run.proofs.Asking.{asks_once, shape_same, prefix_same}
 use Rattle.exb_run.proofs.Stopping.{stops_words, stops_other, stops_capture, stops_not, refused_stops, refused_once}
 
@@ -285,11 +287,47 @@ fault_says o s before after is more can says =
     let found = is_fault o s is more in
     (fault_line found.0, (found.0, can found.0 found.1, found.2, refl), says ∙ ap (λ (p : Outcome). before ++ line_of p) found.1)
 
-pub front_by : (o : Outcome) (words : List (List ℕ)) (f h : Files) (before after : List ℕ)
-    → IfOk o (λ line. Ran words f h (string_bytes line)) → ((x : Fault) → o ≡ Err x → CanBe x) → AppendsFront before after (line_of o)
-    → (line : List ℕ) × IsLine words f h line × AppendsFront before after line
-front_by (Ok line) words f h before after ran can front = (string_bytes line, inr ran, front)
-front_by (Err x) words f h before after ran can front = (fault_line x, inl (x, can x refl, refl), front)
+-- a failure with what the shelf counted
+cause_of : (o : Outcome) (words : List (List ℕ)) (f : Files) (a b : Faults) (x : Fault) → Stops words f x ⊎ IsFailure x → (x ≡ Read → Rose a.reads b.reads) → (x ≡ Write → Rose a.writes b.writes)
+    → IsCause words f a b x
+cause_of o words f a b x (inl stops) read write = inl stops
+cause_of o words f a b x (inr (inl is)) read write = inr (inl (is, read is))
+cause_of o words f a b x (inr (inr (inl is))) read write = inr (inr (inl (is, write is)))
+cause_of o words f a b x (inr (inr (inr is))) read write = inr (inr (inr is))
+
+pub front_by : (o : Outcome) (words : List (List ℕ)) (f h : Files) (a b : Faults) (before after : List ℕ)
+    → IfOk o (λ line. Ran words f h (string_bytes line)) → ((x : Fault) → o ≡ Err x → Stops words f x ⊎ IsFailure x)
+    → (IsErrOf o Read → Rose a.reads b.reads) → (IsErrOf o Write → Rose a.writes b.writes) → AppendsFront before after (line_of o)
+    → (line : List ℕ) × IsLine words f h a b line × AppendsFront before after line
+front_by (Ok line) words f h a b before after ran cause read write front = (string_bytes line, inr ran, front)
+front_by (Err x) words f h a b before after ran cause read write front =
+    (fault_line x, inl (x, cause_of (Err x) words f a b x (cause x refl) (λ is. read (ap (λ (y : Fault). Err y) is)) (λ is. write (ap (λ (y : Fault). Err y) is)), refl), front)
+
+-- what ran where all went well
+pub ran_by : (o : Outcome) (words : List (List ℕ)) (f h : Files) → IfOk o (λ line. Ran words f h (string_bytes line)) → status_of o ≡ 0 → (line : List ℕ) × Ran words f h line
+ran_by (Ok line) words f h ran zero = (string_bytes line, ran)
+ran_by (Err x) words f h ran zero = absurd (no_zero x zero)
+  where
+    no_zero : (y : Fault) → fault_status y ≡ 0 → ⊥
+    no_zero Usage e = omega arith
+    no_zero (Missing name) e = omega arith
+    no_zero (BadTopology fault) e = omega arith
+    no_zero NotBuilt e = omega arith
+    no_zero (Capture p flaw) e = omega arith
+    no_zero Read e = omega arith
+    no_zero Write e = omega arith
+    no_zero Memory e = omega arith
+
+-- an early end is none of a write or of memory
+pub early_end : (o : Outcome) (P : Type 0) → (o ≢ Err Write → o ≢ Err Memory → OnErr o P) → status_of o ≢ 0 → status_of o ≢ 1 → status_of o ≢ 7 → P
+early_end (Ok line) P early n0 n1 n7 = absurd (n0 refl)
+early_end (Err x) P early n0 n1 n7 = early (λ e. n7 (ap status_of e)) (λ e. n1 (ap status_of e))
+
+-- what is opened first, and then by a run that ends early
+pub opens_on : (o : Outcome) (P Q : Id → Type 0) (a b d : ℕ → Id) → Opens P a b → ((i : Id) → Q i → P i) → (o ≢ Err Write → o ≢ Err Memory → OnErr o (Opens Q b d))
+    → o ≢ Err Write → o ≢ Err Memory → OnErr o (Opens P a d)
+opens_on (Ok line) P Q a b d first so later nw nm = tt
+opens_on (Err x) P Q a b d first so later nw nm = opens_then P a b d first (opens_weaker Q P b d so (later nw nm))
 
 -- ---- completeness
 pub status_cases : (o : Outcome) (P : Type 0) → (status_of o ≡ 0 → P) → ((x : Fault) → o ≡ Err x → P) → P

@@ -14,6 +14,7 @@ use Rattle.exb_pcap.specs.declared.reader.PcapFault.TheVariants as pcap
 use Rattle.exb_shelf.specs.declared.shelf.ShelfFault.{ShelfFault}
 use Rattle.exb_shelf.specs.declared.shelf.ShelfFault.TheVariants as shelf
 use Rattle.exb_shelf.specs.Files.{Files}
+use Rattle.exb_shelf.specs.Shelf.{Faults, Rose}
 use Rattle.exb_topology.specs.declared.topology.Topology.{Topology}
 use Rattle.exb_topology.specs.Topologies.{topology_of, topology_view}
 use Rattle.exb_run.specs.declared.fault.Flaw.{Flaw}
@@ -198,6 +199,14 @@ StopsWith words file status = (fault : Fault) × Stops words file fault × (faul
 abbrev pub IsFaultLine : ℕ → List ℕ → Type 0
 IsFaultLine status line = (fault : Fault) × CanBe fault × (fault_status fault ≡ status) × (line ≡ fault_line fault)
 
--- a line that is printed: that of a fault, or a summary
-abbrev pub IsLine : List (List ℕ) → Files → Files → List ℕ → Type 0
-IsLine words old new line = ((fault : Fault) × CanBe fault × (line ≡ fault_line fault)) ⊎ Ran words old new line
+-- this ended the run: the first fault of what is asked for, a fault that the shelf counted, or want of memory
+abbrev pub IsCause : List (List ℕ) → Files → Faults → Faults → Fault → Type 0
+IsCause words file counted counts fault =
+    Stops words file fault
+    ⊎ ((fault ≡ Read) × Rose counted.reads counts.reads)
+    ⊎ ((fault ≡ Write) × Rose counted.writes counts.writes)
+    ⊎ (fault ≡ Memory)
+
+-- the line that was to be printed: that of what ended the run, or the summary
+abbrev pub IsLine : List (List ℕ) → Files → Files → Faults → Faults → List ℕ → Type 0
+IsLine words old new counted counts line = ((fault : Fault) × IsCause words old counted counts fault × (line ≡ fault_line fault)) ⊎ Ran words old new line

@@ -3,9 +3,10 @@ ghost use Rattle.std.specs.Prelude.{◌≡◌, ◌≢◌, ◌≤◌, ◌<◌, �
 ghost use Rattle.exb_model.specs.Ports.{all_ports};
 ghost use Rattle.exb_pcap.specs.Captures.{pcap_records};
 ghost use Rattle.exb_shelf.specs.Files.{SameFiles};
-ghost use Rattle.exb_shelf.specs.Shelf.{Rose, NoFewer};
+ghost use Rattle.exb_shelf.specs.Shelf.{IsReadingOf, Opens, Rose, NoFewer};
 ghost use Rattle.exb_run.specs.Inputs.{name_of, is_named, captures_of};
 ghost use Rattle.exb_run.specs.Flaws.{flaw_in, flaw_of_bytes, flaw_of, AreGood, FirstFlaw};
+ghost use Rattle.exb_run.specs.Opening.{ReadsCapture};
 ghost use Rattle.exb_run.specs.Reading.{contents, IsOfCapture};
 
 use crate::fault::{Fault, Flaw};
@@ -95,6 +96,7 @@ fn read_capture<S: Shelf>(
     ensures good { IfOk result (λ capture. flaw_of_bytes port capture.file.items before ≡ None) }
     ensures flaw { S.tells → IfErr result (λ fault. (flaw_of port name.now (S.file shelf.old name.now) before ≡ Some fault) ⊎ (fault ≡ Fault.Read) ⊎ (fault ≡ Fault.Memory)) }
     ensures causes { IfErr result IsOfCapture }
+    ensures opened { Opens (IsReadingOf name.now) (S.ids shelf.old) (S.ids shelf.new) }
     ensures files { SameFiles (S.file shelf.old) (S.file shelf.new) }
     ensures faults { NoFewer (S.faults shelf.old) (S.faults shelf.new) }
     ensures missing { (n : List ℕ) → result ≡ Err (Fault.Missing n) → Rose (S.faults shelf.old).missing (S.faults shelf.new).missing }
@@ -151,6 +153,7 @@ pub(crate) fn read_captures<S: Shelf>(
     ensures all { IfOk result (λ captures. sum_by (λ c. length c.file.items) captures.items ≤ 536_870_912) }
     ensures flaw { S.tells → IfErr result (λ fault. ((p : ℕ) × FirstFlaw names.now (S.file shelf.old) p fault) ⊎ (fault ≡ Fault.Read) ⊎ (fault ≡ Fault.Memory)) }
     ensures causes { IfErr result IsOfCapture }
+    ensures opened { Opens (ReadsCapture names.now) (S.ids shelf.old) (S.ids shelf.new) }
     ensures files { SameFiles (S.file shelf.old) (S.file shelf.new) }
     ensures faults { NoFewer (S.faults shelf.old) (S.faults shelf.new) }
     ensures missing { (n : List ℕ) → result ≡ Err (Fault.Missing n) → Rose (S.faults shelf.old).missing (S.faults shelf.new).missing }

@@ -3,7 +3,7 @@ ghost use Rattle.std.specs.Prelude.{◌≡◌, ◌≢◌, ◌++◌, ◌⊎◌, �
 ghost use Rattle.exb_model.specs.Setup.{IsValid, shape_of};
 ghost use Rattle.exb_model.specs.Tree.{is_external};
 ghost use Rattle.exb_shelf.specs.Files.{SameFiles, AppendsFront};
-ghost use Rattle.exb_shelf.specs.Shelf.{Rose, NoFewer};
+ghost use Rattle.exb_shelf.specs.Shelf.{IsReading, Opens, Rose, NoFewer};
 ghost use Rattle.exb_topology.specs.declared.topology.Topology.{Topology};
 ghost use Rattle.exb_run.specs.declared.fault.Flaw.{Flaw};
 ghost use Rattle.exb_run.specs.declared.fault.Fault.{Fault};
@@ -11,6 +11,7 @@ ghost use Rattle.exb_run.specs.Words.{words_of};
 ghost use Rattle.exb_run.specs.Inputs.{IsBuilt, input_of};
 ghost use Rattle.exb_run.specs.Outputs.{IsPlayed, OnlyOutputs};
 ghost use Rattle.exb_run.specs.Flaws.{AreGood, FirstFlaw};
+ghost use Rattle.exb_run.specs.Opening.{ReadsCapture, IsWanted};
 ghost use Rattle.exb_run.specs.Answers.{Ran, IsReady, OnlyAsked, Stops, StopsWith, IsFailure, CanBe, fault_status, fault_line, IsFaultLine, IsLine, IsStatus};
 
 use crate::built::is_built;
@@ -49,6 +50,7 @@ fn run_topology<S: Shelf>(
     ensures early { result ≢ Err Fault.Write → result ≢ Err Fault.Memory → OnErr result (SameFiles (S.file shelf.old) (S.file shelf.new)) }
     ensures stopped { S.tells → (p : ℕ) (fault : Fault) → FirstFlaw topology.now.captures (S.file shelf.old) p fault → SameFiles (S.file shelf.old) (S.file shelf.new) }
     ensures others { S.tells → OnlyOutputs (shape_of topology.now.setup) topology.now.prefix (S.file shelf.old) (S.file shelf.new) }
+    ensures opened { result ≢ Err Fault.Write → result ≢ Err Fault.Memory → OnErr result (Opens (ReadsCapture topology.now.captures) (S.ids shelf.old) (S.ids shelf.new)) }
 
     ensures faults { NoFewer (S.faults shelf.old) (S.faults shelf.new) }
     ensures missing { (n : List ℕ) → result ≡ Err (Fault.Missing n) → Rose (S.faults shelf.old).missing (S.faults shelf.new).missing }
@@ -82,6 +84,8 @@ fn work<S: Shelf>(alloc: Global, words: &[String], shelf: &mut S) -> Result<Stri
     ensures nothing { words_of (map string_bytes words.now) ≡ None → SameFiles (S.file shelf.old) (S.file shelf.new) }
     ensures stopped { S.tells → (fault : Fault) → Stops (map string_bytes words.now) (S.file shelf.old) fault → SameFiles (S.file shelf.old) (S.file shelf.new) }
     ensures others { S.tells → OnlyAsked (map string_bytes words.now) (S.file shelf.old) (S.file shelf.new) }
+    ensures reads { result ≢ Err Fault.Write → result ≢ Err Fault.Memory → OnErr result (Opens IsReading (S.ids shelf.old) (S.ids shelf.new)) }
+    ensures wanted { S.tells → result ≢ Err Fault.Write → result ≢ Err Fault.Memory → OnErr result (Opens (IsWanted (map string_bytes words.now) (S.file shelf.old)) (S.ids shelf.old) (S.ids shelf.new)) }
 
     ensures faults { NoFewer (S.faults shelf.old) (S.faults shelf.new) }
     ensures missing { (n : List ℕ) → result ≡ Err (Fault.Missing n) → Rose (S.faults shelf.old).missing (S.faults shelf.new).missing }
@@ -104,6 +108,7 @@ fn work<S: Shelf>(alloc: Global, words: &[String], shelf: &mut S) -> Result<Stri
 /// Does all that the program does, by its words without the program's name, and answers its status.
 pub fn run<S: Shelf, O: Sink>(alloc: Global, words: &[String], shelf: &mut S, out: &mut O) -> u8
     // At status 0 all was read, played and written, and the sink got the summary and nothing else.
+    ensures ran { S.tells → result ≡ 0 → (line : List ℕ) × Ran (map string_bytes words.now) (S.file shelf.old) (S.file shelf.new) line }
     ensures headline { S.tells → O.tells → result ≡ 0 → (line : List ℕ) × Ran (map string_bytes words.now) (S.file shelf.old) (S.file shelf.new) line × (O.text out.new ≡ O.text out.old ++ line) }
 
     // 2: exactly where the words are not accepted.
@@ -134,13 +139,18 @@ pub fn run<S: Shelf, O: Sink>(alloc: Global, words: &[String], shelf: &mut S, ou
     ensures six_says { O.tells → result ≡ 6 → O.text out.new ≡ O.text out.old ++ codes "exbr: read fault\n" }
     ensures seven_says { O.tells → result ≡ 7 → ¬ Rose (O.faults out.old) (O.faults out.new) → O.text out.new ≡ O.text out.old ++ codes "exbr: write fault\n" }
     ensures eight_says { O.tells → result ≡ 8 → O.text out.new ≡ O.text out.old ++ codes "exbr: not built\n" }
-    ensures front { S.tells → O.tells → (line : List ℕ) × IsLine (map string_bytes words.now) (S.file shelf.old) (S.file shelf.new) line × AppendsFront (O.text out.old) (O.text out.new) line }
+    ensures front { S.tells → O.tells → (line : List ℕ) × IsLine (map string_bytes words.now) (S.file shelf.old) (S.file shelf.new) (S.faults shelf.old) (S.faults shelf.new) line × AppendsFront (O.text out.old) (O.text out.new) line }
 
     // What stays.
     ensures early { result ≢ 0 → result ≢ 1 → result ≢ 7 → SameFiles (S.file shelf.old) (S.file shelf.new) }
     ensures refused { words_of (map string_bytes words.now) ≡ None → SameFiles (S.file shelf.old) (S.file shelf.new) }
     ensures stopped { S.tells → (fault : Fault) → Stops (map string_bytes words.now) (S.file shelf.old) fault → SameFiles (S.file shelf.old) (S.file shelf.new) }
     ensures others { S.tells → OnlyAsked (map string_bytes words.now) (S.file shelf.old) (S.file shelf.new) }
+
+    // Which files are opened where none is made: those that are read, and these are the topology that the words
+    // name and, where it can be played, the captures that it names.
+    ensures reads { result ≢ 0 → result ≢ 1 → result ≢ 7 → Opens IsReading (S.ids shelf.old) (S.ids shelf.new) }
+    ensures wanted { S.tells → result ≢ 0 → result ≢ 1 → result ≢ 7 → Opens (IsWanted (map string_bytes words.now) (S.file shelf.old)) (S.ids shelf.old) (S.ids shelf.new) }
 
     // With no fault of what is asked for, and none of shelf or sink, it does all, or memory ran out.
     ensures complete { S.tells → (topology : Topology) → IsReady (map string_bytes words.now) (S.file shelf.old) topology

@@ -3,7 +3,7 @@ ghost use Rattle.std.specs.Prelude.{◌≡◌, ◌≢◌, ◌⊎◌, ℕ, List, 
 ghost use Rattle.exb_model.specs.Setup.{IsValid, shape_of};
 ghost use Rattle.exb_model.specs.Tree.{is_external};
 ghost use Rattle.exb_shelf.specs.Files.{SameFiles};
-ghost use Rattle.exb_shelf.specs.Shelf.{Rose, NoFewer};
+ghost use Rattle.exb_shelf.specs.Shelf.{IsReadingOf, Opens, Rose, NoFewer};
 ghost use Rattle.exb_topology.specs.Topologies.{topology_of, topology_view};
 ghost use Rattle.exb_run.specs.Answers.{fault_by};
 ghost use Rattle.exb_run.specs.Reading.{IsRefusal, IsRefused, IsOfTopology};
@@ -34,7 +34,6 @@ fn refused(fault: TopoFault) -> Fault
 }
 
 /// What a topology file says.
-#[tactic(auto, using(crate::proofs::Refusing::captures_external))]
 fn parse(alloc: Global, file: &[u8]) -> Result<Topology, Fault>
     ensures read { IfOk result (λ topology. topology_of file.now ≡ Ok (topology_view topology)) }
     ensures valid { IfOk result (λ topology. IsValid topology.setup) }
@@ -53,6 +52,7 @@ fn read_bytes<S: Shelf>(alloc: Global, shelf: &mut S, name: &str) -> Result<Vec<
     ensures there { S.tells → IfOk result (λ file. S.file shelf.old name.now ≡ Some file.items) }
     ensures refused { S.tells → IfErr result (λ fault. IsRefused name.now (S.file shelf.old name.now) fault ⊎ (fault ≡ Fault.Read) ⊎ (fault ≡ Fault.Memory)) }
     ensures causes { IfErr result IsOfTopology }
+    ensures opened { Opens (IsReadingOf name.now) (S.ids shelf.old) (S.ids shelf.new) }
     ensures files { SameFiles (S.file shelf.old) (S.file shelf.new) }
     ensures faults { NoFewer (S.faults shelf.old) (S.faults shelf.new) }
     ensures missing { (n : List ℕ) → result ≡ Err (Fault.Missing n) → Rose (S.faults shelf.old).missing (S.faults shelf.new).missing }
@@ -81,6 +81,7 @@ pub(crate) fn read_topology<S: Shelf>(
     ensures external { IfOk result (λ topology. All (λ x. is_external (shape_of topology.setup) x.port ≡ true) topology.captures) }
     ensures refused { S.tells → IfErr result (λ fault. IsRefused name.now (S.file shelf.old name.now) fault ⊎ (fault ≡ Fault.Read) ⊎ (fault ≡ Fault.Memory)) }
     ensures causes { IfErr result IsOfTopology }
+    ensures opened { Opens (IsReadingOf name.now) (S.ids shelf.old) (S.ids shelf.new) }
     ensures files { SameFiles (S.file shelf.old) (S.file shelf.new) }
     ensures faults { NoFewer (S.faults shelf.old) (S.faults shelf.new) }
     ensures missing { (n : List ℕ) → result ≡ Err (Fault.Missing n) → Rose (S.faults shelf.old).missing (S.faults shelf.new).missing }

@@ -5,6 +5,7 @@ use Rattle.exb_pcap.specs.Captures.{pcap_records}
 use Rattle.exb_run.specs.declared.captures.Capture.{Capture}
 use Rattle.exb_run.specs.Inputs.{name_of, is_named}
 use Rattle.exb_run.specs.Flaws.{flaw_of, flaw_of_bytes, size_below}
+use Rattle.exb_shelf.proofs.IdLemmas.{opens_none, opens_weaker, opens_then}
 use Rattle.exb_run.proofs.FlawLemmas.{IsGood, no_flaw, flaw_nowhere, size_nowhere, flaw_here, size_here, bytes_here, contents_none, contents_same, contents_more, is_named_by, all_more}
 use Rattle.exb_run.proofs.captures.read_captures.Goals as goal
 
@@ -19,6 +20,7 @@ reading-init g c =
       named = search (rules, empty);
       whole = search (rules, empty);
       all = search (rules, empty);
+      opened = opens_none _ _;
       files = λ n. refl;
       faults = search rules;
     }
@@ -39,6 +41,7 @@ reading-preserved-in_default g c =
       named = inv.named;
       whole = inv.whole;
       all = inv.all;
+      opened = inv.opened;
       files = inv.files;
       faults = inv.faults;
     }
@@ -96,6 +99,14 @@ reading-preserved g c =
       whole = all_more (λ (x : Capture). IsOk (pcap_records x.file.items)) _ _ capture pushed inv.whole fine.whole;
       all = ap (λ (xs : List Capture). sum_by (λ x. length x.file.items) xs) pushed ∙ sum_by_push (λ x. length x.file.items) c.reading.captures.items capture
           ∙ ap (λ (n : ℕ). n + length bytes) inv.all ∙ ap (λ (n : ℕ). c.reading.size + n) (sym more);
+      opened = opens_then _ _ _ _ inv.opened (opens_weaker _ _ _ _ (λ i reads. record { port = p; name = name; named = named; reads = reads }) c.in-Ok.ensures.opened);
       files = λ m. c.in-Ok.ensures.files m ∙ inv.files m;
       faults = search (arith, c.in-Ok.ensures.faults, inv.faults);
     }
+
+pub returns-in-Err-clause-opened : goal.returns-in-Err-clause-opened
+returns-in-Err-clause-opened g c =
+    let inv = c.reading.invariant in
+    let names = c.args.names.now in
+    let named : name_of names c.reading.number ≡ Some c.in-Some.name.now = ap (name_of names) (sym c.port_of-port.ensures) ∙ c.in-Some.ensures.found in
+    opens_then _ _ _ _ inv.opened (opens_weaker _ _ _ _ (λ i reads. record { port = c.reading.number; name = c.in-Some.name.now; named = named; reads = reads }) c.in-Err.ensures.opened)

@@ -3,9 +3,10 @@ use Rattle.std.specs.Prelude.{All, IsOk}
 use Rattle.exb_model.specs.Ports.{below}
 use Rattle.exb_pcap.specs.Captures.{pcap_records}
 use Rattle.exb_shelf.specs.Files.{SameFiles}
-use Rattle.exb_shelf.specs.Shelf.{NoFewer}
+use Rattle.exb_shelf.specs.Shelf.{Opens, NoFewer}
 use Rattle.exb_run.specs.Inputs.{captures_of, is_named}
 use Rattle.exb_run.specs.Flaws.{flaw_at, size_below}
+use Rattle.exb_run.specs.Opening.{ReadsCapture}
 use Rattle.exb_run.specs.Reading.{contents}
 use Rattle.exb_run.proofs.captures.read_captures.Given as goal
 
@@ -20,6 +21,7 @@ invariant-reading g l =
       named : All (λ c. is_named l.names c.port ≡ true) l.captures.items;
       whole : All (λ c. IsOk (pcap_records c.file.items)) l.captures.items;
       all : sum_by (λ c. length c.file.items) l.captures.items ≡ l.size;
+      opened : Opens (ReadsCapture l.names) (S.ids l.fn.shelf) (S.ids l.shelf);
       files : SameFiles (S.file l.fn.shelf) (S.file l.shelf);
       faults : NoFewer (S.faults l.fn.shelf) (S.faults l.shelf);
     }

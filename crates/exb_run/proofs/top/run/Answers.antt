@@ -1,6 +1,6 @@
 use Rattle.std.proofs.Common.{◌≡◌, ◌≢◌, ◌++◌, ◌∙◌, inl, inr, ℕ, List, Err, sym, ap, arith}
 use Rattle.exb_run.specs.Answers.{status_of, line_of}
-use Rattle.exb_run.proofs.RunLemmas.{is_usage, is_read, is_not_built, write_or_not, stop_not_one, stop_not_six, stop_not_seven, stops_with, fault_says, usage_line, read_line, write_line, not_built_line, front_by, ready_not, status_cases, Outcome}
+use Rattle.exb_run.proofs.RunLemmas.{is_usage, is_read, is_not_built, write_or_not, stop_not_one, stop_not_six, stop_not_seven, stops_with, fault_says, usage_line, read_line, write_line, not_built_line, front_by, ran_by, early_end, ready_not, status_cases, Outcome}
 use Rattle.exb_run.proofs.top.run.Goals as goal
 
 pub returns-clause-three : goal.returns-clause-three
@@ -99,7 +99,20 @@ returns-clause-eight_says g c = λ t e.
     c.report.ensures.whole t n1 n7 ∙ ap (λ (xs : List ℕ). g.O.Sink.text c.args.out.now ++ xs) (not_built_line c.work-outcome.result is)
 
 pub returns-clause-front : goal.returns-clause-front
-returns-clause-front g c = λ t o. front_by c.work-outcome.result _ _ _ _ _ (c.work-outcome.ensures.done t) c.work-outcome.ensures.can_be (c.report.ensures.front o)
+returns-clause-front g c = λ t o. front_by c.work-outcome.result _ _ _ (g.S.Shelf.faults c.args.shelf.now) (g.S.Shelf.faults c.work-outcome.new.shelf) _ _ (c.work-outcome.ensures.done t) (c.work-outcome.ensures.cause t) c.work-outcome.ensures.read c.work-outcome.ensures.write (c.report.ensures.front o)
+
+pub returns-clause-ran : goal.returns-clause-ran
+returns-clause-ran g c = λ t e. ran_by c.work-outcome.result _ _ _ (c.work-outcome.ensures.done t) (sym (c.report.ensures.status (λ h. omega arith) (λ h. omega arith)) ∙ e)
+
+pub returns-clause-reads : goal.returns-clause-reads
+returns-clause-reads g c = λ n0 n1 n7.
+    let is : c.report.result ≡ status_of c.work-outcome.result = c.report.ensures.status n1 n7 in
+    early_end c.work-outcome.result _ c.work-outcome.ensures.reads (λ e. n0 (is ∙ e)) (λ e. n1 (is ∙ e)) (λ e. n7 (is ∙ e))
+
+pub returns-clause-wanted : goal.returns-clause-wanted
+returns-clause-wanted g c = λ t n0 n1 n7.
+    let is : c.report.result ≡ status_of c.work-outcome.result = c.report.ensures.status n1 n7 in
+    early_end c.work-outcome.result _ (c.work-outcome.ensures.wanted t) (λ e. n0 (is ∙ e)) (λ e. n1 (is ∙ e)) (λ e. n7 (is ∙ e))
 
 pub returns-clause-complete : goal.returns-clause-complete
 returns-clause-complete g c = λ t topology ready no_reads no_writes no_out n1.

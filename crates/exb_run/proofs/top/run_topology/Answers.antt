@@ -11,9 +11,11 @@ use Rattle.exb_run.specs.declared.captures.Capture.{Capture}
 use Rattle.exb_run.specs.Inputs.{input_of, captures_of}
 use Rattle.exb_run.specs.Outputs.{HasPlayed, OnlyPlanned}
 use Rattle.exb_run.specs.Playing.{CanBePlayed, stream_in}
+use Rattle.exb_shelf.specs.Shelf.{Opens}
+use Rattle.exb_run.specs.Opening.{ReadsCapture}
 use Rattle.exb_run.specs.Reading.{contents}
 use Rattle.exb_run.proofs.BuiltLemmas.{is_single}
-use Rattle.exb_run.proofs.Running.{files_same, only_by, played_by, can_be_played, if_ok_map}
+use Rattle.exb_run.proofs.Running.{files_same, only_by, played_by, can_be_played, early_by, if_ok_map}
 use Rattle.exb_run.proofs.Taking.{comes_merged}
 use Rattle.exb_run.proofs.top.run_topology.Goals as goal
 
@@ -62,3 +64,9 @@ returns-clause-others g c tells =
     let i : Input = input_of t before in
     only_by i plan t.prefix (c.in-Ok-new.ensures.prefix ∙ c.as_str.ensures) c.in-Ok-new.ensures.tree before after
     (subst (λ (f : Files). OnlyPlanned plan f after) (files_same before read c.in-Ok.ensures.files) (c.play.ensures.others tells))
+
+pub returns-in-Err-clause-opened : goal.returns-in-Err-clause-opened
+returns-in-Err-clause-opened g c = λ nw nm. subst (λ (names : List Named). Opens (ReadsCapture names) (g.S.Shelf.ids c.args.shelf.now) (g.S.Shelf.ids c.read_captures.new.shelf)) c.as_slice.ensures c.in-Err.ensures.opened
+
+pub returns-clause-opened : goal.returns-clause-opened
+returns-clause-opened g c = early_by c.play.result _ c.play.ensures.causes
