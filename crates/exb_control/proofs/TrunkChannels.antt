@@ -12,7 +12,7 @@ use Rattle.exb_numbers.specs.Spaces.{Spaces, has_space, channels_at}
 use Rattle.exb_plans.specs.Held.{Held, channel_in}
 use Rattle.exb_plan.specs.Spaces.{held_by}
 use Rattle.exb_plans.specs.Held.{is_place, in_spaces}
-use Rattle.exb_control.proofs.FirstJobs.{hung}
+use Rattle.exb_model.proofs.TreeHung.{hung_cascade}
 use Rattle.exb_control.proofs.Known.{extender_low}
 use Rattle.exb_control.specs.Controls.{channel_at_trunk}
 
@@ -29,10 +29,10 @@ pub trunk_cascade : (t : Shape) → IsTree t → (n : ℕ) → is_extender t n �
 trunk_cascade t tree n e =
     let h = hangs_there t n e in
     elim (cases_lt (on t n) 64) [
-      | inl low ↦ rw (trunk_is t n, top_low t 63 (on t n) low) (hung t n (on t n) (extender_low t tree n e) h)
+      | inl low ↦ rw (trunk_is t n, top_low t 63 (on t n) low) (hung_cascade t tree n (on t n) h)
       | inr high ↦
           let up = top_hangs t tree 63 (on t n) high (tree.on_port n h.extender h.there) (tree.rooted n h.extender h.there) in
-          rw (trunk_is t n) (hung t up.0 _ (let few = number_at_most t tree up.0 _ up.1 in omega arith) up.1)
+          rw (trunk_is t n) (hung_cascade t tree up.0 _ up.1)
     ]
 
 -- ---- what is held there

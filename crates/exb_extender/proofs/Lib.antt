@@ -5,3 +5,4 @@ pub mod MachineLemmas
 pub mod AllLemmas
 pub mod CodeLemmas
 pub mod KeepsLemmas
+pub mod OwnFrames

@@ -1,13 +1,14 @@
 -- The laws of this crate.
-use Rattle.std.specs.Prelude.{◌≡◌, ◌≢◌, ◌↔◌, ◌⊎◌, ℕ, ◌<◌, ◌≤◌, ◌++◌, Bool, true, List, ◌∷◌}
+use Rattle.std.specs.Prelude.{◌≡◌, ◌≢◌, ◌↔◌, ◌⊎◌, ℕ, ◌<◌, ◌≤◌, ◌||◌, ◌++◌, Bool, true, List, ◌∷◌, length, All}
 use Rattle.exb_model.specs.ExtenderForwarding.{emits}
 use Rattle.exb_csp.specs.declared.group_rows.GroupRow.{GroupRow}
 use Rattle.exb_csp.specs.declared.message.Request.TheVariants.{PortCreate, PortDelete, Register, Unregister, RegisterMany}
 use Rattle.exb_csp.specs.Execute.{ExtenderTables, in_mask, code_of, row_code}
 use Rattle.exb_csp.specs.Spelling.{IsBytes}
 use Rattle.exb_csp.specs.AllTables.{tables_at, port_of}
-use Rattle.exb_extender.specs.Forwarding.{forwarding_of}
-use Rattle.exb_extender.specs.Machine.{ExtenderState, Input, Arrives, Beats, react, IsSameDevice, IsExtender, at_power_on}
+use Rattle.exb_extender.specs.declared.sends.Side.TheVariants.{Up}
+use Rattle.exb_extender.specs.Forwarding.{Sent, is_bare_control, forwarding_of}
+use Rattle.exb_extender.specs.Machine.{hears, beats, ExtenderState, Input, Arrives, Beats, react, IsSameDevice, IsExtender, at_power_on}
 
 -- What an extender sends at a port of a frame from upstream is what the tables of all extenders say of that port.
 abbrev pub EmitsOfAll : Type 0
@@ -83,3 +84,17 @@ pub record StaysExtender : Type 0 where
   pub begins : (number ports : ℕ) → 1 ≤ number → number ≤ 64 → 1 ≤ ports → ports ≤ 64 → IsExtender (at_power_on number ports)
   pub keeps : (i : Input) (s : ExtenderState) → IsInput i → IsExtender s → IsExtender (react i s).0
   pub device : (i : Input) (s : ExtenderState) → IsSameDevice s (react i s).0
+
+-- ---- the extender's own frames
+
+-- a frame that goes up: a control frame without an E-TAG, for which one buffer has room
+pub record IsOwnFrame (x : Sent) : Type 0 where
+  pub side : x.side ≡ Up
+  pub control : is_bare_control x.bytes ≡ true
+  pub few : length x.bytes ≤ 1100
+
+-- What an extender sends of its own is such a frame: acknowledgements and answers where it hears a control
+-- frame, and at a beat announcements and answers again.
+pub record SendsControl : Type 0 where
+  pub hears : (f : List ℕ) (s : ExtenderState) → IsExtender s → All IsOwnFrame (hears f s).1
+  pub beats : (s : ExtenderState) → IsExtender s → All IsOwnFrame (beats s).1

@@ -1,5 +1,5 @@
 //! Laws of the machine, and of the tables of all extenders.
-ghost use Rattle.exb_extender.specs.Laws.{EmitsOfAll, CodesExactly, ManyCodes, StaysExtender};
+ghost use Rattle.exb_extender.specs.Laws.{EmitsOfAll, CodesExactly, ManyCodes, StaysExtender, SendsControl};
 
 /// What an extender sends at a port of a frame from upstream is what the tables of all extenders say of that
 /// port.
@@ -22,4 +22,10 @@ pub fn many_codes()
 /// What holds of an extender at power-on holds after each reaction, and its number and its ports stay.
 pub fn stays_extender()
     ensures { StaysExtender }
+{}
+
+/// What an extender sends of its own, announcements, acknowledgements and answers, are control frames
+/// without an E-TAG that go up, of at most 1,100 bytes.
+pub fn sends_control()
+    ensures { SendsControl }
 {}
