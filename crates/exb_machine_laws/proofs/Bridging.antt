@@ -6,7 +6,7 @@ use Rattle.std.proofs.lemmas.List.{get_or-take}
 use Rattle.std.proofs.lemmas.Bool.{false≢true, cases_Bool, and_parts, eqb-true}
 use Rattle.exb_model.specs.Tree.{Shape, IsTree, on, is_extender, is_external}
 use Rattle.exb_model.specs.Setup.{Limits}
-use Rattle.exb_model.specs.Frames.{kind_of, egress}
+use Rattle.exb_model.specs.Frames.{kind_of, egress, is_control_frame, control_address}
 use Rattle.exb_model.specs.ETags.{Tag, read_etag, tagged, stripped}
 use Rattle.exb_model.specs.Input.{Arrival}
 use Rattle.exb_model.specs.declared.event.Event.{Event}
@@ -17,10 +17,10 @@ use Rattle.exb_frame.specs.TagValues.{TagRoundTrip, tag_of}
 use Rattle.exb_frame.specs.declared.etag.ETag.{ETag}
 use Rattle.exb_csp.specs.declared.message.Body.{Body}
 use Rattle.exb_csp.specs.Spelling.{IsBytes}
-use Rattle.exb_extender.specs.Forwarding.{is_to_control, has_etag_type, channel_tag}
+use Rattle.exb_extender.specs.Forwarding.{has_etag_type, channel_tag}
 use Rattle.exb_link.specs.declared.word.Stamp.{Stamp}
 use Rattle.exb_link.specs.declared.word.Word.{Word}
-use Rattle.exb_link.specs.Words.{control_address, is_control_frame, is_control}
+use Rattle.exb_link.specs.Words.{is_control}
 use Rattle.exb_plans.specs.Held.{Held}
 use Rattle.exb_relay.specs.declared.send.SendTo.{SendTo}
 use Rattle.exb_machine.specs.Worlds.{World, with_table}
@@ -69,22 +69,6 @@ each_drop (suc n) (b ∷ f) all = each_drop n f all.1
 pub stripped_bytes : (f : List ℕ) → IsBytes f → IsBytes (stripped f)
 stripped_bytes f bytes = let all = each_byte f bytes in byte_each (stripped f) (each_append (λ (b : ℕ). b < 256) (take 12 f) (drop 20 f) (each_take 12 f all) (each_drop 20 f all))
 
-same_bytes : (xs ys : List ℕ) → pointwise nat_eq xs ys ≡ true → xs ≡ ys
-same_bytes [] [] e = refl
-same_bytes [] (y ∷ ys) e = absurd (false≢true e)
-same_bytes (x ∷ xs) [] e = absurd (false≢true e)
-same_bytes (x ∷ xs) (y ∷ ys) e =
-    let p = and_parts (nat_eq x y) (pointwise nat_eq xs ys) e in
-    ap (λ (z : ℕ). z ∷ xs) (eqb-true x y p.0) ∙ ap (λ (zs : List ℕ). y ∷ zs) (same_bytes xs ys p.1)
-
--- a control word has the destination of control frames
-pub controls : (f : List ℕ) → is_control_frame f ≡ true → is_to_control f ≡ true
-unfolding is_control_frame
-controls f e =
-    let is : control_address ≡ take 6 f = same_bytes control_address (take 6 f) e in
-    let byte : (i : ℕ) → i < 6 → get_or f i 0 ≡ get_or control_address i 0 = λ i l. sym (get_or-take 6 f i 0 l) ∙ ap (λ (x : List ℕ). get_or x i 0) (sym is) in
-    rw (byte 0 (omega arith), byte 1 (omega arith), byte 2 (omega arith), byte 3 (omega arith), byte 4 (omega arith), byte 5 (omega arith)) refl
-
 each_all : {A : Type 0} (xs : List A) → Each (λ x. Unit {0}) xs
 each_all [] = tt
 each_all (x ∷ xs) = (tt, each_all xs)
@@ -104,16 +88,16 @@ arrival_jobs b a =
 
 module _ (t : Shape) (l : Limits) (tree : IsTree t) (setting : IsSetting t l) (round : TagRoundTrip) where
   -- ---- a frame is relayed
-  module _ (h : Held) (P Q : ℕ → ℕ → Body → Type 0) (a : Arrival) (long : 12 ≤ length a.bytes) (plain : is_to_control a.bytes ≡ false) where
-    word_done : (port : ℕ) (o : Option ℕ) (x : Word) (w : World) → is_to_control x.bytes ≡ false → AreLinked t h P Q w → IsDone t h P Q w (puts_word port o x w)
+  module _ (h : Held) (P Q : ℕ → ℕ → Body → Type 0) (a : Arrival) (long : 12 ≤ length a.bytes) (plain : is_control_frame a.bytes ≡ false) where
+    word_done : (port : ℕ) (o : Option ℕ) (x : Word) (w : World) → is_control_frame x.bytes ≡ false → AreLinked t h P Q w → IsDone t h P Q w (puts_word port o x w)
     word_done port None x w bare linked = none_done t h P Q w linked
     word_done port (Some m) x w bare linked =
-        record { heart = record { control = refl; near = refl; far = refl }; linked = pushed_down t h P Q m x w (λ control. absurd (both_ways (is_to_control x.bytes) control bare)) linked }
+        record { heart = record { control = refl; near = refl; far = refl }; linked = pushed_down t h P Q m x w (λ control. absurd (both_ways (is_control_frame x.bytes) control bare)) linked }
 
     send_done : (vid : ℕ) (x : SendTo) (w : World) → AreLinked t h P Q w → IsDone t h P Q w (sends_in t a vid x w)
     send_done vid x w linked = by_tag x.tag
       where
-        bytes : is_to_control (egress a.bytes x.kind vid) ≡ false
+        bytes : is_control_frame (egress a.bytes x.kind vid) ≡ false
         bytes = egress_to_control a.bytes x.kind vid long ∙ plain
 
         by_tag : (o : Option ETag) → IsDone t h P Q w (sent_by t a (egress a.bytes x.kind vid) x.bridge_port o w)
@@ -153,9 +137,9 @@ module _ (t : Shape) (l : Limits) (tree : IsTree t) (setting : IsSetting t l) (r
       quiet_stays t l tree setting w (comes t a w) done.heart.control done.heart.far (ap jobs_in (comes_events t w a) ∙ arrival_jobs w.control.bridge a)
       (fits_from t tree (comes t a w).world w.control w.near w.far done.heart.control done.heart.near done.heart.far sound.fits.ends done.linked)
     where
-      not_control : is_relayed_kind (kind_of a.bytes) ≡ true → is_to_control a.bytes ≡ false
+      not_control : is_relayed_kind (kind_of a.bytes) ≡ true → is_control_frame a.bytes ≡ false
       not_control kind =
-          elim (cases_Bool (is_to_control a.bytes)) [
+          elim (cases_Bool (is_control_frame a.bytes)) [
             | inr e ↦ e
             | inl e ↦ absurd (both_ways (is_relayed_kind (kind_of a.bytes)) kind (control_refused a.bytes bytes e).1)
           ]
@@ -170,7 +154,7 @@ module _ (t : Shape) (l : Limits) (tree : IsTree t) (setting : IsSetting t l) (r
       ]
 
   -- ---- a word comes up
-  control_sound : (w : World) → IsSound t l w → (m : ℕ) (f : List ℕ) → on t m < 64 → is_to_control f ≡ true → FitsOn t w.control.held (StoredAt w.far) m f → AreLow (takes_control t l (on t m) m f w).world.control.askers →
+  control_sound : (w : World) → IsSound t l w → (m : ℕ) (f : List ℕ) → on t m < 64 → is_control_frame f ≡ true → FitsOn t w.control.held (StoredAt w.far) m f → AreLow (takes_control t l (on t m) m f w).world.control.askers →
       Stays t l w (takes_control t l (on t m) m f w)
   control_sound w sound m f low_on control fits low = by_way (fits control) (fits control).way
     where
@@ -199,6 +183,6 @@ module _ (t : Shape) (l : Limits) (tree : IsTree t) (setting : IsSetting t l) (r
       Stays t l w (bridge_takes t l (on t m) m x w)
   taken_sound w sound m x low_on bytes fits low =
       elim (cases_Bool (is_control x)) [
-        | inl control ↦ rw control (control_sound w sound m x.bytes low_on (controls x.bytes control) fits (rw control at low))
+        | inl control ↦ rw control (control_sound w sound m x.bytes low_on (control) fits (rw control at low))
         | inr bare ↦ rw bare (from_sound w sound (holder_by w (on t m) (read_etag x.bytes)) x.stamp (stripped x.bytes) (stripped_bytes x.bytes bytes))
       ]

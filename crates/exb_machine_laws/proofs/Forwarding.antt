@@ -1,7 +1,7 @@
 -- What an extender forwards of a control frame is again one on its way; and what comes of data is none.
 use Rattle.std.proofs.Common.{◌≡◌, ◌≢◌, ◌⊎◌, ℕ, ◌%◌, ◌<◌, ◌≤◌, ◌==◌, ◌&&◌, ◌||◌, Bool, true, false, not, cond, nat_lt, List, [], ◌∷◌, length, map, Option, Some, None, refl, ap, sym, ◌∙◌, subst, arith, inl, inr}
 use Rattle.std.proofs.lemmas.Bool.{cases_Bool, cases_lt, and_parts, eq-eqb, ne_eqb, ltb-true, lt-ltb, false≢true}
-use Rattle.exb_model.specs.Frames.{kind_of}
+use Rattle.exb_model.specs.Frames.{kind_of, is_control_frame}
 use Rattle.exb_model.specs.Tree.{Shape, HangsOn, IsTree, device, on, is_extender, trunk}
 use Rattle.exb_model.specs.ETags.{Tag, read_etag, tagged, stripped}
 use Rattle.exb_model.specs.ExtenderForwarding.{emits, emits_tagged, takes, left_out, bare}
@@ -11,7 +11,7 @@ use Rattle.exb_csp.specs.Spelling.{IsBytes}
 use Rattle.exb_csp.specs.Execute.{ExtenderTables}
 use Rattle.exb_extender.specs.declared.sends.Side.TheVariants as side
 use Rattle.exb_csp.specs.AllTables.{port_of}
-use Rattle.exb_extender.specs.Forwarding.{forwarding_of, sent_at, is_bare_control, is_to_control, names_channel, is_ignored, is_refused_kind, emitted, channel_tag}
+use Rattle.exb_extender.specs.Forwarding.{forwarding_of, sent_at, is_bare_control, names_channel, is_ignored, is_refused_kind, emitted, channel_tag}
 use Rattle.exb_extender.specs.Machine.{ExtenderState, IsExtender}
 use Rattle.exb_plans.specs.Held.{Held}
 use Rattle.exb_machine.specs.Extending.{port_number}
@@ -61,7 +61,7 @@ module _ (t : Shape) (tree : IsTree t) (h : Held) (round : TagRoundTrip) (P Q : 
   -- ---- from upstream
   module _ (m : ℕ) (there : is_extender t m ≡ true) (is : IsExtender (far m)) (f : List ℕ) (fits : FitsOn t h P m f) (forwarded : is_bare_control f ≡ false) where
     -- its frame is one with a channel
-    with_channel : is_to_control f ≡ true → (k : IsOnWay t h m f (λ n c. Hands c (P n))) × IsTagged t h m f k.of k.frame
+    with_channel : is_control_frame f ≡ true → (k : IsOnWay t h m f (λ n c. Hands c (P n))) × IsTagged t h m f k.of k.frame
     with_channel control = by_way (fits control) (fits control).way
       where
         by_way : (k : IsOnWay t h m f (λ n c. Hands c (P n))) → IsFrameOn t h m f k.of k.frame → (j : IsOnWay t h m f (λ n c. Hands c (P n))) × IsTagged t h m f j.of j.frame
@@ -124,7 +124,7 @@ module _ (t : Shape) (tree : IsTree t) (h : Held) (round : TagRoundTrip) (P Q : 
       comes_out : (c : ℕ) → HangsOn t c (port_of m q) → bare (forwarding_of (far m).tables) q tag ≡ true → FitsOn t h P c (stripped f)
       comes_out c hangs plain stripped_control = by_hop next.hop
         where
-          control : is_to_control f ≡ true
+          control : is_control_frame f ≡ true
           control = sym (stripped_to_control f) ∙ stripped_control
 
           k : IsOnWay t h m f (λ n c. Hands c (P n))

@@ -1,6 +1,7 @@
 -- Control frames as bytes: what they hand up, and what an E-TAG makes of them.
 use Rattle.std.proofs.Common.{◌≡◌, ℕ, suc, ◌+◌, ◌*◌, ◌<◌, ◌≤◌, ◌==◌, ◌&&◌, ◌++◌, Bool, true, false, not, List, [], ◌∷◌, length, get_or, take, drop, length-take, length-append, append_assoc, append-nil, nat_lt, ◌⊎◌, Some, None, Ok, Err, refl, ap, sym, ◌∙◌, subst, arith, inl, inr}
-use Rattle.std.specs.Prelude.{nat_le, Result}
+use Rattle.std.specs.Prelude.{nat_eq, nat_le, Result}
+use lib.Pointwise.{pointwise}
 use Rattle.std.proofs.lemmas.Bool.{cases_Bool, and_parts, and_from, le-leb, leb-true, eqb-true, cases_lt, lt-ltb, false≢true}
 use Rattle.std.proofs.lemmas.List.{get_or_append_left, get_or-take, take_all, drop_all}
 use Rattle.exb_model.specs.declared.address.Mac.{Mac}
@@ -8,7 +9,7 @@ use Rattle.exb_model.specs.declared.frame_kind.Seen.TheVariants as seen
 use Rattle.exb_model.specs.declared.vlan.Kind.{Kind}
 use Rattle.exb_model.specs.declared.vlan.Kind.TheVariants.{Tagged, Untagged}
 use Rattle.exb_model.specs.EagerHistory.{is_relayed_kind}
-use Rattle.exb_model.specs.Frames.{number_at, two_bytes, is_reserved, kind_of, priority_of, egress, body_after}
+use Rattle.exb_model.specs.Frames.{control_address, number_at, two_bytes, is_reserved, kind_of, priority_of, egress, body_after, is_control_frame}
 use Rattle.exb_model.specs.ETags.{Tag, TagFits, etag_bytes, has_etag, read_etag, tagged, stripped}
 use Rattle.exb_lldp.specs.Spelling.{spelling as announcement}
 use Rattle.exb_ecp.specs.declared.pdu.Pdu.{Pdu}
@@ -22,7 +23,7 @@ use Rattle.exb_csp.specs.declared.message.Message.{Message}
 use Rattle.exb_csp.specs.Reading.{read_message}
 use Rattle.exb_csp.specs.Spelling.{message_bytes, HasSpelling, Fits, IsBytes}
 use Rattle.exb_csp.proofs.Again.{message_again}
-use Rattle.exb_extender.specs.Forwarding.{is_bare_control, is_to_control, has_etag_type, is_refused_kind, channel_tag}
+use Rattle.exb_extender.specs.Forwarding.{is_bare_control, has_etag_type, is_refused_kind, channel_tag}
 use Rattle.exb_extender.specs.Machine.{control_pdu, announcement_frame}
 use Rattle.exb_machine_laws.specs.Sessions.{Reads, Hands}
 
@@ -65,14 +66,14 @@ hands_announcement P n ports = record { each = λ p e ack. absurd (no_pdu (pdu_i
 
 -- ---- bare control frames
 pub bare_spelled : (a b c d e f : ℕ) (ack : Bool) (sequence : ℕ) (payload : List ℕ) → is_bare_control (spelling (record { 0 = a ∷ b ∷ c ∷ d ∷ e ∷ f ∷ [] }) (control_pdu ack sequence) payload) ≡ true
-unfolding is_bare_control
+unfolding is_bare_control is_control_frame
 bare_spelled a b c d e f ack sequence payload = by_rest (Rattle.exb_ecp.specs.Frames.carried (control_pdu ack sequence) payload)
   where
     by_rest : (rest : List ℕ) → (nat_le 14 (suc (suc (suc (suc (suc (suc (suc (suc (suc (suc (suc (suc (suc (suc (suc (suc (suc (suc (length rest))))))))))))))))))) && true) ≡ true
     by_rest rest = and_from (nat_le 14 (suc (suc (suc (suc (suc (suc (suc (suc (suc (suc (suc (suc (suc (suc (suc (suc (suc (suc (length rest)))))))))))))))))))) true (le-leb _ _ (omega arith)) refl
 
 pub bare_announcement : (n ports : ℕ) → is_bare_control (announcement_frame n ports) ≡ true
-unfolding is_bare_control announcement
+unfolding is_bare_control is_control_frame announcement
 bare_announcement n ports = refl
 
 from_not : (b : Bool) → not b ≡ true → b ≡ false
@@ -89,14 +90,14 @@ unread_untyped f e =
 pub record IsBare (f : List ℕ) : Type 0 where
   pub long : 14 ≤ length f
   pub untyped : has_etag_type f ≡ false
-  pub control : is_to_control f ≡ true
+  pub control : is_control_frame f ≡ true
   pub unread : read_etag f ≡ None
 
 pub bare_is : (f : List ℕ) → is_bare_control f ≡ true → IsBare f
 unfolding is_bare_control
 bare_is f h =
-    let one = and_parts (nat_le 14 (length f)) (not (has_etag_type f) && is_to_control f) h in
-    let two = and_parts (not (has_etag_type f)) (is_to_control f) one.1 in
+    let one = and_parts (nat_le 14 (length f)) (not (has_etag_type f) && is_control_frame f) h in
+    let two = and_parts (not (has_etag_type f)) (is_control_frame f) one.1 in
     let untyped : has_etag_type f ≡ false = from_not (has_etag_type f) two.0 in
     record { long = leb-true 14 (length f) one.0; untyped = untyped; control = two.1; unread = unread_untyped f untyped }
 
@@ -119,26 +120,58 @@ pub tag_fits : (channel : ℕ) → channel < 4095 → TagFits (channel_tag chann
 tag_fits channel small = record { pcp = omega arith; ingress = omega arith; ecid = omega arith }
 
 -- ---- destinations
-same_to_control : (f g : List ℕ) → ((i : ℕ) → i < 6 → get_or f i 0 ≡ get_or g i 0) → is_to_control f ≡ is_to_control g
-same_to_control f g same =
-    rw (same 0 (omega arith), same 1 (omega arith), same 2 (omega arith), same 3 (omega arith), same 4 (omega arith), same 5 (omega arith)) refl
+same_bytes : (xs ys : List ℕ) → pointwise nat_eq xs ys ≡ true → xs ≡ ys
+same_bytes [] [] e = refl
+same_bytes [] (y ∷ ys) e = absurd (false≢true e)
+same_bytes (x ∷ xs) [] e = absurd (false≢true e)
+same_bytes (x ∷ xs) (y ∷ ys) e =
+    let p = and_parts (nat_eq x y) (pointwise nat_eq xs ys) e in
+    ap (λ (z : ℕ). z ∷ xs) (eqb-true x y p.0) ∙ ap (λ (zs : List ℕ). y ∷ zs) (same_bytes xs ys p.1)
 
-begins_as : (f rest : List ℕ) (i : ℕ) → 12 ≤ length f → i < 6 → get_or (take 12 f ++ rest) i 0 ≡ get_or f i 0
-begins_as f rest i long l =
-    let whole : length (take 12 f) ≡ 12 = omega (arith, length-take 12 f) in
-    get_or_append_left (take 12 f) rest 0 i (omega arith) ∙ get_or-take 12 f i 0 (omega arith)
+-- a control frame begins with the address
+address_first : (f : List ℕ) → is_control_frame f ≡ true → control_address ≡ take 6 f
+unfolding is_control_frame
+address_first f e = same_bytes control_address (take 6 f) e
 
-begins_with : (f middle rest : List ℕ) (i : ℕ) → 12 ≤ length f → i < 6 → get_or (take 12 f ++ middle ++ rest) i 0 ≡ get_or f i 0
-begins_with f middle rest i long l = rw append_assoc (begins_as f (middle ++ rest) i long l)
+-- frames that begin with the same six bytes are control frames together
+same_front : (f g : List ℕ) → take 6 f ≡ take 6 g → is_control_frame f ≡ is_control_frame g
+unfolding is_control_frame
+same_front f g same = ap (pointwise nat_eq control_address) same
 
-pub tagged_to_control : (f : List ℕ) (tag : Tag) → 12 ≤ length f → is_to_control (tagged f tag) ≡ is_to_control f
-tagged_to_control f tag long =
-    same_to_control (tagged f tag) f (λ i l. begins_with f (etag_bytes tag) (drop 12 f) i long l)
+begins_as : (f rest : List ℕ) → 12 ≤ length f → take 6 (take 12 f ++ rest) ≡ take 6 f
+begins_as [] rest long = absurd (omega (arith, long))
+begins_as (a ∷ []) rest long = absurd (omega (arith, long))
+begins_as (a ∷ b ∷ []) rest long = absurd (omega (arith, long))
+begins_as (a ∷ b ∷ c ∷ []) rest long = absurd (omega (arith, long))
+begins_as (a ∷ b ∷ c ∷ d ∷ []) rest long = absurd (omega (arith, long))
+begins_as (a ∷ b ∷ c ∷ d ∷ e ∷ []) rest long = absurd (omega (arith, long))
+begins_as (a ∷ b ∷ c ∷ d ∷ e ∷ g ∷ more) rest long = refl
 
-pub stripped_to_control : (f : List ℕ) → is_to_control (stripped f) ≡ is_to_control f
+begins_with : (f middle rest : List ℕ) → 12 ≤ length f → take 6 (take 12 f ++ middle ++ rest) ≡ take 6 f
+begins_with [] middle rest long = absurd (omega (arith, long))
+begins_with (a ∷ []) middle rest long = absurd (omega (arith, long))
+begins_with (a ∷ b ∷ []) middle rest long = absurd (omega (arith, long))
+begins_with (a ∷ b ∷ c ∷ []) middle rest long = absurd (omega (arith, long))
+begins_with (a ∷ b ∷ c ∷ d ∷ []) middle rest long = absurd (omega (arith, long))
+begins_with (a ∷ b ∷ c ∷ d ∷ e ∷ []) middle rest long = absurd (omega (arith, long))
+begins_with (a ∷ b ∷ c ∷ d ∷ e ∷ g ∷ more) middle rest long = refl
+
+begins_before : (f x y z : List ℕ) → 12 ≤ length f → take 6 (take 12 f ++ x ++ y ++ z) ≡ take 6 f
+begins_before [] x y z long = absurd (omega (arith, long))
+begins_before (a ∷ []) x y z long = absurd (omega (arith, long))
+begins_before (a ∷ b ∷ []) x y z long = absurd (omega (arith, long))
+begins_before (a ∷ b ∷ c ∷ []) x y z long = absurd (omega (arith, long))
+begins_before (a ∷ b ∷ c ∷ d ∷ []) x y z long = absurd (omega (arith, long))
+begins_before (a ∷ b ∷ c ∷ d ∷ e ∷ []) x y z long = absurd (omega (arith, long))
+begins_before (a ∷ b ∷ c ∷ d ∷ e ∷ g ∷ more) x y z long = refl
+
+pub tagged_to_control : (f : List ℕ) (tag : Tag) → 12 ≤ length f → is_control_frame (tagged f tag) ≡ is_control_frame f
+tagged_to_control f tag long = same_front (tagged f tag) f (begins_with f (etag_bytes tag) (drop 12 f) long)
+
+pub stripped_to_control : (f : List ℕ) → is_control_frame (stripped f) ≡ is_control_frame f
 stripped_to_control f =
     elim (cases_lt (length f) 12) [
-      | inr l ↦ same_to_control (stripped f) f (λ i h. begins_as f (drop 20 f) i l h)
+      | inr l ↦ same_front (stripped f) f (begins_as f (drop 20 f) l)
       | inl l ↦ let front : take 12 f ≡ f = take_all 12 f (omega arith) in let rest : drop 20 f ≡ [] = drop_all 20 f (omega arith) in
           rw (front, rest, append-nil {A = ℕ}) refl
     ]
@@ -147,12 +180,12 @@ long_with : (f middle : List ℕ) → 12 ≤ length f → 12 ≤ length (take 12
 long_with f middle long = omega (arith, length-take 12 f, length-append (take 12 f) middle)
 
 -- what goes out of a frame has its destination, and is as long
-pub egress_to_control : (f : List ℕ) (kind : Kind) (v : ℕ) → 12 ≤ length f → is_to_control (egress f kind v) ≡ is_to_control f
+pub egress_to_control : (f : List ℕ) (kind : Kind) (v : ℕ) → 12 ≤ length f → is_control_frame (egress f kind v) ≡ is_control_frame f
 unfolding egress
-egress_to_control f Untagged v long = same_to_control (take 12 f ++ body_after f (kind_of f)) f (λ i h. begins_as f (body_after f (kind_of f)) i long h)
+egress_to_control f Untagged v long = same_front (take 12 f ++ body_after f (kind_of f)) f (begins_as f (body_after f (kind_of f)) long)
 egress_to_control f Tagged v long =
-    same_to_control (take 12 f ++ two_bytes 33024 ++ two_bytes (priority_of (kind_of f) * 4096 + v) ++ body_after f (kind_of f)) f
-    (λ i h. rw append_assoc (begins_with f (two_bytes 33024) (two_bytes (priority_of (kind_of f) * 4096 + v) ++ body_after f (kind_of f)) i long h))
+    same_front (take 12 f ++ two_bytes 33024 ++ two_bytes (priority_of (kind_of f) * 4096 + v) ++ body_after f (kind_of f)) f
+    (begins_before f (two_bytes 33024) (two_bytes (priority_of (kind_of f) * 4096 + v)) (body_after f (kind_of f)) long)
 
 pub egress_long : (f : List ℕ) (kind : Kind) (v : ℕ) → 12 ≤ length f → 12 ≤ length (egress f kind v)
 unfolding egress
@@ -164,20 +197,10 @@ egress_long f Tagged v long =
     omega (arith, length-take 12 f, length-append (take 12 f) x, length-append (take 12 f ++ x) y, length-append (take 12 f ++ x ++ y) z)
 
 -- ---- kinds
-reserved_is : (f : List ℕ) → IsBytes f → is_to_control f ≡ true → is_reserved f ≡ true
+reserved_is : (f : List ℕ) → IsBytes f → is_control_frame f ≡ true → is_reserved f ≡ true
 reserved_is f bytes h =
-    let one = and_parts (number_at f 0 == 384) (number_at f 2 == 49664 && number_at f 4 == 14) h in
-    let two = and_parts (number_at f 2 == 49664) (number_at f 4 == 14) one.1 in
-    let a : get_or f 0 0 * 256 + get_or f 1 0 ≡ 384 = eqb-true _ _ one.0 in
-    let b : get_or f 2 0 * 256 + get_or f 3 0 ≡ 49664 = eqb-true _ _ two.0 in
-    let c : get_or f 4 0 * 256 + get_or f 5 0 ≡ 14 = eqb-true _ _ two.1 in
-    let f0 : get_or f 0 0 ≡ 1 = omega (arith, bytes 1) in
-    let f1 : get_or f 1 0 ≡ 128 = omega (arith, bytes 1) in
-    let f2 : get_or f 2 0 ≡ 194 = omega (arith, bytes 3) in
-    let f3 : get_or f 3 0 ≡ 0 = omega (arith, bytes 3) in
-    let f4 : get_or f 4 0 ≡ 0 = omega (arith, bytes 5) in
-    let f5 : get_or f 5 0 ≡ 14 = omega (arith, bytes 5) in
-    rw (f0, f1, f2, f3, f4, f5) refl
+    let byte : (i : ℕ) → i < 6 → get_or f i 0 ≡ get_or control_address i 0 = λ i l. sym (get_or-take 6 f i 0 l) ∙ ap (λ (x : List ℕ). get_or x i 0) (sym (address_first f h)) in
+    rw (byte 0 (omega arith), byte 1 (omega arith), byte 2 (omega arith), byte 3 (omega arith), byte 4 (omega arith), byte 5 (omega arith)) refl
 
 kind_cases : (f : List ℕ) → is_reserved f ≡ true → (kind_of f ≡ seen.Short) ⊎ ((kind_of f ≡ seen.Long) ⊎ (kind_of f ≡ seen.Reserved))
 unfolding kind_of
@@ -191,7 +214,7 @@ kind_cases f h =
     ]
 
 -- no port lets in a frame that has the destination of control frames
-pub control_refused : (f : List ℕ) → IsBytes f → is_to_control f ≡ true → (is_refused_kind (kind_of f) ≡ true) × (is_relayed_kind (kind_of f) ≡ false)
+pub control_refused : (f : List ℕ) → IsBytes f → is_control_frame f ≡ true → (is_refused_kind (kind_of f) ≡ true) × (is_relayed_kind (kind_of f) ≡ false)
 control_refused f bytes h =
     elim (kind_cases f (reserved_is f bytes h)) [
       | inl e ↦ rw e (refl, refl)

@@ -4,7 +4,7 @@ use Rattle.std.specs.Prelude.{Result, nat_eq}
 use Rattle.std.proofs.lemmas.Bool.{false≢true, cases_Bool, cases_lt, and_parts, and_from, eqb-true, eq-eqb, lt-ltb, le-ltb, ltb-true}
 use Rattle.exb_model.specs.Tree.{Shape, IsTree, on, device, trunk, is_extender, is_external}
 use Rattle.exb_model.specs.Setup.{Limits}
-use Rattle.exb_model.specs.Frames.{egress, kind_of}
+use Rattle.exb_model.specs.Frames.{egress, kind_of, is_control_frame}
 use Rattle.exb_model.specs.ETags.{Tag, read_etag, tagged, stripped}
 use Rattle.exb_model.specs.Learning.{passes}
 use Rattle.exb_model.specs.Input.{Arrival}
@@ -37,7 +37,7 @@ use Rattle.exb_extender.specs.Machine.{hears as far_hears}
 use Rattle.exb_machine_laws.proofs.Stamps.{IsControl, beats_sent, hears_control, tagged_control}
 use Rattle.exb_machine_laws.proofs.Words.{each_append, each_weaker, each_range, each_without_data, each_without_control, each_filter, each_get, at_same}
 use Rattle.exb_machine_laws.proofs.Trees.{trunk_above, trunk_low_on}
-use Rattle.exb_machine_laws.proofs.Frames.{tag_fits}
+use Rattle.exb_machine_laws.proofs.Frames.{bare_is, tag_fits}
 use Rattle.exb_machine_laws.proofs.Telling.{data_is, steps_tell_by_kind}
 use Rattle.exb_machine.specs.Settling.{run}
 use Rattle.exb_model.specs.declared.event.Event.{Event}
@@ -45,11 +45,11 @@ use Rattle.exb_machine_laws.proofs.Beating.{sound_after}
 use Rattle.exb_machine_laws.proofs.Runs.{steps_stay_sound}
 use Rattle.exb_machine_laws.proofs.Steps.{home}
 use Rattle.exb_machine_laws.proofs.Ignoring.{extenders_ignore}
-use Rattle.exb_extender.specs.Forwarding.{Sent, up, forwarding_of, is_to_control, channel_tag, has_etag_type, is_bare_control, is_refused_kind, names_channel, is_ignored, emitted}
+use Rattle.exb_extender.specs.Forwarding.{Sent, up, forwarding_of, channel_tag, has_etag_type, is_bare_control, is_refused_kind, names_channel, is_ignored, emitted}
 use Rattle.exb_extender.specs.Machine.{ExtenderState, IsExtender, Reaction, Arrives, Beats, react}
 use Rattle.exb_link.specs.declared.word.Stamp.{Stamp}
 use Rattle.exb_link.specs.declared.word.Word.{Word}
-use Rattle.exb_link.specs.Words.{is_control_frame, is_control, is_data, without_data, without_control}
+use Rattle.exb_link.specs.Words.{is_control, is_data, without_data, without_control}
 use Rattle.exb_plans.specs.Held.{Held}
 use Rattle.exb_relay.specs.declared.send.SendTo.{SendTo}
 use Rattle.exb_changing.specs.declared.asked.Asked.{Asked}
@@ -200,31 +200,7 @@ down_sides x f = each_range (λ (y : Sent). y.side ≡ side.Up → ⊥) (sent_do
 
 -- a bare control frame of bytes has the destination
 bare_frame : (f : List ℕ) → ((i : ℕ) → get_or f i 0 < 256) → is_bare_control f ≡ true → is_control_frame f ≡ true
-unfolding is_bare_control is_control_frame
-bare_frame (a ∷ b ∷ c ∷ d ∷ e ∷ g ∷ f) bytes is =
-    let p = and_parts (nat_le 14 (length (a ∷ b ∷ c ∷ d ∷ e ∷ g ∷ f))) _ is in
-    let q = and_parts _ (is_to_control (a ∷ b ∷ c ∷ d ∷ e ∷ g ∷ f)) p.1 in
-    let r = and_parts (a * 256 + b == 384) _ q.1 in
-    let s = and_parts (c * 256 + d == 49664) (e * 256 + g == 14) r.1 in
-    let x : a * 256 + b ≡ 384 = eqb-true (a * 256 + b) 384 r.0 in
-    let y : c * 256 + d ≡ 49664 = eqb-true (c * 256 + d) 49664 s.0 in
-    let z : e * 256 + g ≡ 14 = eqb-true (e * 256 + g) 14 s.1 in
-    let hb : b < 256 = bytes 1 in
-    let hd : d < 256 = bytes 3 in
-    let hg : g < 256 = bytes 5 in
-    let a1 : 1 ≡ a = omega (arith, x, hb) in
-    let b1 : 128 ≡ b = omega (arith, x, hb) in
-    let c1 : 194 ≡ c = omega (arith, y, hd) in
-    let d1 : 0 ≡ d = omega (arith, y, hd) in
-    let e1 : 0 ≡ e = omega (arith, z, hg) in
-    let g1 : 14 ≡ g = omega (arith, z, hg) in
-    and_from (nat_eq 1 a) _ (eq-eqb 1 a a1) (and_from (nat_eq 128 b) _ (eq-eqb 128 b b1) (and_from (nat_eq 194 c) _ (eq-eqb 194 c c1) (and_from (nat_eq 0 d) _ (eq-eqb 0 d d1) (and_from (nat_eq 0 e) _ (eq-eqb 0 e e1) (and_from (nat_eq 14 g) true (eq-eqb 14 g g1) refl)))))
-bare_frame (a ∷ b ∷ c ∷ d ∷ e ∷ []) bytes is = absurd (false≢true is)
-bare_frame (a ∷ b ∷ c ∷ d ∷ []) bytes is = absurd (false≢true is)
-bare_frame (a ∷ b ∷ c ∷ []) bytes is = absurd (false≢true is)
-bare_frame (a ∷ b ∷ []) bytes is = absurd (false≢true is)
-bare_frame (a ∷ []) bytes is = absurd (false≢true is)
-bare_frame [] bytes is = absurd (false≢true is)
+bare_frame f bytes is = (bare_is f is).control
 
 let_in_long : (f : List ℕ) → is_refused_kind (kind_of f) ≡ false → 12 ≤ length f
 unfolding kind_of

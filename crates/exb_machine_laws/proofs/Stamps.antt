@@ -4,7 +4,7 @@ use Rattle.std.specs.Prelude.{Result, nat_eq}
 use Rattle.std.proofs.lemmas.Bool.{false≢true, cases_Bool}
 use Rattle.exb_model.specs.Tree.{Shape, on, device, trunk, is_extender, is_external}
 use Rattle.exb_model.specs.Setup.{Limits}
-use Rattle.exb_model.specs.Frames.{egress}
+use Rattle.exb_model.specs.Frames.{egress, is_control_frame}
 use Rattle.exb_model.specs.ETags.{Tag, read_etag, tagged, stripped}
 use Rattle.exb_model.specs.ExtenderForwarding.{takes, left_out, bare, emits, emits_tagged}
 use Rattle.exb_model.specs.Learning.{passes}
@@ -45,7 +45,7 @@ use Rattle.exb_extender.specs.Machine.{ExtenderState, Reaction, Arrives, Beats, 
 use Rattle.exb_extender.specs.Machine.{hears_request as far_request, hears_pdu as far_pdu, hears as far_hears, sends_again as far_again}
 use Rattle.exb_link.specs.declared.word.Stamp.{Stamp}
 use Rattle.exb_link.specs.declared.word.Word.{Word}
-use Rattle.exb_link.specs.Words.{is_control_frame, is_control, is_data, without_data, without_control}
+use Rattle.exb_link.specs.Words.{is_control, is_data, without_data, without_control}
 use Rattle.exb_relay.specs.declared.send.SendTo.{SendTo}
 use Rattle.exb_changing.specs.declared.asked.Asked.{Asked}
 use Rattle.exb_changing.specs.Deciding.{decide}

@@ -20,7 +20,7 @@ use Rattle.exb_learn.specs.Calls.{after_call as after_one}
 use Rattle.exb_learn.specs.Histories.{relay_call, command_call, table_after}
 use Rattle.exb_learn.specs.Histories.{after_any as after_call}
 use Rattle.exb_learn.proofs.Bridges.{looks_learned}
-use Rattle.exb_relay.specs.Laws.{HasPvids}
+use Rattle.exb_config.specs.Pvids.{HasPvids}
 use Rattle.exb_flight.specs.Items.{Each}
 use Rattle.exb_flight.proofs.NamingLists.{numbered_more}
 use Rattle.exb_motion.specs.Kept.{HasVid, IsSurely}

@@ -26,7 +26,8 @@ use Rattle.exb_extender.specs.Forwarding.{is_refused_kind, is_ignored}
 use Rattle.exb_link.specs.declared.word.Stamp.{Stamp}
 use Rattle.exb_link.specs.declared.word.Word.{Word}
 use Rattle.exb_link.specs.Words.{is_control, is_data, without_data, without_control}
-use Rattle.exb_relay.specs.Laws.{HasPvids, SendsAreWords, SendsLeaveAsFlat}
+use Rattle.exb_relay.specs.Laws.{SendsAreWords, SendsLeaveAsFlat}
+use Rattle.exb_config.specs.Pvids.{HasPvids}
 use Rattle.exb_changing.specs.declared.job.Job.{Job}
 use Rattle.exb_changing.specs.declared.job.Job.TheVariants as job
 use Rattle.exb_changing.specs.Beginning.{first_jobs}

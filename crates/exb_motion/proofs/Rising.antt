@@ -7,7 +7,7 @@ use Rattle.exb_model.specs.declared.frame_kind.Seen.{Seen}
 use Rattle.exb_model.specs.declared.frame_kind.Seen.TheVariants as seen
 use Rattle.exb_model.specs.ETags.{tagged, stripped}
 use Rattle.exb_model.specs.EagerHistory.{is_relayed_kind, arrival_event}
-use Rattle.exb_model.specs.Frames.{kind_of}
+use Rattle.exb_model.specs.Frames.{kind_of, is_control_frame}
 use Rattle.exb_model.specs.Tree.{Shape, device, on, trunk, is_extender, is_external, is_extended}
 use Rattle.exb_model.specs.Setup.{Limits}
 use Rattle.exb_model.specs.Input.{Arrival}
@@ -18,7 +18,7 @@ use Rattle.exb_extender.specs.Forwarding.{Sent, up, channel_tag, is_refused_kind
 use Rattle.exb_extender.specs.Machine.{ExtenderState, IsExtender, Arrives, react}
 use Rattle.exb_link.specs.declared.word.Stamp.{Stamp}
 use Rattle.exb_link.specs.declared.word.Word.{Word}
-use Rattle.exb_link.specs.Words.{is_control_frame, is_control, is_data, without_data}
+use Rattle.exb_link.specs.Words.{is_control, is_data, without_data}
 use Rattle.exb_plans.specs.Held.{channel_in}
 use Rattle.exb_plans.proofs.Giving.{channel_found}
 use Rattle.exb_relay.specs.Sends.{or_zero}
@@ -31,7 +31,6 @@ use Rattle.exb_machine.specs.Stepping.{counted, first_data, takes_any, takes_up,
 use Rattle.exb_machine_laws.specs.Simulation.{IsSound}
 use Rattle.exb_machine_laws.specs.Journal.{IsOfRecord}
 use Rattle.exb_machine_laws.specs.Stamped.{IsStamped, AreStamped}
-use Rattle.exb_machine_laws.proofs.Bridging.{controls}
 use Rattle.exb_machine_laws.proofs.Frames.{control_refused, relayed_long, tagged_to_control, tag_fits}
 use Rattle.exb_machine_laws.proofs.Ignoring.{extenders_ignore}
 use Rattle.exb_machine_laws.proofs.Steps.{home}
@@ -143,7 +142,7 @@ module _ (t : Shape) (l : Limits) (setting : IsSetting t l) (round : TagRoundTri
       let long : 14 ≤ length a.bytes = relayed_long a.bytes (refused_relayed (kind_of a.bytes) p.1) in
       let plain : is_control word ≡ false = elim (cases_Bool (is_control_frame g)) [
         | inr z ↦ z
-        | inl z ↦ absurd (both (is_refused_kind (kind_of a.bytes)) (control_refused a.bytes bytes (sym (tagged_to_control a.bytes (channel_tag own) (omega (arith, long))) ∙ controls g z)).0 p.1)
+        | inl z ↦ absurd (both (is_refused_kind (kind_of a.bytes)) (control_refused a.bytes bytes (sym (tagged_to_control a.bytes (channel_tag own) (omega (arith, long))) ∙ z)).0 p.1)
       ] in
       let R : Effect → Type 0 = λ x. IsRaised t w x.world a x.events in
       subst R (sym is)

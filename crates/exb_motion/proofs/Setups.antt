@@ -10,7 +10,7 @@ use Rattle.exb_model.specs.Configuration.{Bridge, empty_bridge, after}
 use Rattle.exb_model.specs.Setup.{IsValid, InRange, lay, port_at, shape_of, start_of}
 use Rattle.exb_model.specs.Tree.{on, is_extender}
 use Rattle.exb_model.proofs.Words.{get_or-same}
-use Rattle.exb_relay.specs.Laws.{HasPvids}
+use Rattle.exb_config.specs.Pvids.{HasPvids}
 use Rattle.exb_change_laws.proofs.Beginning.{setups_begin}
 use Rattle.exb_machine_laws.proofs.Setups.{few_ports}
 use Rattle.exb_motion.specs.Kept.{HasVid, SetupsMayStart}

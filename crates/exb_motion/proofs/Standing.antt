@@ -26,7 +26,7 @@ use Rattle.exb_flight.specs.Order.{waiting}
 use Rattle.exb_flight.proofs.Runs.{none_waits}
 use Rattle.exb_standing.proofs.Standing.{then_append, stood_promises, begins_stood}
 use Rattle.exb_motion.specs.Given.{Given, given_by, arrivals_at, basis_with}
-use Rattle.exb_motion.specs.Stands.{live, AreDecided, IsRightly}
+use Rattle.exb_motion.specs.Stands.{AreDecided, IsRightly}
 use Rattle.exb_motion.specs.Kept.{MayStart, MayDoAll, given_in, IsSurely, Kept, BeginsKept, KeptStands, KeptIsClean, SettledOwesNothing, RunsStand}
 use Rattle.exb_motion.proofs.Deciding.{IsJust}
 use Rattle.exb_motion.proofs.Jobs.{are_decided}
@@ -61,9 +61,7 @@ kept_stands t l i start w g h left k =
         bridge = sym just.bridge;
         clock = promises.force.clock;
         learned = λ v m.
-            ap (λ (u : Table). live u.clock u.ageing (u.seen v m)) promises.force.table
-            ∙ (ap (λ (c : ℕ). live c (table_after j h).ageing ((table_after j h).seen v m)) f.clock_is
-            ∙ (ap (λ (c : ℕ). live (now_after h) c ((table_after j h).seen v m)) f.ageing_is ∙ ap (live (now_after h) i.ageing) (f.seen_is v m)));
+            ap (λ (u : Table). u.seen v m) promises.force.table ∙ f.seen_is v m;
       };
       even = promises.even;
       names = k.names;

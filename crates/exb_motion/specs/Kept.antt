@@ -13,7 +13,7 @@ use Rattle.exb_model.specs.LegalHistory.{EachEvent}
 use Rattle.exb_model.specs.Lists.{numbered}
 use Rattle.exb_model.specs.Setup.{Limits, IsValid, shape_of, limits_of, start_of}
 use Rattle.exb_model.specs.Tree.{Shape, on, is_extender, is_external}
-use Rattle.exb_relay.specs.Laws.{HasPvids}
+use Rattle.exb_config.specs.Pvids.{HasPvids}
 use Rattle.exb_changing.specs.Beginning.{first_jobs}
 use Rattle.exb_change_laws.specs.Begins.{MayBegin}
 use Rattle.exb_change_laws.specs.Journal.{Tells}

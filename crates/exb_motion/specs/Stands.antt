@@ -14,6 +14,7 @@ use Rattle.exb_model.specs.History.{Basis, History, bridge_after, now_after}
 use Rattle.exb_model.specs.Learning.{remembered}
 use Rattle.exb_model.specs.Refusals.{refusal}
 use Rattle.exb_model.specs.LegalHistory.{EachEvent, number_of, Rise, relays_and_late, IsDecided, IsEntered}
+use Rattle.exb_learn.specs.Calls.{if_live}
 use Rattle.exb_changing.specs.declared.job.Job.{Job}
 use Rattle.exb_changing.specs.declared.job.Job.TheVariants as job
 use Rattle.exb_change_laws.specs.Journal.{pending}
@@ -36,16 +37,12 @@ pub record FollowsGiven (w : World) (g : List Given) : Type 0 where
   pub commands : w.control.given ≡ length (commands_of g)
 
 -- ---- rule 1: what is in force
--- what was seen less than the ageing time ago: where, and when
-abbrev pub live : ℕ → ℕ → Option (ℕ × ℕ) → Option (ℕ × ℕ)
-live now ageing None = None
-live now ageing (Some (p, at)) = if nat_lt (now - at) ageing then Some (p, at) else None
-
--- Configuration and clock are those of the history, and the live entries are those that it taught, each with its time.
+-- Configuration and clock are those of the history, and the entries are those that it taught and that are live, each with its
+-- time.
 pub record IsInForce (i : Basis) (w : World) (h : History) : Type 0 where
   pub bridge : w.control.bridge ≡ bridge_after i h
   pub clock : w.table.clock ≡ now_after h
-  pub learned : (v : ℕ) (m : List ℕ) → live w.table.clock w.table.ageing (w.table.seen v m) ≡ live (now_after h) i.ageing (remembered i h v m)
+  pub learned : (v : ℕ) (m : List ℕ) → w.table.seen v m ≡ if_live (now_after h) i.ageing (remembered i h v m)
 
 -- ---- rule 3: each arrival is named once
 -- the data words on the upward links

@@ -13,7 +13,8 @@ use Rattle.exb_csp.specs.declared.message.Response.{Response}
 use Rattle.exb_csp.specs.Kinds.{kind_of, number_of}
 use Rattle.exb_csp.specs.Spelling.{IsBytes}
 use Rattle.exb_session.specs.Kinds.{same_kind}
-use Rattle.exb_extender.specs.Forwarding.{has_etag_type, is_bare_control, is_to_control, channel_tag}
+use Rattle.exb_extender.specs.Forwarding.{has_etag_type, is_bare_control, channel_tag}
+use Rattle.exb_model.specs.Frames.{is_control_frame}
 use Rattle.exb_link.specs.declared.word.Word.{Word}
 use Rattle.exb_link.specs.Words.{is_control}
 use Rattle.exb_plans.specs.Held.{Held}
@@ -35,7 +36,6 @@ use Rattle.exb_resting.specs.Going.{IsGoing, IsOrderly}
 use Rattle.exb_resting.specs.Left.{KindDown, KindUp, WordLeft, Left}
 use Rattle.exb_resting.specs.Placed.{IsPlaced, PlacedOn, WordPlaced, ReadsDown, ReadsUp, ArePlaced}
 use Rattle.exb_resting.specs.Streams.{addressee, plain}
-use Rattle.exb_resting.proofs.AtBridge.{control_to}
 use Rattle.exb_resting.proofs.Decoding.{bare_addressed, bare_plain, tagged_read, tagged_addressed, tagged_plain}
 use Rattle.exb_resting.proofs.FromFits.{facts_from}
 use Rattle.exb_resting.proofs.Well.{from_first}
@@ -110,15 +110,15 @@ module _ (t : Shape) (tree : IsTree t) (round : TagRoundTrip) (h g : Held) (from
       by_way (inl e) = absurd (both_ways (has_etag_type f) typed (ap has_etag_type e.1 ∙ (bare_is k.frame k.bare).untyped))
       by_way (inr w) = w.0
 
-  pub word_left : (K L : ℕ → List ℕ → Type 0) (m : ℕ) (x : Word) → IsBytes x.bytes → WordPlaced t h K m x → ((n : ℕ) → addressee t g m x.bytes ≡ Some n → is_to_control x.bytes ≡ true → K n (plain x.bytes) → L n (plain x.bytes)) → WordLeft t g L m x
+  pub word_left : (K L : ℕ → List ℕ → Type 0) (m : ℕ) (x : Word) → IsBytes x.bytes → WordPlaced t h K m x → ((n : ℕ) → addressee t g m x.bytes ≡ Some n → is_control_frame x.bytes ≡ true → K n (plain x.bytes) → L n (plain x.bytes)) → WordLeft t g L m x
   word_left K L m x bytes placed more =
       record {
         bytes = bytes;
-        placed = λ control n c there bare tag. stands_above K m x.bytes (placed (control_to x.bytes control)) n c there bare tag;
-        reads = λ control n addressed. reads_so n addressed (control_to x.bytes control) (placed (control_to x.bytes control));
+        placed = λ control n c there bare tag. stands_above K m x.bytes (placed (control)) n c there bare tag;
+        reads = λ control n addressed. reads_so n addressed (control) (placed (control));
       }
     where
-      reads_so : (n : ℕ) → addressee t g m x.bytes ≡ Some n → is_to_control x.bytes ≡ true → IsPlaced t h K m x.bytes → L n (plain x.bytes)
+      reads_so : (n : ℕ) → addressee t g m x.bytes ≡ Some n → is_control_frame x.bytes ≡ true → IsPlaced t h K m x.bytes → L n (plain x.bytes)
       reads_so n addressed control k =
           let mine : IsOne m x.bytes k.of k.frame = placed_one K m x.bytes k in
           let same : k.of ≡ n = same_some (addressee t g m x.bytes) k.of n mine.addressed addressed in

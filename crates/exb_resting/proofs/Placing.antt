@@ -8,7 +8,8 @@ use Rattle.exb_model.proofs.TreeHung.{trunk-low}
 use Rattle.exb_frame.specs.TagValues.{TagRoundTrip}
 use Rattle.exb_extender.specs.declared.sends.Side.TheVariants as side
 use Rattle.exb_csp.specs.AllTables.{port_of}
-use Rattle.exb_extender.specs.Forwarding.{forwarding_of, sent_at, is_bare_control, is_to_control, names_channel, emitted, channel_tag}
+use Rattle.exb_extender.specs.Forwarding.{forwarding_of, sent_at, is_bare_control, names_channel, emitted, channel_tag}
+use Rattle.exb_model.specs.Frames.{is_control_frame}
 use Rattle.exb_extender.specs.Machine.{ExtenderState, IsExtender}
 use Rattle.exb_link.specs.declared.word.Stamp.{Stamp}
 use Rattle.exb_link.specs.declared.word.Word.{Word}
@@ -73,7 +74,7 @@ module _ (t : Shape) (l : Limits) (tree : IsTree t) (h g : Held) (to : KeepsCasc
       apart : m ≢ placed.of
       tag : IsTagged t h m f placed.of placed.frame
 
-    with_channel : is_to_control f ≡ true → IsWithChannel
+    with_channel : is_control_frame f ≡ true → IsWithChannel
     with_channel control = by_way (fits control) (fits control).way
       where
         by_way : (k : IsPlaced t h D m f) → ((m ≡ k.of) × (f ≡ k.frame)) ⊎ ((m ≢ k.of) × IsTagged t h m f k.of k.frame) → IsWithChannel

@@ -6,7 +6,7 @@ use Rattle.std.proofs.lemmas.Bool.{cases_Bool, cases_lt, and_parts, lt-ltb, le-l
 use Rattle.exb_model.specs.Tree.{Shape, HangsOn, IsTree, device, on, is_extender, is_external, trunk}
 use Rattle.exb_model.specs.Setup.{Limits}
 use Rattle.exb_model.specs.ETags.{read_etag, stripped, tagged}
-use Rattle.exb_model.specs.Frames.{egress, kind_of}
+use Rattle.exb_model.specs.Frames.{egress, kind_of, is_control_frame}
 use Rattle.exb_model.specs.Input.{Arrival}
 use Rattle.exb_model.specs.EagerHistory.{is_relayed, is_relayed_kind}
 use Rattle.exb_model.specs.Learning.{passes}
@@ -32,7 +32,7 @@ use Rattle.exb_csp.proofs.Again.{message_again}
 use Rattle.exb_session.specs.declared.asker.Taken.{Taken}
 use Rattle.exb_session.specs.declared.asker.Taken.TheVariants as taken
 use Rattle.exb_session.specs.Asking.{took}
-use Rattle.exb_extender.specs.Forwarding.{is_bare_control, is_to_control, has_etag_type, channel_tag}
+use Rattle.exb_extender.specs.Forwarding.{is_bare_control, has_etag_type, channel_tag}
 use Rattle.exb_link.specs.declared.word.Stamp.{Stamp}
 use Rattle.exb_link.specs.declared.word.Word.{Word}
 use Rattle.exb_link.specs.Words.{is_control}
@@ -243,15 +243,15 @@ module _ (t : Shape) (l : Limits) (tree : IsTree t) (h : Held) where
   hears_puts n f w there k = frame_puts n (announcement_in f) f w there k
 
   -- ---- data
-  word_puts : (port : ℕ) (o : Option ℕ) (x : Word) (w : World) → is_to_control x.bytes ≡ false → Puts w (puts_word port o x w).world
+  word_puts : (port : ℕ) (o : Option ℕ) (x : Word) (w : World) → is_control_frame x.bytes ≡ false → Puts w (puts_word port o x w).world
   word_puts port None x w bare = none_puts w
-  word_puts port (Some m) x w bare = down_grows t l D U m x w (λ control. absurd (both_ways (is_to_control x.bytes) control bare))
+  word_puts port (Some m) x w bare = down_grows t l D U m x w (λ control. absurd (both_ways (is_control_frame x.bytes) control bare))
 
-  module _ (a : Arrival) (long : 12 ≤ length a.bytes) (data_frame : is_to_control a.bytes ≡ false) where
+  module _ (a : Arrival) (long : 12 ≤ length a.bytes) (data_frame : is_control_frame a.bytes ≡ false) where
     send_puts : (vid : ℕ) (x : SendTo) (w : World) → Puts w (sends_in t a vid x w).world
     send_puts vid x w = by_tag x.tag
       where
-        bytes : is_to_control (egress a.bytes x.kind vid) ≡ false
+        bytes : is_control_frame (egress a.bytes x.kind vid) ≡ false
         bytes = egress_to_control a.bytes x.kind vid long ∙ data_frame
 
         by_tag : (o : Option ETag) → Puts w (sent_by t a (egress a.bytes x.kind vid) x.bridge_port o w).world
@@ -280,9 +280,9 @@ module _ (t : Shape) (l : Limits) (tree : IsTree t) (h : Held) where
       u : World
       u = with_table (taught w.control.bridge a w.table) w
 
-      not_control : is_relayed_kind (kind_of a.bytes) ≡ true → is_to_control a.bytes ≡ false
+      not_control : is_relayed_kind (kind_of a.bytes) ≡ true → is_control_frame a.bytes ≡ false
       not_control kind =
-          elim (cases_Bool (is_to_control a.bytes)) [
+          elim (cases_Bool (is_control_frame a.bytes)) [
             | inr e ↦ e
             | inl e ↦ absurd (both_ways (is_relayed_kind (kind_of a.bytes)) kind (control_refused a.bytes bytes e).1)
           ]

@@ -1,7 +1,8 @@
 -- Control frames as they stand on links: whose each one is, that it stands on the way of that extender, and what it reads as.
 use Rattle.std.specs.Prelude.{◌≡◌, ◌≢◌, ◌⊎◌, ℕ, true, List}
 use Rattle.exb_model.specs.Tree.{Shape, is_extender}
-use Rattle.exb_extender.specs.Forwarding.{is_bare_control, is_to_control}
+use Rattle.exb_extender.specs.Forwarding.{is_bare_control}
+use Rattle.exb_model.specs.Frames.{is_control_frame}
 use Rattle.exb_link.specs.declared.word.Word.{Word}
 use Rattle.exb_plans.specs.Held.{Held}
 use Rattle.exb_machine.specs.Worlds.{World}
@@ -23,7 +24,7 @@ pub record IsPlaced (t : Shape) (h : Held) (K : ℕ → List ℕ → Type 0) (m 
 
 -- a frame that has the destination of control frames is such a one
 abbrev pub PlacedOn : Shape → Held → (ℕ → List ℕ → Type 0) → ℕ → List ℕ → Type 0
-PlacedOn t h K m f = is_to_control f ≡ true → IsPlaced t h K m f
+PlacedOn t h K m f = is_control_frame f ≡ true → IsPlaced t h K m f
 
 abbrev pub WordPlaced : Shape → Held → (ℕ → List ℕ → Type 0) → ℕ → Word → Type 0
 WordPlaced t h K m x = PlacedOn t h K m x.bytes

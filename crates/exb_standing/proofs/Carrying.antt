@@ -10,7 +10,8 @@ use Rattle.exb_csp.specs.Spelling.{IsBytes}
 use Rattle.exb_link.specs.declared.word.Stamp.{Stamp}
 use Rattle.exb_link.specs.declared.word.Word.{Word}
 use Rattle.exb_link.specs.Words.{is_control, is_data, without_data}
-use Rattle.exb_relay.specs.Laws.{HasPvids, SendsAreWords, SendsLeaveAsFlat}
+use Rattle.exb_relay.specs.Laws.{SendsAreWords, SendsLeaveAsFlat}
+use Rattle.exb_config.specs.Pvids.{HasPvids}
 use Rattle.exb_change_laws.specs.Planned.{IsSetting}
 use Rattle.exb_model.specs.Tree.{trunk}
 use Rattle.exb_plans.proofs.Ways.{from_extended}

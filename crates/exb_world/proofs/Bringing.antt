@@ -18,7 +18,7 @@ use Rattle.exb_world.specs.Extenders.{tables_of}
 use Rattle.exb_world.specs.Insides.{IsLive}
 use Rattle.exb_world.proofs.Filters.{and_first, and_second}
 use Rattle.exb_world.proofs.Only.{is_cascade_is, trunk_is}
-use Rattle.exb_world.proofs.Frames.{relayed_long}
+use Rattle.exb_model.proofs.FrameKinds.{relayed_long}
 
 pub channel_fits : (c : ℕ) → c < 4096 → TagFits (channel_tag c)
 channel_fits c h = record { pcp = omega arith; ingress = omega arith; ecid = omega arith }
