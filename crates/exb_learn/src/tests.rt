@@ -61,6 +61,7 @@ const STATIONS: usize = 6;
 const AGEING: u32 = 5;
 
 // By station the port and the second of its last sighting, unless that was forgotten.
+#[derive(Drop)]
 struct Sightings {
     last: [Option<(u16, u64)>; STATIONS],
     clock: u64,

@@ -1,4 +1,4 @@
-use Rattle.std.proofs.Common.{◌≡◌, ℕ, ◌+◌, arith, ap, subst, sym, min, ◌∙◌}
+use Rattle.std.proofs.Common.{ℕ, ◌+◌, arith, ap, subst, sym, min, ◌∙◌}
 use Rattle.std.specs.Prelude.{unwrap_or}
 use Rattle.std.proofs.lemmas.Option.{slice_get_within}
 use Rattle.exb_learn.specs.Stations.{IsEarliest}
