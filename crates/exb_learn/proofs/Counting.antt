@@ -1,6 +1,6 @@
 -- A table has one number of entries.
 use Rattle.std.proofs.Common.{◌≡◌, ℕ, suc, Bool, true, false, not, cond, ◌&&◌, ◌||◌, ◌==◌, List, [], ◌∷◌, length, eq-eqb, refl, sym, ap, ◌∙◌}
-use Rattle.std.specs.Prelude.{is_some, bytes_eq}
+use Rattle.std.specs.Prelude.{bytes_eq}
 use Rattle.std.specs.List.{list_any}
 use Rattle.std.proofs.lemmas.Bool.{eqb-true, and_parts}
 use Rattle.std.proofs.lemmas.Slice.Eq.{bytes_eq-Decides}
@@ -12,10 +12,10 @@ itself k = rw (eq-eqb k.0 k.0 refl, (bytes_eq-Decides k.1 k.1).1 refl) refl
 
 same_key : (k j : Key) → is_key k.0 k.1 j ≡ true → j ≡ k
 same_key k j h =
-    let parts = and_parts (j.0 == k.0) (bytes_eq j.1 k.1) h in
-    let first = eqb-true j.0 k.0 parts.0 in
-    let second = (bytes_eq-Decides j.1 k.1).0 parts.1 in
-    λ i. (first i, second i)
+    let parts = and_parts (k.0 == j.0) (bytes_eq k.1 j.1) h in
+    let first = eqb-true k.0 j.0 parts.0 in
+    let second = (bytes_eq-Decides k.1 j.1).0 parts.1 in
+    sym (λ i. (first i, second i))
 
 abbrev without : Key → List Key → List Key
 without k [] = []

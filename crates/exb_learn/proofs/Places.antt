@@ -1,134 +1,143 @@
--- Look-ups among the entries after a change.
-use Rattle.std.proofs.Common.{◌≡◌, ℕ, suc, ◌+◌, ◌-◌, Bool, true, false, cond, not, ◌&&◌, ◌||◌, ◌==◌, nat_lt, filter, length, List, [], ◌∷◌, map, refl, sym, ap, ◌∙◌}
-use Rattle.std.specs.Prelude.{Option, Some, None, find, is_some, bytes_eq}
-use Rattle.std.specs.List.{list_any}
-use Rattle.std.proofs.lemmas.Bool.{eqb-true, and_parts}
+-- Look-ups after a change, and the number of entries.
+use Rattle.std.proofs.Common.{◌≡◌, ℕ, suc, ◌+◌, ◌-◌, ◌<◌, ◌≤◌, Bool, true, false, cond, not, ◌&&◌, ◌||◌, ◌==◌, nat_lt, filter, length, List, [], ◌∷◌, map, slice_get, min, inl, inr, refl, sym, ap, subst, ◌∙◌, arith}
+use Rattle.std.specs.Prelude.{Option, Some, None, is_some, bytes_eq, option_map, unwrap_or}
+use Rattle.std.specs.List.{list_any, IsDistinct, AllByRecursion}
+use Rattle.std.specs.Map.{keys_of, lookup}
+use Rattle.std.proofs.lemmas.Bool.{eqb-true, and_parts, lt-ltb}
+use Rattle.std.proofs.lemmas.Bool.Decides.{eqb_tells}
 use Rattle.std.proofs.lemmas.Slice.Eq.{bytes_eq-Decides}
-use Rattle.exb_model.specs.Lists.{put_first}
+use Rattle.std.proofs.Math.Nat.{min-le_left, min-le_right}
 use Rattle.exb_model.specs.Learning.{kept_unless}
-use Rattle.exb_model.proofs.Lists.{find-put_first, find-put_first_other}
-use Rattle.exb_learn.specs.declared.entries.Entry.{Entry}
-use Rattle.exb_learn.specs.Calls.{See, Tick, Forget, after_call, if_live, look_in, port_of}
+use Rattle.exb_learn.specs.declared.entries.Station.{Station}
+use Rattle.exb_learn.specs.declared.entries.Place.{Place}
+use Rattle.exb_learn.specs.Stations.{same, is_live, IsSince, IsEarliest}
+use Rattle.exb_learn.specs.Calls.{See, Tick, Forget, after_call, if_live, port_of}
 use Rattle.exb_learn.specs.Counts.{Key, is_key, EachOnce, HasLive}
-use Rattle.exb_learn.specs.Entries.{Entries, AreApart, is_entry_of, is_live, place_of, table_of}
+use Rattle.exb_learn.specs.Entries.{Entries, place_of, station, table_of}
 
--- entries of one VLAN and address pass the same tests
-same_key : (v w : ℕ) (m n : List ℕ) (e : Entry) → v ≡ w → m ≡ n → is_entry_of v m e ≡ is_entry_of w n e
-same_key v w m n e a b = ap (λ x. is_entry_of x m e) a ∙ ap (λ x. is_entry_of w x e) b
+same_is : (a b : Station) → same a b ≡ true → a ≡ b
+same_is a b h =
+    let parts = and_parts (a.vid == b.vid) (bytes_eq a.address.0 b.address.0) h in
+    let vid = eqb-true a.vid b.vid parts.0 in
+    let address = (bytes_eq-Decides a.address.0 b.address.0).0 parts.1 in
+    λ i. record { vid = vid i; address = record { 0 = address i } }
 
--- an entry of this VLAN and address finds what they find
-finds_same : (e : Entry) (v : ℕ) (m : List ℕ) (es : List Entry) → is_entry_of v m e ≡ true → find (is_entry_of e.vid e.address.0) es ≡ find (is_entry_of v m) es
-finds_same e v m es h =
-    let parts = and_parts (e.vid == v) (bytes_eq e.address.0 m) h in
-    ap (λ x. find (is_entry_of x e.address.0) es) (eqb-true e.vid v parts.0) ∙ ap (λ x. find (is_entry_of v x) es) ((bytes_eq-Decides e.address.0 m).0 parts.1)
+some_is : (p r : Place) → Some p ≡ Some r → p ≡ r
+some_is p r e = cc
 
-find-put_entry : (es : List Entry) (e : Entry) (v : ℕ) (m : List ℕ) →
-    find (is_entry_of v m) (put_first (is_entry_of e.vid e.address.0) e es) ≡ cond (is_entry_of v m e) (Some e) (find (is_entry_of v m) es)
-find-put_entry es e v m = by_test (is_entry_of v m e) refl
-  where
-    by_test : (b : Bool) → is_entry_of v m e ≡ b → find (is_entry_of v m) (put_first (is_entry_of e.vid e.address.0) e es) ≡ cond b (Some e) (find (is_entry_of v m) es)
-    by_test true h =
-        let parts = and_parts (e.vid == v) (bytes_eq e.address.0 m) h in
-        find-put_first (is_entry_of e.vid e.address.0) e (is_entry_of v m) h (λ y. same_key e.vid v e.address.0 m y (eqb-true e.vid v parts.0) ((bytes_eq-Decides e.address.0 m).0 parts.1)) es
-    by_test false h =
-        find-put_first_other (is_entry_of e.vid e.address.0) e (is_entry_of v m) h (λ y k.
-        let parts = and_parts (y.vid == e.vid) (bytes_eq y.address.0 e.address.0) k in
-        ap (λ x. x == v && bytes_eq y.address.0 m) (eqb-true y.vid e.vid parts.0)
-        ∙ ap (λ x. e.vid == v && bytes_eq x m) ((bytes_eq-Decides y.address.0 e.address.0).0 parts.1) ∙ h) es
-
-apart-put : (e : Entry) (es : List Entry) → AreApart es → AreApart (put_first (is_entry_of e.vid e.address.0) e es)
-apart-put e [] apart = (refl, tt)
-apart-put e (y ∷ ys) apart = by_test (is_entry_of e.vid e.address.0 y) refl (apart-put e ys apart.1)
-  where
-    not_mine : (b : Bool) → is_entry_of y.vid y.address.0 e ≡ b → is_entry_of e.vid e.address.0 y ≡ false → is_entry_of y.vid y.address.0 e ≡ false
-    not_mine true g h =
-        let parts = and_parts (e.vid == y.vid) (bytes_eq e.address.0 y.address.0) g in
-        let same : y.vid ≡ e.vid = sym (eqb-true e.vid y.vid parts.0) in
-        let place : y.address.0 ≡ e.address.0 = sym ((bytes_eq-Decides e.address.0 y.address.0).0 parts.1) in
-        let itself : is_entry_of e.vid e.address.0 y ≡ is_entry_of y.vid y.address.0 e =
-        ap (λ (x : ℕ). x == e.vid && bytes_eq y.address.0 e.address.0) same ∙ ap (λ (x : ℕ). e.vid == x && bytes_eq y.address.0 e.address.0) (sym same)
-        ∙ ap (λ (x : List ℕ). e.vid == y.vid && bytes_eq x e.address.0) place ∙ ap (λ (x : List ℕ). e.vid == y.vid && bytes_eq e.address.0 x) (sym place) in
-        sym itself ∙ h
-    not_mine false g h = g
-
-    by_test : (b : Bool) → is_entry_of e.vid e.address.0 y ≡ b → AreApart (put_first (is_entry_of e.vid e.address.0) e ys) → AreApart (cond b (e ∷ ys) (y ∷ put_first (is_entry_of e.vid e.address.0) e ys))
-    by_test true h rest = (sym (finds_same y e.vid e.address.0 ys h) ∙ apart.0, apart.1)
-    by_test false h rest =
-        (find-put_entry ys e y.vid y.address.0 ∙ ap (λ b. cond b (Some e) (find (is_entry_of y.vid y.address.0) ys)) (not_mine (is_entry_of y.vid y.address.0 e) refl h) ∙ apart.0, rest)
-
-abbrev kept_if : (Entry → Bool) → Option Entry → Option Entry
+abbrev kept_if : (Place → Bool) → Option Place → Option Place
 kept_if t None = None
-kept_if t (Some e) = cond (t e) (Some e) None
+kept_if t (Some p) = cond (t p) (Some p) None
 
-find-filter : (t : Entry → Bool) (v : ℕ) (m : List ℕ) (es : List Entry) → AreApart es → find (is_entry_of v m) (filter t es) ≡ kept_if t (find (is_entry_of v m) es)
-find-filter t v m [] apart = refl
-find-filter t v m (e ∷ es) apart = by_tests (t e) (is_entry_of v m e) refl refl (find-filter t v m es apart.1)
-  where
-    by_tests : (a b : Bool) → t e ≡ a → is_entry_of v m e ≡ b → find (is_entry_of v m) (filter t es) ≡ kept_if t (find (is_entry_of v m) es) →
-        find (is_entry_of v m) (cond a (e ∷ filter t es) (filter t es)) ≡ kept_if t (cond b (Some e) (find (is_entry_of v m) es))
-    by_tests true true h g rest = rw (g, h) refl
-    by_tests true false h g rest = rw g rest
-    by_tests false true h g rest = rw h (rest ∙ ap (kept_if t) (sym (finds_same e v m es g) ∙ apart.0))
-    by_tests false false h g rest = rest
+abbrev kept : (Place → Bool) → Station × Place → Bool
+kept t e = t e.1
 
-apart-filter : (t : Entry → Bool) (es : List Entry) → AreApart es → AreApart (filter t es)
-apart-filter t [] apart = tt
-apart-filter t (e ∷ es) apart = by_test (t e) (apart-filter t es apart.1)
+none_kept : (t : Place → Bool) (k : Station) (es : List (Station × Place)) → AllByRecursion (λ y. same k y ≡ false) (keys_of es) → lookup (same k) (filter (kept t) es) ≡ None
+none_kept t k [] none = refl
+none_kept t k (e ∷ es) none = by_test (t e.1) (none_kept t k es none.1)
   where
-    by_test : (a : Bool) → AreApart (filter t es) → AreApart (cond a (e ∷ filter t es) (filter t es))
-    by_test true rest = (find-filter t e.vid e.address.0 es apart.1 ∙ ap (kept_if t) apart.0, rest)
+    by_test : (b : Bool) → lookup (same k) (filter (kept t) es) ≡ None → lookup (same k) (cond b (e ∷ filter (kept t) es) (filter (kept t) es)) ≡ None
+    by_test true rest = rw none.0 rest
     by_test false rest = rest
 
-pub apart_put : (e : Entry) (es fs : List Entry) → fs ≡ put_first (is_entry_of e.vid e.address.0) e es → AreApart es → AreApart fs
-apart_put e es fs is apart = rw is (apart-put e es apart)
-
-pub apart_filter : (t : Entry → Bool) (es fs : List Entry) → fs ≡ filter t es → AreApart es → AreApart fs
-apart_filter t es fs is apart = rw is (apart-filter t es apart)
-
-place_of-put : (es : List Entry) (e : Entry) (v : ℕ) (m : List ℕ) →
-    place_of (find (is_entry_of v m) (put_first (is_entry_of e.vid e.address.0) e es)) ≡ cond (is_entry_of v m e) (Some (e.port, e.at)) (place_of (find (is_entry_of v m) es))
-place_of-put es e v m = ap place_of (find-put_entry es e v m) ∙ moved (is_entry_of v m e)
+lookup-filter : (t : Place → Bool) (k : Station) (es : List (Station × Place)) → IsDistinct same (keys_of es) → lookup (same k) (filter (kept t) es) ≡ kept_if t (lookup (same k) es)
+unfolding IsDistinct
+lookup-filter t k [] once = refl
+lookup-filter t k (e ∷ es) once = by_tests (t e.1) (same k e.0) refl refl (lookup-filter t k es once.1)
   where
-    moved : (b : Bool) → place_of (cond b (Some e) (find (is_entry_of v m) es)) ≡ cond b (Some (e.port, e.at)) (place_of (find (is_entry_of v m) es))
-    moved true = refl
-    moved false = refl
+    by_tests : (a b : Bool) → t e.1 ≡ a → same k e.0 ≡ b → lookup (same k) (filter (kept t) es) ≡ kept_if t (lookup (same k) es) →
+        lookup (same k) (cond a (e ∷ filter (kept t) es) (filter (kept t) es)) ≡ kept_if t (cond b (Some e.1) (lookup (same k) es))
+    by_tests true true h g rest = rw (g, h) refl
+    by_tests true false h g rest = rw g rest
+    by_tests false true h g rest = rw h (ap (λ (x : Station). lookup (same x) (filter (kept t) es)) (same_is k e.0 g) ∙ none_kept t e.0 es once.0)
+    by_tests false false h g rest = rest
 
-place_of-live : (now ageing : ℕ) (o : Option Entry) → place_of (kept_if (is_live now ageing) o) ≡ if_live now ageing (place_of o)
+place_of-live : (now ageing : ℕ) (o : Option Place) → place_of (kept_if (is_live now ageing) o) ≡ if_live now ageing (place_of o)
 place_of-live now ageing None = refl
-place_of-live now ageing (Some e) = by_test (is_live now ageing e)
+place_of-live now ageing (Some p) = by_test (is_live now ageing p)
   where
-    by_test : (b : Bool) → place_of (cond b (Some e) None) ≡ cond b (Some (e.port, e.at)) None
+    by_test : (b : Bool) → place_of (cond b (Some p) None) ≡ cond b (Some (p.port, p.at)) None
     by_test true = refl
     by_test false = refl
 
-place_of-other : (p : ℕ) (o : Option Entry) → place_of (kept_if (λ e. not (e.port == p)) o) ≡ kept_unless (λ q. q == p) (place_of o)
-place_of-other p None = refl
-place_of-other p (Some e) = by_test (e.port == p)
+place_of-other : (q : ℕ) (o : Option Place) → place_of (kept_if (λ p. not (p.port == q)) o) ≡ kept_unless (λ r. r == q) (place_of o)
+place_of-other q None = refl
+place_of-other q (Some p) = by_test (p.port == q)
   where
-    by_test : (b : Bool) → place_of (cond (not b) (Some e) None) ≡ cond b None (Some (e.port, e.at))
+    by_test : (b : Bool) → place_of (cond (not b) (Some p) None) ≡ cond b None (Some (p.port, p.at))
     by_test true = refl
     by_test false = refl
+
+-- ---- since when
+pub since_put : (x : ℕ) (s : Station) (p : Place) (old new : List (Station × Place)) → IsSince x old → x ≤ p.at →
+    ((q : Station) → lookup (same q) new ≡ cond (same s q) (Some p) (lookup (same q) old)) → IsSince x new
+since_put x s p old new since past updates q r is = by_test (same s q) (sym (updates q) ∙ is)
+  where
+    by_test : (b : Bool) → cond b (Some p) (lookup (same q) old) ≡ Some r → x ≤ r.at
+    by_test true e = let f : p ≡ r = some_is p r e in subst (λ (y : Place). x ≤ y.at) f past
+    by_test false e = since q r e
+
+pub since_kept : (x : ℕ) (t : Place → Bool) (old new : List (Station × Place)) → IsDistinct same (keys_of old) → IsSince x old → new ≡ filter (kept t) old → IsSince x new
+since_kept x t old new once since is q p found =
+    by_place (lookup (same q) old) refl (sym (lookup-filter t q old once) ∙ ap (λ xs. lookup (same q) xs) (sym is) ∙ found)
+  where
+    by_place : (o : Option Place) → lookup (same q) old ≡ o → kept_if t o ≡ Some p → x ≤ p.at
+    by_place None e h = cc
+    by_place (Some r) e h = by_test (t r) h
+      where
+        by_test : (b : Bool) → cond b (Some r) None ≡ Some p → x ≤ p.at
+        by_test true g = since q p (e ∙ g)
+        by_test false g = cc
+
+pub since_all : (x : ℕ) (es : List (Station × Place)) → ((k : ℕ) (e : Station × Place) → slice_get es k ≡ Some e → x ≤ e.1.at) → IsSince x es
+since_all x [] all q p found = cc
+since_all x (e ∷ es) all q p found = by_test (same q e.0) found (since_all x es (λ k f h. all (suc k) f h) q p)
+  where
+    by_test : (b : Bool) → cond b (Some e.1) (lookup (same q) es) ≡ Some p → (lookup (same q) es ≡ Some p → x ≤ p.at) → x ≤ p.at
+    by_test true g rest = let f : e.1 ≡ p = some_is e.1 p g in subst (λ (y : Place). x ≤ y.at) f (all 0 e refl)
+    by_test false g rest = rest g
+
+pub earlier : (es : List (Station × Place)) (i x clock : ℕ) → IsEarliest es i x clock →
+    IsEarliest es (i + 1) (min x (unwrap_or (option_map (λ e. e.1.at) (slice_get es i)) clock)) clock
+earlier es i x clock earliest =
+    let y = unwrap_or (option_map (λ e. e.1.at) (slice_get es i)) clock in
+    let first = min-le_left x y in
+    let second = min-le_right x y in
+    record {
+      past = (let past = earliest.past in omega (arith, first, past));
+      all = λ k e l is. elim (eqb_tells k i) [
+        | inl h ↦
+            let here : y ≡ e.1.at = ap (λ (o : Option (Station × Place)). unwrap_or (option_map (λ x. x.1.at) o) clock) (sym (ap (λ n. slice_get es n) h.1) ∙ is) in
+            omega (arith, second, here)
+        | inr h ↦ let before = earliest.all k e (omega (arith, l, h.1)) is in omega (arith, first, before)
+      ];
+    }
 
 -- ---- the tables
 module _ (l : Entries) where
-  -- the table with other entries and another room
-  abbrev pub with_entries : List Entry → ℕ → Entries
-  with_entries es spare = record { entries = es; clock = l.clock; ageing = l.ageing; spare = spare }
+  -- the table with other entries, another clock and another room
+  abbrev pub with_entries : List (Station × Place) → ℕ → ℕ → Entries
+  with_entries es clock spare = record { entries = es; clock = clock; ageing = l.ageing; spare = spare }
 
-  seen_changed : (es : List Entry) (clock spare : ℕ) (f : ℕ → List ℕ → Option (ℕ × ℕ)) → ((v : ℕ) (m : List ℕ) → place_of (find (is_entry_of v m) es) ≡ f v m) →
-      table_of (record (with_entries es spare) { clock = clock }) ≡ record (table_of l) { clock = clock; seen = f }
+  seen_changed : (es : List (Station × Place)) (clock spare : ℕ) (f : ℕ → List ℕ → Option (ℕ × ℕ)) → ((v : ℕ) (m : List ℕ) → place_of (lookup (same (station v m)) es) ≡ f v m) →
+      table_of (with_entries es clock spare) ≡ record (table_of l) { clock = clock; seen = f }
   unfolding table_of
   seen_changed es clock spare f h = λ i. record { ageing = l.ageing; clock = clock; seen = λ v m. h v m i }
 
-  pub table-see : (es : List Entry) (spare : ℕ) (e : Entry) → nat_lt 0 l.ageing ≡ true → e.at ≡ l.clock → es ≡ put_first (is_entry_of e.vid e.address.0) e l.entries →
-      table_of (with_entries es spare) ≡ after_call (See e.vid e.address.0 e.port) (table_of l)
+  pub table-see : (es : List (Station × Place)) (spare : ℕ) (s : Station) (p : Place) → nat_lt 0 l.ageing ≡ true → p.at ≡ l.clock →
+      ((q : Station) → lookup (same q) es ≡ cond (same s q) (Some p) (lookup (same q) l.entries)) →
+      table_of (with_entries es l.clock spare) ≡ after_call (See s.vid s.address.0 p.port) (table_of l)
   unfolding table_of
-  table-see es spare e ages now is =
-      seen_changed es l.clock spare (λ w n. cond (nat_lt 0 l.ageing && (e.vid == w && bytes_eq e.address.0 n)) (Some (e.port, l.clock)) (place_of (find (is_entry_of w n) l.entries)))
+  table-see es spare s p ages now updates =
+      seen_changed es l.clock spare (λ w n. cond (nat_lt 0 l.ageing && (s.vid == w && bytes_eq s.address.0 n)) (Some (p.port, l.clock)) (place_of (lookup (same (station w n)) l.entries)))
       (λ v m.
-      ap (λ (xs : List Entry). place_of (find (is_entry_of v m) xs)) is ∙ place_of-put l.entries e v m
-      ∙ ap (λ (at : ℕ). cond (is_entry_of v m e) (Some (e.port, at)) (place_of (find (is_entry_of v m) l.entries))) now
-      ∙ ap (λ b. cond (b && is_entry_of v m e) (Some (e.port, l.clock)) (place_of (find (is_entry_of v m) l.entries))) (sym ages))
+      ap place_of (updates (station v m)) ∙ moved (same s (station v m)) (lookup (same (station v m)) l.entries)
+      ∙ ap (λ (at : ℕ). cond (same s (station v m)) (Some (p.port, at)) (place_of (lookup (same (station v m)) l.entries))) now
+      ∙ ap (λ b. cond (b && same s (station v m)) (Some (p.port, l.clock)) (place_of (lookup (same (station v m)) l.entries))) (sym ages))
+    where
+      moved : (b : Bool) (o : Option Place) → place_of (cond b (Some p) o) ≡ cond b (Some (p.port, p.at)) (place_of o)
+      moved true o = refl
+      moved false o = refl
 
   -- with ageing time 0 nothing is seen
   pub table-unseen : (v : ℕ) (m : List ℕ) (p : ℕ) → nat_lt 0 l.ageing ≡ false → table_of l ≡ after_call (See v m p) (table_of l)
@@ -136,54 +145,74 @@ module _ (l : Entries) where
   table-unseen v m p ages = λ i. record {
     ageing = l.ageing;
     clock = l.clock;
-    seen = λ w n. ap (λ b. cond (b && (v == w && bytes_eq m n)) (Some (p, l.clock)) (place_of (find (is_entry_of w n) l.entries))) (sym ages) i;
+    seen = λ w n. ap (λ b. cond (b && (v == w && bytes_eq m n)) (Some (p, l.clock)) (place_of (lookup (same (station w n)) l.entries))) (sym ages) i;
   }
 
-  pub table-tick : (es : List Entry) (clock spare seconds : ℕ) → AreApart l.entries → clock ≡ l.clock + seconds → es ≡ filter (is_live clock l.ageing) l.entries →
-      table_of (record (with_entries es spare) { clock = clock }) ≡ after_call (Tick seconds) (table_of l)
+  pub table-tick : (es : List (Station × Place)) (clock spare seconds : ℕ) → IsDistinct same (keys_of l.entries) → clock ≡ l.clock + seconds →
+      es ≡ filter (kept (is_live clock l.ageing)) l.entries → table_of (with_entries es clock spare) ≡ after_call (Tick seconds) (table_of l)
   unfolding table_of
-  table-tick es clock spare seconds apart now is =
-      seen_changed es clock spare (λ w n. if_live clock l.ageing (place_of (find (is_entry_of w n) l.entries)))
+  table-tick es clock spare seconds once now is =
+      seen_changed es clock spare (λ w n. if_live clock l.ageing (place_of (lookup (same (station w n)) l.entries)))
       (λ v m.
-      ap (λ (xs : List Entry). place_of (find (is_entry_of v m) xs)) is ∙ ap place_of (find-filter (is_live clock l.ageing) v m l.entries apart)
-      ∙ place_of-live clock l.ageing (find (is_entry_of v m) l.entries))
-      ∙ ap (λ (x : ℕ). record (table_of l) { clock = x; seen = λ w n. if_live x l.ageing (place_of (find (is_entry_of w n) l.entries)) }) now
+      ap (λ (xs : List (Station × Place)). place_of (lookup (same (station v m)) xs)) is ∙ ap place_of (lookup-filter (is_live clock l.ageing) (station v m) l.entries once)
+      ∙ place_of-live clock l.ageing (lookup (same (station v m)) l.entries))
+      ∙ ap (λ (x : ℕ). record (table_of l) { clock = x; seen = λ w n. if_live x l.ageing (place_of (lookup (same (station w n)) l.entries)) }) now
 
-  pub table-forget : (es : List Entry) (spare p : ℕ) → AreApart l.entries → es ≡ filter (λ e. not (e.port == p)) l.entries →
-      table_of (with_entries es spare) ≡ after_call (Forget p) (table_of l)
+  -- where even the oldest is live, nothing dies
+  pub table-later : (clock spare seconds oldest : ℕ) → IsSince oldest l.entries → clock - oldest < l.ageing → clock ≡ l.clock + seconds →
+      table_of (with_entries l.entries clock spare) ≡ after_call (Tick seconds) (table_of l)
   unfolding table_of
-  table-forget es spare p apart is =
-      seen_changed es l.clock spare (λ w n. kept_unless (λ q. q == p) (place_of (find (is_entry_of w n) l.entries)))
+  table-later clock spare seconds oldest since live now =
+      seen_changed l.entries clock spare (λ w n. if_live clock l.ageing (place_of (lookup (same (station w n)) l.entries)))
+      (λ v m. all_live (station v m) (lookup (same (station v m)) l.entries) refl)
+      ∙ ap (λ (x : ℕ). record (table_of l) { clock = x; seen = λ w n. if_live x l.ageing (place_of (lookup (same (station w n)) l.entries)) }) now
+    where
+      all_live : (q : Station) (o : Option Place) → lookup (same q) l.entries ≡ o → place_of o ≡ if_live clock l.ageing (place_of o)
+      all_live q None e = refl
+      all_live q (Some p) e =
+          let past = since q p e in
+          sym (ap (λ b. cond b (Some (p.port, p.at)) None) (lt-ltb (clock - p.at) l.ageing (omega (arith, past, live))))
+
+  pub table-forget : (es : List (Station × Place)) (spare p : ℕ) → IsDistinct same (keys_of l.entries) → es ≡ filter (kept (λ x. not (x.port == p))) l.entries →
+      table_of (with_entries es l.clock spare) ≡ after_call (Forget p) (table_of l)
+  unfolding table_of
+  table-forget es spare p once is =
+      seen_changed es l.clock spare (λ w n. kept_unless (λ q. q == p) (place_of (lookup (same (station w n)) l.entries)))
       (λ v m.
-      ap (λ (xs : List Entry). place_of (find (is_entry_of v m) xs)) is ∙ ap place_of (find-filter (λ e. not (e.port == p)) v m l.entries apart)
-      ∙ place_of-other p (find (is_entry_of v m) l.entries))
+      ap (λ (xs : List (Station × Place)). place_of (lookup (same (station v m)) xs)) is ∙ ap place_of (lookup-filter (λ x. not (x.port == p)) (station v m) l.entries once)
+      ∙ place_of-other p (lookup (same (station v m)) l.entries))
 
 -- ---- their number
-abbrev key_of : Entry → Key
-key_of e = (e.vid, e.address.0)
+abbrev key_of : Station × Place → Key
+key_of e = (e.0.vid, e.0.address.0)
 
-any-keys : (v : ℕ) (m : List ℕ) (es : List Entry) → list_any (is_key v m) (map key_of es) ≡ is_some (port_of (place_of (find (is_entry_of v m) es)))
+any-keys : (v : ℕ) (m : List ℕ) (es : List (Station × Place)) → list_any (is_key v m) (map key_of es) ≡ is_some (port_of (place_of (lookup (same (station v m)) es)))
 any-keys v m [] = refl
-any-keys v m (e ∷ es) = by_test (is_entry_of v m e) (any-keys v m es)
+any-keys v m (e ∷ es) = by_test (same (station v m) e.0) (any-keys v m es)
   where
-    by_test : (b : Bool) → list_any (is_key v m) (map key_of es) ≡ is_some (port_of (place_of (find (is_entry_of v m) es))) →
-        (b || list_any (is_key v m) (map key_of es)) ≡ is_some (port_of (place_of (cond b (Some e) (find (is_entry_of v m) es))))
+    by_test : (b : Bool) → list_any (is_key v m) (map key_of es) ≡ is_some (port_of (place_of (lookup (same (station v m)) es))) →
+        (b || list_any (is_key v m) (map key_of es)) ≡ is_some (port_of (place_of (cond b (Some e.1) (lookup (same (station v m)) es))))
     by_test true rest = refl
     by_test false rest = rest
 
-once-keys : (es : List Entry) → AreApart es → EachOnce (map key_of es)
-once-keys [] apart = tt
-once-keys (e ∷ es) apart = (any-keys e.vid e.address.0 es ∙ ap (λ o. is_some (port_of (place_of o))) apart.0, once-keys es apart.1)
+none-keys : (k : Station) (es : List (Station × Place)) → AllByRecursion (λ y. same k y ≡ false) (keys_of es) → list_any (is_key k.vid k.address.0) (map key_of es) ≡ false
+none-keys k [] none = refl
+none-keys k (e ∷ es) none = rw none.0 (none-keys k es none.1)
 
-length-keys : (es : List Entry) → length (map key_of es) ≡ length es
+once-keys : (es : List (Station × Place)) → IsDistinct same (keys_of es) → EachOnce (map key_of es)
+unfolding IsDistinct
+once-keys [] once = tt
+once-keys (e ∷ es) once = (none-keys e.0 es once.0, once-keys es once.1)
+
+length-keys : (es : List (Station × Place)) → length (map key_of es) ≡ length es
 length-keys [] = refl
 length-keys (e ∷ es) = ap suc (length-keys es)
 
-pub has_live : (l : Entries) (n : ℕ) → AreApart l.entries → n ≡ length l.entries → HasLive (table_of l) n
+pub has_live : (l : Entries) (n : ℕ) → IsDistinct same (keys_of l.entries) → n ≡ length l.entries → HasLive (table_of l) n
 unfolding table_of
-has_live l n apart is = record {
+has_live l n once is = record {
   keys = map key_of l.entries;
   number = length-keys l.entries ∙ sym is;
-  once = once-keys l.entries apart;
+  once = once-keys l.entries once;
   answers = λ v m. any-keys v m l.entries;
 }

@@ -8,7 +8,7 @@ abbrev pub Key : Type 0
 Key = ℕ × List ℕ
 
 abbrev pub is_key : ℕ → List ℕ → Key → Bool
-is_key v m k = k.0 == v && bytes_eq k.1 m
+is_key v m k = v == k.0 && bytes_eq m k.1
 
 -- none stands twice
 abbrev pub EachOnce : List Key → Type 0

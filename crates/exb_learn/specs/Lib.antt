@@ -1,5 +1,6 @@
 pub mod Calls
 pub mod Sightings
+pub mod Stations
 pub mod Entries
 pub mod Counts
 pub mod Histories

@@ -5,31 +5,37 @@ ghost use Rattle.exb_learn.specs.Entries.{table_of, look_of};
 ghost use Rattle.exb_learn.specs.Calls.{See, Tick, Forget, empty_table, after_call};
 ghost use Rattle.exb_learn.specs.Counts.{HasLive};
 
-use crate::entries::{Entry, find_entry, forget_dead, forget_port, put_entry};
+use crate::entries::{Place, Station, forget_dead, forget_port, oldest_in, put_place};
 use exb_model::address::Mac;
 use exb_model::memory::NoMemory;
 use exb_model::port::PortId;
 use exb_model::vlan::Vid;
+use indexmap::IndexMap;
 use std::alloc::Global;
 use std::marker::Model;
 
 /// Where each address was seen last in each VLAN, with a clock in seconds. It holds live entries alone.
 #[derive(Drop)]
 pub struct Learned {
-    entries: Vec<Entry>,
+    places: IndexMap<Station, Place>,
+    // how many more entries there is room for, by the last `reserve`
+    room: usize,
     clock: u64,
     ageing: u32,
+    // what is kept was seen at this clock or later
+    oldest: u64,
 }
 
 impl Model for Learned {
-    ghost use Rattle.std.specs.Prelude.{◌-◌, vec_len, vec_capacity};
-    ghost use Rattle.exb_learn.specs.Entries.{Entries, AreApart};
+    ghost use Rattle.indexmap.specs.IndexMap.{spare};
+    ghost use Rattle.exb_learn.specs.Stations.{IsKept};
+    ghost use Rattle.exb_learn.specs.Entries.{Entries};
 
     ghost Value = { Entries };
 
-    ghost view = { λ l. record { entries = l.entries.items; clock = l.clock; ageing = l.ageing; spare = vec_capacity l.entries - vec_len l.entries } };
+    ghost view = { λ l. record { entries = l.places.entries; clock = l.clock; ageing = l.ageing; spare = l.room } };
 
-    ghost invariant = { λ l. AreApart l.entries.items };
+    ghost invariant = { λ l. IsKept l.places.entries l.room (spare l.places) l.oldest l.clock };
 }
 
 impl Learned {
@@ -40,9 +46,11 @@ impl Learned {
         ensures clock { result.clock ≡ 0 }
     {
         Learned {
-            entries: Vec::new(alloc),
+            places: IndexMap::new(alloc),
+            room: 0,
             clock: 0,
             ageing,
+            oldest: 0,
         }
     }
 
@@ -54,7 +62,8 @@ impl Learned {
         ensures table { table_of self.new ≡ table_of self.old }
         ensures clock { self.new.clock ≡ self.old.clock }
     {
-        self.entries.reserve(1)?;
+        self.places.reserve(1)?;
+        self.room = self.places.capacity() - self.places.len();
         Ok(())
     }
 
@@ -62,7 +71,7 @@ impl Learned {
     pub fn spare(&self) -> u64
         ensures { result ≡ self.now.spare }
     {
-        (self.entries.capacity() - self.entries.len()) as u64
+        self.room as u64
     }
 
     /// An individual address was seen in a VLAN at a port, now.
@@ -72,14 +81,15 @@ impl Learned {
         ensures table { table_of self.new ≡ after_call (See vid address.0 port) (table_of self.old) }
         ensures clock { self.new.clock ≡ self.old.clock }
     {
-        let entry = Entry {
-            vid,
-            address,
+        let place = Place {
             port,
             at: self.clock,
         };
         if self.ageing > 0 {
-            put_entry(&mut self.entries, entry);
+            let station = Station { vid, address };
+            let room = self.room;
+            let left = put_place(&mut self.places, room, station, place);
+            self.room = left;
         }
     }
 
@@ -89,14 +99,15 @@ impl Learned {
     pub fn look(&self, vid: Vid, address: Mac) -> Option<PortId>
         ensures { result ≡ look_of self.now vid address.0 }
     {
-        find_entry(self.entries.as_slice(), vid, address).map(|entry| entry.port)
+        let place = self.places.get(&Station { vid, address })?;
+        Some(place.port)
     }
 
     /// The number of entries that the table keeps, which is that of live entries.
     pub fn held(&self) -> u64
         ensures { HasLive (table_of self.now) result }
     {
-        self.entries.as_slice().len() as u64
+        self.places.len() as u64
     }
 
     /// So many seconds go by, and what dies is taken out. The clock stays below 2^63.
@@ -108,7 +119,10 @@ impl Learned {
         ensures spare { self.old.spare ≤ self.new.spare }
     {
         self.clock += u64::from(seconds);
-        forget_dead(&mut self.entries, self.clock, self.ageing);
+        if self.clock.saturating_sub(self.oldest) >= u64::from(self.ageing) {
+            forget_dead(&mut self.places, self.clock, self.ageing);
+            self.oldest = oldest_in(&self.places, self.clock);
+        }
     }
 
     /// Forgets what was seen at a port.
@@ -117,6 +131,6 @@ impl Learned {
         ensures clock { self.new.clock ≡ self.old.clock }
         ensures spare { self.old.spare ≤ self.new.spare }
     {
-        forget_port(&mut self.entries, port);
+        forget_port(&mut self.places, port);
     }
 }

@@ -1,7 +1,7 @@
 use Rattle.std.proofs.Common.{rules}
-use Rattle.std.proofs.lemmas.Fn.{filter_same}
-use Rattle.exb_learn.specs.Entries.{is_live}
+use Rattle.indexmap.proofs.CallerLemmas.{filter-RetainsPairs}
+use Rattle.exb_learn.specs.Stations.{is_live}
 use Rattle.exb_learn.proofs.entries.forget_dead.Goals as goal
 
-pub returns-clause-items : goal.returns-clause-items
-returns-clause-items c = filter_same _ (is_live c.args.clock c.args.ageing) _ (λ x b f h. search rules) _ _ c.retain.ensures.filtered
+pub returns-clause-entries : goal.returns-clause-entries
+returns-clause-entries c = filter-RetainsPairs _ (λ e. is_live c.args.clock c.args.ageing e.1) _ (λ k v b w g h. search rules) _ _ c.retain.ensures.filtered

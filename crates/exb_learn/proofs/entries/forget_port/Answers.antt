@@ -1,6 +1,6 @@
 use Rattle.std.proofs.Common.{not, ◌==◌, rules}
-use Rattle.std.proofs.lemmas.Fn.{filter_same}
+use Rattle.indexmap.proofs.CallerLemmas.{filter-RetainsPairs}
 use Rattle.exb_learn.proofs.entries.forget_port.Goals as goal
 
-pub returns-clause-items : goal.returns-clause-items
-returns-clause-items c = filter_same _ (λ e. not (e.port == c.args.port)) _ (λ x b f h. search rules) _ _ c.retain.ensures.filtered
+pub returns-clause-entries : goal.returns-clause-entries
+returns-clause-entries c = filter-RetainsPairs _ (λ e. not (e.1.port == c.args.port)) _ (λ k v b w g h. search rules) _ _ c.retain.ensures.filtered

@@ -1,21 +1,27 @@
-use Rattle.std.proofs.Common.{refl, ◌-◌, arith}
-use Rattle.std.specs.Prelude.{vec_len, vec_capacity}
+use Rattle.std.proofs.Common.{refl, arith}
 use Rattle.std.proofs.lemmas.Bool.{lt-ltb, le-ltb}
-use Rattle.exb_learn.specs.declared.entries.Entry.{Entry}
+use Rattle.exb_learn.specs.declared.entries.Station.{Station}
+use Rattle.exb_learn.specs.declared.entries.Place.{Place}
 use Rattle.exb_learn.specs.Entries.{Entries}
-use Rattle.exb_learn.proofs.Places.{table-see, table-unseen, apart_put}
+use Rattle.exb_learn.proofs.Places.{table-see, table-unseen, since_put}
 use Rattle.exb_learn.proofs.learned.Learned.see.Goals as goal
-
-pub invariant_of-self : goal.invariant_of-self
-invariant_of-self c = apart_put _ c.self.inside.entries.items _ c.put_entry.ensures c.self.invariant
 
 pub returns-then-self-gt0-clause-table : goal.returns-then-self-gt0-clause-table
 returns-then-self-gt0-clause-table c =
-    let l : Entries = record { entries = c.self.inside.entries.items; clock = c.self.inside.clock; ageing = c.self.inside.ageing; spare = vec_capacity c.self.inside.entries - vec_len c.self.inside.entries } in
-    let e : Entry = record { vid = c.args.vid; address = c.args.address; port = c.args.port; at = c.self.inside.clock } in
-    rw (← c.self.view_is) (table-see l c.put_entry.new.entries.items (vec_capacity c.put_entry.new.entries - vec_len c.put_entry.new.entries) e (lt-ltb 0 c.self.inside.ageing (omega arith)) refl c.put_entry.ensures)
+    let l : Entries = record { entries = c.self.inside.places.entries; clock = c.self.inside.clock; ageing = c.self.inside.ageing; spare = c.self.inside.room } in
+    let s : Station = record { vid = c.args.vid; address = c.args.address } in
+    let p : Place = record { port = c.args.port; at = c.self.inside.clock } in
+    rw (← c.self.view_is) (table-see l c.put_place-left.new.places.entries c.put_place-left.result s p (lt-ltb 0 c.self.inside.ageing (omega arith)) refl c.put_place-left.ensures.updates.0)
 
 pub returns-else-self-gt0-clause-table : goal.returns-else-self-gt0-clause-table
 returns-else-self-gt0-clause-table c =
-    let l : Entries = record { entries = c.self.inside.entries.items; clock = c.self.inside.clock; ageing = c.self.inside.ageing; spare = vec_capacity c.self.inside.entries - vec_len c.self.inside.entries } in
+    let l : Entries = record { entries = c.self.inside.places.entries; clock = c.self.inside.clock; ageing = c.self.inside.ageing; spare = c.self.inside.room } in
     rw (← c.self.view_is) (table-unseen l c.args.vid c.args.address.0 c.args.port (le-ltb 0 c.self.inside.ageing (omega arith)))
+
+pub invariant_of-self : goal.invariant_of-self
+invariant_of-self c = record {
+  fits = c.put_place-left.ensures.room;
+  once = c.put_place-left.ensures.unique;
+  since = since_put c.self.inside.oldest _ _ c.self.inside.places.entries _ c.self.invariant.since c.self.invariant.past c.put_place-left.ensures.updates.0;
+  past = c.self.invariant.past;
+}
