@@ -8,7 +8,6 @@ mod beginning;
 pub mod config;
 pub mod members;
 pub mod port_rules;
-pub mod port_sets;
 pub mod static_entries;
 pub mod vlan_table;
 
