@@ -58,7 +58,7 @@ hands_acknowledgement P source sequence six =
     }
 
 not_ecp : (n ports : ℕ) → pdu_in (announcement_frame n ports) ≡ Err NotEcp
-unfolding announcement
+unfolding announcement is_control_frame
 not_ecp n ports = refl
 
 pub hands_announcement : (P : ℕ → Body → Type 0) (n ports : ℕ) → Hands (announcement_frame n ports) P
