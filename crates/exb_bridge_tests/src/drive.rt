@@ -19,7 +19,7 @@ use exb_lldp::Announce;
 use exb_model::address::Mac;
 use exb_model::command::Command;
 use exb_model::event::{Cause, Event};
-use exb_model::port::{PORTS, PortId};
+use exb_model::port::PortId;
 use exb_model::port_set::PortSet;
 use exb_model::tree::Tree;
 use exb_plan::groups::is_cascade;
@@ -32,13 +32,7 @@ use std::process::Abort;
 fn are_external(tree: &Tree, set: &PortSet) -> bool
     ensures { result ≡ true → AreExternal tree.now set.now }
 {
-    for number in 0..PORTS {
-        let port = PortId::new(number).unwrap();
-        if set.contains(port) && !tree.is_external(port) {
-            return false;
-        }
-    }
-    true
+    set.is_within(&tree.external_ports())
 }
 
 // Whether a command names external ports alone.
