@@ -67,7 +67,7 @@ impl Learned {
         Ok(())
     }
 
-    /// For how many new entries there is room.
+    /// For how many new entries room is kept: what the last `reserve` found, less what was put since.
     pub fn spare(&self) -> u64
         ensures { result ≡ self.now.spare }
     {
@@ -116,7 +116,7 @@ impl Learned {
         requires { self.old.clock + seconds < 2 ^ 63 }
         ensures table { table_of self.new ≡ after_call (Tick seconds) (table_of self.old) }
         ensures clock { self.new.clock ≡ self.old.clock + seconds }
-        ensures spare { self.old.spare ≤ self.new.spare }
+        ensures spare { self.new.spare ≡ self.old.spare }
     {
         self.clock += u64::from(seconds);
         if self.clock.saturating_sub(self.oldest) >= u64::from(self.ageing) {
@@ -129,7 +129,7 @@ impl Learned {
     pub fn forget(&mut self, port: PortId)
         ensures table { table_of self.new ≡ after_call (Forget port) (table_of self.old) }
         ensures clock { self.new.clock ≡ self.old.clock }
-        ensures spare { self.old.spare ≤ self.new.spare }
+        ensures spare { self.new.spare ≡ self.old.spare }
     {
         forget_port(&mut self.places, port);
     }
