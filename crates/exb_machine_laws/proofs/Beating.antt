@@ -29,7 +29,7 @@ use Rattle.exb_change_laws.proofs.Steps.{any_steps_stand}
 use Rattle.exb_machine_laws.specs.Fixing.{fixing}
 use Rattle.exb_machine_laws.proofs.Fixing.{fixing_plans}
 use Rattle.exb_change_laws.proofs.Taking.{beat_waits, beat_serial}
-use Rattle.exb_machine.specs.Worlds.{World, at, with_near}
+use Rattle.exb_machine.specs.Worlds.{World, at, with_near, next_beat}
 use Rattle.exb_machine.specs.Effects.{Effect, each}
 use Rattle.exb_machine.specs.Extending.{reacts}
 use Rattle.exb_machine.specs.Hearing.{bridge_request, bridge_address, to_extender, sends_again, beats_near, beats_control}
@@ -196,7 +196,7 @@ module _ (t : Shape) (l : Limits) (tree : IsTree t) (setting : IsSetting t l) (r
   pub all_beats : (w : World) → IsSound t l w → AreLow w.control.askers → Stays t l w (beats_all t w)
   unfolding beats_all
   all_beats w sound low =
-      let w0 : World = record w { beats = w.beats + 1 } in
+      let w0 : World = record w { beats = next_beat w.beats } in
       let sound0 : IsSound t l w0 = quiet_sound t l tree setting w w0 sound refl refl (record { ends = sound.fits.ends; downs = sound.fits.downs; ups = sound.fits.ups }) in
       let v1 : World = (each (if_there t (beats_near t)) all_extenders w0).world in
       let q : IsQuiet w0 v1 = all_near_beat all_extenders w0 sound0 in

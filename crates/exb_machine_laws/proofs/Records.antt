@@ -56,7 +56,7 @@ use Rattle.exb_changing.specs.declared.asked.Asked.{Asked}
 use Rattle.exb_changing.specs.Deciding.{decide}
 use Rattle.exb_changing.specs.Machine.{Moved, answered, ordered, beats}
 use Rattle.exb_change_laws.specs.Planned.{IsSetting}
-use Rattle.exb_machine.specs.Worlds.{World, Way, Up, Down, Step, Arrive, Carry, Control, Lose, Beat, Tick, Order, Mark, push_up, with_near, with_far, with_control, with_table}
+use Rattle.exb_machine.specs.Worlds.{World, Way, Up, Down, Step, Arrive, Carry, Control, Lose, Beat, Tick, Order, Mark, push_up, with_near, with_far, with_control, with_table, next_beat}
 use Rattle.exb_machine.specs.Effects.{Effect, only, each}
 use Rattle.exb_machine.specs.Extending.{hung_on, port_number, sent_at, sent_to, sends, does, reacts, takes_from_below, stamp_of, does_or_ignores, arrives_at}
 use Rattle.exb_machine.specs.Controls.{channel_at_trunk, forgotten_all, taught, announced}
@@ -360,7 +360,7 @@ module _ (t : Shape) (l : Limits) (tree : IsTree t) (setting : IsSetting t l) (r
   beat_fit : (w : World) → AreOfRecords t h w → AreOfRecords t h (beats_all t w).world
   unfolding beats_all
   beat_fit w k =
-      let w0 : World = record w { beats = w.beats + 1 } in
+      let w0 : World = record w { beats = next_beat w.beats } in
       let v1 : World = (each (if_there t (beats_near t)) all_extenders w0).world in
       let v2 : World = (beats_control t v1).world in
       far_fit all_extenders v2

@@ -50,7 +50,7 @@ use Rattle.exb_relay.specs.declared.send.SendTo.{SendTo}
 use Rattle.exb_changing.specs.declared.asked.Asked.{Asked}
 use Rattle.exb_changing.specs.Deciding.{decide}
 use Rattle.exb_changing.specs.Machine.{Moved, answered, ordered, beats}
-use Rattle.exb_machine.specs.Worlds.{World, Way, Up, Down, Step, Arrive, Carry, Control, Lose, Beat, Tick, Order, Mark, control_word, push_down, push_up, with_near, with_far, with_control, with_table, first_world}
+use Rattle.exb_machine.specs.Worlds.{World, Way, Up, Down, Step, Arrive, Carry, Control, Lose, Beat, Tick, Order, Mark, control_word, push_down, push_up, with_near, with_far, with_control, with_table, first_world, next_beat}
 use Rattle.exb_machine.specs.Effects.{Effect, only, each}
 use Rattle.exb_machine.specs.Extending.{hung_on, port_number, sent_at, sent_to, sends, does, reacts, takes_from_above, takes_from_below, stamp_of, ignored, does_or_ignores, arrives_at}
 use Rattle.exb_machine.specs.Controls.{channel_at_trunk, forgotten_all, taught, announced}
@@ -411,7 +411,7 @@ module _ (t : Shape) (l : Limits) where
   beat_stamped : (w : World) → AreStamped w → AreStamped (beats_all t w).world
   unfolding beats_all
   beat_stamped w k =
-      let w0 : World = record w { beats = w.beats + 1 } in
+      let w0 : World = record w { beats = next_beat w.beats } in
       let v1 : World = (each (if_there t (beats_near t)) all_extenders w0).world in
       let v2 : World = (beats_control t v1).world in
       there_stamped (λ n. reacts t n None Beats) far_stamped all_extenders v2

@@ -29,7 +29,7 @@ use Rattle.exb_link.specs.declared.word.Word.{Word}
 use Rattle.exb_link.specs.Words.{is_control, is_data, without_data}
 use Rattle.exb_changing.specs.Deciding.{decide}
 use Rattle.exb_changing.specs.Machine.{Moved, answered, heard, ordered, beats}
-use Rattle.exb_machine.specs.Worlds.{World, Way, Up, Down, Step, Arrive, Carry, Control, Lose, Beat, Tick, Order, Mark, with_near}
+use Rattle.exb_machine.specs.Worlds.{World, Way, Up, Down, Step, Arrive, Carry, Control, Lose, Beat, Tick, Order, Mark, with_near, next_beat}
 use Rattle.exb_machine.specs.Effects.{Effect, only, each}
 use Rattle.exb_machine.specs.Extending.{port_number, reacts, takes_from_below, stamp_of, does_or_ignores, arrives_at}
 use Rattle.exb_machine.specs.Controls.{is_of}
@@ -202,7 +202,7 @@ module _ (t : Shape) (l : Limits) where
   beat_events : (w : World) → (beats_all t w).events ≡ []
   unfolding beats_all
   beat_events w =
-      let w0 : World = record w { beats = w.beats + 1 } in
+      let w0 : World = record w { beats = next_beat w.beats } in
       let near : Effect = each (if_there t (beats_near t)) all_extenders w0 in
       let beat : Effect = beats_control t near.world in
       let far : Effect = each (if_there t (λ n. reacts t n None Beats)) all_extenders beat.world in

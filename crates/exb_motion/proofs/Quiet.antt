@@ -41,7 +41,7 @@ use Rattle.exb_relay.specs.declared.send.SendTo.{SendTo}
 use Rattle.exb_changing.specs.declared.asked.Asked.{Asked}
 use Rattle.exb_changing.specs.Deciding.{decide}
 use Rattle.exb_changing.specs.Machine.{Moved, answered, beats}
-use Rattle.exb_machine.specs.Worlds.{World, control_word, push_down, push_up, with_near, with_far, with_control, with_table}
+use Rattle.exb_machine.specs.Worlds.{World, control_word, push_down, push_up, with_near, with_far, with_control, with_table, next_beat}
 use Rattle.exb_machine.specs.Effects.{Effect, only, each}
 use Rattle.exb_machine.specs.Extending.{hung_on, port_number, stamp_of, sent_at, sent_to, sends, does, reacts, takes_from_above, takes_from_below}
 use Rattle.exb_machine.specs.Controls.{channel_at_trunk, forgotten_all, taught, announced}
@@ -279,7 +279,7 @@ module _ (words : ℕ → List Datum) (next : ℕ → ℕ) where
     pub beat_has : (w : World) → Has words next w → Has words next (beats_all t w).world
     unfolding beats_all
     beat_has w k =
-        let w0 : World = record w { beats = w.beats + 1 } in
+        let w0 : World = record w { beats = next_beat w.beats } in
         let v1 : World = (each (if_there t (beats_near t)) all_extenders w0).world in
         let v2 : World = (beats_control t v1).world in
         there_has (λ n. reacts t n None Beats) far_has all_extenders v2

@@ -27,7 +27,7 @@ use Rattle.exb_change_laws.specs.Planned.{IsSetting}
 use Rattle.exb_change_laws.specs.Systems.{Beat as BeatStep, stepped as machine_stepped}
 use Rattle.exb_change_laws.proofs.Knowing.{steps_know}
 use Rattle.exb_change_laws.proofs.Steps.{any_steps_stand}
-use Rattle.exb_machine.specs.Worlds.{World, Beat, with_near, at}
+use Rattle.exb_machine.specs.Worlds.{World, Beat, with_near, at, next_beat}
 use Rattle.exb_machine.specs.Effects.{only, each}
 use Rattle.exb_machine.specs.Extending.{reacts}
 use Rattle.exb_machine_laws.specs.Fixing.{fixing}
@@ -164,7 +164,7 @@ module _ (t : Shape) (l : Limits) (tree : IsTree t) (setting : IsSetting t l) (r
 pub beat_puts : (t : Shape) (l : Limits) (tree : IsTree t) (setting : IsSetting t l) (round : TagRoundTrip) (w : World) → IsGoing t l w → AreLow w.control.askers → Puts t l tree (first_held t l) w (stepped t l Beat w).world
 beat_puts t l tree setting round w k low = (let P : World → Type 0 = λ v. Puts t l tree (first_held t l) w v in subst P (sym (stepped_is t l w)) all)
   where
-    may : MayBeat t l tree (first_held t l) (record w { beats = w.beats + 1 })
+    may : MayBeat t l tree (first_held t l) (record w { beats = next_beat w.beats })
     may =
         record {
           repeats = λ n x s. (((k.sound.fits.ends.asking n).each x s).1, ((w.control.askers n).serial, ((k.near n).sending x s).reads));
@@ -186,8 +186,8 @@ beat_puts t l tree setting round w k low = (let P : World → Type 0 = λ v. Put
     all =
         grows_then t l (λ m y. WordPlaced t (first_held t l) ReadsDown m y) (λ m y. WordPlaced t (first_held t l) (ReadsUp t) m y) w (after_control t 1 64 w) (after_all t 1 64 w)
         (grows_then t l (λ m y. WordPlaced t (first_held t l) ReadsDown m y) (λ m y. WordPlaced t (first_held t l) (ReadsUp t) m y) w (after_near t 1 64 w) (after_control t 1 64 w)
-        (grows_then t l (λ m y. WordPlaced t (first_held t l) ReadsDown m y) (λ m y. WordPlaced t (first_held t l) (ReadsUp t) m y) w (record w { beats = w.beats + 1 }) (after_near t 1 64 w)
-        (same_links t l (λ m y. WordPlaced t (first_held t l) ReadsDown m y) (λ m y. WordPlaced t (first_held t l) (ReadsUp t) m y) w (record w { beats = w.beats + 1 }) refl refl)
-        (near_puts t l tree (first_held t l) 1 64 (record w { beats = w.beats + 1 }) may))
+        (grows_then t l (λ m y. WordPlaced t (first_held t l) ReadsDown m y) (λ m y. WordPlaced t (first_held t l) (ReadsUp t) m y) w (record w { beats = next_beat w.beats }) (after_near t 1 64 w)
+        (same_links t l (λ m y. WordPlaced t (first_held t l) ReadsDown m y) (λ m y. WordPlaced t (first_held t l) (ReadsUp t) m y) w (record w { beats = next_beat w.beats }) refl refl)
+        (near_puts t l tree (first_held t l) 1 64 (record w { beats = next_beat w.beats }) may))
         (moves_puts t l tree (first_held t l) (control_step (after_near t 1 64 w).control) (after_near t 1 64 w) well))
         (far_puts t l tree setting round w k.sound 1 64 (after_control t 1 64 w) speak)
