@@ -5,3 +5,4 @@ pub mod Laws
 pub mod Journal
 pub mod Stamped
 pub mod Carried
+pub mod Asks

@@ -2,6 +2,7 @@
 ghost use Rattle.exb_machine_laws.specs.Laws.{BeginsSound, StepsStaySound, RunsStaySound, ControlGoesOn, SettledIsAtRest, RoundsAreSteps, SettledExactly, TakingLeavesItsDirection, DirectionsGoInOrder, SetupsBeginSound};
 ghost use Rattle.exb_machine_laws.specs.Journal.{StepsTellByKind, StepsTellJobs, RunsTellJobs, JournalDecidesOnce, SetupsDecideOnce, IdleTellsAll};
 ghost use Rattle.exb_machine_laws.specs.Carried.{StepsKeepRecords, RunsKeepRecords, BeginsWithRecords, RecordsTellOnce};
+ghost use Rattle.exb_machine_laws.specs.Asks.{AsksCanBeSent};
 ghost use Rattle.exb_machine_laws.specs.Stamped.{DataIsStamped, CarriesTellOnce, ExtendersIgnore};
 
 use exb_change_laws::laws::steps_tell;
@@ -31,6 +32,12 @@ pub fn runs_stay_sound()
 {
     tag_round_trip();
 }
+
+/// In a sound world each message that the machine of changes asks at an answer, an announcement, a command or a beat goes
+/// to an extender of the tree, can be written, fits and is short, where the serials after the step fit their field.
+pub fn asks_can_be_sent()
+    ensures { AsksCanBeSent }
+{}
 
 /// A control frame for a deeper extender is sent on towards it as it is, at its port without the E-TAG, and nowhere
 /// else.
