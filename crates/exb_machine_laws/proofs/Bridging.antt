@@ -31,6 +31,7 @@ use Rattle.exb_machine.specs.Hearing.{hears}
 use Rattle.exb_machine.specs.Relaying.{puts_word, sent_by, sends_in, sends_all, sends_for, comes, arrival_by, comes_from, holder_by, hung_at, hears_from, takes_control, bridge_takes}
 use Rattle.exb_machine_laws.specs.Sessions.{Hands, Each, AskedOf, StoredAt, IsFrameOn, IsOnWay, FitsOn, WordFits, AreLow}
 use Rattle.exb_machine_laws.specs.Simulation.{jobs_in, system_of, IsSound, Stays}
+use Rattle.exb_machine_laws.proofs.Bytes.{stripped_bytes}
 use Rattle.exb_machine_laws.proofs.Frames.{bare_is, read_typed, tagged_to_control, egress_to_control, egress_long, control_refused, relayed_long}
 use Rattle.exb_machine_laws.proofs.Links.{same_heart, AreLinked, IsDone, pushed_down, none_done, each_done}
 use Rattle.exb_machine_laws.proofs.Forwarding.{read_way}
@@ -45,29 +46,6 @@ use Rattle.exb_machine_laws.proofs.Words.{each_append}
 
 both_ways : (b : Bool) → b ≡ true → b ≡ false → ⊥
 both_ways b x y = cc
-
--- ---- bytes
-each_byte : (f : List ℕ) → IsBytes f → Each (λ b. b < 256) f
-each_byte [] bytes = tt
-each_byte (b ∷ f) bytes = (bytes 0, each_byte f (λ i. bytes (suc i)))
-
-byte_each : (f : List ℕ) → Each (λ b. b < 256) f → IsBytes f
-byte_each [] all i = omega arith
-byte_each (b ∷ f) all zero = all.0
-byte_each (b ∷ f) all (suc i) = byte_each f all.1 i
-
-each_take : (n : ℕ) (f : List ℕ) → Each (λ b. b < 256) f → Each (λ b. b < 256) (take n f)
-each_take zero f all = tt
-each_take (suc n) [] all = tt
-each_take (suc n) (b ∷ f) all = (all.0, each_take n f all.1)
-
-each_drop : (n : ℕ) (f : List ℕ) → Each (λ b. b < 256) f → Each (λ b. b < 256) (drop n f)
-each_drop zero f all = all
-each_drop (suc n) [] all = tt
-each_drop (suc n) (b ∷ f) all = each_drop n f all.1
-
-pub stripped_bytes : (f : List ℕ) → IsBytes f → IsBytes (stripped f)
-stripped_bytes f bytes = let all = each_byte f bytes in byte_each (stripped f) (each_append (λ (b : ℕ). b < 256) (take 12 f) (drop 20 f) (each_take 12 f all) (each_drop 20 f all))
 
 each_all : {A : Type 0} (xs : List A) → Each (λ x. Unit {0}) xs
 each_all [] = tt

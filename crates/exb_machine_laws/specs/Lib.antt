@@ -6,3 +6,4 @@ pub mod Journal
 pub mod Stamped
 pub mod Carried
 pub mod Asks
+pub mod Written

@@ -4,9 +4,11 @@ ghost use Rattle.exb_machine_laws.specs.Journal.{StepsTellByKind, StepsTellJobs,
 ghost use Rattle.exb_machine_laws.specs.Carried.{StepsKeepRecords, RunsKeepRecords, BeginsWithRecords, RecordsTellOnce};
 ghost use Rattle.exb_machine_laws.specs.Asks.{AsksCanBeSent};
 ghost use Rattle.exb_machine_laws.specs.Stamped.{DataIsStamped, CarriesTellOnce, ExtendersIgnore};
+ghost use Rattle.exb_machine_laws.specs.Written.{BeginsWritten, StepsStayWritten, WrittenAreShort};
 
-use exb_change_laws::laws::steps_tell;
+use exb_change_laws::laws::{held_are_numbers, ready_midway, steps_tell};
 use exb_frame::laws::tag_round_trip;
+use exb_relay::laws::sends_are_words;
 
 /// The world is sound as it begins: nothing is on its links, no request was asked, and the machine of changes stands
 /// beside the tables of all extenders.
@@ -37,6 +39,27 @@ pub fn runs_stay_sound()
 /// to an extender of the tree, can be written, fits and is short, where the serials after the step fit their field.
 pub fn asks_can_be_sent()
     ensures { AsksCanBeSent }
+{}
+
+/// As a world begins, what stands on its links and what the ends of the transport send is bytes, and short.
+pub fn begins_written()
+    ensures { BeginsWritten }
+{}
+
+/// Each step that may be made keeps it, where a frame that arrives is a list of bytes and PVIDs are VLANs: so that words are
+/// bytes is no premise of a run.
+pub fn steps_stay_written()
+    ensures { StepsStayWritten }
+{
+    tag_round_trip();
+    sends_are_words();
+    ready_midway();
+    held_are_numbers();
+}
+
+/// So each word on a link is a list of bytes, and of at most 9,232.
+pub fn written_are_short()
+    ensures { WrittenAreShort }
 {}
 
 /// A control frame for a deeper extender is sent on towards it as it is, at its port without the E-TAG, and nowhere

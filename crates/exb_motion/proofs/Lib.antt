@@ -9,4 +9,5 @@ pub mod Standing
 mod Pairs
 mod Marks
 mod Telling
+mod Going
 mod Setups

@@ -3,3 +3,4 @@ pub mod Stands
 pub mod Kept
 pub mod Marks
 pub mod Events
+pub mod Going

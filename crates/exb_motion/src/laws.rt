@@ -1,10 +1,12 @@
 //! What is true of a world after every step and every list of steps.
 ghost use Rattle.exb_motion.specs.Kept.{SetupsMayStart, BeginsKept, StepsKeep, KeptStands, KeptIsClean, SettledOwesNothing, RunsStand};
 ghost use Rattle.exb_motion.specs.Events.{StepsTellSo};
+ghost use Rattle.exb_motion.specs.Going.{StepsGoOn, RunsGoOn, SetupsGoOn};
 ghost use Rattle.exb_motion.specs.Marks.{SettledIsOrderly, SegmentsArePlayed};
 
 use exb_change_laws::laws::steps_tell;
 use exb_frame::laws::tag_round_trip;
+use exb_machine_laws::laws::steps_stay_written;
 use exb_relay::laws::{sends_are_words, sends_leave_as_flat};
 
 /// The world of each valid setup begins where these laws begin.
@@ -76,4 +78,35 @@ pub fn segments_are_played()
     sends_are_words();
     sends_leave_as_flat();
     steps_tell();
+}
+
+/// Of a world that is kept and whose words are bytes and short, each step that may be made is one of which these laws speak, and words
+/// stay so: that words are bytes is no premise of a run.
+pub fn steps_go_on()
+    ensures { StepsGoOn }
+{
+    steps_stay_written();
+}
+
+/// So each run from the beginning is one of which all laws speak, and at its end each word on a link is a list of bytes, and of at
+/// most 9,232.
+pub fn runs_go_on()
+    ensures { RunsGoOn }
+{
+    tag_round_trip();
+    sends_are_words();
+    sends_leave_as_flat();
+    steps_tell();
+    steps_stay_written();
+}
+
+/// And so is each run of the world of a valid setup.
+pub fn setups_go_on()
+    ensures { SetupsGoOn }
+{
+    tag_round_trip();
+    sends_are_words();
+    sends_leave_as_flat();
+    steps_tell();
+    steps_stay_written();
 }

@@ -51,7 +51,7 @@ use Rattle.exb_machine.specs.Extending.{hung_on}
 use Rattle.exb_machine.specs.Hearing.{bridge_request, bridge_acknowledgement, puts_tagged, to_extender, asks, moves, stops, hears_message, hears_fresh, hears_request, hears_pdu, hears_frame, hears}
 use Rattle.exb_machine.specs.Relaying.{puts_word, sent_by, sends_in, sends_all, sends_for, comes, arrival_by, comes_from, holder_by, hung_at, hears_from, takes_control, bridge_takes}
 use Rattle.exb_machine_laws.specs.Sessions.{Each, KeepsCascades, CanBeSent}
-use Rattle.exb_machine_laws.proofs.Bridging.{stripped_bytes}
+use Rattle.exb_machine_laws.proofs.Bytes.{stripped_bytes}
 use Rattle.exb_machine_laws.proofs.Frames.{bare_spelled, tagged_to_control, egress_to_control, egress_long, control_refused, relayed_long}
 use Rattle.exb_machine_laws.proofs.Trees.{hung_is, extender_there, above_there, trunk_above, trunk_low_on}
 use Rattle.exb_resting.specs.Ends.{Message as Note}

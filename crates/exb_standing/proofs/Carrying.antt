@@ -40,7 +40,7 @@ use Rattle.exb_standing.proofs.Items.{thins_append, items_append, items_data}
 use Rattle.exb_machine.specs.Relaying.{arrival_by, holder_by, comes_from, bridge_takes}
 use Rattle.exb_machine.specs.Stepping.{first_data}
 use Rattle.exb_machine_laws.specs.Simulation.{IsSound}
-use Rattle.exb_machine_laws.proofs.Bridging.{stripped_bytes}
+use Rattle.exb_machine_laws.proofs.Bytes.{stripped_bytes}
 use Rattle.exb_machine_laws.proofs.Words.{each_filter, each_get}
 use Rattle.exb_flight.specs.Items.{Word as Datum, Item, Data, words_of}
 use Rattle.exb_flight.specs.Items as items
