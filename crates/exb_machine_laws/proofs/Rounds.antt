@@ -30,7 +30,7 @@ module _ (t : Shape) (l : Limits) where
   unfolding run
   one_step step w = then_nothing (stepped t l step w)
 
-  run_then : (xs ys : List Step) (w : World) → run t l (xs ++ ys) w ≡ followed_by (run t l xs w) (run t l ys (run t l xs w).world)
+  pub run_then : (xs ys : List Step) (w : World) → run t l (xs ++ ys) w ≡ followed_by (run t l xs w) (run t l ys (run t l xs w).world)
   unfolding run
   run_then [] ys w = refl
   run_then (x ∷ xs) ys w =

@@ -10,4 +10,9 @@ mod Pairs
 mod Marks
 mod Telling
 mod Going
+mod Ticks
+mod InFile
+mod Opening
+mod Numbers
+mod Playing
 mod Setups

@@ -131,7 +131,7 @@ other t p q outer ext =
     both : (b : Bool) → b ≡ true → b ≡ false → ⊥
     both b x y = cc
 
-none_told : (t : Shape) (g : List Given) (p : ℕ) (es : List Event) → is_external t p ≡ false → Each (IsOfArrival t g) es → of_port p es ≡ []
+pub none_told : (t : Shape) (g : List Given) (p : ℕ) (es : List Event) → is_external t p ≡ false → Each (IsOfArrival t g) es → of_port p es ≡ []
 none_told t g p [] outer k = refl
 none_told t g p (event.Relay q m s f ∷ es) outer k = rw (other t p q outer k.0.0) (none_told t g p es outer k.1)
 none_told t g p (event.Ignored q m ∷ es) outer k = rw (other t p q outer k.0) (none_told t g p es outer k.1)

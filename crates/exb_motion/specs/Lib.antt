@@ -4,3 +4,4 @@ pub mod Kept
 pub mod Marks
 pub mod Events
 pub mod Going
+pub mod Playing

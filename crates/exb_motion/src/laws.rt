@@ -2,6 +2,7 @@
 ghost use Rattle.exb_motion.specs.Kept.{SetupsMayStart, BeginsKept, StepsKeep, KeptStands, KeptIsClean, SettledOwesNothing, RunsStand};
 ghost use Rattle.exb_motion.specs.Events.{StepsTellSo};
 ghost use Rattle.exb_motion.specs.Going.{StepsGoOn, RunsGoOn, SetupsGoOn};
+ghost use Rattle.exb_motion.specs.Playing.{RunsPlayLegally};
 ghost use Rattle.exb_motion.specs.Marks.{SettledIsOrderly, SegmentsArePlayed};
 
 use exb_change_laws::laws::steps_tell;
@@ -103,6 +104,19 @@ pub fn runs_go_on()
 /// And so is each run of the world of a valid setup.
 pub fn setups_go_on()
     ensures { SetupsGoOn }
+{
+    tag_round_trip();
+    sends_are_words();
+    sends_leave_as_flat();
+    steps_tell();
+    steps_stay_written();
+}
+
+/// A run that plays the opening and then the segments of an input, in the eager mode or in a seeded one, each settled and marked,
+/// tells a history that the input allows: of each segment the seconds pass in one tick, its commands are given in order, and its
+/// arrivals, each once and in any order.
+pub fn runs_play_legally()
+    ensures { RunsPlayLegally }
 {
     tag_round_trip();
     sends_are_words();
