@@ -15,4 +15,5 @@ mod InFile
 mod Opening
 mod Numbers
 mod Playing
+mod Eager
 mod Setups

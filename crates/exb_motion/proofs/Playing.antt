@@ -1,6 +1,6 @@
 -- A run that plays an input tells a history that the input allows.
 use Rattle.std.proofs.Common.{◌≡◌, ℕ, zero, suc, ◌+◌, ◌<◌, ◌≤◌, ◌==◌, ◌++◌, Bool, true, false, cond, List, [], ◌∷◌, length, map, reverse, Option, Some, None, refl, ap, sym, ◌∙◌, subst, arith, inl, inr, append_assoc, length-append}
-use Rattle.std.specs.Prelude.{filter_map, flat_map, All, AllPairs, IsPermutation}
+use Rattle.std.specs.Prelude.{is_some, filter_map, flat_map, All, AllPairs, IsPermutation}
 use Rattle.std.specs.List.{range_with_len}
 use Rattle.std.proofs.lemmas.Bool.{cases_Bool}
 use Rattle.std.proofs.lemmas.List.{append-nil}
@@ -9,13 +9,13 @@ use Rattle.std.proofs.lemmas.List.Sorted.{IsPermutation-trans, IsPermutation-map
 use Rattle.exb_model.specs.declared.command.Command.{Command}
 use Rattle.exb_model.specs.declared.event.Event.{Event}
 use Rattle.exb_model.specs.declared.event.Event.TheVariants as event
-use Rattle.exb_model.specs.EagerHistory.{opening}
+use Rattle.exb_model.specs.EagerHistory.{opening, eagerly, eager}
 use Rattle.exb_model.specs.History.{Basis, History, ◌then◌, command_of}
-use Rattle.exb_model.specs.Input.{Input, Arrival, Segment, Mode, tree_of, bounds_of, segments}
+use Rattle.exb_model.specs.Input.{Input, Arrival, Segment, Mode, Eager, tree_of, bounds_of, segments}
 use Rattle.exb_model.specs.Input.{basis_of as basis_in, arrivals_at as arrivals_in}
 use Rattle.exb_model.specs.LegalHistory.{EachEvent, IsOfSegment, settled_each, number_of, place_of, of_port, PlaysCommands, IsDecided, PlaysArrivals, IsInOrder, IsEntered, PlaysTick, Legal}
 use Rattle.exb_model.specs.Lists.{numbered, Pairwise}
-use Rattle.exb_model.specs.Setup.{Limits, start_of}
+use Rattle.exb_model.specs.Setup.{Limits, IsValid, start_of}
 use Rattle.exb_model.specs.Tree.{Shape, is_external, is_extended, opening_ports}
 use Rattle.exb_frame.specs.TagValues.{TagRoundTrip}
 use Rattle.exb_relay.specs.Laws.{SendsAreWords, SendsLeaveAsFlat}
@@ -23,7 +23,7 @@ use Rattle.exb_change_laws.specs.Journal.{StepsTell}
 use Rattle.exb_machine.specs.Allowing.{IsSettled}
 use Rattle.exb_machine.specs.Settling.{run}
 use Rattle.exb_machine.specs.Stepping.{Stepped, stepped}
-use Rattle.exb_machine.specs.Worlds.{World, Step, Mark, Left, first_world}
+use Rattle.exb_machine.specs.Worlds.{World, Step, Tick, Mark, Left, first_world}
 use Rattle.exb_machine_laws.specs.Written.{StepsStayWritten}
 use Rattle.exb_machine_laws.proofs.Rounds.{run_then}
 use Rattle.exb_flight.specs.Items.{Each}
@@ -31,9 +31,11 @@ use Rattle.exb_flight.specs.Naming.{times, firsts}
 use Rattle.exb_standing.proofs.Standing.{then_append}
 use Rattle.exb_motion.specs.Given.{Given, given_by, arrivals_of, arrivals_at, commands_of, indices_of, basis_with}
 use Rattle.exb_motion.specs.Stands.{up_port, IsOfArrival, IsRightly, IsRisen, Stands}
-use Rattle.exb_motion.specs.Kept.{MayStart, MayDo, MayDoAll, given_in, Kept, basis_of}
+use Rattle.exb_motion.specs.Kept.{MayStart, HasVid, MayDo, MayDoAll, given_in, Kept, basis_of}
 use Rattle.exb_motion.specs.Marks.{IsOrderly, IsPlayed}
-use Rattle.exb_motion.specs.Playing.{seconds_in, IsUnmarked, Plays, nothing_given, marked_each, PlayAll, IsTimely, RunsPlayLegally}
+use Rattle.exb_motion.specs.Playing.{seconds_in, IsUnmarked, Plays, nothing_given, marked_each, PlayAll, IsTimely, RunsPlayLegally, IsEager, RunsPlayEagerly}
+use Rattle.exb_motion.specs.Going.{MayGoAll}
+use Rattle.exb_motion.proofs.Eager.{IsSingle, eager_singles, TellsFirst, eager_is}
 use Rattle.exb_motion.proofs.Going.{runs_go_on}
 use Rattle.exb_motion.proofs.InFile.{IsNumberedIn, segments_numbered, in_file_order}
 use Rattle.exb_motion.proofs.Jobs.{reverse_then}
@@ -70,6 +72,17 @@ given_both (x ∷ xs) ys = ap (λ (g : List Given). given_by x ++ g) (given_both
 
 -- ---- steps, and a mark after them
 module _ (t : Shape) (l : Limits) where
+  told_first : (none : Bool) (seconds : ℕ) (rest : List Step) (w : World) → (es : List Event) × ((run t l (cond none [] (Tick seconds ∷ []) ++ rest) w).events ≡ cond none [] (event.Tick seconds ∷ []) ++ es)
+  unfolding run stepped
+  told_first true seconds rest w = ((run t l rest w).events, refl)
+  told_first false seconds rest w = ((run t l rest (stepped t l (Tick seconds) w).world).events, refl)
+
+  -- where the seconds of a segment pass first, that is told first
+  tells_first : (s : Segment) (xs : List Step) (w : World) → IsEager s xs → TellsFirst s (run t l xs w).events
+  tells_first s xs w e =
+      let k = told_first (s.seconds == 0) s.seconds e.rest w in
+      record { rest = k.0; is = ap (λ (zs : List Step). (run t l zs w).events) e.is ∙ k.1 }
+
   may_split : (xs ys : List Step) (w : World) → MayDoAll t l w (xs ++ ys) → MayDoAll t l w xs × MayDoAll t l (run t l xs w).world ys
   unfolding run
   may_split [] ys w may = (tt, may)
@@ -113,7 +126,7 @@ module _ (round : TagRoundTrip) (words : SendsAreWords) (leave : SendsLeaveAsFla
       }
 
   -- ---- all segments
-  record AreParts (ss : List Segment) (es : List Event) (given : List Given) : Type 0 where
+  record AreParts (ss : List Segment) (xss : List (List Step)) (es : List Event) (given : List Given) : Type 0 where
     plays : List (List Event)
     is : es ≡ settled_each plays
     of_segments : All (All IsOfSegment) plays
@@ -122,6 +135,7 @@ module _ (round : TagRoundTrip) (words : SendsAreWords) (leave : SendsLeaveAsFla
     ticks : Pairwise PlaysTick ss plays
     told : commands_of given ≡ filter_map (command_of b) (flat_map (λ (s : Segment). s.commands) ss)
     came : Each P (arrivals_of given)
+    firsts : Pairwise IsEager ss xss → Pairwise TellsFirst ss plays
 
   -- what follows a segment's steps and their mark
   record GoesOn (s : Segment) (xs : List Step) (w : World) (g : List Given) : Type 0 where
@@ -138,9 +152,9 @@ module _ (round : TagRoundTrip) (words : SendsAreWords) (leave : SendsLeaveAsFla
 
   parts : (ss : List Segment) (xss : List (List Step)) (w : World) (g : List Given) (h : History) (left : List Left) → Kept t l i w g h left → IsSettled t w → MayDoAll t l w (marked_each xss) →
       PlayAll t l b w ss xss → GoOn b (length (commands_of g) + 1) ss → Each (λ (s : Segment). Each P s.arrivals) ss →
-      AreParts ss (run t l (marked_each xss) w).events (given_in (marked_each xss)) × IsSettled t (run t l (marked_each xss) w).world
+      AreParts ss xss (run t l (marked_each xss) w).events (given_in (marked_each xss)) × IsSettled t (run t l (marked_each xss) w).world
   unfolding run
-  parts [] [] w g h left k settled may plays goes all = (record { plays = []; is = refl; of_segments = All-nil (All IsOfSegment); commands = tt; arrivals = tt; ticks = tt; told = refl; came = tt }, settled)
+  parts [] [] w g h left k settled may plays goes all = (record { plays = []; is = refl; of_segments = All-nil (All IsOfSegment); commands = tt; arrivals = tt; ticks = tt; told = refl; came = tt; firsts = λ z. tt }, settled)
   parts [] (xs ∷ xss) w g h left k settled may plays goes all = absurd plays
   parts (s ∷ ss) [] w g h left k settled may plays goes all = absurd plays
   parts (s ∷ ss) (xs ∷ xss) w g h left k settled may plays goes all =
@@ -152,7 +166,7 @@ module _ (round : TagRoundTrip) (words : SendsAreWords) (leave : SendsLeaveAsFla
       let next = runs_kept round words leave law t l i start ys w g h left k m.0 in
       let one : IsPart s (run t l xs w).events = part w g h left k settled s xs first.0 plays.0 goes.0 goes.1 in
       let rest = parts ss xss v (g ++ given_in ys) (h then (run t l ys w).events) (left ++ (run t l ys w).left) next on.settled m.1 plays.1 (subst (λ (n : ℕ). GoOn b n ss) (sym on.next) goes.2) all.1 in
-      let r : AreParts ss (run t l (marked_each xss) v).events (given_in (marked_each xss)) = rest.0 in
+      let r : AreParts ss xss (run t l (marked_each xss) v).events (given_in (marked_each xss)) = rest.0 in
       let e = run_then t l ys (marked_each xss) w in
       let given : given_in (ys ++ marked_each xss) ≡ given_in xs ++ given_in (marked_each xss) = given_both ys (marked_each xss) ∙ ap (λ (z : List Given). z ++ given_in (marked_each xss)) on.given in
       let came : Each P (arrivals_of (given_in xs)) = each_of P (arrivals_of (given_in xs)) (All-permutation P s.arrivals (arrivals_of (given_in xs)) (IsPermutation-sym (arrivals_of (given_in xs)) s.arrivals plays.0.arrivals) (all_of P s.arrivals all.0)) in (
@@ -168,6 +182,7 @@ module _ (round : TagRoundTrip) (words : SendsAreWords) (leave : SendsLeaveAsFla
               ∙ (ap (λ (cs : List Command). cs ++ commands_of (given_in (marked_each xss))) plays.0.commands
               ∙ (ap (λ (cs : List Command). filter_map (command_of b) s.commands ++ cs) r.told ∙ sym (filter_map-append (command_of b) s.commands (flat_map (λ (z : Segment). z.commands) ss)))));
           came = subst (Each P) (sym (ap arrivals_of given ∙ arrivals_both (given_in xs) (given_in (marked_each xss)))) (each_both P (arrivals_of (given_in xs)) (arrivals_of (given_in (marked_each xss))) came r.came);
+          firsts = λ z. (tells_first t l s xs w z.0, r.firsts z.1);
         },
         subst (IsSettled t) (sym (ap (λ (z : Stepped). z.world) e)) rest.1,
       )
@@ -211,7 +226,7 @@ module _ (round : TagRoundTrip) (words : SendsAreWords) (leave : SendsLeaveAsFla
   each_risen a arrivals (e ∷ h) k = (each_risen a arrivals h k.0, k.1.risen)
 
   -- all that is legal of a run, but that its commands and arrivals are those of an input
-  record IsLegal (ss : List Segment) (h : History) (given : List Given) : Type 0 where
+  record IsLegal (ss : List Segment) (xss : List (List Step)) (h : History) (given : List Given) : Type 0 where
     plays : List (List Event)
     segments_in_order : h ≡ (opening t l (basis_with i given) then settled_each plays)
     of_segments : All (All IsOfSegment) plays
@@ -223,9 +238,10 @@ module _ (round : TagRoundTrip) (words : SendsAreWords) (leave : SendsLeaveAsFla
     ticks : Pairwise PlaysTick ss plays
     told : commands_of given ≡ filter_map (command_of b) (flat_map (λ (s : Segment). s.commands) ss)
     came : Each P (arrivals_of given)
+    firsts : Pairwise IsEager ss xss → Pairwise TellsFirst ss plays
 
   legal : (ss : List Segment) (os : List Step) (xss : List (List Step)) → let w = first_world t l i.start i.ageing in MayDoAll t l w (marked_each (os ∷ xss)) → PlayAll t l b w (nothing_given ∷ ss) (os ∷ xss) →
-      GoOn b 1 ss → Each (λ (s : Segment). Each P s.arrivals) ss → IsLegal ss ([] then (run t l (marked_each (os ∷ xss)) w).events) (given_in (marked_each (os ∷ xss)))
+      GoOn b 1 ss → Each (λ (s : Segment). Each P s.arrivals) ss → IsLegal ss xss ([] then (run t l (marked_each (os ∷ xss)) w).events) (given_in (marked_each (os ∷ xss)))
   legal ss os xss may plays goes all =
       let w : World = first_world t l i.start i.ageing in
       let ys : List Step = os ++ Mark ∷ [] in
@@ -240,7 +256,7 @@ module _ (round : TagRoundTrip) (words : SendsAreWords) (leave : SendsLeaveAsFla
       let next = runs_kept round words leave law t l i start ys w [] [] [] k m.0 in
       let settled : IsSettled t v = subst (IsSettled t) (sym (marked t l os w).world) plays.0.settled in
       let rest = parts ss xss v (given_in ys) ([] then (run t l ys w).events) (run t l ys w).left next settled m.1 plays.1 (subst (λ (cs : List Command). GoOn b (length cs + 1) ss) (sym none_told_yet) goes) all in
-      let r : AreParts ss (run t l (marked_each xss) v).events (given_in (marked_each xss)) = rest.0 in
+      let r : AreParts ss xss (run t l (marked_each xss) v).events (given_in (marked_each xss)) = rest.0 in
       let joined = run_then t l ys (marked_each xss) w in
       let g : List Given = given_in (ys ++ marked_each xss) in
       let given : g ≡ given_in os ++ given_in (marked_each xss) = given_both ys (marked_each xss) ∙ ap (λ (z : List Given). z ++ given_in (marked_each xss)) same in
@@ -275,6 +291,7 @@ module _ (round : TagRoundTrip) (words : SendsAreWords) (leave : SendsLeaveAsFla
         ticks = r.ticks;
         told = ap commands_of given ∙ (commands_append (given_in os) (given_in (marked_each xss)) ∙ (ap (λ (cs : List Command). cs ++ commands_of (given_in (marked_each xss))) open_is.commands ∙ r.told));
         came = subst (Each P) (sym (ap arrivals_of given ∙ (arrivals_both (given_in os) (given_in (marked_each xss)) ∙ ap (λ (zs : List Arrival). zs ++ arrivals_of (given_in (marked_each xss))) open_is.arrivals))) r.came;
+        firsts = r.firsts;
       }
     where
       silent : (p : ℕ) (xs : List (ℕ × Bool)) → xs ≡ [] →
@@ -286,38 +303,87 @@ module _ (round : TagRoundTrip) (words : SendsAreWords) (leave : SendsLeaveAsFla
           by_flag false = tt
 
 -- ---- of an input
+mapped : (cs : List Rattle.exb_model.specs.Input.Given) → length (map (λ (c : Rattle.exb_model.specs.Input.Given). c.command) cs) ≡ length cs
+mapped [] = refl
+mapped (c ∷ cs) = ap suc (mapped cs)
+
+known_in : (b : Basis) (ns : List ℕ) → Each (HasCommand b) ns → Each (λ (n : ℕ). is_some (command_of b n) ≡ true) ns
+known_in b [] k = tt
+known_in b (n ∷ ns) k = (ap is_some k.0.1, known_in b ns k.1)
+
+known_all : (b : Basis) (c : ℕ) (ss : List Segment) → GoOn b c ss → Each (λ (s : Segment). Each (λ (n : ℕ). is_some (command_of b n) ≡ true) s.commands) ss
+known_all b c [] k = tt
+known_all b c (s ∷ ss) k = (known_in b s.commands k.1, known_all b (c + length s.commands) ss k.2)
+
+module _ (round : TagRoundTrip) (words : SendsAreWords) (leave : SendsLeaveAsFlat) (law : StepsTell) (stay : StepsStayWritten) (m : Mode) (i : Input) (os : List Step) (xss : List (List Step)) (valid : IsValid i.setup) (vids : All HasVid i.setup.start) (timely : IsTimely i)
+    (may : MayGoAll (tree_of i) (bounds_of i) (first_world (tree_of i) (bounds_of i) (start_of i.setup) i.setup.ageing) (marked_each (os ∷ xss)))
+    (plays : PlayAll (tree_of i) (bounds_of i) (basis_in i) (first_world (tree_of i) (bounds_of i) (start_of i.setup) i.setup.ageing) (nothing_given ∷ segments m i) (os ∷ xss)) where
+  start : MayStart (tree_of i) (bounds_of i) (basis_of i.setup)
+  start = setups_may_start i.setup valid vids
+
+  numbers : flat_map (λ (s : Segment). s.commands) (segments m i) ≡ range_with_len 1 (length (basis_in i).commands)
+  numbers = in_file_order m i timely ∙ ap (range_with_len 1) (sym (mapped i.commands))
+
+  goes : GoOn (basis_in i) 1 (segments m i)
+  goes = go_on (basis_in i) (segments m i) 1 (length (basis_in i).commands) numbers (subst (Each (HasCommand (basis_in i))) (sym numbers) (all_commands (basis_in i)).0)
+
+  whole : IsLegal round words leave law (tree_of i) (bounds_of i) (basis_of i.setup) start (basis_in i) (IsNumberedIn i) (segments m i) xss
+      ([] then (run (tree_of i) (bounds_of i) (marked_each (os ∷ xss)) (first_world (tree_of i) (bounds_of i) (start_of i.setup) i.setup.ageing)).events) (given_in (marked_each (os ∷ xss)))
+  whole =
+      let t : Shape = tree_of i in
+      let l : Limits = bounds_of i in
+      let w : World = first_world t l (start_of i.setup) i.setup.ageing in
+      let do_all : MayDoAll t l w (marked_each (os ∷ xss)) = (runs_go_on round words leave law stay t l (basis_of i.setup) start (marked_each (os ∷ xss)) may).may in
+      legal round words leave law t l (basis_of i.setup) start (basis_in i) (IsNumberedIn i) (segments m i) os xss do_all plays goes (segments_numbered m i)
+
+  same : basis_with (basis_of i.setup) (given_in (marked_each (os ∷ xss))) ≡ basis_in i
+  same =
+      ap (λ (cs : List Command). record { start = (basis_in i).start; commands = cs; ageing = (basis_in i).ageing })
+      (whole.told ∙ (ap (filter_map (command_of (basis_in i))) numbers ∙ (all_commands (basis_in i)).1))
+
+  pub is_legal : Legal m i ([] then (run (tree_of i) (bounds_of i) (marked_each (os ∷ xss)) (first_world (tree_of i) (bounds_of i) (start_of i.setup) i.setup.ageing)).events)
+  is_legal =
+      let h : History = [] then (run (tree_of i) (bounds_of i) (marked_each (os ∷ xss)) (first_world (tree_of i) (bounds_of i) (start_of i.setup) i.setup.ageing)).events in
+      record {
+        plays = whole.plays;
+        segments_in_order = whole.segments_in_order ∙ ap (λ (a : Basis). opening (tree_of i) (bounds_of i) a then settled_each whole.plays) same;
+        of_segments = whole.of_segments;
+        commands_in_order = whole.commands_in_order;
+        refused_exactly = subst (λ (a : Basis). EachEvent (IsDecided (tree_of i) (bounds_of i) a) h) same whole.refused_exactly;
+        arrivals_once = whole.arrivals_once;
+        ports_in_order = whole.ports_in_order;
+        relayed_exactly = subst (λ (a : Basis). EachEvent (IsEntered a (arrivals_in i)) h) same (whole.relayed_exactly (arrivals_in i) whole.came);
+        ticks = whole.ticks;
+      }
+
+  -- where each segment is one event, and its seconds pass first
+  pub is_eager : Each IsSingle (segments m i) → Pairwise IsEager (segments m i) xss →
+      ([] then (run (tree_of i) (bounds_of i) (marked_each (os ∷ xss)) (first_world (tree_of i) (bounds_of i) (start_of i.setup) i.setup.ageing)).events)
+      ≡ eagerly (tree_of i) (bounds_of i) (basis_in i) (opening (tree_of i) (bounds_of i) (basis_in i)) (segments m i)
+  unfolding is_legal
+  is_eager singles seconds_first =
+      let t : Shape = tree_of i in
+      let l : Limits = bounds_of i in
+      let b : Basis = basis_in i in
+      let k = is_legal in
+      k.segments_in_order
+      ∙ eager_is t l b (arrivals_in i) (segments m i) k.plays (opening t l b)
+      (record {
+        of_segments = k.of_segments;
+        commands = k.commands_in_order;
+        came = k.arrivals_once;
+        ticks = k.ticks;
+        firsts = whole.firsts seconds_first;
+        singles = singles;
+        known = known_all b 1 (segments m i) goes;
+        found = segments_numbered m i;
+      })
+      (subst (EachEvent (IsDecided t l b)) k.segments_in_order k.refused_exactly) (subst (EachEvent (IsEntered b (arrivals_in i))) k.segments_in_order k.relayed_exactly)
+
 pub runs_play_legally : TagRoundTrip → SendsAreWords → SendsLeaveAsFlat → StepsTell → StepsStayWritten → RunsPlayLegally
 runs_play_legally round words leave law stay m i [] valid vids timely may plays = absurd plays
-runs_play_legally round words leave law stay m i (os ∷ xss) valid vids timely may plays =
-    let t : Shape = tree_of i in
-    let l : Limits = bounds_of i in
-    let b : Basis = basis_in i in
-    let start = setups_may_start i.setup valid vids in
-    let w : World = first_world t l (start_of i.setup) i.setup.ageing in
-    let do_all : MayDoAll t l w (marked_each (os ∷ xss)) = (runs_go_on round words leave law stay t l (basis_of i.setup) start (marked_each (os ∷ xss)) may).may in
-    let order : flat_map (λ (s : Segment). s.commands) (segments m i) ≡ range_with_len 1 (length i.commands) = in_file_order m i timely in
-    let size : length i.commands ≡ length b.commands = sym (mapped i.commands) in
-    let numbers : flat_map (λ (s : Segment). s.commands) (segments m i) ≡ range_with_len 1 (length b.commands) = order ∙ ap (range_with_len 1) size in
-    let commands = all_commands b in
-    let k : IsLegal round words leave law t l (basis_of i.setup) start b (IsNumberedIn i) (segments m i) ([] then (run t l (marked_each (os ∷ xss)) w).events) (given_in (marked_each (os ∷ xss))) =
-    legal round words leave law t l (basis_of i.setup) start b (IsNumberedIn i) (segments m i) os xss do_all plays
-    (go_on b (segments m i) 1 (length b.commands) numbers (subst (Each (HasCommand b)) (sym numbers) commands.0)) (segments_numbered m i)
-    in
-    let told : commands_of (given_in (marked_each (os ∷ xss))) ≡ b.commands = k.told ∙ (ap (filter_map (command_of b)) numbers ∙ commands.1) in
-    let same : basis_with (basis_of i.setup) (given_in (marked_each (os ∷ xss))) ≡ b = ap (λ (cs : List Command). record { start = b.start; commands = cs; ageing = b.ageing }) told in
-    let h : History = [] then (run t l (marked_each (os ∷ xss)) w).events in
-    record {
-      plays = k.plays;
-      segments_in_order = k.segments_in_order ∙ ap (λ (a : Basis). opening t l a then settled_each k.plays) same;
-      of_segments = k.of_segments;
-      commands_in_order = k.commands_in_order;
-      refused_exactly = subst (λ (a : Basis). EachEvent (IsDecided t l a) h) same k.refused_exactly;
-      arrivals_once = k.arrivals_once;
-      ports_in_order = k.ports_in_order;
-      relayed_exactly = subst (λ (a : Basis). EachEvent (IsEntered a (arrivals_in i)) h) same (k.relayed_exactly (arrivals_in i) k.came);
-      ticks = k.ticks;
-    }
-  where
-    mapped : (cs : List Rattle.exb_model.specs.Input.Given) → length (map (λ (c : Rattle.exb_model.specs.Input.Given). c.command) cs) ≡ length cs
-    mapped [] = refl
-    mapped (c ∷ cs) = ap suc (mapped cs)
+runs_play_legally round words leave law stay m i (os ∷ xss) valid vids timely may plays = is_legal round words leave law stay m i os xss valid vids timely may plays
+
+pub runs_play_eagerly : TagRoundTrip → SendsAreWords → SendsLeaveAsFlat → StepsTell → StepsStayWritten → RunsPlayEagerly
+unfolding eager
+runs_play_eagerly round words leave law stay i os xss valid vids timely may plays seconds_first = is_eager round words leave law stay Eager i os xss valid vids timely may plays (eager_singles i) seconds_first

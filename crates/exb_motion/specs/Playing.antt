@@ -1,8 +1,10 @@
 -- Runs that play an input, segment by segment.
 use Rattle.std.specs.Prelude.{◌≡◌, ℕ, ◌≤◌, ◌==◌, ◌++◌, if◌then◌else◌, List, [], ◌∷◌, filter_map, flat_map, All, AllPairs, IsPermutation}
 use Rattle.exb_model.specs.History.{Basis, History, ◌then◌, command_of}
-use Rattle.exb_model.specs.Input.{Input, Segment, Mode, basis_of, tree_of, bounds_of, segments}
+use Rattle.exb_model.specs.Input.{Input, Segment, Mode, Eager, basis_of, tree_of, bounds_of, segments}
+use Rattle.exb_model.specs.EagerHistory.{eager}
 use Rattle.exb_model.specs.LegalHistory.{Legal}
+use Rattle.exb_model.specs.Lists.{Pairwise}
 use Rattle.exb_model.specs.Setup.{Limits, IsValid, start_of}
 use Rattle.exb_model.specs.Tree.{Shape}
 use Rattle.exb_machine.specs.Allowing.{IsSettled}
@@ -62,3 +64,18 @@ RunsPlayLegally =
     let w = first_world (tree_of i) (bounds_of i) (start_of i.setup) i.setup.ageing in
     MayGoAll (tree_of i) (bounds_of i) w (marked_each plays) → PlayAll (tree_of i) (bounds_of i) (basis_of i) w (nothing_given ∷ segments m i) plays →
     Legal m i ([] then (run (tree_of i) (bounds_of i) (marked_each plays) w).events)
+
+-- ---- the eager run
+-- the seconds of a segment pass first
+pub record IsEager (s : Segment) (steps : List Step) : Type 0 where
+  pub rest : List Step
+  pub is : steps ≡ (if s.seconds == 0 then [] else Tick s.seconds ∷ []) ++ rest
+
+-- A run that plays the opening and then the segments of the eager mode, the seconds of each first, tells exactly the eager
+-- history, whatever the links do.
+abbrev pub RunsPlayEagerly : Type 0
+RunsPlayEagerly =
+    (i : Input) (first : List Step) (plays : List (List Step)) → IsValid i.setup → All HasVid i.setup.start → IsTimely i →
+    let w = first_world (tree_of i) (bounds_of i) (start_of i.setup) i.setup.ageing in
+    MayGoAll (tree_of i) (bounds_of i) w (marked_each (first ∷ plays)) → PlayAll (tree_of i) (bounds_of i) (basis_of i) w (nothing_given ∷ segments Eager i) (first ∷ plays) →
+    Pairwise IsEager (segments Eager i) plays → ([] then (run (tree_of i) (bounds_of i) (marked_each (first ∷ plays)) w).events) ≡ eager i

@@ -2,7 +2,7 @@
 ghost use Rattle.exb_motion.specs.Kept.{SetupsMayStart, BeginsKept, StepsKeep, KeptStands, KeptIsClean, SettledOwesNothing, RunsStand};
 ghost use Rattle.exb_motion.specs.Events.{StepsTellSo};
 ghost use Rattle.exb_motion.specs.Going.{StepsGoOn, RunsGoOn, SetupsGoOn};
-ghost use Rattle.exb_motion.specs.Playing.{RunsPlayLegally};
+ghost use Rattle.exb_motion.specs.Playing.{RunsPlayLegally, RunsPlayEagerly};
 ghost use Rattle.exb_motion.specs.Marks.{SettledIsOrderly, SegmentsArePlayed};
 
 use exb_change_laws::laws::steps_tell;
@@ -117,6 +117,18 @@ pub fn setups_go_on()
 /// arrivals, each once and in any order.
 pub fn runs_play_legally()
     ensures { RunsPlayLegally }
+{
+    tag_round_trip();
+    sends_are_words();
+    sends_leave_as_flat();
+    steps_tell();
+    steps_stay_written();
+}
+
+/// Where it plays the segments of the eager mode, the seconds of each first, it tells exactly the eager history, whatever the links
+/// do.
+pub fn runs_play_eagerly()
+    ensures { RunsPlayEagerly }
 {
     tag_round_trip();
     sends_are_words();
