@@ -1,24 +1,22 @@
 -- Whatever the machine of changes asks in a sound world can be sent.
-use Rattle.std.proofs.Common.{◌≡◌, ℕ, Bool, true, false, cond, List, [], ◌∷◌}
+use Rattle.std.proofs.Common.{ℕ, Bool, true, false, cond, List, [], ◌∷◌}
 use Rattle.exb_model.specs.declared.command.Command.{Command}
 use Rattle.exb_model.specs.Tree.{Shape}
 use Rattle.exb_model.specs.Setup.{Limits, NamesExternal}
 use Rattle.exb_csp.specs.declared.message.Message.{Message}
-use Rattle.exb_lldp.specs.declared.announce.Announce.{Announce}
-use Rattle.exb_session.specs.Asking.{AskerState}
 use Rattle.exb_changing.specs.declared.asked.Asked.{Asked}
 use Rattle.exb_changing.specs.Deciding.{decide}
-use Rattle.exb_changing.specs.Machine.{State, Moved, still, heard, ordered, answered, beats}
-use Rattle.exb_change_laws.specs.Systems.{System, Step, Order, Hear, Stray, Beat, moved}
+use Rattle.exb_changing.specs.Machine.{Moved, still, heard, ordered, answered, beats}
+use Rattle.exb_change_laws.specs.Systems.{Step, Order, Hear, Stray, Beat, moved}
 use Rattle.exb_change_laws.specs.Planned.{IsSetting}
 use Rattle.exb_change_laws.specs.Knowing.{AreAddressed, NamesPorts}
 use Rattle.exb_change_laws.proofs.Knowing.{steps_know}
 use Rattle.exb_machine.specs.Worlds.{World}
 use Rattle.exb_machine.specs.Controls.{is_of}
 use Rattle.exb_machine_laws.specs.Asks.{CanGo, AsksGo, AsksCanBeSent}
-use Rattle.exb_machine_laws.specs.Sessions.{Each, AskedOf, AreSent, AreLow}
+use Rattle.exb_machine_laws.specs.Sessions.{Each, AskedOf, AreSent}
 use Rattle.exb_machine_laws.specs.Simulation.{system_of, IsSound}
-use Rattle.exb_machine_laws.proofs.Asking.{Asks, answered_asks, heard_asks, ordered_asks}
+use Rattle.exb_machine_laws.proofs.Asking.{answered_asks, heard_asks, ordered_asks}
 use Rattle.exb_machine_laws.proofs.Beating.{has_beaten}
 use Rattle.exb_machine_laws.proofs.Moving.{was_each}
 use Rattle.exb_machine_laws.proofs.Writing.{moved_wrote, all_be_sent}

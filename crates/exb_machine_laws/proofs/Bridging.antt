@@ -1,12 +1,9 @@
 -- What the bridge takes, relays and sends at a beat.
-use Rattle.std.proofs.Common.{◌≡◌, ℕ, zero, suc, ◌-◌, ◌<◌, ◌≤◌, Bool, true, false, cond, List, [], ◌∷◌, length, get_or, take, drop, Option, Some, None, refl, ap, sym, ◌∙◌, subst, arith, inl, inr}
-use Rattle.std.specs.Prelude.{nat_eq}
-use lib.Pointwise.{pointwise}
-use Rattle.std.proofs.lemmas.List.{get_or-take}
-use Rattle.std.proofs.lemmas.Bool.{false≢true, cases_Bool, and_parts, eqb-true}
+use Rattle.std.proofs.Common.{◌≡◌, ℕ, ◌-◌, ◌<◌, ◌≤◌, Bool, true, false, cond, List, [], ◌∷◌, length, Option, Some, None, refl, ap, sym, ◌∙◌, subst, arith, inl, inr}
+use Rattle.std.proofs.lemmas.Bool.{cases_Bool, and_parts}
 use Rattle.exb_model.specs.Tree.{Shape, IsTree, on, is_extender, is_external}
 use Rattle.exb_model.specs.Setup.{Limits}
-use Rattle.exb_model.specs.Frames.{kind_of, egress, is_control_frame, control_address}
+use Rattle.exb_model.specs.Frames.{kind_of, egress, is_control_frame}
 use Rattle.exb_model.specs.ETags.{Tag, read_etag, tagged, stripped}
 use Rattle.exb_model.specs.Input.{Arrival}
 use Rattle.exb_model.specs.declared.event.Event.{Event}
@@ -42,7 +39,6 @@ use Rattle.exb_machine_laws.proofs.Routing.{stands_route}
 use Rattle.exb_machine_laws.proofs.Hearing.{quiet_stays, hears_sound}
 use Rattle.exb_machine_laws.proofs.Trees.{hangs_there, hung_found, trunk_low_on}
 use Rattle.exb_machine_laws.proofs.Silent.{all_silent}
-use Rattle.exb_machine_laws.proofs.Words.{each_append}
 
 both_ways : (b : Bool) → b ≡ true → b ≡ false → ⊥
 both_ways b x y = cc

@@ -1,14 +1,14 @@
 -- Frames that are made of bytes are bytes, and how long they are.
-use Rattle.std.proofs.Common.{◌≡◌, ℕ, zero, suc, ◌+◌, ◌*◌, ◌/◌, ◌%◌, ◌<◌, ◌≤◌, ◌==◌, ◌||◌, ◌++◌, ◌^◌, nat_lt, Bool, true, false, cond, List, [], ◌∷◌, length, take, drop, Option, Some, None, Ok, Err, refl, ap, sym, ◌∙◌, subst, arith, inl, inr, length-append, length-take, length-drop}
-use Rattle.std.specs.Prelude.{Result, IfSome}
-use Rattle.std.specs.List.{flat_map, AllByRecursion}
+use Rattle.std.proofs.Common.{◌≡◌, ℕ, zero, suc, ◌+◌, ◌*◌, ◌<◌, ◌≤◌, ◌==◌, ◌++◌, nat_lt, Bool, true, false, cond, List, [], ◌∷◌, length, take, drop, Ok, Err, refl, ap, sym, ◌∙◌, subst, arith, inl, inr, length-append, length-take, length-drop}
+use Rattle.std.specs.Prelude.{Result}
+use Rattle.std.specs.List.{flat_map}
 use Rattle.std.specs.Int.{w16, w64, to_be_bytes}
 use Rattle.std.proofs.lemmas.Bool.{false≢true, cases_Bool, cases_lt, lt-ltb, le-ltb}
 use Rattle.exb_model.specs.declared.frame_kind.Seen.{Seen}
 use Rattle.exb_model.specs.declared.frame_kind.Seen.TheVariants as seen
 use Rattle.exb_model.specs.declared.vlan.Kind.{Kind}
 use Rattle.exb_model.specs.declared.vlan.Kind.TheVariants.{Tagged, Untagged}
-use Rattle.exb_model.specs.Frames.{number_at, two_bytes, control_address, kind_of, body_after, priority_of, egress}
+use Rattle.exb_model.specs.Frames.{two_bytes, kind_of, body_after, priority_of, egress}
 use Rattle.exb_model.specs.ETags.{Tag, TagFits, tag_word, etag_bytes, tagged, stripped}
 use Rattle.exb_model.specs.EagerHistory.{is_relayed_kind}
 use Rattle.exb_lldp.specs.Spelling.{spelling as announcement}
@@ -27,8 +27,8 @@ use Rattle.exb_csp.specs.declared.message.Request.TheVariants as request
 use Rattle.exb_csp.specs.declared.message.RequestKind.{RequestKind}
 use Rattle.exb_csp.specs.declared.message.RequestKind.TheVariants as kind
 use Rattle.exb_csp.specs.Kinds.{kind_of as kind_asked, type_of, number_of}
-use Rattle.exb_csp.specs.Spelling.{row_bytes, ecid_bytes, request_bytes, answer_bytes, form_in, body_bytes, message_bytes, IsPortCount, IsSpelledBody, HasSpelling, IsRow, FitsRequest, FitsBody, Fits, IsBytes}
-use Rattle.exb_extender.specs.Forwarding.{is_refused_kind, is_bare_control}
+use Rattle.exb_csp.specs.Spelling.{row_bytes, ecid_bytes, request_bytes, answer_bytes, form_in, body_bytes, message_bytes, IsPortCount, IsSpelledBody, FitsRequest, FitsBody, IsBytes}
+use Rattle.exb_extender.specs.Forwarding.{is_refused_kind}
 use Rattle.exb_extender.specs.Machine.{control_pdu}
 use Rattle.exb_machine_laws.specs.Sessions.{Each}
 use Rattle.exb_machine_laws.proofs.Words.{each_append}

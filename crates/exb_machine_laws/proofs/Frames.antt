@@ -1,9 +1,9 @@
 -- Control frames as bytes: what they hand up, and what an E-TAG makes of them.
-use Rattle.std.proofs.Common.{◌≡◌, ℕ, suc, ◌+◌, ◌*◌, ◌<◌, ◌≤◌, ◌==◌, ◌&&◌, ◌++◌, Bool, true, false, not, List, [], ◌∷◌, length, get_or, take, drop, length-take, length-append, append_assoc, append-nil, nat_lt, ◌⊎◌, Some, None, Ok, Err, refl, ap, sym, ◌∙◌, subst, arith, inl, inr}
+use Rattle.std.proofs.Common.{◌≡◌, ℕ, suc, ◌+◌, ◌*◌, ◌<◌, ◌≤◌, ◌==◌, ◌&&◌, ◌++◌, Bool, true, false, not, List, [], ◌∷◌, length, get_or, take, drop, length-take, length-append, append-nil, nat_lt, ◌⊎◌, Some, None, Ok, Err, refl, ap, sym, ◌∙◌, subst, arith, inl, inr}
 use Rattle.std.specs.Prelude.{nat_eq, nat_le, Result}
 use lib.Pointwise.{pointwise}
 use Rattle.std.proofs.lemmas.Bool.{cases_Bool, and_parts, and_from, le-leb, leb-true, eqb-true, cases_lt, lt-ltb, false≢true}
-use Rattle.std.proofs.lemmas.List.{get_or_append_left, get_or-take, take_all, drop_all}
+use Rattle.std.proofs.lemmas.List.{get_or-take, take_all, drop_all}
 use Rattle.exb_model.specs.declared.address.Mac.{Mac}
 use Rattle.exb_model.specs.declared.frame_kind.Seen.TheVariants as seen
 use Rattle.exb_model.specs.declared.vlan.Kind.{Kind}

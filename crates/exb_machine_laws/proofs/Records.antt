@@ -1,7 +1,7 @@
 -- Data words on their way up are of records.
-use Rattle.std.proofs.Common.{◌≡◌, ℕ, ◌+◌, ◌*◌, ◌-◌, ◌<◌, ◌≤◌, ◌==◌, ◌&&◌, ◌||◌, ◌++◌, nat_lt, nat_le, Bool, true, false, cond, List, [], ◌∷◌, length, get_or, drop, map, Option, Some, None, Ok, Err, filter, refl, ap, sym, ◌∙◌, subst, arith, inl, inr}
-use Rattle.std.specs.Prelude.{Result, nat_eq}
-use Rattle.std.proofs.lemmas.Bool.{false≢true, cases_Bool, cases_lt, and_parts, and_from, eqb-true, eq-eqb, lt-ltb, le-ltb, ltb-true}
+use Rattle.std.proofs.Common.{◌≡◌, ℕ, ◌-◌, ◌<◌, ◌≤◌, ◌==◌, ◌&&◌, ◌||◌, ◌++◌, nat_lt, Bool, true, false, cond, List, [], ◌∷◌, length, get_or, drop, map, Option, Some, None, Ok, Err, filter, refl, ap, sym, ◌∙◌, subst, arith, inl, inr}
+use Rattle.std.specs.Prelude.{Result}
+use Rattle.std.proofs.lemmas.Bool.{false≢true, cases_Bool, cases_lt, and_parts, eq-eqb, lt-ltb, le-ltb, ltb-true}
 use Rattle.exb_model.specs.Tree.{Shape, IsTree, on, device, trunk, is_extender, is_external}
 use Rattle.exb_model.specs.Setup.{Limits}
 use Rattle.exb_model.specs.Frames.{egress, kind_of, is_control_frame}

@@ -1,8 +1,8 @@
 -- What extenders send is bytes and short, and so is what their ends of the transport keep.
-use Rattle.std.proofs.Common.{◌≡◌, ℕ, ◌+◌, ◌<◌, ◌≤◌, ◌==◌, ◌&&◌, ◌||◌, ◌++◌, not, nat_lt, nat_le, Bool, true, false, cond, List, [], ◌∷◌, length, map, drop, Option, Some, None, Ok, Err, refl, ap, sym, ◌∙◌, subst, arith, inl, inr}
+use Rattle.std.proofs.Common.{◌≡◌, ℕ, ◌+◌, ◌<◌, ◌≤◌, ◌==◌, ◌&&◌, ◌||◌, not, nat_lt, Bool, true, false, cond, List, [], ◌∷◌, length, map, drop, Option, Some, None, Ok, Err, refl, ap, sym, subst, arith, inl, inr}
 use Rattle.std.specs.Prelude.{Result, IfSome}
-use Rattle.std.proofs.lemmas.Bool.{cases_Bool, and_parts, leb-true}
-use Rattle.exb_model.specs.Frames.{kind_of, is_control_frame}
+use Rattle.std.proofs.lemmas.Bool.{cases_Bool, and_parts}
+use Rattle.exb_model.specs.Frames.{kind_of}
 use Rattle.exb_model.specs.ETags.{Tag, TagFits, read_etag, tagged, stripped}
 use Rattle.exb_model.specs.ExtenderForwarding.{takes, left_out, bare, emits, emits_tagged}
 use Rattle.exb_frame.specs.TagValues.{TagRoundTrip}
@@ -30,12 +30,12 @@ use Rattle.exb_session.specs.declared.answerer.Due.TheVariants as turn
 use Rattle.exb_session.specs.Answering.{AnswererState, arrived, stored_message}
 use Rattle.exb_extender.specs.declared.sends.Side.{Side}
 use Rattle.exb_extender.specs.declared.sends.Side.TheVariants as side
-use Rattle.exb_extender.specs.Forwarding.{Sent, up, forwarding_of, channel_tag, has_etag_type, is_bare_control, names_channel, is_ignored, is_refused_kind, emitted, sent_at}
+use Rattle.exb_extender.specs.Forwarding.{Sent, up, forwarding_of, channel_tag, has_etag_type, is_bare_control, names_channel, is_refused_kind, emitted, sent_at}
 use Rattle.exb_extender.specs.Machine.{ExtenderState, Reaction, IsExtender, control_pdu, submits, answers, executes, by_turn, takes_body, takes_message, announces, next_count, address_of, hears_request, hears_pdu, hears, sends_again, beats}
 use Rattle.exb_extender.proofs.ControlLemmas.{answer_fits}
 use Rattle.exb_machine_laws.specs.Sessions.{Each}
 use Rattle.exb_machine_laws.specs.Written.{IsDownward, IsUpward, SendsBytes}
-use Rattle.exb_machine_laws.proofs.Bytes.{AreAll, stripped_bytes, stripped_short, tagged_bytes, tagged_short, let_in, spelled_bytes, announcement_bytes, header_small, message_written}
+use Rattle.exb_machine_laws.proofs.Bytes.{stripped_bytes, stripped_short, tagged_bytes, tagged_short, let_in, spelled_bytes, announcement_bytes, header_small, message_written}
 use Rattle.exb_machine_laws.proofs.Frames.{bare_is, read_typed, typed_not_bare, tag_fits}
 use Rattle.exb_machine_laws.proofs.Words.{each_append, each_range}
 

@@ -1,5 +1,5 @@
 -- Data words have stamps.
-use Rattle.std.proofs.Common.{◌≡◌, ℕ, ◌+◌, ◌-◌, ◌==◌, ◌&&◌, ◌++◌, not, nat_lt, Bool, true, false, cond, List, [], ◌∷◌, map, drop, Option, Some, None, Ok, Err, filter, refl, sym, ◌∙◌, subst, inl, inr}
+use Rattle.std.proofs.Common.{◌≡◌, ℕ, ◌-◌, ◌==◌, ◌&&◌, ◌++◌, not, nat_lt, Bool, true, false, cond, List, [], ◌∷◌, map, drop, Option, Some, None, Ok, Err, filter, refl, sym, ◌∙◌, subst, inl, inr}
 use Rattle.std.specs.Prelude.{Result, nat_eq}
 use Rattle.std.proofs.lemmas.Bool.{false≢true, cases_Bool}
 use Rattle.exb_model.specs.Tree.{Shape, on, device, trunk, is_extender, is_external}

@@ -1,5 +1,5 @@
 -- The events of a step, by its kind.
-use Rattle.std.proofs.Common.{◌≡◌, ◌⊎◌, ℕ, ◌+◌, ◌++◌, not, Bool, true, false, cond, List, [], ◌∷◌, drop, Option, Some, None, Ok, Err, filter, refl, ap, sym, ◌∙◌, subst, inl, inr}
+use Rattle.std.proofs.Common.{◌≡◌, ◌⊎◌, ℕ, ◌++◌, not, Bool, true, false, cond, List, [], ◌∷◌, drop, Option, Some, None, Ok, Err, filter, refl, ap, sym, ◌∙◌, subst, inl, inr}
 use Rattle.std.specs.Prelude.{Result}
 use Rattle.std.proofs.lemmas.Bool.{cases_Bool}
 use Rattle.exb_model.specs.Tree.{Shape, on, device, is_external}

@@ -1,5 +1,5 @@
 -- Each step keeps that words are bytes and short.
-use Rattle.std.proofs.Common.{◌≡◌, ℕ, zero, suc, ◌+◌, ◌-◌, ◌<◌, ◌≤◌, ◌==◌, ◌++◌, nat_lt, Bool, true, false, cond, List, [], ◌∷◌, length, drop, Option, Some, None, Ok, Err, filter, refl, ap, sym, ◌∙◌, subst, arith, inl, inr}
+use Rattle.std.proofs.Common.{◌≡◌, ℕ, suc, ◌-◌, ◌<◌, ◌≤◌, ◌==◌, ◌++◌, nat_lt, Bool, true, false, cond, List, [], ◌∷◌, length, drop, Option, Some, None, Ok, Err, filter, refl, sym, subst, arith, inl, inr}
 use Rattle.std.specs.Prelude.{Result, All}
 use Rattle.std.proofs.lemmas.Bool.{cases_Bool, cases_lt, and_parts, lt-ltb, le-ltb}
 use Rattle.exb_model.specs.Tree.{Shape, IsTree, on, device, trunk, is_extender, is_external}
@@ -21,7 +21,7 @@ use Rattle.exb_ecp.specs.declared.stop_and_wait.Beat.{Beat as Due}
 use Rattle.exb_ecp.specs.declared.stop_and_wait.Beat.TheVariants as due
 use Rattle.exb_ecp.specs.Calls.{Submit, Stop, Acked, Received}
 use Rattle.exb_ecp.specs.Calls.{Beat as BeatCall}
-use Rattle.exb_ecp.specs.Frames.{pdu_in}
+use Rattle.exb_ecp.specs.Frames.{pdu_in, spelling}
 use Rattle.exb_ecp.specs.Machine.{Sending, State as Ecp, submitted, stopped, acknowledged, is_fresh, beaten, beat_of, IsSound as IsSoundEnd}
 use Rattle.exb_ecp.specs.Machine.{heard as received}
 use Rattle.exb_ecp.proofs.Sound.{keeps_sound}
@@ -36,7 +36,7 @@ use Rattle.exb_session.specs.Asking.{took}
 use Rattle.exb_extender.specs.declared.sends.Side.{Side}
 use Rattle.exb_extender.specs.declared.sends.Side.TheVariants as side
 use Rattle.exb_extender.specs.Forwarding.{Sent, channel_tag, has_etag_type, is_bare_control, emitted}
-use Rattle.exb_extender.specs.Machine.{ExtenderState, IsExtender, Reaction, Arrives, Beats, react}
+use Rattle.exb_extender.specs.Machine.{ExtenderState, control_pdu, IsExtender, Reaction, Arrives, Beats, react}
 use Rattle.exb_extender.specs.Machine.{hears as far_hears}
 use Rattle.exb_extender.proofs.KeepsLemmas.{stays_extender}
 use Rattle.exb_link.specs.declared.word.Stamp.{Stamp}
@@ -55,17 +55,17 @@ use Rattle.exb_changing.specs.declared.asked.Asked.{Asked}
 use Rattle.exb_changing.specs.Deciding.{decide}
 use Rattle.exb_changing.specs.Machine.{State, Moved, answered, ordered, beats}
 use Rattle.exb_change_laws.specs.Planned.{IsSetting, planning, ReadyMidway, HeldAreNumbers}
-use Rattle.exb_machine.specs.Worlds.{World, Way, Up, Down, Step, Arrive, Carry, Control, Lose, Beat, Tick, Order, Mark, at, control_word, push_down, push_up, with_near, with_far, with_control, with_table, next_beat}
+use Rattle.exb_machine.specs.Worlds.{World, Way, Up, Down, Step, Arrive, Carry, Control, Lose, Beat, Tick, Order, Mark, control_word, push_down, push_up, with_near, with_far, with_control, with_table, next_beat}
 use Rattle.exb_machine.specs.Allowing.{Can}
 use Rattle.exb_machine.specs.Effects.{Effect, only, each}
 use Rattle.exb_machine.specs.Extending.{hung_on, port_number, sent_at, sent_to, sends, does, reacts, takes_from_above, takes_from_below, stamp_of, ignored, does_or_ignores, arrives_at}
 use Rattle.exb_machine.specs.Controls.{channel_at_trunk, forgotten_all, taught, announced, numbers_in}
-use Rattle.exb_machine.specs.Hearing.{bridge_request, bridge_acknowledgement, puts_tagged, to_extender, asks, moves, stops, hears_message, hears_fresh, hears_request, hears_pdu, hears_frame, hears, sends_again, beats_near, beats_control}
-use Rattle.exb_machine.specs.Relaying.{puts_word, sent_by, sends_in, sends_all, sends_for, comes, arrival_by, comes_from, holder_by, hung_at, hears_from, takes_control, bridge_takes}
+use Rattle.exb_machine.specs.Hearing.{bridge_address, bridge_request, bridge_acknowledgement, puts_tagged, to_extender, asks, moves, stops, hears_message, hears_fresh, hears_request, hears_pdu, hears_frame, hears, sends_again, beats_near, beats_control}
+use Rattle.exb_machine.specs.Relaying.{puts_word, sent_by, sends_in, sends_all, comes, arrival_by, comes_from, holder_by, hung_at, hears_from, bridge_takes}
 use Rattle.exb_machine.specs.Stepping.{words_on, with_words, takes, takes_any, first_data, control_at, rest_of, counted, if_there, all_extenders, beats_all, done_by, stepped}
 use Rattle.exb_machine_laws.specs.Asks.{CanGo, AsksGo, AsksWell}
 use Rattle.exb_machine_laws.specs.Laws.{HasBytes}
-use Rattle.exb_machine_laws.specs.Sessions.{Each, CanBeSent, AreLow}
+use Rattle.exb_machine_laws.specs.Sessions.{Each, AreLow}
 use Rattle.exb_machine_laws.specs.Simulation.{system_of, IsSound}
 use Rattle.exb_machine_laws.specs.Written.{IsDownward, IsUpward, SendsBytes, AreWritten, BeginsWritten, StepsStayWritten, WrittenAreShort}
 use Rattle.exb_machine_laws.proofs.Asks.{asks_can_be_sent}
@@ -77,7 +77,7 @@ use Rattle.exb_machine_laws.proofs.Hearing.{to_extender_control, moves_control, 
 use Rattle.exb_machine_laws.proofs.Sent.{GoesAs, Goes, GoesWell, CanRepeat, can_repeat, sends_nothing, sends_submitted, sends_received, sends_acknowledged, sends_beaten, spelled_short, hears_goes, down_goes, below_goes, station_goes, beats_goes}
 use Rattle.exb_machine_laws.proofs.Steps.{home}
 use Rattle.exb_machine_laws.proofs.Trees.{above_there}
-use Rattle.exb_machine_laws.proofs.Words.{each_append, each_weaker, each_without_data, each_without_control, each_filter, each_get, at_same, at_here}
+use Rattle.exb_machine_laws.proofs.Words.{each_append, each_weaker, each_without_data, each_without_control, each_filter, each_get, at_same}
 
 abbrev Falls : Word → Type 0
 Falls x = IsDownward x.bytes
@@ -242,7 +242,7 @@ module _ (t : Shape) where
     bytes : IsBytes f
     few : length f ≤ 1042
 
-  own : (ack : Bool) (sequence : ℕ) (payload : List ℕ) → sequence < 65536 → IsBytes payload → length payload ≤ 1024 → IsOwn (Rattle.exb_ecp.specs.Frames.spelling Rattle.exb_machine.specs.Hearing.bridge_address (Rattle.exb_extender.specs.Machine.control_pdu ack sequence) payload)
+  own : (ack : Bool) (sequence : ℕ) (payload : List ℕ) → sequence < 65536 → IsBytes payload → length payload ≤ 1024 → IsOwn (spelling bridge_address (control_pdu ack sequence) payload)
   own ack sequence payload small bytes few =
       record {
         bytes = spelled_bytes 2 69 66 0 0 0 (omega arith, (omega arith, (omega arith, (omega arith, (omega arith, (omega arith, tt)))))) ack sequence payload small bytes;

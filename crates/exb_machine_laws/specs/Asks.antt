@@ -1,5 +1,5 @@
 -- Whatever the machine of changes asks can be sent.
-use Rattle.std.specs.Prelude.{◌≡◌, ℕ, true, List}
+use Rattle.std.specs.Prelude.{◌≡◌, ℕ, true}
 use Rattle.exb_model.specs.declared.command.Command.{Command}
 use Rattle.exb_model.specs.Tree.{Shape, is_extender}
 use Rattle.exb_model.specs.Setup.{Limits, NamesExternal}

@@ -1,8 +1,8 @@
 -- A legal history of the eager mode in which the seconds of each segment pass first is the eager history.
-use Rattle.std.proofs.Common.{◌≡◌, ◌⊎◌, ℕ, zero, suc, ◌+◌, ◌-◌, ◌<◌, ◌≤◌, ◌==◌, ◌++◌, Bool, true, false, cond, List, [], ◌∷◌, length, map, Option, Some, None, refl, ap, sym, ◌∙◌, subst, arith, inl, inr}
-use Rattle.std.specs.Prelude.{is_some, filter_map, flat_map, fold, IfSome, All, Contains, IsPermutation}
-use Rattle.std.proofs.lemmas.Bool.{false≢true, cases_Bool}
-use Rattle.std.proofs.lemmas.List.Elements.{All-cons, All-nil, All-head, All-tail, All-contains, filter_map-append}
+use Rattle.std.proofs.Common.{◌≡◌, ◌⊎◌, ℕ, suc, ◌-◌, ◌==◌, ◌++◌, Bool, true, false, cond, List, [], ◌∷◌, map, Option, Some, None, refl, ap, sym, ◌∙◌, subst, arith, inl, inr}
+use Rattle.std.specs.Prelude.{is_some, filter_map, IfSome, All, IsPermutation}
+use Rattle.std.proofs.lemmas.Bool.{false≢true}
+use Rattle.std.proofs.lemmas.List.Elements.{All-cons, All-nil, All-contains, filter_map-append}
 use Rattle.std.proofs.lemmas.List.Sorted.{length_permutation, All-permutation}
 use Rattle.exb_model.specs.declared.command.Command.{Command}
 use Rattle.exb_model.specs.declared.event.Cause.{Cause}
@@ -11,7 +11,7 @@ use Rattle.exb_model.specs.declared.event.Event.TheVariants as event
 use Rattle.exb_model.specs.Configuration.{Bridge}
 use Rattle.exb_model.specs.EagerHistory.{is_relayed, arrival_event, decided, refusal_of, command_event, with_tick, with_commands, with_arrivals, eager_segment, eagerly}
 use Rattle.exb_model.specs.History.{Basis, History, ◌then◌, command_of, bridge_after}
-use Rattle.exb_model.specs.Input.{Input, Arrival, Coming, Ordered, Captured, Group, Segment, Eager, alone, second_of, moment_of, groups_in, number_in, arrival_in, segment_of, segments_since, segments_in, segments, merge}
+use Rattle.exb_model.specs.Input.{Input, Arrival, Coming, Ordered, Captured, Segment, Eager, second_of, moment_of, groups_in, segment_of, segments_since, segments_in, segments, merge}
 use Rattle.exb_model.specs.LegalHistory.{EachEvent, IsOfSegment, settled_each, number_of, place_of, tick_of, PlaysCommands, PlaysArrivals, PlaysTick, IsDecided, IsEntered, IsRelayOf}
 use Rattle.exb_model.specs.Lists.{numbered, Pairwise}
 use Rattle.exb_model.specs.Refusals.{refusal}

@@ -1,19 +1,18 @@
 -- Words stay bytes and short over each run from the beginning.
 use Rattle.std.proofs.Common.{◌++◌, List, [], ◌∷◌}
 use Rattle.exb_model.specs.History.{Basis, History, ◌then◌}
-use Rattle.exb_model.specs.Setup.{Limits, shape_of, limits_of, start_of}
+use Rattle.exb_model.specs.Setup.{Limits, shape_of, limits_of}
 use Rattle.exb_model.specs.Tree.{Shape}
 use Rattle.exb_frame.specs.TagValues.{TagRoundTrip}
 use Rattle.exb_relay.specs.Laws.{SendsAreWords, SendsLeaveAsFlat}
 use Rattle.exb_change_laws.specs.Journal.{StepsTell}
-use Rattle.exb_change_laws.specs.Planned.{ReadyMidway, HeldAreNumbers}
 use Rattle.exb_machine.specs.Settling.{run}
 use Rattle.exb_machine.specs.Stepping.{Stepped, stepped}
 use Rattle.exb_machine.specs.Worlds.{World, Step, Left, first_world}
 use Rattle.exb_machine_laws.specs.Written.{AreWritten, StepsStayWritten}
 use Rattle.exb_machine_laws.proofs.Written.{begins_written, written_are_short}
 use Rattle.exb_motion.specs.Given.{Given, given_by}
-use Rattle.exb_motion.specs.Going.{MayGo, MayGoAll, StepsGoOn, GoesOn, RunsGoOn, SetupsGoOn}
+use Rattle.exb_motion.specs.Going.{MayGoAll, StepsGoOn, RunsGoOn, SetupsGoOn}
 use Rattle.exb_motion.specs.Kept.{MayStart, MayDoAll, Kept, basis_of}
 use Rattle.exb_motion.proofs.Keeping.{kept_pvids, step_kept}
 use Rattle.exb_motion.proofs.Setups.{setups_may_start}

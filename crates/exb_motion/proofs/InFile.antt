@@ -1,10 +1,10 @@
 -- The segments of an input: its arrivals have the numbers by which they are found, and its commands come in the order of the file.
-use Rattle.std.proofs.Common.{◌≡◌, ℕ, zero, suc, ◌+◌, ◌*◌, ◌<◌, ◌≤◌, ◌++◌, nat_lt, ◌==◌, Bool, true, false, cond, List, [], ◌∷◌, length, map, Option, Some, None, refl, ap, sym, ◌∙◌, subst, arith, inl, inr, length-append, append_assoc}
-use Rattle.std.specs.Prelude.{filter_map, flat_map, slice_get, max, AllPairs}
+use Rattle.std.proofs.Common.{◌≡◌, ℕ, suc, ◌+◌, ◌*◌, ◌<◌, ◌≤◌, ◌++◌, nat_lt, ◌==◌, Bool, true, false, cond, List, [], ◌∷◌, length, map, Some, refl, ap, sym, ◌∙◌, subst, arith, inl, inr, length-append, append_assoc}
+use Rattle.std.specs.Prelude.{slice_index_or, filter_map, flat_map, slice_get, max, AllPairs}
 use Rattle.std.specs.List.{range_with_len}
 use Rattle.std.proofs.lemmas.Bool.{cases_Bool, ltb-true}
 use Rattle.std.proofs.lemmas.List.Elements.{filter_map-append}
-use Rattle.exb_model.specs.Input.{Input, Record, Given, Arrival, Coming, Ordered, Captured, Group, Segment, Mode, Eager, Seeded, arrivals_from, arrivals_at, all_arrivals, second_of, start_second, moment_of, commands_from, all_comings, put_in_order, by_moment, merge, alone, joined, groups_in, number_in, arrival_in, segment_of, segments_since, segments_in, segments}
+use Rattle.exb_model.specs.Input.{Input, Record, Given, Arrival, Coming, Ordered, Captured, Group, Segment, Mode, Eager, Seeded, arrivals_from, arrivals_at, all_arrivals, second_of, start_second, moment_of, commands_from, all_comings, put_in_order, by_moment, merge, alone, joined, groups_in, number_in, arrival_in, segments_since, segments_in, segments}
 use Rattle.exb_model.specs.Lists.{numbered}
 use Rattle.exb_flight.specs.Items.{Each}
 use Rattle.exb_motion.specs.Playing.{IsTimely}
@@ -169,7 +169,7 @@ sorted_commands start n (c ∷ cs) xs k =
     next : (m : ℕ) → suc m ≡ m + 1
     next m = omega arith
 
-    first_least : (ds : List Given) → ((j : ℕ) (d : Given) → j < length ds → c.at ≤ (Rattle.std.specs.Prelude.slice_index_or ds j d).at) → Each (λ (d : Given). c.at ≤ d.at) ds
+    first_least : (ds : List Given) → ((j : ℕ) (d : Given) → j < length ds → c.at ≤ (slice_index_or ds j d).at) → Each (λ (d : Given). c.at ≤ d.at) ds
     first_least [] all = tt
     first_least (d ∷ ds) all = (all 0 d (omega arith), first_least ds (λ j e h. all (suc j) e (omega (arith, h))))
 

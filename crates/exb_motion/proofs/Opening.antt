@@ -5,7 +5,7 @@ use Rattle.exb_model.specs.declared.command.Command.TheVariants as command
 use Rattle.exb_model.specs.declared.event.Cause.{Cause}
 use Rattle.exb_model.specs.declared.event.Event.{Event}
 use Rattle.exb_model.specs.declared.event.Event.TheVariants as event
-use Rattle.exb_model.specs.EagerHistory.{risen, up_event, with_ups}
+use Rattle.exb_model.specs.EagerHistory.{risen, with_ups}
 use Rattle.exb_model.specs.History.{Basis, History, ◌then◌, bridge_after}
 use Rattle.exb_model.specs.LegalHistory.{EachEvent, number_of, place_of, IsOfSegment}
 use Rattle.exb_model.specs.Refusals.{refusal}
@@ -13,7 +13,7 @@ use Rattle.exb_model.specs.Setup.{Limits}
 use Rattle.exb_model.specs.Tree.{Shape}
 use Rattle.exb_flight.specs.Items.{Each}
 use Rattle.exb_motion.specs.Stands.{up_port, IsRisen}
-use Rattle.exb_motion.proofs.Ticks.{TellsTime}
+use Rattle.exb_motion.proofs.Ticks.{IsNoMark, TellsTime}
 
 abbrev IsRise : Event → Type 0
 IsRise (event.Up p) = Unit {0}
@@ -59,7 +59,7 @@ ups_are t l b (event.Settled ∷ es) h k r = absurd k.0
 pub of_segment : (es : List Event) (seconds : List ℕ) → filter_map up_port es ≡ [] → TellsTime seconds es → Each IsOfSegment es
 of_segment es seconds none time = all es none time.unmarked
   where
-    all : (es : List Event) → filter_map up_port es ≡ [] → Each Rattle.exb_motion.proofs.Ticks.IsNoMark es → Each IsOfSegment es
+    all : (es : List Event) → filter_map up_port es ≡ [] → Each IsNoMark es → Each IsOfSegment es
     all [] e k = tt
     all (event.Relay p n t f ∷ es) e k = (tt, all es e k.1)
     all (event.Ignored p n ∷ es) e k = (tt, all es e k.1)

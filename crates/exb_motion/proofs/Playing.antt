@@ -1,6 +1,6 @@
 -- A run that plays an input tells a history that the input allows.
-use Rattle.std.proofs.Common.{◌≡◌, ℕ, zero, suc, ◌+◌, ◌<◌, ◌≤◌, ◌==◌, ◌++◌, Bool, true, false, cond, List, [], ◌∷◌, length, map, reverse, Option, Some, None, refl, ap, sym, ◌∙◌, subst, arith, inl, inr, append_assoc, length-append}
-use Rattle.std.specs.Prelude.{is_some, filter_map, flat_map, All, AllPairs, IsPermutation}
+use Rattle.std.proofs.Common.{◌≡◌, ℕ, suc, ◌+◌, ◌==◌, ◌++◌, Bool, true, false, cond, List, [], ◌∷◌, length, map, reverse, Some, refl, ap, sym, ◌∙◌, subst, arith, inl, inr, append_assoc, length-append}
+use Rattle.std.specs.Prelude.{MatchBool, is_some, filter_map, flat_map, All, AllPairs, IsPermutation}
 use Rattle.std.specs.List.{range_with_len}
 use Rattle.std.proofs.lemmas.Bool.{cases_Bool}
 use Rattle.std.proofs.lemmas.List.{append-nil}
@@ -9,11 +9,11 @@ use Rattle.std.proofs.lemmas.List.Sorted.{IsPermutation-trans, IsPermutation-map
 use Rattle.exb_model.specs.declared.command.Command.{Command}
 use Rattle.exb_model.specs.declared.event.Event.{Event}
 use Rattle.exb_model.specs.declared.event.Event.TheVariants as event
-use Rattle.exb_model.specs.EagerHistory.{opening, eagerly, eager}
+use Rattle.exb_model.specs.EagerHistory.{with_ups, opening, eagerly, eager}
 use Rattle.exb_model.specs.History.{Basis, History, ◌then◌, command_of}
 use Rattle.exb_model.specs.Input.{Input, Arrival, Segment, Mode, Eager, tree_of, bounds_of, segments}
-use Rattle.exb_model.specs.Input.{basis_of as basis_in, arrivals_at as arrivals_in}
-use Rattle.exb_model.specs.LegalHistory.{EachEvent, IsOfSegment, settled_each, number_of, place_of, of_port, PlaysCommands, IsDecided, PlaysArrivals, IsInOrder, IsEntered, PlaysTick, Legal}
+use Rattle.exb_model.specs.Input.{Given as TimedCommand, basis_of as basis_in, arrivals_at as arrivals_in}
+use Rattle.exb_model.specs.LegalHistory.{EachEvent, Rise, relays_and_late, IsOfSegment, settled_each, number_of, place_of, of_port, PlaysCommands, IsDecided, PlaysArrivals, IsInOrder, IsEntered, PlaysTick, Legal}
 use Rattle.exb_model.specs.Lists.{numbered, Pairwise}
 use Rattle.exb_model.specs.Setup.{Limits, IsValid, start_of}
 use Rattle.exb_model.specs.Tree.{Shape, is_external, is_extended, opening_ports}
@@ -29,11 +29,11 @@ use Rattle.exb_machine_laws.proofs.Rounds.{run_then}
 use Rattle.exb_flight.specs.Items.{Each}
 use Rattle.exb_flight.specs.Naming.{times, firsts}
 use Rattle.exb_standing.proofs.Standing.{then_append}
-use Rattle.exb_motion.specs.Given.{Given, given_by, arrivals_of, arrivals_at, commands_of, indices_of, basis_with}
+use Rattle.exb_motion.specs.Given.{Given, Came, Told, given_by, arrivals_of, arrivals_at, commands_of, indices_of, basis_with}
 use Rattle.exb_motion.specs.Stands.{up_port, IsOfArrival, IsRightly, IsRisen, Stands}
-use Rattle.exb_motion.specs.Kept.{MayStart, HasVid, MayDo, MayDoAll, given_in, Kept, basis_of}
+use Rattle.exb_motion.specs.Kept.{MayStart, HasVid, MayDoAll, given_in, Kept, basis_of}
 use Rattle.exb_motion.specs.Marks.{IsOrderly, IsPlayed}
-use Rattle.exb_motion.specs.Playing.{seconds_in, IsUnmarked, Plays, nothing_given, marked_each, PlayAll, IsTimely, RunsPlayLegally, IsEager, RunsPlayEagerly}
+use Rattle.exb_motion.specs.Playing.{seconds_in, Plays, nothing_given, marked_each, PlayAll, IsTimely, RunsPlayLegally, IsEager, RunsPlayEagerly}
 use Rattle.exb_motion.specs.Going.{MayGoAll}
 use Rattle.exb_motion.proofs.Eager.{IsSingle, eager_singles, TellsFirst, eager_is}
 use Rattle.exb_motion.proofs.Going.{runs_go_on}
@@ -63,8 +63,8 @@ each_both P (x ∷ xs) ys k j = (k.0, each_both P xs ys k.1 j)
 
 arrivals_both : (g more : List Given) → arrivals_of (g ++ more) ≡ arrivals_of g ++ arrivals_of more
 arrivals_both [] more = refl
-arrivals_both (Rattle.exb_motion.specs.Given.Came a ∷ g) more = ap (λ (xs : List Arrival). a ∷ xs) (arrivals_both g more)
-arrivals_both (Rattle.exb_motion.specs.Given.Told c ∷ g) more = arrivals_both g more
+arrivals_both (Came a ∷ g) more = ap (λ (xs : List Arrival). a ∷ xs) (arrivals_both g more)
+arrivals_both (Told c ∷ g) more = arrivals_both g more
 
 given_both : (xs ys : List Step) → given_in (xs ++ ys) ≡ given_in xs ++ given_in ys
 given_both [] ys = refl
@@ -217,7 +217,7 @@ module _ (round : TagRoundTrip) (words : SendsAreWords) (leave : SendsLeaveAsFla
       record {
         commands = plays.commands;
         arrivals = none;
-        risen = λ a r. ap (λ (h : History). event.Settled ∷ h) (ups_are t l a es [] (only_rises es places numbers still) r ∙ ap (Rattle.exb_model.specs.EagerHistory.with_ups t l a []) ports);
+        risen = λ a r. ap (λ (h : History). event.Settled ∷ h) (ups_are t l a es [] (only_rises es places numbers still) r ∙ ap (with_ups t l a []) ports);
       }
 
   -- ---- a whole run
@@ -295,15 +295,15 @@ module _ (round : TagRoundTrip) (words : SendsAreWords) (leave : SendsLeaveAsFla
       }
     where
       silent : (p : ℕ) (xs : List (ℕ × Bool)) → xs ≡ [] →
-          Rattle.std.specs.Prelude.MatchBool (is_extended t p) (Rattle.exb_model.specs.LegalHistory.Rise 0 (Rattle.exb_model.specs.LegalHistory.relays_and_late 0 xs)) (Rattle.exb_model.specs.LegalHistory.Rise 0 (map (λ x. x.0) xs))
+          MatchBool (is_extended t p) (Rise 0 (relays_and_late 0 xs)) (Rise 0 (map (λ x. x.0) xs))
       silent p xs none = rw none (by_flag (is_extended t p))
         where
-          by_flag : (c : Bool) → Rattle.std.specs.Prelude.MatchBool c (Unit {0}) (Unit {0})
+          by_flag : (c : Bool) → MatchBool c (Unit {0}) (Unit {0})
           by_flag true = tt
           by_flag false = tt
 
 -- ---- of an input
-mapped : (cs : List Rattle.exb_model.specs.Input.Given) → length (map (λ (c : Rattle.exb_model.specs.Input.Given). c.command) cs) ≡ length cs
+mapped : (cs : List TimedCommand) → length (map (λ (c : TimedCommand). c.command) cs) ≡ length cs
 mapped [] = refl
 mapped (c ∷ cs) = ap suc (mapped cs)
 

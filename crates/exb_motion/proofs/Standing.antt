@@ -6,14 +6,13 @@ use Rattle.std.proofs.lemmas.List.{append-nil, append_assoc}
 use Rattle.exb_model.specs.declared.event.Event.{Event}
 use Rattle.exb_model.specs.declared.event.Event.TheVariants as event
 use Rattle.exb_model.specs.EagerHistory.{is_relayed}
-use Rattle.exb_model.specs.History.{Basis, History, ◌then◌, bridge_after, now_after}
+use Rattle.exb_model.specs.History.{Basis, History, ◌then◌, bridge_after}
 use Rattle.exb_model.specs.Input.{Arrival}
 use Rattle.exb_model.specs.LegalHistory.{EachEvent, IsEntered}
 use Rattle.exb_model.specs.Setup.{Limits}
 use Rattle.exb_model.specs.Tree.{Shape}
 use Rattle.exb_frame.specs.TagValues.{TagRoundTrip}
 use Rattle.exb_learn.specs.Calls.{Table}
-use Rattle.exb_learn.specs.Histories.{table_after}
 use Rattle.exb_learn.proofs.Bridges.{follows}
 use Rattle.exb_relay.specs.Laws.{SendsAreWords, SendsLeaveAsFlat}
 use Rattle.exb_changing.specs.Beginning.{first_jobs}

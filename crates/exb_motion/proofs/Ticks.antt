@@ -1,5 +1,5 @@
 -- When time passes in a run, and when it is marked.
-use Rattle.std.proofs.Common.{◌≡◌, ℕ, ◌<◌, ◌≤◌, ◌++◌, nat_lt, Bool, true, false, cond, List, [], ◌∷◌, refl, ap, sym, ◌∙◌, subst, inl, inr}
+use Rattle.std.proofs.Common.{◌≡◌, ℕ, ◌++◌, Bool, true, false, cond, List, [], ◌∷◌, refl, ap, sym, ◌∙◌, subst, inl, inr}
 use Rattle.std.specs.Prelude.{filter_map}
 use Rattle.std.proofs.lemmas.Bool.{cases_Bool, cases_lt}
 use Rattle.std.proofs.lemmas.List.Elements.{filter_map-append}
@@ -19,13 +19,13 @@ use Rattle.exb_extender.specs.Forwarding.{is_ignored}
 use Rattle.exb_machine.specs.Extending.{port_number}
 use Rattle.exb_machine.specs.Settling.{run}
 use Rattle.exb_machine.specs.Stepping.{Stepped, stepped}
-use Rattle.exb_machine.specs.Worlds.{World, Way, Up, Down, Step, Arrive, Carry, Control, Lose, Beat, Tick, Order, Mark, Left}
+use Rattle.exb_machine.specs.Worlds.{World, Up, Down, Step, Arrive, Carry, Control, Lose, Beat, Tick, Order, Mark, Left}
 use Rattle.exb_machine_laws.specs.Journal.{is_to_bridge}
 use Rattle.exb_machine_laws.specs.Simulation.{jobs_in}
 use Rattle.exb_flight.specs.Items.{Each}
 use Rattle.exb_motion.specs.Given.{Given, given_by}
 use Rattle.exb_motion.specs.Events.{TellsOf}
-use Rattle.exb_motion.specs.Kept.{MayStart, MayDo, MayDoAll, Kept}
+use Rattle.exb_motion.specs.Kept.{MayStart, MayDoAll, Kept}
 use Rattle.exb_motion.specs.Playing.{seconds_by, seconds_in, IsUnmarked}
 use Rattle.exb_motion.proofs.Keeping.{step_kept}
 use Rattle.exb_motion.proofs.Telling.{steps_tell_so}

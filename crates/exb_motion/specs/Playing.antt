@@ -1,6 +1,6 @@
 -- Runs that play an input, segment by segment.
 use Rattle.std.specs.Prelude.{◌≡◌, ℕ, ◌≤◌, ◌==◌, ◌++◌, if◌then◌else◌, List, [], ◌∷◌, filter_map, flat_map, All, AllPairs, IsPermutation}
-use Rattle.exb_model.specs.History.{Basis, History, ◌then◌, command_of}
+use Rattle.exb_model.specs.History.{Basis, ◌then◌, command_of}
 use Rattle.exb_model.specs.Input.{Input, Segment, Mode, Eager, basis_of, tree_of, bounds_of, segments}
 use Rattle.exb_model.specs.EagerHistory.{eager}
 use Rattle.exb_model.specs.LegalHistory.{Legal}

@@ -1,6 +1,6 @@
 -- When a world in motion stands: after what was given, what happened and what has left its ports it is the one bridge, but
 -- for what is still on its way.
-use Rattle.std.specs.Prelude.{◌≡◌, ℕ, ◌+◌, ◌-◌, ◌++◌, true, nat_lt, if◌then◌else◌, List, [], length, Option, Some, None, filter_map, reverse}
+use Rattle.std.specs.Prelude.{◌≡◌, ℕ, ◌+◌, ◌++◌, true, nat_lt, if◌then◌else◌, List, [], length, Option, Some, None, filter_map, reverse}
 use Rattle.std.specs.List.{range_with_len}
 use Rattle.exb_model.specs.declared.command.Command.TheVariants as command
 use Rattle.exb_model.specs.declared.event.Event.{Event}
