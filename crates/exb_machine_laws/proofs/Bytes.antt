@@ -1,14 +1,17 @@
 -- Frames that are made of bytes are bytes, and how long they are.
-use Rattle.std.proofs.Common.{◌≡◌, ℕ, zero, suc, ◌+◌, ◌*◌, ◌<◌, ◌≤◌, ◌==◌, ◌++◌, nat_lt, Bool, true, false, cond, List, [], ◌∷◌, length, take, drop, Ok, Err, refl, ap, sym, ◌∙◌, subst, arith, inl, inr, length-append, length-take, length-drop}
-use Rattle.std.specs.Prelude.{Result}
+use Rattle.std.proofs.Common.{◌≡◌, ℕ, not, ◌&&◌, ◌||◌, ◌%◌, Option, Some, None, zero, suc, ◌+◌, ◌*◌, ◌<◌, ◌≤◌, ◌==◌, ◌++◌, nat_lt, Bool, true, false, cond, List, [], ◌∷◌, length, take, drop, Ok, Err, refl, ap, sym, ◌∙◌, subst, arith, inl, inr, length-append, length-take, length-drop}
+use Rattle.std.specs.Prelude.{is_some, Result}
 use Rattle.std.specs.List.{flat_map}
 use Rattle.std.specs.Int.{w16, w64, to_be_bytes}
-use Rattle.std.proofs.lemmas.Bool.{false≢true, cases_Bool, cases_lt, lt-ltb, le-ltb}
+use Rattle.std.proofs.lemmas.Bool.{false≢true, cases_Bool, cases_eq, eq-eqb, ne_eqb, cases_lt, lt-ltb, le-ltb}
 use Rattle.exb_model.specs.declared.frame_kind.Seen.{Seen}
 use Rattle.exb_model.specs.declared.frame_kind.Seen.TheVariants as seen
 use Rattle.exb_model.specs.declared.vlan.Kind.{Kind}
 use Rattle.exb_model.specs.declared.vlan.Kind.TheVariants.{Tagged, Untagged}
-use Rattle.exb_model.specs.Frames.{two_bytes, kind_of, body_after, priority_of, egress}
+use Rattle.exb_model.specs.Configuration.{Bridge, is_known}
+use Rattle.exb_model.specs.Learning.{admitted, passes_as, passes}
+use Rattle.exb_config.specs.Pvids.{HasPvids}
+use Rattle.exb_model.specs.Frames.{is_reserved, kind_of_tag, number_at, two_bytes, kind_of, body_after, priority_of, egress}
 use Rattle.exb_model.specs.ETags.{Tag, TagFits, tag_word, etag_bytes, tagged, stripped}
 use Rattle.exb_model.specs.EagerHistory.{is_relayed_kind}
 use Rattle.exb_lldp.specs.Spelling.{spelling as announcement}
@@ -32,7 +35,6 @@ use Rattle.exb_extender.specs.Forwarding.{is_refused_kind}
 use Rattle.exb_extender.specs.Machine.{control_pdu}
 use Rattle.exb_machine_laws.specs.Sessions.{Each}
 use Rattle.exb_machine_laws.proofs.Words.{each_append}
-use Rattle.exb_relay.proofs.Words.{pcp_small}
 use Rattle.exb_relay.specs.Sends.{pcp_of}
 
 -- ---- lists of bytes
@@ -137,12 +139,12 @@ priority_small seen.Reserved small = omega arith
 priority_small seen.BadTag small = omega arith
 priority_small seen.Plain small = omega arith
 
-pub egress_bytes : (f : List ℕ) (kind : Kind) (v : ℕ) → IsBytes f → v ≤ 4094 → IsBytes (egress f kind v)
+pub egress_bytes : (f : List ℕ) (kind : Kind) (v : ℕ) → IsBytes f → pcp_of (kind_of f) < 8 → v ≤ 4094 → IsBytes (egress f kind v)
 unfolding egress
-egress_bytes f Untagged v bytes small = let all = each_byte f bytes in byte_each (take 12 f ++ body_after f (kind_of f)) (both (take 12 f) (body_after f (kind_of f)) (each_take 12 f all) (body_all f (kind_of f) all))
-egress_bytes f Tagged v bytes small =
+egress_bytes f Untagged v bytes pcp small = let all = each_byte f bytes in byte_each (take 12 f ++ body_after f (kind_of f)) (both (take 12 f) (body_after f (kind_of f)) (each_take 12 f all) (body_all f (kind_of f) all))
+egress_bytes f Tagged v bytes pcp small =
     let all = each_byte f bytes in
-    let prio : priority_of (kind_of f) < 16 = priority_small (kind_of f) (pcp_small f bytes) in
+    let prio : priority_of (kind_of f) < 16 = priority_small (kind_of f) pcp in
     let x : List ℕ = two_bytes 33024 in
     let y : List ℕ = two_bytes (priority_of (kind_of f) * 4096 + v) in
     let low : priority_of (kind_of f) * 4096 + v < 65536 = omega (arith, prio) in
@@ -190,6 +192,58 @@ let_in f k = (
   elim (cases_lt (length f) 14) [ inr low ↦ low | inl short ↦ absurd (false≢true (sym k ∙ ap is_refused_kind (short_kind f short))) ],
   elim (cases_lt 9216 (length f)) [ inr low ↦ low | inl long ↦ absurd (false≢true (sym k ∙ ap is_refused_kind (long_kind f long))) ],
 )
+
+-- ---- the VLAN in which a frame passes
+abbrev IsVidSmall : Seen → Type 0
+IsVidSmall (seen.Tagged pcp dei v) = v ≤ 4094
+IsVidSmall _ = Unit {0}
+
+tag_small : (tci : ℕ) → IsVidSmall (kind_of_tag tci)
+tag_small tci =
+    elim (cases_eq (tci % 4096) 4095) [
+      | inl e ↦ rw (eq-eqb (tci % 4096) 4095 e) tt
+      | inr n ↦ elim (cases_eq (tci % 4096) 0) [
+        | inl e ↦ rw (ne_eqb (tci % 4096) 4095 n, eq-eqb (tci % 4096) 0 e) tt
+        | inr o ↦ rw (ne_eqb (tci % 4096) 4095 n, ne_eqb (tci % 4096) 0 o) (omega (arith, n))
+      ]
+    ]
+
+vid_small : (f : List ℕ) → IsVidSmall (kind_of f)
+unfolding kind_of
+vid_small f = by_tests (nat_lt (length f) 14) (nat_lt 9216 (length f)) (is_reserved f) (number_at f 12 == 33024) (nat_lt (length f) 18)
+  where
+    by_tests : (a b c d e : Bool) → IsVidSmall (cond a seen.Short (cond b seen.Long (cond c seen.Reserved (cond d (cond e seen.BadTag (kind_of_tag (number_at f 14))) seen.Plain))))
+    by_tests true b c d e = tt
+    by_tests false true c d e = tt
+    by_tests false false true d e = tt
+    by_tests false false false false e = tt
+    by_tests false false false true true = tt
+    by_tests false false false true false = tag_small (number_at f 14)
+
+admitted_small : (b : Bridge) (p : ℕ) (accepted : Bool) (w v : ℕ) → admitted b p accepted w ≡ Some v → w ≤ 4094 → v ≤ 4094
+admitted_small b p accepted w v e small = by_test (accepted && is_known b w && (not (b.rule p).filter || is_some (b.member w p))) e
+  where
+    by_test : (c : Bool) → cond c (Some w) None ≡ Some v → v ≤ 4094
+    by_test true z = (let same = some_same z in omega (arith, same, small))
+      where
+        some_same : Some w ≡ Some v → w ≡ v
+        some_same q = cc
+    by_test false z = absurd (none_some z)
+      where
+        none_some : None ≡ Some v → ⊥
+        none_some q = cc
+
+passes_as_small : (b : Bridge) (p : ℕ) (s : Seen) (v : ℕ) → HasPvids b → IsVidSmall s → passes_as b p s ≡ Some v → v ≤ 4094
+passes_as_small b p seen.Plain v pvids has e = admitted_small b p _ (b.rule p).pvid v e (pvids p).1
+passes_as_small b p (seen.Priority pcp dei) v pvids has e = admitted_small b p _ (b.rule p).pvid v e (pvids p).1
+passes_as_small b p (seen.Tagged pcp dei w) v pvids has e = admitted_small b p _ w v e has
+passes_as_small b p seen.Short v pvids has e = absurd (let z : None ≡ Some v = e in cc)
+passes_as_small b p seen.Long v pvids has e = absurd (let z : None ≡ Some v = e in cc)
+passes_as_small b p seen.Reserved v pvids has e = absurd (let z : None ≡ Some v = e in cc)
+passes_as_small b p seen.BadTag v pvids has e = absurd (let z : None ≡ Some v = e in cc)
+
+pub passes_small : (b : Bridge) (p : ℕ) (f : List ℕ) (v : ℕ) → HasPvids b → passes b p f ≡ Some v → v ≤ 4094
+passes_small b p f v pvids e = passes_as_small b p (kind_of f) v pvids (vid_small f) e
 
 -- ---- control frames
 pub spelled_bytes : (a b c d e g : ℕ) → AreAll (a ∷ b ∷ c ∷ d ∷ e ∷ g ∷ []) → (ack : Bool) (sequence : ℕ) (payload : List ℕ) → sequence < 65536 → IsBytes payload →

@@ -1,18 +1,23 @@
 -- Rounds are made of steps; and the test of a settled world.
-use Rattle.std.proofs.Common.{◌≡◌, ℕ, zero, suc, ◌+◌, ◌<◌, ◌≤◌, ◌&&◌, ◌++◌, Bool, true, List, [], ◌∷◌, Option, Some, None, append_assoc, append-nil, refl, ap, sym, ◌∙◌, subst, arith, inl, inr}
+use Rattle.std.proofs.Common.{◌≡◌, ℕ, zero, suc, ◌+◌, ◌<◌, ◌≤◌, ◌&&◌, ◌++◌, Bool, true, false, cond, List, [], ◌∷◌, Option, Some, None, append_assoc, append-nil, refl, ap, sym, ◌∙◌, subst, arith, inl, inr}
 use Rattle.std.specs.List.{range_with_len}
 use Rattle.std.specs.Prelude.{is_none}
 use Rattle.std.proofs.lemmas.Bool.{cases_Bool, cases_eq, and_parts, and_from, ltb-true, false≢true}
 use Rattle.exb_model.specs.declared.event.Event.{Event}
 use Rattle.exb_model.specs.declared.setup.Verdict.{Verdict}
+use Rattle.exb_model.specs.declared.setup.Verdict.TheVariants as verdict
 use Rattle.exb_model.specs.Tree.{Shape, is_extender}
 use Rattle.exb_model.specs.Setup.{Limits}
 use Rattle.exb_model.proofs.TreeHung.{extender-low}
-use Rattle.exb_machine.specs.Worlds.{World, Step, Beat, Left, Line}
-use Rattle.exb_machine.specs.Stepping.{Stepped, stepped, all_extenders}
+use Rattle.exb_link.specs.declared.word.Word.{Word}
+use Rattle.exb_link.specs.Words.{is_control}
+use Rattle.exb_machine.specs.Worlds.{World, Way, Step, Carry, Beat, Left, Line}
+use Rattle.exb_machine.specs.Stepping.{Stepped, stepped, words_on, all_extenders}
 use Rattle.exb_machine.specs.Allowing.{IsSettled}
-use Rattle.exb_machine.specs.Settling.{is_empty, are_all, is_idle, is_idle_at, is_settled, nothing, followed_by, run, Direction, directions, goes_through, through_all, round, settled_within}
-use Rattle.exb_machine_laws.specs.Laws.{IsRun, RoundsAreSteps, SettledExactly}
+use Rattle.exb_machine.specs.Settling.{first_verdict, after_first, steps_for, next_place, before, gone_through, is_empty, are_all, is_idle, is_idle_at, is_settled, nothing, followed_by, run, Direction, directions, goes_through, through_all, round, settled_within}
+use Rattle.exb_machine_laws.specs.Laws.{IsMove, IsRun, RoundsAreSteps, SettledExactly}
+use Rattle.exb_machine_laws.specs.Sessions.{Each}
+use Rattle.exb_machine_laws.proofs.Words.{each_append}
 
 -- ---- runs one after another
 then_nothing : (a : Stepped) → followed_by a (nothing a.world) ≡ a
@@ -24,6 +29,24 @@ then_nothing a =
 
 then_then : (a b c : Stepped) → followed_by (followed_by a b) c ≡ followed_by a (followed_by b c)
 then_then a b c = simp append_assoc
+
+-- the steps of a round in one direction
+for_moves : (n : ℕ) (way : Way) (k : ℕ) (v : Verdict) → Each IsMove (steps_for n way k v)
+for_moves n way k verdict.Pass = (tt, tt)
+for_moves n way k verdict.Lose = (tt, tt)
+for_moves n way k verdict.Twice = (tt, tt)
+for_moves n way k verdict.Later = tt
+
+gone_moves : (n : ℕ) (way : Way) (k : ℕ) (xs : List Word) (vs : List Verdict) → Each IsMove (gone_through n way k xs vs).steps
+unfolding gone_through
+gone_moves n way k [] vs = tt
+gone_moves n way k (x ∷ xs) vs =
+    by_flag (is_control x) (gone_moves n way (next_place k (first_verdict vs)) xs (after_first vs)) (gone_moves n way k xs vs)
+  where
+    by_flag : (b : Bool) → Each IsMove (gone_through n way (next_place k (first_verdict vs)) xs (after_first vs)).steps → Each IsMove (gone_through n way k xs vs).steps →
+        Each IsMove (cond b (before (steps_for n way k (first_verdict vs)) (gone_through n way (next_place k (first_verdict vs)) xs (after_first vs))) (before (Carry n way ∷ []) (gone_through n way k xs vs))).steps
+    by_flag true a b = each_append IsMove (steps_for n way k (first_verdict vs)) (gone_through n way (next_place k (first_verdict vs)) xs (after_first vs)).steps (for_moves n way k (first_verdict vs)) a
+    by_flag false a b = (tt, b)
 
 module _ (t : Shape) (l : Limits) where
   one_step : (step : Step) (w : World) → run t l (step ∷ []) w ≡ stepped t l step w
@@ -41,24 +64,24 @@ module _ (t : Shape) (l : Limits) where
   joined : (w : World) (a b : Stepped) → IsRun t l w a → IsRun t l a.world b → IsRun t l w (followed_by a b)
   joined w a b x y =
       let R : Stepped → Type 0 = λ z. IsRun t l z.world b → IsRun t l w (followed_by z b) in
-      subst R (sym x.is) (λ k. record { steps = x.steps ++ k.steps; is = ap (followed_by (run t l x.steps w)) k.is ∙ sym (run_then x.steps k.steps w) }) y
+      subst R (sym x.is) (λ k. record { steps = x.steps ++ k.steps; is = ap (followed_by (run t l x.steps w)) k.is ∙ sym (run_then x.steps k.steps w); moves = each_append IsMove x.steps k.steps x.moves k.moves }) y
 
   none_run : (w : World) → IsRun t l w (nothing w)
   unfolding run
-  none_run w = record { steps = []; is = refl }
+  none_run w = record { steps = []; is = refl; moves = tt }
 
   through_run : (ds : List Direction) (w : World) (vs : List Verdict) → IsRun t l w (through_all t l ds w vs).done
   unfolding through_all
   through_run [] w vs = none_run w
   through_run (d ∷ ds) w vs =
       let a : Stepped = run t l (goes_through d w vs).steps w in
-      joined w a (through_all t l ds a.world (goes_through d w vs).verdicts).done (record { steps = (goes_through d w vs).steps; is = refl }) (through_run ds a.world (goes_through d w vs).verdicts)
+      joined w a (through_all t l ds a.world (goes_through d w vs).verdicts).done (record { steps = (goes_through d w vs).steps; is = refl; moves = gone_moves d.link d.way 0 (words_on d.link d.way w) vs }) (through_run ds a.world (goes_through d w vs).verdicts)
 
   round_run : (w : World) (vs : List Verdict) → IsRun t l w (round t l w vs).done
   unfolding round
   round_run w vs =
       let a : Stepped = (through_all t l (directions t) w vs).done in
-      joined w a (stepped t l Beat a.world) (through_run (directions t) w vs) (record { steps = Beat ∷ []; is = sym (one_step Beat a.world) })
+      joined w a (stepped t l Beat a.world) (through_run (directions t) w vs) (record { steps = Beat ∷ []; is = sym (one_step Beat a.world); moves = (tt, tt) })
 
   settles_run : (n : ℕ) (w : World) (vs : List Verdict) → IsRun t l w (settled_within t l n w vs).done
   unfolding settled_within

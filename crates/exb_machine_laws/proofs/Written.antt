@@ -46,11 +46,10 @@ use Rattle.exb_plans.specs.Held.{Held, channel_in}
 use Rattle.exb_relay.specs.declared.send.SendTo.{SendTo}
 use Rattle.exb_relay.specs.Laws.{IsAt, IsSent, SendsAreWords}
 use Rattle.exb_relay.specs.Numbers.{Numbers}
-use Rattle.exb_relay.specs.Sends.{sends_of}
+use Rattle.exb_relay.specs.Sends.{pcp_of, sends_of}
 use Rattle.exb_learn.specs.Calls.{look_in}
 use Rattle.exb_model.specs.Configuration.{Bridge}
 use Rattle.exb_change_laws.specs.Standing.{Stands}
-use Rattle.exb_relay.proofs.Flat.{passes_vid}
 use Rattle.exb_changing.specs.declared.asked.Asked.{Asked}
 use Rattle.exb_changing.specs.Deciding.{decide}
 use Rattle.exb_changing.specs.Machine.{State, Moved, answered, ordered, beats}
@@ -70,7 +69,7 @@ use Rattle.exb_machine_laws.specs.Simulation.{system_of, IsSound}
 use Rattle.exb_machine_laws.specs.Written.{IsDownward, IsUpward, SendsBytes, AreWritten, BeginsWritten, StepsStayWritten, WrittenAreShort}
 use Rattle.exb_machine_laws.proofs.Asks.{asks_can_be_sent}
 use Rattle.exb_machine_laws.proofs.Beating.{beat_low, all_near_beat}
-use Rattle.exb_machine_laws.proofs.Bytes.{stripped_bytes, tagged_bytes, tagged_short, egress_bytes, egress_short, relayed_short, spelled_bytes, header_small, message_written}
+use Rattle.exb_machine_laws.proofs.Bytes.{passes_small, stripped_bytes, tagged_bytes, tagged_short, egress_bytes, egress_short, relayed_short, spelled_bytes, header_small, message_written}
 use Rattle.exb_machine_laws.proofs.Fixing.{forget}
 use Rattle.exb_machine_laws.proofs.Frames.{tag_fits}
 use Rattle.exb_machine_laws.proofs.Hearing.{to_extender_control, moves_control, quiet_sound}
@@ -361,8 +360,9 @@ module _ (t : Shape) where
         by_tag (Some tag) sent =
             let e = egress_short a.bytes x.kind vid in
             let g = tagged_short (egress a.bytes x.kind vid) (tag_of tag) in
+            let pcp : pcp_of (kind_of a.bytes) < 8 = (let same = sent.1.pcp in let low = sent.1.fits.pcp in omega (arith, same, low)) in
             by_hung (hung_on t (x.bridge_port - 1)) (record { bytes = tagged (egress a.bytes x.kind vid) (tag_of tag); stamp = Some (stamp_of a) })
-            (record { bytes = tagged_bytes (egress a.bytes x.kind vid) (tag_of tag) (egress_bytes a.bytes x.kind vid bytes small) sent.1.fits; short = omega (arith, e, g, short) })
+            (record { bytes = tagged_bytes (egress a.bytes x.kind vid) (tag_of tag) (egress_bytes a.bytes x.kind vid bytes pcp small) sent.1.fits; short = omega (arith, e, g, short) })
 
     -- the numbers in force
     record Relays (w : World) : Type 0 where
@@ -404,7 +404,7 @@ module _ (t : Shape) where
         by_vid e (Some vid) z =
             let short : length a.bytes ≤ 9216 = relayed_short a.bytes (and_parts (w.control.bridge.present a.port) (is_relayed_kind (kind_of a.bytes)) e).1 in
             each_well (IsAt t w.control.bridge (numbers_in w.control.held) a.port a.bytes) (sends_in t a vid)
-            (λ x u is g. in_well w.control.bridge (numbers_in w.control.held) a vid x u bytes short (passes_vid w.control.bridge a.port a.bytes vid relays.pvids z).1 is g)
+            (λ x u is g. in_well w.control.bridge (numbers_in w.control.held) a vid x u bytes short (passes_small w.control.bridge a.port a.bytes vid relays.pvids z) is g)
             (sends_of t w.control.bridge (look_in w.table) (numbers_in w.control.held) a.port a.bytes) (with_table (taught w.control.bridge a w.table) w) (all_at e) its
 
         by_relayed : (c : Bool) → is_relayed w.control.bridge a.port a.bytes ≡ c →

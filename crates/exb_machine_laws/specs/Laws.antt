@@ -22,7 +22,7 @@ use Rattle.exb_change_laws.specs.Standing.{MayRun as MachineMayRun}
 use Rattle.exb_change_laws.specs.Journal.{events_over}
 use Rattle.exb_change_laws.specs.Planned.{IsSetting, planning, IsExact}
 use Rattle.exb_change_laws.specs.Begins.{MayBegin}
-use Rattle.exb_machine.specs.Worlds.{World, Way, Step, Arrive, Order, first_world}
+use Rattle.exb_machine.specs.Worlds.{World, Way, Step, Arrive, Carry, Control, Lose, Beat, Order, first_world}
 use Rattle.exb_machine.specs.Stepping.{Stepped, stepped, words_on, takes, first_data, control_at}
 use Rattle.exb_machine.specs.Allowing.{Can, IsSettled}
 use Rattle.exb_machine.specs.Settling.{run, round, settled_within, is_settled}
@@ -133,12 +133,21 @@ abbrev pub RunsStaySound : Type 0
 RunsStaySound = (t : Shape) (l : Limits) → IsSetting t l → (w : World) (steps : List Step) → IsSound t l w → MayMakeAll t l w steps → RunsSound t l (ordered_in steps) w (run t l steps w).world (run t l steps w).events
 
 -- ---- rounds
--- what was done is done by steps alone
+-- words are carried, delivered or lost, or a beat passes
+abbrev pub IsMove : Step → Type 0
+IsMove (Carry n way) = Unit {0}
+IsMove (Control n way k keep) = Unit {0}
+IsMove (Lose n way k) = Unit {0}
+IsMove Beat = Unit {0}
+IsMove _ = ⊥
+
+-- what was done is done by such steps alone
 pub record IsRun (t : Shape) (l : Limits) (w : World) (done : Stepped) : Type 0 where
   pub steps : List Step
   pub is : done ≡ run t l steps w
+  pub moves : Each IsMove steps
 
--- A round is made of steps, and so is settling.
+-- A round is made of such steps, and so is settling.
 abbrev pub RoundsAreSteps : Type 0
 RoundsAreSteps =
     (t : Shape) (l : Limits) (w : World) (verdicts : List Verdict) →

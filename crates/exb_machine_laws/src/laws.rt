@@ -76,7 +76,7 @@ pub fn settled_is_at_rest()
     ensures { SettledIsAtRest }
 {}
 
-/// Rounds and settling are made of steps alone.
+/// Rounds and settling are made of steps in which words are carried, delivered or lost, and of beats, alone.
 pub fn rounds_are_steps()
     ensures { RoundsAreSteps }
 {}

@@ -21,11 +21,13 @@ use Rattle.exb_frame.specs.TagValues.{TagRoundTrip}
 use Rattle.exb_relay.specs.Laws.{SendsAreWords, SendsLeaveAsFlat}
 use Rattle.exb_change_laws.specs.Journal.{StepsTell}
 use Rattle.exb_machine.specs.Allowing.{IsSettled}
-use Rattle.exb_machine.specs.Settling.{run}
+use Rattle.exb_machine.specs.Settling.{run, settled_within}
 use Rattle.exb_machine.specs.Stepping.{Stepped, stepped}
-use Rattle.exb_machine.specs.Worlds.{World, Step, Tick, Mark, Left, first_world}
+use Rattle.exb_machine.specs.Worlds.{World, Way, Step, Arrive, Carry, Control, Lose, Beat, Tick, Order, Mark, Left, first_world}
 use Rattle.exb_machine_laws.specs.Written.{StepsStayWritten}
-use Rattle.exb_machine_laws.proofs.Rounds.{run_then}
+use Rattle.exb_machine_laws.proofs.Rounds.{run_then, rounds_are_steps}
+use Rattle.exb_machine_laws.specs.Laws.{IsMove}
+use Rattle.exb_machine_laws.specs.Sessions as machine
 use Rattle.exb_flight.specs.Items.{Each}
 use Rattle.exb_flight.specs.Naming.{times, firsts}
 use Rattle.exb_standing.proofs.Standing.{then_append}
@@ -33,7 +35,7 @@ use Rattle.exb_motion.specs.Given.{Given, Came, Told, given_by, arrivals_of, arr
 use Rattle.exb_motion.specs.Stands.{up_port, IsOfArrival, IsRightly, IsRisen, Stands}
 use Rattle.exb_motion.specs.Kept.{MayStart, HasVid, MayDoAll, given_in, Kept, basis_of}
 use Rattle.exb_motion.specs.Marks.{IsOrderly, IsPlayed}
-use Rattle.exb_motion.specs.Playing.{seconds_in, Plays, nothing_given, marked_each, PlayAll, IsTimely, RunsPlayLegally, IsEager, RunsPlayEagerly}
+use Rattle.exb_motion.specs.Playing.{seconds_by, seconds_in, IsUnmarked, Gives, Plays, nothing_given, marked_each, PlayAll, IsTimely, RunsPlayLegally, IsEager, RunsPlayEagerly, SettlingPlays}
 use Rattle.exb_motion.specs.Going.{MayGoAll}
 use Rattle.exb_motion.proofs.Eager.{IsSingle, eager_singles, TellsFirst, eager_is}
 use Rattle.exb_motion.proofs.Going.{runs_go_on}
@@ -112,17 +114,17 @@ module _ (round : TagRoundTrip) (words : SendsAreWords) (leave : SendsLeaveAsFla
   part w g h left k settled s xs may plays in_order valid =
       let es : List Event = (run t l xs w).events in
       let played : IsPlayed t g (given_in xs) es = segments_are_played round words leave law t l i start w g h left k settled xs may plays.settled in
-      let time : TellsTime (seconds_in xs) es = run_time round words leave law t l i start xs w g h left k may plays.unmarked in
-      let size : length (commands_of (given_in xs)) ≡ length s.commands = ap (λ (cs : List Command). length cs) plays.commands ∙ as_many b s.commands valid in
+      let time : TellsTime (seconds_in xs) es = run_time round words leave law t l i start xs w g h left k may plays.gives.unmarked in
+      let size : length (commands_of (given_in xs)) ≡ length s.commands = ap (λ (cs : List Command). length cs) plays.gives.commands ∙ as_many b s.commands valid in
       record {
         of_segment = all_of IsOfSegment es (of_segment es (seconds_in xs) played.none_opened time);
         commands = played.commands ∙ (ap (range_with_len (length (commands_of g) + 1)) size ∙ sym in_order);
         arrivals = record {
           once = IsPermutation-trans (filter_map place_of es) (map (λ (a : Arrival). (a.port, a.index)) (arrivals_of (given_in xs))) (map (λ (a : Arrival). (a.port, a.index)) s.arrivals) played.once
-              (IsPermutation-map (λ (a : Arrival). (a.port, a.index)) (arrivals_of (given_in xs)) s.arrivals plays.arrivals);
-          relays = λ j d h. relay_on (arrivals_of (given_in xs)) s.arrivals plays.arrivals _ (played.relays j d h);
+              (IsPermutation-map (λ (a : Arrival). (a.port, a.index)) (arrivals_of (given_in xs)) s.arrivals plays.gives.arrivals);
+          relays = λ j d h. relay_on (arrivals_of (given_in xs)) s.arrivals plays.gives.arrivals _ (played.relays j d h);
         };
-        tick = time.ticks ∙ plays.seconds;
+        tick = time.ticks ∙ plays.gives.seconds;
       }
 
   -- ---- all segments
@@ -146,7 +148,7 @@ module _ (round : TagRoundTrip) (words : SendsAreWords) (leave : SendsLeaveAsFla
   goes_on : (s : Segment) (xs : List Step) (w : World) (g : List Given) → Plays t l b s w xs → Each (HasCommand b) s.commands → GoesOn s xs w g
   goes_on s xs w g plays valid =
       let same : given_in (xs ++ Mark ∷ []) ≡ given_in xs = given_both xs (Mark ∷ []) ∙ append-nil (given_in xs) in
-      let size : length (commands_of (given_in xs)) ≡ length s.commands = ap (λ (cs : List Command). length cs) plays.commands ∙ as_many b s.commands valid in
+      let size : length (commands_of (given_in xs)) ≡ length s.commands = ap (λ (cs : List Command). length cs) plays.gives.commands ∙ as_many b s.commands valid in
       let whole = ap (λ (z : List Given). length (commands_of (g ++ z))) same ∙ (ap (λ (cs : List Command). length cs) (commands_append g (given_in xs)) ∙ length-append (commands_of g) (commands_of (given_in xs))) in
       record { next = omega (arith, whole, size); given = same; settled = subst (IsSettled t) (sym (marked t l xs w).world) plays.settled }
 
@@ -169,7 +171,7 @@ module _ (round : TagRoundTrip) (words : SendsAreWords) (leave : SendsLeaveAsFla
       let r : AreParts ss xss (run t l (marked_each xss) v).events (given_in (marked_each xss)) = rest.0 in
       let e = run_then t l ys (marked_each xss) w in
       let given : given_in (ys ++ marked_each xss) ≡ given_in xs ++ given_in (marked_each xss) = given_both ys (marked_each xss) ∙ ap (λ (z : List Given). z ++ given_in (marked_each xss)) on.given in
-      let came : Each P (arrivals_of (given_in xs)) = each_of P (arrivals_of (given_in xs)) (All-permutation P s.arrivals (arrivals_of (given_in xs)) (IsPermutation-sym (arrivals_of (given_in xs)) s.arrivals plays.0.arrivals) (all_of P s.arrivals all.0)) in (
+      let came : Each P (arrivals_of (given_in xs)) = each_of P (arrivals_of (given_in xs)) (All-permutation P s.arrivals (arrivals_of (given_in xs)) (IsPermutation-sym (arrivals_of (given_in xs)) s.arrivals plays.0.gives.arrivals) (all_of P s.arrivals all.0)) in (
         record {
           plays = (run t l xs w).events ∷ r.plays;
           is = ap (λ (z : Stepped). z.events) e ∙ (ap (λ (zs : List Event). zs ++ (run t l (marked_each xss) v).events) (marked t l xs w).events ∙ ap (λ (zs : List Event). ((run t l xs w).events ++ event.Settled ∷ []) ++ zs) r.is);
@@ -179,7 +181,7 @@ module _ (round : TagRoundTrip) (words : SendsAreWords) (leave : SendsLeaveAsFla
           ticks = (one.tick, r.ticks);
           told = ap commands_of given
               ∙ (commands_append (given_in xs) (given_in (marked_each xss))
-              ∙ (ap (λ (cs : List Command). cs ++ commands_of (given_in (marked_each xss))) plays.0.commands
+              ∙ (ap (λ (cs : List Command). cs ++ commands_of (given_in (marked_each xss))) plays.0.gives.commands
               ∙ (ap (λ (cs : List Command). filter_map (command_of b) s.commands ++ cs) r.told ∙ sym (filter_map-append (command_of b) s.commands (flat_map (λ (z : Segment). z.commands) ss)))));
           came = subst (Each P) (sym (ap arrivals_of given ∙ arrivals_both (given_in xs) (given_in (marked_each xss)))) (each_both P (arrivals_of (given_in xs)) (arrivals_of (given_in (marked_each xss))) came r.came);
           firsts = λ z. (tells_first t l s xs w z.0, r.firsts z.1);
@@ -202,10 +204,10 @@ module _ (round : TagRoundTrip) (words : SendsAreWords) (leave : SendsLeaveAsFla
       let g : List Given = given_in os in
       let next = runs_kept round words leave law t l i start os w [] [] [] k may in
       let o : IsOrderly t l i g ([] then es) = settled_is_orderly t l i start (run t l os w).world g ([] then es) (run t l os w).left next plays.settled in
-      let none : arrivals_of g ≡ [] = none_permuted (arrivals_of g) plays.arrivals in
-      let time : TellsTime (seconds_in os) es = run_time round words leave law t l i start os w [] [] [] k may plays.unmarked in
-      let still : TellsTime [] es = subst (λ (ns : List ℕ). TellsTime ns es) plays.seconds time in
-      let numbers : filter_map number_of es ≡ [] = ap (filter_map number_of) (sym (reversed es)) ∙ (o.commands ∙ ap (λ (cs : List Command). range_with_len 1 (length cs)) plays.commands) in
+      let none : arrivals_of g ≡ [] = none_permuted (arrivals_of g) plays.gives.arrivals in
+      let time : TellsTime (seconds_in os) es = run_time round words leave law t l i start os w [] [] [] k may plays.gives.unmarked in
+      let still : TellsTime [] es = subst (λ (ns : List ℕ). TellsTime ns es) plays.gives.seconds time in
+      let numbers : filter_map number_of es ≡ [] = ap (filter_map number_of) (sym (reversed es)) ∙ (o.commands ∙ ap (λ (cs : List Command). range_with_len 1 (length cs)) plays.gives.commands) in
       let events : Each (IsOfArrival t g) es = each_new (IsOfArrival t g) [] es next.names.events in
       let came : Each (λ (a : Arrival). is_external t a.port ≡ true) (arrivals_of g) = subst (Each (λ (a : Arrival). is_external t a.port ≡ true)) (sym none) tt in
       let named : (p : ℕ) → is_external t p ≡ true → (n : ℕ) → times n (firsts (of_port p es)) ≡ times n (indices_of (arrivals_at p g)) = λ p ext n.
@@ -215,7 +217,7 @@ module _ (round : TagRoundTrip) (words : SendsAreWords) (leave : SendsLeaveAsFla
       (subst (λ (zs : List Arrival). IsPermutation (filter_map place_of es) (map (λ (a : Arrival). (a.port, a.index)) zs)) none (named_once t g g es events came named)) in
       let ports : filter_map up_port es ≡ opening_ports t = ap (filter_map up_port) (sym (reversed es)) ∙ o.opened in
       record {
-        commands = plays.commands;
+        commands = plays.gives.commands;
         arrivals = none;
         risen = λ a r. ap (λ (h : History). event.Settled ∷ h) (ups_are t l a es [] (only_rises es places numbers still) r ∙ ap (with_ups t l a []) ports);
       }
@@ -387,3 +389,40 @@ runs_play_legally round words leave law stay m i (os ∷ xss) valid vids timely 
 pub runs_play_eagerly : TagRoundTrip → SendsAreWords → SendsLeaveAsFlat → StepsTell → StepsStayWritten → RunsPlayEagerly
 unfolding eager
 runs_play_eagerly round words leave law stay i os xss valid vids timely may plays seconds_first = is_eager round words leave law stay Eager i os xss valid vids timely may plays (eager_singles i) seconds_first
+
+-- ---- settling
+each_moves : (xs : List Step) → machine.Each IsMove xs → (seconds_in xs ≡ []) × (given_in xs ≡ []) × Each IsUnmarked xs
+each_moves [] k = (refl, refl, tt)
+each_moves (Carry n way ∷ xs) k = (let r = each_moves xs k.1 in (r.0, r.1, (tt, r.2)))
+each_moves (Control n way j keep ∷ xs) k = (let r = each_moves xs k.1 in (r.0, r.1, (tt, r.2)))
+each_moves (Lose n way j ∷ xs) k = (let r = each_moves xs k.1 in (r.0, r.1, (tt, r.2)))
+each_moves (Beat ∷ xs) k = (let r = each_moves xs k.1 in (r.0, r.1, (tt, r.2)))
+each_moves (Arrive a ∷ xs) k = absurd k.0
+each_moves (Tick seconds ∷ xs) k = absurd k.0
+each_moves (Order c ∷ xs) k = absurd k.0
+each_moves (Mark ∷ xs) k = absurd k.0
+
+seconds_both : (xs ys : List Step) → seconds_in (xs ++ ys) ≡ seconds_in xs ++ seconds_in ys
+seconds_both [] ys = refl
+seconds_both (x ∷ xs) ys = ap (λ (ns : List ℕ). seconds_by x ++ ns) (seconds_both xs ys) ∙ sym (append_assoc (seconds_by x) (seconds_in xs) (seconds_in ys))
+
+pub settling_plays : SettlingPlays
+settling_plays t l b s w steps verdicts n gives settled =
+    let v : World = (run t l steps w).world in
+    let k = (rounds_are_steps t l v verdicts).1 n in
+    let m = each_moves k.steps k.moves in
+    let given : given_in (steps ++ k.steps) ≡ given_in steps = given_both steps k.steps ∙ (ap (λ (g : List Given). given_in steps ++ g) m.1 ∙ append-nil (given_in steps)) in
+    let end : (run t l (steps ++ k.steps) w).world ≡ (settled_within t l n v verdicts).done.world = ap (λ (z : Stepped). z.world) (run_then t l steps k.steps w) ∙ ap (λ (z : Stepped). z.world) (sym k.is) in
+    record {
+      more = k.steps;
+      is = k.is;
+      plays = record {
+        gives = record {
+          seconds = seconds_both steps k.steps ∙ (ap (λ (ns : List ℕ). seconds_in steps ++ ns) m.0 ∙ (append-nil (seconds_in steps) ∙ gives.seconds));
+          commands = ap commands_of given ∙ gives.commands;
+          arrivals = subst (λ (g : List Given). IsPermutation (arrivals_of g) s.arrivals) (sym given) gives.arrivals;
+          unmarked = each_both IsUnmarked steps k.steps gives.unmarked m.2;
+        };
+        settled = subst (IsSettled t) (sym end) settled;
+      };
+    }

@@ -1,5 +1,6 @@
 -- Runs that play an input, segment by segment.
 use Rattle.std.specs.Prelude.{◌≡◌, ℕ, ◌≤◌, ◌==◌, ◌++◌, if◌then◌else◌, List, [], ◌∷◌, filter_map, flat_map, All, AllPairs, IsPermutation}
+use Rattle.exb_model.specs.declared.setup.Verdict.{Verdict}
 use Rattle.exb_model.specs.History.{Basis, ◌then◌, command_of}
 use Rattle.exb_model.specs.Input.{Input, Segment, Mode, Eager, basis_of, tree_of, bounds_of, segments}
 use Rattle.exb_model.specs.EagerHistory.{eager}
@@ -8,7 +9,8 @@ use Rattle.exb_model.specs.Lists.{Pairwise}
 use Rattle.exb_model.specs.Setup.{Limits, IsValid, start_of}
 use Rattle.exb_model.specs.Tree.{Shape}
 use Rattle.exb_machine.specs.Allowing.{IsSettled}
-use Rattle.exb_machine.specs.Settling.{run}
+use Rattle.exb_machine.specs.Settling.{run, settled_within}
+use Rattle.exb_machine.specs.Stepping.{Stepped}
 use Rattle.exb_machine.specs.Worlds.{World, Step, Tick, Mark, first_world}
 use Rattle.exb_flight.specs.Items.{Each}
 use Rattle.exb_motion.specs.Given.{arrivals_of, commands_of}
@@ -29,13 +31,17 @@ abbrev pub IsUnmarked : Step → Type 0
 IsUnmarked Mark = ⊥
 IsUnmarked _ = Unit {0}
 
--- Steps that play a segment: its seconds pass in one tick, where there are any; its commands are given, in order, and its
--- arrivals, each once and in any order; meanwhile nothing is marked, and at the end the world is settled.
-pub record Plays (t : Shape) (l : Limits) (b : Basis) (s : Segment) (w : World) (steps : List Step) : Type 0 where
+-- Steps that give a segment: its seconds pass in one tick, where there are any; its commands are given, in order, and its
+-- arrivals, each once and in any order; meanwhile nothing is marked.
+pub record Gives (b : Basis) (s : Segment) (steps : List Step) : Type 0 where
   pub seconds : seconds_in steps ≡ (if s.seconds == 0 then [] else s.seconds ∷ [])
   pub commands : commands_of (given_in steps) ≡ filter_map (command_of b) s.commands
   pub arrivals : IsPermutation (arrivals_of (given_in steps)) s.arrivals
   pub unmarked : Each IsUnmarked steps
+
+-- They play it where the world is settled at their end.
+pub record Plays (t : Shape) (l : Limits) (b : Basis) (s : Segment) (w : World) (steps : List Step) : Type 0 where
+  pub gives : Gives b s steps
   pub settled : IsSettled t (run t l steps w).world
 
 -- the opening is a segment in which nothing is given
@@ -79,3 +85,16 @@ RunsPlayEagerly =
     let w = first_world (tree_of i) (bounds_of i) (start_of i.setup) i.setup.ageing in
     MayGoAll (tree_of i) (bounds_of i) w (marked_each (first ∷ plays)) → PlayAll (tree_of i) (bounds_of i) (basis_of i) w (nothing_given ∷ segments Eager i) (first ∷ plays) →
     Pairwise IsEager (segments Eager i) plays → ([] then (run (tree_of i) (bounds_of i) (marked_each (first ∷ plays)) w).events) ≡ eager i
+
+-- ---- settling
+-- Steps that give a segment, and then settling: they play it, where settling ends settled.
+pub record IsPlayedBy (t : Shape) (l : Limits) (b : Basis) (s : Segment) (w : World) (steps : List Step) (done : Stepped) : Type 0 where
+  pub more : List Step
+  pub is : done ≡ run t l more (run t l steps w).world
+  pub plays : Plays t l b s w (steps ++ more)
+
+abbrev pub SettlingPlays : Type 0
+SettlingPlays =
+    (t : Shape) (l : Limits) (b : Basis) (s : Segment) (w : World) (steps : List Step) (verdicts : List Verdict) (n : ℕ) → Gives b s steps →
+    let done = (settled_within t l n (run t l steps w).world verdicts).done in
+    IsSettled t done.world → IsPlayedBy t l b s w steps done

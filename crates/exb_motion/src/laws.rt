@@ -2,7 +2,7 @@
 ghost use Rattle.exb_motion.specs.Kept.{SetupsMayStart, BeginsKept, StepsKeep, KeptStands, KeptIsClean, SettledOwesNothing, RunsStand};
 ghost use Rattle.exb_motion.specs.Events.{StepsTellSo};
 ghost use Rattle.exb_motion.specs.Going.{StepsGoOn, RunsGoOn, SetupsGoOn};
-ghost use Rattle.exb_motion.specs.Playing.{RunsPlayLegally, RunsPlayEagerly};
+ghost use Rattle.exb_motion.specs.Playing.{RunsPlayLegally, RunsPlayEagerly, SettlingPlays};
 ghost use Rattle.exb_motion.specs.Marks.{SettledIsOrderly, SegmentsArePlayed};
 
 use exb_change_laws::laws::steps_tell;
@@ -136,3 +136,9 @@ pub fn runs_play_eagerly()
     steps_tell();
     steps_stay_written();
 }
+
+/// Steps that give a segment play it with the settling after them, where that ends settled: settling gives nothing, lets no second
+/// pass and marks nothing.
+pub fn settling_plays()
+    ensures { SettlingPlays }
+{}
