@@ -1,6 +1,6 @@
 -- A run that plays an input tells a history that the input allows.
 use Rattle.std.proofs.Common.{◌≡◌, ℕ, suc, ◌+◌, ◌==◌, ◌++◌, Bool, true, false, cond, List, [], ◌∷◌, length, map, reverse, Some, refl, ap, sym, ◌∙◌, subst, arith, inl, inr, append_assoc, length-append}
-use Rattle.std.specs.Prelude.{MatchBool, is_some, filter_map, flat_map, All, AllPairs, IsPermutation}
+use Rattle.std.specs.Prelude.{MatchBool, is_some, filter_map, flat_map, All, IsPermutation}
 use Rattle.std.specs.List.{range_with_len}
 use Rattle.std.proofs.lemmas.Bool.{cases_Bool}
 use Rattle.std.proofs.lemmas.List.{append-nil}
@@ -23,7 +23,7 @@ use Rattle.exb_change_laws.specs.Journal.{StepsTell}
 use Rattle.exb_machine.specs.Allowing.{IsSettled}
 use Rattle.exb_machine.specs.Settling.{run, settled_within}
 use Rattle.exb_machine.specs.Stepping.{Stepped, stepped}
-use Rattle.exb_machine.specs.Worlds.{World, Way, Step, Arrive, Carry, Control, Lose, Beat, Tick, Order, Mark, Left, first_world}
+use Rattle.exb_machine.specs.Worlds.{World, Step, Arrive, Carry, Control, Lose, Beat, Tick, Order, Mark, Left, first_world}
 use Rattle.exb_machine_laws.specs.Written.{StepsStayWritten}
 use Rattle.exb_machine_laws.proofs.Rounds.{run_then, rounds_are_steps}
 use Rattle.exb_machine_laws.specs.Laws.{IsMove}
@@ -35,7 +35,7 @@ use Rattle.exb_motion.specs.Given.{Given, Came, Told, given_by, arrivals_of, arr
 use Rattle.exb_motion.specs.Stands.{up_port, IsOfArrival, IsRightly, IsRisen, Stands}
 use Rattle.exb_motion.specs.Kept.{MayStart, HasVid, MayDoAll, given_in, Kept, basis_of}
 use Rattle.exb_motion.specs.Marks.{IsOrderly, IsPlayed}
-use Rattle.exb_motion.specs.Playing.{seconds_by, seconds_in, IsUnmarked, Gives, Plays, nothing_given, marked_each, PlayAll, IsTimely, RunsPlayLegally, IsEager, RunsPlayEagerly, SettlingPlays}
+use Rattle.exb_motion.specs.Playing.{seconds_by, seconds_in, IsUnmarked, Plays, nothing_given, marked_each, PlayAll, IsTimely, RunsPlayLegally, IsEager, RunsPlayEagerly, SettlingPlays}
 use Rattle.exb_motion.specs.Going.{MayGoAll}
 use Rattle.exb_motion.proofs.Eager.{IsSingle, eager_singles, TellsFirst, eager_is}
 use Rattle.exb_motion.proofs.Going.{runs_go_on}
