@@ -3,7 +3,8 @@
 same run, and compares what the two write byte for byte.
 
     bench/frames.py             captures of 4, 16 and 64 ports, flooded and learned, short and long frames
-    bench/frames.py --vlans     64 ports with 1, 100 and 4,094 VLANs and with 10, 1,000 and 100,000 learned addresses
+    bench/frames.py --vlans     64 ports with 1, 100 and 4,094 VLANs and with 10, 1,000 and 100,000 learned addresses, and 2 ports
+                                with 1,000,000
     bench/frames.py --costs     where the time goes, by callgrind (instructions, and not seconds)
 
 It works in a folder of its own under the system's folder for such, and takes it away at the end. The program and the
@@ -117,6 +118,9 @@ def vlans():
     for addresses in (10, 1_000, 100_000):
         active = min(64, addresses)
         measure(f"64 ports, 1 VLAN, {addresses} addresses", 64, learned(50_000, active, 60, None, addresses), active=active)
+    # A frame to all ports leaves but one here, so that the files stay small.
+    for addresses in (10, 1_000_000):
+        measure(f"2 ports, 1 VLAN, {addresses} addresses", 2, learned(50_000, 2, 60, None, addresses))
 
 
 def costs():

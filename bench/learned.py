@@ -1,7 +1,7 @@
 #!/usr/bin/env python3
 """Measures the learned table beside a plain hash table in C (bench/learned.c) in the same run: an address that is known is
-seen and another one looked up, with 10 to 1,000,000 addresses, by chance and with addresses that are alike; and a tick in
-which none dies.
+seen and another one looked up, with 10 to 1,000,000 addresses, by chance and with addresses that are alike. Then, measured in
+the program itself, a tick in which none dies, and forgetting a port with ten addresses, beside 10 and 1,000,000 others.
 
     bench/learned.py      (the program is the crate exb_learn_bench, which is built where that is needed)
 """
@@ -14,7 +14,8 @@ import time
 TOP = os.path.dirname(os.path.dirname(os.path.abspath(__file__)))
 TURNS = 3  # each run is made so often, and the best time counts
 TIMES = 2_000_000
-TICKS = 20_000
+TICKS = 2_000_000
+FORGETS = 20_000
 
 
 def built():
@@ -39,6 +40,12 @@ def of_one(program, what, count, times):
     return (seconds(program, what, count, times) - seconds(program, what, count, 1)) / times * 1e9
 
 
+def told(program, what, count, times):
+    """The nanoseconds of one call, as the program itself tells them, in the best of some runs."""
+    runs = [subprocess.run([program, what, str(count), str(times)], check=True, capture_output=True, text=True) for _turn in range(TURNS)]
+    return min(int(run.stdout) for run in runs) / times
+
+
 def main():
     program = built()
     folder = tempfile.mkdtemp(prefix="exbr-bench-")
@@ -49,8 +56,9 @@ def main():
             for count in (10, 1_000, 100_000, 1_000_000):
                 own, other = of_one(program, what, count, TIMES), of_one(plain, what, count, TIMES)
                 print(f"{what:6} {count:9,} addresses: {1e9 / own:12,.0f} frames/s, {own:7.1f} ns | plain {other:7.1f} ns | ratio {own / other:5.1f}", flush=True)
-        for count in (10, 1_000_000):
-            print(f"tick   {count:9,} addresses: {of_one(program, 'tick', count, TICKS):7.1f} ns", flush=True)
+        for what, times in (("tick", TICKS), ("forget", FORGETS)):
+            for count in (10, 1_000_000):
+                print(f"{what:6} {count:9,} addresses: {told(program, what, count, times):7.1f} ns", flush=True)
     finally:
         shutil.rmtree(folder)
 

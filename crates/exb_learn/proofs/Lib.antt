@@ -1,4 +1,10 @@
 pub mod Ageing
+pub mod Links
+pub mod Laid
+pub mod Tables
+pub mod Lookups
+pub mod Slotted
+pub mod Stores
 pub mod Counting
 pub mod Places
 pub mod Runs

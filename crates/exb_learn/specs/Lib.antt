@@ -4,3 +4,5 @@ pub mod Stations
 pub mod Entries
 pub mod Counts
 pub mod Histories
+pub mod Links
+pub mod Stored

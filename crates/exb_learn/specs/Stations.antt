@@ -1,7 +1,6 @@
 -- When stations are the same, and which places are live.
-use Rattle.std.specs.Prelude.{◌≡◌, ◌≤◌, ◌<◌, ℕ, ◌-◌, Bool, ◌==◌, nat_lt, ◌&&◌, List, Some, slice_get, bytes_eq}
-use Rattle.std.specs.List.{IsDistinct}
-use Rattle.std.specs.Map.{keys_of, lookup}
+use Rattle.std.specs.Prelude.{◌≡◌, ◌≤◌, ℕ, suc, ◌-◌, Bool, true, ◌==◌, nat_lt, not, ◌&&◌, if◌then◌else◌, List, length, Option, Some, None, bytes_eq}
+use Rattle.std.specs.Map.{lookup}
 use Rattle.exb_learn.specs.declared.entries.Station.{Station}
 use Rattle.exb_learn.specs.declared.entries.Place.{Place}
 
@@ -16,14 +15,37 @@ is_live now ageing p = nat_lt (now - p.at) ageing
 abbrev pub IsSince : ℕ → List (Station × Place) → Type 0
 IsSince x es = (q : Station) (p : Place) → lookup (same q) es ≡ Some p → x ≤ p.at
 
--- a clock at or before this one, before which none of the first entries was seen
-pub record IsEarliest (es : List (Station × Place)) (i x clock : ℕ) : Type 0 where
-  pub past : x ≤ clock
-  pub all : (k : ℕ) (e : Station × Place) → k < i → slice_get es k ≡ Some e → x ≤ e.1.at
+-- no station was seen after this clock
+abbrev pub IsUntil : ℕ → List (Station × Place) → Type 0
+IsUntil x es = (q : Station) (p : Place) → lookup (same q) es ≡ Some p → p.at ≤ x
 
--- what holds of what is kept: no station twice, none seen before the oldest, and room for so many more
-pub record IsKept (es : List (Station × Place)) (room spare oldest clock : ℕ) : Type 0 where
-  pub fits : room ≤ spare
-  pub once : IsDistinct same (keys_of es)
-  pub since : IsSince oldest es
-  pub past : oldest ≤ clock
+-- the place, if it passes the test
+abbrev pub kept_if : (Place → Bool) → Option Place → Option Place
+kept_if t None = None
+kept_if t (Some p) = if t p then Some p else None
+
+-- a look-up finds what it found, if that passes the test
+abbrev pub Keeps : (Place → Bool) → List (Station × Place) → List (Station × Place) → Type 0
+Keeps t old new = (q : Station) → lookup (same q) new ≡ kept_if t (lookup (same q) old)
+
+-- what a look-up finds now is what it found, as far as that passes the test
+abbrev pub KeepsAlike : (Place → Bool) → List (Station × Place) → List (Station × Place) → Type 0
+KeepsAlike t old now = (q : Station) → kept_if t (lookup (same q) now) ≡ kept_if t (lookup (same q) old)
+
+-- all that a look-up finds passes the test
+abbrev pub AllPass : (Place → Bool) → List (Station × Place) → Type 0
+AllPass t es = (q : Station) (p : Place) → lookup (same q) es ≡ Some p → t p ≡ true
+
+-- the station was seen at another port
+abbrev pub is_elsewhere : ℕ → Place → Bool
+is_elsewhere port p = not (p.port == port)
+
+-- the place of one station is this one, or gone; those of all others are as they were
+abbrev pub Changes : List (Station × Place) → List (Station × Place) → Station → Option Place → Type 0
+Changes old new s o = (q : Station) → lookup (same q) new ≡ (if same s q then o else lookup (same q) old)
+
+-- an entry was there, and is the one that is gone
+pub record IsTaken (old new : List (Station × Place)) (e : Station × Place) : Type 0 where
+  pub found : lookup (same e.0) old ≡ Some e.1
+  pub gone : Changes old new e.0 None
+  pub shorter : suc (length new) ≡ length old

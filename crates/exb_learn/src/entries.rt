@@ -1,7 +1,9 @@
 //! Where each address was seen last in each VLAN.
-ghost use Rattle.std.specs.Prelude.{◌≡◌, ◌==◌, ◌+◌, ◌≤◌, not, filter, slice_get, option_map, Some};
-ghost use Rattle.indexmap.specs.IndexMap.{spare, IsUnique, Updates};
-ghost use Rattle.exb_learn.specs.Stations.{same, is_live, IsSince};
+ghost use Rattle.std.specs.Prelude.{◌≡◌, ◌+◌, ◌≤◌, ◌<◌, is_some, length, if◌then◌else◌};
+ghost use Rattle.std.specs.List.{position_or_len};
+ghost use Rattle.std.specs.Map.{keys_of, lookup};
+ghost use Rattle.indexmap.specs.IndexMap.{insert_entry, spare, IsUnique};
+ghost use Rattle.exb_learn.specs.Stations.{same, is_live};
 
 use exb_model::address::Mac;
 use exb_model::port::PortId;
@@ -40,73 +42,39 @@ pub struct Place {
     pub at: u64,
 }
 
-// The station was seen less than the ageing time ago.
-fn is_live(place: &Place, clock: u64, ageing: u32) -> bool
+/// The station was seen less than the ageing time ago.
+pub fn is_live(place: &Place, clock: u64, ageing: u32) -> bool
     ensures { result ≡ is_live clock ageing place.now }
 {
     clock.saturating_sub(place.at) < u64::from(ageing)
 }
 
-/// Puts the place of a station, where there is room for one more. Answers the room after it.
+/// Puts the place of a station, where there is room for one more. Answers the index of its entry and the place that
+/// it had.
 pub fn put_place(
     places: &mut IndexMap<Station, Place>,
-    room: usize,
     station: Station,
-    place: Place,
-) -> usize
-    requires some { 1 ≤ room }
-    requires room { room ≤ spare places.old }
-    ensures updates { Updates same places.old places.new station (Some place) }
+    place: &Place,
+) -> (usize, Option<Place>)
+    requires spare { 1 ≤ spare places.old }
+    requires unique { IsUnique same places.old }
+    ensures entries { places.new.entries ≡ insert_entry same places.old.entries station place.now }
+    ensures slot { result.0 ≡ position_or_len (same station) (keys_of places.old.entries) }
+    ensures known { result.1 ≡ lookup (same station) places.old.entries }
+    ensures len { length places.new.entries ≡ length places.old.entries + (if is_some result.1 then 0 else 1) }
+    ensures spare { spare places.old ≤ spare places.new + (if is_some result.1 then 0 else 1) }
     ensures unique { IsUnique same places.new }
-    ensures room { result ≤ spare places.new }
-    ensures used { room ≤ result + 1 }
 {
-    match places.get_mut(&station) {
-        Some(known) => {
-            *known = place;
-            room
+    match places.get_full(&station) {
+        Some((slot, _, known)) => {
+            let known = *known;
+            places[slot] = *place;
+            (slot, Some(known))
         }
         None => {
-            places.insert(station, place).unwrap();
-            room - 1
+            let slot = places.len();
+            places.insert(station, *place).unwrap();
+            (slot, None)
         }
     }
-}
-
-/// Takes out what was seen at a port.
-pub fn forget_port(places: &mut IndexMap<Station, Place>, port: PortId)
-    ensures entries { places.new.entries ≡ filter (λ e. not (e.1.port == port)) places.old.entries }
-    ensures room { spare places.old ≤ spare places.new }
-    ensures unique { IsUnique same places.new }
-{
-    places.retain(|_, place| place.port != port);
-}
-
-/// Takes out what is dead at this clock.
-pub fn forget_dead(places: &mut IndexMap<Station, Place>, clock: u64, ageing: u32)
-    ensures entries { places.new.entries ≡ filter (λ e. is_live clock ageing e.1) places.old.entries }
-    ensures room { spare places.old ≤ spare places.new }
-    ensures unique { IsUnique same places.new }
-{
-    places.retain(|_, place| is_live(place, clock, ageing));
-}
-
-// When the station of the entry at an index was seen.
-fn seen_at(places: &IndexMap<Station, Place>, index: usize) -> Option<u64>
-    ensures { result ≡ option_map (λ e. e.1.at) (slice_get places.now.entries index) }
-{
-    let (_, place) = places.get_index(index)?;
-    Some(place.at)
-}
-
-/// The least clock at which what is kept was seen, or this clock where that is less.
-pub fn oldest_in(places: &IndexMap<Station, Place>, clock: u64) -> u64
-    ensures since { IsSince result places.now.entries }
-    ensures past { result ≤ clock }
-{
-    let mut oldest = clock;
-    for i in 0..places.len() {
-        oldest = oldest.min(seen_at(places, i).unwrap_or(clock));
-    }
-    oldest
 }

@@ -5,37 +5,33 @@ ghost use Rattle.exb_learn.specs.Entries.{table_of, look_of};
 ghost use Rattle.exb_learn.specs.Calls.{See, Tick, Forget, empty_table, after_call};
 ghost use Rattle.exb_learn.specs.Counts.{HasLive};
 
-use crate::entries::{Place, Station, forget_dead, forget_port, oldest_in, put_place};
+use crate::entries::{Place, Station};
+use crate::forgetting::{forget_dead, forget_port};
+use crate::store::Store;
 use exb_model::address::Mac;
 use exb_model::memory::NoMemory;
 use exb_model::port::PortId;
 use exb_model::vlan::Vid;
-use indexmap::IndexMap;
 use std::alloc::Global;
 use std::marker::Model;
 
 /// Where each address was seen last in each VLAN, with a clock in seconds. It holds live entries alone.
 #[derive(Drop)]
 pub struct Learned {
-    places: IndexMap<Station, Place>,
-    // how many more entries there is room for, by the last `reserve`
-    room: usize,
+    store: Store,
     clock: u64,
     ageing: u32,
-    // what is kept was seen at this clock or later
-    oldest: u64,
 }
 
 impl Model for Learned {
-    ghost use Rattle.indexmap.specs.IndexMap.{spare};
-    ghost use Rattle.exb_learn.specs.Stations.{IsKept};
+    ghost use Rattle.exb_learn.specs.Stations.{IsUntil};
     ghost use Rattle.exb_learn.specs.Entries.{Entries};
 
     ghost Value = { Entries };
 
-    ghost view = { λ l. record { entries = l.places.entries; clock = l.clock; ageing = l.ageing; spare = l.room } };
+    ghost view = { λ l. record { entries = l.store.entries; clock = l.clock; ageing = l.ageing; spare = l.store.room } };
 
-    ghost invariant = { λ l. IsKept l.places.entries l.room (spare l.places) l.oldest l.clock };
+    ghost invariant = { λ l. IsUntil l.clock l.store.entries };
 }
 
 impl Learned {
@@ -46,11 +42,9 @@ impl Learned {
         ensures clock { result.clock ≡ 0 }
     {
         Learned {
-            places: IndexMap::new(alloc),
-            room: 0,
+            store: Store::new(alloc),
             clock: 0,
             ageing,
-            oldest: 0,
         }
     }
 
@@ -62,16 +56,14 @@ impl Learned {
         ensures table { table_of self.new ≡ table_of self.old }
         ensures clock { self.new.clock ≡ self.old.clock }
     {
-        self.places.reserve(1)?;
-        self.room = self.places.capacity() - self.places.len();
-        Ok(())
+        self.store.reserve()
     }
 
     /// For how many new entries room is kept: what the last `reserve` found, less what was put since.
     pub fn spare(&self) -> u64
         ensures { result ≡ self.now.spare }
     {
-        self.room as u64
+        self.store.room() as u64
     }
 
     /// An individual address was seen in a VLAN at a port, now.
@@ -86,10 +78,7 @@ impl Learned {
             at: self.clock,
         };
         if self.ageing > 0 {
-            let station = Station { vid, address };
-            let room = self.room;
-            let left = put_place(&mut self.places, room, station, place);
-            self.room = left;
+            self.store.put(Station { vid, address }, place);
         }
     }
 
@@ -99,7 +88,7 @@ impl Learned {
     pub fn look(&self, vid: Vid, address: Mac) -> Option<PortId>
         ensures { result ≡ look_of self.now vid address.0 }
     {
-        let place = self.places.get(&Station { vid, address })?;
+        let place = self.store.place(&Station { vid, address })?;
         Some(place.port)
     }
 
@@ -107,7 +96,7 @@ impl Learned {
     pub fn held(&self) -> u64
         ensures { HasLive (table_of self.now) result }
     {
-        self.places.len() as u64
+        self.store.len() as u64
     }
 
     /// So many seconds go by, and what dies is taken out. The clock stays below 2^63.
@@ -119,10 +108,7 @@ impl Learned {
         ensures spare { self.new.spare ≡ self.old.spare }
     {
         self.clock += u64::from(seconds);
-        if self.clock.saturating_sub(self.oldest) >= u64::from(self.ageing) {
-            forget_dead(&mut self.places, self.clock, self.ageing);
-            self.oldest = oldest_in(&self.places, self.clock);
-        }
+        forget_dead(&mut self.store, self.clock, self.ageing);
     }
 
     /// Forgets what was seen at a port.
@@ -131,6 +117,6 @@ impl Learned {
         ensures clock { self.new.clock ≡ self.old.clock }
         ensures spare { self.new.spare ≡ self.old.spare }
     {
-        forget_port(&mut self.places, port);
+        forget_port(&mut self.store, port);
     }
 }

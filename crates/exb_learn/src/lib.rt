@@ -4,7 +4,11 @@
 #![tactic(auto)]
 
 pub mod entries;
+pub mod forgetting;
 pub mod laws;
 pub mod learned;
+pub mod rings;
+pub mod slots;
+pub mod store;
 
 pub use learned::Learned;

@@ -2,7 +2,10 @@
 //!
 //!     spread COUNT TIMES    so many addresses are seen; then, so often, one of them is seen and another looked up
 //!     alike COUNT TIMES     the same, with addresses that agree in their last two bytes
-//!     tick COUNT TIMES      so many addresses are seen; then so many seconds go by, one by one, and none dies
+//!     tick COUNT TIMES      so many addresses are seen; then so many seconds go by, one by one, and none dies; how many
+//!                           nanoseconds these ticks took together is printed
+//!     forget COUNT TIMES    so many addresses are seen; then, so often, ten more at a port of their own, which is forgotten; how
+//!                           many nanoseconds the forgetting took together is printed
 #![tactic(auto)]
 
 ghost use Rattle.std.specs.Prelude.{◌≡◌, false, IfOk};
@@ -16,6 +19,7 @@ use exb_model::vlan::Vid;
 use std::alloc::Global;
 use std::env;
 use std::process::ExitCode;
+use std::time::{Clock, Instant};
 
 /// Where the number of an address stands in it.
 #[derive(Clone, Copy)]
@@ -78,20 +82,51 @@ fn turns(alloc: Global, form: Form, count: u32, times: u32) -> Result<u64, NoMem
     Ok(found.wrapping_add(learned.held()))
 }
 
-// How many addresses are left after so many seconds.
-fn ticks(alloc: Global, count: u32, times: u32) -> Result<u64, NoMemory> {
-    let mut learned = filled(alloc, Form::Spread, count)?;
+// The nanoseconds since a moment; None where the clock can't be read.
+fn since(clock: &impl Clock, start: Instant) -> Option<u64> {
+    let taken = start.elapsed(clock).ok()?;
+    let seconds = taken.as_secs().saturating_mul(1_000_000_000);
+    Some(seconds.saturating_add(u64::from(taken.subsec_nanos())))
+}
+
+// The nanoseconds in which so many seconds go by, one by one.
+fn ticks(clock: &impl Clock, learned: &mut Learned, times: u32) -> Option<u64>
+    requires { learned.old.clock ≡ 0 }
+{
+    let start = Instant::now(clock).ok()?;
     for time in 0..times {
         learned.tick(1);
     }
-    Ok(learned.held())
+    since(clock, start)
 }
 
-fn measured(alloc: Global, what: &str, count: u32, times: u32) -> Result<u64, NoMemory> {
-    match what {
-        "tick" => ticks(alloc, count, times),
-        "alike" => turns(alloc, Form::Alike, count, times),
-        _ => turns(alloc, Form::Spread, count, times),
+// The nanoseconds in which a port at which ten addresses are seen first is forgotten.
+fn forgotten(clock: &impl Clock, learned: &mut Learned) -> Option<u64> {
+    let port = PortId::default();
+    for number in 0..10u32 {
+        learned.reserve().ok()?;
+        learned.see(Vid::default(), address(Form::Alike, number), port);
+    }
+    let start = Instant::now(clock).ok()?;
+    learned.forget(port);
+    since(clock, start)
+}
+
+fn forgets(clock: &impl Clock, learned: &mut Learned, times: u32) -> Option<u64> {
+    let mut sum = 0u64;
+    for _time in 0..times {
+        sum = sum.saturating_add(forgotten(clock, learned)?);
+    }
+    Some(sum)
+}
+
+// The nanoseconds of ticks or of forgetting, where so many addresses are held.
+fn timed(clock: &impl Clock, alloc: Global, what: &str, count: u32, times: u32) -> Option<u64> {
+    let mut learned = filled(alloc, Form::Spread, count).ok()?;
+    if what == "tick" {
+        ticks(clock, &mut learned, times)
+    } else {
+        forgets(clock, &mut learned, times)
     }
 }
 
@@ -109,8 +144,13 @@ fn main(rt: HostRuntime) -> ExitCode {
     let (Ok(count), Ok(times)) = (count.parse::<u32>(), times.parse::<u32>()) else {
         return ExitCode::from(2);
     };
-    match measured(alloc, what.as_str(), count, times) {
-        Ok(count) => ExitCode::from((count == 0) as u8),
-        Err(NoMemory) => ExitCode::from(1),
-    }
+    let answered = match what.as_str() {
+        "spread" => turns(alloc, Form::Spread, count, times).is_ok(),
+        "alike" => turns(alloc, Form::Alike, count, times).is_ok(),
+        what => match timed(&rt, alloc, what, count, times) {
+            Some(taken) => println!(&rt; "{taken}").is_ok(),
+            None => false,
+        },
+    };
+    ExitCode::from(u8::from(!answered))
 }

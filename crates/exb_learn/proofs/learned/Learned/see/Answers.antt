@@ -3,25 +3,24 @@ use Rattle.std.proofs.lemmas.Bool.{lt-ltb, le-ltb}
 use Rattle.exb_learn.specs.declared.entries.Station.{Station}
 use Rattle.exb_learn.specs.declared.entries.Place.{Place}
 use Rattle.exb_learn.specs.Entries.{Entries}
-use Rattle.exb_learn.proofs.Places.{table-see, table-unseen, since_put}
+use Rattle.exb_learn.proofs.Lookups.{until_put}
+use Rattle.exb_learn.proofs.Places.{table-see, table-unseen}
 use Rattle.exb_learn.proofs.learned.Learned.see.Goals as goal
 
 pub returns-then-self-gt0-clause-table : goal.returns-then-self-gt0-clause-table
 returns-then-self-gt0-clause-table c =
-    let l : Entries = record { entries = c.self.inside.places.entries; clock = c.self.inside.clock; ageing = c.self.inside.ageing; spare = c.self.inside.room } in
+    let l : Entries = record { entries = c.self.inside.store.entries; clock = c.self.inside.clock; ageing = c.self.inside.ageing; spare = c.self.inside.store.room } in
     let s : Station = record { vid = c.args.vid; address = c.args.address } in
     let p : Place = record { port = c.args.port; at = c.self.inside.clock } in
-    rw (← c.self.view_is) (table-see l c.put_place-left.new.places.entries c.put_place-left.result s p (lt-ltb 0 c.self.inside.ageing (omega arith)) refl c.put_place-left.ensures.updates.0)
+    rw (← c.self.view_is) (table-see l c.put.new.self.entries c.put.new.self.room s p (lt-ltb 0 c.self.inside.ageing (omega arith)) refl c.put.ensures.updates)
 
 pub returns-else-self-gt0-clause-table : goal.returns-else-self-gt0-clause-table
 returns-else-self-gt0-clause-table c =
-    let l : Entries = record { entries = c.self.inside.places.entries; clock = c.self.inside.clock; ageing = c.self.inside.ageing; spare = c.self.inside.room } in
+    let l : Entries = record { entries = c.self.inside.store.entries; clock = c.self.inside.clock; ageing = c.self.inside.ageing; spare = c.self.inside.store.room } in
     rw (← c.self.view_is) (table-unseen l c.args.vid c.args.address.0 c.args.port (le-ltb 0 c.self.inside.ageing (omega arith)))
 
 pub invariant_of-self : goal.invariant_of-self
-invariant_of-self c = record {
-  fits = c.put_place-left.ensures.room;
-  once = c.put_place-left.ensures.unique;
-  since = since_put c.self.inside.oldest _ _ c.self.inside.places.entries _ c.self.invariant.since c.self.invariant.past c.put_place-left.ensures.updates.0;
-  past = c.self.invariant.past;
-}
+invariant_of-self c =
+    let s : Station = record { vid = c.args.vid; address = c.args.address } in
+    let p : Place = record { port = c.args.port; at = c.self.inside.clock } in
+    until_put c.self.inside.clock s p c.self.inside.store.entries c.put.new.self.entries c.self.invariant (omega arith) c.put.ensures.updates
