@@ -318,6 +318,13 @@ impl Control {
         self.core.fabric.tree()
     }
 
+    /// The seconds that have passed.
+    pub fn clock(&self) -> u64
+        ensures { result ≡ (table_of self.now.learned).clock }
+    {
+        self.core.learned.clock()
+    }
+
     /// How many commands were given.
     pub fn given(&self) -> u32
         ensures { result ≡ self.now.given }

@@ -59,6 +59,13 @@ impl Learned {
         self.store.reserve()
     }
 
+    /// The seconds that have passed.
+    pub fn clock(&self) -> u64
+        ensures { result ≡ self.now.clock }
+    {
+        self.clock
+    }
+
     /// For how many new entries room is kept: what the last `reserve` found, less what was put since.
     pub fn spare(&self) -> u64
         ensures { result ≡ self.now.spare }

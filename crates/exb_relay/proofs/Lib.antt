@@ -1,8 +1,8 @@
 mod Lists
-mod Under
+pub mod Under
 mod Choosing
 mod Sets
-mod Words
+pub mod Words
 mod Leaving
 mod Flat
 mod Each
