@@ -2,4 +2,4 @@ use Rattle.std.proofs.Common.{◌≡◌}
 use Rattle.exb_learn_bench.proofs.ticks.Given as goal
 
 abbrev pub invariant-loop-time : goal.invariant-loop-time
-invariant-loop-time l = l.learned.clock ≡ l.time
+invariant-loop-time g l = l.learned.clock ≡ l.time
