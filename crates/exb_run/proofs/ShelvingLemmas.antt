@@ -1,5 +1,6 @@
 -- What calls say of the shelf, one after the other.
-use Rattle.std.proofs.Common.{◌≡◌, ◌≤◌, ◌<◌, ◌+◌, ℕ, List, Result, Ok, Err, refl, ap, sym, ◌∙◌, arith}
+use Rattle.std.proofs.Common.{◌≡◌, ◌≤◌, ◌<◌, ◌+◌, ◌^◌, inl, inr, ℕ, List, Result, Ok, Err, refl, ap, sym, ◌∙◌, arith}
+use Rattle.std.proofs.lemmas.Bool.{cases_lt}
 use Rattle.exb_shelf.specs.Files.{Files}
 use Rattle.exb_shelf.specs.Shelf.{Id, Faults, Rose, NoFewer, Opens}
 use Rattle.exb_shelf.proofs.IdLemmas.{opens_same, opens_then}
@@ -8,7 +9,7 @@ use Rattle.exb_run.specs.Plans.{Planned}
 use Rattle.exb_run.specs.Shelving.{CountsFaults, OnlyWrites, OnlyMakes, WritesPlanned}
 
 -- ---- what is counted
-fewer_then : (a b c : Faults) → NoFewer a b → NoFewer b c → NoFewer a c
+pub fewer_then : (a b c : Faults) → NoFewer a b → NoFewer b c → NoFewer a c
 fewer_then a b c h k = record {
   missing = let x = h.missing in let y = k.missing in omega arith;
   reads = let x = h.reads in let y = k.reads in omega arith;
@@ -16,7 +17,10 @@ fewer_then a b c h k = record {
 }
 
 rose_after : (a b c : ℕ) → a ≤ b → Rose b c → b ≤ c → Rose a c
-rose_after a b c before rose after low = omega (arith, rose)
+rose_after a b c before rose after low = elim (cases_lt (b + 1) (2 ^ 64)) [
+  | inl more ↦ let h : b < c = rose more in omega arith
+  | inr last ↦ omega arith
+]
 
 same_fault : {X Y : Type 0} (x y : Fault) → ◌≡◌ {A = Result Y Fault} (Err x) (Err y) → ◌≡◌ {A = Result X Fault} (Err x) (Err y)
 same_fault x y e = let is : x ≡ y = cc in ap Err is

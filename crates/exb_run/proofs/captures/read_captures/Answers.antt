@@ -56,8 +56,8 @@ returns-in_err-capture-clause-flaw g c t =
     let f = S.file c.args.shelf.now in
     let name = c.in-Some.name.now in
     let named : name_of names p ≡ Some name = ap (name_of names) (sym c.port_of-port.ensures) ∙ c.in-Some.ensures.found in
-    let p = err_from_is_err_and c.from_residual.result c.from_residual.ensures.1 in
-    rw (p.1, p.2) (elim (c.in_err-capture.ensures.flaw t) [
+    let made = err_from_is_err_and c.from_residual.result c.from_residual.ensures.1 in
+    rw (made.1, made.2) (elim (c.in_err-capture.ensures.flaw t) [
       | inl flaw ↦ inl (
         p,
         record {

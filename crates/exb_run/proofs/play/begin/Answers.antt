@@ -1,4 +1,5 @@
 use Rattle.std.proofs.Common.{◌≡◌, ℕ, [], ap, sym, subst, ◌∙◌, length}
+use Rattle.std.proofs.lemmas.Result.{err_from_is_err_and}
 use Rattle.exb_model.specs.declared.setup.Setup.{Setup}
 use Rattle.exb_model.specs.Input.{basis_of, tree_of, bounds_of}
 use Rattle.exb_model.specs.EagerHistory.{opening}
@@ -10,7 +11,7 @@ use Rattle.exb_run.specs.Playing.{IsOf, IsUnderWay, IsCounted, played, text_afte
 use Rattle.exb_run.specs.Writing.{HasTexts, first_text, pieces_of, lines_of, with_more, with_left_frames}
 use Rattle.exb_run.proofs.Counting.{count_events}
 use Rattle.exb_run.proofs.Opened.{opening_counts, nothing_is_counted, first_texts, opening_text, opening_under_way}
-use Rattle.exb_run.proofs.ShelvingLemmas.{makes_then}
+use Rattle.exb_run.proofs.ShelvingLemmas.{makes_then, counts_on}
 use Rattle.exb_run.proofs.Turned.{same_texts}
 use Rattle.exb_run.proofs.play.begin.Goals as goal
 
@@ -66,3 +67,18 @@ returns-in_err-note-clause-only g c = makes_then _ _ _ _ _ _ _ _ c.in_ok-outputs
 
 pub returns-clause-only : goal.returns-clause-only
 returns-clause-only g c = makes_then _ _ _ _ _ _ _ _ c.in_ok-outputs.ensures.only c.in_ok-note.ensures.only
+
+pub returns-in_err-outputs-clause-causes : goal.returns-in_err-outputs-clause-causes
+returns-in_err-outputs-clause-causes g c =
+    let p = err_from_is_err_and c.from_residual-in_err-outputs.result c.from_residual-in_err-outputs.ensures.1 in
+    rw (p.1, p.2) c.in_err-outputs.ensures.causes
+
+pub returns-in_err-note-clause-causes : goal.returns-in_err-note-clause-causes
+returns-in_err-note-clause-causes g c =
+    let p = err_from_is_err_and c.from_residual-in_err-note.result c.from_residual-in_err-note.ensures.1 in
+    rw (p.1, p.2) c.in_err-note.ensures.causes
+
+pub returns-in_err-note-clause-faults : goal.returns-in_err-note-clause-faults
+returns-in_err-note-clause-faults g c =
+    let p = err_from_is_err_and c.from_residual-in_err-note.result c.from_residual-in_err-note.ensures.1 in
+    rw (p.1, p.2) (counts_on c.in_err-note.field-0.0 _ _ _ c.in_ok-outputs.ensures.faults.none_fell c.in_err-note.ensures.faults)

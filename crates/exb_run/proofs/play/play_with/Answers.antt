@@ -1,4 +1,5 @@
 use Rattle.std.proofs.Common.{◌≡◌, None, List, ap, sym, subst, ◌∙◌}
+use Rattle.std.proofs.lemmas.Result.{err_from_is_err_and}
 use Rattle.exb_model.specs.History.{History}
 use Rattle.exb_model.specs.Input.{Coming, basis_of, tree_of, bounds_of, merge}
 use Rattle.exb_model.specs.declared.setup.Setup.{Setup}
@@ -10,7 +11,7 @@ use Rattle.exb_world.specs.Worlds.{state_of}
 use Rattle.exb_run.specs.Playing.{IsOf, CanCome, IsWritten, segments_after, text_after}
 use Rattle.exb_run.proofs.Coming.{all_come, if_ok_both}
 use Rattle.exb_run.proofs.Segmenting.{eager_is}
-use Rattle.exb_run.proofs.ShelvingLemmas.{makes_then, writes_then}
+use Rattle.exb_run.proofs.ShelvingLemmas.{makes_then, writes_then, fewer_then, counts_after, counts_on}
 use Rattle.exb_run.proofs.Turned.{when_ok}
 use Rattle.exb_run.proofs.play.play_with.Goals as goal
 
@@ -44,3 +45,17 @@ returns-in_err-play_all-clause-only g c = makes_then _ _ _ _ _ _ _ _ c.in_ok-gam
 pub returns-clause-only : goal.returns-clause-only
 returns-clause-only g c =
     makes_then _ _ _ _ _ _ _ _ c.in_ok-game.ensures.only (writes_then _ _ _ _ _ _ _ _ c.in_ok-play_all.ensures.only c.end.ensures.only)
+
+pub returns-in_err-play_all-clause-causes : goal.returns-in_err-play_all-clause-causes
+returns-in_err-play_all-clause-causes g c =
+    let p = err_from_is_err_and c.from_residual-in_err-play_all.result c.from_residual-in_err-play_all.ensures.1 in
+    rw (p.1, p.2) c.in_err-play_all.ensures.causes
+
+pub returns-in_err-play_all-clause-faults : goal.returns-in_err-play_all-clause-faults
+returns-in_err-play_all-clause-faults g c =
+    let p = err_from_is_err_and c.from_residual-in_err-play_all.result c.from_residual-in_err-play_all.ensures.1 in
+    rw (p.1, p.2) (counts_on c.in_err-play_all.field-0.0 _ _ _ c.in_ok-game.ensures.faults.none_fell c.in_err-play_all.ensures.faults)
+
+pub returns-clause-faults : goal.returns-clause-faults
+returns-clause-faults g c =
+    counts_after c.end.result _ _ _ (fewer_then _ _ _ c.in_ok-game.ensures.faults.none_fell c.in_ok-play_all.ensures.faults.none_fell) c.end.ensures.faults
