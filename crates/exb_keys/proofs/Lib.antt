@@ -3,4 +3,5 @@ pub mod Fates
 pub mod WordLists
 pub mod Each
 pub mod Documents
+pub mod Sorted
 pub mod Went

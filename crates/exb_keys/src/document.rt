@@ -1,4 +1,6 @@
 //! The TOML document that a file is.
+ghost use Rattle.std.specs.Prelude.{◌≡◌, true, IfOk};
+ghost use Rattle.toml.specs.Data.{members_are_sorted};
 ghost use Rattle.toml.specs.View.{table_view};
 ghost use Rattle.exb_keys.specs.Faults.{GivesSeen};
 ghost use Rattle.exb_keys.specs.Documents.{document};
@@ -8,10 +10,12 @@ use std::alloc::Global;
 use toml::Table;
 
 /// The document of a file of at most `most` bytes: Large for a longer one, and NotToml where it isn't UTF-8
-/// or the crate `toml` refuses it for another cause than memory.
+/// or the crate `toml` refuses it for another cause than memory. The members of each table in it come in byte
+/// order of their keys.
 #[tactic(auto, unfolding(crate::specs::Documents::document))]
 pub fn document(alloc: Global, file: &[u8], most: usize) -> Result<Table, TopoFault>
-    ensures { GivesSeen table_view result (document most file.now) }
+    ensures exact { GivesSeen table_view result (document most file.now) }
+    ensures sorted { IfOk result (λ table. members_are_sorted (table_view table) ≡ true) }
 {
     if file.len() > most {
         return Err(TopoFault::Large);

@@ -16,7 +16,7 @@ use Rattle.exb_run.specs.declared.captures.Capture.{Capture}
 use Rattle.exb_run.specs.declared.fault.Flaw.{Flaw}
 use Rattle.exb_run.specs.declared.fault.Flaw.TheVariants.{Large, Broken}
 use Rattle.exb_run.specs.declared.fault.Fault.{Fault}
-use Rattle.exb_run.specs.declared.fault.Fault.TheVariants.{Missing, Capture as Faulty, Read}
+use Rattle.exb_run.specs.declared.fault.Fault.TheVariants.{Missing, Capture as Faulty, Read, Write}
 use Rattle.exb_run.specs.Inputs.{Taken, name_of, is_named, bytes_named, bytes_at, captures_of}
 use Rattle.exb_run.specs.Flaws.{flaw_in, flaw_of_bytes, flaw_of, flaw_named, size_below, flaw_at, FirstFlaw, AreGood}
 use Rattle.exb_run.specs.Reading.{contents, IsOfCapture}
@@ -80,6 +80,9 @@ module _ (p : ℕ) (bytes : List ℕ) (before : ℕ) (x : Fault) (low : p < 4160
 
   pub bytes_not_read : x ≢ Read
   bytes_not_read m = let is = in_bytes p bytes before x e in let h : Faulty p is.0 ≡ Read = sym is.1 ∙ m in cc
+
+  pub bytes_not_write : x ≢ Write
+  bytes_not_write m = let is = in_bytes p bytes before x e in let h : Faulty p is.0 ≡ Write = sym is.1 ∙ m in cc
 
 -- the fault in a result
 pub err_same : {T : Type 0} (x y : Fault) → ◌≡◌ {A = Result T Fault} (Err x) (Err y) → x ≡ y

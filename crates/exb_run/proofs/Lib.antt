@@ -18,3 +18,5 @@ pub mod Asking
 pub mod Stopping
 pub mod Running
 pub mod RunLemmas
+pub mod ShelvingLemmas
+pub mod OpenLemmas

@@ -2,6 +2,7 @@
 use Rattle.std.proofs.Common.{◌≡◌, ◌≢◌, ◌<◌, ◌++◌, ◌⊎◌, inl, inr, ℕ, List, Option, Some, None, Result, Ok, Err, ap, sym, ◌∙◌, refl, subst, arith}
 use Rattle.std.specs.Prelude.{String, IfOk, IfErr, OnErr, IsErrOf, string_bytes, codes}
 use Rattle.std.specs.declared.alloc.Global.{Global}
+use Rattle.std.proofs.lemmas.Bool.{false≢true}
 use Rattle.exb_model.specs.Setup.{shape_of}
 use Rattle.exb_model.specs.Tree.{Shape}
 use Rattle.exb_keys.specs.declared.faults.TopoFault.TheVariants as topology
@@ -20,7 +21,7 @@ use Rattle.exb_tables.specs.declared.rows.Named.{Named}
 use Rattle.exb_run.specs.Flaws.{AreGood, FirstFlaw, flaw_of_bytes, flaw_of, flaw_named, flaw_at, size_below}
 use Rattle.exb_run.proofs.FlawLemmas.{in_bytes}
 use Rattle.exb_run.specs.Reading.{IsRefused, IsOfTopology}
-use Rattle.exb_run.specs.Answers.{Asks, IsReady, Ran, OnlyAsked, Stops, StopsWith, IsFailure, CanBe, refused_by, IsFaultLine, IsCause, IsLine, line_of, fault_line, fault_status, status_of}
+use Rattle.exb_run.specs.Answers.{Asks, IsReady, Ran, OnlyAsked, Stops, StopsWith, IsFailure, CanBe, refused_by, IsFaultLine, IsOfInput, IsCause, IsLine, line_of, fault_line, fault_status, status_of}
 use Rattle.exb_run.proofs.Asking.{asks_once, shape_same, prefix_same}
 use Rattle.exb_run.proofs.Stopping.{stops_words, stops_other, stops_capture, stops_not, refused_stops, refused_once}
 
@@ -80,6 +81,16 @@ topology_can_be Memory is = tt
 
 pub topology_not_usage : (x : Fault) → IsOfTopology x → x ≢ Usage
 topology_not_usage x is e = subst IsOfTopology e is
+
+pub topology_status : (x : Fault) → IsOfTopology x → fault_status x ≢ 2
+topology_status Usage is = absurd is
+topology_status (Missing name) is = λ e. omega arith
+topology_status (BadTopology fault) is = λ e. omega arith
+topology_status NotBuilt is = absurd is
+topology_status (Capture p flaw) is = absurd is
+topology_status Read is = λ e. omega arith
+topology_status Write is = absurd is
+topology_status Memory is = λ e. omega arith
 
 pub topology_not_write : (x : Fault) → IsOfTopology x → x ≢ Write
 topology_not_write x is e = subst IsOfTopology e is
@@ -259,6 +270,24 @@ stops_with o words f s cause is more n6 n7 =
         ]
       ]
     ]
+
+-- the statuses of faults of what is asked for
+pub record OfInput (n : ℕ) : Type 0 where
+  pub late : 1 < n
+  pub one : n ≢ 1
+  pub six : n ≢ 6
+  pub seven : n ≢ 7
+
+pub of_input : (n : ℕ) → IsOfInput n → OfInput n
+of_input n is =
+    let zero : n ≢ 0 = λ e. false≢true (subst IsOfInput e is) in
+    let one : n ≢ 1 = λ e. false≢true (subst IsOfInput e is) in
+    record {
+      late = omega arith;
+      one = one;
+      six = λ e. false≢true (subst IsOfInput e is);
+      seven = λ e. false≢true (subst IsOfInput e is);
+    }
 
 -- nothing stops a run that is ready
 pub ready_not : (words : List (List ℕ)) (f : Files) (t : Topology) (fault : Fault) → IsReady words f t → Stops words f fault → ⊥

@@ -191,6 +191,10 @@ status_of (Err fault) = fault_status fault
 abbrev pub IsStatus : ℕ → Type 0
 IsStatus n = IsTrue (n == 0 || n == 1 || n == 2 || n == 3 || n == 4 || n == 5 || n == 6 || n == 7 || n == 8)
 
+-- the statuses of faults of what is asked for: the topology, and the captures that it names
+abbrev pub IsOfInput : ℕ → Type 0
+IsOfInput n = IsTrue (n == 3 || n == 4 || n == 5 || n == 8)
+
 -- the first fault has this status
 abbrev pub StopsWith : List (List ℕ) → Files → ℕ → Type 0
 StopsWith words file status = (fault : Fault) × Stops words file fault × (fault_status fault ≡ status)
@@ -198,6 +202,22 @@ StopsWith words file status = (fault : Fault) × Stops words file fault × (faul
 -- the line of a fault of this status
 abbrev pub IsFaultLine : ℕ → List ℕ → Type 0
 IsFaultLine status line = (fault : Fault) × CanBe fault × (fault_status fault ≡ status) × (line ≡ fault_line fault)
+
+-- By its status, which count of faults rose: those of the shelf, or those of the sink.
+pub record RoseBy (status : ℕ) (counted counts : Faults) (failed fails : ℕ) : Type 0 where
+  pub five : status ≡ 5 → Rose counted.missing counts.missing
+  pub six : status ≡ 6 → Rose counted.reads counts.reads
+  pub seven : status ≡ 7 → Rose counted.writes counts.writes ⊎ Rose failed fails
+
+-- What is printed by its status: one line and nothing else. At 7 the sink may have failed.
+pub record SaysBy (status : ℕ) (failed fails : ℕ) (old new : List ℕ) : Type 0 where
+  pub two : status ≡ 2 → new ≡ old ++ codes "exbr: usage: exbr run TOPOLOGY\n"
+  pub three : status ≡ 3 → (line : List ℕ) × IsFaultLine 3 line × (new ≡ old ++ line)
+  pub four : status ≡ 4 → (line : List ℕ) × IsFaultLine 4 line × (new ≡ old ++ line)
+  pub five : status ≡ 5 → (line : List ℕ) × IsFaultLine 5 line × (new ≡ old ++ line)
+  pub six : status ≡ 6 → new ≡ old ++ codes "exbr: read fault\n"
+  pub seven : status ≡ 7 → ¬ Rose failed fails → new ≡ old ++ codes "exbr: write fault\n"
+  pub eight : status ≡ 8 → new ≡ old ++ codes "exbr: not built\n"
 
 -- this ended the run: the first fault of what is asked for, a fault that the shelf counted, or want of memory
 abbrev pub IsCause : List (List ℕ) → Files → Faults → Faults → Fault → Type 0

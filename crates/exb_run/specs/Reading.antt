@@ -31,6 +31,14 @@ IsOfTopology Read = ⊤
 IsOfTopology Memory = ⊤
 IsOfTopology _ = ⊥
 
+-- a fault that can come while a topology is played
+abbrev pub IsOfPlaying : Fault → Type 0
+IsOfPlaying Usage = ⊥
+IsOfPlaying (Topology fault) = ⊥
+IsOfPlaying NotBuilt = ⊥
+IsOfPlaying (Faulty p flaw) = p < 4160
+IsOfPlaying _ = ⊤
+
 -- this is why a topology file with these bytes is not taken
 abbrev pub IsRefusal : List ℕ → Fault → Type 0
 IsRefusal bytes fault = (refusal : Refusal) × (topology_of bytes ≡ Err refusal) × (fault ≡ refused_by refusal)

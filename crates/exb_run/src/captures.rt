@@ -3,11 +3,12 @@ ghost use Rattle.std.specs.Prelude.{◌≡◌, ◌≢◌, ◌≤◌, ◌<◌, �
 ghost use Rattle.exb_model.specs.Ports.{all_ports};
 ghost use Rattle.exb_pcap.specs.Captures.{pcap_records};
 ghost use Rattle.exb_shelf.specs.Files.{SameFiles};
-ghost use Rattle.exb_shelf.specs.Shelf.{IsReadingOf, Opens, Rose, NoFewer};
+ghost use Rattle.exb_shelf.specs.Shelf.{IsReadingOf, Opens};
 ghost use Rattle.exb_run.specs.Inputs.{name_of, is_named, captures_of};
 ghost use Rattle.exb_run.specs.Flaws.{flaw_in, flaw_of_bytes, flaw_of, AreGood, FirstFlaw};
 ghost use Rattle.exb_run.specs.Opening.{ReadsCapture};
 ghost use Rattle.exb_run.specs.Reading.{contents, IsOfCapture};
+ghost use Rattle.exb_run.specs.Shelving.{CountsFaults};
 
 use crate::fault::{Fault, Flaw};
 use exb_model::port::PortId;
@@ -98,9 +99,7 @@ fn read_capture<S: Shelf>(
     ensures causes { IfErr result IsOfCapture }
     ensures opened { Opens (IsReadingOf name.now) (S.ids shelf.old) (S.ids shelf.new) }
     ensures files { SameFiles (S.file shelf.old) (S.file shelf.new) }
-    ensures faults { NoFewer (S.faults shelf.old) (S.faults shelf.new) }
-    ensures missing { (n : List ℕ) → result ≡ Err (Fault.Missing n) → Rose (S.faults shelf.old).missing (S.faults shelf.new).missing }
-    ensures read { IsErrOf result Fault.Read → Rose (S.faults shelf.old).reads (S.faults shelf.new).reads }
+    ensures faults { CountsFaults result (S.faults shelf.old) (S.faults shelf.new) }
 {
     let file = match read_file(alloc, shelf, name, ONE_LIMIT) {
         Ok(file) => file,
@@ -155,9 +154,7 @@ pub(crate) fn read_captures<S: Shelf>(
     ensures causes { IfErr result IsOfCapture }
     ensures opened { Opens (ReadsCapture names.now) (S.ids shelf.old) (S.ids shelf.new) }
     ensures files { SameFiles (S.file shelf.old) (S.file shelf.new) }
-    ensures faults { NoFewer (S.faults shelf.old) (S.faults shelf.new) }
-    ensures missing { (n : List ℕ) → result ≡ Err (Fault.Missing n) → Rose (S.faults shelf.old).missing (S.faults shelf.new).missing }
-    ensures read { IsErrOf result Fault.Read → Rose (S.faults shelf.old).reads (S.faults shelf.new).reads }
+    ensures faults { CountsFaults result (S.faults shelf.old) (S.faults shelf.new) }
 {
     let mut captures = Vec::new(alloc);
     let mut size = 0;
@@ -166,10 +163,7 @@ pub(crate) fn read_captures<S: Shelf>(
         let Some(name) = name_of(names, port) else {
             continue;
         };
-        let capture = match read_capture(alloc, shelf, port, name, size) {
-            Ok(capture) => capture,
-            Err(fault) => return Err(fault),
-        };
+        let capture = read_capture(alloc, shelf, port, name, size)?;
         size += capture.file.len();
         if captures.push(capture).is_err() {
             return Err(Fault::Memory);

@@ -1,21 +1,23 @@
 //! The output files while they are written.
-ghost use Rattle.std.specs.Prelude.{◌≡◌, ◌≢◌, ◌≤◌, ◌<◌, ◌+◌, ◌-◌, ◌*◌, ◌++◌, ℕ, List, [], length, IfOk, OnOk, OnErr, IsErrOf, string_bytes, ◌∷◌, ◌⊎◌, true, All};
+ghost use Rattle.std.specs.Prelude.{◌≡◌, ◌≢◌, ◌≤◌, ◌<◌, ◌+◌, ◌-◌, ◌*◌, ◌++◌, ℕ, List, [], length, IfOk, OnOk, OnErr, IfErr, string_bytes, ◌∷◌, ◌⊎◌, All};
 ghost use Rattle.exb_shelf.specs.Files.{Files, SameFiles, Puts, Adds, Filled};
-ghost use Rattle.exb_shelf.specs.Shelf.{Rose, NoFewer, IsWriting, writing};
+ghost use Rattle.exb_shelf.specs.Shelf.{IsWriting, Opens, writing};
 ghost use Rattle.exb_run.specs.Plans.{Planned, port_count, place_in};
-ghost use Rattle.exb_run.specs.Outputs.{output_name, OnlyPlanned};
+ghost use Rattle.exb_run.specs.Outputs.{output_name};
+ghost use Rattle.exb_run.specs.Shelving.{CountsFaults, IsOfWriting, OnlyMakes, OnlyWrites, WritesPlanned};
 ghost use Rattle.exb_model.specs.Texts.{line_of, record_text as record_of};
 ghost use Rattle.exb_run.specs.Writing.{pieces_of, Holds, HasTexts, IsReady, first_text, with_more, lines_of, with_left_frames, CanBeWritten};
 
+use crate::fault::Fault;
 use crate::plan::Plan;
 use exb_model::event::Event;
 use exb_model::memory::NoMemory;
 use exb_pcap::{header_text, record_text};
-use exb_shelf::{PIECE, Shelf, ShelfFault, write_text};
+use exb_shelf::{PIECE, Shelf, write_text};
 use exb_text::laws::{capture_names_differ, no_capture_is_the_journal};
 use exb_text::{capture_file_name, journal_file_name, write_line};
 use exb_world::Left;
-use std::alloc::{AllocError, Global};
+use std::alloc::Global;
 
 /// The outputs: the capture of each port, and last the journal. Each has the id of its file and a piece of
 /// its text that is not written yet.
@@ -46,11 +48,11 @@ fn output_names_differ()
 }
 
 /// What output `at` begins with.
-fn first_piece(alloc: Global, plan: &Plan, at: u16) -> Result<Vec<u8>, AllocError>
+fn first_piece(alloc: Global, plan: &Plan, at: u16) -> Result<Vec<u8>, NoMemory>
     ensures { IfOk result (λ piece. piece.items ≡ first_text plan.now at) }
 {
     if at < plan.count() {
-        header_text().to_vec(alloc)
+        Ok(header_text().to_vec(alloc)?)
     } else {
         Ok(Vec::new(alloc))
     }
@@ -63,30 +65,24 @@ fn create_one<S: Shelf>(
     plan: &Plan,
     at: u16,
     outputs: &mut Outputs,
-) -> Result<(), ShelfFault>
+) -> Result<(), Fault>
+    requires within { at < port_count plan.now + 1 }
     requires ids { length outputs.old.ids.items ≡ at }
     requires pieces { length outputs.old.pieces.items ≡ at }
     ensures ids { OnOk result ((id : ℕ) × (outputs.new.ids.items ≡ outputs.old.ids.items ++ id ∷ []) × (S.ids shelf.new id ≡ writing (output_name plan.now at))) }
     ensures pieces { OnOk result (pieces_of outputs.new ≡ pieces_of outputs.old ++ first_text plan.now at ∷ []) }
     ensures count { OnOk result (length outputs.new.pieces.items ≡ at + 1) }
-    ensures kept { (j : ℕ) → (S.ids shelf.old j).given ≡ true → S.ids shelf.new j ≡ S.ids shelf.old j }
+    ensures opened { Opens (WritesPlanned plan.now) (S.ids shelf.old) (S.ids shelf.new) }
     ensures empty { S.tells → OnOk result (Puts (S.file shelf.old) (S.file shelf.new) (output_name plan.now at) []) }
     ensures others { S.tells → OnErr result ((m : List ℕ) → m ≢ output_name plan.now at → S.file shelf.new m ≡ S.file shelf.old m) }
-    ensures faults { NoFewer (S.faults shelf.old) (S.faults shelf.new) }
-    ensures failed { IsErrOf result ShelfFault.Failed → Rose (S.faults shelf.old).writes (S.faults shelf.new).writes }
+    ensures causes { IfErr result IsOfWriting }
+    ensures faults { CountsFaults result (S.faults shelf.old) (S.faults shelf.new) }
 {
-    let Ok(name) = output_name(alloc, plan, at) else {
-        return Err(ShelfFault::Memory);
-    };
-    let Ok(piece) = first_piece(alloc, plan, at) else {
-        return Err(ShelfFault::Memory);
-    };
-    let id = match shelf.create(name.as_str()) {
-        Ok(id) => id,
-        Err(fault) => return Err(fault),
-    };
+    let name = output_name(alloc, plan, at)?;
+    let piece = first_piece(alloc, plan, at)?;
+    let id = shelf.create(name.as_str())?;
     if outputs.ids.push(id).is_err() || outputs.pieces.push(piece).is_err() {
-        return Err(ShelfFault::Memory);
+        return Err(Fault::Memory);
     }
     Ok(())
 }
@@ -96,12 +92,12 @@ pub(crate) fn create_all<S: Shelf>(
     alloc: Global,
     shelf: &mut S,
     plan: &Plan,
-) -> Result<Outputs, ShelfFault>
+) -> Result<Outputs, Fault>
     ensures ready { IfOk result (λ outputs. IsReady plan.now (S.ids shelf.new) outputs) }
     ensures texts { S.tells → IfOk result (λ outputs. HasTexts plan.now (pieces_of outputs) (S.file shelf.old) (S.file shelf.new) (first_text plan.now)) }
-    ensures others { S.tells → OnErr result (OnlyPlanned plan.now (S.file shelf.old) (S.file shelf.new)) }
-    ensures faults { NoFewer (S.faults shelf.old) (S.faults shelf.new) }
-    ensures failed { IsErrOf result ShelfFault.Failed → Rose (S.faults shelf.old).writes (S.faults shelf.new).writes }
+    ensures only { OnlyMakes S.tells plan.now (S.file shelf.old) (S.file shelf.new) (S.ids shelf.old) (S.ids shelf.new) }
+    ensures causes { IfErr result IsOfWriting }
+    ensures faults { CountsFaults result (S.faults shelf.old) (S.faults shelf.new) }
 {
     let mut outputs = Outputs {
         ids: Vec::new(alloc),
@@ -109,31 +105,24 @@ pub(crate) fn create_all<S: Shelf>(
     };
     output_names_differ();
     for at in 0..plan.count() + 1 {
-        match create_one(alloc, shelf, plan, at, &mut outputs) {
-            Ok(()) => {}
-            Err(fault) => return Err(fault),
-        }
+        create_one(alloc, shelf, plan, at, &mut outputs)?;
     }
     Ok(outputs)
 }
 
 /// Writes what is not written yet of one output.
-fn flush<S: Shelf>(shelf: &mut S, id: u32, piece: &mut Vec<u8>) -> Result<(), ShelfFault>
+fn flush<S: Shelf>(shelf: &mut S, id: u32, piece: &mut Vec<u8>) -> Result<(), Fault>
     requires { IsWriting (S.ids shelf.old id) }
     ensures written { S.tells → OnOk result (Adds (S.file shelf.old) (S.file shelf.new) (S.ids shelf.old id).name piece.old.items) }
     ensures empty { OnOk result (piece.new.items ≡ []) }
     ensures others { S.tells → (m : List ℕ) → m ≢ (S.ids shelf.old id).name → S.file shelf.new m ≡ S.file shelf.old m }
     ensures kept { (j : ℕ) → S.ids shelf.new j ≡ S.ids shelf.old j }
-    ensures faults { NoFewer (S.faults shelf.old) (S.faults shelf.new) }
-    ensures failed { IsErrOf result ShelfFault.Failed → Rose (S.faults shelf.old).writes (S.faults shelf.new).writes }
+    ensures causes { IfErr result IsOfWriting }
+    ensures faults { CountsFaults result (S.faults shelf.old) (S.faults shelf.new) }
 {
-    match write_text(shelf, id, piece.as_slice()) {
-        Ok(()) => {
-            piece.clear();
-            Ok(())
-        }
-        Err(fault) => Err(fault),
-    }
+    write_text(shelf, id, piece.as_slice())?;
+    piece.clear();
+    Ok(())
 }
 
 /// Puts bytes behind a piece, and writes the piece where it is full.
@@ -143,18 +132,18 @@ fn add<S: Shelf>(
     piece: &mut Vec<u8>,
     head: &[u8],
     bytes: &[u8],
-) -> Result<(), ShelfFault>
+) -> Result<(), Fault>
     requires { IsWriting (S.ids shelf.old id) }
     ensures kept_or_written { S.tells → OnOk result (
         (SameFiles (S.file shelf.old) (S.file shelf.new) × (piece.new.items ≡ piece.old.items ++ (head.now ++ bytes.now)))
         ⊎ (Adds (S.file shelf.old) (S.file shelf.new) (S.ids shelf.old id).name (piece.old.items ++ (head.now ++ bytes.now)) × (piece.new.items ≡ []))) }
     ensures others { S.tells → (m : List ℕ) → m ≢ (S.ids shelf.old id).name → S.file shelf.new m ≡ S.file shelf.old m }
     ensures kept { (j : ℕ) → S.ids shelf.new j ≡ S.ids shelf.old j }
-    ensures faults { NoFewer (S.faults shelf.old) (S.faults shelf.new) }
-    ensures failed { IsErrOf result ShelfFault.Failed → Rose (S.faults shelf.old).writes (S.faults shelf.new).writes }
+    ensures causes { IfErr result IsOfWriting }
+    ensures faults { CountsFaults result (S.faults shelf.old) (S.faults shelf.new) }
 {
     if piece.extend_from_slice(head).is_err() || piece.extend_from_slice(bytes).is_err() {
-        return Err(ShelfFault::Memory);
+        return Err(Fault::Memory);
     }
     if piece.len() < PIECE {
         return Ok(());
@@ -170,14 +159,14 @@ impl Outputs {
         plan: &Plan,
         line: &mut String,
         events: &[Event],
-    ) -> Result<(), ShelfFault>
+    ) -> Result<(), Fault>
         requires ready { IsReady plan.now (S.ids shelf.old) self.old }
         ensures ready { IsReady plan.now (S.ids shelf.new) self.new }
         ensures texts { S.tells → OnOk result ((orig : Files) (text : ℕ → List ℕ) → HasTexts plan.now (pieces_of self.old) orig (S.file shelf.old) text
             → HasTexts plan.now (pieces_of self.new) orig (S.file shelf.new) (with_more text (port_count plan.now) (lines_of events.now))) }
-        ensures others { S.tells → OnlyPlanned plan.now (S.file shelf.old) (S.file shelf.new) }
-        ensures faults { NoFewer (S.faults shelf.old) (S.faults shelf.new) }
-        ensures failed { IsErrOf result ShelfFault.Failed → Rose (S.faults shelf.old).writes (S.faults shelf.new).writes }
+        ensures only { OnlyWrites S.tells plan.now (S.file shelf.old) (S.file shelf.new) (S.ids shelf.old) (S.ids shelf.new) }
+        ensures causes { IfErr result IsOfWriting }
+        ensures faults { CountsFaults result (S.faults shelf.old) (S.faults shelf.new) }
     {
         for event in events {
             self.add_event(shelf, plan, line, event)?;
@@ -191,15 +180,15 @@ impl Outputs {
         shelf: &mut S,
         plan: &Plan,
         left: &[Left],
-    ) -> Result<(), ShelfFault>
+    ) -> Result<(), Fault>
         requires ready { IsReady plan.now (S.ids shelf.old) self.old }
         requires frames { All (λ x. CanBeWritten plan.now x) left.now }
         ensures ready { IsReady plan.now (S.ids shelf.new) self.new }
         ensures texts { S.tells → OnOk result ((orig : Files) (text : ℕ → List ℕ) → HasTexts plan.now (pieces_of self.old) orig (S.file shelf.old) text
             → HasTexts plan.now (pieces_of self.new) orig (S.file shelf.new) (with_left_frames plan.now text left.now)) }
-        ensures others { S.tells → OnlyPlanned plan.now (S.file shelf.old) (S.file shelf.new) }
-        ensures faults { NoFewer (S.faults shelf.old) (S.faults shelf.new) }
-        ensures failed { IsErrOf result ShelfFault.Failed → Rose (S.faults shelf.old).writes (S.faults shelf.new).writes }
+        ensures only { OnlyWrites S.tells plan.now (S.file shelf.old) (S.file shelf.new) (S.ids shelf.old) (S.ids shelf.new) }
+        ensures causes { IfErr result IsOfWriting }
+        ensures faults { CountsFaults result (S.faults shelf.old) (S.faults shelf.new) }
     {
         for frame in left {
             self.add_left(shelf, plan, frame)?;
@@ -208,13 +197,13 @@ impl Outputs {
     }
 
     /// Writes all that is not written yet.
-    pub(crate) fn finish<S: Shelf>(&mut self, shelf: &mut S, plan: &Plan) -> Result<(), ShelfFault>
+    pub(crate) fn finish<S: Shelf>(&mut self, shelf: &mut S, plan: &Plan) -> Result<(), Fault>
         requires ready { IsReady plan.now (S.ids shelf.old) self.old }
         ensures texts { S.tells → OnOk result ((orig : Files) (text : ℕ → List ℕ) → HasTexts plan.now (pieces_of self.old) orig (S.file shelf.old) text
             → Filled orig (S.file shelf.new) (port_count plan.now + 1) (output_name plan.now) (λ j bytes. bytes ≡ text j)) }
-        ensures others { S.tells → OnlyPlanned plan.now (S.file shelf.old) (S.file shelf.new) }
-        ensures faults { NoFewer (S.faults shelf.old) (S.faults shelf.new) }
-        ensures failed { IsErrOf result ShelfFault.Failed → Rose (S.faults shelf.old).writes (S.faults shelf.new).writes }
+        ensures only { OnlyWrites S.tells plan.now (S.file shelf.old) (S.file shelf.new) (S.ids shelf.old) (S.ids shelf.new) }
+        ensures causes { IfErr result IsOfWriting }
+        ensures faults { CountsFaults result (S.faults shelf.old) (S.faults shelf.new) }
     {
         output_names_differ();
         for at in 0..self.ids.len() {
@@ -230,37 +219,32 @@ impl Outputs {
         plan: &Plan,
         line: &mut String,
         event: &Event,
-    ) -> Result<(), ShelfFault>
+    ) -> Result<(), Fault>
         requires ready { IsReady plan.now (S.ids shelf.old) self.old }
         ensures ready { IsReady plan.now (S.ids shelf.new) self.new }
         ensures texts { S.tells → OnOk result ((orig : Files) (text : ℕ → List ℕ) → HasTexts plan.now (pieces_of self.old) orig (S.file shelf.old) text
             → HasTexts plan.now (pieces_of self.new) orig (S.file shelf.new) (with_more text (port_count plan.now) (line_of event.now ++ 10 ∷ []))) }
-        ensures others { S.tells → OnlyPlanned plan.now (S.file shelf.old) (S.file shelf.new) }
-        ensures faults { NoFewer (S.faults shelf.old) (S.faults shelf.new) }
-        ensures failed { IsErrOf result ShelfFault.Failed → Rose (S.faults shelf.old).writes (S.faults shelf.new).writes }
+        ensures only { OnlyWrites S.tells plan.now (S.file shelf.old) (S.file shelf.new) (S.ids shelf.old) (S.ids shelf.new) }
+        ensures causes { IfErr result IsOfWriting }
+        ensures faults { CountsFaults result (S.faults shelf.old) (S.faults shelf.new) }
     {
         line.clear();
         if write_line(line, event).is_err() {
-            return Err(ShelfFault::Memory);
+            return Err(Fault::Memory);
         }
         self.add_to(shelf, plan, plan.count() as usize, &[], line.as_bytes())
     }
 
     /// Puts a frame that left a port behind the port's capture.
-    fn add_left<S: Shelf>(
-        &mut self,
-        shelf: &mut S,
-        plan: &Plan,
-        left: &Left,
-    ) -> Result<(), ShelfFault>
+    fn add_left<S: Shelf>(&mut self, shelf: &mut S, plan: &Plan, left: &Left) -> Result<(), Fault>
         requires ready { IsReady plan.now (S.ids shelf.old) self.old }
         requires frame { CanBeWritten plan.now left.now }
         ensures ready { IsReady plan.now (S.ids shelf.new) self.new }
         ensures texts { S.tells → OnOk result ((orig : Files) (text : ℕ → List ℕ) → HasTexts plan.now (pieces_of self.old) orig (S.file shelf.old) text
             → HasTexts plan.now (pieces_of self.new) orig (S.file shelf.new) (with_more text (place_in plan.now.tree left.now.port) (record_of (left.now.moment, left.now.bytes)))) }
-        ensures others { S.tells → OnlyPlanned plan.now (S.file shelf.old) (S.file shelf.new) }
-        ensures faults { NoFewer (S.faults shelf.old) (S.faults shelf.new) }
-        ensures failed { IsErrOf result ShelfFault.Failed → Rose (S.faults shelf.old).writes (S.faults shelf.new).writes }
+        ensures only { OnlyWrites S.tells plan.now (S.file shelf.old) (S.file shelf.new) (S.ids shelf.old) (S.ids shelf.new) }
+        ensures causes { IfErr result IsOfWriting }
+        ensures faults { CountsFaults result (S.faults shelf.old) (S.faults shelf.new) }
     {
         let at = plan.place(left.port) as usize;
         let bytes = left.bytes.as_slice();
@@ -276,15 +260,15 @@ impl Outputs {
         at: usize,
         head: &[u8],
         bytes: &[u8],
-    ) -> Result<(), ShelfFault>
+    ) -> Result<(), Fault>
         requires ready { IsReady plan.now (S.ids shelf.old) self.old }
         requires within { at ≤ port_count plan.now }
         ensures ready { IsReady plan.now (S.ids shelf.new) self.new }
         ensures texts { S.tells → OnOk result ((orig : Files) (text : ℕ → List ℕ) → HasTexts plan.now (pieces_of self.old) orig (S.file shelf.old) text
             → HasTexts plan.now (pieces_of self.new) orig (S.file shelf.new) (with_more text at (head.now ++ bytes.now))) }
-        ensures others { S.tells → OnlyPlanned plan.now (S.file shelf.old) (S.file shelf.new) }
-        ensures faults { NoFewer (S.faults shelf.old) (S.faults shelf.new) }
-        ensures failed { IsErrOf result ShelfFault.Failed → Rose (S.faults shelf.old).writes (S.faults shelf.new).writes }
+        ensures only { OnlyWrites S.tells plan.now (S.file shelf.old) (S.file shelf.new) (S.ids shelf.old) (S.ids shelf.new) }
+        ensures causes { IfErr result IsOfWriting }
+        ensures faults { CountsFaults result (S.faults shelf.old) (S.faults shelf.new) }
     {
         output_names_differ();
         add(shelf, self.ids[at], &mut self.pieces[at], head, bytes)

@@ -1,12 +1,11 @@
 //! What a run writes: a capture for each external port of a tree, and the journal, under a prefix.
-ghost use Rattle.std.specs.Prelude.{◌≡◌, ◌<◌, ◌≤◌, ◌++◌, ◌∷◌, [], true, if◌then◌else◌, IfOk, OnOk};
+ghost use Rattle.std.specs.Prelude.{◌≡◌, ◌<◌, ◌≤◌, ◌++◌, ◌∷◌, [], if◌then◌else◌, IfOk, OnOk};
 ghost use Rattle.exb_model.specs.Setup.{IsValid, shape_of};
-ghost use Rattle.exb_model.specs.Tree.{IsTree, is_external};
+ghost use Rattle.exb_model.specs.Tree.{IsTree};
 ghost use Rattle.exb_run.specs.Plans.{ArePlaced, place_in, port_at, port_count};
 
 use exb_model::memory::NoMemory;
 use exb_model::port::PortId;
-use exb_model::role::Role;
 use exb_model::setup::Setup;
 use exb_model::text::Text;
 use exb_model::tree::Tree;
@@ -44,18 +43,6 @@ impl Model for Plan {
     ghost invariant = { λ p. ArePlaced p.tree p.places.ports.items p.places.places.items };
 }
 
-/// Whether a port is one of the tree on which no extender hangs.
-fn is_external(tree: &Tree, port: PortId) -> bool
-    ensures { result ≡ is_external tree.now port }
-{
-    tree.is_tree();
-    match tree.role(port) {
-        Role::External => true,
-        Role::Unknown => false,
-        Role::Cascade { extender: _ } => false,
-    }
-}
-
 /// Puts a port behind others, where it is wanted.
 fn put_if(ports: &mut Vec<PortId>, wanted: bool, port: PortId) -> Result<(), NoMemory>
     ensures { OnOk result (ports.new.items ≡ ports.old.items ++ (if wanted then port ∷ [] else [])) }
@@ -75,7 +62,7 @@ fn places_of(alloc: Global, tree: &Tree) -> Result<Places, NoMemory>
     'ports: for number in 0..PORTS {
         let port = PortId::new(number).unwrap();
         places.push(ports.len() as u16)?;
-        put_if(&mut ports, is_external(tree, port), port)?;
+        put_if(&mut ports, tree.is_external(port), port)?;
     }
     Ok(Places { ports, places })
 }

@@ -7,7 +7,6 @@ ghost use Rattle.exb_merge.specs.Arrivals.{arrival_of};
 ghost use Rattle.exb_merge.specs.Streams.{to_come};
 ghost use Rattle.exb_pcap.specs.Captures.{pcap_records};
 ghost use Rattle.exb_shelf.specs.Files.{Files, Filled};
-ghost use Rattle.exb_shelf.specs.Shelf.{Rose, NoFewer};
 ghost use Rattle.exb_text.specs.Tallies.{counts_of};
 ghost use Rattle.exb_model.specs.Tree.{is_external};
 ghost use Rattle.exb_model.specs.EagerHistory.{eager_segment, eagerly, opening};
@@ -16,7 +15,8 @@ ghost use Rattle.exb_world.specs.Worlds.{Stands, state_of};
 ghost use Rattle.exb_schedule.specs.Segments.{arrived, segment, CanArrive};
 ghost use Rattle.exb_run.specs.Plans.{port_count};
 ghost use Rattle.exb_run.specs.Playing.{text_after, seconds_after, segments_after, played, IsAtRest, IsUnderWay, IsCounted, IsWritten, CanCome, begun_of, stream_in, CanBePlayed, IsOf};
-ghost use Rattle.exb_run.specs.Outputs.{OnlyPlanned, HasPlayed, output_name};
+ghost use Rattle.exb_run.specs.Outputs.{HasPlayed, output_name};
+ghost use Rattle.exb_run.specs.Shelving.{CountsFaults, IsOfWriting, OnlyMakes, OnlyWrites};
 ghost use Rattle.exb_run.specs.Writing.{HasTexts, IsReady, pieces_of, lines_of, with_more, with_left_frames, CanBeWritten};
 
 use crate::captures::Capture;
@@ -29,7 +29,7 @@ use exb_model::event::Event;
 use exb_model::memory::NoMemory;
 use exb_model::setup::Setup;
 use exb_schedule::segment::{Arrival, eager, settle};
-use exb_shelf::{Shelf, ShelfFault};
+use exb_shelf::Shelf;
 use exb_text::Tally;
 use exb_world::laws::{opened_stands, opening_raises};
 use exb_world::{Step, World};
@@ -37,17 +37,6 @@ use std::alloc::Global;
 
 /// A second in nanoseconds.
 const NANOSECONDS: u64 = 1_000_000_000;
-
-/// What a failing write ends a run with.
-fn fault_of(fault: ShelfFault) -> Fault
-    ensures failed { fault ≡ ShelfFault.Failed → result ≡ Fault.Write }
-    ensures memory { fault ≡ ShelfFault.Memory → result ≡ Fault.Memory }
-{
-    match fault {
-        ShelfFault::Failed => Fault::Write,
-        ShelfFault::Memory => Fault::Memory,
-    }
-}
 
 /// Counts events.
 fn count_all(tally: &mut Tally, events: &[Event])
@@ -89,20 +78,13 @@ impl Game {
             (with_left_frames plan.now (with_more text (port_count plan.now) (lines_of self.old.world.events)) self.old.world.left)) }
         ensures counts { OnOk result (counts_of self.new.tally
             ≡ with_left (length self.old.world.left) (fold (λ c e. counted e c) (counts_of self.old.tally) self.old.world.events)) }
-        ensures others { S.tells → OnlyPlanned plan.now (S.file shelf.old) (S.file shelf.new) }
-        ensures causes { IfErr result (λ fault. (fault ≡ Fault.Write) ⊎ (fault ≡ Fault.Memory)) }
-        ensures faults { NoFewer (S.faults shelf.old) (S.faults shelf.new) }
-        ensures write { IsErrOf result Fault.Write → Rose (S.faults shelf.old).writes (S.faults shelf.new).writes }
+        ensures only { OnlyWrites S.tells plan.now (S.file shelf.old) (S.file shelf.new) (S.ids shelf.old) (S.ids shelf.new) }
+        ensures causes { IfErr result IsOfWriting }
+        ensures faults { CountsFaults result (S.faults shelf.old) (S.faults shelf.new) }
     {
-        if let Err(fault) = self
-            .outputs
-            .write_events(shelf, plan, &mut self.line, self.world.events())
-        {
-            return Err(fault_of(fault));
-        }
-        if let Err(fault) = self.outputs.write_left(shelf, plan, self.world.left()) {
-            return Err(fault_of(fault));
-        }
+        self.outputs
+            .write_events(shelf, plan, &mut self.line, self.world.events())?;
+        self.outputs.write_left(shelf, plan, self.world.left())?;
         count_all(&mut self.tally, self.world.events());
         self.tally.add_left(self.world.left().len() as u64);
         self.world.clear();
@@ -134,10 +116,9 @@ impl Game {
             → HasTexts plan.now (pieces_of self.old.outputs) orig (S.file shelf.old) (text_after i plan.now h)
             → HasTexts plan.now (pieces_of self.new.outputs) orig (S.file shelf.new)
             (text_after i plan.now (eager_segment (tree_of i) (bounds_of i) (basis_of i) h (segment seconds (arrived arrival ∷ []))))) }
-        ensures others { S.tells → OnlyPlanned plan.now (S.file shelf.old) (S.file shelf.new) }
-        ensures causes { IfErr result (λ fault. (fault ≡ Fault.Write) ⊎ (fault ≡ Fault.Memory)) }
-        ensures faults { NoFewer (S.faults shelf.old) (S.faults shelf.new) }
-        ensures write { IsErrOf result Fault.Write → Rose (S.faults shelf.old).writes (S.faults shelf.new).writes }
+        ensures only { OnlyWrites S.tells plan.now (S.file shelf.old) (S.file shelf.new) (S.ids shelf.old) (S.ids shelf.new) }
+        ensures causes { IfErr result IsOfWriting }
+        ensures faults { CountsFaults result (S.faults shelf.old) (S.faults shelf.new) }
     {
         plan.is_tree();
         let arrivals = [arrival];
@@ -170,10 +151,9 @@ impl Game {
         ensures goes_on { S.tells → OnOk result ((i : Input) (h : History) (orig : Files) → plan.now.tree ≡ tree_of i
             → IsWritten i h plan.now orig (S.file shelf.old) (state_of self.old.world) (counts_of self.old.tally) self.old.outputs
             → IsWritten i (eager_segment (tree_of i) (bounds_of i) (basis_of i) h (segment seconds (arrival_of coming.now ∷ []))) plan.now orig (S.file shelf.new) (state_of self.new.world) (counts_of self.new.tally) self.new.outputs) }
-        ensures others { S.tells → OnlyPlanned plan.now (S.file shelf.old) (S.file shelf.new) }
-        ensures causes { IfErr result (λ fault. (fault ≡ Fault.Write) ⊎ (fault ≡ Fault.Memory)) }
-        ensures faults { NoFewer (S.faults shelf.old) (S.faults shelf.new) }
-        ensures write { IsErrOf result Fault.Write → Rose (S.faults shelf.old).writes (S.faults shelf.new).writes }
+        ensures only { OnlyWrites S.tells plan.now (S.file shelf.old) (S.file shelf.new) (S.ids shelf.old) (S.ids shelf.new) }
+        ensures causes { IfErr result IsOfWriting }
+        ensures faults { CountsFaults result (S.faults shelf.old) (S.faults shelf.new) }
     {
         let Ok(bytes) = Bytes::from_slice(alloc, coming.bytes) else {
             return Err(Fault::Memory);
@@ -205,19 +185,16 @@ impl Game {
         ensures goes_on { S.tells → OnOk result ((i : Input) (h : History) (orig : Files) → plan.now.tree ≡ tree_of i
             → IsWritten i h plan.now orig (S.file shelf.old) (state_of self.old.world) (counts_of self.old.tally) self.old.outputs
             → IsWritten i (eagerly (tree_of i) (bounds_of i) (basis_of i) h (segments_after None (to_come captures.old))) plan.now orig (S.file shelf.new) (state_of self.new.world) (counts_of self.new.tally) self.new.outputs) }
-        ensures others { S.tells → OnlyPlanned plan.now (S.file shelf.old) (S.file shelf.new) }
-        ensures causes { IfErr result (λ fault. (fault ≡ Fault.Write) ⊎ (fault ≡ Fault.Memory)) }
-        ensures faults { NoFewer (S.faults shelf.old) (S.faults shelf.new) }
-        ensures write { IsErrOf result Fault.Write → Rose (S.faults shelf.old).writes (S.faults shelf.new).writes }
+        ensures only { OnlyWrites S.tells plan.now (S.file shelf.old) (S.file shelf.new) (S.ids shelf.old) (S.ids shelf.new) }
+        ensures causes { IfErr result IsOfWriting }
+        ensures faults { CountsFaults result (S.faults shelf.old) (S.faults shelf.new) }
     {
         let mut last: Option<u64> = None;
         'records: while let Some(coming) = captures.next() {
             let second = coming.moment / NANOSECONDS;
             let seconds = seconds_since(last, second);
-            match self.play_coming(alloc, shelf, plan, seconds, &coming) {
-                Ok(()) => last = Some(second),
-                Err(fault) => return Err(fault),
-            }
+            self.play_coming(alloc, shelf, plan, seconds, &coming)?;
+            last = Some(second);
         }
         Ok(())
     }
@@ -229,18 +206,12 @@ impl Game {
         ensures texts { S.tells → OnOk result ((orig : Files) (text : ℕ → List ℕ) → HasTexts plan.now (pieces_of self.old.outputs) orig (S.file shelf.old) text
             → Filled orig (S.file shelf.new) (port_count plan.now + 1) (output_name plan.now) (λ j bytes. bytes ≡ text j)) }
         ensures line { IfOk result (λ line. string_bytes line ≡ summary_line (counts_of self.old.tally)) }
-        ensures others { S.tells → OnlyPlanned plan.now (S.file shelf.old) (S.file shelf.new) }
-        ensures causes { IfErr result (λ fault. (fault ≡ Fault.Write) ⊎ (fault ≡ Fault.Memory)) }
-        ensures faults { NoFewer (S.faults shelf.old) (S.faults shelf.new) }
-        ensures write { IsErrOf result Fault.Write → Rose (S.faults shelf.old).writes (S.faults shelf.new).writes }
+        ensures only { OnlyWrites S.tells plan.now (S.file shelf.old) (S.file shelf.new) (S.ids shelf.old) (S.ids shelf.new) }
+        ensures causes { IfErr result IsOfWriting }
+        ensures faults { CountsFaults result (S.faults shelf.old) (S.faults shelf.new) }
     {
-        if let Err(fault) = self.outputs.finish(shelf, plan) {
-            return Err(fault_of(fault));
-        }
-        match self.tally.line(alloc) {
-            Ok(line) => Ok(line),
-            Err(_) => Err(Fault::Memory),
-        }
+        self.outputs.finish(shelf, plan)?;
+        Ok(self.tally.line(alloc)?)
     }
 }
 
@@ -271,30 +242,21 @@ fn begin<S: Shelf>(alloc: Global, shelf: &mut S, plan: &Plan, setup: &Setup) -> 
     ensures played { IfOk result (λ game. played (counts_of game.tally) ≡ 0) }
     ensures written { S.tells → IfOk result (λ game. (i : Input) → i.setup ≡ setup.now
         → IsWritten i (opening (tree_of i) (bounds_of i) (basis_of i)) plan.now (S.file shelf.old) (S.file shelf.new) (state_of game.world) (counts_of game.tally) game.outputs) }
-    ensures others { S.tells → OnlyPlanned plan.now (S.file shelf.old) (S.file shelf.new) }
-    ensures causes { IfErr result (λ fault. (fault ≡ Fault.Write) ⊎ (fault ≡ Fault.Memory)) }
-    ensures faults { NoFewer (S.faults shelf.old) (S.faults shelf.new) }
-    ensures write { IsErrOf result Fault.Write → Rose (S.faults shelf.old).writes (S.faults shelf.new).writes }
+    ensures only { OnlyMakes S.tells plan.now (S.file shelf.old) (S.file shelf.new) (S.ids shelf.old) (S.ids shelf.new) }
+    ensures causes { IfErr result IsOfWriting }
+    ensures faults { CountsFaults result (S.faults shelf.old) (S.faults shelf.new) }
 {
     opening_raises();
-    let world = match opened(alloc, setup) {
-        Ok(world) => world,
-        Err(fault) => return Err(fault),
-    };
-    let outputs = match create_all(alloc, shelf, plan) {
-        Ok(outputs) => outputs,
-        Err(fault) => return Err(fault_of(fault)),
-    };
+    let world = opened(alloc, setup)?;
+    let outputs = create_all(alloc, shelf, plan)?;
     let mut game = Game {
         world,
         outputs,
         tally: Tally::new(),
         line: String::new(alloc),
     };
-    match game.note(shelf, plan) {
-        Ok(()) => Ok(game),
-        Err(fault) => Err(fault),
-    }
+    game.note(shelf, plan)?;
+    Ok(game)
 }
 
 /// The seconds from the record before to one at `second`, 0 for the first record.
@@ -340,22 +302,16 @@ fn play_with<'a, S: Shelf>(
     requires nothing { to_come sources.old ≡ [] }
     ensures done { S.tells → IfOk result (λ line. (i : Input) → i.setup ≡ setup.now → to_come (map stream_in captures.now) ≡ merge i
         → HasPlayed i plan.now (S.file shelf.old) (S.file shelf.new) (string_bytes line)) }
-    ensures others { S.tells → OnlyPlanned plan.now (S.file shelf.old) (S.file shelf.new) }
-    ensures causes { IfErr result (λ fault. (fault ≡ Fault.Write) ⊎ (fault ≡ Fault.Memory)) }
-    ensures faults { NoFewer (S.faults shelf.old) (S.faults shelf.new) }
-    ensures write { IsErrOf result Fault.Write → Rose (S.faults shelf.old).writes (S.faults shelf.new).writes }
+    ensures only { OnlyMakes S.tells plan.now (S.file shelf.old) (S.file shelf.new) (S.ids shelf.old) (S.ids shelf.new) }
+    ensures causes { IfErr result IsOfWriting }
+    ensures faults { CountsFaults result (S.faults shelf.old) (S.faults shelf.new) }
 {
     if add_all(sources, captures).is_err() {
         return Err(Fault::Memory);
     }
-    let mut game = match begin(alloc, shelf, plan, setup) {
-        Ok(game) => game,
-        Err(fault) => return Err(fault),
-    };
-    match game.play_all(alloc, shelf, plan, sources) {
-        Ok(()) => game.end(alloc, shelf, plan),
-        Err(fault) => Err(fault),
-    }
+    let mut game = begin(alloc, shelf, plan, setup)?;
+    game.play_all(alloc, shelf, plan, sources)?;
+    game.end(alloc, shelf, plan)
 }
 
 /// Plays captures that were read, and answers the summary line.
@@ -371,10 +327,9 @@ pub(crate) fn play<S: Shelf>(
     requires all { sum_by (λ c. length c.file.items) captures.now ≤ 536_870_912 }
     ensures done { S.tells → IfOk result (λ line. (i : Input) → i.setup ≡ setup.now → to_come (map stream_in captures.now) ≡ merge i
         → HasPlayed i plan.now (S.file shelf.old) (S.file shelf.new) (string_bytes line)) }
-    ensures others { S.tells → OnlyPlanned plan.now (S.file shelf.old) (S.file shelf.new) }
-    ensures causes { IfErr result (λ fault. (fault ≡ Fault.Write) ⊎ (fault ≡ Fault.Memory)) }
-    ensures faults { NoFewer (S.faults shelf.old) (S.faults shelf.new) }
-    ensures write { IsErrOf result Fault.Write → Rose (S.faults shelf.old).writes (S.faults shelf.new).writes }
+    ensures only { OnlyMakes S.tells plan.now (S.file shelf.old) (S.file shelf.new) (S.ids shelf.old) (S.ids shelf.new) }
+    ensures causes { IfErr result IsOfWriting }
+    ensures faults { CountsFaults result (S.faults shelf.old) (S.faults shelf.new) }
 {
     let mut sources = Captures::new(alloc);
     play_with(alloc, shelf, plan, setup, captures, &mut sources)

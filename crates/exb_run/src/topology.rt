@@ -3,10 +3,11 @@ ghost use Rattle.std.specs.Prelude.{◌≡◌, ◌≢◌, ◌⊎◌, ℕ, List, 
 ghost use Rattle.exb_model.specs.Setup.{IsValid, shape_of};
 ghost use Rattle.exb_model.specs.Tree.{is_external};
 ghost use Rattle.exb_shelf.specs.Files.{SameFiles};
-ghost use Rattle.exb_shelf.specs.Shelf.{IsReadingOf, Opens, Rose, NoFewer};
+ghost use Rattle.exb_shelf.specs.Shelf.{IsReadingOf, Opens};
 ghost use Rattle.exb_topology.specs.Topologies.{topology_of, topology_view};
 ghost use Rattle.exb_run.specs.Answers.{fault_by};
 ghost use Rattle.exb_run.specs.Reading.{IsRefusal, IsRefused, IsOfTopology};
+ghost use Rattle.exb_run.specs.Shelving.{CountsFaults};
 
 use crate::captures::missing;
 use crate::fault::Fault;
@@ -54,9 +55,7 @@ fn read_bytes<S: Shelf>(alloc: Global, shelf: &mut S, name: &str) -> Result<Vec<
     ensures causes { IfErr result IsOfTopology }
     ensures opened { Opens (IsReadingOf name.now) (S.ids shelf.old) (S.ids shelf.new) }
     ensures files { SameFiles (S.file shelf.old) (S.file shelf.new) }
-    ensures faults { NoFewer (S.faults shelf.old) (S.faults shelf.new) }
-    ensures missing { (n : List ℕ) → result ≡ Err (Fault.Missing n) → Rose (S.faults shelf.old).missing (S.faults shelf.new).missing }
-    ensures read { IsErrOf result Fault.Read → Rose (S.faults shelf.old).reads (S.faults shelf.new).reads }
+    ensures faults { CountsFaults result (S.faults shelf.old) (S.faults shelf.new) }
 {
     match read_file(alloc, shelf, name, LIMIT) {
         Ok(file) => Ok(file),
@@ -83,16 +82,8 @@ pub(crate) fn read_topology<S: Shelf>(
     ensures causes { IfErr result IsOfTopology }
     ensures opened { Opens (IsReadingOf name.now) (S.ids shelf.old) (S.ids shelf.new) }
     ensures files { SameFiles (S.file shelf.old) (S.file shelf.new) }
-    ensures faults { NoFewer (S.faults shelf.old) (S.faults shelf.new) }
-    ensures missing { (n : List ℕ) → result ≡ Err (Fault.Missing n) → Rose (S.faults shelf.old).missing (S.faults shelf.new).missing }
-    ensures read_failed { IsErrOf result Fault.Read → Rose (S.faults shelf.old).reads (S.faults shelf.new).reads }
+    ensures faults { CountsFaults result (S.faults shelf.old) (S.faults shelf.new) }
 {
-    let file = match read_bytes(alloc, shelf, name) {
-        Ok(file) => file,
-        Err(fault) => return Err(fault),
-    };
-    match parse(alloc, file.as_slice()) {
-        Ok(topology) => Ok(topology),
-        Err(fault) => Err(fault),
-    }
+    let file = read_bytes(alloc, shelf, name)?;
+    parse(alloc, file.as_slice())
 }

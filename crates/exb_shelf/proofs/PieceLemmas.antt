@@ -1,10 +1,10 @@
 -- Pieces that follow one another.
-use Rattle.std.proofs.Common.{◌≡◌, ◌≢◌, inl, inr, subst, ◌+◌, ◌-◌, ℕ, zero, suc, List, [], ◌∷◌, ◌++◌, Option, Some, length, take, drop, ap, sym, ◌∙◌, refl, arith, append_assoc, take-add}
+use Rattle.std.proofs.Common.{◌≡◌, ◌≢◌, true, false, subst, ◌+◌, ◌-◌, ℕ, zero, suc, List, [], ◌∷◌, ◌++◌, Option, Some, length, take, drop, ap, sym, ◌∙◌, refl, arith, append_assoc, take-add}
 use Rattle.std.proofs.lemmas.List.{take_rest}
 use Rattle.std.proofs.lemmas.Grind.{common_steps}
-use Rattle.std.proofs.lemmas.Bool.{cases_eq, false≢true}
+use Rattle.std.proofs.lemmas.Bool.{false≢true}
 use Rattle.exb_shelf.specs.Files.{Files, Puts, SameFiles, bytes_of, Adds}
-use Rattle.exb_shelf.specs.Shelf.{Id, reading, IsReadingOf, NewIds}
+use Rattle.exb_shelf.specs.Shelf.{Id, reading, IsReadingOf}
 
 -- a front, and what is taken behind it
 pub take_on : (xs : List ℕ) (a n : ℕ) → take a xs ++ take n (take (length xs - a) (drop a xs)) ≡ take (a + n) xs
@@ -33,14 +33,11 @@ adds_same f g h name xs p q = record {
   others = λ n d. q n ∙ p.others n d;
 }
 
--- the one id that was given reads the file
-pub one_new : (old new : ℕ → Id) (id : ℕ) (name : List ℕ) → ((j : ℕ) → j ≢ id → new j ≡ old j) → IsReadingOf name (new id) → NewIds (IsReadingOf name) old new
-one_new old new id name rest is j was now =
-    elim (cases_eq j id) [
-      | inl e ↦ subst (λ (k : ℕ). IsReadingOf name (new k)) (sym e) is
-      | inr n ↦ absurd (false≢true (sym was ∙ ap (λ (i : Id). i.given) (sym (rest j n)) ∙ now))
-    ]
+-- an id that was given is not the new one
+pub given_apart : (f : ℕ → Id) (id j : ℕ) → (f id).given ≡ false → (f j).given ≡ true → j ≢ id
+given_apart f id j fresh given e = false≢true (sym fresh ∙ sym (ap (λ (k : ℕ). (f k).given) e) ∙ given)
 
+-- an id that was given reads the file
 pub reads_of : (i : Id) (name : List ℕ) (place : ℕ) → i ≡ reading name place → IsReadingOf name i
 reads_of i name place e = subst (IsReadingOf name) (sym e) (record { given = refl; reads = refl; named = refl })
 

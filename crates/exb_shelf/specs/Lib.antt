@@ -3,3 +3,4 @@ pub mod Shelf
 pub mod Entries
 pub mod Memory
 pub mod System
+pub mod Reading

@@ -1,7 +1,8 @@
 //! Whole files and texts, through calls that take pieces.
 ghost use Rattle.std.specs.Prelude.{◌≡◌, ◌≢◌, ◌<◌, ◌≤◌, ◌+◌, ◌++◌, [], ℕ, List, true, Some, None, length, take, drop, IfOk, OnOk, OnErr, IsErrOf};
 ghost use Rattle.exb_shelf.specs.Files.{bytes_of, SameFiles, Puts, Adds, AddsFront, AppendsFront};
-ghost use Rattle.exb_shelf.specs.Shelf.{IsReading, IsWriting, IsReadingOf, NewIds, moved, Rose, NoFewer};
+ghost use Rattle.exb_shelf.specs.Reading.{unopened, unread};
+ghost use Rattle.exb_shelf.specs.Shelf.{IsReading, IsWriting, IsReadingOf, Opens, moved, Rose, NoFewer};
 
 use crate::{OpenFault, Shelf, ShelfFault, Sink};
 use std::alloc::{AllocError, Global};
@@ -20,6 +21,29 @@ pub enum ReadFault {
     Large,
     /// Memory ran out.
     Memory,
+}
+
+impl From<OpenFault> for ReadFault {
+    ghost from_gives = { λ fault made. made ≡ unopened fault };
+
+    fn from(fault: OpenFault) -> Self {
+        match fault {
+            OpenFault::Missing => ReadFault::Missing,
+            OpenFault::Failed => ReadFault::Failed,
+            OpenFault::Memory => ReadFault::Memory,
+        }
+    }
+}
+
+impl From<ShelfFault> for ReadFault {
+    ghost from_gives = { λ fault made. made ≡ unread fault };
+
+    fn from(fault: ShelfFault) -> Self {
+        match fault {
+            ShelfFault::Failed => ReadFault::Failed,
+            ShelfFault::Memory => ReadFault::Memory,
+        }
+    }
 }
 
 // A buffer of this many bytes.
@@ -77,32 +101,22 @@ pub fn read_file<S: Shelf>(
     ensures large { S.tells → IsErrOf result ReadFault.Large
         → (bytes : List ℕ) × (S.file shelf.old name.now ≡ Some bytes) × (limit < length bytes) }
 
-    // What stays.
+    // What stays, and what is opened.
     ensures files { SameFiles (S.file shelf.old) (S.file shelf.new) }
-    ensures kept { (j : ℕ) → (S.ids shelf.old j).given ≡ true → S.ids shelf.new j ≡ S.ids shelf.old j }
-    ensures opened { NewIds (IsReadingOf name.now) (S.ids shelf.old) (S.ids shelf.new) }
+    ensures opened { Opens (IsReadingOf name.now) (S.ids shelf.old) (S.ids shelf.new) }
 
     ensures faults { NoFewer (S.faults shelf.old) (S.faults shelf.new) }
     ensures missing { IsErrOf result ReadFault.Missing → Rose (S.faults shelf.old).missing (S.faults shelf.new).missing }
     ensures failed { IsErrOf result ReadFault.Failed → Rose (S.faults shelf.old).reads (S.faults shelf.new).reads }
 {
-    let id = match shelf.open(name) {
-        Ok(id) => id,
-        Err(OpenFault::Missing) => return Err(ReadFault::Missing),
-        Err(OpenFault::Failed) => return Err(ReadFault::Failed),
-        Err(OpenFault::Memory) => return Err(ReadFault::Memory),
-    };
+    let id = shelf.open(name)?;
     let Ok(mut piece) = room(alloc, PIECE) else {
         return Err(ReadFault::Memory);
     };
     let piece = piece.as_mut_slice();
     let mut bytes = Vec::new(alloc);
     'pieces: while bytes.len() <= limit {
-        let n = match read_on(shelf, id, piece, &mut bytes) {
-            Ok(n) => n,
-            Err(ShelfFault::Failed) => return Err(ReadFault::Failed),
-            Err(ShelfFault::Memory) => return Err(ReadFault::Memory),
-        };
+        let n = read_on(shelf, id, piece, &mut bytes)?;
         if n == 0 {
             return Ok(bytes);
         }

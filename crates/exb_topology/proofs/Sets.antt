@@ -86,11 +86,6 @@ all_end f k end total l so_far =
     let one : all_from f k (end - k) ≡ true = rw z refl in
     sym one ∙ so_far
 
-pub all_same : (f g : ℕ → Bool) (k n : ℕ) → ((q : ℕ) → f q ≡ g q) → all_from f k n ≡ all_from g k n
-unfolding all_from
-all_same f g k zero same = refl
-all_same f g k (suc n) same = rw (same k, all_same f g (k + 1) n same) refl
-
 pub range_all : (old here : Bool) (first last n q : ℕ) → last + 1 ≤ n → n ≤ last + 1 → (old || ((nat_le first q && nat_lt q n) && here)) ≡ (old || ((nat_le first q && nat_le q last) && here))
 range_all old here first last n q low high =
     let same : nat_lt q n ≡ nat_le q last = below q in
@@ -109,46 +104,6 @@ range_none old here first last n q low is =
       | inl l ↦ rw (lt-leb first q l) refl
       | inr g ↦ rw (le-ltb q n (omega (arith, is)), lt-leb q last (omega (arith, is))) refl
     ]
-
--- a port that isn't below 4160 is in no set
-pub external_all : (t : Shape) (n q : ℕ) → length t.ports ≡ 65 → n ≡ 4160 → (nat_lt q n && is_external t q) ≡ is_external t q
-external_all t n q sized all =
-    elim (cases_lt q n) [
-      | inl l ↦ rw (lt-ltb q n l) refl
-      | inr g ↦
-          let none = get_or_past t.ports (q / 64) 0 (omega (arith, sized, all)) in
-          let no_port : is_port t q ≡ false = le-ltb (q % 64) (slice_index t.ports (q / 64)) (omega (arith, none)) in
-          rw (le-ltb q n g, no_port) refl
-    ]
-
--- a port on which an extender hangs isn't external
-pub hung_not_external : (t : Shape) (p n : ℕ) → n < 65 → HangsOn t n p → is_external t p ≡ false
-unfolding is_cascade
-hung_not_external t p n low hangs =
-    let test : (is_extender t n && on t n == p) ≡ true = rw (lt-ltb 0 n hangs.extender, lt-ltb 0 (slice_index t.ports n) hangs.there) (eq-eqb (on t n) p hangs.at) in
-    let cascade : is_cascade t p ≡ true = any_below-from (λ m. is_extender t m && on t m == p) 65 n low test in
-    rw cascade (and_false (is_port t p))
-  where
-    and_false : (b : Bool) → (b && false) ≡ false
-    and_false true = refl
-    and_false false = refl
-
--- an extender is there where its first port is
-pub extender_by_port : (t : Shape) (n : ℕ) → 0 < n → is_extender t n ≡ is_port t (64 * n)
-extender_by_port t n some =
-    let low : 64 * n % 64 ≡ 0 = omega arith in
-    let device : 64 * n / 64 ≡ n = omega arith in
-    rw (lt-ltb 0 n some, low, device) refl
-
-pub no_extender_past : (t : Shape) (n : ℕ) → length t.ports ≡ 65 → 65 ≤ n → is_extender t n ≡ false
-no_extender_past t n sized past =
-    let none = get_or_past t.ports n 0 (omega (arith, sized)) in
-    let zero_ports : nat_lt 0 (slice_index t.ports n) ≡ false = le-ltb 0 (slice_index t.ports n) (omega (arith, none)) in
-    rw zero_ports (and_false (nat_lt 0 n))
-  where
-    and_false : (b : Bool) → (b && false) ≡ false
-    and_false true = refl
-    and_false false = refl
 
 -- no port is of a device beyond the last one
 pub whole_past : (old here : Bool) (ws : List ℕ) (q n : ℕ) → length ws ≡ 65 → 65 ≤ n → has_port ws q ≡ here → old ≡ (old || (q / 64 == n && here))

@@ -9,7 +9,7 @@ ghost use Rattle.exb_topology.specs.Checks.{port_ok, words_ok, port_table_ok, ov
 ghost use Rattle.exb_topology.specs.Given.{Knows};
 
 use crate::outputs::output_names;
-use crate::tree_ports::TreePorts;
+use crate::words::are_known;
 use exb_keys::faults::{KeyFault, TopoFault};
 use exb_keys::place::Place;
 use exb_keys::words::Word;
@@ -17,6 +17,7 @@ use exb_model::list::List;
 use exb_model::memory::NoMemory;
 use exb_model::port::PortId;
 use exb_model::text::Text;
+use exb_model::tree::Tree;
 use exb_tables::{Action, CommandTable, Named, PortTable, StaticTable, VlanTable};
 use exb_text::PortName;
 use std::alloc::Global;
@@ -42,28 +43,28 @@ pub(crate) fn refuse(
 /// Refuses a port that isn't external.
 fn check_port(
     alloc: Global,
-    ports: &TreePorts,
+    tree: &Tree,
     place: Place,
     key: &str,
     port: PortId,
 ) -> Result<(), TopoFault>
-    ensures { Gives result (port_ok ports.now (place_text place ++ key.now) port) }
+    ensures { Gives result (port_ok tree.now (place_text place ++ key.now) port) }
 {
-    let unknown = !ports.is_external(port);
+    let unknown = !tree.is_external(port);
     refuse(alloc, unknown, place, key, KeyFault::UnknownPort)
 }
 
 /// Refuses a list with a word that names what the tree hasn't got.
 fn check_words(
     alloc: Global,
-    ports: &TreePorts,
+    tree: &Tree,
     place: Place,
     key: &str,
     words: &List<Word>,
 ) -> Result<(), TopoFault>
-    ensures { Gives result (words_ok ports.now (place_text place ++ key.now) words.now) }
+    ensures { Gives result (words_ok tree.now (place_text place ++ key.now) words.now) }
 {
-    let unknown = !ports.are_known(words.as_slice());
+    let unknown = !are_known(tree, words.as_slice());
     refuse(alloc, unknown, place, key, KeyFault::UnknownPort)
 }
 
@@ -80,31 +81,27 @@ fn is_named(before: &[PortTable], name: PortId) -> bool
 
 fn check_port_table(
     alloc: Global,
-    ports: &TreePorts,
+    tree: &Tree,
     before: &[PortTable],
     index: usize,
     table: PortTable,
 ) -> Result<(), TopoFault>
-    ensures { Gives result (port_table_ok ports.now before.now index table) }
+    ensures { Gives result (port_table_ok tree.now before.now index table) }
 {
     let place = Place::Element {
         table: "port",
         index,
     };
-    check_port(alloc, ports, place, "name", table.name)?;
+    check_port(alloc, tree, place, "name", table.name)?;
     let again = is_named(before, table.name);
     refuse(alloc, again, place, "name", KeyFault::Repeat)
 }
 
-pub(crate) fn check_ports(
-    alloc: Global,
-    ports: &TreePorts,
-    tables: &[PortTable],
-) -> Result<(), TopoFault>
-    ensures { Gives result (each_ok (port_table_ok ports.now) tables.now 0 tables.now) }
+pub(crate) fn check_ports(alloc: Global, tree: &Tree, tables: &[PortTable]) -> Result<(), TopoFault>
+    ensures { Gives result (each_ok (port_table_ok tree.now) tables.now 0 tables.now) }
 {
     for index in 0..tables.len() {
-        check_port_table(alloc, ports, &tables[..index], index, tables[index])?;
+        check_port_table(alloc, tree, &tables[..index], index, tables[index])?;
     }
     Ok(())
 }
@@ -123,41 +120,41 @@ fn overlaps(vlan: &VlanTable, before: &[VlanTable]) -> bool
 
 fn check_vlan(
     alloc: Global,
-    ports: &TreePorts,
+    tree: &Tree,
     before: &[VlanTable],
     index: usize,
     vlan: &VlanTable,
 ) -> Result<(), TopoFault>
-    ensures { Gives result (vlan_ok ports.now before.now index vlan.now) }
+    ensures { Gives result (vlan_ok tree.now before.now index vlan.now) }
 {
     let place = Place::Element {
         table: "vlan",
         index,
     };
-    check_words(alloc, ports, place, "tagged", &vlan.tagged)?;
-    check_words(alloc, ports, place, "untagged", &vlan.untagged)?;
+    check_words(alloc, tree, place, "tagged", &vlan.tagged)?;
+    check_words(alloc, tree, place, "untagged", &vlan.untagged)?;
     let again = overlaps(vlan, before);
     refuse(alloc, again, place, "vid", KeyFault::Repeat)
 }
 
 pub(crate) fn check_vlans(
     alloc: Global,
-    ports: &TreePorts,
+    tree: &Tree,
     vlans: &Option<List<VlanTable>>,
 ) -> Result<(), TopoFault>
-    ensures { Gives result (vlans_ok ports.now vlans.now) }
+    ensures { Gives result (vlans_ok tree.now vlans.now) }
 {
     match vlans {
-        Some(vlans) => check_each_vlan(alloc, ports, vlans.as_slice()),
+        Some(vlans) => check_each_vlan(alloc, tree, vlans.as_slice()),
         None => Ok(()),
     }
 }
 
-fn check_each_vlan(alloc: Global, ports: &TreePorts, vlans: &[VlanTable]) -> Result<(), TopoFault>
-    ensures { Gives result (each_ok (vlan_ok ports.now) vlans.now 0 vlans.now) }
+fn check_each_vlan(alloc: Global, tree: &Tree, vlans: &[VlanTable]) -> Result<(), TopoFault>
+    ensures { Gives result (each_ok (vlan_ok tree.now) vlans.now 0 vlans.now) }
 {
     for (index, vlan) in vlans.iter().enumerate() {
-        check_vlan(alloc, ports, &vlans[..index], index, vlan)?;
+        check_vlan(alloc, tree, &vlans[..index], index, vlan)?;
     }
     Ok(())
 }
@@ -176,19 +173,19 @@ fn note(given: &mut Destinations, entry: &StaticTable) -> Result<bool, NoMemory>
 
 fn check_static(
     alloc: Global,
-    ports: &TreePorts,
+    tree: &Tree,
     given: &mut Destinations,
     index: usize,
     entry: &StaticTable,
 ) -> Result<(), TopoFault>
-    ensures value { (before : List StaticTable) → Knows given.old before → Gives result (static_ok ports.now before index entry.now) }
+    ensures value { (before : List StaticTable) → Knows given.old before → Gives result (static_ok tree.now before index entry.now) }
     ensures noted { (before : List StaticTable) → Knows given.old before → OnOk result (Knows given.new (before ++ entry.now ∷ [])) }
 {
     let place = Place::Element {
         table: "static",
         index,
     };
-    check_words(alloc, ports, place, "ports", &entry.ports)?;
+    check_words(alloc, tree, place, "ports", &entry.ports)?;
     let again = note(given, entry)?;
     refuse(alloc, again, place, "mac", KeyFault::Repeat)
 }
@@ -196,25 +193,20 @@ fn check_static(
 #[tactic(auto, using(crate::proofs::Given::knows_none))]
 pub(crate) fn check_statics(
     alloc: Global,
-    ports: &TreePorts,
+    tree: &Tree,
     statics: &[StaticTable],
 ) -> Result<(), TopoFault>
-    ensures { Gives result (each_ok (static_ok ports.now) statics.now 0 statics.now) }
+    ensures { Gives result (each_ok (static_ok tree.now) statics.now 0 statics.now) }
 {
     let mut given = BTreeSet::new(alloc);
     for (index, entry) in statics.iter().enumerate() {
-        check_static(alloc, ports, &mut given, index, entry)?;
+        check_static(alloc, tree, &mut given, index, entry)?;
     }
     Ok(())
 }
 
-fn check_action(
-    alloc: Global,
-    ports: &TreePorts,
-    place: Place,
-    action: &Action,
-) -> Result<(), TopoFault>
-    ensures { Gives result (action_ok ports.now (place_text place) action.now) }
+fn check_action(alloc: Global, tree: &Tree, place: Place, action: &Action) -> Result<(), TopoFault>
+    ensures { Gives result (action_ok tree.now (place_text place) action.now) }
 {
     match action {
         Action::Vlan {
@@ -222,43 +214,43 @@ fn check_action(
             tagged,
             untagged,
         } => {
-            check_words(alloc, ports, place, "tagged", tagged)?;
-            check_words(alloc, ports, place, "untagged", untagged)
+            check_words(alloc, tree, place, "tagged", tagged)?;
+            check_words(alloc, tree, place, "untagged", untagged)
         }
         Action::Member {
             vid: _,
             port,
             kind: _,
-        } => check_port(alloc, ports, place, "port", *port),
-        Action::Unmember { vid: _, port } => check_port(alloc, ports, place, "port", *port),
-        Action::Pvid { port, vid: _ } => check_port(alloc, ports, place, "port", *port),
-        Action::Accept { port, accept: _ } => check_port(alloc, ports, place, "port", *port),
-        Action::Filter { port, on: _ } => check_port(alloc, ports, place, "port", *port),
-        Action::Isolate { port, on: _ } => check_port(alloc, ports, place, "port", *port),
+        } => check_port(alloc, tree, place, "port", *port),
+        Action::Unmember { vid: _, port } => check_port(alloc, tree, place, "port", *port),
+        Action::Pvid { port, vid: _ } => check_port(alloc, tree, place, "port", *port),
+        Action::Accept { port, accept: _ } => check_port(alloc, tree, place, "port", *port),
+        Action::Filter { port, on: _ } => check_port(alloc, tree, place, "port", *port),
+        Action::Isolate { port, on: _ } => check_port(alloc, tree, place, "port", *port),
         Action::Static {
             vid: _,
             address: _,
             ports: words,
-        } => check_words(alloc, ports, place, "ports", words),
+        } => check_words(alloc, tree, place, "ports", words),
         Action::Unstatic { vid: _, address: _ } => Ok(()),
-        Action::Up { port } => check_port(alloc, ports, place, "port", *port),
-        Action::Down { port } => check_port(alloc, ports, place, "port", *port),
+        Action::Up { port } => check_port(alloc, tree, place, "port", *port),
+        Action::Down { port } => check_port(alloc, tree, place, "port", *port),
     }
 }
 
 pub(crate) fn check_commands(
     alloc: Global,
-    ports: &TreePorts,
+    tree: &Tree,
     commands: &[CommandTable],
 ) -> Result<(), TopoFault>
-    ensures { Gives result (each_ok (command_ok ports.now) commands.now 0 commands.now) }
+    ensures { Gives result (each_ok (command_ok tree.now) commands.now 0 commands.now) }
 {
     for (index, command) in commands.iter().enumerate() {
         let place = Place::Element {
             table: "command",
             index,
         };
-        check_action(alloc, ports, place, &command.action)?;
+        check_action(alloc, tree, place, &command.action)?;
     }
     Ok(())
 }
@@ -275,22 +267,22 @@ fn refuse_capture(alloc: Global, test: bool, port: PortId, fault: KeyFault) -> R
     Err(place.fault(alloc, key.as_str(), fault))
 }
 
-fn check_capture(alloc: Global, ports: &TreePorts, capture: &Named) -> Result<(), TopoFault>
-    ensures { Gives result (capture_ok ports.now [] 0 capture.now) }
+fn check_capture(alloc: Global, tree: &Tree, capture: &Named) -> Result<(), TopoFault>
+    ensures { Gives result (capture_ok tree.now [] 0 capture.now) }
 {
-    let unknown = !ports.is_external(capture.port);
+    let unknown = !tree.is_external(capture.port);
     refuse_capture(alloc, unknown, capture.port, KeyFault::UnknownPort)
 }
 
 pub(crate) fn check_captures(
     alloc: Global,
-    ports: &TreePorts,
+    tree: &Tree,
     captures: &[Named],
 ) -> Result<(), TopoFault>
-    ensures { Gives result (each_ok (capture_ok ports.now) captures.now 0 captures.now) }
+    ensures { Gives result (each_ok (capture_ok tree.now) captures.now 0 captures.now) }
 {
     for capture in captures {
-        check_capture(alloc, ports, capture)?;
+        check_capture(alloc, tree, capture)?;
     }
     Ok(())
 }
@@ -342,12 +334,12 @@ fn check_each_file(
 /// of names with a long prefix would take much memory.
 pub(crate) fn check_files(
     alloc: Global,
-    ports: &TreePorts,
+    tree: &Tree,
     prefix: &str,
     captures: &[Named],
 ) -> Result<(), TopoFault>
-    ensures { Gives result (each_ok (file_ok (output_names prefix.now ports.now)) captures.now 0 captures.now) }
+    ensures { Gives result (each_ok (file_ok (output_names prefix.now tree.now)) captures.now 0 captures.now) }
 {
-    let ends = output_names(alloc, "", ports)?;
+    let ends = output_names(alloc, "", tree)?;
     check_each_file(alloc, prefix, ends.as_slice(), captures)
 }

@@ -9,8 +9,8 @@ pub mod laws;
 mod outputs;
 mod start;
 mod topology;
-mod tree_ports;
 mod trees;
+mod words;
 
 pub use exb_keys::faults::{KeyFault, TopoFault};
 pub use exb_tables::Named;

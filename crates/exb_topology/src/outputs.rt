@@ -4,24 +4,20 @@ ghost use Rattle.exb_model.specs.Tree.{is_external, external_ports};
 ghost use Rattle.exb_text.specs.Names.{capture_name};
 ghost use Rattle.exb_topology.specs.Checks.{output_names};
 
-use crate::tree_ports::TreePorts;
 use exb_model::list::List;
 use exb_model::memory::NoMemory;
 use exb_model::port::PortId;
 use exb_model::text::Text;
+use exb_model::tree::Tree;
 use exb_text::{capture_file_name, journal_file_name};
 use std::alloc::Global;
 
 /// The names of all files that runs of a topology write: one for each external port in port order, the
 /// journal, the trace and the counters.
-pub(crate) fn output_names(
-    alloc: Global,
-    prefix: &str,
-    ports: &TreePorts,
-) -> Result<List<Text>, NoMemory>
-    ensures { IfOk result (λ names. names ≡ output_names prefix.now ports.now) }
+pub(crate) fn output_names(alloc: Global, prefix: &str, tree: &Tree) -> Result<List<Text>, NoMemory>
+    ensures { IfOk result (λ names. names ≡ output_names prefix.now tree.now) }
 {
-    let mut names = capture_names(alloc, prefix, ports)?;
+    let mut names = capture_names(alloc, prefix, tree)?;
     let journal = journal_file_name(alloc, prefix)?;
     names.push(Text::from_str(alloc, journal.as_str())?)?;
     let trace = format!(in alloc; "{prefix}trace.txt")?;
@@ -43,13 +39,13 @@ fn capture_name(alloc: Global, prefix: &str, port: PortId) -> Result<Text, NoMem
 fn add_name(
     alloc: Global,
     prefix: &str,
-    ports: &TreePorts,
+    tree: &Tree,
     port: PortId,
     names: &mut List<Text>,
 ) -> Result<(), NoMemory>
-    ensures { OnOk result (names.new ≡ names.old ++ (if is_external ports.now port then capture_name prefix.now port ∷ [] else [])) }
+    ensures { OnOk result (names.new ≡ names.old ++ (if is_external tree.now port then capture_name prefix.now port ∷ [] else [])) }
 {
-    if !ports.is_external(port) {
+    if !tree.is_external(port) {
         return Ok(());
     }
     let name = capture_name(alloc, prefix, port)?;
@@ -57,13 +53,13 @@ fn add_name(
 }
 
 /// The names of the captures that runs write.
-fn capture_names(alloc: Global, prefix: &str, ports: &TreePorts) -> Result<List<Text>, NoMemory>
-    ensures { IfOk result (λ names. names ≡ map (capture_name prefix.now) (external_ports ports.now)) }
+fn capture_names(alloc: Global, prefix: &str, tree: &Tree) -> Result<List<Text>, NoMemory>
+    ensures { IfOk result (λ names. names ≡ map (capture_name prefix.now) (external_ports tree.now)) }
 {
     let mut names = List::new(alloc);
     for number in 0..4160u16 {
         let port = PortId::new(number).unwrap();
-        add_name(alloc, prefix, ports, port, &mut names)?;
+        add_name(alloc, prefix, tree, port, &mut names)?;
     }
     Ok(names)
 }

@@ -1,38 +1,60 @@
 //! The commands of a topology, with its words resolved: those of the start, and those that come later.
 ghost use Rattle.std.specs.Prelude.{◌≡◌, ◌++◌, ◌∷◌, [], IfOk, OnOk, map, flat_map};
-ghost use Rattle.exb_topology.specs.Seen.{seen, timed_view};
+ghost use Rattle.exb_topology.specs.Checks.{listed};
+ghost use Rattle.exb_topology.specs.Seen.{seen, timed_view, set_vlan, put_static, set_pvid, set_accept, set_filter, set_isolated};
 ghost use Rattle.exb_topology.specs.Topologies.{port_start, vlan_start, vlans_start, static_start, deed, command_seen};
 
-use crate::tree_ports::TreePorts;
+use crate::words::listed;
+use exb_keys::words::Word;
+use exb_model::address::Mac;
 use exb_model::command::Command;
 use exb_model::list::List;
 use exb_model::memory::NoMemory;
+use exb_model::port::PortId;
 use exb_model::port_set::PortSet;
+use exb_model::rules::Accept;
 use exb_model::setup::{Timed, Verdict};
+use exb_model::tree::Tree;
 use exb_model::vlan::Vid;
 use exb_tables::{Action, CommandTable, PortTable, StaticTable, VlanTable};
 use std::alloc::Global;
+
+/// The command that sets the PVID of a port.
+fn set_pvid(port: PortId, vid: Vid) -> Command
+    ensures { seen result ≡ set_pvid port vid }
+{
+    Command::Pvid { port, vid }
+}
+
+/// The command that sets which frames a port takes.
+fn set_accept(port: PortId, accept: Accept) -> Command
+    ensures { seen result ≡ set_accept port accept }
+{
+    Command::Accept { port, accept }
+}
+
+/// The command that sets whether a port filters by VLAN.
+fn set_filter(port: PortId, on: bool) -> Command
+    ensures { seen result ≡ set_filter port on }
+{
+    Command::Filter { port, on }
+}
+
+/// The command that sets whether a port is isolated.
+fn set_isolated(port: PortId, on: bool) -> Command
+    ensures { seen result ≡ set_isolated port on }
+{
+    Command::Isolate { port, on }
+}
 
 /// Puts the rules of a port at the end.
 fn add_rules(port: PortTable, start: &mut List<Command>) -> Result<(), NoMemory>
     ensures { OnOk result (map seen start.new ≡ map seen start.old ++ port_start port) }
 {
-    start.push(Command::Pvid {
-        port: port.name,
-        vid: port.pvid,
-    })?;
-    start.push(Command::Accept {
-        port: port.name,
-        accept: port.accept,
-    })?;
-    start.push(Command::Filter {
-        port: port.name,
-        on: port.filter,
-    })?;
-    start.push(Command::Isolate {
-        port: port.name,
-        on: port.isolated,
-    })
+    start.push(set_pvid(port.name, port.pvid))?;
+    start.push(set_accept(port.name, port.accept))?;
+    start.push(set_filter(port.name, port.filter))?;
+    start.push(set_isolated(port.name, port.isolated))
 }
 
 /// Puts the rules of these ports at the end.
@@ -46,11 +68,11 @@ pub(crate) fn add_ports(ports: &[PortTable], start: &mut List<Command>) -> Resul
 }
 
 /// Puts the VLANs of a range at the end.
-fn add_vlan(ports: &TreePorts, vlan: &VlanTable, start: &mut List<Command>) -> Result<(), NoMemory>
-    ensures { OnOk result (map seen start.new ≡ map seen start.old ++ vlan_start ports.now vlan.now) }
+fn add_vlan(tree: &Tree, vlan: &VlanTable, start: &mut List<Command>) -> Result<(), NoMemory>
+    ensures { OnOk result (map seen start.new ≡ map seen start.old ++ vlan_start tree.now vlan.now) }
 {
-    let tagged = ports.listed(vlan.tagged.as_slice());
-    let untagged = ports.listed(vlan.untagged.as_slice());
+    let tagged = listed(tree, vlan.tagged.as_slice());
+    let untagged = listed(tree, vlan.untagged.as_slice());
     for number in vlan.vid.number()..vlan.last.number() + 1 {
         start.push(Command::Vlan {
             vid: Vid::new(number).unwrap(),
@@ -63,68 +85,86 @@ fn add_vlan(ports: &TreePorts, vlan: &VlanTable, start: &mut List<Command>) -> R
 
 /// Puts these VLANs at the end.
 fn add_each_vlan(
-    ports: &TreePorts,
+    tree: &Tree,
     vlans: &[VlanTable],
     start: &mut List<Command>,
 ) -> Result<(), NoMemory>
-    ensures { OnOk result (map seen start.new ≡ map seen start.old ++ flat_map (vlan_start ports.now) vlans.now) }
+    ensures { OnOk result (map seen start.new ≡ map seen start.old ++ flat_map (vlan_start tree.now) vlans.now) }
 {
     for vlan in vlans {
-        add_vlan(ports, vlan, start)?;
+        add_vlan(tree, vlan, start)?;
     }
     Ok(())
 }
 
 /// Puts the VLANs at the end: where the file gives none, VLAN 1 with every external port, untagged.
 pub(crate) fn add_vlans(
-    ports: &TreePorts,
+    tree: &Tree,
     vlans: &Option<List<VlanTable>>,
     start: &mut List<Command>,
 ) -> Result<(), NoMemory>
-    ensures { OnOk result (map seen start.new ≡ map seen start.old ++ vlans_start ports.now vlans.now) }
+    ensures { OnOk result (map seen start.new ≡ map seen start.old ++ vlans_start tree.now vlans.now) }
 {
     match vlans {
-        Some(vlans) => add_each_vlan(ports, vlans.as_slice(), start),
+        Some(vlans) => add_each_vlan(tree, vlans.as_slice(), start),
         None => start.push(Command::Vlan {
             vid: Vid::default(),
             tagged: PortSet::empty(),
-            untagged: ports.external(),
+            untagged: tree.external_ports(),
         }),
     }
 }
 
 /// Puts these static entries at the end.
 pub(crate) fn add_statics(
-    ports: &TreePorts,
+    tree: &Tree,
     statics: &[StaticTable],
     start: &mut List<Command>,
 ) -> Result<(), NoMemory>
-    ensures { OnOk result (map seen start.new ≡ map seen start.old ++ map (static_start ports.now) statics.now) }
+    ensures { OnOk result (map seen start.new ≡ map seen start.old ++ map (static_start tree.now) statics.now) }
 {
     for entry in statics {
         start.push(Command::Static {
             vid: entry.vid,
             address: entry.address,
-            ports: ports.listed(entry.ports.as_slice()),
+            ports: listed(tree, entry.ports.as_slice()),
         })?;
     }
     Ok(())
 }
 
+/// The command that sets a VLAN to the ports that words name.
+fn set_vlan(tree: &Tree, vid: Vid, tagged: &List<Word>, untagged: &List<Word>) -> Command
+    ensures { seen result ≡ set_vlan vid (listed tree.now tagged.now) (listed tree.now untagged.now) }
+{
+    Command::Vlan {
+        vid,
+        tagged: listed(tree, tagged.as_slice()),
+        untagged: listed(tree, untagged.as_slice()),
+    }
+}
+
+/// The command that puts a static entry with the ports that words name.
+fn put_static(tree: &Tree, vid: Vid, address: Mac, words: &List<Word>) -> Command
+    ensures { seen result ≡ put_static vid address (listed tree.now words.now) }
+{
+    Command::Static {
+        vid,
+        address,
+        ports: listed(tree, words.as_slice()),
+    }
+}
+
 /// The command of an action.
-fn command_of(ports: &TreePorts, action: &Action) -> Command
-    ensures { seen result ≡ deed ports.now action.now }
+fn command_of(tree: &Tree, action: &Action) -> Command
+    ensures { seen result ≡ deed tree.now action.now }
 {
     match action {
         Action::Vlan {
             vid,
             tagged,
             untagged,
-        } => Command::Vlan {
-            vid: *vid,
-            tagged: ports.listed(tagged.as_slice()),
-            untagged: ports.listed(untagged.as_slice()),
-        },
+        } => set_vlan(tree, *vid, tagged, untagged),
         Action::Member { vid, port, kind } => Command::Member {
             vid: *vid,
             port: *port,
@@ -134,31 +174,15 @@ fn command_of(ports: &TreePorts, action: &Action) -> Command
             vid: *vid,
             port: *port,
         },
-        Action::Pvid { port, vid } => Command::Pvid {
-            port: *port,
-            vid: *vid,
-        },
-        Action::Accept { port, accept } => Command::Accept {
-            port: *port,
-            accept: *accept,
-        },
-        Action::Filter { port, on } => Command::Filter {
-            port: *port,
-            on: *on,
-        },
-        Action::Isolate { port, on } => Command::Isolate {
-            port: *port,
-            on: *on,
-        },
+        Action::Pvid { port, vid } => set_pvid(*port, *vid),
+        Action::Accept { port, accept } => set_accept(*port, *accept),
+        Action::Filter { port, on } => set_filter(*port, *on),
+        Action::Isolate { port, on } => set_isolated(*port, *on),
         Action::Static {
             vid,
             address,
-            ports: words,
-        } => Command::Static {
-            vid: *vid,
-            address: *address,
-            ports: ports.listed(words.as_slice()),
-        },
+            ports,
+        } => put_static(tree, *vid, *address, ports),
         Action::Unstatic { vid, address } => Command::Unstatic {
             vid: *vid,
             address: *address,
@@ -171,17 +195,17 @@ fn command_of(ports: &TreePorts, action: &Action) -> Command
 /// What is set before anything happens: the ports in file order, then the VLANs, then the static entries.
 pub(crate) fn start_of(
     alloc: Global,
-    ports: &TreePorts,
+    tree: &Tree,
     tables: &[PortTable],
     vlans: &Option<List<VlanTable>>,
     statics: &[StaticTable],
 ) -> Result<List<Command>, NoMemory>
-    ensures { IfOk result (λ start. map seen start ≡ flat_map port_start tables.now ++ vlans_start ports.now vlans.now ++ map (static_start ports.now) statics.now) }
+    ensures { IfOk result (λ start. map seen start ≡ flat_map port_start tables.now ++ vlans_start tree.now vlans.now ++ map (static_start tree.now) statics.now) }
 {
     let mut start = List::new(alloc);
     add_ports(tables, &mut start)?;
-    add_vlans(ports, vlans, &mut start)?;
-    add_statics(ports, statics, &mut start)?;
+    add_vlans(tree, vlans, &mut start)?;
+    add_statics(tree, statics, &mut start)?;
     Ok(start)
 }
 
@@ -195,13 +219,13 @@ fn copied(alloc: Global, fate: &[Verdict]) -> Result<List<Verdict>, NoMemory>
     Ok(copy)
 }
 
-fn timed_of(alloc: Global, ports: &TreePorts, command: &CommandTable) -> Result<Timed, NoMemory>
-    ensures { IfOk result (λ made. timed_view made ≡ command_seen ports.now command.now) }
+fn timed_of(alloc: Global, tree: &Tree, command: &CommandTable) -> Result<Timed, NoMemory>
+    ensures { IfOk result (λ made. timed_view made ≡ command_seen tree.now command.now) }
 {
     let fate = copied(alloc, command.fate.as_slice())?;
     Ok(Timed {
         at: command.at,
-        command: command_of(ports, &command.action),
+        command: command_of(tree, &command.action),
         fate,
     })
 }
@@ -209,14 +233,14 @@ fn timed_of(alloc: Global, ports: &TreePorts, command: &CommandTable) -> Result<
 /// The commands that come later.
 pub(crate) fn commands_of(
     alloc: Global,
-    ports: &TreePorts,
+    tree: &Tree,
     commands: &[CommandTable],
 ) -> Result<List<Timed>, NoMemory>
-    ensures { IfOk result (λ all. map timed_view all ≡ map (command_seen ports.now) commands.now) }
+    ensures { IfOk result (λ all. map timed_view all ≡ map (command_seen tree.now) commands.now) }
 {
     let mut all = List::new(alloc);
     for command in commands {
-        all.push(timed_of(alloc, ports, command)?)?;
+        all.push(timed_of(alloc, tree, command)?)?;
     }
     Ok(all)
 }

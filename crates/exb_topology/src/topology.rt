@@ -8,7 +8,6 @@ ghost use Rattle.exb_topology.specs.Checks.{port_table_ok, ports_ok};
 ghost use Rattle.exb_topology.specs.Sound.{IsSound};
 ghost use Rattle.exb_topology.specs.Topologies.{topology_view, topology_seen, topology_of, bare, resolved};
 
-use crate::tree_ports::TreePorts;
 use crate::trees::check_tree;
 use crate::{checks, start};
 use exb_keys::faults::TopoFault;
@@ -62,31 +61,26 @@ fn bare(alloc: Global, tables: &Tables) -> Result<Setup, NoMemory>
 
 /// The third pass over the tables of a file.
 #[tactic(auto, unfolding(crate::specs::Checks::ports_ok))]
-fn check_ports(alloc: Global, ports: &TreePorts, tables: &Tables) -> Result<(), TopoFault>
-    ensures value { Gives result (ports_ok ports.now tables.now) }
-    ensures named { OnOk result (each_ok (port_table_ok ports.now) tables.now.ports 0 tables.now.ports ≡ Ok tt) }
+fn check_ports(alloc: Global, tree: &Tree, tables: &Tables) -> Result<(), TopoFault>
+    ensures value { Gives result (ports_ok tree.now tables.now) }
+    ensures named { OnOk result (each_ok (port_table_ok tree.now) tables.now.ports 0 tables.now.ports ≡ Ok tt) }
 {
-    checks::check_ports(alloc, ports, tables.ports.as_slice())?;
-    checks::check_vlans(alloc, ports, &tables.vlans)?;
-    checks::check_statics(alloc, ports, tables.statics.as_slice())?;
-    checks::check_commands(alloc, ports, tables.commands.as_slice())?;
-    checks::check_captures(alloc, ports, tables.captures.as_slice())?;
+    checks::check_ports(alloc, tree, tables.ports.as_slice())?;
+    checks::check_vlans(alloc, tree, &tables.vlans)?;
+    checks::check_statics(alloc, tree, tables.statics.as_slice())?;
+    checks::check_commands(alloc, tree, tables.commands.as_slice())?;
+    checks::check_captures(alloc, tree, tables.captures.as_slice())?;
     let prefix = tables.bridge.out.as_str();
-    checks::check_files(alloc, ports, prefix, tables.captures.as_slice())
+    checks::check_files(alloc, tree, prefix, tables.captures.as_slice())
 }
 
 /// The topology of tables that passed, from its valid setup with nothing at the start.
-fn finished(
-    alloc: Global,
-    setup: Setup,
-    ports: &TreePorts,
-    tables: Tables,
-) -> Result<Topology, NoMemory>
+fn finished(alloc: Global, setup: Setup, tree: &Tree, tables: Tables) -> Result<Topology, NoMemory>
     requires bare { setup ≡ bare tables }
-    requires tree { ports.now ≡ shape_of setup }
+    requires tree { tree.now ≡ shape_of setup }
     requires valid { IsValid setup }
-    requires named { each_ok (port_table_ok ports.now) tables.ports 0 tables.ports ≡ Ok tt }
-    ensures exact { IfOk result (λ t. topology_view t ≡ topology_seen ports.now tables) }
+    requires named { each_ok (port_table_ok tree.now) tables.ports 0 tables.ports ≡ Ok tt }
+    ensures exact { IfOk result (λ t. topology_view t ≡ topology_seen tree.now tables) }
     ensures valid { IfOk result (λ t. IsValid t.setup) }
 {
     let Tables {
@@ -99,8 +93,8 @@ fn finished(
         commands,
         captures,
     } = tables;
-    let start = start::start_of(alloc, ports, tables.as_slice(), &vlans, statics.as_slice())?;
-    let commands = start::commands_of(alloc, ports, commands.as_slice())?;
+    let start = start::start_of(alloc, tree, tables.as_slice(), &vlans, statics.as_slice())?;
+    let commands = start::commands_of(alloc, tree, commands.as_slice())?;
     let mut setup = setup;
     setup.start = start;
     Ok(Topology {
@@ -121,9 +115,9 @@ fn resolved(alloc: Global, tables: Tables) -> Result<Topology, TopoFault>
 {
     let setup = bare(alloc, &tables)?;
     check_tree(alloc, &setup)?;
-    let ports = TreePorts::new(Tree::new(alloc, &setup)?);
-    check_ports(alloc, &ports, &tables)?;
-    let topology = finished(alloc, setup, &ports, tables)?;
+    let tree = Tree::new(alloc, &setup)?;
+    check_ports(alloc, &tree, &tables)?;
+    let topology = finished(alloc, setup, &tree, tables)?;
     Ok(topology)
 }
 

@@ -1,6 +1,6 @@
 use Rattle.std.proofs.Common.{◌∙◌, ℕ, List, Option, ap, sym, inl}
 use Rattle.exb_run.specs.Flaws.{flaw_of, flaw_of_bytes}
-use Rattle.exb_run.proofs.FlawLemmas.{bytes_cause, bytes_not_missing, bytes_not_read, err_same}
+use Rattle.exb_run.proofs.FlawLemmas.{bytes_cause, bytes_not_missing, bytes_not_read, bytes_not_write, err_same}
 use Rattle.exb_run.proofs.captures.read_capture.Goals as goal
 
 pub returns-in-None-clause-good : goal.returns-in-None-clause-good
@@ -15,10 +15,10 @@ returns-in-Some-clause-flaw g c tells =
 pub returns-in-Some-clause-causes : goal.returns-in-Some-clause-causes
 returns-in-Some-clause-causes g c = bytes_cause c.args.port c.as_slice.result.now c.args.before c.in-Some.fault c.requires.port (sym c.in-Some.ensures)
 
-pub returns-in-Some-clause-missing : goal.returns-in-Some-clause-missing
-returns-in-Some-clause-missing g c n e =
-    absurd (bytes_not_missing c.args.port c.as_slice.result.now c.args.before c.in-Some.fault c.requires.port (sym c.in-Some.ensures) n (err_same _ _ e))
-
-pub returns-in-Some-clause-read : goal.returns-in-Some-clause-read
-returns-in-Some-clause-read g c e =
-    absurd (bytes_not_read c.args.port c.as_slice.result.now c.args.before c.in-Some.fault c.requires.port (sym c.in-Some.ensures) (err_same _ _ e))
+pub returns-in-Some-clause-faults : goal.returns-in-Some-clause-faults
+returns-in-Some-clause-faults g c = record {
+  none_fell = c.in-Ok.ensures.faults;
+  missing = λ n e. absurd (bytes_not_missing c.args.port c.as_slice.result.now c.args.before c.in-Some.fault c.requires.port (sym c.in-Some.ensures) n (err_same _ _ e));
+  read = λ e. absurd (bytes_not_read c.args.port c.as_slice.result.now c.args.before c.in-Some.fault c.requires.port (sym c.in-Some.ensures) (err_same _ _ e));
+  write = λ e. absurd (bytes_not_write c.args.port c.as_slice.result.now c.args.before c.in-Some.fault c.requires.port (sym c.in-Some.ensures) (err_same _ _ e));
+}

@@ -2,6 +2,7 @@ use Rattle.std.proofs.Common.{◌≡◌, ◌<◌, ◌+◌, ◌∙◌, ℕ, List,
 use Rattle.std.proofs.lemmas.List.{length-map, length_push}
 use Rattle.exb_shelf.specs.Files.{Filled}
 use Rattle.exb_shelf.proofs.FileLemmas.{filled_one}
+use Rattle.exb_shelf.proofs.IdLemmas.{opens_then}
 use Rattle.exb_run.specs.Plans.{port_count}
 use Rattle.exb_run.specs.Outputs.{output_name}
 use Rattle.exb_run.specs.Writing.{pieces_of, first_text}
@@ -12,7 +13,7 @@ pub loop-at-preserved : goal.loop-at-preserved
 loop-at-preserved g c =
     let S = g.S.Shelf in
     let before = c.loop-at.invariant in
-    let made = c.in-Ok.ensures in
+    let made = c.in_ok-create_one.ensures in
     let name = output_name c.args.plan.now in
     let ids = c.loop-at.outputs.ids.items in
     let pieces = pieces_of c.loop-at.outputs in
@@ -22,7 +23,7 @@ loop-at-preserved g c =
       pieces = made.count;
       named = λ j l.
           ap (λ (xs : List ℕ). S.ids c.create_one.new.shelf (get_or xs j 0)) made.ids.1
-          ∙ more_named (S.ids c.loop-at.shelf) (S.ids c.create_one.new.shelf) ids made.ids.0 c.loop-at.at name before.ids before.named made.kept made.ids.2 j l;
+          ∙ more_named (S.ids c.loop-at.shelf) (S.ids c.create_one.new.shelf) ids made.ids.0 c.loop-at.at name before.ids before.named made.opened.kept made.ids.2 j l;
       texts = λ j l.
           ap (λ (ps : List (List ℕ)). get_or ps j []) made.pieces
           ∙ more_texts pieces (first_text c.args.plan.now c.loop-at.at) c.loop-at.at (first_text c.args.plan.now) (length-map c.loop-at.outputs.pieces.items (λ v. v.items) ∙ before.pieces)
@@ -30,7 +31,8 @@ loop-at-preserved g c =
       files = λ t.
           filled_one (S.file c.args.shelf.now) (S.file c.loop-at.shelf) (S.file c.create_one.new.shelf) (port_count c.args.plan.now + 1) c.loop-at.at name (λ j bytes. bytes ≡ [])
           [] (c.output_names_differ.ensures c.args.plan.now) lt (before.files t) (made.empty t) refl;
-      faults = search (arith, made.faults, before.faults);
+      opened = opens_then _ _ _ _ before.opened made.opened;
+      faults = search (arith, made.faults.none_fell, before.faults);
     }
 
 pub returns-clause-texts : goal.returns-clause-texts
@@ -40,3 +42,15 @@ returns-clause-texts g c = λ t.
     none_written c.args.plan.now (S.file c.args.shelf.now) (S.file c.loop-at.shelf) (pieces_of c.loop-at.outputs) (first_text c.args.plan.now)
     (λ j l. c.loop-at.invariant.texts j (omega arith))
     (subst (λ (n : ℕ). Filled (S.file c.args.shelf.now) (S.file c.loop-at.shelf) n (output_name c.args.plan.now) (λ j bytes. bytes ≡ [])) all (c.loop-at.invariant.files t))
+
+pub returns-in_err-create_one-clause-only : goal.returns-in_err-create_one-clause-only
+returns-in_err-create_one-clause-only g c = record {
+  others = λ t m away. c.in_err-create_one.ensures.others t m (λ e. away c.loop-at.at (omega arith) e) ∙ (c.loop-at.invariant.files t).others m (λ j l. away j (omega arith));
+  opened = opens_then _ _ _ _ c.loop-at.invariant.opened c.in_err-create_one.ensures.opened;
+}
+
+pub returns-clause-only : goal.returns-clause-only
+returns-clause-only g c = record {
+  others = λ t m away. (c.loop-at.invariant.files t).others m (λ j l. away j (omega arith));
+  opened = c.loop-at.invariant.opened;
+}

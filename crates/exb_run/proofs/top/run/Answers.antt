@@ -1,23 +1,25 @@
 use Rattle.std.proofs.Common.{◌≡◌, ◌≢◌, ◌++◌, ◌∙◌, inl, inr, ℕ, List, Err, sym, ap, arith}
 use Rattle.exb_run.specs.Answers.{status_of, line_of}
-use Rattle.exb_run.proofs.RunLemmas.{is_usage, is_read, is_not_built, write_or_not, stop_not_one, stop_not_six, stop_not_seven, stops_with, fault_says, usage_line, read_line, write_line, not_built_line, front_by, ran_by, early_end, ready_not, status_cases, Outcome}
+use Rattle.exb_run.proofs.RunLemmas.{is_usage, is_read, is_missing, is_not_built, write_or_not, stop_not_one, stop_not_six, stop_not_seven, of_input, stops_with, fault_says, usage_line, read_line, write_line, not_built_line, front_by, ran_by, ready_not, status_cases, Outcome}
+use Rattle.exb_run.proofs.OpenLemmas.{opens_by_status}
 use Rattle.exb_run.proofs.top.run.Goals as goal
 
-pub returns-clause-three : goal.returns-clause-three
-returns-clause-three g c = λ t e.
-    stops_with c.work-outcome.result _ _ 3 (c.work-outcome.ensures.cause t) (sym (c.report.ensures.status (λ h. omega arith) (λ h. omega arith)) ∙ e) (omega arith) (λ h. omega arith) (λ h. omega arith)
+pub returns-clause-first : goal.returns-clause-first
+returns-clause-first g c = λ t h.
+    let is = of_input c.report.result h in
+    stops_with c.work-outcome.result _ _ c.report.result (c.work-outcome.ensures.cause t) (sym (c.report.ensures.status is.one is.seven)) is.late is.six is.seven
 
-pub returns-clause-four : goal.returns-clause-four
-returns-clause-four g c = λ t e.
-    stops_with c.work-outcome.result _ _ 4 (c.work-outcome.ensures.cause t) (sym (c.report.ensures.status (λ h. omega arith) (λ h. omega arith)) ∙ e) (omega arith) (λ h. omega arith) (λ h. omega arith)
-
-pub returns-clause-five : goal.returns-clause-five
-returns-clause-five g c = λ t e.
-    stops_with c.work-outcome.result _ _ 5 (c.work-outcome.ensures.cause t) (sym (c.report.ensures.status (λ h. omega arith) (λ h. omega arith)) ∙ e) (omega arith) (λ h. omega arith) (λ h. omega arith)
-
-pub returns-clause-eight : goal.returns-clause-eight
-returns-clause-eight g c = λ t e.
-    stops_with c.work-outcome.result _ _ 8 (c.work-outcome.ensures.cause t) (sym (c.report.ensures.status (λ h. omega arith) (λ h. omega arith)) ∙ e) (omega arith) (λ h. omega arith) (λ h. omega arith)
+pub returns-clause-rose : goal.returns-clause-rose
+returns-clause-rose g c =
+    let o = c.work-outcome.result in
+    record {
+      five = λ e. let missing = is_missing o (sym (c.report.ensures.status (λ h. omega arith) (λ h. omega arith)) ∙ e) in c.work-outcome.ensures.faults.missing missing.0 missing.1;
+      six = λ e. c.work-outcome.ensures.faults.read (is_read o (sym (c.report.ensures.status (λ h. omega arith) (λ h. omega arith)) ∙ e));
+      seven = λ e. elim (write_or_not o) [
+        | inl write ↦ inl (c.work-outcome.ensures.faults.write write)
+        | inr other ↦ inr (c.report.ensures.seven e other)
+      ];
+    }
 
 pub returns-clause-stops : goal.returns-clause-stops
 returns-clause-stops g c = λ t fault stops n1 n6 n7.
@@ -39,31 +41,6 @@ returns-clause-stops_seven g c = λ t fault stops e. c.report.ensures.seven e (e
   ]
 ])
 
-pub returns-clause-two_says : goal.returns-clause-two_says
-returns-clause-two_says g c = λ t e.
-    let n1 : c.report.result ≢ 1 = λ h. omega arith in
-    let n7 : c.report.result ≢ 7 = λ h. omega arith in
-    let is = is_usage c.work-outcome.result (sym (c.report.ensures.status n1 n7) ∙ e) in
-    c.report.ensures.whole t n1 n7 ∙ ap (λ (xs : List ℕ). g.O.Sink.text c.args.out.now ++ xs) (usage_line c.work-outcome.result is)
-
-pub returns-clause-three_says : goal.returns-clause-three_says
-returns-clause-three_says g c = λ t e.
-    let n1 : c.report.result ≢ 1 = λ h. omega arith in
-    let n7 : c.report.result ≢ 7 = λ h. omega arith in
-    fault_says c.work-outcome.result 3 _ _ (sym (c.report.ensures.status n1 n7) ∙ e) (omega arith) c.work-outcome.ensures.can_be (c.report.ensures.whole t n1 n7)
-
-pub returns-clause-four_says : goal.returns-clause-four_says
-returns-clause-four_says g c = λ t e.
-    let n1 : c.report.result ≢ 1 = λ h. omega arith in
-    let n7 : c.report.result ≢ 7 = λ h. omega arith in
-    fault_says c.work-outcome.result 4 _ _ (sym (c.report.ensures.status n1 n7) ∙ e) (omega arith) c.work-outcome.ensures.can_be (c.report.ensures.whole t n1 n7)
-
-pub returns-clause-five_says : goal.returns-clause-five_says
-returns-clause-five_says g c = λ t e.
-    let n1 : c.report.result ≢ 1 = λ h. omega arith in
-    let n7 : c.report.result ≢ 7 = λ h. omega arith in
-    fault_says c.work-outcome.result 5 _ _ (sym (c.report.ensures.status n1 n7) ∙ e) (omega arith) c.work-outcome.ensures.can_be (c.report.ensures.whole t n1 n7)
-
 pub returns-clause-stops_says : goal.returns-clause-stops_says
 returns-clause-stops_says g c = λ t o fault stops e.
     let n1 : c.report.result ≢ 1 = λ h. stop_not_one _ _ fault stops (sym e ∙ h) in
@@ -77,57 +54,65 @@ returns-clause-stops_says g c = λ t o fault stops e.
       ]
     ]
 
-pub returns-clause-six_says : goal.returns-clause-six_says
-returns-clause-six_says g c = λ t e.
-    let n1 : c.report.result ≢ 1 = λ h. omega arith in
-    let n7 : c.report.result ≢ 7 = λ h. omega arith in
-    let is = is_read c.work-outcome.result (sym (c.report.ensures.status n1 n7) ∙ e) in
-    c.report.ensures.whole t n1 n7 ∙ ap (λ (xs : List ℕ). g.O.Sink.text c.args.out.now ++ xs) (read_line c.work-outcome.result is)
-
-pub returns-clause-seven_says : goal.returns-clause-seven_says
-returns-clause-seven_says g c = λ t e no_sink.
-    elim (write_or_not c.work-outcome.result) [
-      | inl is ↦ c.report.ensures.whole_seven t e no_sink ∙ ap (λ (xs : List ℕ). g.O.Sink.text c.args.out.now ++ xs) (write_line c.work-outcome.result is)
-      | inr other ↦ absurd (no_sink (c.report.ensures.seven e other))
-    ]
-
-pub returns-clause-eight_says : goal.returns-clause-eight_says
-returns-clause-eight_says g c = λ t e.
-    let n1 : c.report.result ≢ 1 = λ h. omega arith in
-    let n7 : c.report.result ≢ 7 = λ h. omega arith in
-    let is = is_not_built c.work-outcome.result (sym (c.report.ensures.status n1 n7) ∙ e) in
-    c.report.ensures.whole t n1 n7 ∙ ap (λ (xs : List ℕ). g.O.Sink.text c.args.out.now ++ xs) (not_built_line c.work-outcome.result is)
+pub returns-clause-says : goal.returns-clause-says
+returns-clause-says g c = λ t. record {
+  two = λ e.
+      let n1 : c.report.result ≢ 1 = λ h. omega arith in
+      let n7 : c.report.result ≢ 7 = λ h. omega arith in
+      let is = is_usage c.work-outcome.result (sym (c.report.ensures.status n1 n7) ∙ e) in
+      c.report.ensures.whole t n1 n7 ∙ ap (λ (xs : List ℕ). g.O.Sink.text c.args.out.now ++ xs) (usage_line c.work-outcome.result is);
+  three = λ e.
+      let n1 : c.report.result ≢ 1 = λ h. omega arith in
+      let n7 : c.report.result ≢ 7 = λ h. omega arith in
+      fault_says c.work-outcome.result 3 _ _ (sym (c.report.ensures.status n1 n7) ∙ e) (omega arith) c.work-outcome.ensures.can_be (c.report.ensures.whole t n1 n7);
+  four = λ e.
+      let n1 : c.report.result ≢ 1 = λ h. omega arith in
+      let n7 : c.report.result ≢ 7 = λ h. omega arith in
+      fault_says c.work-outcome.result 4 _ _ (sym (c.report.ensures.status n1 n7) ∙ e) (omega arith) c.work-outcome.ensures.can_be (c.report.ensures.whole t n1 n7);
+  five = λ e.
+      let n1 : c.report.result ≢ 1 = λ h. omega arith in
+      let n7 : c.report.result ≢ 7 = λ h. omega arith in
+      fault_says c.work-outcome.result 5 _ _ (sym (c.report.ensures.status n1 n7) ∙ e) (omega arith) c.work-outcome.ensures.can_be (c.report.ensures.whole t n1 n7);
+  six = λ e.
+      let n1 : c.report.result ≢ 1 = λ h. omega arith in
+      let n7 : c.report.result ≢ 7 = λ h. omega arith in
+      let is = is_read c.work-outcome.result (sym (c.report.ensures.status n1 n7) ∙ e) in
+      c.report.ensures.whole t n1 n7 ∙ ap (λ (xs : List ℕ). g.O.Sink.text c.args.out.now ++ xs) (read_line c.work-outcome.result is);
+  seven = λ e no_sink.
+      elim (write_or_not c.work-outcome.result) [
+        | inl is ↦ c.report.ensures.whole_seven t e no_sink ∙ ap (λ (xs : List ℕ). g.O.Sink.text c.args.out.now ++ xs) (write_line c.work-outcome.result is)
+        | inr other ↦ absurd (no_sink (c.report.ensures.seven e other))
+      ];
+  eight = λ e.
+      let n1 : c.report.result ≢ 1 = λ h. omega arith in
+      let n7 : c.report.result ≢ 7 = λ h. omega arith in
+      let is = is_not_built c.work-outcome.result (sym (c.report.ensures.status n1 n7) ∙ e) in
+      c.report.ensures.whole t n1 n7 ∙ ap (λ (xs : List ℕ). g.O.Sink.text c.args.out.now ++ xs) (not_built_line c.work-outcome.result is);
+}
 
 pub returns-clause-front : goal.returns-clause-front
-returns-clause-front g c = λ t o. front_by c.work-outcome.result _ _ _ (g.S.Shelf.faults c.args.shelf.now) (g.S.Shelf.faults c.work-outcome.new.shelf) _ _ (c.work-outcome.ensures.done t) (c.work-outcome.ensures.cause t) c.work-outcome.ensures.read c.work-outcome.ensures.write (c.report.ensures.front o)
+returns-clause-front g c = λ t o. front_by c.work-outcome.result _ _ _ (g.S.Shelf.faults c.args.shelf.now) (g.S.Shelf.faults c.work-outcome.new.shelf) _ _ (c.work-outcome.ensures.done t) (c.work-outcome.ensures.cause t) c.work-outcome.ensures.faults.read c.work-outcome.ensures.faults.write (c.report.ensures.front o)
 
 pub returns-clause-ran : goal.returns-clause-ran
 returns-clause-ran g c = λ t e. ran_by c.work-outcome.result _ _ _ (c.work-outcome.ensures.done t) (sym (c.report.ensures.status (λ h. omega arith) (λ h. omega arith)) ∙ e)
 
-pub returns-clause-reads : goal.returns-clause-reads
-returns-clause-reads g c = λ n0 n1 n7.
-    let is : c.report.result ≡ status_of c.work-outcome.result = c.report.ensures.status n1 n7 in
-    early_end c.work-outcome.result _ c.work-outcome.ensures.reads (λ e. n0 (is ∙ e)) (λ e. n1 (is ∙ e)) (λ e. n7 (is ∙ e))
-
-pub returns-clause-wanted : goal.returns-clause-wanted
-returns-clause-wanted g c = λ t n0 n1 n7.
-    let is : c.report.result ≡ status_of c.work-outcome.result = c.report.ensures.status n1 n7 in
-    early_end c.work-outcome.result _ (c.work-outcome.ensures.wanted t) (λ e. n0 (is ∙ e)) (λ e. n1 (is ∙ e)) (λ e. n7 (is ∙ e))
+pub returns-clause-opens : goal.returns-clause-opens
+returns-clause-opens g c = opens_by_status _ _ _ c.report.result c.work-outcome.result _ _ c.report.ensures.status c.work-outcome.ensures.opens
 
 pub returns-clause-complete : goal.returns-clause-complete
 returns-clause-complete g c = λ t topology ready no_reads no_writes no_out n1.
     let o = c.work-outcome.result in
     let n7 : c.report.result ≢ 7 = λ e. elim (write_or_not o) [
-      | inl write ↦ no_writes (c.work-outcome.ensures.write write)
+      | inl write ↦ no_writes (c.work-outcome.ensures.faults.write write)
       | inr other ↦ no_out (c.report.ensures.seven e other)
     ] in
     let is : c.report.result ≡ status_of o = c.report.ensures.status n1 n7 in
     status_cases o (c.report.result ≡ 0) (λ zero. is ∙ zero) (λ x e. absurd (elim (c.work-outcome.ensures.cause t x e) [
       | inl stops ↦ ready_not _ _ topology x ready stops
       | inr failure ↦ elim failure [
-        | inl read ↦ no_reads (c.work-outcome.ensures.read (e ∙ ap Err read))
+        | inl read ↦ no_reads (c.work-outcome.ensures.faults.read (e ∙ ap Err read))
         | inr other ↦ elim other [
-          | inl write ↦ no_writes (c.work-outcome.ensures.write (e ∙ ap Err write))
+          | inl write ↦ no_writes (c.work-outcome.ensures.faults.write (e ∙ ap Err write))
           | inr memory ↦ n1 (is ∙ ap status_of (e ∙ ap Err memory))
         ]
       ]

@@ -1,4 +1,5 @@
-use Rattle.std.proofs.Common.{◌≡◌, List, true, All, map, refl, ap, sym, subst, ◌∙◌}
+use Rattle.std.proofs.Common.{◌≡◌, List, true, All, map, refl, ap, sym, subst, ◌∙◌, inl}
+use Rattle.std.proofs.lemmas.Result.{err_from_is_err_and}
 use Rattle.std.specs.Prelude.{string_bytes}
 use Rattle.exb_model.specs.Ports.{all_ports}
 use Rattle.exb_model.specs.Input.{Input, merge}
@@ -12,61 +13,95 @@ use Rattle.exb_run.specs.Inputs.{input_of, captures_of}
 use Rattle.exb_run.specs.Outputs.{HasPlayed, OnlyPlanned}
 use Rattle.exb_run.specs.Playing.{CanBePlayed, stream_in}
 use Rattle.exb_shelf.specs.Shelf.{Opens}
+use Rattle.exb_shelf.proofs.IdLemmas.{opens_weaker}
+use Rattle.exb_run.specs.Flaws.{AreGood}
 use Rattle.exb_run.specs.Opening.{ReadsCapture}
 use Rattle.exb_run.specs.Reading.{contents}
 use Rattle.exb_run.proofs.BuiltLemmas.{is_single}
 use Rattle.exb_run.proofs.Running.{files_same, only_by, played_by, can_be_played, early_by, if_ok_map}
+use Rattle.exb_run.proofs.OpenLemmas.{capture_plays, writing_plays, opened_for}
 use Rattle.exb_run.proofs.Taking.{comes_merged}
 use Rattle.exb_run.proofs.top.run_topology.Goals as goal
 
 pub play-requires-clause-of : goal.play-requires-clause-of
 play-requires-clause-of g c = record {
   single = is_single c.args.topology.now c.requires.valid c.requires.built;
-  tree = c.in-Ok-new.ensures.tree;
+  tree = c.in_ok-plan.ensures.tree;
 }
 
 pub play-requires-clause-can : goal.play-requires-clause-can
 play-requires-clause-can g c =
     let t = c.args.topology.now in
     let own = subst (λ (names : List Named). All (λ x. is_external (shape_of t.setup) x.port ≡ true) names) (sym c.as_slice.ensures) c.requires.external in
-    let all = can_be_played (shape_of t.setup) c.as_slice.result.now c.in-Ok.captures.items own c.in-Ok.ensures.named c.in-Ok.ensures.whole in
-    subst (λ (cs : List Capture). All (λ x. CanBePlayed c.in-Ok-new.plan.tree x) cs) (sym c.as_slice-2.ensures.value)
-    (subst (λ (s : Shape). All (λ x. CanBePlayed s x) c.in-Ok.captures.items) (sym c.in-Ok-new.ensures.tree) all)
+    let all = can_be_played (shape_of t.setup) c.as_slice.result.now c.in_ok-captures.captures.items own c.in_ok-captures.ensures.named c.in_ok-captures.ensures.whole in
+    subst (λ (cs : List Capture). All (λ x. CanBePlayed c.in_ok-plan.plan.tree x) cs) (sym c.as_slice-2.ensures.value)
+    (subst (λ (s : Shape). All (λ x. CanBePlayed s x) c.in_ok-captures.captures.items) (sym c.in_ok-plan.ensures.tree) all)
 
 pub returns-clause-done : goal.returns-clause-done
 returns-clause-done g c tells =
     let S = g.S.Shelf in
     let t = c.args.topology.now in
-    let plan = c.in-Ok-new.plan in
+    let plan = c.in_ok-plan.plan in
     let before = S.file c.args.shelf.now in
     let read = S.file c.read_captures.new.shelf in
     let after = S.file c.play.new.shelf in
     let i : Input = input_of t before in
-    let there : contents c.in-Ok.captures.items ≡ captures_of t.captures before all_ports =
-    c.in-Ok.ensures.there tells ∙ ap (λ (names : List Named). captures_of names before all_ports) c.as_slice.ensures in
+    let there : contents c.in_ok-captures.captures.items ≡ captures_of t.captures before all_ports =
+    c.in_ok-captures.ensures.there tells ∙ ap (λ (names : List Named). captures_of names before all_ports) c.as_slice.ensures in
     let merged : to_come (map stream_in c.as_slice-2.result.now) ≡ merge i =
     ap (λ (cs : List Capture). to_come (map stream_in cs)) c.as_slice-2.ensures.value
-    ∙ comes_merged t before c.in-Ok.captures.items c.requires.built.commands there c.merge_of_chosen.ensures in
+    ∙ comes_merged t before c.in_ok-captures.captures.items c.requires.built.commands there c.merge_of_chosen.ensures in
     if_ok_map c.play.result
     (λ line played.
-    played_by i plan t.prefix (c.in-Ok-new.ensures.prefix ∙ c.as_str.ensures) c.in-Ok-new.ensures.tree c.requires.valid.tree before after (string_bytes line)
-    (subst (λ (f : Files). HasPlayed i plan f after (string_bytes line)) (files_same before read c.in-Ok.ensures.files) (played i refl merged)))
+    played_by i plan t.prefix (c.in_ok-plan.ensures.prefix ∙ c.as_str.ensures) c.in_ok-plan.ensures.tree c.requires.valid.tree before after (string_bytes line)
+    (subst (λ (f : Files). HasPlayed i plan f after (string_bytes line)) (files_same before read c.in_ok-captures.ensures.files) (played i refl merged)))
     (c.play.ensures.done tells)
 
 pub returns-clause-others : goal.returns-clause-others
 returns-clause-others g c tells =
     let S = g.S.Shelf in
     let t = c.args.topology.now in
-    let plan = c.in-Ok-new.plan in
+    let plan = c.in_ok-plan.plan in
     let before = S.file c.args.shelf.now in
     let read = S.file c.read_captures.new.shelf in
     let after = S.file c.play.new.shelf in
     let i : Input = input_of t before in
-    only_by i plan t.prefix (c.in-Ok-new.ensures.prefix ∙ c.as_str.ensures) c.in-Ok-new.ensures.tree before after
-    (subst (λ (f : Files). OnlyPlanned plan f after) (files_same before read c.in-Ok.ensures.files) (c.play.ensures.others tells))
+    only_by i plan t.prefix (c.in_ok-plan.ensures.prefix ∙ c.as_str.ensures) c.in_ok-plan.ensures.tree before after
+    (subst (λ (f : Files). OnlyPlanned plan f after) (files_same before read c.in_ok-captures.ensures.files) (c.play.ensures.only.others tells))
 
-pub returns-in-Err-clause-opened : goal.returns-in-Err-clause-opened
-returns-in-Err-clause-opened g c = λ nw nm. subst (λ (names : List Named). Opens (ReadsCapture names) (g.S.Shelf.ids c.args.shelf.now) (g.S.Shelf.ids c.read_captures.new.shelf)) c.as_slice.ensures c.in-Err.ensures.opened
+pub returns-in_err-captures-clause-opened : goal.returns-in_err-captures-clause-opened
+returns-in_err-captures-clause-opened g c =
+    let p = err_from_is_err_and c.from_residual.result c.from_residual.ensures.1 in
+    rw p.1 (λ nw nm. subst (λ (names : List Named). Opens (ReadsCapture names) (g.S.Shelf.ids c.args.shelf.now) (g.S.Shelf.ids c.read_captures.new.shelf)) c.as_slice.ensures c.in_err-captures.ensures.opened)
 
 pub returns-clause-opened : goal.returns-clause-opened
 returns-clause-opened g c = early_by c.play.result _ c.play.ensures.causes
+
+pub returns-in_err-captures-clause-causes : goal.returns-in_err-captures-clause-causes
+returns-in_err-captures-clause-causes g c =
+    let p = err_from_is_err_and c.from_residual.result c.from_residual.ensures.1 in
+    rw (p.1, p.2) (capture_plays c.in_err-captures.field-0.0 c.in_err-captures.ensures.causes)
+
+pub returns-clause-causes : goal.returns-clause-causes
+returns-clause-causes g c = writing_plays c.play.result c.play.ensures.causes
+
+-- ---- what is opened
+pub returns-in_err-captures-clause-played : goal.returns-in_err-captures-clause-played
+returns-in_err-captures-clause-played g c tells =
+    opens_weaker _ _ _ _ (λ i reads. inl reads)
+    (subst (λ (names : List Named). Opens (ReadsCapture names) (g.S.Shelf.ids c.args.shelf.now) (g.S.Shelf.ids c.read_captures.new.shelf)) c.as_slice.ensures c.in_err-captures.ensures.opened)
+
+pub returns-in_err-plan-clause-played : goal.returns-in_err-plan-clause-played
+returns-in_err-plan-clause-played g c tells =
+    opens_weaker _ _ _ _ (λ i reads. inl reads)
+    (subst (λ (names : List Named). Opens (ReadsCapture names) (g.S.Shelf.ids c.args.shelf.now) (g.S.Shelf.ids c.read_captures.new.shelf)) c.as_slice.ensures c.in_ok-captures.ensures.opened)
+
+pub returns-clause-played : goal.returns-clause-played
+returns-clause-played g c tells =
+    let S = g.S.Shelf in
+    let t = c.args.topology.now in
+    let f = S.file c.args.shelf.now in
+    opened_for c.in_ok-plan.plan t f _ _ _ (c.in_ok-plan.ensures.prefix ∙ c.as_str.ensures) c.in_ok-plan.ensures.tree
+    (subst (λ (names : List Named). AreGood names f) c.as_slice.ensures (c.in_ok-captures.ensures.good tells))
+    (subst (λ (names : List Named). Opens (ReadsCapture names) (S.ids c.args.shelf.now) (S.ids c.read_captures.new.shelf)) c.as_slice.ensures c.in_ok-captures.ensures.opened)
+    c.play.ensures.only.opened

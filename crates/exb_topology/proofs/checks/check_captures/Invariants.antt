@@ -3,4 +3,4 @@ use Rattle.exb_topology.proofs.Checking.{So}
 use Rattle.exb_topology.proofs.checks.check_captures.Given as goal
 
 abbrev pub invariant-loop-capture : goal.invariant-loop-capture
-invariant-loop-capture l = So (capture_ok l.ports) l.captures l.capture-index
+invariant-loop-capture l = So (capture_ok l.tree) l.captures l.capture-index

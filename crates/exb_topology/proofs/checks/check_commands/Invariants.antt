@@ -3,4 +3,4 @@ use Rattle.exb_topology.proofs.Checking.{So}
 use Rattle.exb_topology.proofs.checks.check_commands.Given as goal
 
 abbrev pub invariant-loop-index : goal.invariant-loop-index
-invariant-loop-index l = So (command_ok l.ports) l.commands l.index
+invariant-loop-index l = So (command_ok l.tree) l.commands l.index

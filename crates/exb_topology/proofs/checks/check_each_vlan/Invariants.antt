@@ -3,4 +3,4 @@ use Rattle.exb_topology.proofs.Checking.{So}
 use Rattle.exb_topology.proofs.checks.check_each_vlan.Given as goal
 
 abbrev pub invariant-loop-index : goal.invariant-loop-index
-invariant-loop-index l = So (vlan_ok l.ports) l.vlans l.index
+invariant-loop-index l = So (vlan_ok l.tree) l.vlans l.index

@@ -7,11 +7,11 @@ use Rattle.exb_topology.proofs.checks.check_ports.Goals as goal
 pub returns-in_err-check_port_table : goal.returns-in_err-check_port_table
 returns-in_err-check_port_table c =
     let p = err_from_is_err_and c.from_residual.result c.from_residual.ensures.1 in
-    rw (p.1, p.2) (ends (port_table_ok c.args.ports.now) c.in_err-check_port_table.field-0.0 c.args.tables.now c.loop-index.index c.index-tables-index.result c.loop-index-test.true (sym c.index-tables-index.is) c.in_err-check_port_table.ensures c.loop-index.invariant)
+    rw (p.1, p.2) (ends (port_table_ok c.args.tree.now) c.in_err-check_port_table.field-0.0 c.args.tables.now c.loop-index.index c.index-tables-index.result c.loop-index-test.true (sym c.index-tables-index.is) c.in_err-check_port_table.ensures c.loop-index.invariant)
 
 pub loop-index-preserved : goal.loop-index-preserved
 loop-index-preserved c =
-    goes_on (port_table_ok c.args.ports.now) c.args.tables.now c.loop-index.index c.index-tables-index.result c.loop-index-test.true (sym c.index-tables-index.is) c.in_ok-check_port_table.ensures c.loop-index.invariant
+    goes_on (port_table_ok c.args.tree.now) c.args.tables.now c.loop-index.index c.index-tables-index.result c.loop-index-test.true (sym c.index-tables-index.is) c.in_ok-check_port_table.ensures c.loop-index.invariant
 
 pub returns : goal.returns
-returns c = is_done (port_table_ok c.args.ports.now) c.args.tables.now c.loop-index.index c.loop-index-test.false c.loop-index.invariant
+returns c = is_done (port_table_ok c.args.tree.now) c.args.tables.now c.loop-index.index c.loop-index-test.false c.loop-index.invariant

@@ -3,4 +3,4 @@ use Rattle.exb_topology.proofs.Checking.{So}
 use Rattle.exb_topology.proofs.checks.check_ports.Given as goal
 
 abbrev pub invariant-loop-index : goal.invariant-loop-index
-invariant-loop-index l = So (port_table_ok l.ports) l.tables l.index
+invariant-loop-index l = So (port_table_ok l.tree) l.tables l.index

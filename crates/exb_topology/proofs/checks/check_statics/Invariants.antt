@@ -5,4 +5,4 @@ use Rattle.exb_topology.proofs.Checking.{So}
 use Rattle.exb_topology.proofs.checks.check_statics.Given as goal
 
 abbrev pub invariant-loop-index : goal.invariant-loop-index
-invariant-loop-index l = So (static_ok l.ports) l.statics l.index × Knows l.given (take l.index l.statics)
+invariant-loop-index l = So (static_ok l.tree) l.statics l.index × Knows l.given (take l.index l.statics)

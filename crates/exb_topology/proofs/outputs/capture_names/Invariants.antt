@@ -5,4 +5,4 @@ use Rattle.exb_text.specs.Names.{capture_name}
 use Rattle.exb_topology.proofs.outputs.capture_names.Given as goal
 
 abbrev pub invariant-loop-number : goal.invariant-loop-number
-invariant-loop-number l = l.names ≡ map (capture_name l.prefix) (filter (is_external l.ports) (below l.number))
+invariant-loop-number l = l.names ≡ map (capture_name l.prefix) (filter (is_external l.tree) (below l.number))

@@ -10,7 +10,7 @@ use Rattle.exb_topology.proofs.start.add_statics.Goals as goal
 
 pub loop-entry-preserved : goal.loop-entry-preserved
 loop-entry-preserved c =
-    let t = c.args.ports.now in
+    let t = c.args.tree.now in
     let x = c.entry-item.result in
     let front = map seen c.loop-entry.start in
     let same : port_in c.listed.result ≡ listed t x.ports = same_test (port_in c.listed.result) (listed t x.ports) (λ q. c.listed.ensures q ∙ ap (λ ws. listed t ws q) c.as_slice.ensures) in
@@ -19,4 +19,4 @@ loop-entry-preserved c =
     rw e (each_more (static_start t) front _ c.args.statics.now c.loop-entry.entry-index x c.loop-entry-test.true (sym c.entry-item.is) c.loop-entry.invariant)
 
 pub returns : goal.returns
-returns c = each_done (static_start c.args.ports.now) (map seen c.loop-entry.start) _ c.args.statics.now c.loop-entry.entry-index c.loop-entry-test.false c.loop-entry.invariant
+returns c = each_done (static_start c.args.tree.now) (map seen c.loop-entry.start) _ c.args.statics.now c.loop-entry.entry-index c.loop-entry-test.false c.loop-entry.invariant

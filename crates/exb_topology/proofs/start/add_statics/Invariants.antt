@@ -4,4 +4,4 @@ use Rattle.exb_topology.specs.Topologies.{static_start}
 use Rattle.exb_topology.proofs.start.add_statics.Given as goal
 
 abbrev pub invariant-loop-entry : goal.invariant-loop-entry
-invariant-loop-entry l = map seen l.start ++ map (static_start l.ports) (drop l.entry-index l.statics) ≡ map seen l.initial.start ++ map (static_start l.ports) l.statics
+invariant-loop-entry l = map seen l.start ++ map (static_start l.tree) (drop l.entry-index l.statics) ≡ map seen l.initial.start ++ map (static_start l.tree) l.statics

@@ -9,7 +9,7 @@ use Rattle.exb_topology.proofs.start.add_vlan.Goals as goal
 
 pub loop-number-preserved : goal.loop-number-preserved
 loop-number-preserved c =
-    let t = c.args.ports.now in
+    let t = c.args.tree.now in
     let v = c.args.vlan.now in
     let n = c.loop-number.number in
     let front = map seen c.loop-number.start in

@@ -4,4 +4,4 @@ use Rattle.exb_topology.specs.Topologies.{command_seen}
 use Rattle.exb_topology.proofs.start.commands_of.Given as goal
 
 abbrev pub invariant-loop-command : goal.invariant-loop-command
-invariant-loop-command l = map timed_view l.all ≡ map (command_seen l.ports) (take l.command-index l.commands)
+invariant-loop-command l = map timed_view l.all ≡ map (command_seen l.tree) (take l.command-index l.commands)

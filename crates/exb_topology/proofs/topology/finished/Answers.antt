@@ -9,7 +9,7 @@ use Rattle.exb_topology.proofs.topology.finished.Goals as goal
 pub returns-clause-valid : goal.returns-clause-valid
 returns-clause-valid c =
     let s = c.args.setup in
-    let t = c.args.ports.now in
+    let t = c.args.tree.now in
     let tables = c.args.tables in
     let made : map seen c.in_ok-start.start ≡ flat_map port_start c.as_slice.result.now ++ vlans_start t tables.vlans ++ map (static_start t) c.as_slice-2.result.now = c.in_ok-start.ensures in
     let is = rw (c.as_slice.ensures, c.as_slice-2.ensures) at made in

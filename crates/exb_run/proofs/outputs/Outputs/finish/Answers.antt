@@ -25,8 +25,11 @@ loop-at-preserved g c =
           is_flushed (λ v. v.items) c.args.plan.now orig (S.file c.loop-at.shelf) (S.file c.flush.new.shelf) pieces text c.loop-at.at c.index_mut.result.now
           c.flush.new.piece _ (c.output_names_differ.ensures c.args.plan.now) lt before.ready.pieces c.index_mut.ensures.value named
           (before.texts t orig text p) (c.in_ok-flush.ensures.written t) c.in_ok-flush.ensures.empty;
-      others = λ t m away. c.in_ok-flush.ensures.others t m (λ e. away c.loop-at.at lt (e ∙ named)) ∙ before.others t m away;
-      faults = search (arith, c.in_ok-flush.ensures.faults, before.faults);
+      only = record {
+        others = λ t m away. c.in_ok-flush.ensures.others t m (λ e. away c.loop-at.at lt (e ∙ named)) ∙ before.only.others t m away;
+        kept = λ j. c.in_ok-flush.ensures.kept j ∙ before.only.kept j;
+      };
+      faults = search (arith, c.in_ok-flush.ensures.faults.none_fell, before.faults);
     }
 
 pub returns-clause-texts : goal.returns-clause-texts

@@ -1,7 +1,7 @@
 use Rattle.std.proofs.Common.{◌≡◌, ◌<◌, ℕ, List, [], slice_index_or}
 use Rattle.exb_shelf.specs.Files.{Files}
 use Rattle.exb_shelf.specs.Shelf.{NoFewer}
-use Rattle.exb_run.specs.Outputs.{OnlyPlanned}
+use Rattle.exb_run.specs.Shelving.{OnlyWrites}
 use Rattle.exb_run.specs.Writing.{pieces_of, HasTexts, IsReady}
 use Rattle.exb_run.proofs.outputs.Outputs.finish.Given as goal
 
@@ -13,6 +13,6 @@ invariant-loop-at g l =
       empty : (j : ℕ) → j < l.at → slice_index_or (pieces_of l.self) j [] ≡ [];
       texts : S.tells → (orig : Files) (text : ℕ → List ℕ) → HasTexts l.plan (pieces_of l.fn.self) orig (S.file l.fn.shelf) text
           → HasTexts l.plan (pieces_of l.self) orig (S.file l.shelf) text;
-      others : S.tells → OnlyPlanned l.plan (S.file l.fn.shelf) (S.file l.shelf);
+      only : OnlyWrites S.tells l.plan (S.file l.fn.shelf) (S.file l.shelf) (S.ids l.fn.shelf) (S.ids l.shelf);
       faults : NoFewer (S.faults l.fn.shelf) (S.faults l.shelf);
     }

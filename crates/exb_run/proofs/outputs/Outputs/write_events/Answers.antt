@@ -2,6 +2,7 @@ use Rattle.std.proofs.Common.{rules, ◌<◌, ◌∙◌, take, length, refl, ari
 use Rattle.exb_run.specs.Plans.{port_count}
 use Rattle.exb_run.specs.Writing.{pieces_of, with_more, lines_of}
 use Rattle.exb_run.proofs.OutputLemmas.{no_lines, more_lines}
+use Rattle.exb_run.proofs.ShelvingLemmas.{writes_none, writes_then}
 use Rattle.exb_run.proofs.outputs.Outputs.write_events.Goals as goal
 
 pub loop-event-init : goal.loop-event-init
@@ -10,7 +11,7 @@ loop-event-init g c =
     record {
       ready = c.requires.ready;
       texts = λ t orig text p. no_lines c.args.plan.now orig file (pieces_of c.args.self.now) text p;
-      others = λ t m away. refl;
+      only = writes_none _ _ _ _;
       faults = search rules;
     }
 
@@ -26,6 +27,9 @@ loop-event-preserved g c =
           more_lines c.args.plan.now orig (g.S.Shelf.file c.add_event.new.shelf) (pieces_of c.add_event.new.self) text events c.loop-event.event-index c.event-item.result
           inside c.event-item.is
           (added.texts t orig (with_more text (port_count c.args.plan.now) (lines_of (take c.loop-event.event-index events))) (before.texts t orig text p));
-      others = λ t m away. added.others t m away ∙ before.others t m away;
-      faults = search (arith, added.faults, before.faults);
+      only = writes_then _ _ _ _ _ _ _ _ before.only added.only;
+      faults = search (arith, added.faults.none_fell, before.faults);
     }
+
+pub returns-in_err-add_event-clause-only : goal.returns-in_err-add_event-clause-only
+returns-in_err-add_event-clause-only g c = writes_then _ _ _ _ _ _ _ _ c.loop-event.invariant.only c.in_err-add_event.ensures.only

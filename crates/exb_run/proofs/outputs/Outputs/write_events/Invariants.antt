@@ -2,7 +2,7 @@ use Rattle.std.proofs.Common.{ℕ, List, take}
 use Rattle.exb_shelf.specs.Files.{Files}
 use Rattle.exb_shelf.specs.Shelf.{NoFewer}
 use Rattle.exb_run.specs.Plans.{port_count}
-use Rattle.exb_run.specs.Outputs.{OnlyPlanned}
+use Rattle.exb_run.specs.Shelving.{OnlyWrites}
 use Rattle.exb_run.specs.Writing.{pieces_of, HasTexts, IsReady, with_more, lines_of}
 use Rattle.exb_run.proofs.outputs.Outputs.write_events.Given as goal
 
@@ -13,6 +13,6 @@ invariant-loop-event g l =
       ready : IsReady l.plan (S.ids l.shelf) l.self;
       texts : S.tells → (orig : Files) (text : ℕ → List ℕ) → HasTexts l.plan (pieces_of l.fn.self) orig (S.file l.fn.shelf) text
           → HasTexts l.plan (pieces_of l.self) orig (S.file l.shelf) (with_more text (port_count l.plan) (lines_of (take l.event-index l.events)));
-      others : S.tells → OnlyPlanned l.plan (S.file l.fn.shelf) (S.file l.shelf);
+      only : OnlyWrites S.tells l.plan (S.file l.fn.shelf) (S.file l.shelf) (S.ids l.fn.shelf) (S.ids l.shelf);
       faults : NoFewer (S.faults l.fn.shelf) (S.faults l.shelf);
     }

@@ -1,6 +1,7 @@
 use Rattle.std.proofs.Common.{rules, ◌<◌, ◌∙◌, take, length, refl, arith}
 use Rattle.exb_run.specs.Writing.{pieces_of, with_left_frames, CanBeWritten}
 use Rattle.exb_run.proofs.OutputLemmas.{no_frames, more_frames}
+use Rattle.exb_run.proofs.ShelvingLemmas.{writes_none, writes_then}
 use Rattle.exb_run.proofs.outputs.Outputs.write_left.Goals as goal
 
 pub loop-frame-init : goal.loop-frame-init
@@ -9,7 +10,7 @@ loop-frame-init g c =
     record {
       ready = c.requires.ready;
       texts = λ t orig text p. no_frames c.args.plan.now orig file (pieces_of c.args.self.now) text p;
-      others = λ t m away. refl;
+      only = writes_none _ _ _ _;
       faults = search rules;
     }
 
@@ -26,6 +27,9 @@ loop-frame-preserved g c =
           more_frames c.args.plan.now orig (g.S.Shelf.file c.add_left.new.shelf) (pieces_of c.add_left.new.self) text left c.loop-frame.frame-index c.frame-item.result
           inside c.frame-item.is can
           (added.texts t orig (with_left_frames c.args.plan.now text (take c.loop-frame.frame-index left)) (before.texts t orig text p));
-      others = λ t m away. added.others t m away ∙ before.others t m away;
-      faults = search (arith, added.faults, before.faults);
+      only = writes_then _ _ _ _ _ _ _ _ before.only added.only;
+      faults = search (arith, added.faults.none_fell, before.faults);
     }
+
+pub returns-in_err-add_left-clause-only : goal.returns-in_err-add_left-clause-only
+returns-in_err-add_left-clause-only g c = writes_then _ _ _ _ _ _ _ _ c.loop-frame.invariant.only c.in_err-add_left.ensures.only

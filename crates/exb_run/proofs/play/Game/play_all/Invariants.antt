@@ -7,7 +7,7 @@ use Rattle.exb_shelf.specs.Shelf.{NoFewer}
 use Rattle.exb_text.specs.Tallies.{counts_of}
 use Rattle.exb_world.specs.Worlds.{state_of}
 use Rattle.exb_run.specs.Playing.{played, IsAtRest, IsCounted, IsWritten, CanCome}
-use Rattle.exb_run.specs.Outputs.{OnlyPlanned}
+use Rattle.exb_run.specs.Shelving.{OnlyWrites}
 use Rattle.exb_run.specs.Writing.{IsReady}
 use Rattle.exb_run.proofs.Reaching.{Reaches}
 use Rattle.exb_run.proofs.play.Game.play_all.Given as goal
@@ -24,7 +24,7 @@ invariant-records g l =
       goes_on : S.tells → (i : Input) (h : History) (orig : Files) → l.plan.tree ≡ tree_of i →
           IsWritten i h l.plan orig (S.file l.fn.shelf) (state_of l.fn.self.world) (counts_of l.fn.self.tally) l.fn.self.outputs →
           Reaches i h (to_come l.fn.captures) l.last (to_come l.captures) l.plan orig (S.file l.shelf) (state_of l.self.world) (counts_of l.self.tally) l.self.outputs;
-      others : S.tells → OnlyPlanned l.plan (S.file l.fn.shelf) (S.file l.shelf);
+      only : OnlyWrites S.tells l.plan (S.file l.fn.shelf) (S.file l.shelf) (S.ids l.fn.shelf) (S.ids l.shelf);
       faults : NoFewer (S.faults l.fn.shelf) (S.faults l.shelf);
     }
 

@@ -1,7 +1,7 @@
 use Rattle.std.proofs.Common.{◌∙◌, ◌||◌, ◌&&◌, ◌==◌, ◌/◌, ap, arith}
 use Rattle.exb_model.specs.Ports.{port_in}
 use Rattle.exb_topology.proofs.Sets.{devices_more, devices_all}
-use Rattle.exb_topology.proofs.tree_ports.add_all.Goals as goal
+use Rattle.exb_topology.proofs.words.add_all.Goals as goal
 
 pub loop-device-preserved : goal.loop-device-preserved
 loop-device-preserved c q =

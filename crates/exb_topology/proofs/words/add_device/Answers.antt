@@ -1,6 +1,6 @@
 use Rattle.std.proofs.Common.{length-set, ◌∙◌, arith}
 use Rattle.exb_topology.proofs.Sets.{has_device, fits_device}
-use Rattle.exb_topology.proofs.tree_ports.add_device.Goals as goal
+use Rattle.exb_topology.proofs.words.add_device.Goals as goal
 
 pub invariant_of-set : goal.invariant_of-set
 invariant_of-set c = record {

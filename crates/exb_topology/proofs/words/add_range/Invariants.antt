@@ -1,6 +1,6 @@
 use Rattle.std.proofs.Common.{◌≡◌, ◌⊎◌, ℕ, ◌+◌, ◌≤◌, ◌&&◌, ◌||◌, nat_le, nat_lt}
 use Rattle.exb_model.specs.Ports.{port_in}
-use Rattle.exb_topology.proofs.tree_ports.add_range.Given as goal
+use Rattle.exb_topology.proofs.words.add_range.Given as goal
 
 abbrev pub invariant-loop-number : goal.invariant-loop-number
 invariant-loop-number l = record {

@@ -2,7 +2,7 @@ use Rattle.std.proofs.Common.{◌≡◌, ◌∙◌, sym, arith, ◌-◌, ◌+◌
 use Rattle.exb_model.specs.Ports.{port_in}
 use Rattle.exb_topology.specs.Checks.{all_from}
 use Rattle.exb_topology.proofs.Sets.{all_more, all_fails, all_end}
-use Rattle.exb_topology.proofs.tree_ports.has_range.Goals as goal
+use Rattle.exb_topology.proofs.words.has_range.Goals as goal
 
 pub returns-then-not-contains : goal.returns-then-not-contains
 returns-then-not-contains c =

@@ -1,8 +1,8 @@
 use Rattle.std.proofs.Common.{◌≡◌, ◌∙◌, ◌+◌, ◌≤◌, ◌==◌, ◌||◌, true, false, ap, inl, inr, arith, sym}
 use Rattle.exb_model.specs.Ports.{port_in}
 use Rattle.exb_topology.proofs.Sets.{range_all, range_none, within_yes, within_no}
-use Rattle.exb_topology.proofs.tree_ports.add_range.Goals as goal
-use Rattle.exb_topology.proofs.tree_ports.add_range.Goals.{then-contains, else-contains}
+use Rattle.exb_topology.proofs.words.add_range.Goals as goal
+use Rattle.exb_topology.proofs.words.add_range.Goals.{then-contains, else-contains}
 use Rattle.exb_model.specs.declared.port_set.PortSet.{PortSet}
 
 pub loop-number-preserved : goal.loop-number-preserved

@@ -1,0 +1,10 @@
+use Rattle.std.proofs.Common.{rules}
+use Rattle.exb_shelf.proofs.IdLemmas.{opens_one, opens_same}
+use Rattle.exb_run.proofs.outputs.create_one.Goals as goal
+
+pub returns-in_err-id-clause-opened : goal.returns-in_err-id-clause-opened
+returns-in_err-id-clause-opened g c = opens_same _ _ _ c.in_err-id.ensures.none_given
+
+pub returns-then-is_err-clause-opened : goal.returns-then-is_err-clause-opened
+returns-then-is_err-clause-opened g c =
+    opens_one _ _ _ c.in_ok-id.id c.in_ok-id.ensures.others c.in_ok-id.ensures.kept (record { at = c.args.at; within = c.requires.within; writes = search rules })

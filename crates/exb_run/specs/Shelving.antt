@@ -1,0 +1,35 @@
+-- What calls that read and write say of the shelf: what it counted, what has changed, and what was opened.
+use Rattle.std.specs.Prelude.{◌≡◌, ◌<◌, ◌+◌, ◌⊎◌, ℕ, List, Result, Err, IsErrOf}
+use Rattle.exb_shelf.specs.Files.{Files}
+use Rattle.exb_shelf.specs.Shelf.{Id, Faults, Rose, NoFewer, Opens, writing}
+use Rattle.exb_run.specs.declared.fault.Fault.{Fault}
+use Rattle.exb_run.specs.declared.fault.Fault.TheVariants.{Missing, Read, Write, Memory}
+use Rattle.exb_run.specs.Plans.{Planned, port_count}
+use Rattle.exb_run.specs.Outputs.{output_name, OnlyPlanned}
+
+-- no count has fallen, and a fault of the shelf came only where its count rose
+pub record CountsFaults {X : Type 0} (result : Result X Fault) (old new : Faults) : Type 0 where
+  pub none_fell : NoFewer old new
+  pub missing : (name : List ℕ) → result ≡ Err (Missing name) → Rose old.missing new.missing
+  pub read : IsErrOf result Read → Rose old.reads new.reads
+  pub write : IsErrOf result Write → Rose old.writes new.writes
+
+-- a fault that can come while outputs are made and written
+abbrev pub IsOfWriting : Fault → Type 0
+IsOfWriting fault = (fault ≡ Write) ⊎ (fault ≡ Memory)
+
+-- an id to write an output of a plan
+pub record WritesPlanned (plan : Planned) (i : Id) : Type 0 where
+  pub at : ℕ
+  pub within : at < port_count plan + 1
+  pub writes : i ≡ writing (output_name plan at)
+
+-- no file but the outputs of a plan has changed, and none was opened
+pub record OnlyWrites (tells : Type 0) (plan : Planned) (old new : Files) (given ids : ℕ → Id) : Type 0 where
+  pub others : tells → OnlyPlanned plan old new
+  pub kept : (j : ℕ) → ids j ≡ given j
+
+-- the same, where outputs of the plan may have been made
+pub record OnlyMakes (tells : Type 0) (plan : Planned) (old new : Files) (given ids : ℕ → Id) : Type 0 where
+  pub others : tells → OnlyPlanned plan old new
+  pub opened : Opens (WritesPlanned plan) given ids
