@@ -38,3 +38,4 @@ pub mod LaidMidway
 pub mod Carried
 pub mod Knowing
 pub mod Opened
+pub mod Turns
