@@ -76,3 +76,5 @@ mod GoingSteps
 -- the laws
 mod Windows
 mod Orderly
+pub mod Reached
+pub mod OrderShown

@@ -1,5 +1,5 @@
 //! What is true of rounds and of settling.
-ghost use Rattle.exb_resting.specs.Laws.{SetupsHaveFacts, SettlingEnds, RoundsSpend, RoundsPlanNothing, RoundsDeliver, WindowsGetOn, OrderKeepsFacts, SetupsBeginGoing};
+ghost use Rattle.exb_resting.specs.Laws.{SetupsHaveFacts, SettlingEnds, RoundsSpend, RoundsPlanNothing, RoundsDeliver, WindowsGetOn, OrderKeepsFacts, TurnsAreOrderly, SetupsBeginGoing};
 
 use exb_frame::laws::tag_round_trip;
 
@@ -54,3 +54,9 @@ pub fn order_keeps_facts()
 {
     tag_round_trip();
 }
+
+/// What is left to be shown holds of each sound world in which extenders are asked in their turn: that an extender that wasn't
+/// heard was asked nothing, that its first request is Open, and that whoever is waited for is reached.
+pub fn turns_are_orderly()
+    ensures { TurnsAreOrderly }
+{}
