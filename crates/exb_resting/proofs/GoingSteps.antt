@@ -66,7 +66,7 @@ has_bytes _ (loses n way k) = tt
 
 module _ (t : Shape) (l : Limits) (tree : IsTree t) (setting : IsSetting t l) (round : TagRoundTrip) where
   -- ---- the sessions
-  sound_step : (step : Step) (w : World) → HasBytes step → Can t w step → IsGoing t l w → IsOrderly t w → IsOrderly t (stepped t l step w).world → IsSound t l (stepped t l step w).world
+  pub sound_step : (step : Step) (w : World) → HasBytes step → Can t w step → IsGoing t l w → IsOrderly t w → IsOrderly t (stepped t l step w).world → IsSound t l (stepped t l step w).world
   sound_step step w has can k o after =
       sound_after t l tree setting round (ordered_by step) w (stepped t l step w).world (stepped t l step w).events k.sound
       (steps_stay_sound round t l setting w step k.sound (record { can = can; has = has; bytes = o.bytes; low = low_of w.control.askers o.room; after = low_of (stepped t l step w).world.control.askers after.room }))

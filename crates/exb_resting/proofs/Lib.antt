@@ -78,3 +78,6 @@ mod Windows
 mod Orderly
 pub mod Reached
 pub mod OrderShown
+pub mod OtherSteps
+pub mod SerialsRise
+pub mod Settles

@@ -1,7 +1,12 @@
 //! What is true of rounds and of settling.
 ghost use Rattle.exb_resting.specs.Laws.{SetupsHaveFacts, SettlingEnds, RoundsSpend, RoundsPlanNothing, RoundsDeliver, WindowsGetOn, OrderKeepsFacts, TurnsAreOrderly, SetupsBeginGoing};
 
+ghost use Rattle.exb_resting.specs.Settles.{RunsAreReady, RunsStayLow, Settles};
+
+use exb_change_laws::laws::steps_tell;
 use exb_frame::laws::tag_round_trip;
+use exb_machine_laws::laws::steps_stay_written;
+use exb_relay::laws::{sends_are_words, sends_leave_as_flat};
 
 /// The world of each valid setup has the facts that the other laws ask of each world that rounds reach.
 pub fn setups_have_facts()
@@ -60,3 +65,38 @@ pub fn order_keeps_facts()
 pub fn turns_are_orderly()
     ensures { TurnsAreOrderly }
 {}
+
+/// Every world that a run of a valid setup reaches, whatever arrives, is ordered, lost, repeated or overtaken, keeps the facts
+/// that the bound on settling asks, and each serial is below 2 to the power of 38.
+pub fn runs_are_ready()
+    ensures { RunsAreReady }
+{
+    tag_round_trip();
+    sends_are_words();
+    sends_leave_as_flat();
+    steps_tell();
+    steps_stay_written();
+}
+
+/// So that serials fit their field is no premise of a run.
+pub fn runs_stay_low()
+    ensures { RunsStayLow }
+{
+    tag_round_trip();
+    sends_are_words();
+    sends_leave_as_flat();
+    steps_tell();
+    steps_stay_written();
+}
+
+/// From every world that a run of a valid setup reaches settling ends settled, whatever the verdicts are, of which at most b
+/// aren't Pass: within 64 rounds for each of them, for each exchange that is planned, and for one more.
+pub fn settles()
+    ensures { Settles }
+{
+    tag_round_trip();
+    sends_are_words();
+    sends_leave_as_flat();
+    steps_tell();
+    steps_stay_written();
+}
