@@ -1,20 +1,20 @@
 -- All that is asked for a job goes to extenders that are opened after it, and isn't much.
-use Rattle.std.proofs.Common.{◌≡◌, ◌≢◌, ◌⊎◌, ℕ, ◌+◌, ◌*◌, ◌<◌, ◌≤◌, ◌==◌, ◌&&◌, Bool, true, false, not, nat_lt, List, [], ◌∷◌, ◌++◌, Option, Some, None, length, map, filter, refl, sym, ◌∙◌, ap, subst, arith, inl, inr}
+use Rattle.std.proofs.Common.{◌≡◌, ◌≢◌, ◌⊎◌, ℕ, ◌*◌, ◌<◌, ◌≤◌, ◌==◌, ◌&&◌, Bool, true, false, not, nat_lt, List, [], ◌∷◌, ◌++◌, Option, Some, None, map, filter, refl, sym, ◌∙◌, ap, subst, arith, inl, inr}
 use Rattle.std.specs.List.{flat_map, filter_map, list_any, range_with_len}
 use Rattle.std.proofs.lemmas.Bool.{cases_Bool, and_parts, ltb-true, eqb-true, or_right, eqb-false}
 use Rattle.std.proofs.lemmas.List.Concat.{flat_map-cons}
 use Rattle.exb_model.specs.Tree.{Shape, IsTree, device, on, is_port, is_cascade, is_extender, is_extended, by_depth}
-use Rattle.exb_model.specs.TreeSets.{covers, mask_of}
+use Rattle.exb_model.specs.TreeSets.{mask_of}
 use Rattle.exb_model.specs.Setup.{Limits}
 use Rattle.exb_model.specs.Configuration.{Bridge}
-use Rattle.exb_model.proofs.TreeWays.{among, path_is, covers-true}
+use Rattle.exb_model.proofs.TreeWays.{path_is, covers-true}
 use Rattle.exb_csp.specs.declared.group_rows.GroupRow.{GroupRow}
 use Rattle.exb_csp.specs.declared.ask_at.AskAt.{AskAt}
 use Rattle.exb_csp.specs.AllTables.{port_of}
 use Rattle.exb_plans.specs.declared.row.Row.{Row}
 use Rattle.exb_plans.specs.declared.step.Step.{Step}
 use Rattle.exb_plans.specs.declared.step.Step.TheVariants.{Lay, Clear}
-use Rattle.exb_plans.specs.Asks.{ask, is_listed, message, row_at, rows_at, asks_with, in_messages, pieces, group_asks, channel_rows, channel_ask, channel_asks, create_asks, delete_asks}
+use Rattle.exb_plans.specs.Asks.{ask, is_listed, message, rows_at, asks_with, in_messages, pieces, group_asks, channel_rows, channel_ask, channel_asks, create_asks, delete_asks}
 use Rattle.exb_plans.specs.Between.{goes_up, goes_down, is_gone, fresh_sets, gone_groups}
 use Rattle.exb_plans.specs.Held.{Held, Group, HoldsNeeded, group_used, group_for, give, numbered}
 use Rattle.exb_plans.specs.Plans.{new_channel, own_channel, with_up, up_asks, down_asks, fresh_groups, prepare_of, cleanup_of}
@@ -27,16 +27,24 @@ use Rattle.exb_plans.proofs.Lengths.{flat_at_most, few_range}
 use Rattle.exb_plans.proofs.Trunks.{under_extended, extended_high}
 use Rattle.exb_changing.specs.Deciding.{cascades_of, channel_of, opening_asks}
 use Rattle.exb_changing.specs.Planned.{IsPlanned}
-use Rattle.exb_changing.proofs.Known.{order_here}
 use Rattle.exb_changing.proofs.Short.{channel_few, changes_are_short}
 use Rattle.exb_change_laws.specs.Requests.{AreOpened}
 use Rattle.exb_change_laws.specs.Standing.{most_asks, GoTo, AreFew}
 use Rattle.exb_change_laws.proofs.Members.{LiesBelow, sets_lie, set_lies}
 use Rattle.exb_change_laws.proofs.Openings.{IsCascadeOf, cascades_are}
+use Rattle.exb_change_laws.proofs.Queue.{AreOrdered, by_depth_ordered, extender_is}
 use Rattle.exb_change_laws.proofs.Reach.{mask_some, opened_along}
 
 abbrev IsHere : Shape → ℕ → Type 0
 IsHere t n = is_extender t n ≡ true
+
+all_here : (t : Shape) (ns : List ℕ) → AreOrdered t ns → Each (IsHere t) ns
+unfolding AreOrdered
+all_here t [] o = tt
+all_here t (n ∷ ns) o = (extender_is t n o.0, all_here t ns o.3)
+
+order_here : (t : Shape) → Each (IsHere t) (by_depth t)
+order_here t = all_here t (by_depth t) (by_depth_ordered t)
 
 -- ---- lists of requests
 go_append : (opened : ℕ → Bool) (xs ys : List AskAt) → GoTo opened xs → GoTo opened ys → GoTo opened (xs ++ ys)

@@ -2,8 +2,6 @@
 use Rattle.std.proofs.Common.{◌≡◌, ◌≢◌, ◌⊎◌, ℕ, suc, ◌+◌, ◌*◌, ◌<◌, ◌≤◌, ◌==◌, ◌||◌, ◌++◌, not, Bool, true, false, List, [], ◌∷◌, length, length-append, Option, Some, None, refl, sym, ◌∙◌, ap, subst, arith, inl, inr, eq-eqb}
 use Rattle.std.specs.Prelude.{flat_map}
 use Rattle.std.proofs.lemmas.Bool.{cases_Bool, cases_eq, or_parts, or_cases, or_right, ne_eqb, eqb-true, false≢true}
-use Rattle.exb_model.specs.declared.event.Cause.{Cause}
-use Rattle.exb_model.specs.Configuration.{Bridge}
 use Rattle.exb_model.specs.Setup.{Limits}
 use Rattle.exb_model.specs.Tree.{Shape, is_extender, by_depth}
 use Rattle.exb_csp.specs.declared.ask_at.AskAt.{AskAt}
@@ -16,7 +14,6 @@ use Rattle.exb_session.specs.declared.asker.Taken.TheVariants as taken
 use Rattle.exb_session.specs.Asking.{AskerState, took, beaten}
 use Rattle.exb_plans.specs.Asks.{ask}
 use Rattle.exb_plans.proofs.Bools.{is_not}
-use Rattle.exb_plans.specs.Held.{Held}
 use Rattle.exb_plans.specs.declared.change.Change.{Change}
 use Rattle.exb_changing.specs.declared.asked.Asked.{Asked}
 use Rattle.exb_changing.specs.declared.job.Job.{Job}
@@ -24,20 +21,19 @@ use Rattle.exb_changing.specs.declared.job.Job.TheVariants as job
 use Rattle.exb_changing.specs.declared.job.Phase.{Phase}
 use Rattle.exb_changing.specs.declared.job.Phase.TheVariants.{Preparing, Cleaning}
 use Rattle.exb_changing.specs.Beginning.{jobs_of, first_jobs}
-use Rattle.exb_changing.specs.Deciding.{Outcome, Refused, Ready, decide, bridge_after, release, opening_asks}
+use Rattle.exb_changing.specs.Deciding.{Outcome, Refused, Ready, decide, bridge_after, opening_asks}
 use Rattle.exb_changing.specs.Machine.{Work, State, Moved, still, works, ends, cleans, prepares, starts, waits, after_start, goes_on, wakes_by, answered, answered_by, answered_in, answered_where, with_asker, beats_in}
 use Rattle.exb_changing.proofs.FirstJobs.{few_first}
 use Rattle.exb_csp.specs.Execute.{ExtenderTables}
 use Rattle.exb_change_laws.specs.Opening.{Awaits, asks_for, left_in, left_of, InTurn, BeginsInTurn, StepsKeepTurns, SerialsStayLow}
-use Rattle.exb_change_laws.specs.Planned.{IsSetting, planning}
-use Rattle.exb_change_laws.specs.Standing.{most_asks, AreFew, opened_by, opens, AllFit, FitsBefore, Rests, Works, StandsBy, Stands, waited_for, OneWaits, MayStep}
-use Rattle.exb_change_laws.specs.Systems.{System, Step, Order, Hear, Execute, Answer, Stray, Beat, answer_message, takes_answer, stepped}
+use Rattle.exb_change_laws.specs.Planned.{planning}
+use Rattle.exb_change_laws.specs.Standing.{most_asks, AreFew, opened_by, opens, AllFit, FitsBefore, StandsBy, Stands, waited_for, OneWaits}
+use Rattle.exb_change_laws.specs.Systems.{Order, Hear, Execute, Answer, Stray, Beat, answer_message, takes_answer, stepped}
 use Rattle.exb_change_laws.proofs.Beginning.{none_opened}
 use Rattle.exb_change_laws.proofs.Machine.{opened_more, fits_more}
 use Rattle.exb_change_laws.proofs.Plans.{planned_steps_stand}
-use Rattle.exb_change_laws.proofs.Serials.{one_if, AsksBy, AsksIn, works_ask, goes_on_asks, took_is, taken_cases, not_taken, others_free, with_serial}
+use Rattle.exb_change_laws.proofs.Serials.{one_if, AsksBy, works_ask, goes_on_asks, took_is, taken_cases, not_taken, with_serial}
 use Rattle.exb_change_laws.proofs.Taking.{beat_waits, beat_serial, same_asker}
-use Rattle.exb_change_laws.proofs.Waiting.{NoneWaits, answered_waits}
 
 -- ---- how much jobs ask
 asks_more : (n : ℕ) → asks_for (suc n) ≡ most_asks + most_asks + asks_for n
@@ -454,7 +450,7 @@ steps_keep_turns t l setting y (Order c) stands may k =
     (well_of t _ _ _ y.tables y.answer next.stands)
     (subst (λ (o : ℕ → Bool). AreTurns o y.state.heard y.state.askers) (sym same) (turns_of t l y.state k)) k.first
     (λ n. subst (λ (count : ℕ). (y.state.askers n).serial + left_of y.state.work + asks_for count ≤ asks_for (4160 + (y.state.given + 1))) (sym longer)
-        (ordered_few (left_of y.state.work) (length y.state.queue) y.state.given (y.state.askers n).serial (k.few n)))
+    (ordered_few (left_of y.state.work) (length y.state.queue) y.state.given (y.state.askers n).serial (k.few n)))
 steps_keep_turns t l setting y (Hear n) stands may k =
     let next : Stands (planning t) (stepped (decide t l) y (Hear n)) = (planned_steps_stand t l setting y (Hear n) stands may).0 in
     let s : State = record y.state { heard = λ m. m == n || y.state.heard m } in

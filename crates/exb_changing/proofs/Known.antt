@@ -35,7 +35,7 @@ each_index : (P : ℕ → Type 0) (xs : List ℕ) → ((i : ℕ) → i < length 
 each_index P [] f = tt
 each_index P (x ∷ xs) f = (f 0 (omega arith), each_index P xs (λ i l. f (suc i) (omega (arith, l))))
 
-pub order_here : (t : Shape) → Each (IsHere t) (by_depth t)
+order_here : (t : Shape) → Each (IsHere t) (by_depth t)
 order_here t = each_index (IsHere t) (by_depth t) (λ i l. let h = by_depth-hangs t i l in and_from (nat_lt 0 (slice_index (by_depth t) i)) _ (lt-ltb 0 _ h.extender) (lt-ltb 0 _ h.there))
 
 -- ---- lists of requests

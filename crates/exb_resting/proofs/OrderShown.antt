@@ -1,15 +1,14 @@
--- In a sound world in which extenders are asked in their turn, all that the bound on settling asks of the plans of changes holds.
-use Rattle.std.proofs.Common.{◌≡◌, ℕ, ◌+◌, ◌<◌, ◌≤◌, ◌^◌, ◌&&◌, not, Bool, true, false, List, [], ◌∷◌, Option, Some, None, refl, sym, ◌∙◌, ap, subst, inl, inr, arith}
+-- In a sound world in which extenders are asked in their turn, all that the bound on settling asks of changes and their order holds.
+use Rattle.std.proofs.Common.{◌≡◌, ℕ, ◌≤◌, Bool, true, false, List, [], ◌∷◌, Option, Some, None, refl, sym, ◌∙◌, ap, subst}
 use Rattle.std.proofs.lemmas.Bool.{cases_Bool, false≢true}
 use Rattle.exb_model.specs.Setup.{Limits}
 use Rattle.exb_model.specs.Tree.{Shape, device, on, is_extender}
-use Rattle.exb_csp.specs.declared.message.Request.{Request}
 use Rattle.exb_csp.specs.declared.message.Response.{Response}
 use Rattle.exb_extender.specs.Machine.{is_open}
 use Rattle.exb_changing.specs.declared.job.Job.{Job}
 use Rattle.exb_changing.specs.declared.job.Job.TheVariants as job
 use Rattle.exb_changing.specs.Fitting.{AreFit}
-use Rattle.exb_changing.specs.Machine.{Work, State}
+use Rattle.exb_changing.specs.Machine.{Work}
 use Rattle.exb_change_laws.specs.Opening.{Awaits, InTurn}
 use Rattle.exb_change_laws.specs.Planned.{IsSetting}
 use Rattle.exb_change_laws.specs.Standing.{Rests, StandsBy, opened_by}
@@ -21,7 +20,7 @@ use Rattle.exb_machine_laws.specs.Simulation.{system_of, IsSound}
 use Rattle.exb_machine_laws.proofs.Trees.{above_there}
 use Rattle.exb_resting.specs.Facts.{IsReached, QueueFacts}
 use Rattle.exb_resting.specs.Going.{HasRoom, IsOrderly}
-use Rattle.exb_resting.proofs.Reached.{IsOverLaid, IsOverWork, rest_over, work_over, reached}
+use Rattle.exb_resting.proofs.Reached.{IsOverWork, rest_over, work_over, reached}
 
 module _ (t : Shape) (l : Limits) (setting : IsSetting t l) (w : World) (sound : IsSound t l w) (turn : InTurn t w.control) where
   y : System

@@ -1,6 +1,5 @@
--- A frame that arrives, a command, seconds that pass and a mark keep what is shown of a world, too.
-use Rattle.std.proofs.Common.{◌≡◌, ℕ, ◌+◌, ◌++◌, ◌<◌, ◌≤◌, nat_lt, Bool, true, false, cond, List, [], ◌∷◌, Option, Some, None, refl, ap, sym, ◌∙◌, subst, inl, inr}
-use Rattle.std.proofs.lemmas.Bool.{cases_Bool, cases_lt, lt-ltb, le-ltb}
+-- A frame that arrives, a command, seconds that pass and a mark keep a world going that is orderly before and after.
+use Rattle.std.proofs.Common.{◌≡◌, ℕ, nat_lt, Bool, true, false, cond, List, [], ◌∷◌, Option, Some, refl, sym, ◌∙◌, subst}
 use Rattle.exb_model.specs.declared.command.Command.{Command}
 use Rattle.exb_model.specs.Input.{Arrival}
 use Rattle.exb_model.specs.Setup.{Limits, NamesExternal}
@@ -12,23 +11,19 @@ use Rattle.exb_extender.specs.Forwarding.{Sent, emitted}
 use Rattle.exb_extender.specs.Machine.{ExtenderState, Arrives, react}
 use Rattle.exb_changing.specs.Beginning.{first_held}
 use Rattle.exb_changing.specs.declared.asked.Asked.{Asked}
-use Rattle.exb_changing.specs.declared.job.Job.{Job}
-use Rattle.exb_changing.specs.declared.job.Job.TheVariants as job
 use Rattle.exb_changing.specs.Deciding.{decide}
-use Rattle.exb_changing.specs.Machine.{State, Moved, ordered, wakes}
+use Rattle.exb_changing.specs.Machine.{Moved, ordered}
 use Rattle.exb_change_laws.specs.Planned.{IsSetting}
 use Rattle.exb_link.specs.declared.word.Stamp.{Stamp}
 use Rattle.exb_machine.specs.Allowing.{Can}
-use Rattle.exb_machine.specs.Effects.{Effect}
-use Rattle.exb_machine.specs.Extending.{port_number, does, stamp_of, ignored, does_or_ignores, arrives_at}
+use Rattle.exb_machine.specs.Extending.{port_number, stamp_of, ignored, does_or_ignores, arrives_at}
 use Rattle.exb_machine.specs.Hearing.{moves}
 use Rattle.exb_machine.specs.Relaying.{comes}
 use Rattle.exb_machine.specs.Stepping.{counted, stepped}
-use Rattle.exb_machine.specs.Worlds.{World, Step, Arrive, Tick, Order, Mark, with_far}
+use Rattle.exb_machine.specs.Worlds.{World, Arrive, Tick, Order, Mark, with_far}
 use Rattle.exb_machine_laws.specs.Laws.{HasBytes}
 use Rattle.exb_machine_laws.specs.Sessions.{Each, CanBeSent}
 use Rattle.exb_machine_laws.proofs.Forwarding.{RisesAsData, station_sends}
-use Rattle.exb_machine_laws.proofs.Steps.{home}
 use Rattle.exb_machine_laws.proofs.Words.{at_itself, each_weaker}
 use Rattle.exb_resting.specs.Going.{IsDevice, IsGoing, IsOrderly}
 use Rattle.exb_resting.specs.Left.{NearLeft, FarLeft}
@@ -37,7 +32,7 @@ use Rattle.exb_resting.proofs.AtBridge.{comes_far}
 use Rattle.exb_resting.proofs.ControlBeat.{moves_stays}
 use Rattle.exb_resting.proofs.GoingSteps.{sound_step}
 use Rattle.exb_resting.proofs.Grows.{MaySend, none_grows, does_grows}
-use Rattle.exb_resting.proofs.NearLeft.{NearAllLeft, moved_all, kept_all}
+use Rattle.exb_resting.proofs.NearLeft.{moved_all, kept_all}
 use Rattle.exb_resting.proofs.OneAsked.{ordered_asks, moves_left}
 use Rattle.exb_resting.proofs.PlacedSteps.{grown}
 use Rattle.exb_resting.proofs.Putting.{Puts, IsAskable, GoesWell, comes_puts, moves_puts}
@@ -151,7 +146,7 @@ module _ (t : Shape) (l : Limits) (tree : IsTree t) (setting : IsSetting t l) (r
   unfolding stepped
   mark_rest w k = record { near = k.near; far = k.far; devices = k.devices; placed = k.placed }
 
-  -- Each of them keeps what is shown, where what is left to be shown holds before and after.
+  -- Each of them keeps a world going.
   pub arrival_going : (a : Arrival) (w : World) → HasBytes (Arrive a) → Can t w (Arrive a) → IsGoing t l w → IsOrderly t w → IsOrderly t (stepped t l (Arrive a) w).world → IsGoing t l (stepped t l (Arrive a) w).world
   arrival_going a w has can k o after = going_of _ (sound_step t l tree setting round (Arrive a) w has can k o after) (arrives_rest a w has (rest_of w k))
 

@@ -1,6 +1,6 @@
 -- At every moment the tables of the extenders above an extender whose frames are to go send them on.
-use Rattle.std.proofs.Common.{◌≡◌, ◌≢◌, ◌⊎◌, inl, inr, ℕ, zero, suc, ◌+◌, ◌%◌, ◌<◌, ◌≤◌, ◌==◌, ◌&&◌, ◌||◌, not, nat_lt, nat_le, Bool, true, false, cond, List, [], ◌∷◌, Option, Some, None, slice_index, refl, ap, sym, ◌∙◌, subst, arith, eq-eqb}
-use Rattle.std.proofs.lemmas.Bool.{cases_Bool, cases_eq, cases_lt, and_parts, and_from, or_left, ltb-true, lt-ltb, leb-true, le-leb, eqb-true, ne_eqb, false≢true, false_from_ne_true}
+use Rattle.std.proofs.Common.{◌≡◌, ◌≢◌, ◌⊎◌, inl, inr, ℕ, zero, suc, ◌%◌, ◌<◌, ◌≤◌, ◌==◌, ◌&&◌, ◌||◌, not, nat_lt, nat_le, Bool, true, false, cond, List, [], ◌∷◌, Option, Some, None, slice_index, refl, ap, sym, ◌∙◌, subst, arith, eq-eqb}
+use Rattle.std.proofs.lemmas.Bool.{cases_Bool, cases_eq, cases_lt, and_parts, and_from, ltb-true, lt-ltb, leb-true, le-leb, eqb-true, ne_eqb, false≢true, false_from_ne_true}
 use Rattle.exb_model.specs.Setup.{Limits}
 use Rattle.exb_model.specs.Tree.{Shape, IsTree, device, on, trunk, depth, is_port, is_extender, is_cascade, above, path, up}
 use Rattle.exb_model.specs.TreeSets.{covers}
@@ -15,10 +15,9 @@ use Rattle.exb_csp.specs.declared.message.Response.{Response}
 use Rattle.exb_csp.specs.AllTables.{port_of, executes_at, RunsAt}
 use Rattle.exb_csp.specs.Execute.{ExtenderTables, code_of, done, executed}
 use Rattle.exb_extender.specs.Machine.{ExtenderState}
-use Rattle.exb_plans.specs.Asks.{is_listed}
 use Rattle.exb_plans.specs.Held.{Held, channel_in, or_zero}
 use Rattle.exb_plans.proofs.Giving.{IsChannelOf, channel_found, channel_there}
-use Rattle.exb_plans.proofs.Trunks.{hung_cascade, port_extender}
+use Rattle.exb_plans.proofs.Trunks.{hung_cascade}
 use Rattle.exb_plans.proofs.Ways.{covers_above}
 use Rattle.exb_changing.specs.Beginning.{first_held}
 use Rattle.exb_changing.specs.Deciding.{channel_of, bridge_after, release}
@@ -26,11 +25,10 @@ use Rattle.exb_changing.specs.declared.job.Job.{Job}
 use Rattle.exb_changing.specs.declared.job.Job.TheVariants as job
 use Rattle.exb_changing.specs.declared.job.Phase.{Phase}
 use Rattle.exb_changing.specs.declared.job.Phase.TheVariants.{Preparing, Cleaning}
-use Rattle.exb_changing.specs.Machine.{Work, State}
-use Rattle.exb_change_laws.specs.Growing.{IsWithin, AreWithin}
+use Rattle.exb_changing.specs.Machine.{Work}
+use Rattle.exb_change_laws.specs.Growing.{AreWithin}
 use Rattle.exb_change_laws.specs.Laid.{has_port, is_shown, channel_pair, group_pair, laid}
-use Rattle.exb_change_laws.specs.Planned.{planning}
-use Rattle.exb_change_laws.specs.Standing.{Stands, StandsBy, Rests, Works, InPhase, IsSince, AreKinds, RunsLeft, opened_by, opens}
+use Rattle.exb_change_laws.specs.Standing.{Stands, Rests, Works, InPhase, IsSince, AreKinds, RunsLeft, opened_by, opens}
 use Rattle.exb_change_laws.specs.Systems.{System}
 use Rattle.exb_change_laws.proofs.Growing.{are_within}
 use Rattle.exb_change_laws.proofs.LaidMidway.{left_clear}
@@ -39,11 +37,11 @@ use Rattle.exb_machine.specs.Extending.{port_number}
 use Rattle.exb_machine.specs.Worlds.{World}
 use Rattle.exb_machine_laws.specs.Fixing.{IsExactly, fixing}
 use Rattle.exb_machine_laws.specs.Simulation.{system_of}
-use Rattle.exb_machine_laws.proofs.Fixing.{forget, fixed_now, IsFixedNow, trunk_is_cascade}
+use Rattle.exb_machine_laws.proofs.Fixing.{forget, fixed_now, trunk_is_cascade}
 use Rattle.exb_machine_laws.proofs.Hops.{alone_on_way}
 use Rattle.exb_machine_laws.proofs.Routing.{IsUnderLaid, under_laid, no_group}
 use Rattle.exb_machine_laws.proofs.Trees.{hangs_there, above_there, trunk_above, port_there}
-use Rattle.exb_resting.specs.Facts.{Hops, HopsAbove, IsDeep, IsReached}
+use Rattle.exb_resting.specs.Facts.{HopsAbove, IsReached}
 
 -- ---- an extender keeps its ports
 done_ports : (x : ExtenderTables) (r : Request) → (done x r).ports ≡ x.ports
@@ -353,8 +351,10 @@ module _ (t : Shape) (l : Limits) (tree : IsTree t) where
                     ends = ap (λ (z : ExtenderTables). z.own p == goal.channel) (is a) ∙ (ap (λ (i : ℕ). i == goal.channel) h.own ∙ ends_at m there deep w.1 last place);
                   },
                   hops_above far is d a false (above_there t tree m there deep)
-                      (λ high. (over.exact.exact.order.above a (above_there t tree m there deep) w.0 high,
-                        covers_above t tree (λ z. z == on t n) 64 (on t m) (on t a) w.1 (rw (up_high t 63 (on t m) deep) (among_rest (on t a) (on t m) (up t.on 63 (on t a)) (up_itself t 63 (on t a))))))
+                      (λ high. (
+                        over.exact.exact.order.above a (above_there t tree m there deep) w.0 high,
+                        covers_above t tree (λ z. z == on t n) 64 (on t m) (on t a) w.1 (rw (up_high t 63 (on t m) deep) (among_rest (on t a) (on t m) (up t.on 63 (on t a)) (up_itself t 63 (on t a)))),
+                      ))
                       (inr (by_place place less, refl)),
                 )
           ]

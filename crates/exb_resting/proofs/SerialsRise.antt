@@ -26,18 +26,18 @@ use Rattle.exb_extender.specs.Machine.{Arrives, Reaction, react}
 use Rattle.exb_link.specs.declared.word.Word.{Word}
 use Rattle.exb_link.specs.Words.{is_control, without_data, without_control}
 use Rattle.exb_changing.specs.Deciding.{decide}
-use Rattle.exb_changing.specs.Machine.{State, Work, Moved, still, with_asker, answered, answered_where, answered_in, heard, ordered, wakes, beats, beats_in}
+use Rattle.exb_changing.specs.Machine.{State, Work, still, with_asker, answered, answered_where, answered_in, heard, ordered, wakes, beats_in}
 use Rattle.exb_change_laws.proofs.Taking.{beat_serial}
 use Rattle.exb_machine.specs.Controls.{is_of, announced}
 use Rattle.exb_machine.specs.Effects.{Effect, only}
-use Rattle.exb_machine.specs.Extending.{port_number, does, stamp_of, ignored, does_or_ignores, arrives_at, reacts, takes_from_below}
-use Rattle.exb_machine.specs.Hearing.{bridge_acknowledgement, to_extender, moves, stops, hears_message, hears_fresh, hears_request, hears_pdu, hears_frame, hears}
+use Rattle.exb_machine.specs.Extending.{port_number, stamp_of, ignored, does_or_ignores, arrives_at, reacts, takes_from_below}
+use Rattle.exb_machine.specs.Hearing.{bridge_acknowledgement, to_extender, stops, hears_message, hears_fresh, hears_request, hears_pdu, hears_frame, hears}
 use Rattle.exb_machine.specs.Relaying.{comes, comes_from, holder_by, hung_at, hears_from, takes_control, bridge_takes}
 use Rattle.exb_machine.specs.Stepping.{words_on, with_words, takes, takes_any, first_data, control_at, rest_of, counted, stepped}
 use Rattle.exb_machine.specs.Worlds.{World, Way, Up, Down, Step, Arrive, Carry, Control, Lose, Beat, Tick, Order, Mark, with_near}
 use Rattle.exb_resting.proofs.ControlBeat.{moves_stays}
 use Rattle.exb_resting.proofs.OneAsked.{asked_alike, one_rises, ordered_asks, wakes_asks, answered_in_asks}
-use Rattle.exb_resting.proofs.Turns.{SameEnds, does_ends, comes_ends, comes_from_ends, reacts_ends, to_extender_ends, beat_control}
+use Rattle.exb_resting.proofs.Turns.{does_ends, comes_ends, comes_from_ends, reacts_ends, to_extender_ends, beat_control}
 use Rattle.exb_resting.proofs.Well.{took_serial}
 
 -- ---- what the bridge's control becomes when a word is taken: nothing, or what comes of one message or announcement

@@ -1,25 +1,22 @@
 -- Every run from a valid setup keeps all that the bound on settling asks; so settling ends from wherever it comes to.
-use Rattle.std.proofs.Common.{◌≡◌, ◌⊎◌, inl, inr, ℕ, ◌+◌, ◌≤◌, ◌<◌, ◌++◌, ◌^◌, true, List, [], ◌∷◌, All, length, length-append, append-nil, refl, ap, sym, ◌∙◌, subst, arith}
+use Rattle.std.proofs.Common.{◌≡◌, inl, inr, ℕ, ◌+◌, ◌≤◌, ◌<◌, ◌++◌, List, [], ◌∷◌, length, length-append, ap, sym, ◌∙◌, subst, arith}
 use Rattle.exb_model.specs.declared.command.Command.{Command}
 use Rattle.exb_model.specs.declared.setup.Setup.{Setup}
 use Rattle.exb_model.specs.History.{Basis, History, ◌then◌}
 use Rattle.exb_model.specs.Setup.{Limits, IsValid, shape_of, limits_of, start_of}
-use Rattle.exb_model.specs.Tree.{Shape, IsTree}
+use Rattle.exb_model.specs.Tree.{Shape}
 use Rattle.exb_frame.specs.TagValues.{TagRoundTrip}
 use Rattle.exb_relay.specs.Laws.{SendsAreWords, SendsLeaveAsFlat}
 use Rattle.exb_session.specs.Asking.{AskerState}
-use Rattle.exb_changing.specs.Deciding.{decide}
-use Rattle.exb_changing.specs.Machine.{State}
 use Rattle.exb_change_laws.specs.Journal.{StepsTell}
 use Rattle.exb_change_laws.specs.Opening.{InTurn}
-use Rattle.exb_change_laws.specs.Planned.{IsSetting}
-use Rattle.exb_change_laws.specs.Systems.{System, stepped as machine_stepped}
+use Rattle.exb_change_laws.specs.Systems.{System}
 use Rattle.exb_change_laws.proofs.Turns.{begins_in_turn, steps_keep_turns, serials_stay_low}
 use Rattle.exb_machine.specs.Allowing.{Can}
 use Rattle.exb_machine.specs.Settling.{run}
-use Rattle.exb_machine.specs.Stepping.{Stepped, stepped}
+use Rattle.exb_machine.specs.Stepping.{stepped}
 use Rattle.exb_machine.specs.Worlds.{World, Step, Arrive, Carry, Control, Lose, Beat, Tick, Order, Mark, Left, first_world}
-use Rattle.exb_machine_laws.specs.Laws.{MayMake, ordered_by}
+use Rattle.exb_machine_laws.specs.Laws.{ordered_by}
 use Rattle.exb_machine_laws.specs.Sessions.{AreLow}
 use Rattle.exb_machine_laws.specs.Simulation.{system_of, IsSound, Follows, StaysSound}
 use Rattle.exb_machine_laws.specs.Written.{AreWritten, StepsStayWritten}
@@ -29,7 +26,7 @@ use Rattle.exb_machine_laws.proofs.Runs.{steps_stay_sound}
 use Rattle.exb_machine_laws.proofs.Written.{begins_written, written_are_short}
 use Rattle.exb_motion.specs.Given.{Given, given_by, commands_of}
 use Rattle.exb_motion.specs.Going.{MayGo, MayGoAll}
-use Rattle.exb_motion.specs.Kept.{MayStart, MayDo, HasVid, Kept, basis_of}
+use Rattle.exb_motion.specs.Kept.{MayStart, MayDo, Kept, basis_of}
 use Rattle.exb_motion.proofs.Going.{steps_go_on}
 use Rattle.exb_motion.proofs.Keeping.{commands_append, step_kept}
 use Rattle.exb_motion.proofs.Setups.{setups_may_start}

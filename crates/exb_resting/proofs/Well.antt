@@ -1,44 +1,39 @@
 -- In a sound world all that the machine of changes asks, whatever comes from an extender, can be sent and goes to an extender of the tree, and the
 -- ports on which extenders hang keep the channels with which the world began.
-use Rattle.std.proofs.Common.{◌≡◌, ◌⊎◌, inl, inr, ℕ, ◌+◌, ◌<◌, ◌^◌, ◌==◌, Bool, true, false, cond, List, [], ◌∷◌, Option, Some, None, refl, ap, sym, ◌∙◌, subst, arith}
-use Rattle.std.proofs.lemmas.Bool.{cases_Bool}
+use Rattle.std.proofs.Common.{◌≡◌, inl, inr, ℕ, ◌+◌, ◌<◌, ◌^◌, ◌==◌, Bool, true, false, cond, List, [], ◌∷◌, Option, Some, None, refl, ap, sym, ◌∙◌, subst, arith}
 use Rattle.exb_model.specs.declared.command.Command.{Command}
 use Rattle.exb_model.specs.Setup.{Limits, NamesExternal}
-use Rattle.exb_model.specs.Tree.{Shape, IsTree, on, is_extender, trunk}
+use Rattle.exb_model.specs.Tree.{Shape, IsTree, on, trunk}
 use Rattle.exb_model.proofs.TreeHung.{trunk-low}
-use Rattle.exb_csp.specs.declared.message.Body.TheVariants as body
 use Rattle.exb_csp.specs.declared.message.Message.{Message}
 use Rattle.exb_csp.specs.declared.message.Response.{Response}
 use Rattle.exb_csp.specs.Execute.{ExtenderTables, response_to}
-use Rattle.exb_lldp.specs.declared.announce.Announce.{Announce}
 use Rattle.exb_session.specs.declared.asker.Taken.{Taken}
 use Rattle.exb_session.specs.declared.asker.Taken.TheVariants as taken
 use Rattle.exb_session.specs.Asking.{AskerState, asked, took}
-use Rattle.exb_plans.specs.Held.{Held}
 use Rattle.exb_changing.specs.Beginning.{first_held}
 use Rattle.exb_changing.specs.declared.asked.Asked.{Asked}
 use Rattle.exb_changing.specs.Deciding.{decide}
 use Rattle.exb_changing.specs.Machine.{Work, State, Moved, still, with_asker, answered, answered_in, answered_where, heard, ordered}
-use Rattle.exb_change_laws.specs.Knowing.{Knows, AreAddressed}
-use Rattle.exb_change_laws.specs.Planned.{IsSetting, planning}
-use Rattle.exb_change_laws.specs.Standing.{Stands, OneWaits}
-use Rattle.exb_change_laws.specs.Systems.{System, Step, Order, Hear, Execute, Answer, Stray, answer_message, answer_of, takes_answer, stepped}
-use Rattle.exb_change_laws.specs.Systems.{moved as machine_moved}
+use Rattle.exb_change_laws.specs.Knowing.{AreAddressed}
+use Rattle.exb_change_laws.specs.Planned.{IsSetting}
+use Rattle.exb_change_laws.specs.Standing.{Stands}
+use Rattle.exb_change_laws.specs.Systems.{System, Order, Hear, Execute, Answer, Stray, answer_message, answer_of, takes_answer, stepped}
 use Rattle.exb_change_laws.proofs.Knowing.{steps_know}
 use Rattle.exb_change_laws.proofs.Middle.{answers_are_taken}
 use Rattle.exb_change_laws.proofs.Steps.{any_steps_stand}
 use Rattle.exb_change_laws.proofs.Strays.{strays_change_nothing}
 use Rattle.exb_change_laws.proofs.Taking.{unchanged}
 use Rattle.exb_machine.specs.Worlds.{World}
-use Rattle.exb_machine.specs.Controls.{is_of, announced}
+use Rattle.exb_machine.specs.Controls.{is_of}
 use Rattle.exb_machine_laws.specs.Fixing.{fixing}
-use Rattle.exb_machine_laws.specs.Sessions.{Each, KeepsCascades, AreLow, CanBeSent, Writes}
+use Rattle.exb_machine_laws.specs.Sessions.{Each, KeepsCascades}
 use Rattle.exb_machine_laws.specs.Simulation.{system_of, IsSound}
 use Rattle.exb_machine_laws.proofs.Asking.{AtMostOne, none, one, Asks, answered_asks, heard_asks, ordered_asks}
 use Rattle.exb_machine_laws.proofs.Fixing.{forget, fixed_now, IsFixedNow, fixing_plans, trunk_is_cascade}
 use Rattle.exb_machine_laws.proofs.Moving.{asked_now}
 use Rattle.exb_machine_laws.proofs.Routing.{IsUnderLaid, under_laid}
-use Rattle.exb_machine_laws.proofs.Taking.{IsTaken, NotTaken, took_cases, IsOutstanding, outstanding}
+use Rattle.exb_machine_laws.proofs.Taking.{IsTaken, took_cases, IsOutstanding, outstanding}
 use Rattle.exb_machine_laws.proofs.Writing.{IsWritten, moved_wrote, all_be_sent}
 use Rattle.exb_resting.specs.Going.{HasRoom}
 use Rattle.exb_resting.proofs.Putting.{IsAskable, GoesWell, HearsWell}

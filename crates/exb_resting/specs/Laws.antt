@@ -30,20 +30,19 @@ MayMoveAll t l w (step ∷ steps) = MayMove t w step × MayMoveAll t l (stepped 
 pub record KeepsFacts (t : Shape) (l : Limits) (w : World) : Type 0 where
   pub each : (steps : List Step) → MayMoveAll t l w steps → Facts t l (run t l steps w).world
 
--- Likewise, what is left to be shown of a world stays so.
+-- Likewise, a world stays orderly.
 pub record KeepsOrder (t : Shape) (l : Limits) (w : World) : Type 0 where
   pub each : (steps : List Step) → MayMoveAll t l w steps → IsOrderly t (run t l steps w).world
 
--- Then it keeps the facts, where what is shown of each world is so as they begin.
+-- Then it keeps the facts, where it is going.
 abbrev pub OrderKeepsFacts : Type 0
 OrderKeepsFacts = (t : Shape) (l : Limits) (w : World) → IsSetting t l → IsGoing t l w → KeepsOrder t l w → KeepsFacts t l w
 
--- What is left to be shown holds of each sound world in which extenders are asked in their turn, whose words are bytes and whose serials
--- have room.
+-- A sound world in which extenders are asked in their turn, whose words are bytes and whose serials have room, is orderly.
 abbrev pub TurnsAreOrderly : Type 0
 TurnsAreOrderly = (t : Shape) (l : Limits) (w : World) → IsSetting t l → IsSound t l w → InTurn t w.control → AreBytes w → HasRoom w.control.askers → IsOrderly t w
 
--- It is so of the world of each valid setup.
+-- The world of each valid setup begins going.
 abbrev pub SetupsBeginGoing : Type 0
 SetupsBeginGoing = (s : Setup) → IsValid s → IsSetting (shape_of s) (limits_of s) × IsGoing (shape_of s) (limits_of s) (first_world (shape_of s) (limits_of s) (start_of s) s.ageing)
 

@@ -1,6 +1,5 @@
 //! What is true of rounds and of settling.
 ghost use Rattle.exb_resting.specs.Laws.{SetupsHaveFacts, SettlingEnds, RoundsSpend, RoundsPlanNothing, RoundsDeliver, WindowsGetOn, OrderKeepsFacts, TurnsAreOrderly, SetupsBeginGoing};
-
 ghost use Rattle.exb_resting.specs.Settles.{RunsAreReady, RunsStayLow, Settles};
 
 use exb_change_laws::laws::steps_tell;
@@ -46,22 +45,22 @@ pub fn windows_get_on()
     tag_round_trip();
 }
 
-/// The world of each valid setup begins with what is shown of each world: its sessions stand, both ends of each are as they
-/// should be, and control words stand on the way of their extenders.
+/// The world of each valid setup begins going: its sessions stand, both ends of each are as they should be, and control words
+/// stand on the way of their extenders.
 pub fn setups_begin_going()
     ensures { SetupsBeginGoing }
 {}
 
-/// Where what is left to be shown stays so, whatever words are delivered, lost or repeated and whatever beats pass, a
-/// world with that keeps the facts that the laws on settling ask: each step keeps what is shown.
+/// Where a world stays orderly, whatever words are delivered, lost or repeated and whatever beats pass, it keeps the facts that
+/// the laws on settling ask.
 pub fn order_keeps_facts()
     ensures { OrderKeepsFacts }
 {
     tag_round_trip();
 }
 
-/// What is left to be shown holds of each sound world in which extenders are asked in their turn: that an extender that wasn't
-/// heard was asked nothing, that its first request is Open, and that whoever is waited for is reached.
+/// A sound world in which extenders are asked in their turn is orderly: an extender that wasn't heard was asked nothing, its first
+/// request is Open, and whoever is waited for is reached.
 pub fn turns_are_orderly()
     ensures { TurnsAreOrderly }
 {}
