@@ -14,6 +14,6 @@ mod Ticks
 mod InFile
 mod Opening
 mod Numbers
-mod Playing
+pub mod Playing
 mod Eager
 pub mod Setups

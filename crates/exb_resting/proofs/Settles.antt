@@ -1,10 +1,11 @@
 -- Every run from a valid setup keeps all that the bound on settling asks; so settling ends from wherever it comes to.
-use Rattle.std.proofs.Common.{◌≡◌, inl, inr, ℕ, ◌+◌, ◌≤◌, ◌<◌, ◌++◌, List, [], ◌∷◌, length, length-append, ap, sym, ◌∙◌, subst, arith}
+use Rattle.std.proofs.Common.{true, ◌≡◌, inl, inr, ℕ, ◌+◌, ◌≤◌, ◌<◌, ◌++◌, List, [], ◌∷◌, length, length-append, ap, sym, ◌∙◌, subst, arith}
 use Rattle.exb_model.specs.declared.command.Command.{Command}
 use Rattle.exb_model.specs.declared.setup.Setup.{Setup}
 use Rattle.exb_model.specs.History.{Basis, History, ◌then◌}
+use Rattle.exb_model.specs.Rounds.{rounds}
 use Rattle.exb_model.specs.Setup.{Limits, IsValid, shape_of, limits_of, start_of}
-use Rattle.exb_model.specs.Tree.{Shape}
+use Rattle.exb_model.specs.Tree.{Shape, IsTree}
 use Rattle.exb_frame.specs.TagValues.{TagRoundTrip}
 use Rattle.exb_relay.specs.Laws.{SendsAreWords, SendsLeaveAsFlat}
 use Rattle.exb_session.specs.Asking.{AskerState}
@@ -13,8 +14,8 @@ use Rattle.exb_change_laws.specs.Opening.{InTurn}
 use Rattle.exb_change_laws.specs.Systems.{System}
 use Rattle.exb_change_laws.proofs.Turns.{begins_in_turn, steps_keep_turns, serials_stay_low}
 use Rattle.exb_machine.specs.Allowing.{Can}
-use Rattle.exb_machine.specs.Settling.{run}
-use Rattle.exb_machine.specs.Stepping.{stepped}
+use Rattle.exb_machine.specs.Settling.{run, settled_within, is_settled, planned_in}
+use Rattle.exb_machine.specs.Stepping.{Stepped, stepped}
 use Rattle.exb_machine.specs.Worlds.{World, Step, Arrive, Carry, Control, Lose, Beat, Tick, Order, Mark, Left, first_world}
 use Rattle.exb_machine_laws.specs.Laws.{ordered_by}
 use Rattle.exb_machine_laws.specs.Sessions.{AreLow}
@@ -22,6 +23,7 @@ use Rattle.exb_machine_laws.specs.Simulation.{system_of, IsSound, Follows, Stays
 use Rattle.exb_machine_laws.specs.Written.{AreWritten, StepsStayWritten}
 use Rattle.exb_machine_laws.proofs.Fixing.{forget}
 use Rattle.exb_machine_laws.proofs.Beating.{sound_after}
+use Rattle.exb_machine_laws.proofs.Rounds.{run_then, settled_exactly}
 use Rattle.exb_machine_laws.proofs.Runs.{steps_stay_sound}
 use Rattle.exb_machine_laws.proofs.Written.{begins_written, written_are_short}
 use Rattle.exb_motion.specs.Given.{Given, given_by, commands_of}
@@ -29,12 +31,13 @@ use Rattle.exb_motion.specs.Going.{MayGo, MayGoAll}
 use Rattle.exb_motion.specs.Kept.{MayStart, MayDo, Kept, basis_of}
 use Rattle.exb_motion.proofs.Going.{steps_go_on}
 use Rattle.exb_motion.proofs.Keeping.{commands_append, step_kept}
+use Rattle.exb_motion.proofs.Playing.{settling_plays}
 use Rattle.exb_motion.proofs.Setups.{setups_may_start}
 use Rattle.exb_motion.proofs.Standing.{begins_kept}
 use Rattle.exb_resting.specs.Facts.{OnLink, carries, delivers, loses}
 use Rattle.exb_resting.specs.Going.{HasRoom, IsGoing, IsOrderly}
 use Rattle.exb_resting.specs.Laws.{MayMove, MayMoveAll, KeepsOrder, KeepsFacts}
-use Rattle.exb_resting.specs.Settles.{MayTake, MayTakeAll, AreRoomy, RunsAreReady, RunsStayLow, Settles}
+use Rattle.exb_resting.specs.Settles.{MayTake, MayTakeAll, AreRoomy, beginning, reached_by, RunsAreReady, RunsStayLow, Settles, SettlingAlwaysPlays}
 use Rattle.exb_resting.proofs.GoingSteps.{step_going, beat_going}
 use Rattle.exb_resting.proofs.Orderly.{setups_begin_going, order_keeps_facts}
 use Rattle.exb_resting.proofs.OrderShown.{orderly}
@@ -207,3 +210,15 @@ module _ (round : TagRoundTrip) (words : SendsAreWords) (leave : SendsLeaveAsFla
   pub settles : Settles
   settles s steps valid vids may b verdicts few =
       settling_ends round (shape_of s) (limits_of s) _ (setups_may_start s valid vids).setting.tree (runs_are_ready s steps valid vids may).facts b verdicts few
+
+  pub settling_always_plays : SettlingAlwaysPlays
+  settling_always_plays s steps more valid vids may i segment gives b verdicts few =
+      let t : Shape = shape_of s in
+      let l : Limits = limits_of s in
+      let w : World = reached_by s steps in
+      let v : World = (run t l more w).world in
+      let tree : IsTree t = (setups_may_start s valid vids).setting.tree in
+      let same : reached_by s (steps ++ more) ≡ v = ap (λ (z : Stepped). z.world) (run_then t l steps more (beginning s)) in
+      let ends : is_settled t (settled_within t l (rounds b (planned_in t l v)) v verdicts).done.world ≡ true =
+      subst (λ (u : World). is_settled t (settled_within t l (rounds b (planned_in t l u)) u verdicts).done.world ≡ true) same (settles s (steps ++ more) valid vids may b verdicts few) in
+      settling_plays t l i segment w more verdicts (rounds b (planned_in t l v)) gives ((settled_exactly t (settled_within t l (rounds b (planned_in t l v)) v verdicts).done.world tree).0 ends)

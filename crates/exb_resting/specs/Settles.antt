@@ -1,7 +1,9 @@
 -- Settling from every world that a run of a valid setup reaches.
-use Rattle.std.specs.Prelude.{◌≡◌, ℕ, ◌≤◌, ◌<◌, ◌^◌, true, List, [], ◌∷◌, All}
+use Rattle.std.specs.Prelude.{◌≡◌, ℕ, ◌≤◌, ◌<◌, ◌^◌, true, List, [], ◌∷◌, ◌++◌, All}
 use Rattle.exb_model.specs.declared.setup.Setup.{Setup}
 use Rattle.exb_model.specs.declared.setup.Verdict.{Verdict}
+use Rattle.exb_model.specs.History.{Basis}
+use Rattle.exb_model.specs.Input.{Segment}
 use Rattle.exb_model.specs.Rounds.{rounds}
 use Rattle.exb_model.specs.Setup.{Limits, IsValid, shape_of, limits_of, start_of}
 use Rattle.exb_model.specs.Tree.{Shape}
@@ -13,6 +15,7 @@ use Rattle.exb_machine.specs.Worlds.{World, Step, first_world}
 use Rattle.exb_machine_laws.specs.Laws.{HasBytes}
 use Rattle.exb_motion.specs.Going.{MayGoAll}
 use Rattle.exb_motion.specs.Kept.{HasVid, HasVidIn}
+use Rattle.exb_motion.specs.Playing.{Gives, IsPlayedBy}
 use Rattle.exb_resting.specs.Costs.{costs}
 use Rattle.exb_resting.specs.Going.{IsOrderly}
 use Rattle.exb_resting.specs.Laws.{KeepsFacts}
@@ -63,3 +66,14 @@ Settles =
     let l = limits_of s in
     let w = reached_by s steps in
     (b : ℕ) (verdicts : List Verdict) → costs verdicts ≤ b → is_settled t (settled_within t l (rounds b (planned_in t l w)) w verdicts).done.world ≡ true
+
+-- So steps that give a segment, from such a world, play it with the settling after them.
+abbrev pub SettlingAlwaysPlays : Type 0
+SettlingAlwaysPlays =
+    (s : Setup) (steps more : List Step) → IsValid s → All HasVid s.start → MayTakeAll (shape_of s) (limits_of s) (beginning s) (steps ++ more) →
+    (i : Basis) (segment : Segment) → Gives i segment more →
+    let t = shape_of s in
+    let l = limits_of s in
+    let w = reached_by s steps in
+    let v = (run t l more w).world in
+    (b : ℕ) (verdicts : List Verdict) → costs verdicts ≤ b → IsPlayedBy t l i segment w more (settled_within t l (rounds b (planned_in t l v)) v verdicts).done

@@ -1,6 +1,6 @@
 //! What is true of rounds and of settling.
 ghost use Rattle.exb_resting.specs.Laws.{SetupsHaveFacts, SettlingEnds, RoundsSpend, RoundsPlanNothing, RoundsDeliver, WindowsGetOn, OrderKeepsFacts, TurnsAreOrderly, SetupsBeginGoing};
-ghost use Rattle.exb_resting.specs.Settles.{RunsAreReady, RunsStayLow, Settles};
+ghost use Rattle.exb_resting.specs.Settles.{RunsAreReady, RunsStayLow, Settles, SettlingAlwaysPlays};
 
 use exb_change_laws::laws::steps_tell;
 use exb_frame::laws::tag_round_trip;
@@ -92,6 +92,18 @@ pub fn runs_stay_low()
 /// aren't Pass: within 64 rounds for each of them, for each exchange that is planned, and for one more.
 pub fn settles()
     ensures { Settles }
+{
+    tag_round_trip();
+    sends_are_words();
+    sends_leave_as_flat();
+    steps_tell();
+    steps_stay_written();
+}
+
+/// So steps that give a segment, from a world that a run of a valid setup reaches, play it with the settling after them: that
+/// settling ends settled is no premise of playing.
+pub fn settling_always_plays()
+    ensures { SettlingAlwaysPlays }
 {
     tag_round_trip();
     sends_are_words();
