@@ -68,7 +68,7 @@ module _ (t : Shape) (valid : IsTree t) where
       let port : is_port t (64 * n) ≡ true = rw (home, first) both.1 in
       subst (λ (m : ℕ). is_listed (by_depth t) m ≡ true) home (in_order t (64 * n) valid (omega (arith, some)) port)
 
-  none_opened : (n : ℕ) → opened_by (is_extender t) (first_jobs t) n ≡ false
+  pub none_opened : (n : ℕ) → opened_by (is_extender t) (first_jobs t) n ≡ false
   unfolding first_jobs
   none_opened n =
       elim (cases_Bool (is_extender t n)) [

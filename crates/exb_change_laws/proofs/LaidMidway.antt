@@ -157,7 +157,7 @@ left_add : (answer : Option Response) (all end : ℕ → ExtenderTables) (first 
 left_add None all end first rest r a = runs_add (first ∷ rest) all end r a
 left_add (Some response) all end first rest r a = runs_add rest all end r a.1
 
-left_clear : (answer : Option Response) (all end : ℕ → ExtenderTables) (first : AskAt) (rest : List AskAt) → RunsLeft answer all first rest end → AllClear (first ∷ rest) → AreWithin end all
+pub left_clear : (answer : Option Response) (all end : ℕ → ExtenderTables) (first : AskAt) (rest : List AskAt) → RunsLeft answer all first rest end → AllClear (first ∷ rest) → AreWithin end all
 left_clear None all end first rest r a = runs_clear (first ∷ rest) all end r a
 left_clear (Some response) all end first rest r a = runs_clear rest all end r a.1
 

@@ -37,3 +37,5 @@ pub mod Growing
 pub mod LaidMidway
 pub mod Carried
 pub mod Knowing
+pub mod Opened
+pub mod Turns

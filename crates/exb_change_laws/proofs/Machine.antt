@@ -1,5 +1,5 @@
 -- What keeps the machine and the tables, whatever the plans are.
-use Rattle.std.proofs.Common.{◌≡◌, ℕ, ◌&&◌, ◌||◌, ◌++◌, not, Bool, List, [], ◌∷◌, Option, Some, None, refl, sym, ◌∙◌, ap, subst, inl, inr}
+use Rattle.std.proofs.Common.{◌≡◌, ℕ, ◌&&◌, ◌||◌, ◌++◌, not, Bool, List, [], ◌∷◌, Option, Some, None, refl, sym, ◌∙◌, ap, subst, inl, inr, arith}
 use Rattle.std.specs.List.{list_any}
 use Rattle.std.proofs.lemmas.Bool.{cases_Bool}
 use mathlib.Core.Path.{fun_ext}
@@ -20,7 +20,7 @@ use Rattle.exb_changing.specs.Machine.{Work, State, Moved, ends, cleans, prepare
 use Rattle.exb_change_laws.specs.Systems.{executes, answer_of, code_by}
 use Rattle.exb_change_laws.specs.Growing.{AreWithin, AllAdd, AllClear, Keeps}
 use Rattle.exb_change_laws.proofs.Growing.{are_within, within_on, request_adds, request_clears}
-use Rattle.exb_change_laws.specs.Standing.{is_opening, opened_by, opens, Planning, IsPlanned, Plans, AllFit, Rests, Works, StandsBy}
+use Rattle.exb_change_laws.specs.Standing.{is_opening, opened_by, opens, AreFew, Planning, IsPlanned, Plans, AllFit, Rests, Works, StandsBy}
 
 -- ---- the queue with a command more
 any_more : (n : ℕ) (number : ℕ) (c : Command) (js : List Job) → list_any (is_opening n) (js ++ job.Ordered number c ∷ []) ≡ list_any (is_opening n) js
@@ -29,6 +29,10 @@ any_more n number c (j ∷ js) = ap (λ (x : Bool). is_opening n j || x) (any_mo
 
 pub opened_more : (there : ℕ → Bool) (number : ℕ) (c : Command) (js : List Job) → opened_by there (js ++ job.Ordered number c ∷ []) ≡ opened_by there js
 opened_more there number c js = fun_ext (λ n. ap (λ (x : Bool). there n && not x) (any_more n number c js))
+
+-- one request less is few too
+rest_few : (opened : ℕ → Bool) (a b : AskAt) (more : List AskAt) → AreFew opened (a ∷ b ∷ more) → AreFew opened (b ∷ more)
+rest_few opened a b more k = record { go = k.go.1; few = omega (arith, k.few) }
 
 module _ (p : Planning) where
   pub fits_more : (number : ℕ) (c : Command) (js : List Job) → p.MayCome c → AllFit p js → AllFit p (js ++ job.Ordered number c ∷ [])
@@ -46,10 +50,11 @@ module _ (p : Planning) where
   pub cleans_stands : (j : Job) (x : Change) (left : List AskAt) (s : State) (js : List Job) (all : ℕ → ExtenderTables) (old : Bridge) → s.work ≡ None →
       p.During (opened_by p.there js) old (bridge_after j old) s.held → s.bridge ≡ bridge_after j old → RunsAt all left (p.laid (opened_by p.there js) (release x s.held)) →
       p.Exact (opened_by p.there js) (bridge_after j old) (release x s.held) → AllFit p js → (before : Held) (were : ℕ → Bool) → p.Exact were old before →
-      Keeps before s.held → all ≡ p.laid (opened_by p.there js) s.held → AllClear left → StandsBy p (cleans j x left s).state.work (cleans j x left s).state js all None
-  cleans_stands j x [] s js all old n d b r e f before were had kept same clear =
+      Keeps before s.held → all ≡ p.laid (opened_by p.there js) s.held → AllClear left → opens j were ≡ opened_by p.there js → AreFew (opened_by p.there js) left →
+      AreFew (opened_by p.there js) x.cleanup → StandsBy p (cleans j x left s).state.work (cleans j x left s).state js all None
+  cleans_stands j x [] s js all old n d b r e f before were had kept same clear now asks last =
       (record { laid = r; exact = subst (λ (c : Bridge). p.Exact (opened_by p.there js) c (release x s.held)) (sym b) e; fits = f }, refl)
-  cleans_stands j x (a ∷ more) s js all old n d b r e f before were had kept same clear =
+  cleans_stands j x (a ∷ more) s js all old n d b r e f before were had kept same clear now asks last =
       record {
         left = r;
         old = old;
@@ -64,17 +69,21 @@ module _ (p : Planning) where
         kept = kept;
         since = subst (AreWithin all) same (are_within all);
         kinds = clear;
+        now = now;
+        asks = asks;
+        last_asks = last;
       }
 
   prepares_stands : (j : Job) (x : Change) (left : List AskAt) (s : State) (js : List Job) (all : ℕ → ExtenderTables) → s.work ≡ None →
       p.During (opened_by p.there js) s.bridge (bridge_after j s.bridge) s.held → RunsAt all left (p.laid (opened_by p.there js) s.held) →
       RunsAt (p.laid (opened_by p.there js) s.held) x.cleanup (p.laid (opened_by p.there js) (release x s.held)) →
       p.Exact (opened_by p.there js) (bridge_after j s.bridge) (release x s.held) → AllFit p js → (before : Held) (were : ℕ → Bool) → p.Exact were s.bridge before →
-      Keeps before s.held → all ≡ p.laid were before → AllAdd left → AllClear x.cleanup → StandsBy p (prepares j x left s).state.work (prepares j x left s).state js all None
-  prepares_stands j x [] s js all n d r q e f before were had kept begun add clear =
+      Keeps before s.held → all ≡ p.laid were before → AllAdd left → AllClear x.cleanup → opens j were ≡ opened_by p.there js → AreFew (opened_by p.there js) left →
+      AreFew (opened_by p.there js) x.cleanup → StandsBy p (prepares j x left s).state.work (prepares j x left s).state js all None
+  prepares_stands j x [] s js all n d r q e f before were had kept begun add clear now asks last =
       cleans_stands j x x.cleanup (record s { bridge = bridge_after j s.bridge }) js all s.bridge n d refl
-      (subst (λ (u : ℕ → ExtenderTables). RunsAt u x.cleanup (p.laid (opened_by p.there js) (release x s.held))) (sym r) q) e f before were had kept r clear
-  prepares_stands j x (a ∷ more) s js all n d r q e f before were had kept begun add clear =
+      (subst (λ (u : ℕ → ExtenderTables). RunsAt u x.cleanup (p.laid (opened_by p.there js) (release x s.held))) (sym r) q) e f before were had kept r clear now last last
+  prepares_stands j x (a ∷ more) s js all n d r q e f before were had kept begun add clear now asks last =
       record {
         left = (r, q);
         old = s.bridge;
@@ -89,6 +98,9 @@ module _ (p : Planning) where
         kept = kept;
         since = subst (λ (u : ℕ → ExtenderTables). AreWithin u all) begun (are_within all);
         kinds = (add, clear);
+        now = now;
+        asks = asks;
+        last_asks = last;
       }
 
   module _ (decide : Decide) (plans : Plans p decide) where
@@ -108,7 +120,8 @@ module _ (p : Planning) where
         (subst (λ (u : ℕ → ExtenderTables). RunsAt u x.prepare (p.laid (opened_by p.there js) claimed)) (sym r.laid) (subst (λ (o : ℕ → Bool). RunsAt (p.laid (opened_by p.there (j ∷ js)) s.held) x.prepare (p.laid o claimed)) o k.prepared))
         (subst (λ (o : ℕ → Bool). RunsAt (p.laid o claimed) x.cleanup (p.laid o (release x claimed))) o k.cleaned)
         (subst (λ (o : ℕ → Bool). p.Exact o (bridge_after j s.bridge) (release x claimed)) o k.exact)
-        r.fits.1 s.held (opened_by p.there (j ∷ js)) r.exact k.kept r.laid k.adds k.clears
+        r.fits.1 s.held (opened_by p.there (j ∷ js)) r.exact k.kept r.laid k.adds k.clears o
+        (subst (λ (m : ℕ → Bool). AreFew m x.prepare) o k.first_asks) (subst (λ (m : ℕ → Bool). AreFew m x.cleanup) o k.last_asks)
 
     -- nothing is on its way
     abbrev Good : Moved → (ℕ → ExtenderTables) → Type 0
@@ -117,7 +130,7 @@ module _ (p : Planning) where
     after_start_stands : (m : Moved) (js : List Job) (all : ℕ → ExtenderTables) (onward : Moved) (o : Option Work) → m.state.work ≡ o → StandsBy p o m.state js all None →
         (m.state.work ≡ None → Rests p m.state js all → Good onward all) → Good (after_start js o m onward) all
     after_start_stands m js all onward None e h f = f e h.0
-    after_start_stands m js all onward (Some w) e h f = rw e (record { left = h.left; old = h.old; bridge = h.bridge; during = h.during; exact = h.exact; fits = h.fits; answers = h.answers; before = h.before; were = h.were; had = h.had; kept = h.kept; since = h.since; kinds = h.kinds })
+    after_start_stands m js all onward (Some w) e h f = rw e (record { left = h.left; old = h.old; bridge = h.bridge; during = h.during; exact = h.exact; fits = h.fits; answers = h.answers; before = h.before; were = h.were; had = h.had; kept = h.kept; since = h.since; kinds = h.kinds; now = h.now; asks = h.asks; last_asks = h.last_asks })
 
     -- the queue is worked on
     goes_on_stands : (js : List Job) (s : State) (all : ℕ → ExtenderTables) → s.work ≡ None → Rests p s js all → Good (goes_on decide js s) all
@@ -167,6 +180,9 @@ module _ (p : Planning) where
                 kept = h.kept;
                 since = rw e (within_on (p.laid h.were h.before) all (executes_at w.first.extender w.first.request all) begun (request_adds all w.first z add.0.0));
                 kinds = h.kinds;
+                now = h.now;
+                asks = h.asks;
+                last_asks = h.last_asks;
               },
               z,
             )
@@ -189,6 +205,9 @@ module _ (p : Planning) where
                 kept = h.kept;
                 since = rw e (within_on (executes_at w.first.extender w.first.request all) all (p.laid (opened_by p.there s.queue) s.held) (request_clears all w.first z clear.0) claimed);
                 kinds = h.kinds;
+                now = h.now;
+                asks = h.asks;
+                last_asks = h.last_asks;
               },
               z,
             )
@@ -217,6 +236,9 @@ module _ (p : Planning) where
               kept = h.kept;
               since = h.since;
               kinds = rw d (kinds.0.1, kinds.1);
+              now = h.now;
+              asks = rest_few (opened_by p.there s.queue) w.first a more (rw g at h.asks);
+              last_asks = h.last_asks;
             }
         by_phase Cleaning (a ∷ more) d g =
             let k = rw (d, g) at h.left in
@@ -235,6 +257,9 @@ module _ (p : Planning) where
               kept = h.kept;
               since = h.since;
               kinds = rw d kinds.1;
+              now = h.now;
+              asks = rest_few (opened_by p.there s.queue) w.first a more (rw g at h.asks);
+              last_asks = h.last_asks;
             }
         by_phase Preparing [] d g =
             let k = rw (d, g) at h.left in
@@ -246,7 +271,7 @@ module _ (p : Planning) where
             rw d (wakes_stands m.state.work m.state all None refl
             (subst (λ (js : List Job). StandsBy p m.state.work m.state js all None) (same_queue x.cleanup c)
             (cleans_stands w.job x x.cleanup c s.queue all h.old refl h.during (ap (bridge_after w.job) b)
-            (subst (λ (u : ℕ → ExtenderTables). RunsAt u x.cleanup (p.laid (opened_by p.there s.queue) (release x s.held))) (sym k.0) k.1) h.exact h.fits h.before h.were h.had h.kept k.0 kinds.1)))
+            (subst (λ (u : ℕ → ExtenderTables). RunsAt u x.cleanup (p.laid (opened_by p.there s.queue) (release x s.held))) (sym k.0) k.1) h.exact h.fits h.before h.were h.had h.kept k.0 kinds.1 h.now h.last_asks h.last_asks)))
           where
             same_queue : (left : List AskAt) (c : State) → c.queue ≡ (cleans w.job w.change left c).state.queue
             same_queue [] c = refl

@@ -46,11 +46,11 @@ still_hidden shown x (q ∷ qs) apart hidden =
     (or_from _ _ parts.0 hidden.0, still_hidden shown x qs parts.1 hidden.1)
 
 -- ---- the cascade ports of extender n
-record IsCascadeOf (t : Shape) (n q : ℕ) : Type 0 where
-  home : device q ≡ n
-  deep : 64 ≤ q
-  known : is_port t q ≡ true
-  cascade : is_cascade t q ≡ true
+pub record IsCascadeOf (t : Shape) (n q : ℕ) : Type 0 where
+  pub home : device q ≡ n
+  pub deep : 64 ≤ q
+  pub known : is_port t q ≡ true
+  pub cascade : is_cascade t q ≡ true
 
 each_range : (a m : ℕ) → Each (λ q. (a ≤ q) × (q < a + m)) (range_with_len a m)
 each_range a zero = tt
@@ -72,6 +72,16 @@ distinct_range test a (suc m) = by_test (test a) (distinct_range test (a + 1) m)
     by_test true rest = (later, rest)
     by_test false rest = rest
 
+pub cascades_are : (t : Shape) (n : ℕ) → 0 < n → Each (IsCascadeOf t n) (cascades_of t n)
+unfolding cascades_of
+cascades_are t n some =
+    each_map (λ q. ((64 * n ≤ q) × (q < 64 * n + 64)) × ((is_port t q && is_cascade t q) ≡ true)) (IsCascadeOf t n) (filter (λ q. is_port t q && is_cascade t q) (range_with_len (64 * n) 64))
+    (λ q a. is_one q a.0.0 a.0.1 (and_parts (is_port t q) (is_cascade t q) a.1))
+    (each_filter (λ q. (64 * n ≤ q) × (q < 64 * n + 64)) (λ q. is_port t q && is_cascade t q) (range_with_len (64 * n) 64) (each_range (64 * n) 64))
+  where
+    is_one : (q : ℕ) → 64 * n ≤ q → q < 64 * n + 64 → (is_port t q ≡ true) × (is_cascade t q ≡ true) → IsCascadeOf t n q
+    is_one q low high both = record { home = omega arith; deep = omega (arith, some, low); known = both.0; cascade = both.1 }
+
 module _ (t : Shape) (b : Bridge) (h : Held) (opened : ℕ → Bool) (n : ℕ) (can : CanOpen t b h opened n) where
   some : 0 < n
   some = ltb-true 0 n (and_parts _ _ can.there).0
@@ -80,14 +90,7 @@ module _ (t : Shape) (b : Bridge) (h : Held) (opened : ℕ → Bool) (n : ℕ) (
   stands = stands_from t opened b h can.tree can.needed can.order
 
   are_cascades : Each (IsCascadeOf t n) (cascades_of t n)
-  unfolding cascades_of
-  are_cascades =
-      each_map (λ q. ((64 * n ≤ q) × (q < 64 * n + 64)) × ((is_port t q && is_cascade t q) ≡ true)) (IsCascadeOf t n) (filter (λ q. is_port t q && is_cascade t q) (range_with_len (64 * n) 64))
-      (λ q a. is_one q a.0.0 a.0.1 (and_parts (is_port t q) (is_cascade t q) a.1))
-      (each_filter (λ q. (64 * n ≤ q) × (q < 64 * n + 64)) (λ q. is_port t q && is_cascade t q) (range_with_len (64 * n) 64) (each_range (64 * n) 64))
-    where
-      is_one : (q : ℕ) → 64 * n ≤ q → q < 64 * n + 64 → (is_port t q ≡ true) × (is_cascade t q ≡ true) → IsCascadeOf t n q
-      is_one q low high both = (let l = some in record { home = omega arith; deep = omega (arith, l, low); known = both.0; cascade = both.1 })
+  are_cascades = cascades_are t n some
 
   are_distinct : AreDistinct (cascades_of t n)
   unfolding cascades_of

@@ -1,6 +1,6 @@
 -- The plans of changes are what the machine takes.
 use Rattle.std.proofs.Common.{◌≡◌, ◌≢◌, ◌⊎◌, ℕ, ◌+◌, ◌-◌, ◌<◌, ◌≤◌, ◌==◌, ◌&&◌, ◌||◌, cond, Bool, true, false, not, List, [], Option, Some, None, refl, sym, ◌∙◌, ap, subst, arith, inl, inr, nat_lt}
-use Rattle.std.proofs.lemmas.Bool.{cases_eq, and_parts, ne_eqb, lt-ltb, or_right, false≢true}
+use Rattle.std.proofs.lemmas.Bool.{cases_eq, and_parts, eq-eqb, ltb-true, ne_eqb, lt-ltb, or_left, or_right, false≢true}
 use Rattle.exb_model.specs.declared.command.Command.{Command}
 use Rattle.exb_model.specs.declared.command.Command.TheVariants as command
 use Rattle.exb_model.specs.declared.event.Cause.{Cause}
@@ -33,8 +33,9 @@ use Rattle.exb_changing.proofs.FreshGroups.{given_elsewhere, with_set, fresh_bel
 use Rattle.exb_changing.proofs.Released.{released_is_freed, released_is_needed}
 use Rattle.exb_changing.proofs.Commands.{step_of}
 use Rattle.exb_change_laws.specs.Growing.{AllAdd, AllClear, Keeps}
+use Rattle.exb_change_laws.proofs.Opened.{opening_goes, prepare_goes, cleanup_goes, change_few, opening_few, none_few}
 use Rattle.exb_change_laws.proofs.Adding.{prepares_add, cleanups_clear, openings_add}
-use Rattle.exb_change_laws.specs.Standing.{opens, IsPlanned as IsSound, Plans}
+use Rattle.exb_change_laws.specs.Standing.{AreFew, opens, IsPlanned as IsSound, Plans}
 use Rattle.exb_change_laws.specs.Planned.{IsSetting, HasNumbers, IsExact, HasBoth, FitsJob, planning, PlannedStepsStand, PlannedRunsStand}
 use Rattle.exb_change_laws.proofs.Steps.{steps_stand, runs_stand}
 use Rattle.exb_change_laws.proofs.Both.{needed_numbers, numbers_kept, released_kept, claimed_kept, claimed_owns, all_kept}
@@ -89,6 +90,8 @@ module _ (t : Shape) (l : Limits) (setting : IsSetting t l) where
     adds : AllAdd x.prepare
     clears : AllClear x.cleanup
     kept : Keeps h held
+    first_asks : AreFew opened x.prepare
+    last_asks : AreFew opened x.cleanup
 
   -- ---- a change by a command
   module _ (opened : ℕ → Bool) (b : Bridge) (h : Held) (exact : IsExact t opened b h) (c : Command) (names : NamesExternal t c)
@@ -152,6 +155,7 @@ module _ (t : Shape) (l : Limits) (setting : IsSetting t l) where
     unfolding change_of
     changes =
         let r = plans_run t l b (after c b) h opened ready in
+        let few = change_few t l b (after c b) h planned opened (prepare_goes t setting.tree opened (exact.order).above l b (after c b) h order_after) (cleanup_goes t setting.tree opened (exact.order).above b (after c b) h exact.needed exact.order) in
         record {
           prepared = r.0;
           cleaned = subst (λ (g : Held). RunsAt (laid t opened (claimed t l b (after c b) h)) (cleanup_of t b (after c b) h) (laid t opened g)) (sym released) r.1;
@@ -160,6 +164,8 @@ module _ (t : Shape) (l : Limits) (setting : IsSetting t l) where
           adds = prepares_add t l b (after c b) h;
           clears = cleanups_clear t b (after c b) h;
           kept = numbers_stay;
+          first_asks = few.0;
+          last_asks = few.1;
         }
 
   changes_when : (opened : ℕ → Bool) (b : Bridge) (h : Held) (c : Command) (x : Change) (held : Held) → IsExact t opened b h → NamesExternal t c →
@@ -205,6 +211,7 @@ module _ (t : Shape) (l : Limits) (setting : IsSetting t l) where
   sound opened b h (job.Opening n) x held exact fits e =
       let one : opening_change t n h ≡ x = cc in
       let two : h ≡ held = cc in
+      let some : 0 < n = ltb-true 0 n (and_parts (nat_lt 0 n) _ fits.there).0 in
       let can : CanOpen t b h opened n = record { tree = setting.tree; needed = exact.needed; order = exact.order; there = fits.there; closed = fits.closed; above = fits.above } in
       subst (λ (g : Held). IsSound (planning t) opened b h (job.Opening n) x g) two (
       subst (λ (y : Change). IsSound (planning t) opened b h (job.Opening n) y h) one (
@@ -216,13 +223,15 @@ module _ (t : Shape) (l : Limits) (setting : IsSetting t l) where
         adds = openings_add t n h;
         clears = tt;
         kept = all_kept h;
+        first_asks = opening_few t n h (with_opened opened n) (opening_goes t setting.tree (with_opened opened n) (opens_order opened b n exact.order fits.above).above n h some (or_left (n == n) (opened n) (eq-eqb n n refl)));
+        last_asks = none_few (with_opened opened n);
       }))
   sound opened b h (job.AutomaticUp p) x held exact fits e =
       let k = changes_when opened b h (command.Up p) x held exact (extended_external t p fits.extended) (λ q ext f. let same : p ≡ q = cc in subst (λ (m : ℕ). opened (device m) ≡ true) same fits.home) e in
-      record { prepared = k.prepared; cleaned = k.cleaned; exact = k.left; during = k.during; adds = k.adds; clears = k.clears; kept = k.kept }
+      record { prepared = k.prepared; cleaned = k.cleaned; exact = k.left; during = k.during; adds = k.adds; clears = k.clears; kept = k.kept; first_asks = k.first_asks; last_asks = k.last_asks }
   sound opened b h (job.Ordered n c) x held exact fits e =
       let k = changes_when opened b h c x held exact fits.names (λ q ext f. fits.all q ext) e in
-      record { prepared = k.prepared; cleaned = k.cleaned; exact = k.left; during = k.during; adds = k.adds; clears = k.clears; kept = k.kept }
+      record { prepared = k.prepared; cleaned = k.cleaned; exact = k.left; during = k.during; adds = k.adds; clears = k.clears; kept = k.kept; first_asks = k.first_asks; last_asks = k.last_asks }
 
   -- an opening isn't refused
   none_refused : (opened : ℕ → Bool) (b : Bridge) (h : Held) (j : Job) (cause : Cause) → decide t l b h j ≡ Refused cause → opens j opened ≡ opened

@@ -18,7 +18,7 @@ use Rattle.exb_change_laws.specs.Planned.{planning}
 
 -- ---- extenders in their order
 -- each is of the tree, stands once, and isn't deeper than those behind it
-AreOrdered : Shape → List ℕ → Type 0
+unfoldable pub AreOrdered : Shape → List ℕ → Type 0
 AreOrdered t [] = Unit {0}
 AreOrdered t (n ∷ ns) = HangsOn t n (on t n) × ((m : ℕ) → is_listed ns m ≡ true → depth t n ≤ depth t m) × (is_listed ns n ≡ false) × AreOrdered t ns
 
@@ -34,7 +34,7 @@ ordered t (n ∷ ns) there sorted distinct = (
   ordered t ns (λ i l. there (suc i) (omega (arith, l))) (λ i j b l. sorted (suc i) (suc j) (omega (arith, b)) (omega (arith, l))) distinct.1,
 )
 
-by_depth_ordered : (t : Shape) → AreOrdered t (by_depth t)
+pub by_depth_ordered : (t : Shape) → AreOrdered t (by_depth t)
 by_depth_ordered t = ordered t (by_depth t) (by_depth-hangs t) (by_depth-sorted t) (distinct_by_depth t)
 
 -- ---- whose openings are queued
@@ -46,7 +46,7 @@ pub openings_are : (t : Shape) (ns : List ℕ) (n : ℕ) → list_any (is_openin
 openings_are t [] n = refl
 openings_are t (m ∷ ns) n = ap (λ (x : Bool). m == n || x) (no_openings n (externals_of t m) (flat_map (jobs_of t) ns) ∙ openings_are t ns n)
 
-extender_is : (t : Shape) (n : ℕ) → HangsOn t n (on t n) → is_extender t n ≡ true
+pub extender_is : (t : Shape) (n : ℕ) → HangsOn t n (on t n) → is_extender t n ≡ true
 extender_is t n h = rw (lt-ltb 0 n h.extender, lt-ltb 0 (slice_index t.ports n) h.there) refl
 
 module _ (t : Shape) (valid : IsTree t) where

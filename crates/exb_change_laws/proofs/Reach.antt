@@ -86,7 +86,7 @@ module _ (t : Shape) (valid : IsTree t) where
     low_only : (d p q : ℕ) → p < 64 → 64 ≤ q → among q (up t.on d p) ≡ true → ⊥
     low_only d p q l g a = elim (among_cases q p [] (rw (up_low t d p l) at a)) [ inl e ↦ absurd (omega arith) | inr e ↦ among_none q e ]
 
-    opened_along : (d p q : ℕ) → 64 ≤ p → is_port t p ≡ true → opened (device p) ≡ true → 64 ≤ q → among q (up t.on d p) ≡ true → opened (device q) ≡ true
+    pub opened_along : (d p q : ℕ) → 64 ≤ p → is_port t p ≡ true → opened (device p) ≡ true → 64 ≤ q → among q (up t.on d p) ≡ true → opened (device q) ≡ true
     opened_along zero p q deep known o high h =
         elim (among_cases q p [] (rw (up_none t p) at h)) [ inl e ↦ ap (λ (x : ℕ). opened (device x)) e ∙ o | inr e ↦ absurd (among_none q e) ]
     opened_along (suc d) p q deep known o high h =

@@ -30,12 +30,12 @@ use Rattle.exb_change_laws.proofs.Waiting.{NoneWaits, wakes_waits, answered_wait
 
 -- ---- who waits
 -- what an asker took: the answer that it waited for, or nothing changed
-record Took (a : AskerState) (m : Message) : Type 0 where
-  serial : (took a m).0.serial ≡ a.serial
-  free : (response : Response) → (took a m).1 ≡ taken.Answer response → ((took a m).0.waiting ≡ None) × ((request : Request) × (a.waiting ≡ Some request))
-  same : ((response : Response) → (took a m).1 ≢ taken.Answer response) → (took a m).0 ≡ a
+pub record Took (a : AskerState) (m : Message) : Type 0 where
+  pub serial : (took a m).0.serial ≡ a.serial
+  pub free : (response : Response) → (took a m).1 ≡ taken.Answer response → ((took a m).0.waiting ≡ None) × ((request : Request) × (a.waiting ≡ Some request))
+  pub same : ((response : Response) → (took a m).1 ≢ taken.Answer response) → (took a m).0 ≡ a
 
-took_is : (a : AskerState) (m : Message) → Took a m
+pub took_is : (a : AskerState) (m : Message) → Took a m
 took_is a m = record { serial = by_serial a.waiting m.body; free = λ response e. by_body a.waiting m.body response e refl; same = unchanged a a.waiting m.serial m.body }
   where
     by_serial : (o : Option Request) (content : Body) → (took_body a o m.serial content).0.serial ≡ a.serial
@@ -60,19 +60,19 @@ took_is a m = record { serial = by_serial a.waiting m.body; free = λ response e
           ]
         ]
 
-taken_cases : (u : Taken) → ((response : Response) × (u ≡ taken.Answer response)) ⊎ ((response : Response) → u ≢ taken.Answer response)
+pub taken_cases : (u : Taken) → ((response : Response) × (u ≡ taken.Answer response)) ⊎ ((response : Response) → u ≢ taken.Answer response)
 taken_cases (taken.Answer response) = inl (response, refl)
 taken_cases taken.Stale = inr (λ response e. absurd (cc))
 taken_cases taken.NotOurs = inr (λ response e. absurd (cc))
 
 -- where nothing is taken, nothing changes
-not_taken : (decide : Decide) (u : Taken) (s : State) → ((response : Response) → u ≢ taken.Answer response) → answered_where decide u s ≡ still s
+pub not_taken : (decide : Decide) (u : Taken) (s : State) → ((response : Response) → u ≢ taken.Answer response) → answered_where decide u s ≡ still s
 not_taken decide (taken.Answer response) s f = absurd (f response refl)
 not_taken decide taken.Stale s f = refl
 not_taken decide taken.NotOurs s f = refl
 
 -- where one who waits is set free, nobody waits
-others_free : (decide : Decide) (o : Option Work) (s : State) (n : ℕ) (a : AskerState) (request : Request) → s.work ≡ o → OneWaits s → a.waiting ≡ None → (s.askers n).waiting ≡ Some request →
+pub others_free : (decide : Decide) (o : Option Work) (s : State) (n : ℕ) (a : AskerState) (request : Request) → s.work ≡ o → OneWaits s → a.waiting ≡ None → (s.askers n).waiting ≡ Some request →
     NoneWaits (with_asker n a s)
 others_free decide None s n a request e h free w =
     absurd (let k : (s.askers n).waiting ≡ waited_for s.work n = h n in let z : Some request ≡ None = sym w ∙ (rw e at k) in cc)
@@ -118,7 +118,7 @@ pub one_waits_always : OneWaitsAlways
 one_waits_always t l b decide steps = runs_wait decide steps (first_system t l b) (λ n. refl)
 
 -- ---- serials
-abbrev one_if : Bool → ℕ
+abbrev pub one_if : Bool → ℕ
 one_if true = 1
 one_if false = 0
 
@@ -127,20 +127,20 @@ abbrev asked_at : (ℕ → AskerState) → AskAt → Asked
 asked_at askers a = record { extender = a.extender; message = (asked (askers a.extender) a.request).1 }
 
 -- By what is at work afterwards: nothing was asked, or the one request that is outstanding.
-abbrev AsksBy : Option Work → (ℕ → AskerState) → List Asked → (ℕ → AskerState) → Type 0
+abbrev pub AsksBy : Option Work → (ℕ → AskerState) → List Asked → (ℕ → AskerState) → Type 0
 AsksBy None old asks new = (asks ≡ []) × ((n : ℕ) → (new n).serial ≡ (old n).serial)
 AsksBy (Some w) old asks new = (asks ≡ asked_at old w.first ∷ []) × ((n : ℕ) → (new n).serial ≡ (old n).serial + one_if (n == w.first.extender))
 
-abbrev AsksIn : (ℕ → AskerState) → Moved → Type 0
+abbrev pub AsksIn : (ℕ → AskerState) → Moved → Type 0
 AsksIn old m = AsksBy m.state.work old m.asks m.state.askers
 
-works_ask : (j : Job) (x : Change) (q : Phase) (a : AskAt) (more : List AskAt) (s : State) → AsksIn s.askers (works j x q a more s)
+pub works_ask : (j : Job) (x : Change) (q : Phase) (a : AskAt) (more : List AskAt) (s : State) → AsksIn s.askers (works j x q a more s)
 works_ask j x q a more s = (refl, by_number)
   where
     by_number : (n : ℕ) → ((works j x q a more s).state.askers n).serial ≡ (s.askers n).serial + one_if (n == a.extender)
     by_number n = elim (cases_eq n a.extender) [ inl e ↦ rw (eq-eqb n a.extender e, e) refl | inr e ↦ rw (ne_eqb n a.extender e) (omega arith) ]
 
-cleans_ask : (j : Job) (x : Change) (left : List AskAt) (s : State) → AsksIn s.askers (cleans j x left s)
+pub cleans_ask : (j : Job) (x : Change) (left : List AskAt) (s : State) → AsksIn s.askers (cleans j x left s)
 cleans_ask j x [] s = (refl, λ n. refl)
 cleans_ask j x (a ∷ more) s = works_ask j x Cleaning a more s
 
@@ -169,7 +169,7 @@ module _ (decide : Decide) where
       subst (λ (asks : List Asked). AsksBy onward.state.work old (asks ++ onward.asks) onward.state.askers) (sym k.0) (asks_onward onward.state.work old m.state.askers onward.state.askers onward.asks k.1 (f e))
   after_start_asks old m js onward (Some w) e h f = h
 
-  goes_on_asks : (js : List Job) (s : State) → s.work ≡ None → AsksIn s.askers (goes_on decide js s)
+  pub goes_on_asks : (js : List Job) (s : State) → s.work ≡ None → AsksIn s.askers (goes_on decide js s)
   unfolding goes_on
   goes_on_asks [] s n = rw n (refl, λ n. refl)
   goes_on_asks (j ∷ js) s n =
@@ -230,7 +230,7 @@ module _ (decide : Decide) where
   numbered_from : (old mid : ℕ → AskerState) (m : Moved) → ((n : ℕ) → (mid n).serial ≡ (old n).serial) → Numbered mid m → Numbered old m
   numbered_from old mid m same h = record { serials = λ n. rw (sym (same n)) (h.serials n); numbered = h.numbered }
 
-  with_serial : (n : ℕ) (a : AskerState) (s : State) → a.serial ≡ (s.askers n).serial → (m : ℕ) → ((with_asker n a s).askers m).serial ≡ (s.askers m).serial
+  pub with_serial : (n : ℕ) (a : AskerState) (s : State) → a.serial ≡ (s.askers n).serial → (m : ℕ) → ((with_asker n a s).askers m).serial ≡ (s.askers m).serial
   with_serial n a s e m = elim (cases_eq m n) [ inl f ↦ rw (f, eq-eqb n n refl) e | inr f ↦ rw (ne_eqb m n f) refl ]
 
   message_numbered : (n : ℕ) (m : Message) (s : State) → Numbered s.askers (answered decide n m s)

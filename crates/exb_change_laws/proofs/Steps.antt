@@ -10,7 +10,7 @@ use Rattle.exb_changing.specs.declared.job.Job.TheVariants as job
 use Rattle.exb_changing.specs.Deciding.{Decide, bridge_after, release}
 use Rattle.exb_changing.specs.Machine.{Work, State, Moved, answered, answered_in, answered_where, beats_in, with_asker}
 use Rattle.exb_change_laws.specs.Systems.{System, Step, Order, Hear, Execute, Answer, Stray, Beat, answer_message, takes_answer, stepped, code_in, run}
-use Rattle.exb_change_laws.specs.Standing.{opened_by, Planning, Plans, IsSince, InPhase, StandsBy, waited_for, OneWaits, Stands, MayStep, StepsStand, RunsStand, MayRun, CodesAreZero}
+use Rattle.exb_change_laws.specs.Standing.{opened_by, AreFew, Planning, Plans, IsSince, InPhase, StandsBy, waited_for, OneWaits, Stands, MayStep, StepsStand, RunsStand, MayRun, CodesAreZero}
 use Rattle.exb_change_laws.proofs.Machine.{opened_more, fits_more, wakes_stands, execute_stands, answered_stands}
 use Rattle.exb_change_laws.proofs.Taking.{takes, stray_is_still}
 use Rattle.exb_change_laws.proofs.Waiting.{wakes_waits, answered_waits, none_waits, beats_waits}
@@ -51,16 +51,19 @@ module _ (p : Planning) where
         kept = h.kept;
         since = subst (λ (o : ℕ → Bool). IsSince w.phase (p.laid h.were h.before) all (p.laid o s.held)) k h.since;
         kinds = h.kinds;
+        now = h.now ∙ k;
+        asks = subst (λ (o : ℕ → Bool). AreFew o (w.first ∷ w.rest)) k h.asks;
+        last_asks = subst (λ (o : ℕ → Bool). AreFew o w.change.cleanup) k h.last_asks;
       }
 
   hearing_stands : (n : ℕ) (o : Option Work) (s : State) (all : ℕ → ExtenderTables) (answer : Option Response) → StandsBy p o s s.queue all answer → StandsBy p o (hearing n s) s.queue all answer
   hearing_stands n None s all answer h = (record { laid = (h.0).laid; exact = (h.0).exact; fits = (h.0).fits }, h.1)
-  hearing_stands n (Some w) s all answer h = record { left = h.left; old = h.old; bridge = h.bridge; during = h.during; exact = h.exact; fits = h.fits; answers = h.answers; before = h.before; were = h.were; had = h.had; kept = h.kept; since = h.since; kinds = h.kinds }
+  hearing_stands n (Some w) s all answer h = record { left = h.left; old = h.old; bridge = h.bridge; during = h.during; exact = h.exact; fits = h.fits; answers = h.answers; before = h.before; were = h.were; had = h.had; kept = h.kept; since = h.since; kinds = h.kinds; now = h.now; asks = h.asks; last_asks = h.last_asks }
 
   with_asker_stands : (n : ℕ) (a : AskerState) (o : Option Work) (s : State) (all : ℕ → ExtenderTables) (answer : Option Response) → StandsBy p o s s.queue all answer →
       StandsBy p o (with_asker n a s) s.queue all answer
   with_asker_stands n a None s all answer h = (record { laid = (h.0).laid; exact = (h.0).exact; fits = (h.0).fits }, h.1)
-  with_asker_stands n a (Some w) s all answer h = record { left = h.left; old = h.old; bridge = h.bridge; during = h.during; exact = h.exact; fits = h.fits; answers = h.answers; before = h.before; were = h.were; had = h.had; kept = h.kept; since = h.since; kinds = h.kinds }
+  with_asker_stands n a (Some w) s all answer h = record { left = h.left; old = h.old; bridge = h.bridge; during = h.during; exact = h.exact; fits = h.fits; answers = h.answers; before = h.before; were = h.were; had = h.had; kept = h.kept; since = h.since; kinds = h.kinds; now = h.now; asks = h.asks; last_asks = h.last_asks }
 
   beats_stands : (o : Option Work) (s : State) (all : ℕ → ExtenderTables) (answer : Option Response) → s.work ≡ o → StandsBy p o s s.queue all answer →
       StandsBy p (beats_in o s).state.work (beats_in o s).state (beats_in o s).state.queue all answer

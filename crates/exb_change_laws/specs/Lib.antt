@@ -12,3 +12,4 @@ pub mod Planned
 pub mod Begins
 pub mod Midway
 pub mod Knowing
+pub mod Opening

@@ -1,5 +1,5 @@
 -- What is true of the machine and the tables at every moment, whatever the plans are.
-use Rattle.std.specs.Prelude.{◌≡◌, ℕ, ◌==◌, ◌&&◌, ◌||◌, Bool, false, not, if◌then◌else◌, List, [], ◌∷◌, Option, Some, None}
+use Rattle.std.specs.Prelude.{◌≡◌, ℕ, ◌≤◌, ◌^◌, ◌==◌, ◌&&◌, ◌||◌, Bool, true, false, not, if◌then◌else◌, List, [], ◌∷◌, Option, Some, None, length}
 use Rattle.std.specs.List.{list_any}
 use Rattle.exb_model.specs.declared.command.Command.{Command}
 use Rattle.exb_model.specs.declared.event.Cause.{Cause}
@@ -38,6 +38,10 @@ opens (job.AutomaticUp p) opened = opened
 opens (job.Ordered n c) opened = opened
 
 -- ---- plans
+-- so many requests has a plan at most before its commit, and after it
+unfoldable pub most_asks : ℕ
+most_asks = 2 ^ 20
+
 -- What the plans of a kind of change are to the machine: which extenders there are; by which of them are opened, the
 -- tables where just what is held is laid, what holds of configuration and numbers at rest, and in the middle of a
 -- change from one configuration to another, and which jobs may be decided; and which commands may come.
@@ -49,9 +53,19 @@ pub record Planning : Type 1 where
   pub MayCome : Command → Type 0
   pub Fits : (ℕ → Bool) → Job → Type 0
 
+-- Requests go to opened extenders, and are at most 2 ^ 20.
+abbrev pub GoTo : (ℕ → Bool) → List AskAt → Type 0
+GoTo opened [] = Unit {0}
+GoTo opened (a ∷ more) = (opened a.extender ≡ true) × GoTo opened more
+
+pub record AreFew (opened : ℕ → Bool) (asks : List AskAt) : Type 0 where
+  pub go : GoTo opened asks
+  pub few : length asks ≤ most_asks
+
 -- What a plan promises. Its prepare goes from the tables of what is held to those of what is claimed, its cleanup
 -- from there to those of what is left, with no code but 0; and what holds at rest holds again. The prepare only adds
--- to the tables, and the cleanup only clears; all that was held is held where the numbers are claimed.
+-- to the tables, and the cleanup only clears; all that was held is held where the numbers are claimed. All that is asked goes
+-- to extenders that are opened after the job, and isn't much.
 pub record IsPlanned (p : Planning) (opened : ℕ → Bool) (b : Bridge) (h : Held) (j : Job) (x : Change) (claimed : Held) : Type 0 where
   pub prepared : RunsAt (p.laid opened h) x.prepare (p.laid (opens j opened) claimed)
   pub cleaned : RunsAt (p.laid (opens j opened) claimed) x.cleanup (p.laid (opens j opened) (release x claimed))
@@ -60,6 +74,8 @@ pub record IsPlanned (p : Planning) (opened : ℕ → Bool) (b : Bridge) (h : He
   pub adds : AllAdd x.prepare
   pub clears : AllClear x.cleanup
   pub kept : Keeps h claimed
+  pub first_asks : AreFew (opens j opened) x.prepare
+  pub last_asks : AreFew (opens j opened) x.cleanup
 
 -- each change that is decided is so planned, and no opening is refused
 pub record Plans (p : Planning) (decide : Decide) : Type 0 where
@@ -133,6 +149,11 @@ pub record Works (p : Planning) (w : Work) (s : State) (js : List Job) (all : �
   -- what was done so far, and what the requests left do
   pub since : IsSince w.phase (p.laid were before) all (p.laid (opened_by p.there js) s.held)
   pub kinds : AreKinds w.phase w.first w.rest w.change.cleanup
+  -- which extenders are opened now
+  pub now : opens w.job were ≡ opened_by p.there js
+  -- to whom the requests left go
+  pub asks : AreFew (opened_by p.there js) (w.first ∷ w.rest)
+  pub last_asks : AreFew (opened_by p.there js) w.change.cleanup
 
 abbrev pub StandsBy : Planning → Option Work → State → List Job → (ℕ → ExtenderTables) → Option Response → Type 0
 StandsBy p None s js all answer = Rests p s js all × (answer ≡ None)

@@ -4,6 +4,7 @@ ghost use Rattle.exb_change_laws.specs.Requests.{PlansRun, OpeningsRun, RestIsLa
 ghost use Rattle.exb_change_laws.specs.Begins.{SetupsBegin, Begins, RunsFromTheBeginning};
 ghost use Rattle.exb_change_laws.specs.Asking.{StepsWait, OneWaitsAlways, StepsNumber, SerialsCount};
 ghost use Rattle.exb_change_laws.specs.Knowing.{BeginsKnowing, StepsKnow};
+ghost use Rattle.exb_change_laws.specs.Opening.{BeginsInTurn, StepsKeepTurns, SerialsStayLow};
 ghost use Rattle.exb_change_laws.specs.Counts.{AnswersCount, HearingCounts, OthersLeaveCounts};
 ghost use Rattle.exb_change_laws.specs.Journal.{StepsTell, DecidedOnce};
 ghost use Rattle.exb_change_laws.specs.Strays.{StraysChangeNothing, OldAreStray};
@@ -175,4 +176,21 @@ pub fn begins_knowing()
 /// Each message that goes out goes to an extender of the tree, whatever comes.
 pub fn steps_know()
     ensures { StepsKnow }
+{}
+
+/// At the beginning no extender was asked anything, and each waits for its opening.
+pub fn begins_in_turn()
+    ensures { BeginsInTurn }
+{}
+
+/// Each step keeps that an extender is asked nothing before its opening, which begins with Open once it was heard; that
+/// the queue waits for an extender that wasn't heard, where nothing is outstanding; and that no extender is asked more than the
+/// jobs so far may ask.
+pub fn steps_keep_turns()
+    ensures { StepsKeepTurns }
+{}
+
+/// So no extender is asked as many as 2 to the power of 38 requests, where at most 65,536 commands were given.
+pub fn serials_stay_low()
+    ensures { SerialsStayLow }
 {}

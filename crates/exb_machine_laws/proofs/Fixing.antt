@@ -161,6 +161,8 @@ module _ (t : Shape) (l : Limits) (setting : IsSetting t l) where
         adds = k.adds;
         clears = k.clears;
         kept = k.kept;
+        first_asks = k.first_asks;
+        last_asks = k.last_asks;
       }
 
   pub fixing_plans : Plans (fixing t l) (decide t l)
@@ -197,6 +199,9 @@ module _ (t : Shape) (l : Limits) where
         kept = h.kept;
         since = h.since;
         kinds = h.kinds;
+        now = h.now;
+        asks = h.asks;
+        last_asks = h.last_asks;
       }
 
   -- what stands by these plans stands by those of the machine

@@ -11,14 +11,14 @@ use Rattle.exb_csp.specs.Spelling.{IsBytes}
 use Rattle.exb_csp.specs.Execute.{ExtenderTables}
 use Rattle.exb_extender.specs.declared.sends.Side.TheVariants as side
 use Rattle.exb_csp.specs.AllTables.{port_of}
-use Rattle.exb_extender.specs.Forwarding.{forwarding_of, sent_at, is_bare_control, names_channel, is_ignored, is_refused_kind, emitted, channel_tag}
+use Rattle.exb_extender.specs.Forwarding.{Sent, forwarding_of, sent_at, is_bare_control, names_channel, is_ignored, is_refused_kind, emitted, channel_tag}
 use Rattle.exb_extender.specs.Machine.{ExtenderState, IsExtender}
 use Rattle.exb_plans.specs.Held.{Held}
 use Rattle.exb_machine.specs.Extending.{port_number}
 use Rattle.exb_machine_laws.specs.Sessions.{Hands, Each, IsTagged, IsFrameOn, IsOnWay, FitsOn, Routes, IsNextHop}
 use Rattle.exb_machine_laws.proofs.Frames.{bare_is, read_typed, typed_not_bare, tag_fits, tagged_to_control, stripped_to_control, control_refused}
 use Rattle.exb_machine_laws.proofs.Trees.{trunk_above, above_there, hangs_there, extender_there, port_there}
-use Rattle.exb_machine_laws.proofs.Words.{each_range}
+use Rattle.exb_machine_laws.proofs.Words.{each_range, each_weaker}
 use Rattle.exb_machine_laws.proofs.Links.{SendFits}
 
 both_ways : (b : Bool) → b ≡ true → b ≡ false → ⊥
@@ -255,30 +255,44 @@ module _ (t : Shape) (tree : IsTree t) (h : Held) (round : TagRoundTrip) (P Q : 
         ])
 
 -- ---- a frame that comes from a station
+-- it goes up, and hasn't the destination of control frames
+pub record RisesAsData (x : Sent) : Type 0 where
+  pub side_is : x.side ≡ side.Up
+  pub data_frame : is_control_frame x.bytes ≡ false
+
+data_up : (f : List ℕ) (tag : Tag) → IsBytes f → is_refused_kind (kind_of f) ≡ false → 12 ≤ length f → is_control_frame (tagged f tag) ≡ false
+data_up f tag bytes let_in long =
+    elim (cases_Bool (is_control_frame (tagged f tag))) [
+      | inl control ↦ absurd (both_ways (is_refused_kind (kind_of f)) (control_refused f bytes (sym (tagged_to_control f tag long) ∙ control)).0 let_in)
+      | inr e ↦ e
+    ]
+
+let_in_long : (f : List ℕ) → is_refused_kind (kind_of f) ≡ false → 12 ≤ length f
+unfolding kind_of
+let_in_long f let_in =
+    elim (cases_lt (length f) 14) [
+      | inl l ↦ absurd (let k = rw (lt-ltb (length f) 14 l) at let_in in false≢true (sym k))
+      | inr l ↦ omega arith
+    ]
+
+or_false : (a b : Bool) → (a || b) ≡ false → (a ≡ false) × (b ≡ false)
+or_false true b e = absurd (false≢true (sym e))
+or_false false b e = (refl, e)
+
+pub station_sends : (q : ℕ) (x : ExtenderState) (f : List ℕ) → IsBytes f → x.tables.cascade q ≡ false → Each RisesAsData (emitted x.tables (side.Port q) f)
+unfolding emitted
+station_sends q x f bytes external =
+    rw external (
+    elim (cases_Bool (is_ignored (x.tables.own q) f)) [
+      | inl out ↦ rw out tt
+      | inr in_there ↦
+          let k = or_false (x.tables.own q == 0) (is_refused_kind (kind_of f)) in_there in
+          rw in_there (record { side_is = refl; data_frame = data_up f (channel_tag (x.tables.own q)) bytes k.1 (let_in_long f k.1) }, tt)
+    ])
+
 module _ (t : Shape) (h : Held) (P Q : ℕ → ℕ → Body → Type 0) where
-  data_up : (n : ℕ) (f : List ℕ) (tag : Tag) → IsBytes f → is_refused_kind (kind_of f) ≡ false → 12 ≤ length f → FitsOn t h Q n (tagged f tag)
-  data_up n f tag bytes let_in long control =
-      absurd (both_ways (is_refused_kind (kind_of f)) (control_refused f bytes (sym (tagged_to_control f tag long) ∙ control)).0 let_in)
-
-  let_in_long : (f : List ℕ) → is_refused_kind (kind_of f) ≡ false → 12 ≤ length f
-  unfolding kind_of
-  let_in_long f let_in =
-      elim (cases_lt (length f) 14) [
-        | inl l ↦ absurd (let k = rw (lt-ltb (length f) 14 l) at let_in in false≢true (sym k))
-        | inr l ↦ omega arith
-      ]
-
-  or_false : (a b : Bool) → (a || b) ≡ false → (a ≡ false) × (b ≡ false)
-  or_false true b e = absurd (false≢true (sym e))
-  or_false false b e = (refl, e)
-
   pub sent_from_station : (n q : ℕ) (x : ExtenderState) (f : List ℕ) → IsBytes f → x.tables.cascade q ≡ false → Each (SendFits t h P Q n) (emitted x.tables (side.Port q) f)
-  unfolding emitted
   sent_from_station n q x f bytes external =
-      rw external (
-      elim (cases_Bool (is_ignored (x.tables.own q) f)) [
-        | inl out ↦ rw out tt
-        | inr in_there ↦
-            let k = or_false (x.tables.own q == 0) (is_refused_kind (kind_of f)) in_there in
-            rw in_there (record { rises = λ e. data_up n f (channel_tag (x.tables.own q)) bytes k.1 (let_in_long f k.1); sinks = λ j c e hangs. absurd (up_port e) }, tt)
-      ])
+      each_weaker RisesAsData (SendFits t h P Q n) (emitted x.tables (side.Port q) f)
+      (λ y k. record { rises = λ e control. absurd (both_ways (is_control_frame y.bytes) control k.data_frame); sinks = λ j c e hangs. absurd (up_port (sym k.side_is ∙ e)) })
+      (station_sends q x f bytes external)

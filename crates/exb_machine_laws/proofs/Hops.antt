@@ -71,7 +71,7 @@ apart t (suc d) p x y a b =
     ]
 
 -- a way has one port of each extender at most
-alone_on_way : (t : Shape) → IsTree t → (q x y : ℕ) → is_port t q ≡ true → 64 ≤ x → 64 ≤ y → device x ≡ device y → above t x q ≡ true → above t y q ≡ true → x ≡ y
+pub alone_on_way : (t : Shape) → IsTree t → (q x y : ℕ) → is_port t q ≡ true → 64 ≤ x → 64 ≤ y → device x ≡ device y → above t x q ≡ true → above t y q ≡ true → x ≡ y
 alone_on_way t tree q x y known hx hy same a b =
     let ax : among x (up t.on 64 q) ≡ true = ap (among x) (sym (path_is t q)) ∙ sym (among_above t x q) ∙ a in
     let by : among y (up t.on 64 q) ≡ true = ap (among y) (sym (path_is t q)) ∙ sym (among_above t y q) ∙ b in

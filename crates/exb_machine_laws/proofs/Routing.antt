@@ -37,7 +37,7 @@ none_some : {x : ℕ} → None ≡ Some x → ⊥
 none_some e = cc
 
 -- ---- what is laid at most
-left_add : (answer : Option Response) (all end : ℕ → ExtenderTables) (first : AskAt) (rest : List AskAt) → RunsLeft answer all first rest end → AllAdd (first ∷ rest) → AreWithin all end
+pub left_add : (answer : Option Response) (all end : ℕ → ExtenderTables) (first : AskAt) (rest : List AskAt) → RunsLeft answer all first rest end → AllAdd (first ∷ rest) → AreWithin all end
 left_add None all end first rest r a = runs_add (first ∷ rest) all end r a
 left_add (Some response) all end first rest r a = runs_add rest all end r a.1
 
@@ -84,17 +84,17 @@ keeps_now t l tree y z before after n channel there deep some e =
     subst (λ (i : ℕ). z.state.held.port (trunk t n) i ≡ Some (on t n)) same (b.fixed n c.0 there deep c.1 c.2)
 
 -- ---- routes
+-- no group's row
+pub no_group : (t : Shape) (q : ℕ) (set : List ℕ) → set ≡ [] → group_pair t q set ≡ false
+no_group t q set e =
+    elim (cases_Bool (covers t (is_listed set) q)) [
+      | inr f ↦ f
+      | inl f ↦ absurd (let c : Covered t (is_listed set) q = covers-true t (is_listed set) q f in false≢true (ap (λ (xs : List ℕ). is_listed xs c.member) (sym e) ∙ c.chosen))
+    ]
+
 module _ (t : Shape) (tree : IsTree t) (y : System) (stands : Stands (planning t) y) (high : AreHigh t y.state.held) (far : ℕ → ExtenderState) (is : (n : ℕ) → (far n).tables ≡ y.tables n) where
   under : IsUnderLaid t y
   under = under_laid t y stands
-
-  -- no group's row
-  no_group : (q : ℕ) (set : List ℕ) → set ≡ [] → group_pair t q set ≡ false
-  no_group q set e =
-      elim (cases_Bool (covers t (is_listed set) q)) [
-        | inr f ↦ f
-        | inl f ↦ absurd (let c : Covered t (is_listed set) q = covers-true t (is_listed set) q f in false≢true (ap (λ (xs : List ℕ). is_listed xs c.member) (sym e) ∙ c.chosen))
-      ]
 
   or_left : (a b : Bool) → b ≡ false → (a || b) ≡ true → a ≡ true
   or_left true b e f = refl
@@ -158,7 +158,7 @@ module _ (t : Shape) (tree : IsTree t) (y : System) (stands : Stands (planning t
       let both = and_parts (has_port t m p) (channel_pair t (is_shown t under.opened) Q (y.state.held.port (trunk t (device Q)) channel) || group_pair t Q (y.state.held.set (trunk t (device Q)) channel)) ((under.within m).pairs channel p mine) in
       let one : channel_pair t (is_shown t under.opened) Q (y.state.held.port (trunk t (device Q)) channel) ≡ true =
       or_left (channel_pair t (is_shown t under.opened) Q (y.state.held.port (trunk t (device Q)) channel)) (group_pair t Q (y.state.held.set (trunk t (device Q)) channel))
-      (no_group Q (y.state.held.set (trunk t (device Q)) channel) (high (trunk t (device Q)) channel (trunk_low t tree Q o.deep o.known) (trunk_cascade t tree Q o.deep o.known) some (omega arith))) both.1
+      (no_group t Q (y.state.held.set (trunk t (device Q)) channel) (high (trunk t (device Q)) channel (trunk_low t tree Q o.deep o.known) (trunk_cascade t tree Q o.deep o.known) some (omega arith))) both.1
       in
       let here : y.state.held.port (trunk t (device Q)) channel ≡ Some q = subst (λ (i : ℕ). y.state.held.port (trunk t i) channel ≡ Some q) (sym o.device_is) holds in
       let two : channel_pair t (is_shown t under.opened) Q (Some q) ≡ true = subst (λ (x : Option ℕ). channel_pair t (is_shown t under.opened) Q x ≡ true) here one in

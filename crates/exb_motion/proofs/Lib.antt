@@ -4,16 +4,16 @@ mod Naming
 pub mod Histories
 mod Deciding
 mod Jobs
-mod Keeping
+pub mod Keeping
 pub mod Standing
 mod Pairs
 mod Marks
 mod Telling
-mod Going
+pub mod Going
 mod Ticks
 mod InFile
 mod Opening
 mod Numbers
-mod Playing
+pub mod Playing
 mod Eager
-mod Setups
+pub mod Setups

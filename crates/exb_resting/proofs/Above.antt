@@ -1,7 +1,7 @@
 -- What stands above what: by ports, by any number of links, and one link higher.
-use Rattle.std.proofs.Common.{◌≡◌, ◌≢◌, ◌⊎◌, inl, inr, ℕ, zero, suc, ◌≤◌, ◌<◌, true, List, [], ◌∷◌, refl, ap, sym, ◌∙◌, subst, arith}
-use Rattle.std.proofs.lemmas.Bool.{cases_eq, cases_lt}
-use Rattle.exb_model.specs.Tree.{Shape, IsTree, HangsOn, device, on, is_extender, depth, up, path, above}
+use Rattle.std.proofs.Common.{◌≡◌, ◌≢◌, ◌⊎◌, inl, inr, ℕ, zero, suc, ◌≤◌, ◌<◌, true, List, [], ◌∷◌, ap, sym, ◌∙◌, subst, arith}
+use Rattle.std.proofs.lemmas.Bool.{cases_lt}
+use Rattle.exb_model.specs.Tree.{Shape, IsTree, HangsOn, device, on, is_extender, depth, up, above}
 use Rattle.exb_model.proofs.TreeOrder.{less_deep}
 use Rattle.exb_model.proofs.TreeWays.{up_none, up_high, up_low, among, among_cases, among_none, among_above, path_is}
 use Rattle.exb_machine_laws.proofs.Trees.{hangs_there, above_there}

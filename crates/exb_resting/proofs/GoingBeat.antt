@@ -1,21 +1,13 @@
 -- A beat puts control words on the way of their extenders, which read as they should.
-use Rattle.std.proofs.Common.{◌≡◌, ◌≢◌, ◌⊎◌, inl, inr, ℕ, zero, suc, ◌+◌, ◌≤◌, ◌<◌, ◌^◌, Bool, true, false, cond, List, [], ◌∷◌, length, Option, Some, None, refl, ap, sym, ◌∙◌, subst, arith}
-use Rattle.std.specs.Prelude.{slice_index}
-use Rattle.std.specs.List.{range_with_len}
-use Rattle.std.proofs.lemmas.Bool.{cases_eq}
+use Rattle.std.proofs.Common.{◌≡◌, ℕ, zero, suc, ◌+◌, ◌≤◌, Bool, true, false, cond, List, [], ◌∷◌, length, Option, Some, None, refl, ap, sym, ◌∙◌, subst, arith}
 use Rattle.exb_model.specs.Setup.{Limits}
-use Rattle.exb_model.specs.Tree.{Shape, IsTree, HangsOn, is_extender}
+use Rattle.exb_model.specs.Tree.{Shape, IsTree, is_extender}
 use Rattle.exb_frame.specs.TagValues.{TagRoundTrip}
 use Rattle.exb_ecp.specs.declared.stop_and_wait.Beat.{Beat as Due}
 use Rattle.exb_ecp.specs.declared.stop_and_wait.Beat.TheVariants as due
 use Rattle.exb_ecp.specs.Machine.{Sending, State as Ecp, beaten, beat_of}
-use Rattle.exb_csp.specs.declared.message.Body.TheVariants as body
 use Rattle.exb_csp.specs.Reading.{read_message}
-use Rattle.exb_extender.specs.declared.sends.Side.TheVariants as side
-use Rattle.exb_extender.specs.Forwarding.{Sent}
 use Rattle.exb_extender.specs.Machine.{ExtenderState, Beats as EndBeats, react, beats as extender_beats}
-use Rattle.exb_link.specs.declared.word.Stamp.{Stamp}
-use Rattle.exb_link.specs.declared.word.Word.{Word}
 use Rattle.exb_plans.specs.Held.{Held}
 use Rattle.exb_changing.specs.Beginning.{first_held}
 use Rattle.exb_changing.specs.declared.asked.Asked.{Asked}
@@ -28,32 +20,30 @@ use Rattle.exb_change_laws.specs.Systems.{Beat as BeatStep, stepped as machine_s
 use Rattle.exb_change_laws.proofs.Knowing.{steps_know}
 use Rattle.exb_change_laws.proofs.Steps.{any_steps_stand}
 use Rattle.exb_machine.specs.Worlds.{World, Beat, with_near, at, next_beat}
-use Rattle.exb_machine.specs.Effects.{only, each}
+use Rattle.exb_machine.specs.Effects.{only}
 use Rattle.exb_machine.specs.Extending.{reacts}
 use Rattle.exb_machine_laws.specs.Fixing.{fixing}
-use Rattle.exb_machine.specs.Hearing.{bridge_request, sends_again, beats_near, moves}
+use Rattle.exb_machine.specs.Hearing.{bridge_request, sends_again, beats_near}
 use Rattle.exb_machine_laws.specs.Sessions.{Each, AreLow, AreSent, KeepsCascades}
 use Rattle.exb_machine_laws.specs.Simulation.{system_of, IsSound}
-use Rattle.exb_machine.specs.Stepping.{if_there, stepped}
+use Rattle.exb_machine.specs.Stepping.{stepped}
 use Rattle.exb_machine_laws.proofs.Beating.{has_beaten, beat_low}
 use Rattle.exb_machine_laws.proofs.Fixing.{fixing_plans}
-use Rattle.exb_machine_laws.proofs.Words.{at_same, at_here, at_other, each_weaker}
+use Rattle.exb_machine_laws.proofs.Words.{at_same, at_other, each_weaker}
 use Rattle.exb_machine_laws.proofs.Writing.{IsWritten, moved_wrote, all_be_sent}
 use Rattle.exb_resting.specs.Ends.{Request as Asks}
-use Rattle.exb_resting.specs.Going.{IsDevice, IsGoing, HasRoom}
-use Rattle.exb_resting.specs.Left.{IsOfSerial}
+use Rattle.exb_resting.specs.Going.{IsGoing}
 use Rattle.exb_resting.specs.Placed.{WordPlaced, ReadsDown, ReadsUp}
 use Rattle.exb_resting.specs.Streams.{message_note}
-use Rattle.exb_resting.proofs.BeatLaw.{far_loop, far_turn, after_near, after_control, after_all, stepped_is, near_stays, Until, until, within}
-use Rattle.exb_resting.proofs.ControlBeat.{Moves, moves_stays}
+use Rattle.exb_resting.proofs.BeatLaw.{far_loop, far_turn, after_near, after_control, after_all, stepped_is, near_stays, until}
 use Rattle.exb_resting.proofs.EndSteps.{IsAged, was_aged}
 use Rattle.exb_resting.proofs.FarLoop.{far_now}
 use Rattle.exb_resting.proofs.Grows.{MaySend, does_grows, grows_then, none_grows, same_links}
-use Rattle.exb_resting.proofs.NearAll.{Stays, near_loop, near_turn, near_beats_near}
+use Rattle.exb_resting.proofs.NearAll.{near_loop, near_turn, near_beats_near}
 use Rattle.exb_resting.proofs.PlacedSteps.{own_rises}
 use Rattle.exb_resting.proofs.Putting.{Puts, IsAskable, GoesWell, requests, to_extender_puts, moves_puts}
 use Rattle.exb_resting.proofs.Speaking.{Says, beats_says}
-use Rattle.exb_resting.proofs.Turns.{SameEnds, to_extender_ends, ends_then, same_ends}
+use Rattle.exb_resting.proofs.Turns.{to_extender_ends}
 use Rattle.exb_resting.proofs.Well.{to_first}
 
 -- what an end of the bridge sends can be sent again

@@ -1,17 +1,11 @@
--- Each step on a link and each beat keep what is shown of a world, where what is left to be shown holds before and after.
-use Rattle.std.proofs.Common.{◌≡◌, ◌≢◌, ◌⊎◌, inl, inr, ℕ, zero, suc, ◌+◌, ◌≤◌, ◌<◌, ◌^◌, nat_lt, Bool, true, false, cond, List, [], ◌∷◌, Option, Some, None, filter, refl, ap, sym, ◌∙◌, subst, arith}
-use Rattle.std.specs.Prelude.{slice_index}
-use Rattle.std.proofs.lemmas.Bool.{cases_eq}
-use Rattle.exb_model.specs.declared.command.Command.{Command}
-use Rattle.exb_model.specs.declared.event.Event.{Event}
+-- Each step on a link and each beat keep a world going that is orderly before and after.
+use Rattle.std.proofs.Common.{◌≡◌, ℕ, zero, suc, ◌+◌, Bool, true, false, cond, List, [], ◌∷◌, Option, Some, None, filter, refl, sym, ◌∙◌, subst, arith}
 use Rattle.exb_model.specs.Setup.{Limits}
 use Rattle.exb_model.specs.Tree.{Shape, IsTree, is_extender}
 use Rattle.exb_frame.specs.TagValues.{TagRoundTrip}
 use Rattle.exb_csp.specs.declared.message.Body.TheVariants as body
-use Rattle.exb_csp.specs.declared.message.Message.{Message}
 use Rattle.exb_csp.specs.declared.message.Request.{Request}
 use Rattle.exb_csp.specs.Spelling.{IsBytes}
-use Rattle.exb_lldp.specs.declared.announce.Announce.{Announce}
 use Rattle.exb_session.specs.Asking.{AskerState}
 use Rattle.exb_extender.specs.declared.sends.Side.TheVariants as side
 use Rattle.exb_extender.specs.Forwarding.{is_bare_control}
@@ -26,23 +20,23 @@ use Rattle.exb_changing.specs.Deciding.{decide}
 use Rattle.exb_changing.specs.Machine.{Work, answered}
 use Rattle.exb_change_laws.specs.Knowing.{KnowsWork}
 use Rattle.exb_change_laws.specs.Planned.{IsSetting}
-use Rattle.exb_machine.specs.Worlds.{World, Way, Up, Down, Step, Carry, Control, Lose, Beat, with_up, with_down, with_far, at}
+use Rattle.exb_machine.specs.Worlds.{World, Way, Up, Down, Step, Beat, with_up, with_down, with_far, at}
 use Rattle.exb_machine.specs.Allowing.{Can}
 use Rattle.exb_machine.specs.Controls.{announced}
-use Rattle.exb_machine_laws.specs.Laws.{HasBytes, ordered_by, StepsStaySound}
-use Rattle.exb_machine_laws.specs.Sessions.{Each, AreLow, AreSent, CanBeSent, CanAsk, WasAsked, WritesIn, WritesWork}
+use Rattle.exb_machine_laws.specs.Laws.{HasBytes, ordered_by}
+use Rattle.exb_machine_laws.specs.Sessions.{Each, AreLow, AreSent, CanBeSent, CanAsk, WritesIn}
 use Rattle.exb_machine_laws.specs.Simulation.{IsSound}
 use Rattle.exb_machine.specs.Stepping.{words_on, with_words, takes, takes_any, first_data, control_at, rest_of, stepped}
 use Rattle.exb_machine_laws.proofs.Beating.{sound_after}
 use Rattle.exb_machine_laws.proofs.Runs.{steps_stay_sound}
 use Rattle.exb_machine_laws.proofs.Steps.{kept}
 use Rattle.exb_machine_laws.proofs.Taking.{IsOutstanding, outstanding}
-use Rattle.exb_machine_laws.proofs.Words.{at_same, at_here, at_other, each_weaker, each_filter, each_get, each_without_data, each_without_control}
+use Rattle.exb_machine_laws.proofs.Words.{at_same, each_weaker, each_filter, each_get, each_without_data, each_without_control}
 use Rattle.exb_machine_laws.proofs.Writing.{IsWritten, all_be_sent}
 use Rattle.exb_resting.specs.Facts.{OnLink, carries, delivers, loses}
 use Rattle.exb_resting.specs.Going.{IsDevice, IsGoing, IsOrderly, HasRoom}
 use Rattle.exb_resting.specs.Placed.{WordPlaced, ReadsDown, ReadsUp, ArePlaced}
-use Rattle.exb_resting.proofs.BeatLaw.{far_loop, far_turn, after_control, after_all, stepped_is, until}
+use Rattle.exb_resting.proofs.BeatLaw.{far_loop, far_turn, after_control, stepped_is, until}
 use Rattle.exb_resting.proofs.BeatLeft.{CanAskAgain}
 use Rattle.exb_resting.proofs.EndsLeft.{EndsLeft, CanGoOn, step_left, beat_left}
 use Rattle.exb_resting.proofs.FarLeft.{MayHear, taken_up_far}
@@ -51,7 +45,7 @@ use Rattle.exb_resting.proofs.GoingBeat.{beat_puts}
 use Rattle.exb_resting.proofs.Hearable.{all_may_hear}
 use Rattle.exb_resting.proofs.NearLeft.{CanSend}
 use Rattle.exb_resting.proofs.PlacedSteps.{grown, above_puts, below_puts}
-use Rattle.exb_resting.proofs.Putting.{IsAskable, GoesWell, HearsWell}
+use Rattle.exb_resting.proofs.Putting.{IsAskable, HearsWell}
 use Rattle.exb_resting.proofs.Rising.{each_far}
 use Rattle.exb_resting.proofs.Well.{hears_well}
 
@@ -66,7 +60,7 @@ has_bytes _ (loses n way k) = tt
 
 module _ (t : Shape) (l : Limits) (tree : IsTree t) (setting : IsSetting t l) (round : TagRoundTrip) where
   -- ---- the sessions
-  sound_step : (step : Step) (w : World) → HasBytes step → Can t w step → IsGoing t l w → IsOrderly t w → IsOrderly t (stepped t l step w).world → IsSound t l (stepped t l step w).world
+  pub sound_step : (step : Step) (w : World) → HasBytes step → Can t w step → IsGoing t l w → IsOrderly t w → IsOrderly t (stepped t l step w).world → IsSound t l (stepped t l step w).world
   sound_step step w has can k o after =
       sound_after t l tree setting round (ordered_by step) w (stepped t l step w).world (stepped t l step w).events k.sound
       (steps_stay_sound round t l setting w step k.sound (record { can = can; has = has; bytes = o.bytes; low = low_of w.control.askers o.room; after = low_of (stepped t l step w).world.control.askers after.room }))

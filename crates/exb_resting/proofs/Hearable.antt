@@ -1,20 +1,15 @@
 -- What comes to an extender in a sound world may be asked of it: its answers can be sent, and its first request is Open.
-use Rattle.std.proofs.Common.{◌≡◌, inl, inr, ℕ, suc, ◌+◌, ◌≤◌, ◌<◌, ◌^◌, true, false, List, drop, Option, Some, None, Ok, refl, ap, sym, ◌∙◌, subst, arith}
+use Rattle.std.proofs.Common.{◌≡◌, inl, inr, ℕ, ◌+◌, ◌≤◌, ◌<◌, ◌^◌, true, List, Option, Some, refl, ap, sym, ◌∙◌, subst, arith}
 use Rattle.std.specs.Prelude.{IfSome}
 use Rattle.exb_model.specs.Setup.{Limits}
 use Rattle.exb_model.specs.Tree.{Shape, IsTree, is_extender}
 use Rattle.exb_frame.specs.TagValues.{TagRoundTrip}
-use Rattle.exb_ecp.specs.declared.pdu.Pdu.{Pdu}
-use Rattle.exb_ecp.specs.Frames.{pdu_in}
 use Rattle.exb_csp.specs.declared.message.Body.{Body}
 use Rattle.exb_csp.specs.declared.message.Body.TheVariants as body
-use Rattle.exb_csp.specs.declared.message.Message.{Message}
 use Rattle.exb_csp.specs.declared.message.Request.{Request}
 use Rattle.exb_csp.specs.declared.message.Response.{Response}
 use Rattle.exb_csp.specs.Execute.{response_to}
-use Rattle.exb_csp.specs.Reading.{read_message}
 use Rattle.exb_csp.specs.Spelling.{HasSpelling}
-use Rattle.exb_session.specs.Asking.{AskerState}
 use Rattle.exb_session.specs.Answering.{stored_message}
 use Rattle.exb_extender.specs.Forwarding.{is_bare_control}
 use Rattle.exb_extender.specs.Machine.{ExtenderState, is_open}
@@ -22,7 +17,7 @@ use Rattle.exb_extender.proofs.ControlLemmas.{answer_fits, response_spelled}
 use Rattle.exb_change_laws.specs.Planned.{IsSetting}
 use Rattle.exb_link.specs.declared.word.Word.{Word}
 use Rattle.exb_machine.specs.Worlds.{World}
-use Rattle.exb_machine_laws.specs.Sessions.{Each, Hands, WasAsked, IsAsked, AskedOf, IsOnWay, WordFits, WorldFits, ArePaired, AreLow, CanBeSent}
+use Rattle.exb_machine_laws.specs.Sessions.{Each, Hands, WasAsked, IsAsked, AskedOf, IsOnWay, WordFits, ArePaired, AreLow, CanBeSent}
 use Rattle.exb_machine_laws.specs.Simulation.{IsSound}
 use Rattle.exb_machine_laws.proofs.Forwarding.{tagged_bare}
 use Rattle.exb_machine_laws.proofs.Frames.{bare_is}

@@ -1,14 +1,10 @@
--- What is shown of a world and what is left to be shown of it give the facts that the bound on settling needs.
-use Rattle.std.proofs.Common.{◌≡◌, ◌≢◌, ◌⊎◌, inl, inr, ℕ, suc, ◌+◌, ◌≤◌, ◌<◌, ◌==◌, Bool, true, false, cond, List, [], ◌∷◌, drop, Option, Some, None, Ok, refl, ap, sym, ◌∙◌, subst, arith, eq-eqb}
+-- A world that is going and orderly has the facts that the bound on settling needs.
+use Rattle.std.proofs.Common.{◌≡◌, ◌≢◌, ◌⊎◌, inl, inr, ℕ, ◌≤◌, Bool, true, false, List, [], ◌∷◌, Option, Some, None, refl, ap, sym, ◌∙◌, subst, arith, eq-eqb}
 use Rattle.exb_model.specs.Setup.{Limits}
-use Rattle.exb_model.specs.Tree.{Shape, IsTree, on, is_extender, trunk}
+use Rattle.exb_model.specs.Tree.{Shape, IsTree, on, is_extender}
 use Rattle.exb_frame.specs.TagValues.{TagRoundTrip}
-use Rattle.exb_ecp.specs.declared.pdu.Pdu.{Pdu}
 use Rattle.exb_csp.specs.declared.message.Body.{Body}
-use Rattle.exb_csp.specs.declared.message.Body.TheVariants as body
-use Rattle.exb_csp.specs.declared.message.Message.{Message}
 use Rattle.exb_csp.specs.declared.message.Request.{Request}
-use Rattle.exb_csp.specs.declared.message.RequestKind.{RequestKind}
 use Rattle.exb_csp.specs.declared.message.Response.{Response}
 use Rattle.exb_csp.specs.Kinds.{kind_of, number_of}
 use Rattle.exb_csp.specs.Spelling.{IsBytes}
@@ -16,25 +12,23 @@ use Rattle.exb_session.specs.Kinds.{same_kind}
 use Rattle.exb_extender.specs.Forwarding.{has_etag_type, is_bare_control, channel_tag}
 use Rattle.exb_model.specs.Frames.{is_control_frame}
 use Rattle.exb_link.specs.declared.word.Word.{Word}
-use Rattle.exb_link.specs.Words.{is_control}
 use Rattle.exb_plans.specs.Held.{Held}
 use Rattle.exb_changing.specs.Beginning.{first_held}
 use Rattle.exb_changing.specs.Machine.{Work}
 use Rattle.exb_change_laws.specs.Planned.{IsSetting}
-use Rattle.exb_change_laws.specs.Standing.{StandsBy, Works, Answers}
+use Rattle.exb_change_laws.specs.Standing.{StandsBy}
 use Rattle.exb_machine.specs.Worlds.{World}
 use Rattle.exb_machine_laws.specs.Fixing.{fixing}
-use Rattle.exb_machine_laws.specs.Sessions.{Each, Hands, IsAnswered, WasAnswered, IsTagged, IsFrameOn, IsOnWay, FitsOn, WordFits, AskedOf, StoredAt, ArePaired, KeepsCascades, Routes}
+use Rattle.exb_machine_laws.specs.Sessions.{Each, Hands, IsAnswered, WasAnswered, IsTagged, IsOnWay, WordFits, StoredAt, ArePaired, KeepsCascades}
 use Rattle.exb_machine_laws.specs.Simulation.{answer_at, answer_in, system_of, IsSound}
 use Rattle.exb_machine_laws.proofs.Fixing.{forget, fixed_now}
 use Rattle.exb_machine_laws.proofs.Frames.{bare_is, read_typed}
 use Rattle.exb_machine_laws.proofs.Routing.{stands_route}
 use Rattle.exb_machine_laws.proofs.Taking.{IsOutstanding, outstanding}
-use Rattle.exb_machine_laws.proofs.Trees.{hangs_there}
 use Rattle.exb_resting.specs.Facts.{Facts, IsOfKind, IsAbove}
 use Rattle.exb_resting.specs.Going.{IsGoing, IsOrderly}
-use Rattle.exb_resting.specs.Left.{KindDown, KindUp, WordLeft, Left}
-use Rattle.exb_resting.specs.Placed.{IsPlaced, PlacedOn, WordPlaced, ReadsDown, ReadsUp, ArePlaced}
+use Rattle.exb_resting.specs.Left.{KindDown, KindUp, WordLeft}
+use Rattle.exb_resting.specs.Placed.{IsPlaced, WordPlaced, ReadsDown, ReadsUp}
 use Rattle.exb_resting.specs.Streams.{addressee, plain}
 use Rattle.exb_resting.proofs.Decoding.{bare_addressed, bare_plain, tagged_read, tagged_addressed, tagged_plain}
 use Rattle.exb_resting.proofs.FromFits.{facts_from}

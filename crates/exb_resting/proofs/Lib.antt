@@ -76,3 +76,8 @@ mod GoingSteps
 -- the laws
 mod Windows
 mod Orderly
+pub mod Reached
+pub mod OrderShown
+pub mod OtherSteps
+pub mod SerialsRise
+pub mod Settles

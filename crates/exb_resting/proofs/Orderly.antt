@@ -1,7 +1,7 @@
--- A world that begins as it must keeps the facts that the bound on settling needs, as long as what is left to be shown stays so.
-use Rattle.std.proofs.Common.{◌≡◌, ◌⊎◌, inl, inr, ℕ, ◌≤◌, ◌<◌, true, List, [], ◌∷◌, Option, Some, None, slice_index, refl, sym, subst, arith}
+-- A world that begins going keeps the facts that the bound on settling needs, as long as it stays orderly.
+use Rattle.std.proofs.Common.{◌≡◌, inl, inr, ℕ, List, [], ◌∷◌, Some, None, slice_index, refl, sym, subst, arith}
 use Rattle.exb_model.specs.Setup.{Limits}
-use Rattle.exb_model.specs.Tree.{Shape, IsTree, is_extender}
+use Rattle.exb_model.specs.Tree.{Shape}
 use Rattle.exb_frame.specs.TagValues.{TagRoundTrip}
 use Rattle.exb_csp.specs.declared.message.Request.{Request}
 use Rattle.exb_ecp.specs.Machine.{Sending, after, new_state}

@@ -1,17 +1,13 @@
 -- Whoever takes a word in a sound world, and a beat, keep that control words stand on the way of their extenders and read as they should.
-use Rattle.std.proofs.Common.{◌≡◌, ◌⊎◌, inl, inr, ℕ, zero, suc, ◌+◌, ◌≤◌, ◌<◌, ◌^◌, nat_lt, Bool, true, false, cond, List, [], ◌∷◌, ◌++◌, length, Option, Some, None, filter, refl, ap, sym, ◌∙◌, subst, arith}
-use Rattle.std.proofs.lemmas.Bool.{cases_Bool, cases_lt, lt-ltb, le-ltb}
+use Rattle.std.proofs.Common.{◌≡◌, inl, inr, ℕ, ◌≤◌, Bool, true, false, cond, List, Option, refl, sym, ◌∙◌, subst}
+use Rattle.std.proofs.lemmas.Bool.{cases_lt, lt-ltb, le-ltb}
 use Rattle.exb_model.specs.Setup.{Limits}
-use Rattle.exb_model.specs.Tree.{Shape, HangsOn, IsTree, device, on, is_extender}
+use Rattle.exb_model.specs.Tree.{Shape, IsTree, device, on, is_extender}
 use Rattle.exb_frame.specs.TagValues.{TagRoundTrip}
-use Rattle.exb_ecp.specs.declared.stop_and_wait.Beat.{Beat as Due}
-use Rattle.exb_ecp.specs.declared.stop_and_wait.Beat.TheVariants as due
-use Rattle.exb_ecp.specs.Machine.{Sending, State as Ecp, beaten, beat_of}
 use Rattle.exb_csp.specs.Spelling.{IsBytes}
 use Rattle.exb_extender.specs.declared.sends.Side.TheVariants as side
-use Rattle.exb_csp.specs.AllTables.{port_of}
 use Rattle.exb_extender.specs.Forwarding.{Sent, emitted, is_bare_control}
-use Rattle.exb_extender.specs.Machine.{ExtenderState, Arrives, Beats, react, hears}
+use Rattle.exb_extender.specs.Machine.{ExtenderState, Arrives, react, hears}
 use Rattle.exb_link.specs.declared.word.Stamp.{Stamp}
 use Rattle.exb_link.specs.declared.word.Word.{Word}
 use Rattle.exb_plans.specs.Held.{Held}
@@ -19,17 +15,16 @@ use Rattle.exb_changing.specs.Beginning.{first_held}
 use Rattle.exb_change_laws.specs.Planned.{IsSetting}
 use Rattle.exb_machine.specs.Worlds.{World, Up, Down}
 use Rattle.exb_machine.specs.Effects.{only}
-use Rattle.exb_machine.specs.Extending.{port_number, reacts, takes_from_below}
-use Rattle.exb_machine.specs.Relaying.{bridge_takes}
+use Rattle.exb_machine.specs.Extending.{port_number, reacts}
 use Rattle.exb_machine.specs.Stepping.{takes}
-use Rattle.exb_machine_laws.specs.Sessions.{Each, KeepsCascades, Routes}
+use Rattle.exb_machine_laws.specs.Sessions.{Each}
 use Rattle.exb_machine_laws.specs.Simulation.{system_of, IsSound}
 use Rattle.exb_machine_laws.proofs.Fixing.{forget}
 use Rattle.exb_machine_laws.proofs.Reacting.{routes}
 use Rattle.exb_machine_laws.proofs.Routing.{under_laid}
 use Rattle.exb_machine_laws.proofs.Trees.{above_there}
 use Rattle.exb_machine_laws.proofs.Words.{each_append, each_weaker}
-use Rattle.exb_resting.specs.Placed.{IsPlaced, PlacedOn, WordPlaced, ReadsDown, ReadsUp, ArePlaced}
+use Rattle.exb_resting.specs.Placed.{WordPlaced, ReadsDown, ReadsUp, ArePlaced}
 use Rattle.exb_resting.proofs.FarLeft.{MayHear}
 use Rattle.exb_resting.proofs.Grows.{Longer, Grows, MaySend, none_grows, does_grows}
 use Rattle.exb_resting.proofs.Placing.{HasOnes, placed_from_above, placed_from_below}

@@ -1,5 +1,5 @@
 -- What an extender forwards of a control frame stands on the way of its extender again.
-use Rattle.std.proofs.Common.{◌≡◌, ◌≢◌, ◌⊎◌, ℕ, ◌%◌, ◌<◌, ◌≤◌, ◌==◌, ◌&&◌, ◌||◌, Bool, true, false, not, cond, nat_lt, List, [], ◌∷◌, length, map, Option, Some, None, refl, ap, sym, ◌∙◌, subst, arith, inl, inr}
+use Rattle.std.proofs.Common.{◌≡◌, ◌≢◌, ◌⊎◌, ℕ, ◌%◌, ◌<◌, ◌≤◌, ◌&&◌, Bool, true, false, cond, nat_lt, List, [], ◌∷◌, map, Option, Some, None, refl, ap, sym, ◌∙◌, subst, arith, inl, inr}
 use Rattle.std.proofs.lemmas.Bool.{cases_Bool, and_parts, ltb-true, false≢true}
 use Rattle.exb_model.specs.Tree.{Shape, HangsOn, IsTree, device, on, is_extender, is_cascade, trunk}
 use Rattle.exb_model.specs.ETags.{Tag, read_etag, tagged, stripped}
@@ -12,7 +12,6 @@ use Rattle.exb_extender.specs.Forwarding.{forwarding_of, sent_at, is_bare_contro
 use Rattle.exb_model.specs.Frames.{is_control_frame}
 use Rattle.exb_extender.specs.Machine.{ExtenderState, IsExtender}
 use Rattle.exb_link.specs.declared.word.Stamp.{Stamp}
-use Rattle.exb_link.specs.declared.word.Word.{Word}
 use Rattle.exb_model.specs.Setup.{Limits}
 use Rattle.exb_plans.specs.Held.{Held}
 use Rattle.exb_machine.specs.Extending.{port_number}
@@ -22,7 +21,6 @@ use Rattle.exb_machine_laws.proofs.Forwarding.{bare_there, plain_there}
 use Rattle.exb_machine_laws.proofs.Frames.{bare_is, read_typed, typed_not_bare, tag_fits, stripped_to_control}
 use Rattle.exb_machine_laws.proofs.Trees.{trunk_above, above_there, hangs_there, extender_there, port_there}
 use Rattle.exb_machine_laws.proofs.Words.{each_range}
-use Rattle.exb_resting.specs.Facts.{IsAbove}
 use Rattle.exb_resting.specs.Placed.{IsPlaced, PlacedOn, WordPlaced}
 use Rattle.exb_resting.proofs.Above.{above_by_port, one_higher, apart_above}
 use Rattle.exb_resting.proofs.Grows.{MaySend}

@@ -1,7 +1,7 @@
 -- What the bridge puts on links: control frames stand on the way of their extenders and read as requests and acknowledgements, and data is no
 -- control frame.
-use Rattle.std.proofs.Common.{◌≡◌, ◌≢◌, ◌⊎◌, inl, inr, ℕ, ◌-◌, ◌≤◌, ◌<◌, ◌==◌, nat_lt, Bool, true, false, cond, List, [], ◌∷◌, length, drop, Option, Some, None, Ok, Err, refl, ap, sym, ◌∙◌, subst, arith}
-use Rattle.std.specs.Prelude.{Result, ⊤}
+use Rattle.std.proofs.Common.{◌≡◌, inl, inr, ℕ, ◌-◌, ◌≤◌, ◌<◌, ◌==◌, Bool, true, false, cond, List, [], ◌∷◌, length, drop, Option, Some, None, Ok, Err, refl, ap, sym, ◌∙◌, subst, arith}
+use Rattle.std.specs.Prelude.{Result}
 use Rattle.std.proofs.lemmas.Bool.{cases_Bool, cases_lt, and_parts, lt-ltb, le-ltb}
 use Rattle.exb_model.specs.Tree.{Shape, HangsOn, IsTree, device, on, is_extender, is_external, trunk}
 use Rattle.exb_model.specs.Setup.{Limits}
@@ -12,7 +12,7 @@ use Rattle.exb_model.specs.EagerHistory.{is_relayed, is_relayed_kind}
 use Rattle.exb_model.specs.Learning.{passes}
 use Rattle.exb_model.proofs.TreeHung.{trunk-low}
 use Rattle.exb_frame.specs.declared.etag.ETag.{ETag}
-use Rattle.exb_frame.specs.TagValues.{TagRoundTrip, tag_of}
+use Rattle.exb_frame.specs.TagValues.{tag_of}
 use Rattle.exb_lldp.specs.declared.announce.Announce.{Announce}
 use Rattle.exb_lldp.specs.declared.announce.LldpFault.{LldpFault}
 use Rattle.exb_lldp.specs.Announcing.{announced as announcement_in}
@@ -44,22 +44,22 @@ use Rattle.exb_plans.proofs.Giving.{IsChannelOf, channel_found}
 use Rattle.exb_changing.specs.declared.asked.Asked.{Asked}
 use Rattle.exb_changing.specs.Deciding.{decide}
 use Rattle.exb_changing.specs.Machine.{State, Moved, answered}
-use Rattle.exb_machine.specs.Worlds.{World, with_near, with_table, with_control, push_down, control_word}
-use Rattle.exb_machine.specs.Effects.{Effect, only, each}
+use Rattle.exb_machine.specs.Worlds.{World, with_near, with_table, with_control, control_word}
+use Rattle.exb_machine.specs.Effects.{Effect, each}
 use Rattle.exb_machine.specs.Controls.{announced, channel_at_trunk, taught, numbers_in, forgotten_all}
 use Rattle.exb_machine.specs.Extending.{hung_on}
 use Rattle.exb_machine.specs.Hearing.{bridge_request, bridge_acknowledgement, puts_tagged, to_extender, asks, moves, stops, hears_message, hears_fresh, hears_request, hears_pdu, hears_frame, hears}
-use Rattle.exb_machine.specs.Relaying.{puts_word, sent_by, sends_in, sends_all, sends_for, comes, arrival_by, comes_from, holder_by, hung_at, hears_from, takes_control, bridge_takes}
+use Rattle.exb_machine.specs.Relaying.{puts_word, sent_by, sends_in, sends_all, comes, arrival_by, comes_from, holder_by, hung_at, hears_from, takes_control, bridge_takes}
 use Rattle.exb_machine_laws.specs.Sessions.{Each, KeepsCascades, CanBeSent}
 use Rattle.exb_machine_laws.proofs.Bytes.{stripped_bytes}
 use Rattle.exb_machine_laws.proofs.Frames.{bare_spelled, tagged_to_control, egress_to_control, egress_long, control_refused, relayed_long}
 use Rattle.exb_machine_laws.proofs.Trees.{hung_is, extender_there, above_there, trunk_above, trunk_low_on}
 use Rattle.exb_resting.specs.Ends.{Message as Note}
 use Rattle.exb_resting.specs.Left.{IsDownNote}
-use Rattle.exb_resting.specs.Placed.{IsPlaced, PlacedOn, WordPlaced, ReadsDown, ReadsUp}
+use Rattle.exb_resting.specs.Placed.{PlacedOn, WordPlaced, ReadsDown, ReadsUp}
 use Rattle.exb_resting.specs.Streams.{message_note, note_of}
 use Rattle.exb_resting.proofs.Decoding.{above_trunk, note_acknowledgement, note_request}
-use Rattle.exb_resting.proofs.Grows.{Grows, none_grows, same_links, grows_then, down_grows, each_grows}
+use Rattle.exb_resting.proofs.Grows.{Grows, none_grows, same_links, grows_then, down_grows}
 use Rattle.exb_resting.proofs.Turns.{to_extender_ends}
 
 -- a control frame that goes down to extender n

@@ -1,7 +1,7 @@
 -- What an extender sends of its own reads as an answer, an acknowledgement, or its own announcement.
-use Rattle.std.proofs.Common.{◌≡◌, ℕ, ◌+◌, ◌≤◌, ◌<◌, ◌==◌, ◌&&◌, not, Bool, true, false, cond, List, [], ◌∷◌, length, drop, Option, Some, None, Ok, Err, refl, ap, sym, ◌∙◌, subst, arith, inl, inr}
+use Rattle.std.proofs.Common.{◌≡◌, ℕ, ◌+◌, ◌≤◌, ◌==◌, ◌&&◌, not, Bool, true, false, cond, List, [], ◌∷◌, length, drop, Option, Some, None, Ok, Err, refl, ap, sym, ◌∙◌, subst, inl, inr}
 use Rattle.std.specs.Prelude.{Result, bytes_eq, slice_index}
-use Rattle.std.proofs.lemmas.Bool.{cases_Bool, cases_eq, and_from, eq-eqb, eqb-true, ne_eqb}
+use Rattle.std.proofs.lemmas.Bool.{cases_Bool, and_from, eq-eqb, eqb-true}
 use Rattle.exb_model.specs.Tree.{Shape}
 use Rattle.exb_lldp.specs.declared.announce.Announce.{Announce}
 use Rattle.exb_lldp.specs.declared.announce.LldpFault.{LldpFault}
@@ -13,7 +13,7 @@ use Rattle.exb_ecp.specs.declared.pdu.EcpFault.{EcpFault}
 use Rattle.exb_ecp.specs.declared.stop_and_wait.Beat.{Beat as Due}
 use Rattle.exb_ecp.specs.declared.stop_and_wait.Beat.TheVariants as due
 use Rattle.exb_ecp.specs.Frames.{pdu_in, spelling}
-use Rattle.exb_ecp.specs.Machine.{Sending, is_fresh, acknowledged, beat_of}
+use Rattle.exb_ecp.specs.Machine.{Sending, is_fresh, beat_of}
 use Rattle.exb_ecp.specs.Machine.{heard as received}
 use Rattle.exb_csp.specs.declared.fault.CspFault.{CspFault}
 use Rattle.exb_csp.specs.declared.message.Body.{Body}
@@ -36,9 +36,9 @@ use Rattle.exb_machine_laws.proofs.Words.{each_append}
 use Rattle.exb_resting.specs.Ends.{Message as Note, Answer as Answers}
 use Rattle.exb_resting.specs.Facts.{IsAnnouncement}
 use Rattle.exb_resting.specs.Going.{IsDevice}
-use Rattle.exb_resting.specs.Left.{IsUpNote, IsOfSerial, FarLeft}
+use Rattle.exb_resting.specs.Left.{IsUpNote, FarLeft}
 use Rattle.exb_resting.specs.Placed.{ReadsUp}
-use Rattle.exb_resting.specs.Streams.{message_note, body_note, frame_note, note_of}
+use Rattle.exb_resting.specs.Streams.{message_note, frame_note, note_of}
 use Rattle.exb_resting.proofs.Decoding.{mac, not_lldp, note_acknowledgement, note_request}
 use Rattle.exb_resting.proofs.EndSteps.{MayAsk}
 use Rattle.exb_resting.proofs.FarLeft.{MayHear}

@@ -1,43 +1,39 @@
 -- In a sound world all that the machine of changes asks, whatever comes from an extender, can be sent and goes to an extender of the tree, and the
 -- ports on which extenders hang keep the channels with which the world began.
-use Rattle.std.proofs.Common.{◌≡◌, ◌⊎◌, inl, inr, ℕ, ◌+◌, ◌<◌, ◌^◌, ◌==◌, Bool, true, false, cond, List, [], ◌∷◌, Option, Some, None, refl, ap, sym, ◌∙◌, subst, arith}
-use Rattle.std.proofs.lemmas.Bool.{cases_Bool}
-use Rattle.exb_model.specs.Setup.{Limits}
-use Rattle.exb_model.specs.Tree.{Shape, IsTree, on, is_extender, trunk}
+use Rattle.std.proofs.Common.{◌≡◌, inl, inr, ℕ, ◌+◌, ◌<◌, ◌^◌, ◌==◌, Bool, true, false, cond, List, [], ◌∷◌, Option, Some, None, refl, ap, sym, ◌∙◌, subst, arith}
+use Rattle.exb_model.specs.declared.command.Command.{Command}
+use Rattle.exb_model.specs.Setup.{Limits, NamesExternal}
+use Rattle.exb_model.specs.Tree.{Shape, IsTree, on, trunk}
 use Rattle.exb_model.proofs.TreeHung.{trunk-low}
-use Rattle.exb_csp.specs.declared.message.Body.TheVariants as body
 use Rattle.exb_csp.specs.declared.message.Message.{Message}
 use Rattle.exb_csp.specs.declared.message.Response.{Response}
 use Rattle.exb_csp.specs.Execute.{ExtenderTables, response_to}
-use Rattle.exb_lldp.specs.declared.announce.Announce.{Announce}
 use Rattle.exb_session.specs.declared.asker.Taken.{Taken}
 use Rattle.exb_session.specs.declared.asker.Taken.TheVariants as taken
 use Rattle.exb_session.specs.Asking.{AskerState, asked, took}
-use Rattle.exb_plans.specs.Held.{Held}
 use Rattle.exb_changing.specs.Beginning.{first_held}
 use Rattle.exb_changing.specs.declared.asked.Asked.{Asked}
 use Rattle.exb_changing.specs.Deciding.{decide}
-use Rattle.exb_changing.specs.Machine.{Work, State, Moved, still, with_asker, answered, answered_in, answered_where, heard}
-use Rattle.exb_change_laws.specs.Knowing.{Knows, AreAddressed}
-use Rattle.exb_change_laws.specs.Planned.{IsSetting, planning}
-use Rattle.exb_change_laws.specs.Standing.{Stands, OneWaits}
-use Rattle.exb_change_laws.specs.Systems.{System, Step, Hear, Execute, Answer, Stray, answer_message, answer_of, takes_answer, stepped}
-use Rattle.exb_change_laws.specs.Systems.{moved as machine_moved}
+use Rattle.exb_changing.specs.Machine.{Work, State, Moved, still, with_asker, answered, answered_in, answered_where, heard, ordered}
+use Rattle.exb_change_laws.specs.Knowing.{AreAddressed}
+use Rattle.exb_change_laws.specs.Planned.{IsSetting}
+use Rattle.exb_change_laws.specs.Standing.{Stands}
+use Rattle.exb_change_laws.specs.Systems.{System, Order, Hear, Execute, Answer, Stray, answer_message, answer_of, takes_answer, stepped}
 use Rattle.exb_change_laws.proofs.Knowing.{steps_know}
 use Rattle.exb_change_laws.proofs.Middle.{answers_are_taken}
 use Rattle.exb_change_laws.proofs.Steps.{any_steps_stand}
 use Rattle.exb_change_laws.proofs.Strays.{strays_change_nothing}
 use Rattle.exb_change_laws.proofs.Taking.{unchanged}
 use Rattle.exb_machine.specs.Worlds.{World}
-use Rattle.exb_machine.specs.Controls.{is_of, announced}
+use Rattle.exb_machine.specs.Controls.{is_of}
 use Rattle.exb_machine_laws.specs.Fixing.{fixing}
-use Rattle.exb_machine_laws.specs.Sessions.{Each, KeepsCascades, AreLow, CanBeSent, Writes}
+use Rattle.exb_machine_laws.specs.Sessions.{Each, KeepsCascades}
 use Rattle.exb_machine_laws.specs.Simulation.{system_of, IsSound}
-use Rattle.exb_machine_laws.proofs.Asking.{AtMostOne, none, one, Asks, answered_asks, heard_asks}
+use Rattle.exb_machine_laws.proofs.Asking.{AtMostOne, none, one, Asks, answered_asks, heard_asks, ordered_asks}
 use Rattle.exb_machine_laws.proofs.Fixing.{forget, fixed_now, IsFixedNow, fixing_plans, trunk_is_cascade}
 use Rattle.exb_machine_laws.proofs.Moving.{asked_now}
 use Rattle.exb_machine_laws.proofs.Routing.{IsUnderLaid, under_laid}
-use Rattle.exb_machine_laws.proofs.Taking.{IsTaken, NotTaken, took_cases, IsOutstanding, outstanding}
+use Rattle.exb_machine_laws.proofs.Taking.{IsTaken, took_cases, IsOutstanding, outstanding}
 use Rattle.exb_machine_laws.proofs.Writing.{IsWritten, moved_wrote, all_be_sent}
 use Rattle.exb_resting.specs.Going.{HasRoom}
 use Rattle.exb_resting.proofs.Putting.{IsAskable, GoesWell, HearsWell}
@@ -64,7 +60,7 @@ askable t s u xs (one n request) room written addressed =
     let sent = all_be_sent (λ i. (asked (s n) request).0) (record { extender = n; message = (asked (s n) request).1 } ∷ []) written (asked_now (s n) request, tt) (λ i. room n) in
     (record { there = addressed.0; can = sent.0; request = request; content = refl }, tt)
 
-took_serial : (a : AskerState) (m : Message) → (took a m).0.serial ≡ a.serial
+pub took_serial : (a : AskerState) (m : Message) → (took a m).0.serial ≡ a.serial
 took_serial a m =
     elim (took_cases a m) [
       | inl k ↦ ap (λ (x : AskerState × Taken). x.0.serial) k.is
@@ -150,4 +146,15 @@ module _ (t : Shape) (l : Limits) (tree : IsTree t) (setting : IsSetting t l) (w
         answers = answered_well;
         hears = λ n a. announced_well n (is_of t n a);
         keeps = to_first t l tree (system_of w) sound.stands;
+      }
+
+  -- ---- a command
+  pub ordered_well : (c : Command) → NamesExternal t c → GoesWell t l tree (first_held t l) (ordered (decide t l) c w.control)
+  ordered_well c names =
+      let k : Asks w.control (ordered (decide t l) c w.control) = ordered_asks (decide t l) c w.control in
+      let written = (moved_wrote t l setting (system_of w) (Order c) sound.fits.ends.writes sound.fits.ends.waits).asks in
+      let known = (steps_know t l (system_of w) (Order c) sound.fits.ends.knows names).1 in
+      record {
+        asks = askable t w.control.askers (ordered (decide t l) c w.control).state.askers (ordered (decide t l) c w.control).asks k.one room written known;
+        keeps = to_first t l tree (stepped (decide t l) (system_of w) (Order c)) (any_steps_stand (fixing t l) (decide t l) (fixing_plans t l setting) (system_of w) (Order c) sound.stands names).0;
       }

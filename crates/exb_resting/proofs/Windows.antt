@@ -1,16 +1,16 @@
 -- The laws on settling, over the worlds that have the facts whatever words are delivered and whatever beats pass.
-use Rattle.std.proofs.Common.{◌≡◌, ◌⊎◌, inl, inr, ℕ, zero, suc, ◌+◌, ◌≤◌, ◌<◌, true, List, [], ◌∷◌, map, refl, ap, sym, ◌∙◌, subst, arith}
+use Rattle.std.proofs.Common.{◌≡◌, ◌⊎◌, inl, inr, ℕ, zero, suc, ◌≤◌, ◌<◌, true, List, [], ◌∷◌, refl, ap, sym, ◌∙◌, subst, arith}
 use Rattle.std.proofs.lemmas.Bool.{cases_lt}
 use Rattle.exb_model.specs.declared.setup.Verdict.{Verdict}
 use Rattle.exb_model.specs.Setup.{Limits}
-use Rattle.exb_model.specs.Tree.{Shape, IsTree, is_extender}
+use Rattle.exb_model.specs.Tree.{Shape, IsTree}
 use Rattle.exb_frame.specs.TagValues.{TagRoundTrip}
-use Rattle.exb_machine.specs.Worlds.{World, Step, Beat, Up}
+use Rattle.exb_machine.specs.Worlds.{World, Step, Beat}
 use Rattle.exb_machine.specs.Stepping.{stepped}
-use Rattle.exb_machine.specs.Settling.{run, round, direction, deepest_first, directions, through_all, is_settled, planned_in}
-use Rattle.exb_resting.specs.Costs.{costs, Stage, SettleEnds}
+use Rattle.exb_machine.specs.Settling.{run, round, is_settled, planned_in}
+use Rattle.exb_resting.specs.Costs.{costs, Stage}
 use Rattle.exb_resting.specs.Facts.{Facts, IsInvariant}
-use Rattle.exb_resting.specs.Laws.{MayMove, KeepsFacts, SetupsHaveFacts, SettlingEnds, IsPassing, RoundsSpend, RoundsPlanNothing, AllArrive, RoundsDeliver, passing_rounds, GetsOn, WindowsGetOn}
+use Rattle.exb_resting.specs.Laws.{MayMove, KeepsFacts, SetupsHaveFacts, SettlingEnds, IsPassing, RoundsSpend, RoundsPlanNothing, AllArrive, RoundsDeliver, passing_rounds, WindowsGetOn}
 use Rattle.exb_resting.proofs.BeatLaw.{all_beat, settle_ends}
 use Rattle.exb_resting.proofs.DownLaw.{micro}
 use Rattle.exb_resting.proofs.FirstFacts.{setup_facts}
@@ -19,7 +19,7 @@ use Rattle.exb_resting.proofs.Sessions.{Micro, risen, rose, sank, ended_is, pass
 use Rattle.exb_resting.proofs.Stages.{Passing, rough, nearer}
 use Rattle.exb_resting.proofs.Ending.{settled}
 use Rattle.exb_resting.proofs.Turns.{round_planned}
-use Rattle.exb_resting.proofs.Verdicts.{passed, pass_round, round_passes}
+use Rattle.exb_resting.proofs.Verdicts.{pass_round, round_passes}
 
 pub setups_have_facts : SetupsHaveFacts
 setups_have_facts s valid = setup_facts s valid

@@ -1,5 +1,5 @@
--- What is shown of each world that rounds reach, and what is left to be shown of it.
-use Rattle.std.specs.Prelude.{◌≡◌, ℕ, ◌+◌, ◌<◌, ◌^◌, true, false, Option, Some, slice_index}
+-- What every step keeps of both ends of the sessions and of the words between them, and what holds of changes and their order.
+use Rattle.std.specs.Prelude.{◌≡◌, ℕ, ◌+◌, ◌<◌, ◌^◌, true, false, Some, slice_index}
 use Rattle.exb_model.specs.Setup.{Limits}
 use Rattle.exb_model.specs.Tree.{Shape, is_extender}
 use Rattle.exb_csp.specs.declared.message.Request.{Request}
@@ -34,8 +34,8 @@ HasRoom askers = (n : ℕ) → (askers n).serial + 1 < 2 ^ 64
 abbrev pub OpensFirst : (ℕ → AskerState) → Type 0
 OpensFirst askers = (n : ℕ) (request : Request) → (askers n).waiting ≡ Some request → (askers n).serial ≡ 1 → is_open request ≡ true
 
--- What the code's types give, bytes and serials that fit; and what the plans of changes have to give: an extender that wasn't heard was
--- asked nothing, its first request is Open, and whoever is waited for is reached.
+-- Words are bytes and serials have room; an extender that wasn't heard was asked nothing, its first request is Open, and whoever is
+-- waited for is reached.
 pub record IsOrderly (t : Shape) (w : World) : Type 0 where
   pub bytes : AreBytes w
   pub room : HasRoom w.control.askers

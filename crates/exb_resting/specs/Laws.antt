@@ -5,14 +5,17 @@ use Rattle.exb_model.specs.declared.setup.Verdict.{Verdict}
 use Rattle.exb_model.specs.Rounds.{rounds}
 use Rattle.exb_model.specs.Setup.{Limits, IsValid, shape_of, limits_of, start_of}
 use Rattle.exb_model.specs.Tree.{Shape, IsTree, is_extender}
+use Rattle.exb_change_laws.specs.Opening.{InTurn}
 use Rattle.exb_change_laws.specs.Planned.{IsSetting}
 use Rattle.exb_machine.specs.Worlds.{World, Step, Beat, Up, first_world}
 use Rattle.exb_machine.specs.Allowing.{Can}
 use Rattle.exb_machine.specs.Stepping.{stepped}
 use Rattle.exb_machine.specs.Settling.{run, round, direction, deepest_first, directions, through_all, settled_within, is_settled, planned_in}
+use Rattle.exb_machine_laws.specs.Laws.{AreBytes}
+use Rattle.exb_machine_laws.specs.Simulation.{IsSound}
 use Rattle.exb_resting.specs.Costs.{costs}
 use Rattle.exb_resting.specs.Facts.{Facts, OnLink}
-use Rattle.exb_resting.specs.Going.{IsGoing, IsOrderly}
+use Rattle.exb_resting.specs.Going.{IsGoing, HasRoom, IsOrderly}
 
 -- ---- worlds of which the laws speak
 -- a step on a link that may be made, or a beat
@@ -27,15 +30,19 @@ MayMoveAll t l w (step ∷ steps) = MayMove t w step × MayMoveAll t l (stepped 
 pub record KeepsFacts (t : Shape) (l : Limits) (w : World) : Type 0 where
   pub each : (steps : List Step) → MayMoveAll t l w steps → Facts t l (run t l steps w).world
 
--- Likewise, what is left to be shown of a world stays so.
+-- Likewise, a world stays orderly.
 pub record KeepsOrder (t : Shape) (l : Limits) (w : World) : Type 0 where
   pub each : (steps : List Step) → MayMoveAll t l w steps → IsOrderly t (run t l steps w).world
 
--- Then it keeps the facts, where what is shown of each world is so as they begin.
+-- Then it keeps the facts, where it is going.
 abbrev pub OrderKeepsFacts : Type 0
 OrderKeepsFacts = (t : Shape) (l : Limits) (w : World) → IsSetting t l → IsGoing t l w → KeepsOrder t l w → KeepsFacts t l w
 
--- It is so of the world of each valid setup.
+-- A sound world in which extenders are asked in their turn, whose words are bytes and whose serials have room, is orderly.
+abbrev pub TurnsAreOrderly : Type 0
+TurnsAreOrderly = (t : Shape) (l : Limits) (w : World) → IsSetting t l → IsSound t l w → InTurn t w.control → AreBytes w → HasRoom w.control.askers → IsOrderly t w
+
+-- The world of each valid setup begins going.
 abbrev pub SetupsBeginGoing : Type 0
 SetupsBeginGoing = (s : Setup) → IsValid s → IsSetting (shape_of s) (limits_of s) × IsGoing (shape_of s) (limits_of s) (first_world (shape_of s) (limits_of s) (start_of s) s.ageing)
 

@@ -9,3 +9,4 @@ pub mod Left
 pub mod Laws
 pub mod Placed
 pub mod Going
+pub mod Settles

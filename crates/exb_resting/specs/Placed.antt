@@ -5,7 +5,6 @@ use Rattle.exb_extender.specs.Forwarding.{is_bare_control}
 use Rattle.exb_model.specs.Frames.{is_control_frame}
 use Rattle.exb_link.specs.declared.word.Word.{Word}
 use Rattle.exb_plans.specs.Held.{Held}
-use Rattle.exb_machine.specs.Worlds.{World}
 use Rattle.exb_machine_laws.specs.Sessions.{Each, IsTagged}
 use Rattle.exb_resting.specs.Streams.{note_of}
 use Rattle.exb_resting.specs.Facts.{IsAbove, IsAnnouncement}

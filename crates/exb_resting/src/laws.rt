@@ -1,7 +1,11 @@
 //! What is true of rounds and of settling.
-ghost use Rattle.exb_resting.specs.Laws.{SetupsHaveFacts, SettlingEnds, RoundsSpend, RoundsPlanNothing, RoundsDeliver, WindowsGetOn, OrderKeepsFacts, SetupsBeginGoing};
+ghost use Rattle.exb_resting.specs.Laws.{SetupsHaveFacts, SettlingEnds, RoundsSpend, RoundsPlanNothing, RoundsDeliver, WindowsGetOn, OrderKeepsFacts, TurnsAreOrderly, SetupsBeginGoing};
+ghost use Rattle.exb_resting.specs.Settles.{RunsAreReady, RunsStayLow, Settles, SettlingAlwaysPlays};
 
+use exb_change_laws::laws::steps_tell;
 use exb_frame::laws::tag_round_trip;
+use exb_machine_laws::laws::steps_stay_written;
+use exb_relay::laws::{sends_are_words, sends_leave_as_flat};
 
 /// The world of each valid setup has the facts that the other laws ask of each world that rounds reach.
 pub fn setups_have_facts()
@@ -41,16 +45,69 @@ pub fn windows_get_on()
     tag_round_trip();
 }
 
-/// The world of each valid setup begins with what is shown of each world: its sessions stand, both ends of each are as they
-/// should be, and control words stand on the way of their extenders.
+/// The world of each valid setup begins going: its sessions stand, both ends of each are as they should be, and control words
+/// stand on the way of their extenders.
 pub fn setups_begin_going()
     ensures { SetupsBeginGoing }
 {}
 
-/// Where what is left to be shown stays so, whatever words are delivered, lost or repeated and whatever beats pass, a
-/// world with that keeps the facts that the laws on settling ask: each step keeps what is shown.
+/// Where a world stays orderly, whatever words are delivered, lost or repeated and whatever beats pass, it keeps the facts that
+/// the laws on settling ask.
 pub fn order_keeps_facts()
     ensures { OrderKeepsFacts }
 {
     tag_round_trip();
+}
+
+/// A sound world in which extenders are asked in their turn is orderly: an extender that wasn't heard was asked nothing, its first
+/// request is Open, and whoever is waited for is reached.
+pub fn turns_are_orderly()
+    ensures { TurnsAreOrderly }
+{}
+
+/// Every world that a run of a valid setup reaches, whatever arrives, is ordered, lost, repeated or overtaken, keeps the facts
+/// that the bound on settling asks, and each serial is below 2 to the power of 38.
+pub fn runs_are_ready()
+    ensures { RunsAreReady }
+{
+    tag_round_trip();
+    sends_are_words();
+    sends_leave_as_flat();
+    steps_tell();
+    steps_stay_written();
+}
+
+/// So that serials fit their field is no premise of a run.
+pub fn runs_stay_low()
+    ensures { RunsStayLow }
+{
+    tag_round_trip();
+    sends_are_words();
+    sends_leave_as_flat();
+    steps_tell();
+    steps_stay_written();
+}
+
+/// From every world that a run of a valid setup reaches settling ends settled, whatever the verdicts are, of which at most b
+/// aren't Pass: within 64 rounds for each of them, for each exchange that is planned, and for one more.
+pub fn settles()
+    ensures { Settles }
+{
+    tag_round_trip();
+    sends_are_words();
+    sends_leave_as_flat();
+    steps_tell();
+    steps_stay_written();
+}
+
+/// So steps that give a segment, from a world that a run of a valid setup reaches, play it with the settling after them: that
+/// settling ends settled is no premise of playing.
+pub fn settling_always_plays()
+    ensures { SettlingAlwaysPlays }
+{
+    tag_round_trip();
+    sends_are_words();
+    sends_leave_as_flat();
+    steps_tell();
+    steps_stay_written();
 }
