@@ -1,0 +1,83 @@
+-- What the bridge sends again at a beat.
+use Rattle.std.proofs.Common.{◌≡◌, ◌≢◌, ℕ, ◌+◌, ◌==◌, Bool, true, false, List, [], ◌∷◌, Option, Some, None, refl, sym, ap, subst, ◌∙◌}
+use Rattle.std.specs.Prelude.{IfSome, if◌then◌else◌}
+use Rattle.exb_model.specs.Tree.{Shape, is_extender}
+use Rattle.exb_ecp.specs.declared.stop_and_wait.Beat.{Beat as Due}
+use Rattle.exb_ecp.specs.declared.stop_and_wait.Beat.TheVariants as due
+use Rattle.exb_ecp.specs.Machine.{State as Ecp, Sending, beaten, beat_of, is_due, aged, sent_payload}
+use Rattle.exb_machine.specs.Effects.{Effect, only, each}
+use Rattle.exb_machine.specs.Hearing.{beats_near, bridge_request, sends_again, to_extender}
+use Rattle.exb_machine.specs.Stepping.{if_there}
+use Rattle.exb_machine.specs.Worlds.{World, at, with_near}
+use Rattle.exb_machine_laws.proofs.Hearing.{to_extender_control}
+use Rattle.exb_machine_laws.proofs.Words.{at_here}
+use Rattle.exb_network.specs.declared.site.Core.{Core}
+use Rattle.exb_network.specs.Ends.{near_of}
+use Rattle.exb_network.specs.Sites.{Site}
+use Rattle.exb_network.specs.Worlds.{world_in, IsAt, Moves}
+use Rattle.exb_network.proofs.Cores.{near_in, near_at}
+
+-- ---- one end
+-- it has had one beat more
+abbrev later : Sending → Sending
+later x = record { sequence = x.sequence; beats = x.beats + 1; payload = x.payload }
+
+-- what is due is sent again, with its sequence
+again_is : (t : Shape) (n : ℕ) (o : Option Sending) (sequence : ℕ) (payload : List ℕ) (w : World) → beat_of o ≡ due.SendAgain → IfSome (aged o) (λ x. sequence ≡ x.sequence) → payload ≡ sent_payload (aged o) →
+    sends_again t n (beat_of o) o w ≡ to_extender t n (bridge_request sequence payload) w
+again_is t n None sequence payload w e its bytes = absurd (nothing e)
+  where
+    nothing : due.Nothing ≡ due.SendAgain → ⊥
+    nothing f = cc
+again_is t n (Some x) sequence payload w e its bytes = ap (λ (d : Due). sends_again t n d (Some x) w) e ∙ by_test (x.beats + 1 == 12) e its bytes
+  where
+    gave_up : due.GaveUp ≡ due.SendAgain → ⊥
+    gave_up f = cc
+
+    by_test : (b : Bool) → (if b then due.GaveUp else (if is_due (x.beats + 1) then due.SendAgain else due.Nothing)) ≡ due.SendAgain →
+        IfSome (if b then None else Some (later x)) (λ z. sequence ≡ z.sequence) → payload ≡ sent_payload (if b then None else Some (later x)) →
+        to_extender t n (bridge_request x.sequence x.payload) w ≡ to_extender t n (bridge_request sequence payload) w
+    by_test true f g h = absurd (gave_up f)
+    by_test false f g h =
+        ap (λ (k : ℕ). to_extender t n (bridge_request k x.payload) w) (sym g) ∙ ap (λ (p : List ℕ). to_extender t n (bridge_request sequence p) w) (sym h)
+
+-- nothing is due
+none_again : (t : Shape) (n : ℕ) (d : Due) (o : Option Sending) (w : World) → d ≢ due.SendAgain → sends_again t n d o w ≡ only w
+none_again t n due.SendAgain o w other = absurd (other refl)
+none_again t n due.Nothing o w other = refl
+none_again t n due.GaveUp o w other = refl
+
+pub again_on : (t : Shape) (n : ℕ) (s : Site) (c d : Core) (ends : List Ecp) (sequence : ℕ) (payload frame : List ℕ) → near_of ends ≡ at n (beaten (near_of c.near n)) (near_of c.near) →
+    beat_of (near_of c.near n).sending ≡ due.SendAgain → IfSome (near_of ends n).sending (λ x. sequence ≡ x.sequence) → payload ≡ sent_payload (near_of ends n).sending → frame ≡ bridge_request sequence payload →
+    Moves (to_extender t n frame (world_in (record c { near = ends }))) s d → Moves (beats_near t n (world_in c)) s d
+again_on t n s c d ends sequence payload frame near is its bytes spelled moves =
+    let w : World = with_near n (beaten (near_of c.near n)) (world_in c) in
+    let end : near_of ends n ≡ beaten (near_of c.near n) = ap (λ (f : ℕ → Ecp). f n) near ∙ at_here n (beaten (near_of c.near n)) (near_of c.near) in
+    let same : sends_again t n (beat_of (near_of c.near n).sending) (near_of c.near n).sending w ≡ to_extender t n (bridge_request sequence payload) w =
+    again_is t n (near_of c.near n).sending sequence payload w is (subst (λ (e : Ecp). IfSome e.sending (λ x. sequence ≡ x.sequence)) end its) (bytes ∙ ap (λ (e : Ecp). sent_payload e.sending) end) in
+    subst (λ (e : Effect). Moves e s d) (sym same)
+    (subst (λ (v : World). Moves (to_extender t n (bridge_request sequence payload) v) s d) (near_in c n ends _ near)
+    (subst (λ (f : List ℕ). Moves (to_extender t n f (world_in (record c { near = ends }))) s d) spelled moves))
+
+pub not_again_on : (t : Shape) (n : ℕ) (s : Site) (c : Core) (ends : List Ecp) → near_of ends ≡ at n (beaten (near_of c.near n)) (near_of c.near) →
+    beat_of (near_of c.near n).sending ≢ due.SendAgain → IsAt s c → Moves (beats_near t n (world_in c)) s (record c { near = ends })
+not_again_on t n s c ends near other here =
+    let w : World = with_near n (beaten (near_of c.near n)) (world_in c) in
+    subst (λ (e : Effect). Moves e s (record c { near = ends })) (sym (none_again t n (beat_of (near_of c.near n).sending) (near_of c.near n).sending w other))
+    (record { world = near_in c n ends _ near; events = refl; passed = refl; left = refl; at = near_at s c here ends })
+
+-- ---- all ends
+-- the control stays
+again_control : (t : Shape) (n : ℕ) (d : Due) (o : Option Sending) (w : World) → (sends_again t n d o w).world.control ≡ w.control
+again_control t n due.SendAgain (Some x) w = to_extender_control t n (bridge_request x.sequence x.payload) w
+again_control t n due.SendAgain None w = refl
+again_control t n due.Nothing o w = refl
+again_control t n due.GaveUp o w = refl
+
+pub all_near_control : (t : Shape) (ns : List ℕ) (w : World) → (each (if_there t (beats_near t)) ns w).world.control ≡ w.control
+all_near_control t [] w = refl
+all_near_control t (n ∷ ns) w = all_near_control t ns (if_there t (beats_near t) n w).world ∙ by_test (is_extender t n)
+  where
+    by_test : (b : Bool) → (if b then beats_near t n w else only w).world.control ≡ w.control
+    by_test true = again_control t n (beat_of (w.near n).sending) (w.near n).sending (with_near n (beaten (w.near n)) w)
+    by_test false = refl

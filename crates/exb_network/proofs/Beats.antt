@@ -1,0 +1,74 @@
+-- The parts of a beat, one after another.
+use Rattle.std.proofs.Common.{◌≡◌, ℕ, ◌+◌, ◌-◌, ◌^◌, ◌<◌, ◌≤◌, min, List, drop, None, sym, ap, subst, ◌∙◌}
+use Rattle.exb_model.specs.Setup.{Limits}
+use Rattle.exb_model.specs.Tree.{Shape}
+use Rattle.exb_extender.specs.Machine.{Beats}
+use Rattle.exb_machine.specs.Effects.{Effect, then_do, each}
+use Rattle.exb_machine.specs.Extending.{reacts}
+use Rattle.exb_machine.specs.Hearing.{beats_control, beats_near}
+use Rattle.exb_machine.specs.Stepping.{all_extenders, beats_all, if_there}
+use Rattle.exb_machine.specs.Worlds.{World, next_beat}
+use Rattle.exb_machine_laws.specs.Asks.{AsksWell}
+use Rattle.exb_network.specs.declared.log.Log.{Log}
+use Rattle.exb_network.specs.declared.site.Core.{Core}
+use Rattle.exb_network.specs.Leading.{Leads}
+use Rattle.exb_network.specs.Sites.{Site}
+use Rattle.exb_network.specs.Worlds.{world_in, IsAt, Does, Moves}
+use Rattle.exb_network.proofs.Doing.{leads_first, moves_does, does_then}
+use Rattle.exb_network.proofs.Moving.{Remains, remains_first}
+use Rattle.exb_network.proofs.Loops.{numbers_on, numbers_end, numbers_lead, numbers_told}
+use Rattle.exb_network.proofs.Again.{all_near_control}
+
+-- what is asked still can go after the bridge's ends have had their beat
+pub near_asks : (t : Shape) (l : Limits) (ns : List ℕ) (s : Site) (c d : Core) → Moves (each (if_there t (beats_near t)) ns (world_in c)) s d → AsksWell t l (world_in c).control → AsksWell t l (world_in d).control
+near_asks t l ns s c d moves asks = subst (AsksWell t l) (sym (ap (λ (w : World). w.control) moves.world ∙ all_near_control t ns (world_in c))) asks
+
+pub all_beaten : (t : Shape) (s : Site) (c near control far : Core) (beats : ℕ) (old told new : Log) → beats ≡ next_beat c.beats →
+    Moves (each (if_there t (beats_near t)) all_extenders (world_in (record c { beats = beats }))) s near → Does (beats_control t (world_in near)) s control old told →
+    Does (each (if_there t (λ n. reacts t n None Beats)) all_extenders (world_in control)) s far told new → Does (beats_all t (world_in c)) s far old new
+unfolding beats_all
+all_beaten t s c near control far beats old told new is first second third =
+    let from : World = record (world_in c) { beats = next_beat c.beats } in
+    let ends : Effect = each (if_there t (beats_near t)) all_extenders from in
+    let counted : Moves ends s near = subst (λ (b : ℕ). Moves (each (if_there t (beats_near t)) all_extenders (record (world_in c) { beats = b })) s near) is first in
+    does_then (then_do ends (beats_control t)) (each (if_there t (λ n. reacts t n None Beats)) all_extenders) s control far old told new
+    (does_then ends (beats_control t) s near control old old told (moves_does ends s near old counted) second) third
+
+-- one beat more was counted
+pub beat_is : (old new : ℕ) → new ≡ min (old + 1) (2 ^ 64 - 1) → new ≡ next_beat old
+unfolding next_beat
+beat_is old new is = is
+
+-- ---- the extenders that are left, from a number on
+-- of the bridge's ends
+pub record NearLeft (t : Shape) (s : Site) (w : World) (n : ℕ) (c : Core) : Type 0 where
+  pub rest : Remains (each (if_there t (beats_near t)) all_extenders w) (each (if_there t (beats_near t)) (drop (n - 1) all_extenders) (world_in c))
+  pub here : IsAt s c
+
+pub near_first : (t : Shape) (s : Site) (c : Core) → IsAt s c → NearLeft t s (world_in c) 1 c
+near_first t s c at = record { rest = remains_first (each (if_there t (beats_near t)) all_extenders (world_in c)); here = at }
+
+pub near_next : (t : Shape) (s : Site) (w : World) (n : ℕ) (c d : Core) → 0 < n → n < 65 → NearLeft t s w n c → Moves (if_there t (beats_near t) n (world_in c)) s d → NearLeft t s w (n + 1) d
+near_next t s w n c d some few left moves =
+    record { rest = numbers_on (if_there t (beats_near t)) (each (if_there t (beats_near t)) all_extenders w) n s c d some few left.rest moves; here = moves.at }
+
+pub near_last : (t : Shape) (s : Site) (w : World) (n : ℕ) (c : Core) → 65 ≤ n → NearLeft t s w n c → Moves (each (if_there t (beats_near t)) all_extenders w) s c
+near_last t s w n c all left = numbers_end (if_there t (beats_near t)) (each (if_there t (beats_near t)) all_extenders w) n s c all left.rest left.here
+
+-- of the extenders themselves
+abbrev beats_at : Shape → ℕ → World → Effect
+beats_at t = if_there t (λ n. reacts t n None Beats)
+
+pub record FarLeft (t : Shape) (s : Site) (w : World) (old : Log) (n : ℕ) (c : Core) (log : Log) : Type 0 where
+  pub rest : Leads (each (beats_at t) all_extenders w) (each (beats_at t) (drop (n - 1) all_extenders) (world_in c)) old log
+  pub here : IsAt s c
+
+pub far_first : (t : Shape) (s : Site) (c : Core) (log : Log) → IsAt s c → FarLeft t s (world_in c) log 1 c log
+far_first t s c log at = record { rest = leads_first (each (beats_at t) all_extenders (world_in c)) log; here = at }
+
+pub far_next : (t : Shape) (s : Site) (w : World) (n : ℕ) (c d : Core) (old told new : Log) → 0 < n → n < 65 → FarLeft t s w old n c told → Does (beats_at t n (world_in c)) s d told new → FarLeft t s w old (n + 1) d new
+far_next t s w n c d old told new some few left does =
+    record { rest = numbers_lead (beats_at t) (each (beats_at t) all_extenders w) n s c d old told new some few left.rest does; here = does.at }
+
+pub far_last : (t : Shape) (s : Site) (w : World) (n : ℕ) (c : Core) (old log : Log) → 65 ≤ n → FarLeft t s w old n c log → Does (each (beats_at t) all_extenders w) s c old log
+far_last t s w n c old log all left = numbers_told (beats_at t) (each (beats_at t) all_extenders w) n s c old log all left.rest left.here

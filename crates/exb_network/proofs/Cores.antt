@@ -1,0 +1,91 @@
+-- The world where one part of the network changes.
+use Rattle.std.proofs.Common.{◌≡◌, ℕ, List, [], ◌∷◌, ◌++◌, map, refl, ap, sym, subst, ◌∙◌}
+use Rattle.std.proofs.lemmas.List.{append-nil, map-append}
+use Rattle.exb_ecp.specs.Machine.{State as Ecp}
+use Rattle.exb_extender.specs.Machine.{ExtenderState}
+use Rattle.exb_link.specs.declared.word.Word.{Word}
+use Rattle.exb_machine.specs.Worlds.{World, Line, Left as Leaving, at, with_near, with_far, with_down, with_up}
+use Rattle.exb_machine.specs.Effects.{Effect, only, sending, leaving}
+use Rattle.exb_network.specs.declared.log.Left.{Left}
+use Rattle.exb_network.specs.declared.log.Log.{Log}
+use Rattle.exb_network.specs.declared.site.Core.{Core}
+use Rattle.exb_network.specs.Devices.{Devices, far_of, AreSame}
+use Rattle.exb_network.specs.Directions.{words_of}
+use Rattle.exb_network.specs.Ends.{near_of}
+use Rattle.exb_network.specs.Indices.{next_of}
+use Rattle.exb_network.specs.Sites.{Site}
+use Rattle.exb_network.specs.Worlds.{world_in, all_left, left_of, IsAt, Does, Moves}
+
+-- ---- the world
+module _ (c : Core) (n : ℕ) where
+  pub near_in : (es : List Ecp) (e : Ecp) → near_of es ≡ at n e (near_of c.near) → world_in (record c { near = es }) ≡ with_near n e (world_in c)
+  near_in es e h = ap (λ (f : ℕ → Ecp). record (world_in c) { near = f }) h
+
+  pub far_in : (d : Devices) (s : ExtenderState) → far_of d ≡ at n s (far_of c.far) → world_in (record c { far = d }) ≡ with_far n s (world_in c)
+  far_in d s h = ap (λ (f : ℕ → ExtenderState). record (world_in c) { far = f }) h
+
+  pub down_in : (d : List (List Word)) (ws : List Word) → words_of d ≡ at n ws (words_of c.down) → world_in (record c { down = d }) ≡ with_down n ws (world_in c)
+  down_in d ws h = ap (λ (f : ℕ → List Word). record (world_in c) { down = f }) h
+
+  pub up_in : (d : List (List Word)) (ws : List Word) → words_of d ≡ at n ws (words_of c.up) → world_in (record c { up = d }) ≡ with_up n ws (world_in c)
+  up_in d ws h = ap (λ (f : ℕ → List Word). record (world_in c) { up = f }) h
+
+-- ---- the site
+module _ (s : Site) (c : Core) (is : IsAt s c) where
+  pub near_at : (es : List Ecp) → IsAt s (record c { near = es })
+  near_at es = record { shape = is.shape; limits = is.limits; awake = is.awake; there = is.there; ports = is.ports }
+
+  pub down_at : (d : List (List Word)) → IsAt s (record c { down = d })
+  down_at d = record { shape = is.shape; limits = is.limits; awake = is.awake; there = is.there; ports = is.ports }
+
+  pub up_at : (d : List (List Word)) → IsAt s (record c { up = d })
+  up_at d = record { shape = is.shape; limits = is.limits; awake = is.awake; there = is.there; ports = is.ports }
+
+  pub next_at : (xs : List ℕ) → IsAt s (record c { next = xs })
+  next_at xs = record { shape = is.shape; limits = is.limits; awake = is.awake; there = is.there; ports = is.ports }
+
+  pub far_at : (d : Devices) → AreSame c.far d → IsAt s (record c { far = d })
+  far_at d same =
+      record {
+        shape = is.shape;
+        limits = is.limits;
+        awake = is.awake;
+        there = λ n h. same.there n ∙ is.there n h;
+        ports = λ n h. same.ports n ∙ is.ports n h;
+      }
+
+-- ---- what is done
+-- nothing is told
+pub tells_nothing : (e : Effect) (s : Site) (c : Core) (log : Log) → world_in c ≡ e.world → e.events ≡ [] → e.passed ≡ [] → e.left ≡ [] → IsAt s c → Does e s c log log
+tells_nothing e s c log world events passed left is =
+    record {
+      world = world;
+      events = sym (append-nil log.events) ∙ ap (λ xs. log.events ++ xs) (sym events);
+      passed = sym (append-nil log.passed) ∙ ap (λ xs. log.passed ++ xs) (sym passed);
+      left = sym (append-nil (all_left log.left)) ∙ ap (λ xs. all_left log.left ++ xs) (sym left);
+      at = is;
+    }
+
+module _ (s : Site) (c : Core) (log : Log) (line : Line) (n : ℕ) (ws : List Word) (is : IsAt s c) where
+  -- a word goes onto a link
+  pub sends_down : (d : List (List Word)) → words_of d ≡ at n ws (words_of c.down) → Does (sending line (with_down n ws (world_in c))) s (record c { down = d }) log log
+  sends_down d h = tells_nothing (sending line (with_down n ws (world_in c))) s (record c { down = d }) log (down_in c n d ws h) refl refl refl (down_at s c is d)
+
+  pub sends_up : (d : List (List Word)) → words_of d ≡ at n ws (words_of c.up) → Does (sending line (with_up n ws (world_in c))) s (record c { up = d }) log log
+  sends_up d h = tells_nothing (sending line (with_up n ws (world_in c))) s (record c { up = d }) log (up_in c n d ws h) refl refl refl (up_at s c is d)
+
+-- a frame leaves
+pub leaves : (s : Site) (c : Core) (log : Log) (line : Line) (x : Left) (y : Leaving) (more : List Left) → IsAt s c → left_of x ≡ y → more ≡ log.left ++ x ∷ [] →
+    Does (leaving line y (world_in c)) s c log (record log { left = more })
+leaves s c log line x y more is same h =
+    record {
+      world = refl;
+      events = sym (append-nil log.events);
+      passed = sym (append-nil log.passed);
+      left = ap all_left h ∙ map-append left_of log.left (x ∷ []) ∙ ap (λ z. all_left log.left ++ z ∷ []) same;
+      at = is;
+    }
+
+-- nothing is done
+pub does_nothing : (s : Site) (c : Core) (log : Log) → IsAt s c → Does (only (world_in c)) s c log log
+does_nothing s c log is = tells_nothing (only (world_in c)) s c log refl refl refl refl is

@@ -1,0 +1,124 @@
+-- What extenders do with what comes to them.
+use Rattle.std.proofs.Common.{◌≡◌, ◌↔◌, ℕ, ◌<◌, ◌≤◌, ◌%◌, Bool, true, false, List, [], ◌∷◌, ◌++◌, nat_lt, refl, ap, sym, subst, ◌∙◌, arith, inl, inr, eq-eqb}
+use Rattle.std.specs.Prelude.{Option, Some, None, All, IsTrue}
+use Rattle.std.proofs.lemmas.Bool.{cases_eq, ne_eqb, ltb-true, cases_Bool}
+use Rattle.std.proofs.lemmas.List.{append-nil}
+use mathlib.Core.Path.{fun_ext}
+use Rattle.exb_model.specs.declared.event.Event.TheVariants as event
+use Rattle.exb_model.specs.Input.{Arrival}
+use Rattle.exb_model.specs.Tree.{Shape, device, is_port, is_extender}
+use Rattle.exb_link.specs.declared.word.Stamp.{Stamp}
+use Rattle.exb_link.specs.declared.word.Word.{Word}
+use Rattle.exb_extender.specs.declared.sends.Entry.{Entry}
+use Rattle.exb_extender.specs.declared.sends.Entry.TheVariants as entry
+use Rattle.exb_extender.specs.declared.sends.Out.{Out}
+use Rattle.exb_extender.specs.declared.sends.Sends.{Sends}
+use Rattle.exb_extender.specs.declared.sends.Side.TheVariants as side
+use Rattle.exb_extender.specs.Forwarding.{Sent, emitted, is_ignored, sent_from_external}
+use Rattle.exb_extender.specs.Machine.{ExtenderState, Input, Arrives, IsPort, react}
+use Rattle.exb_extender.specs.Sending.{sent_by}
+use Rattle.exb_machine.specs.Worlds.{World, at, with_far}
+use Rattle.exb_machine.specs.Effects.{Effect, only, each}
+use Rattle.exb_machine.specs.Extending.{sends, does, does_or_ignores, reacts, takes_from_below, arrives_at, ignored, stamp_of, port_number}
+use Rattle.exb_network.specs.declared.log.Log.{Log}
+use Rattle.exb_network.specs.declared.site.Core.{Core}
+use Rattle.exb_network.specs.Arrivals.{IsPortAt}
+use Rattle.exb_network.specs.Devices.{Devices, far_of}
+use Rattle.exb_network.specs.Forms.{CanGo}
+use Rattle.exb_network.specs.Sites.{Site}
+use Rattle.exb_network.specs.Worlds.{world_in, all_left, IsAt, Does}
+use Rattle.exb_network.proofs.Cores.{far_in, does_nothing}
+
+-- ---- an extender reacts
+pub reacted : (t : Shape) (s : Site) (c d : Core) (far : Devices) (n : ℕ) (stamp : Option Stamp) (i : Input) (f : List ℕ) (sent : Sends) (old new : Log) →
+    far_of far ≡ at n (react i (far_of c.far n)).0 (far_of c.far) → sent_by f sent ≡ (react i (far_of c.far n)).1 →
+    Does (each (sends t n stamp) (sent_by f sent) (world_in (record c { far = far }))) s d old new → Does (reacts t n stamp i (world_in c)) s d old new
+reacted t s c d far n stamp i f sent old new state are done =
+    subst (λ (xs : List Sent). Does (each (sends t n stamp) xs (with_far n (react i (far_of c.far n)).0 (world_in c))) s d old new) are
+    (subst (λ (w : World). Does (each (sends t n stamp) (sent_by f sent) w) s d old new) (far_in c n far (react i (far_of c.far n)).0 state) done)
+
+-- ---- a word comes from below
+pub from_cascade : (t : Shape) (n k : ℕ) (x : Word) (w : World) (s : Site) (d : Core) (old new : Log) → (w.far n).tables.cascade k ≡ true →
+    Does (reacts t n x.stamp (Arrives (side.Port k) x.bytes) w) s d old new → Does (takes_from_below t n k x w) s d old new
+from_cascade t n k x w s d old new is done = rw is done
+
+pub not_from_cascade : (t : Shape) (n k : ℕ) (x : Word) (s : Site) (c : Core) (log : Log) → (far_of c.far n).tables.cascade k ≡ false → IsAt s c →
+    Does (takes_from_below t n k x (world_in c)) s c log log
+not_from_cascade t n k x s c log isnt is = rw isnt (does_nothing s c log is)
+
+-- ---- a frame arrives
+-- it is ignored
+pub ignores : (s : Site) (c : Core) (a : Arrival) (old new : Log) → new.events ≡ old.events ++ event.Ignored a.port a.index ∷ [] → new.passed ≡ old.passed → new.left ≡ old.left → IsAt s c →
+    Does (ignored a (world_in c)) s c old new
+ignores s c a old new events passed left is =
+    record {
+      world = refl;
+      events = events;
+      passed = passed ∙ sym (append-nil old.passed);
+      left = ap all_left left ∙ sym (append-nil (all_left old.left));
+      at = is;
+    }
+
+module _ (t : Shape) (a : Arrival) (w : World) where
+  at_cascade : (w.far (device a.port)).tables.cascade (port_number a.port) ≡ true → arrives_at t a w ≡ ignored a w
+  at_cascade is = rw is refl
+
+  at_ignored : (w.far (device a.port)).tables.cascade (port_number a.port) ≡ false → is_ignored ((w.far (device a.port)).tables.own (port_number a.port)) a.bytes ≡ true → arrives_at t a w ≡ ignored a w
+  unfolding emitted
+  at_ignored outer is = rw (outer, is) refl
+
+  same_far : with_far (device a.port) (w.far (device a.port)) w ≡ w
+  same_far = ap (λ (f : ℕ → ExtenderState). record w { far = f }) (fun_ext (λ m. by_place m))
+    where
+      by_place : (m : ℕ) → at (device a.port) (w.far (device a.port)) w.far m ≡ w.far m
+      by_place m =
+          elim (cases_eq m (device a.port)) [
+            | inl is ↦ rw (is, eq-eqb (device a.port) (device a.port) refl) refl
+            | inr ne ↦ rw (ne_eqb m (device a.port) ne) refl
+          ]
+
+  at_sent : (w.far (device a.port)).tables.cascade (port_number a.port) ≡ false → is_ignored ((w.far (device a.port)).tables.own (port_number a.port)) a.bytes ≡ false →
+      each (sends t (device a.port) (Some (stamp_of a))) (react (Arrives (side.Port (port_number a.port)) a.bytes) (w.far (device a.port))).1 (with_far (device a.port) (w.far (device a.port)) w) ≡ arrives_at t a w
+  unfolding emitted
+  at_sent outer isnt = rw (outer, isnt) refl
+
+-- where a port is a cascade port
+pub arrives_cascade : (t : Shape) (a : Arrival) (s : Site) (c : Core) (old new : Log) → (far_of c.far (device a.port)).tables.cascade (port_number a.port) ≡ true →
+    Does (ignored a (world_in c)) s c old new → Does (arrives_at t a (world_in c)) s c old new
+arrives_cascade t a s c old new is done = subst (λ (e : Effect). Does e s c old new) (sym (at_cascade t a (world_in c) is)) done
+
+-- where it isn't let in
+pub arrives_ignored : (t : Shape) (a : Arrival) (s : Site) (c : Core) (old new : Log) → (far_of c.far (device a.port)).tables.cascade (port_number a.port) ≡ false →
+    IsTrue (is_ignored ((far_of c.far (device a.port)).tables.own (port_number a.port)) a.bytes) →
+    Does (ignored a (world_in c)) s c old new → Does (arrives_at t a (world_in c)) s c old new
+arrives_ignored t a s c old new outer is done = subst (λ (e : Effect). Does e s c old new) (sym (at_ignored t a (world_in c) outer is)) done
+
+-- where it is
+pub arrives_sent : (t : Shape) (a : Arrival) (s : Site) (c d : Core) (result : Entry) (sent : Sends) (old new : Log) → (far_of c.far (device a.port)).tables.cascade (port_number a.port) ≡ false →
+    ((result ≡ entry.Ignored) ↔ IsTrue (is_ignored ((far_of c.far (device a.port)).tables.own (port_number a.port)) a.bytes)) → result ≡ entry.Sent →
+    sent_by a.bytes sent ≡ (react (Arrives (side.Port (port_number a.port)) a.bytes) (far_of c.far (device a.port))).1 →
+    Does (each (sends t (device a.port) (Some (stamp_of a))) (sent_by a.bytes sent) (world_in c)) s d old new → Does (arrives_at t a (world_in c)) s d old new
+arrives_sent t a s c d result sent old new outer let_in is are done =
+    let f = sends t (device a.port) (Some (stamp_of a)) in
+    let r = react (Arrives (side.Port (port_number a.port)) a.bytes) (far_of c.far (device a.port)) in
+    let isnt : is_ignored ((far_of c.far (device a.port)).tables.own (port_number a.port)) a.bytes ≡ false =
+    elim (cases_Bool (is_ignored ((far_of c.far (device a.port)).tables.own (port_number a.port)) a.bytes)) [
+      | inl x ↦ absurd (apart (sym is ∙ let_in.1 x))
+      | inr x ↦ x
+    ] in
+    subst (λ (e : Effect). Does e s d old new) (at_sent t a (world_in c) outer isnt)
+    (subst (λ (w : World). Does (each f r.1 w) s d old new) (sym (same_far t a (world_in c))) (subst (λ (xs : List Sent). Does (each f xs (world_in c)) s d old new) are done))
+  where
+    apart : entry.Sent ≡ entry.Ignored → ⊥
+    apart e = cc
+
+-- ---- ports
+-- a port of an extender as that has it
+pub port_here : (s : Site) (c : Core) (p n k : ℕ) → IsAt s c → IsPortAt s.tree p → n ≡ device p → k ≡ port_number p → IsPort (far_of c.far n) k
+port_here s c p n k is port n_is k_is =
+    let low : p % 64 < (far_of c.far (device p)).tables.ports = subst (λ (m : ℕ). p % 64 < m) (sym (is.ports (device p) port.extender)) (ltb-true _ _ port.port) in
+    rw (n_is, k_is) (omega arith, omega (arith, low))
+
+-- nothing is sent of a frame
+pub none_go : (f : List ℕ) (outs : List Out) → outs ≡ [] → All (CanGo f) outs
+none_go f outs none = subst (All (CanGo f)) (sym none) (λ k d low. absurd (omega (arith, low)))

@@ -1,0 +1,196 @@
+-- How steps begin: a word is taken off its link, a record is counted, the clock goes on.
+use Rattle.std.proofs.Common.{◌≡◌, ℕ, zero, suc, ◌+◌, ◌-◌, ◌%◌, ◌/◌, ◌<◌, ◌≤◌, ◌==◌, ◌++◌, if◌then◌else◌, not, nat_lt, Bool, true, false, List, [], ◌∷◌, Option, Some, None, slice_index, refl, sym, ap, subst, ◌∙◌, inl, inr, eq-eqb, arith}
+use Rattle.std.specs.List.{filter, slice_get}
+use Rattle.std.proofs.lemmas.Bool.{cases_eq, cases_Bool, ne_eqb, and_parts, and_from, ltb-true, lt-ltb, le-ltb, false≢true}
+use Rattle.std.proofs.lemmas.List.{append-nil}
+use mathlib.Core.Path.{fun_ext}
+use Rattle.exb_model.specs.declared.command.Command.{Command}
+use Rattle.exb_model.specs.declared.event.Event.TheVariants as event
+use Rattle.exb_model.specs.Input.{Arrival}
+use Rattle.exb_model.specs.Setup.{Limits}
+use Rattle.exb_model.specs.Tree.{Shape, IsTree, HangsOn, device, on, is_port, is_cascade, is_extender, is_external}
+use Rattle.exb_link.specs.declared.word.Word.{Word}
+use Rattle.exb_link.specs.Words.{is_control, is_data, without_control, without_data}
+use Rattle.exb_learn.specs.Calls.{Tick, after_call}
+use Rattle.exb_control.specs.declared.outbox.Outbox.{Outbox}
+use Rattle.exb_changing.specs.Deciding.{decide}
+use Rattle.exb_changing.specs.Machine.{ordered}
+use Rattle.exb_control.specs.Boxes.{HasTicked, IsMoved}
+use Rattle.exb_control.specs.Controls.{Parts, decide_of, state_of}
+use Rattle.exb_machine.specs.Worlds.{World, Way, Up, Down, at, with_table}
+use Rattle.exb_machine.specs.Worlds.{Tick as Ticks, Mark, Lose}
+use Rattle.exb_machine.specs.Effects.{Effect, only}
+use Rattle.exb_machine.specs.Extending.{arrives_at, port_number, takes_from_below}
+use Rattle.exb_machine.specs.Relaying.{bridge_takes, comes}
+use Rattle.exb_machine.specs.Stepping.{arrives, control_at, counted, done_by, first_data, rest_of, takes, takes_any, takes_up, with_words, words_on}
+use Rattle.exb_machine_laws.specs.Asks.{AsksWell}
+use Rattle.exb_machine_laws.proofs.Trees.{above_there}
+use Rattle.exb_network.specs.declared.log.Log.{Log}
+use Rattle.exb_network.specs.declared.site.Core.{Core}
+use Rattle.exb_network.specs.Arrivals.{IsPortAt}
+use Rattle.exb_network.specs.Directions.{words_of}
+use Rattle.exb_network.specs.Indices.{next_of}
+use Rattle.exb_network.specs.Sites.{Site, limits_in}
+use Rattle.exb_network.specs.Worlds.{world_in, all_left, IsAt, Does}
+use Rattle.exb_network.proofs.Coming.{learned_world, learned_at}
+
+-- ---- fields
+pub up_is : (c : Core) (links : List (List Word)) (f : ℕ → List Word) → words_of links ≡ f → world_in (record c { up = links }) ≡ record (world_in c) { up = f }
+up_is c links f is = ap (λ (g : ℕ → List Word). record (world_in c) { up = g }) is
+
+pub next_is : (c : Core) (xs : List ℕ) (f : ℕ → ℕ) → next_of xs ≡ f → world_in (record c { next = xs }) ≡ record (world_in c) { next = f }
+next_is c xs f is = ap (λ (g : ℕ → ℕ). record (world_in c) { next = g }) is
+
+-- ---- words that aren't there
+not_there : {X A : Type 0} {x : X} → Some x ≡ None → A
+not_there is = absurd (cc)
+
+data_none : (ws : List Word) → first_data ws ≡ None → without_data ws ≡ ws
+data_none [] none = refl
+data_none (w ∷ ws) none = by_sort (is_control w) none (data_none ws)
+  where
+    by_sort : (e : Bool) → slice_get (if not e then w ∷ filter is_data ws else filter is_data ws) 0 ≡ None → (first_data ws ≡ None → without_data ws ≡ ws) →
+        (if e then w ∷ without_data ws else ws) ≡ w ∷ ws
+    by_sort true absent rest = ap (λ (xs : List Word). w ∷ xs) (rest absent)
+    by_sort false absent rest = not_there absent
+
+control_none : (ws : List Word) (k : ℕ) → control_at ws k ≡ None → without_control ws k ≡ ws
+control_none [] k none = refl
+control_none (w ∷ ws) zero none = by_sort (is_control w) none (control_none ws 0)
+  where
+    by_sort : (e : Bool) → slice_get (if e then w ∷ filter is_control ws else filter is_control ws) 0 ≡ None → (control_at ws 0 ≡ None → without_control ws 0 ≡ ws) →
+        (if e then ws else w ∷ without_control ws 0) ≡ w ∷ ws
+    by_sort true absent rest = not_there absent
+    by_sort false absent rest = ap (λ (xs : List Word). w ∷ xs) (rest absent)
+control_none (w ∷ ws) (suc k) none = by_sort (is_control w) none (control_none ws k) (control_none ws (suc k))
+  where
+    by_sort : (e : Bool) → slice_get (if e then w ∷ filter is_control ws else filter is_control ws) (suc k) ≡ None → (control_at ws k ≡ None → without_control ws k ≡ ws) →
+        (control_at ws (suc k) ≡ None → without_control ws (suc k) ≡ ws) →
+        (if e then (if suc k == 0 then ws else w ∷ without_control ws (suc k - 1)) else w ∷ without_control ws (suc k)) ≡ w ∷ ws
+    by_sort true absent rest other =
+        let same : suc k - 1 ≡ k = omega arith in
+        rw (ne_eqb (suc k) 0 (λ e. omega (arith, e)), same) (ap (λ (xs : List Word). w ∷ xs) (rest absent))
+    by_sort false absent rest other = ap (λ (xs : List Word). w ∷ xs) (other absent)
+
+rest_none : (keep : Bool) (ws : List Word) (k : ℕ) → control_at ws k ≡ None → rest_of keep ws k ≡ ws
+rest_none true ws k none = refl
+rest_none false ws k none = control_none ws k none
+
+-- what is put in its own place changes nothing
+at_same : (n : ℕ) (f : ℕ → List Word) → at n (f n) f ≡ f
+at_same n f = fun_ext (λ m. by_place m)
+  where
+    by_place : (m : ℕ) → at n (f n) f m ≡ f m
+    by_place m = elim (cases_eq m n) [ inl is ↦ rw (is, eq-eqb n n refl) refl | inr ne ↦ rw (ne_eqb m n ne) refl ]
+
+pub words_same : (n : ℕ) (way : Way) (w : World) → with_words n way (words_on n way w) w ≡ w
+words_same n Up w = ap (λ (u : ℕ → List Word). record w { up = u }) (at_same n w.up)
+words_same n Down w = ap (λ (u : ℕ → List Word). record w { down = u }) (at_same n w.down)
+
+-- ---- a word that may be there
+module _ (s : Site) (l : Limits) (c d : Core) (n : ℕ) (way : Way) (rest : List Word) (world : world_in d ≡ with_words n way rest (world_in c)) where
+  nobody : (o : Option Word) (log : Log) → o ≡ None → rest ≡ words_on n way (world_in c) → IsAt s d → Does (takes_any s.tree l n way o rest (world_in c)) s d log log
+  nobody o log none same is_at =
+      subst (λ (m : Option Word). Does (takes_any s.tree l n way m rest (world_in c)) s d log log) (sym none) (
+      record {
+        world = world ∙ ap (λ (ws : List Word). with_words n way ws (world_in c)) same ∙ words_same n way (world_in c);
+        events = sym (append-nil log.events);
+        passed = sym (append-nil log.passed);
+        left = sym (append-nil (all_left log.left));
+        at = is_at;
+      })
+
+  pub somebody : (o : Option Word) (x : Word) (e : Core) (old new : Log) → o ≡ Some x → Does (takes s.tree l n way x (world_in d)) s e old new → Does (takes_any s.tree l n way o rest (world_in c)) s e old new
+  somebody o x e old new some done =
+      subst (λ (m : Option Word). Does (takes_any s.tree l n way m rest (world_in c)) s e old new) (sym some) (
+      subst (λ (w : World). Does (takes s.tree l n way x w) s e old new) world done)
+
+  pub asks_on : (t : Shape) (m : Limits) → AsksWell t m (world_in c).control → AsksWell t m (world_in d).control
+  asks_on t m asks = subst (λ (w : World). AsksWell t m w.control) (sym world) (by_way way)
+    where
+      by_way : (v : Way) → AsksWell t m (with_words n v rest (world_in c)).control
+      by_way Up = asks
+      by_way Down = asks
+
+pub no_data : (s : Site) (l : Limits) (c d : Core) (n : ℕ) (way : Way) (log : Log) → first_data (words_on n way (world_in c)) ≡ None →
+    world_in d ≡ with_words n way (without_data (words_on n way (world_in c))) (world_in c) → IsAt s d →
+    Does (takes_any s.tree l n way (first_data (words_on n way (world_in c))) (without_data (words_on n way (world_in c))) (world_in c)) s d log log
+no_data s l c d n way log none world is_at =
+    nobody s l c d n way (without_data (words_on n way (world_in c))) world _ log none (data_none (words_on n way (world_in c)) none) is_at
+
+pub no_control : (s : Site) (l : Limits) (c d : Core) (n : ℕ) (way : Way) (k : ℕ) (keep : Bool) (log : Log) → control_at (words_on n way (world_in c)) k ≡ None →
+    world_in d ≡ with_words n way (rest_of keep (words_on n way (world_in c)) k) (world_in c) → IsAt s d →
+    Does (takes_any s.tree l n way (control_at (words_on n way (world_in c)) k) (rest_of keep (words_on n way (world_in c)) k) (world_in c)) s d log log
+no_control s l c d n way k keep log none world is_at =
+    nobody s l c d n way (rest_of keep (words_on n way (world_in c)) k) world _ log none (rest_none keep (words_on n way (world_in c)) k none) is_at
+
+-- ---- steps that tell nothing, or one thing
+pub lost : (s : Site) (l : Limits) (c d : Core) (n : ℕ) (way : Way) (k : ℕ) (log : Log) → world_in d ≡ (done_by s.tree l (Lose n way k) (world_in c)).world → IsAt s d →
+    Does (done_by s.tree l (Lose n way k) (world_in c)) s d log log
+lost s l c d n way k log world is_at =
+    record { world = world; events = sym (append-nil log.events); passed = sym (append-nil log.passed); left = sym (append-nil (all_left log.left)); at = is_at }
+
+pub ticked : (s : Site) (l : Limits) (c : Core) (p : Parts) (seconds : ℕ) (out : Outbox) (old new : Log) → HasTicked seconds c.control p out → IsAt s c →
+    new.events ≡ old.events ++ event.Tick seconds ∷ [] → new.passed ≡ old.passed → new.left ≡ old.left →
+    Does (done_by s.tree l (Ticks seconds) (world_in c)) s (record c { control = p }) old new
+ticked s l c p seconds out old new ticks is_at events passed left =
+    record {
+      world = learned_world s c p ticks.rest _ ticks.table;
+      events = events;
+      passed = passed ∙ sym (append-nil old.passed);
+      left = ap all_left left ∙ sym (append-nil (all_left old.left));
+      at = learned_at s c p ticks.rest is_at;
+    }
+
+pub marked : (s : Site) (l : Limits) (c : Core) (old new : Log) → IsAt s c → new.events ≡ old.events ++ event.Settled ∷ [] → new.passed ≡ old.passed → new.left ≡ old.left →
+    Does (done_by s.tree l Mark (world_in c)) s c old new
+marked s l c old new is_at events passed left =
+    record {
+      world = refl;
+      events = events;
+      passed = passed ∙ sym (append-nil old.passed);
+      left = ap all_left left ∙ sym (append-nil (all_left old.left));
+      at = is_at;
+    }
+
+-- ---- who takes a word that comes up
+module _ (t : Shape) (tree : IsTree t) (n : ℕ) (there : is_extender t n ≡ true) where
+  pub hung : HangsOn t n (on t n)
+  hung =
+      let both = and_parts (nat_lt 0 n) (nat_lt 0 (slice_index t.ports n)) there in
+      record { extender = ltb-true 0 n both.0; there = ltb-true 0 (slice_index t.ports n) both.1; at = refl }
+
+  pub port_above : 64 ≤ on t n → IsPortAt t (on t n)
+  port_above deep = record { extender = above_there t tree n there deep; port = tree.on_port n hung.extender hung.there }
+
+pub at_bridge : (s : Site) (l : Limits) (c d : Core) (n k : ℕ) (x : Word) (old new : Log) → on s.tree n < 64 → k ≡ on s.tree n → Does (bridge_takes s.tree l k n x (world_in c)) s d old new →
+    Does (takes_up s.tree l n x (world_in c)) s d old new
+at_bridge s l c d n k x old new low is done =
+    rw (lt-ltb (on s.tree n) 64 low) (subst (λ j. Does (bridge_takes s.tree l j n x (world_in c)) s d old new) is done)
+
+pub at_extender : (s : Site) (l : Limits) (c d : Core) (n p : ℕ) (x : Word) (old new : Log) → 64 ≤ on s.tree n → p ≡ on s.tree n →
+    Does (takes_from_below s.tree (device p) (port_number p) x (world_in c)) s d old new → Does (takes_up s.tree l n x (world_in c)) s d old new
+at_extender s l c d n p x old new deep is done =
+    rw (le-ltb (on s.tree n) 64 deep) (subst (λ j. Does (takes_from_below s.tree (device j) (port_number j) x (world_in c)) s d old new) is done)
+
+-- ---- arrivals
+-- an external port beyond those of the bridge is one of an extender
+pub external_at : (t : Shape) (p : ℕ) → is_external t p ≡ true → 64 ≤ p → IsPortAt t p
+external_at t p external deep =
+    let known : is_port t p ≡ true = (and_parts (is_port t p) (not (is_cascade t p)) external).0 in
+    let within = ltb-true (p % 64) (slice_index t.ports (device p)) known in
+    record { extender = and_from _ _ (lt-ltb 0 (device p) (omega (arith, deep))) (lt-ltb 0 (slice_index t.ports (device p)) (omega (arith, within))); port = known }
+
+module _ (s : Site) (c d e : Core) (a : Arrival) (old new : Log) (world : world_in d ≡ counted a (world_in c)) where
+  pub arrives_below : a.port < 64 → Does (comes s.tree a (world_in d)) s e old new → Does (arrives s.tree a (world_in c)) s e old new
+  arrives_below low done = rw (lt-ltb a.port 64 low) (subst (λ (w : World). Does (comes s.tree a w) s e old new) world done)
+
+  pub arrives_deeper : 64 ≤ a.port → Does (arrives_at s.tree a (world_in d)) s e old new → Does (arrives s.tree a (world_in c)) s e old new
+  arrives_deeper deep done = rw (le-ltb a.port 64 deep) (subst (λ (w : World). Does (arrives_at s.tree a w) s e old new) world done)
+
+-- ---- commands
+pub ordered_at : (s : Site) (c : Core) (command : Command) (p : Parts) (out : Outbox) → IsAt s c →
+    IsMoved (ordered (decide_of c.control.fabric) command (state_of c.control)) c.control p out → IsMoved (ordered (decide s.tree (limits_in s)) command (world_in c).control) c.control p out
+ordered_at s c command p out is_at moved =
+    subst (λ (l : Limits). IsMoved (ordered (decide s.tree l) command (state_of c.control)) c.control p out) is_at.limits
+    (subst (λ (t : Shape). IsMoved (ordered (decide t c.control.fabric.limits) command (state_of c.control)) c.control p out) is_at.shape moved)

@@ -1,0 +1,30 @@
+use Rattle.std.proofs.Common.{ℕ, [], ◌∷◌, sym, subst, arith, length-append}
+use Rattle.exb_model.specs.Setup.{shape_of}
+use Rattle.exb_network.specs.Devices.{IsPoweredOn}
+use Rattle.std.specs.Prelude.{slice_index}
+use Rattle.exb_network.proofs.Fars.{powered_more, powered_fars, powered_all}
+use Rattle.exb_network.proofs.extenders.Extenders.new.Goals as goal
+
+pub at_power_on-requires-clause-ports : goal.at_power_on-requires-clause-ports
+at_power_on-requires-clause-ports c = c.port_counts-ports.ensures.few c.loop-number.number
+
+pub loop-number-preserved : goal.loop-number-preserved
+loop-number-preserved c =
+    let ports = c.port_counts-ports.result in
+    let xs = c.loop-number.extenders.items in
+    let made = c.in_ok-at_power_on.field-0 in
+    let here = subst (λ (m : ℕ). IsPoweredOn m (slice_index ports m) made) (sym c.loop-number.invariant.length) c.in_ok-at_power_on.ensures in
+    rw c.in_ok-push.ensures.items (
+    record {
+      length = omega (arith, length-append xs (made ∷ []), c.loop-number.invariant.length);
+      powered = powered_more ports xs made c.loop-number.invariant.powered here;
+    })
+
+pub returns-clause-far : goal.returns-clause-far
+returns-clause-far c =
+    powered_fars (shape_of c.args.setup.now) c.port_counts-ports.result c.loop-number.extenders.items c.port_counts-ports.ensures.counts c.loop-number.invariant.powered
+
+pub returns-clause-there : goal.returns-clause-there
+returns-clause-there c =
+    powered_all (shape_of c.args.setup.now) c.port_counts-ports.result c.loop-number.extenders.items c.port_counts-ports.ensures.counts c.loop-number.invariant.powered
+    (omega (arith, c.requires.tree.sized, c.loop-number.invariant.length, c.loop-number-test.false))

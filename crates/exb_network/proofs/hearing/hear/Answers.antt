@@ -1,0 +1,12 @@
+use Rattle.std.proofs.Common.{sym, ◌∙◌}
+use Rattle.std.proofs.lemmas.Result.{on_ok_weaker}
+use Rattle.exb_network.specs.Sites.{limits_in}
+use Rattle.exb_network.proofs.Hearings.{announcement_on}
+use Rattle.exb_network.proofs.hearing.hear.Goals as goal
+
+pub returns-in-Ok : goal.returns-in-Ok
+returns-in-Ok c =
+    let s = c.args.site.now in
+    on_ok_weaker c.hear_announcement.result (λ done.
+    announcement_on s.tree (limits_in s) c.args.number c.args.frame.now c.in-Ok.announce s c.args.core.now c.hear_announcement.new.core c.args.log.now c.hear_announcement.new.log
+    (sym c.read.ensures ∙ c.in-Ok.is) (done c.args.frame.now)) c.hear_announcement.ensures

@@ -1,0 +1,14 @@
+use Rattle.std.proofs.Common.{◌-◌, length, take, drop, sym, ◌∙◌}
+use Rattle.std.proofs.lemmas.Result.{on_ok_weaker}
+use Rattle.exb_ecp.specs.Frames.{pdu_in}
+use Rattle.exb_network.specs.Sites.{limits_in}
+use Rattle.exb_network.proofs.Hearings.{all_behind, request_on}
+use Rattle.exb_network.proofs.hearing.hear_pdu.Goals as goal
+
+pub returns : goal.returns
+returns c =
+    let s = c.args.site.now in
+    let f = c.args.frame.now in
+    on_ok_weaker c.hear_request.result (λ done.
+    request_on s.tree (limits_in s) c.args.number (pdu_in f) c.in-Ok.pdu f (take (length f - 18) (drop 18 f)) s c.args.core.now c.hear_request.new.core c.args.log.now c.hear_request.new.log
+    (sym c.read.ensures ∙ c.in-Ok.is) c.if-pdu-ne2.false c.if-pdu.false (all_behind f) done) c.hear_request.ensures

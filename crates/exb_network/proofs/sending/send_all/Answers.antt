@@ -1,0 +1,25 @@
+use Rattle.std.proofs.Common.{List, map, subst}
+use Rattle.std.proofs.lemmas.Result.{on_ok_weaker}
+use Rattle.exb_extender.specs.declared.sends.Out.{Out}
+use Rattle.exb_extender.specs.Sending.{out_sent, own_sent}
+use Rattle.exb_machine.specs.Effects.{each}
+use Rattle.exb_machine.specs.Extending.{sends}
+use Rattle.exb_network.specs.Worlds.{world_in, Does}
+use Rattle.exb_network.proofs.Sendings.{all_sent}
+use Rattle.exb_network.proofs.sending.send_all.Goals as goal
+
+pub returns : goal.returns
+returns c =
+    let t = c.args.site.now.tree in
+    let n = c.args.number in
+    let stamp = c.args.stamp.now in
+    let f = c.args.frame.now in
+    let x = c.args.reaction.now in
+    let s = c.args.site.now in
+    let frames = rw c.as_slice-outs.ensures.value at c.in_ok-send_frames.ensures in
+    let first = rw c.as_slice.ensures.value at c.in_ok-send_own.ensures in
+    on_ok_weaker c.send_own-2.result
+    (λ second.
+    all_sent t n stamp f x s c.args.core.now c.send_frames.new.core c.send_own.new.core c.send_own-2.new.core c.args.log.now c.send_frames.new.log c.send_own.new.log c.send_own-2.new.log
+    frames first (rw c.as_slice-2.ensures.value at second))
+    c.send_own-2.ensures

@@ -1,0 +1,29 @@
+use Rattle.std.proofs.Common.{sym, ◌∙◌}
+use Rattle.std.proofs.lemmas.Result.{on_ok_weaker}
+use Rattle.exb_link.specs.Words.{without_data}
+use Rattle.exb_machine.specs.Stepping.{words_on}
+use Rattle.exb_network.specs.Sites.{limits_in}
+use Rattle.exb_network.specs.Steps.{way_of}
+use Rattle.exb_network.specs.Worlds.{world_in}
+use Rattle.exb_network.proofs.Stepped.{asks_on, no_data, somebody}
+use Rattle.exb_network.proofs.stepping.carry.Goals as goal
+
+pub returns-in-None : goal.returns-in-None
+returns-in-None c =
+    let s = c.args.site.now in
+    no_data s (limits_in s) c.args.core.now c.pull_data.new.core c.args.number (way_of c.args.way) c.args.log.now (sym c.pull_data.ensures.word ∙ c.in-None.is) c.pull_data.ensures.rest c.pull_data.ensures.at
+
+pub take-requires-clause-asks : goal.take-requires-clause-asks
+take-requires-clause-asks c =
+    let s = c.args.site.now in
+    let way = way_of c.args.way in
+    asks_on s (limits_in s) c.args.core.now c.pull_data.new.core c.args.number way (without_data (words_on c.args.number way (world_in c.args.core.now))) c.pull_data.ensures.rest s.tree (limits_in s) c.requires.asks
+
+pub returns-in-Some : goal.returns-in-Some
+returns-in-Some c =
+    let s = c.args.site.now in
+    let way = way_of c.args.way in
+    on_ok_weaker c.take.result (λ done.
+    somebody s (limits_in s) c.args.core.now c.pull_data.new.core c.args.number way (without_data (words_on c.args.number way (world_in c.args.core.now))) c.pull_data.ensures.rest _ c.in-Some.word c.take.new.core
+    c.args.log.now c.take.new.log (sym c.pull_data.ensures.word ∙ c.in-Some.is) done)
+    c.take.ensures

@@ -1,0 +1,16 @@
+use Rattle.std.proofs.Common.{[]}
+use Rattle.std.specs.Prelude.{None}
+use Rattle.std.proofs.lemmas.Result.{on_ok_weaker}
+use Rattle.exb_extender.specs.Machine.{Beats}
+use Rattle.exb_network.proofs.Reacting.{reacted, none_go}
+use Rattle.exb_network.proofs.taking.beat.Goals as goal
+
+pub send_all-requires-clause-can : goal.send_all-requires-clause-can
+send_all-requires-clause-can c = none_go [] c.beat.new.sends.frames.items c.beat.ensures.none
+
+pub returns : goal.returns
+returns c =
+    let s = c.args.site.now in
+    on_ok_weaker c.send_all.result
+    (λ done. reacted s.tree s c.args.core.now c.send_all.new.core c.beat.new.self c.args.number None Beats [] c.beat.new.sends c.args.log.now c.send_all.new.log c.beat.ensures.state c.beat.ensures.sends done)
+    c.send_all.ensures

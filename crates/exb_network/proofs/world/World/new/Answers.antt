@@ -1,0 +1,8 @@
+use Rattle.exb_network.proofs.Kept.{live_first}
+use Rattle.exb_network.proofs.world.World.new.Goals as goal
+
+pub invariant_of-result : goal.invariant_of-result
+invariant_of-result c = λ awake.
+    let site = c.in_ok-site.ensures in
+    let core = c.in_ok-core.ensures in
+    live_first c.setups_begin_sound.ensures c.begins_written.ensures c.args.setup.now c.in_ok-site.site c.in_ok-core.core c.requires site.tree site.limits core.world (core.at c.in_ok-site.site site.tree site.limits)

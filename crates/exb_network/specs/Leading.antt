@@ -1,0 +1,13 @@
+-- How effects are done one after another.
+use Rattle.std.specs.Prelude.{◌≡◌, ◌++◌}
+use Rattle.exb_machine.specs.Effects.{Effect}
+use Rattle.exb_network.specs.declared.log.Log.{Log}
+use Rattle.exb_network.specs.Worlds.{all_left}
+
+-- Of a whole effect that began with a log this rest is still to be done: it leads to the same world, and what it tells
+-- stands behind what was told so far.
+pub record Leads (whole rest : Effect) (old so_far : Log) : Type 0 where
+  pub world : rest.world ≡ whole.world
+  pub events : so_far.events ++ rest.events ≡ old.events ++ whole.events
+  pub passed : so_far.passed ++ rest.passed ≡ old.passed ++ whole.passed
+  pub left : all_left so_far.left ++ rest.left ≡ all_left old.left ++ whole.left

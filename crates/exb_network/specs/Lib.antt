@@ -1,0 +1,13 @@
+pub mod Ends
+pub mod Devices
+pub mod Directions
+pub mod Indices
+pub mod Sites
+pub mod Forms
+pub mod Arrivals
+pub mod Sends
+pub mod Steps
+pub mod Worlds
+pub mod Networks
+pub mod Leading
+pub mod Idle

@@ -1,0 +1,75 @@
+-- What a network is to its contracts: its parts, and the world of the machine for which they stand.
+use Rattle.std.specs.Prelude.{◌≡◌, ℕ, ◌++◌, Bool, false, List, []}
+use Rattle.exb_model.specs.Tree.{Shape}
+use Rattle.exb_model.specs.Setup.{Limits}
+use Rattle.exb_machine.specs.Worlds.{World, Step, Arrive, Carry, Control, Lose, Beat, Tick, Order, Mark}
+use Rattle.exb_machine.specs.Stepping.{Stepped, stepped}
+use Rattle.exb_network.specs.declared.log.Log.{Log}
+use Rattle.exb_network.specs.declared.site.Core.{Core}
+use Rattle.exb_network.specs.declared.step.Step.{Step as Made}
+use Rattle.exb_network.specs.declared.step.Step.TheVariants as made
+use Rattle.exb_machine_laws.specs.Simulation.{IsSound}
+use Rattle.exb_machine_laws.specs.Written.{AreWritten}
+use Rattle.exb_network.specs.Sites.{Site, limits_in}
+use Rattle.exb_network.specs.Steps.{way_of}
+use Rattle.exb_network.specs.Worlds.{world_in, all_left, IsAt}
+
+-- what never changes, the parts, what has happened, and whether memory ran out
+pub record Network : Type 0 where
+  pub site : Site
+  pub core : Core
+  pub log : Log
+  pub failed : Bool
+
+abbrev pub network_of : Site → Core → Log → Bool → Network
+network_of s c log failed = record { site = s; core = c; log = log; failed = failed }
+
+abbrev pub world_of : Network → World
+world_of n = world_in n.core
+
+abbrev pub tree_of : Network → Shape
+tree_of n = n.site.tree
+
+abbrev pub bounds_of : Network → Limits
+bounds_of n = limits_in n.site
+
+-- ---- steps
+-- a step of the code as one of the machine
+abbrev pub step_of : Made → Step
+step_of (made.Arrive p i m bytes) = Arrive (record { port = p; index = i; moment = m; bytes = bytes.now })
+step_of (made.Carry n way) = Carry n (way_of way)
+step_of (made.Control n way k keep) = Control n (way_of way) k keep
+step_of (made.Lose n way k) = Lose n (way_of way) k
+step_of made.Beat = Beat
+step_of (made.Tick seconds) = Tick seconds
+step_of (made.Command c) = Order c.now
+step_of made.Mark = Mark
+
+-- The same tree and limits, and memory as before.
+pub record IsSame (old new : Network) : Type 0 where
+  pub site : new.site ≡ old.site
+  pub failed : new.failed ≡ old.failed
+
+-- nothing is told
+pub record IsQuiet (n : Network) : Type 0 where
+  pub events : n.log.events ≡ []
+  pub passed : n.log.passed ≡ []
+  pub left : n.log.left ≡ []
+
+-- The network made this step of the machine: the world is that of the step, and what the step tells stands behind what
+-- was told before.
+pub record IsStepped (step : Step) (old new : Network) : Type 0 where
+  pub world : world_of new ≡ (stepped (tree_of old) (bounds_of old) step (world_of old)).world
+  pub events : new.log.events ≡ old.log.events ++ (stepped (tree_of old) (bounds_of old) step (world_of old)).events
+  pub passed : new.log.passed ≡ old.log.passed ++ (stepped (tree_of old) (bounds_of old) step (world_of old)).passed
+  pub left : all_left new.log.left ≡ all_left old.log.left ++ (stepped (tree_of old) (bounds_of old) step (world_of old)).left
+  pub same : IsSame old new
+
+-- ---- what the type keeps, while memory hasn't run out
+pub record IsLive (s : Site) (c : Core) : Type 0 where
+  pub at : IsAt s c
+  pub sound : IsSound s.tree (limits_in s) (world_in c)
+  pub written : AreWritten (world_in c)
+
+abbrev pub IsKept : Site → Core → Bool → Type 0
+IsKept s c failed = failed ≡ false → IsLive s c

@@ -1,0 +1,63 @@
+-- The world of the machine for which the parts of a network stand, and how they make its steps.
+use Rattle.std.specs.Prelude.{◌≡◌, ℕ, ◌++◌, true, false, List, [], map, slice_index}
+use Rattle.exb_model.specs.Tree.{is_extender}
+use Rattle.exb_learn.specs.Entries.{table_of}
+use Rattle.exb_control.specs.Controls.{state_of}
+use Rattle.exb_machine.specs.Worlds.{World}
+use Rattle.exb_machine.specs.Worlds.{Left as Leaving}
+use Rattle.exb_machine.specs.Effects.{Effect}
+use Rattle.exb_network.specs.declared.log.Left.{Left}
+use Rattle.exb_network.specs.declared.log.Log.{Log}
+use Rattle.exb_network.specs.declared.site.Core.{Core}
+use Rattle.exb_network.specs.Sites.{Site, limits_in}
+use Rattle.exb_network.specs.Directions.{words_of}
+use Rattle.exb_network.specs.Devices.{far_of, has_extender}
+use Rattle.exb_network.specs.Ends.{near_of}
+use Rattle.exb_network.specs.Indices.{next_of}
+
+-- ---- the world
+abbrev pub world_in : Core → World
+world_in c =
+    record {
+      control = state_of c.control;
+      table = table_of c.control.learned;
+      near = near_of c.near;
+      far = far_of c.far;
+      down = words_of c.down;
+      up = words_of c.up;
+      next = next_of c.next;
+      beats = c.beats;
+    }
+
+-- The parts are of this site: its tree and limits are those of the control, each of its extenders is there with its
+-- ports, and memory hasn't run out in the control.
+pub record IsAt (s : Site) (c : Core) : Type 0 where
+  pub shape : c.control.fabric.shape ≡ s.tree
+  pub limits : c.control.fabric.limits ≡ limits_in s
+  pub awake : c.control.failed ≡ false
+  pub there : (n : ℕ) → is_extender s.tree n ≡ true → has_extender c.far n ≡ true
+  pub ports : (n : ℕ) → is_extender s.tree n ≡ true → (far_of c.far n).tables.ports ≡ slice_index s.tree.ports n
+
+-- ---- what is done
+-- a frame that left
+abbrev pub left_of : Left → Leaving
+left_of x = record { port = x.port; moment = x.moment; bytes = x.bytes }
+
+abbrev pub all_left : List Left → List Leaving
+all_left xs = map left_of xs
+
+-- The world is that of the effect, which tells nothing. The site is the same.
+pub record Moves (e : Effect) (s : Site) (c : Core) : Type 0 where
+  pub world : world_in c ≡ e.world
+  pub events : e.events ≡ []
+  pub passed : e.passed ≡ []
+  pub left : e.left ≡ []
+  pub at : IsAt s c
+
+-- The world is that of the effect, and what it tells stands behind what was told before. The site is the same.
+pub record Does (e : Effect) (s : Site) (c : Core) (old new : Log) : Type 0 where
+  pub world : world_in c ≡ e.world
+  pub events : new.events ≡ old.events ++ e.events
+  pub passed : new.passed ≡ old.passed ++ e.passed
+  pub left : all_left new.left ≡ all_left old.left ++ e.left
+  pub at : IsAt s c

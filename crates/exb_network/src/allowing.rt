@@ -1,0 +1,143 @@
+//! Which steps may be made.
+ghost use Rattle.std.specs.Prelude.{◌≡◌, ◌↔◌, ◌+◌, ◌<◌, ◌≤◌, ◌^◌, IsTrue};
+ghost use Rattle.exb_model.specs.Setup.{AreExternal, NamesExternal};
+ghost use Rattle.exb_machine.specs.Allowing.{Can, MayArrive};
+ghost use Rattle.exb_machine.specs.Worlds.{Carry, Lose, Order};
+ghost use Rattle.exb_network.specs.Networks.{step_of};
+ghost use Rattle.exb_network.specs.Steps.{way_of, IsFree};
+ghost use Rattle.exb_network.specs.Worlds.{world_in, IsAt};
+
+use crate::site::{Core, Site};
+use crate::step::{Step, Way};
+use crate::world::{is_settled, link_of};
+use exb_model::command::Command;
+use exb_model::port::PortId;
+use exb_model::port_set::PortSet;
+use exb_model::tree::Tree;
+
+/// How many bytes a frame has at most.
+const LONGEST: usize = 262_144;
+
+/// How many commands there are at most.
+const COMMANDS: u32 = 65_536;
+
+/// Whether each port of a set is an external port.
+fn are_external(tree: &Tree, ports: &PortSet) -> bool
+    ensures { IsTrue result ↔ AreExternal tree.now ports.now }
+{
+    ports.is_within(&tree.external_ports())
+}
+
+/// Whether a command names external ports alone.
+fn names_external(tree: &Tree, command: &Command) -> bool
+    ensures { IsTrue result ↔ NamesExternal tree.now command.now }
+{
+    match command {
+        Command::Vlan {
+            tagged,
+            untagged,
+            ..
+        } => are_external(tree, tagged) && are_external(tree, untagged),
+        Command::Static { ports, .. } => are_external(tree, ports),
+        Command::Unstatic { .. } => true,
+        Command::Member { port, .. }
+        | Command::Unmember { port, .. }
+        | Command::Pvid { port, .. }
+        | Command::Accept { port, .. }
+        | Command::Filter { port, .. }
+        | Command::Isolate { port, .. }
+        | Command::Up { port }
+        | Command::Down { port } => tree.is_external(*port),
+    }
+}
+
+/// Whether a frame may arrive.
+fn may_arrive(site: &Site, core: &Core, port: PortId, index: u64, length: usize) -> bool
+    requires { IsAt site.now core.now }
+    ensures { IsTrue result ↔ MayArrive site.now.tree (world_in core.now) port index length }
+{
+    site.tree().is_external(port)
+        && index == core.next.next(port)
+        && index < 1 << 63
+        && length <= LONGEST
+}
+
+/// Whether a data word may be taken.
+fn may_carry(site: &Site, core: &Core, link: u8, way: Way) -> bool
+    requires { IsAt site.now core.now }
+    ensures { IsTrue result ↔ Can site.now.tree (world_in core.now) (Carry link (way_of way)) }
+{
+    if !site.tree().is_extender(link) {
+        return false;
+    }
+    site.has_low_number(link);
+    link_of(core, link, way).counts().frames > 0
+}
+
+/// Whether a control word may be delivered.
+fn may_deliver(site: &Site, core: &Core, link: u8, way: Way, at: u64) -> bool
+    requires { IsAt site.now core.now }
+    ensures { IsTrue result ↔ IsFree site.now.tree (world_in core.now) link (way_of way) at }
+{
+    if !site.tree().is_extender(link) {
+        return false;
+    }
+    site.has_low_number(link);
+    link_of(core, link, way).free_at(at)
+}
+
+/// Whether a control word may be lost.
+fn may_lose(site: &Site, core: &Core, link: u8, way: Way, at: u64) -> bool
+    requires { IsAt site.now core.now }
+    ensures { IsTrue result ↔ Can site.now.tree (world_in core.now) (Lose link (way_of way) at) }
+{
+    if !site.tree().is_extender(link) {
+        return false;
+    }
+    site.has_low_number(link);
+    at < link_of(core, link, way).counts().control
+}
+
+/// Whether a clock that goes on stays below 2^63.
+fn stays_low(clock: u64, seconds: u32) -> bool
+    ensures { IsTrue result ↔ (clock + seconds < 2 ^ 63) }
+{
+    clock < (1 << 63) - u64::from(seconds)
+}
+
+/// Whether the clock may go on.
+fn may_tick(core: &Core, seconds: u32) -> bool
+    ensures { IsTrue result ↔ ((1 ≤ seconds) × ((world_in core.now).table.clock + seconds < 2 ^ 63)) }
+{
+    seconds >= 1 && stays_low(core.control.clock(), seconds)
+}
+
+/// Whether a command may be given.
+fn may_order(site: &Site, core: &Core, command: &Command) -> bool
+    requires { IsAt site.now core.now }
+    ensures { IsTrue result ↔ Can site.now.tree (world_in core.now) (Order command.now) }
+{
+    names_external(site.tree(), command) && core.control.given() < COMMANDS
+}
+
+/// Whether a step may be made.
+pub(crate) fn can(site: &Site, core: &Core, step: &Step<'_>) -> bool
+    requires { IsAt site.now core.now }
+    ensures { IsTrue result ↔ Can site.now.tree (world_in core.now) (step_of step.now) }
+{
+    match step {
+        Step::Arrive {
+            port,
+            index,
+            bytes,
+            ..
+        } => may_arrive(site, core, *port, *index, bytes.len()),
+        Step::Carry { link, way } => may_carry(site, core, *link, *way),
+        Step::Control { link, way, at, .. } => may_deliver(site, core, *link, *way, *at),
+        Step::Lose { link, way, at } => may_lose(site, core, *link, *way, *at),
+        Step::Beat => true,
+        Step::Tick { seconds } => may_tick(core, *seconds),
+        Step::Command { command } => may_order(site, core, command),
+        Step::Mark => is_settled(site, core),
+    }
+}

@@ -1,0 +1,193 @@
+//! What the bridge sends to its extenders: messages, in control frames over the acknowledged transport (ECP, IEEE 802.1Q,
+//! clause 43).
+ghost use Rattle.std.specs.Prelude.{◌≡◌, ◌<◌, ◌≤◌, ℕ, true, OnOk, length};
+ghost use Rattle.exb_model.specs.Tree.{is_extender, on, trunk};
+ghost use Rattle.exb_extender.specs.Machine.{control_pdu};
+ghost use Rattle.exb_changing.specs.Machine.{Moved};
+ghost use Rattle.exb_machine.specs.Controls.{channel_at_trunk, forgotten_all};
+ghost use Rattle.exb_machine.specs.Effects.{each};
+ghost use Rattle.exb_machine.specs.Extending.{hung_on};
+ghost use Rattle.exb_machine.specs.Hearing.{asks, bridge_acknowledgement, bridge_request, moves, puts, puts_tagged, submits, to_extender};
+ghost use Rattle.exb_machine.specs.Worlds.{World, with_control, with_table};
+ghost use Rattle.exb_machine_laws.specs.Asks.{CanGo};
+ghost use Rattle.exb_machine_laws.specs.Sessions.{AreLow, Each};
+ghost use Rattle.exb_network.specs.Worlds.{world_in, IsAt, Does, Moves};
+
+use crate::forms::{channel_tag, put_tagged};
+use crate::log::{Log, add_events};
+use crate::sending::hung_on;
+use crate::site::{Buffers, Core, Room, Site};
+use exb_changing::Asked;
+use exb_ecp::Pdu;
+use exb_link::Word;
+use exb_model::address::Mac;
+use exb_model::buffers::ControlBuf;
+use exb_model::bytes::Bytes;
+use exb_model::memory::NoMemory;
+use exb_model::port::PortId;
+use std::alloc::Global;
+
+/// The bridge's address: 02-45-42-00-00-00.
+const BRIDGE: Mac = Mac([0x02, 0x45, 0x42, 0x00, 0x00, 0x00]);
+
+/// The header of the bridge's control frames.
+fn header(acknowledgement: bool, sequence: u16) -> Pdu
+    ensures { result ≡ control_pdu acknowledgement sequence }
+{
+    Pdu {
+        acknowledgement,
+        subtype: 2,
+        sequence,
+        payload_at: 18,
+    }
+}
+
+/// A request with a payload, in place of what was in `into`.
+pub(crate) fn spell_request(sequence: u16, payload: &[u8], into: &mut ControlBuf)
+    requires { length payload.now ≤ 1024 }
+    ensures bytes { into.new.items ≡ bridge_request sequence payload.now }
+    ensures long { 12 ≤ length into.new.items }
+{
+    exb_ecp::write(BRIDGE, &header(false, sequence), payload, into);
+}
+
+/// The acknowledgement of a request, in place of what was in `into`.
+pub(crate) fn spell_acknowledgement(sequence: u16, into: &mut ControlBuf)
+    ensures bytes { into.new.items ≡ bridge_acknowledgement sequence }
+    ensures long { 12 ≤ length into.new.items }
+{
+    exb_ecp::write(BRIDGE, &header(true, sequence), &[], into);
+}
+
+/// That the number of an extender of the tree is below 65, as a fact for whoever calls it. It does nothing.
+pub(crate) fn has_low_number(site: &Site, extender: u8)
+    requires { is_extender site.now.tree extender ≡ true }
+    ensures { extender < 65 }
+{
+    let tree = site.tree();
+    tree.is_tree();
+}
+
+/// A control frame goes onto the link of an extender that hangs on the bridge.
+fn put(alloc: Global, site: &Site, below: u8, frame: &[u8], core: &mut Core) -> Result<(), NoMemory>
+    requires at { IsAt site.now core.old }
+    requires known { below < 65 }
+    ensures { OnOk result ((k : ℕ) → Moves (puts k below frame.now (world_in core.old)) site.now core.new) }
+{
+    let _ = site;
+    let word = Word {
+        bytes: Bytes::from_slice(alloc, frame)?,
+        stamp: None,
+    };
+    core.down.push(below, word)
+}
+
+/// A control frame goes to a deeper extender, with the channel of the port on which that hangs, by way of the extender
+/// on the bridge port above it.
+fn put_deeper(
+    alloc: Global,
+    site: &Site,
+    extender: u8,
+    frame: &[u8],
+    into: &mut Vec<u8>,
+    core: &mut Core,
+) -> Result<(), NoMemory>
+    requires at { IsAt site.now core.old }
+    requires there { is_extender site.now.tree extender ≡ true }
+    requires long { 12 ≤ length frame.now }
+    ensures { OnOk result (Moves (puts_tagged (trunk site.now.tree extender) (hung_on site.now.tree (trunk site.now.tree extender))
+        (channel_at_trunk site.now.tree (world_in core.old).control.held (on site.now.tree extender)) frame.now (world_in core.old)) site.now core.new) }
+{
+    let tree = site.tree();
+    tree.is_tree();
+    let trunk = tree.trunk(extender);
+    let Some(below) = hung_on(tree, PortId::at(0, trunk - 1)) else {
+        return Ok(());
+    };
+    let Some(channel) = core.control.of(site.on(extender)) else {
+        return Ok(());
+    };
+    put_tagged(frame, &channel_tag(channel), into)?;
+    put(alloc, site, below, into.as_slice(), core)
+}
+
+/// A control frame goes to an extender.
+pub(crate) fn send_to_extender(
+    alloc: Global,
+    site: &Site,
+    extender: u8,
+    frame: &[u8],
+    into: &mut Vec<u8>,
+    core: &mut Core,
+) -> Result<(), NoMemory>
+    requires at { IsAt site.now core.old }
+    requires there { is_extender site.now.tree extender ≡ true }
+    requires long { 12 ≤ length frame.now }
+    ensures { OnOk result (Moves (to_extender site.now.tree extender frame.now (world_in core.old)) site.now core.new) }
+{
+    has_low_number(site, extender);
+    if site.on(extender).device() == 0 {
+        put(alloc, site, extender, frame, core)
+    } else {
+        put_deeper(alloc, site, extender, frame, into, core)
+    }
+}
+
+/// A message is submitted to an extender, in place of what is sent to it, and goes out.
+fn ask(
+    alloc: Global,
+    site: &Site,
+    asked: &Asked,
+    buffers: &mut Buffers,
+    core: &mut Core,
+) -> Result<(), NoMemory>
+    requires at { IsAt site.now core.old }
+    requires askable { CanGo site.now.tree asked.now }
+    ensures { OnOk result (Moves (asks site.now.tree asked.now (world_in core.old)) site.now core.new) }
+{
+    has_low_number(site, asked.extender);
+    exb_csp::write(&asked.message, &mut buffers.message);
+    let payload = buffers.message.as_slice();
+    let sequence = core.near.submit(asked.extender, payload);
+    spell_request(sequence, payload, &mut buffers.control);
+    let frame = buffers.control.as_slice();
+    send_to_extender(alloc, site, asked.extender, frame, &mut buffers.word, core)
+}
+
+/// All messages go out, in order.
+fn ask_all(
+    alloc: Global,
+    site: &Site,
+    asked: &[Asked],
+    buffers: &mut Buffers,
+    core: &mut Core,
+) -> Result<(), NoMemory>
+    requires at { IsAt site.now core.old }
+    requires askable { Each (CanGo site.now.tree) asked.now }
+    ensures { OnOk result (Moves (each (asks site.now.tree) asked.now (world_in core.old)) site.now core.new) }
+{
+    for one in asked {
+        ask(alloc, site, one, buffers, core)?;
+    }
+    Ok(())
+}
+
+/// What the control told is told, and what it asked goes out: the rest of a step of the machine of changes, once the
+/// control has made it.
+pub(crate) fn follow(
+    alloc: Global,
+    site: &Site,
+    room: &mut Room,
+    core: &mut Core,
+    log: &mut Log,
+) -> Result<(), NoMemory>
+    requires at { IsAt site.now core.old }
+    requires askable { AreLow (world_in core.old).control.askers → Each (CanGo site.now.tree) room.old.outbox.asks }
+    ensures { OnOk result ((m : Moved) (w : World) → world_in core.old ≡ with_table (forgotten_all m.downs w.table) (with_control m.state w)
+        → room.old.outbox.events ≡ m.events → room.old.outbox.asks ≡ m.asks → Does (moves site.now.tree m w) site.now core.new log.old log.new) }
+{
+    core.control.has_low_serials();
+    add_events(alloc, room.outbox.events.as_slice(), &mut log.events)?;
+    let asked = room.outbox.asks.as_slice();
+    ask_all(alloc, site, asked, &mut room.buffers, core)
+}

@@ -1,0 +1,158 @@
+//! A beat of the network.
+ghost use Rattle.std.specs.Prelude.{◌≡◌, ◌≤◌, true, OnOk, None, length};
+ghost use Rattle.exb_model.specs.Tree.{is_extender};
+ghost use Rattle.exb_ecp.specs.Machine.{sent_payload};
+ghost use Rattle.exb_extender.specs.Machine.{Beats};
+ghost use Rattle.exb_machine.specs.Effects.{each};
+ghost use Rattle.exb_machine.specs.Extending.{reacts};
+ghost use Rattle.exb_machine.specs.Hearing.{beats_control, beats_near};
+ghost use Rattle.exb_machine.specs.Stepping.{all_extenders, beats_all, if_there};
+ghost use Rattle.exb_machine_laws.specs.Asks.{AsksWell};
+ghost use Rattle.exb_network.specs.Sites.{limits_in};
+ghost use Rattle.exb_network.specs.Worlds.{world_in, IsAt, Does, Moves};
+
+use crate::asking::{follow, has_low_number, send_to_extender, spell_request};
+use crate::log::Log;
+use crate::site::{Buffers, Core, Room, Site};
+use crate::taking;
+use exb_ecp::{Beat, Ecp};
+use exb_model::memory::NoMemory;
+use exb_model::port::DEVICES;
+use std::alloc::Global;
+
+/// What an end sends, which is at most 1,024 bytes.
+fn payload_of(end: &Ecp) -> &[u8]
+    ensures is { result.now ≡ sent_payload end.now.sending }
+    ensures fits { length result.now ≤ 1024 }
+{
+    // Its clause has the length.
+    let _ = end.idle();
+    end.payload()
+}
+
+/// The bridge's end with an extender counts the beat; what it sends goes out again when that is due.
+fn beat_near(
+    alloc: Global,
+    site: &Site,
+    number: u8,
+    buffers: &mut Buffers,
+    core: &mut Core,
+) -> Result<(), NoMemory>
+    requires at { IsAt site.now core.old }
+    requires there { is_extender site.now.tree number ≡ true }
+    ensures { OnOk result (Moves (beats_near site.now.tree number (world_in core.old)) site.now core.new) }
+{
+    has_low_number(site, number);
+    if core.near.beat(number) != Beat::SendAgain {
+        return Ok(());
+    }
+    let end = core.near.with(number);
+    spell_request(end.sequence(), payload_of(end), &mut buffers.control);
+    let frame = buffers.control.as_slice();
+    send_to_extender(alloc, site, number, frame, &mut buffers.word, core)
+}
+
+/// The same for a number that may be no extender's; then nothing is done.
+fn beat_near_any(
+    alloc: Global,
+    site: &Site,
+    number: u8,
+    buffers: &mut Buffers,
+    core: &mut Core,
+) -> Result<(), NoMemory>
+    requires at { IsAt site.now core.old }
+    ensures { OnOk result (Moves (if_there site.now.tree (beats_near site.now.tree) number (world_in core.old)) site.now core.new) }
+{
+    if !site.tree().is_extender(number) {
+        return Ok(());
+    }
+    beat_near(alloc, site, number, buffers, core)
+}
+
+/// All of the bridge's ends count the beat, by extender.
+fn beat_all_near(
+    alloc: Global,
+    site: &Site,
+    buffers: &mut Buffers,
+    core: &mut Core,
+) -> Result<(), NoMemory>
+    requires at { IsAt site.now core.old }
+    ensures { OnOk result (Moves (each (if_there site.now.tree (beats_near site.now.tree)) all_extenders (world_in core.old)) site.now core.new) }
+{
+    for number in 1..DEVICES {
+        beat_near_any(alloc, site, number, buffers, core)?;
+    }
+    Ok(())
+}
+
+/// The control counts the beat; its outstanding request is asked again when that is due.
+fn beat_control(
+    alloc: Global,
+    site: &Site,
+    room: &mut Room,
+    core: &mut Core,
+    log: &mut Log,
+) -> Result<(), NoMemory>
+    requires at { IsAt site.now core.old }
+    requires asks { AsksWell site.now.tree (limits_in site.now) (world_in core.old).control }
+    ensures { OnOk result (Does (beats_control site.now.tree (world_in core.old)) site.now core.new log.old log.new) }
+{
+    if core.control.beat(&mut room.outbox).is_err() {
+        return Err(NoMemory);
+    }
+    follow(alloc, site, room, core, log)
+}
+
+/// The beat passes at an extender, where there is one of that number.
+fn beat_far_any(
+    alloc: Global,
+    site: &Site,
+    number: u8,
+    room: &mut Room,
+    core: &mut Core,
+    log: &mut Log,
+) -> Result<(), NoMemory>
+    requires at { IsAt site.now core.old }
+    ensures { OnOk result (Does (if_there site.now.tree (λ n. reacts site.now.tree n None Beats) number (world_in core.old)) site.now core.new log.old log.new) }
+{
+    if !site.tree().is_extender(number) {
+        return Ok(());
+    }
+    taking::beat(alloc, site, number, room, core, log)
+}
+
+/// The beat passes at all extenders, by number.
+fn beat_all_far(
+    alloc: Global,
+    site: &Site,
+    room: &mut Room,
+    core: &mut Core,
+    log: &mut Log,
+) -> Result<(), NoMemory>
+    requires at { IsAt site.now core.old }
+    ensures { OnOk result (Does (each (if_there site.now.tree (λ n. reacts site.now.tree n None Beats)) all_extenders (world_in core.old)) site.now core.new log.old log.new) }
+{
+    for number in 1..DEVICES {
+        beat_far_any(alloc, site, number, room, core, log)?;
+    }
+    Ok(())
+}
+
+/// A beat: the bridge's ends by extender, then the control, then the extenders.
+#[tactic(auto, unfolding(exb_machine::specs::Stepping::beats_all, exb_machine::specs::Worlds::next_beat))]
+pub(crate) fn beat(
+    alloc: Global,
+    site: &Site,
+    room: &mut Room,
+    core: &mut Core,
+    log: &mut Log,
+) -> Result<(), NoMemory>
+    requires at { IsAt site.now core.old }
+    requires asks { AsksWell site.now.tree (limits_in site.now) (world_in core.old).control }
+    ensures { OnOk result (Does (beats_all site.now.tree (world_in core.old)) site.now core.new log.old log.new) }
+{
+    core.beats = core.beats.saturating_add(1);
+    beat_all_near(alloc, site, &mut room.buffers, core)?;
+    beat_control(alloc, site, room, core, log)?;
+    beat_all_far(alloc, site, room, core, log)
+}

@@ -1,0 +1,154 @@
+//! The extenders of a network.
+ghost use Rattle.std.specs.Prelude.{◌≡◌, ◌↔◌, ℕ, ◌≤◌, ◌<◌, true, false, IfOk, IsTrue, None, [], slice_index};
+ghost use Rattle.std.specs.List.{All};
+ghost use Rattle.exb_model.specs.Setup.{IsValid, shape_of};
+ghost use Rattle.exb_model.specs.Tree.{is_extender};
+ghost use Rattle.exb_extender.specs.Fields.{state_of};
+ghost use Rattle.exb_extender.specs.Forwarding.{is_ignored};
+ghost use Rattle.exb_extender.specs.Machine.{Arrives, Beats, CanTake, IsPort, react};
+ghost use Rattle.exb_extender.specs.Sending.{sent_by};
+ghost use Rattle.exb_network.specs.Forms.{CanGo};
+ghost use Rattle.exb_machine.specs.Worlds.{at};
+ghost use Rattle.exb_network.specs.Devices.{far_of, first_far, has_extender, IsPoweredOn, AreSame};
+
+use exb_extender::{Entry, Extender, Sends, Side};
+use exb_model::memory::NoMemory;
+use exb_model::port::DEVICES;
+use exb_model::setup::Setup;
+use std::alloc::Global;
+use std::marker::Model;
+
+/// The extenders by number.
+#[derive(Drop)]
+pub(crate) struct Extenders {
+    /// How many ports each device has, 0 where there is none.
+    ports: [u8; DEVICES as usize],
+    extenders: Vec<Option<Extender>>,
+}
+
+impl Model for Extenders {
+    ghost use Rattle.exb_network.specs.Devices.{Devices};
+
+    ghost Value = { Devices };
+
+    ghost view = { λ d. record { ports = d.ports; extenders = d.extenders.items } };
+}
+
+/// How many ports each device of a setup has.
+fn port_counts(setup: &Setup) -> [u8; DEVICES as usize]
+    requires { IsValid setup.now }
+    ensures counts { result ≡ (shape_of setup.now).ports }
+    ensures few { (n : ℕ) → slice_index result n ≤ 64 }
+{
+    let mut ports = [0u8; DEVICES as usize];
+    ports[0] = setup.ports;
+    for extender in setup.extenders.as_slice() {
+        ports[extender.number as usize] = extender.ports;
+    }
+    ports
+}
+
+/// An extender at power-on, where the device is one: it isn't the bridge, and has ports.
+fn at_power_on(alloc: Global, number: u8, ports: u8) -> Result<Option<Extender>, NoMemory>
+    requires ports { ports ≤ 64 }
+    requires number { number ≤ 64 }
+    ensures { IfOk result (λ made. IsPoweredOn number ports made) }
+{
+    if number == 0 || ports == 0 {
+        return Ok(None);
+    }
+    Ok(Some(Extender::new(alloc, number, ports)?))
+}
+
+/// That an extender has at most 64 ports, as a fact for whoever calls it. It does nothing.
+fn has_few_ports(extender: &Extender)
+    ensures { (state_of extender.now).tables.ports ≤ 64 }
+{
+    let _ = extender.idle();
+}
+
+impl Extenders {
+    /// All extenders of a setup, at power-on.
+    pub(crate) fn new(alloc: Global, setup: &Setup) -> Result<Extenders, NoMemory>
+        requires { IsValid setup.now }
+        ensures far { IfOk result (λ made. far_of made ≡ first_far (shape_of setup.now)) }
+        ensures there { IfOk result (λ made. (n : ℕ) → is_extender (shape_of setup.now) n ≡ true → has_extender made n ≡ true) }
+    {
+        let ports = port_counts(setup);
+        let mut extenders = Vec::new(alloc);
+        for number in 0..DEVICES {
+            extenders.push(at_power_on(alloc, number, ports[number as usize])?)?;
+        }
+        Ok(Extenders { ports, extenders })
+    }
+
+    /// An extender takes a frame from upstream, or from one of its cascade ports.
+    pub(crate) fn take(&mut self, number: u8, from: Side, frame: &[u8], sends: &mut Sends)
+        requires there { has_extender self.old number ≡ true }
+        requires from { CanTake (far_of self.old number) from }
+        ensures state { far_of self.new ≡ at number (react (Arrives from frame.now) (far_of self.old number)).0 (far_of self.old) }
+        ensures sends { sent_by frame.now sends.new ≡ (react (Arrives from frame.now) (far_of self.old number)).1 }
+        ensures given { All (CanGo frame.now) sends.new.frames.items }
+        ensures same { AreSame self.old self.new }
+    {
+        if let Some(extender) = &mut self.extenders[number as usize] {
+            has_few_ports(extender);
+            extender.take(from, frame, sends);
+        }
+    }
+
+    /// A frame arrives at a port of an extender that is no cascade port.
+    pub(crate) fn arrive(&mut self, number: u8, port: u8, frame: &[u8], sends: &mut Sends) -> Entry
+        requires there { has_extender self.old number ≡ true }
+        requires port { IsPort (far_of self.old number) port }
+        requires external { (far_of self.old number).tables.cascade port ≡ false }
+        ensures state { self.new ≡ self.old }
+        ensures sends { sent_by frame.now sends.new ≡ (react (Arrives (Side.Port port) frame.now) (far_of self.old number)).1 }
+        ensures given { All (CanGo frame.now) sends.new.frames.items }
+        ensures ignored { (result ≡ Entry.Ignored) ↔ IsTrue (is_ignored ((far_of self.old number).tables.own port) frame.now) }
+    {
+        match &mut self.extenders[number as usize] {
+            Some(extender) => {
+                has_few_ports(extender);
+                extender.arrive(port, frame, sends)
+            }
+            None => Entry::Ignored,
+        }
+    }
+
+    /// A beat passes at an extender.
+    pub(crate) fn beat(&mut self, number: u8, sends: &mut Sends)
+        requires there { has_extender self.old number ≡ true }
+        ensures state { far_of self.new ≡ at number (react Beats (far_of self.old number)).0 (far_of self.old) }
+        ensures sends { sent_by [] sends.new ≡ (react Beats (far_of self.old number)).1 }
+        ensures none { sends.new.frames.items ≡ [] }
+        ensures same { AreSame self.old self.new }
+    {
+        if let Some(extender) = &mut self.extenders[number as usize] {
+            extender.beat(sends);
+        }
+    }
+
+    /// Whether a port of an extender is a cascade port.
+    pub(crate) fn cascade(&self, number: u8, port: u8) -> bool
+        requires there { has_extender self.now number ≡ true }
+        requires port { IsPort (far_of self.now number) port }
+        ensures { result ≡ (far_of self.now number).tables.cascade port }
+    {
+        match &self.extenders[number as usize] {
+            Some(extender) => extender.cascade(port),
+            None => false,
+        }
+    }
+
+    /// Whether an extender sends nothing that waits for an acknowledgement.
+    pub(crate) fn idle(&self, number: u8) -> bool
+        requires { has_extender self.now number ≡ true }
+        ensures { IsTrue result ↔ ((far_of self.now number).ecp.sending ≡ None) }
+    {
+        match &self.extenders[number as usize] {
+            Some(extender) => extender.idle(),
+            None => true,
+        }
+    }
+}

@@ -1,0 +1,90 @@
+//! The links of a network: two directions for each extender.
+ghost use Rattle.std.specs.Prelude.{◌≡◌, ◌<◌, ◌++◌, ◌∷◌, [], IfOk, OnOk, filter, slice_get};
+ghost use Rattle.std.specs.Option.{option_copied};
+ghost use Rattle.exb_link.specs.Words.{is_control, is_data, without_data, without_control};
+ghost use Rattle.exb_machine.specs.Worlds.{at};
+ghost use Rattle.exb_network.specs.Directions.{words_of};
+
+use exb_link::{Link, Word};
+use exb_model::memory::NoMemory;
+use exb_model::port::DEVICES;
+use std::alloc::Global;
+use std::marker::Model;
+
+/// One direction of all links, by the number of the extender below.
+#[derive(Drop)]
+pub(crate) struct Direction {
+    links: Vec<Link>,
+}
+
+impl Model for Direction {
+    ghost use Rattle.std.specs.Prelude.{◌≡◌, List, length};
+    ghost use Rattle.exb_link.specs.declared.word.Word.{Word};
+
+    ghost Value = { List (List Word) };
+
+    ghost view = { λ d. d.links.items };
+
+    ghost invariant = { λ d. length d.links.items ≡ 65 };
+}
+
+impl Direction {
+    /// Nothing is on any link.
+    pub(crate) fn new(alloc: Global) -> Result<Direction, NoMemory>
+        ensures { IfOk result (λ made. words_of made ≡ λ n. []) }
+    {
+        let mut links = Vec::new(alloc);
+        for _ in 0..DEVICES {
+            links.push(Link::new(alloc))?;
+        }
+        Ok(Direction { links })
+    }
+
+    /// Puts a word behind all others on the link of an extender.
+    pub(crate) fn push(&mut self, extender: u8, word: Word) -> Result<(), NoMemory>
+        requires { extender < 65 }
+        ensures { OnOk result (words_of self.new ≡ at extender (words_of self.old extender ++ word ∷ []) (words_of self.old)) }
+    {
+        let link = &mut self.links[extender as usize];
+        match link.push(word) {
+            Ok(()) => Ok(()),
+            Err(_) => Err(NoMemory),
+        }
+    }
+
+    /// Takes the first data word out.
+    pub(crate) fn take_data(&mut self, extender: u8) -> Option<Word>
+        requires { extender < 65 }
+        ensures word { result ≡ slice_get (filter is_data (words_of self.old extender)) 0 }
+        ensures rest { words_of self.new ≡ at extender (without_data (words_of self.old extender)) (words_of self.old) }
+    {
+        let link = &mut self.links[extender as usize];
+        link.take_data()
+    }
+
+    /// Takes the control word at a position out.
+    pub(crate) fn take_control(&mut self, extender: u8, place: u64) -> Option<Word>
+        requires { extender < 65 }
+        ensures word { result ≡ slice_get (filter is_control (words_of self.old extender)) place }
+        ensures rest { words_of self.new ≡ at extender (without_control (words_of self.old extender) place) (words_of self.old) }
+    {
+        let link = &mut self.links[extender as usize];
+        link.take_control(place)
+    }
+
+    /// The control word at a position.
+    pub(crate) fn control_at(&self, extender: u8, place: u64) -> Option<&Word>
+        requires { extender < 65 }
+        ensures { option_copied result ≡ slice_get (filter is_control (words_of self.now extender)) place }
+    {
+        self.links[extender as usize].control_at(place)
+    }
+
+    /// The link of an extender.
+    pub(crate) fn link(&self, extender: u8) -> &Link
+        requires { extender < 65 }
+        ensures { result.now ≡ words_of self.now extender }
+    {
+        &self.links[extender as usize]
+    }
+}

@@ -1,0 +1,400 @@
+//! What the bridge does with words that come up to it, and with frames: it hears the one, and relays the other.
+ghost use Rattle.std.specs.Prelude.{◌≡◌, ◌-◌, ◌≤◌, ◌++◌, ◌∷◌, [], true, if◌then◌else◌, OnOk, Some};
+ghost use Rattle.std.specs.List.{All};
+ghost use Rattle.exb_model.specs.ETags.{read_etag, stripped};
+ghost use Rattle.exb_model.specs.Tree.{HangsOn, is_cascade, is_external};
+ghost use Rattle.exb_control.specs.Boxes.{ingress_for};
+ghost use Rattle.exb_extender.specs.Forwarding.{has_etag_type};
+ghost use Rattle.exb_machine.specs.Effects.{each};
+ghost use Rattle.exb_machine.specs.Extending.{hung_on};
+ghost use Rattle.exb_machine.specs.Relaying.{bridge_takes, comes, comes_from, holder_by, puts_word, sends_for, sends_in, takes_control};
+ghost use Rattle.exb_relay.specs.Laws.{IsBytes};
+ghost use Rattle.exb_network.specs.Arrivals.{arrival_of};
+ghost use Rattle.exb_machine_laws.specs.Asks.{AsksWell};
+ghost use Rattle.exb_network.specs.Sends.{CanSend, HasPassed, is_passed, is_relay_first, passed_in, told_by};
+ghost use Rattle.exb_network.specs.Sites.{limits_in};
+ghost use Rattle.exb_network.specs.Worlds.{world_in, all_left, IsAt, Does, Moves};
+
+use crate::arrivals::Arrived;
+use crate::forms::{put_stripped, put_tagged};
+use crate::hearing::hear;
+use crate::log::{Left, Log, add_events};
+use crate::sending::hung_on;
+use crate::site::{Buffers, Core, Room, Site};
+use exb_control::{Ingress, Outbox, SendTo};
+use exb_frame::egress::egress_into;
+use exb_frame::etag::{E_TAG_TYPE, ETag};
+use exb_link::{Stamp, Word};
+use exb_model::bytes::{Bytes, number_at};
+use exb_model::event::Event;
+use exb_model::list::List;
+use exb_model::memory::NoMemory;
+use exb_model::port::PortId;
+use exb_model::vlan::Vid;
+use exb_relay::laws::spaces_number;
+use std::alloc::Global;
+
+/// A frame that passed at its port in a VLAN, with the priority of its VLAN tag (`pcp` is below 8).
+#[derive(Clone, Copy)]
+struct Passed<'a> {
+    arrived: Arrived<'a>,
+    vid: Vid,
+    pcp: u8,
+    dei: bool,
+}
+
+/// A frame leaves at a port of the bridge.
+fn leave(
+    alloc: Global,
+    bridge_port: u8,
+    moment: u64,
+    frame: &[u8],
+    log: &mut Log,
+) -> Result<(), NoMemory>
+    requires from1 { 1 ≤ bridge_port }
+    requires to64 { bridge_port ≤ 64 }
+    ensures left { OnOk result (all_left log.new.left ≡ all_left log.old.left ++ record { port = bridge_port - 1; moment = moment; bytes = frame.now } ∷ []) }
+    ensures events { log.new.events ≡ log.old.events }
+    ensures passed { log.new.passed ≡ log.old.passed }
+{
+    log.left.push(Left {
+        port: PortId::at(0, bridge_port - 1),
+        moment,
+        bytes: Bytes::from_slice(alloc, frame)?,
+    })
+}
+
+/// A word goes onto the link of the extender that hangs on a port of the bridge.
+fn put_word(
+    alloc: Global,
+    site: &Site,
+    bridge_port: u8,
+    frame: &[u8],
+    stamp: Stamp,
+    core: &mut Core,
+) -> Result<(), NoMemory>
+    requires at { IsAt site.now core.old }
+    requires from1 { 1 ≤ bridge_port }
+    requires to64 { bridge_port ≤ 64 }
+    ensures { OnOk result (Moves (puts_word bridge_port (hung_on site.now.tree (bridge_port - 1)) (record { bytes = frame.now; stamp = Some stamp }) (world_in core.old)) site.now core.new) }
+{
+    let tree = site.tree();
+    tree.is_tree();
+    let Some(below) = hung_on(tree, PortId::at(0, bridge_port - 1)) else {
+        return Ok(());
+    };
+    let word = Word {
+        bytes: Bytes::from_slice(alloc, frame)?,
+        stamp: Some(stamp),
+    };
+    core.down.push(below, word)
+}
+
+/// One send of the bridge: the frame leaves there, or goes down there with an E-TAG.
+fn send(
+    alloc: Global,
+    site: &Site,
+    passed: &Passed,
+    send: &SendTo,
+    buffers: &mut Buffers,
+    core: &mut Core,
+    log: &mut Log,
+) -> Result<(), NoMemory>
+    requires at { IsAt site.now core.old }
+    requires passed { HasPassed passed.now }
+    requires send { CanSend send.now }
+    ensures { OnOk result (Does (sends_in site.now.tree (arrival_of passed.now.arrived) passed.now.vid send.now (world_in core.old)) site.now core.new log.old log.new) }
+{
+    let frame = passed.arrived.bytes;
+    egress_into(
+        frame,
+        send.kind,
+        passed.pcp,
+        passed.dei,
+        passed.vid,
+        &mut buffers.frame,
+    );
+    match &send.tag {
+        None => leave(
+            alloc,
+            send.bridge_port,
+            passed.arrived.moment,
+            buffers.frame.as_slice(),
+            log,
+        ),
+        Some(tag) => {
+            let stamp = passed.arrived.stamp();
+            put_tagged(buffers.frame.as_slice(), tag, &mut buffers.word)?;
+            put_word(
+                alloc,
+                site,
+                send.bridge_port,
+                buffers.word.as_slice(),
+                stamp,
+                core,
+            )
+        }
+    }
+}
+
+/// All sends of the bridge, in order.
+fn send_all(
+    alloc: Global,
+    site: &Site,
+    passed: &Passed,
+    sends: &[SendTo],
+    buffers: &mut Buffers,
+    core: &mut Core,
+    log: &mut Log,
+) -> Result<(), NoMemory>
+    requires at { IsAt site.now core.old }
+    requires passed { HasPassed passed.now }
+    requires sends { All CanSend sends.now }
+    ensures { OnOk result (Does (each (sends_in site.now.tree (arrival_of passed.now.arrived) passed.now.vid) sends.now (world_in core.old)) site.now core.new log.old log.new) }
+{
+    for one in sends {
+        send(alloc, site, passed, one, buffers, core, log)?;
+    }
+    Ok(())
+}
+
+/// Whether the first of these events is one of a frame that was relayed.
+fn is_relay(events: &[Event]) -> bool
+    ensures { result ≡ is_relay_first events.now }
+{
+    matches!(events.first(), Some(Event::Relay { .. }))
+}
+
+/// Whether a frame passed at its port.
+fn has_passed(ingress: &Ingress) -> bool
+    ensures { result ≡ is_passed ingress.now }
+{
+    matches!(ingress, Ingress::Passed { .. })
+}
+
+/// That the bytes of a frame are bytes, as a fact for whoever calls it. It does nothing.
+pub(crate) fn are_bytes(frame: &[u8])
+    ensures { IsBytes frame.now }
+{
+    let _ = frame;
+}
+
+/// Tells whether a relayed frame passed.
+fn put_passed(relayed: bool, passed: bool, to: &mut List<bool>) -> Result<(), NoMemory>
+    ensures { OnOk result (to.new ≡ to.old ++ (if relayed then passed ∷ [] else [])) }
+{
+    if relayed { to.push(passed) } else { Ok(()) }
+}
+
+/// Tells what happened to a frame.
+fn tell(alloc: Global, outbox: &Outbox, log: &mut Log) -> Result<(), NoMemory>
+    ensures events { OnOk result (log.new.events ≡ log.old.events ++ outbox.now.events) }
+    ensures passed { OnOk result (log.new.passed ≡ log.old.passed ++ passed_in outbox.now.events outbox.now.ingress) }
+    ensures left { log.new.left ≡ log.old.left }
+{
+    let events = outbox.events.as_slice();
+    add_events(alloc, events, &mut log.events)?;
+    put_passed(
+        is_relay(events),
+        has_passed(&outbox.ingress),
+        &mut log.passed,
+    )
+}
+
+/// A frame comes to the bridge's control: it is ignored, or relayed and then learned from. What is sent for it is in the
+/// outbox.
+fn learn(
+    alloc: Global,
+    site: &Site,
+    arrived: &Arrived,
+    outbox: &mut Outbox,
+    core: &mut Core,
+    log: &mut Log,
+) -> Result<(), NoMemory>
+    requires at { IsAt site.now core.old }
+    requires external { is_external site.now.tree arrived.now.port ≡ true }
+    ensures does { OnOk result (Does (told_by (arrival_of arrived.now) (world_in core.old)) site.now core.new log.old log.new) }
+    ensures sends { OnOk result (outbox.new.sends.items ≡ sends_for site.now.tree (world_in core.old) (arrival_of arrived.now)) }
+    ensures can { OnOk result (All CanSend outbox.new.sends.items) }
+    ensures ingress { OnOk result (outbox.new.ingress ≡ ingress_for (world_in core.old).control.bridge (arrival_of arrived.now)) }
+{
+    core.control.is_fabric();
+    spaces_number();
+    let _ = site;
+    let frame = arrived.bytes;
+    are_bytes(frame);
+    match core
+        .control
+        .frame(arrived.port, arrived.index, arrived.moment, frame, outbox)
+    {
+        Ok(()) => tell(alloc, outbox, log),
+        Err(_) => Err(NoMemory),
+    }
+}
+
+/// A frame comes to the bridge: it is ignored, or relayed and then learned from.
+pub(crate) fn come(
+    alloc: Global,
+    site: &Site,
+    arrived: &Arrived,
+    room: &mut Room,
+    core: &mut Core,
+    log: &mut Log,
+) -> Result<(), NoMemory>
+    requires at { IsAt site.now core.old }
+    requires external { is_external site.now.tree arrived.now.port ≡ true }
+    ensures { OnOk result (Does (comes site.now.tree (arrival_of arrived.now) (world_in core.old)) site.now core.new log.old log.new) }
+{
+    are_bytes(arrived.bytes);
+    learn(alloc, site, arrived, &mut room.outbox, core, log)?;
+    match &room.outbox.ingress {
+        Ingress::Dropped => Ok(()),
+        Ingress::Passed { vid, pcp, dei } => {
+            let passed = Passed {
+                arrived: Arrived {
+                    port: arrived.port,
+                    index: arrived.index,
+                    moment: arrived.moment,
+                    bytes: arrived.bytes,
+                },
+                vid: *vid,
+                pcp: *pcp,
+                dei: *dei,
+            };
+            let sends = room.outbox.sends.as_slice();
+            send_all(alloc, site, &passed, sends, &mut room.buffers, core, log)
+        }
+    }
+}
+
+/// The port whose channel the E-TAG of a frame names, at a cascade port of the bridge.
+fn holder(site: &Site, core: &Core, bridge_port: u8, frame: &[u8]) -> Option<PortId>
+    requires at { IsAt site.now core.now }
+    requires from1 { 1 ≤ bridge_port }
+    requires to64 { bridge_port ≤ 64 }
+    requires cascade { is_cascade site.now.tree (bridge_port - 1) ≡ true }
+    ensures { result ≡ holder_by (world_in core.now) (bridge_port - 1) (read_etag frame.now) }
+{
+    let _ = site;
+    let tag = ETag::read(frame)?;
+    core.control.port(bridge_port, tag.ecid)
+}
+
+/// Whether a frame has the type of an E-TAG.
+fn has_etag_type(frame: &[u8]) -> bool
+    ensures { result ≡ has_etag_type frame.now }
+{
+    if frame.len() < 14 {
+        return false;
+    }
+    number_at(frame, 12) == E_TAG_TYPE
+}
+
+/// A control word comes to a cascade port of the bridge, from the extender that hangs there or one below it.
+fn take_control(
+    alloc: Global,
+    site: &Site,
+    bridge_port: u8,
+    below: u8,
+    frame: &[u8],
+    inner: &mut Vec<u8>,
+    room: &mut Room,
+    core: &mut Core,
+    log: &mut Log,
+) -> Result<(), NoMemory>
+    requires at { IsAt site.now core.old }
+    requires from1 { 1 ≤ bridge_port }
+    requires to64 { bridge_port ≤ 64 }
+    requires hangs { HangsOn site.now.tree below (bridge_port - 1) }
+    requires asks { AsksWell site.now.tree (limits_in site.now) (world_in core.old).control }
+    ensures { OnOk result (Does (takes_control site.now.tree (limits_in site.now) (bridge_port - 1) below frame.now (world_in core.old)) site.now core.new log.old log.new) }
+{
+    let tree = site.tree();
+    tree.is_tree();
+    if !has_etag_type(frame) {
+        return hear(alloc, site, below, frame, room, core, log);
+    }
+    let Some(port) = holder(site, core, bridge_port, frame) else {
+        return Ok(());
+    };
+    let Some(number) = hung_on(tree, port) else {
+        return Ok(());
+    };
+    put_stripped(frame, inner)?;
+    hear(alloc, site, number, inner.as_slice(), room, core, log)
+}
+
+/// A data word comes to a cascade port of the bridge: its frame comes from the port whose channel it has.
+fn take_data(
+    alloc: Global,
+    site: &Site,
+    bridge_port: u8,
+    word: &Word,
+    inner: &mut Vec<u8>,
+    room: &mut Room,
+    core: &mut Core,
+    log: &mut Log,
+) -> Result<(), NoMemory>
+    requires at { IsAt site.now core.old }
+    requires from1 { 1 ≤ bridge_port }
+    requires to64 { bridge_port ≤ 64 }
+    requires cascade { is_cascade site.now.tree (bridge_port - 1) ≡ true }
+    ensures { OnOk result (Does (comes_from site.now.tree (holder_by (world_in core.old) (bridge_port - 1) (read_etag word.now.bytes)) word.now.stamp (stripped word.now.bytes) (world_in core.old)) site.now core.new log.old log.new) }
+{
+    let frame = word.bytes.as_slice();
+    let Some(port) = holder(site, core, bridge_port, frame) else {
+        return Ok(());
+    };
+    let Some(stamp) = word.stamp else {
+        return Ok(());
+    };
+    if !site.tree().is_external(port) {
+        return Ok(());
+    }
+    put_stripped(frame, inner)?;
+    let arrived = Arrived {
+        port,
+        index: stamp.index,
+        moment: stamp.moment,
+        bytes: inner.as_slice(),
+    };
+    come(alloc, site, &arrived, room, core, log)
+}
+
+/// The bridge takes a word at its port on which an extender hangs.
+pub(crate) fn take(
+    alloc: Global,
+    site: &Site,
+    bridge_port: u8,
+    below: u8,
+    word: &Word,
+    inner: &mut Vec<u8>,
+    room: &mut Room,
+    core: &mut Core,
+    log: &mut Log,
+) -> Result<(), NoMemory>
+    requires at { IsAt site.now core.old }
+    requires from1 { 1 ≤ bridge_port }
+    requires to64 { bridge_port ≤ 64 }
+    requires hangs { HangsOn site.now.tree below (bridge_port - 1) }
+    requires asks { AsksWell site.now.tree (limits_in site.now) (world_in core.old).control }
+    ensures { OnOk result (Does (bridge_takes site.now.tree (limits_in site.now) (bridge_port - 1) below word.now (world_in core.old)) site.now core.new log.old log.new) }
+{
+    site.tree().is_tree();
+    if word.is_control() {
+        let frame = word.bytes.as_slice();
+        take_control(
+            alloc,
+            site,
+            bridge_port,
+            below,
+            frame,
+            inner,
+            room,
+            core,
+            log,
+        )
+    } else {
+        take_data(alloc, site, bridge_port, word, inner, room, core, log)
+    }
+}

@@ -1,0 +1,204 @@
+//! What an extender sends: it goes onto the link of the extender that hangs there, or leaves the network.
+ghost use Rattle.std.specs.Prelude.{◌≡◌, ◌<◌, ◌≤◌, OnOk, map};
+ghost use Rattle.std.specs.List.{All};
+ghost use Rattle.exb_csp.specs.AllTables.{port_of};
+ghost use Rattle.exb_extender.specs.Sending.{out_sent, own_sent, sent_by};
+ghost use Rattle.exb_machine.specs.Effects.{each};
+ghost use Rattle.exb_machine.specs.Extending.{hung_on, sent_at, sent_to, sends};
+ghost use Rattle.exb_machine.specs.Worlds.{moment_of};
+ghost use Rattle.exb_network.specs.Forms.{IsSide, CanGo};
+ghost use Rattle.exb_network.specs.Worlds.{world_in, IsAt, Does};
+
+use crate::forms::put_form;
+use crate::log::{Left, Log};
+use crate::site::{Core, Site};
+use exb_extender::{Out, Sends, Side};
+use exb_link::{Stamp, Word};
+use exb_model::bytes::Bytes;
+use exb_model::memory::NoMemory;
+use exb_model::port::PortId;
+use exb_model::role::Role;
+use exb_model::tree::Tree;
+use std::alloc::Global;
+
+/// The extender that hangs on a port.
+pub(crate) fn hung_on(tree: &Tree, port: PortId) -> Option<u8>
+    ensures { result ≡ hung_on tree.now port }
+{
+    tree.is_tree();
+    match tree.role(port) {
+        Role::Cascade { extender } => Some(extender),
+        _ => None,
+    }
+}
+
+/// The moment of the record by which a word came in; 0 where it has none.
+fn moment_of(stamp: &Option<Stamp>) -> u64
+    ensures { result ≡ moment_of stamp.now }
+{
+    match stamp {
+        Some(stamp) => stamp.moment,
+        None => 0,
+    }
+}
+
+/// A word goes out at a port of an extender.
+fn send_at(
+    site: &Site,
+    number: u8,
+    port: u8,
+    word: Word,
+    core: &mut Core,
+    log: &mut Log,
+) -> Result<(), NoMemory>
+    requires at { IsAt site.now core.old }
+    requires number { number < 65 }
+    requires port { (0 < port) × (port ≤ 64) }
+    ensures { OnOk result (Does (sent_at number port (hung_on site.now.tree (port_of number port)) word.stamp word.bytes (world_in core.old)) site.now core.new log.old log.new) }
+{
+    let place = PortId::at(number, port - 1);
+    let tree = site.tree();
+    tree.is_tree();
+    match hung_on(tree, place) {
+        Some(below) => core.down.push(below, word),
+        None => {
+            let moment = moment_of(&word.stamp);
+            log.left.push(Left {
+                port: place,
+                moment,
+                bytes: word.bytes,
+            })
+        }
+    }
+}
+
+/// A word goes out at a side of an extender.
+fn send_to(
+    site: &Site,
+    number: u8,
+    side: Side,
+    word: Word,
+    core: &mut Core,
+    log: &mut Log,
+) -> Result<(), NoMemory>
+    requires at { IsAt site.now core.old }
+    requires number { number < 65 }
+    requires side { IsSide side }
+    ensures { OnOk result (Does (sent_to site.now.tree number word.stamp side word.bytes (world_in core.old)) site.now core.new log.old log.new) }
+{
+    match side {
+        Side::Up => core.up.push(number, word),
+        Side::Port { port } => send_at(site, number, port, word, core, log),
+    }
+}
+
+/// A frame that an extender took goes out in a form.
+fn send_frame(
+    alloc: Global,
+    site: &Site,
+    number: u8,
+    frame: &[u8],
+    stamp: &Option<Stamp>,
+    out: &Out,
+    into: &mut Vec<u8>,
+    core: &mut Core,
+    log: &mut Log,
+) -> Result<(), NoMemory>
+    requires at { IsAt site.now core.old }
+    requires number { number < 65 }
+    requires can { CanGo frame.now out.now }
+    ensures { OnOk result (Does (sends site.now.tree number stamp.now (out_sent frame.now out.now) (world_in core.old)) site.now core.new log.old log.new) }
+{
+    put_form(frame, &out.form, into)?;
+    let word = Word {
+        bytes: Bytes::from_slice(alloc, into.as_slice())?,
+        stamp: *stamp,
+    };
+    send_to(site, number, out.to, word, core, log)
+}
+
+/// A frame that an extender took goes out in each form.
+fn send_frames(
+    alloc: Global,
+    site: &Site,
+    number: u8,
+    frame: &[u8],
+    stamp: &Option<Stamp>,
+    outs: &[Out],
+    into: &mut Vec<u8>,
+    core: &mut Core,
+    log: &mut Log,
+) -> Result<(), NoMemory>
+    requires at { IsAt site.now core.old }
+    requires number { number < 65 }
+    requires can { All (CanGo frame.now) outs.now }
+    ensures { OnOk result (Does (each (sends site.now.tree number stamp.now) (map (out_sent frame.now) outs.now) (world_in core.old)) site.now core.new log.old log.new) }
+{
+    for out in outs {
+        send_frame(alloc, site, number, frame, stamp, out, into, core, log)?;
+    }
+    Ok(())
+}
+
+/// A control frame of an extender's own goes up; an empty one isn't sent.
+fn send_own(
+    alloc: Global,
+    site: &Site,
+    number: u8,
+    stamp: &Option<Stamp>,
+    frame: &[u8],
+    core: &mut Core,
+    log: &mut Log,
+) -> Result<(), NoMemory>
+    requires at { IsAt site.now core.old }
+    requires number { number < 65 }
+    ensures { OnOk result (Does (each (sends site.now.tree number stamp.now) (own_sent frame.now) (world_in core.old)) site.now core.new log.old log.new) }
+{
+    if frame.is_empty() {
+        return Ok(());
+    }
+    let word = Word {
+        bytes: Bytes::from_slice(alloc, frame)?,
+        stamp: *stamp,
+    };
+    send_to(site, number, Side::Up, word, core, log)
+}
+
+/// All that an extender sends where this frame came goes out: the frame in its forms, then the extender's own frames.
+pub(crate) fn send_all(
+    alloc: Global,
+    site: &Site,
+    number: u8,
+    frame: &[u8],
+    stamp: &Option<Stamp>,
+    reaction: &Sends,
+    into: &mut Vec<u8>,
+    core: &mut Core,
+    log: &mut Log,
+) -> Result<(), NoMemory>
+    requires at { IsAt site.now core.old }
+    requires number { number < 65 }
+    requires can { All (CanGo frame.now) reaction.now.frames.items }
+    ensures { OnOk result (Does (each (sends site.now.tree number stamp.now) (sent_by frame.now reaction.now) (world_in core.old)) site.now core.new log.old log.new) }
+{
+    let outs = reaction.frames.as_slice();
+    send_frames(alloc, site, number, frame, stamp, outs, into, core, log)?;
+    send_own(
+        alloc,
+        site,
+        number,
+        stamp,
+        reaction.first.as_slice(),
+        core,
+        log,
+    )?;
+    send_own(
+        alloc,
+        site,
+        number,
+        stamp,
+        reaction.second.as_slice(),
+        core,
+        log,
+    )
+}

@@ -1,0 +1,182 @@
+//! The parts of a network.
+ghost use Rattle.std.specs.Prelude.{◌≡◌, ◌<◌, true, IfOk};
+ghost use Rattle.exb_model.specs.Setup.{IsPlace, IsValid, port_at, shape_of, start_of, limits_of};
+ghost use Rattle.exb_model.specs.Tree.{is_extender, on};
+ghost use Rattle.exb_machine.specs.Worlds.{first_world};
+ghost use Rattle.exb_network.specs.Sites.{limits_in};
+ghost use Rattle.exb_network.specs.Worlds.{world_in, IsAt};
+
+use crate::ends::Ends;
+use crate::extenders::Extenders;
+use crate::indices::Indices;
+use crate::links::Direction;
+use exb_control::{Control, Outbox};
+use exb_extender::Sends;
+use exb_model::buffers::{ControlBuf, FrameBuf};
+use exb_model::memory::NoMemory;
+use exb_model::port::{DEVICES, PortId};
+use exb_model::setup::{Place, Setup};
+use exb_model::tree::Tree;
+use std::alloc::Global;
+use std::marker::Model;
+
+/// What never changes: the tree, and how many E-channels and groups the space of a bridge port has.
+#[derive(Drop)]
+pub(crate) struct Site {
+    tree: Tree,
+    channels: u16,
+    groups: u16,
+    /// The port on which each extender hangs.
+    on: [PortId; DEVICES as usize],
+}
+
+impl Model for Site {
+    ghost use Rattle.std.specs.Prelude.{◌≡◌};
+    ghost use Rattle.exb_network.specs.Sites.{Site};
+
+    ghost Value = { Site };
+
+    ghost view = { λ s. record { tree = s.tree; channels = s.channels; groups = s.groups } };
+
+    ghost invariant = { λ s. s.on ≡ s.tree.on };
+}
+
+/// The port at a place of a setup.
+fn port_at(place: &Place) -> PortId
+    requires { IsPlace place.now }
+    ensures { result ≡ port_at place.now }
+{
+    match place {
+        Place::Bridge { port } => PortId::at(0, *port - 1),
+        Place::Extender { number, port } => PortId::at(*number, *port - 1),
+    }
+}
+
+/// The port on which each extender of a setup hangs.
+fn places(setup: &Setup) -> [PortId; DEVICES as usize]
+    requires { IsValid setup.now }
+    ensures { result ≡ (shape_of setup.now).on }
+{
+    let first = PortId::at(0, 0);
+    let mut places = [first; DEVICES as usize];
+    for extender in setup.extenders.as_slice() {
+        places[extender.number as usize] = port_at(&extender.on);
+    }
+    places
+}
+
+impl Site {
+    /// The site of a setup.
+    pub(crate) fn new(alloc: Global, setup: &Setup) -> Result<Site, NoMemory>
+        requires { IsValid setup.now }
+        ensures tree { IfOk result (λ made. made.tree ≡ shape_of setup.now) }
+        ensures limits { IfOk result (λ made. limits_in made ≡ limits_of setup.now) }
+    {
+        Ok(Site {
+            tree: Tree::new(alloc, setup)?,
+            channels: setup.channels,
+            groups: setup.groups,
+            on: places(setup),
+        })
+    }
+
+    /// The tree.
+    pub(crate) fn tree(&self) -> &Tree
+        ensures { result.now ≡ self.now.tree }
+    {
+        &self.tree
+    }
+
+    /// That the number of an extender is below 65, as a fact for whoever calls it. It does nothing.
+    pub(crate) fn has_low_number(&self, extender: u8)
+        requires { is_extender self.now.tree extender ≡ true }
+        ensures { extender < 65 }
+    {
+        self.tree.is_tree();
+    }
+
+    /// The port on which an extender hangs.
+    pub(crate) fn on(&self, extender: u8) -> PortId
+        requires { is_extender self.now.tree extender ≡ true }
+        ensures { result ≡ on self.now.tree extender }
+    {
+        self.tree.is_tree();
+        let on = &self.on;
+        on[extender as usize]
+    }
+}
+
+/// The bridge with its control, the ends of the transport, the extenders, what is on the links, and what was counted.
+#[derive(Drop)]
+pub(crate) struct Core {
+    pub(crate) control: Control,
+    pub(crate) near: Ends,
+    pub(crate) far: Extenders,
+    pub(crate) down: Direction,
+    pub(crate) up: Direction,
+    pub(crate) next: Indices,
+    pub(crate) beats: u64,
+}
+
+impl Core {
+    /// As it begins.
+    pub(crate) fn new(alloc: Global, setup: &Setup) -> Result<Core, NoMemory>
+        requires { IsValid setup.now }
+        ensures world { IfOk result (λ made. world_in made ≡ first_world (shape_of setup.now) (limits_of setup.now) (start_of setup.now) setup.now.ageing) }
+        ensures at { IfOk result (λ made. (s : Site) → s.tree ≡ shape_of setup.now → limits_in s ≡ limits_of setup.now → IsAt s made) }
+    {
+        let near = Ends::new(alloc)?;
+        let down = Direction::new(alloc)?;
+        let up = Direction::new(alloc)?;
+        let next = Indices::new(alloc)?;
+        let far = Extenders::new(alloc, setup)?;
+        let control = Control::new(alloc, setup)?;
+        Ok(Core {
+            control,
+            near,
+            far,
+            down,
+            up,
+            next,
+            beats: 0,
+        })
+    }
+}
+
+/// Where messages and frames are written; nothing in it is kept from step to step.
+#[derive(Drop)]
+pub(crate) struct Buffers {
+    /// A message.
+    pub(crate) message: ControlBuf,
+    /// A control frame.
+    pub(crate) control: ControlBuf,
+    /// A frame as it leaves the bridge.
+    pub(crate) frame: FrameBuf,
+    /// A frame as it goes onto a link.
+    pub(crate) word: Vec<u8>,
+}
+
+/// What calls give; each call replaces it.
+#[derive(Drop)]
+pub(crate) struct Room {
+    /// What a call of the control gives.
+    pub(crate) outbox: Outbox,
+    /// What an extender sends.
+    pub(crate) sends: Sends,
+    pub(crate) buffers: Buffers,
+}
+
+impl Room {
+    pub(crate) fn new(alloc: Global) -> Room {
+        Room {
+            outbox: Outbox::new(alloc),
+            sends: Sends::new(),
+            buffers: Buffers {
+                message: ControlBuf::new(),
+                control: ControlBuf::new(),
+                frame: FrameBuf::new(),
+                word: Vec::new(alloc),
+            },
+        }
+    }
+}

@@ -1,0 +1,401 @@
+//! The network as one value, and its calls.
+ghost use Rattle.std.specs.Prelude.{◌≡◌, ◌↔◌, ◌<◌, ℕ, true, false, IfOk, IsTrue, OnErr, OnOk, length, filter};
+ghost use Rattle.exb_model.specs.Setup.{IsValid, limits_of, shape_of, start_of};
+ghost use Rattle.exb_model.specs.Tree.{is_extender};
+ghost use Rattle.exb_link.specs.Words.{is_control, is_data, leading};
+ghost use Rattle.exb_changing.specs.Counting.{planned};
+ghost use Rattle.exb_changing.specs.Deciding.{decide};
+ghost use Rattle.exb_machine.specs.Allowing.{Can, IsSettled};
+ghost use Rattle.exb_machine.specs.Stepping.{done_by, words_on};
+ghost use Rattle.exb_machine.specs.Worlds.{first_world};
+ghost use Rattle.exb_machine_laws.specs.Asks.{AsksWell};
+ghost use Rattle.exb_machine_laws.specs.Laws.{HasBytes};
+ghost use Rattle.exb_network.specs.Devices.{has_extender};
+ghost use Rattle.exb_network.specs.Idle.{IsIdle};
+ghost use Rattle.exb_network.specs.Networks.{step_of, IsLive};
+ghost use Rattle.exb_network.specs.Sites.{limits_in};
+ghost use Rattle.exb_network.specs.Steps.{way_of};
+ghost use Rattle.exb_network.specs.Worlds.{world_in, IsAt, Does};
+
+use crate::arrivals::Arrived;
+use crate::log::{Left, Log};
+use crate::relaying::are_bytes;
+use crate::site::{Core, Room, Site};
+use crate::step::{Step, Way};
+use crate::stepping::{arrive, carry, deliver, lose, mark, order, tick};
+use crate::{allowing, beating};
+use exb_link::{Counts, Link};
+use exb_machine_laws::laws::{
+    asks_can_be_sent, begins_written, runs_stay_sound, setups_begin_sound, steps_stay_written,
+    written_are_short,
+};
+use exb_model::event::Event;
+use exb_model::list::List;
+use exb_model::memory::NoMemory;
+use exb_model::port::DEVICES;
+use exb_model::setup::Setup;
+use exb_model::tree::Tree;
+use std::alloc::Global;
+use std::marker::Model;
+
+/// Why a step did not come to its end.
+#[derive(Clone, Copy, Debug, PartialEq, Eq)]
+pub enum WorldFault {
+    /// Memory ran out in this step.
+    Memory,
+    /// Memory ran out in an earlier step.
+    Failed,
+}
+
+/// The controlling bridge with all extenders and links, and what has happened since the last `clear`.
+#[derive(Drop)]
+pub struct World {
+    alloc: Global,
+    site: Site,
+    core: Core,
+    room: Room,
+    /// A frame without its E-TAG, as the bridge takes it.
+    inner: Vec<u8>,
+    log: Log,
+    failed: bool,
+}
+
+impl Model for World {
+    ghost use Rattle.exb_network.specs.Networks.{Network};
+
+    ghost Value = { Network };
+
+    ghost use Rattle.exb_network.specs.Networks.{network_of, IsKept};
+
+    ghost view = { λ w. network_of w.site w.core w.log w.failed };
+
+    ghost invariant = { λ w. IsKept w.site w.core w.failed };
+}
+
+impl World {
+    ghost use Rattle.exb_network.specs.Networks.{world_of, tree_of, bounds_of, step_of, IsQuiet, IsSame, IsStepped};
+
+    /// The world of a setup. Nothing has happened in it yet.
+    pub fn new(alloc: Global, setup: &Setup) -> Result<World, NoMemory>
+        requires { IsValid setup.now }
+        ensures world { IfOk result (λ made. world_of made ≡ first_world (shape_of setup.now) (limits_of setup.now) (start_of setup.now) setup.now.ageing) }
+        ensures tree { IfOk result (λ made. tree_of made ≡ shape_of setup.now) }
+        ensures limits { IfOk result (λ made. bounds_of made ≡ limits_of setup.now) }
+        ensures quiet { IfOk result IsQuiet }
+        ensures awake { IfOk result (λ made. made.failed ≡ false) }
+    {
+        setups_begin_sound();
+        begins_written();
+        let site = Site::new(alloc, setup)?;
+        let core = Core::new(alloc, setup)?;
+        Ok(World {
+            alloc,
+            site,
+            core,
+            room: Room::new(alloc),
+            inner: Vec::new(alloc),
+            log: Log::new(alloc),
+            failed: false,
+        })
+    }
+
+    /// Whether a step may be made, where memory hasn't run out. An arrival: the port is external, the index is the port's next
+    /// one and below 2^63, and the frame has at most 262,144 bytes. A carry: a data word is in that direction. A control word:
+    /// it is there, and to be delivered it is free: no data word sent before it is left. A tick: it has at least one second, and
+    /// the clock stays below 2^63. A command: its ports are external, and fewer than 65,536 were given. A mark: nothing is left
+    /// to be done.
+    pub fn can(&self, step: &Step<'_>) -> bool
+        ensures may { result ≡ true → Can (tree_of self.now) (world_of self.now) (step_of step.now) }
+        ensures exact { self.now.failed ≡ false → Can (tree_of self.now) (world_of self.now) (step_of step.now) → result ≡ true }
+    {
+        !self.failed && allowing::can(&self.site, &self.core, step)
+    }
+
+    /// Makes a step.
+    pub fn step(&mut self, step: Step<'_>) -> Result<(), WorldFault>
+        requires { Can (tree_of self.old) (world_of self.old) (step_of step) }
+        ensures ok { OnOk result (IsStepped (step_of step.entry) self.old self.new) }
+        ensures failed { (result ≡ Err WorldFault.Failed) ↔ (self.old.failed ≡ true) }
+        ensures memory { OnErr result (self.new.failed ≡ true) }
+    {
+        match step {
+            Step::Arrive {
+                port,
+                index,
+                moment,
+                bytes,
+            } => self.go(&Step::Arrive {
+                port,
+                index,
+                moment,
+                bytes,
+            }),
+            Step::Carry { link, way } => self.go(&Step::Carry { link, way }),
+            Step::Control {
+                link,
+                way,
+                at,
+                keep,
+            } => self.go(&Step::Control {
+                link,
+                way,
+                at,
+                keep,
+            }),
+            Step::Lose { link, way, at } => self.go(&Step::Lose { link, way, at }),
+            Step::Beat => self.go(&Step::Beat),
+            Step::Tick { seconds } => self.go(&Step::Tick { seconds }),
+            Step::Command { command } => self.go(&Step::Command { command }),
+            Step::Mark => self.go(&Step::Mark),
+        }
+    }
+
+    fn go(&mut self, step: &Step<'_>) -> Result<(), WorldFault>
+        requires { Can (tree_of self.old) (world_of self.old) (step_of step.now) }
+        ensures ok { OnOk result (IsStepped (step_of step.now) self.old self.new) }
+        ensures failed { (result ≡ Err WorldFault.Failed) ↔ (self.old.failed ≡ true) }
+        ensures memory { OnErr result (self.new.failed ≡ true) }
+    {
+        if self.failed {
+            return Err(WorldFault::Failed);
+        }
+        let site = &self.site;
+        match advance(
+            self.alloc,
+            site,
+            step,
+            &mut self.inner,
+            &mut self.room,
+            &mut self.core,
+            &mut self.log,
+        ) {
+            Ok(()) => Ok(()),
+            Err(_) => {
+                self.failed = true;
+                Err(WorldFault::Memory)
+            }
+        }
+    }
+
+    /// Whether nothing is left to be done: no job waits and no change is at work, nothing is on any link, and every end of
+    /// the transport is idle.
+    pub fn settled(&self) -> bool
+        ensures { self.now.failed ≡ false → (IsTrue result ↔ IsSettled (tree_of self.now) (world_of self.now)) }
+    {
+        !self.failed && is_settled(&self.site, &self.core)
+    }
+
+    /// How many beats there were; it stays at 2^64 - 1.
+    pub fn beats(&self) -> u64
+        ensures { result ≡ (world_of self.now).beats }
+    {
+        self.core.beats
+    }
+
+    /// The tree.
+    pub fn tree(&self) -> &Tree
+        ensures { result.now ≡ tree_of self.now }
+    {
+        self.site.tree()
+    }
+
+    /// How many exchanges and announcements are still to come before all jobs are done.
+    pub fn planned(&self) -> Result<u64, NoMemory>
+        ensures { self.now.failed ≡ false → IfOk result (λ count. count ≡ planned (tree_of self.now) (decide (tree_of self.now) (bounds_of self.now)) (world_of self.now).control) }
+    {
+        self.core.control.planned()
+    }
+
+    /// How many data words and control words are on a direction.
+    pub fn counts(&self, link: u8, way: Way) -> Counts
+        requires { is_extender (tree_of self.now) link ≡ true }
+        ensures frames { result.frames ≡ length (filter is_data (words_on link (way_of way) (world_of self.now))) }
+        ensures control { result.control ≡ length (filter is_control (words_on link (way_of way) (world_of self.now))) }
+    {
+        self.site.has_low_number(link);
+        link_of(&self.core, link, way).counts()
+    }
+
+    /// Whether there is a control word at a position of a direction, and no data word sent before it is left.
+    pub fn free_at(&self, link: u8, way: Way, at: u64) -> bool
+        requires { is_extender (tree_of self.now) link ≡ true }
+        ensures { IsTrue result ↔ (at < leading (words_on link (way_of way) (world_of self.now))) }
+    {
+        self.site.has_low_number(link);
+        link_of(&self.core, link, way).free_at(at)
+    }
+
+    /// What happened since the last `clear`, in order.
+    pub fn events(&self) -> &[Event]
+        ensures { result.now ≡ self.now.log.events }
+    {
+        self.log.events.as_slice()
+    }
+
+    /// For each Relay among the events, in order, whether its frame passed at its port.
+    pub fn passed(&self) -> &[bool]
+        ensures { result.now ≡ self.now.log.passed }
+    {
+        self.log.passed.as_slice()
+    }
+
+    /// What left the ports since the last `clear`, in order.
+    pub fn left(&self) -> &[Left]
+        ensures { result.now ≡ self.now.log.left }
+    {
+        self.log.left.as_slice()
+    }
+
+    /// Forgets what happened, and changes nothing else.
+    pub fn clear(&mut self)
+        ensures world { world_of self.new ≡ world_of self.old }
+        ensures same { IsSame self.old self.new }
+        ensures quiet { IsQuiet self.new }
+    {
+        self.log = Log::new(self.alloc);
+    }
+}
+
+/// That what a step brings is bytes, as a fact for whoever calls it. It does nothing.
+fn brings_bytes(step: &Step<'_>)
+    ensures { HasBytes (step_of step.now) }
+{
+    if let Step::Arrive { bytes, .. } = step {
+        are_bytes(*bytes);
+    }
+}
+
+/// Makes a step, and what the machine keeps is kept.
+fn advance(
+    alloc: Global,
+    site: &Site,
+    step: &Step<'_>,
+    inner: &mut Vec<u8>,
+    room: &mut Room,
+    core: &mut Core,
+    log: &mut Log,
+) -> Result<(), NoMemory>
+    requires live { IsLive site.now core.old }
+    requires can { Can site.now.tree (world_in core.old) (step_of step.now) }
+    ensures live { OnOk result (IsLive site.now core.new) }
+    ensures does { OnOk result (Does (done_by site.now.tree (limits_in site.now) (step_of step.now) (world_in core.old)) site.now core.new log.old log.new) }
+{
+    asks_can_be_sent();
+    runs_stay_sound();
+    steps_stay_written();
+    written_are_short();
+    core.control.is_fabric();
+    core.control.has_low_serials();
+    brings_bytes(step);
+    match make(alloc, site, step, inner, room, core, log) {
+        Ok(()) => {
+            core.control.has_low_serials();
+            Ok(())
+        }
+        Err(_) => Err(NoMemory),
+    }
+}
+
+/// Makes a step.
+fn make(
+    alloc: Global,
+    site: &Site,
+    step: &Step<'_>,
+    inner: &mut Vec<u8>,
+    room: &mut Room,
+    core: &mut Core,
+    log: &mut Log,
+) -> Result<(), NoMemory>
+    requires at { IsAt site.now core.old }
+    requires asks { AsksWell site.now.tree (limits_in site.now) (world_in core.old).control }
+    requires can { Can site.now.tree (world_in core.old) (step_of step.now) }
+    ensures { OnOk result (Does (done_by site.now.tree (limits_in site.now) (step_of step.now) (world_in core.old)) site.now core.new log.old log.new) }
+{
+    match step {
+        Step::Arrive {
+            port,
+            index,
+            moment,
+            bytes,
+        } => {
+            let arrived = Arrived {
+                port: *port,
+                index: *index,
+                moment: *moment,
+                bytes: *bytes,
+            };
+            arrive(alloc, site, &arrived, room, core, log)
+        }
+        Step::Carry { link, way } => carry(alloc, site, *link, *way, inner, room, core, log),
+        Step::Control {
+            link,
+            way,
+            at,
+            keep,
+        } => deliver(alloc, site, *link, *way, *at, *keep, inner, room, core, log),
+        Step::Lose { link, way, at } => {
+            site.has_low_number(*link);
+            lose(site, *link, *way, *at, core);
+            Ok(())
+        }
+        Step::Beat => beating::beat(alloc, site, room, core, log),
+        Step::Tick { seconds } => tick(site, *seconds, room, core, log),
+        Step::Command { command } => order(alloc, site, *command, room, core, log),
+        Step::Mark => mark(site, core, log),
+    }
+}
+
+/// Whether nothing is left to be done.
+pub(crate) fn is_settled(site: &Site, core: &Core) -> bool
+    requires { IsAt site.now core.now }
+    ensures { IsTrue result ↔ IsSettled site.now.tree (world_in core.now) }
+{
+    core.control.settled() && are_idle(site, core)
+}
+
+/// The link of an extender in a direction.
+pub(crate) fn link_of(core: &Core, number: u8, way: Way) -> &Link
+    requires { number < 65 }
+    ensures { result.now ≡ words_on number (way_of way) (world_in core.now) }
+{
+    match way {
+        Way::Up => core.up.link(number),
+        Way::Down => core.down.link(number),
+    }
+}
+
+/// Whether nothing is on the link of an extender, and both ends of its transport are idle.
+fn is_idle(core: &Core, number: u8) -> bool
+    requires known { number < 65 }
+    requires there { has_extender core.now.far number ≡ true }
+    ensures { IsTrue result ↔ IsIdle (world_in core.now) number }
+{
+    let near = core.near.with(number).idle();
+    let far = core.far.idle(number);
+    let down = core.down.link(number).is_empty();
+    let up = core.up.link(number).is_empty();
+    near && far && down && up
+}
+
+/// Whether that is so of an extender, if it is there.
+fn is_idle_at(site: &Site, core: &Core, number: u8) -> bool
+    requires at { IsAt site.now core.now }
+    requires known { number < 65 }
+    ensures { IsTrue result ↔ (is_extender site.now.tree number ≡ true → IsIdle (world_in core.now) number) }
+{
+    !site.tree().is_extender(number) || is_idle(core, number)
+}
+
+/// Whether that is so of all extenders.
+fn are_idle(site: &Site, core: &Core) -> bool
+    requires { IsAt site.now core.now }
+    ensures { IsTrue result ↔ ((n : ℕ) → is_extender site.now.tree n ≡ true → IsIdle (world_in core.now) n) }
+{
+    site.tree().is_tree();
+    for number in 1..DEVICES {
+        if !is_idle_at(site, core, number) {
+            return false;
+        }
+    }
+    true
+}

@@ -1,0 +1,324 @@
+//! A world that words move, steps with a semicolon between them, and a log of what is told:
+//!
+//! - `arrive P BYTES`: the next record of the port named P arrives, at as many seconds as have passed
+//! - `carry N up`, `control N down K`, `keep N down K`, `lose N up K`: a word of a direction of extender N is taken, the
+//!   control word at position K is delivered, or delivered and kept, or lost
+//! - `beat`, `tick S`, `give` (the next command of the topology), `mark`
+//! - `decide`: free control words are delivered, those of all links upward, then downward, and beats pass, until a command is decided
+//! - `settle`: rounds until all is settled, and a mark; `twice`: from now on each control word of a round is delivered twice
+//! - `tell`: logs the events and what has left; `planned`, `counts N`: logs how many exchanges are planned, and what
+//!   is on a link, up and down; `skip`: forgets what was told
+use crate::hex::{bytes_of, text_of};
+use exb_model::command::Command;
+use exb_model::event::Event;
+use exb_model::port::PortId;
+use exb_network::{Step, Way, World};
+use exb_text::{PortName, write_line};
+use exb_topology::{Topology, read};
+use std::alloc::{AllocError, Global};
+use std::process::Abort;
+use std::str::SplitWhitespace;
+
+/// A world, the commands of its topology, and what was told.
+#[derive(Drop)]
+pub(crate) struct Driver {
+    topology: Topology,
+    world: World,
+    given: usize,
+    seconds: u64,
+    next: Vec<u64>,
+    twice: bool,
+    log: String,
+}
+
+// The number that a word is.
+fn number(rt: &impl Abort, word: Option<&str>) -> u64 {
+    word.expect(rt, "a word")
+        .parse::<u64>()
+        .expect(rt, "a number")
+}
+
+// The number of an extender.
+fn small(rt: &impl Abort, word: Option<&str>) -> u8 {
+    word.expect(rt, "a word")
+        .parse::<u8>()
+        .expect(rt, "a number below 256")
+}
+
+// The port with a name, as `b1` or `x2.3`.
+fn port(rt: &impl Abort, word: Option<&str>) -> PortId {
+    let word = word.expect(rt, "a port");
+    let (device, place) = match word.strip_prefix("b") {
+        Some(place) => (0, small(rt, Some(place))),
+        None => {
+            let mut parts = word.strip_prefix("x").expect(rt, "b or x").split('.');
+            (small(rt, parts.next()), small(rt, parts.next()))
+        }
+    };
+    assert!(rt; device < 65);
+    assert!(rt; place >= 1);
+    assert!(rt; place <= 64);
+    PortId::at(device, place - 1)
+}
+
+fn way(word: Option<&str>) -> Way {
+    match word {
+        Some("up") => Way::Up,
+        _ => Way::Down,
+    }
+}
+
+impl Driver {
+    /// The world of a topology's text.
+    pub(crate) fn new(rt: &impl Abort, alloc: Global, text: &str) -> Result<Driver, AllocError> {
+        let topology = read(alloc, text.as_bytes()).expect(rt, "a topology");
+        let world = World::new(alloc, &topology.setup).expect(rt, "memory");
+        let mut next = Vec::new(alloc);
+        for _ in 0..4160u16 {
+            next.push(1u64)?;
+        }
+        Ok(Driver {
+            topology,
+            world,
+            given: 0,
+            seconds: 0,
+            next,
+            twice: false,
+            log: String::new(alloc),
+        })
+    }
+
+    fn step(&mut self, rt: &impl Abort, step: Step<'_>) {
+        assert!(rt; self.world.can(&step));
+        self.world.step(step).expect(rt, "memory");
+    }
+
+    // Delivers the first control word of a direction.
+    fn deliver(&mut self, rt: &impl Abort, link: u8, way: Way, at: u64, keep: bool) {
+        self.step(
+            rt,
+            Step::Control {
+                link,
+                way,
+                at,
+                keep,
+            },
+        );
+    }
+
+    // Goes through the words that stand in a direction, once.
+    fn direction(&mut self, rt: &impl Abort, link: u8, way: Way) {
+        assert!(rt; self.world.tree().is_extender(link));
+        let counts = self.world.counts(link, way);
+        let mut words = counts.frames + counts.control;
+        for _ in 0..u64::MAX {
+            if words == 0 {
+                return;
+            }
+            words -= 1;
+            if self.world.free_at(link, way, 0) {
+                if self.twice {
+                    self.deliver(rt, link, way, 0, true);
+                }
+                self.deliver(rt, link, way, 0, false);
+            } else {
+                self.step(rt, Step::Carry { link, way });
+            }
+        }
+    }
+
+    // The extenders by depth.
+    fn order(&self, alloc: Global) -> Result<Vec<u8>, AllocError> {
+        Vec::from_slice(alloc, self.world.tree().order())
+    }
+
+    fn round(&mut self, rt: &impl Abort, order: &[u8]) {
+        for link in order.iter().rev() {
+            self.direction(rt, *link, Way::Up);
+        }
+        for link in order {
+            self.direction(rt, *link, Way::Down);
+        }
+        self.step(rt, Step::Beat);
+    }
+
+    fn settle(&mut self, rt: &impl Abort, alloc: Global) -> Result<(), AllocError> {
+        let order = self.order(alloc)?;
+        for _ in 0..100_000u32 {
+            if self.world.settled() {
+                self.step(rt, Step::Mark);
+                return Ok(());
+            }
+            self.round(rt, order.as_slice());
+        }
+        assert!(rt; false);
+        Ok(())
+    }
+
+    // Delivers the control words of a direction that stand before its data words.
+    fn free(&mut self, rt: &impl Abort, link: u8, way: Way) {
+        assert!(rt; self.world.tree().is_extender(link));
+        for _ in 0..self.world.counts(link, way).control {
+            if self.world.free_at(link, way, 0) {
+                self.deliver(rt, link, way, 0, false);
+            }
+        }
+    }
+
+    // Delivers control words alone: those of all links upward, then downward.
+    fn control(&mut self, rt: &impl Abort, order: &[u8]) {
+        for link in order.iter().rev() {
+            self.free(rt, *link, Way::Up);
+        }
+        for link in order {
+            self.free(rt, *link, Way::Down);
+        }
+    }
+
+    // Whether a job was decided.
+    fn is_decided(&self) -> bool {
+        matches!(
+            self.world.events().last(),
+            Some(Event::Commit { .. } | Event::Refuse { .. })
+        )
+    }
+
+    // Control words and beats until a command is decided.
+    fn decide(&mut self, rt: &impl Abort, alloc: Global) -> Result<(), AllocError> {
+        let order = self.order(alloc)?;
+        for _ in 0..10_000u32 {
+            if self.is_decided() {
+                return Ok(());
+            }
+            self.control(rt, order.as_slice());
+            self.step(rt, Step::Beat);
+        }
+        Ok(())
+    }
+
+    fn arrive(&mut self, rt: &impl Abort, alloc: Global, at: Option<&str>, bytes: Option<&str>) {
+        let port = port(rt, at);
+        let frame = bytes_of(rt, alloc, bytes.expect(rt, "bytes"));
+        let place = port.number() as usize;
+        assert!(rt; place < self.next.len());
+        let index = self.next[place];
+        self.next[place] = index.saturating_add(1);
+        self.step(
+            rt,
+            Step::Arrive {
+                port,
+                index,
+                moment: self.seconds.saturating_mul(1_000_000_000),
+                bytes: frame.as_slice(),
+            },
+        );
+    }
+
+    fn give(&mut self, rt: &impl Abort) {
+        let commands = self.topology.commands.as_slice();
+        assert!(rt; self.given < commands.len());
+        let command = commands[self.given].command;
+        self.given = self.given.saturating_add(1);
+        self.step(rt, Step::Command { command: &command });
+    }
+
+    fn tick(&mut self, rt: &impl Abort, word: Option<&str>) {
+        let seconds = word
+            .expect(rt, "seconds")
+            .parse::<u32>()
+            .expect(rt, "a number");
+        self.seconds = self.seconds.saturating_add(u64::from(seconds));
+        self.step(rt, Step::Tick { seconds });
+    }
+
+    // Writes what was told, and forgets it.
+    fn tell(&mut self, rt: &impl Abort, alloc: Global) -> Result<(), AllocError> {
+        for event in self.world.events() {
+            write_line(&mut self.log, event).expect(rt, "memory");
+        }
+        for left in self.world.left() {
+            let bytes = text_of(alloc, left.bytes.as_slice())?;
+            let text = format!(in alloc; "{} {bytes}\n", PortName(left.port))?;
+            self.log.push_str(text.as_str())?;
+        }
+        self.world.clear();
+        Ok(())
+    }
+
+    // Writes what is on the link of an extender.
+    fn count(&mut self, rt: &impl Abort, alloc: Global, link: u8) -> Result<(), AllocError> {
+        assert!(rt; self.world.tree().is_extender(link));
+        let up = self.world.counts(link, Way::Up);
+        let down = self.world.counts(link, Way::Down);
+        let text = format!(in alloc;
+            "x{link} up {} {} down {} {}\n",
+            up.frames, up.control, down.frames, down.control
+        )?;
+        self.log.push_str(text.as_str())?;
+        Ok(())
+    }
+
+    fn plan(&mut self, rt: &impl Abort, alloc: Global) -> Result<(), AllocError> {
+        let planned = self.world.planned().expect(rt, "memory");
+        self.log
+            .push_str(format!(in alloc; "planned {planned}\n")?.as_str())?;
+        Ok(())
+    }
+
+    // A step that is one of the machine's.
+    fn single(&mut self, rt: &impl Abort, verb: &str, words: &mut SplitWhitespace<'_>) {
+        let link = small(rt, words.next());
+        let way = way(words.next());
+        match verb {
+            "carry" => self.step(rt, Step::Carry { link, way }),
+            "lose" => {
+                let at = number(rt, words.next());
+                self.step(rt, Step::Lose { link, way, at });
+            }
+            _ => {
+                let at = number(rt, words.next());
+                self.deliver(rt, link, way, at, verb == "keep");
+            }
+        }
+    }
+
+    /// Makes steps.
+    pub(crate) fn run(
+        &mut self,
+        rt: &impl Abort,
+        alloc: Global,
+        steps: &str,
+    ) -> Result<(), AllocError> {
+        for step in steps.split(';') {
+            let mut words = step.split_whitespace();
+            match words.next() {
+                Some("settle") => self.settle(rt, alloc)?,
+                Some("decide") => self.decide(rt, alloc)?,
+                Some("twice") => self.twice = true,
+                Some("give") => self.give(rt),
+                Some("beat") => self.step(rt, Step::Beat),
+                Some("mark") => self.step(rt, Step::Mark),
+                Some("tell") => self.tell(rt, alloc)?,
+                Some("skip") => self.world.clear(),
+                Some("planned") => self.plan(rt, alloc)?,
+                Some("tick") => self.tick(rt, words.next()),
+                Some("counts") => {
+                    let link = small(rt, words.next());
+                    self.count(rt, alloc, link)?;
+                }
+                Some("arrive") => {
+                    let port = words.next();
+                    self.arrive(rt, alloc, port, words.next());
+                }
+                Some(verb) => self.single(rt, verb, &mut words),
+                None => {}
+            }
+        }
+        Ok(())
+    }
+
+    /// What was told.
+    pub(crate) fn log(&self) -> &str {
+        self.log.as_str()
+    }
+}
