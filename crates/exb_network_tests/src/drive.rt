@@ -9,7 +9,7 @@
 //! - `tell`: logs the events and what has left; `planned`, `counts N`: logs how many exchanges are planned, and what
 //!   is on a link, up and down; `skip`: forgets what was told
 use crate::hex::{bytes_of, text_of};
-use exb_model::command::Command;
+use exb_link::Counts;
 use exb_model::event::Event;
 use exb_model::port::PortId;
 use exb_network::{Step, Way, World};
@@ -88,41 +88,77 @@ impl Driver {
         })
     }
 
-    fn step(&mut self, rt: &impl Abort, step: Step<'_>) {
-        assert!(rt; self.world.can(&step));
-        self.world.step(step).expect(rt, "memory");
+    fn carry(&mut self, rt: &impl Abort, link: u8, way: Way) {
+        assert!(rt; self.world.can(&Step::Carry { link, way }));
+        self.world
+            .step(Step::Carry { link, way })
+            .expect(rt, "memory");
     }
 
-    // Delivers the first control word of a direction.
     fn deliver(&mut self, rt: &impl Abort, link: u8, way: Way, at: u64, keep: bool) {
-        self.step(
-            rt,
-            Step::Control {
+        assert!(rt;
+            self.world.can(&Step::Control {
+                link,
+                way,
+                at,
+                keep
+            })
+        );
+        self.world
+            .step(Step::Control {
                 link,
                 way,
                 at,
                 keep,
-            },
-        );
+            })
+            .expect(rt, "memory");
+    }
+
+    fn lose(&mut self, rt: &impl Abort, link: u8, way: Way, at: u64) {
+        assert!(rt; self.world.can(&Step::Lose { link, way, at }));
+        self.world
+            .step(Step::Lose { link, way, at })
+            .expect(rt, "memory");
+    }
+
+    fn beat(&mut self, rt: &impl Abort) {
+        assert!(rt; self.world.can(&Step::Beat));
+        self.world.step(Step::Beat).expect(rt, "memory");
+    }
+
+    fn mark(&mut self, rt: &impl Abort) {
+        assert!(rt; self.world.can(&Step::Mark));
+        self.world.step(Step::Mark).expect(rt, "memory");
+    }
+
+    // How many words are on a direction.
+    fn counts(&self, rt: &impl Abort, link: u8, way: Way) -> Counts {
+        assert!(rt; self.world.tree().is_extender(link));
+        self.world.counts(link, way)
+    }
+
+    // Whether the first control word of a direction is free.
+    fn is_free(&self, rt: &impl Abort, link: u8, way: Way) -> bool {
+        assert!(rt; self.world.tree().is_extender(link));
+        self.world.free_at(link, way, 0)
+    }
+
+    // Delivers the first control word of a direction, twice where that is wanted.
+    fn pass(&mut self, rt: &impl Abort, link: u8, way: Way) {
+        if self.twice {
+            self.deliver(rt, link, way, 0, true);
+        }
+        self.deliver(rt, link, way, 0, false);
     }
 
     // Goes through the words that stand in a direction, once.
     fn direction(&mut self, rt: &impl Abort, link: u8, way: Way) {
-        assert!(rt; self.world.tree().is_extender(link));
-        let counts = self.world.counts(link, way);
-        let mut words = counts.frames + counts.control;
-        for _ in 0..u64::MAX {
-            if words == 0 {
-                return;
-            }
-            words -= 1;
-            if self.world.free_at(link, way, 0) {
-                if self.twice {
-                    self.deliver(rt, link, way, 0, true);
-                }
-                self.deliver(rt, link, way, 0, false);
+        let counts = self.counts(rt, link, way);
+        for _ in 0..counts.frames.saturating_add(counts.control) {
+            if self.is_free(rt, link, way) {
+                self.pass(rt, link, way);
             } else {
-                self.step(rt, Step::Carry { link, way });
+                self.carry(rt, link, way);
             }
         }
     }
@@ -139,14 +175,14 @@ impl Driver {
         for link in order {
             self.direction(rt, *link, Way::Down);
         }
-        self.step(rt, Step::Beat);
+        self.beat(rt);
     }
 
     fn settle(&mut self, rt: &impl Abort, alloc: Global) -> Result<(), AllocError> {
         let order = self.order(alloc)?;
         for _ in 0..100_000u32 {
             if self.world.settled() {
-                self.step(rt, Step::Mark);
+                self.mark(rt);
                 return Ok(());
             }
             self.round(rt, order.as_slice());
@@ -157,9 +193,8 @@ impl Driver {
 
     // Delivers the control words of a direction that stand before its data words.
     fn free(&mut self, rt: &impl Abort, link: u8, way: Way) {
-        assert!(rt; self.world.tree().is_extender(link));
-        for _ in 0..self.world.counts(link, way).control {
-            if self.world.free_at(link, way, 0) {
+        for _ in 0..self.counts(rt, link, way).control {
+            if self.is_free(rt, link, way) {
                 self.deliver(rt, link, way, 0, false);
             }
         }
@@ -191,35 +226,47 @@ impl Driver {
                 return Ok(());
             }
             self.control(rt, order.as_slice());
-            self.step(rt, Step::Beat);
+            self.beat(rt);
         }
         Ok(())
     }
 
-    fn arrive(&mut self, rt: &impl Abort, alloc: Global, at: Option<&str>, bytes: Option<&str>) {
+    fn arrive(&mut self, rt: &impl Abort, alloc: Global, at: Option<&str>, frame: Option<&str>) {
         let port = port(rt, at);
-        let frame = bytes_of(rt, alloc, bytes.expect(rt, "bytes"));
+        let frame = bytes_of(rt, alloc, frame.expect(rt, "bytes"));
+        let bytes = frame.as_slice();
         let place = port.number() as usize;
         assert!(rt; place < self.next.len());
         let index = self.next[place];
         self.next[place] = index.saturating_add(1);
-        self.step(
-            rt,
-            Step::Arrive {
+        let moment = self.seconds.saturating_mul(1_000_000_000);
+        assert!(rt;
+            self.world.can(&Step::Arrive {
                 port,
                 index,
-                moment: self.seconds.saturating_mul(1_000_000_000),
-                bytes: frame.as_slice(),
-            },
+                moment,
+                bytes
+            })
         );
+        self.world
+            .step(Step::Arrive {
+                port,
+                index,
+                moment,
+                bytes,
+            })
+            .expect(rt, "memory");
     }
 
     fn give(&mut self, rt: &impl Abort) {
         let commands = self.topology.commands.as_slice();
         assert!(rt; self.given < commands.len());
-        let command = commands[self.given].command;
+        let command = &commands[self.given].command;
         self.given = self.given.saturating_add(1);
-        self.step(rt, Step::Command { command: &command });
+        assert!(rt; self.world.can(&Step::Command { command }));
+        self.world
+            .step(Step::Command { command })
+            .expect(rt, "memory");
     }
 
     fn tick(&mut self, rt: &impl Abort, word: Option<&str>) {
@@ -228,7 +275,8 @@ impl Driver {
             .parse::<u32>()
             .expect(rt, "a number");
         self.seconds = self.seconds.saturating_add(u64::from(seconds));
-        self.step(rt, Step::Tick { seconds });
+        assert!(rt; self.world.can(&Step::Tick { seconds }));
+        self.world.step(Step::Tick { seconds }).expect(rt, "memory");
     }
 
     // Writes what was told, and forgets it.
@@ -247,9 +295,8 @@ impl Driver {
 
     // Writes what is on the link of an extender.
     fn count(&mut self, rt: &impl Abort, alloc: Global, link: u8) -> Result<(), AllocError> {
-        assert!(rt; self.world.tree().is_extender(link));
-        let up = self.world.counts(link, Way::Up);
-        let down = self.world.counts(link, Way::Down);
+        let up = self.counts(rt, link, Way::Up);
+        let down = self.counts(rt, link, Way::Down);
         let text = format!(in alloc;
             "x{link} up {} {} down {} {}\n",
             up.frames, up.control, down.frames, down.control
@@ -270,10 +317,10 @@ impl Driver {
         let link = small(rt, words.next());
         let way = way(words.next());
         match verb {
-            "carry" => self.step(rt, Step::Carry { link, way }),
+            "carry" => self.carry(rt, link, way),
             "lose" => {
                 let at = number(rt, words.next());
-                self.step(rt, Step::Lose { link, way, at });
+                self.lose(rt, link, way, at);
             }
             _ => {
                 let at = number(rt, words.next());
@@ -296,8 +343,8 @@ impl Driver {
                 Some("decide") => self.decide(rt, alloc)?,
                 Some("twice") => self.twice = true,
                 Some("give") => self.give(rt),
-                Some("beat") => self.step(rt, Step::Beat),
-                Some("mark") => self.step(rt, Step::Mark),
+                Some("beat") => self.beat(rt),
+                Some("mark") => self.mark(rt),
                 Some("tell") => self.tell(rt, alloc)?,
                 Some("skip") => self.world.clear(),
                 Some("planned") => self.plan(rt, alloc)?,
