@@ -319,6 +319,7 @@ impl Control {
     }
 
     /// The seconds that have passed.
+    #[tactic(auto, unfolding(exb_learn::specs::Entries::table_of))]
     pub fn clock(&self) -> u64
         ensures { result ≡ (table_of self.now.learned).clock }
     {
