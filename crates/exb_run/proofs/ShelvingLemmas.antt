@@ -35,13 +35,16 @@ counts_after result a b c before counts = record {
 }
 
 -- the fault of another call
-pub counts_on : {X Y : Type 0} (x : Fault) (a b c : Faults) → NoFewer a b → CountsFaults {X = X} (Err x) b c → CountsFaults {X = Y} (Err x) a c
-counts_on x a b c before counts = counts_after (Err x) a b c before (record {
+pub counts_as : {X Y : Type 0} (x : Fault) (a b : Faults) → CountsFaults {X = X} (Err x) a b → CountsFaults {X = Y} (Err x) a b
+counts_as x a b counts = record {
   none_fell = counts.none_fell;
   missing = λ name e. counts.missing name (same_fault x _ e);
   read = λ e. counts.read (same_fault x _ e);
   write = λ e. counts.write (same_fault x _ e);
-})
+}
+
+pub counts_on : {X Y : Type 0} (x : Fault) (a b c : Faults) → NoFewer a b → CountsFaults {X = X} (Err x) b c → CountsFaults {X = Y} (Err x) a c
+counts_on x a b c before counts = counts_after (Err x) a b c before (counts_as x b c counts)
 
 -- ---- what has changed
 pub writes_none : (tells : Type 0) (plan : Planned) (f : Files) (a : ℕ → Id) → OnlyWrites tells plan f f a a

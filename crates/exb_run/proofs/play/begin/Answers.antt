@@ -11,7 +11,7 @@ use Rattle.exb_run.specs.Playing.{IsOf, IsUnderWay, IsCounted, played, text_afte
 use Rattle.exb_run.specs.Writing.{HasTexts, first_text, pieces_of, lines_of, with_more, with_left_frames}
 use Rattle.exb_run.proofs.Counting.{count_events}
 use Rattle.exb_run.proofs.Opened.{opening_counts, nothing_is_counted, first_texts, opening_text, opening_under_way}
-use Rattle.exb_run.proofs.ShelvingLemmas.{makes_then, counts_on}
+use Rattle.exb_run.proofs.ShelvingLemmas.{makes_then, counts_as, counts_on}
 use Rattle.exb_run.proofs.Turned.{same_texts}
 use Rattle.exb_run.proofs.play.begin.Goals as goal
 
@@ -82,3 +82,8 @@ pub returns-in_err-note-clause-faults : goal.returns-in_err-note-clause-faults
 returns-in_err-note-clause-faults g c =
     let p = err_from_is_err_and c.from_residual-in_err-note.result c.from_residual-in_err-note.ensures.1 in
     rw (p.1, p.2) (counts_on c.in_err-note.field-0.0 _ _ _ c.in_ok-outputs.ensures.faults.none_fell c.in_err-note.ensures.faults)
+
+pub returns-in_err-outputs-clause-faults : goal.returns-in_err-outputs-clause-faults
+returns-in_err-outputs-clause-faults g c =
+    let p = err_from_is_err_and c.from_residual-in_err-outputs.result c.from_residual-in_err-outputs.ensures.1 in
+    rw (p.1, p.2) (counts_as c.in_err-outputs.field-0.0 _ _ c.in_err-outputs.ensures.faults)
