@@ -69,15 +69,12 @@ fn way(word: Option<&str>) -> Way {
 }
 
 impl Driver {
-    /// The world of a topology's text.
-    pub(crate) fn new(rt: &impl Abort, alloc: Global, text: &str) -> Result<Driver, AllocError> {
+    /// The world of a topology's text. What may want memory comes first, so that no world has to be let go on the way.
+    pub(crate) fn new(rt: &impl Abort, alloc: Global, text: &str) -> Driver {
+        let next = vec![in alloc; 1u64; 4160].expect(rt, "memory");
         let topology = read(alloc, text.as_bytes()).expect(rt, "a topology");
         let world = World::new(alloc, &topology.setup).expect(rt, "memory");
-        let mut next = Vec::new(alloc);
-        for _ in 0..4160u16 {
-            next.push(1u64)?;
-        }
-        Ok(Driver {
+        Driver {
             topology,
             world,
             given: 0,
@@ -85,7 +82,7 @@ impl Driver {
             next,
             twice: false,
             log: String::new(alloc),
-        })
+        }
     }
 
     fn carry(&mut self, rt: &impl Abort, link: u8, way: Way) {

@@ -124,8 +124,8 @@ const CASES: [Case; 18] = [
 fn worlds_move(rt: HostRuntime) -> Result<(), AllocError> {
     let alloc = rt.alloc();
     for case in &CASES {
-        let mut driver = Driver::new(&rt, alloc, case.topology)?;
-        driver.run(&rt, alloc, case.steps)?;
+        let mut driver = Driver::new(&rt, alloc, case.topology);
+        driver.run(&rt, alloc, case.steps).expect(&rt, "memory");
         assert!(rt; driver.log() == case.log);
     }
     Ok(())
@@ -152,12 +152,14 @@ fn chain(alloc: Global) -> Result<String, AllocError> {
 fn the_deepest_chain_opens(rt: HostRuntime) -> Result<(), AllocError> {
     let alloc = rt.alloc();
     let text = chain(alloc)?;
-    let mut driver = Driver::new(&rt, alloc, text.as_str())?;
-    driver.run(
-        &rt,
-        alloc,
-        "settle; skip; arrive b2 FFFFFFFFFFFF0200000000010800AABB; settle; tell",
-    )?;
+    let mut driver = Driver::new(&rt, alloc, text.as_str());
+    driver
+        .run(
+            &rt,
+            alloc,
+            "settle; skip; arrive b2 FFFFFFFFFFFF0200000000010800AABB; settle; tell",
+        )
+        .expect(&rt, "memory");
     assert!(rt; driver.log() == "relay b2 1\nsettled\nx64.1 FFFFFFFFFFFF0200000000010800AABB\n");
     Ok(())
 }
