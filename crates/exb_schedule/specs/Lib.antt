@@ -1,1 +1,3 @@
-pub mod Segments
+pub mod Moves
+pub mod Reached
+pub mod Playing

@@ -1,7 +1,18 @@
-//! Schedules: in which order the world is moved. A segment of the eager run is one event, after the clock
-//! has gone on to its second, and all is settled after it. Upwards it promises that the events of a
-//! segment, and what leaves each port in it, are those of the eager history. It moves the world by
-//! `exb_world`'s calls alone.
+//! Schedules: in which order the network is moved. A round goes once through the words that stand on the links, and then one beat
+//! passes; settling makes rounds until nothing is left to be done, within a stated number of them; the eager run plays one event
+//! after another, and settles after each. Upwards it promises that what is told and what leaves, from the opening on, is what one
+//! VLAN bridge does over the eager history. It moves the network of `exb_network` by single steps alone, and stands on the laws of
+//! worlds in motion (`exb_motion`) and of settling (`exb_resting`).
 #![tactic(auto)]
 
+pub mod laws;
+mod round;
 pub mod segment;
+mod settle;
+pub mod world;
+
+pub use exb_network::{Left, Step, Way, WorldFault};
+pub use round::round;
+pub use segment::{Arrival, eager, open};
+pub use settle::settle;
+pub use world::World;

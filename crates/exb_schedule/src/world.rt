@@ -1,0 +1,149 @@
+//! The world that schedules move: a network that a setup began.
+ghost use Rattle.std.specs.Prelude.{◌≡◌, ◌↔◌, ◌<◌, true, false, IfOk, IfSome, IfNone, IsTrue, OnErr, OnOk, length, filter};
+ghost use Rattle.exb_model.specs.Setup.{IsValid, limits_of, shape_of, start_of};
+ghost use Rattle.exb_model.specs.Tree.{is_extender};
+ghost use Rattle.exb_changing.specs.Counting.{planned};
+ghost use Rattle.exb_changing.specs.Deciding.{decide};
+ghost use Rattle.exb_link.specs.Words.{is_control, is_data, leading};
+ghost use Rattle.exb_machine.specs.Allowing.{Can, IsSettled};
+ghost use Rattle.exb_machine.specs.Stepping.{words_on};
+ghost use Rattle.exb_machine.specs.Worlds.{first_world};
+ghost use Rattle.exb_network.specs.Networks.{world_of, tree_of, bounds_of, step_of, IsQuiet, IsSame, IsStepped};
+ghost use Rattle.exb_network.specs.Steps.{way_of};
+
+use exb_link::Counts;
+use exb_model::event::Event;
+use exb_model::memory::NoMemory;
+use exb_model::setup::Setup;
+use exb_model::tree::Tree;
+use exb_network::{Left, Step, Way, World as Network, WorldFault};
+use std::alloc::Global;
+use std::marker::Model;
+
+/// A network that a valid setup began, and that steps moved since.
+#[derive(Drop)]
+pub struct World {
+    network: Network,
+}
+
+impl Model for World {
+    ghost use Rattle.exb_network.specs.Networks.{Network};
+
+    ghost Value = { Network };
+
+    ghost use Rattle.exb_schedule.specs.Reached.{IsReached};
+
+    ghost view = { λ w. w.network };
+
+    ghost invariant = { λ w. IsReached w.network };
+}
+
+impl World {
+    /// The world of a setup. Nothing has happened in it yet.
+    pub fn new(alloc: Global, setup: &Setup) -> Result<World, NoMemory>
+        requires { IsValid setup.now }
+        ensures world { IfOk result (λ made. world_of made ≡ first_world (shape_of setup.now) (limits_of setup.now) (start_of setup.now) setup.now.ageing) }
+        ensures tree { IfOk result (λ made. tree_of made ≡ shape_of setup.now) }
+        ensures limits { IfOk result (λ made. bounds_of made ≡ limits_of setup.now) }
+        ensures quiet { IfOk result IsQuiet }
+        ensures awake { IfOk result (λ made. made.failed ≡ false) }
+    {
+        Ok(World {
+            network: Network::new(alloc, setup)?,
+        })
+    }
+
+    /// Whether a step may be made, where memory hasn't run out: by exactly the rules of the network.
+    pub fn can(&self, step: &Step<'_>) -> bool
+        ensures may { result ≡ true → Can (tree_of self.now) (world_of self.now) (step_of step.now) }
+        ensures exact { self.now.failed ≡ false → Can (tree_of self.now) (world_of self.now) (step_of step.now) → result ≡ true }
+    {
+        self.network.can(step)
+    }
+
+    /// Makes a step.
+    pub fn step(&mut self, step: Step<'_>) -> Result<(), WorldFault>
+        requires { Can (tree_of self.old) (world_of self.old) (step_of step) }
+        ensures ok { OnOk result (IsStepped (step_of step.entry) self.old self.new) }
+        ensures failed { (result ≡ Err WorldFault.Failed) ↔ (self.old.failed ≡ true) }
+        ensures memory { OnErr result (self.new.failed ≡ true) }
+    {
+        self.network.step(step)
+    }
+
+    /// Whether nothing is left to be done: no job waits and no change is at work, nothing is on any link, and every end of
+    /// the transport is idle.
+    pub fn settled(&self) -> bool
+        ensures { self.now.failed ≡ false → (IsTrue result ↔ IsSettled (tree_of self.now) (world_of self.now)) }
+    {
+        self.network.settled()
+    }
+
+    /// How many beats there were; it stays at 2^64 - 1.
+    pub fn beats(&self) -> u64
+        ensures { result ≡ (world_of self.now).beats }
+    {
+        self.network.beats()
+    }
+
+    /// The tree.
+    pub fn tree(&self) -> &Tree
+        ensures { result.now ≡ tree_of self.now }
+    {
+        self.network.tree()
+    }
+
+    /// How many exchanges and announcements are still to come before all jobs are done.
+    pub fn planned(&self) -> Result<u64, NoMemory>
+        ensures { self.now.failed ≡ false → IfOk result (λ count. count ≡ planned (tree_of self.now) (decide (tree_of self.now) (bounds_of self.now)) (world_of self.now).control) }
+    {
+        self.network.planned()
+    }
+
+    /// How many data words and control words are on a direction.
+    pub fn counts(&self, link: u8, way: Way) -> Counts
+        requires { is_extender (tree_of self.now) link ≡ true }
+        ensures frames { result.frames ≡ length (filter is_data (words_on link (way_of way) (world_of self.now))) }
+        ensures control { result.control ≡ length (filter is_control (words_on link (way_of way) (world_of self.now))) }
+    {
+        self.network.counts(link, way)
+    }
+
+    /// Whether there is a control word at a position of a direction, and no data word sent before it is left.
+    pub fn free_at(&self, link: u8, way: Way, at: u64) -> bool
+        requires { is_extender (tree_of self.now) link ≡ true }
+        ensures { IsTrue result ↔ (at < leading (words_on link (way_of way) (world_of self.now))) }
+    {
+        self.network.free_at(link, way, at)
+    }
+
+    /// What happened since the last `clear`, in order.
+    pub fn events(&self) -> &[Event]
+        ensures { result.now ≡ self.now.log.events }
+    {
+        self.network.events()
+    }
+
+    /// For each Relay among the events, in order, whether its frame passed at its port.
+    pub fn passed(&self) -> &[bool]
+        ensures { result.now ≡ self.now.log.passed }
+    {
+        self.network.passed()
+    }
+
+    /// What left the ports since the last `clear`, in order.
+    pub fn left(&self) -> &[Left]
+        ensures { result.now ≡ self.now.log.left }
+    {
+        self.network.left()
+    }
+
+    /// Forgets what happened, and changes nothing else.
+    pub fn clear(&mut self)
+        ensures world { world_of self.new ≡ world_of self.old }
+        ensures same { IsSame self.old self.new }
+        ensures quiet { IsQuiet self.new }
+    {
+        self.network.clear();
+    }
+}
