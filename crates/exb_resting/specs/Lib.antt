@@ -10,3 +10,4 @@ pub mod Laws
 pub mod Placed
 pub mod Going
 pub mod Settles
+pub mod Playing

@@ -1,6 +1,7 @@
 //! What is true of rounds and of settling.
 ghost use Rattle.exb_resting.specs.Laws.{SetupsHaveFacts, SettlingEnds, RoundsSpend, RoundsPlanNothing, RoundsDeliver, WindowsGetOn, OrderKeepsFacts, TurnsAreOrderly, SetupsBeginGoing};
 ghost use Rattle.exb_resting.specs.Settles.{RunsAreReady, RunsStayLow, Settles, SettlingAlwaysPlays};
+ghost use Rattle.exb_resting.specs.Playing.{RunsAreUnderWay, RunsWriteEagerly};
 
 use exb_change_laws::laws::steps_tell;
 use exb_frame::laws::tag_round_trip;
@@ -104,6 +105,30 @@ pub fn settles()
 /// settling ends settled is no premise of playing.
 pub fn settling_always_plays()
     ensures { SettlingAlwaysPlays }
+{
+    tag_round_trip();
+    sends_are_words();
+    sends_leave_as_flat();
+    steps_tell();
+    steps_stay_written();
+}
+
+/// Of a run that has played the opening and some segments of an input the next index of each port, the number of commands and the clock
+/// follow what was played, and each frame that has left is a copy of one of its arrivals.
+pub fn runs_are_under_way()
+    ensures { RunsAreUnderWay }
+{
+    tag_round_trip();
+    sends_are_words();
+    sends_leave_as_flat();
+    steps_tell();
+    steps_stay_written();
+}
+
+/// A run that has played all segments of the eager mode told the eager history, and what has left each external port is what one
+/// VLAN bridge sends there over it.
+pub fn runs_write_eagerly()
+    ensures { RunsWriteEagerly }
 {
     tag_round_trip();
     sends_are_words();

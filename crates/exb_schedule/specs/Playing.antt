@@ -4,18 +4,13 @@ use Rattle.exb_model.specs.declared.event.Event.{Event}
 use Rattle.exb_model.specs.declared.setup.Timed.{Timed}
 use Rattle.exb_model.specs.History.{command_of}
 use Rattle.exb_model.specs.Input.{Input, Arrival as Arrived, Segment, basis_of, tree_of, bounds_of}
-use Rattle.exb_model.specs.Lists.{Pairwise}
-use Rattle.exb_model.specs.Setup.{IsValid, start_of}
+use Rattle.exb_model.specs.Setup.{Limits}
+use Rattle.exb_model.specs.Tree.{Shape}
 use Rattle.exb_machine.specs.Allowing.{Can}
-use Rattle.exb_machine.specs.Settling.{run}
-use Rattle.exb_machine.specs.Stepping.{Stepped}
-use Rattle.exb_machine.specs.Worlds.{World, Step, Arrive, Order, Tick, Mark, Left, first_world}
-use Rattle.exb_motion.specs.Kept.{HasVid}
-use Rattle.exb_motion.specs.Playing.{Gives, IsEager, PlayAll, marked_each, nothing_given}
-use Rattle.exb_network.specs.declared.log.Left.{Left as Leaving}
+use Rattle.exb_machine.specs.Stepping.{Stepped, stepped}
+use Rattle.exb_machine.specs.Worlds.{World, Step, Arrive, Order, Tick, Left}
 use Rattle.exb_network.specs.Networks.{Network, world_of, tree_of as shape_in, bounds_of as limits_in}
-use Rattle.exb_network.specs.Worlds.{all_left}
-use Rattle.exb_resting.specs.Settles.{MayTakeAll}
+use Rattle.exb_resting.specs.Playing.{PlaysSoFar}
 use Rattle.exb_schedule.specs.declared.segment.Arrival.{Arrival}
 
 -- an arrival, without where its bytes lie in memory
@@ -37,12 +32,12 @@ abbrev pub gives : ℕ → List Timed → List Arrival → List Step
 gives seconds cs as = tick seconds ++ (orders cs ++ arrivals as)
 
 -- each of these steps may be made when its turn comes
+abbrev pub CanFrom : Shape → Limits → World → List Step → Type 0
+CanFrom t l w [] = Unit {0}
+CanFrom t l w (x ∷ xs) = Can t w x × CanFrom t l (stepped t l x w).world xs
+
 abbrev pub CanAll : Network → List Step → Type 0
-CanAll n steps = CanFrom n steps (world_of n)
-  where
-    abbrev CanFrom : Network → List Step → World → Type 0
-    CanFrom n [] w = Unit {0}
-    CanFrom n (x ∷ xs) w = Can (shape_in n) w x × CanFrom n xs (Rattle.exb_machine.specs.Stepping.stepped (shape_in n) (limits_in n) x w).world
+CanAll n steps = CanFrom (shape_in n) (limits_in n) (world_of n) steps
 
 -- a segment of an input that gives these commands and arrivals
 pub record IsSegment (i : Input) (s : Segment) (seconds : ℕ) (cs : List Timed) (as : List Arrival) : Type 0 where
@@ -52,18 +47,11 @@ pub record IsSegment (i : Input) (s : Segment) (seconds : ℕ) (cs : List Timed)
 
 -- ---- a run so far
 -- After the opening and these segments of an input, each settled and marked, this was told, and this has left.
-pub record HasPlayed (i : Input) (segments : List Segment) (n : Network) (events : List Event) (left : List Left) : Type 0 where
-  pub first : List Step
-  pub plays : List (List Step)
-  pub valid : IsValid i.setup
-  pub vids : All HasVid i.setup.start
+pub record HasPlayed (i : Input) (so_far : List Segment) (n : Network) (events : List Event) (left : List Left) : Type 0 where
+  pub done : Stepped
+  pub plays : PlaysSoFar i so_far done
   pub tree : shape_in n ≡ tree_of i
   pub limits : limits_in n ≡ bounds_of i
-  pub done : Stepped
-  pub is : done ≡ run (tree_of i) (bounds_of i) (marked_each (first ∷ plays)) (first_world (tree_of i) (bounds_of i) (start_of i.setup) i.setup.ageing)
-  pub may : MayTakeAll (tree_of i) (bounds_of i) (first_world (tree_of i) (bounds_of i) (start_of i.setup) i.setup.ageing) (marked_each (first ∷ plays))
-  pub play : PlayAll (tree_of i) (bounds_of i) (basis_of i) (first_world (tree_of i) (bounds_of i) (start_of i.setup) i.setup.ageing) (nothing_given ∷ segments) (first ∷ plays)
-  pub eager : Pairwise IsEager segments plays
   pub world : world_of n ≡ done.world
-  pub events_are : events ≡ done.events
-  pub left_is : left ≡ done.left
+  pub told : events ≡ done.events
+  pub gone : left ≡ done.left
