@@ -81,3 +81,7 @@ pub mod OrderShown
 pub mod OtherSteps
 pub mod SerialsRise
 pub mod Settles
+-- runs that play an input
+mod PlaysGive
+mod TellsNumbers
+pub mod Playing

@@ -1,5 +1,5 @@
 -- Runs that play the segments of an input, one after another, and what is known of them.
-use Rattle.std.specs.Prelude.{◌≡◌, ℕ, ◌+◌, ◌≤◌, ◌==◌, true, List, [], ◌∷◌, length, map, filter, flat_map, sum_by, All, Contains}
+use Rattle.std.specs.Prelude.{◌≡◌, ℕ, ◌+◌, ◌≤◌, ◌==◌, true, List, [], ◌∷◌, length, filter, flat_map, sum_by, All, Contains}
 use Rattle.exb_model.specs.FlatBridge.{flat}
 use Rattle.exb_model.specs.History.{◌then◌}
 use Rattle.exb_model.specs.Input.{Input, Arrival, Segment, Eager, basis_of, tree_of, bounds_of, segments}
