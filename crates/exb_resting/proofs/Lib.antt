@@ -82,6 +82,9 @@ pub mod OtherSteps
 pub mod SerialsRise
 pub mod Settles
 -- runs that play an input
+mod Leaving
 mod PlaysGive
+mod Copies
 mod TellsNumbers
 pub mod Playing
+pub mod UnderWay

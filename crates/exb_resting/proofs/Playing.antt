@@ -38,7 +38,7 @@ use Rattle.exb_resting.proofs.TellsNumbers.{numbers_then, opening_none, numbers_
 
 module _ (round : TagRoundTrip) (words : SendsAreWords) (leave : SendsLeaveAsFlat) (law : StepsTell) (stay : StepsStayWritten) where
   module _ (i : Input) (so_far : List Segment) (done : Stepped) (k : PlaysSoFar i so_far done) where
-    start : MayStart (tree_of i) (bounds_of i) (basis_of i.setup)
+    pub start : MayStart (tree_of i) (bounds_of i) (basis_of i.setup)
     start = setups_may_start i.setup k.valid k.vids
 
     low : MayGoAll (tree_of i) (bounds_of i) (begin_of i) (marked_each (k.first ∷ k.plays))
@@ -48,7 +48,7 @@ module _ (round : TagRoundTrip) (words : SendsAreWords) (leave : SendsLeaveAsFla
     may_all = (runs_go_on round words leave law stay (tree_of i) (bounds_of i) (basis_of i.setup) start (marked_each (k.first ∷ k.plays)) low).may
 
     -- what was given, told and has left so far
-    kept : Kept (tree_of i) (bounds_of i) (basis_of i.setup) done.world (given_in (marked_each (k.first ∷ k.plays))) ([] then done.events) done.left
+    pub kept : Kept (tree_of i) (bounds_of i) (basis_of i.setup) done.world (given_in (marked_each (k.first ∷ k.plays))) ([] then done.events) done.left
     kept =
         subst (λ (z : Stepped). Kept (tree_of i) (bounds_of i) (basis_of i.setup) z.world (given_in (marked_each (k.first ∷ k.plays))) ([] then z.events) z.left) (sym k.is)
         (runs_kept round words leave law (tree_of i) (bounds_of i) (basis_of i.setup) start (marked_each (k.first ∷ k.plays)) (begin_of i) [] [] [] (begins_kept (tree_of i) (bounds_of i) (basis_of i.setup) start) may_all)
@@ -62,7 +62,7 @@ module _ (round : TagRoundTrip) (words : SendsAreWords) (leave : SendsLeaveAsFla
         let rest = plays_settled t l (basis_in i) so_far k.plays (run t l ys (begin_of i)).world k.play.1 opened in
         subst (λ (z : Stepped). IsSettled t z.world) (sym k.is) (subst (IsSettled t) (sym (ap (λ (z : Stepped). z.world) (run_then t l ys (marked_each k.plays) (begin_of i)))) rest)
 
-    commands : commands_of (given_in (marked_each (k.first ∷ k.plays))) ≡ flat_map (λ (s : Segment). filter_map (command_of (basis_in i)) s.commands) so_far
+    pub commands : commands_of (given_in (marked_each (k.first ∷ k.plays))) ≡ flat_map (λ (s : Segment). filter_map (command_of (basis_in i)) s.commands) so_far
     commands = plays_commands (tree_of i) (bounds_of i) (basis_in i) (nothing_given ∷ so_far) (k.first ∷ k.plays) (begin_of i) k.play
 
   -- ---- the whole
