@@ -7,3 +7,5 @@ mod Passing
 mod Giving
 mod Resting
 mod Segments
+mod Reaching
+mod Going

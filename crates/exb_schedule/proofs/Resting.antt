@@ -1,11 +1,11 @@
 -- Settling that is under way.
-use Rattle.std.proofs.Common.{◌≡◌, ℕ, suc, ◌+◌, ◌≤◌, inl, inr, Bool, true, false, [], refl, ap, sym, ◌∙◌, subst, arith}
+use Rattle.std.proofs.Common.{◌≡◌, ℕ, suc, ◌+◌, ◌≤◌, inl, inr, true, false, [], refl, ap, sym, ◌∙◌, subst, arith}
 use Rattle.std.proofs.lemmas.Bool.{cases_Bool}
 use Rattle.exb_model.specs.Rounds.{rounds}
 use Rattle.exb_model.specs.Setup.{Limits, shape_of, limits_of}
 use Rattle.exb_model.specs.Tree.{Shape, IsTree}
 use Rattle.exb_machine.specs.Allowing.{IsSettled}
-use Rattle.exb_machine.specs.Settling.{is_settled, nothing, followed_by, planned_in, round, settled_within}
+use Rattle.exb_machine.specs.Settling.{is_settled, followed_by, planned_in, round, settled_within}
 use Rattle.exb_machine.specs.Stepping.{Stepped}
 use Rattle.exb_machine.specs.Worlds.{World}
 use Rattle.exb_machine_laws.proofs.Rounds.{settled_exactly}
@@ -58,13 +58,13 @@ rests_begin law n reached =
         tree = tree_is n (reached awake);
         ends = ends_at law n (reached awake);
         leads = leads_begin (settled_within (tree_of n) (bounds_of n) (most n) (world_of n) []).done n;
-        few = left_within (tree_of n) (bounds_of n) (most n) (world_of n);
+        few = (let h = left_within (tree_of n) (bounds_of n) (most n) (world_of n) in omega (arith, h));
       };
     }
 
 -- ---- a round
 not_settled : (t : Shape) (w : World) → IsTree t → (IsSettled t w → ⊥) → is_settled t w ≡ false
-not_settled t w tree none = elim (cases_Bool (is_settled t w)) [ | inl e ↦ absurd (none ((settled_exactly t w tree).0 e)) | inr e ↦ e ]
+not_settled t w tree none = elim (cases_Bool (is_settled t w)) [ inl e ↦ absurd (none ((settled_exactly t w tree).0 e)) | inr e ↦ e ]
 
 at_site : (old now : Network) → IsSame old now → (P : Shape → Limits → Type 0) → P (tree_of now) (bounds_of now) → P (tree_of old) (bounds_of old)
 at_site old now same P p = (let Q : Site → Type 0 = λ s. P s.tree (limits_in s) in subst Q same.site p)
@@ -109,8 +109,8 @@ rests_on old now new made more k none gone few =
     record {
       same = same_then old now new k.same gone.made.moved.same;
       rests = λ awake.
-      let before : now.failed ≡ false = awake_before now new gone.made.moved.same awake in
-      (one_round old now new made more k.same (k.rests before) (none before) gone few).rests;
+          let before : now.failed ≡ false = awake_before now new gone.made.moved.same awake in
+          (one_round old now new made more k.same (k.rests before) (none before) gone few).rests;
     }
 
 pub still_less : (old now new : Network) (made : ℕ) → IsResting old now made → now.failed ≡ false → (IsSettled (tree_of now) (world_of now) → ⊥) →

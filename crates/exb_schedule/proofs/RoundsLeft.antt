@@ -1,5 +1,5 @@
 -- Settling in which each control word passes: what a round leaves of it.
-use Rattle.std.proofs.Common.{◌≡◌, inl, inr, ℕ, zero, suc, ◌+◌, ◌≤◌, Bool, true, false, cond, List, [], refl, ap, sym, ◌∙◌, subst, arith}
+use Rattle.std.proofs.Common.{◌≡◌, inl, inr, ℕ, zero, suc, ◌≤◌, true, false, cond, [], refl, ap, sym, ◌∙◌, subst, arith}
 use Rattle.std.proofs.lemmas.Bool.{cases_Bool, false≢true}
 use Rattle.exb_model.specs.Tree.{Shape}
 use Rattle.exb_model.specs.Setup.{Limits}
@@ -69,7 +69,7 @@ module _ (t : Shape) (l : Limits) where
 
   same : (n : ℕ) (w : World) → Ends n w → IsSame n w
   same zero w h = at_rest zero w (ends_now w h)
-  same (suc n) w h = elim (cases_Bool (is_settled t w)) [ | inl e ↦ at_rest (suc n) w e | inr e ↦ in_motion n w e (same n (after_round w) (ends_next n w e h)) ]
+  same (suc n) w h = elim (cases_Bool (is_settled t w)) [ inl e ↦ at_rest (suc n) w e | inr e ↦ in_motion n w e (same n (after_round w) (ends_next n w e h)) ]
 
   -- A round of a world that isn't settled, where settling ends within n: the rest ends within n too, and one is made less.
   pub record IsRound (n : ℕ) (w : World) : Type 0 where
@@ -90,4 +90,4 @@ module _ (t : Shape) (l : Limits) where
   pub left_within : (n : ℕ) (w : World) → rounds_left n w ≤ n
   unfolding rounds_left
   left_within zero w = omega arith
-  left_within (suc n) w = elim (cases_Bool (is_settled t w)) [ | inl e ↦ rw e (omega arith) | inr e ↦ rw e (let h = left_within n (after_round w) in omega arith) ]
+  left_within (suc n) w = elim (cases_Bool (is_settled t w)) [ inl e ↦ rw e (omega arith) | inr e ↦ rw e (let h = left_within n (after_round w) in omega arith) ]

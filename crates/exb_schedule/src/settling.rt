@@ -21,6 +21,7 @@ pub fn settle(world: &mut World) -> Result<u64, WorldFault>
     ensures memory { OnErr result (world.new.failed ≡ true) }
 {
     settles();
+    world.is_reached();
     let mut made: u64 = 0;
     'rounds: while !world.settled() {
         round(world)?;
