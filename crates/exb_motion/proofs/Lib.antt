@@ -1,5 +1,5 @@
 mod Quiet
-mod Rising
+pub mod Rising
 mod Naming
 pub mod Histories
 mod Deciding

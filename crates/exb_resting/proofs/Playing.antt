@@ -6,7 +6,7 @@ use Rattle.exb_model.specs.declared.command.Command.{Command}
 use Rattle.exb_model.specs.EagerHistory.{opening, eager}
 use Rattle.exb_model.specs.FlatBridge.{flat}
 use Rattle.exb_model.specs.History.{Basis, History, ◌then◌, command_of}
-use Rattle.exb_model.specs.Input.{Input, Segment, Eager, tree_of, bounds_of, segments}
+use Rattle.exb_model.specs.Input.{Input, Segment, Mode, Eager, tree_of, bounds_of, segments}
 use Rattle.exb_model.specs.Input.{basis_of as basis_in}
 use Rattle.exb_model.specs.LegalHistory.{Legal, number_of, settled_each}
 use Rattle.exb_model.specs.Setup.{Limits}
@@ -31,13 +31,13 @@ use Rattle.exb_motion.proofs.Keeping.{kept_commands}
 use Rattle.exb_motion.proofs.Playing.{runs_play_legally, runs_play_eagerly}
 use Rattle.exb_motion.proofs.Setups.{setups_may_start}
 use Rattle.exb_motion.proofs.Standing.{begins_kept, runs_kept, settled_owes_nothing}
-use Rattle.exb_resting.specs.Playing.{begin_of, PlaysSoFar, RunsWriteEagerly}
+use Rattle.exb_resting.specs.Playing.{begin_of, PlaysIn, RunsWriteLegally, RunsWriteEagerly}
 use Rattle.exb_resting.proofs.PlaysGive.{marked_world, plays_settled, plays_commands, commands_numbered}
 use Rattle.exb_resting.proofs.Settles.{runs_stay_low}
 use Rattle.exb_resting.proofs.TellsNumbers.{numbers_then, opening_none, numbers_played, first_commands}
 
 module _ (round : TagRoundTrip) (words : SendsAreWords) (leave : SendsLeaveAsFlat) (law : StepsTell) (stay : StepsStayWritten) where
-  module _ (i : Input) (so_far : List Segment) (done : Stepped) (k : PlaysSoFar i so_far done) where
+  module _ (m : Mode) (i : Input) (so_far : List Segment) (done : Stepped) (k : PlaysIn m i so_far done) where
     pub start : MayStart (tree_of i) (bounds_of i) (basis_of i.setup)
     start = setups_may_start i.setup k.valid k.vids
 
@@ -67,47 +67,55 @@ module _ (round : TagRoundTrip) (words : SendsAreWords) (leave : SendsLeaveAsFla
 
   -- ---- the whole
   module _ (orderly : SettledIsOrderly) where
+    -- a whole run tells a history that the input allows
+    told_legally : (m : Mode) (i : Input) (done : Stepped) → IsTimely i → PlaysIn m i (segments m i) done → Legal m i ([] then done.events)
+    told_legally m i done timely k =
+        subst (λ (z : Stepped). Legal m i ([] then z.events)) (sym k.is) (runs_play_legally round words leave law stay m i (k.first ∷ k.plays) k.valid k.vids timely (low m i (segments m i) done k) k.play)
+
     -- the numbers of the segments' commands are those from 1 on
-    numbers_told : (i : Input) (done : Stepped) → IsTimely i → (k : PlaysSoFar i (segments Eager i) done) →
-        flat_map (λ (s : Segment). s.commands) (segments Eager i) ≡ range_with_len 1 (length (commands_of (given_in (marked_each (k.first ∷ k.plays)))))
-    numbers_told i done timely k =
+    numbers_told : (m : Mode) (i : Input) (done : Stepped) → IsTimely i → (k : PlaysIn m i (segments m i) done) →
+        flat_map (λ (s : Segment). s.commands) (segments m i) ≡ range_with_len 1 (length (commands_of (given_in (marked_each (k.first ∷ k.plays)))))
+    numbers_told m i done timely k =
         let t : Shape = tree_of i in
         let l : Limits = bounds_of i in
         let b : Basis = basis_in i in
-        let ss : List Segment = segments Eager i in
+        let ss : List Segment = segments m i in
         let g : List Given = given_in (marked_each (k.first ∷ k.plays)) in
         let h : History = [] then done.events in
-        let legal : Legal Eager i h =
-        subst (λ (z : Stepped). Legal Eager i ([] then z.events)) (sym k.is) (runs_play_legally round words leave law stay Eager i (k.first ∷ k.plays) k.valid k.vids timely (low i ss done k) k.play) in
-        let o : IsOrderly t l (basis_of i.setup) g h = orderly t l (basis_of i.setup) (start i ss done k) done.world g h done.left (kept i ss done k) (settled i ss done k) in
+        let legal : Legal m i h = told_legally m i done timely k in
+        let o : IsOrderly t l (basis_of i.setup) g h = orderly t l (basis_of i.setup) (start m i ss done k) done.world g h done.left (kept m i ss done k) (settled m i ss done k) in
         let parts : filter_map number_of (reverse h) ≡ filter_map number_of (settled_each legal.plays) =
         ap (λ (z : History). filter_map number_of (reverse z)) legal.segments_in_order
         ∙ (numbers_then (opening t l b) (settled_each legal.plays) ∙ ap (λ (ns : List ℕ). ns ++ filter_map number_of (settled_each legal.plays)) (opening_none t l b)) in
         sym (numbers_played ss legal.plays legal.commands_in_order) ∙ (sym parts ∙ o.commands)
 
     -- so the commands that were given are the first of the input
-    first_given : (i : Input) (so_far : List Segment) (done : Stepped) (k : PlaysSoFar i so_far done) → let cs = commands_of (given_in (marked_each (k.first ∷ k.plays))) in
+    first_given : (m : Mode) (i : Input) (so_far : List Segment) (done : Stepped) (k : PlaysIn m i so_far done) → let cs = commands_of (given_in (marked_each (k.first ∷ k.plays))) in
         flat_map (λ (s : Segment). s.commands) so_far ≡ range_with_len 1 (length cs) → (rest : List Command) × ((basis_in i).commands ≡ cs ++ rest)
-    first_given i so_far done k numbers =
+    first_given m i so_far done k numbers =
         let b : Basis = basis_in i in
         let cs : List Command = commands_of (given_in (marked_each (k.first ∷ k.plays))) in
-        first_commands b [] b.commands cs refl (sym (commands i so_far done k ∙ (commands_numbered b so_far ∙ ap (filter_map (command_of b)) numbers)))
+        first_commands b [] b.commands cs refl (sym (commands m i so_far done k ∙ (commands_numbered b so_far ∙ ap (filter_map (command_of b)) numbers)))
 
-    pub runs_write_eagerly : RunsWriteEagerly
-    runs_write_eagerly i done timely k =
+    pub runs_write_legally : RunsWriteLegally
+    runs_write_legally m i done timely k =
         let t : Shape = tree_of i in
         let b : Basis = basis_in i in
-        let ss : List Segment = segments Eager i in
+        let ss : List Segment = segments m i in
         let g : List Given = given_in (marked_each (k.first ∷ k.plays)) in
         let h : History = [] then done.events in
-        let end = kept i ss done k in
-        let told : h ≡ eager i = ap (λ (z : Stepped). [] then z.events) k.is ∙ runs_play_eagerly round words leave law stay i k.first k.plays k.valid k.vids timely (low i ss done k) k.play k.eager in
-        let more = first_given i ss done k (numbers_told i done timely k) in
+        let end = kept m i ss done k in
+        let more = first_given m i ss done k (numbers_told m i done timely k) in
         let longer_is : longer (basis_with (basis_of i.setup) g) more.0 ≡ b = ap (λ (cs : List Command). record b { commands = cs }) (sym more.1) in
-        let same : (q : ℕ) → flat (basis_with (basis_of i.setup) g) h q ≡ flat b (eager i) q = λ q.
-        sym (flat_stays (basis_with (basis_of i.setup) g) more.0 h q (kept_commands t (bounds_of i) (basis_of i.setup) done.world g h done.left end))
-        ∙ (ap (λ (a : Basis). flat a h q) longer_is ∙ ap (λ (z : History). flat b z q) told) in
+        let same : (q : ℕ) → flat (basis_with (basis_of i.setup) g) h q ≡ flat b h q = λ q.
+        sym (flat_stays (basis_with (basis_of i.setup) g) more.0 h q (kept_commands t (bounds_of i) (basis_of i.setup) done.world g h done.left end)) ∙ ap (λ (a : Basis). flat a h q) longer_is in
         record {
-          journal = told;
-          captures = λ q ext. (settled_owes_nothing t (bounds_of i) (basis_of i.setup) (start i ss done k) done.world g h done.left end (settled i ss done k) q ext).1 ∙ same q;
+          journal = told_legally m i done timely k;
+          captures = λ q ext. (settled_owes_nothing t (bounds_of i) (basis_of i.setup) (start m i ss done k) done.world g h done.left end (settled m i ss done k) q ext).1 ∙ same q;
         }
+
+    -- the eager history
+    pub runs_write_eagerly : RunsWriteEagerly
+    runs_write_eagerly i done timely k =
+        let told : ([] then done.events) ≡ eager i = ap (λ (z : Stepped). [] then z.events) k.is ∙ runs_play_eagerly round words leave law stay i k.first k.plays k.valid k.vids timely (low Eager i (segments Eager i) done k) k.play k.eager in
+        record { journal = told; captures = λ q ext. (runs_write_legally Eager i done timely k).captures q ext ∙ ap (λ (z : History). flat (basis_in i) z q) told }

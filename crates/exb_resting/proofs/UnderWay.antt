@@ -7,7 +7,7 @@ use Rattle.std.proofs.lemmas.List.Sums.{sum_by-append, sum_by-cons}
 use Rattle.exb_model.specs.declared.command.Command.{Command}
 use Rattle.exb_model.specs.FlatBridge.{Sent}
 use Rattle.exb_model.specs.History.{Basis, History, ◌then◌}
-use Rattle.exb_model.specs.Input.{Input, Arrival, Segment, tree_of, bounds_of}
+use Rattle.exb_model.specs.Input.{Input, Arrival, Segment, Mode, tree_of, bounds_of}
 use Rattle.exb_model.specs.Input.{basis_of as basis_in}
 use Rattle.exb_model.specs.Setup.{Limits}
 use Rattle.exb_model.specs.Tree.{Shape, is_external}
@@ -28,7 +28,7 @@ use Rattle.exb_motion.specs.Kept.{MayStart, given_in, Kept, basis_of}
 use Rattle.exb_motion.specs.Playing.{seconds_by, seconds_in, marked_each, nothing_given}
 use Rattle.exb_motion.proofs.Keeping.{kept_pvids}
 use Rattle.exb_motion.proofs.Standing.{kept_stands}
-use Rattle.exb_resting.specs.Playing.{begin_of, PlaysSoFar, arrivals_in, IsCopyOfAny, IsUnderWay, RunsAreUnderWay}
+use Rattle.exb_resting.specs.Playing.{begin_of, PlaysIn, arrivals_in, IsCopyOfAny, IsUnderWay, RunsAreUnderWay}
 use Rattle.exb_resting.specs.Settles.{MayTakeAll}
 use Rattle.exb_resting.proofs.Copies.{IsCopy, IsSentCopy, flat_copies, each_front, left_each}
 use Rattle.exb_resting.proofs.Leaving.{IsOutside, Passes, step_passes}
@@ -51,13 +51,13 @@ module _ (round : TagRoundTrip) (words : SendsAreWords) (leave : SendsLeaveAsFla
         let later = rest.clock in
         record { clock = omega (arith, sums, first, later); outside = each_append (IsOutside t) s.left (run t l steps s.world).left one.outside rest.outside }
 
-  module _ (i : Input) (so_far : List Segment) (done : Stepped) (k : PlaysSoFar i so_far done) where
+  module _ (m : Mode) (i : Input) (so_far : List Segment) (done : Stepped) (k : PlaysIn m i so_far done) where
     perm : IsPermutation (arrivals_of (given_in (marked_each (k.first ∷ k.plays)))) (arrivals_in so_far)
     perm = plays_arrivals (tree_of i) (bounds_of i) (basis_in i) (nothing_given ∷ so_far) (k.first ∷ k.plays) (begin_of i) k.play
 
     passed : Passes (tree_of i) (begin_of i) done.world (seconds_in (marked_each (k.first ∷ k.plays))) done.left
     passed =
-        let begun = start round words leave law stay i so_far done k in
+        let begun = start round words leave law stay m i so_far done k in
         subst (λ (z : Stepped). Passes (tree_of i) (begin_of i) z.world (seconds_in (marked_each (k.first ∷ k.plays))) z.left) (sym k.is)
         (run_passes (tree_of i) (bounds_of i) (basis_of i.setup) begun (marked_each (k.first ∷ k.plays)) (begin_of i) k.may (begins round words leave law stay i.setup k.valid begun))
 
@@ -74,11 +74,11 @@ module _ (round : TagRoundTrip) (words : SendsAreWords) (leave : SendsLeaveAsFla
         h = [] then done.events
 
         end : Kept (tree_of i) (bounds_of i) (basis_of i.setup) done.world (given_in (marked_each (k.first ∷ k.plays))) ([] then done.events) done.left
-        end = kept round words leave law stay i so_far done k
+        end = kept round words leave law stay m i so_far done k
 
         each_port : (q : ℕ) → is_external (tree_of i) q ≡ true → Each (IsSentCopy (arrivals_of (given_in (marked_each (k.first ∷ k.plays))))) (left_at q done.left)
         each_port q ext =
-            let even = (kept_stands t (bounds_of i) (basis_of i.setup) (start round words leave law stay i so_far done k) done.world g h done.left end).even q ext in
+            let even = (kept_stands t (bounds_of i) (basis_of i.setup) (start round words leave law stay m i so_far done k) done.world g h done.left end).even q ext in
             each_front (IsSentCopy (arrivals_of g)) (left_at q done.left) (owed_at t done.world q)
             (subst (λ (xs : List Sent). Each (IsSentCopy (arrivals_of g)) xs) (sym even) (flat_copies t (basis_with (basis_of i.setup) g) g h end.names.events end.entered q))
 
@@ -93,13 +93,13 @@ module _ (round : TagRoundTrip) (words : SendsAreWords) (leave : SendsLeaveAsFla
     under_way : IsUnderWay i so_far done
     under_way =
         let g : List Given = given_in (marked_each (k.first ∷ k.plays)) in
-        let end = kept round words leave law stay i so_far done k in
+        let end = kept round words leave law stay m i so_far done k in
         let seconds = plays_seconds (tree_of i) (bounds_of i) (basis_in i) (nothing_given ∷ so_far) (k.first ∷ k.plays) (begin_of i) k.play in
         let sums = sum_by-cons (λ (s : Segment). s.seconds) nothing_given so_far in
         let now = passed.clock in
         record {
           next = λ p. end.follows.next p ∙ ap (λ (n : ℕ). n + 1) (ap (λ (xs : List Arrival). length xs) (port_arrivals p g) ∙ filtered_same (λ (a : Arrival). a.port == p) (arrivals_of g) (arrivals_in so_far) perm);
-          commands = end.follows.commands ∙ ap (λ (cs : List Command). length cs) (commands round words leave law stay i so_far done k);
+          commands = end.follows.commands ∙ ap (λ (cs : List Command). length cs) (commands round words leave law stay m i so_far done k);
           clock = omega (arith, seconds, sums, now);
           copies = copies;
         }

@@ -1,7 +1,7 @@
 //! What is true of rounds and of settling.
 ghost use Rattle.exb_resting.specs.Laws.{SetupsHaveFacts, SettlingEnds, RoundsSpend, RoundsPlanNothing, RoundsDeliver, WindowsGetOn, OrderKeepsFacts, TurnsAreOrderly, SetupsBeginGoing};
 ghost use Rattle.exb_resting.specs.Settles.{RunsAreReady, RunsStayLow, Settles, SettlingAlwaysPlays};
-ghost use Rattle.exb_resting.specs.Playing.{RunsAreUnderWay, RunsWriteEagerly};
+ghost use Rattle.exb_resting.specs.Playing.{RunsAreUnderWay, RunsWriteLegally, RunsWriteEagerly};
 
 use exb_change_laws::laws::steps_tell;
 use exb_frame::laws::tag_round_trip;
@@ -114,7 +114,7 @@ pub fn settling_always_plays()
     steps_stay_written();
 }
 
-/// Of a run that has played the opening and some segments of an input the next index of each port, the number of commands and the clock
+/// Of a run that has played the opening and some segments of an input, in either mode, the next index of each port, the number of commands and the clock
 /// follow what was played, and each frame that has left is a copy of one of its arrivals.
 pub fn runs_are_under_way()
     ensures { RunsAreUnderWay }
@@ -124,6 +124,19 @@ pub fn runs_are_under_way()
     sends_leave_as_flat();
     steps_tell();
     steps_stay_written();
+}
+
+/// A run that has played all segments of an input, in the eager mode or in a seeded one, told a history that the input allows, and
+/// what has left each external port is what one VLAN bridge sends there over it.
+pub fn runs_write_legally()
+    ensures { RunsWriteLegally }
+{
+    tag_round_trip();
+    sends_are_words();
+    sends_leave_as_flat();
+    steps_tell();
+    steps_stay_written();
+    settled_is_orderly();
 }
 
 /// A run that has played all segments of the eager mode told the eager history, and what has left each external port is what one
