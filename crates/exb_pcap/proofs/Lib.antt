@@ -1,2 +1,7 @@
+pub mod BufferLemmas
+pub mod CutLemmas
+pub mod GoingLemmas
+pub mod HeaderLemmas
 pub mod RecordLemmas
+pub mod StepLemmas
 pub mod WrittenLemmas
