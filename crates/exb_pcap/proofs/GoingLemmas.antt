@@ -1,5 +1,5 @@
 -- What a reader that is fed in pieces answers is the first of what is still to come.
-use Rattle.std.proofs.Common.{◌≡◌, ◌<◌, ◌≤◌, ◌+◌, ◌^◌, ℕ, Bool, true, false, List, [], ◌∷◌, ◌++◌, length, take, drop, get_or, Option, Some, None, Result, Ok, Err, cond, refl, ap, sym, subst, inl, inr, ◌∙◌, arith, length-append, length-drop, length-take}
+use Rattle.std.proofs.Common.{◌≡◌, ◌<◌, ◌≤◌, ◌+◌, ◌-◌, ◌^◌, ℕ, Bool, true, false, List, [], ◌∷◌, ◌++◌, length, take, drop, get_or, Option, Some, None, Result, Ok, Err, cond, refl, ap, sym, subst, inl, inr, ◌∙◌, arith, length-append, length-drop, length-take}
 use Rattle.std.specs.Prelude.{nat_eq, ◌&&◌, ◌⊎◌, not}
 use Rattle.std.proofs.lemmas.Bool.{cases_Bool, and_parts, eqb-true, false≢true, cases_lt}
 use Rattle.std.proofs.lemmas.List.{drop-append-le, append-nil, nil_from_length, get_or-drop, get_or-take, get_or_past, get_or_append_left, get_or-append_right}
@@ -84,6 +84,80 @@ next_reads_at (Records f) ended p h m more fits last = by_end (ended && nat_eq (
     step : Bool → Step
     step b = cond b (record { answer = End; left = r }) (with_record (decided ended (record_at f 0 h)) r)
     by_end : (b : Bool) → b ≡ (ended && nat_eq (length h) 0) → IsFirst (step b).answer (to_come (step b).left more) (records_from f p (h ++ more))
-    by_end true e = ?
-    by_end false e = ?
+    by_end true e = let parts = and_parts _ _ (sym e) in let done = ended_read f p h more (eqb-true (length h) 0 parts.1) (last parts.0) in (done, done)
+    by_end false e = step_read ended f p h m more _ fits last (sym e) refl
 next_reads_at (Failed fault) ended p h m more fits last = (refl, refl)
+
+-- what is held, and where it begins
+pub record IsIn (bound : ℕ) (r : Reading) : Type 0 where
+  pub fits : r.place + length r.held ≤ bound
+  pub bytes : IsBytes r.held
+
+pub no_bytes : IsBytes []
+no_bytes i = omega arith
+
+pub bytes_drop : (n : ℕ) (xs : List ℕ) → IsBytes xs → IsBytes (drop n xs)
+bytes_drop n xs b i = subst (λ (x : ℕ). x < 256) (sym (get_or-drop n xs i 0)) (b (n + i))
+
+pub bytes_take : (n : ℕ) (xs : List ℕ) → IsBytes xs → IsBytes (take n xs)
+bytes_take n xs b i = by_place (cases_lt i n)
+  where
+    by_place : (i < n) ⊎ (n ≤ i) → get_or (take n xs) i 0 < 256
+    by_place (inl h) = subst (λ (x : ℕ). x < 256) (sym (get_or-take n xs i 0 h)) (b i)
+    by_place (inr h) = subst (λ (x : ℕ). x < 256) (sym (get_or_past (take n xs) i 0 (omega (arith, length-take n xs)))) (omega arith)
+
+pub bytes_append : (xs ys : List ℕ) → IsBytes xs → IsBytes ys → IsBytes (xs ++ ys)
+bytes_append xs ys a b i = by_place (cases_lt i (length xs))
+  where
+    by_place : (i < length xs) ⊎ (length xs ≤ i) → get_or (xs ++ ys) i 0 < 256
+    by_place (inl h) = subst (λ (x : ℕ). x < 256) (sym (get_or_append_left xs ys 0 i h)) (a i)
+    by_place (inr h) = subst (λ (x : ℕ). x < 256) (sym (get_or-append_right xs ys (length xs) i 0 refl h)) (b (i - length xs))
+
+header_in_bound : (ended : Bool) (p : ℕ) (h : List ℕ) (m bound : ℕ) (o : Option (Result Form PcapFault)) → header_so_far ended h ≡ o
+    → IsIn bound (reading Header p h m) → IsIn bound (with_header o (reading Header p h m))
+header_in_bound ended p h m bound None e k = k
+header_in_bound ended p h m bound (Some (Ok f)) e k =
+    let nothing : h ++ [] ≡ h = append-nil h in
+    let whole = header_whole h f (so_far_stands ended h [] (Ok f) (subst IsBytes (sym nothing) k.bytes) (λ _. refl) e).0 in
+    record { fits = omega (arith, k.fits, length-drop 24 h); bytes = bytes_drop 24 h k.bytes }
+header_in_bound ended p h m bound (Some (Err fault)) e k = record { fits = k.fits; bytes = k.bytes }
+
+headed_in_bound_at : (s : Stage) (ended : Bool) (p : ℕ) (h : List ℕ) (m bound : ℕ) → IsIn bound (reading s p h m) → IsIn bound (headed ended (reading s p h m))
+headed_in_bound_at Header ended p h m bound k = header_in_bound ended p h m bound (header_so_far ended h) refl k
+headed_in_bound_at (Records f) ended p h m bound k = k
+headed_in_bound_at (Failed fault) ended p h m bound k = k
+
+step_in_bound : (s : Stage) (ended : Bool) (f : Form) (p : ℕ) (h : List ℕ) (m bound : ℕ) (o : Option (Result Record PcapFault)) → decided ended (record_at f 0 h) ≡ o
+    → IsIn bound (reading s p h m) → IsIn bound (with_record o (reading s p h m)).left
+step_in_bound s ended f p h m bound None e k = record { fits = k.fits; bytes = k.bytes }
+step_in_bound s ended f p h m bound (Some (Ok x)) e k =
+    let whole : 16 + length x.bytes ≤ length h = (record_bytes f 0 h x (decided_some ended (record_at f 0 h) (Ok x) e).0).0 in
+    record { fits = omega (arith, k.fits, length-drop (16 + length x.bytes) h); bytes = bytes_drop (16 + length x.bytes) h k.bytes }
+step_in_bound s ended f p h m bound (Some (Err fault)) e k = record { fits = k.fits; bytes = k.bytes }
+
+next_in_bound_at : (s : Stage) (ended : Bool) (p : ℕ) (h : List ℕ) (m bound : ℕ) → IsIn bound (reading s p h m) → IsIn bound (next_at s ended (reading s p h m)).left
+next_in_bound_at Header ended p h m bound k = record { fits = k.fits; bytes = k.bytes }
+next_in_bound_at (Records f) ended p h m bound k = by_end (ended && nat_eq (length h) 0)
+  where
+    r : Reading
+    r = reading (Records f) p h m
+    by_end : (b : Bool) → IsIn bound (cond b (record { answer = End; left = r }) (with_record (decided ended (record_at f 0 h)) r)).left
+    by_end true = k
+    by_end false = step_in_bound (Records f) ended f p h m bound (decided ended (record_at f 0 h)) refl k
+next_in_bound_at (Failed fault) ended p h m bound k = record { fits = k.fits; bytes = k.bytes }
+
+pub asked_in_bound : (ended : Bool) (r : Reading) (bound : ℕ) → IsIn bound r → IsIn bound (asked ended r).left
+unfolding asked
+asked_in_bound ended r bound k =
+    let head : Reading = headed ended r in
+    next_in_bound_at head.stage ended head.place head.held head.room bound (headed_in_bound_at r.stage ended r.place r.held r.room bound k)
+
+pub asked_reads : (ended : Bool) (r : Reading) (more : List ℕ) → IsIn (2 ^ 64 - 1) r → IsBytes more → (ended ≡ true → more ≡ [])
+    → IsFirst (asked ended r).answer (to_come (asked ended r).left more) (to_come r more)
+unfolding asked
+asked_reads ended r more k bytes last =
+    let head : Reading = headed ended r in
+    let inside : IsIn (2 ^ 64 - 1) head = headed_in_bound_at r.stage ended r.place r.held r.room (2 ^ 64 - 1) k in
+    let first = next_reads_at head.stage ended head.place head.held head.room more (omega (arith, inside.fits)) last in
+    subst (λ (coming : Capture). IsFirst (asked ended r).answer (to_come (asked ended r).left more) coming)
+    (sym (headed_reads_at r.stage ended r.place r.held r.room more (bytes_append r.held more k.bytes bytes) last)) first
