@@ -1,10 +1,10 @@
 -- What a buffer holds between two places.
-use Rattle.std.proofs.Common.{◌≡◌, ◌≤◌, ◌+◌, ◌-◌, ℕ, Bool, List, Some, Ok, refl, ◌++◌, length, take, drop, ap, sym, subst, ◌∙◌, arith, length-take, length-drop, length-append, append_assoc}
+use Rattle.std.proofs.Common.{◌≡◌, ◌≤◌, ◌+◌, ◌-◌, ℕ, Bool, List, Some, Ok, refl, ◌++◌, length, take, drop, ap, sym, ◌∙◌, arith, length-take, length-drop, length-append, append_assoc}
 use Rattle.std.proofs.lemmas.List.{drop-take, drop-drop, take-take, take_at, drop-append-le, length-take-le}
 use Rattle.exb_pcap.specs.declared.pieces.Stage.{Stage}
 use Rattle.exb_pcap.specs.declared.pieces.Stage.TheVariants.{Header, Records}
 use Rattle.exb_pcap.specs.declared.format.Form.{Form}
-use Rattle.exb_pcap.specs.Pieces.{Reading, most_held, fed, headed, headed_at, with_header, header_so_far, behind, passed}
+use Rattle.exb_pcap.specs.Pieces.{Reading, most_held, fed, headed, with_header, header_so_far, behind, passed}
 
 abbrev pub reading : Stage → ℕ → List ℕ → ℕ → Reading
 reading s p h m = record { stage = s; place = p; held = h; room = m }

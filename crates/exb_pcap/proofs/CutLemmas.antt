@@ -1,9 +1,8 @@
 -- What is decided at the front of some bytes stands whatever follows them: records.
-use Rattle.std.proofs.Common.{◌≡◌, ◌<◌, ◌≤◌, ◌+◌, ◌*◌, ◌^◌, ℕ, Bool, true, false, List, [], ◌∷◌, ◌++◌, length, take, drop, get_or, Option, Some, None, Result, Ok, Err, cond, refl, ap, sym, subst, ◌∙◌, arith, length-append, length-drop}
-use Rattle.std.specs.Prelude.{nat_lt, nat_le, ◌&&◌, not, min}
-use Rattle.std.specs.Int.{w16, w32, from_be_bytes, from_le_bytes}
-use Rattle.std.proofs.lemmas.Bool.{le-ltb, ltb-false, false≢true, cond-true, cond-false}
-use Rattle.std.proofs.lemmas.List.{get_or-drop, get_or_append_left, take-append-le, drop-append-le, length-take-le, take_rest}
+use Rattle.std.proofs.Common.{◌≡◌, ◌<◌, ◌≤◌, ◌+◌, ◌*◌, ◌^◌, ℕ, Bool, true, false, List, [], ◌∷◌, ◌++◌, length, take, drop, get_or, Some, None, Result, Ok, Err, cond, refl, ap, sym, subst, ◌∙◌, arith, length-append, length-drop}
+use Rattle.std.specs.Prelude.{nat_lt, nat_le, ◌&&◌, not}
+use Rattle.std.proofs.lemmas.Bool.{le-ltb, ltb-false, false≢true}
+use Rattle.std.proofs.lemmas.List.{get_or-drop, get_or_append_left, take-append-le, drop-append-le, length-take-le}
 use Rattle.exb_model.specs.Input.{Record}
 use Rattle.exb_pcap.specs.declared.format.ByteOrder.{ByteOrder}
 use Rattle.exb_pcap.specs.declared.format.ByteOrder.TheVariants.{Big, Little}
@@ -11,7 +10,7 @@ use Rattle.exb_pcap.specs.declared.format.Form.{Form}
 use Rattle.exb_pcap.specs.declared.reader.PcapFault.{PcapFault}
 use Rattle.exb_pcap.specs.declared.reader.PcapFault.TheVariants.{NotPcap, Version, LinkType, Cut, Length, Time}
 use Rattle.exb_pcap.specs.Captures.{word, half_word, units, nanoseconds, record_at}
-use Rattle.exb_pcap.specs.Pieces.{Reading, Step, Found, is_cut, fault_cuts, decided, behind, at_place, passed, with_record}
+use Rattle.exb_pcap.specs.Pieces.{Reading, Step, Found, is_cut, decided, behind, at_place, passed, with_record}
 
 -- a part of what is there is the same where more follows
 at_more : (held tail : List ℕ) (n i : ℕ) → n + i < length held → get_or (drop n (held ++ tail)) i 0 ≡ get_or (drop n held) i 0

@@ -1,23 +1,23 @@
 -- What a reader that is fed in pieces answers is the first of what is still to come.
 use Rattle.std.proofs.Common.{◌≡◌, ◌<◌, ◌≤◌, ◌+◌, ◌-◌, ◌^◌, ℕ, Bool, true, false, List, [], ◌∷◌, ◌++◌, length, take, drop, get_or, Option, Some, None, Result, Ok, Err, cond, refl, ap, sym, subst, inl, inr, ◌∙◌, arith, length-append, length-drop, length-take}
-use Rattle.std.specs.Prelude.{nat_eq, ◌&&◌, ◌⊎◌, not}
-use Rattle.std.proofs.lemmas.Bool.{cases_Bool, and_parts, eqb-true, false≢true, cases_lt}
-use Rattle.std.proofs.lemmas.List.{drop-append-le, append-nil, nil_from_length, get_or-drop, get_or-take, get_or_past, get_or_append_left, get_or-append_right}
+use Rattle.std.specs.Prelude.{nat_eq, ◌&&◌, ◌⊎◌}
+use Rattle.std.proofs.lemmas.Bool.{and_parts, eqb-true, false≢true, cases_lt}
+use Rattle.std.proofs.lemmas.List.{drop-append-le, append-nil, get_or-drop, get_or-take, get_or_past, get_or_append_left, get_or-append_right}
 use Rattle.exb_model.specs.Input.{Record}
 use Rattle.exb_pcap.specs.declared.format.Form.{Form}
 use Rattle.exb_pcap.specs.declared.reader.PcapFault.{PcapFault}
 use Rattle.exb_pcap.specs.declared.pieces.Stage.{Stage}
 use Rattle.exb_pcap.specs.declared.pieces.Stage.TheVariants.{Header, Records, Failed}
-use Rattle.exb_pcap.specs.Captures.{Capture, at_end, at_fault, before, header_of, record_at, records_from, records_under, capture_of}
+use Rattle.exb_pcap.specs.Captures.{Capture, at_end, before, record_at, records_from, records_under, capture_of}
 use Rattle.exb_pcap.specs.Cutting.{IsBytes}
-use Rattle.exb_pcap.specs.Pieces.{Reading, Step, Answer, Found, More, End, Faulty, is_cut, decided, header_so_far, behind, at_place, passed, with_header, headed_at, headed, with_record, next_at, asked, read_of, to_come_at, to_come, IsFirst}
+use Rattle.exb_pcap.specs.Pieces.{Reading, Step, End, is_cut, decided, header_so_far, behind, at_place, with_header, headed, with_record, next_at, asked, read_of, to_come, IsFirst}
 use Rattle.exb_pcap.proofs.BufferLemmas.{reading}
 use Rattle.exb_pcap.proofs.CutLemmas.{moved, record_moved, record_stands, record_bytes, cut_at_place, decided_some, not_short, long_enough, by_tests}
 use Rattle.exb_pcap.proofs.HeaderLemmas.{so_far_stands, header_whole}
 use Rattle.exb_pcap.proofs.RecordLemmas.{from_empty, from_fault, from_record}
 
 -- the header
-header_read : (ended : Bool) (p : ℕ) (h : List ℕ) (m : ℕ) (more : List ℕ) (o : Option (Result Form PcapFault)) → header_so_far ended h ≡ o
+pub header_read : (ended : Bool) (p : ℕ) (h : List ℕ) (m : ℕ) (more : List ℕ) (o : Option (Result Form PcapFault)) → header_so_far ended h ≡ o
     → IsBytes (h ++ more) → (ended ≡ true → more ≡ []) → read_of (capture_of (h ++ more)) ≡ to_come (with_header o (reading Header p h m)) more
 header_read ended p h m more None e bytes last = refl
 header_read ended p h m more (Some (Ok f)) e bytes last =
@@ -81,8 +81,10 @@ next_reads_at (Records f) ended p h m more fits last = by_end (ended && nat_eq (
   where
     r : Reading
     r = reading (Records f) p h m
+
     step : Bool → Step
     step b = cond b (record { answer = End; left = r }) (with_record (decided ended (record_at f 0 h)) r)
+
     by_end : (b : Bool) → b ≡ (ended && nat_eq (length h) 0) → IsFirst (step b).answer (to_come (step b).left more) (records_from f p (h ++ more))
     by_end true e = let parts = and_parts _ _ (sym e) in let done = ended_read f p h more (eqb-true (length h) 0 parts.1) (last parts.0) in (done, done)
     by_end false e = step_read ended f p h m more _ fits last (sym e) refl
@@ -141,6 +143,7 @@ next_in_bound_at (Records f) ended p h m bound k = by_end (ended && nat_eq (leng
   where
     r : Reading
     r = reading (Records f) p h m
+
     by_end : (b : Bool) → IsIn bound (cond b (record { answer = End; left = r }) (with_record (decided ended (record_at f 0 h)) r)).left
     by_end true = k
     by_end false = step_in_bound (Records f) ended f p h m bound (decided ended (record_at f 0 h)) refl k

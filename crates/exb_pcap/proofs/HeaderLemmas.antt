@@ -1,24 +1,24 @@
 -- What is decided at the front of some bytes stands whatever follows them: the header.
-use Rattle.std.proofs.Common.{◌≡◌, ◌<◌, ◌≤◌, ◌+◌, ◌^◌, ℕ, Bool, true, false, List, [], ◌∷◌, ◌++◌, length, take, drop, get_or, Option, Some, None, Result, Ok, Err, cond, refl, ap, sym, subst, inl, inr, ◌∙◌, arith, length-append, length-drop, length-take}
-use Rattle.std.specs.Prelude.{nat_lt, nat_eq, ◌⊎◌, ◌==◌, ◌&&◌, ◌||◌, not, slice_index}
-use Rattle.std.specs.Int.{w32, from_be_bytes, from_le_bytes, to_be_bytes, to_le_bytes}
+use Rattle.std.proofs.Common.{◌≡◌, ◌<◌, ◌≤◌, ◌+◌, ℕ, zero, suc, Bool, true, false, List, [], ◌∷◌, ◌++◌, length, take, drop, get_or, Option, Some, None, Result, Ok, Err, cond, refl, ap, sym, subst, inl, inr, ⊎_elim, lit<, ◌∙◌, arith, length-append, length-take}
+use Rattle.std.specs.Prelude.{nat_lt, nat_eq, ◌⊎◌, ◌==◌, ◌&&◌, not}
+use Rattle.std.specs.Int.{w32, to_be_bytes, to_le_bytes}
 use Rattle.std.specs.List.{starts_with}
-use Rattle.std.proofs.lemmas.Bool.{le-ltb, lt-ltb, ltb-false, ltb-true, false≢true, false_from_ne_true, cond-true, cond-false, eqb-true, or_left, or_right, or_cases, or_parts, cases_Bool, cases_lt}
+use Rattle.std.proofs.lemmas.Bool.{le-ltb, lt-ltb, ltb-false, ltb-true, false≢true, false_from_ne_true, cond-true, cond-false, eqb-true, or_cases, or_parts, cases_Bool, cases_lt, and_parts, not-true}
 use Rattle.std.proofs.lemmas.Bool.Decides.{Decides-eqb}
 use Rattle.std.proofs.lemmas.Slice.Eq.{starts_is}
 use Rattle.std.proofs.lemmas.Nat.{be_bytes_4, le_bytes_4}
-use Rattle.std.proofs.lemmas.List.{get_or-take, get_or_past, length-take-le, take-take, take_at, take-append-drop, append-nil}
+use Rattle.std.proofs.lemmas.List.{get_or-take, get_or-drop, get_or_past, length-take-le, take-take, take_at, take-append-drop, append-nil}
 use Rattle.exb_pcap.specs.declared.format.ByteOrder.{ByteOrder}
 use Rattle.exb_pcap.specs.declared.format.ByteOrder.TheVariants.{Big, Little}
 use Rattle.exb_pcap.specs.declared.format.Resolution.TheVariants.{Micros, Nanos}
 use Rattle.exb_pcap.specs.declared.format.Form.{Form}
 use Rattle.exb_pcap.specs.declared.reader.PcapFault.{PcapFault}
-use Rattle.exb_pcap.specs.declared.reader.PcapFault.TheVariants.{NotPcap, Version, LinkType, Cut, Length, Time}
+use Rattle.exb_pcap.specs.declared.reader.PcapFault.TheVariants.{NotPcap, Version, LinkType, Cut}
 use Rattle.exb_pcap.specs.Captures.{word, half_word, form, form_of, header_in, header_of}
 use Rattle.exb_pcap.specs.Cutting.{IsBytes}
 use Rattle.exb_pcap.specs.Magic.{begins_magic}
 use Rattle.exb_pcap.specs.Pieces.{is_cut, decided, header_so_far}
-use Rattle.exb_pcap.proofs.CutLemmas.{word_more, half_word_more, decided_some}
+use Rattle.exb_pcap.proofs.CutLemmas.{word_more, half_word_more, decided_some, decided_none}
 
 -- the form behind a magic number by its four tests
 abbrev by_magic : Bool → Bool → Bool → Bool → Option Form
@@ -49,12 +49,12 @@ in_stands (Some f) held tail e = by_size (nat_lt (length held) 24) refl
     by_size : (short : Bool) → short ≡ nat_lt (length held) 24 → header_in (Some f) (held ++ tail) ≡ header_in (Some f) held
     by_size true s = absurd (false≢true (sym e ∙ ap (λ b. is_cut (in_order f b (not (half_word f.order (drop 4 held) == 2 && half_word f.order (drop 6 held) == 4)) (not (word f.order (drop 20 held) == 1)))) (sym s)))
     by_size false s =
-      let long : 24 ≤ length held = ltb-false (length held) 24 (sym s) in
-      let more : nat_lt (length (held ++ tail)) 24 ≡ nat_lt (length held) 24 = le-ltb _ 24 (omega (arith, length-append held tail)) ∙ s in
-      let major = half_word_more f.order 4 held tail (omega arith) in
-      let minor = half_word_more f.order 6 held tail (omega arith) in
-      let link = word_more f.order 20 held tail (omega arith) in
-      λ i. in_order f (more i) (not (major i == 2 && minor i == 4)) (not (link i == 1))
+        let long : 24 ≤ length held = ltb-false (length held) 24 (sym s) in
+        let more : nat_lt (length (held ++ tail)) 24 ≡ nat_lt (length held) 24 = le-ltb _ 24 (omega (arith, length-append held tail)) ∙ s in
+        let major = half_word_more f.order 4 held tail (omega arith) in
+        let minor = half_word_more f.order 6 held tail (omega arith) in
+        let link = word_more f.order 20 held tail (omega arith) in
+        λ i. in_order f (more i) (not (major i == 2 && minor i == 4)) (not (link i == 1))
 
 pub header_stands : (held tail : List ℕ) → 4 ≤ length held → is_cut (header_of held) ≡ false → header_of (held ++ tail) ≡ header_of held
 header_stands held tail h e =
@@ -69,8 +69,8 @@ in_whole (Some g) file f e = by_size (nat_lt (length file) 24) refl
   where
     by_size : (short : Bool) → short ≡ nat_lt (length file) 24 → 24 ≤ length file
     by_size true s =
-      let no : Err (Cut 0) ≡ Ok f = ap (λ b. in_order g b (not (half_word g.order (drop 4 file) == 2 && half_word g.order (drop 6 file) == 4)) (not (word g.order (drop 20 file) == 1))) s ∙ e in
-      absurd (cc)
+        let no : Err (Cut 0) ≡ Ok f = ap (λ b. in_order g b (not (half_word g.order (drop 4 file) == 2 && half_word g.order (drop 6 file) == 4)) (not (word g.order (drop 20 file) == 1))) s ∙ e in
+        absurd (cc)
     by_size false s = ltb-false (length file) 24 (sym s)
 
 pub header_whole : (file : List ℕ) (f : Form) → header_of file ≡ Ok f → 24 ≤ length file
@@ -157,3 +157,72 @@ so_far_stands false held tail x bytes last e =
     still : (length held < 4) ⊎ (4 ≤ length held) → (nat_lt (length held) 4 && (begins_magic held && not false)) ≡ false → header_of held ≡ x → is_cut (header_of held) ≡ false → header_of (held ++ tail) ≡ x
     still (inl few) none read uncut = header_early held tail few bytes (no_start _ _ (lt-ltb (length held) 4 few) none) ∙ sym (header_short held few) ∙ read
     still (inr many) none read uncut = header_stands held tail many uncut ∙ read
+
+-- a header that is cut off
+cut_in_order : (f : Form) (short version link : Bool) → is_cut (in_order f short version link) ≡ true → (short ≡ true) × (in_order f short version link ≡ Err (Cut 0))
+cut_in_order f true version link e = (refl, refl)
+cut_in_order f false true link e = absurd (false≢true e)
+cut_in_order f false false true e = absurd (false≢true e)
+cut_in_order f false false false e = absurd (false≢true e)
+
+cut_in : (o : Option Form) (file : List ℕ) → is_cut (header_in o file) ≡ true → (length file < 24) × (header_in o file ≡ Err (Cut 0))
+cut_in None file e = absurd (false≢true e)
+cut_in (Some f) file e = let cut = cut_in_order f _ _ _ e in (ltb-true (length file) 24 cut.0, cut.1)
+
+pub header_cut : (file : List ℕ) → is_cut (header_of file) ≡ true → (length file < 24) × (header_of file ≡ Err (Cut 0))
+header_cut file e = by_size (cases_lt (length file) 4)
+  where
+    by_size : (length file < 4) ⊎ (4 ≤ length file) → (length file < 24) × (header_of file ≡ Err (Cut 0))
+    by_size (inl few) = absurd (false≢true (ap is_cut (sym (header_short file few)) ∙ e))
+    by_size (inr many) =
+        let cut = cut_in (form_of file) file (ap is_cut (sym (header_long file many)) ∙ e) in
+        (cut.0, header_long file many ∙ cut.1)
+
+-- a header that isn't decided
+pub header_open : (ended : Bool) (held : List ℕ) → header_so_far ended held ≡ None
+    → (ended ≡ false) × (((length held < 4) × (begins_magic held ≡ true)) ⊎ (is_cut (header_of held) ≡ true))
+header_open ended held e = by_test (cases_Bool (nat_lt (length held) 4 && (begins_magic held && not ended)))
+  where
+    by_test : (nat_lt (length held) 4 && (begins_magic held && not ended)) ≡ true ⊎ (nat_lt (length held) 4 && (begins_magic held && not ended)) ≡ false
+        → (ended ≡ false) × (((length held < 4) × (begins_magic held ≡ true)) ⊎ (is_cut (header_of held) ≡ true))
+    by_test (inl t) =
+        let outer = and_parts _ _ t in
+        let inner = and_parts _ _ outer.1 in
+        (not-true ended inner.1, inl (ltb-true (length held) 4 outer.0, inner.0))
+    by_test (inr f) =
+        let open_end = decided_none ended (header_of held) (sym (cond-false _ None (decided ended (header_of held)) f) ∙ e) in
+        (open_end.0, inr open_end.1)
+
+-- the rest of a magic number behind its front
+completed : (magic held : List ℕ) → starts_with nat_eq magic held ≡ true → magic ≡ held ++ drop (length held) magic
+completed magic held e = (starts_is Decides-eqb magic held (starts_with nat_eq magic held) refl).0 e
+
+-- a list of four bytes
+pub bytes_four : (a b c d : ℕ) → a < 256 → b < 256 → c < 256 → d < 256 → IsBytes (a ∷ b ∷ c ∷ d ∷ [])
+bytes_four a b c d p q r s zero = p
+bytes_four a b c d p q r s (suc zero) = q
+bytes_four a b c d p q r s (suc (suc zero)) = r
+bytes_four a b c d p q r s (suc (suc (suc zero))) = s
+bytes_four a b c d p q r s (suc (suc (suc (suc n)))) = omega arith
+
+-- there are bytes with which it begins with a magic number, and ends there
+pub magic_follows : (held : List ℕ) → begins_magic held ≡ true → (more : List ℕ) × IsBytes more × (header_of (held ++ more) ≡ Err (Cut 0))
+unfolding header_of
+magic_follows held e =
+    ⊎_elim
+    (λ three.
+    ⊎_elim
+    (λ two.
+    ⊎_elim
+    (by_magic_number (to_be_bytes w32 0xa1b2c3d4) (bytes_four 0xa1 0xb2 0xc3 0xd4 (lit< tt) (lit< tt) (lit< tt) (lit< tt)) refl)
+    (by_magic_number (to_be_bytes w32 0xa1b23c4d) (bytes_four 0xa1 0xb2 0x3c 0x4d (lit< tt) (lit< tt) (lit< tt) (lit< tt)) refl)
+    (or_cases _ _ two))
+    (by_magic_number (to_le_bytes w32 0xa1b2c3d4) (bytes_four 0xd4 0xc3 0xb2 0xa1 (lit< tt) (lit< tt) (lit< tt) (lit< tt)) refl)
+    (or_cases _ _ three))
+    (by_magic_number (to_le_bytes w32 0xa1b23c4d) (bytes_four 0x4d 0x3c 0xb2 0xa1 (lit< tt) (lit< tt) (lit< tt) (lit< tt)) refl)
+    (or_cases _ _ e)
+  where
+    by_magic_number : (magic : List ℕ) → IsBytes magic → header_of magic ≡ Err (Cut 0) → starts_with nat_eq magic held ≡ true
+        → (more : List ℕ) × IsBytes more × (header_of (held ++ more) ≡ Err (Cut 0))
+    by_magic_number magic bytes short begins =
+        (drop (length held) magic, λ i. subst (λ (x : ℕ). x < 256) (sym (get_or-drop (length held) magic i 0)) (bytes (length held + i)), ap header_of (sym (completed magic held begins)) ∙ short)

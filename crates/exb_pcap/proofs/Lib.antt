@@ -2,6 +2,7 @@ pub mod BufferLemmas
 pub mod CutLemmas
 pub mod GoingLemmas
 pub mod HeaderLemmas
+pub mod OpenLemmas
 pub mod PieceLaws
 pub mod RecordLemmas
 pub mod StepLemmas

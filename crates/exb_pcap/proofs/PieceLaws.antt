@@ -1,17 +1,19 @@
 -- However a file is cut into pieces, what is answered is what is read of the whole.
-use Rattle.std.proofs.Common.{◌≡◌, ◌<◌, ◌≤◌, ◌+◌, ◌-◌, ◌^◌, ℕ, zero, suc, Bool, true, false, List, [], ◌∷◌, ◌++◌, length, take, drop, get_or, Option, Some, None, Result, Ok, Err, refl, ap, sym, subst, ◌∙◌, arith, length-append, length-drop, length-take, append_assoc}
-use Rattle.std.specs.Prelude.{◌↔◌, min}
+use Rattle.std.proofs.Common.{◌≡◌, ◌<◌, ◌≤◌, ◌+◌, ◌^◌, ℕ, zero, suc, map, Result, Ok, Err, Bool, true, false, List, [], ◌∷◌, ◌++◌, length, take, drop, Option, Some, None, refl, ap, sym, subst, ◌∙◌, arith, length-append, length-drop, length-take, append_assoc}
+use Rattle.std.specs.Prelude.{◌↔◌, All}
+use Rattle.std.proofs.lemmas.List.Elements.{All-tail, All-head}
 use Rattle.std.proofs.lemmas.Bool.{false≢true}
-use Rattle.std.proofs.lemmas.List.{get_or-drop, get_or-take, get_or_past, append-nil, take-append-drop, take-take, append_cancel_left}
+use Rattle.std.proofs.lemmas.List.{append-nil, take-append-drop, take-take, append_cancel_left}
 use Rattle.exb_model.specs.Input.{Record}
 use Rattle.exb_pcap.specs.declared.reader.PcapFault.{PcapFault}
 use Rattle.exb_pcap.specs.declared.pieces.Stage.{Stage}
 use Rattle.exb_pcap.specs.declared.pieces.Stage.TheVariants.{Header, Records, Failed}
-use Rattle.exb_pcap.specs.Captures.{Capture, at_end, at_fault, before, records_from, capture_of}
-use Rattle.exb_pcap.specs.Cutting.{IsBytes, Call, Feed, Ask, Feeding, begun, after_piece, after_call, after_calls, but_more, answered, answers, MayCall, MayBeCalled, in_turn, first_answers}
-use Rattle.exb_pcap.specs.Pieces.{Reading, unread, Answer, Found, More, End, Faulty, fitting, fed, asked, read_of, to_come, IsFirst}
+use Rattle.exb_pcap.specs.Captures.{Capture, before, records_from, capture_of, whole, all_records, pcap_records}
+use Rattle.exb_pcap.specs.Cutting.{IsBytes, Call, Feed, Ask, Feeding, begun, after_call, after_calls, but_more, answered, answers, MayBeCalled, in_turn, first_answers, IsOpen, IsRecordOrFault, Stands}
+use Rattle.exb_pcap.specs.Pieces.{Reading, Answer, Found, More, End, Faulty, fitting, asked, read_of, to_come, IsFirst}
 use Rattle.exb_pcap.proofs.BufferLemmas.{reading}
-use Rattle.exb_pcap.proofs.GoingLemmas.{IsIn, bytes_drop, no_bytes, bytes_take, bytes_append, asked_in_bound, asked_reads}
+use Rattle.exb_pcap.proofs.OpenLemmas.{asked_more, asked_end}
+use Rattle.exb_pcap.proofs.GoingLemmas.{bytes_drop, no_bytes, bytes_take, bytes_append, asked_in_bound, asked_reads}
 
 -- these answers were given of the whole, and that is left behind them
 abbrev pub IsRead : List Answer → Capture → Capture → Type 0
@@ -34,6 +36,10 @@ end_turn n = refl
 fault_turn : (n : ℕ) (fault : PcapFault) → in_turn (suc n) [] (Some fault) ≡ Faulty fault ∷ in_turn n [] (Some fault)
 unfolding in_turn
 fault_turn n fault = refl
+
+zero_turn : (records : List Record) (fault : Option PcapFault) → in_turn 0 records fault ≡ []
+unfolding in_turn
+zero_turn records fault = refl
 
 no_turn : (n : ℕ) → 0 + n ≡ n
 no_turn n = omega arith
@@ -140,5 +146,119 @@ pub pieces_read : (file : List ℕ) (calls : List Call) → IsBytes file → len
 pieces_read file calls bytes small may =
     let given : List Answer = answers calls (begun file) in
     let all = all_read calls (length file) (begun file) [] (at_start file bytes) small no_bytes (ends calls (begun file) may) 0 in
-    let coming = to_come unread (file ++ []) in
-    ?
+    let nothing : file ++ [] ≡ file = append-nil file in
+    let count : length given + 0 ≡ length given = omega arith in
+    sym (append-nil given) ∙ ap (λ xs. given ++ xs) (sym (zero_turn _ _)) ∙ sym all ∙ (λ i. first_answers (count i) (nothing i))
+
+-- answers that end with End, or with a fault, are all of the records and that
+turned_end : (n : ℕ) (rs : List Record) (fault : Option PcapFault) (xs : List Record) (again : List Answer) → in_turn n rs fault ≡ map Found xs ++ End ∷ again → (rs ≡ xs) × (fault ≡ None)
+unfolding in_turn
+turned_end zero rs fault [] again e = absurd (cc)
+turned_end zero rs fault (x ∷ xs) again e = absurd (cc)
+turned_end (suc n) (r ∷ rs) fault [] again e = absurd (cc)
+turned_end (suc n) (r ∷ rs) fault (x ∷ xs) again e =
+    let rest : in_turn n rs fault ≡ map Found xs ++ End ∷ again = cc in
+    let same : r ≡ x = cc in
+    let later = turned_end n rs fault xs again rest in
+    ((λ i. same i ∷ later.0 i), later.1)
+turned_end (suc n) [] None [] again e = (refl, refl)
+turned_end (suc n) [] None (x ∷ xs) again e = absurd (cc)
+turned_end (suc n) [] (Some fault) [] again e = absurd (cc)
+turned_end (suc n) [] (Some fault) (x ∷ xs) again e = absurd (cc)
+
+turned_fault : (n : ℕ) (rs : List Record) (fault : Option PcapFault) (xs : List Record) (last : PcapFault) (again : List Answer) → in_turn n rs fault ≡ map Found xs ++ Faulty last ∷ again → fault ≡ Some last
+unfolding in_turn
+turned_fault zero rs fault [] last again e = absurd (cc)
+turned_fault zero rs fault (x ∷ xs) last again e = absurd (cc)
+turned_fault (suc n) (r ∷ rs) fault [] last again e = absurd (cc)
+turned_fault (suc n) (r ∷ rs) fault (x ∷ xs) last again e =
+    let rest : in_turn n rs fault ≡ map Found xs ++ Faulty last ∷ again = cc in
+    turned_fault n rs fault xs last again rest
+turned_fault (suc n) [] None [] last again e = absurd (cc)
+turned_fault (suc n) [] None (x ∷ xs) last again e = absurd (cc)
+turned_fault (suc n) [] (Some fault) [] last again e = let same : fault ≡ last = cc in ap Some same
+turned_fault (suc n) [] (Some fault) (x ∷ xs) last again e = absurd (cc)
+
+read_whole : (c : Result Capture PcapFault) (rs : List Record) → (read_of c).records ≡ rs → (read_of c).fault ≡ None → all_records c ≡ Ok rs
+read_whole (Ok c) rs p q = λ i. whole (q i) (p i)
+read_whole (Err fault) rs p q = absurd (cc)
+
+read_fault : (c : Result Capture PcapFault) (fault : PcapFault) → (read_of c).fault ≡ Some fault → all_records c ≡ Err fault
+read_fault (Ok c) fault q = ap (λ o. whole o c.records) q
+read_fault (Err first) fault q = let same : first ≡ fault = cc in ap Err same
+
+pub records_read : (file : List ℕ) (calls : List Call) → IsBytes file → length file < 2 ^ 64 → MayBeCalled calls (begun file)
+    → (records : List Record) (again : List Answer)
+    → (answers calls (begun file) ≡ map Found records ++ End ∷ again → pcap_records file ≡ Ok records)
+    × ((fault : PcapFault) → answers calls (begun file) ≡ map Found records ++ Faulty fault ∷ again → pcap_records file ≡ Err fault)
+unfolding pcap_records
+records_read file calls bytes small may records again =
+    let read : Capture = read_of (capture_of file) in
+    let n : ℕ = length (answers calls (begun file)) in
+    let law = pieces_read file calls bytes small may in (
+      (λ e. let end = turned_end n read.records read.fault records again (sym law ∙ e) in read_whole (capture_of file) records end.0 end.1),
+      λ fault e. read_fault (capture_of file) fault (turned_fault n read.records read.fault records fault again (sym law ∙ e)),
+    )
+
+-- while the end isn't told
+all_open : (more : List ℕ) (calls : List Call) (f : Feeding) → All IsOpen calls → EndAtEnd more calls f
+unfolding EndAtEnd
+all_open more [] f h = tt
+all_open more (Feed n ∷ cs) f h = (tt, all_open more cs (after_call (Feed n) f) (All-tail IsOpen (Feed n) cs h))
+all_open more (Ask ended ∷ cs) f h =
+    let before_end = All-head IsOpen (Ask ended) cs h in
+    ((λ e. absurd (false≢true (sym before_end ∙ e))), all_open more cs (after_call (Ask ended) f) (All-tail IsOpen (Ask ended) cs h))
+
+all_going : (calls : List Call) (total : ℕ) (f : Feeding) → IsGoing total f → IsGoing total (after_calls calls f)
+unfolding after_calls
+all_going [] total f g = g
+all_going (c ∷ cs) total f g = all_going cs total (after_call c f) (after_one c total f g)
+
+-- what comes next is what comes first of what is still to come
+next_is_first : (file : List ℕ) (calls : List Call) (more : List ℕ) → IsBytes file → length file < 2 ^ 64 → All IsOpen calls → (after_calls calls (begun file)).rest ≡ [] → IsBytes more
+    → first_answers (length (answers calls (begun file)) + 1) (file ++ more)
+    ≡ answers calls (begun file) ++ in_turn 1 (to_come (after_calls calls (begun file)).reader more).records (to_come (after_calls calls (begun file)).reader more).fault
+next_is_first file calls more bytes small h none follows =
+    let f : Feeding = after_calls calls (begun file) in
+    let given : List Answer = answers calls (begun file) in
+    all_read calls (length file) (begun file) more (at_start file bytes) small follows (all_open more calls (begun file) h) 1
+    ∙ ap (λ xs. given ++ in_turn 1 (to_come f.reader (xs ++ more)).records (to_come f.reader (xs ++ more)).fault) none
+
+first_answer : (a : Answer) (left coming : Capture) → IsRecordOrFault a → IsFirst a left coming → in_turn 1 coming.records coming.fault ≡ a ∷ []
+first_answer (Found x) left coming told e = ap (λ (c : Capture). in_turn 1 c.records c.fault) e ∙ found_turn 0 x left ∙ ap (λ xs. Found x ∷ xs) (zero_turn _ _)
+first_answer (Faulty fault) left coming told e = ap (λ (c : Capture). in_turn 1 c.records c.fault) e.0 ∙ fault_turn 0 fault ∙ ap (λ xs. Faulty fault ∷ xs) (zero_turn _ _)
+first_answer More left coming told e = absurd told
+first_answer End left coming told e = absurd told
+
+-- More is answered exactly where nothing stands whatever follows
+pub more_is_open : (file : List ℕ) (calls : List Call) → IsBytes file → length file < 2 ^ 64 → All IsOpen calls → (after_calls calls (begun file)).rest ≡ []
+    → ((asked false (after_calls calls (begun file)).reader).answer ≡ More) ↔ ((a : Answer) → IsRecordOrFault a → Stands file (answers calls (begun file)) a → ⊥)
+more_is_open file calls bytes small h none = (opened, settled (asked false r).answer refl)
+  where
+    given : List Answer
+    given = answers calls (begun file)
+
+    r : Reading
+    r = (after_calls calls (begun file)).reader
+
+    g : IsGoing (length file) (after_calls calls (begun file))
+    g = all_going calls (length file) (begun file) (at_start file bytes)
+
+    opened : (asked false r).answer ≡ More → (a : Answer) → IsRecordOrFault a → Stands file given a → ⊥
+    opened is a told stands =
+        (asked_more false r is).undecided g.held a told
+        (λ more follows. append_cancel_left given _ _ (sym (next_is_first file calls more bytes small h none follows) ∙ stands more follows))
+
+    first : (more : List ℕ) → IsBytes more → IsFirst (asked false r).answer (to_come (asked false r).left more) (to_come r more)
+    first more follows = asked_reads false r more (record { fits = omega (arith, g.fits, small); bytes = g.held }) follows (λ e. absurd (false≢true e))
+
+    stands_so : (a : Answer) → a ≡ (asked false r).answer → IsRecordOrFault a → Stands file given a
+    stands_so a is told more follows =
+        next_is_first file calls more bytes small h none follows
+        ∙ ap (λ xs. given ++ xs) (first_answer a (to_come (asked false r).left more) (to_come r more) told (subst (λ (x : Answer). IsFirst x (to_come (asked false r).left more) (to_come r more)) (sym is) (first more follows)))
+
+    settled : (a : Answer) → a ≡ (asked false r).answer → ((b : Answer) → IsRecordOrFault b → Stands file given b → ⊥) → (asked false r).answer ≡ More
+    settled (Found x) is never = absurd (never (Found x) tt (stands_so (Found x) is tt))
+    settled (Faulty fault) is never = absurd (never (Faulty fault) tt (stands_so (Faulty fault) is tt))
+    settled More is never = sym is
+    settled End is never = absurd (false≢true (asked_end false r (sym is)))

@@ -1,9 +1,9 @@
 -- A file that is fed in pieces, however it is cut: the calls that are made, and what is answered.
-use Rattle.std.specs.Prelude.{◌≡◌, ◌<◌, ◌^◌, ℕ, zero, suc, Bool, true, false, List, [], ◌∷◌, ◌++◌, length, take, drop, slice_index, Option, Some, None, Result, Ok, Err, ◌↔◌}
+use Rattle.std.specs.Prelude.{◌≡◌, ◌<◌, ◌+◌, ◌^◌, ℕ, All, zero, suc, Bool, true, false, List, [], ◌∷◌, ◌++◌, length, take, drop, slice_index, map, Option, Some, None, Ok, Err, ◌↔◌}
 use Rattle.exb_model.specs.Input.{Record}
 use Rattle.exb_pcap.specs.declared.reader.PcapFault.{PcapFault}
-use Rattle.exb_pcap.specs.Captures.{capture_of}
-use Rattle.exb_pcap.specs.Pieces.{Reading, Answer, Found, More, End, Faulty, unread, fitting, fed, asked, read_of}
+use Rattle.exb_pcap.specs.Captures.{capture_of, pcap_records}
+use Rattle.exb_pcap.specs.Pieces.{Reading, Answer, Found, More, End, Faulty, unread, fitting, fed, asked, read_of, to_come, IsFirst}
 
 -- a list of bytes
 abbrev pub IsBytes : List ℕ → Type 0
@@ -75,3 +75,36 @@ in_turn (suc n) [] (Some fault) = Faulty fault ∷ in_turn n [] (Some fault)
 -- the first n answers of a reader of this file
 abbrev pub first_answers : ℕ → List ℕ → List Answer
 first_answers n file = in_turn n (read_of (capture_of file)).records (read_of (capture_of file)).fault
+
+-- a record or a fault
+abbrev pub IsRecordOrFault : Answer → Type 0
+IsRecordOrFault (Found x) = Unit {0}
+IsRecordOrFault More = ⊥
+IsRecordOrFault End = ⊥
+IsRecordOrFault (Faulty fault) = Unit {0}
+
+-- whatever follows what was taken, this is the next answer behind those that were given
+abbrev pub Stands : List ℕ → List Answer → Answer → Type 0
+Stands taken given a = (more : List ℕ) → IsBytes more → first_answers (length given + 1) (taken ++ more) ≡ given ++ a ∷ []
+
+-- what is answered in pieces is what is read of the whole file: the records in their order, then End or the first fault
+abbrev pub PiecesAreRead : Type 0
+PiecesAreRead = (file : List ℕ) (calls : List Call) → IsBytes file → length file < 2 ^ 64 → MayBeCalled calls (begun file)
+    → answers calls (begun file) ≡ first_answers (length (answers calls (begun file))) file
+
+-- where it came to the end, the records that were answered are those of the grammar; where it came to a fault, that fault is
+abbrev pub PiecesGiveTheRecords : Type 0
+PiecesGiveTheRecords = (file : List ℕ) (calls : List Call) → IsBytes file → length file < 2 ^ 64 → MayBeCalled calls (begun file)
+    → (records : List Record) (again : List Answer)
+    → (answers calls (begun file) ≡ map Found records ++ End ∷ again → pcap_records file ≡ Ok records)
+    × ((fault : PcapFault) → answers calls (begun file) ≡ map Found records ++ Faulty fault ∷ again → pcap_records file ≡ Err fault)
+
+-- before the end is told, More is answered exactly where no record and no fault stands whatever follows
+abbrev pub MoreIsOpen : Type 0
+MoreIsOpen = (file : List ℕ) (calls : List Call) → IsBytes file → length file < 2 ^ 64 → All IsOpen calls → (after_calls calls (begun file)).rest ≡ []
+    → ((asked false (after_calls calls (begun file)).reader).answer ≡ More) ↔ ((a : Answer) → IsRecordOrFault a → Stands file (answers calls (begun file)) a → ⊥)
+
+-- what is answered comes first of what the reader still gives, whatever follows what it was fed
+abbrev pub AnswersAreFirst : Type 0
+AnswersAreFirst = (ended : Bool) (r : Reading) (more : List ℕ) → IsBytes r.held → IsBytes more → r.place + length r.held < 2 ^ 64 → (ended ≡ true → more ≡ [])
+    → IsFirst (asked ended r).answer (to_come (asked ended r).left more) (to_come r more)

@@ -1,5 +1,5 @@
 -- What a reader hands out.
-use Rattle.std.specs.Prelude.{Option, Some, None, Result, Ok, Err}
+use Rattle.std.specs.Prelude.{Result, Ok, Err}
 use Rattle.exb_model.specs.Input.{Record}
 use Rattle.exb_pcap.specs.declared.reader.PcapFault.{PcapFault}
 use Rattle.exb_pcap.specs.declared.reader.Record.{Record as Taken}

@@ -1,6 +1,5 @@
 -- What a reader of pieces answers, without where its bytes lie in memory.
 use Rattle.std.specs.Prelude.{ℕ, ◌+◌, ◌*◌, ◌^◌, ◌<◌, ◌≤◌, List, length, take, drop, Result, Ok, Err}
-use Rattle.exb_model.specs.Input.{Record}
 use Rattle.exb_pcap.specs.declared.reader.PcapFault.{PcapFault}
 use Rattle.exb_pcap.specs.declared.pieces.Front.{Front}
 use Rattle.exb_pcap.specs.declared.pieces.Front.TheVariants as front
@@ -32,3 +31,15 @@ IsWithin held (front.Record moment size) = IsRecordIn held moment size
 IsWithin held front.More = Unit {0}
 IsWithin held front.End = Unit {0}
 IsWithin held (front.Fault fault) = Unit {0}
+
+-- the moment of a record is below 2^32 seconds
+abbrev pub IsInTime : Next → Type 0
+IsInTime (next.Record moment bytes) = moment < 2 ^ 32 * 1_000_000_000
+IsInTime next.More = Unit {0}
+IsInTime next.End = Unit {0}
+
+-- a record has at most 262,144 bytes
+abbrev pub IsShort : Next → Type 0
+IsShort (next.Record moment bytes) = length bytes.now ≤ 262_144
+IsShort next.More = Unit {0}
+IsShort next.End = Unit {0}

@@ -1,10 +1,10 @@
 //! Reading a capture that is fed in pieces, with a buffer for one record.
-ghost use Rattle.std.specs.Prelude.{◌≡◌, ◌<◌, ◌≤◌, ◌+◌, ◌*◌, ◌-◌, ◌^◌, length, replicate, drop, take, IfOk, IfErr, IfSome, OnErr};
+ghost use Rattle.std.specs.Prelude.{◌≡◌, ◌<◌, ◌≤◌, ◌+◌, ◌^◌, true, false, length, drop, take, IfOk, IfSome};
 ghost use Rattle.std.specs.Io.BufRead.{Rests};
 ghost use Rattle.std.specs.Borrow.{sem};
-ghost use Rattle.exb_pcap.specs.Captures.{header_of, record_at};
-ghost use Rattle.exb_pcap.specs.Pieces.{Reading, unread, fitting, fed, roomy, decided, with_record, passed, failing, fault_cuts, header_so_far, at_place, headed, next_at, asked};
-ghost use Rattle.exb_pcap.specs.Told.{told, stepped, IsWithin};
+ghost use Rattle.exb_pcap.specs.Captures.{record_at};
+ghost use Rattle.exb_pcap.specs.Pieces.{Reading, More, End, unread, fitting, fed, roomy, decided, with_record, passed, failing, fault_cuts, header_so_far, at_place, headed, next_at, asked};
+ghost use Rattle.exb_pcap.specs.Told.{told, stepped, IsWithin, IsInTime, IsShort};
 
 use crate::format::{Form, begins_magic};
 use crate::reader::{HEADER, PcapFault, RECORD_HEAD, front_record, header};
@@ -138,7 +138,12 @@ impl Model for PieceReader {
 
     ghost Value = { Reading };
 
-    ghost view = { λ r. record { stage = r.stage; place = r.place; held = take (r.end - r.start) (drop r.start r.buffer.items); room = most_held - r.end } };
+    ghost view = { λ r. record {
+      stage = r.stage;
+      place = r.place;
+      held = take (r.end - r.start) (drop r.start r.buffer.items);
+      room = most_held - r.end;
+    } };
 
     ghost invariant = { λ r. (length r.buffer.items ≡ most_held) × (r.start ≤ r.end) × (r.end ≤ most_held) };
 }
@@ -183,6 +188,10 @@ impl PieceReader {
     /// More there is room. After a fault it gives the same fault again.
     pub fn next(&mut self, ended: bool) -> Result<Next<'_>, PcapFault>
         ensures answer { told result ≡ (asked ended self.old).answer }
+        ensures more { told result ≡ More → (ended ≡ false) × (0 < (asked ended self.old).left.room) }
+        ensures end { told result ≡ End → ended ≡ true }
+        ensures moment { IfOk result IsInTime }
+        ensures bytes { IfOk result IsShort }
         ensures* left { sem 𝓛 (Rests the_row self.entry (λ left. left ≡ (asked ended self.old).left)) }
     {
         self.read_header(ended);

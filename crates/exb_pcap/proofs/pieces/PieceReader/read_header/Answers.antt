@@ -1,4 +1,4 @@
-use Rattle.std.proofs.Common.{◌≡◌, ◌≤◌, length, ap, sym, ◌∙◌, arith}
+use Rattle.std.proofs.Common.{◌≤◌, length, ap, sym, ◌∙◌, arith}
 use Rattle.exb_pcap.specs.Pieces.{Reading, headed, header_so_far}
 use Rattle.exb_pcap.proofs.BufferLemmas.{between, headed_view}
 use Rattle.exb_pcap.proofs.pieces.PieceReader.read_header.Goals as goal

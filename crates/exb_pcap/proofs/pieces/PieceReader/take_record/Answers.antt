@@ -1,4 +1,4 @@
-use Rattle.std.proofs.Common.{◌≡◌, ◌≤◌, ◌+◌, ◌-◌, length, take, drop, refl, ap, sym, ◌∙◌, arith}
+use Rattle.std.proofs.Common.{◌≤◌, ◌+◌, ◌-◌, length, take, drop, refl, ap, ◌∙◌, arith}
 use Rattle.exb_pcap.specs.Pieces.{Reading, passed}
 use Rattle.exb_pcap.proofs.BufferLemmas.{between, view_of, passed_view, record_view}
 use Rattle.exb_pcap.proofs.pieces.PieceReader.take_record.Goals as goal
