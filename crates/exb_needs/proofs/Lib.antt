@@ -1,0 +1,3 @@
+pub mod Fullest
+pub mod Opening
+pub mod Seen
