@@ -1,5 +1,5 @@
 -- What is drawn for each of a list, one after another.
-use Rattle.std.proofs.Common.{◌≡◌, ◌∙◌, ℕ, suc, ◌+◌, ◌<◌, ◌≤◌, add-one, List, [], ◌∷◌, ◌++◌, length, take, get_or, append-nil, append_assoc, refl, sym, ap, subst, arith, All}
+use Rattle.std.proofs.Common.{◌≡◌, ◌∙◌, ℕ, suc, ◌+◌, ◌<◌, ◌≤◌, add-one, List, [], ◌∷◌, ◌++◌, length, take, get_or, append-nil, append_assoc, length-append, refl, sym, ap, subst, arith, All}
 use Rattle.std.specs.List.{range_with_len}
 use Rattle.std.proofs.lemmas.List.{take_more, take_all}
 use Rattle.std.proofs.lemmas.List.Elements.{All-append, All-nil}
@@ -73,3 +73,13 @@ adds-all f xs ys i old new g h end same before =
 -- all of a range
 pub adds-range : {B : Type 0} (f : ℕ → Drawing B) (a n m : ℕ) (old new : List B) (g h : Lcg) → n ≡ m → Adds (for_each f (range_with_len a n)) old new g h → Adds (for_each f (range_with_len a m)) old new g h
 adds-range f a n m old new g h e before = subst (λ (k : ℕ). Adds (for_each f (range_with_len a k)) old new g h) e before
+
+-- one for each
+pub length-each : {A B : Type 0} (f : A → Drawing B) → ((x : A) (g : Lcg) → length (f x g).0 ≡ 1) → (xs : List A) (g : Lcg) → length (for_each f xs g).0 ≡ length xs
+unfolding for_each
+length-each f one [] g = refl
+length-each f one (x ∷ xs) g =
+    let e = length-append (f x g).0 (for_each f xs (f x g).1).0 in
+    let h = one x g in
+    let rest = length-each f one xs (f x g).1 in
+    omega (arith, e, h, rest)

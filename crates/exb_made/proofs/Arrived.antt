@@ -1,6 +1,7 @@
 -- What holds of each frame that arrives.
 use Rattle.std.proofs.Common.{◌≡◌, ◌∙◌, ℕ, zero, suc, ◌+◌, ◌*◌, ◌/◌, ◌^◌, ◌<◌, ◌≤◌, ◌==◌, Bool, true, false, cond, if◌then◌else◌, List, [], ◌∷◌, ◌++◌, length, get_or, filter, map, All, refl, sym, ap, arith, length-append}
 use Rattle.std.specs.List.{range_with_len}
+use Rattle.std.proofs.lemmas.List.FromFn.{length-range_with_len}
 use Rattle.std.proofs.lemmas.Bool.{eqb-true, false≢true}
 use Rattle.std.proofs.lemmas.List.Elements.{All-nil, All-cons}
 use Rattle.exb_model.specs.Ports.{below}
@@ -12,7 +13,7 @@ use Rattle.exb_made.specs.Drawing.{Frame, station, broadcast, content, vlan_tag,
 use Rattle.exb_made.specs.Made.{records_at, all_drawn, made, ArrivesAtExternals}
 use Rattle.exb_made.specs.Pieces.{IsPlayable}
 use Rattle.exb_made.proofs.SiteTree.{length-ports, shape-is}
-use Rattle.exb_made.proofs.Adding.{each-all}
+use Rattle.exb_made.proofs.Adding.{each-all, length-each}
 use Rattle.exb_made.proofs.Validity.{all_external}
 
 -- ---- lengths
@@ -95,3 +96,12 @@ arrives_external number q no_external =
     let g = generator_of number in
     let here : is_external site q ≡ false = ap (λ (t : Shape). is_external t q) (sym (shape-is (all_drawn g).start)) ∙ no_external in
     ap (map (λ f. f.record_there)) (none_there (all_drawn g).frames q (all_arrive g) here)
+
+-- ---- there are 1,000
+frame-one : (i : ℕ) (g : Lcg) → length (frame i g).0 ≡ 1
+unfolding frame
+frame-one i g = refl
+
+pub length-frames : (g : Lcg) → length (all_drawn g).frames ≡ 1000
+unfolding all_drawn frames below
+length-frames g = length-each frame frame-one (range_with_len 0 1000) (orders (pvids (memberships g).1).1).1 ∙ length-range_with_len 0 1000

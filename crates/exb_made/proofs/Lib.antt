@@ -4,3 +4,4 @@ pub mod Capturing
 pub mod Validity
 pub mod Arrived
 pub mod Together
+pub mod Captured

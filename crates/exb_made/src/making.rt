@@ -1,11 +1,11 @@
 //! The whole input.
-ghost use Rattle.std.specs.Prelude.{◌≡◌, [], All, Ok, map, IfOk, OnOk};
+ghost use Rattle.std.specs.Prelude.{◌≡◌, ◌≤◌, ◌^◌, [], All, Ok, map, length, sum_by, IfOk, OnOk};
 ghost use Rattle.exb_model.specs.Input.{given_by, tree_of};
 ghost use Rattle.exb_model.specs.Setup.{IsValid};
 ghost use Rattle.exb_model.specs.Tree.{external_ports};
 ghost use Rattle.exb_made.specs.Draws.{generator_of};
 ghost use Rattle.exb_made.specs.Made.{all_drawn, made};
-ghost use Rattle.exb_made.specs.Pieces.{drawn_of, read_of};
+ghost use Rattle.exb_made.specs.Pieces.{drawn_of, read_of, IsAtExternal, IsWhole};
 ghost use Rattle.exb_made.specs.Site.{site_ports};
 
 use crate::captures::{Capture, captures};
@@ -69,6 +69,9 @@ pub fn make(alloc: Global, number: u64) -> Result<Made, NoMemory>
     ensures no_fate { IfOk result (λ input. All (λ c. c.fate ≡ []) input.commands) }
     ensures captures { IfOk result (λ input. map read_of input.captures.items
         ≡ map (λ q. (q, Ok ((made number).records q))) (external_ports (tree_of (made number)))) }
+    ensures external { IfOk result (λ input. All (IsAtExternal (tree_of (made number))) input.captures.items) }
+    ensures whole { IfOk result (λ input. All IsWhole input.captures.items) }
+    ensures small { IfOk result (λ input. sum_by (λ c. length c.file.items) input.captures.items ≤ 2 ^ 22) }
 {
     made_is_valid();
     let places = external_ports(alloc)?;

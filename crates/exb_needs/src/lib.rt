@@ -4,6 +4,7 @@
 #![tactic(auto)]
 
 mod channels;
+pub mod laws;
 pub mod needs;
 mod opened;
 mod sets;

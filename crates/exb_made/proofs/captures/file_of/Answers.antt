@@ -1,6 +1,6 @@
-use Rattle.std.proofs.Common.{◌∙◌, sym}
+use Rattle.std.proofs.Common.{◌∙◌, sym, ap, arith, length}
 use Rattle.exb_made.specs.Pieces.{frame_of, IsPlayable}
-use Rattle.exb_made.proofs.Capturing.{capture-none, capture-yes, capture-no, capture-all, passes}
+use Rattle.exb_made.proofs.Capturing.{capture-none, capture-yes, capture-no, capture-all, passes, small-capture}
 use Rattle.exb_made.proofs.captures.file_of.Goals as goal
 use Rattle.exb_made.proofs.captures.file_of.Goals.{then-eq+in_ok-add_record, else-eq}
 
@@ -23,5 +23,12 @@ loop-arriving-preserved c =
 pub add_record-requires : goal.add_record-requires
 add_record-requires c = passes frame_of c.args.arrived.now c.loop-arriving.arriving-index c.arriving-item.result c.loop-arriving-test.true c.arriving-item.is IsPlayable c.requires
 
-pub returns : goal.returns
-returns c = capture-all frame_of c.args.arrived.now c.loop-arriving.arriving-index c.args.port c.loop-arriving.file.items c.loop-arriving-test.false c.loop-arriving.invariant
+pub returns-clause-file : goal.returns-clause-file
+returns-clause-file c = capture-all frame_of c.args.arrived.now c.loop-arriving.arriving-index c.args.port c.loop-arriving.file.items c.loop-arriving-test.false c.loop-arriving.invariant
+
+pub returns-clause-small : goal.returns-clause-small
+returns-clause-small c =
+    let is = capture-all frame_of c.args.arrived.now c.loop-arriving.arriving-index c.args.port c.loop-arriving.file.items c.loop-arriving-test.false c.loop-arriving.invariant in
+    let l = small-capture frame_of c.args.arrived.now c.args.port c.requires in
+    let n = ap length is in
+    omega (arith, l, n)
