@@ -1,3 +1,12 @@
 pub mod Reaching
 pub mod Staying
 pub mod Tagging
+pub mod Plays
+pub mod PlayRules
+pub mod EachEvents
+pub mod PortOrder
+pub mod Comings
+pub mod AtOnce
+pub mod Playing
+pub mod FileOrder
+pub mod Summary

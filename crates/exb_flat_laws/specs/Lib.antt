@@ -1,3 +1,4 @@
 pub mod Reaching
 pub mod Staying
 pub mod Tagging
+pub mod Playing
