@@ -16,11 +16,11 @@ HERE = os.path.dirname(os.path.abspath(__file__))
 sys.path.insert(0, HERE)
 import bridge
 import changes
+import examples
 import generated
 import trees
 from frames import *
 
-EXAMPLES = os.path.join(HERE, "..", "..", "examples")
 DATA = os.path.join(HERE, "data")
 USAGE = "exbr: usage: exbr run TOPOLOGY"
 
@@ -86,21 +86,6 @@ class Cases:
 A = {"x1.1": "a.pcap"}
 AB = {"x1.1": "a.pcap", "x1.2": "b.pcap"}
 TWO_PORTS = one_extender(2, A)
-
-
-def examples(cases):
-    """The examples of the repository, with the folder in the names of their files."""
-    for name, line in [("first-path", summary(1, 1, 0, 3)), ("office", summary(7, 6, 1, 8))]:
-        folder = os.path.join(EXAMPLES, name)
-        with open(os.path.join(folder, "topology.toml"), encoding="utf-8") as it:
-            topology = it.read().replace('"in-', '"FOLDER/in-').replace("[bridge]\n", "[bridge]\nout = 'FOLDER/out-'\n")
-        given, expected = {}, {}
-        for where, files in [(folder, given), (os.path.join(folder, "expected"), expected)]:
-            for file in sorted(os.listdir(where)):
-                if file.endswith(".pcap") and file.startswith("in-" if where == folder else "out-") or file == "out-journal.txt" and where != folder:
-                    with open(os.path.join(where, file), "rb") as it:
-                        files[file] = it.read()
-        cases.runs(name, topology, given, expected, line)
 
 
 def frames(cases):
@@ -279,7 +264,7 @@ def agree_with_tables():
 def main():
     print(f"{agree_with_tables()} cases of exb_flat_tests come to the same")
     cases = Cases()
-    for part in (examples, frames, vlans, files, *trees.PARTS, *changes.PARTS, *generated.PARTS, faults, not_built):
+    for part in (examples.play, frames, vlans, files, *trees.PARTS, *changes.PARTS, *generated.PARTS, faults, not_built):
         part(cases)
     cases.write()
 
