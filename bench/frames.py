@@ -5,10 +5,15 @@ same run, and compares what the two write byte for byte.
     bench/frames.py             captures of 4, 16 and 64 ports, flooded and learned, short and long frames
     bench/frames.py --vlans     64 ports with 1, 100 and 4,094 VLANs and with 10, 1,000 and 100,000 learned addresses, and 2 ports
                                 with 1,000,000
+    bench/frames.py --trees     an extender of 48 ports and a star of six of 8 ports, each with frames to one port, to all, and mixed;
+                                frames to one port through 1, 8 and 64 extenders, and beside 0 and 63 that they don't touch
+    bench/frames.py --commands  what a command takes where there are 64 extenders and 4,094 VLANs, and what it takes a port of 4,094
+                                VLANs with a set each to go down and up. There the outputs are compared with the plain bridge in
+                                Python of crates/exb_cases
     bench/frames.py --costs     where the time goes, by callgrind (instructions, and not seconds)
 
 It works in a folder of its own under the system's folder for such, and takes it away at the end. The program and the
-baseline are built before where that is needed.
+baseline are built before where that is needed; a program that is built already may be named by EXBR=FILE.
 """
 import filecmp
 import os
@@ -20,8 +25,12 @@ import sys
 import tempfile
 import time
 
+sys.dont_write_bytecode = True
 TOP = os.path.dirname(os.path.dirname(os.path.abspath(__file__)))
-PROGRAM = f"{TOP}/crates/exbr/out/exbr"
+sys.path.insert(0, f"{TOP}/crates/exb_cases")
+import bridge
+
+PROGRAM = os.environ.get("EXBR", f"{TOP}/crates/exbr/out/exbr")
 TURNS = 3  # each program runs so often in turn with the other, and its best time counts
 BROADCAST = b"\xff" * 6
 HEADER = struct.pack("<IHHIIII", 0xA1B23C4D, 2, 4, 0, 0, 65535, 1)
@@ -41,7 +50,7 @@ def frame(destination, source, vid, size):
 
 def write_captures(ports, frames, active):
     """Frames come in turn at the first ports, so many are active, a microsecond apart."""
-    files = [open(f"in-{port}.pcap", "wb") for port in range(1, ports + 1)]
+    files = [open(f"in-{port}.pcap", "wb") for port in ports]
     for file in files:
         file.write(HEADER)
     for at, data in enumerate(frames):
@@ -51,14 +60,36 @@ def write_captures(ports, frames, active):
         file.close()
 
 
-def write_topology(ports, vlans, ageing):
-    """One extender on b1 whose ports are members of all VLANs, untagged if there is one and tagged if there are more."""
-    lines = ["[bridge]", "ports = 1", f"ageing = {ageing}", "[[extender]]", "number = 1", 'on = "b1"', f"ports = {ports}"]
-    if vlans > 1:
-        lines += ["[[vlan]]", "vid = 1", f"last = {vlans}", 'tagged = ["x1.*"]']
-    lines += ["[captures]"] + [f'"x1.{port}" = "in-{port}.pcap"' for port in range(1, ports + 1)]
+class Tree:
+    """Extenders by number, place and count of ports, and the external ports, all in port order."""
+
+    def __init__(self, local, extenders):
+        self.local, self.extenders = local, extenders
+        places = {on for _, on, _ in extenders}
+        names = [f"b{port}" for port in range(1, local + 1)]
+        names += [f"x{number}.{port}" for number, _, ports in sorted(extenders) for port in range(1, ports + 1)]
+        self.ports = [name for name in names if name not in places]
+
+
+def one_extender(ports):
+    return Tree(1, [(1, "b1", ports)])
+
+
+def write_topology(tree, ageing=300, more="", captures=None):
+    """A tree with these further tables, and a capture for each of these ports."""
+    lines = ["[bridge]", f"ports = {tree.local}", f"ageing = {ageing}"]
+    for number, on, ports in tree.extenders:
+        lines += ["[[extender]]", f"number = {number}", f'on = "{on}"', f"ports = {ports}"]
+    lines += [more, "[captures]"] + [f'"{port}" = "in-{port}.pcap"' for port in (tree.ports if captures is None else captures)]
+    text = "\n".join(lines) + "\n"
     with open("topology.toml", "w", encoding="utf-8") as file:
-        file.write("\n".join(lines) + "\n")
+        file.write(text)
+    return text
+
+
+def all_tagged(vlans):
+    """The tables in which all ports are members of so many VLANs: with a tag if there are several."""
+    return f'[[vlan]]\nvid = 1\nlast = {vlans}\ntagged = ["*"]' if vlans > 1 else ""
 
 
 def flooded(count, ports, size):
@@ -89,17 +120,20 @@ def run(words):
         return seconds, int(file.read()) / 1024
 
 
-def measure(name, ports, frames, vlans=1, ageing=300, active=None):
-    """Runs both programs on the frames, and prints what they took."""
-    write_captures(ports, frames, active or ports)
-    write_topology(ports, vlans, ageing)
-    flat_words = ["./flat", "1" if ageing else "0", "flat-"] + [f"in-{port}.pcap" for port in range(1, ports + 1)]
+def measure(name, tree, frames, vlans=1, ageing=300, active=None):
+    """Runs both programs on the frames, and prints what they took. The first run has no frames, so that it is known what the opening takes."""
+    ports = tree.ports
+    write_topology(tree, ageing, all_tagged(vlans))
+    write_captures(ports, [], 1)
+    opening, _ = run([PROGRAM, "run", "topology.toml"])
+    write_captures(ports, frames, active or len(ports))
+    flat_words = ["./flat", "1" if ageing else "0", "flat-"] + [f"in-{port}.pcap" for port in ports]
     turns = [(run(flat_words), run([PROGRAM, "run", "topology.toml"])) for _ in range(TURNS)]
     flat_time, flat_memory = min(flat for flat, _ in turns)
     own_time, own_memory = min(own for _, own in turns)
-    same = all(filecmp.cmp(f"out-x1.{port}.pcap", f"flat-{port}.pcap", shallow=False) for port in range(1, ports + 1))
+    same = all(filecmp.cmp(f"out-{port}.pcap", f"flat-{at}.pcap", shallow=False) for at, port in enumerate(ports, 1))
     count, size = len(frames), sum(map(len, frames))
-    print(f"{name:42} {count:8} frames {own_time:8.2f} s {count / own_time:9.0f} frames/s {size / own_time / 1e6:8.1f} MB/s "
+    print(f"{name:42} {count:8} frames {own_time:8.2f} s (opening {opening:6.2f} s) {count / own_time:9.0f} frames/s {size / own_time / 1e6:8.1f} MB/s "
           f"{own_memory:6.0f} MB | plain {flat_time:6.3f} s {flat_memory:5.0f} MB | ratio {own_time / flat_time:7.1f}"
           f" | {'same outputs' if same else 'OUTPUTS DIFFER'}", flush=True)
 
@@ -108,24 +142,114 @@ def sizes():
     for ports in (4, 16, 64):
         for size in (60, 1514):
             count = min(100_000, 60_000_000 // (size + 16))
-            measure(f"{ports} ports, {size} bytes, flooded", ports, flooded(count // ports * 4, ports, size))
-            measure(f"{ports} ports, {size} bytes, learned", ports, learned(count, ports, size, None, ports))
+            measure(f"{ports} ports, {size} bytes, flooded", one_extender(ports), flooded(count // ports * 4, ports, size))
+            measure(f"{ports} ports, {size} bytes, learned", one_extender(ports), learned(count, ports, size, None, ports))
 
 
 def vlans():
     for number in (1, 100, 4094):
-        measure(f"64 ports, {number} VLANs, 64 addresses", 64, learned(50_000, 64, 64, None if number == 1 else number, 64), number)
+        measure(f"64 ports, {number} VLANs, 64 addresses", one_extender(64), learned(50_000, 64, 64, None if number == 1 else number, 64), number)
     for addresses in (10, 1_000, 100_000):
         active = min(64, addresses)
-        measure(f"64 ports, 1 VLAN, {addresses} addresses", 64, learned(50_000, active, 60, None, addresses), active=active)
+        measure(f"64 ports, 1 VLAN, {addresses} addresses", one_extender(64), learned(50_000, active, 60, None, addresses), active=active)
     # A frame to all ports leaves but one here, so that the files stay small.
     for addresses in (10, 1_000_000):
-        measure(f"2 ports, 1 VLAN, {addresses} addresses", 2, learned(50_000, 2, 60, None, addresses))
+        measure(f"2 ports, 1 VLAN, {addresses} addresses", one_extender(2), learned(50_000, 2, 60, None, addresses))
+
+
+def mixed(count, ports, size):
+    """Of ten frames nine go from one address to another, and one to all."""
+    frames = learned(count, ports, size, None, ports)
+    for at in range(ports, len(frames), 10):
+        frames[at] = BROADCAST + frames[at][6:]
+    return frames
+
+
+def chain(count):
+    """Each extender on the port of the one before it; b2 and the last one's port are external."""
+    return Tree(2, [(1, "b1", 1)] + [(number, f"x{number - 1}.1", 1) for number in range(2, count + 1)])
+
+
+def beside(count):
+    """An extender of two ports, and so many others in a tree of their own, each with two ports."""
+    others = [(at + 1, f"x{at // 2 + 1}.{1 + at % 2}" if at > 1 else "b2", 2) for at in range(1, count + 1)]
+    return Tree(2, [(1, "b1", 2)] + others)
+
+
+def trees():
+    star = Tree(6, [(number, f"b{number}", 8) for number in range(1, 7)])
+    for name, tree in (("an extender of 48 ports", one_extender(48)), ("six extenders of 8 ports", star)):
+        measure(f"{name}, to one", tree, learned(100_000, 48, 64, None, 48))
+        measure(f"{name}, mixed", tree, mixed(50_000, 48, 64))
+        measure(f"{name}, to all", tree, flooded(10_000, 48, 64))
+    for count in (1, 8, 64):
+        measure(f"through {count} extenders", chain(count), learned(20_000, 2, 64, None, 2))
+    for count in (0, 63):
+        tree = beside(count)
+        tree.ports.sort(key=lambda port: not port.startswith("x1."))
+        measure(f"beside {count} extenders", tree, learned(50_000, 2, 64, None, 2), active=2)
+
+
+def wide():
+    """64 extenders: eight on ports of the bridge, and seven on each of these. b9 is the bridge's own."""
+    first = [(number, f"b{number}", 8) for number in range(1, 9)]
+    return Tree(9, first + [(8 + 7 * (above - 1) + port, f"x{above}.{port}", 2) for above in range(1, 9) for port in range(1, 8)])
+
+
+def orders(*them):
+    """The tables of commands, each an operation and the rest of its table, one each second."""
+    return "".join(f'[[command]]\nat = {at}\nop = "{op}"\n{rest}\n' for at, (op, rest) in enumerate(them, 1))
+
+
+def play(tree, tables, frames, turns=TURNS):
+    """The best time of runs in which frames come at one port, one each second, and whether they write what the plain bridge in
+    Python does."""
+    port = tree.ports[0]
+    write_captures([port], [], 1)
+    with open(f"in-{port}.pcap", "ab") as file:
+        for at, data in enumerate(frames):
+            file.write(struct.pack("<IIII", at, 0, len(data), len(data)) + data)
+    text = write_topology(tree, 300, tables, [port])
+    with open(f"in-{port}.pcap", "rb") as file:
+        written, line = bridge.run(text, {f"in-{port}.pcap": file.read()})
+    times = [run([PROGRAM, "run", "topology.toml"]) for _ in range(turns)]
+    for name, data in written.items():
+        with open(name, "rb") as file:
+            if file.read() != data:
+                return min(times), line, f"{name} DIFFERS"
+    return min(times), line, "same outputs"
+
+
+def cost(name, tree, tables, before, them, frames):
+    """What so many commands take, after others."""
+    (without, _), _, first = play(tree, tables + orders(*before), frames)
+    (whole, memory), line, second = play(tree, tables + orders(*before, *them), frames)
+    each = (whole - without) / len(them) * 1000
+    print(f"{name:42} {each:9.2f} ms each of {len(them):3} | run {whole:6.2f} s {memory:6.0f} MB | {first}, {second} | {line}", flush=True)
+
+
+def commands():
+    tree, tables = wide(), all_tagged(4094) + "\n"
+    frames = [frame(BROADCAST, address(1), vid, 64) for vid in (7, 4094) * 20]
+    some = [f"x{number}.1" for number in range(10, 26)]
+    down, up = ([(op, f'port = "{port}"') for port in some] for op in ("down", "up"))
+    member = [("member", f'vid = 7\nport = "{port}"\nkind = "untagged"') for port in some]
+    static = [("static", f'vid = 7\nmac = "02-00-00-00-01-{at:02}"\nports = ["x9.1", "{port}"]') for at, port in enumerate(some)]
+    for name, before, them in (("member", [], member), ("static", [], static), ("down", [], down), ("up", down, up)):
+        cost(f"4,094 VLANs, 64 extenders, {name}", tree, tables, before, them, frames)
+    # VLAN n has the ports of n's bits, and one port more that is in all.
+    sets = [[f'"x1.{bit + 1}"' for bit in range(12) if vid >> bit & 1] for vid in range(1, 4095)]
+    tables = "".join(f'[[vlan]]\nvid = {vid}\ntagged = [{", ".join(members)}, "x1.13"]\n' for vid, members in enumerate(sets, 1))
+    down, up = ("down", 'port = "x1.13"'), ("up", 'port = "x1.13"')
+    tree = Tree(2, [(1, "b2", 13)])
+    cost("a port in 4,094 VLANs, down", tree, tables, [], [down], frames[:10])
+    cost("a port in 4,094 VLANs, up", tree, tables, [down], [up], frames[:10])
 
 
 def costs():
-    write_captures(64, learned(5_000, 64, 60, None, 64) + flooded(640, 64, 60), 64)
-    write_topology(64, 1, 300)
+    tree = one_extender(64)
+    write_captures(tree.ports, learned(5_000, 64, 60, None, 64) + flooded(640, 64, 60), 64)
+    write_topology(tree)
     subprocess.run(["valgrind", "--tool=callgrind", "--callgrind-out-file=costs", PROGRAM, "run", "topology.toml"],
                    check=True, capture_output=True)
     text = subprocess.run(["callgrind_annotate", "costs"], check=True, capture_output=True, text=True).stdout
@@ -134,13 +258,18 @@ def costs():
 
 def main():
     # With no words the program says how it is called; the launcher builds it for that.
-    subprocess.run([f"{TOP}/exbr"], capture_output=True, check=False)
+    if "EXBR" not in os.environ:
+        subprocess.run([f"{TOP}/exbr"], capture_output=True, check=False)
     folder = tempfile.mkdtemp(prefix="exbr-bench-")
     try:
         subprocess.run(["cc", "-O2", "-o", f"{folder}/flat", f"{TOP}/bench/flat.c"], check=True)
         os.chdir(folder)
         if "--vlans" in sys.argv:
             vlans()
+        elif "--trees" in sys.argv:
+            trees()
+        elif "--commands" in sys.argv:
+            commands()
         elif "--costs" in sys.argv:
             costs()
         else:

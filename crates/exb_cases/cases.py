@@ -1,58 +1,28 @@
 #!/usr/bin/env python3
 """Writes the folder data/ and the file stdout of this crate: topologies, captures, and what a run of each must answer and write.
 
-The expected files come from what is said here of each case, which frames leave which port and when, and never from exbr. It knows
-the layout of a capture and of a frame, and nothing of how a bridge works. Run it in any folder: `crates/exb_cases/cases.py`.
+The expected files come from what is said here of each case, which frames leave which port and when, and never from exbr. Beside
+them stands a plain bridge (bridge.py), which has to come to the same in each case that is played to its end, and which alone says
+what comes of the cases that are too long to be told. Run it in any folder: `crates/exb_cases/cases.py` (Python 3.11 or later).
 """
 import os
+import re
 import shutil
 import struct
+import sys
 
+sys.dont_write_bytecode = True
 HERE = os.path.dirname(os.path.abspath(__file__))
-EXAMPLES = os.path.join(HERE, "..", "..", "examples")
+sys.path.insert(0, HERE)
+import bridge
+import changes
+import examples
+import generated
+import trees
+from frames import *
+
 DATA = os.path.join(HERE, "data")
-
-HEADER = struct.pack("<IHHIIII", 0xA1B2C3D4, 2, 4, 0, 0, 65535, 1)
-ALL = b"\xff" * 6
-ONE = b"\x02\x00\x00\x00\x00\x01"
-TWO = b"\x02\x00\x00\x00\x00\x02"
-PLAIN = b"\x08\x00"
 USAGE = "exbr: usage: exbr run TOPOLOGY"
-
-
-def frame(destination=ALL, source=ONE, rest=PLAIN, size=60):
-    """A frame: addresses, these bytes behind them, and zeros."""
-    return (destination + source + rest).ljust(size, b"\0")[:size]
-
-
-def tagged(vid, high=0, destination=ALL, source=ONE, size=64):
-    """A frame with a VLAN tag; `high` is PCP and DEI in the tag's first four bits."""
-    return frame(destination, source, b"\x81\x00" + struct.pack(">H", high << 12 | vid) + PLAIN, size)
-
-
-def capture(*records):
-    """A capture in microseconds. A record is a frame with its seconds."""
-    return HEADER + b"".join(
-        struct.pack("<IIII", int(at), round(at % 1 * 1_000_000), len(data), len(data)) + data for at, data in records
-    )
-
-
-def one_extender(ports, captures, bridge="ports = 1", more=""):
-    """The topology of an extender 1 on b1."""
-    return (
-        f"bridge = {{ {bridge}, out = 'FOLDER/out-' }}\nextender = [{{ number = 1, on = 'b1', ports = {ports} }}]\n{more}"
-        + "captures = { "
-        + ", ".join(f"'{port}' = 'FOLDER/{name}'" for port, name in captures.items())
-        + " }\n"
-    )
-
-
-def journal(*lines):
-    return "".join(f"{line}\n" for line in lines).encode()
-
-
-def summary(arrivals, relayed, ignored, left, commits=0, refusals=0):
-    return f"arrivals {arrivals} relayed {relayed} ignored {ignored} left {left} commits {commits} refusals {refusals}"
 
 
 class Cases:
@@ -80,12 +50,26 @@ class Cases:
         self.printed += [line.replace("FOLDER", name), f"{name}: {how}"]
 
     def runs(self, name, topology, captures, expected, line, before=None):
-        """A case that is played to its end. Frames of an expected capture are given as records."""
+        """A case that is played to its end. Frames of an expected capture are given as records. A port without frames has no capture here."""
+        written, printed = self.plays(name, topology, captures, before)
         whole = {file: capture(*data) if isinstance(data, list) else data for file, data in expected.items()}
+        silent = {file: HEADER for file in written if file.endswith(".pcap")}
+        for file, data in (silent | whole).items():
+            if written.get(file) != data:
+                sys.exit(f"{name}: the plain bridge comes to another {file}: {written.get(file)} {data}")
+        if printed != line:
+            sys.exit(f"{name}: the plain bridge comes to {printed}")
+
+    def plays(self, name, topology, captures, before=None):
+        """A case that is played to its end, of which the plain bridge alone says what comes of it."""
         given = {file: capture(*data) if isinstance(data, list) else data for file, data in captures.items()}
+        files = {f"{name}/{file}": data for file, data in given.items()}
+        written, line = bridge.run(topology.replace("FOLDER", name), files)
+        written = {file.removeprefix(f"{name}/"): data for file, data in written.items()}
         self.put(name, {"topology.toml": topology, **given, **(before or {})})
-        self.put(name, {f"expected/{file}": data for file, data in whole.items()})
-        self.end(name, 0, "run FOLDER/topology.toml", sorted(whole), line)
+        self.put(name, {f"expected/{file}": data for file, data in written.items()})
+        self.end(name, 0, "run FOLDER/topology.toml", sorted(written), line)
+        return written, line
 
     def stops(self, name, status, topology, captures, line, words="run FOLDER/topology.toml"):
         """A case that makes no file."""
@@ -99,32 +83,9 @@ class Cases:
             out.write("".join(f"{line}\n" for line in self.printed))
 
 
-F = frame()
 A = {"x1.1": "a.pcap"}
 AB = {"x1.1": "a.pcap", "x1.2": "b.pcap"}
 TWO_PORTS = one_extender(2, A)
-UP = ["up x1.1", "up x1.2", "settled"]
-UP3 = ["up x1.1", "up x1.2", "up x1.3", "settled"]
-
-
-def relays(*ports_and_numbers):
-    """The lines of frames that are relayed without a tick between them."""
-    return [line for it in ports_and_numbers for line in (f"relay {it}", "settled")]
-
-
-def examples(cases):
-    """The examples of the repository, with the folder in the names of their files."""
-    for name, line in [("first-path", summary(1, 1, 0, 3)), ("office", summary(7, 6, 1, 8))]:
-        folder = os.path.join(EXAMPLES, name)
-        with open(os.path.join(folder, "topology.toml"), encoding="utf-8") as it:
-            topology = it.read().replace('"in-', '"FOLDER/in-').replace("[bridge]\n", "[bridge]\nout = 'FOLDER/out-'\n")
-        given, expected = {}, {}
-        for where, files in [(folder, given), (os.path.join(folder, "expected"), expected)]:
-            for file in sorted(os.listdir(where)):
-                if file.endswith(".pcap") and file.startswith("in-" if where == folder else "out-") or file == "out-journal.txt" and where != folder:
-                    with open(os.path.join(where, file), "rb") as it:
-                        files[file] = it.read()
-        cases.runs(name, topology, given, expected, line)
 
 
 def frames(cases):
@@ -275,23 +236,35 @@ def faults(cases):
 
 def not_built(cases):
     """Topologies that can be read and not yet played."""
-    isolated, static = "port = [{ name = 'x1.1', isolated = true }]\n", "static = [{ vid = 1, mac = '02-00-00-00-00-01', ports = [] }]\n"
-    command, fate = "command = [{ at = 0, op = 'down', port = 'x1.1' }]\n", "links = { fate = 'P' }\n"
-    for name, topology in [
-        ("no-extender", "bridge = { ports = 1, out = 'FOLDER/out-' }\n"),
-        ("two-extenders", "bridge = { ports = 2, out = 'FOLDER/out-' }\n"
-                          "extender = [{ number = 1, on = 'b1', ports = 2 }, { number = 2, on = 'b2', ports = 2 }]\n"),
-        ("three-groups", one_extender(2, A, bridge="ports = 1, groups = 3")),
-        ("nine-channels", one_extender(2, A, bridge="ports = 1, channels = 9")),
-        ("isolated-port", one_extender(2, A, more=isolated)), ("static-entry", one_extender(2, A, more=static)),
-        ("a-command", one_extender(2, A, more=command)), ("a-fate", one_extender(2, A, more=fate)),
-    ]:
-        cases.stops(name, 8, topology, {"a.pcap": HEADER}, "exbr: not built")
+    fate, later = "links = { fate = 'P' }\n", "command = [{ at = 0, op = 'down', port = 'x1.1', fate = 'L' }]\n"
+    for name, more in [("a-fate", fate), ("fate-of-a-command", later)]:
+        cases.stops(name, 8, one_extender(2, A, more=more), {"a.pcap": HEADER}, "exbr: not built")
+
+
+def agree_with_tables():
+    """The plain bridge comes to what the tables of `exb_flat_tests` say, which were written for another one."""
+    with open(os.path.join(HERE, "..", "exb_flat_tests", "src", "outcomes.rt"), encoding="utf-8") as it:
+        tables = re.findall(r'\(\s*"([^"]*)",\s*"([^"]*)",\s*"([^"]*)",?\s*\)', it.read())
+    for topology, given, wanted in tables:
+        records = {}
+        for port, second, length, head in (it.split() for it in given.split(";") if it):
+            data = bytes.fromhex(head).ljust(int(length), b"\0")
+            records.setdefault(int(port), []).append((int(second) * bridge.SECOND, data))
+        played = bridge.Bridge(topology.replace("\\n", "\n"))
+        played.play(records)
+        told = list(played.journal)
+        for port, left in played.left.items():
+            words = [f"{moment // bridge.SECOND}/{len(data)}/{data[12:16].hex().upper()}" for moment, data in left]
+            told += [" ".join([bridge.name_of(port), *words])] if left else []
+        if " ".join(f"{it};" for it in told) != wanted:
+            sys.exit(f"the plain bridge comes to {told}, and the tables of exb_flat_tests to {wanted}")
+    return len(tables)
 
 
 def main():
+    print(f"{agree_with_tables()} cases of exb_flat_tests come to the same")
     cases = Cases()
-    for part in (examples, frames, vlans, files, faults, not_built):
+    for part in (examples.play, frames, vlans, files, *trees.PARTS, *changes.PARTS, *generated.PARTS, faults, not_built):
         part(cases)
     cases.write()
 

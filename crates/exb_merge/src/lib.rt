@@ -4,9 +4,11 @@
 //! It stands on `exb_model` and `exb_pcap`.
 #![tactic(auto)]
 
+mod agenda;
 mod captures;
 pub mod laws;
 mod source;
 
+pub use agenda::{Agenda, Due};
 pub use captures::Captures;
 pub use source::Coming;

@@ -8,8 +8,8 @@ use exb_model::memory::NoMemory;
 use exb_model::port::PortId;
 use exb_model::text::Text;
 use exb_pcap::PcapFault;
+use exb_schedule::WorldFault;
 use exb_shelf::ShelfFault;
-use exb_world::WorldFault;
 
 /// What is wrong with a capture that is there.
 #[derive(Clone, Copy, Debug, PartialEq, Eq)]

@@ -13,10 +13,10 @@ use crate::plan::Plan;
 use exb_model::event::Event;
 use exb_model::memory::NoMemory;
 use exb_pcap::{header_text, record_text};
+use exb_schedule::Left;
 use exb_shelf::{PIECE, Shelf, write_text};
 use exb_text::laws::{capture_names_differ, no_capture_is_the_journal};
 use exb_text::{capture_file_name, journal_file_name, write_line};
-use exb_world::Left;
 use std::alloc::Global;
 
 /// The outputs: the capture of each port, and last the journal. Each has the id of its file and a piece of

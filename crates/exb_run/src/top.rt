@@ -58,7 +58,7 @@ fn run_topology<S: Shelf>(
     merge_of_chosen();
     let captures = read_captures(alloc, shelf, topology.captures.as_slice())?;
     let plan = Plan::new(alloc, &topology.setup, topology.prefix.as_str())?;
-    play(alloc, shelf, &plan, &topology.setup, captures.as_slice())
+    play(alloc, shelf, &plan, topology, captures.as_slice())
 }
 
 /// Does all but print: reads the topology that the words name, and runs it.

@@ -5,6 +5,7 @@
 mod draws;
 #[cfg(test)]
 mod hostile;
+mod orders;
 mod site;
 mod stations;
 mod tables;

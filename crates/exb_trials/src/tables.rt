@@ -1,5 +1,6 @@
 //! The topology file of a trial.
-use crate::draws::{draw, draw_byte, draw_vlan};
+use crate::draws::{draw, draw_byte, draw_switch, draw_vlan};
+use crate::orders::add_commands;
 use crate::site::Site;
 use exb_model::memory::NoMemory;
 use exb_model::port::PortId;
@@ -10,36 +11,70 @@ use std::alloc::Global;
 /// The VLANs that trials may have.
 const VLANS: [u16; 4] = [1, 2, 10, 4094];
 
-/// The tables of bridge and extender.
-fn tree(alloc: Global, rng: &mut Lcg64Xsh32, site: &Site) -> Result<String, NoMemory> {
+/// How many channels there are: mostly enough, and always one for each extender and one more.
+fn channels(rng: &mut Lcg64Xsh32, site: &Site) -> u64 {
+    match draw(rng, 3) {
+        0 => (site.extenders.len() as u64).saturating_add(1 + u64::from(draw(rng, 6))),
+        _ => 4094,
+    }
+}
+
+/// How many groups there are: few, some, or enough.
+fn groups(rng: &mut Lcg64Xsh32) -> u32 {
+    match draw(rng, 4) {
+        0 => 2 + draw(rng, 6),
+        1 => 6 + draw(rng, 12),
+        _ => 12288,
+    }
+}
+
+/// The table of the bridge.
+fn bridge(alloc: Global, rng: &mut Lcg64Xsh32, site: &Site) -> Result<String, NoMemory> {
     let ageing = match draw(rng, 4) {
         0 => 0,
         1 => 300,
         _ => 10 + draw_byte(rng, 10) as u16,
     };
-    let Site {
-        local,
-        number,
-        on,
-        extended,
-    } = site;
+    let local = site.local;
+    let channels = channels(rng, site);
+    let groups = groups(rng);
     let text = format!(in alloc;
-        "[bridge]\nports = {local}\nageing = {ageing}\n[[extender]]\nnumber = {number}\non = \"b{on}\"\nports = {extended}\n"
+        "[bridge]\nports = {local}\nageing = {ageing}\nchannels = {channels}\ngroups = {groups}\n"
     )?;
     Ok(text)
 }
 
-/// The rules of a port.
-fn rules(alloc: Global, rng: &mut Lcg64Xsh32, port: PortId) -> Result<String, NoMemory> {
-    let accept = match draw(rng, 4) {
+/// The tables of the extenders.
+fn add_extenders(alloc: Global, site: &Site, text: &mut String) -> Result<(), NoMemory> {
+    for hung in &site.extenders {
+        let number = hung.number;
+        let ports = hung.ports;
+        let table = format!(in alloc;
+            "[[extender]]\nnumber = {number}\non = \"{}\"\nports = {ports}\n",
+            PortName(hung.on)
+        )?;
+        text.push_str(table.as_str())?;
+    }
+    Ok(())
+}
+
+/// What a port accepts.
+pub(crate) fn draw_accept(rng: &mut Lcg64Xsh32) -> &'static str {
+    match draw(rng, 4) {
         0 => "tagged",
         1 => "untagged",
         _ => "all",
-    };
+    }
+}
+
+/// The rules of a port.
+fn rules(alloc: Global, rng: &mut Lcg64Xsh32, port: PortId) -> Result<String, NoMemory> {
+    let accept = draw_accept(rng);
     let vlan = draw_vlan(rng);
-    let filter = draw(rng, 2) == 0;
+    let filter = draw_switch(rng);
+    let isolated = draw_switch(rng);
     let text = format!(in alloc;
-        "[[port]]\nname = \"{}\"\npvid = {vlan}\naccept = \"{accept}\"\nfilter = {filter}\n",
+        "[[port]]\nname = \"{}\"\npvid = {vlan}\naccept = \"{accept}\"\nfilter = {filter}\nisolated = {isolated}\n",
         PortName(port)
     )?;
     Ok(text)
@@ -62,7 +97,11 @@ fn add_rules(
 }
 
 /// Some of the ports, each in quotes and with a comma behind it.
-fn some_of(alloc: Global, rng: &mut Lcg64Xsh32, ports: &[PortId]) -> Result<String, NoMemory> {
+pub(crate) fn some_of(
+    alloc: Global,
+    rng: &mut Lcg64Xsh32,
+    ports: &[PortId],
+) -> Result<String, NoMemory> {
     let mut text = String::new(alloc);
     for port in ports {
         if draw(rng, 5) < 2 {
@@ -93,10 +132,39 @@ fn add_vlans(
     Ok(())
 }
 
-/// A capture for each port.
-fn add_captures(alloc: Global, ports: &[PortId], text: &mut String) -> Result<(), NoMemory> {
+/// The address of a station or of a group.
+pub(crate) fn draw_address(rng: &mut Lcg64Xsh32) -> &'static str {
+    match draw(rng, 3) {
+        0 => "01-00-5E-00-00-01",
+        1 => "02-00-00-00-00-03",
+        _ => "02-00-00-00-00-05",
+    }
+}
+
+/// A static entry in some of the VLANs.
+fn add_statics(
+    alloc: Global,
+    rng: &mut Lcg64Xsh32,
+    ports: &[PortId],
+    text: &mut String,
+) -> Result<(), NoMemory> {
+    for vlan in VLANS {
+        if draw(rng, 3) == 0 {
+            let address = draw_address(rng);
+            let places = some_of(alloc, rng, ports)?;
+            let table = format!(in alloc;
+                "[[static]]\nvid = {vlan}\nmac = \"{address}\"\nports = [{places}]\n"
+            )?;
+            text.push_str(table.as_str())?;
+        }
+    }
+    Ok(())
+}
+
+/// A capture for each port that speaks.
+fn add_captures(alloc: Global, speaking: &[PortId], text: &mut String) -> Result<(), NoMemory> {
     text.push_str("[captures]\n")?;
-    for port in ports {
+    for port in speaking {
         let name = PortName(*port);
         let line = format!(in alloc; "\"{name}\" = \"in-{name}.pcap\"\n")?;
         text.push_str(line.as_str())?;
@@ -104,19 +172,33 @@ fn add_captures(alloc: Global, ports: &[PortId], text: &mut String) -> Result<()
     Ok(())
 }
 
-/// The topology file of a tree with these external ports: any rules of ports, any members of VLANs, and a
-/// capture for each port.
+/// What is set before anything happens: any rules of ports, any members of VLANs, any static entries.
+fn add_start(
+    alloc: Global,
+    rng: &mut Lcg64Xsh32,
+    ports: &[PortId],
+    text: &mut String,
+) -> Result<(), NoMemory> {
+    add_rules(alloc, rng, ports, text)?;
+    if draw(rng, 5) > 0 {
+        add_vlans(alloc, rng, ports, text)?;
+    }
+    add_statics(alloc, rng, ports, text)
+}
+
+/// The topology file of a tree: what is set at the start, some commands, and a capture for each port that
+/// speaks.
 pub(crate) fn topology_of(
     alloc: Global,
     rng: &mut Lcg64Xsh32,
     site: &Site,
-    ports: &[PortId],
+    speaking: &[PortId],
 ) -> Result<String, NoMemory> {
-    let mut text = tree(alloc, rng, site)?;
-    add_rules(alloc, rng, ports, &mut text)?;
-    if draw(rng, 5) > 0 {
-        add_vlans(alloc, rng, ports, &mut text)?;
-    }
-    add_captures(alloc, ports, &mut text)?;
+    let ports = site.ports.as_slice();
+    let mut text = bridge(alloc, rng, site)?;
+    add_extenders(alloc, site, &mut text)?;
+    add_start(alloc, rng, ports, &mut text)?;
+    add_commands(alloc, rng, ports, &mut text)?;
+    add_captures(alloc, speaking, &mut text)?;
     Ok(text)
 }

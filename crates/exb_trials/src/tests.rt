@@ -11,40 +11,38 @@ use std::alloc::Global;
 use std::process::Abort;
 use std::test::Fail;
 
-/// The capture at a place. Behind the last it is an empty file, which has no frames.
-fn capture_at(trial: &Trial, at: usize) -> Capture<'_> {
-    let port = match trial.ports.get(at) {
-        Some(port) => *port,
-        None => PortId::default(),
-    };
-    let file = match trial.captures.get(at) {
-        Some(file) => file.as_slice(),
-        None => &[],
-    };
-    Capture { port, file }
+/// The captures of a trial, each with its port.
+fn captures_of<'a>(
+    alloc: Global,
+    ports: &[PortId],
+    files: &'a [Vec<u8>],
+) -> Result<Vec<Capture<'a>>, Fail> {
+    let mut captures = Vec::new(alloc);
+    for (port, file) in ports.iter().zip(files) {
+        captures.push(Capture {
+            port: *port,
+            file: file.as_slice(),
+        })?;
+    }
+    Ok(captures)
 }
 
 /// What the plain bridge makes of a trial.
-fn plain(alloc: Global, trial: &Trial) -> Result<Outcome, Fail> {
+fn plain(rt: &impl Abort, alloc: Global, trial: &Trial) -> Result<Outcome, Fail> {
     let topology = read(alloc, trial.topology.as_bytes())?;
-    let captures = [
-        capture_at(trial, 0),
-        capture_at(trial, 1),
-        capture_at(trial, 2),
-        capture_at(trial, 3),
-        capture_at(trial, 4),
-        capture_at(trial, 5),
-    ];
-    Ok(flat_outcome(alloc, &topology.setup, &[], &captures)?)
+    let captures = captures_of(alloc, trial.speaking.as_slice(), trial.captures.as_slice())?;
+    let commands = topology.commands.as_slice();
+    assert!(rt; commands.len() < 100);
+    Ok(flat_outcome(alloc, &topology.setup, commands, captures.as_slice())?)
 }
 
 /// A shelf with the topology and the captures of a trial.
 fn shelf_of(alloc: Global, trial: &Trial) -> Result<MemShelf, Fail> {
     let mut shelf = MemShelf::new(alloc, &[])?;
     shelf.put("trial.toml", trial.topology.as_bytes())?;
-    for (at, port) in trial.ports.iter().enumerate() {
+    for (port, file) in trial.speaking.iter().zip(&trial.captures) {
         let name = capture_file_name(alloc, "in-", *port)?;
-        shelf.put(name.as_str(), capture_at(trial, at).file)?;
+        shelf.put(name.as_str(), file.as_slice())?;
     }
     Ok(shelf)
 }
@@ -75,46 +73,67 @@ fn expect_same(
     Ok(())
 }
 
-/// The trials of these numbers: each run writes and prints what the plain bridge does.
-fn expect_trials(rt: &impl Abort, alloc: Global, first: u64, last: u64) -> Result<(), Fail> {
-    for number in first..last {
-        let trial = Trial::new(alloc, number)?;
-        let mut shelf = shelf_of(alloc, &trial)?;
-        let mut out = MemSink::new(alloc, &[])?;
-        assert_eq!(rt; run(alloc, &words(alloc)?, &mut shelf, &mut out), 0);
-        let want = plain(alloc, &trial)?;
-        assert_eq!(rt; want.captures.len(), trial.ports.len());
-        expect_same(rt, alloc, &shelf, &out, &want)?;
+/// A trial: its run writes and prints what the plain bridge does.
+fn expect_trial(rt: &impl Abort, alloc: Global, number: u64, extenders: u8) -> Result<(), Fail> {
+    let trial = Trial::new(alloc, number, extenders)?;
+    let mut shelf = shelf_of(alloc, &trial)?;
+    let mut out = MemSink::new(alloc, &[])?;
+    assert_eq!(rt; run(alloc, &words(alloc)?, &mut shelf, &mut out), 0);
+    let want = plain(rt, alloc, &trial)?;
+    expect_same(rt, alloc, &shelf, &out, &want)
+}
+
+/// Trials over trees of so many extenders, up to so many.
+fn expect_trials(
+    rt: &impl Abort,
+    alloc: Global,
+    first: u64,
+    fewest: u8,
+    most: u8,
+) -> Result<(), Fail> {
+    for extenders in fewest..most {
+        expect_trial(
+            rt,
+            alloc,
+            first.wrapping_add(u64::from(extenders)),
+            extenders,
+        )?;
     }
     Ok(())
 }
 
 #[test]
-fn the_first_six_runs_write_what_the_plain_bridge_sends(rt: HostRuntime) -> Result<(), Fail> {
-    expect_trials(&rt, rt.alloc(), 0, 6)
+fn runs_over_no_extender_and_few_write_what_the_plain_bridge_sends(
+    rt: HostRuntime,
+) -> Result<(), Fail> {
+    expect_trials(&rt, rt.alloc(), 0, 0, 6)
 }
 
 #[test]
-fn the_second_six_runs_write_what_the_plain_bridge_sends(rt: HostRuntime) -> Result<(), Fail> {
-    expect_trials(&rt, rt.alloc(), 6, 12)
+fn other_runs_over_few_extenders_write_what_the_plain_bridge_sends(
+    rt: HostRuntime,
+) -> Result<(), Fail> {
+    expect_trials(&rt, rt.alloc(), 100, 1, 6)
 }
 
 #[test]
-fn the_third_six_runs_write_what_the_plain_bridge_sends(rt: HostRuntime) -> Result<(), Fail> {
-    expect_trials(&rt, rt.alloc(), 12, 18)
+fn runs_over_some_extenders_write_what_the_plain_bridge_sends(rt: HostRuntime) -> Result<(), Fail> {
+    expect_trials(&rt, rt.alloc(), 200, 6, 11)
 }
 
 #[test]
-fn the_fourth_six_runs_write_what_the_plain_bridge_sends(rt: HostRuntime) -> Result<(), Fail> {
-    expect_trials(&rt, rt.alloc(), 18, 24)
+fn runs_over_more_extenders_write_what_the_plain_bridge_sends(rt: HostRuntime) -> Result<(), Fail> {
+    expect_trials(&rt, rt.alloc(), 300, 11, 14)
 }
 
 #[test]
-fn the_fifth_six_runs_write_what_the_plain_bridge_sends(rt: HostRuntime) -> Result<(), Fail> {
-    expect_trials(&rt, rt.alloc(), 24, 30)
+fn a_run_over_many_extenders_writes_what_the_plain_bridge_sends(
+    rt: HostRuntime,
+) -> Result<(), Fail> {
+    expect_trial(&rt, rt.alloc(), 400, 30)
 }
 
 #[test]
-fn the_sixth_six_runs_write_what_the_plain_bridge_sends(rt: HostRuntime) -> Result<(), Fail> {
-    expect_trials(&rt, rt.alloc(), 30, 36)
+fn a_run_over_64_extenders_writes_what_the_plain_bridge_sends(rt: HostRuntime) -> Result<(), Fail> {
+    expect_trial(&rt, rt.alloc(), 500, 64)
 }

@@ -1,6 +1,5 @@
 //! Inputs by the number of a trial.
-ghost use Rattle.std.specs.Prelude.{◌≡◌, ◌≤◌, length, IfOk};
-
+use crate::draws::draw_place;
 use crate::site::Site;
 use crate::stations::capture;
 use crate::tables::topology_of;
@@ -10,35 +9,59 @@ use rand_core::SeedableRng;
 use rand_pcg::Lcg64Xsh32;
 use std::alloc::Global;
 
+/// How many ports speak, more or less, where there are more of them.
+const SPEAKING: usize = 10;
+
 /// A topology that can be played, and what arrives at its external ports.
 #[derive(Drop)]
 pub struct Trial {
-    /// The topology file. It names for each external port a capture `in-PORT.pcap`.
+    /// The topology file. It names for each port that speaks a capture `in-PORT.pcap`.
     pub topology: String,
-    /// The external ports, in port order.
-    pub ports: Vec<PortId>,
-    /// The capture of each port, in port order.
+    /// The external ports that speak.
+    pub speaking: Vec<PortId>,
+    /// The capture of each of these ports.
     pub captures: Vec<Vec<u8>>,
 }
 
-impl Trial {
-    /// The trial of a number.
-    pub fn new(alloc: Global, number: u64) -> Result<Trial, NoMemory>
-        ensures some { IfOk result (λ trial. 1 ≤ length trial.ports.items) }
-        ensures few { IfOk result (λ trial. length trial.ports.items ≤ 6) }
-        ensures captures { IfOk result (λ trial. length trial.captures.items ≡ length trial.ports.items) }
-    {
-        let mut rng = Lcg64Xsh32::seed_from_u64(number);
-        let site = Site::draw(&mut rng);
-        let ports = site.ports(alloc)?;
-        let topology = topology_of(alloc, &mut rng, &site, ports.as_slice())?;
-        let mut captures = Vec::new(alloc);
-        for port in &ports {
-            captures.push(capture(alloc, &mut rng, *port)?)?;
+/// All of a few ports, and some of many.
+fn speaking_of(
+    alloc: Global,
+    rng: &mut Lcg64Xsh32,
+    ports: &[PortId],
+) -> Result<Vec<PortId>, NoMemory> {
+    let mut speaking = Vec::new(alloc);
+    for port in ports {
+        if draw_place(rng, ports.len()) < SPEAKING {
+            speaking.push(*port)?;
         }
+    }
+    Ok(speaking)
+}
+
+/// A capture for each of these ports.
+fn captures_of(
+    alloc: Global,
+    rng: &mut Lcg64Xsh32,
+    ports: &[PortId],
+) -> Result<Vec<Vec<u8>>, NoMemory> {
+    let mut captures = Vec::new(alloc);
+    for port in ports {
+        captures.push(capture(alloc, rng, *port)?)?;
+    }
+    Ok(captures)
+}
+
+impl Trial {
+    /// The trial of a number: any input over a tree of so many extenders.
+    pub fn new(alloc: Global, number: u64, extenders: u8) -> Result<Trial, NoMemory> {
+        let mut rng = Lcg64Xsh32::seed_from_u64(number);
+        let site = Site::draw(alloc, &mut rng, extenders)?;
+        let speaking = speaking_of(alloc, &mut rng, site.ports.as_slice())?;
+        let topology = topology_of(alloc, &mut rng, &site, speaking.as_slice())?;
+        let captures = captures_of(alloc, &mut rng, speaking.as_slice())?;
         Ok(Trial {
             topology,
-            ports,
+            speaking,
             captures,
         })
     }
