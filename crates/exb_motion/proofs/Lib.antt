@@ -3,11 +3,11 @@ pub mod Rising
 mod Naming
 pub mod Histories
 mod Deciding
-mod Jobs
+pub mod Jobs
 pub mod Keeping
 pub mod Standing
-mod Pairs
-mod Marks
+pub mod Pairs
+pub mod Marks
 mod Telling
 pub mod Going
 mod Ticks

@@ -88,3 +88,5 @@ mod Copies
 mod TellsNumbers
 pub mod Playing
 pub mod UnderWay
+-- how much was told and has left
+mod Counted

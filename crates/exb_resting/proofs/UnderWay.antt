@@ -55,7 +55,7 @@ module _ (round : TagRoundTrip) (words : SendsAreWords) (leave : SendsLeaveAsFla
     perm : IsPermutation (arrivals_of (given_in (marked_each (k.first ∷ k.plays)))) (arrivals_in so_far)
     perm = plays_arrivals (tree_of i) (bounds_of i) (basis_in i) (nothing_given ∷ so_far) (k.first ∷ k.plays) (begin_of i) k.play
 
-    passed : Passes (tree_of i) (begin_of i) done.world (seconds_in (marked_each (k.first ∷ k.plays))) done.left
+    pub passed : Passes (tree_of i) (begin_of i) done.world (seconds_in (marked_each (k.first ∷ k.plays))) done.left
     passed =
         let begun = start round words leave law stay m i so_far done k in
         subst (λ (z : Stepped). Passes (tree_of i) (begin_of i) z.world (seconds_in (marked_each (k.first ∷ k.plays))) z.left) (sym k.is)

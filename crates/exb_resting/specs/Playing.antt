@@ -1,5 +1,5 @@
 -- Runs that play the segments of an input, one after another, and what is known of them.
-use Rattle.std.specs.Prelude.{◌≡◌, ℕ, ◌+◌, ◌≤◌, ◌==◌, true, List, [], ◌∷◌, length, filter, filter_map, flat_map, sum_by, All, Contains}
+use Rattle.std.specs.Prelude.{◌≡◌, ℕ, ◌+◌, ◌*◌, ◌≤◌, ◌==◌, true, List, [], ◌∷◌, length, filter, filter_map, flat_map, fold, sum_by, All, Contains}
 use Rattle.exb_model.specs.FlatBridge.{flat}
 use Rattle.exb_model.specs.History.{◌then◌, command_of}
 use Rattle.exb_model.specs.Input.{Input, Arrival, Segment, Mode, Eager, Seeded, basis_of, tree_of, bounds_of, segments}
@@ -7,6 +7,8 @@ use Rattle.exb_model.specs.EagerHistory.{eager}
 use Rattle.exb_model.specs.LegalHistory.{Legal}
 use Rattle.exb_model.specs.Lists.{Pairwise}
 use Rattle.exb_model.specs.Setup.{IsValid, start_of}
+use Rattle.exb_model.specs.declared.event.Event.{Event}
+use Rattle.exb_model.specs.Texts.{Counts, counted}
 use Rattle.exb_model.specs.Tree.{is_external}
 use Rattle.exb_machine.specs.Settling.{run}
 use Rattle.exb_machine.specs.Stepping.{Stepped}
@@ -63,6 +65,23 @@ pub record IsUnderWay (i : Input) (so_far : List Segment) (done : Stepped) : Typ
 
 abbrev pub RunsAreUnderWay : Type 0
 RunsAreUnderWay = (m : Mode) (i : Input) (so_far : List Segment) (done : Stepped) → PlaysIn m i so_far done → IsUnderWay i so_far done
+
+-- ---- how much
+abbrev pub none_counted : Counts
+none_counted = record { relayed = 0; ignored = 0; left = 0; commits = 0; refusals = 0 }
+
+abbrev pub counted_in : List Event → Counts
+counted_in events = fold (λ (c : Counts) (e : Event). counted e c) none_counted events
+
+-- Each arrival was relayed or ignored, once; each command took effect or was refused, once; and of each arrival at most one
+-- frame has left a port.
+pub record AreFew (i : Input) (so_far : List Segment) (done : Stepped) : Type 0 where
+  pub entered : (counted_in done.events).relayed + (counted_in done.events).ignored ≡ length (arrivals_in so_far)
+  pub decided : (counted_in done.events).commits + (counted_in done.events).refusals ≡ length (flat_map (λ (s : Segment). filter_map (command_of (basis_of i)) s.commands) so_far)
+  pub left : length done.left ≤ 4160 * length (arrivals_in so_far)
+
+abbrev pub RunsAreFew : Type 0
+RunsAreFew = (m : Mode) (i : Input) (so_far : List Segment) (done : Stepped) → PlaysIn m i so_far done → AreFew i so_far done
 
 -- ---- the whole
 -- Where all segments are played a history was told that the input allows, and what has left each external port is what the one

@@ -1,7 +1,7 @@
 //! What is true of rounds and of settling.
 ghost use Rattle.exb_resting.specs.Laws.{SetupsHaveFacts, SettlingEnds, RoundsSpend, RoundsPlanNothing, RoundsDeliver, WindowsGetOn, OrderKeepsFacts, TurnsAreOrderly, SetupsBeginGoing};
 ghost use Rattle.exb_resting.specs.Settles.{RunsAreReady, RunsStayLow, Settles, SettlingAlwaysPlays};
-ghost use Rattle.exb_resting.specs.Playing.{RunsAreUnderWay, RunsWriteLegally, RunsWriteEagerly};
+ghost use Rattle.exb_resting.specs.Playing.{RunsAreFew, RunsAreUnderWay, RunsWriteLegally, RunsWriteEagerly};
 
 use exb_change_laws::laws::steps_tell;
 use exb_frame::laws::tag_round_trip;
@@ -124,6 +124,19 @@ pub fn runs_are_under_way()
     sends_leave_as_flat();
     steps_tell();
     steps_stay_written();
+}
+
+/// In such a run each arrival was relayed or ignored, once, each command took effect or was refused, once, and of each arrival at
+/// most one frame has left a port.
+pub fn runs_are_few()
+    ensures { RunsAreFew }
+{
+    tag_round_trip();
+    sends_are_words();
+    sends_leave_as_flat();
+    steps_tell();
+    steps_stay_written();
+    settled_is_orderly();
 }
 
 /// A run that has played all segments of an input, in the eager mode or in a seeded one, told a history that the input allows, and
