@@ -9,3 +9,4 @@ mod Resting
 mod Segments
 mod Reaching
 mod Going
+mod Played

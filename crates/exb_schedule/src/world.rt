@@ -13,7 +13,7 @@ ghost use Rattle.exb_network.specs.Networks.{world_of, tree_of, bounds_of, step_
 ghost use Rattle.exb_network.specs.Steps.{way_of};
 ghost use Rattle.exb_network.specs.Turns.{order_of, IsTurn};
 ghost use Rattle.exb_resting.specs.Settles.{MayTake};
-ghost use Rattle.exb_schedule.specs.Reached.{Reached};
+ghost use Rattle.exb_schedule.specs.Reached.{IsReached};
 
 use crate::facts::{are_bytes, name_vlans, names_vlan};
 use exb_link::Counts;
@@ -132,7 +132,7 @@ impl World {
 
     /// That a run of a valid setup comes to this world, as a fact for whoever calls this. It does nothing.
     pub fn is_reached(&self)
-        ensures { self.now.failed ≡ false → Reached self.now }
+        ensures { IsReached self.now }
     {
         let _ = &self.network;
     }
