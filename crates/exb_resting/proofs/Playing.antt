@@ -53,7 +53,7 @@ module _ (round : TagRoundTrip) (words : SendsAreWords) (leave : SendsLeaveAsFla
         subst (λ (z : Stepped). Kept (tree_of i) (bounds_of i) (basis_of i.setup) z.world (given_in (marked_each (k.first ∷ k.plays))) ([] then z.events) z.left) (sym k.is)
         (runs_kept round words leave law (tree_of i) (bounds_of i) (basis_of i.setup) start (marked_each (k.first ∷ k.plays)) (begin_of i) [] [] [] (begins_kept (tree_of i) (bounds_of i) (basis_of i.setup) start) may_all)
 
-    settled : IsSettled (tree_of i) done.world
+    pub settled : IsSettled (tree_of i) done.world
     settled =
         let t : Shape = tree_of i in
         let l : Limits = bounds_of i in
