@@ -11,7 +11,8 @@ pub mod Marks
 mod Telling
 pub mod Going
 mod Ticks
-mod InFile
+pub mod InFile
+pub mod AllCame
 mod Opening
 mod Numbers
 pub mod Playing

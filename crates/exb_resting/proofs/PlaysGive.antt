@@ -5,7 +5,7 @@ use Rattle.std.proofs.lemmas.Bool.{cases_Bool, eqb-true}
 use Rattle.std.proofs.lemmas.List.{append-nil}
 use Rattle.std.proofs.lemmas.List.Elements.{filter_map-append}
 use Rattle.std.proofs.lemmas.List.Sorted.{sum_by-IsPermutation, IsPermutation-refl, IsPermutation-append}
-use Rattle.std.proofs.lemmas.List.Sums.{sum_by-append, sum_by-cons}
+use Rattle.std.proofs.lemmas.List.Sums.{length-filter, sum_by-append, sum_by-cons}
 use Rattle.exb_model.specs.declared.command.Command.{Command}
 use Rattle.exb_model.specs.History.{Basis, command_of}
 use Rattle.exb_model.specs.Input.{Arrival, Segment}
@@ -111,15 +111,5 @@ port_arrivals p [] = refl
 port_arrivals p (Told c ∷ g) = port_arrivals p g
 port_arrivals p (Came a ∷ g) = elim (cases_Bool (a.port == p)) [ inl e ↦ rw e (ap (λ (xs : List Arrival). a ∷ xs) (port_arrivals p g)) | inr e ↦ rw e (port_arrivals p g) ]
 
-filtered : {A : Type 0} (test : A → Bool) (xs : List A) → length (filter test xs) ≡ sum_by (λ (x : A). cond (test x) 1 0) xs
-filtered test [] = refl
-filtered {A} test (x ∷ xs) =
-    let sums = sum_by-cons (λ (y : A). cond (test y) 1 0) x xs in
-    let rest = filtered test xs in
-    elim (cases_Bool (test x)) [
-      | inl e ↦ rw e (let s = rw e at sums in omega (arith, rest, s))
-      | inr e ↦ rw e (let s = rw e at sums in omega (arith, rest, s))
-    ]
-
 pub filtered_same : {A : Type 0} (test : A → Bool) (xs ys : List A) → IsPermutation xs ys → length (filter test xs) ≡ length (filter test ys)
-filtered_same {A} test xs ys perm = filtered test xs ∙ (sym (sum_by-IsPermutation (λ (x : A). cond (test x) 1 0) xs ys perm) ∙ sym (filtered test ys))
+filtered_same {A} test xs ys perm = length-filter test xs ∙ (sym (sum_by-IsPermutation (λ (x : A). cond (test x) 1 0) xs ys perm) ∙ sym (length-filter test ys))

@@ -1,14 +1,15 @@
 -- What is known of a run that has played some segments of an input.
-use Rattle.std.proofs.Common.{◌≡◌, ℕ, ◌+◌, ◌==◌, true, List, [], ◌∷◌, length, ap, sym, ◌∙◌, subst, arith}
+use Rattle.std.proofs.Common.{◌≡◌, ℕ, ◌+◌, ◌<◌, ◌==◌, true, List, [], ◌∷◌, length, filter, ap, sym, ◌∙◌, subst, arith}
 use Rattle.std.specs.Prelude.{All, IsPermutation}
+use Rattle.std.specs.List.{range_with_len}
 use Rattle.std.proofs.lemmas.List.Elements.{All-cons, All-nil}
 use Rattle.std.proofs.lemmas.List.Sorted.{Contains-permutation}
 use Rattle.std.proofs.lemmas.List.Sums.{sum_by-append, sum_by-cons}
 use Rattle.exb_model.specs.declared.command.Command.{Command}
 use Rattle.exb_model.specs.FlatBridge.{Sent}
 use Rattle.exb_model.specs.History.{Basis, History, ◌then◌}
-use Rattle.exb_model.specs.Input.{Input, Arrival, Segment, Mode, tree_of, bounds_of}
-use Rattle.exb_model.specs.Input.{basis_of as basis_in}
+use Rattle.exb_model.specs.Input.{Input, Arrival, Segment, Mode, tree_of, bounds_of, segments}
+use Rattle.exb_model.specs.Input.{basis_of as basis_in, arrivals_at as arrivals_in_file}
 use Rattle.exb_model.specs.Setup.{Limits}
 use Rattle.exb_model.specs.Tree.{Shape, is_external}
 use Rattle.exb_frame.specs.TagValues.{TagRoundTrip}
@@ -23,9 +24,10 @@ use Rattle.exb_machine_laws.proofs.Words.{each_append}
 use Rattle.exb_machine_laws.proofs.Written.{written_are_short}
 use Rattle.exb_standing.specs.Promises.{owed_at}
 use Rattle.exb_standing.specs.Showing.{left_at}
-use Rattle.exb_motion.specs.Given.{Given, arrivals_of, basis_with}
+use Rattle.exb_motion.specs.Given.{Given, arrivals_of, indices_of, basis_with}
 use Rattle.exb_motion.specs.Kept.{MayStart, given_in, Kept, basis_of}
 use Rattle.exb_motion.specs.Playing.{seconds_by, seconds_in, marked_each, nothing_given}
+use Rattle.exb_motion.proofs.AllCame.{all_came}
 use Rattle.exb_motion.proofs.Keeping.{kept_pvids}
 use Rattle.exb_motion.proofs.Standing.{kept_stands}
 use Rattle.exb_resting.specs.Playing.{begin_of, PlaysIn, arrivals_in, IsCopyOfAny, IsUnderWay, RunsAreUnderWay}
@@ -106,3 +108,10 @@ module _ (round : TagRoundTrip) (words : SendsAreWords) (leave : SendsLeaveAsFla
 
   pub runs_are_under_way : RunsAreUnderWay
   runs_are_under_way = under_way
+
+  -- Where all segments were played, the arrivals that were given at a port are those of the input.
+  pub all_given : (m : Mode) (i : Input) (done : Stepped) (k : PlaysIn m i (segments m i) done) (p : ℕ) → p < 4160 → filter (λ (a : Arrival). a.port == p) (arrivals_of (given_in (marked_each (k.first ∷ k.plays)))) ≡ arrivals_in_file i p
+  all_given m i done k p low =
+      let g : List Given = given_in (marked_each (k.first ∷ k.plays)) in
+      let rises = (kept round words leave law stay m i (segments m i) done k).follows.indexed p in
+      all_came m i p (arrivals_of g) low (perm m i (segments m i) done k) (subst (λ (xs : List Arrival). indices_of xs ≡ range_with_len 1 (length xs)) (port_arrivals p g) rises)

@@ -79,7 +79,7 @@ side_back n k its =
     ]
 
 -- ---- lines
-place_words : (way : List ℕ) (n k : ℕ) (bytes : List ℕ) → way ++ (32 ∷ place_text n k bytes) ≡ join_with_byte 32 (way ∷ device_text n ∷ side_text k ∷ hexadecimal bytes ∷ [])
+pub place_words : (way : List ℕ) (n k : ℕ) (bytes : List ℕ) → way ++ (32 ∷ place_text n k bytes) ≡ join_with_byte 32 (way ∷ device_text n ∷ side_text k ∷ hexadecimal bytes ∷ [])
 place_words way n k bytes =
     ap (λ (zs : List ℕ). way ++ (32 ∷ zs))
     (append_assoc (device_text n ++ codes " " ++ side_text k) (codes " ") (hexadecimal bytes)

@@ -78,7 +78,7 @@ all_both {A} read (x ∷ xs) ys bs cs e f = by_first (read x) (all_read read xs)
     by_first (Some y) (Some zs) q go e = ap (option_map (λ (ls : List A). y ∷ ls)) (go zs refl) ∙ ap (λ (ls : List A). Some (ls ++ cs)) (some_same e)
 
 -- ---- numbers
-numerals : IsNumeralModel (λ (ds : List ℕ). all_ascii_digits ds ≡ true) (digits_value 10)
+pub numerals : IsNumeralModel (λ (ds : List ℕ). all_ascii_digits ds ≡ true) (digits_value 10)
 numerals = numerals_by_value (λ (ds : List ℕ). all_ascii_digits ds ≡ true) tells_all_ascii_digits
 
 pub digits_of_decimal : (n : ℕ) → n < 2 ^ 64 → all_ascii_digits (decimal n) ≡ true
@@ -119,7 +119,7 @@ port_of_bridge p low =
     let is : port_name p ≡ 98 ∷ decimal (p + 1) = rw (lt-ltb p 64 low) refl in
     ap port_in is ∙ (ap (option_map (port_at 0)) (small_back (p + 1) (omega arith) (omega (arith, low))) ∙ ap (λ (n : ℕ). Some n) (omega arith))
 
-extended_name : (p : ℕ) → 64 ≤ p → port_name p ≡ 120 ∷ join_with_byte 46 (decimal (p / 64) ∷ decimal (p % 64 + 1) ∷ [])
+pub extended_name : (p : ℕ) → 64 ≤ p → port_name p ≡ 120 ∷ join_with_byte 46 (decimal (p / 64) ∷ decimal (p % 64 + 1) ∷ [])
 extended_name p high = rw (le-ltb p 64 high) (ap (λ (l : List ℕ). 120 ∷ l) (append_assoc (decimal (p / 64)) (46 ∷ []) (decimal (p % 64 + 1))))
 
 port_of_extender : (p : ℕ) → 64 ≤ p → p < 4160 → port_in (port_name p) ≡ Some p

@@ -15,12 +15,19 @@ LinesReadBack = (line : TraceLine) → IsSpelled line → read_line (trace_line 
 abbrev pub LinesDiffer : Type 0
 LinesDiffer = (x y : TraceLine) → IsSpelled x → IsSpelled y → trace_line x ≡ trace_line y → x ≡ y
 
+-- And what is read as a line is its text: just the texts of lines are read.
+abbrev pub LinesAreWritten : Type 0
+LinesAreWritten = (text : List ℕ) (line : TraceLine) → read_line text ≡ Some line → trace_line line ≡ text
+
 abbrev pub TracesReadBack : Type 0
 TracesReadBack = (lines : List TraceLine) → Each IsSpelled lines → read_trace (trace_text lines) ≡ Some lines
 
 -- ---- a journal
 abbrev pub EntriesReadBack : Type 0
 EntriesReadBack = (e : Entry) → IsWritable e → entry_in (entry_text e) ≡ Some e
+
+abbrev pub EntriesAreWritten : Type 0
+EntriesAreWritten = (text : List ℕ) (e : Entry) → entry_in text ≡ Some e → IsWritable e → entry_text e ≡ text
 
 -- The text of a journal and the arrivals of each port give the history.
 abbrev pub JournalsReadBack : Type 0
