@@ -8,7 +8,7 @@ use Rattle.exb_model.specs.Ports.{below}
 use Rattle.exb_model.specs.Tree.{Shape, is_external}
 use Rattle.rand_pcg.specs.Lcg.{Lcg}
 use Rattle.exb_made.specs.Draws.{drawn, generator_of}
-use Rattle.exb_made.specs.Site.{site, site_ports}
+use Rattle.exb_made.specs.Site.{site, site_ports, port_at}
 use Rattle.exb_made.specs.Drawing.{Frame, station, broadcast, content, vlan_tag, time_of, destination, body, frame, frames, memberships, pvids, orders}
 use Rattle.exb_made.specs.Made.{records_at, all_drawn, made, ArrivesAtExternals}
 use Rattle.exb_made.specs.Pieces.{IsPlayable}
@@ -71,12 +71,16 @@ low-draw : (n : ℕ) (g : Lcg) → 0 < n → (drawn n g).0 < n
 unfolding drawn
 low-draw n g some = omega arith
 
-arrives : (i : ℕ) (g : Lcg) → Unit {0} → All (λ f. is_external site f.port ≡ true) (frame i g).0
-unfolding frame
-arrives i g _ =
+-- a drawn port is external
+pub external_at : (g : Lcg) → is_external site (port_at (drawn 46 g).0) ≡ true
+external_at g =
     let n = (drawn 46 g).0 in
     let low : n < length site_ports = (let l = low-draw 46 g (omega arith) in omega (arith, l, length-ports)) in
-    All-cons (λ (f : Frame). is_external site f.port ≡ true) _ [] (all_external n 0 low) (All-nil (λ (f : Frame). is_external site f.port ≡ true))
+    all_external n 0 low
+
+arrives : (i : ℕ) (g : Lcg) → Unit {0} → All (λ f. is_external site f.port ≡ true) (frame i g).0
+unfolding frame
+arrives i g _ = All-cons (λ (f : Frame). is_external site f.port ≡ true) _ [] (external_at g) (All-nil (λ (f : Frame). is_external site f.port ≡ true))
 
 all_arrive : (g : Lcg) → All (λ f. is_external site f.port ≡ true) (all_drawn g).frames
 unfolding all_drawn frames

@@ -1,7 +1,7 @@
 //! The whole input.
-ghost use Rattle.std.specs.Prelude.{◌≡◌, ◌≤◌, ◌^◌, [], All, Ok, map, length, sum_by, IfOk, OnOk};
+ghost use Rattle.std.specs.Prelude.{◌≡◌, ◌≤◌, ◌^◌, [], All, AllPairs, Ok, map, length, sum_by, IfOk, OnOk};
 ghost use Rattle.exb_model.specs.Input.{given_by, tree_of};
-ghost use Rattle.exb_model.specs.Setup.{IsValid};
+ghost use Rattle.exb_model.specs.Setup.{IsValid, NamesExternal};
 ghost use Rattle.exb_model.specs.Tree.{external_ports};
 ghost use Rattle.exb_made.specs.Draws.{generator_of};
 ghost use Rattle.exb_made.specs.Made.{all_drawn, made};
@@ -67,6 +67,10 @@ pub fn make(alloc: Global, number: u64) -> Result<Made, NoMemory>
     ensures setup { IfOk result (λ input. input.setup ≡ (made number).setup) }
     ensures commands { IfOk result (λ input. map given_by input.commands ≡ (made number).commands) }
     ensures no_fate { IfOk result (λ input. All (λ c. c.fate ≡ []) input.commands) }
+    ensures named { IfOk result (λ input. All (λ c. NamesExternal (tree_of (made number)) c.command) input.commands) }
+    ensures few { IfOk result (λ input. length input.commands ≡ 20) }
+    ensures rising { IfOk result (λ input. AllPairs (λ a b. a.at ≤ b.at) input.commands) }
+
     ensures captures { IfOk result (λ input. map read_of input.captures.items
         ≡ map (λ q. (q, Ok ((made number).records q))) (external_ports (tree_of (made number)))) }
     ensures external { IfOk result (λ input. All (IsAtExternal (tree_of (made number))) input.captures.items) }

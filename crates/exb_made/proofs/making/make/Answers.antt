@@ -1,8 +1,8 @@
-use Rattle.std.proofs.Common.{◌≡◌, ◌∙◌, List, [], map, length, Ok, All, arith, sym, ap, subst}
+use Rattle.std.proofs.Common.{◌≡◌, ◌∙◌, List, [], map, length, Ok, All, AllPairs, arith, sym, ap, subst}
 use Rattle.std.proofs.lemmas.List.{length-map}
 use Rattle.exb_model.specs.declared.setup.Timed.{Timed}
 use Rattle.exb_model.specs.Input.{given_by, tree_of}
-use Rattle.exb_model.specs.Setup.{IsValid}
+use Rattle.exb_model.specs.Setup.{IsValid, NamesExternal, shape_of}
 use Rattle.exb_made.specs.Draws.{generator_of}
 use Rattle.exb_made.specs.Site.{setup_with}
 use Rattle.exb_made.specs.Drawing.{Frame}
@@ -11,7 +11,7 @@ use Rattle.exb_made.specs.Pieces.{frame_of, IsPlayable}
 use Rattle.exb_made.proofs.SiteTree.{ports-of, length-ports}
 use Rattle.exb_made.proofs.Arrived.{all_playable, length-frames}
 use Rattle.exb_made.proofs.Captured.{all_external_ports, all_whole}
-use Rattle.exb_made.proofs.Together.{all_plain}
+use Rattle.exb_made.proofs.Together.{Later, all_plain, all_named, all_rise, length-orders}
 use Rattle.exb_made.proofs.making.make.Goals as goal
 
 pub captures-requires : goal.captures-requires
@@ -35,6 +35,18 @@ returns-clause-commands c = ap (λ (d : Drawn). map given_by d.commands) c.in_ok
 pub returns-clause-no_fate : goal.returns-clause-no_fate
 returns-clause-no_fate c =
     subst (All (λ (t : Timed). t.fate ≡ [])) (sym (ap (λ (d : Drawn). d.commands) c.in_ok-start.ensures)) (all_plain (generator_of c.args.number))
+
+pub returns-clause-named : goal.returns-clause-named
+unfolding made
+returns-clause-named c =
+    let g = generator_of c.args.number in
+    subst (All (λ (t : Timed). NamesExternal (shape_of (setup_with (all_drawn g).start)) t.command)) (sym (ap (λ (d : Drawn). d.commands) c.in_ok-start.ensures)) (all_named g)
+
+pub returns-clause-few : goal.returns-clause-few
+returns-clause-few c = ap (λ (d : Drawn). length d.commands) c.in_ok-start.ensures ∙ length-orders (generator_of c.args.number)
+
+pub returns-clause-rising : goal.returns-clause-rising
+returns-clause-rising c = subst (AllPairs Later) (sym (ap (λ (d : Drawn). d.commands) c.in_ok-start.ensures)) (all_rise (generator_of c.args.number))
 
 pub returns-clause-captures : goal.returns-clause-captures
 unfolding made
