@@ -3,7 +3,8 @@ use Rattle.std.proofs.Common.{◌≡◌, ◌⊎◌, inl, inr, ℕ, zero, suc, �
 use Rattle.std.specs.Prelude.{Option, Some, None, IfSome, filter_map, flat_map, max, min, slice_get, All, Contains, IsPermutation}
 use Rattle.std.specs.List.{AllByRecursion, cons_option, range_with_len}
 use Rattle.std.proofs.lemmas.List.{append_cancel_left, length-map}
-use Rattle.std.proofs.lemmas.List.Elements.{recursion_from_All, All-from_recursion, All-contains}
+use Rattle.std.proofs.lemmas.List.Elements.{recursion_from_All, All-from_recursion, All-contains, All-nil, All-cons}
+use Rattle.std.proofs.lemmas.List.Kept.{AllPairs-cons}
 use Rattle.std.proofs.lemmas.List.Sorted.{IsPermutation-sym, All-permutation}
 use Rattle.exb_model.specs.Ports.{below, all_ports}
 use Rattle.exb_model.specs.declared.command.Command.{Command}
@@ -20,7 +21,7 @@ use Rattle.exb_model.specs.EagerHistory.{opening, refusal_of}
 use Rattle.exb_model.specs.LegalHistory.{EachEvent, Legal, IsOfSegment, IsDecided, IsRelayOf, PlaysArrivals, PlaysTick, number_of, place_of, tick_of, settled_each}
 use Rattle.exb_model.specs.Texts.{journal_text}
 use Rattle.exb_flat_laws.specs.Playing.{records_at, all_records, all_numbers}
-use Rattle.exb_flat_laws.specs.Telling.{IsWord, IsPort, IsRecordOf, IsWritten, JournalTellsLegal}
+use Rattle.exb_flat_laws.specs.Telling.{IsWord, IsPort, IsRecordOf, IsWritten, JournalTellsLegal, SmallIsWritten}
 use Rattle.exb_flat_laws.proofs.PortOrder.{reverse-then}
 use Rattle.exb_flat_laws.proofs.Comings.{segments-numbered, each_sorted, each-append}
 use Rattle.exb_flat_laws.proofs.EachEvents.{IsNumbered}
@@ -308,3 +309,21 @@ journal_tells_legal i m n h g w legal other is =
     lines_tell (IsKnownOf (tree_of i) (bounds_of i) i) (known_fits (tree_of i) (bounds_of i) i) (known_alike (tree_of i) (bounds_of i) i) o es gs
     (legal_is_known i w m h legal) (legal_is_known i w n g other) (append_cancel_left (journal_text o) (lines es) (lines gs) texts) in
     legal.segments_in_order ∙ ap (λ (xs : List Event). o then xs) same ∙ sym other.segments_in_order
+
+-- ---- an input that is written
+pub small_is_written : SmallIsWritten
+small_is_written s c f =
+    let b : Given = record { at = 5; command = c } in
+    let d : Given = record { at = 6; command = c } in
+    let r : Record = record { time = 7; bytes = f } in
+    let Q : Given → Type 0 = λ x. x.at < 2 ^ 32 in
+    let T : Record → Type 0 = λ x. IsWord x.time in
+    let R : Given → Given → Type 0 = λ x y. x.at ≤ y.at in (
+      record {
+        times = λ p. All-cons T r [] (omega arith) (All-nil T);
+        records = λ p. omega arith;
+        seconds = All-cons Q b (d ∷ []) (omega arith) (All-cons Q d [] (omega arith) (All-nil Q));
+        commands = omega arith;
+      },
+      AllPairs-cons R b (d ∷ []) (All-cons (R b) d [] (omega arith) (All-nil (R b))) (AllPairs-cons R d [] (All-nil (R d)) (λ i j x h k. absurd (omega arith))),
+    )

@@ -15,3 +15,6 @@ pub mod Telling
 pub mod LegalTelling
 pub mod Tables
 pub mod Setups
+pub mod Cascades
+pub mod Alone
+pub mod Chains

@@ -15,10 +15,10 @@ use Rattle.exb_flat_laws.proofs.Tables.{IsAmong, among_at, among_from, contains_
 
 -- ---- one setup whose extenders have distinct numbers in their ranges
 module _ (s : Setup) (ranges : All InRange s.extenders) (apart : AreApart s) where
-  its_ports : (e : ExtenderSetup) → IsAmong e s.extenders → slice_index (shape_of s).ports e.number ≡ e.ports
+  pub its_ports : (e : ExtenderSetup) → IsAmong e s.extenders → slice_index (shape_of s).ports e.number ≡ e.ports
   its_ports e h = ports_are s e apart h (of_all InRange s.extenders e ranges h).number
 
-  its_place : (e : ExtenderSetup) → IsAmong e s.extenders → on (shape_of s) e.number ≡ port_at e.on
+  pub its_place : (e : ExtenderSetup) → IsAmong e s.extenders → on (shape_of s) e.number ≡ port_at e.on
   its_place e h = on_is s e apart h (of_all InRange s.extenders e ranges h).number
 
   -- one number is of one extender
@@ -31,7 +31,7 @@ module _ (s : Setup) (ranges : All InRange s.extenders) (apart : AreApart s) whe
       by_order (inr (inr other)) = absurd (other (sym same))
 
   -- it hangs where the list says
-  hangs : (e : ExtenderSetup) → IsAmong e s.extenders → HangsOn (shape_of s) e.number (port_at e.on)
+  pub hangs : (e : ExtenderSetup) → IsAmong e s.extenders → HangsOn (shape_of s) e.number (port_at e.on)
   hangs e h =
       let r : InRange e = of_all InRange s.extenders e ranges h in
       record {
@@ -41,7 +41,7 @@ module _ (s : Setup) (ranges : All InRange s.extenders) (apart : AreApart s) whe
       }
 
   -- ---- places and ports
-  place_is_port : (x : Place) → IsPlace x → HasPlace s x → is_port (shape_of s) (port_at x) ≡ true
+  pub place_is_port : (x : Place) → IsPlace x → HasPlace s x → is_port (shape_of s) (port_at x) ≡ true
   place_is_port (place.Bridge k) r has =
       let place : (k - 1) % 64 ≡ k - 1 = omega (arith, r.0, r.1) in
       let device : (k - 1) / 64 ≡ 0 = omega (arith, r.0, r.1) in
@@ -132,7 +132,7 @@ module _ (s : Setup) (ranges : All InRange s.extenders) (apart : AreApart s) whe
           }
 
   -- ---- the tree
-  tree_is : All (λ e. HasPlace s e.on) s.extenders → AllPairs (λ e f. e.on ≢ f.on) s.extenders → All (HasWayUp s) s.extenders → IsTree (shape_of s)
+  pub tree_is : All (λ e. HasPlace s e.on) s.extenders → AllPairs (λ e f. e.on ≢ f.on) s.extenders → All (HasWayUp s) s.extenders → IsTree (shape_of s)
   tree_is places alone ways = record {
     sized = ports_sized s;
     on_port = λ n some there. (let e : Has n s.extenders = extender_there s n some there in

@@ -4,11 +4,14 @@ use Rattle.exb_model.specs.declared.event.Event.{Event}
 use Rattle.exb_model.specs.declared.event.Event.TheVariants as event
 use Rattle.exb_model.specs.declared.event.Cause.{Cause}
 use Rattle.exb_model.specs.declared.event.Cause.TheVariants as cause
+use Rattle.exb_model.specs.declared.command.Command.{Command}
+use Rattle.exb_model.specs.declared.setup.Setup.{Setup}
 use Rattle.exb_model.specs.Lists.{numbered}
 use Rattle.exb_model.specs.History.{History}
 use Rattle.exb_model.specs.Input.{Input, Arrival, Mode, arrivals_at}
 use Rattle.exb_model.specs.LegalHistory.{Legal}
 use Rattle.exb_model.specs.Texts.{journal_text}
+use Rattle.exb_flat_laws.specs.Playing.{IsTimely}
 
 -- ---- histories of an input
 abbrev pub IsWord : ℕ → Type 0
@@ -53,3 +56,15 @@ pub record IsWritten (i : Input) : Type 0 where
 -- Two histories that such an input allows, in whichever modes, are the same where their journals are.
 abbrev pub JournalTellsLegal : Type 0
 JournalTellsLegal = (i : Input) (m n : Mode) (h g : History) → IsWritten i → Legal m i h → Legal n i g → journal_text h ≡ journal_text g → h ≡ g
+
+-- ---- an input that is written
+-- two commands, of seconds 5 and 6, and one record at each port
+abbrev pub small_input : Setup → Command → List ℕ → Input
+small_input s c f = record {
+  setup = s;
+  commands = record { at = 5; command = c } ∷ record { at = 6; command = c } ∷ [];
+  records = λ p. record { time = 7; bytes = f } ∷ [];
+}
+
+abbrev pub SmallIsWritten : Type 0
+SmallIsWritten = (s : Setup) (c : Command) (f : List ℕ) → IsWritten (small_input s c f) × IsTimely (small_input s c f)
