@@ -269,6 +269,19 @@ module _ (Q : Arrival → Type 0) where
       right [] ys all = all
       right (x ∷ xs) ys all = right xs ys all.1
 
+-- ---- what holds of all that comes holds of it in order
+pub each_put : (P : Coming → Type 0) (x : Coming) (ys : List Coming) → P x → AllByRecursion P ys → AllByRecursion P (put_in_order x ys)
+each_put P x [] k j = (k, tt)
+each_put P x (y ∷ ys) k j = by_less (nat_lt (moment_of y) (moment_of x)) (each_put P x ys k j.1)
+  where
+    by_less : (b : Bool) → AllByRecursion P (put_in_order x ys) → AllByRecursion P (cond b (y ∷ put_in_order x ys) (x ∷ y ∷ ys))
+    by_less true rest = (j.0, rest)
+    by_less false rest = (k, j)
+
+pub each_sorted : (P : Coming → Type 0) (xs : List Coming) → AllByRecursion P xs → AllByRecursion P (by_moment xs)
+each_sorted P [] k = tt
+each_sorted P (x ∷ xs) k = each_put P x (by_moment xs) k.0 (each_sorted P xs k.1)
+
 -- in each segment
 pub segments-numbered : (m : Mode) (i : Input) → AllByRecursion (λ s. AllByRecursion (IsNumbered (arrivals_at i)) s.arrivals) (segments m i)
 unfolding merge all_arrivals

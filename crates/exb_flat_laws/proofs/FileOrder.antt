@@ -6,7 +6,7 @@ use Rattle.std.proofs.lemmas.Bool.{cases_Bool, ltb-true}
 use Rattle.exb_model.specs.Input.{Given, Arrival, Coming, Ordered, Captured, moment_of, all_arrivals, start_second, commands_from, put_in_order, by_moment, merge, number_in, segments}
 use Rattle.exb_model.specs.LegalHistory.{number_of}
 use Rattle.exb_flat_laws.specs.Playing.{CommandsInFileOrder}
-use Rattle.exb_flat_laws.proofs.Comings.{segments-commands, each-append}
+use Rattle.exb_flat_laws.proofs.Comings.{segments-commands, each-append, each_sorted}
 use Rattle.exb_flat_laws.proofs.Playing.{of_legal, no_number, commands_played, next}
 
 -- an arrival, or a command that comes no earlier
@@ -21,18 +21,6 @@ captured_after moment (x ∷ xs) = (tt, captured_after moment xs)
 commands_after : (start at n : ℕ) (cs : List Given) → AllByRecursion (λ c. at ≤ c.at) cs → AllByRecursion (IsAfter ((start + at) * 1000000000)) (commands_from start n cs)
 commands_after start at n [] k = tt
 commands_after start at n (c ∷ cs) k = ((let e = k.0 in omega (arith, e)), commands_after start at (suc n) cs k.1)
-
-each_put : (P : Coming → Type 0) (x : Coming) (ys : List Coming) → P x → AllByRecursion P ys → AllByRecursion P (put_in_order x ys)
-each_put P x [] k j = (k, tt)
-each_put P x (y ∷ ys) k j = by_less (nat_lt (moment_of y) (moment_of x)) (each_put P x ys k j.1)
-  where
-    by_less : (b : Bool) → AllByRecursion P (put_in_order x ys) → AllByRecursion P (cond b (y ∷ put_in_order x ys) (x ∷ y ∷ ys))
-    by_less true rest = (j.0, rest)
-    by_less false rest = (k, j)
-
-each_sorted : (P : Coming → Type 0) (xs : List Coming) → AllByRecursion P xs → AllByRecursion P (by_moment xs)
-each_sorted P [] k = tt
-each_sorted P (x ∷ xs) k = each_put P x (by_moment xs) k.0 (each_sorted P xs k.1)
 
 put_captured : (a : Arrival) (ys : List Coming) → filter_map number_in (put_in_order (Captured a) ys) ≡ filter_map number_in ys
 put_captured a [] = refl

@@ -10,3 +10,11 @@ pub mod AtOnce
 pub mod Playing
 pub mod FileOrder
 pub mod Summary
+pub mod Lines
+pub mod Telling
+pub mod LegalTelling
+pub mod Tables
+pub mod Setups
+pub mod Cascades
+pub mod Alone
+pub mod Chains

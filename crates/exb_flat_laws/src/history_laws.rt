@@ -1,5 +1,6 @@
 //! Laws of the histories that an input allows. Each speaks of every input, valid or not.
 ghost use Rattle.exb_flat_laws.specs.Playing.{LegalPlaysInput, CommandsInFileOrder, SummaryAddsUp, PlayedAtOnceIsLegal, PlayedAtOnceIsEager, SeededIsPossible};
+ghost use Rattle.exb_flat_laws.specs.Telling.{JournalTellsHistory, JournalTellsLegal, SmallIsWritten};
 
 /// A history that an input allows, in the eager mode or in a seeded one, relays or ignores each record of each
 /// capture once, and commits or refuses each command once.
@@ -28,4 +29,20 @@ pub fn played_at_once_is_legal()
 /// So each input has a history that a seeded run may tell.
 pub fn seeded_is_possible()
     ensures { SeededIsPossible }
+{}
+
+/// The journal and the input together tell the history: two histories whose numbers have 64 bits, and whose Relays are of
+/// records of the input, are the same where their journals are the same text.
+pub fn journal_tells_history()
+    ensures { JournalTellsHistory }
+{}
+
+/// So it is with all histories that an input from files allows, in whichever modes: one journal is of one of them.
+pub fn journal_tells_legal()
+    ensures { JournalTellsLegal }
+{}
+
+/// There are such inputs: any setup with two commands, in the order of their seconds, and a record at each port.
+pub fn small_is_written()
+    ensures { SmallIsWritten }
 {}

@@ -6,3 +6,4 @@
 
 pub mod history_laws;
 pub mod laws;
+pub mod setup_laws;
