@@ -201,9 +201,9 @@ def orders(*them):
     return "".join(f'[[command]]\nat = {at}\nop = "{op}"\n{rest}\n' for at, (op, rest) in enumerate(them, 1))
 
 
-def play(tree, tables, frames, turns=TURNS):
-    """The best time of runs in which frames come at one port, one each second, and whether they write what the plain bridge in
-    Python does."""
+def play(tree, tables, frames):
+    """A run in which frames come at the first port, one each second: its seconds and memory, its summary, and whether it writes what the
+    plain bridge in Python does."""
     port = tree.ports[0]
     write_captures([port], [], 1)
     with open(f"in-{port}.pcap", "ab") as file:
@@ -212,38 +212,40 @@ def play(tree, tables, frames, turns=TURNS):
     text = write_topology(tree, 300, tables, [port])
     with open(f"in-{port}.pcap", "rb") as file:
         written, line = bridge.run(text, {f"in-{port}.pcap": file.read()})
-    times = [run([PROGRAM, "run", "topology.toml"]) for _ in range(turns)]
+    seconds, memory = run([PROGRAM, "run", "topology.toml"])
     for name, data in written.items():
         with open(name, "rb") as file:
             if file.read() != data:
-                return min(times), line, f"{name} DIFFERS"
-    return min(times), line, "same outputs"
+                return seconds, memory, line, f"{name} DIFFERS"
+    return seconds, memory, line, "same outputs"
 
 
-def cost(name, tree, tables, before, them, frames):
-    """What so many commands take, after others."""
-    (without, _), _, first = play(tree, tables + orders(*before), frames)
-    (whole, memory), line, second = play(tree, tables + orders(*before, *them), frames)
-    each = (whole - without) / len(them) * 1000
-    print(f"{name:42} {each:9.2f} ms each of {len(them):3} | run {whole:6.2f} s {memory:6.0f} MB | {first}, {second} | {line}", flush=True)
+def costs_of(name, tree, tables, frames, groups):
+    """What the commands of each group take, each group behind those that it names. The opening takes most of each run, so they run once."""
+    done = {(): play(tree, tables, frames)}
+    print(f"{name}: run without a command {done[()][0]:.2f} s {done[()][1]:.0f} MB, {done[()][3]}", flush=True)
+    for before, group, them in groups:
+        given = [it for told in before for it in next(its for _, one, its in groups if one == told)]
+        done[(*before, group)] = played = play(tree, tables + orders(*given, *them), frames)
+        each = (played[0] - done[before][0]) / len(them) * 1000
+        print(f"    {group:8} {each:9.2f} ms each of {len(them):3} | run {played[0]:6.2f} s {played[1]:6.0f} MB | {played[3]} | {played[2]}", flush=True)
 
 
 def commands():
-    tree, tables = wide(), all_tagged(4094) + "\n"
-    frames = [frame(BROADCAST, address(1), vid, 64) for vid in (7, 4094) * 20]
-    some = [f"x{number}.1" for number in range(10, 26)]
+    frames = [frame(BROADCAST, address(1), 1, 64) for _ in range(40)]
+    some = [f"x{number}.1" for number in range(10, 58)]
     down, up = ([(op, f'port = "{port}"') for port in some] for op in ("down", "up"))
-    member = [("member", f'vid = 7\nport = "{port}"\nkind = "untagged"') for port in some]
-    static = [("static", f'vid = 7\nmac = "02-00-00-00-01-{at:02}"\nports = ["x9.1", "{port}"]') for at, port in enumerate(some)]
-    for name, before, them in (("member", [], member), ("static", [], static), ("down", [], down), ("up", down, up)):
-        cost(f"4,094 VLANs, 64 extenders, {name}", tree, tables, before, them, frames)
+    member = [("member", f'vid = 1\nport = "{port}"\nkind = "untagged"') for port in some]
+    static = [("static", f'vid = 1\nmac = "02-00-00-00-01-{at:02}"\nports = ["x9.1", "{port}"]') for at, port in enumerate(some)]
+    for vlans in (1, 100, 4094):
+        tables = f'[[vlan]]\nvid = 1\nlast = {vlans}\ntagged = ["*"]\n'
+        costs_of(f"64 extenders and {vlans} VLANs", wide(), tables, frames,
+                 [((), "member", member), ((), "static", static), ((), "down", down), (("down",), "up", up)])
     # VLAN n has the ports of n's bits, and one port more that is in all.
     sets = [[f'"x1.{bit + 1}"' for bit in range(12) if vid >> bit & 1] for vid in range(1, 4095)]
     tables = "".join(f'[[vlan]]\nvid = {vid}\ntagged = [{", ".join(members)}, "x1.13"]\n' for vid, members in enumerate(sets, 1))
-    down, up = ("down", 'port = "x1.13"'), ("up", 'port = "x1.13"')
-    tree = Tree(2, [(1, "b2", 13)])
-    cost("a port in 4,094 VLANs, down", tree, tables, [], [down], frames[:10])
-    cost("a port in 4,094 VLANs, up", tree, tables, [down], [up], frames[:10])
+    costs_of("a port in 4,094 VLANs with a set each", Tree(2, [(1, "b2", 13)]), tables, frames[:10],
+             [((), "down", [("down", 'port = "x1.13"')]), (("down",), "up", [("up", 'port = "x1.13"')])])
 
 
 def costs():
