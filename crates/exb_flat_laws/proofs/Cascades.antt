@@ -1,5 +1,5 @@
 -- How many cascade ports stand below a bridge port.
-use Rattle.std.proofs.Common.{◌≡◌, ◌⊎◌, inl, inr, ℕ, zero, suc, ◌+◌, ◌-◌, ◌*◌, ◌/◌, ◌%◌, ◌<◌, ◌≤◌, ◌==◌, ◌&&◌, Bool, true, false, min, nat_lt, count_by, refl, sym, ap, subst, ◌∙◌, arith}
+use Rattle.std.proofs.Common.{◌≡◌, ◌⊎◌, inl, inr, ℕ, zero, suc, ◌+◌, ◌-◌, ◌/◌, ◌%◌, ◌<◌, ◌≤◌, ◌==◌, ◌&&◌, Bool, true, false, min, count_by, sym, ap, ◌∙◌, arith}
 use Rattle.std.specs.Prelude.{nat_le, All}
 use Rattle.std.proofs.lemmas.Bool.{cases_Bool, cases_eq, cases_lt, and_parts, and_from, eqb-true, eq-eqb, leb-true, le-leb, false_from_ne_true}
 use Rattle.exb_model.specs.Ports.{below}
@@ -34,6 +34,15 @@ module _ (p : ℕ → Bool) where
       by_case : (count_by p (below (suc n)) ≡ count_by p (below n) + 1) × (p n ≡ true) ⊎ (count_by p (below (suc n)) ≡ count_by p (below n)) × (p n ≡ false) → count_by p (below n) ≡ 0 → count_by p (below (suc n)) ≡ 0
       by_case (inl c) rest = absurd (let z = sym c.1 ∙ none n in cc)
       by_case (inr c) rest = c.0 ∙ rest
+
+  pub count_one : (c : ℕ) → ((q : ℕ) → p q ≡ true → q ≡ c) → (x : ℕ) → count_by p (below x) ≤ min 1 (x - c)
+  count_one c only zero = let z = count_none p in omega (arith, z)
+  count_one c only (suc x) = by_case (counted x (cases_Bool (p x))) (count_one c only x)
+    where
+      by_case : (count_by p (below (suc x)) ≡ count_by p (below x) + 1) × (p x ≡ true) ⊎ (count_by p (below (suc x)) ≡ count_by p (below x)) × (p x ≡ false) → count_by p (below x) ≤ min 1 (x - c) →
+          count_by p (below (suc x)) ≤ min 1 (suc x - c)
+      by_case (inl k) rest = let z = only x k.1 in omega (arith, k.0, rest, z)
+      by_case (inr k) rest = omega (arith, k.0, rest)
 
   -- first ports of the extenders 1 to n - 1
   pub count_at_most : (n : ℕ) → ((q : ℕ) → p q ≡ true → (q % 64 ≡ 0) × (1 ≤ q / 64) × (q / 64 < n)) → (x : ℕ) → count_by p (below x) ≤ min (n - 1) ((x - 1) / 64)
@@ -95,3 +104,23 @@ none_below s ranges apart bridge k = count_nothing (is_cascade_under (shape_of s
         let small : port_at e.0.on < 64 = low e.0.on (of_all InRange s.extenders e.0 ranges e.1).place (bridge e.0 e.1) in
         let high : 64 ≤ q = b.high in
         omega (arith, at, small, high)
+
+-- where all that don't hang on the bridge hang on one port there is at most one
+pub one_below : (s : Setup) → All InRange s.extenders → AreApart s → (x : Place) → ((e : ExtenderSetup) → IsAmong e s.extenders → IsOnBridge e.on ⊎ (e.on ≡ x)) → (k : ℕ) → cascades_under (shape_of s) k ≤ 1
+unfolding cascades_under
+one_below s ranges apart x hang k = let z = count_one (is_cascade_under (shape_of s) k) (port_at x) (λ q is. only q (below_from (shape_of s) k q is)) 4160 in omega (arith, z)
+  where
+    low : (y : Place) → IsPlace y → IsOnBridge y → port_at y < 64
+    low (place.Bridge j) r h = omega (arith, r.0, r.1)
+    low (place.Extender n j) r h = absurd h
+
+    only : (q : ℕ) → IsBelow (shape_of s) k q → q ≡ port_at x
+    only q b =
+        let e : Has b.number s.extenders = extender_there s b.number b.hangs.extender b.hangs.there in
+        let at : port_at e.0.on ≡ q = sym (its_place s ranges apart e.0 e.1) ∙ ap (on (shape_of s)) e.2 ∙ b.hangs.at in
+        let high : 64 ≤ q = b.high in
+        by_place e.0 (of_all InRange s.extenders e.0 ranges e.1).place at high (hang e.0 e.1)
+      where
+        by_place : (e : ExtenderSetup) → IsPlace e.on → port_at e.on ≡ q → 64 ≤ q → IsOnBridge e.on ⊎ (e.on ≡ x) → q ≡ port_at x
+        by_place e r at high (inl bridge) = absurd (let small = low e.on r bridge in omega (arith, at, small, high))
+        by_place e r at high (inr same) = sym at ∙ ap port_at same

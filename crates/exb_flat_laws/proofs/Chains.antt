@@ -1,22 +1,19 @@
 -- Chains of extenders: each hangs on the one before it, and the first on the bridge.
-use Rattle.std.proofs.Common.{◌≡◌, ◌≢◌, ◌⊎◌, inl, inr, ℕ, zero, suc, ◌+◌, ◌-◌, ◌*◌, ◌/◌, ◌%◌, ◌<◌, ◌≤◌, Bool, true, List, [], ◌∷◌, length, map, min, AllPairs, refl, sym, ap, subst, ◌∙◌, arith}
-use Rattle.std.specs.Prelude.{All, Contains, count_by}
+use Rattle.std.proofs.Common.{◌≡◌, ◌≢◌, inl, inr, ℕ, zero, suc, ◌+◌, ◌-◌, ◌*◌, ◌/◌, ◌%◌, ◌<◌, ◌≤◌, true, List, [], ◌∷◌, length, map, AllPairs, refl, sym, ap, subst, ◌∙◌, arith}
+use Rattle.std.specs.Prelude.{All, Contains}
 use Rattle.std.specs.List.{range_with_len}
 use Rattle.std.proofs.lemmas.Bool.{cases_eq}
 use Rattle.std.proofs.lemmas.List.Elements.{All-nil, All-cons}
 use Rattle.std.proofs.lemmas.List.Kept.{AllPairs-cons}
-use Rattle.exb_model.specs.declared.setup.Place.{Place}
 use Rattle.exb_model.specs.declared.setup.Place.TheVariants as place
 use Rattle.exb_model.specs.declared.setup.ExtenderSetup.{ExtenderSetup}
-use Rattle.exb_model.specs.declared.setup.Setup.{Setup}
-use Rattle.exb_model.specs.Ports.{below}
-use Rattle.exb_model.specs.Tree.{Shape, IsTree, HangsOn, device, on, top, trunk, is_port, is_cascade, is_cascade_under, cascades_under}
+use Rattle.exb_model.specs.Tree.{Shape, IsTree, on, top, trunk, is_port, is_cascade, is_cascade_under, cascades_under}
 use Rattle.exb_model.specs.Setup.{port_at, shape_of, IsPlace, InRange, IsStart, IsValid}
 use Rattle.exb_model.proofs.TreeWays.{top_low, top_high}
 use Rattle.exb_model.proofs.TreeHung.{hung_cascade}
 use Rattle.exb_model.proofs.TreeLoops.{trunk_is}
-use Rattle.exb_flat_laws.specs.Setups.{HasPlace, IsWayUp, HasWayUp, IsWellFormed, link_at, link, chain, ChainIsValid}
-use Rattle.exb_flat_laws.proofs.Tables.{IsAmong, all_among, among_from, contains_from, of_all, Has, extender_there}
+use Rattle.exb_flat_laws.specs.Setups.{HasPlace, IsWayUp, HasWayUp, link_at, link, chain, ChainIsValid}
+use Rattle.exb_flat_laws.proofs.Tables.{IsAmong, all_among, contains_from, of_all, Has, extender_there}
 use Rattle.exb_flat_laws.proofs.Setups.{its_place, hangs, place_is_port, tree_is, valid_in_words}
 use Rattle.exb_flat_laws.proofs.Cascades.{count_at_most, count_at_least, IsBelow, below_from, is_below}
 
@@ -203,8 +200,8 @@ no_longer (suc n) channels v = (of_all InRange (links 1 (suc n)) (link (suc n)) 
 pub chain_is_valid : ChainIsValid
 chain_is_valid n channels = (
   λ v. (let few : n ≤ 64 = no_longer n channels v in
-  let enough = v.enough_channels 0 (omega arith) in
-  let all = all_cascades n channels few in
-  (few, v.some_channels, v.channels, omega (arith, enough, all))),
+      let enough = v.enough_channels 0 (omega arith) in
+      let all = all_cascades n channels few in
+      (few, v.some_channels, v.channels, omega (arith, enough, all))),
   λ h. chain_from n channels h.0 h.1 h.2 h.3,
 )

@@ -1,6 +1,6 @@
 -- A journal and an input tell one legal history.
-use Rattle.std.proofs.Common.{◌≡◌, ◌⊎◌, inl, inr, ℕ, zero, suc, ◌+◌, ◌-◌, ◌*◌, ◌/◌, ◌<◌, ◌≤◌, ◌^◌, ◌==◌, Bool, true, false, cond, List, [], ◌∷◌, ◌++◌, length, map, reverse, refl, sym, ap, subst, ◌∙◌, arith}
-use Rattle.std.specs.Prelude.{Option, Some, None, IfSome, filter_map, flat_map, max, min, slice_get, All, Contains, IsPermutation}
+use Rattle.std.proofs.Common.{◌≡◌, inl, ℕ, zero, suc, ◌+◌, ◌<◌, ◌≤◌, ◌^◌, ◌==◌, Bool, true, false, cond, List, [], ◌∷◌, ◌++◌, length, map, reverse, refl, sym, ap, subst, ◌∙◌, arith}
+use Rattle.std.specs.Prelude.{Option, Some, None, IfSome, filter_map, flat_map, max, slice_get, All}
 use Rattle.std.specs.List.{AllByRecursion, cons_option, range_with_len}
 use Rattle.std.proofs.lemmas.List.{append_cancel_left, length-map}
 use Rattle.std.proofs.lemmas.List.Elements.{recursion_from_All, All-from_recursion, All-contains, All-nil, All-cons}
@@ -11,12 +11,11 @@ use Rattle.exb_model.specs.declared.command.Command.{Command}
 use Rattle.exb_model.specs.declared.event.Event.{Event}
 use Rattle.exb_model.specs.declared.event.Event.TheVariants as event
 use Rattle.exb_model.specs.declared.event.Cause.{Cause}
-use Rattle.exb_model.specs.Lists.{numbered, Pairwise}
+use Rattle.exb_model.specs.Lists.{Pairwise}
 use Rattle.exb_model.specs.Tree.{Shape}
 use Rattle.exb_model.specs.Setup.{Limits}
-use Rattle.exb_model.specs.History.{Basis, History, ◌then◌, command_of, bridge_after}
-use Rattle.exb_model.specs.Refusals.{refusal}
-use Rattle.exb_model.specs.Input.{Input, Given, Record, Arrival, Coming, Ordered, Captured, Group, Segment, Mode, Eager, Seeded, basis_of, tree_of, bounds_of, moment_of, second_of, least_or, arrivals_from, arrivals_at, all_arrivals, start_second, commands_from, all_comings, by_moment, merge, joined, alone, groups_in, segments_since, segments_in, segments}
+use Rattle.exb_model.specs.History.{History, ◌then◌, command_of, bridge_after}
+use Rattle.exb_model.specs.Input.{Input, Given, Record, Arrival, Coming, Captured, Group, Segment, Mode, Eager, Seeded, basis_of, tree_of, bounds_of, moment_of, second_of, least_or, arrivals_from, arrivals_at, all_arrivals, start_second, commands_from, all_comings, by_moment, merge, joined, alone, groups_in, segments_since, segments_in, segments}
 use Rattle.exb_model.specs.EagerHistory.{opening, refusal_of}
 use Rattle.exb_model.specs.LegalHistory.{EachEvent, Legal, IsOfSegment, IsDecided, IsRelayOf, PlaysArrivals, PlaysTick, number_of, place_of, tick_of, settled_each}
 use Rattle.exb_model.specs.Texts.{journal_text}

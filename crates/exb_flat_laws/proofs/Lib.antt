@@ -17,4 +17,5 @@ pub mod Tables
 pub mod Setups
 pub mod Cascades
 pub mod Alone
+pub mod Pairs
 pub mod Chains

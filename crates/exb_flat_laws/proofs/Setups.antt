@@ -1,16 +1,17 @@
 -- A setup is valid exactly where it is well formed in words.
-use Rattle.std.proofs.Common.{◌≡◌, ◌≢◌, ◌⊎◌, inl, inr, ℕ, zero, suc, ◌+◌, ◌-◌, ◌*◌, ◌/◌, ◌%◌, ◌<◌, ◌≤◌, Bool, true, false, List, [], ◌∷◌, length, slice_index, AllPairs, refl, sym, ap, subst, ◌∙◌, arith}
-use Rattle.std.specs.Prelude.{nat_lt, slice_index_or, All, Contains}
-use Rattle.std.proofs.lemmas.Bool.{cases_eq, cases_lt, lt-ltb, ltb-true}
+use Rattle.std.proofs.Common.{◌≡◌, ◌≢◌, ◌⊎◌, inl, inr, ℕ, zero, suc, ◌+◌, ◌-◌, ◌*◌, ◌/◌, ◌%◌, ◌<◌, ◌≤◌, true, false, List, [], ◌∷◌, length, slice_index, AllPairs, refl, sym, ap, subst, ◌∙◌, arith}
+use Rattle.std.specs.Prelude.{not, slice_index_or, All, Contains}
+use Rattle.std.proofs.lemmas.Bool.{and_parts, false≢true, lt-ltb, ltb-true}
 use Rattle.std.proofs.lemmas.List.Elements.{All-nil, All-cons, All-head, All-tail}
 use Rattle.exb_model.specs.declared.setup.Place.{Place}
 use Rattle.exb_model.specs.declared.setup.Place.TheVariants as place
 use Rattle.exb_model.specs.declared.setup.ExtenderSetup.{ExtenderSetup}
 use Rattle.exb_model.specs.declared.setup.Setup.{Setup}
-use Rattle.exb_model.specs.Tree.{Shape, IsTree, HangsOn, is_port, on, top}
-use Rattle.exb_model.specs.Setup.{port_at, shape_of, IsPlace, InRange, IsValid}
+use Rattle.exb_model.specs.Tree.{IsTree, HangsOn, is_port, is_cascade, is_external, on, top}
+use Rattle.exb_model.specs.Setup.{port_at, shape_of, IsPlace, InRange}
+use Rattle.exb_model.proofs.TreeHung.{external_from, hung_cascade}
 use Rattle.exb_model.proofs.TreeWays.{top_low, top_high, top_none}
-use Rattle.exb_flat_laws.specs.Setups.{HasPlace, IsOnBridge, IsOnPortOf, IsWayUp, HasWayUp, IsWellFormed, ValidInWords, IsRing, NoRingIsValid}
+use Rattle.exb_flat_laws.specs.Setups.{HasPlace, IsOnBridge, IsOnPortOf, IsWayUp, HasWayUp, IsWellFormed, ValidInWords, IsFree, ExternalInWords, IsRing, NoRingIsValid}
 use Rattle.exb_flat_laws.proofs.Tables.{IsAmong, among_at, among_from, contains_from, all_among, of_all, one_of, AreApart, Has, ports_sized, ports_are, on_is, bridge_ports_are, extender_there, one_place}
 
 -- ---- one setup whose extenders have distinct numbers in their ranges
@@ -41,37 +42,43 @@ module _ (s : Setup) (ranges : All InRange s.extenders) (apart : AreApart s) whe
       }
 
   -- ---- places and ports
+  ports_at : (a b : ℕ) → a ≡ b → slice_index (shape_of s).ports a ≡ slice_index (shape_of s).ports b
+  ports_at a b same = ap (λ (d : ℕ). slice_index (shape_of s).ports d) same
+
   pub place_is_port : (x : Place) → IsPlace x → HasPlace s x → is_port (shape_of s) (port_at x) ≡ true
   place_is_port (place.Bridge k) r has =
       let place : (k - 1) % 64 ≡ k - 1 = omega (arith, r.0, r.1) in
       let device : (k - 1) / 64 ≡ 0 = omega (arith, r.0, r.1) in
       let there : slice_index (shape_of s).ports 0 ≡ s.ports = bridge_ports_are s ranges in
       lt-ltb ((k - 1) % 64) (slice_index (shape_of s).ports ((k - 1) / 64))
-      (let z : slice_index (shape_of s).ports ((k - 1) / 64) ≡ s.ports = ap (λ (d : ℕ). slice_index (shape_of s).ports d) device ∙ there in omega (arith, place, z, r.0, has))
+      (let z : slice_index (shape_of s).ports ((k - 1) / 64) ≡ s.ports = ports_at ((k - 1) / 64) 0 device ∙ there in omega (arith, place, z, r.0, has))
   place_is_port (place.Extender n k) r has =
       let e : ExtenderSetup = has.0 in
       let place : (64 * n + (k - 1)) % 64 ≡ k - 1 = omega (arith, r.2, r.3) in
       let device : (64 * n + (k - 1)) / 64 ≡ n = omega (arith, r.2, r.3) in
-      let there : slice_index (shape_of s).ports n ≡ e.ports = ap (λ (d : ℕ). slice_index (shape_of s).ports d) (sym has.2) ∙ its_ports has.0 (among_from s.extenders has.0 has.1) in
+      let there : slice_index (shape_of s).ports n ≡ e.ports = ports_at n has.0.number (sym has.2) ∙ its_ports has.0 (among_from s.extenders has.0 has.1) in
       lt-ltb ((64 * n + (k - 1)) % 64) (slice_index (shape_of s).ports ((64 * n + (k - 1)) / 64))
-      (let z : slice_index (shape_of s).ports ((64 * n + (k - 1)) / 64) ≡ e.ports = ap (λ (d : ℕ). slice_index (shape_of s).ports d) device ∙ there in omega (arith, place, z, r.2, has.3))
+      (let z : slice_index (shape_of s).ports ((64 * n + (k - 1)) / 64) ≡ e.ports = ports_at ((64 * n + (k - 1)) / 64) n device ∙ there in omega (arith, place, z, r.2, has.3))
 
   port_is_place : (x : Place) → IsPlace x → is_port (shape_of s) (port_at x) ≡ true → HasPlace s x
   port_is_place (place.Bridge k) r is =
       let place : (k - 1) % 64 ≡ k - 1 = omega (arith, r.0, r.1) in
       let device : (k - 1) / 64 ≡ 0 = omega (arith, r.0, r.1) in
-      let z : slice_index (shape_of s).ports ((k - 1) / 64) ≡ s.ports = ap (λ (d : ℕ). slice_index (shape_of s).ports d) device ∙ bridge_ports_are s ranges in
+      let z : slice_index (shape_of s).ports ((k - 1) / 64) ≡ s.ports = ports_at ((k - 1) / 64) 0 device ∙ bridge_ports_are s ranges in
       let low = ltb-true ((k - 1) % 64) (slice_index (shape_of s).ports ((k - 1) / 64)) is in
       omega (arith, place, z, low)
   port_is_place (place.Extender n k) r is =
       let place : (64 * n + (k - 1)) % 64 ≡ k - 1 = omega (arith, r.2, r.3) in
       let device : (64 * n + (k - 1)) / 64 ≡ n = omega (arith, r.2, r.3) in
-      let z : slice_index (shape_of s).ports ((64 * n + (k - 1)) / 64) ≡ slice_index (shape_of s).ports n = ap (λ (d : ℕ). slice_index (shape_of s).ports d) device in
+      let z : slice_index (shape_of s).ports ((64 * n + (k - 1)) / 64) ≡ slice_index (shape_of s).ports n = ports_at ((64 * n + (k - 1)) / 64) n device in
       let low = ltb-true ((64 * n + (k - 1)) % 64) (slice_index (shape_of s).ports ((64 * n + (k - 1)) / 64)) is in
       let there : Has n s.extenders = extender_there s n (omega (arith, r.0)) (omega (arith, z, low)) in
-      let e : ExtenderSetup = there.0 in
-      let same : slice_index (shape_of s).ports n ≡ e.ports = ap (λ (d : ℕ). slice_index (shape_of s).ports d) (sym there.2) ∙ its_ports there.0 there.1 in
-      (there.0, contains_from s.extenders there.0 there.1, there.2, omega (arith, place, z, low, same))
+      by_extender there.0 there.1 there.2 (omega (arith, place, z, low))
+    where
+      by_extender : (e : ExtenderSetup) → IsAmong e s.extenders → e.number ≡ n → k - 1 < slice_index (shape_of s).ports n → HasPlace s (place.Extender n k)
+      by_extender e among same low =
+          let own : slice_index (shape_of s).ports n ≡ e.ports = ports_at n e.number (sym same) ∙ its_ports e among in
+          (e, contains_from s.extenders e among, same, omega (arith, low, own))
 
   -- ---- ways up
   -- the bridge port at the end of a way
@@ -176,6 +183,24 @@ module _ (s : Setup) (ranges : All InRange s.extenders) (apart : AreApart s) whe
       let w : IsRooted 63 e = rooted_has_way (places_are tree) 63 e h low in
       record { way = w.way; there = w.there; few = w.few; is = w.is }))
 
+  -- ---- external ports
+  external_is_free : IsTree (shape_of s) → (x : Place) → IsPlace x → is_external (shape_of s) (port_at x) ≡ true → IsFree s x
+  external_is_free tree x r is =
+      let both = and_parts (is_port (shape_of s) (port_at x)) (not (is_cascade (shape_of s) (port_at x))) is in (
+        port_is_place x r both.0,
+        all_among (λ e. e.on ≢ x) s.extenders
+            (λ e h same. (let cascade : is_cascade (shape_of s) (port_at x) ≡ true = hung_cascade (shape_of s) tree e.number (port_at x) (subst (HangsOn (shape_of s) e.number) (ap port_at same) (hangs e h)) in
+            let wrong : false ≡ true = sym (ap not cascade) ∙ both.1 in
+            false≢true wrong)),
+      )
+
+  free_is_external : (x : Place) → IsPlace x → IsFree s x → is_external (shape_of s) (port_at x) ≡ true
+  free_is_external x r free =
+      external_from (shape_of s) (port_at x) (place_is_port x r free.0)
+      (λ n h. (let e : Has n s.extenders = extender_there s n h.extender h.there in
+      let at : port_at e.0.on ≡ port_at x = sym (its_place e.0 e.1) ∙ ap (on (shape_of s)) e.2 ∙ h.at in
+      of_all (λ f. f.on ≢ x) s.extenders e.0 free.1 e.1 (one_place e.0.on x (of_all InRange s.extenders e.0 ranges e.1).place r at)))
+
 -- ---- both ways
 pub valid_in_words : ValidInWords
 valid_in_words s = (
@@ -238,3 +263,6 @@ no_ring_is_valid s e ring is valid =
     let w : IsWellFormed s = (valid_in_words s).0 valid in
     let way : HasWayUp s e = of_all (HasWayUp s) s.extenders e w.ways (among_from s.extenders e (All-head (Contains s.extenders) e ring is.there)) in
     no_way s w (e ∷ ring) is e way.way (inl refl) way.there way.is
+
+pub external_in_words : ExternalInWords
+external_in_words s x v r = (external_is_free s v.ranges v.distinct v.tree x r, free_is_external s v.ranges v.distinct x r)

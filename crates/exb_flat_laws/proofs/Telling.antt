@@ -1,6 +1,6 @@
 -- A journal and an input tell one history.
-use Rattle.std.proofs.Common.{◌≡◌, ◌⊎◌, inl, inr, ℕ, suc, ◌+◌, ◌<◌, ◌^◌, List, [], ◌∷◌, ◌++◌, map, reverse, refl, sym, ap, subst, ◌∙◌, append_assoc, arith}
-use Rattle.std.specs.Prelude.{Option, Some, None, codes, decimal, flat_map, slice_index, All}
+use Rattle.std.proofs.Common.{◌≡◌, inr, ℕ, List, [], ◌∷◌, ◌++◌, reverse, refl, sym, ap, subst, ◌∙◌, append_assoc, arith}
+use Rattle.std.specs.Prelude.{Some, codes, decimal, flat_map, slice_index}
 use Rattle.std.specs.List.{AllByRecursion}
 use Rattle.std.proofs.lemmas.List.{append-nil, append_cancel_left}
 use Rattle.std.proofs.lemmas.List.Elements.{recursion_from_All}
@@ -12,9 +12,9 @@ use Rattle.exb_model.specs.Lists.{numbered}
 use Rattle.exb_model.specs.History.{History, ◌then◌}
 use Rattle.exb_model.specs.Input.{Input, Arrival, arrivals_at}
 use Rattle.exb_model.specs.Texts.{port_name, cause_text, line_of, journal_text}
-use Rattle.exb_flat_laws.specs.Telling.{IsWord, IsPort, HasWords, IsRecordOf, IsTold, JournalTellsHistory}
+use Rattle.exb_flat_laws.specs.Telling.{IsWord, IsPort, IsRecordOf, IsTold, JournalTellsHistory}
 use Rattle.exb_flat_laws.proofs.Plays.{then-append}
-use Rattle.exb_flat_laws.proofs.Lines.{heads, tails, newline, space, number_tells, last_number, port_tells, last_port, IsKnown, number_and_cause, port_and_cause}
+use Rattle.exb_flat_laws.proofs.Lines.{tails, space, last_number, port_tells, last_port, IsKnown, number_and_cause, port_and_cause}
 
 -- ---- one line
 -- ports are ports, and other numbers have 64 bits

@@ -8,7 +8,7 @@ use Rattle.exb_model.specs.declared.setup.Setup.{Setup}
 use Rattle.exb_model.specs.declared.command.Command.{Command}
 use Rattle.exb_model.specs.declared.command.Command.TheVariants as command
 use Rattle.exb_model.specs.Tree.{is_external, cascades_under}
-use Rattle.exb_model.specs.Setup.{shape_of, InRange, IsAgeing, IsStart, IsValid}
+use Rattle.exb_model.specs.Setup.{port_at, shape_of, IsPlace, InRange, IsAgeing, IsStart, IsValid}
 
 -- ---- in words
 -- it has that port: the bridge has so many, or an extender with that number does
@@ -58,6 +58,15 @@ pub record IsWellFormed (s : Setup) : Type 0 where
 abbrev pub ValidInWords : Type 0
 ValidInWords = (s : Setup) → IsValid s ↔ IsWellFormed s
 
+-- ---- external ports
+-- the port is there and no extender hangs on it
+abbrev pub IsFree : Setup → Place → Type 0
+IsFree s x = HasPlace s x × All (λ e. e.on ≢ x) s.extenders
+
+-- Those are the external ports of a valid setup.
+abbrev pub ExternalInWords : Type 0
+ExternalInWords = (s : Setup) (x : Place) → IsValid s → IsPlace x → (is_external (shape_of s) (port_at x) ≡ true) ↔ IsFree s x
+
 -- ---- what is excluded
 -- extenders of the setup, each of which hangs on a port of one of them
 pub record IsRing (s : Setup) (ring : List ExtenderSetup) : Type 0 where
@@ -86,21 +95,39 @@ StartIsJudged =
     × (IsValid (bridge_alone ports channels groups ageing (command.Down q ∷ [])) → ⊥)
 
 -- ---- two extenders on the bridge
-abbrev pub on_bridge : (number port : ℕ) → ExtenderSetup
-on_bridge number port = record { number = number; ports = 1; on = place.Bridge port }
+abbrev pub on_bridge : (number ports port : ℕ) → ExtenderSetup
+on_bridge number ports port = record { number = number; ports = ports; on = place.Bridge port }
 
-abbrev pub two_extenders : (n j m k : ℕ) → Setup
-two_extenders n j m k = record { ports = 64; extenders = on_bridge n j ∷ on_bridge m k ∷ []; channels = 1; groups = 1; ageing = 0; start = [] }
+abbrev pub two_extenders : ℕ → ExtenderSetup → ExtenderSetup → Setup
+two_extenders ports e f = record { ports = ports; extenders = e ∷ f ∷ []; channels = 1; groups = 1; ageing = 0; start = [] }
 
-pub record AreApart (n j m k : ℕ) : Type 0 where
-  pub first : InRange (on_bridge n j)
-  pub second : InRange (on_bridge m k)
+-- a bridge with b ports, extender n with p ports on port j, and extender m with q ports on port k
+abbrev pub side_by_side : (b n p j m q k : ℕ) → Setup
+side_by_side b n p j m q k = two_extenders b (on_bridge n p j) (on_bridge m q k)
+
+pub record AreSideBySide (b n p j m q k : ℕ) : Type 0 where
+  pub some_ports : 1 ≤ b
+  pub ports : b ≤ 64
+  pub first : InRange (on_bridge n p j)
+  pub second : InRange (on_bridge m q k)
+  pub first_there : j ≤ b
+  pub second_there : k ≤ b
   pub numbers : n ≢ m
-  pub ports : j ≢ k
+  pub places : j ≢ k
 
--- They are valid exactly where their numbers differ and the ports on which they hang do.
-abbrev pub TwoExtendersAreValid : Type 0
-TwoExtendersAreValid = (n j m k : ℕ) → IsValid (two_extenders n j m k) ↔ AreApart n j m k
+-- They are valid exactly where all numbers are in range, both ports are there, and neither the numbers nor the ports are one.
+abbrev pub SideBySideIsValid : Type 0
+SideBySideIsValid = (b n p j m q k : ℕ) → IsValid (side_by_side b n p j m q k) ↔ AreSideBySide b n p j m q k
+
+-- ---- one extender on another
+-- extender 1 with p ports on the bridge, and extender 2 on port k of extender n
+abbrev pub stacked : (p n k : ℕ) → Setup
+stacked p n k = two_extenders 1 (on_bridge 1 p 1) (record { number = 2; ports = 1; on = place.Extender n k })
+
+-- They are valid exactly where extender 1 has ports in range and extender 2 hangs on one of them: not on a port that isn't
+-- there, on an extender that isn't there, or on itself.
+abbrev pub StackedIsValid : Type 0
+StackedIsValid = (p n k : ℕ) → IsValid (stacked p n k) ↔ ((p ≤ 64) × (n ≡ 1) × (1 ≤ k) × (k ≤ p))
 
 -- ---- a chain
 -- extender 1 hangs on port 1 of the bridge, and each other one on port 1 of the extender before it
