@@ -119,14 +119,24 @@ impl Game {
     }
 
     /// Writes what is still to be written, and answers the summary line.
-    fn end<S: Shelf>(&mut self, alloc: Global, shelf: &mut S, plan: &Plan) -> Result<String, Fault> {
+    fn end<S: Shelf>(
+        &mut self,
+        alloc: Global,
+        shelf: &mut S,
+        plan: &Plan,
+    ) -> Result<String, Fault> {
         self.outputs.finish(shelf, plan)?;
         Ok(self.tally.line(alloc)?)
     }
 }
 
 /// Makes the outputs, and writes and counts the opening of a setup.
-fn begin<S: Shelf>(alloc: Global, shelf: &mut S, plan: &Plan, setup: &Setup) -> Result<Game, Fault> {
+fn begin<S: Shelf>(
+    alloc: Global,
+    shelf: &mut S,
+    plan: &Plan,
+    setup: &Setup,
+) -> Result<Game, Fault> {
     let outputs = create_all(alloc, shelf, plan)?;
     let Ok(world) = open(alloc, setup) else {
         return Err(Fault::Memory);
