@@ -5,7 +5,7 @@ use Rattle.exb_model.specs.declared.event.Event.{Event}
 use Rattle.exb_model.specs.EagerHistory.{eager}
 use Rattle.exb_model.specs.FlatBridge.{flat}
 use Rattle.exb_model.specs.History.{◌then◌}
-use Rattle.exb_model.specs.Input.{basis_of}
+use Rattle.exb_model.specs.Input.{Eager, basis_of}
 use Rattle.exb_machine.specs.Worlds.{World, Left}
 use Rattle.exb_standing.specs.Showing.{left_at}
 use Rattle.exb_resting.specs.Playing.{IsCopyOfAny, IsUnderWay, HasWritten, RunsAreUnderWay, RunsWriteEagerly, arrivals_in}
@@ -13,7 +13,7 @@ use Rattle.exb_schedule.specs.Laws.{PlayedIsUnderWay, PlayedWritesEagerly}
 
 pub played_is_under_way : RunsAreUnderWay → PlayedIsUnderWay
 played_is_under_way law i so_far n events left k =
-    let u : IsUnderWay i so_far k.done = law i so_far k.done k.plays in
+    let u : IsUnderWay i so_far k.done = law Eager i so_far k.done k.plays in
     record {
       next = λ p. ap (λ (w : World). w.next p) k.world ∙ u.next p;
       commands = ap (λ (w : World). w.control.given) k.world ∙ u.commands;
