@@ -1,18 +1,18 @@
 //! What an extender sends: it goes onto the link of the extender that hangs there, or leaves the network.
-ghost use Rattle.std.specs.Prelude.{◌≡◌, ◌<◌, ◌≤◌, OnOk, map};
+ghost use Rattle.std.specs.Prelude.{◌≡◌, ◌<◌, ◌≤◌, IfSome, OnOk, map};
 ghost use Rattle.std.specs.List.{All};
 ghost use Rattle.exb_csp.specs.AllTables.{port_of};
 ghost use Rattle.exb_extender.specs.Sending.{out_sent, own_sent, sent_by};
 ghost use Rattle.exb_machine.specs.Effects.{each};
 ghost use Rattle.exb_machine.specs.Extending.{hung_on, sent_at, sent_to, sends};
 ghost use Rattle.exb_machine.specs.Worlds.{moment_of};
-ghost use Rattle.exb_network.specs.Forms.{IsSide, CanGo};
+ghost use Rattle.exb_network.specs.Forms.{IsSide, CanGo, GoesOn};
 ghost use Rattle.exb_network.specs.Worlds.{world_in, IsAt, Does};
 
 use crate::forms::put_form;
 use crate::log::{Left, Log};
 use crate::site::{Core, Site};
-use exb_extender::{Out, Sends, Side};
+use exb_extender::{Form, Out, Sends, Side};
 use exb_link::{Stamp, Word};
 use exb_model::bytes::Bytes;
 use exb_model::memory::NoMemory;
@@ -201,4 +201,57 @@ pub(crate) fn send_all(
         core,
         log,
     )
+}
+
+/// The one side to which a frame goes on as it is, where it goes nowhere else and nothing else is sent.
+fn only_side(reaction: &Sends) -> Option<Side>
+    ensures { IfSome result (GoesOn reaction.now) }
+{
+    if !reaction.first.is_empty() || !reaction.second.is_empty() {
+        return None;
+    }
+    match reaction.frames.as_slice() {
+        [
+            Out {
+                to,
+                form: Form::AsIs,
+            },
+        ] => Some(*to),
+        _ => None,
+    }
+}
+
+/// All that an extender sends where this word came goes out. A word that goes on as it is, and nowhere else, is not copied.
+pub(crate) fn send_on(
+    alloc: Global,
+    site: &Site,
+    number: u8,
+    word: Word,
+    reaction: &Sends,
+    into: &mut Vec<u8>,
+    core: &mut Core,
+    log: &mut Log,
+) -> Result<(), NoMemory>
+    requires at { IsAt site.now core.old }
+    requires number { number < 65 }
+    requires can { All (CanGo word.bytes) reaction.now.frames.items }
+    ensures { OnOk result (Does (each (sends site.now.tree number word.stamp) (sent_by word.bytes reaction.now) (world_in core.old)) site.now core.new log.old log.new) }
+{
+    match only_side(reaction) {
+        Some(side) => send_to(site, number, side, word, core, log),
+        None => {
+            let frame = word.bytes.as_slice();
+            send_all(
+                alloc,
+                site,
+                number,
+                frame,
+                &word.stamp,
+                reaction,
+                into,
+                core,
+                log,
+            )
+        }
+    }
 }
