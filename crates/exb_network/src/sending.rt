@@ -2,11 +2,11 @@
 ghost use Rattle.std.specs.Prelude.{◌≡◌, ◌<◌, ◌≤◌, IfSome, OnOk, map};
 ghost use Rattle.std.specs.List.{All};
 ghost use Rattle.exb_csp.specs.AllTables.{port_of};
-ghost use Rattle.exb_extender.specs.Sending.{out_sent, own_sent, sent_by};
+ghost use Rattle.exb_extender.specs.Sending.{bytes_in, out_sent, own_sent, sent_by, CanBeGiven};
 ghost use Rattle.exb_machine.specs.Effects.{each};
 ghost use Rattle.exb_machine.specs.Extending.{hung_on, sent_at, sent_to, sends};
 ghost use Rattle.exb_machine.specs.Worlds.{moment_of};
-ghost use Rattle.exb_network.specs.Forms.{IsSide, CanGo, GoesOn};
+ghost use Rattle.exb_network.specs.Forms.{IsSide, CanGo, GoesOn, IsMade};
 ghost use Rattle.exb_network.specs.Worlds.{world_in, IsAt, Does};
 
 use crate::forms::put_form;
@@ -92,6 +92,26 @@ fn send_to(
     }
 }
 
+/// The frame in a form; where the last one was in that form too, it is there already.
+fn prepare(
+    frame: &[u8],
+    form: &Form,
+    made: &mut Option<Form>,
+    into: &mut Vec<u8>,
+) -> Result<(), NoMemory>
+    requires can { CanBeGiven frame.now form.now }
+    requires made { IsMade frame.now made.old into.old.items }
+    ensures bytes { OnOk result (into.new.items ≡ bytes_in frame.now form.now) }
+    ensures made { OnOk result (IsMade frame.now made.new into.new.items) }
+{
+    if *made == Some(*form) {
+        return Ok(());
+    }
+    put_form(frame, form, into)?;
+    *made = Some(*form);
+    Ok(())
+}
+
 /// A frame that an extender took goes out in a form.
 fn send_frame(
     alloc: Global,
@@ -100,6 +120,7 @@ fn send_frame(
     frame: &[u8],
     stamp: &Option<Stamp>,
     out: &Out,
+    made: &mut Option<Form>,
     into: &mut Vec<u8>,
     core: &mut Core,
     log: &mut Log,
@@ -107,9 +128,11 @@ fn send_frame(
     requires at { IsAt site.now core.old }
     requires number { number < 65 }
     requires can { CanGo frame.now out.now }
-    ensures { OnOk result (Does (sends site.now.tree number stamp.now (out_sent frame.now out.now) (world_in core.old)) site.now core.new log.old log.new) }
+    requires made { IsMade frame.now made.old into.old.items }
+    ensures does { OnOk result (Does (sends site.now.tree number stamp.now (out_sent frame.now out.now) (world_in core.old)) site.now core.new log.old log.new) }
+    ensures made { OnOk result (IsMade frame.now made.new into.new.items) }
 {
-    put_form(frame, &out.form, into)?;
+    prepare(frame, &out.form, made, into)?;
     let word = Word {
         bytes: Bytes::from_slice(alloc, into.as_slice())?,
         stamp: *stamp,
@@ -134,8 +157,11 @@ fn send_frames(
     requires can { All (CanGo frame.now) outs.now }
     ensures { OnOk result (Does (each (sends site.now.tree number stamp.now) (map (out_sent frame.now) outs.now) (world_in core.old)) site.now core.new log.old log.new) }
 {
+    let mut made = None;
     for out in outs {
-        send_frame(alloc, site, number, frame, stamp, out, into, core, log)?;
+        send_frame(
+            alloc, site, number, frame, stamp, out, &mut made, into, core, log,
+        )?;
     }
     Ok(())
 }
