@@ -1,6 +1,6 @@
 -- The extenders from the deepest: how many there are, and how the list is made.
-use Rattle.std.proofs.Common.{◌≡◌, ℕ, zero, suc, ◌+◌, ◌-◌, ◌<◌, ◌≤◌, ◌++◌, List, [], All, true, length, slice_index, refl, ap, sym, ◌∙◌, arith, inl, inr, add-one, length-append}
-use Rattle.std.proofs.lemmas.Bool.{and_from, and_parts, cases_Bool, lt-ltb}
+use Rattle.std.proofs.Common.{false, ◌≡◌, ℕ, zero, suc, ◌+◌, ◌-◌, ◌<◌, ◌≤◌, ◌++◌, List, [], All, true, length, slice_index, refl, ap, sym, ◌∙◌, arith, inl, inr, add-one, length-append}
+use Rattle.std.proofs.lemmas.Bool.{and_from, and_parts, cases_Bool, false_from_ne_true, lt-ltb}
 use Rattle.std.proofs.lemmas.List.{append-nil, append_assoc}
 use Rattle.std.proofs.lemmas.List.Elements.{All-nil, All-weaker, All-push, All-append}
 use Rattle.std.specs.Prelude.{nat_lt, ◌==◌}
@@ -73,6 +73,10 @@ deepest_extends t = extends_first t 64
 
 pub all_low : (t : Shape) (ns : List ℕ) → IsTree t → All (λ n. is_extender t n ≡ true) ns → All (λ n. n < 65) ns
 all_low t ns tree all = All-weaker (λ n. is_extender t n ≡ true) (λ n. n < 65) (λ n h. extender-low t tree n h) ns all
+
+-- none has a number past 64
+pub extender_past : (t : Shape) → IsTree t → (n : ℕ) → 65 ≤ n → is_extender t n ≡ false
+extender_past t tree n past = false_from_ne_true (is_extender t n) (λ e. let low = extender-low t tree n e in absurd (omega (arith, past, low)))
 
 -- ---- how many there are
 same_length : (t : Shape) (d : ℕ) → length (deepest_first t d) ≡ length (levels t d)

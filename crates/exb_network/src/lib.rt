@@ -16,6 +16,7 @@ mod hearing;
 mod indices;
 mod links;
 pub mod log;
+mod numbers;
 mod orders;
 mod relaying;
 mod sending;

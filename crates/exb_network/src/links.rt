@@ -1,11 +1,12 @@
 //! The links of a network: two directions for each extender.
-ghost use Rattle.std.specs.Prelude.{◌≡◌, ◌==◌, ◌↔◌, ℕ, ◌<◌, ◌++◌, ◌∷◌, [], false, if◌then◌else◌, IfOk, IsTrue, OnOk, filter, slice_get};
+ghost use Rattle.std.specs.Prelude.{◌≡◌, ◌↔◌, ℕ, ◌<◌, ◌++◌, ◌∷◌, [], false, IfOk, IsTrue, OnOk, filter, slice_get};
 ghost use Rattle.std.specs.Int.{bit_at};
 ghost use Rattle.std.specs.Option.{option_copied};
 ghost use Rattle.exb_link.specs.Words.{is_control, is_data, without_data, without_control};
 ghost use Rattle.exb_machine.specs.Worlds.{at};
 ghost use Rattle.exb_network.specs.Directions.{words_of};
 
+use crate::numbers::{meet, with_bit};
 use exb_link::{Link, Word};
 use exb_model::memory::NoMemory;
 use exb_model::port::DEVICES;
@@ -30,18 +31,6 @@ impl Model for Direction {
     ghost view = { λ d. d.links.items };
 
     ghost invariant = { λ d. IsNoted d.links.items d.busy };
-}
-
-/// A set of numbers by its bits in which one number is or isn't, and all others are as before.
-fn with_bit(bits: u128, number: u8, wanted: bool) -> u128
-    requires { number < 128 }
-    ensures { (n : ℕ) → bit_at result n ≡ (if n == number then (if wanted then 1 else 0) else bit_at bits n) }
-{
-    if wanted {
-        bits | (1 << number)
-    } else {
-        bits & !(1 << number)
-    }
 }
 
 impl Direction {
@@ -126,5 +115,12 @@ impl Direction {
         ensures { IsTrue result ↔ ((n : ℕ) → words_of self.now n ≡ []) }
     {
         self.busy == 0
+    }
+
+    /// Whether links of these extenders, each a bit of its number, have a word.
+    pub(crate) fn have_words(&self, among: u128) -> bool
+        ensures { (result ≡ false) ↔ ((n : ℕ) → bit_at among n ≡ 1 → words_of self.now n ≡ []) }
+    {
+        meet(self.busy, among)
     }
 }

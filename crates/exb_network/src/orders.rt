@@ -1,8 +1,10 @@
-//! The order of the extenders from the deepest.
+//! The extenders of a tree: from the deepest, and as a set.
 ghost use Rattle.std.specs.Prelude.{◌≡◌, ℕ, ◌+◌, ◌<◌, ◌≤◌, IfOk, length};
 ghost use Rattle.exb_model.specs.Tree.{hangs_at_depth, path};
 ghost use Rattle.exb_machine.specs.Settling.{deepest_first};
+ghost use Rattle.exb_network.specs.Sites.{AreExtenders};
 
+use crate::numbers::with_bit;
 use exb_model::memory::NoMemory;
 use exb_model::port::{DEVICES, PortId};
 use exb_model::tree::Tree;
@@ -53,4 +55,16 @@ pub(crate) fn deepest_first(
         }
     }
     Ok(order)
+}
+
+/// The extenders, each a bit of its number.
+pub(crate) fn all_extenders(tree: &Tree) -> u128
+    ensures { AreExtenders tree.now result }
+{
+    tree.is_tree();
+    let mut extenders = 0u128;
+    for number in 0..DEVICES {
+        extenders = with_bit(extenders, number, tree.is_extender(number));
+    }
+    extenders
 }

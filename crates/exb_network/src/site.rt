@@ -4,14 +4,14 @@ ghost use Rattle.exb_model.specs.Setup.{IsPlace, IsValid, port_at, shape_of, sta
 ghost use Rattle.exb_model.specs.Tree.{by_depth, is_extender, on};
 ghost use Rattle.exb_machine.specs.Settling.{deepest_first};
 ghost use Rattle.exb_machine.specs.Worlds.{first_world};
-ghost use Rattle.exb_network.specs.Sites.{limits_in};
+ghost use Rattle.exb_network.specs.Sites.{limits_in, AreExtenders};
 ghost use Rattle.exb_network.specs.Worlds.{world_in, IsAt};
 
 use crate::ends::Ends;
 use crate::extenders::Extenders;
 use crate::indices::Indices;
 use crate::links::Direction;
-use crate::orders::deepest_first;
+use crate::orders::{all_extenders, deepest_first};
 use exb_control::{Control, Outbox};
 use exb_extender::Sends;
 use exb_model::buffers::{ControlBuf, FrameBuf};
@@ -32,6 +32,8 @@ pub(crate) struct Site {
     on: [PortId; DEVICES as usize],
     /// The extenders from the deepest, at one depth by number.
     upwards: Vec<u8>,
+    /// The extenders, each a bit of its number.
+    extenders: u128,
 }
 
 impl Model for Site {
@@ -41,7 +43,7 @@ impl Model for Site {
 
     ghost view = { λ s. record { tree = s.tree; channels = s.channels; groups = s.groups } };
 
-    ghost invariant = { λ s. HasTables s.tree s.on s.upwards.items };
+    ghost invariant = { λ s. HasTables s.tree s.on s.upwards.items s.extenders };
 }
 
 /// The port at a place of a setup.
@@ -78,12 +80,14 @@ impl Site {
         let tree = Tree::new(alloc, setup)?;
         let on = places(setup);
         let upwards = deepest_first(alloc, &tree, &on)?;
+        let extenders = all_extenders(&tree);
         Ok(Site {
             tree,
             channels: setup.channels,
             groups: setup.groups,
             on,
             upwards,
+            extenders,
         })
     }
 
@@ -117,6 +121,13 @@ impl Site {
         ensures { result.now ≡ deepest_first self.now.tree 64 }
     {
         self.upwards.as_slice()
+    }
+
+    /// The extenders, each a bit of its number.
+    pub(crate) fn extenders(&self) -> u128
+        ensures { AreExtenders self.now.tree result }
+    {
+        self.extenders
     }
 
     /// The extenders in the order in which a round goes through the downward directions.

@@ -1,5 +1,5 @@
-use Rattle.exb_network.proofs.Noted.{bit_put, bit_gone}
-use Rattle.exb_network.proofs.links.with_bit.Goals as goal
+use Rattle.exb_network.proofs.Bits.{bit_put, bit_gone}
+use Rattle.exb_network.proofs.numbers.with_bit.Goals as goal
 
 pub returns-then-wanted : goal.returns-then-wanted
 returns-then-wanted c = λ n. rw c.if-wanted.true (bit_put c.args.bits c.args.number c.requires n)
