@@ -18,4 +18,7 @@ pub mod Hanging
 pub mod Cores
 pub mod Reacting
 pub mod Sendings
+pub mod Noted
+pub mod Deepest
+pub mod Turning
 pub mod Beginnings

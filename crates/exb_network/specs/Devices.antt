@@ -1,5 +1,5 @@
 -- The extenders of a network as the world has them: the state of each, by its number.
-use Rattle.std.specs.Prelude.{◌≡◌, ℕ, ◌==◌, ◌||◌, Bool, true, false, if◌then◌else◌, List, Option, Some, None, slice_get, slice_index}
+use Rattle.std.specs.Prelude.{◌≡◌, ℕ, ◌==◌, ◌||◌, Bool, true, false, List, Option, Some, None, slice_get, slice_index}
 use Rattle.exb_model.specs.Tree.{Shape}
 use Rattle.exb_extender.specs.Fields.{Fields, state_of}
 use Rattle.exb_extender.specs.Machine.{ExtenderState, at_power_on}

@@ -7,6 +7,7 @@ pub mod Forms
 pub mod Arrivals
 pub mod Sends
 pub mod Steps
+pub mod Turns
 pub mod Worlds
 pub mod Networks
 pub mod Leading

@@ -1,5 +1,5 @@
 //! The network as one value, and its calls.
-ghost use Rattle.std.specs.Prelude.{◌≡◌, ◌↔◌, ◌<◌, ℕ, true, false, IfOk, IsTrue, OnErr, OnOk, length, filter};
+ghost use Rattle.std.specs.Prelude.{◌≡◌, ◌↔◌, ◌<◌, ◌≤◌, ℕ, [], true, false, IfNone, IfOk, IfSome, IsTrue, OnErr, OnOk, Some, length, filter, slice_get};
 ghost use Rattle.exb_model.specs.Setup.{IsValid, limits_of, shape_of, start_of};
 ghost use Rattle.exb_model.specs.Tree.{is_extender};
 ghost use Rattle.exb_link.specs.Words.{is_control, is_data, leading};
@@ -15,15 +15,17 @@ ghost use Rattle.exb_network.specs.Idle.{IsIdle};
 ghost use Rattle.exb_network.specs.Networks.{step_of, IsLive};
 ghost use Rattle.exb_network.specs.Sites.{limits_in};
 ghost use Rattle.exb_network.specs.Steps.{way_of};
+ghost use Rattle.exb_network.specs.Turns.{order_of, IsTurn};
 ghost use Rattle.exb_network.specs.Worlds.{world_in, IsAt, Does};
 
 use crate::arrivals::Arrived;
+use crate::busy::Turn;
 use crate::log::{Left, Log};
 use crate::relaying::are_bytes;
 use crate::site::{Core, Room, Site};
 use crate::step::{Step, Way};
 use crate::stepping::{arrive, carry, deliver, lose, mark, order, tick};
-use crate::{allowing, beating};
+use crate::{allowing, beating, busy};
 use exb_link::{Counts, Link};
 use exb_machine_laws::laws::{
     asks_can_be_sent, begins_written, runs_stay_sound, setups_begin_sound, steps_stay_written,
@@ -223,6 +225,14 @@ impl World {
     {
         self.site.has_low_number(link);
         link_of(&self.core, link, way).free_at(at)
+    }
+
+    /// The first direction of a way, from a place on in the order in which a round goes through them, that has a word.
+    pub fn next_busy(&self, way: Way, from: u8) -> Option<Turn>
+        ensures found { IfSome result (λ turn. IsTurn (tree_of self.now) (way_of way) (world_of self.now) from turn) }
+        ensures none { IfNone result ((k n : ℕ) → from ≤ k → slice_get (order_of (tree_of self.now) (way_of way)) k ≡ Some n → words_on n (way_of way) (world_of self.now) ≡ []) }
+    {
+        busy::next_busy(&self.site, &self.core, way, from)
     }
 
     /// What happened since the last `clear`, in order.

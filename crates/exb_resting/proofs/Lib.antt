@@ -11,7 +11,7 @@ mod Progress
 mod Verdicts
 mod Budget
 mod Grows
-mod RoundSteps
+pub mod RoundSteps
 mod Reading
 mod Stages
 mod Ending

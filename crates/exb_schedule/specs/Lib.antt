@@ -1,3 +1,4 @@
 pub mod Moves
 pub mod Reached
+pub mod Rounds
 pub mod Playing

@@ -1,5 +1,5 @@
 -- Networks that runs reach.
-use Rattle.std.specs.Prelude.{◌≡◌, false, List, All}
+use Rattle.std.specs.Prelude.{◌≡◌, Bool, false, List, All}
 use Rattle.exb_model.specs.declared.setup.Setup.{Setup}
 use Rattle.exb_model.specs.Setup.{IsValid, shape_of, limits_of}
 use Rattle.exb_machine.specs.Worlds.{Step}
@@ -18,6 +18,7 @@ pub record Reached (n : Network) : Type 0 where
   pub may : MayTakeAll (shape_of setup) (limits_of setup) (beginning setup) steps
   pub world : world_of n ≡ reached_by setup steps
 
--- so it is as long as memory hasn't run out
-abbrev pub IsReached : Network → Type 0
-IsReached n = n.failed ≡ false → Reached n
+-- So it is as long as memory hasn't run out; the flag says whether it has.
+pub record IsKept (n : Network) (failed : Bool) : Type 0 where
+  pub flag : n.failed ≡ failed
+  pub reached : n.failed ≡ false → Reached n

@@ -4,9 +4,9 @@ ghost use Rattle.exb_model.specs.Rounds.{rounds};
 ghost use Rattle.exb_machine.specs.Allowing.{IsSettled};
 ghost use Rattle.exb_machine.specs.Settling.{planned_in, settled_within};
 ghost use Rattle.exb_network.specs.Networks.{world_of, tree_of, bounds_of};
-ghost use Rattle.exb_schedule.specs.Moves.{IsMoved};
+ghost use Rattle.exb_schedule.specs.Moves.{HasGone};
 
-use crate::round::round;
+use crate::delivery::round;
 use crate::world::World;
 use exb_network::WorldFault;
 use exb_resting::laws::settles;
@@ -14,17 +14,17 @@ use exb_resting::laws::settles;
 /// Makes rounds until nothing is left to be done, and answers how many: at most 64 for each exchange that is planned, and for one
 /// more.
 pub fn settle(world: &mut World) -> Result<u64, WorldFault>
-    ensures ok { OnOk result (IsMoved (settled_within (tree_of world.old) (bounds_of world.old) (rounds 0 (planned_in (tree_of world.old) (bounds_of world.old) (world_of world.old))) (world_of world.old) []).done world.old world.new) }
+    ensures ok { OnOk result (HasGone (settled_within (tree_of world.old) (bounds_of world.old) (rounds 0 (planned_in (tree_of world.old) (bounds_of world.old) (world_of world.old))) (world_of world.old) []).done world.old world.new) }
     ensures settled { OnOk result (IsSettled (tree_of world.new) (world_of world.new)) }
     ensures bound { IfOk result (λ made. made ≤ rounds 0 (planned_in (tree_of world.old) (bounds_of world.old) (world_of world.old))) }
     ensures failed { (result ≡ Err WorldFault.Failed) ↔ (world.old.failed ≡ true) }
     ensures memory { OnErr result (world.new.failed ≡ true) }
 {
     settles();
-    let mut made = 0;
+    let mut made: u64 = 0;
     'rounds: while !world.settled() {
         round(world)?;
-        made += 1;
+        made = made.saturating_add(1);
     }
     Ok(made)
 }

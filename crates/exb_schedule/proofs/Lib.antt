@@ -1,0 +1,9 @@
+mod Runs
+mod Rounds
+mod RoundsLeft
+mod Playing
+mod Leading
+mod Passing
+mod Giving
+mod Resting
+mod Segments
