@@ -81,3 +81,10 @@ pub mod OrderShown
 pub mod OtherSteps
 pub mod SerialsRise
 pub mod Settles
+-- runs that play an input
+mod Leaving
+mod PlaysGive
+mod Copies
+mod TellsNumbers
+pub mod Playing
+pub mod UnderWay

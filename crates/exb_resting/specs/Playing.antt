@@ -1,7 +1,7 @@
 -- Runs that play the segments of an input, one after another, and what is known of them.
-use Rattle.std.specs.Prelude.{◌≡◌, ℕ, ◌+◌, ◌≤◌, ◌==◌, true, List, [], ◌∷◌, length, map, filter, flat_map, sum_by, All, Contains}
+use Rattle.std.specs.Prelude.{◌≡◌, ℕ, ◌+◌, ◌≤◌, ◌==◌, true, List, [], ◌∷◌, length, filter, filter_map, flat_map, sum_by, All, Contains}
 use Rattle.exb_model.specs.FlatBridge.{flat}
-use Rattle.exb_model.specs.History.{◌then◌}
+use Rattle.exb_model.specs.History.{◌then◌, command_of}
 use Rattle.exb_model.specs.Input.{Input, Arrival, Segment, Eager, basis_of, tree_of, bounds_of, segments}
 use Rattle.exb_model.specs.EagerHistory.{eager}
 use Rattle.exb_model.specs.Lists.{Pairwise}
@@ -47,7 +47,7 @@ pub record IsCopyOfAny (i : Input) (arrivals : List Arrival) (x : Left) : Type 0
 -- arrivals.
 pub record IsUnderWay (i : Input) (so_far : List Segment) (done : Stepped) : Type 0 where
   pub next : (p : ℕ) → done.world.next p ≡ length (filter (λ (a : Arrival). a.port == p) (arrivals_in so_far)) + 1
-  pub commands : done.world.control.given ≡ length (flat_map (λ (s : Segment). s.commands) so_far)
+  pub commands : done.world.control.given ≡ length (flat_map (λ (s : Segment). filter_map (command_of (basis_of i)) s.commands) so_far)
   pub clock : done.world.table.clock ≡ sum_by (λ (s : Segment). s.seconds) so_far
   pub copies : All (IsCopyOfAny i (arrivals_in so_far)) done.left
 

@@ -6,6 +6,7 @@ ghost use Rattle.exb_resting.specs.Playing.{RunsAreUnderWay, RunsWriteEagerly};
 use exb_change_laws::laws::steps_tell;
 use exb_frame::laws::tag_round_trip;
 use exb_machine_laws::laws::steps_stay_written;
+use exb_motion::laws::settled_is_orderly;
 use exb_relay::laws::{sends_are_words, sends_leave_as_flat};
 
 /// The world of each valid setup has the facts that the other laws ask of each world that rounds reach.
@@ -135,4 +136,5 @@ pub fn runs_write_eagerly()
     sends_leave_as_flat();
     steps_tell();
     steps_stay_written();
+    settled_is_orderly();
 }
