@@ -108,6 +108,13 @@ none-above i p a (suc n) h =
     ∙ ap (λ arrived. arrived ++ at_port p (flat_map (arrivals_at i) (range_with_len (a + 1) n))) (other-at i p a (λ e. omega arith))
     ∙ none-above i p (a + 1) n (omega arith)
 
+none-below : (i : Input) (p a n : ℕ) → a + n ≤ p → at_port p (flat_map (arrivals_at i) (range_with_len a n)) ≡ []
+none-below i p a zero h = refl
+none-below i p a (suc n) h =
+    filter-append (λ x. x.port == p) (arrivals_at i a) (flat_map (arrivals_at i) (range_with_len (a + 1) n))
+    ∙ ap (λ arrived. arrived ++ at_port p (flat_map (arrivals_at i) (range_with_len (a + 1) n))) (other-at i p a (λ e. omega (arith, h, e)))
+    ∙ none-below i p (a + 1) n (omega (arith, h))
+
 own-among : (i : Input) (p a n : ℕ) → a ≤ p → p < a + n → at_port p (flat_map (arrivals_at i) (range_with_len a n)) ≡ arrivals_at i p
 own-among i p a zero low high = absurd (omega (arith, low, high))
 own-among i p a (suc n) low high =
@@ -132,11 +139,12 @@ no_command-arrives : (start n : ℕ) (cs : List Given) (xs : List Coming) → fi
 no_command-arrives start n [] xs = refl
 no_command-arrives start n (c ∷ cs) xs = no_command-arrives start (suc n) cs xs
 
+kept-coming : (i : Input) (p : ℕ) → kept p (all_comings i) ≡ at_port p (all_arrivals i)
+kept-coming i p = ap (at_port p) (no_command-arrives (start_second i) 1 i.commands (map Captured (all_arrivals i)) ∙ captured-only (all_arrivals i))
+
 own-coming : (i : Input) (p : ℕ) → p < 4160 → kept p (all_comings i) ≡ arrivals_at i p
 unfolding all_arrivals below
-own-coming i p low =
-    ap (at_port p) (no_command-arrives (start_second i) 1 i.commands (map Captured (all_arrivals i)) ∙ captured-only (all_arrivals i))
-    ∙ own-among i p 0 4160 (omega arith) (omega (arith, low))
+own-coming i p low = kept-coming i p ∙ own-among i p 0 4160 (omega arith) (omega (arith, low))
 
 at-by_moment : (i : Input) (p : ℕ) → ByMoment (arrivals_at i p)
 unfolding arrivals_at
@@ -148,3 +156,14 @@ unfolding merge
 merged-at i p low =
     let own = own-coming i p low in
     by_moment-kept p (all_comings i) (subst ByMoment (sym own) (at-by_moment i p)) ∙ own
+
+none-coming : (i : Input) (p : ℕ) → 4160 ≤ p → kept p (all_comings i) ≡ []
+unfolding all_arrivals below
+none-coming i p high = kept-coming i p ∙ none-below i p 0 4160 (omega (arith, high))
+
+-- and none is of what is no port
+pub merged-none : (i : Input) (p : ℕ) → 4160 ≤ p → at_port p (filter_map arrival_in (merge i)) ≡ []
+unfolding merge
+merged-none i p high =
+    let none = none-coming i p high in
+    by_moment-kept p (all_comings i) (subst ByMoment (sym none) tt) ∙ none

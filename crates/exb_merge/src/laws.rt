@@ -1,6 +1,6 @@
 //! What is still to come of the commands and captures of an input. Each law is a function that does
 //! nothing and ensures it.
-ghost use Rattle.std.specs.Prelude.{◌≡◌, ◌<◌, ◌==◌, ℕ, Bool, false, List, [], map, filter, filter_map};
+ghost use Rattle.std.specs.Prelude.{◌≡◌, ◌<◌, ◌≤◌, ◌==◌, ℕ, Bool, false, List, [], map, filter, filter_map};
 ghost use Rattle.exb_model.specs.declared.setup.Timed.{Timed};
 ghost use Rattle.exb_model.specs.Ports.{all_ports};
 ghost use Rattle.exb_model.specs.Input.{Input, arrivals_at, arrival_in, given_by, merge};
@@ -23,7 +23,8 @@ pub fn merge_of_all()
         → still_to_come (begun (to_come (map (stream_at i) (filter chosen all_ports))) commands) ≡ merge i }
 {}
 
-/// The records of a port come in the order of its capture.
+/// The records of a port come in the order of its capture, and none comes of what is no port.
 pub fn merge_keeps_order()
-    ensures { (i : Input) (p : ℕ) → p < 4160 → filter (λ a. a.port == p) (filter_map arrival_in (merge i)) ≡ arrivals_at i p }
+    ensures ports { (i : Input) (p : ℕ) → p < 4160 → filter (λ a. a.port == p) (filter_map arrival_in (merge i)) ≡ arrivals_at i p }
+    ensures others { (i : Input) (p : ℕ) → 4160 ≤ p → filter (λ a. a.port == p) (filter_map arrival_in (merge i)) ≡ [] }
 {}
