@@ -55,10 +55,10 @@ def set_for_each_vlan(cases):
 
 
 def flapping(cases):
-    """A port goes down and up a hundred times while frames go between others."""
-    them = [f"{at} {'down' if at % 2 else 'up'} port = 'x2.1'" for at in range(1, 201)]
+    """A port goes down and up fifty times while frames go between others."""
+    them = [f"{at} {'down' if at % 2 else 'up'} port = 'x2.1'" for at in range(1, 101)]
     cases.plays("flapping", tree([(1, "b1", 3), (2, "x1.3", 2)], {"x1.1": "a.pcap", "x2.1": "b.pcap"}, more=commands(*them)),
-                {"a.pcap": [(100 + 7 * at, F) for at in range(29)], "b.pcap": [(101 + 9 * at, frame(source=TWO)) for at in range(22)]})
+                {"a.pcap": [(100 + 7 * at, F) for at in range(15)], "b.pcap": [(101 + 9 * at, frame(source=TWO)) for at in range(11)]})
 
 
 EVERY = [

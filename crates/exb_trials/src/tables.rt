@@ -22,8 +22,9 @@ fn channels(rng: &mut Lcg64Xsh32, site: &Site) -> u64 {
 /// How many groups there are: few, some, or enough.
 fn groups(rng: &mut Lcg64Xsh32) -> u32 {
     match draw(rng, 4) {
-        0 => 2 + draw(rng, 6),
-        1 => 6 + draw(rng, 12),
+        0 => 2 + draw(rng, 4),
+        1 => 4 + draw(rng, 6),
+        2 => 8 + draw(rng, 12),
         _ => 12288,
     }
 }

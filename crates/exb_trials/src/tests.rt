@@ -145,10 +145,10 @@ fn runs_over_more_extenders_write_what_the_plain_bridge_sends(rt: HostRuntime) -
 fn a_run_over_many_extenders_writes_what_the_plain_bridge_sends(
     rt: HostRuntime,
 ) -> Result<(), Fail> {
-    expect_trial(&rt, rt.alloc(), 400, 30)
+    expect_trial(&rt, rt.alloc(), 402, 30)
 }
 
 #[test]
 fn a_run_over_64_extenders_writes_what_the_plain_bridge_sends(rt: HostRuntime) -> Result<(), Fail> {
-    expect_trial(&rt, rt.alloc(), 500, 64)
+    expect_trial(&rt, rt.alloc(), 502, 64)
 }
