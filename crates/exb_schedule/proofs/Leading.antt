@@ -7,7 +7,6 @@ use Rattle.exb_machine.specs.Settling.{nothing, followed_by, run}
 use Rattle.exb_machine.specs.Stepping.{Stepped, stepped}
 use Rattle.exb_machine.specs.Worlds.{World, Step, Left}
 use Rattle.exb_machine_laws.specs.Laws.{IsMove}
-use Rattle.exb_machine_laws.specs.Sessions.{Each}
 use Rattle.exb_machine_laws.proofs.Rounds.{run_then}
 use Rattle.exb_machine_laws.proofs.Words.{each_append}
 use Rattle.exb_network.specs.Networks.{Network, world_of, tree_of, bounds_of, IsSame, IsStepped}

@@ -7,3 +7,6 @@ mod Passing
 mod Giving
 mod Resting
 mod Segments
+mod Reaching
+mod Going
+mod Played

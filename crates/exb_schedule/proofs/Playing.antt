@@ -1,7 +1,6 @@
 -- A run that plays one segment more.
-use Rattle.std.proofs.Common.{◌≡◌, ℕ, ◌++◌, ◌==◌, Bool, true, false, cond, List, [], ◌∷◌, append_assoc, append-nil, refl, ap, sym, ◌∙◌, subst}
-use Rattle.std.specs.Prelude.{flat_map, All, if◌then◌else◌}
-use Rattle.exb_model.specs.declared.setup.Setup.{Setup}
+use Rattle.std.proofs.Common.{◌≡◌, ◌++◌, List, [], ◌∷◌, append_assoc, append-nil, refl, ap, sym, ◌∙◌, subst}
+use Rattle.std.specs.Prelude.{All}
 use Rattle.exb_model.specs.History.{Basis}
 use Rattle.exb_model.specs.Input.{Input, Segment, basis_of, tree_of, bounds_of}
 use Rattle.exb_model.specs.Lists.{Pairwise}

@@ -1,11 +1,11 @@
 -- Settling that is under way.
-use Rattle.std.proofs.Common.{◌≡◌, ℕ, suc, ◌+◌, ◌≤◌, inl, inr, Bool, true, false, [], refl, ap, sym, ◌∙◌, subst, arith}
+use Rattle.std.proofs.Common.{◌≡◌, ℕ, ◌-◌, ◌^◌, min, suc, ◌+◌, ◌≤◌, inl, inr, true, false, [], refl, ap, sym, ◌∙◌, subst, arith}
 use Rattle.std.proofs.lemmas.Bool.{cases_Bool}
 use Rattle.exb_model.specs.Rounds.{rounds}
 use Rattle.exb_model.specs.Setup.{Limits, shape_of, limits_of}
 use Rattle.exb_model.specs.Tree.{Shape, IsTree}
 use Rattle.exb_machine.specs.Allowing.{IsSettled}
-use Rattle.exb_machine.specs.Settling.{is_settled, nothing, followed_by, planned_in, round, settled_within}
+use Rattle.exb_machine.specs.Settling.{is_settled, followed_by, planned_in, round, settled_within}
 use Rattle.exb_machine.specs.Stepping.{Stepped}
 use Rattle.exb_machine.specs.Worlds.{World}
 use Rattle.exb_machine_laws.proofs.Rounds.{settled_exactly}
@@ -15,9 +15,9 @@ use Rattle.exb_network.specs.Sites.{Site, limits_in}
 use Rattle.exb_resting.specs.Settles.{Settles, reached_by}
 use Rattle.exb_schedule.specs.Moves.{HasGone}
 use Rattle.exb_schedule.specs.Reached.{Reached}
-use Rattle.exb_schedule.specs.Rounds.{Leads}
+use Rattle.exb_schedule.specs.Rounds.{Leads, rounds_made}
 use Rattle.exb_schedule.proofs.Leading.{same_then, leads_begin, leads_on, leads_end, gone_world}
-use Rattle.exb_schedule.proofs.RoundsLeft.{Ends, IsRound, is_round, no_more, rounds_left, left_within}
+use Rattle.exb_schedule.proofs.RoundsLeft.{Ends, IsRound, is_round, left_within, no_more, none_left}
 
 -- how many rounds there are at most
 abbrev pub most : Network → ℕ
@@ -25,18 +25,31 @@ most n = rounds 0 (planned_in (tree_of n) (bounds_of n) (world_of n))
 
 -- how many are still to be made, of those that there are at most
 abbrev pub still : Network → Network → ℕ
-still old now = rounds_left (tree_of old) (bounds_of old) (most old) (world_of now)
+still old now = rounds_made (tree_of old) (bounds_of old) (most old) (world_of now)
 
--- Where memory hasn't run out, settling ends from here, and so many rounds were made at most.
+-- the rounds so far and those that are left are all, and what is counted stays at 2^64 - 1
+pub record AreCounted (all left counted : ℕ) : Type 0 where
+  pub so_far : ℕ
+  pub is : so_far + left ≡ all
+  pub made : counted ≡ min so_far (2 ^ 64 - 1)
+
+-- Where memory hasn't run out, settling ends from here, and so many rounds were made.
 pub record Rests (old now : Network) (made : ℕ) : Type 0 where
   pub tree : IsTree (tree_of old)
   pub ends : Ends (tree_of old) (bounds_of old) (most old) (world_of now)
   pub leads : Leads (settled_within (tree_of old) (bounds_of old) (most old) (world_of old) []).done (settled_within (tree_of old) (bounds_of old) (most old) (world_of now) []).done old now
-  pub few : made + still old now ≤ most old
+  pub counted : AreCounted (still old old) (still old now) made
 
 pub record IsResting (old now : Network) (made : ℕ) : Type 0 where
   pub same : IsSame old now
   pub rests : now.failed ≡ false → Rests old now made
+
+-- ---- the count
+min_low : (a b : ℕ) → min a b ≤ a
+min_low a b = omega arith
+
+min_next : (k m : ℕ) → min (min k m + 1) m ≡ min (suc k) m
+min_next k m = omega arith
 
 -- ---- it begins
 tree_is : (n : Network) → Reached n → IsTree (tree_of n)
@@ -58,13 +71,13 @@ rests_begin law n reached =
         tree = tree_is n (reached awake);
         ends = ends_at law n (reached awake);
         leads = leads_begin (settled_within (tree_of n) (bounds_of n) (most n) (world_of n) []).done n;
-        few = left_within (tree_of n) (bounds_of n) (most n) (world_of n);
+        counted = record { so_far = 0; is = omega arith; made = refl };
       };
     }
 
 -- ---- a round
 not_settled : (t : Shape) (w : World) → IsTree t → (IsSettled t w → ⊥) → is_settled t w ≡ false
-not_settled t w tree none = elim (cases_Bool (is_settled t w)) [ | inl e ↦ absurd (none ((settled_exactly t w tree).0 e)) | inr e ↦ e ]
+not_settled t w tree none = elim (cases_Bool (is_settled t w)) [ inl e ↦ absurd (none ((settled_exactly t w tree).0 e)) | inr e ↦ e ]
 
 at_site : (old now : Network) → IsSame old now → (P : Shape → Limits → Type 0) → P (tree_of now) (bounds_of now) → P (tree_of old) (bounds_of old)
 at_site old now same P p = (let Q : Site → Type 0 = λ s. P s.tree (limits_in s) in subst Q same.site p)
@@ -78,7 +91,7 @@ pub record IsOneRound (old now new : Network) (made more : ℕ) : Type 0 where
   pub less : suc (still old new) ≡ still old now
 
 one_round : (old now new : Network) (made more : ℕ) → IsSame old now → Rests old now made → (IsSettled (tree_of now) (world_of now) → ⊥) →
-    HasGone (round (tree_of now) (bounds_of now) (world_of now) []).done now new → more ≤ made + 1 → IsOneRound old now new made more
+    HasGone (round (tree_of now) (bounds_of now) (world_of now) []).done now new → more ≡ min (made + 1) (2 ^ 64 - 1) → IsOneRound old now new made more
 one_round old now new made more same k none gone few =
     let t : Shape = tree_of old in
     let l : Limits = bounds_of old in
@@ -91,31 +104,31 @@ one_round old now new made more same k none gone few =
     let rest : Leads (settled_within t l n (world_of old) []).done (followed_by (round t l w []).done (settled_within t l n (round t l w []).done.world []).done) old now =
     subst (λ (z : Stepped). Leads (settled_within t l n (world_of old) []).done z old now) r.done k.leads in
     let on = leads_on (settled_within t l n (world_of old) []).done (round t l w []).done (settled_within t l n (round t l w []).done.world []).done old now new rest done in
-    let left : rounds_left t l n w ≡ suc (rounds_left t l n (world_of new)) = r.left ∙ ap (λ (u : World). suc (rounds_left t l n u)) (sym here) in
-    let before = k.few in
+    let left : rounds_made t l n w ≡ suc (rounds_made t l n (world_of new)) = r.left ∙ ap (λ (u : World). suc (rounds_made t l n u)) (sym here) in
+    let before = k.counted.is in
     record {
       rests = record {
         tree = k.tree;
         ends = subst (Ends t l n) (sym here) r.ends;
         leads = subst (λ (u : World). Leads (settled_within t l n (world_of old) []).done (settled_within t l n u []).done old new) (sym here) on;
-        few = omega (arith, few, left, before);
+        counted = record { so_far = suc k.counted.so_far; is = omega (arith, left, before); made = few ∙ (ap (λ (m : ℕ). min (m + 1) (2 ^ 64 - 1)) k.counted.made ∙ min_next k.counted.so_far (2 ^ 64 - 1)) };
       };
       less = sym left;
     }
 
 pub rests_on : (old now new : Network) (made more : ℕ) → IsResting old now made → (now.failed ≡ false → IsSettled (tree_of now) (world_of now) → ⊥) →
-    HasGone (round (tree_of now) (bounds_of now) (world_of now) []).done now new → more ≤ made + 1 → IsResting old new more
+    HasGone (round (tree_of now) (bounds_of now) (world_of now) []).done now new → more ≡ min (made + 1) (2 ^ 64 - 1) → IsResting old new more
 rests_on old now new made more k none gone few =
     record {
       same = same_then old now new k.same gone.made.moved.same;
       rests = λ awake.
-      let before : now.failed ≡ false = awake_before now new gone.made.moved.same awake in
-      (one_round old now new made more k.same (k.rests before) (none before) gone few).rests;
+          let before : now.failed ≡ false = awake_before now new gone.made.moved.same awake in
+          (one_round old now new made more k.same (k.rests before) (none before) gone few).rests;
     }
 
 pub still_less : (old now new : Network) (made : ℕ) → IsResting old now made → now.failed ≡ false → (IsSettled (tree_of now) (world_of now) → ⊥) →
     HasGone (round (tree_of now) (bounds_of now) (world_of now) []).done now new → suc (still old new) ≡ still old now
-still_less old now new made k awake none gone = (one_round old now new made (made + 1) k.same (k.rests awake) none gone (omega arith)).less
+still_less old now new made k awake none gone = (one_round old now new made (min (made + 1) (2 ^ 64 - 1)) k.same (k.rests awake) none gone refl).less
 
 -- ---- it ends
 pub rests_end : (old now : Network) (made : ℕ) → IsResting old now made → now.failed ≡ false → IsSettled (tree_of now) (world_of now) →
@@ -128,5 +141,18 @@ rests_end old now made k awake settled =
     leads_end (settled_within t l (most old) (world_of old) []).done old now
     (subst (λ (z : Stepped). Leads (settled_within t l (most old) (world_of old) []).done z old now) (no_more t l (most old) (world_of now) e) r.leads)
 
-pub few_made : (old now : Network) (made : ℕ) → IsResting old now made → now.failed ≡ false → made ≤ most old
-few_made old now made k awake = (let f = (k.rests awake).few in omega (arith, f))
+pub all_made : (old now : Network) (made : ℕ) → IsResting old now made → now.failed ≡ false → IsSettled (tree_of now) (world_of now) → made ≡ min (still old old) (2 ^ 64 - 1)
+all_made old now made k awake settled =
+    let t : Shape = tree_of old in
+    let r : Rests old now made = k.rests awake in
+    let e : is_settled t (world_of now) ≡ true = (settled_exactly t (world_of now) r.tree).1 (at_site old now k.same (λ a b. IsSettled a (world_of now)) settled) in
+    let none : still old now ≡ 0 = none_left t (bounds_of old) (most old) (world_of now) e in
+    let all = r.counted.is in
+    let whole : r.counted.so_far ≡ still old old = omega (arith, none, all) in
+    r.counted.made ∙ ap (λ (m : ℕ). min m (2 ^ 64 - 1)) whole
+
+pub few_made : (n : Network) (made : ℕ) → made ≡ min (still n n) (2 ^ 64 - 1) → made ≤ most n
+few_made n made is =
+    let all : still n n ≤ most n = left_within (tree_of n) (bounds_of n) (most n) (world_of n) in
+    let low : min (still n n) (2 ^ 64 - 1) ≤ still n n = min_low (still n n) (2 ^ 64 - 1) in
+    omega (arith, is, all, low)

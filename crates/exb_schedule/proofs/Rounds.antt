@@ -1,13 +1,13 @@
 -- Rounds in which each control word passes.
-use Rattle.std.proofs.Common.{◌≡◌, inl, inr, ℕ, zero, suc, ◌+◌, ◌<◌, ◌≤◌, Bool, true, false, cond, List, [], ◌∷◌, ◌++◌, length, filter, map, drop, Option, Some, slice_get, refl, ap, sym, ◌∙◌, subst, arith}
+use Rattle.std.proofs.Common.{◌≡◌, inl, inr, ℕ, true, false, List, [], ◌∷◌, ◌++◌, refl, ap, sym, ◌∙◌}
 use Rattle.std.proofs.lemmas.Bool.{cases_Bool}
 use Rattle.exb_model.specs.Tree.{Shape}
 use Rattle.exb_model.specs.Setup.{Limits}
 use Rattle.exb_link.specs.declared.word.Word.{Word}
-use Rattle.exb_link.specs.Words.{is_control, is_data}
-use Rattle.exb_machine.specs.Worlds.{World, Way, Step, Carry, Control}
-use Rattle.exb_machine.specs.Stepping.{words_on, Stepped, stepped}
-use Rattle.exb_machine.specs.Settling.{Gone, gone_through, goes_through, Direction, direction, run, nothing, followed_by, through_all, Played, played_before, round, directions}
+use Rattle.exb_link.specs.Words.{is_control}
+use Rattle.exb_machine.specs.Worlds.{World, Way, Carry, Control}
+use Rattle.exb_machine.specs.Stepping.{words_on, Stepped}
+use Rattle.exb_machine.specs.Settling.{gone_through, goes_through, Direction, run, nothing, followed_by, through_all, Played}
 use Rattle.exb_schedule.proofs.Runs.{then_then}
 
 -- ---- one direction
@@ -26,7 +26,7 @@ gone_none n way = refl
 pub no_verdicts : (n : ℕ) (way : Way) (k : ℕ) (xs : List Word) → (gone_through n way k xs []).verdicts ≡ []
 unfolding gone_through
 no_verdicts n way k [] = refl
-no_verdicts n way k (x ∷ xs) = elim (cases_Bool (is_control x)) [ | inl e ↦ rw e (no_verdicts n way k xs) | inr e ↦ rw e (no_verdicts n way k xs) ]
+no_verdicts n way k (x ∷ xs) = elim (cases_Bool (is_control x)) [ inl e ↦ rw e (no_verdicts n way k xs) | inr e ↦ rw e (no_verdicts n way k xs) ]
 
 -- ---- all directions
 module _ (t : Shape) (l : Limits) where

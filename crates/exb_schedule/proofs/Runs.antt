@@ -1,12 +1,12 @@
 -- Steps one after another: what may be made, and what was done.
-use Rattle.std.proofs.Common.{◌≡◌, ◌++◌, Bool, List, [], ◌∷◌, append_assoc, append-nil, refl, ap, sym, ◌∙◌}
+use Rattle.std.proofs.Common.{◌≡◌, ◌++◌, Bool, List, [], ◌∷◌, append_assoc, append-nil, ap, ◌∙◌}
 use Rattle.exb_model.specs.declared.event.Event.{Event}
 use Rattle.exb_model.specs.Setup.{Limits}
 use Rattle.exb_model.specs.Tree.{Shape}
 use Rattle.exb_machine.specs.Settling.{nothing, followed_by, run}
 use Rattle.exb_machine.specs.Stepping.{Stepped, stepped}
 use Rattle.exb_machine.specs.Worlds.{World, Step, Left, Line}
-use Rattle.exb_resting.specs.Settles.{MayTake, MayTakeAll}
+use Rattle.exb_resting.specs.Settles.{MayTakeAll}
 
 pub then_nothing : (a : Stepped) → followed_by a (nothing a.world) ≡ a
 then_nothing a =

@@ -1,10 +1,10 @@
 -- The opening is played, and one segment after another.
-use Rattle.std.proofs.Common.{◌≡◌, ℕ, ◌++◌, List, [], ◌∷◌, append_assoc, append-nil, refl, ap, sym, ◌∙◌, subst}
+use Rattle.std.proofs.Common.{◌≡◌, ℕ, ◌++◌, List, [], ◌∷◌, append_assoc, ap, sym, ◌∙◌, subst}
 use Rattle.std.specs.Prelude.{All}
 use Rattle.exb_model.specs.declared.event.Event.{Event}
 use Rattle.exb_model.specs.declared.setup.Setup.{Setup}
 use Rattle.exb_model.specs.declared.setup.Timed.{Timed}
-use Rattle.exb_model.specs.Input.{Input, Segment, basis_of}
+use Rattle.exb_model.specs.Input.{Input, Segment}
 use Rattle.exb_model.specs.Input.{tree_of as tree_in, bounds_of as bounds_in}
 use Rattle.exb_model.specs.Setup.{Limits, IsValid, shape_of, limits_of, start_of}
 use Rattle.exb_model.specs.Tree.{Shape}
@@ -14,7 +14,6 @@ use Rattle.exb_machine.specs.Stepping.{Stepped, stepped}
 use Rattle.exb_machine.specs.Worlds.{World, Step, Mark, Left, first_world}
 use Rattle.exb_machine_laws.proofs.Rounds.{run_then}
 use Rattle.exb_motion.specs.Kept.{HasVid}
-use Rattle.exb_motion.specs.Playing.{Plays, nothing_given}
 use Rattle.exb_network.specs.Networks.{Network, world_of, tree_of, bounds_of, IsQuiet, IsStepped}
 use Rattle.exb_network.specs.Sites.{Site, limits_in}
 use Rattle.exb_network.specs.Worlds.{all_left}

@@ -2,3 +2,4 @@ pub mod Moves
 pub mod Reached
 pub mod Rounds
 pub mod Playing
+pub mod Laws

@@ -18,7 +18,11 @@ pub record Reached (n : Network) : Type 0 where
   pub may : MayTakeAll (shape_of setup) (limits_of setup) (beginning setup) steps
   pub world : world_of n ≡ reached_by setup steps
 
--- So it is as long as memory hasn't run out; the flag says whether it has.
+-- so it is as long as memory hasn't run out
+abbrev pub IsReached : Network → Type 0
+IsReached n = n.failed ≡ false → Reached n
+
+-- and a flag says whether it has
 pub record IsKept (n : Network) (failed : Bool) : Type 0 where
   pub flag : n.failed ≡ failed
-  pub reached : n.failed ≡ false → Reached n
+  pub reached : IsReached n

@@ -14,16 +14,12 @@ use exb_link::Counts;
 use exb_network::{Way, WorldFault};
 
 /// Takes the next word of a direction: a control word is delivered, a data word is carried. It is no longer left.
-fn take_next(
-    world: &mut World,
-    link: u8,
-    way: Way,
-    left: &mut Counts,
-) -> Result<(), WorldFault>
+fn take_next(world: &mut World, link: u8, way: Way, left: &mut Counts) -> Result<(), WorldFault>
     requires there { is_extender (tree_of world.old) link ≡ true }
     requires next { AreNext link (way_of way) (world_of world.old) left.old }
     requires some { 0 < left.old.frames + left.old.control }
     ensures ok { (whole : Stepped) (old : Network) → GoesThrough link (way_of way) whole old world.old left.old → OnOk result (GoesThrough link (way_of way) whole old world.new left.new) }
+    ensures fewer { left.new.frames + left.new.control + 1 ≡ left.old.frames + left.old.control }
     ensures failed { (result ≡ Err WorldFault.Failed) ↔ (world.old.failed ≡ true) }
     ensures memory { OnErr result (world.new.failed ≡ true) }
 {

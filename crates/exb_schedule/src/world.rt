@@ -1,5 +1,5 @@
 //! The world that schedules move: a network that a setup began.
-ghost use Rattle.std.specs.Prelude.{◌≡◌, ◌↔◌, ◌<◌, ◌≤◌, ℕ, [], true, false, Some, IfOk, IfSome, IfNone, IsTrue, OnErr, OnOk, length, filter, slice_get};
+ghost use Rattle.std.specs.Prelude.{All, ◌≡◌, ◌↔◌, ◌<◌, ◌≤◌, ℕ, [], true, false, Some, IfOk, IfSome, IfNone, IsTrue, OnErr, OnOk, length, filter, slice_get};
 ghost use Rattle.exb_model.specs.Setup.{IsValid, limits_of, shape_of, start_of};
 ghost use Rattle.exb_model.specs.Tree.{is_extender};
 ghost use Rattle.exb_changing.specs.Counting.{planned};
@@ -8,10 +8,12 @@ ghost use Rattle.exb_link.specs.Words.{is_control, is_data, leading};
 ghost use Rattle.exb_machine.specs.Allowing.{Can, IsSettled};
 ghost use Rattle.exb_machine.specs.Stepping.{words_on};
 ghost use Rattle.exb_machine.specs.Worlds.{first_world};
+ghost use Rattle.exb_motion.specs.Kept.{HasVid};
 ghost use Rattle.exb_network.specs.Networks.{world_of, tree_of, bounds_of, step_of, IsQuiet, IsSame, IsStepped};
 ghost use Rattle.exb_network.specs.Steps.{way_of};
 ghost use Rattle.exb_network.specs.Turns.{order_of, IsTurn};
 ghost use Rattle.exb_resting.specs.Settles.{MayTake};
+ghost use Rattle.exb_schedule.specs.Reached.{IsReached};
 
 use crate::facts::{are_bytes, name_vlans, names_vlan};
 use exb_link::Counts;
@@ -54,6 +56,7 @@ impl World {
         ensures limits { IfOk result (λ made. bounds_of made ≡ limits_of setup.now) }
         ensures quiet { IfOk result IsQuiet }
         ensures awake { IfOk result (λ made. made.failed ≡ false) }
+        ensures vids { All HasVid setup.now.start }
     {
         name_vlans(setup.start.as_slice());
         Ok(World {
@@ -125,6 +128,13 @@ impl World {
         ensures { IsTrue result ↔ ((self.now.failed ≡ false) × IsSettled (tree_of self.now) (world_of self.now)) }
     {
         !self.failed && self.network.settled()
+    }
+
+    /// That a run of a valid setup comes to this world, as a fact for whoever calls this. It does nothing.
+    pub fn is_reached(&self)
+        ensures { IsReached self.now }
+    {
+        let _ = &self.network;
     }
 
     /// How many beats there were; it stays at 2^64 - 1.
