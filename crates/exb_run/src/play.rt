@@ -160,7 +160,14 @@ impl Game {
         let Ok(arrivals) = arrival_of(alloc, due) else {
             return Err(Fault::Memory);
         };
-        if eager(&mut self.world, seconds, commands_of(due), arrivals.as_slice()).is_err() {
+        if eager(
+            &mut self.world,
+            seconds,
+            commands_of(due),
+            arrivals.as_slice(),
+        )
+        .is_err()
+        {
             return Err(Fault::Memory);
         }
         self.note(shelf, plan)

@@ -23,8 +23,7 @@ turn-requires-clause-playable g c =
     let d = c.in-Some.due in
     let seconds = c.seconds_since-seconds.result in
     let are : seconds ≡ seconds_after c.events.last (second_of (moment_of (coming_of d))) =
-    c.seconds_since-seconds.ensures ∙ ap (λ (m : ℕ). seconds_after c.events.last (second_of m)) c.moment-second.ensures in
-    (
+    c.seconds_since-seconds.ensures ∙ ap (λ (m : ℕ). seconds_after c.events.last (second_of m)) c.moment-second.ensures in (
       run,
       record {
         so_far = p.so_far;
