@@ -1,12 +1,12 @@
 -- Before anything was played: the captures that were read, and the agenda of them.
-use Rattle.std.proofs.Common.{◌≡◌, ◌≢◌, ℕ, zero, suc, ◌+◌, ◌^◌, ◌<◌, ◌≤◌, ◌==◌, ◌||◌, Bool, true, false, cond, List, [], ◌∷◌, ◌++◌, length, map, filter, All, AllPairs, get_or, refl, ap, sym, subst, ◌∙◌, arith, inl, inr, eq-eqb}
+use Rattle.std.proofs.Common.{◌≡◌, ℕ, zero, suc, ◌+◌, ◌^◌, ◌<◌, ◌≤◌, ◌==◌, ◌||◌, Bool, true, false, cond, List, [], ◌∷◌, length, map, filter, All, AllPairs, get_or, refl, ap, sym, subst, ◌∙◌, arith, inl, inr, eq-eqb}
 use mathlib.Core.Path.{fun_ext}
-use Rattle.std.specs.Prelude.{Option, Some, None, if◌then◌else◌, sum_by}
+use Rattle.std.specs.Prelude.{None, if◌then◌else◌, sum_by}
 use Rattle.std.specs.List.{AllByRecursion, list_any, range_with_len}
 use Rattle.std.proofs.lemmas.Bool.{cases_Bool, cases_eq, eqb-true, ne_eqb}
 use Rattle.std.proofs.lemmas.List.{length-map}
 use Rattle.exb_model.specs.declared.setup.Timed.{Timed}
-use Rattle.exb_model.specs.Input.{Input, Record, Given, Coming, given_by, merge}
+use Rattle.exb_model.specs.Input.{Input, Record, Given, given_by, merge}
 use Rattle.exb_model.specs.Ports.{below, all_ports}
 use Rattle.exb_model.specs.Setup.{IsValid, NamesExternal, shape_of}
 use Rattle.exb_model.specs.Tree.{Shape, IsTree, is_external}

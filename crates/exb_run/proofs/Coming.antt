@@ -1,5 +1,5 @@
 -- Captures that are added, one after another.
-use Rattle.std.proofs.Common.{◌≡◌, take, sum_by, ℕ, suc, ◌+◌, ◌<◌, Bool, true, false, cond, List, [], ◌∷◌, ◌++◌, length, map, flat_map, All, get_or, max, nat_lt, ap, sym, subst, ◌∙◌, arith}
+use Rattle.std.proofs.Common.{◌≡◌, take, sum_by, ℕ, ◌+◌, ◌<◌, false, List, [], ◌∷◌, ◌++◌, length, map, get_or, ap, sym, ◌∙◌}
 use Rattle.std.specs.Prelude.{Result, Ok, Err, IsOk, IfOk, OnOk, is_err}
 use mathlib.Core.List.{map-append}
 use Rattle.std.proofs.lemmas.List.{take_more}
@@ -7,7 +7,6 @@ use Rattle.std.proofs.lemmas.List.Sums.{sum_by_push}
 use Rattle.exb_model.specs.Input.{Record}
 use Rattle.exb_merge.specs.Streams.{Stream, stream_of}
 use Rattle.exb_pcap.specs.declared.reader.PcapFault.{PcapFault}
-use Rattle.exb_pcap.specs.Captures.{pcap_records}
 use Rattle.exb_run.specs.declared.captures.Capture.{Capture}
 use Rattle.exb_run.specs.Inputs.{records_or_none}
 use Rattle.exb_run.specs.Reading.{stream_in}

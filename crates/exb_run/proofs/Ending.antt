@@ -1,13 +1,13 @@
 -- The end of a run: what it wrote and counted is what the input calls for.
-use Rattle.std.proofs.Common.{◌≡◌, ℕ, ◌+◌, ◌<◌, Bool, true, false, List, [], length, nat_lt, fold, All, get_or, refl, ap, sym, ◌∙◌, arith}
+use Rattle.std.proofs.Common.{◌≡◌, ℕ, ◌<◌, Bool, true, false, List, [], length, nat_lt, All, get_or, refl, ap, sym, ◌∙◌, arith}
 use Rattle.std.specs.Prelude.{if◌then◌else◌}
 use Rattle.std.proofs.lemmas.Bool.{ltb-true}
 use Rattle.exb_model.specs.declared.event.Event.{Event}
 use Rattle.exb_model.specs.EagerHistory.{eager}
 use Rattle.exb_model.specs.FlatBridge.{flat}
 use Rattle.exb_model.specs.History.{◌then◌}
-use Rattle.exb_model.specs.Input.{Input, Eager, Segment, basis_of, tree_of, segments}
-use Rattle.exb_model.specs.Texts.{Counts, capture_text, counts, journal_text}
+use Rattle.exb_model.specs.Input.{Input, Eager, basis_of, tree_of, segments}
+use Rattle.exb_model.specs.Texts.{capture_text, counts, journal_text}
 use Rattle.exb_model.specs.Tree.{Shape, IsTree, is_external}
 use Rattle.exb_machine.specs.Worlds.{Left}
 use Rattle.exb_motion.specs.Playing.{IsTimely}

@@ -1,18 +1,15 @@
 -- What comes next follows the segments so far: it can be played, and the agenda leads on.
-use Rattle.std.proofs.Common.{◌≡◌, ℕ, zero, suc, ◌+◌, ◌*◌, ◌^◌, ◌<◌, ◌≤◌, ◌==◌, Bool, true, false, List, [], ◌∷◌, ◌++◌, length, map, filter, max, All, get_or, refl, ap, sym, subst, ◌∙◌, arith, inl, inr, eq-eqb, append_assoc, length-append}
-use Rattle.std.specs.Prelude.{Option, Some, None, IfSome, if◌then◌else◌, filter_map, flat_map, slice_get, sum_by}
+use Rattle.std.proofs.Common.{◌≡◌, ℕ, zero, suc, ◌+◌, ◌*◌, ◌^◌, ◌<◌, ◌≤◌, ◌==◌, Bool, true, false, List, [], ◌∷◌, ◌++◌, length, map, filter, max, All, refl, ap, sym, subst, ◌∙◌, arith, inl, inr, eq-eqb, append_assoc, length-append}
+use Rattle.std.specs.Prelude.{Option, Some, None, IfSome, if◌then◌else◌, filter_map, flat_map, slice_get}
 use Rattle.std.specs.List.{AllByRecursion}
 use Rattle.std.proofs.lemmas.Bool.{cases_lt, cases_Bool}
 use Rattle.std.proofs.lemmas.Grind.{flat_map-append}
-use Rattle.std.proofs.lemmas.List.{append-nil}
 use Rattle.std.proofs.lemmas.List.Elements.{filter-append}
 use Rattle.std.proofs.lemmas.List.Sums.{sum_by-append}
-use Rattle.std.proofs.lemmas.Option.{get_or_from_slice_get}
 use Rattle.exb_model.specs.declared.setup.Timed.{Timed}
 use Rattle.exb_model.specs.declared.command.Command.{Command}
 use Rattle.exb_model.specs.History.{command_of}
 use Rattle.exb_model.specs.Input.{Input, Record, Given, Arrival, Segment, Coming, Eager, basis_of, tree_of, arrivals_from, arrivals_at, arrival_in, given_by, merge, moment_of, second_of, segments}
-use Rattle.exb_model.specs.Lists.{numbered}
 use Rattle.exb_model.specs.Setup.{Limits, NamesExternal}
 use Rattle.exb_model.specs.Tree.{Shape, is_external}
 use Rattle.exb_learn.specs.Calls.{Table, Tick as Ticks, after_call}
@@ -24,8 +21,8 @@ use Rattle.exb_merge.specs.Arrivals.{arrival_of}
 use Rattle.exb_merge.specs.declared.agenda.Due.{Due}
 use Rattle.exb_merge.specs.declared.agenda.Due.TheVariants as due
 use Rattle.exb_model.specs.declared.event.Event.{Event}
-use Rattle.exb_network.specs.Networks.{Network, world_of, tree_of as shape_in, bounds_of as limits_in}
-use Rattle.exb_resting.specs.Playing.{PlaysSoFar, IsUnderWay, RunsAreUnderWay, arrivals_in}
+use Rattle.exb_network.specs.Networks.{Network, world_of, bounds_of as limits_in}
+use Rattle.exb_resting.specs.Playing.{IsUnderWay, RunsAreUnderWay, arrivals_in}
 use Rattle.exb_schedule.specs.Playing.{CanAll, CanFrom, HasPlayed, tick}
 use Rattle.exb_run.specs.Playing.{IsDueAfter, IsGivenIn, CanBeKept, CanFollow, next_segment, seconds_after, segments_after, steps_of}
 use Rattle.exb_run.proofs.Segmenting.{segments_after-next, segments-begin, after-arrivals}

@@ -1,7 +1,7 @@
 -- A topology that is run: what its plan writes is what is told of its external ports.
-use Rattle.std.proofs.Common.{◌≡◌, ◌≢◌, ◌+◌, ◌<◌, ◌≤◌, ◌==◌, ◌⊎◌, inl, inr, ℕ, Bool, true, false, List, [], ◌∷◌, Some, Result, Ok, Err, get_or, suc, All, refl, ap, sym, ◌∙◌, arith}
+use Rattle.std.proofs.Common.{◌≡◌, ◌≢◌, ◌+◌, ◌<◌, ◌≤◌, ◌==◌, ◌⊎◌, inl, inr, ℕ, Bool, true, false, List, [], ◌∷◌, Some, Result, Ok, Err, suc, All, refl, ap, sym, ◌∙◌, arith}
 use mathlib.Core.Path.{fun_ext}
-use Rattle.std.specs.Prelude.{is_some, if◌then◌else◌, String, IsOk, IfOk, IfErr, OnErr}
+use Rattle.std.specs.Prelude.{is_some, if◌then◌else◌, String, IfOk, IfErr, OnErr}
 use Rattle.std.specs.declared.alloc.Global.{Global}
 use Rattle.std.proofs.lemmas.Bool.{cases_lt, lt-ltb, le-ltb, eqb-true}
 use Rattle.exb_model.specs.Input.{Input, basis_of, tree_of}

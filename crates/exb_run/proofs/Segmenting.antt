@@ -1,7 +1,7 @@
 -- The segments of what is still to come, one after another.
 use Rattle.std.proofs.Common.{◌≡◌, ℕ, List, [], ◌∷◌, map, refl, ap, ◌-◌, arith}
-use Rattle.std.specs.Prelude.{Option, Some, None, filter_map, flat_map}
-use Rattle.exb_model.specs.Input.{Input, Segment, Coming, Ordered, Captured, Eager, alone, merge, moment_of, second_of, arrival_in, segment_of, segments, segments_since}
+use Rattle.std.specs.Prelude.{Option, Some, None, filter_map}
+use Rattle.exb_model.specs.Input.{Input, Coming, Ordered, Captured, Eager, alone, merge, moment_of, second_of, arrival_in, segment_of, segments, segments_since}
 use Rattle.exb_resting.specs.Playing.{arrivals_in}
 use Rattle.exb_run.specs.Playing.{seconds_after, segments_after}
 

@@ -1,8 +1,8 @@
 -- What calls say of the shelf, one after the other.
-use Rattle.std.proofs.Common.{◌≡◌, ◌≤◌, ◌<◌, ◌+◌, ◌^◌, inl, inr, ℕ, List, Result, Ok, Err, refl, ap, sym, ◌∙◌, arith}
+use Rattle.std.proofs.Common.{◌≡◌, ◌≤◌, ◌<◌, ◌+◌, ◌^◌, inl, inr, ℕ, Result, Err, refl, ap, ◌∙◌, arith}
 use Rattle.std.proofs.lemmas.Bool.{cases_lt}
 use Rattle.exb_shelf.specs.Files.{Files}
-use Rattle.exb_shelf.specs.Shelf.{Id, Faults, Rose, NoFewer, Opens}
+use Rattle.exb_shelf.specs.Shelf.{Id, Faults, Rose, NoFewer}
 use Rattle.exb_shelf.proofs.IdLemmas.{opens_same, opens_then}
 use Rattle.exb_run.specs.declared.fault.Fault.{Fault}
 use Rattle.exb_run.specs.Plans.{Planned}

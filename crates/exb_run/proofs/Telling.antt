@@ -1,6 +1,6 @@
 -- What a run has told and what has left, one segment more.
-use Rattle.std.proofs.Common.{◌≡◌, ℕ, zero, suc, ◌+◌, ◌*◌, ◌^◌, ◌<◌, ◌≤◌, ◌==◌, Bool, true, false, List, [], ◌∷◌, ◌++◌, length, map, All, get_or, nat_lt, fold, refl, ap, sym, subst, ◌∙◌, arith, eq-eqb, append_assoc, length-append}
-use Rattle.std.specs.Prelude.{Some, Result, Ok, Err, is_err, OnOk, if◌then◌else◌, filter_map, Contains, slice_index_or}
+use Rattle.std.proofs.Common.{◌≡◌, ℕ, zero, suc, ◌+◌, ◌*◌, ◌^◌, ◌<◌, ◌==◌, Bool, true, false, List, [], ◌∷◌, ◌++◌, length, map, All, get_or, nat_lt, refl, ap, sym, subst, ◌∙◌, arith, eq-eqb, length-append}
+use Rattle.std.specs.Prelude.{Some, Result, Ok, Err, is_err, OnOk, if◌then◌else◌, filter_map, slice_index_or}
 use Rattle.std.specs.List.{AllByRecursion}
 use Rattle.std.proofs.lemmas.Bool.{ne_eqb, ltb-true, ltb-false}
 use Rattle.std.proofs.lemmas.List.{append-nil, length-map}
@@ -16,8 +16,7 @@ use Rattle.exb_model.specs.Tree.{Shape, IsTree, is_external}
 use Rattle.exb_machine.specs.Worlds.{Left as Leaving, Step, Arrive}
 use Rattle.exb_merge.specs.declared.agenda.Due.{Due}
 use Rattle.exb_merge.specs.declared.agenda.Due.TheVariants as due
-use Rattle.exb_merge.specs.Arrivals.{arrival_of}
-use Rattle.exb_network.specs.Networks.{Network, world_of, tree_of as shape_in, bounds_of as limits_in, IsQuiet, IsSame}
+use Rattle.exb_network.specs.Networks.{Network, world_of, IsQuiet, IsSame}
 use Rattle.exb_network.specs.Sites.{Site, limits_in as limits_at}
 use Rattle.exb_network.specs.Worlds.{all_left, left_of}
 use Rattle.exb_network.specs.declared.log.Left.{Left}
@@ -29,7 +28,7 @@ use Rattle.exb_standing.specs.Showing.{left_at}
 use Rattle.exb_text.specs.Tallies.{nothing_counted}
 use Rattle.exb_run.specs.Outputs.{output_name}
 use Rattle.exb_run.specs.Plans.{Planned, port_count, port_at}
-use Rattle.exb_run.specs.Playing.{IsGivenIn, CanBeKept, IsTold, commands_in, counts_so_far, frames_in, next_segment, steps_of, text_so_far}
+use Rattle.exb_run.specs.Playing.{IsGivenIn, CanBeKept, commands_in, counts_so_far, frames_in, next_segment, steps_of, text_so_far}
 use Rattle.exb_run.specs.Writing.{HasTexts, Holds, CanBeWritten, first_text, lines_of, with_more, with_left_frames}
 use Rattle.exb_run.proofs.Counting.{count_events}
 use Rattle.exb_run.proofs.Filling.{weaker}

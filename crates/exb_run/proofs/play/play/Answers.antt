@@ -1,9 +1,6 @@
-use Rattle.std.proofs.Common.{◌≡◌, ◌≤◌, ◌^◌, List, length, map, refl, ap, sym, ◌∙◌, arith}
-use Rattle.exb_model.specs.declared.setup.Timed.{Timed}
-use Rattle.exb_merge.specs.Agendas.{ToPlay, begun, still_to_come}
-use Rattle.exb_merge.specs.Streams.{Stream, to_come}
+use Rattle.std.proofs.Common.{sym, ◌∙◌}
 use Rattle.exb_run.specs.Playing.{Run}
-use Rattle.exb_run.specs.Reading.{input_with, stream_in}
+use Rattle.exb_run.specs.Reading.{input_with}
 use Rattle.exb_run.proofs.Beginning.{can-begin}
 use Rattle.exb_run.proofs.Running.{if_ok_map}
 use Rattle.exb_run.proofs.Telling.{when_ok}

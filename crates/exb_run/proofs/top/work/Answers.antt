@@ -1,4 +1,4 @@
-use Rattle.std.proofs.Common.{map, ap, sym, arith}
+use Rattle.std.proofs.Common.{map, arith}
 use Rattle.std.proofs.lemmas.Result.{err_from_is_err_and}
 use Rattle.std.specs.Prelude.{string_bytes}
 use Rattle.exb_run.specs.Inputs.{IsBuilt}

@@ -1,4 +1,4 @@
-use Rattle.std.proofs.Common.{rules, ◌<◌, ◌∙◌, take, length, refl, arith}
+use Rattle.std.proofs.Common.{rules, ◌<◌, take, length, arith}
 use Rattle.exb_run.specs.Plans.{port_count}
 use Rattle.exb_run.specs.Writing.{pieces_of, with_more, lines_of}
 use Rattle.exb_run.proofs.OutputLemmas.{no_lines, more_lines}

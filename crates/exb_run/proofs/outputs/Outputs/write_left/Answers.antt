@@ -1,4 +1,4 @@
-use Rattle.std.proofs.Common.{rules, ◌<◌, ◌∙◌, take, length, refl, arith}
+use Rattle.std.proofs.Common.{rules, ◌<◌, take, length, arith}
 use Rattle.exb_run.specs.Writing.{pieces_of, with_left_frames, CanBeWritten}
 use Rattle.exb_run.proofs.OutputLemmas.{no_frames, more_frames}
 use Rattle.exb_run.proofs.ShelvingLemmas.{writes_none, writes_then}
