@@ -1,5 +1,5 @@
-//! Captures: the records that are read of them, or the first fault.
-use exb_pcap::{Reader, header_text, record_text};
+//! Captures: the records that are read of them, or the first fault, at once and in pieces.
+use exb_pcap::{Next, PieceReader, Reader, header_text, record_text};
 use std::alloc::{AllocError, Global};
 use std::process::Abort;
 
@@ -88,5 +88,145 @@ fn records_are_read_up_to_the_first_fault(rt: HostRuntime) -> Result<(), AllocEr
     assert_eq!(rt; text.as_str(), "100000000999 2; ");
     assert!(rt; header_text().as_slice() == &BROADCAST[..24]);
     assert!(rt; record_text(100_000_000_000, 60).as_slice() == &BROADCAST[24..40]);
+    Ok(())
+}
+
+/// Four bytes at a place and a length as above, and what is answered before it is told that this is the end.
+const FRONTS: [(usize, [u8; 4], usize, &str); 14] = [
+    (0, [0xD4, 0xC3, 0xB2, 0xA1], 0, "More"),
+    (0, [0xD4, 0xC3, 0xB2, 0], 3, "More"),
+    (0, [0xD4, 0xC3, 0xB2, 0], 4, "NotPcap"),
+    (0, [0, 0, 0, 0], 1, "NotPcap"),
+    (0, [0xA1, 0xB2, 0x3C, 0x4D], 4, "More"),
+    (4, [2, 0, 3, 0], 23, "More"),
+    (4, [2, 0, 3, 0], 24, "Version"),
+    (20, [105, 0, 0, 0], 24, "LinkType"),
+    (28, [0x40, 0x42, 0x0F, 0], 39, "More"),
+    (28, [0x40, 0x42, 0x0F, 0], 40, "Time(28)"),
+    (32, [0xFF; 4], 39, "More"),
+    (32, [0xFF; 4], 40, "Length(32)"),
+    (0, [0xD4, 0xC3, 0xB2, 0xA1], 99, "More"),
+    (0, [0xD4, 0xC3, 0xB2, 0xA1], 100, "100000000000 60; More"),
+];
+
+// Puts what is answered behind the text, up to More, the end or a fault; true where it is More.
+fn answers_text(
+    alloc: Global,
+    reader: &mut PieceReader,
+    ended: bool,
+    text: &mut String,
+) -> Result<bool, AllocError> {
+    for _answer in 0..9u32 {
+        match reader.next(ended) {
+            Ok(Next::Record { moment, bytes }) => {
+                let one = format!(in alloc; "{moment} {}; ", bytes.len())?;
+                text.push_str(one.as_str())?
+            }
+            Ok(Next::More) => return Ok(true),
+            Ok(Next::End) => return Ok(false),
+            Err(fault) => {
+                text.push_str(format!(in alloc; "{fault:?}")?.as_str())?;
+                return Ok(false);
+            }
+        }
+    }
+    Ok(false)
+}
+
+// What is answered of a file that is fed in these pieces, where it is asked behind each.
+fn pieces_text(rt: &impl Abort, alloc: Global, pieces: &[&[u8]]) -> Result<String, AllocError> {
+    let mut reader = PieceReader::new(alloc).expect(rt, "memory");
+    let mut text = String::new(alloc);
+    for piece in pieces {
+        assert!(rt; reader.feed(piece) as usize == piece.len(), "room");
+        if !answers_text(alloc, &mut reader, false, &mut text)? {
+            return Ok(text);
+        }
+    }
+    let open = answers_text(alloc, &mut reader, true, &mut text)?;
+    assert!(rt; !open, "an answer at the end");
+    Ok(text)
+}
+
+// The same of a file that is cut at each place in turn, and into single bytes.
+fn judge_pieces(
+    rt: &impl Abort,
+    alloc: Global,
+    file: &[u8],
+    wanted: &str,
+) -> Result<(), AllocError> {
+    for cut in 0..file.len() {
+        let (front, rest) = file.split_at_checked(cut).expect(rt, "a place in the file");
+        let text = pieces_text(rt, alloc, &[front, rest])?;
+        assert_eq!(rt; text.as_str(), wanted, "in pieces at {cut}");
+    }
+    let mut bytes: Vec<&[u8]> = Vec::new(alloc);
+    for byte in file.chunks(1) {
+        bytes.push(byte)?;
+    }
+    let text = pieces_text(rt, alloc, bytes.as_slice())?;
+    assert_eq!(rt; text.as_str(), wanted, "in single bytes");
+    Ok(())
+}
+
+#[test]
+fn a_file_in_pieces_is_read_as_the_whole(rt: HostRuntime) -> Result<(), AllocError> {
+    let alloc = rt.alloc();
+    for (at, bytes, length, _wanted) in CHANGED {
+        let file = changed(&rt, alloc, at, bytes, length);
+        let whole = records_text(alloc, file.as_slice())?;
+        judge_pieces(&rt, alloc, file.as_slice(), whole.as_str())?;
+    }
+    let whole = records_text(alloc, &BIG_ENDIAN)?;
+    judge_pieces(&rt, alloc, &BIG_ENDIAN, whole.as_str())
+}
+
+#[test]
+fn what_stands_whatever_follows_is_answered_before_the_end(
+    rt: HostRuntime,
+) -> Result<(), AllocError> {
+    let alloc = rt.alloc();
+    for (at, bytes, length, wanted) in FRONTS {
+        let front = changed(&rt, alloc, at, bytes, length);
+        let mut reader = PieceReader::new(alloc).expect(&rt, "memory");
+        reader.feed(front.as_slice());
+        let mut text = String::new(alloc);
+        if answers_text(alloc, &mut reader, false, &mut text)? {
+            text.push_str("More")?;
+        }
+        assert_eq!(rt;
+            text.as_str(),
+            wanted,
+            "{bytes:?} at {at}, the first {length}"
+        );
+    }
+    Ok(())
+}
+
+// A capture of five frames of 100,000 bytes: more than the reader's buffer.
+fn long_capture(alloc: Global) -> Result<Vec<u8>, AllocError> {
+    let mut file = Vec::new(alloc);
+    file.extend_from_slice(&header_text())?;
+    for second in 0..5u64 {
+        file.extend_from_slice(&record_text(second * 1_000_000_000, 100_000))?;
+        let frame = vec![in alloc; second as u8; 100_000]?;
+        file.extend_from_slice(frame.as_slice())?;
+    }
+    Ok(file)
+}
+
+#[test]
+fn a_long_file_is_read_through_a_short_buffer(rt: HostRuntime) -> Result<(), AllocError> {
+    let alloc = rt.alloc();
+    let file = long_capture(alloc)?;
+    let whole = records_text(alloc, file.as_slice())?;
+    for size in [1_000usize, 65_536, 99_999, 162_144] {
+        let mut pieces: Vec<&[u8]> = Vec::new(alloc);
+        for piece in file.chunks(size) {
+            pieces.push(piece)?;
+        }
+        let text = pieces_text(&rt, alloc, pieces.as_slice())?;
+        assert_eq!(rt; text.as_str(), whole.as_str(), "in pieces of {size}");
+    }
     Ok(())
 }

@@ -1,3 +1,6 @@
 pub mod Reaching
 pub mod Staying
 pub mod Tagging
+pub mod Playing
+pub mod Telling
+pub mod Setups

@@ -9,7 +9,7 @@ use Rattle.exb_model.specs.Input.{Coming, moment_of, put_in_order, by_moment}
 abbrev pub NoneBefore : ℕ → List Coming → Type 0
 NoneBefore m = AllByRecursion (λ x. m ≤ moment_of x)
 
-none_before-put : (m : ℕ) (x : Coming) (ys : List Coming) → m ≤ moment_of x → NoneBefore m ys → NoneBefore m (put_in_order x ys)
+pub none_before-put : (m : ℕ) (x : Coming) (ys : List Coming) → m ≤ moment_of x → NoneBefore m ys → NoneBefore m (put_in_order x ys)
 none_before-put m x [] h all = (h, tt)
 none_before-put m x (y ∷ ys) h all = by_test (none_before-put m x ys h all.1) (nat_lt (moment_of y) (moment_of x))
   where
@@ -33,7 +33,7 @@ by_moment-first (b ∷ bs) x rest later all =
     let first : moment_of x < moment_of b = omega (arith, later.0) in
     ap (put_in_order b) (by_moment-first bs x rest later.1 all) ∙ rw (lt-ltb (moment_of x) (moment_of b) first) refl
 
-length-put : (x : Coming) (ys : List Coming) → length (put_in_order x ys) ≡ suc (length ys)
+pub length-put : (x : Coming) (ys : List Coming) → length (put_in_order x ys) ≡ suc (length ys)
 length-put x [] = refl
 length-put x (y ∷ ys) = by_test (length-put x ys) (nat_lt (moment_of y) (moment_of x))
   where

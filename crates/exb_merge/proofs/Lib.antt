@@ -4,3 +4,6 @@ pub mod Members
 pub mod TurnLemmas
 pub mod Opened
 pub mod Merged
+pub mod Among
+pub mod Starting
+pub mod PortOrder

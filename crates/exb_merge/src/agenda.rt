@@ -1,7 +1,7 @@
 //! Commands and records in the order in which they are played.
-ghost use Rattle.std.specs.Prelude.{◌≡◌, ◌+◌, ◌*◌, ◌^◌, ◌<◌, ◌≤◌, [], ◌∷◌, length, AllPairs, IfSome, IfNone, Some};
-ghost use Rattle.exb_model.specs.Input.{second_of};
-ghost use Rattle.exb_merge.specs.Agendas.{Plan, begun, coming_of, moment_in, number_in, still_to_come, command_moment, HasCommand, CanBeDue};
+ghost use Rattle.std.specs.Prelude.{◌≡◌, ◌+◌, ◌*◌, ◌^◌, ◌<◌, ◌≤◌, [], true, false, length, AllPairs, IfSome, IfNone};
+ghost use Rattle.exb_model.specs.Input.{moment_of};
+ghost use Rattle.exb_merge.specs.Agendas.{begun, coming_of, second_in, still_to_come, commands_left, first_moment, comes_first, IsNext, IsReadable};
 ghost use Rattle.exb_merge.specs.Streams.{to_come};
 
 use crate::captures::Captures;
@@ -27,7 +27,9 @@ pub enum Due<'a> {
 
 impl Due<'_> {
     /// Its moment in nanoseconds.
-    pub fn moment(&self) -> u64 {
+    pub fn moment(&self) -> u64
+        ensures { result ≡ moment_of (coming_of self.now) }
+    {
         match self {
             Due::Command { moment, .. } => *moment,
             Due::Record(record) => record.moment,
@@ -40,83 +42,135 @@ impl Due<'_> {
 pub struct Agenda<'a> {
     /// The whole second of the first record, or 0.
     start: u64,
-    /// The number of the next command.
-    number: u32,
-    /// The commands that are still to come.
     commands: &'a [Timed],
+    /// How many of the commands were taken.
+    taken: usize,
     /// The record that comes first, if one is left.
-    record: Option<Coming<'a>>,
+    first: Option<Coming<'a>>,
     /// The captures behind that record.
     captures: Captures<'a>,
 }
 
+impl<'a> Model for Agenda<'a> {
+    ghost use Rattle.exb_merge.specs.Agendas.{ToPlay};
+
+    ghost Value = { ToPlay };
+
+    ghost use Rattle.exb_merge.specs.Kept.{to_play, IsKept};
+
+    ghost view = { to_play };
+
+    ghost invariant = { IsKept };
+}
+
 /// Whether a command comes before a record, by their moments.
-fn comes_first(command: Option<u64>, record: Option<u64>) -> bool {
-    match (command, record) {
+fn comes_first(command: Option<u64>, captured: Option<u64>) -> bool
+    ensures { result ≡ comes_first command captured }
+{
+    match (command, captured) {
         (None, _) => false,
         (Some(_), None) => true,
-        (Some(command), Some(record)) => command <= record,
+        (Some(command), Some(captured)) => command <= captured,
+    }
+}
+
+/// The moment that is so many seconds after the start.
+fn moment_after(start: u64, at: u32) -> u64
+    requires { start < 2 ^ 32 }
+    ensures value { result ≡ (start + at) * 1000000000 }
+    ensures before { result < (start + 2 ^ 32) * 1000000000 }
+{
+    (start + at as u64) * NANOSECONDS
+}
+
+/// The whole second of a record, or 0 where there is none.
+fn second_of(first: &Option<Coming<'_>>) -> u64
+    ensures { result ≡ second_in first.now }
+{
+    match first {
+        Some(record) => record.moment / NANOSECONDS,
+        None => 0,
     }
 }
 
 impl<'a> Agenda<'a> {
-    /// Commands in the order of a topology, and captures at their first records.
-    pub fn new(mut captures: Captures<'a>, commands: &'a [Timed]) -> Agenda<'a> {
-        let record = captures.next();
-        let start = match &record {
-            Some(record) => record.moment / NANOSECONDS,
-            None => 0,
-        };
+    /// The commands of a topology, in the order of its file, and captures at their first records.
+    pub fn new(captures: Captures<'a>, commands: &'a [Timed]) -> Agenda<'a>
+        requires few { length commands.now ≤ 65536 }
+        requires rising { AllPairs (λ c d. c.at ≤ d.at) commands.now }
+        ensures value { result ≡ begun (to_come captures.entry) commands.now }
+        ensures few { length (still_to_come result) ≡ length (to_come captures.entry) + length commands.now }
+    {
+        let mut captures = captures;
+        let first = captures.next();
+        let start = second_of(&first);
         Agenda {
             start,
-            number: 1,
             commands,
-            record,
+            taken: 0,
+            first,
             captures,
         }
     }
 
     /// The moment of the next command, if there is one.
-    fn command_moment(&self) -> Option<u64> {
-        match self.commands.first() {
-            Some(command) => Some((self.start + command.at as u64) * NANOSECONDS),
+    fn command_moment(&self) -> Option<u64>
+        ensures { result ≡ first_moment (commands_left self.now) }
+    {
+        match self.commands.get(self.taken) {
+            Some(command) => Some(moment_after(self.start, command.at)),
             None => None,
         }
     }
 
     /// The moment of the next record, if there is one.
-    fn record_moment(&self) -> Option<u64> {
-        match &self.record {
+    fn record_moment(&self) -> Option<u64>
+        ensures { result ≡ first_moment self.now.records }
+    {
+        match &self.first {
             Some(record) => Some(record.moment),
             None => None,
         }
     }
 
-    /// Takes the next command, which is there.
-    fn take_command(&mut self, moment: u64) -> Option<Due<'a>> {
-        let (command, rest) = self.commands.split_first()?;
-        let number = self.number;
-        self.number += 1;
-        self.commands = rest;
-        Some(Due::Command {
-            number,
-            moment,
+    /// Takes the next command, which comes first.
+    fn take_command(&mut self) -> Due<'a>
+        requires left { self.old.taken < length self.old.commands }
+        requires first { comes_first (first_moment (commands_left self.old)) (first_moment self.old.records) ≡ true }
+        ensures { IsNext self.old result self.new }
+    {
+        let commands = self.commands;
+        let command = &commands[self.taken];
+        self.taken += 1;
+        Due::Command {
+            number: self.taken as u32,
+            moment: moment_after(self.start, command.at),
             command,
-        })
+        }
     }
 
-    /// Takes the next record, if one is left.
-    fn take_record(&mut self) -> Option<Due<'a>> {
-        let record = self.record?;
-        self.record = self.captures.next();
-        Some(Due::Record(record))
+    /// Takes the next record, where no command comes first.
+    fn take_record(&mut self) -> Option<Due<'a>>
+        requires first { comes_first (first_moment (commands_left self.old)) (first_moment self.old.records) ≡ false }
+        ensures found { IfSome result (λ due. IsNext self.old due self.new) }
+        ensures end { IfNone result (still_to_come self.old ≡ []) }
+    {
+        match self.first.take() {
+            Some(first) => {
+                self.first = self.captures.next();
+                Some(Due::Record(first))
+            }
+            None => None,
+        }
     }
 
     /// Takes what comes next; None exactly where nothing is left.
-    pub fn next(&mut self) -> Option<Due<'a>> {
-        let command = self.command_moment();
-        if comes_first(command, self.record_moment()) {
-            self.take_command(command?)
+    pub fn next(&mut self) -> Option<Due<'a>>
+        ensures found { IfSome result (λ due. IsNext self.old due self.new) }
+        ensures end { IfNone result (still_to_come self.old ≡ []) }
+    {
+        if comes_first(self.command_moment(), self.record_moment()) {
+            Some(self.take_command())
         } else {
             self.take_record()
         }

@@ -1,7 +1,7 @@
-//! The records of several captures in the order in which they are played: by moment, and at the same
-//! moment in the order of the captures. Upwards it promises that what comes next is always the first of
-//! what is still to come, and that the captures of an input without commands give what is merged of it.
-//! It stands on `exb_model` and `exb_pcap`.
+//! The records of several captures, and the commands of a topology among them, in the order in which they
+//! are played: by moment, and at the same moment the commands first and then the captures in their order.
+//! Upwards it promises that what comes next is always the first of what is still to come, and that the
+//! commands and captures of an input give what is merged of it. It stands on `exb_model` and `exb_pcap`.
 #![tactic(auto)]
 
 mod agenda;

@@ -14,7 +14,7 @@ use Rattle.exb_motion.specs.Playing.{IsTimely}
 abbrev pub IsNumberedIn : Input → Arrival → Type 0
 IsNumberedIn i a = numbered (arrivals_at i a.port) a.index ≡ Some a
 
-get_last : (pre : List Arrival) (x : Arrival) (ys : List Arrival) → slice_get (pre ++ x ∷ ys) (length pre) ≡ Some x
+pub get_last : (pre : List Arrival) (x : Arrival) (ys : List Arrival) → slice_get (pre ++ x ∷ ys) (length pre) ≡ Some x
 get_last [] x ys = refl
 get_last (y ∷ pre) x ys = get_last pre x ys
 
@@ -182,7 +182,7 @@ joined_all x (g ∷ gs) = by_same (second_of (moment_of x) == g.second)
     by_same true = refl
     by_same false = refl
 
-grouped_all : (m : Mode) (xs : List Coming) → flat_map (λ (g : Group). g.comings) (groups_in m xs) ≡ xs
+pub grouped_all : (m : Mode) (xs : List Coming) → flat_map (λ (g : Group). g.comings) (groups_in m xs) ≡ xs
 grouped_all Eager [] = refl
 grouped_all Eager (x ∷ xs) = ap (λ (ys : List Coming). x ∷ ys) (grouped_all Eager xs)
 grouped_all Seeded [] = refl

@@ -1,17 +1,18 @@
 mod Quiet
-mod Rising
+pub mod Rising
 mod Naming
 pub mod Histories
 mod Deciding
-mod Jobs
+pub mod Jobs
 pub mod Keeping
 pub mod Standing
-mod Pairs
-mod Marks
+pub mod Pairs
+pub mod Marks
 mod Telling
 pub mod Going
 mod Ticks
-mod InFile
+pub mod InFile
+pub mod AllCame
 mod Opening
 mod Numbers
 pub mod Playing

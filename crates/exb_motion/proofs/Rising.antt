@@ -184,7 +184,7 @@ module _ (t : Shape) (l : Limits) (setting : IsSetting t l) (round : TagRoundTri
 
 -- ---- a data word that the bridge takes
 -- It is of a record: it has a stamp, whose port holds its channel.
-record_of : (t : Shape) (w : World) (n : ℕ) (x : Word) (s : Stamp) → on t n < 64 → x.stamp ≡ Some s → CleanUp t w.control.held (trunk t n) (datum x) → (is_extended t s.port ≡ true) × IsOfRecord t w n x s
+pub record_of : (t : Shape) (w : World) (n : ℕ) (x : Word) (s : Stamp) → on t n < 64 → x.stamp ≡ Some s → CleanUp t w.control.held (trunk t n) (datum x) → (is_extended t s.port ≡ true) × IsOfRecord t w n x s
 record_of t w n x s low stamped clean =
     let d : Datum = datum_by x.bytes (Some s) in
     let k : CleanUp t w.control.held (trunk t n) d = subst (λ (o : Option Stamp). CleanUp t w.control.held (trunk t n) (datum_by x.bytes o)) stamped clean in

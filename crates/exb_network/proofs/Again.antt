@@ -1,5 +1,7 @@
 -- What the bridge sends again at a beat.
-use Rattle.std.proofs.Common.{◌≡◌, ◌≢◌, ℕ, ◌+◌, ◌==◌, Bool, true, false, List, [], ◌∷◌, Option, Some, None, refl, sym, ap, subst, ◌∙◌}
+use Rattle.std.proofs.Common.{◌≡◌, ◌≢◌, ℕ, ◌+◌, ◌==◌, Bool, true, false, List, [], ◌∷◌, Option, Some, None, refl, sym, ap, subst, ◌∙◌, inl, inr, eq-eqb}
+use Rattle.std.proofs.lemmas.Bool.{cases_eq, ne_eqb}
+use mathlib.Core.Path.{fun_ext}
 use Rattle.std.specs.Prelude.{IfSome, if◌then◌else◌}
 use Rattle.exb_model.specs.Tree.{Shape, is_extender}
 use Rattle.exb_ecp.specs.declared.stop_and_wait.Beat.{Beat as Due}
@@ -65,6 +67,23 @@ not_again_on t n s c ends near other here =
     let w : World = with_near n (beaten (near_of c.near n)) (world_in c) in
     subst (λ (e : Effect). Moves e s (record c { near = ends })) (sym (none_again t n (beat_of (near_of c.near n).sending) (near_of c.near n).sending w other))
     (record { world = near_in c n ends _ near; events = refl; passed = refl; left = refl; at = near_at s c here ends })
+
+-- one that sends nothing stays
+same_at : (n : ℕ) (f : ℕ → Ecp) → at n (f n) f ≡ f
+same_at n f = fun_ext (λ m. by_place m)
+  where
+    by_place : (m : ℕ) → at n (f n) f m ≡ f m
+    by_place m =
+        elim (cases_eq m n) [
+          | inl is ↦ rw (is, eq-eqb n n refl) refl
+          | inr ne ↦ rw (ne_eqb m n ne) refl
+        ]
+
+pub idle_near : (t : Shape) (n : ℕ) (w : World) → (w.near n).sending ≡ None → beats_near t n w ≡ only w
+idle_near t n w quiet =
+    let same : beaten (w.near n) ≡ w.near n = ap (λ (o : Option Sending). record (w.near n) { sending = o }) (ap aged quiet ∙ sym quiet) in
+    let stays : with_near n (beaten (w.near n)) w ≡ w = ap (λ (e : Ecp). with_near n e w) same ∙ ap (λ (f : ℕ → Ecp). record w { near = f }) (same_at n w.near) in
+    ap (λ (o : Option Sending). sends_again t n (beat_of o) o (with_near n (beaten (w.near n)) w)) quiet ∙ ap only stays
 
 -- ---- all ends
 -- the control stays

@@ -1,9 +1,10 @@
 -- The parts of a beat, one after another.
-use Rattle.std.proofs.Common.{◌≡◌, ℕ, ◌+◌, ◌-◌, ◌^◌, ◌<◌, ◌≤◌, min, List, drop, None, sym, ap, subst, ◌∙◌}
+use Rattle.std.proofs.Common.{◌≡◌, ℕ, ◌+◌, ◌-◌, ◌^◌, ◌<◌, ◌≤◌, Bool, true, false, min, List, drop, None, refl, arith, sym, ap, subst, ◌∙◌}
 use Rattle.exb_model.specs.Setup.{Limits}
-use Rattle.exb_model.specs.Tree.{Shape}
+use Rattle.std.specs.Prelude.{if◌then◌else◌}
+use Rattle.exb_model.specs.Tree.{Shape, is_extender}
 use Rattle.exb_extender.specs.Machine.{Beats}
-use Rattle.exb_machine.specs.Effects.{Effect, then_do, each}
+use Rattle.exb_machine.specs.Effects.{Effect, only, then_do, each}
 use Rattle.exb_machine.specs.Extending.{reacts}
 use Rattle.exb_machine.specs.Hearing.{beats_control, beats_near}
 use Rattle.exb_machine.specs.Stepping.{all_extenders, beats_all, if_there}
@@ -11,13 +12,14 @@ use Rattle.exb_machine.specs.Worlds.{World, next_beat}
 use Rattle.exb_machine_laws.specs.Asks.{AsksWell}
 use Rattle.exb_network.specs.declared.log.Log.{Log}
 use Rattle.exb_network.specs.declared.site.Core.{Core}
+use Rattle.exb_network.specs.Ends.{near_of}
 use Rattle.exb_network.specs.Leading.{Leads}
 use Rattle.exb_network.specs.Sites.{Site}
 use Rattle.exb_network.specs.Worlds.{world_in, IsAt, Does, Moves}
 use Rattle.exb_network.proofs.Doing.{leads_first, moves_does, does_then}
 use Rattle.exb_network.proofs.Moving.{Remains, remains_first}
-use Rattle.exb_network.proofs.Loops.{numbers_on, numbers_end, numbers_lead, numbers_told}
-use Rattle.exb_network.proofs.Again.{all_near_control}
+use Rattle.exb_network.proofs.Loops.{numbers_on, numbers_end, numbers_lead, numbers_told, numbers_skip, numbers_skip_told}
+use Rattle.exb_network.proofs.Again.{all_near_control, idle_near}
 
 -- what is asked still can go after the bridge's ends have had their beat
 pub near_asks : (t : Shape) (l : Limits) (ns : List ℕ) (s : Site) (c d : Core) → Moves (each (if_there t (beats_near t)) ns (world_in c)) s d → AsksWell t l (world_in c).control → AsksWell t l (world_in d).control
@@ -52,6 +54,25 @@ pub near_next : (t : Shape) (s : Site) (w : World) (n : ℕ) (c d : Core) → 0 
 near_next t s w n c d some few left moves =
     record { rest = numbers_on (if_there t (beats_near t)) (each (if_there t (beats_near t)) all_extenders w) n s c d some few left.rest moves; here = moves.at }
 
+-- an end that sends nothing stays
+pub quiet_near : (t : Shape) (n : ℕ) (w : World) → (w.near n).sending ≡ None → if_there t (beats_near t) n w ≡ only w
+quiet_near t n w quiet = by_test (is_extender t n)
+  where
+    by_test : (b : Bool) → (if b then beats_near t n w else only w) ≡ only w
+    by_test true = idle_near t n w quiet
+    by_test false = refl
+
+pub near_skip : (t : Shape) (s : Site) (w : World) (n m : ℕ) (c : Core) → 0 < n → n ≤ m → m ≤ 65 → ((k : ℕ) → n ≤ k → k < m → (near_of c.near k).sending ≡ None) → NearLeft t s w n c → NearLeft t s w m c
+near_skip t s w n m c some up few quiet left =
+    let e : n + (m - n) ≡ m = omega arith in
+    let on : NearLeft t s w (n + (m - n)) c =
+    record {
+      rest = numbers_skip (if_there t (beats_near t)) (each (if_there t (beats_near t)) all_extenders w) (m - n) n s c some (omega arith) left.here
+          (λ k from before. quiet_near t k (world_in c) (quiet k from (omega (arith, before)))) left.rest;
+      here = left.here;
+    } in
+    subst (λ (k : ℕ). NearLeft t s w k c) e on
+
 pub near_last : (t : Shape) (s : Site) (w : World) (n : ℕ) (c : Core) → 65 ≤ n → NearLeft t s w n c → Moves (each (if_there t (beats_near t)) all_extenders w) s c
 near_last t s w n c all left = numbers_end (if_there t (beats_near t)) (each (if_there t (beats_near t)) all_extenders w) n s c all left.rest left.here
 
@@ -69,6 +90,22 @@ far_first t s c log at = record { rest = leads_first (each (beats_at t) all_exte
 pub far_next : (t : Shape) (s : Site) (w : World) (n : ℕ) (c d : Core) (old told new : Log) → 0 < n → n < 65 → FarLeft t s w old n c told → Does (beats_at t n (world_in c)) s d told new → FarLeft t s w old (n + 1) d new
 far_next t s w n c d old told new some few left does =
     record { rest = numbers_lead (beats_at t) (each (beats_at t) all_extenders w) n s c d old told new some few left.rest does; here = does.at }
+
+-- where there is no extender nothing is done
+pub far_skip : (t : Shape) (s : Site) (w : World) (n m : ℕ) (c : Core) (old log : Log) → 0 < n → n ≤ m → m ≤ 65 → ((k : ℕ) → n ≤ k → k < m → is_extender t k ≡ false) → FarLeft t s w old n c log →
+    FarLeft t s w old m c log
+far_skip t s w n m c old log some up few none left =
+    let e : n + (m - n) ≡ m = omega arith in
+    let on : FarLeft t s w old (n + (m - n)) c log =
+    record {
+      rest = numbers_skip_told (beats_at t) (each (beats_at t) all_extenders w) (m - n) n s c old log some (omega arith) left.here
+          (λ k from before. nothing k (none k from (omega (arith, before)))) left.rest;
+      here = left.here;
+    } in
+    subst (λ (k : ℕ). FarLeft t s w old k c log) e on
+  where
+    nothing : (k : ℕ) → is_extender t k ≡ false → beats_at t k (world_in c) ≡ only (world_in c)
+    nothing k e = rw e refl
 
 pub far_last : (t : Shape) (s : Site) (w : World) (n : ℕ) (c : Core) (old log : Log) → 65 ≤ n → FarLeft t s w old n c log → Does (each (beats_at t) all_extenders w) s c old log
 far_last t s w n c old log all left = numbers_told (beats_at t) (each (beats_at t) all_extenders w) n s c old log all left.rest left.here

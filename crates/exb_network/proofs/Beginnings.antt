@@ -1,8 +1,8 @@
 -- How a network begins.
-use Rattle.std.proofs.Common.{◌≡◌, ℕ, true, false, List, [], refl, ap, sym, subst, ◌∙◌}
+use Rattle.std.proofs.Common.{◌≡◌, ℕ, true, false, List, [], refl, ap, sym, ◌∙◌}
 use Rattle.std.specs.Prelude.{slice_index}
 use Rattle.exb_model.specs.declared.setup.Setup.{Setup}
-use Rattle.exb_model.specs.Setup.{Limits, shape_of, start_of, limits_of}
+use Rattle.exb_model.specs.Setup.{shape_of, start_of, limits_of}
 use Rattle.exb_model.specs.Tree.{Shape, is_extender}
 use Rattle.exb_csp.specs.Plain.{powered_on}
 use Rattle.exb_ecp.specs.Machine.{State as Ecp, new_state}

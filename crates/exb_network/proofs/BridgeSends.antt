@@ -8,7 +8,7 @@ use mathlib.Core.Path.{fun_ext}
 use Rattle.exb_model.specs.declared.vlan.Kind.{Kind}
 use Rattle.exb_model.specs.declared.vlan.Kind.TheVariants.{Tagged, Untagged}
 use Rattle.exb_model.specs.Ports.{below, all_ports, port_in}
-use Rattle.exb_model.specs.Frames.{kind_of, destination}
+use Rattle.exb_model.specs.Frames.{destination}
 use Rattle.exb_model.specs.Tree.{Shape, IsTree, device, trunk, is_under}
 use Rattle.exb_model.specs.Configuration.{Bridge}
 use Rattle.exb_model.specs.Learning.{Look, passes}
@@ -26,7 +26,7 @@ use Rattle.exb_relay.proofs.Under.{under_extended, under_trunk, home_low, under_
 use Rattle.exb_relay.proofs.Words.{tag_fits}
 use Rattle.exb_numbers.specs.Channels.{channel_of}
 use Rattle.exb_numbers.specs.Groups.{group_of}
-use Rattle.exb_numbers.specs.Spaces.{Spaces, channels_at, groups_at}
+use Rattle.exb_numbers.specs.Spaces.{Spaces}
 use Rattle.exb_model.specs.Numbering.{is_port}
 use Rattle.exb_plans.specs.Held.{Held, channel_in, group_in, in_spaces, is_place}
 use Rattle.exb_plan.specs.Spaces.{held_by}

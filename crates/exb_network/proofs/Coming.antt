@@ -1,7 +1,7 @@
 -- A frame comes to the bridge: what its control makes of it, as an effect.
-use Rattle.std.proofs.Common.{◌≡◌, ℕ, ◌<◌, ◌≤◌, ◌++◌, if◌then◌else◌, Bool, true, false, List, [], ◌∷◌, length, map, Option, Some, None, refl, sym, ap, subst, ◌∙◌, arith}
+use Rattle.std.proofs.Common.{◌≡◌, ℕ, ◌<◌, ◌++◌, if◌then◌else◌, Bool, true, false, List, [], ◌∷◌, Option, Some, None, refl, sym, ap, subst, ◌∙◌}
 use Rattle.std.specs.List.{All}
-use Rattle.std.specs.Prelude.{is_some, Result, Ok, Err, OnOk}
+use Rattle.std.specs.Prelude.{Result, Ok, Err, OnOk}
 use Rattle.std.proofs.lemmas.Bool.{true≢false}
 use Rattle.std.proofs.lemmas.List.{append-nil}
 use Rattle.std.proofs.lemmas.List.Elements.{All-nil}
@@ -16,7 +16,7 @@ use Rattle.exb_model.specs.Input.{Arrival}
 use Rattle.exb_model.specs.Learning.{passes, passes_as}
 use Rattle.exb_model.specs.Tree.{Shape, IsTree}
 use Rattle.exb_frame.specs.Egress.{can_leave, priority}
-use Rattle.exb_learn.specs.Entries.{Entries, table_of, look_of}
+use Rattle.exb_learn.specs.Entries.{table_of, look_of}
 use Rattle.exb_learn.specs.Calls.{Table}
 use Rattle.exb_relay.specs.declared.send.Ingress.{Ingress}
 use Rattle.exb_relay.specs.declared.send.Ingress.TheVariants as ingress
@@ -26,15 +26,12 @@ use Rattle.exb_relay.specs.Numbers.{IsNumbering}
 use Rattle.exb_relay.specs.Sends.{ingress_by, ingress_of, pcp_of, dei_of}
 use Rattle.exb_relay.specs.Spaces.{numbers_of}
 use Rattle.exb_relay.proofs.Words.{pcp_small}
-use Rattle.exb_changes.specs.Fabrics.{Fabric, IsFabric, bridge_in}
-use Rattle.exb_changing.specs.Machine.{State}
+use Rattle.exb_changes.specs.Fabrics.{bridge_in}
 use Rattle.exb_control.specs.declared.outbox.Outbox.{Outbox}
 use Rattle.exb_control.specs.Boxes.{HasCome, ingress_for}
-use Rattle.exb_control.specs.Boxes.{sends_for as sends_by}
 use Rattle.exb_control.specs.Controls.{Parts, state_of}
-use Rattle.exb_machine.specs.Controls.{taught}
 use Rattle.exb_machine.specs.Worlds.{World, with_table}
-use Rattle.exb_machine.specs.Effects.{Effect, only, each}
+use Rattle.exb_machine.specs.Effects.{only, each}
 use Rattle.exb_machine.specs.Relaying.{passed_by, sends_all, sends_for, sends_in}
 use Rattle.exb_network.specs.declared.log.Log.{Log}
 use Rattle.exb_network.specs.declared.relaying.Passed.{Passed}

@@ -1,10 +1,10 @@
 -- The world where one part of the network changes.
-use Rattle.std.proofs.Common.{◌≡◌, ℕ, List, [], ◌∷◌, ◌++◌, map, refl, ap, sym, subst, ◌∙◌}
+use Rattle.std.proofs.Common.{◌≡◌, ℕ, List, [], ◌∷◌, ◌++◌, refl, ap, sym, ◌∙◌}
 use Rattle.std.proofs.lemmas.List.{append-nil, map-append}
 use Rattle.exb_ecp.specs.Machine.{State as Ecp}
 use Rattle.exb_extender.specs.Machine.{ExtenderState}
 use Rattle.exb_link.specs.declared.word.Word.{Word}
-use Rattle.exb_machine.specs.Worlds.{World, Line, Left as Leaving, at, with_near, with_far, with_down, with_up}
+use Rattle.exb_machine.specs.Worlds.{Line, Left as Leaving, at, with_near, with_far, with_down, with_up}
 use Rattle.exb_machine.specs.Effects.{Effect, only, sending, leaving}
 use Rattle.exb_network.specs.declared.log.Left.{Left}
 use Rattle.exb_network.specs.declared.log.Log.{Log}
@@ -12,9 +12,8 @@ use Rattle.exb_network.specs.declared.site.Core.{Core}
 use Rattle.exb_network.specs.Devices.{Devices, far_of, AreSame}
 use Rattle.exb_network.specs.Directions.{words_of}
 use Rattle.exb_network.specs.Ends.{near_of}
-use Rattle.exb_network.specs.Indices.{next_of}
 use Rattle.exb_network.specs.Sites.{Site}
-use Rattle.exb_network.specs.Worlds.{world_in, all_left, left_of, IsAt, Does, Moves}
+use Rattle.exb_network.specs.Worlds.{world_in, all_left, left_of, IsAt, Does}
 
 -- ---- the world
 module _ (c : Core) (n : ℕ) where

@@ -1,15 +1,17 @@
 -- The extenders by number.
-use Rattle.std.proofs.Common.{◌≡◌, ◌≢◌, ◌⊎◌, ℕ, zero, suc, ◌+◌, ◌<◌, ◌≤◌, ◌==◌, ◌&&◌, ◌||◌, Bool, true, false, List, [], ◌∷◌, ◌++◌, length, set, get_or, nat_lt, refl, ap, sym, ◌∙◌, subst, arith, inl, inr, eq-eqb}
-use Rattle.std.specs.Prelude.{Option, Some, None, slice_get, slice_index, replicate}
+use Rattle.std.proofs.Common.{◌≡◌, ◌≢◌, ◌⊎◌, ◌↔◌, ℕ, zero, suc, ◌<◌, ◌≤◌, ◌==◌, ◌&&◌, Bool, true, false, not, IsTrue, List, [], ◌∷◌, ◌++◌, length, set, get_or, nat_lt, refl, ap, sym, ◌∙◌, subst, arith, inl, inr, eq-eqb}
+use Rattle.std.specs.Int.{bit_at}
+use Rattle.std.specs.Prelude.{if◌then◌else◌, Option, Some, None, slice_get, slice_index, replicate}
 use Rattle.std.proofs.lemmas.Bool.{cases_eq, cases_lt, ne_eqb, and_parts, ltb-true, false≢true}
-use Rattle.std.proofs.lemmas.List.{get_or_past}
+use Rattle.std.proofs.lemmas.List.{get_or_past, length-set}
+use Rattle.std.proofs.lemmas.Nat.Bits.{bit_at-zero}
 use mathlib.Core.Path.{fun_ext}
 use Rattle.exb_model.specs.Tree.{Shape, is_extender}
 use Rattle.exb_model.proofs.Words.{get_or-same}
 use Rattle.exb_extender.specs.Fields.{Fields, state_of}
 use Rattle.exb_extender.specs.Machine.{ExtenderState, at_power_on}
 use Rattle.exb_machine.specs.Worlds.{at}
-use Rattle.exb_network.specs.Devices.{Devices, state_at, far_of, first_far, is_there, has_extender, IsPoweredOn, AreSame}
+use Rattle.exb_network.specs.Devices.{Devices, state_at, far_of, first_far, is_there, has_extender, IsPoweredOn, AreSame, AreNoted, sent_at}
 
 -- ---- one of them changes
 module _ {A : Type 0} where
@@ -109,6 +111,39 @@ module _ (ports : List ℕ) (xs : List (Option Fields)) (d : Devices) (n : ℕ) 
   pub same_found : (f g : Fields) → x ≡ Some g → (state_of f).tables.ports ≡ (state_of g).tables.ports → AreSame d (devices ports (set xs n (Some f)))
   same_found f g same kept = subst (λ (each : Devices). AreSame each (devices ports (set xs n (Some f)))) view (same_set ports xs n f g (found g same) kept)
 
+  -- it has made a step
+  pub far_after : (f g : Fields) (step : ExtenderState → ExtenderState) → x ≡ Some g → state_of f ≡ step (state_of g) → far_of (devices ports (set xs n (Some f))) ≡ at n (step (far_of d n)) (far_of d)
+  far_after f g step same is =
+      far_set ports xs n f (get_within xs n (Some g) (found g same))
+      ∙ (ap (λ (s : ExtenderState). at n s (far_of (devices ports xs))) (is ∙ ap step (sym (far_found g same))) ∙ ap (λ (each : Devices). at n (step (far_of d n)) (far_of each)) view)
+
+  -- and it is noted whether it sends
+  pub noted_after : (f g : Fields) (old new : ℕ) (idle : Bool) → x ≡ Some g → AreNoted xs old → ((k : ℕ) → bit_at new k ≡ (if k == n then (if not idle then 1 else 0) else bit_at old k)) →
+      (IsTrue idle ↔ (f.ecp.sending ≡ None)) → AreNoted (set xs n (Some f)) new
+  noted_after f g old new idle same noted bits quiet =
+      record {
+        few = length-set xs n (Some f) ∙ noted.few;
+        noted = λ k. by_place k;
+      }
+    where
+      mark : Bool → ℕ
+      mark b = if not b then 1 else 0
+
+      here : (b : Bool) → (IsTrue b ↔ (f.ecp.sending ≡ None)) → (mark b ≡ 0) ↔ (f.ecp.sending ≡ None)
+      here true q = (λ e. q.0 refl, λ e. refl)
+      here false q = (λ e. absurd (omega (arith, e)), λ e. absurd (false≢true (q.1 e)))
+
+      by_place : (k : ℕ) → (bit_at new k ≡ 0) ↔ (sent_at (slice_get (set xs n (Some f)) k) ≡ None)
+      by_place k =
+          elim (cases_eq k n) [
+            | inl is ↦
+                let bit : bit_at new n ≡ mark idle = rw (is, eq-eqb n n refl) at (bits k) in
+                rw (is, get_set xs n (Some f) (get_within xs n (Some g) (found g same)), bit) (here idle quiet)
+            | inr ne ↦
+                let bit : bit_at new k ≡ bit_at old k = rw (ne_eqb k n ne) at (bits k) in
+                rw (get_set_other xs n k (Some f) ne, bit) (noted.noted k)
+          ]
+
 -- ---- at power-on
 abbrev pub ArePoweredOn : List ℕ → List (Option Fields) → Type 0
 ArePoweredOn ports xs = (k : ℕ) (x : Option Fields) → slice_get xs k ≡ Some x → IsPoweredOn k (slice_index ports k) x
@@ -146,6 +181,18 @@ powered_far ports xs all n = by_get (slice_get xs n) refl
 
 pub powered_fars : (t : Shape) (ports : List ℕ) (xs : List (Option Fields)) → ports ≡ t.ports → ArePoweredOn ports xs → far_of (devices ports xs) ≡ first_far t
 powered_fars t ports xs same all = fun_ext (λ n. powered_far ports xs all n ∙ ap (λ (each : List ℕ). at_power_on n (slice_index each n)) same)
+
+-- nothing is sent
+powered_quiet : (n ports : ℕ) (x : Option Fields) → IsPoweredOn n ports x → sent_at (Some x) ≡ None
+powered_quiet n ports None is = refl
+powered_quiet n ports (Some f) is = ap (λ (s : ExtenderState). s.ecp.sending) is.1
+
+pub powered_noted : (ports : List ℕ) (xs : List (Option Fields)) → length xs ≡ 65 → ArePoweredOn ports xs → AreNoted xs 0
+powered_noted ports xs long all = record { few = long; noted = λ n. (λ e. by_get n (slice_get xs n) refl, λ e. bit_at-zero n) }
+  where
+    by_get : (n : ℕ) (x : Option (Option Fields)) → slice_get xs n ≡ x → sent_at x ≡ None
+    by_get n None e = refl
+    by_get n (Some x) e = powered_quiet n (slice_index ports n) x (all n x e)
 
 get_some : {A : Type 0} (xs : List A) (n : ℕ) → n < length xs → (x : A) × (slice_get xs n ≡ Some x)
 get_some [] n within = absurd (omega arith)

@@ -1,10 +1,10 @@
 -- Who hangs on a port, by the role of the port.
-use Rattle.std.proofs.Common.{◌≡◌, ℕ, ◌<◌, Bool, true, false, not, ◌&&◌, refl, ap, sym, subst, ◌∙◌}
+use Rattle.std.proofs.Common.{◌≡◌, ℕ, ◌<◌, true, not, refl, ap, sym, subst, ◌∙◌}
 use Rattle.std.specs.Prelude.{Option, Some, None}
 use Rattle.std.proofs.lemmas.Bool.{and_parts, false≢true}
 use Rattle.exb_model.specs.declared.role.Role.{Role}
 use Rattle.exb_model.specs.declared.role.Role.TheVariants as role
-use Rattle.exb_model.specs.Tree.{Shape, IsTree, HasRole, HangsOn, is_port, is_cascade, on}
+use Rattle.exb_model.specs.Tree.{Shape, IsTree, HasRole, HangsOn, is_port, is_cascade}
 use Rattle.exb_model.proofs.TreeHung.{hung_cascade, extender-low}
 use Rattle.exb_machine.specs.Extending.{hung_on}
 use Rattle.exb_machine_laws.proofs.Trees.{hung_is, hung_found, extender_there}

@@ -18,4 +18,9 @@ pub mod Hanging
 pub mod Cores
 pub mod Reacting
 pub mod Sendings
+pub mod Bits
+pub mod Noted
+pub mod Idling
+pub mod Deepest
+pub mod Turning
 pub mod Beginnings

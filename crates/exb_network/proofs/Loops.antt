@@ -1,8 +1,8 @@
 -- Effects that are done for each of a list, or for each of the extenders in order.
-use Rattle.std.proofs.Common.{◌≡◌, ℕ, suc, zero, ◌+◌, ◌-◌, ◌<◌, ◌≤◌, List, [], ◌∷◌, length, get_or, drop, ap, sym, subst, ◌∙◌, arith}
+use Rattle.std.proofs.Common.{◌≡◌, ℕ, suc, zero, ◌+◌, ◌-◌, ◌<◌, ◌≤◌, List, [], ◌∷◌, length, get_or, drop, ap, refl, sym, subst, ◌∙◌, arith}
 use Rattle.std.proofs.lemmas.List.{drop_more, drop_all}
 use Rattle.std.proofs.lemmas.List.FromFn.{length-range_with_len, get_or-range_with_len}
-use Rattle.exb_machine.specs.Effects.{Effect, each}
+use Rattle.exb_machine.specs.Effects.{Effect, only, each}
 use Rattle.exb_machine.specs.Stepping.{all_extenders}
 use Rattle.exb_machine.specs.Worlds.{World}
 use Rattle.exb_machine_laws.specs.Sessions.{Each}
@@ -11,6 +11,7 @@ use Rattle.exb_network.specs.declared.site.Core.{Core}
 use Rattle.exb_network.specs.Leading.{Leads}
 use Rattle.exb_network.specs.Sites.{Site}
 use Rattle.exb_network.specs.Worlds.{world_in, IsAt, Does, Moves}
+use Rattle.exb_network.proofs.Cores.{does_nothing}
 use Rattle.exb_network.proofs.Doing.{leads_on, leads_only}
 use Rattle.exb_network.proofs.Moving.{Remains, remains_on, remains_only}
 
@@ -79,3 +80,32 @@ numbers_end f whole n s c all remains at = each_end f whole all_extenders (n - 1
 pub numbers_told : (f : ℕ → World → Effect) (whole : Effect) (n : ℕ) (s : Site) (c : Core) (old told : Log) → 65 ≤ n → Leads whole (each f (drop (n - 1) all_extenders) (world_in c)) old told → IsAt s c →
     Does whole s c old told
 numbers_told f whole n s c old told all leads at = each_told f whole all_extenders (n - 1) s c old told (all_numbers n all) leads at
+
+-- ---- numbers at which nothing is done
+pub numbers_skip : (f : ℕ → World → Effect) (whole : Effect) (d n : ℕ) (s : Site) (c : Core) → 0 < n → n + d ≤ 65 → IsAt s c → ((k : ℕ) → n ≤ k → k < n + d → f k (world_in c) ≡ only (world_in c)) →
+    Remains whole (each f (drop (n - 1) all_extenders) (world_in c)) → Remains whole (each f (drop (n + d - 1) all_extenders) (world_in c))
+numbers_skip f whole zero n s c some few here nothing remains =
+    let e : n ≡ n + 0 = omega arith in
+    subst (λ (k : ℕ). Remains whole (each f (drop (k - 1) all_extenders) (world_in c))) e remains
+numbers_skip f whole (suc d) n s c some few here nothing remains =
+    let e : n + 1 + d ≡ n + suc d = omega arith in
+    let low : n < 65 = omega (arith, few) in
+    let this : Moves (f n (world_in c)) s c =
+    subst (λ (one : Effect). Moves one s c) (sym (nothing n (omega arith) (omega arith))) (record { world = refl; events = refl; passed = refl; left = refl; at = here }) in
+    subst (λ (k : ℕ). Remains whole (each f (drop (k - 1) all_extenders) (world_in c))) e
+    (numbers_skip f whole d (n + 1) s c (omega arith) (omega (arith, few)) here (λ k from before. nothing k (omega (arith, from)) (omega (arith, before)))
+    (numbers_on f whole n s c c some low remains this))
+
+pub numbers_skip_told : (f : ℕ → World → Effect) (whole : Effect) (d n : ℕ) (s : Site) (c : Core) (old told : Log) → 0 < n → n + d ≤ 65 → IsAt s c →
+    ((k : ℕ) → n ≤ k → k < n + d → f k (world_in c) ≡ only (world_in c)) → Leads whole (each f (drop (n - 1) all_extenders) (world_in c)) old told →
+    Leads whole (each f (drop (n + d - 1) all_extenders) (world_in c)) old told
+numbers_skip_told f whole zero n s c old told some few here nothing leads =
+    let e : n ≡ n + 0 = omega arith in
+    subst (λ (k : ℕ). Leads whole (each f (drop (k - 1) all_extenders) (world_in c)) old told) e leads
+numbers_skip_told f whole (suc d) n s c old told some few here nothing leads =
+    let e : n + 1 + d ≡ n + suc d = omega arith in
+    let low : n < 65 = omega (arith, few) in
+    let this : Does (f n (world_in c)) s c told told = subst (λ (one : Effect). Does one s c told told) (sym (nothing n (omega arith) (omega arith))) (does_nothing s c told here) in
+    subst (λ (k : ℕ). Leads whole (each f (drop (k - 1) all_extenders) (world_in c)) old told) e
+    (numbers_skip_told f whole d (n + 1) s c old told (omega arith) (omega (arith, few)) here (λ k from before. nothing k (omega (arith, from)) (omega (arith, before)))
+    (numbers_lead f whole n s c c old told told some low leads this))

@@ -1,12 +1,12 @@
 -- What extenders do with what comes to them.
-use Rattle.std.proofs.Common.{◌≡◌, ◌↔◌, ℕ, ◌<◌, ◌≤◌, ◌%◌, Bool, true, false, List, [], ◌∷◌, ◌++◌, nat_lt, refl, ap, sym, subst, ◌∙◌, arith, inl, inr, eq-eqb}
-use Rattle.std.specs.Prelude.{Option, Some, None, All, IsTrue}
+use Rattle.std.proofs.Common.{◌≡◌, ◌↔◌, ℕ, ◌<◌, ◌%◌, true, false, List, [], ◌∷◌, ◌++◌, refl, ap, sym, subst, ◌∙◌, arith, inl, inr, eq-eqb}
+use Rattle.std.specs.Prelude.{Option, Some, All, IsTrue}
 use Rattle.std.proofs.lemmas.Bool.{cases_eq, ne_eqb, ltb-true, cases_Bool}
 use Rattle.std.proofs.lemmas.List.{append-nil}
 use mathlib.Core.Path.{fun_ext}
 use Rattle.exb_model.specs.declared.event.Event.TheVariants as event
 use Rattle.exb_model.specs.Input.{Arrival}
-use Rattle.exb_model.specs.Tree.{Shape, device, is_port, is_extender}
+use Rattle.exb_model.specs.Tree.{Shape, device}
 use Rattle.exb_link.specs.declared.word.Stamp.{Stamp}
 use Rattle.exb_link.specs.declared.word.Word.{Word}
 use Rattle.exb_extender.specs.declared.sends.Entry.{Entry}
@@ -14,12 +14,12 @@ use Rattle.exb_extender.specs.declared.sends.Entry.TheVariants as entry
 use Rattle.exb_extender.specs.declared.sends.Out.{Out}
 use Rattle.exb_extender.specs.declared.sends.Sends.{Sends}
 use Rattle.exb_extender.specs.declared.sends.Side.TheVariants as side
-use Rattle.exb_extender.specs.Forwarding.{Sent, emitted, is_ignored, sent_from_external}
+use Rattle.exb_extender.specs.Forwarding.{Sent, emitted, is_ignored}
 use Rattle.exb_extender.specs.Machine.{ExtenderState, Input, Arrives, IsPort, react}
 use Rattle.exb_extender.specs.Sending.{sent_by}
 use Rattle.exb_machine.specs.Worlds.{World, at, with_far}
-use Rattle.exb_machine.specs.Effects.{Effect, only, each}
-use Rattle.exb_machine.specs.Extending.{sends, does, does_or_ignores, reacts, takes_from_below, arrives_at, ignored, stamp_of, port_number}
+use Rattle.exb_machine.specs.Effects.{Effect, each}
+use Rattle.exb_machine.specs.Extending.{sends, reacts, takes_from_below, arrives_at, ignored, stamp_of, port_number}
 use Rattle.exb_network.specs.declared.log.Log.{Log}
 use Rattle.exb_network.specs.declared.site.Core.{Core}
 use Rattle.exb_network.specs.Arrivals.{IsPortAt}

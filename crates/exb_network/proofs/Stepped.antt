@@ -1,7 +1,7 @@
 -- How steps begin: a word is taken off its link, a record is counted, the clock goes on.
-use Rattle.std.proofs.Common.{◌≡◌, ℕ, zero, suc, ◌+◌, ◌-◌, ◌%◌, ◌/◌, ◌<◌, ◌≤◌, ◌==◌, ◌++◌, if◌then◌else◌, not, nat_lt, Bool, true, false, List, [], ◌∷◌, Option, Some, None, slice_index, refl, sym, ap, subst, ◌∙◌, inl, inr, eq-eqb, arith}
+use Rattle.std.proofs.Common.{◌≡◌, ℕ, zero, suc, ◌-◌, ◌%◌, ◌<◌, ◌≤◌, ◌==◌, ◌++◌, if◌then◌else◌, not, nat_lt, Bool, true, false, List, [], ◌∷◌, Option, Some, None, slice_index, refl, sym, ap, subst, ◌∙◌, inl, inr, eq-eqb, arith}
 use Rattle.std.specs.List.{filter, slice_get}
-use Rattle.std.proofs.lemmas.Bool.{cases_eq, cases_Bool, ne_eqb, and_parts, and_from, ltb-true, lt-ltb, le-ltb, false≢true}
+use Rattle.std.proofs.lemmas.Bool.{cases_eq, ne_eqb, and_parts, and_from, ltb-true, lt-ltb, le-ltb}
 use Rattle.std.proofs.lemmas.List.{append-nil}
 use mathlib.Core.Path.{fun_ext}
 use Rattle.exb_model.specs.declared.command.Command.{Command}
@@ -11,15 +11,13 @@ use Rattle.exb_model.specs.Setup.{Limits}
 use Rattle.exb_model.specs.Tree.{Shape, IsTree, HangsOn, device, on, is_port, is_cascade, is_extender, is_external}
 use Rattle.exb_link.specs.declared.word.Word.{Word}
 use Rattle.exb_link.specs.Words.{is_control, is_data, without_control, without_data}
-use Rattle.exb_learn.specs.Calls.{Tick, after_call}
 use Rattle.exb_control.specs.declared.outbox.Outbox.{Outbox}
 use Rattle.exb_changing.specs.Deciding.{decide}
 use Rattle.exb_changing.specs.Machine.{ordered}
 use Rattle.exb_control.specs.Boxes.{HasTicked, IsMoved}
 use Rattle.exb_control.specs.Controls.{Parts, decide_of, state_of}
-use Rattle.exb_machine.specs.Worlds.{World, Way, Up, Down, at, with_table}
+use Rattle.exb_machine.specs.Worlds.{World, Way, Up, Down, at}
 use Rattle.exb_machine.specs.Worlds.{Tick as Ticks, Mark, Lose}
-use Rattle.exb_machine.specs.Effects.{Effect, only}
 use Rattle.exb_machine.specs.Extending.{arrives_at, port_number, takes_from_below}
 use Rattle.exb_machine.specs.Relaying.{bridge_takes, comes}
 use Rattle.exb_machine.specs.Stepping.{arrives, control_at, counted, done_by, first_data, rest_of, takes, takes_any, takes_up, with_words, words_on}

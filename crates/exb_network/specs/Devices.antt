@@ -1,6 +1,8 @@
 -- The extenders of a network as the world has them: the state of each, by its number.
-use Rattle.std.specs.Prelude.{◌≡◌, ℕ, ◌==◌, ◌||◌, Bool, true, false, if◌then◌else◌, List, Option, Some, None, slice_get, slice_index}
+use Rattle.std.specs.Prelude.{◌≡◌, ◌↔◌, ℕ, ◌==◌, ◌||◌, Bool, true, false, List, Option, Some, None, length, slice_get, slice_index}
+use Rattle.std.specs.Int.{bit_at}
 use Rattle.exb_model.specs.Tree.{Shape}
+use Rattle.exb_ecp.specs.Machine.{Sending}
 use Rattle.exb_extender.specs.Fields.{Fields, state_of}
 use Rattle.exb_extender.specs.Machine.{ExtenderState, at_power_on}
 
@@ -40,3 +42,14 @@ IsPoweredOn n ports (Some f) = ((n == 0 || ports == 0) ≡ false) × (state_of f
 pub record AreSame (old new : Devices) : Type 0 where
   pub there : (n : ℕ) → has_extender new n ≡ has_extender old n
   pub ports : (n : ℕ) → (far_of new n).tables.ports ≡ (far_of old n).tables.ports
+
+-- what it sends
+abbrev pub sent_at : Option (Option Fields) → Option Sending
+sent_at (Some (Some f)) = f.ecp.sending
+sent_at (Some None) = None
+sent_at None = None
+
+-- there is a place for each device, and exactly those that send something are noted by their bits
+pub record AreNoted (extenders : List (Option Fields)) (sending : ℕ) : Type 0 where
+  pub few : length extenders ≡ 65
+  pub noted : (n : ℕ) → (bit_at sending n ≡ 0) ↔ (sent_at (slice_get extenders n) ≡ None)

@@ -1,7 +1,13 @@
 -- One direction of all links.
-use Rattle.std.specs.Prelude.{ℕ, List, [], slice_index_or}
+use Rattle.std.specs.Prelude.{◌≡◌, ◌↔◌, ℕ, List, [], length, slice_index_or}
+use Rattle.std.specs.Int.{bit_at}
 use Rattle.exb_link.specs.declared.word.Word.{Word}
 
 -- the words on the link of extender n, in order of sending
 abbrev pub words_of : List (List Word) → ℕ → List Word
 words_of links n = slice_index_or links n []
+
+-- there is a link for each device, and exactly those that have a word are noted by their bits
+pub record IsNoted (links : List (List Word)) (busy : ℕ) : Type 0 where
+  pub sized : length links ≡ 65
+  pub noted : (n : ℕ) → (bit_at busy n ≡ 0) ↔ (words_of links n ≡ [])

@@ -1,3 +1,4 @@
+pub mod Numbers
 pub mod Ends
 pub mod Devices
 pub mod Directions
@@ -7,6 +8,7 @@ pub mod Forms
 pub mod Arrivals
 pub mod Sends
 pub mod Steps
+pub mod Turns
 pub mod Worlds
 pub mod Networks
 pub mod Leading

@@ -1,9 +1,9 @@
 -- What a network is to its contracts: its parts, and the world of the machine for which they stand.
-use Rattle.std.specs.Prelude.{◌≡◌, ℕ, ◌++◌, Bool, false, List, []}
+use Rattle.std.specs.Prelude.{◌≡◌, ◌++◌, Bool, false, []}
 use Rattle.exb_model.specs.Tree.{Shape}
 use Rattle.exb_model.specs.Setup.{Limits}
 use Rattle.exb_machine.specs.Worlds.{World, Step, Arrive, Carry, Control, Lose, Beat, Tick, Order, Mark}
-use Rattle.exb_machine.specs.Stepping.{Stepped, stepped}
+use Rattle.exb_machine.specs.Stepping.{stepped}
 use Rattle.exb_network.specs.declared.log.Log.{Log}
 use Rattle.exb_network.specs.declared.site.Core.{Core}
 use Rattle.exb_network.specs.declared.step.Step.{Step as Made}

@@ -187,7 +187,7 @@ pub(crate) fn follow(
         → room.old.outbox.events ≡ m.events → room.old.outbox.asks ≡ m.asks → Does (moves site.now.tree m w) site.now core.new log.old log.new) }
 {
     core.control.has_low_serials();
-    add_events(alloc, room.outbox.events.as_slice(), &mut log.events)?;
+    add_events(alloc, &mut room.outbox.events, &mut log.events)?;
     let asked = room.outbox.asks.as_slice();
     ask_all(alloc, site, asked, &mut room.buffers, core)
 }

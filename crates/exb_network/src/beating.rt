@@ -13,11 +13,11 @@ ghost use Rattle.exb_network.specs.Worlds.{world_in, IsAt, Does, Moves};
 
 use crate::asking::{follow, has_low_number, send_to_extender, spell_request};
 use crate::log::Log;
+use crate::numbers::first_in;
 use crate::site::{Buffers, Core, Room, Site};
 use crate::taking;
 use exb_ecp::{Beat, Ecp};
 use exb_model::memory::NoMemory;
-use exb_model::port::DEVICES;
 use std::alloc::Global;
 
 /// What an end sends, which is at most 1,024 bytes.
@@ -69,7 +69,7 @@ fn beat_near_any(
     beat_near(alloc, site, number, buffers, core)
 }
 
-/// All of the bridge's ends count the beat, by extender.
+/// All of the bridge's ends count the beat, by extender. One that sends nothing has nothing to count.
 fn beat_all_near(
     alloc: Global,
     site: &Site,
@@ -79,8 +79,10 @@ fn beat_all_near(
     requires at { IsAt site.now core.old }
     ensures { OnOk result (Moves (each (if_there site.now.tree (beats_near site.now.tree)) all_extenders (world_in core.old)) site.now core.new) }
 {
-    for number in 1..DEVICES {
+    let mut from = 1u8;
+    'numbers: while let Some(number) = core.near.next_sending(from) {
         beat_near_any(alloc, site, number, buffers, core)?;
+        from = number + 1;
     }
     Ok(())
 }
@@ -132,8 +134,12 @@ fn beat_all_far(
     requires at { IsAt site.now core.old }
     ensures { OnOk result (Does (each (if_there site.now.tree (λ n. reacts site.now.tree n None Beats)) all_extenders (world_in core.old)) site.now core.new log.old log.new) }
 {
-    for number in 1..DEVICES {
+    site.tree().is_tree();
+    let all = site.extenders();
+    let mut from = 1u8;
+    'numbers: while let Some(number) = first_in(all, from) {
         beat_far_any(alloc, site, number, room, core, log)?;
+        from = number + 1;
     }
     Ok(())
 }

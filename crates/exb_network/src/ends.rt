@@ -1,9 +1,11 @@
 //! The bridge's ends of the transport between it and its extenders (ECP, IEEE 802.1Q, clause 43).
-ghost use Rattle.std.specs.Prelude.{◌≡◌, ◌<◌, ◌≤◌, IfOk, length};
+ghost use Rattle.std.specs.Prelude.{◌≡◌, ◌↔◌, ℕ, ◌<◌, ◌≤◌, false, IfNone, IfOk, IfSome, None, length};
+ghost use Rattle.std.specs.Int.{bit_at};
 ghost use Rattle.exb_ecp.specs.Machine.{new_state, submitted, stopped, acknowledged, heard, is_fresh, beaten, beat_of, sent_payload};
 ghost use Rattle.exb_machine.specs.Worlds.{at};
-ghost use Rattle.exb_network.specs.Ends.{near_of};
+ghost use Rattle.exb_network.specs.Ends.{near_of, IsNextSending};
 
+use crate::numbers::{first_in, meet, with_bit};
 use exb_ecp::{Beat, Ecp};
 use exb_model::memory::NoMemory;
 use exb_model::port::DEVICES;
@@ -14,17 +16,20 @@ use std::marker::Model;
 #[derive(Drop)]
 pub(crate) struct Ends {
     ends: Vec<Ecp>,
+    /// Bit n is set where the end with extender n sends something.
+    sending: u128,
 }
 
 impl Model for Ends {
-    ghost use Rattle.std.specs.Prelude.{◌≡◌, List, length};
+    ghost use Rattle.std.specs.Prelude.{List};
     ghost use Rattle.exb_ecp.specs.Machine.{State};
+    ghost use Rattle.exb_network.specs.Ends.{AreNoted};
 
     ghost Value = { List State };
 
     ghost view = { λ s. s.ends.items };
 
-    ghost invariant = { λ s. length s.ends.items ≡ 65 };
+    ghost invariant = { λ s. AreNoted s.ends.items s.sending };
 }
 
 impl Ends {
@@ -36,7 +41,7 @@ impl Ends {
         for _ in 0..DEVICES {
             ends.push(Ecp::new())?;
         }
-        Ok(Ends { ends })
+        Ok(Ends { ends, sending: 0 })
     }
 
     /// Submits a payload to an extender in place of what is sent there; gives its sequence.
@@ -48,7 +53,10 @@ impl Ends {
     {
         let end = &mut self.ends[extender as usize];
         end.stop();
-        end.submit(payload)
+        let sequence = end.submit(payload);
+        let sends = !end.idle();
+        self.sending = with_bit(self.sending, extender, sends);
+        sequence
     }
 
     /// Ends what is sent to an extender.
@@ -58,6 +66,8 @@ impl Ends {
     {
         let end = &mut self.ends[extender as usize];
         end.stop();
+        let sends = !end.idle();
+        self.sending = with_bit(self.sending, extender, sends);
     }
 
     /// Takes an acknowledgement of an extender.
@@ -67,6 +77,8 @@ impl Ends {
     {
         let end = &mut self.ends[extender as usize];
         end.acked(sequence);
+        let sends = !end.idle();
+        self.sending = with_bit(self.sending, extender, sends);
     }
 
     /// Whether a request of an extender has another sequence than the last one, which it then is.
@@ -76,7 +88,10 @@ impl Ends {
         ensures fresh { result ≡ is_fresh sequence (near_of self.old extender) }
     {
         let end = &mut self.ends[extender as usize];
-        end.received(sequence)
+        let fresh = end.received(sequence);
+        let sends = !end.idle();
+        self.sending = with_bit(self.sending, extender, sends);
+        fresh
     }
 
     /// A beat passes at the end with an extender.
@@ -86,7 +101,26 @@ impl Ends {
         ensures due { result ≡ beat_of (near_of self.old extender).sending }
     {
         let end = &mut self.ends[extender as usize];
-        end.beat()
+        let due = end.beat();
+        let sends = !end.idle();
+        self.sending = with_bit(self.sending, extender, sends);
+        due
+    }
+
+    /// Whether an end with one of these extenders sends something; each is a bit of its number.
+    pub(crate) fn are_sending(&self, among: u128) -> bool
+        ensures { (result ≡ false) ↔ ((n : ℕ) → bit_at among n ≡ 1 → (near_of self.now n).sending ≡ None) }
+    {
+        meet(self.sending, among)
+    }
+
+    /// The first end, by extender from a number on, that sends something.
+    pub(crate) fn next_sending(&self, from: u8) -> Option<u8>
+        requires { from < 128 }
+        ensures found { IfSome result (IsNextSending self.now from) }
+        ensures none { IfNone result ((n : ℕ) → from ≤ n → (near_of self.now n).sending ≡ None) }
+    {
+        first_in(self.sending, from)
     }
 
     /// The end with an extender.

@@ -1,5 +1,6 @@
 //! The extenders of a network.
 ghost use Rattle.std.specs.Prelude.{◌≡◌, ◌↔◌, ℕ, ◌≤◌, ◌<◌, true, false, IfOk, IsTrue, None, [], slice_index};
+ghost use Rattle.std.specs.Int.{bit_at};
 ghost use Rattle.std.specs.List.{All};
 ghost use Rattle.exb_model.specs.Setup.{IsValid, shape_of};
 ghost use Rattle.exb_model.specs.Tree.{is_extender};
@@ -11,6 +12,7 @@ ghost use Rattle.exb_network.specs.Forms.{CanGo};
 ghost use Rattle.exb_machine.specs.Worlds.{at};
 ghost use Rattle.exb_network.specs.Devices.{far_of, first_far, has_extender, IsPoweredOn, AreSame};
 
+use crate::numbers::{meet, with_bit};
 use exb_extender::{Entry, Extender, Sends, Side};
 use exb_model::memory::NoMemory;
 use exb_model::port::DEVICES;
@@ -24,14 +26,18 @@ pub(crate) struct Extenders {
     /// How many ports each device has, 0 where there is none.
     ports: [u8; DEVICES as usize],
     extenders: Vec<Option<Extender>>,
+    /// Bit n is set where extender n sends something that waits for an acknowledgement.
+    sending: u128,
 }
 
 impl Model for Extenders {
-    ghost use Rattle.exb_network.specs.Devices.{Devices};
+    ghost use Rattle.exb_network.specs.Devices.{AreNoted, Devices};
 
     ghost Value = { Devices };
 
     ghost view = { λ d. record { ports = d.ports; extenders = d.extenders.items } };
+
+    ghost invariant = { λ d. AreNoted d.extenders.items d.sending };
 }
 
 /// How many ports each device of a setup has.
@@ -79,7 +85,11 @@ impl Extenders {
         for number in 0..DEVICES {
             extenders.push(at_power_on(alloc, number, ports[number as usize])?)?;
         }
-        Ok(Extenders { ports, extenders })
+        Ok(Extenders {
+            ports,
+            extenders,
+            sending: 0,
+        })
     }
 
     /// An extender takes a frame from upstream, or from one of its cascade ports.
@@ -94,6 +104,8 @@ impl Extenders {
         if let Some(extender) = &mut self.extenders[number as usize] {
             has_few_ports(extender);
             extender.take(from, frame, sends);
+            let busy = !extender.idle();
+            self.sending = with_bit(self.sending, number, busy);
         }
     }
 
@@ -126,6 +138,8 @@ impl Extenders {
     {
         if let Some(extender) = &mut self.extenders[number as usize] {
             extender.beat(sends);
+            let busy = !extender.idle();
+            self.sending = with_bit(self.sending, number, busy);
         }
     }
 
@@ -141,14 +155,10 @@ impl Extenders {
         }
     }
 
-    /// Whether an extender sends nothing that waits for an acknowledgement.
-    pub(crate) fn idle(&self, number: u8) -> bool
-        requires { has_extender self.now number ≡ true }
-        ensures { IsTrue result ↔ ((far_of self.now number).ecp.sending ≡ None) }
+    /// Whether one of these extenders, each a bit of its number, sends something that waits for an acknowledgement.
+    pub(crate) fn are_sending(&self, among: u128) -> bool
+        ensures { (result ≡ false) ↔ ((n : ℕ) → bit_at among n ≡ 1 → (far_of self.now n).ecp.sending ≡ None) }
     {
-        match &self.extenders[number as usize] {
-            Some(extender) => extender.idle(),
-            None => true,
-        }
+        meet(self.sending, among)
     }
 }

@@ -1,10 +1,12 @@
 //! The links of a network: two directions for each extender.
-ghost use Rattle.std.specs.Prelude.{◌≡◌, ◌<◌, ◌++◌, ◌∷◌, [], IfOk, OnOk, filter, slice_get};
+ghost use Rattle.std.specs.Prelude.{◌≡◌, ◌↔◌, ℕ, ◌<◌, ◌++◌, ◌∷◌, [], false, IfOk, IsTrue, OnOk, filter, slice_get};
+ghost use Rattle.std.specs.Int.{bit_at};
 ghost use Rattle.std.specs.Option.{option_copied};
 ghost use Rattle.exb_link.specs.Words.{is_control, is_data, without_data, without_control};
 ghost use Rattle.exb_machine.specs.Worlds.{at};
 ghost use Rattle.exb_network.specs.Directions.{words_of};
 
+use crate::numbers::{meet, with_bit};
 use exb_link::{Link, Word};
 use exb_model::memory::NoMemory;
 use exb_model::port::DEVICES;
@@ -15,17 +17,20 @@ use std::marker::Model;
 #[derive(Drop)]
 pub(crate) struct Direction {
     links: Vec<Link>,
+    /// Bit n is set where a word is on the link of extender n.
+    busy: u128,
 }
 
 impl Model for Direction {
-    ghost use Rattle.std.specs.Prelude.{◌≡◌, List, length};
+    ghost use Rattle.std.specs.Prelude.{List};
     ghost use Rattle.exb_link.specs.declared.word.Word.{Word};
+    ghost use Rattle.exb_network.specs.Directions.{IsNoted};
 
     ghost Value = { List (List Word) };
 
     ghost view = { λ d. d.links.items };
 
-    ghost invariant = { λ d. length d.links.items ≡ 65 };
+    ghost invariant = { λ d. IsNoted d.links.items d.busy };
 }
 
 impl Direction {
@@ -37,7 +42,7 @@ impl Direction {
         for _ in 0..DEVICES {
             links.push(Link::new(alloc))?;
         }
-        Ok(Direction { links })
+        Ok(Direction { links, busy: 0 })
     }
 
     /// Puts a word behind all others on the link of an extender.
@@ -47,7 +52,10 @@ impl Direction {
     {
         let link = &mut self.links[extender as usize];
         match link.push(word) {
-            Ok(()) => Ok(()),
+            Ok(()) => {
+                self.busy = with_bit(self.busy, extender, true);
+                Ok(())
+            }
             Err(_) => Err(NoMemory),
         }
     }
@@ -59,7 +67,10 @@ impl Direction {
         ensures rest { words_of self.new ≡ at extender (without_data (words_of self.old extender)) (words_of self.old) }
     {
         let link = &mut self.links[extender as usize];
-        link.take_data()
+        let word = link.take_data();
+        let left = !link.is_empty();
+        self.busy = with_bit(self.busy, extender, left);
+        word
     }
 
     /// Takes the control word at a position out.
@@ -69,7 +80,10 @@ impl Direction {
         ensures rest { words_of self.new ≡ at extender (without_control (words_of self.old extender) place) (words_of self.old) }
     {
         let link = &mut self.links[extender as usize];
-        link.take_control(place)
+        let word = link.take_control(place);
+        let left = !link.is_empty();
+        self.busy = with_bit(self.busy, extender, left);
+        word
     }
 
     /// The control word at a position.
@@ -86,5 +100,27 @@ impl Direction {
         ensures { result.now ≡ words_of self.now extender }
     {
         &self.links[extender as usize]
+    }
+
+    /// Whether a word is on the link of an extender.
+    pub(crate) fn has_word(&self, extender: u8) -> bool
+        requires { extender < 65 }
+        ensures { (result ≡ false) ↔ (words_of self.now extender ≡ []) }
+    {
+        (self.busy >> extender) & 1 == 1
+    }
+
+    /// Whether nothing is on any link.
+    pub(crate) fn is_empty(&self) -> bool
+        ensures { IsTrue result ↔ ((n : ℕ) → words_of self.now n ≡ []) }
+    {
+        self.busy == 0
+    }
+
+    /// Whether links of these extenders, each a bit of its number, have a word.
+    pub(crate) fn have_words(&self, among: u128) -> bool
+        ensures { (result ≡ false) ↔ ((n : ℕ) → bit_at among n ≡ 1 → words_of self.now n ≡ []) }
+    {
+        meet(self.busy, among)
     }
 }

@@ -7,6 +7,7 @@ use exb_model::list::List;
 use exb_model::memory::NoMemory;
 use exb_model::port::PortId;
 use std::alloc::Global;
+use std::mem;
 
 /// A frame that left a port, with the moment of its record in nanoseconds.
 #[derive(Debug, Drop)]
@@ -76,15 +77,26 @@ pub(crate) fn copy_of(alloc: Global, event: &Event) -> Result<Event, NoMemory>
 }
 
 /// Puts copies of events behind others.
-pub(crate) fn add_events(
-    alloc: Global,
-    events: &[Event],
-    to: &mut List<Event>,
-) -> Result<(), NoMemory>
+fn copy_events(alloc: Global, events: &[Event], to: &mut List<Event>) -> Result<(), NoMemory>
     ensures { OnOk result (to.new ≡ to.old ++ events.now) }
 {
     for event in events {
         to.push(copy_of(alloc, event)?)?;
     }
+    Ok(())
+}
+
+/// Puts events behind others. Where there were none these are moved, and not copied.
+pub(crate) fn add_events(
+    alloc: Global,
+    events: &mut List<Event>,
+    to: &mut List<Event>,
+) -> Result<(), NoMemory>
+    ensures { OnOk result (to.new ≡ to.old ++ events.old) }
+{
+    if !to.as_slice().is_empty() {
+        return copy_events(alloc, events.as_slice(), to);
+    }
+    mem::swap(events, to);
     Ok(())
 }

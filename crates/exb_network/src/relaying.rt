@@ -187,18 +187,19 @@ fn put_passed(relayed: bool, passed: bool, to: &mut List<bool>) -> Result<(), No
 }
 
 /// Tells what happened to a frame.
-fn tell(alloc: Global, outbox: &Outbox, log: &mut Log) -> Result<(), NoMemory>
-    ensures events { OnOk result (log.new.events ≡ log.old.events ++ outbox.now.events) }
-    ensures passed { OnOk result (log.new.passed ≡ log.old.passed ++ passed_in outbox.now.events outbox.now.ingress) }
+fn tell(
+    alloc: Global,
+    events: &mut List<Event>,
+    ingress: &Ingress,
+    log: &mut Log,
+) -> Result<(), NoMemory>
+    ensures events { OnOk result (log.new.events ≡ log.old.events ++ events.old) }
+    ensures passed { OnOk result (log.new.passed ≡ log.old.passed ++ passed_in events.old ingress.now) }
     ensures left { log.new.left ≡ log.old.left }
 {
-    let events = outbox.events.as_slice();
-    add_events(alloc, events, &mut log.events)?;
-    put_passed(
-        is_relay(events),
-        has_passed(&outbox.ingress),
-        &mut log.passed,
-    )
+    let relayed = is_relay(events.as_slice());
+    put_passed(relayed, has_passed(ingress), &mut log.passed)?;
+    add_events(alloc, events, &mut log.events)
 }
 
 /// A frame comes to the bridge's control: it is ignored, or relayed and then learned from. What is sent for it is in the
@@ -227,7 +228,7 @@ fn learn(
         .control
         .frame(arrived.port, arrived.index, arrived.moment, frame, outbox)
     {
-        Ok(()) => tell(alloc, outbox, log),
+        Ok(()) => tell(alloc, &mut outbox.events, &outbox.ingress, log),
         Err(_) => Err(NoMemory),
     }
 }

@@ -1,18 +1,18 @@
 //! What an extender sends: it goes onto the link of the extender that hangs there, or leaves the network.
-ghost use Rattle.std.specs.Prelude.{◌≡◌, ◌<◌, ◌≤◌, OnOk, map};
+ghost use Rattle.std.specs.Prelude.{◌≡◌, ◌<◌, ◌≤◌, IfSome, OnOk, map};
 ghost use Rattle.std.specs.List.{All};
 ghost use Rattle.exb_csp.specs.AllTables.{port_of};
-ghost use Rattle.exb_extender.specs.Sending.{out_sent, own_sent, sent_by};
+ghost use Rattle.exb_extender.specs.Sending.{bytes_in, out_sent, own_sent, sent_by, CanBeGiven};
 ghost use Rattle.exb_machine.specs.Effects.{each};
 ghost use Rattle.exb_machine.specs.Extending.{hung_on, sent_at, sent_to, sends};
 ghost use Rattle.exb_machine.specs.Worlds.{moment_of};
-ghost use Rattle.exb_network.specs.Forms.{IsSide, CanGo};
+ghost use Rattle.exb_network.specs.Forms.{IsSide, CanGo, GoesOn, IsMade};
 ghost use Rattle.exb_network.specs.Worlds.{world_in, IsAt, Does};
 
 use crate::forms::put_form;
 use crate::log::{Left, Log};
 use crate::site::{Core, Site};
-use exb_extender::{Out, Sends, Side};
+use exb_extender::{Form, Out, Sends, Side};
 use exb_link::{Stamp, Word};
 use exb_model::bytes::Bytes;
 use exb_model::memory::NoMemory;
@@ -92,6 +92,26 @@ fn send_to(
     }
 }
 
+/// The frame in a form; where the last one was in that form too, it is there already.
+fn prepare(
+    frame: &[u8],
+    form: &Form,
+    made: &mut Option<Form>,
+    into: &mut Vec<u8>,
+) -> Result<(), NoMemory>
+    requires can { CanBeGiven frame.now form.now }
+    requires made { IsMade frame.now made.old into.old.items }
+    ensures bytes { OnOk result (into.new.items ≡ bytes_in frame.now form.now) }
+    ensures made { OnOk result (IsMade frame.now made.new into.new.items) }
+{
+    if *made == Some(*form) {
+        return Ok(());
+    }
+    put_form(frame, form, into)?;
+    *made = Some(*form);
+    Ok(())
+}
+
 /// A frame that an extender took goes out in a form.
 fn send_frame(
     alloc: Global,
@@ -100,6 +120,7 @@ fn send_frame(
     frame: &[u8],
     stamp: &Option<Stamp>,
     out: &Out,
+    made: &mut Option<Form>,
     into: &mut Vec<u8>,
     core: &mut Core,
     log: &mut Log,
@@ -107,9 +128,11 @@ fn send_frame(
     requires at { IsAt site.now core.old }
     requires number { number < 65 }
     requires can { CanGo frame.now out.now }
-    ensures { OnOk result (Does (sends site.now.tree number stamp.now (out_sent frame.now out.now) (world_in core.old)) site.now core.new log.old log.new) }
+    requires made { IsMade frame.now made.old into.old.items }
+    ensures does { OnOk result (Does (sends site.now.tree number stamp.now (out_sent frame.now out.now) (world_in core.old)) site.now core.new log.old log.new) }
+    ensures made { OnOk result (IsMade frame.now made.new into.new.items) }
 {
-    put_form(frame, &out.form, into)?;
+    prepare(frame, &out.form, made, into)?;
     let word = Word {
         bytes: Bytes::from_slice(alloc, into.as_slice())?,
         stamp: *stamp,
@@ -134,8 +157,11 @@ fn send_frames(
     requires can { All (CanGo frame.now) outs.now }
     ensures { OnOk result (Does (each (sends site.now.tree number stamp.now) (map (out_sent frame.now) outs.now) (world_in core.old)) site.now core.new log.old log.new) }
 {
+    let mut made = None;
     for out in outs {
-        send_frame(alloc, site, number, frame, stamp, out, into, core, log)?;
+        send_frame(
+            alloc, site, number, frame, stamp, out, &mut made, into, core, log,
+        )?;
     }
     Ok(())
 }
@@ -201,4 +227,57 @@ pub(crate) fn send_all(
         core,
         log,
     )
+}
+
+/// The one side to which a frame goes on as it is, where it goes nowhere else and nothing else is sent.
+fn only_side(reaction: &Sends) -> Option<Side>
+    ensures { IfSome result (GoesOn reaction.now) }
+{
+    if !reaction.first.is_empty() || !reaction.second.is_empty() {
+        return None;
+    }
+    match reaction.frames.as_slice() {
+        [
+            Out {
+                to,
+                form: Form::AsIs,
+            },
+        ] => Some(*to),
+        _ => None,
+    }
+}
+
+/// All that an extender sends where this word came goes out. A word that goes on as it is, and nowhere else, is not copied.
+pub(crate) fn send_on(
+    alloc: Global,
+    site: &Site,
+    number: u8,
+    word: Word,
+    reaction: &Sends,
+    into: &mut Vec<u8>,
+    core: &mut Core,
+    log: &mut Log,
+) -> Result<(), NoMemory>
+    requires at { IsAt site.now core.old }
+    requires number { number < 65 }
+    requires can { All (CanGo word.bytes) reaction.now.frames.items }
+    ensures { OnOk result (Does (each (sends site.now.tree number word.stamp) (sent_by word.bytes reaction.now) (world_in core.old)) site.now core.new log.old log.new) }
+{
+    match only_side(reaction) {
+        Some(side) => send_to(site, number, side, word, core, log),
+        None => {
+            let frame = word.bytes.as_slice();
+            send_all(
+                alloc,
+                site,
+                number,
+                frame,
+                &word.stamp,
+                reaction,
+                into,
+                core,
+                log,
+            )
+        }
+    }
 }

@@ -1,15 +1,17 @@
 //! The parts of a network.
 ghost use Rattle.std.specs.Prelude.{◌≡◌, ◌<◌, true, IfOk};
 ghost use Rattle.exb_model.specs.Setup.{IsPlace, IsValid, port_at, shape_of, start_of, limits_of};
-ghost use Rattle.exb_model.specs.Tree.{is_extender, on};
+ghost use Rattle.exb_model.specs.Tree.{by_depth, is_extender, on};
+ghost use Rattle.exb_machine.specs.Settling.{deepest_first};
 ghost use Rattle.exb_machine.specs.Worlds.{first_world};
-ghost use Rattle.exb_network.specs.Sites.{limits_in};
+ghost use Rattle.exb_network.specs.Sites.{limits_in, AreExtenders};
 ghost use Rattle.exb_network.specs.Worlds.{world_in, IsAt};
 
 use crate::ends::Ends;
 use crate::extenders::Extenders;
 use crate::indices::Indices;
 use crate::links::Direction;
+use crate::orders::{all_extenders, deepest_first};
 use exb_control::{Control, Outbox};
 use exb_extender::Sends;
 use exb_model::buffers::{ControlBuf, FrameBuf};
@@ -28,17 +30,20 @@ pub(crate) struct Site {
     groups: u16,
     /// The port on which each extender hangs.
     on: [PortId; DEVICES as usize],
+    /// The extenders from the deepest, at one depth by number.
+    upwards: Vec<u8>,
+    /// The extenders, each a bit of its number.
+    extenders: u128,
 }
 
 impl Model for Site {
-    ghost use Rattle.std.specs.Prelude.{◌≡◌};
-    ghost use Rattle.exb_network.specs.Sites.{Site};
+    ghost use Rattle.exb_network.specs.Sites.{HasTables, Site};
 
     ghost Value = { Site };
 
     ghost view = { λ s. record { tree = s.tree; channels = s.channels; groups = s.groups } };
 
-    ghost invariant = { λ s. s.on ≡ s.tree.on };
+    ghost invariant = { λ s. HasTables s.tree s.on s.upwards.items s.extenders };
 }
 
 /// The port at a place of a setup.
@@ -72,11 +77,17 @@ impl Site {
         ensures tree { IfOk result (λ made. made.tree ≡ shape_of setup.now) }
         ensures limits { IfOk result (λ made. limits_in made ≡ limits_of setup.now) }
     {
+        let tree = Tree::new(alloc, setup)?;
+        let on = places(setup);
+        let upwards = deepest_first(alloc, &tree, &on)?;
+        let extenders = all_extenders(&tree);
         Ok(Site {
-            tree: Tree::new(alloc, setup)?,
+            tree,
             channels: setup.channels,
             groups: setup.groups,
-            on: places(setup),
+            on,
+            upwards,
+            extenders,
         })
     }
 
@@ -103,6 +114,27 @@ impl Site {
         self.tree.is_tree();
         let on = &self.on;
         on[extender as usize]
+    }
+
+    /// The extenders in the order in which a round goes through the upward directions.
+    pub(crate) fn upwards(&self) -> &[u8]
+        ensures { result.now ≡ deepest_first self.now.tree 64 }
+    {
+        self.upwards.as_slice()
+    }
+
+    /// The extenders, each a bit of its number.
+    pub(crate) fn extenders(&self) -> u128
+        ensures { AreExtenders self.now.tree result }
+    {
+        self.extenders
+    }
+
+    /// The extenders in the order in which a round goes through the downward directions.
+    pub(crate) fn downwards(&self) -> &[u8]
+        ensures { result.now ≡ by_depth self.now.tree }
+    {
+        self.tree.order()
     }
 }
 

@@ -32,7 +32,7 @@ fn take_up(
     alloc: Global,
     site: &Site,
     number: u8,
-    word: &Word,
+    word: Word,
     inner: &mut Vec<u8>,
     room: &mut Room,
     core: &mut Core,
@@ -41,7 +41,7 @@ fn take_up(
     requires at { IsAt site.now core.old }
     requires there { is_extender site.now.tree number ≡ true }
     requires asks { AsksWell site.now.tree (limits_in site.now) (world_in core.old).control }
-    ensures { OnOk result (Does (takes_up site.now.tree (limits_in site.now) number word.now (world_in core.old)) site.now core.new log.old log.new) }
+    ensures { OnOk result (Does (takes_up site.now.tree (limits_in site.now) number word (world_in core.old)) site.now core.new log.old log.new) }
 {
     site.tree().is_tree();
     let port = site.on(number);
@@ -52,7 +52,7 @@ fn take_up(
             site,
             bridge_port,
             number,
-            word,
+            &word,
             inner,
             room,
             core,
@@ -69,7 +69,7 @@ fn take(
     site: &Site,
     number: u8,
     way: Way,
-    word: &Word,
+    word: Word,
     inner: &mut Vec<u8>,
     room: &mut Room,
     core: &mut Core,
@@ -78,7 +78,7 @@ fn take(
     requires at { IsAt site.now core.old }
     requires there { is_extender site.now.tree number ≡ true }
     requires asks { AsksWell site.now.tree (limits_in site.now) (world_in core.old).control }
-    ensures { OnOk result (Does (takes site.now.tree (limits_in site.now) number (way_of way) word.now (world_in core.old)) site.now core.new log.old log.new) }
+    ensures { OnOk result (Does (takes site.now.tree (limits_in site.now) number (way_of way) word (world_in core.old)) site.now core.new log.old log.new) }
 {
     match way {
         Way::Up => take_up(alloc, site, number, word, inner, room, core, log),
@@ -179,7 +179,7 @@ pub(crate) fn carry(
     site.has_low_number(number);
     match pull_data(site, number, way, core) {
         None => Ok(()),
-        Some(word) => take(alloc, site, number, way, &word, inner, room, core, log),
+        Some(word) => take(alloc, site, number, way, word, inner, room, core, log),
     }
 }
 
@@ -204,7 +204,7 @@ pub(crate) fn deliver(
     site.has_low_number(number);
     match fetch(alloc, site, number, way, place, keep, core)? {
         None => Ok(()),
-        Some(word) => take(alloc, site, number, way, &word, inner, room, core, log),
+        Some(word) => take(alloc, site, number, way, word, inner, room, core, log),
     }
 }
 

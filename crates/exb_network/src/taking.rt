@@ -8,7 +8,7 @@ ghost use Rattle.exb_network.specs.Worlds.{world_in, IsAt, Does};
 
 use crate::arrivals::Arrived;
 use crate::log::Log;
-use crate::sending::send_all;
+use crate::sending::{send_all, send_on};
 use crate::site::{Core, Room, Site};
 use exb_extender::{Entry, Side};
 use exb_link::Word;
@@ -22,25 +22,24 @@ pub(crate) fn take_from_above(
     alloc: Global,
     site: &Site,
     number: u8,
-    word: &Word,
+    word: Word,
     room: &mut Room,
     core: &mut Core,
     log: &mut Log,
 ) -> Result<(), NoMemory>
     requires at { IsAt site.now core.old }
     requires extender { is_extender site.now.tree number ≡ true }
-    ensures { OnOk result (Does (takes_from_above site.now.tree number word.now (world_in core.old)) site.now core.new log.old log.new) }
+    ensures { OnOk result (Does (takes_from_above site.now.tree number word (world_in core.old)) site.now core.new log.old log.new) }
 {
     site.has_low_number(number);
-    let frame = word.bytes.as_slice();
-    core.far.take(number, Side::Up, frame, &mut room.sends);
+    core.far
+        .take(number, Side::Up, word.bytes.as_slice(), &mut room.sends);
     let sends = &room.sends;
-    send_all(
+    send_on(
         alloc,
         site,
         number,
-        frame,
-        &word.stamp,
+        word,
         sends,
         &mut room.buffers.word,
         core,
@@ -53,14 +52,14 @@ pub(crate) fn take_from_below(
     alloc: Global,
     site: &Site,
     port: PortId,
-    word: &Word,
+    word: Word,
     room: &mut Room,
     core: &mut Core,
     log: &mut Log,
 ) -> Result<(), NoMemory>
     requires at { IsAt site.now core.old }
     requires port { IsPortAt site.now.tree port }
-    ensures { OnOk result (Does (takes_from_below site.now.tree (device port) (port_number port) word.now (world_in core.old)) site.now core.new log.old log.new) }
+    ensures { OnOk result (Does (takes_from_below site.now.tree (device port) (port_number port) word (world_in core.old)) site.now core.new log.old log.new) }
 {
     let number = port.device();
     site.has_low_number(number);
@@ -68,16 +67,18 @@ pub(crate) fn take_from_below(
     if !core.far.cascade(number, port) {
         return Ok(());
     }
-    let frame = word.bytes.as_slice();
-    core.far
-        .take(number, Side::Port { port }, frame, &mut room.sends);
+    core.far.take(
+        number,
+        Side::Port { port },
+        word.bytes.as_slice(),
+        &mut room.sends,
+    );
     let sends = &room.sends;
-    send_all(
+    send_on(
         alloc,
         site,
         number,
-        frame,
-        &word.stamp,
+        word,
         sends,
         &mut room.buffers.word,
         core,

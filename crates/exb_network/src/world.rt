@@ -1,5 +1,5 @@
 //! The network as one value, and its calls.
-ghost use Rattle.std.specs.Prelude.{◌≡◌, ◌↔◌, ◌<◌, ℕ, true, false, IfOk, IsTrue, OnErr, OnOk, length, filter};
+ghost use Rattle.std.specs.Prelude.{◌≡◌, ◌↔◌, ◌<◌, ◌≤◌, ℕ, [], true, false, IfNone, IfOk, IfSome, IsTrue, OnErr, OnOk, Some, length, filter, slice_get};
 ghost use Rattle.exb_model.specs.Setup.{IsValid, limits_of, shape_of, start_of};
 ghost use Rattle.exb_model.specs.Tree.{is_extender};
 ghost use Rattle.exb_link.specs.Words.{is_control, is_data, leading};
@@ -10,20 +10,21 @@ ghost use Rattle.exb_machine.specs.Stepping.{done_by, words_on};
 ghost use Rattle.exb_machine.specs.Worlds.{first_world};
 ghost use Rattle.exb_machine_laws.specs.Asks.{AsksWell};
 ghost use Rattle.exb_machine_laws.specs.Laws.{HasBytes};
-ghost use Rattle.exb_network.specs.Devices.{has_extender};
 ghost use Rattle.exb_network.specs.Idle.{IsIdle};
 ghost use Rattle.exb_network.specs.Networks.{step_of, IsLive};
 ghost use Rattle.exb_network.specs.Sites.{limits_in};
 ghost use Rattle.exb_network.specs.Steps.{way_of};
+ghost use Rattle.exb_network.specs.Turns.{order_of, IsTurn};
 ghost use Rattle.exb_network.specs.Worlds.{world_in, IsAt, Does};
 
 use crate::arrivals::Arrived;
+use crate::busy::Turn;
 use crate::log::{Left, Log};
 use crate::relaying::are_bytes;
 use crate::site::{Core, Room, Site};
 use crate::step::{Step, Way};
 use crate::stepping::{arrive, carry, deliver, lose, mark, order, tick};
-use crate::{allowing, beating};
+use crate::{allowing, beating, busy};
 use exb_link::{Counts, Link};
 use exb_machine_laws::laws::{
     asks_can_be_sent, begins_written, runs_stay_sound, setups_begin_sound, steps_stay_written,
@@ -32,7 +33,6 @@ use exb_machine_laws::laws::{
 use exb_model::event::Event;
 use exb_model::list::List;
 use exb_model::memory::NoMemory;
-use exb_model::port::DEVICES;
 use exb_model::setup::Setup;
 use exb_model::tree::Tree;
 use std::alloc::Global;
@@ -225,6 +225,14 @@ impl World {
         link_of(&self.core, link, way).free_at(at)
     }
 
+    /// The first direction of a way, from a place on in the order in which a round goes through them, that has a word.
+    pub fn next_busy(&self, way: Way, from: u8) -> Option<Turn>
+        ensures found { IfSome result (λ turn. IsTurn (tree_of self.now) (way_of way) (world_of self.now) from turn) }
+        ensures none { IfNone result ((k n : ℕ) → from ≤ k → slice_get (order_of (tree_of self.now) (way_of way)) k ≡ Some n → words_on n (way_of way) (world_of self.now) ≡ []) }
+    {
+        busy::next_busy(&self.site, &self.core, way, from)
+    }
+
     /// What happened since the last `clear`, in order.
     pub fn events(&self) -> &[Event]
         ensures { result.now ≡ self.now.log.events }
@@ -364,38 +372,19 @@ pub(crate) fn link_of(core: &Core, number: u8, way: Way) -> &Link
     }
 }
 
-/// Whether nothing is on the link of an extender, and both ends of its transport are idle.
-fn is_idle(core: &Core, number: u8) -> bool
-    requires known { number < 65 }
-    requires there { has_extender core.now.far number ≡ true }
-    ensures { IsTrue result ↔ IsIdle (world_in core.now) number }
-{
-    let near = core.near.with(number).idle();
-    let far = core.far.idle(number);
-    let down = core.down.link(number).is_empty();
-    let up = core.up.link(number).is_empty();
-    near && far && down && up
-}
-
-/// Whether that is so of an extender, if it is there.
-fn is_idle_at(site: &Site, core: &Core, number: u8) -> bool
-    requires at { IsAt site.now core.now }
-    requires known { number < 65 }
-    ensures { IsTrue result ↔ (is_extender site.now.tree number ≡ true → IsIdle (world_in core.now) number) }
-{
-    !site.tree().is_extender(number) || is_idle(core, number)
-}
-
-/// Whether that is so of all extenders.
+/// Whether nothing is on the link of any extender, and both ends of its transport are idle.
 fn are_idle(site: &Site, core: &Core) -> bool
-    requires { IsAt site.now core.now }
     ensures { IsTrue result ↔ ((n : ℕ) → is_extender site.now.tree n ≡ true → IsIdle (world_in core.now) n) }
 {
-    site.tree().is_tree();
-    for number in 1..DEVICES {
-        if !is_idle_at(site, core, number) {
-            return false;
-        }
+    let all = site.extenders();
+    if core.near.are_sending(all) {
+        return false;
     }
-    true
+    if core.far.are_sending(all) {
+        return false;
+    }
+    if core.down.have_words(all) {
+        return false;
+    }
+    !core.up.have_words(all)
 }

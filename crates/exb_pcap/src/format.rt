@@ -1,6 +1,7 @@
 //! How the numbers of a capture stand in it.
 ghost use Rattle.std.specs.Prelude.{◌≡◌, ◌≤◌, ◌+◌, length, drop};
 ghost use Rattle.exb_pcap.specs.Captures.{word, half_word, units, nanoseconds, form_of};
+ghost use Rattle.exb_pcap.specs.Magic.{begins_magic};
 
 /// The order of the bytes of every field.
 #[derive(Clone, Copy)]
@@ -94,4 +95,14 @@ pub(crate) fn form_of(file: &[u8]) -> Option<Form>
         return None;
     };
     Some(Form { order, resolution })
+}
+
+// Whether these bytes are the front of a magic number.
+pub(crate) fn begins_magic(bytes: &[u8]) -> bool
+    ensures { result ≡ begins_magic bytes.now }
+{
+    MICROSECONDS.to_be_bytes().starts_with(bytes)
+        || NANOSECONDS.to_be_bytes().starts_with(bytes)
+        || MICROSECONDS.to_le_bytes().starts_with(bytes)
+        || NANOSECONDS.to_le_bytes().starts_with(bytes)
 }

@@ -6,8 +6,10 @@
 
 mod format;
 pub mod laws;
+mod pieces;
 mod reader;
 mod writer;
 
+pub use pieces::{Next, PieceReader};
 pub use reader::{PcapFault, Reader, Record};
 pub use writer::{header_text, record_text};

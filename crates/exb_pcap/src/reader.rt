@@ -6,9 +6,9 @@ ghost use Rattle.exb_pcap.specs.Taken.{taken, taken_or_fault};
 use crate::format::{Form, form_of, half_word_at, word_at};
 use std::marker::Model;
 
-const HEADER: usize = 24;
+pub(crate) const HEADER: usize = 24;
 
-const RECORD_HEAD: usize = 16;
+pub(crate) const RECORD_HEAD: usize = 16;
 
 const MOST_BYTES: u32 = 262_144;
 
@@ -41,7 +41,7 @@ pub enum PcapFault {
 }
 
 #[tactic(auto, unfolding(crate::specs::Captures::header_of))]
-fn header(file: &[u8]) -> Result<Form, PcapFault>
+pub(crate) fn header(file: &[u8]) -> Result<Form, PcapFault>
     ensures value { result ≡ header_of file.now }
     ensures whole { IfOk result (λ _. 24 ≤ length file.now) }
 {
@@ -65,7 +65,7 @@ fn header(file: &[u8]) -> Result<Form, PcapFault>
 
 // The record at the front of what is left, which begins at this place of the file.
 #[tactic(auto, unfolding(crate::specs::Captures::record_at))]
-fn front_record(form: Form, place: u64, left: &[u8]) -> Result<Record<'_>, PcapFault>
+pub(crate) fn front_record(form: Form, place: u64, left: &[u8]) -> Result<Record<'_>, PcapFault>
     requires { place + length left.now < 2 ^ 64 }
     ensures value { taken_or_fault result ≡ record_at form place left.now }
     ensures whole { IfOk result (λ r. 16 + length r.bytes.now ≤ length left.now) }

@@ -11,7 +11,7 @@ mod Progress
 mod Verdicts
 mod Budget
 mod Grows
-mod RoundSteps
+pub mod RoundSteps
 mod Reading
 mod Stages
 mod Ending
@@ -81,3 +81,12 @@ pub mod OrderShown
 pub mod OtherSteps
 pub mod SerialsRise
 pub mod Settles
+-- runs that play an input
+mod Leaving
+mod PlaysGive
+mod Copies
+mod TellsNumbers
+pub mod Playing
+pub mod UnderWay
+-- how much was told and has left
+mod Counted

@@ -77,15 +77,15 @@ given_few t w (Tick seconds) can few = omega (arith, few)
 given_few t w Mark can few = omega (arith, few)
 
 -- ---- what every step keeps
-record IsRun (t : Shape) (l : Limits) (i : Basis) (w : World) : Type 0 where
-  given : List Given
-  history : History
-  left : List Left
-  kept : Kept t l i w given history left
-  written : AreWritten w
-  going : IsGoing t l w
-  turn : InTurn t w.control
-  few : w.control.given ≤ 65536
+pub record IsRun (t : Shape) (l : Limits) (i : Basis) (w : World) : Type 0 where
+  pub given : List Given
+  pub history : History
+  pub left : List Left
+  pub kept : Kept t l i w given history left
+  pub written : AreWritten w
+  pub going : IsGoing t l w
+  pub turn : InTurn t w.control
+  pub few : w.control.given ≤ 65536
 
 module _ (round : TagRoundTrip) (words : SendsAreWords) (leave : SendsLeaveAsFlat) (law : StepsTell) (stay : StepsStayWritten) (t : Shape) (l : Limits) (i : Basis) (start : MayStart t l i) where
   roomy : (w : World) → IsRun t l i w → AreRoomy w.control.askers
@@ -122,7 +122,7 @@ module _ (round : TagRoundTrip) (words : SendsAreWords) (leave : SendsLeaveAsFla
   going_after (Order c) w may k o after = order_going t l start.setting.tree start.setting round c w may.can k o after
   going_after Mark w may k o after = mark_going t l start.setting.tree start.setting round w may.can k o after
 
-  step_run : (step : Step) (w : World) → MayTake t w step → IsRun t l i w → IsRun t l i (stepped t l step w).world
+  pub step_run : (step : Step) (w : World) → MayTake t w step → IsRun t l i w → IsRun t l i (stepped t l step w).world
   step_run step w may k =
       let v : World = (stepped t l step w).world in
       let go : MayGo t l w step = goes step w may k in
@@ -179,7 +179,7 @@ module _ (round : TagRoundTrip) (words : SendsAreWords) (leave : SendsLeaveAsFla
 
 -- ---- from a valid setup
 module _ (round : TagRoundTrip) (words : SendsAreWords) (leave : SendsLeaveAsFlat) (law : StepsTell) (stay : StepsStayWritten) where
-  begins : (s : Setup) → IsValid s → (start : MayStart (shape_of s) (limits_of s) (basis_of s)) → IsRun (shape_of s) (limits_of s) (basis_of s) (first_world (shape_of s) (limits_of s) (start_of s) s.ageing)
+  pub begins : (s : Setup) → IsValid s → (start : MayStart (shape_of s) (limits_of s) (basis_of s)) → IsRun (shape_of s) (limits_of s) (basis_of s) (first_world (shape_of s) (limits_of s) (start_of s) s.ageing)
   begins s valid start =
       record {
         given = [];

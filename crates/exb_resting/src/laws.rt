@@ -1,11 +1,12 @@
 //! What is true of rounds and of settling.
 ghost use Rattle.exb_resting.specs.Laws.{SetupsHaveFacts, SettlingEnds, RoundsSpend, RoundsPlanNothing, RoundsDeliver, WindowsGetOn, OrderKeepsFacts, TurnsAreOrderly, SetupsBeginGoing};
 ghost use Rattle.exb_resting.specs.Settles.{RunsAreReady, RunsStayLow, Settles, SettlingAlwaysPlays};
-ghost use Rattle.exb_resting.specs.Playing.{RunsAreUnderWay, RunsWriteEagerly};
+ghost use Rattle.exb_resting.specs.Playing.{RunsAreFew, RunsAreUnderWay, RunsWriteLegally, RunsWriteEagerly};
 
 use exb_change_laws::laws::steps_tell;
 use exb_frame::laws::tag_round_trip;
 use exb_machine_laws::laws::steps_stay_written;
+use exb_motion::laws::settled_is_orderly;
 use exb_relay::laws::{sends_are_words, sends_leave_as_flat};
 
 /// The world of each valid setup has the facts that the other laws ask of each world that rounds reach.
@@ -113,7 +114,7 @@ pub fn settling_always_plays()
     steps_stay_written();
 }
 
-/// Of a run that has played the opening and some segments of an input the next index of each port, the number of commands and the clock
+/// Of a run that has played the opening and some segments of an input, in either mode, the next index of each port, the number of commands and the clock
 /// follow what was played, and each frame that has left is a copy of one of its arrivals.
 pub fn runs_are_under_way()
     ensures { RunsAreUnderWay }
@@ -123,6 +124,32 @@ pub fn runs_are_under_way()
     sends_leave_as_flat();
     steps_tell();
     steps_stay_written();
+}
+
+/// In such a run each arrival was relayed or ignored, once, each command took effect or was refused, once, and of each arrival at
+/// most one frame has left a port.
+pub fn runs_are_few()
+    ensures { RunsAreFew }
+{
+    tag_round_trip();
+    sends_are_words();
+    sends_leave_as_flat();
+    steps_tell();
+    steps_stay_written();
+    settled_is_orderly();
+}
+
+/// A run that has played all segments of an input, in the eager mode or in a seeded one, told a history that the input allows, and
+/// what has left each external port is what one VLAN bridge sends there over it.
+pub fn runs_write_legally()
+    ensures { RunsWriteLegally }
+{
+    tag_round_trip();
+    sends_are_words();
+    sends_leave_as_flat();
+    steps_tell();
+    steps_stay_written();
+    settled_is_orderly();
 }
 
 /// A run that has played all segments of the eager mode told the eager history, and what has left each external port is what one
@@ -135,4 +162,5 @@ pub fn runs_write_eagerly()
     sends_leave_as_flat();
     steps_tell();
     steps_stay_written();
+    settled_is_orderly();
 }

@@ -12,6 +12,11 @@
 //! valid setup begins so, and each step keeps it (`proofs/GoingSteps`, `proofs/OtherSteps`). `IsOrderly` speaks of changes and
 //! their order: it follows from `InTurn` of `exb_change_laws` and from what is laid at every moment (`proofs/Reached`,
 //! `proofs/OrderShown`). `specs/Settles` puts both together over runs of a valid setup; the law is `settles`.
+//!
+//! `specs/Playing` speaks of runs that play the segments of an input, in the eager mode or in a seeded one, each settled and marked:
+//! what is known of them after some segments (`runs_are_under_way`), that a whole run told a history that the input allows and wrote
+//! what the one bridge sends over it (`runs_write_legally`), and that this is the eager history in the eager mode
+//! (`runs_write_eagerly`). That frames leave at external ports alone is shown step by step in `proofs/Leaving`.
 #![tactic(auto)]
 
 pub mod laws;

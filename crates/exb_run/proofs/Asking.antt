@@ -1,15 +1,12 @@
 -- What the words ask for, which is one topology, seen in one way.
-use Rattle.std.proofs.Common.{◌≡◌, ◌||◌, ℕ, Bool, true, false, List, [], ◌∷◌, Option, Some, None, Result, Ok, Err, map, length, refl, ap, sym, ◌∙◌}
-use Rattle.std.specs.List.{list_any}
+use Rattle.std.proofs.Common.{◌≡◌, ℕ, List, [], ◌∷◌, Option, Some, None, Result, Ok, Err, map, ap, sym, ◌∙◌}
+use Rattle.std.specs.Prelude.{All}
+use Rattle.std.proofs.lemmas.List.Elements.{All-cons, All-head, All-tail}
 use Rattle.exb_model.specs.Setup.{shape_of}
-use Rattle.exb_model.specs.declared.command.Command.{Command}
-use Rattle.exb_model.specs.declared.command.Command.TheVariants as command
-use Rattle.exb_model.specs.declared.setup.ExtenderSetup.{ExtenderSetup}
-use Rattle.exb_model.specs.declared.setup.Setup.{Setup}
-use Rattle.exb_world.specs.Setups.{restricts}
 use Rattle.exb_shelf.specs.Files.{Files}
 use Rattle.exb_topology.specs.declared.topology.Topology.{Topology}
-use Rattle.exb_topology.specs.Seen.{Seen, seen, set_isolated, put_static, timed_view}
+use Rattle.exb_model.specs.declared.setup.Timed.{Timed}
+use Rattle.exb_topology.specs.Seen.{TimedSeen, timed_view}
 use Rattle.exb_topology.specs.Topologies.{TopologySeen, topology_view, topology_of}
 use Rattle.exb_topology.proofs.Sound.{tree_alone, shape_alone}
 use Rattle.exb_run.specs.Words.{words_of}
@@ -35,41 +32,19 @@ asks_once words file t u p q =
     ok_once (topology_of q.bytes) (topology_view t) (topology_view u) (ap topology_of (sym bytes) ∙ p.read) q.read
 
 -- ---- seen in the same way
--- what isolates a port or puts a static entry, by how it is seen
-abbrev restricts_seen : Seen → Bool
-restricts_seen (set_isolated p on) = on
-restricts_seen (put_static v m ports) = true
-restricts_seen _ = false
-
-restricts_same : (c : Command) → restricts_seen (seen c) ≡ restricts c
-restricts_same (command.Vlan v tagged untagged) = refl
-restricts_same (command.Member v p kind) = refl
-restricts_same (command.Unmember v p) = refl
-restricts_same (command.Pvid p v) = refl
-restricts_same (command.Accept p types) = refl
-restricts_same (command.Filter p on) = refl
-restricts_same (command.Isolate p on) = refl
-restricts_same (command.Static v m ports) = refl
-restricts_same (command.Unstatic v m) = refl
-restricts_same (command.Up p) = refl
-restricts_same (command.Down p) = refl
-
-any_seen : (cs : List Command) → list_any restricts_seen (map seen cs) ≡ list_any restricts cs
-any_seen [] = refl
-any_seen (c ∷ cs) = ap (λ (b : Bool). b || list_any restricts_seen (map seen cs)) (restricts_same c) ∙ ap (λ (b : Bool). restricts c || b) (any_seen cs)
-
-none_from_map : {X Y : Type 0} (f : X → Y) (xs : List X) → map f xs ≡ [] → xs ≡ []
-none_from_map f [] e = refl
-none_from_map f (x ∷ xs) e = absurd (cc)
+fates_same : (xs ys : List Timed) → map timed_view xs ≡ map timed_view ys → All (λ c. c.fate ≡ []) xs → All (λ c. c.fate ≡ []) ys
+fates_same [] [] e all = all
+fates_same [] (y ∷ ys) e all = absurd (cc)
+fates_same (x ∷ xs) [] e all = absurd (cc)
+fates_same (x ∷ xs) (y ∷ ys) e all =
+    let head : timed_view x ≡ timed_view y = cc in
+    let tail : map timed_view xs ≡ map timed_view ys = cc in
+    All-cons (λ c. c.fate ≡ []) y ys (ap (λ (v : TimedSeen). v.fate) (sym head) ∙ All-head (λ c. c.fate ≡ []) x xs all) (fates_same xs ys tail (All-tail (λ c. c.fate ≡ []) x xs all))
 
 pub built_same : (t u : Topology) → topology_view t ≡ topology_view u → IsBuilt t → IsBuilt u
 built_same t u e built = record {
-  one_extender = ap (λ (v : TopologySeen). length v.extenders) (sym e) ∙ built.one_extender;
-  channels = ap (λ (v : TopologySeen). v.channels) (sym e) ∙ built.channels;
-  groups = ap (λ (v : TopologySeen). v.groups) (sym e) ∙ built.groups;
-  unrestricted = sym (any_seen u.setup.start) ∙ ap (λ (v : TopologySeen). list_any restricts_seen v.start) (sym e) ∙ any_seen t.setup.start ∙ built.unrestricted;
-  commands = none_from_map timed_view u.commands (ap (λ (v : TopologySeen). v.commands) (sym e) ∙ ap (map timed_view) built.commands);
   fate = ap (λ (v : TopologySeen). v.fate) (sym e) ∙ built.fate;
+  fates = fates_same t.commands u.commands (ap (λ (v : TopologySeen). v.commands) e) built.fates;
 }
 
 pub captures_same : (t u : Topology) → topology_view t ≡ topology_view u → t.captures ≡ u.captures

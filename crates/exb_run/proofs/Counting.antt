@@ -1,6 +1,6 @@
 -- What is counted over a history.
-use Rattle.std.proofs.Common.{◌≡◌, ◌≢◌, ℕ, zero, suc, eq-eqb, ◌+◌, ◌<◌, ◌≤◌, ◌==◌, Bool, true, false, cond, List, [], ◌∷◌, ◌++◌, length, sum_by, fold, add-zero, filter, All, refl, ap, sym, ◌∙◌, arith, inl, inr, length-append}
-use Rattle.std.specs.List.{range_with_len}
+use Rattle.std.proofs.Common.{◌≡◌, ◌≢◌, ℕ, zero, suc, eq-eqb, ◌+◌, ◌^◌, ◌<◌, ◌≤◌, ◌==◌, Bool, true, false, cond, List, [], ◌∷◌, ◌++◌, length, sum_by, fold, add-zero, filter, All, get_or, refl, ap, sym, ◌∙◌, arith, inl, inr, length-append}
+use Rattle.std.specs.List.{range_with_len, AllByRecursion}
 use Rattle.std.proofs.lemmas.Bool.{cases_eq, ne_eqb}
 use Rattle.exb_model.specs.Ports.{below}
 use Rattle.exb_model.specs.declared.event.Event.{Event}
@@ -8,10 +8,12 @@ use Rattle.exb_model.specs.declared.event.Event.TheVariants as event
 use Rattle.exb_model.specs.History.{Basis, History, ◌then◌, bridge_after}
 use Rattle.exb_model.specs.Learning.{learned}
 use Rattle.exb_model.specs.FlatBridge.{Sent, sent_by, flat}
-use Rattle.exb_model.specs.Tree.{Shape, external_ports}
+use Rattle.exb_model.specs.Tree.{Shape, is_external, external_ports}
+use Rattle.exb_text.specs.Tallies.{nothing_counted}
+use Rattle.exb_run.specs.Playing.{IsSmall}
 use Rattle.exb_model.specs.Texts.{Counts, counted, left_by, with_left, counts}
-use Rattle.exb_world.specs.declared.world.Left.{Left}
-use Rattle.exb_world.specs.Worlds.{left_at}
+use Rattle.exb_machine.specs.Worlds.{Left}
+use Rattle.exb_standing.specs.Showing.{left_at}
 
 -- what left all of some ports over a history
 abbrev pub left_over : Basis → History → List ℕ → ℕ
@@ -31,6 +33,14 @@ sum_by-zero ports = from_zero 0 ports
     from_zero : (a : ℕ) (qs : List ℕ) → fold (λ x q. x + 0) a qs ≡ a
     from_zero a [] = refl
     from_zero a (q ∷ qs) = from_zero (a + 0) qs ∙ add-zero a
+
+-- sums of what is equal at each
+same-sum : (f g : ℕ → ℕ) (ports : List ℕ) → AllByRecursion (λ q. f q ≡ g q) ports → sum_by f ports ≡ sum_by g ports
+same-sum f g ports each = from-start 0 0 refl ports each
+  where
+    from-start : (a b : ℕ) → a ≡ b → (qs : List ℕ) → AllByRecursion (λ q. f q ≡ g q) qs → fold (λ x q. x + f q) a qs ≡ fold (λ x q. x + g q) b qs
+    from-start a b e [] all = e
+    from-start a b e (q ∷ qs) all = from-start (a + f q) (b + g q) (omega (arith, e, all.0)) qs all.1
 
 -- what is counted as left is what has left all external ports
 pub counts-left : (t : Shape) (b : Basis) (h : History) → (counts t b h).left ≡ left_over b h (external_ports t)
@@ -94,30 +104,20 @@ pub hit_once : (test : ℕ → Bool) (n p : ℕ) → p < n → test p ≡ true �
 unfolding below
 hit_once test n p low passes = once test p 0 0 n (omega arith) (omega arith) passes
 
-length_at : (x : Left) (xs : List Left) (q : ℕ) → length (left_at (x ∷ xs) q) ≡ cond (x.port == q) 1 0 + length (left_at xs q)
-unfolding left_at
+length_at : (x : Left) (xs : List Left) (q : ℕ) → length (left_at q (x ∷ xs)) ≡ cond (x.port == q) 1 0 + length (left_at q xs)
 length_at x xs q = by_port (x.port == q)
   where
-    by_port : (b : Bool) → length (cond b ((x.moment, x.bytes) ∷ left_at xs q) (left_at xs q)) ≡ cond b 1 0 + length (left_at xs q)
+    by_port : (b : Bool) → length (cond b ((x.moment, x.bytes) ∷ left_at q xs) (left_at q xs)) ≡ cond b 1 0 + length (left_at q xs)
     by_port true = omega arith
     by_port false = omega arith
 
 -- what left is what left the ports, where each port that it left is hit once
 pub length_by_port : (ports : List ℕ) (xs : List Left) → All (λ x. sum_by (λ q. cond (x.port == q) 1 0) ports ≡ 1) xs →
-    sum_by (λ q. length (left_at xs q)) ports ≡ length xs
-unfolding left_at
+    sum_by (λ q. length (left_at q xs)) ports ≡ length xs
 length_by_port ports [] each = sum_by-zero ports
 length_by_port ports (x ∷ xs) each =
-    sum_by-plus (λ q. cond (x.port == q) 1 0) (λ q. length (left_at xs q)) (λ q. length (left_at (x ∷ xs) q)) (length_at x xs) ports
+    sum_by-plus (λ q. cond (x.port == q) 1 0) (λ q. length (left_at q xs)) (λ q. length (left_at q (x ∷ xs))) (length_at x xs) ports
     ∙ rw (each 0 x (omega arith), length_by_port ports xs (λ k d h. each (suc k) d (omega arith))) (omega arith)
-
--- no more than one frame for each port
-pub few_left : (ports : List ℕ) (f : ℕ → ℕ) → ((q : ℕ) → f q ≤ 1) → sum_by f ports ≤ length ports
-few_left ports f small = let most = from_start 0 ports in omega arith
-  where
-    from_start : (a : ℕ) (qs : List ℕ) → fold (λ x q. x + f q) a qs ≤ a + length qs
-    from_start a [] = omega arith
-    from_start a (q ∷ qs) = let rest = from_start (a + f q) qs in let one = small q in omega arith
 
 -- ---- counts after events
 -- equal but for what has left, and in what has left
@@ -166,9 +166,76 @@ counts-then t b h es n more =
     same_counts (with_left n (count_events (counts t b h) es)) (counts t b (h then es)) (sym (count_events-then t b h es))
     (ap (λ k. k + n) (count_events-left es (counts t b h) ∙ counts-left t b h) ∙ sym more ∙ sym (counts-left t b (h then es)))
 
--- what left after a history is what left each port more
-pub left_over-more : (b : Basis) (h h' : History) (xs : List Left) (ports : List ℕ) → ((q : ℕ) → flat b h' q ≡ flat b h q ++ left_at xs q) →
-    All (λ x. sum_by (λ q. cond (x.port == q) 1 0) ports ≡ 1) xs → left_over b h' ports ≡ left_over b h ports + length xs
-left_over-more b h h' xs ports grown once =
-    sum_by-plus (λ q. length (flat b h q)) (λ q. length (left_at xs q)) (λ q. length (flat b h' q)) (λ q. ap (λ (ys : List Sent). length ys) (grown q) ∙ length-append (flat b h q) (left_at xs q)) ports
-    ∙ ap (λ n. left_over b h ports + n) (length_by_port ports xs once)
+-- ---- the whole
+flat-none : (b : Basis) (q : ℕ) → flat b [] q ≡ []
+unfolding flat
+flat-none b q = refl
+
+pub counts-none : (t : Shape) (b : Basis) → counts t b [] ≡ nothing_counted
+unfolding counts
+counts-none t b = refl
+
+nothing-left : (b : Basis) (ports : List ℕ) → left_over b [] ports ≡ 0
+nothing-left b ports = same-sum (λ q. length (flat b [] q)) (λ q. 0) ports (each ports) ∙ sum_by-zero ports
+  where
+    each : (qs : List ℕ) → AllByRecursion (λ q. length (flat b [] q) ≡ 0) qs
+    each [] = tt
+    each (q ∷ qs) = (ap (λ (xs : List Sent). length xs) (flat-none b q), each qs)
+
+pub passing : (test : ℕ → Bool) (qs : List ℕ) → AllByRecursion (λ q. test q ≡ true) (filter test qs)
+passing test [] = tt
+passing test (q ∷ qs) = by_test (passing test qs) (test q) refl
+  where
+    by_test : AllByRecursion (λ p. test p ≡ true) (filter test qs) → (b : Bool) → test q ≡ b → AllByRecursion (λ p. test p ≡ true) (cond (test q) (q ∷ filter test qs) (filter test qs))
+    by_test rest true e = rw e ((e, rest))
+    by_test rest false e = rw e rest
+
+-- a frame that left an external port
+pub record LeftExternal (t : Shape) (x : Left) : Type 0 where
+  pub port : is_external t x.port ≡ true
+  pub low : x.port < 4160
+
+-- The counts of all that was told, where what has left each external port is what the one bridge sends there.
+pub counts-whole : (t : Shape) (b : Basis) (h : History) (es : List Event) (xs : List Left) → ([] then es) ≡ h →
+    ((q : ℕ) → is_external t q ≡ true → left_at q xs ≡ flat b h q) → All (LeftExternal t) xs → with_left (length xs) (count_events nothing_counted es) ≡ counts t b h
+unfolding external_ports
+counts-whole t b h es xs is sent own =
+    let rows : List ℕ = filter (is_external t) (below 4160) in
+    let once : All (λ x. sum_by (λ q. cond (x.port == q) 1 0) rows ≡ 1) xs =
+    λ k d l. let x = own k d l in hit_once (is_external t) 4160 (get_or xs k d).port x.low x.port in
+    let all : left_over b h rows ≡ length xs =
+    same-sum (λ q. length (flat b h q)) (λ q. length (left_at q xs)) rows (lengths rows (passing (is_external t) (below 4160))) ∙ length_by_port rows xs once in
+    let grown : left_over b ([] then es) rows ≡ left_over b [] rows + length xs =
+    (let whole = ap (λ (g : History). left_over b g rows) is ∙ all in let none = nothing-left b rows in omega (arith, whole, none)) in
+    ap (λ (c : Counts). with_left (length xs) (count_events c es)) (sym (counts-none t b)) ∙ counts-then t b [] es (length xs) grown ∙ ap (λ (g : History). counts t b g) is
+  where
+    lengths : (qs : List ℕ) → AllByRecursion (λ q. is_external t q ≡ true) qs → AllByRecursion (λ q. length (flat b h q) ≡ length (left_at q xs)) qs
+    lengths [] each = tt
+    lengths (q ∷ qs) each = (ap (λ (ys : List Sent). length ys) (sym (sent q each.0)), lengths qs each.1)
+
+-- ---- how much is counted
+abbrev pub all_counted : Counts → ℕ
+all_counted c = c.relayed + c.ignored + c.commits + c.refusals
+
+one-counted : (e : Event) (c : Counts) → all_counted (counted e c) ≤ all_counted c + 1
+one-counted (event.Relay p k m f) c = omega arith
+one-counted (event.Ignored p k) c = omega arith
+one-counted (event.Tick s) c = omega arith
+one-counted (event.Commit k) c = omega arith
+one-counted (event.Refuse k x) c = omega arith
+one-counted (event.Up p) c = omega arith
+one-counted (event.NoUp p x) c = omega arith
+one-counted event.Settled c = omega arith
+
+pub events-counted : (es : List Event) (c : Counts) → all_counted (count_events c es) ≤ all_counted c + length es
+events-counted [] c = omega arith
+events-counted (e ∷ es) c = let one = one-counted e c in let rest = events-counted es (counted e c) in omega (arith, one, rest)
+
+-- counts with so many events and frames more stay small
+pub small-after : (c d : Counts) (es : List Event) (n : ℕ) → d ≡ with_left n (count_events c es) → all_counted c + length es < 2 ^ 63 → c.left + n < 2 ^ 63 → IsSmall d
+small-after c d es n is room room_left =
+    let all = ap all_counted is in
+    let most = events-counted es c in
+    let left = ap (λ (x : Counts). x.left) is in
+    let same = count_events-left es c in
+    record { all = omega (arith, all, most, room); left = omega (arith, left, same, room_left) }

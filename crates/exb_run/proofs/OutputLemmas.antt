@@ -11,27 +11,30 @@ use Rattle.exb_shelf.specs.Files.{Files, SameFiles, Adds, Filled}
 use Rattle.exb_shelf.specs.Shelf.{Id, writing}
 use Rattle.exb_shelf.proofs.FileLemmas.{Apart}
 use Rattle.exb_text.specs.Names.{capture_name, journal_name}
-use Rattle.exb_world.specs.declared.world.Left.{Left}
-use Rattle.exb_world.specs.Worlds.{left_at}
+use Rattle.exb_network.specs.declared.log.Left.{Left}
+use Rattle.exb_network.specs.Worlds.{all_left}
+use Rattle.exb_standing.specs.Showing.{left_at}
 use Rattle.exb_run.specs.Plans.{Planned, port_count, port_at, place_in}
 use Rattle.exb_run.specs.Outputs.{output_name}
 use Rattle.exb_run.specs.Writing.{Holds, HasTexts, with_more, lines_of, with_left_frames, CanBeWritten}
 use Rattle.exb_run.proofs.Filling.{weaker, still_filled, one_more}
 use Rattle.exb_run.proofs.Places.{port_is, place_low, port_of_place, place_of_port}
 
--- what left a port, of two lists of frames
+-- what left a port
+abbrev sent_at : List Left → ℕ → List Sent
+sent_at xs q = left_at q (all_left xs)
+
+-- of two lists of frames
 head_at : (b : Bool) (x : Sent) (xs ys : List Sent) → (if b then x ∷ (xs ++ ys) else xs ++ ys) ≡ (if b then x ∷ xs else xs) ++ ys
 head_at true x xs ys = refl
 head_at false x xs ys = refl
 
-left_at-append : (xs ys : List Left) (q : ℕ) → left_at (xs ++ ys) q ≡ left_at xs q ++ left_at ys q
-unfolding left_at
-left_at-append [] ys q = refl
-left_at-append (x ∷ xs) ys q = rw (left_at-append xs ys q) (head_at (x.port == q) (x.moment, x.bytes) (left_at xs q) (left_at ys q))
+sent_at-append : (xs ys : List Left) (q : ℕ) → sent_at (xs ++ ys) q ≡ sent_at xs q ++ sent_at ys q
+sent_at-append [] ys q = refl
+sent_at-append (x ∷ xs) ys q = rw (sent_at-append xs ys q) (head_at (x.port == q) (x.moment, x.bytes) (sent_at xs q) (sent_at ys q))
 
-left_at-nil : (q : ℕ) → left_at [] q ≡ []
-unfolding left_at
-left_at-nil q = refl
+sent_at-nil : (q : ℕ) → sent_at [] q ≡ []
+sent_at-nil q = refl
 
 -- the names of the outputs
 pub name_of_capture : (plan : Planned) (j : ℕ) → j < port_count plan → output_name plan j ≡ capture_name plan.prefix (port_at plan j)
@@ -255,7 +258,7 @@ more_lines plan f g pieces text events i e inside is p =
 left_nothing : (plan : Planned) (text : ℕ → List ℕ) (k : ℕ) → with_left_frames plan text [] k ≡ text k
 left_nothing plan text k = elim (cases_lt k (port_count plan)) [
   | inl below ↦
-      rw (lt-ltb k (port_count plan) below) (ap (λ (xs : List Sent). text k ++ flat_map record_text xs) (left_at-nil (port_at plan k)) ∙ append-nil (text k))
+      rw (lt-ltb k (port_count plan) below) (ap (λ (xs : List Sent). text k ++ flat_map record_text xs) (sent_at-nil (port_at plan k)) ∙ append-nil (text k))
   | inr above ↦ rw (le-ltb k (port_count plan) above) refl
 ]
 
@@ -266,30 +269,28 @@ no_frames plan f g pieces text p =
     (λ k bytes _ held. held ∙ sym (left_nothing plan text k))
 
 -- what one frame is at its port and at others
-left_here : (x : Left) (q : ℕ) → x.port ≡ q → left_at (x ∷ []) q ≡ (x.moment, x.bytes) ∷ []
-unfolding left_at
+left_here : (x : Left) (q : ℕ) → x.port ≡ q → sent_at (x ∷ []) q ≡ (x.moment, x.bytes) ∷ []
 left_here x q is = rw (eq-eqb x.port q is) refl
 
-left_elsewhere : (x : Left) (q : ℕ) → x.port ≢ q → left_at (x ∷ []) q ≡ []
-unfolding left_at
+left_elsewhere : (x : Left) (q : ℕ) → x.port ≢ q → sent_at (x ∷ []) q ≡ []
 left_elsewhere x q not = rw (ne_eqb x.port q not) refl
 
 -- the text of a capture with what left its port
 capture_left : (plan : Planned) (text : ℕ → List ℕ) (left : List Left) (k : ℕ) → k < port_count plan
-    → with_left_frames plan text left k ≡ text k ++ flat_map record_text (left_at left (port_at plan k))
+    → with_left_frames plan text left k ≡ text k ++ flat_map record_text (sent_at left (port_at plan k))
 capture_left plan text left k below = rw (lt-ltb k (port_count plan) below) refl
 
 journal_left : (plan : Planned) (text : ℕ → List ℕ) (left : List Left) (k : ℕ) → port_count plan ≤ k → with_left_frames plan text left k ≡ text k
 journal_left plan text left k above = rw (le-ltb k (port_count plan) above) refl
 
 -- frames in two parts
-left_in_parts : (text : List ℕ) (left : List Left) (x : Left) (q : ℕ) (more : List ℕ) → flat_map record_text (left_at (x ∷ []) q) ≡ more
-    → text ++ flat_map record_text (left_at (left ++ x ∷ []) q) ≡ (text ++ flat_map record_text (left_at left q)) ++ more
+left_in_parts : (text : List ℕ) (left : List Left) (x : Left) (q : ℕ) (more : List ℕ) → flat_map record_text (sent_at (x ∷ []) q) ≡ more
+    → text ++ flat_map record_text (sent_at (left ++ x ∷ []) q) ≡ (text ++ flat_map record_text (sent_at left q)) ++ more
 left_in_parts text left x q more is =
-    ap (λ (xs : List Sent). text ++ flat_map record_text xs) (left_at-append left (x ∷ []) q)
-    ∙ ap (λ (xs : List ℕ). text ++ xs) (flat_map-append record_text (left_at left q) (left_at (x ∷ []) q))
-    ∙ sym (append_assoc text (flat_map record_text (left_at left q)) (flat_map record_text (left_at (x ∷ []) q)))
-    ∙ ap (λ (xs : List ℕ). (text ++ flat_map record_text (left_at left q)) ++ xs) is
+    ap (λ (xs : List Sent). text ++ flat_map record_text xs) (sent_at-append left (x ∷ []) q)
+    ∙ ap (λ (xs : List ℕ). text ++ xs) (flat_map-append record_text (sent_at left q) (sent_at (x ∷ []) q))
+    ∙ sym (append_assoc text (flat_map record_text (sent_at left q)) (flat_map record_text (sent_at (x ∷ []) q)))
+    ∙ ap (λ (xs : List ℕ). (text ++ flat_map record_text (sent_at left q)) ++ xs) is
 
 left_more : (plan : Planned) (text : ℕ → List ℕ) (left : List Left) (x : Left) (k : ℕ) → CanBeWritten plan x
     → with_more (with_left_frames plan text left) (place_in plan.tree x.port) (record_text (x.moment, x.bytes)) k ≡ with_left_frames plan text (left ++ x ∷ []) k
@@ -313,7 +314,7 @@ left_more plan text left x k can =
             | inl below ↦
                 let port : x.port ≢ port_at plan k = λ e. other (sym (place_of_port plan k below) ∙ ap (place_in plan.tree) (sym e)) in
                 capture_left plan text left k below
-                ∙ sym (append-nil (text k ++ flat_map record_text (left_at left (port_at plan k))))
+                ∙ sym (append-nil (text k ++ flat_map record_text (sent_at left (port_at plan k))))
                 ∙ sym (left_in_parts (text k) left x (port_at plan k) [] (ap (flat_map record_text) (left_elsewhere x (port_at plan k) port)))
                 ∙ sym (capture_left plan text (left ++ x ∷ []) k below)
             | inr above ↦ journal_left plan text left k above ∙ sym (journal_left plan text (left ++ x ∷ []) k above)

@@ -20,13 +20,13 @@ module _ (P : ℕ → Bool) where
   passed_more : (n : ℕ) → filter P (below (suc n)) ≡ filter P (below n) ++ last n
   passed_more n = ap (λ (k : ℕ). filter P (below k)) (sym (add-one n)) ∙ ap (filter P) (below-more n) ∙ filter-append P (below n) (n ∷ [])
 
-  passed_here : (n : ℕ) → P n ≡ true → filter P (below (suc n)) ≡ filter P (below n) ++ n ∷ []
+  pub passed_here : (n : ℕ) → P n ≡ true → filter P (below (suc n)) ≡ filter P (below n) ++ n ∷ []
   passed_here n is = passed_more n ∙ ap (λ (b : Bool). filter P (below n) ++ (if b then n ∷ [] else [])) is
 
-  passed_not : (n : ℕ) → P n ≡ false → filter P (below (suc n)) ≡ filter P (below n)
+  pub passed_not : (n : ℕ) → P n ≡ false → filter P (below (suc n)) ≡ filter P (below n)
   passed_not n isnt = passed_more n ∙ ap (λ (b : Bool). filter P (below n) ++ (if b then n ∷ [] else [])) isnt ∙ append-nil (filter P (below n))
 
-  passed_none : filter P (below 0) ≡ []
+  pub passed_none : filter P (below 0) ≡ []
   unfolding below
   passed_none = refl
 

@@ -12,16 +12,13 @@ use Rattle.exb_model.specs.Texts.{capture_text, journal_text}
 use Rattle.exb_shelf.specs.Files.{Files, SameFiles}
 use Rattle.exb_text.specs.Names.{capture_name, journal_name}
 use Rattle.exb_tables.specs.declared.rows.Named.{Named}
-use Rattle.exb_run.specs.declared.captures.Capture.{Capture}
 use Rattle.exb_run.specs.declared.fault.Fault.{Fault}
 use Rattle.exb_run.specs.declared.fault.Fault.TheVariants.{Write, Memory}
 use Rattle.exb_run.specs.Plans.{Planned, port_count, port_at, place_in}
 use Rattle.exb_run.specs.Inputs.{is_named, name_of}
 use Rattle.exb_run.specs.Outputs.{OnlyOutputs, OnlyPlanned, IsPlayed, HasPlayed, output_name, output_text}
-use Rattle.exb_run.specs.Playing.{CanBePlayed}
 use Rattle.exb_run.proofs.OutputLemmas.{name_of_capture, name_of_journal}
 use Rattle.exb_run.proofs.Places.{external_low, port_is, place_low, port_of_place}
-use Rattle.exb_pcap.specs.Captures.{pcap_records}
 
 pub files_same : (f g : Files) → SameFiles f g → g ≡ f
 files_same f g same = fun_ext λ n. same n
@@ -61,23 +58,13 @@ module _ (i : Input) (plan : Planned) (prefix : List ℕ) (same : plan.prefix �
   }
 
 -- a capture that is named has a port of which this is told of all
-named_by : (test : ℕ → Bool) (names : List Named) (q : ℕ) → All (λ x. test x.port ≡ true) names → is_named names q ≡ true → test q ≡ true
+pub named_by : (test : ℕ → Bool) (names : List Named) (q : ℕ) → All (λ x. test x.port ≡ true) names → is_named names q ≡ true → test q ≡ true
 named_by test [] q all is = absurd (cc)
 named_by test (x ∷ xs) q all is = by_port (named_by test xs q (λ k d low. all (suc k) d (omega arith))) (x.port == q) refl is
   where
     by_port : (is_named xs q ≡ true → test q ≡ true) → (b : Bool) → (x.port == q) ≡ b → is_some (if x.port == q then Some x.name else name_of xs q) ≡ true → test q ≡ true
     by_port rest true e is' = ap test (sym (eqb-true x.port q e)) ∙ all 0 x (omega arith)
     by_port rest false e is' = rest (sym (ap (λ (b : Bool). is_some (if b then Some x.name else name_of xs q)) e) ∙ is')
-
-pub can_be_played : (t : Shape) (names : List Named) (cs : List Capture) →
-    All (λ x. is_external t x.port ≡ true) names → All (λ c. is_named names c.port ≡ true) cs → All (λ c. IsOk (pcap_records c.file.items)) cs →
-    All (λ c. CanBePlayed t c) cs
-can_be_played t names cs external named whole k d low =
-    let c = get_or cs k d in
-    record {
-      port = named_by (is_external t) names c.port external (named k d low);
-      whole = whole k d low;
-    }
 
 -- ---- how a run of a topology ends
 abbrev pub Outcome : Type 0

@@ -1,23 +1,16 @@
 -- What a run is given: its topology, the captures that this names, and the input that they make.
-use Rattle.std.specs.Prelude.{◌≡◌, ℕ, Bool, false, ◌==◌, if◌then◌else◌, List, [], ◌∷◌, length, Option, Some, None, Result, Ok, Err, map, filter, is_some}
-use Rattle.std.specs.List.{list_any}
+use Rattle.std.specs.Prelude.{◌≡◌, ℕ, Bool, ◌==◌, if◌then◌else◌, List, [], ◌∷◌, All, Option, Some, None, Result, Ok, Err, map, filter, is_some}
 use Rattle.exb_model.specs.Input.{Input, Record, given_by}
 use Rattle.exb_pcap.specs.declared.reader.PcapFault.{PcapFault}
 use Rattle.exb_pcap.specs.Captures.{pcap_records}
 use Rattle.exb_shelf.specs.Files.{Files, bytes_of}
 use Rattle.exb_tables.specs.declared.rows.Named.{Named}
 use Rattle.exb_topology.specs.declared.topology.Topology.{Topology}
-use Rattle.exb_world.specs.Setups.{restricts}
 
--- A topology that can be played today: it has one extender and the default numbers of channels and groups,
--- isolates no port, and has no static entry, no command and no fate.
+-- A topology that can be played today: no control frame of it has a fate.
 pub record IsBuilt (t : Topology) : Type 0 where
-  pub one_extender : length t.setup.extenders ≡ 1
-  pub channels : t.setup.channels ≡ 4094
-  pub groups : t.setup.groups ≡ 12288
-  pub unrestricted : list_any restricts t.setup.start ≡ false
-  pub commands : t.commands ≡ []
   pub fate : t.fate ≡ []
+  pub fates : All (λ c. c.fate ≡ []) t.commands
 
 -- ---- captures
 -- the name of the file with the capture of port q, if it has one

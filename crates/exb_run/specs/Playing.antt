@@ -1,51 +1,62 @@
--- A run under way: the world, what is written and what is counted are those of a history.
-use Rattle.std.specs.Prelude.{⊤, ◌≡◌, ◌≤◌, ◌+◌, ◌-◌, ◌*◌, ◌^◌, ℕ, true, List, [], ◌∷◌, ◌++◌, Option, Some, None, IsOk, nat_lt, if◌then◌else◌, map}
+-- A run under way: what was told and has left so far, what is written and counted of it, and what is still to come.
+use Rattle.std.specs.Prelude.{◌≡◌, ◌≤◌, ◌<◌, ◌+◌, ◌-◌, ◌*◌, ◌^◌, ℕ, false, List, [], ◌∷◌, ◌++◌, Option, Some, None, IfSome, nat_lt, if◌then◌else◌, length, map, filter_map, flat_map, fold, sum_by, All}
+use Rattle.std.specs.List.{AllByRecursion}
+use Rattle.exb_model.specs.declared.event.Event.{Event}
 use Rattle.exb_model.specs.declared.setup.Setup.{Setup}
-use Rattle.exb_model.specs.declared.event.Event.TheVariants as event
-use Rattle.exb_model.specs.History.{History, ◌then◌}
-use Rattle.exb_model.specs.FlatBridge.{flat}
-use Rattle.exb_model.specs.Input.{Input, Arrival, Segment, Coming, Captured, Ordered, basis_of, tree_of, alone, segments_in, segments_since}
-use Rattle.exb_model.specs.Texts.{Counts, counts, capture_text, journal_text}
-use Rattle.exb_model.specs.Setup.{shape_of}
-use Rattle.exb_model.specs.Tree.{Shape, is_external}
-use Rattle.exb_merge.specs.Streams.{Stream, stream_of}
-use Rattle.exb_pcap.specs.Captures.{pcap_records}
+use Rattle.exb_model.specs.declared.setup.Timed.{Timed}
+use Rattle.exb_model.specs.History.{◌then◌, command_of}
+use Rattle.exb_model.specs.Input.{Input, Arrival, Segment, Coming, Eager, basis_of, tree_of, alone, given_by, segment_of, segments, segments_in, segments_since}
+use Rattle.exb_model.specs.Setup.{NamesExternal}
+use Rattle.exb_model.specs.Texts.{Counts, counted, with_left, capture_text, journal_text}
+use Rattle.exb_model.specs.Tree.{is_external}
+use Rattle.exb_machine.specs.Worlds.{Step, Arrive, Order, Left}
+use Rattle.exb_merge.specs.Agendas.{ToPlay, still_to_come, coming_of}
+use Rattle.exb_merge.specs.Arrivals.{arrival_of}
+use Rattle.exb_merge.specs.declared.agenda.Due.{Due}
+use Rattle.exb_merge.specs.declared.agenda.Due.TheVariants as due
+use Rattle.exb_motion.specs.Playing.{IsTimely}
+use Rattle.exb_network.specs.Networks.{Network, IsQuiet}
+use Rattle.exb_resting.specs.Playing.{arrivals_in}
+use Rattle.exb_schedule.specs.Playing.{CanAll, HasPlayed as IsPlayedBy, tick}
 use Rattle.exb_shelf.specs.Files.{Files}
-use Rattle.exb_world.specs.Setups.{IsSingle}
-use Rattle.exb_run.specs.declared.captures.Capture.{Capture}
+use Rattle.exb_standing.specs.Showing.{left_at}
+use Rattle.exb_text.specs.Tallies.{nothing_counted}
 use Rattle.exb_run.specs.declared.outputs.Outputs.{Outputs}
 use Rattle.exb_run.specs.Plans.{Planned, port_count, port_at}
-use Rattle.exb_run.specs.Inputs.{records_or_none}
 use Rattle.exb_run.specs.Writing.{HasTexts, pieces_of}
-use Rattle.exb_world.specs.Worlds.{State, Stands, fresh_of, ups_of, opened_of}
 
--- the text of output j after a history
-abbrev pub text_after : Input → Planned → History → ℕ → List ℕ
-text_after i plan h j = if nat_lt j (port_count plan) then capture_text (flat (basis_of i) h (port_at plan j)) else journal_text h
+-- ---- what is told
+-- the text of output j after this was told and this has left
+abbrev pub text_so_far : Planned → List Event → List Left → ℕ → List ℕ
+text_so_far plan told gone j = if nat_lt j (port_count plan) then capture_text (left_at (port_at plan j) gone) else journal_text ([] then told)
 
--- The world is opened, and nothing that happened in it is still to be written.
-pub record IsAtRest (plan : Planned) (w : State) : Type 0 where
-  pub opened : w.is_open ≡ true
-  pub tree : w.shape ≡ plan.tree
-  pub events : w.events ≡ []
-  pub left : w.left ≡ []
+-- and the counts
+abbrev pub counts_so_far : List Event → List Left → Counts
+counts_so_far told gone = with_left (length gone) (fold (λ c e. counted e c) nothing_counted told)
 
--- The world stands at the history, and what is counted are the counts of the history.
-pub record IsUnderWay (i : Input) (h : History) (w : State) (c : Counts) : Type 0 where
-  pub stands : (given : List Arrival) × Stands (basis_of i) w given h (flat (basis_of i) h)
-  pub counted : c ≡ counts (tree_of i) (basis_of i) h
+-- counts that fit 63 bits
+pub record IsSmall (c : Counts) : Type 0 where
+  pub all : c.relayed + c.ignored + c.commits + c.refusals < 2 ^ 63
+  pub left : c.left < 2 ^ 63
 
--- how many arrivals were counted
-abbrev pub played : Counts → ℕ
-played c = c.relayed + c.ignored
+-- an input, and the files before its run
+pub record Run : Type 0 where
+  pub input : Input
+  pub before : Files
 
--- no command is played; what has left, and the clock, are bounded by how many arrivals were counted
-pub record IsCounted (c : Counts) (clock : ℕ) : Type 0 where
-  pub commits : c.commits ≡ 0
-  pub refusals : c.refusals ≡ 0
-  pub left : c.left ≤ 4160 * played c
-  pub clock_below : clock ≤ 2 ^ 32 * played c
+-- The network has played these segments of the input, what is written and counted are those of what it told, and nothing is
+-- still to be written.
+pub record IsTold (tells : Type 0) (r : Run) (plan : Planned) (now : Files) (n : Network) (c : Counts) (o : Outputs) (so_far : List Segment) : Type 0 where
+  pub tree : plan.tree ≡ tree_of r.input
+  pub told : List Event
+  pub gone : List Left
+  pub played : IsPlayedBy r.input so_far n told gone
+  pub counted : c ≡ counts_so_far told gone
+  pub texts : tells → HasTexts plan (pieces_of o) r.before now (text_so_far plan told gone)
+  pub quiet : IsQuiet n
+  pub small : IsSmall c
 
+-- ---- what comes
 -- the seconds of a segment, by the second of the one before it, if there is one
 abbrev pub seconds_after : Option ℕ → ℕ → ℕ
 seconds_after None second = 0
@@ -56,31 +67,68 @@ abbrev pub segments_after : Option ℕ → List Coming → List Segment
 segments_after None coming = segments_in (map alone coming)
 segments_after (Some last) coming = segments_since last (map alone coming)
 
--- the world of a setup after its opening, which is marked
-abbrev pub begun_of : Setup → State
-begun_of s = record (opened_of (fresh_of s)) { events = ups_of (fresh_of s) ++ event.Settled ∷ [] }
+-- the segment of what comes next
+abbrev pub next_segment : ℕ → Due → Segment
+next_segment seconds d = segment_of seconds (coming_of d ∷ [])
 
--- what comes are frames at external ports
-abbrev pub CanCome : Shape → List Coming → Type 0
-CanCome t [] = ⊤
-CanCome t (Captured a ∷ xs) = (is_external t a.port ≡ true) × CanCome t xs
-CanCome t (Ordered moment n ∷ xs) = ⊥
+-- the arrivals of some segments can be written in a capture
+abbrev pub CanBeKept : List Segment → Type 0
+CanBeKept so_far = AllByRecursion (λ a. a.moment < 2 ^ 32 * 1_000_000_000) (arrivals_in so_far)
 
--- The world, what is written and what is counted are those of the history.
-pub record IsWritten (i : Input) (h : History) (plan : Planned) (orig now : Files) (w : State) (c : Counts) (o : Outputs) : Type 0 where
-  pub under_way : IsUnderWay i h w c
-  pub texts : HasTexts plan (pieces_of o) orig now (text_after i plan h)
+-- What an agenda has leads from these segments of an input to all of them. The commands are those of the input, and name external
+-- ports, as its records do; so many were played, and all segments are few.
+pub record IsDueAfter (i : Input) (so_far : List Segment) (last : Option ℕ) (a : ToPlay) : Type 0 where
+  pub rest : segments Eager i ≡ so_far ++ segments_after last (still_to_come a)
+  pub given : i.commands ≡ map given_by a.commands
+  pub names : All (λ c. NamesExternal (tree_of i) c.command) a.commands
+  pub few_commands : length a.commands ≤ 65536
+  pub external : (q : ℕ) → is_external (tree_of i) q ≡ false → i.records q ≡ []
+  pub taken : length (flat_map (λ (s : Segment). filter_map (command_of (basis_of i)) s.commands) so_far) ≡ a.taken
+  pub kept : CanBeKept so_far
+  pub clock : sum_by (λ (s : Segment). s.seconds) so_far ≤ 2 ^ 32 * length so_far
+  pub few : length so_far + length (still_to_come a) ≤ 2 ^ 30
+  pub since : IfSome last (λ second. a.start ≤ second)
 
--- a capture that was read, at its first record
-abbrev pub stream_in : Capture → Stream
-stream_in c = stream_of c.port (records_or_none (pcap_records c.file.items))
+-- the run stands after some segments, and the agenda leads on
+pub record IsPlaying (tells : Type 0) (r : Run) (plan : Planned) (now : Files) (n : Network) (c : Counts) (o : Outputs) (last : Option ℕ) (a : ToPlay) : Type 0 where
+  pub so_far : List Segment
+  pub is : IsTold tells r plan now n c o so_far
+  pub next : IsDueAfter r.input so_far last a
 
--- a capture that was read and can be played: its port is external, and it is one of the grammar
-pub record CanBePlayed (t : Shape) (c : Capture) : Type 0 where
-  pub port : is_external t c.port ≡ true
-  pub whole : IsOk (pcap_records c.file.items)
+-- before anything was played: the agenda has all of an input, whose seconds of commands don't fall
+pub record CanBegin (tells : Type 0) (r : Run) (s : Setup) (now : Files) (a : ToPlay) : Type 0 where
+  pub setup : r.input.setup ≡ s
+  pub before : tells → r.before ≡ now
+  pub timely : IsTimely r.input
+  pub next : IsDueAfter r.input [] None a
 
--- the plan is that of a setup of which a world can be made
-pub record IsOf (plan : Planned) (s : Setup) : Type 0 where
-  pub single : IsSingle s
-  pub tree : plan.tree ≡ shape_of s
+-- ---- what comes next
+abbrev pub commands_in : Due → List Timed
+commands_in (due.Command number moment command) = command.now ∷ []
+commands_in (due.Record r) = []
+
+abbrev pub frames_in : Due → List Arrival
+frames_in (due.Command number moment command) = []
+frames_in (due.Record r) = arrival_of r ∷ []
+
+-- its steps before settling
+abbrev pub steps_of : ℕ → Due → List Step
+steps_of seconds (due.Command number moment command) = tick seconds ++ Order command.now.command ∷ []
+steps_of seconds (due.Record r) = tick seconds ++ Arrive (arrival_of r) ∷ []
+
+-- a command is that of its number
+abbrev pub IsGivenIn : Input → Due → Type 0
+IsGivenIn i (due.Command number moment command) = command_of (basis_of i) number ≡ Some command.now.command
+IsGivenIn i (due.Record r) = Unit {0}
+
+-- it can be played after these segments
+pub record CanFollow (i : Input) (so_far : List Segment) (n : Network) (seconds : ℕ) (d : Due) : Type 0 where
+  pub is : IsGivenIn i d
+  pub kept : CanBeKept (so_far ++ next_segment seconds d ∷ [])
+  pub can : CanAll n (steps_of seconds d)
+
+-- so it stands after some segments
+pub record CanBePlayed (tells : Type 0) (r : Run) (plan : Planned) (now : Files) (n : Network) (c : Counts) (o : Outputs) (seconds : ℕ) (d : Due) : Type 0 where
+  pub so_far : List Segment
+  pub is : IsTold tells r plan now n c o so_far
+  pub next : CanFollow r.input so_far n seconds d

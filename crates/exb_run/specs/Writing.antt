@@ -4,8 +4,9 @@ use Rattle.std.specs.Prelude.{◌≡◌, ◌<◌, ◌+◌, ◌*◌, ◌^◌, ◌
 use Rattle.exb_model.specs.declared.event.Event.{Event}
 use Rattle.exb_model.specs.Tree.{is_external}
 use Rattle.exb_model.specs.Texts.{capture_header, record_text, line_of}
-use Rattle.exb_world.specs.declared.world.Left.{Left}
-use Rattle.exb_world.specs.Worlds.{left_at}
+use Rattle.exb_network.specs.declared.log.Left.{Left}
+use Rattle.exb_network.specs.Worlds.{all_left}
+use Rattle.exb_standing.specs.Showing.{left_at}
 use Rattle.exb_shelf.specs.Files.{Files, Filled}
 use Rattle.exb_shelf.specs.Shelf.{Id, writing}
 use Rattle.exb_run.specs.declared.outputs.Outputs.{Outputs}
@@ -45,7 +46,7 @@ lines_of events = flat_map (λ e. line_of e ++ 10 ∷ []) events
 -- the texts, where each capture has what left its port
 abbrev pub with_left_frames : Planned → (ℕ → List ℕ) → List Left → ℕ → List ℕ
 with_left_frames plan text left j =
-    if nat_lt j (port_count plan) then text j ++ flat_map record_text (left_at left (port_at plan j)) else text j
+    if nat_lt j (port_count plan) then text j ++ flat_map record_text (left_at (port_at plan j) (all_left left)) else text j
 
 -- a frame that can be written: it left an external port, below 2^32 seconds
 pub record CanBeWritten (plan : Planned) (x : Left) : Type 0 where

@@ -1,13 +1,13 @@
 //! Reading and checking the captures.
-ghost use Rattle.std.specs.Prelude.{◌≡◌, ◌≢◌, ◌≤◌, ◌<◌, ◌+◌, ◌⊎◌, true, ℕ, List, Some, None, Ok, Err, All, length, sum_by, IfOk, OnOk, IfErr, IfSome, IfNone, IsOk, IsErrOf};
+ghost use Rattle.std.specs.Prelude.{◌≡◌, ◌≢◌, ◌≤◌, ◌<◌, ◌+◌, ◌⊎◌, ℕ, List, Some, None, Ok, Err, length, IfOk, OnOk, IfErr, IfSome, IfNone, IsOk, IsErrOf};
 ghost use Rattle.exb_model.specs.Ports.{all_ports};
 ghost use Rattle.exb_pcap.specs.Captures.{pcap_records};
 ghost use Rattle.exb_shelf.specs.Files.{SameFiles};
 ghost use Rattle.exb_shelf.specs.Shelf.{IsReadingOf, Opens};
-ghost use Rattle.exb_run.specs.Inputs.{name_of, is_named, captures_of};
+ghost use Rattle.exb_run.specs.Inputs.{name_of, captures_of};
 ghost use Rattle.exb_run.specs.Flaws.{flaw_in, flaw_of_bytes, flaw_of, AreGood, FirstFlaw};
 ghost use Rattle.exb_run.specs.Opening.{ReadsCapture};
-ghost use Rattle.exb_run.specs.Reading.{contents, IsOfCapture};
+ghost use Rattle.exb_run.specs.Reading.{AreRead, contents, IsOfCapture};
 ghost use Rattle.exb_run.specs.Shelving.{CountsFaults};
 
 use crate::fault::{Fault, Flaw};
@@ -147,9 +147,7 @@ pub(crate) fn read_captures<S: Shelf>(
 ) -> Result<Vec<Capture>, Fault>
     ensures there { S.tells → IfOk result (λ captures. contents captures.items ≡ captures_of names.now (S.file shelf.old) all_ports) }
     ensures good { S.tells → OnOk result (AreGood names.now (S.file shelf.old)) }
-    ensures named { IfOk result (λ captures. All (λ c. is_named names.now c.port ≡ true) captures.items) }
-    ensures whole { IfOk result (λ captures. All (λ c. IsOk (pcap_records c.file.items)) captures.items) }
-    ensures all { IfOk result (λ captures. sum_by (λ c. length c.file.items) captures.items ≤ 536_870_912) }
+    ensures read { IfOk result (λ captures. AreRead names.now captures.items) }
     ensures flaw { S.tells → IfErr result (λ fault. ((p : ℕ) × FirstFlaw names.now (S.file shelf.old) p fault) ⊎ (fault ≡ Fault.Read) ⊎ (fault ≡ Fault.Memory)) }
     ensures causes { IfErr result IsOfCapture }
     ensures opened { Opens (ReadsCapture names.now) (S.ids shelf.old) (S.ids shelf.new) }

@@ -1,14 +1,14 @@
 //! The top call.
-ghost use Rattle.std.specs.Prelude.{◌≡◌, ◌≢◌, ◌++◌, ◌⊎◌, ℕ, List, Some, None, Ok, Err, All, true, map, string_bytes, codes, IfOk, IfErr, OnErr, IsErrOf};
+ghost use Rattle.std.specs.Prelude.{◌≡◌, ◌≢◌, ◌++◌, ◌⊎◌, ℕ, List, Some, None, Ok, Err, map, string_bytes, codes, IfOk, IfErr, OnErr, IsErrOf};
 ghost use Rattle.exb_model.specs.Setup.{IsValid, shape_of};
-ghost use Rattle.exb_model.specs.Tree.{is_external};
 ghost use Rattle.exb_shelf.specs.Files.{SameFiles, AppendsFront};
 ghost use Rattle.exb_shelf.specs.Shelf.{Opens, Rose};
 ghost use Rattle.exb_topology.specs.declared.topology.Topology.{Topology};
+ghost use Rattle.exb_topology.specs.Sound.{IsSound};
 ghost use Rattle.exb_run.specs.declared.fault.Flaw.{Flaw};
 ghost use Rattle.exb_run.specs.declared.fault.Fault.{Fault};
 ghost use Rattle.exb_run.specs.Words.{words_of};
-ghost use Rattle.exb_run.specs.Inputs.{IsBuilt, input_of};
+ghost use Rattle.exb_run.specs.Inputs.{input_of};
 ghost use Rattle.exb_run.specs.Outputs.{IsPlayed, OnlyOutputs};
 ghost use Rattle.exb_run.specs.Flaws.{AreGood, FirstFlaw};
 ghost use Rattle.exb_run.specs.Opening.{ReadsCapture, IsOpenedFor, OpensBy};
@@ -24,7 +24,6 @@ use crate::play::play;
 use crate::report::report;
 use crate::topology::read_topology;
 use crate::words::accept;
-use exb_merge::laws::merge_of_chosen;
 use exb_shelf::{Shelf, Sink};
 use exb_topology::Topology;
 use std::alloc::Global;
@@ -36,8 +35,7 @@ fn run_topology<S: Shelf>(
     topology: &Topology,
 ) -> Result<String, Fault>
     requires valid { IsValid topology.now.setup }
-    requires external { All (λ x. is_external (shape_of topology.now.setup) x.port ≡ true) topology.now.captures }
-    requires built { IsBuilt topology.now }
+    requires sound { IsSound topology.now }
     ensures good { S.tells → IfOk result (λ line. AreGood topology.now.captures (S.file shelf.old)) }
     ensures done { S.tells → IfOk result (λ line. IsPlayed (input_of topology.now (S.file shelf.old)) topology.now.prefix (S.file shelf.old) (S.file shelf.new) (string_bytes line)) }
 
@@ -55,7 +53,6 @@ fn run_topology<S: Shelf>(
     ensures played { S.tells → Opens (IsOpenedFor topology.now (S.file shelf.old)) (S.ids shelf.old) (S.ids shelf.new) }
     ensures faults { CountsFaults result (S.faults shelf.old) (S.faults shelf.new) }
 {
-    merge_of_chosen();
     let captures = read_captures(alloc, shelf, topology.captures.as_slice())?;
     let plan = Plan::new(alloc, &topology.setup, topology.prefix.as_str())?;
     play(alloc, shelf, &plan, topology, captures.as_slice())

@@ -1,9 +1,9 @@
 //! Reading the topology.
-ghost use Rattle.std.specs.Prelude.{◌≡◌, ◌≢◌, ◌⊎◌, ℕ, List, Some, Ok, Err, All, true, IfOk, IfErr, IsErrOf};
-ghost use Rattle.exb_model.specs.Setup.{IsValid, shape_of};
-ghost use Rattle.exb_model.specs.Tree.{is_external};
+ghost use Rattle.std.specs.Prelude.{◌≡◌, ◌≢◌, ◌⊎◌, ℕ, List, Some, Ok, Err, IfOk, IfErr, IsErrOf};
+ghost use Rattle.exb_model.specs.Setup.{IsValid};
 ghost use Rattle.exb_shelf.specs.Files.{SameFiles};
 ghost use Rattle.exb_shelf.specs.Shelf.{IsReadingOf, Opens};
+ghost use Rattle.exb_topology.specs.Sound.{IsSound};
 ghost use Rattle.exb_topology.specs.Topologies.{topology_of, topology_view};
 ghost use Rattle.exb_run.specs.Answers.{fault_by};
 ghost use Rattle.exb_run.specs.Reading.{IsRefusal, IsRefused, IsOfTopology};
@@ -38,7 +38,7 @@ fn refused(fault: TopoFault) -> Fault
 fn parse(alloc: Global, file: &[u8]) -> Result<Topology, Fault>
     ensures read { IfOk result (λ topology. topology_of file.now ≡ Ok (topology_view topology)) }
     ensures valid { IfOk result (λ topology. IsValid topology.setup) }
-    ensures external { IfOk result (λ topology. All (λ x. is_external (shape_of topology.setup) x.port ≡ true) topology.captures) }
+    ensures sound { IfOk result IsSound }
     ensures refused { IfErr result (λ fault. IsRefusal file.now fault ⊎ (fault ≡ Fault.Memory)) }
 {
     match read(alloc, file) {
@@ -77,7 +77,7 @@ pub(crate) fn read_topology<S: Shelf>(
 ) -> Result<Topology, Fault>
     ensures read { S.tells → IfOk result (λ topology. (bytes : List ℕ) × (S.file shelf.old name.now ≡ Some bytes) × (topology_of bytes ≡ Ok (topology_view topology))) }
     ensures valid { IfOk result (λ topology. IsValid topology.setup) }
-    ensures external { IfOk result (λ topology. All (λ x. is_external (shape_of topology.setup) x.port ≡ true) topology.captures) }
+    ensures sound { IfOk result IsSound }
     ensures refused { S.tells → IfErr result (λ fault. IsRefused name.now (S.file shelf.old name.now) fault ⊎ (fault ≡ Fault.Read) ⊎ (fault ≡ Fault.Memory)) }
     ensures causes { IfErr result IsOfTopology }
     ensures opened { Opens (IsReadingOf name.now) (S.ids shelf.old) (S.ids shelf.new) }

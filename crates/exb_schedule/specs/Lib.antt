@@ -1,3 +1,5 @@
 pub mod Moves
 pub mod Reached
+pub mod Rounds
 pub mod Playing
+pub mod Laws

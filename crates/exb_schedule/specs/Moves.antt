@@ -1,10 +1,14 @@
 -- What moves a network: steps of the machine, one after another.
-use Rattle.std.specs.Prelude.{◌≡◌, ◌++◌, List}
+use Rattle.std.specs.Prelude.{◌≡◌, ◌++◌, List, [], ◌∷◌}
+use Rattle.exb_machine.specs.Allowing.{IsSettled}
 use Rattle.exb_machine.specs.Settling.{run}
 use Rattle.exb_machine.specs.Stepping.{Stepped}
-use Rattle.exb_machine.specs.Worlds.{Step}
+use Rattle.exb_machine.specs.Worlds.{Step, Mark}
+use Rattle.exb_machine_laws.specs.Laws.{IsMove}
+use Rattle.exb_machine_laws.specs.Sessions.{Each}
 use Rattle.exb_network.specs.Networks.{Network, world_of, tree_of, bounds_of, IsSame}
 use Rattle.exb_network.specs.Worlds.{all_left}
+use Rattle.exb_resting.specs.Settles.{MayTakeAll}
 
 -- The network is where this was done: its world is that, and what was told and has left stands behind what was told and had left
 -- before.
@@ -15,6 +19,21 @@ pub record IsMoved (done : Stepped) (old new : Network) : Type 0 where
   pub left : all_left new.log.left ≡ all_left old.log.left ++ done.left
   pub same : IsSame old new
 
--- it made these steps
-abbrev pub HasRun : List Step → Network → Network → Type 0
-HasRun steps old new = IsMoved (run (tree_of old) (bounds_of old) steps (world_of old)) old new
+-- It made these steps, each of which might be made when its turn came.
+pub record HasRun (steps : List Step) (old new : Network) : Type 0 where
+  pub may : MayTakeAll (tree_of old) (bounds_of old) (world_of old) steps
+  pub moved : IsMoved (run (tree_of old) (bounds_of old) steps (world_of old)) old new
+
+-- This was done by moves alone: words were carried, delivered or lost, and beats passed.
+pub record HasGone (done : Stepped) (old new : Network) : Type 0 where
+  pub steps : List Step
+  pub moves : Each IsMove steps
+  pub is : done ≡ run (tree_of old) (bounds_of old) steps (world_of old)
+  pub made : HasRun steps old new
+
+-- It settled, by moves alone, and was marked.
+pub record HasEnded (old new : Network) : Type 0 where
+  pub steps : List Step
+  pub moves : Each IsMove steps
+  pub settled : IsSettled (tree_of old) (run (tree_of old) (bounds_of old) steps (world_of old)).world
+  pub made : HasRun (steps ++ Mark ∷ []) old new

@@ -1,5 +1,5 @@
 -- A network that plays an input, segment by segment.
-use Rattle.std.specs.Prelude.{◌≡◌, ℕ, ◌<◌, ◌^◌, ◌++◌, ◌==◌, if◌then◌else◌, List, [], ◌∷◌, map, filter_map, All}
+use Rattle.std.specs.Prelude.{◌≡◌, ℕ, ◌++◌, ◌==◌, if◌then◌else◌, List, [], ◌∷◌, map, filter_map}
 use Rattle.exb_model.specs.declared.event.Event.{Event}
 use Rattle.exb_model.specs.declared.setup.Timed.{Timed}
 use Rattle.exb_model.specs.History.{command_of}
@@ -25,11 +25,11 @@ tick seconds = if seconds == 0 then [] else Tick seconds ∷ []
 abbrev pub orders : List Timed → List Step
 orders commands = map (λ (c : Timed). Order c.command) commands
 
-abbrev pub arrivals : List Arrival → List Step
-arrivals as = map (λ (a : Arrival). Arrive (arrived a)) as
+abbrev pub arrive : List Arrival → List Step
+arrive frames = map (λ (a : Arrival). Arrive (arrived a)) frames
 
 abbrev pub gives : ℕ → List Timed → List Arrival → List Step
-gives seconds cs as = tick seconds ++ (orders cs ++ arrivals as)
+gives seconds cs frames = tick seconds ++ (orders cs ++ arrive frames)
 
 -- each of these steps may be made when its turn comes
 abbrev pub CanFrom : Shape → Limits → World → List Step → Type 0
@@ -40,10 +40,10 @@ abbrev pub CanAll : Network → List Step → Type 0
 CanAll n steps = CanFrom (shape_in n) (limits_in n) (world_of n) steps
 
 -- a segment of an input that gives these commands and arrivals
-pub record IsSegment (i : Input) (s : Segment) (seconds : ℕ) (cs : List Timed) (as : List Arrival) : Type 0 where
+pub record IsSegment (i : Input) (s : Segment) (seconds : ℕ) (cs : List Timed) (frames : List Arrival) : Type 0 where
   pub seconds_are : s.seconds ≡ seconds
   pub commands : filter_map (command_of (basis_of i)) s.commands ≡ map (λ (c : Timed). c.command) cs
-  pub arrivals_are : s.arrivals ≡ map arrived as
+  pub arrivals_are : s.arrivals ≡ map arrived frames
 
 -- ---- a run so far
 -- After the opening and these segments of an input, each settled and marked, this was told, and this has left.

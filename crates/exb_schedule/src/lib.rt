@@ -5,14 +5,16 @@
 //! worlds in motion (`exb_motion`) and of settling (`exb_resting`).
 #![tactic(auto)]
 
+mod delivery;
+mod facts;
 pub mod laws;
-mod round;
 pub mod segment;
-mod settle;
+mod settling;
+mod steps;
 pub mod world;
 
+pub use delivery::round;
 pub use exb_network::{Left, Step, Way, WorldFault};
-pub use round::round;
 pub use segment::{Arrival, eager, open};
-pub use settle::settle;
+pub use settling::settle;
 pub use world::World;

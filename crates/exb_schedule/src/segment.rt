@@ -1,16 +1,17 @@
 //! The opening, and the segments of the eager run.
-ghost use Rattle.std.specs.Prelude.{◌≡◌, ◌++◌, ◌∷◌, [], ◌↔◌, ◌⊎◌, List, true, OnErr, OnOk, map};
+ghost use Rattle.std.specs.Prelude.{◌≡◌, ◌++◌, ◌∷◌, [], ◌↔◌, List, true, false, IfOk, OnErr, OnOk};
 ghost use Rattle.exb_model.specs.declared.event.Event.{Event};
 ghost use Rattle.exb_model.specs.Input.{Input, Segment};
-ghost use Rattle.exb_model.specs.Setup.{IsValid, limits_of, shape_of, start_of};
+ghost use Rattle.exb_model.specs.Setup.{IsValid, limits_of, shape_of};
 ghost use Rattle.exb_machine.specs.Allowing.{IsSettled};
-ghost use Rattle.exb_machine.specs.Worlds.{first_world};
 ghost use Rattle.exb_machine.specs.Worlds.{Left as Leaving};
-ghost use Rattle.exb_network.specs.Networks.{world_of, tree_of, IsQuiet};
+ghost use Rattle.exb_network.specs.Networks.{world_of, tree_of, bounds_of, IsSame};
 ghost use Rattle.exb_network.specs.Worlds.{all_left};
-ghost use Rattle.exb_schedule.specs.Playing.{gives, CanAll, HasPlayed, IsSegment};
+ghost use Rattle.exb_schedule.specs.Moves.{HasEnded, HasRun};
+ghost use Rattle.exb_schedule.specs.Playing.{arrive, gives, orders, tick, CanAll, HasPlayed, IsSegment};
 
-use crate::settle::settle;
+use crate::settling::settle;
+use crate::steps::{mark, order, tick};
 use crate::world::World;
 use exb_model::bytes::Bytes;
 use exb_model::memory::NoMemory;
@@ -29,14 +30,26 @@ pub struct Arrival {
 }
 
 /// Settles and marks.
-fn end(world: &mut World) -> Result<(), WorldFault> {
+fn end(world: &mut World) -> Result<(), WorldFault>
+    ensures ok { OnOk result (HasEnded world.old world.new) }
+    ensures settled { OnOk result (IsSettled (tree_of world.new) (world_of world.new)) }
+    ensures failed { (result ≡ Err WorldFault.Failed) ↔ (world.old.failed ≡ true) }
+    ensures memory { OnErr result (world.new.failed ≡ true) }
+{
     settle(world)?;
-    world.step(Step::Mark)
+    world.step(mark())
 }
 
-/// The world of a setup after its opening, in which each extender is heard and opened and each of its ports goes up, or is refused that;
-/// settled and marked.
-pub fn open(alloc: Global, setup: &Setup) -> Result<World, NoMemory> {
+/// The world of a setup after its opening, in which each extender is heard and opened and each of its ports goes up, or is refused
+/// that; settled and marked.
+pub fn open(alloc: Global, setup: &Setup) -> Result<World, NoMemory>
+    requires { IsValid setup.now }
+    ensures plays { IfOk result (λ world. (i : Input) → i.setup ≡ setup.now → HasPlayed i [] world world.log.events (all_left world.log.left)) }
+    ensures settled { IfOk result (λ world. IsSettled (tree_of world) (world_of world)) }
+    ensures tree { IfOk result (λ world. tree_of world ≡ shape_of setup.now) }
+    ensures limits { IfOk result (λ world. bounds_of world ≡ limits_of setup.now) }
+    ensures awake { IfOk result (λ world. world.failed ≡ false) }
+{
     let mut world = World::new(alloc, setup)?;
     match end(&mut world) {
         Ok(()) => Ok(world),
@@ -44,18 +57,39 @@ pub fn open(alloc: Global, setup: &Setup) -> Result<World, NoMemory> {
     }
 }
 
+/// Lets seconds pass, if there are any.
+fn let_pass(world: &mut World, seconds: u32) -> Result<(), WorldFault>
+    requires { CanAll world.old (tick seconds) }
+    ensures ok { OnOk result (HasRun (tick seconds) world.old world.new) }
+    ensures failed { OnErr result ((result ≡ Err WorldFault.Failed) ↔ (world.old.failed ≡ true)) }
+    ensures memory { OnErr result (world.new.failed ≡ true) }
+{
+    if seconds == 0 {
+        return Ok(());
+    }
+    world.step(tick(seconds))
+}
+
 /// Gives commands, in order.
-fn give(world: &mut World, commands: &[Timed]) -> Result<(), WorldFault> {
+fn give(world: &mut World, commands: &[Timed]) -> Result<(), WorldFault>
+    requires { CanAll world.old (orders commands.now) }
+    ensures ok { OnOk result (HasRun (orders commands.now) world.old world.new) }
+    ensures failed { OnErr result ((result ≡ Err WorldFault.Failed) ↔ (world.old.failed ≡ true)) }
+    ensures memory { OnErr result (world.new.failed ≡ true) }
+{
     for command in commands {
-        world.step(Step::Command {
-            command: &command.command,
-        })?;
+        world.step(order(&command.command))?;
     }
     Ok(())
 }
 
 /// Lets frames arrive, in order.
-fn let_arrive(world: &mut World, arrivals: &[Arrival]) -> Result<(), WorldFault> {
+fn let_arrive(world: &mut World, arrivals: &[Arrival]) -> Result<(), WorldFault>
+    requires { CanAll world.old (arrive arrivals.now) }
+    ensures ok { OnOk result (HasRun (arrive arrivals.now) world.old world.new) }
+    ensures failed { OnErr result ((result ≡ Err WorldFault.Failed) ↔ (world.old.failed ≡ true)) }
+    ensures memory { OnErr result (world.new.failed ≡ true) }
+{
     for arrival in arrivals {
         world.step(Step::Arrive {
             port: arrival.port,
@@ -79,12 +113,11 @@ pub fn eager(
     ensures plays { OnOk result ((i : Input) (so_far : List Segment) (s : Segment) (events : List Event) (left : List Leaving) → IsSegment i s seconds commands.now arrivals.now
         → HasPlayed i so_far world.old (events ++ world.old.log.events) (left ++ all_left world.old.log.left)
         → HasPlayed i (so_far ++ s ∷ []) world.new (events ++ world.new.log.events) (left ++ all_left world.new.log.left)) }
+    ensures same { OnOk result (IsSame world.old world.new) }
     ensures failed { (result ≡ Err WorldFault.Failed) ↔ (world.old.failed ≡ true) }
     ensures memory { OnErr result (world.new.failed ≡ true) }
 {
-    if seconds > 0 {
-        world.step(Step::Tick { seconds })?;
-    }
+    let_pass(world, seconds)?;
     give(world, commands)?;
     let_arrive(world, arrivals)?;
     end(world)

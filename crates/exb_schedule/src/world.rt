@@ -1,5 +1,5 @@
 //! The world that schedules move: a network that a setup began.
-ghost use Rattle.std.specs.Prelude.{◌≡◌, ◌↔◌, ◌<◌, true, false, IfOk, IfSome, IfNone, IsTrue, OnErr, OnOk, length, filter};
+ghost use Rattle.std.specs.Prelude.{All, ◌≡◌, ◌↔◌, ◌<◌, ◌≤◌, ℕ, [], true, false, Some, IfOk, IfSome, IfNone, IsTrue, OnErr, OnOk, length, filter, slice_get};
 ghost use Rattle.exb_model.specs.Setup.{IsValid, limits_of, shape_of, start_of};
 ghost use Rattle.exb_model.specs.Tree.{is_extender};
 ghost use Rattle.exb_changing.specs.Counting.{planned};
@@ -8,22 +8,31 @@ ghost use Rattle.exb_link.specs.Words.{is_control, is_data, leading};
 ghost use Rattle.exb_machine.specs.Allowing.{Can, IsSettled};
 ghost use Rattle.exb_machine.specs.Stepping.{words_on};
 ghost use Rattle.exb_machine.specs.Worlds.{first_world};
+ghost use Rattle.exb_motion.specs.Kept.{HasVid};
 ghost use Rattle.exb_network.specs.Networks.{world_of, tree_of, bounds_of, step_of, IsQuiet, IsSame, IsStepped};
 ghost use Rattle.exb_network.specs.Steps.{way_of};
+ghost use Rattle.exb_network.specs.Turns.{order_of, IsTurn};
+ghost use Rattle.exb_resting.specs.Settles.{MayTake};
+ghost use Rattle.exb_schedule.specs.Reached.{IsReached};
 
+use crate::facts::{are_bytes, name_vlans, names_vlan};
 use exb_link::Counts;
 use exb_model::event::Event;
 use exb_model::memory::NoMemory;
 use exb_model::setup::Setup;
 use exb_model::tree::Tree;
-use exb_network::{Left, Step, Way, World as Network, WorldFault};
+use exb_network::{Left, Step, Turn, Way, World as Network, WorldFault};
 use std::alloc::Global;
-use std::marker::Model;
+use std::marker::{Model, PhantomData};
 
 /// A network that a valid setup began, and that steps moved since.
 #[derive(Drop)]
 pub struct World {
     network: Network,
+    /// Whether memory ran out in a step.
+    failed: bool,
+    /// Names the types of a step, for functions that make one.
+    steps: PhantomData<Step<'static>>,
 }
 
 impl Model for World {
@@ -31,11 +40,11 @@ impl Model for World {
 
     ghost Value = { Network };
 
-    ghost use Rattle.exb_schedule.specs.Reached.{IsReached};
+    ghost use Rattle.exb_schedule.specs.Reached.{IsKept};
 
     ghost view = { λ w. w.network };
 
-    ghost invariant = { λ w. IsReached w.network };
+    ghost invariant = { λ w. IsKept w.network w.failed };
 }
 
 impl World {
@@ -47,9 +56,13 @@ impl World {
         ensures limits { IfOk result (λ made. bounds_of made ≡ limits_of setup.now) }
         ensures quiet { IfOk result IsQuiet }
         ensures awake { IfOk result (λ made. made.failed ≡ false) }
+        ensures vids { All HasVid setup.now.start }
     {
+        name_vlans(setup.start.as_slice());
         Ok(World {
             network: Network::new(alloc, setup)?,
+            failed: false,
+            steps: PhantomData,
         })
     }
 
@@ -65,18 +78,63 @@ impl World {
     pub fn step(&mut self, step: Step<'_>) -> Result<(), WorldFault>
         requires { Can (tree_of self.old) (world_of self.old) (step_of step) }
         ensures ok { OnOk result (IsStepped (step_of step.entry) self.old self.new) }
+        ensures may { OnOk result (MayTake (tree_of self.old) (world_of self.old) (step_of step.entry)) }
         ensures failed { (result ≡ Err WorldFault.Failed) ↔ (self.old.failed ≡ true) }
         ensures memory { OnErr result (self.new.failed ≡ true) }
     {
-        self.network.step(step)
+        let done = match step {
+            Step::Arrive {
+                port,
+                index,
+                moment,
+                bytes,
+            } => {
+                are_bytes(bytes);
+                self.network.step(Step::Arrive {
+                    port,
+                    index,
+                    moment,
+                    bytes,
+                })
+            }
+            Step::Carry { link, way } => self.network.step(Step::Carry { link, way }),
+            Step::Control {
+                link,
+                way,
+                at,
+                keep,
+            } => self.network.step(Step::Control {
+                link,
+                way,
+                at,
+                keep,
+            }),
+            Step::Lose { link, way, at } => self.network.step(Step::Lose { link, way, at }),
+            Step::Beat => self.network.step(Step::Beat),
+            Step::Tick { seconds } => self.network.step(Step::Tick { seconds }),
+            Step::Command { command } => {
+                names_vlan(command);
+                self.network.step(Step::Command { command })
+            }
+            Step::Mark => self.network.step(Step::Mark),
+        };
+        self.failed = done.is_err();
+        done
     }
 
-    /// Whether nothing is left to be done: no job waits and no change is at work, nothing is on any link, and every end of
-    /// the transport is idle.
+    /// Whether nothing is left to be done, and memory hasn't run out: no job waits and no change is at work, nothing is on any
+    /// link, and every end of the transport is idle.
     pub fn settled(&self) -> bool
-        ensures { self.now.failed ≡ false → (IsTrue result ↔ IsSettled (tree_of self.now) (world_of self.now)) }
+        ensures { IsTrue result ↔ ((self.now.failed ≡ false) × IsSettled (tree_of self.now) (world_of self.now)) }
     {
-        self.network.settled()
+        !self.failed && self.network.settled()
+    }
+
+    /// That a run of a valid setup comes to this world, as a fact for whoever calls this. It does nothing.
+    pub fn is_reached(&self)
+        ensures { IsReached self.now }
+    {
+        let _ = &self.network;
     }
 
     /// How many beats there were; it stays at 2^64 - 1.
@@ -115,6 +173,14 @@ impl World {
         ensures { IsTrue result ↔ (at < leading (words_on link (way_of way) (world_of self.now))) }
     {
         self.network.free_at(link, way, at)
+    }
+
+    /// The first direction of a way, from a place on in the order in which a round goes through them, that has a word.
+    pub fn next_busy(&self, way: Way, from: u8) -> Option<Turn>
+        ensures found { IfSome result (λ turn. IsTurn (tree_of self.now) (way_of way) (world_of self.now) from turn) }
+        ensures none { IfNone result ((k n : ℕ) → from ≤ k → slice_get (order_of (tree_of self.now) (way_of way)) k ≡ Some n → words_on n (way_of way) (world_of self.now) ≡ []) }
+    {
+        self.network.next_busy(way, from)
     }
 
     /// What happened since the last `clear`, in order.

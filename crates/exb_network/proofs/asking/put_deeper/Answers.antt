@@ -1,9 +1,8 @@
-use Rattle.std.proofs.Common.{◌≡◌, ℕ, List, Some, sym, ap, subst, ◌∙◌}
+use Rattle.std.proofs.Common.{ℕ, List, sym, ap, subst, ◌∙◌}
 use Rattle.std.proofs.lemmas.Result.{on_ok_weaker}
 use Rattle.exb_model.specs.ETags.{Tag, TagFits, tagged}
 use Rattle.exb_model.specs.Tree.{on, trunk}
 use Rattle.exb_changes.specs.Fabrics.{held_in}
-use Rattle.exb_extender.specs.Forwarding.{channel_tag}
 use Rattle.exb_machine.specs.Controls.{channel_at_trunk}
 use Rattle.exb_machine.specs.Extending.{hung_on}
 use Rattle.exb_machine.specs.Hearing.{puts}

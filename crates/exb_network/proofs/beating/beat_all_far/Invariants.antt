@@ -1,7 +1,11 @@
+use Rattle.std.proofs.Common.{◌-◌, ◌<◌, ◌≤◌}
 use Rattle.exb_network.specs.Worlds.{world_in}
 use Rattle.exb_network.proofs.Beats.{FarLeft}
 use Rattle.exb_network.proofs.beating.beat_all_far.Given as goal
 
 -- those that are left lead to the whole
-abbrev pub invariant-loop-number : goal.invariant-loop-number
-invariant-loop-number l = FarLeft l.site.tree l.site (world_in l.fn.core) l.fn.log l.number l.core l.log
+abbrev pub invariant-numbers : goal.invariant-numbers
+invariant-numbers l = (0 < l.from) × (l.from ≤ 65) × FarLeft l.site.tree l.site (world_in l.fn.core) l.fn.log l.from l.core l.log
+
+abbrev pub decreases-numbers : goal.decreases-numbers
+decreases-numbers l = 65 - l.from

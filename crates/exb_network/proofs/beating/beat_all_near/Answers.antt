@@ -1,15 +1,28 @@
 use Rattle.std.proofs.Common.{arith}
 use Rattle.exb_network.specs.Worlds.{world_in}
-use Rattle.exb_network.proofs.Beats.{near_first, near_next, near_last}
+use Rattle.exb_network.proofs.Beats.{near_first, near_last, near_next, near_skip}
 use Rattle.exb_network.proofs.beating.beat_all_near.Goals as goal
 
-pub loop-number-init : goal.loop-number-init
-loop-number-init c = near_first c.args.site.now.tree c.args.site.now c.args.core.now c.requires.at
+pub numbers-init : goal.numbers-init
+numbers-init c = (omega arith, omega arith, near_first c.args.site.now.tree c.args.site.now c.args.core.now c.requires.at)
 
-pub loop-number-preserved : goal.loop-number-preserved
-loop-number-preserved c =
-    near_next c.args.site.now.tree c.args.site.now (world_in c.args.core.now) c.loop-number.number c.loop-number.core c.beat_near_any.new.core (omega arith) (omega arith) c.loop-number.invariant
-    c.in_ok-beat_near_any.ensures
+pub numbers-preserved : goal.numbers-preserved
+numbers-preserved c =
+    let s = c.args.site.now in
+    let n = c.in-Some.number in
+    let w = world_in c.args.core.now in
+    let inv = c.numbers.invariant in
+    let low = c.in-Some.ensures.found.low in
+    let start = c.in-Some.ensures.found.start in (
+      omega arith,
+      omega (arith, low),
+      near_next s.tree s w n c.numbers.core c.beat_near_any.new.core (omega (arith, start, inv.0)) low
+          (near_skip s.tree s w c.numbers.from n c.numbers.core inv.0 start (omega (arith, low)) c.in-Some.ensures.found.before inv.2) c.in_ok-beat_near_any.ensures,
+    )
 
 pub returns : goal.returns
-returns c = near_last c.args.site.now.tree c.args.site.now (world_in c.args.core.now) c.loop-number.number c.loop-number.core (omega arith) c.loop-number.invariant
+returns c =
+    let s = c.args.site.now in
+    let w = world_in c.args.core.now in
+    let inv = c.numbers.invariant in
+    near_last s.tree s w 65 c.numbers.core (omega arith) (near_skip s.tree s w c.numbers.from 65 c.numbers.core inv.0 inv.1 (omega arith) (λ k start before. c.in_default.ensures.none k start) inv.2)

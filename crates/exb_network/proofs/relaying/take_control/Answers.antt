@@ -1,4 +1,4 @@
-use Rattle.std.proofs.Common.{ℕ, ◌-◌, ap, sym, subst, ◌∙◌}
+use Rattle.std.proofs.Common.{◌-◌, ap, sym, subst, ◌∙◌}
 use Rattle.exb_model.specs.Tree.{Shape, IsTree}
 use Rattle.exb_model.proofs.TreeHung.{hung_cascade}
 use Rattle.exb_machine.specs.Extending.{hung_on}

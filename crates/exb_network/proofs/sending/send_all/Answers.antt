@@ -1,10 +1,4 @@
-use Rattle.std.proofs.Common.{List, map, subst}
 use Rattle.std.proofs.lemmas.Result.{on_ok_weaker}
-use Rattle.exb_extender.specs.declared.sends.Out.{Out}
-use Rattle.exb_extender.specs.Sending.{out_sent, own_sent}
-use Rattle.exb_machine.specs.Effects.{each}
-use Rattle.exb_machine.specs.Extending.{sends}
-use Rattle.exb_network.specs.Worlds.{world_in, Does}
 use Rattle.exb_network.proofs.Sendings.{all_sent}
 use Rattle.exb_network.proofs.sending.send_all.Goals as goal
 

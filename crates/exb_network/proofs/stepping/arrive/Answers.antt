@@ -1,4 +1,4 @@
-use Rattle.std.proofs.Common.{◌≡◌, ℕ, ◌<◌, ◌≤◌, arith}
+use Rattle.std.proofs.Common.{◌<◌, ◌≤◌, arith}
 use Rattle.std.proofs.lemmas.Result.{on_ok_weaker}
 use Rattle.exb_network.specs.Arrivals.{arrival_of}
 use Rattle.exb_network.proofs.Stepped.{arrives_below, arrives_deeper, external_at, next_is}

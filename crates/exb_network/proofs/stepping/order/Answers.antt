@@ -1,4 +1,4 @@
-use Rattle.std.proofs.Common.{refl, sym, subst, ◌∙◌}
+use Rattle.std.proofs.Common.{refl, sym, subst}
 use Rattle.std.proofs.lemmas.Result.{on_ok_weaker}
 use Rattle.exb_model.specs.Setup.{NamesExternal}
 use Rattle.exb_model.specs.Tree.{Shape}

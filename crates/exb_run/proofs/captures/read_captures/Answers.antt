@@ -1,5 +1,8 @@
-use Rattle.std.proofs.Common.{rules, ◌≡◌, ◌+◌, ◌++◌, ◌∷◌, [], ◌∙◌, inl, inr, ℕ, List, Some, None, true, length, sum_by, ap, sym, arith, below_more, refl}
-use Rattle.std.specs.Prelude.{IsOk}
+use Rattle.std.proofs.Common.{rules, ◌≡◌, ◌+◌, ◌++◌, ◌∷◌, [], ◌∙◌, inl, inr, ℕ, List, Some, None, filter, map, length, sum_by, ap, sym, arith, add-one, below_more, refl}
+use Rattle.std.specs.Prelude.{IsOk, is_some}
+use Rattle.std.proofs.lemmas.List.{map-append}
+use Rattle.exb_model.specs.Ports.{below}
+use Rattle.exb_run.proofs.Places.{passed_none, passed_here, passed_not}
 use Rattle.std.proofs.lemmas.List.Sums.{sum_by_push}
 use Rattle.std.proofs.lemmas.Result.{err_from_is_err_and}
 use Rattle.exb_pcap.specs.Captures.{pcap_records}
@@ -7,7 +10,7 @@ use Rattle.exb_run.specs.declared.captures.Capture.{Capture}
 use Rattle.exb_run.specs.Inputs.{name_of, is_named}
 use Rattle.exb_run.specs.Flaws.{flaw_of, flaw_of_bytes, size_below}
 use Rattle.exb_shelf.proofs.IdLemmas.{opens_none, opens_weaker, opens_then}
-use Rattle.exb_run.proofs.FlawLemmas.{IsGood, no_flaw, flaw_nowhere, size_nowhere, flaw_here, size_here, bytes_here, contents_none, contents_same, contents_more, is_named_by, all_more}
+use Rattle.exb_run.proofs.FlawLemmas.{IsGood, no_flaw, flaw_nowhere, size_nowhere, flaw_here, size_here, bytes_here, contents_none, contents_same, contents_more, all_more}
 use Rattle.exb_run.proofs.captures.read_captures.Goals as goal
 
 pub reading-init : goal.reading-init
@@ -18,7 +21,7 @@ reading-init g c =
       good = λ t q low. absurd (omega arith);
       total = λ t. refl;
       room = omega arith;
-      named = search (rules, empty);
+      ports = ap (map (λ (x : Capture). x.port)) empty ∙ sym (passed_none (is_named c.args.names.now));
       whole = search (rules, empty);
       all = search (rules, empty);
       opened = opens_none _ _;
@@ -39,7 +42,7 @@ reading-preserved-in_default g c =
       good = λ t. below_more _ _ (inv.good t) (flaw_nowhere names f (S.file c.reading.shelf) inv.files p none);
       total = λ t. size_nowhere names f (S.file c.reading.shelf) inv.files p c.reading.size none (inv.total t);
       room = inv.room;
-      named = inv.named;
+      ports = inv.ports ∙ sym (ap (λ k. filter (is_named names) (below k)) (add-one p) ∙ passed_not (is_named names) p (ap is_some none));
       whole = inv.whole;
       all = inv.all;
       opened = inv.opened;
@@ -97,7 +100,10 @@ reading-preserved g c =
           (ap (λ o. flaw_of p name o c.reading.size) (c.in_ok-capture.ensures.there t) ∙ good));
       total = λ t. ap (λ (n : ℕ). c.reading.size + n) more ∙ total t;
       room = search (arith, fine.room, more);
-      named = all_more (λ (x : Capture). is_named names x.port ≡ true) _ _ capture pushed inv.named (is_named_by names capture.port name (ap (name_of names) port ∙ named));
+      ports =
+          ap (map (λ (x : Capture). x.port)) pushed ∙ map-append (λ (x : Capture). x.port) c.reading.captures.items (capture ∷ [])
+          ∙ ap (λ (qs : List ℕ). qs ++ capture.port ∷ []) inv.ports ∙ ap (λ (q : ℕ). filter (is_named names) (below p) ++ q ∷ []) port
+          ∙ sym (ap (λ k. filter (is_named names) (below k)) (add-one p) ∙ passed_here (is_named names) p (ap is_some named));
       whole = all_more (λ (x : Capture). IsOk (pcap_records x.file.items)) _ _ capture pushed inv.whole fine.whole;
       all = ap (λ (xs : List Capture). sum_by (λ x. length x.file.items) xs) pushed ∙ sum_by_push (λ x. length x.file.items) c.reading.captures.items capture
           ∙ ap (λ (n : ℕ). n + length bytes) inv.all ∙ ap (λ (n : ℕ). c.reading.size + n) (sym more);

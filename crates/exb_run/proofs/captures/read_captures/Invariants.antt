@@ -1,4 +1,4 @@
-use Rattle.std.proofs.Common.{◌≡◌, ◌<◌, ◌≤◌, ℕ, None, true, sum_by, length}
+use Rattle.std.proofs.Common.{◌≡◌, ◌<◌, ◌≤◌, ℕ, None, filter, map, sum_by, length}
 use Rattle.std.specs.Prelude.{All, IsOk}
 use Rattle.exb_model.specs.Ports.{below}
 use Rattle.exb_pcap.specs.Captures.{pcap_records}
@@ -18,7 +18,7 @@ invariant-reading g l =
       good : S.tells → (q : ℕ) → q < l.number → flaw_at l.names (S.file l.fn.shelf) q ≡ None;
       total : S.tells → l.size ≡ size_below l.names (S.file l.fn.shelf) l.number;
       room : l.size ≤ 536_870_912;
-      named : All (λ c. is_named l.names c.port ≡ true) l.captures.items;
+      ports : map (λ c. c.port) l.captures.items ≡ filter (is_named l.names) (below l.number);
       whole : All (λ c. IsOk (pcap_records c.file.items)) l.captures.items;
       all : sum_by (λ c. length c.file.items) l.captures.items ≡ l.size;
       opened : Opens (ReadsCapture l.names) (S.ids l.fn.shelf) (S.ids l.shelf);

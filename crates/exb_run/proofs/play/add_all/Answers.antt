@@ -4,9 +4,9 @@ use Rattle.exb_merge.specs.Streams.{Stream, stream_of}
 use Rattle.exb_pcap.specs.Captures.{pcap_records}
 use Rattle.exb_run.specs.declared.captures.Capture.{Capture}
 use Rattle.exb_run.specs.Inputs.{records_or_none}
-use Rattle.exb_run.specs.Playing.{stream_in}
+use Rattle.exb_run.specs.Reading.{stream_in}
 use Rattle.exb_run.proofs.Coming.{added, streams_more, size_more}
-use Rattle.exb_run.proofs.Turned.{when_ok}
+use Rattle.exb_run.proofs.Telling.{when_ok}
 use Rattle.exb_run.proofs.play.add_all.Goals as goal
 
 pub adding-preserved : goal.adding-preserved

@@ -1,6 +1,6 @@
 use Rattle.std.proofs.Common.{◌≡◌, ◌≤◌, length, map, sum_by, take}
 use Rattle.exb_merge.specs.Streams.{to_come}
-use Rattle.exb_run.specs.Playing.{stream_in}
+use Rattle.exb_run.specs.Reading.{stream_in}
 use Rattle.exb_run.proofs.play.add_all.Given as goal
 
 abbrev pub invariant-adding : goal.invariant-adding

@@ -1,41 +1,27 @@
-use Rattle.std.proofs.Common.{◌≡◌, List, true, All, map, refl, ap, sym, subst, ◌∙◌, inl}
+use Rattle.std.proofs.Common.{◌≡◌, List, ap, sym, subst, ◌∙◌, inl}
 use Rattle.std.proofs.lemmas.Result.{err_from_is_err_and}
 use Rattle.std.specs.Prelude.{string_bytes}
 use Rattle.exb_model.specs.Ports.{all_ports}
-use Rattle.exb_model.specs.Input.{Input, merge}
-use Rattle.exb_model.specs.Setup.{shape_of}
-use Rattle.exb_model.specs.Tree.{Shape, is_external}
-use Rattle.exb_merge.specs.Streams.{to_come}
+use Rattle.exb_model.specs.Input.{Input}
 use Rattle.exb_shelf.specs.Files.{Files}
 use Rattle.exb_tables.specs.declared.rows.Named.{Named}
 use Rattle.exb_run.specs.declared.captures.Capture.{Capture}
 use Rattle.exb_run.specs.Inputs.{input_of, captures_of}
 use Rattle.exb_run.specs.Outputs.{HasPlayed, OnlyPlanned}
-use Rattle.exb_run.specs.Playing.{CanBePlayed, stream_in}
 use Rattle.exb_shelf.specs.Shelf.{Opens}
 use Rattle.exb_shelf.proofs.IdLemmas.{opens_weaker}
 use Rattle.exb_run.specs.Flaws.{AreGood}
 use Rattle.exb_run.specs.Opening.{ReadsCapture}
-use Rattle.exb_run.specs.Reading.{contents}
-use Rattle.exb_run.proofs.BuiltLemmas.{is_single}
-use Rattle.exb_run.proofs.Running.{files_same, only_by, played_by, can_be_played, early_by, if_ok_map}
+use Rattle.exb_run.specs.Reading.{AreRead, contents, input_with}
+use Rattle.exb_run.proofs.Running.{files_same, only_by, played_by, early_by, if_ok_map}
 use Rattle.exb_run.proofs.OpenLemmas.{capture_plays, writing_plays, opened_for}
-use Rattle.exb_run.proofs.Taking.{comes_merged}
+use Rattle.exb_run.proofs.Beginning.{input-same}
 use Rattle.exb_run.proofs.top.run_topology.Goals as goal
 
-pub play-requires-clause-of : goal.play-requires-clause-of
-play-requires-clause-of g c = record {
-  single = is_single c.args.topology.now c.requires.valid c.requires.built;
-  tree = c.in_ok-plan.ensures.tree;
-}
-
-pub play-requires-clause-can : goal.play-requires-clause-can
-play-requires-clause-can g c =
-    let t = c.args.topology.now in
-    let own = subst (λ (names : List Named). All (λ x. is_external (shape_of t.setup) x.port ≡ true) names) (sym c.as_slice.ensures) c.requires.external in
-    let all = can_be_played (shape_of t.setup) c.as_slice.result.now c.in_ok-captures.captures.items own c.in_ok-captures.ensures.named c.in_ok-captures.ensures.whole in
-    subst (λ (cs : List Capture). All (λ x. CanBePlayed c.in_ok-plan.plan.tree x) cs) (sym c.as_slice-2.ensures.value)
-    (subst (λ (s : Shape). All (λ x. CanBePlayed s x) c.in_ok-captures.captures.items) (sym c.in_ok-plan.ensures.tree) all)
+pub play-requires-clause-read : goal.play-requires-clause-read
+play-requires-clause-read g c =
+    subst (λ (cs : List Capture). AreRead c.args.topology.now.captures cs) (sym c.as_slice-2.ensures.value)
+    (subst (λ (names : List Named). AreRead names c.in_ok-captures.captures.items) c.as_slice.ensures c.in_ok-captures.ensures.read)
 
 pub returns-clause-done : goal.returns-clause-done
 returns-clause-done g c tells =
@@ -48,13 +34,13 @@ returns-clause-done g c tells =
     let i : Input = input_of t before in
     let there : contents c.in_ok-captures.captures.items ≡ captures_of t.captures before all_ports =
     c.in_ok-captures.ensures.there tells ∙ ap (λ (names : List Named). captures_of names before all_ports) c.as_slice.ensures in
-    let merged : to_come (map stream_in c.as_slice-2.result.now) ≡ merge i =
-    ap (λ (cs : List Capture). to_come (map stream_in cs)) c.as_slice-2.ensures.value
-    ∙ comes_merged t before c.in_ok-captures.captures.items c.requires.built.commands there c.merge_of_chosen.ensures in
+    let same : input_with t c.as_slice-2.result.now ≡ i =
+    ap (input_with t) c.as_slice-2.ensures.value ∙ input-same t before c.in_ok-captures.captures.items c.requires.valid c.requires.sound there in
     if_ok_map c.play.result
     (λ line played.
     played_by i plan t.prefix (c.in_ok-plan.ensures.prefix ∙ c.as_str.ensures) c.in_ok-plan.ensures.tree c.requires.valid.tree before after (string_bytes line)
-    (subst (λ (f : Files). HasPlayed i plan f after (string_bytes line)) (files_same before read c.in_ok-captures.ensures.files) (played i refl merged)))
+    (subst (λ (f : Files). HasPlayed i plan f after (string_bytes line)) (files_same before read c.in_ok-captures.ensures.files)
+    (subst (λ (j : Input). HasPlayed j plan read after (string_bytes line)) same played)))
     (c.play.ensures.done tells)
 
 pub returns-clause-others : goal.returns-clause-others

@@ -1,7 +1,6 @@
-use Rattle.std.proofs.Common.{◌≡◌, [], ap, ◌∙◌}
+use Rattle.std.proofs.Common.{ap, ◌∙◌}
 use Rattle.exb_ecp.specs.Machine.{new_state}
 use Rattle.exb_network.specs.Ends.{near_of}
-use Rattle.exb_network.specs.Directions.{words_of}
 use Rattle.exb_network.proofs.Places.{at_all}
 use Rattle.exb_network.proofs.ends.Ends.new.Goals as goal
 

@@ -2,7 +2,7 @@ use Rattle.std.proofs.Common.{ℕ, [], ◌∷◌, sym, subst, arith, length-appe
 use Rattle.exb_model.specs.Setup.{shape_of}
 use Rattle.exb_network.specs.Devices.{IsPoweredOn}
 use Rattle.std.specs.Prelude.{slice_index}
-use Rattle.exb_network.proofs.Fars.{powered_more, powered_fars, powered_all}
+use Rattle.exb_network.proofs.Fars.{powered_more, powered_fars, powered_all, powered_noted}
 use Rattle.exb_network.proofs.extenders.Extenders.new.Goals as goal
 
 pub at_power_on-requires-clause-ports : goal.at_power_on-requires-clause-ports
@@ -28,3 +28,7 @@ pub returns-clause-there : goal.returns-clause-there
 returns-clause-there c =
     powered_all (shape_of c.args.setup.now) c.port_counts-ports.result c.loop-number.extenders.items c.port_counts-ports.ensures.counts c.loop-number.invariant.powered
     (omega (arith, c.requires.tree.sized, c.loop-number.invariant.length, c.loop-number-test.false))
+
+pub invariant_of-result : goal.invariant_of-result
+invariant_of-result c =
+    powered_noted c.port_counts-ports.result c.loop-number.extenders.items (let end = c.loop-number.auto.number-end in let past = c.loop-number-test.false in omega (arith, c.loop-number.invariant.length, past, end)) c.loop-number.invariant.powered

@@ -1,30 +1,51 @@
+use Rattle.std.proofs.Common.{ap, sym, ◌∙◌}
+use Rattle.exb_extender.specs.Machine.{ExtenderState, Arrives, react}
 use Rattle.exb_extender.specs.Fields.{state_of}
-use Rattle.exb_extender.specs.Machine.{Arrives, react}
-use Rattle.exb_network.proofs.Fars.{not_none, same_found}
+use Rattle.exb_network.proofs.Fars.{far_after, far_found, not_none, noted_after, same_found}
 use Rattle.exb_network.proofs.Sides.{sides_comes, can_go}
 use Rattle.exb_network.proofs.extenders.Extenders.take.Goals as goal
-use Rattle.exb_network.proofs.extenders.Extenders.take.Goals.{in-Some, in_default}
 
-pub returns-clause-given : goal.returns-clause-given
-returns-clause-given c =
+pub invariant_of-self : goal.invariant_of-self
+invariant_of-self c =
+    let d = c.self.inside in
+    noted_after d.ports d.extenders.items c.args.self.now c.args.number _ c.index_mut.result.now c.self.view_is c.requires.there c.index_mut.ensures.value
+    c.take.new.self c.in-Some.extender d.sending c.with_bit-self-inside.result c.idle-busy.result c.in-Some.is c.self.invariant c.with_bit-self-inside.ensures c.idle-busy.ensures.idle
+
+pub returns-in-Some-clause-state : goal.returns-in-Some-clause-state
+returns-in-Some-clause-state c =
+    let d = c.self.inside in
+    far_after d.ports d.extenders.items c.args.self.now c.args.number _ c.index_mut.result.now c.self.view_is c.requires.there c.index_mut.ensures.value
+    c.take.new.self c.in-Some.extender (λ s. (react (Arrives c.args.from c.args.frame.now) s).0) c.in-Some.is c.take.ensures.state
+
+pub returns-in-Some-clause-sends : goal.returns-in-Some-clause-sends
+returns-in-Some-clause-sends c =
+    let d = c.self.inside in
+    let far = far_found d.ports d.extenders.items c.args.self.now c.args.number _ c.index_mut.result.now c.self.view_is c.requires.there c.index_mut.ensures.value c.in-Some.extender c.in-Some.is in
+    c.take.ensures.sends ∙ ap (λ (s : ExtenderState). (react (Arrives c.args.from c.args.frame.now) s).1) (sym far)
+
+pub returns-in-Some-clause-same : goal.returns-in-Some-clause-same
+returns-in-Some-clause-same c =
+    let d = c.self.inside in
+    same_found d.ports d.extenders.items c.args.self.now c.args.number _ c.index_mut.result.now c.self.view_is c.requires.there c.index_mut.ensures.value
+    c.take.new.self c.in-Some.extender c.in-Some.is c.take.ensures.device.ports
+
+pub returns-in_default-clause-state : goal.returns-in_default-clause-state
+returns-in_default-clause-state c =
+    let d = c.self.inside in
+    absurd (not_none d.ports d.extenders.items c.args.self.now c.args.number _ c.index_mut.result.now c.self.view_is c.requires.there c.index_mut.ensures.value c.in_default.is)
+
+pub returns-in_default-clause-sends : goal.returns-in_default-clause-sends
+returns-in_default-clause-sends c =
+    let d = c.self.inside in
+    absurd (not_none d.ports d.extenders.items c.args.self.now c.args.number _ c.index_mut.result.now c.self.view_is c.requires.there c.index_mut.ensures.value c.in_default.is)
+
+pub returns-in_default-clause-given : goal.returns-in_default-clause-given
+returns-in_default-clause-given c =
+    let d = c.self.inside in
+    absurd (not_none d.ports d.extenders.items c.args.self.now c.args.number _ c.index_mut.result.now c.self.view_is c.requires.there c.index_mut.ensures.value c.in_default.is)
+
+pub returns-in-Some-clause-given : goal.returns-in-Some-clause-given
+returns-in-Some-clause-given c =
     let f = c.args.frame.now in
-    let xs = c.self.inside.extenders.items in
-    elim c.match-index_mut.branch [
-      | in-Some w ↦
-          let s = state_of w.in-Some.extender in
-          rw w.sends-is
-          (can_go f w.take.new.sends (react (Arrives c.args.from f) s).1 w.take.ensures.sends (sides_comes c.args.from f s w.has_few_ports.ensures) w.take.ensures.given)
-      | in_default w ↦ absurd (not_none c.self.inside.ports xs c.args.self.now c.args.number _ c.index_mut.result.now c.self.view_is c.requires.there c.index_mut.ensures.value w.in_default.is)
-    ]
-
-pub returns-clause-same : goal.returns-clause-same
-returns-clause-same c =
-    let ports = c.self.inside.ports in
-    let xs = c.self.inside.extenders.items in
-    elim c.match-index_mut.branch [
-      | in-Some w ↦
-          rw w.self-inside-is
-          (same_found ports xs c.args.self.now c.args.number _ c.index_mut.result.now c.self.view_is c.requires.there c.index_mut.ensures.value
-          w.take.new.self w.in-Some.extender w.in-Some.is w.take.ensures.device.ports)
-      | in_default w ↦ absurd (not_none ports xs c.args.self.now c.args.number _ c.index_mut.result.now c.self.view_is c.requires.there c.index_mut.ensures.value w.in_default.is)
-    ]
+    let s = state_of c.in-Some.extender in
+    can_go f c.take.new.sends (react (Arrives c.args.from f) s).1 c.take.ensures.sends (sides_comes c.args.from f s c.has_few_ports.ensures) c.take.ensures.given

@@ -1,6 +1,5 @@
 use Rattle.std.proofs.Common.{refl, subst}
-use Rattle.exb_machine.specs.Allowing.{Can}
-use Rattle.exb_network.specs.Networks.{Network, IsStepped, network_of, step_of, tree_of, world_of}
+use Rattle.exb_network.specs.Networks.{Network, IsStepped, network_of, step_of}
 use Rattle.exb_network.proofs.Kept.{stepped_is}
 use Rattle.exb_network.proofs.world.World.go.Goals as goal
 

@@ -1,0 +1,46 @@
+-- The history in which each segment is played at once is one that the input allows.
+use Rattle.std.proofs.Common.{◌≡◌, ℕ, List, refl, sym, ap, subst, ◌∙◌}
+use Rattle.std.specs.Prelude.{map, reverse}
+use Rattle.exb_model.specs.History.{Basis, History, ◌then◌}
+use Rattle.exb_model.specs.Tree.{Shape}
+use Rattle.exb_model.specs.Setup.{Limits}
+use Rattle.exb_model.specs.Input.{Segment, Seeded, basis_of, tree_of, bounds_of, arrivals_at, segments}
+use Rattle.exb_model.specs.EagerHistory.{opening, eagerly, eager}
+use Rattle.exb_model.specs.LegalHistory.{IsDecided, IsEntered, Rise, PlaysCommands, PlaysArrivals, PlaysTick, settled_each}
+use Rattle.exb_flat_laws.specs.Playing.{played_at_once, PlayedAtOnceIsLegal, PlayedAtOnceIsEager, SeededIsPossible}
+use Rattle.exb_flat_laws.proofs.Plays.{plays, segments-then}
+use Rattle.exb_flat_laws.proofs.PlayRules.{plays-pairwise, plays-of_segments, play-commands, play-arrivals, play-tick, each-unit}
+use Rattle.exb_flat_laws.proofs.EachEvents.{each-opening, each-eagerly, decides, enters, IsNumbered}
+use Rattle.exb_flat_laws.proofs.PortOrder.{indices, indices-eager, in_order, at_port}
+use Rattle.exb_flat_laws.proofs.Comings.{segments-arrivals, segments-numbered, merged-rise}
+
+pub at_once_is_legal : PlayedAtOnceIsLegal
+unfolding played_at_once
+at_once_is_legal m i =
+    let t : Shape = tree_of i in
+    let l : Limits = bounds_of i in
+    let b : Basis = basis_of i in
+    let h : History = opening t l b in
+    let ss : List Segment = segments m i in
+    let is : eagerly t l b h ss ≡ (h then settled_each (plays t l b h ss)) = segments-then t l b h ss in
+    record {
+      plays = plays t l b h ss;
+      segments_in_order = is;
+      of_segments = plays-of_segments t l b h ss;
+      commands_in_order = plays-pairwise t l b PlaysCommands (play-commands t l b) h ss;
+      refused_exactly = each-eagerly (IsDecided t l b) (λ a. Unit {0}) t l b (decides t l b) h ss (each-unit ss) (each-opening (IsDecided t l b) (λ a. Unit {0}) t l b (decides t l b));
+      arrivals_once = plays-pairwise t l b PlaysArrivals (play-arrivals t l b) h ss;
+      ports_in_order = λ p. in_order t (reverse (eagerly t l b h ss)) p
+          (let P : List ℕ → Type 0 = Rise 0 in
+          subst P (sym (ap (λ g. indices p (reverse g)) is ∙ indices-eager p t l b ss ∙ ap (λ arrived. map (λ a. a.index) (at_port p arrived)) (segments-arrivals m i))) (merged-rise i p));
+      relayed_exactly = each-eagerly (IsEntered b (arrivals_at i)) (IsNumbered (arrivals_at i)) t l b (enters (arrivals_at i) t l b) h ss (segments-numbered m i)
+          (each-opening (IsEntered b (arrivals_at i)) (IsNumbered (arrivals_at i)) t l b (enters (arrivals_at i) t l b));
+      ticks = plays-pairwise t l b PlaysTick (play-tick t l b) h ss;
+    }
+
+pub at_once_is_eager : PlayedAtOnceIsEager
+unfolding played_at_once eager
+at_once_is_eager i = refl
+
+pub seeded_is_possible : SeededIsPossible
+seeded_is_possible i = (played_at_once Seeded i, at_once_is_legal Seeded i)

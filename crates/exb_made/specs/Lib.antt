@@ -1,0 +1,5 @@
+pub mod Draws
+pub mod Site
+pub mod Drawing
+pub mod Made
+pub mod Pieces

@@ -1,0 +1,4 @@
+pub mod Fullest
+pub mod Opening
+pub mod Seen
+pub mod Lawful

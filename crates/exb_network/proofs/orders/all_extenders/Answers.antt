@@ -1,0 +1,11 @@
+use Rattle.std.proofs.Common.{arith, inl, inr}
+use Rattle.std.proofs.lemmas.Bool.{cases_lt}
+use Rattle.exb_network.proofs.Deepest.{extender_past}
+use Rattle.exb_network.proofs.orders.all_extenders.Goals as goal
+
+pub returns : goal.returns
+returns c = λ n.
+    elim (cases_lt n c.loop-number.number) [
+      | inl l ↦ c.loop-number.invariant.low n l
+      | inr g ↦ rw (extender_past c.args.tree.now c.is_tree.ensures n (let end = c.loop-number-test.false in omega (arith, g, end))) (c.loop-number.invariant.high n g)
+    ]

@@ -1,0 +1,108 @@
+-- How what a network does is put together.
+use Rattle.std.proofs.Common.{◌≡◌, ◌++◌, List, [], append_assoc, append-nil, refl, ap, sym, ◌∙◌, subst, ◌∷◌}
+use Rattle.exb_model.specs.declared.event.Event.{Event}
+use Rattle.exb_model.specs.Setup.{Limits}
+use Rattle.exb_model.specs.Tree.{Shape}
+use Rattle.exb_machine.specs.Settling.{nothing, followed_by, run}
+use Rattle.exb_machine.specs.Stepping.{Stepped, stepped}
+use Rattle.exb_machine.specs.Worlds.{World, Step, Left}
+use Rattle.exb_machine_laws.specs.Laws.{IsMove}
+use Rattle.exb_machine_laws.proofs.Rounds.{run_then}
+use Rattle.exb_machine_laws.proofs.Words.{each_append}
+use Rattle.exb_network.specs.Networks.{Network, world_of, tree_of, bounds_of, IsSame, IsStepped}
+use Rattle.exb_network.specs.Sites.{Site, limits_in}
+use Rattle.exb_network.specs.Worlds.{all_left}
+use Rattle.exb_resting.specs.Settles.{MayTake, MayTakeAll}
+use Rattle.exb_schedule.specs.Moves.{IsMoved, HasRun, HasGone}
+use Rattle.exb_schedule.specs.Rounds.{Leads}
+use Rattle.exb_schedule.proofs.Runs.{then_nothing, then_then, one_step, take_then}
+
+-- ---- memory and what never changes stay
+pub same_then : (a b c : Network) → IsSame a b → IsSame b c → IsSame a c
+same_then a b c x y = record { site = y.site ∙ x.site; failed = y.failed ∙ x.failed }
+
+-- ---- what was done
+moved_nothing : (n : Network) → IsMoved (nothing (world_of n)) n n
+moved_nothing n =
+    record {
+      world = refl;
+      events = sym (append-nil n.log.events);
+      passed = sym (append-nil n.log.passed);
+      left = sym (append-nil (all_left n.log.left));
+      same = record { site = refl; failed = refl };
+    }
+
+pub moved_then : (a b : Stepped) (old mid new : Network) → IsMoved a old mid → IsMoved b mid new → IsMoved (followed_by a b) old new
+moved_then a b old mid new x y =
+    record {
+      world = y.world;
+      events = y.events ∙ (ap (λ (es : List Event). es ++ b.events) x.events ∙ append_assoc old.log.events a.events b.events);
+      passed = y.passed ∙ (ap (λ (es : List _). es ++ b.passed) x.passed ∙ append_assoc old.log.passed a.passed b.passed);
+      left = y.left ∙ (ap (λ (es : List Left). es ++ b.left) x.left ∙ append_assoc (all_left old.log.left) a.left b.left);
+      same = same_then old mid new x.same y.same;
+    }
+
+-- ---- steps
+pub run_nothing : (n : Network) → HasRun [] n n
+unfolding run
+run_nothing n = record { may = tt; moved = moved_nothing n }
+
+pub run_step : (step : Step) (old new : Network) → IsStepped step old new → MayTake (tree_of old) (world_of old) step → HasRun (step ∷ []) old new
+run_step step old new x may =
+    record {
+      may = (may, tt);
+      moved = subst (λ (z : Stepped). IsMoved z old new) (sym (one_step (tree_of old) (bounds_of old) step (world_of old)))
+          (record { world = x.world; events = x.events; passed = x.passed; left = x.left; same = x.same });
+    }
+
+pub run_steps : (xs ys : List Step) (old mid new : Network) → HasRun xs old mid → HasRun ys mid new → HasRun (xs ++ ys) old new
+run_steps xs ys old mid new x y =
+    let t : Shape = tree_of old in
+    let l : Limits = bounds_of old in
+    let P : Site → Type 0 = λ s. MayTakeAll s.tree (limits_in s) (world_of mid) ys in
+    let Q : Site → Type 0 = λ s. IsMoved (run s.tree (limits_in s) ys (world_of mid)) mid new in
+    let may : MayTakeAll t l (world_of mid) ys = subst P x.moved.same.site y.may in
+    let moved : IsMoved (run t l ys (world_of mid)) mid new = subst Q x.moved.same.site y.moved in
+    let ahead : IsMoved (run t l ys (run t l xs (world_of old)).world) mid new = subst (λ (w : World). IsMoved (run t l ys w) mid new) x.moved.world moved in
+    record {
+      may = take_then t l xs ys (world_of old) x.may (subst (λ (w : World). MayTakeAll t l w ys) x.moved.world may);
+      moved = subst (λ (z : Stepped). IsMoved z old new) (sym (run_then t l xs ys (world_of old)))
+          (moved_then (run t l xs (world_of old)) (run t l ys (run t l xs (world_of old)).world) old mid new x.moved ahead);
+    }
+
+-- ---- moves alone
+gone_nothing : (n : Network) → HasGone (nothing (world_of n)) n n
+unfolding run
+gone_nothing n = record { steps = []; moves = tt; is = refl; made = run_nothing n }
+
+pub gone_step : (step : Step) (old new : Network) → IsMove step → HasRun (step ∷ []) old new → HasGone (stepped (tree_of old) (bounds_of old) step (world_of old)) old new
+gone_step step old new move made = record { steps = step ∷ []; moves = (move, tt); is = sym (one_step (tree_of old) (bounds_of old) step (world_of old)); made = made }
+
+pub gone_then : (a b : Stepped) (old mid new : Network) → HasGone a old mid → HasGone b mid new → HasGone (followed_by a b) old new
+gone_then a b old mid new x y =
+    let t : Shape = tree_of old in
+    let l : Limits = bounds_of old in
+    let P : Site → Type 0 = λ s. b ≡ run s.tree (limits_in s) y.steps (world_of mid) in
+    let is : b ≡ run t l y.steps (world_of mid) = subst P x.made.moved.same.site y.is in
+    let ahead : b ≡ run t l y.steps (run t l x.steps (world_of old)).world = is ∙ ap (run t l y.steps) x.made.moved.world in
+    record {
+      steps = x.steps ++ y.steps;
+      moves = each_append IsMove x.steps y.steps x.moves y.moves;
+      is = ap (λ (z : Stepped). followed_by z b) x.is ∙ (ap (followed_by (run t l x.steps (world_of old))) ahead ∙ sym (run_then t l x.steps y.steps (world_of old)));
+      made = run_steps x.steps y.steps old mid new x.made y.made;
+    }
+
+pub gone_world : (done : Stepped) (old new : Network) → HasGone done old new → world_of new ≡ done.world
+gone_world done old new x = x.made.moved.world ∙ ap (λ (z : Stepped). z.world) (sym x.is)
+
+-- ---- what is still to be done
+pub leads_begin : (whole : Stepped) (n : Network) → Leads whole whole n n
+leads_begin whole n = record { done = nothing (world_of n); gone = gone_nothing n; is = refl }
+
+pub leads_on : (whole a b : Stepped) (old now new : Network) → Leads whole (followed_by a b) old now → HasGone a now new → Leads whole b old new
+leads_on whole a b old now new x y = record { done = followed_by x.done a; gone = gone_then x.done a old now new x.gone y; is = x.is ∙ sym (then_then x.done a b) }
+
+pub leads_end : (whole : Stepped) (old now : Network) → Leads whole (nothing (world_of now)) old now → HasGone whole old now
+leads_end whole old now x =
+    let end : followed_by x.done (nothing (world_of now)) ≡ x.done = ap (λ (w : World). followed_by x.done (nothing w)) (gone_world x.done old now x.gone) ∙ then_nothing x.done in
+    subst (λ (z : Stepped). HasGone z old now) (sym (x.is ∙ end)) x.gone

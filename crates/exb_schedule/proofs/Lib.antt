@@ -1,0 +1,12 @@
+mod Runs
+mod Rounds
+mod RoundsLeft
+mod Playing
+mod Leading
+mod Passing
+mod Giving
+mod Resting
+mod Segments
+mod Reaching
+mod Going
+mod Played

@@ -1,0 +1,30 @@
+-- What runs do, said of a network.
+use Rattle.std.proofs.Common.{◌≡◌, ◌∙◌, ap, sym, subst, List, []}
+use Rattle.std.specs.Prelude.{All}
+use Rattle.exb_model.specs.declared.event.Event.{Event}
+use Rattle.exb_model.specs.EagerHistory.{eager}
+use Rattle.exb_model.specs.FlatBridge.{flat}
+use Rattle.exb_model.specs.History.{◌then◌}
+use Rattle.exb_model.specs.Input.{Eager, basis_of}
+use Rattle.exb_machine.specs.Worlds.{World, Left}
+use Rattle.exb_standing.specs.Showing.{left_at}
+use Rattle.exb_resting.specs.Playing.{IsCopyOfAny, IsUnderWay, HasWritten, RunsAreUnderWay, RunsWriteEagerly, arrivals_in}
+use Rattle.exb_schedule.specs.Laws.{PlayedIsUnderWay, PlayedWritesEagerly}
+
+pub played_is_under_way : RunsAreUnderWay → PlayedIsUnderWay
+played_is_under_way law i so_far n events left k =
+    let u : IsUnderWay i so_far k.done = law Eager i so_far k.done k.plays in
+    record {
+      next = λ p. ap (λ (w : World). w.next p) k.world ∙ u.next p;
+      commands = ap (λ (w : World). w.control.given) k.world ∙ u.commands;
+      clock = ap (λ (w : World). w.table.clock) k.world ∙ u.clock;
+      copies = subst (λ (xs : List Left). All (IsCopyOfAny i (arrivals_in so_far)) xs) (sym k.gone) u.copies;
+    }
+
+pub played_writes_eagerly : RunsWriteEagerly → PlayedWritesEagerly
+played_writes_eagerly law i n events left timely k =
+    let w : HasWritten i k.done = law i k.done timely k.plays in
+    record {
+      journal = subst (λ (es : List Event). ([] then es) ≡ eager i) (sym k.told) w.journal;
+      captures = λ q there. subst (λ (xs : List Left). left_at q xs ≡ flat (basis_of i) (eager i) q) (sym k.gone) (w.captures q there);
+    }

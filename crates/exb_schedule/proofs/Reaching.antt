@@ -1,0 +1,66 @@
+-- What a run from a valid setup reaches.
+use Rattle.std.proofs.Common.{◌≡◌, ◌↔◌, ◌++◌, Bool, true, false, inl, inr, [], ◌∷◌, Result, Ok, Err, ap, sym, ◌∙◌, subst}
+use Rattle.std.specs.Prelude.{All, OnOk, OnErr, is_err}
+use Rattle.std.proofs.lemmas.Bool.{cases_Bool, false≢true}
+use Rattle.exb_model.specs.declared.setup.Setup.{Setup}
+use Rattle.exb_model.specs.Setup.{Limits, IsValid, shape_of, limits_of, start_of}
+use Rattle.exb_model.specs.Tree.{Shape}
+use Rattle.exb_machine.specs.Allowing.{Can}
+use Rattle.exb_machine.specs.Settling.{run}
+use Rattle.exb_machine.specs.Stepping.{Stepped, stepped}
+use Rattle.exb_machine.specs.Worlds.{World, Step, first_world}
+use Rattle.exb_machine_laws.specs.Laws.{HasBytes}
+use Rattle.exb_machine_laws.proofs.Rounds.{run_then}
+use Rattle.exb_motion.specs.Kept.{HasVid, HasVidIn}
+use Rattle.exb_network.specs.declared.step.Step.{Step as Made}
+use Rattle.exb_network.specs.declared.world.WorldFault.{WorldFault}
+use Rattle.exb_network.specs.declared.world.WorldFault.TheVariants as fault
+use Rattle.exb_network.specs.Networks.{Network, world_of, tree_of, bounds_of, step_of, IsStepped}
+use Rattle.exb_network.specs.Sites.{Site, limits_in}
+use Rattle.exb_resting.specs.Settles.{MayTake, beginning, reached_by}
+use Rattle.exb_schedule.specs.Reached.{Reached, IsKept}
+use Rattle.exb_schedule.proofs.Runs.{one_step, take_then}
+
+pub kept_first : (s : Setup) (n : Network) → IsValid s → All HasVid s.start → world_of n ≡ first_world (shape_of s) (limits_of s) (start_of s) s.ageing → tree_of n ≡ shape_of s → bounds_of n ≡ limits_of s →
+    n.failed ≡ false → IsKept n false
+unfolding run
+kept_first s n valid vids world tree limits awake =
+    record { flag = awake; reached = λ e. record { setup = s; steps = []; valid = valid; vids = vids; tree = tree; limits = limits; may = tt; world = world } }
+
+-- one step more
+reached_step : (step : Step) (n m : Network) → Reached n → MayTake (tree_of n) (world_of n) step → IsStepped step n m → Reached m
+reached_step step n m k may made =
+    let t : Shape = shape_of k.setup in
+    let l : Limits = limits_of k.setup in
+    let v : World = reached_by k.setup k.steps in
+    let P : Shape → Limits → World → Type 0 = λ a b w. MayTake a w step × (world_of m ≡ (stepped a b step w).world) in
+    let here : P (tree_of n) (bounds_of n) (world_of n) = (may, made.world) in
+    let there : P t l v = subst (P t l) k.world (subst (λ (b : Limits). P t b (world_of n)) k.limits (subst (λ (a : Shape). P a (bounds_of n) (world_of n)) k.tree here)) in
+    record {
+      setup = k.setup;
+      steps = k.steps ++ step ∷ [];
+      valid = k.valid;
+      vids = k.vids;
+      tree = ap (λ (s : Site). s.tree) made.same.site ∙ k.tree;
+      limits = ap limits_in made.same.site ∙ k.limits;
+      may = take_then t l k.steps (step ∷ []) (beginning k.setup) k.may (there.0, tt);
+      world = there.1 ∙ (ap (λ (z : Stepped). z.world) (sym (one_step t l step v)) ∙ ap (λ (z : Stepped). z.world) (sym (run_then t l k.steps (step ∷ []) (beginning k.setup))));
+    }
+
+-- what didn't fail so had memory
+pub ok_awake : (n : Network) (x : Unit {0}) → (Ok x ≡ Err fault.Failed) ↔ (n.failed ≡ true) → n.failed ≡ false
+ok_awake n x fails = elim (cases_Bool n.failed) [ inl e ↦ absurd (false≢true (ap is_err (fails.1 e))) | inr e ↦ e ]
+
+-- a step of the network, or an error
+kept_step : (step : Step) (n m : Network) (failed : Bool) (r : Result (Unit {0}) WorldFault) → IsKept n failed → Can (tree_of n) (world_of n) step → HasBytes step → HasVidIn step →
+    OnOk r (IsStepped step n m) → (r ≡ Err fault.Failed) ↔ (n.failed ≡ true) → OnErr r (m.failed ≡ true) → IsKept m (is_err r)
+kept_step step n m failed (Ok x) k can bytes vid ok fails memory =
+    let awake : n.failed ≡ false = ok_awake n x fails in
+    record { flag = ok.same.failed ∙ awake; reached = λ e. reached_step step n m (k.reached awake) (record { can = can; has = bytes; vid = vid }) ok }
+kept_step step n m failed (Err x) k can bytes vid ok fails memory = record { flag = memory; reached = λ e. absurd (false≢true (sym e ∙ memory)) }
+
+pub kept_made : (given made : Made) (a n m : Network) (failed : Bool) (r : Result (Unit {0}) WorldFault) → given ≡ made → n ≡ a → IsKept n failed → Can (tree_of a) (world_of a) (step_of given) →
+    HasBytes (step_of made) → HasVidIn (step_of made) → OnOk r (IsStepped (step_of made) n m) → (r ≡ Err fault.Failed) ↔ (n.failed ≡ true) → OnErr r (m.failed ≡ true) → IsKept m (is_err r)
+kept_made given made a n m failed r is here k can bytes vid ok fails memory =
+    kept_step (step_of made) n m failed r k
+    (subst (λ (x : Made). Can (tree_of n) (world_of n) (step_of x)) is (subst (λ (b : Network). Can (tree_of b) (world_of b) (step_of given)) (sym here) can)) bytes vid ok fails memory

@@ -1,0 +1,24 @@
+-- What is true of a network that has played segments of an input.
+use Rattle.std.specs.Prelude.{List, []}
+use Rattle.exb_model.specs.declared.event.Event.{Event}
+use Rattle.exb_model.specs.Input.{Input, Segment, Eager, segments}
+use Rattle.exb_machine.specs.Stepping.{Stepped}
+use Rattle.exb_machine.specs.Worlds.{Left}
+use Rattle.exb_motion.specs.Playing.{IsTimely}
+use Rattle.exb_network.specs.Networks.{Network, world_of}
+use Rattle.exb_resting.specs.Playing.{IsUnderWay, HasWritten}
+use Rattle.exb_schedule.specs.Playing.{HasPlayed}
+
+-- where a network is, what was told and what has left
+abbrev pub shown : Network → List Event → List Left → Stepped
+shown n events left = record { world = world_of n; events = events; passed = []; left = left; lines = [] }
+
+-- The next index of each port, the number of commands and the clock follow what was played, and what has left are copies of its
+-- arrivals.
+abbrev pub PlayedIsUnderWay : Type 0
+PlayedIsUnderWay = (i : Input) (so_far : List Segment) (n : Network) (events : List Event) (left : List Left) → HasPlayed i so_far n events left → IsUnderWay i so_far (shown n events left)
+
+-- Where all segments are played the eager history was told, and what has left each external port is what the one bridge sends there
+-- over it.
+abbrev pub PlayedWritesEagerly : Type 0
+PlayedWritesEagerly = (i : Input) (n : Network) (events : List Event) (left : List Left) → IsTimely i → HasPlayed i (segments Eager i) n events left → HasWritten i (shown n events left)

@@ -1,0 +1,31 @@
+//! What the types of frames and commands bring, as facts for whoever calls these functions. They do nothing.
+ghost use Rattle.std.specs.Prelude.{All};
+ghost use Rattle.exb_csp.specs.Spelling.{IsBytes};
+ghost use Rattle.exb_motion.specs.Kept.{HasVid};
+
+use exb_model::command::Command;
+
+/// The bytes of a frame are bytes.
+pub(crate) fn are_bytes(frame: &[u8])
+    ensures { IsBytes frame.now }
+{
+    let _ = frame;
+}
+
+/// The VLAN that a command names is a VLAN.
+pub(crate) fn names_vlan(command: &Command)
+    ensures { HasVid command.now }
+{
+    if let Command::Pvid { vid, port: _ } = command {
+        let _ = vid.number();
+    }
+}
+
+/// So it is of all commands.
+pub(crate) fn name_vlans(commands: &[Command])
+    ensures { All HasVid commands.now }
+{
+    for command in commands {
+        names_vlan(command);
+    }
+}

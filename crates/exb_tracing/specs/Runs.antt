@@ -1,0 +1,50 @@
+-- The traces of all runs of a valid setup, and of those that play an input.
+use Rattle.std.specs.Prelude.{ℕ, List, [], map, All}
+use Rattle.exb_model.specs.declared.setup.Setup.{Setup}
+use Rattle.exb_model.specs.FlatBridge.{Sent, flat}
+use Rattle.exb_model.specs.History.{History, ◌then◌}
+use Rattle.exb_model.specs.Input.{Input, Record, Mode, basis_of, tree_of, segments}
+use Rattle.exb_model.specs.Setup.{IsValid, shape_of, limits_of}
+use Rattle.exb_machine.specs.Allowing.{IsSettled}
+use Rattle.exb_machine.specs.Settling.{run}
+use Rattle.exb_machine.specs.Stepping.{Stepped}
+use Rattle.exb_machine.specs.Worlds.{Step}
+use Rattle.exb_motion.specs.Kept.{HasVid}
+use Rattle.exb_motion.specs.Playing.{IsTimely}
+use Rattle.exb_resting.specs.Playing.{PlaysIn}
+use Rattle.exb_resting.specs.Settles.{MayTakeAll, beginning}
+use Rattle.exb_tracing.specs.Laws.{given_in}
+use Rattle.exb_tracing.specs.LegalTrace.{LegalTrace}
+use Rattle.exb_tracing.specs.Lines.{all_told}
+use Rattle.exb_tracing.specs.Traced.{Traced, journal_of, captures_of, outputs_of}
+
+-- what these steps do, from the beginning of a setup
+abbrev pub done_by : Setup → List Step → Stepped
+done_by s steps = run (shape_of s) (limits_of s) steps (beginning s)
+
+-- The trace is legal so far, of the journal, of the frames that arrived at each external port and of those that left there; and it
+-- is legal whole where the world is settled.
+pub record TellsLegally (s : Setup) (steps : List Step) : Type 0 where
+  pub traced : Traced (shape_of s) (done_by s steps).world (given_in steps) ([] then (done_by s steps).events) (done_by s steps).left (all_told (done_by s steps).lines)
+  pub whole : IsSettled (shape_of s) (done_by s steps).world →
+      LegalTrace (shape_of s) (journal_of ([] then (done_by s steps).events)) (captures_of (given_in steps)) (outputs_of (done_by s steps).left) (all_told (done_by s steps).lines)
+
+-- So it is over all steps that may be made.
+abbrev pub SetupsTellLegally : Type 0
+SetupsTellLegally = (s : Setup) (steps : List Step) → IsValid s → All HasVid s.start → MayTakeAll (shape_of s) (limits_of s) (beginning s) steps → TellsLegally s steps
+
+-- ---- runs that play an input
+-- the frames of the capture of port p, and those that the one bridge sends at port q
+abbrev pub frames_in : Input → ℕ → List (List ℕ)
+frames_in i p = map (λ (r : Record). r.bytes) (i.records p)
+
+abbrev pub frames_out : Input → History → ℕ → List (List ℕ)
+frames_out i h q = map (λ (x : Sent). x.1) (flat (basis_of i) h q)
+
+-- Where all segments are played the trace is legal whole, of the history that was told, of the captures of the input and of what the
+-- one bridge sends over that history.
+abbrev pub RunsTellLegally : Type 0
+RunsTellLegally =
+    (m : Mode) (i : Input) (done : Stepped) → IsTimely i → PlaysIn m i (segments m i) done →
+    let h = [] then done.events in
+    LegalTrace (tree_of i) (journal_of h) (frames_in i) (frames_out i h) (all_told done.lines)

@@ -1,0 +1,163 @@
+-- The words in other words.
+use Rattle.std.proofs.Common.{◌≡◌, ℕ, ◌+◌, ◌^◌, ◌<◌, ◌≤◌, ◌==◌, ◌&&◌, Bool, true, false, cond, if◌then◌else◌, nat_lt, List, [], ◌∷◌, length, Option, Some, None, option_map, option_and_then, decimal, sum_by, is_some, zero-add, nat_le, refl, sym, ap, ◌∙◌, arith, eq-eqb}
+use Rattle.std.specs.Char.{is_ascii_digit}
+use Rattle.std.specs.Str.{bytes_eq, all_ascii_digits}
+use Rattle.std.specs.Str.Parse.{digits_value}
+use Rattle.std.proofs.lemmas.Bool.{eqb-true, lt-ltb, le-leb, and_parts, false≢true}
+use Rattle.std.proofs.lemmas.Bool.Decides.{nat_tests}
+use Rattle.std.proofs.lemmas.List.Sums.{sum_by-cons}
+use Rattle.std.proofs.lemmas.Slice.Eq.{bytes_eq-Decides}
+use Rattle.std.proofs.lemmas.Str.Parse.{IsNumeralModel, numerals_by_value, tells_all_ascii_digits}
+use Rattle.std.proofs.lemmas.Fmt.{digits_decimal, digits_value-decimal, decimal_nonempty, length-decimal-le}
+use Rattle.exb_words.specs.Words.{Ask, Run, Check, Make, Item, Name, Trace, Seed, if_short, number_in, item_of, items_of, with_item, names_in, traces_in, seeds_in, the_only, at_most_one, run_of, name_alone, check_of, make_of, words_of}
+use Rattle.exb_words.specs.Laws.{SaySame, OrderIsFree, DashesEndOptions, WrittenIsRead}
+
+-- ---- numbers as they are written
+own : IsNumeralModel (λ ds. all_ascii_digits ds ≡ true) (digits_value 10)
+own = numerals_by_value _ tells_all_ascii_digits
+
+number-decimal : (n : ℕ) → n < 2 ^ 64 → number_in (decimal n) ≡ Some n
+unfolding number_in
+number-decimal n h =
+    by_parts (nat_lt 0 (length (decimal n))) (nat_le (length (decimal n)) 20) (all_ascii_digits (decimal n)) (digits_value 10 (decimal n))
+    (lt-ltb 0 (length (decimal n)) (decimal_nonempty n h)) (le-leb (length (decimal n)) 20 (length-decimal-le 20 n (omega arith) (omega arith) h)) (digits_decimal own n h) (digits_value-decimal own n h)
+  where
+    by_parts : (a b c : Bool) (m : ℕ) → a ≡ true → b ≡ true → c ≡ true → m ≡ n → (if a && (b && c) then if_short m else None) ≡ Some n
+    by_parts true true true m ea eb ec e = ap if_short e ∙ ap (λ (x : Bool). if x then Some n else None) (lt-ltb n (2 ^ 64) h)
+    by_parts true true false m ea eb ec e = absurd (false≢true ec)
+    by_parts true false c m ea eb ec e = absurd (false≢true eb)
+    by_parts false b c m ea eb ec e = absurd (false≢true ea)
+
+-- a word that doesn't begin with `-` is a name
+plain_item : (c : ℕ) (cs : List ℕ) → (c == 45) ≡ false → item_of (c ∷ cs) ≡ Some (Name (c ∷ cs))
+unfolding item_of
+plain_item c [] e = rw e refl
+plain_item c (d ∷ cs) e = rw e refl
+
+plain_items : (c : ℕ) (cs : List ℕ) → (c == 45) ≡ false → items_of ((c ∷ cs) ∷ []) ≡ Some (Name (c ∷ cs) ∷ [])
+unfolding items_of
+plain_items c cs e = ap (λ (b : Bool). if b && bytes_eq cs (45 ∷ []) then Some [] else with_item (item_of (c ∷ cs)) (Some [])) e ∙ ap (λ o. with_item o (Some [])) (plain_item c cs e)
+
+digit-first : (ds : List ℕ) → all_ascii_digits ds ≡ true → 0 < length ds → items_of (ds ∷ []) ≡ Some (Name ds ∷ [])
+digit-first [] all some = absurd (omega arith)
+digit-first (c ∷ cs) all some = plain_items c cs (no_dash c (and_parts _ (all_ascii_digits cs) all).0)
+  where
+    no_dash : (c : ℕ) → is_ascii_digit c ≡ true → (c == 45) ≡ false
+    no_dash c h = grind (arith, nat_tests)
+
+pub written_read : WrittenIsRead
+unfolding words_of items_of item_of run_of check_of make_of name_alone names_in traces_in seeds_in
+written_read (Run t false None) short = refl
+written_read (Run t true None) short = refl
+written_read (Run t false (Some n)) short = ap (λ o. option_and_then run_of (with_item (option_map Seed o) (Some (Name t ∷ [])))) (number-decimal n short)
+written_read (Run t true (Some n)) short =
+    ap (λ o. option_and_then run_of (with_item (Some Trace) (with_item (option_map Seed o) (Some (Name t ∷ []))))) (number-decimal n short)
+written_read (Check t) short = refl
+written_read (Make n) short =
+    ap (option_and_then make_of) (digit-first (decimal n) (digits_decimal own n short) (decimal_nonempty n short)) ∙ ap (option_map Make) (number-decimal n short)
+
+pub dashes_end : DashesEndOptions
+unfolding words_of items_of check_of name_alone
+dashes_end word = refl
+
+-- ---- the order is free
+-- a test that tells one from another
+module _ {A : Type 0} (eq : A → A → Bool) (tells : (x y : A) → eq x y ≡ true → x ≡ y) (self : (x : A) → eq x x ≡ true) where
+  weigh : A → A → ℕ
+  weigh x y = cond (eq x y) 1 0
+
+  same_one : (x y : A) → sum_by (weigh x) (x ∷ []) ≡ sum_by (weigh x) (y ∷ []) → x ≡ y
+  unfolding weigh
+  same_one x y h = tells x y (by_test (eq x y) (sym (sum_by-cons (weigh x) y []) ∙ (sym h ∙ (sum_by-cons (weigh x) x [] ∙ ap (λ (b : Bool). cond b 1 0 + 0) (self x)))))
+    where
+      by_test : (b : Bool) → cond b 1 0 + 0 ≡ 1 → b ≡ true
+      by_test true e = refl
+      by_test false e = absurd (omega (arith, e))
+
+  count_two : (x y : A) (rest : List A) → 2 ≤ sum_by (λ (z : A). 1) (x ∷ y ∷ rest)
+  count_two x y rest =
+      let a = sum_by-cons (λ (z : A). 1) x (y ∷ rest) in
+      let b = sum_by-cons (λ (z : A). 1) y rest in
+      omega (arith, a, b)
+
+  count_one : (x : A) → sum_by (λ (z : A). 1) (x ∷ []) ≡ 1
+  count_one x = sum_by-cons (λ (z : A). 1) x []
+
+  same-at_most_one : (xs ys : List A) → ((f : A → ℕ) → sum_by f xs ≡ sum_by f ys) → at_most_one xs ≡ at_most_one ys
+  same-at_most_one [] [] same = refl
+  same-at_most_one [] (y ∷ []) same = absurd (let s : 0 ≡ sum_by (λ (z : A). 1) (y ∷ []) = same (λ z. 1) in let n = count_one y in omega (arith, s, n))
+  same-at_most_one [] (y ∷ z ∷ rest) same = absurd (let s : 0 ≡ sum_by (λ (z : A). 1) (y ∷ z ∷ rest) = same (λ z. 1) in let n = count_two y z rest in omega (arith, s, n))
+  same-at_most_one (x ∷ []) [] same = absurd (let s : sum_by (λ (z : A). 1) (x ∷ []) ≡ 0 = same (λ z. 1) in let n = count_one x in omega (arith, s, n))
+  same-at_most_one (x ∷ []) (y ∷ []) same = ap (λ z. Some (Some z)) (same_one x y (same (weigh x)))
+  same-at_most_one (x ∷ []) (y ∷ z ∷ rest) same =
+      absurd (let s : sum_by (λ (z : A). 1) (x ∷ []) ≡ sum_by (λ (z : A). 1) (y ∷ z ∷ rest) = same (λ z. 1) in let m = count_one x in let n = count_two y z rest in omega (arith, s, m, n))
+  same-at_most_one (w ∷ x ∷ xs) [] same = absurd (let s : sum_by (λ (z : A). 1) (w ∷ x ∷ xs) ≡ 0 = same (λ z. 1) in let n = count_two w x xs in omega (arith, s, n))
+  same-at_most_one (w ∷ x ∷ xs) (y ∷ []) same =
+      absurd (let s : sum_by (λ (z : A). 1) (w ∷ x ∷ xs) ≡ sum_by (λ (z : A). 1) (y ∷ []) = same (λ z. 1) in let m = count_one y in let n = count_two w x xs in omega (arith, s, m, n))
+  same-at_most_one (w ∷ x ∷ xs) (y ∷ z ∷ rest) same = refl
+
+the_only-is : {A : Type 0} (xs : List A) → the_only xs ≡ option_and_then (λ o. o) (at_most_one xs)
+the_only-is [] = refl
+the_only-is (x ∷ []) = refl
+the_only-is (x ∷ y ∷ rest) = refl
+
+-- what is said of one sort
+weigh_name : (List ℕ → ℕ) → Item → ℕ
+weigh_name f (Name w) = f w
+weigh_name f Trace = 0
+weigh_name f (Seed n) = 0
+
+weigh_trace : (Unit {0} → ℕ) → Item → ℕ
+weigh_trace f (Name w) = 0
+weigh_trace f Trace = f tt
+weigh_trace f (Seed n) = 0
+
+weigh_seed : (ℕ → ℕ) → Item → ℕ
+weigh_seed f (Name w) = 0
+weigh_seed f Trace = 0
+weigh_seed f (Seed n) = f n
+
+sum-names : (f : List ℕ → ℕ) (is : List Item) → sum_by (weigh_name f) is ≡ sum_by f (names_in is)
+unfolding names_in weigh_name
+sum-names f [] = refl
+sum-names f (Name w ∷ is) = sum_by-cons (weigh_name f) (Name w) is ∙ (ap (λ (n : ℕ). f w + n) (sum-names f is) ∙ sym (sum_by-cons f w (names_in is)))
+sum-names f (Trace ∷ is) = sum_by-cons (weigh_name f) Trace is ∙ (zero-add (sum_by (weigh_name f) is) ∙ sum-names f is)
+sum-names f (Seed n ∷ is) = sum_by-cons (weigh_name f) (Seed n) is ∙ (zero-add (sum_by (weigh_name f) is) ∙ sum-names f is)
+
+sum-traces : (f : Unit {0} → ℕ) (is : List Item) → sum_by (weigh_trace f) is ≡ sum_by f (traces_in is)
+unfolding traces_in weigh_trace
+sum-traces f [] = refl
+sum-traces f (Name w ∷ is) = sum_by-cons (weigh_trace f) (Name w) is ∙ (zero-add (sum_by (weigh_trace f) is) ∙ sum-traces f is)
+sum-traces f (Trace ∷ is) = sum_by-cons (weigh_trace f) Trace is ∙ (ap (λ (n : ℕ). f tt + n) (sum-traces f is) ∙ sym (sum_by-cons f tt (traces_in is)))
+sum-traces f (Seed n ∷ is) = sum_by-cons (weigh_trace f) (Seed n) is ∙ (zero-add (sum_by (weigh_trace f) is) ∙ sum-traces f is)
+
+sum-seeds : (f : ℕ → ℕ) (is : List Item) → sum_by (weigh_seed f) is ≡ sum_by f (seeds_in is)
+unfolding seeds_in weigh_seed
+sum-seeds f [] = refl
+sum-seeds f (Name w ∷ is) = sum_by-cons (weigh_seed f) (Name w) is ∙ (zero-add (sum_by (weigh_seed f) is) ∙ sum-seeds f is)
+sum-seeds f (Trace ∷ is) = sum_by-cons (weigh_seed f) Trace is ∙ (zero-add (sum_by (weigh_seed f) is) ∙ sum-seeds f is)
+sum-seeds f (Seed n ∷ is) = sum_by-cons (weigh_seed f) (Seed n) is ∙ (ap (λ (m : ℕ). f n + m) (sum-seeds f is) ∙ sym (sum_by-cons f n (seeds_in is)))
+
+abbrev run_by : Option (Option (List ℕ)) → Option (Option (Unit {0})) → Option (Option ℕ) → Option Ask
+run_by names traces seeds =
+    option_and_then (λ w. option_and_then (λ t. option_and_then (λ s. Some (Run w (is_some t) s)) seeds) traces) (option_and_then (λ o. o) names)
+
+run-by : (is : List Item) → run_of is ≡ run_by (at_most_one (names_in is)) (at_most_one (traces_in is)) (at_most_one (seeds_in is))
+unfolding run_of
+run-by is =
+    ap (λ n. option_and_then (λ w. option_and_then (λ t. option_and_then (λ s. Some (Run w (is_some t) s)) (at_most_one (seeds_in is))) (at_most_one (traces_in is))) n) (the_only-is (names_in is))
+
+run-same : (is js : List Item) → SaySame is js → run_of is ≡ run_of js
+run-same is js same =
+    let names = same-at_most_one bytes_eq (λ x y h. (bytes_eq-Decides x y).0 h) (λ x. (bytes_eq-Decides x x).1 refl) (names_in is) (names_in js)
+    (λ f. sym (sum-names f is) ∙ (same (weigh_name f) ∙ sum-names f js)) in
+    let traces = same-at_most_one (λ x y. true) (λ x y h. refl) (λ x. refl) (traces_in is) (traces_in js) (λ f. sym (sum-traces f is) ∙ (same (weigh_trace f) ∙ sum-traces f js)) in
+    let seeds = same-at_most_one ◌==◌ (λ x y h. eqb-true x y h) (λ x. eq-eqb x x refl) (seeds_in is) (seeds_in js) (λ f. sym (sum-seeds f is) ∙ (same (weigh_seed f) ∙ sum-seeds f js)) in
+    run-by is
+    ∙ (ap (λ n. run_by n (at_most_one (traces_in is)) (at_most_one (seeds_in is))) names
+    ∙ (ap (λ t. run_by (at_most_one (names_in js)) t (at_most_one (seeds_in is))) traces
+    ∙ (ap (λ s. run_by (at_most_one (names_in js)) (at_most_one (traces_in js)) s) seeds ∙ sym (run-by js))))
+
+pub order_free : OrderIsFree
+unfolding words_of
+order_free ws vs is js said again same = ap (option_and_then run_of) said ∙ (run-same is js same ∙ sym (ap (option_and_then run_of) again))

@@ -1,0 +1,124 @@
+//! What the words behind the first say, read one after another.
+ghost use Rattle.std.specs.Prelude.{◌≡◌, option_map, option_and_then, map, string_bytes};
+ghost use Rattle.exb_words.specs.Words.{Name, Trace, Seed, item_of, number_in, is_dashed};
+ghost use Rattle.exb_words.specs.Asking.{gathered_of, with_one, with_all, gathered, nothing_said};
+
+use crate::numbers::number;
+
+/// What was said so far: a name, and the options.
+#[derive(Clone, Copy)]
+pub(crate) struct Said<'a> {
+    pub(crate) name: Option<&'a str>,
+    pub(crate) trace: bool,
+    pub(crate) seed: Option<u64>,
+}
+
+fn with_name<'a>(said: Said<'a>, word: &'a str) -> Option<Said<'a>>
+    ensures { option_map gathered_of result ≡ with_one (Name word.now) (gathered_of said.entry) }
+{
+    match said.name {
+        None => Some(Said {
+            name: Some(word),
+            trace: said.trace,
+            seed: said.seed,
+        }),
+        Some(_) => None,
+    }
+}
+
+fn with_trace(said: Said<'_>) -> Option<Said<'_>>
+    ensures { option_map gathered_of result ≡ with_one Trace (gathered_of said.entry) }
+{
+    if said.trace {
+        None
+    } else {
+        Some(Said {
+            name: said.name,
+            trace: true,
+            seed: said.seed,
+        })
+    }
+}
+
+fn with_seed<'a>(said: Said<'a>, word: &[u8]) -> Option<Said<'a>>
+    ensures { option_map gathered_of result ≡ option_and_then (λ n. with_one (Seed n) (gathered_of said.entry)) (number_in word.now) }
+{
+    let number = number(word)?;
+    match said.seed {
+        None => Some(Said {
+            name: said.name,
+            trace: said.trace,
+            seed: Some(number),
+        }),
+        Some(_) => None,
+    }
+}
+
+/// It begins with `-`, and isn't `-` alone.
+fn is_dashed(word: &[u8]) -> bool
+    ensures { result ≡ is_dashed word.now }
+{
+    match word {
+        [first, _, ..] => *first == b'-',
+        _ => false,
+    }
+}
+
+/// One word more, where options are still read; neither `--` nor `--seed`.
+#[tactic(auto, unfolding(crate::specs::Words::item_of))]
+fn with_word<'a>(said: Said<'a>, word: &'a str) -> Option<Said<'a>>
+    ensures { option_map gathered_of result ≡ option_and_then (λ i. with_one i (gathered_of said.entry)) (item_of word.now) }
+{
+    if word == "--trace" {
+        return with_trace(said);
+    }
+    match word.as_bytes().strip_prefix(b"--seed=") {
+        Some(seed) => with_seed(said, seed),
+        None => {
+            if is_dashed(word.as_bytes()) {
+                None
+            } else {
+                with_name(said, word)
+            }
+        }
+    }
+}
+
+/// Names alone.
+fn with_names<'a>(mut said: Said<'a>, words: &'a [String]) -> Option<Said<'a>>
+    ensures { option_map gathered_of result ≡ with_all (map Name (map string_bytes words.now)) (gathered_of said.entry) }
+{
+    for word in words {
+        said = with_name(said, word.as_str())?;
+    }
+    Some(said)
+}
+
+/// What these words say.
+pub(crate) fn read(words: &[String]) -> Option<Said<'_>>
+    ensures { option_map gathered_of result ≡ gathered (map string_bytes words.now) nothing_said }
+{
+    let mut said = Said {
+        name: None,
+        trace: false,
+        seed: None,
+    };
+    let mut rest = words;
+    while let Some((word, behind)) = rest.split_first() {
+        rest = behind;
+        let text = word.as_str();
+        if text == "--" {
+            return with_names(said, rest);
+        }
+        if text == "--seed" {
+            let Some((number, behind)) = rest.split_first() else {
+                return None;
+            };
+            rest = behind;
+            said = with_seed(said, number.as_bytes())?;
+        } else {
+            said = with_word(said, text)?;
+        }
+    }
+    Some(said)
+}

@@ -1,0 +1,70 @@
+//! All words together.
+ghost use Rattle.std.specs.Prelude.{◌≡◌, map, string_bytes, option_map, option_and_then};
+ghost use Rattle.exb_words.specs.Words.{words_of, items_of, run_of, check_of, make_of, name_alone};
+ghost use Rattle.exb_words.specs.Asking.{ask_of, gathered_of, name_from};
+
+use crate::asked::Asked;
+use crate::numbers::number;
+use crate::said::{Said, read};
+
+/// `run`: one name, and each option once at most.
+fn run(words: &[String]) -> Option<Asked<'_>>
+    ensures { option_map ask_of result ≡ option_and_then run_of (items_of (map string_bytes words.now)) }
+{
+    let said = read(words)?;
+    let topology = said.name?;
+    Some(Asked::Run {
+        topology,
+        trace: said.trace,
+        seed: said.seed,
+    })
+}
+
+/// The name, where nothing else was said.
+fn name_alone(said: Said<'_>) -> Option<&str>
+    ensures { option_map (λ w. w.now) result ≡ name_from (gathered_of said.entry) }
+{
+    if said.trace {
+        return None;
+    }
+    match said.seed {
+        None => said.name,
+        Some(_) => None,
+    }
+}
+
+/// One name alone.
+fn only_name(words: &[String]) -> Option<&str>
+    ensures { option_map (λ w. w.now) result ≡ option_and_then name_alone (items_of (map string_bytes words.now)) }
+{
+    name_alone(read(words)?)
+}
+
+fn check(words: &[String]) -> Option<Asked<'_>>
+    ensures { option_map ask_of result ≡ option_and_then check_of (items_of (map string_bytes words.now)) }
+{
+    let topology = only_name(words)?;
+    Some(Asked::Check { topology })
+}
+
+fn make(words: &[String]) -> Option<Asked<'_>>
+    ensures { option_map ask_of result ≡ option_and_then make_of (items_of (map string_bytes words.now)) }
+{
+    let number = number(only_name(words)?.as_bytes())?;
+    Some(Asked::Make { number })
+}
+
+/// What the words ask for, without the program's name before them. None exactly where they aren't accepted.
+pub fn accept(words: &[String]) -> Option<Asked<'_>>
+    ensures { option_map ask_of result ≡ words_of (map string_bytes words.now) }
+{
+    let Some((word, rest)) = words.split_first() else {
+        return None;
+    };
+    match word.as_str() {
+        "run" => run(rest),
+        "check" => check(rest),
+        "make" => make(rest),
+        _ => None,
+    }
+}
