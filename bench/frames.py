@@ -132,8 +132,8 @@ def measure(name, tree, frames, vlans=1, ageing=300, active=None):
     flat_time, flat_memory = min(flat for flat, _ in turns)
     own_time, own_memory = min(own for _, own in turns)
     same = all(filecmp.cmp(f"out-{port}.pcap", f"flat-{at}.pcap", shallow=False) for at, port in enumerate(ports, 1))
-    count, size = len(frames), sum(map(len, frames))
-    print(f"{name:42} {count:8} frames {own_time:8.2f} s (opening {opening:6.2f} s) {count / own_time:9.0f} frames/s {size / own_time / 1e6:8.1f} MB/s "
+    count, size, played = len(frames), sum(map(len, frames)), max(own_time - opening, 0.001)
+    print(f"{name:42} {count:8} frames {own_time:8.2f} s, of it opening {opening:6.2f} s, then {count / played:9.0f} frames/s {size / played / 1e6:8.1f} MB/s "
           f"{own_memory:6.0f} MB | plain {flat_time:6.3f} s {flat_memory:5.0f} MB | ratio {own_time / flat_time:7.1f}"
           f" | {'same outputs' if same else 'OUTPUTS DIFFER'}", flush=True)
 

@@ -118,33 +118,61 @@ fn expect_trials(
 }
 
 #[test]
-fn runs_over_no_extender_and_few_write_what_the_plain_bridge_sends(
+fn runs_over_0_to_2_extenders_write_what_the_plain_bridge_sends(
     rt: HostRuntime,
 ) -> Result<(), Fail> {
-    expect_trials(&rt, rt.alloc(), 0, 0, 6)
+    expect_trials(&rt, rt.alloc(), 0, 0, 3)
 }
 
 #[test]
-fn other_runs_over_few_extenders_write_what_the_plain_bridge_sends(
+fn runs_over_3_to_5_extenders_write_what_the_plain_bridge_sends(
     rt: HostRuntime,
 ) -> Result<(), Fail> {
-    expect_trials(&rt, rt.alloc(), 100, 1, 6)
+    expect_trials(&rt, rt.alloc(), 0, 3, 6)
 }
 
 #[test]
-fn runs_over_some_extenders_write_what_the_plain_bridge_sends(rt: HostRuntime) -> Result<(), Fail> {
-    expect_trials(&rt, rt.alloc(), 200, 6, 11)
-}
-
-#[test]
-fn runs_over_more_extenders_write_what_the_plain_bridge_sends(rt: HostRuntime) -> Result<(), Fail> {
-    expect_trials(&rt, rt.alloc(), 300, 11, 14)
-}
-
-#[test]
-fn a_run_over_many_extenders_writes_what_the_plain_bridge_sends(
+fn other_runs_over_1_to_3_extenders_write_what_the_plain_bridge_sends(
     rt: HostRuntime,
 ) -> Result<(), Fail> {
+    expect_trials(&rt, rt.alloc(), 100, 1, 4)
+}
+
+#[test]
+fn other_runs_over_4_and_5_extenders_write_what_the_plain_bridge_sends(
+    rt: HostRuntime,
+) -> Result<(), Fail> {
+    expect_trials(&rt, rt.alloc(), 100, 4, 6)
+}
+
+#[test]
+fn runs_over_6_and_7_extenders_write_what_the_plain_bridge_sends(
+    rt: HostRuntime,
+) -> Result<(), Fail> {
+    expect_trials(&rt, rt.alloc(), 200, 6, 8)
+}
+
+#[test]
+fn runs_over_8_to_10_extenders_write_what_the_plain_bridge_sends(
+    rt: HostRuntime,
+) -> Result<(), Fail> {
+    expect_trials(&rt, rt.alloc(), 200, 8, 11)
+}
+
+#[test]
+fn runs_over_11_and_12_extenders_write_what_the_plain_bridge_sends(
+    rt: HostRuntime,
+) -> Result<(), Fail> {
+    expect_trials(&rt, rt.alloc(), 300, 11, 13)
+}
+
+#[test]
+fn a_run_over_13_extenders_writes_what_the_plain_bridge_sends(rt: HostRuntime) -> Result<(), Fail> {
+    expect_trials(&rt, rt.alloc(), 300, 13, 14)
+}
+
+#[test]
+fn a_run_over_30_extenders_writes_what_the_plain_bridge_sends(rt: HostRuntime) -> Result<(), Fail> {
     expect_trial(&rt, rt.alloc(), 402, 30)
 }
 
