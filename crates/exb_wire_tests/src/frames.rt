@@ -131,7 +131,8 @@ fn nothing_longer_than_the_buffer_is_made(rt: HostRuntime) {
     assert_eq!(rt; strip_into(&[0u8; 9241], &mut out), Err(Full));
 }
 
-fn may_leave(frame: &[u8]) -> bool
+/// Whether a frame is one that leaves a port.
+pub(crate) fn may_leave(frame: &[u8]) -> bool
     ensures { result ≡ can_leave (kind_of frame.now) }
 {
     matches!(

@@ -11,21 +11,26 @@ fn digit(rt: &impl Abort, byte: u8) -> u8 {
     }
 }
 
-/// The bytes of a text of hexadecimal digits with spaces between them.
+// Puts the bytes of a word of hexadecimal digits behind these.
+fn put_word(rt: &impl Abort, bytes: &mut Vec<u8>, word: &str) {
+    for pair in word.as_bytes().chunks(2) {
+        match pair {
+            [high, low] => {
+                let byte: u8 = digit(rt, *low).wrapping_add(16u8.wrapping_mul(digit(rt, *high)));
+                bytes.push(byte).expect(rt, "memory");
+            }
+            _ => panic!(rt; "half a byte"),
+        }
+    }
+}
+
+/// The bytes of a text of hexadecimal digits in words of whole bytes; `3x00` is the byte 0 three times.
 pub(crate) fn bytes_of(rt: &impl Abort, alloc: Global, text: &str) -> Vec<u8> {
     let mut bytes = Vec::new(alloc);
-    let mut high = None;
-    for byte in text.as_bytes() {
-        if *byte != b' ' {
-            let low = digit(rt, *byte);
-            high = match high {
-                None => Some(low),
-                Some(value) => {
-                    let byte: u8 = low.wrapping_add(16u8.wrapping_mul(value));
-                    bytes.push(byte).expect(rt, "memory");
-                    None
-                }
-            };
+    for word in text.split_whitespace() {
+        let (times, word) = word.split_once('x').unwrap_or(("1", word));
+        for _time in 0..number(rt, Some(times)) {
+            put_word(rt, &mut bytes, word);
         }
     }
     bytes

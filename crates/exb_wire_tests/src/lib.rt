@@ -12,6 +12,8 @@ mod frames;
 #[cfg(test)]
 mod hex;
 #[cfg(test)]
+mod hostile;
+#[cfg(test)]
 mod links;
 #[cfg(test)]
 mod messages;
@@ -19,3 +21,5 @@ mod messages;
 mod sessions;
 #[cfg(test)]
 mod tables;
+#[cfg(test)]
+mod turned;
