@@ -1,11 +1,10 @@
 -- How long a frame is that may be relayed.
-use Rattle.std.proofs.Common.{◌≡◌, ◌≢◌, ◌≤◌, ◌++◌, List, ap, arith, inl, inr, length, refl, true, ℕ}
-use Rattle.std.specs.Prelude.{nat_eq}
+use Rattle.std.proofs.Common.{◌≡◌, ◌≢◌, ◌≤◌, ◌++◌, List, arith, inl, inr, length, refl, true, ℕ}
 use Rattle.std.proofs.lemmas.List.{take-append-le}
 use Rattle.std.proofs.lemmas.Bool.{cases_lt, false≢true, le-ltb, lt-ltb}
 use Rattle.exb_model.specs.declared.frame_kind.Seen.{Seen}
 use Rattle.exb_model.specs.declared.frame_kind.Seen.TheVariants as seen
-use Rattle.exb_model.specs.Frames.{control_address, is_control_frame, kind_of}
+use Rattle.exb_model.specs.Frames.{is_control_frame, kind_of}
 use Rattle.exb_model.specs.EagerHistory.{is_relayed_kind}
 
 relayed_kinds : (s : Seen) → is_relayed_kind s ≡ true → (s ≢ seen.Short) × (s ≢ seen.Long)

@@ -19,6 +19,7 @@ pub mod Input
 pub mod EagerHistory
 pub mod LegalHistory
 pub mod Texts
+pub mod Traces
 pub mod ExtenderForwarding
 pub mod Carriage
 pub mod Rounds

@@ -18,6 +18,7 @@ pub mod role;
 pub mod rules;
 pub mod setup;
 pub mod text;
+pub mod trace;
 pub mod tree;
 mod tree_tables;
 pub mod vlan;

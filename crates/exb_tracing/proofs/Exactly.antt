@@ -14,8 +14,8 @@ use Rattle.exb_model.specs.declared.event.Cause.TheVariants as cause
 use Rattle.exb_model.specs.Texts.{port_name}
 use Rattle.exb_plans.proofs.SetFacts.{bytes_is}
 use Rattle.exb_tracing.specs.Entries.{Entry, Relayed, Ignored, Ticked, Committed, Refused, Rose, Stayed, Settled, cause_words, entry_words, entry_text, cause_by, cause_in, arrival_by, simple_in, refused_in, entry_by, entry_in, IsCounted, IsWritable}
-use Rattle.exb_tracing.specs.Lines.{TraceLine, In, Out, Beat}
-use Rattle.exb_tracing.specs.LineTexts.{hex_digit, hexadecimal, device_text, side_text, trace_line, digit_in, byte_in, bytes_in, device_in, side_in, passing_by, passing_in, journal_by, read_line}
+use Rattle.exb_model.specs.Traces.{TraceLine, In, Out, Beat, hex_digit, hexadecimal, device_text, side_text, trace_line}
+use Rattle.exb_tracing.specs.LineTexts.{digit_in, byte_in, bytes_in, device_in, side_in, passing_by, passing_in, journal_by, read_line}
 use Rattle.exb_tracing.specs.TextReading.{words_in, is_number, number_in, if_small, small_in, port_at, extended_in, port_in}
 use Rattle.exb_tracing.specs.TextLaws.{EntriesAreWritten, LinesAreWritten}
 use Rattle.exb_tracing.proofs.LineTexts.{place_words}

@@ -8,8 +8,8 @@ use Rattle.exb_csp.specs.Spelling.{IsBytes}
 use Rattle.exb_machine_laws.specs.Sessions.{Each}
 use Rattle.exb_plans.proofs.SetFacts.{bytes_is}
 use Rattle.exb_tracing.specs.Entries.{entry_in}
-use Rattle.exb_tracing.specs.Lines.{TraceLine, In, Out, Beat, Journal}
-use Rattle.exb_tracing.specs.LineTexts.{hex_digit, hexadecimal, device_text, side_text, place_text, trace_line, trace_text, digit_in, byte_in, bytes_in, device_in, side_in, passing_by, passing_in, journal_by, read_line, read_trace, IsSide, IsSpelled}
+use Rattle.exb_model.specs.Traces.{TraceLine, In, Out, Beat, Journal, hex_digit, hexadecimal, device_text, side_text, place_text, trace_line, trace_text}
+use Rattle.exb_tracing.specs.LineTexts.{digit_in, byte_in, bytes_in, device_in, side_in, passing_by, passing_in, journal_by, read_line, read_trace, IsSide, IsSpelled}
 use Rattle.exb_tracing.specs.TextReading.{lines_in, words_in, all_read}
 use Rattle.exb_tracing.specs.TextLaws.{LinesReadBack, LinesDiffer, TracesReadBack}
 use Rattle.exb_tracing.proofs.Entries.{words_back, joined_lacks, entry_lacks, entries_read_back}

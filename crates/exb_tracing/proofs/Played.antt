@@ -29,8 +29,9 @@ use Rattle.exb_resting.proofs.UnderWay.{all_given}
 use Rattle.exb_tracing.specs.Entering.{NamesRecord, Enters, IsStep, AreSteps}
 use Rattle.exb_tracing.specs.Laws.{given_in}
 use Rattle.exb_tracing.specs.LegalTrace.{LegalTrace}
-use Rattle.exb_tracing.specs.Lines.{TraceLine, In, Out, Journal, all_told}
-use Rattle.exb_tracing.specs.Lines as line
+use Rattle.exb_model.specs.Traces.{TraceLine, In, Out, Journal}
+use Rattle.exb_machine.specs.Telling.{all_told}
+use Rattle.exb_model.specs.Traces as line
 use Rattle.exb_tracing.specs.Reading.{EachStep, until_next}
 use Rattle.exb_tracing.specs.Runs.{SetupsTellLegally, RunsTellLegally, frames_in, frames_out}
 use Rattle.exb_tracing.specs.Traced.{journal_of, captures_of, outputs_of}

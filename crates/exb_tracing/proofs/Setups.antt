@@ -23,7 +23,7 @@ use Rattle.exb_motion.proofs.Standing.{kept_is_clean}
 use Rattle.exb_resting.specs.Settles.{MayTakeAll, beginning}
 use Rattle.exb_resting.proofs.Settles.{IsRun, step_run, begins, runs_stay_low}
 use Rattle.exb_tracing.specs.Laws.{BeginsTraced, BeginsServing, RunsStayTraced, SettledIsLegal, StaysReady, given_in}
-use Rattle.exb_tracing.specs.Lines.{all_told}
+use Rattle.exb_machine.specs.Telling.{all_told}
 use Rattle.exb_tracing.specs.Ready.{AreHeld}
 use Rattle.exb_tracing.specs.Runs.{done_by, SetupsTellLegally}
 

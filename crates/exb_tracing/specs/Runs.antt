@@ -15,7 +15,7 @@ use Rattle.exb_resting.specs.Playing.{PlaysIn}
 use Rattle.exb_resting.specs.Settles.{MayTakeAll, beginning}
 use Rattle.exb_tracing.specs.Laws.{given_in}
 use Rattle.exb_tracing.specs.LegalTrace.{LegalTrace}
-use Rattle.exb_tracing.specs.Lines.{all_told}
+use Rattle.exb_machine.specs.Telling.{all_told}
 use Rattle.exb_tracing.specs.Traced.{Traced, journal_of, captures_of, outputs_of}
 
 -- what these steps do, from the beginning of a setup

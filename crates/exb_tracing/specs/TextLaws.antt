@@ -7,8 +7,8 @@ use Rattle.exb_model.specs.LegalHistory.{Legal}
 use Rattle.exb_model.specs.Texts.{journal_text}
 use Rattle.exb_machine_laws.specs.Sessions.{Each}
 use Rattle.exb_tracing.specs.Entries.{Entry, entry_of, entry_text, entry_in, history_in, IsWritable, IsRecorded}
-use Rattle.exb_tracing.specs.Lines.{TraceLine}
-use Rattle.exb_tracing.specs.LineTexts.{trace_line, trace_text, read_line, read_trace, IsSpelled}
+use Rattle.exb_model.specs.Traces.{TraceLine, trace_line, trace_text}
+use Rattle.exb_tracing.specs.LineTexts.{read_line, read_trace, IsSpelled}
 
 -- ---- a trace
 abbrev pub LinesReadBack : Type 0
