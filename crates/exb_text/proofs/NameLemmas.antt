@@ -6,7 +6,7 @@ use Rattle.std.proofs.lemmas.Fmt.{decimal_injective, decimal_by_steps}
 use Rattle.std.proofs.lemmas.Bool.{cases_lt, lt-ltb, le-ltb}
 use Rattle.std.proofs.lemmas.List.{append_assoc, append_cancel_left, append_cancel_right}
 use Rattle.exb_model.specs.Texts.{port_name}
-use Rattle.exb_text.specs.Names.{capture_name, journal_name}
+use Rattle.exb_text.specs.Names.{capture_name, journal_name, trace_name}
 
 -- no point
 abbrev pub NoPoint : List ℕ → Type 0
@@ -98,3 +98,23 @@ no_capture_is_the_journal prefix p e =
     append_cancel_left prefix (port_name p ++ codes ".pcap") (codes "journal.txt") (sym (append_assoc prefix (port_name p) (codes ".pcap")) ∙ e)
     in
     j_is_neither _ (head_of_file p) (ap (λ (l : List ℕ). get_or l 0 0) rest)
+
+t_is_neither : (n : ℕ) → (n ≡ 98) ⊎ (n ≡ 120) → n ≡ 116 → ⊥
+t_is_neither n (inl b) t = omega arith
+t_is_neither n (inr x) t = omega arith
+
+pub no_capture_is_the_trace : (prefix : List ℕ) (p : ℕ) → capture_name prefix p ≢ trace_name prefix
+unfolding capture_name trace_name
+no_capture_is_the_trace prefix p e =
+    let rest : port_name p ++ codes ".pcap" ≡ codes "trace.txt" =
+    append_cancel_left prefix (port_name p ++ codes ".pcap") (codes "trace.txt") (sym (append_assoc prefix (port_name p) (codes ".pcap")) ∙ e)
+    in
+    t_is_neither _ (head_of_file p) (ap (λ (l : List ℕ). get_or l 0 0) rest)
+
+j_is_no_t : (let j : ℕ = 106 in let t : ℕ = 116 in j ≡ t) → ⊥
+j_is_no_t e = omega arith
+
+pub the_journal_is_no_trace : (prefix : List ℕ) → journal_name prefix ≢ trace_name prefix
+unfolding journal_name trace_name
+the_journal_is_no_trace prefix e =
+    j_is_no_t (ap (λ (l : List ℕ). get_or l 0 0) (append_cancel_left prefix (codes "journal.txt") (codes "trace.txt") e))

@@ -9,3 +9,7 @@ capture_name prefix p = prefix ++ port_name p ++ codes ".pcap"
 -- the journal
 unfoldable pub journal_name : List ℕ → List ℕ
 journal_name prefix = prefix ++ codes "journal.txt"
+
+-- the trace
+unfoldable pub trace_name : List ℕ → List ℕ
+trace_name prefix = prefix ++ codes "trace.txt"

@@ -1,6 +1,6 @@
 //! Names of the files that a run writes.
 ghost use Rattle.std.specs.Prelude.{◌≡◌, IfOk, string_bytes};
-ghost use Rattle.exb_text.specs.Names.{capture_name, journal_name};
+ghost use Rattle.exb_text.specs.Names.{capture_name, journal_name, trace_name};
 
 use crate::PortName;
 use exb_model::memory::NoMemory;
@@ -21,4 +21,12 @@ pub fn journal_file_name(alloc: Global, prefix: &str) -> Result<String, NoMemory
     ensures { IfOk result (λ name. string_bytes name ≡ journal_name prefix.now) }
 {
     Ok(format!(in alloc; "{prefix}journal.txt")?)
+}
+
+/// The name of the trace's file: the run's prefix, and `trace.txt`.
+#[tactic(auto, unfolding(crate::specs::Names::trace_name))]
+pub fn trace_file_name(alloc: Global, prefix: &str) -> Result<String, NoMemory>
+    ensures { IfOk result (λ name. string_bytes name ≡ trace_name prefix.now) }
+{
+    Ok(format!(in alloc; "{prefix}trace.txt")?)
 }

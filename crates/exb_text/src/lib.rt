@@ -1,6 +1,6 @@
-//! The texts that a run writes and prints: the lines of the journal, the summary, and the names of the
+//! The texts that a run writes and prints: the lines of the journal and of a trace, the summary, and the names of the
 //! files. Upwards it promises that each is byte for byte the text that the definitions say, that want of
-//! memory leaves no part of a line, and that under one prefix the files of the ports and the journal all
+//! memory leaves no part of a line, and that under one prefix the files of the ports, the journal and the trace all
 //! have different names. It stands on `exb_model`.
 #![tactic(auto)]
 
@@ -9,8 +9,10 @@ mod file_name;
 pub mod laws;
 mod port_name;
 mod tally;
+mod trace_line;
 
 pub use event_line::{EventLine, write_line};
-pub use file_name::{capture_file_name, journal_file_name};
+pub use file_name::{capture_file_name, journal_file_name, trace_file_name};
 pub use port_name::PortName;
 pub use tally::Tally;
+pub use trace_line::{event_bytes, write_trace_line};
