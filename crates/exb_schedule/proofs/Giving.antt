@@ -6,7 +6,7 @@ use Rattle.std.proofs.lemmas.List.{drop_more, take_more, take_all}
 use Rattle.std.proofs.lemmas.List.Sorted.{IsPermutation-refl}
 use Rattle.exb_model.specs.declared.command.Command.{Command}
 use Rattle.exb_model.specs.declared.setup.Timed.{Timed}
-use Rattle.exb_model.specs.Input.{Input, Segment, basis_of}
+use Rattle.exb_model.specs.Input.{Input, Segment, Mode, Eager, Seeded, basis_of}
 use Rattle.exb_model.specs.Input.{Arrival as Arrived}
 use Rattle.exb_model.specs.Setup.{Limits}
 use Rattle.exb_model.specs.Tree.{Shape}
@@ -27,7 +27,7 @@ use Rattle.exb_schedule.specs.declared.segment.Arrival.{Arrival}
 use Rattle.exb_schedule.specs.Moves.{HasRun}
 use Rattle.exb_schedule.specs.Playing.{arrived, arrive, gives, orders, tick, CanAll, CanFrom, IsSegment}
 use Rattle.exb_schedule.proofs.Leading.{run_nothing, run_step, run_steps}
-use Rattle.exb_schedule.proofs.Playing.{moves_give_nothing}
+use Rattle.exb_schedule.proofs.Playing.{IsOrdered, moves_give_nothing}
 
 -- ---- what may be made
 pub can_first : (t : Shape) (l : Limits) (xs ys : List Step) (w : World) → CanFrom t l w (xs ++ ys) → CanFrom t l w xs
@@ -156,3 +156,8 @@ given_all f xs i old now all k = subst (λ ys. HasRun (map f ys) old now) (take_
 pub run_gives : (seconds : ℕ) (cs : List Timed) (frames : List Arrival) (old ticked told came : Network) → HasRun (tick seconds) old ticked → HasRun (orders cs) ticked told → HasRun (arrive frames) told came →
     HasRun (gives seconds cs frames) old came
 run_gives seconds cs frames old ticked told came x y z = run_steps (tick seconds) (orders cs ++ arrive frames) old ticked came x (run_steps (orders cs) (arrive frames) ticked told came y z)
+
+-- given in that order, in either mode
+pub gives_in_order : (m : Mode) (i : Input) (s : Segment) (seconds : ℕ) (cs : List Timed) (frames : List Arrival) → IsSegment i s seconds cs frames → (moves : List Step) → IsOrdered m s (gives seconds cs frames ++ moves)
+gives_in_order Eager i s seconds cs frames is moves = gives_eagerly i s seconds cs frames moves is
+gives_in_order Seeded i s seconds cs frames is moves = tt

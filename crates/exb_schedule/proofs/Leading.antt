@@ -1,11 +1,13 @@
 -- How what a network does is put together.
-use Rattle.std.proofs.Common.{◌≡◌, ◌++◌, List, [], append_assoc, append-nil, refl, ap, sym, ◌∙◌, subst, ◌∷◌}
+use Rattle.std.proofs.Common.{◌≡◌, ◌++◌, true, List, [], append_assoc, append-nil, refl, ap, sym, ◌∙◌, subst, ◌∷◌}
 use Rattle.exb_model.specs.declared.event.Event.{Event}
 use Rattle.exb_model.specs.Setup.{Limits}
+use Rattle.exb_model.specs.Traces.{TraceLine}
 use Rattle.exb_model.specs.Tree.{Shape}
 use Rattle.exb_machine.specs.Settling.{nothing, followed_by, run}
 use Rattle.exb_machine.specs.Stepping.{Stepped, stepped}
-use Rattle.exb_machine.specs.Worlds.{World, Step, Left}
+use Rattle.exb_machine.specs.Telling.{told, all_told}
+use Rattle.exb_machine.specs.Worlds.{World, Step, Left, Line}
 use Rattle.exb_machine_laws.specs.Laws.{IsMove}
 use Rattle.exb_machine_laws.proofs.Rounds.{run_then}
 use Rattle.exb_machine_laws.proofs.Words.{each_append}
@@ -19,7 +21,11 @@ use Rattle.exb_schedule.proofs.Runs.{then_nothing, then_then, one_step, take_the
 
 -- ---- memory and what never changes stay
 pub same_then : (a b c : Network) → IsSame a b → IsSame b c → IsSame a c
-same_then a b c x y = record { site = y.site ∙ x.site; failed = y.failed ∙ x.failed }
+same_then a b c x y = record { site = y.site ∙ x.site; failed = y.failed ∙ x.failed; tracing = y.tracing ∙ x.tracing }
+
+pub told_then : (xs ys : List Line) → all_told (xs ++ ys) ≡ all_told xs ++ all_told ys
+told_then [] ys = refl
+told_then (x ∷ xs) ys = ap (λ (zs : List TraceLine). told x ∷ zs) (told_then xs ys)
 
 -- ---- what was done
 moved_nothing : (n : Network) → IsMoved (nothing (world_of n)) n n
@@ -29,7 +35,8 @@ moved_nothing n =
       events = sym (append-nil n.log.events);
       passed = sym (append-nil n.log.passed);
       left = sym (append-nil (all_left n.log.left));
-      same = record { site = refl; failed = refl };
+      lines = λ on. sym (append-nil n.log.lines);
+      same = record { site = refl; failed = refl; tracing = refl };
     }
 
 pub moved_then : (a b : Stepped) (old mid new : Network) → IsMoved a old mid → IsMoved b mid new → IsMoved (followed_by a b) old new
@@ -39,6 +46,10 @@ moved_then a b old mid new x y =
       events = y.events ∙ (ap (λ (es : List Event). es ++ b.events) x.events ∙ append_assoc old.log.events a.events b.events);
       passed = y.passed ∙ (ap (λ (es : List _). es ++ b.passed) x.passed ∙ append_assoc old.log.passed a.passed b.passed);
       left = y.left ∙ (ap (λ (es : List Left). es ++ b.left) x.left ∙ append_assoc (all_left old.log.left) a.left b.left);
+      lines = λ on.
+          y.lines (x.same.tracing ∙ on)
+          ∙ (ap (λ (es : List TraceLine). es ++ all_told b.lines) (x.lines on)
+          ∙ (append_assoc old.log.lines (all_told a.lines) (all_told b.lines) ∙ ap (λ (es : List TraceLine). old.log.lines ++ es) (sym (told_then a.lines b.lines))));
       same = same_then old mid new x.same y.same;
     }
 
@@ -52,7 +63,7 @@ run_step step old new x may =
     record {
       may = (may, tt);
       moved = subst (λ (z : Stepped). IsMoved z old new) (sym (one_step (tree_of old) (bounds_of old) step (world_of old)))
-          (record { world = x.world; events = x.events; passed = x.passed; left = x.left; same = x.same });
+          (record { world = x.world; events = x.events; passed = x.passed; left = x.left; lines = x.lines; same = x.same });
     }
 
 pub run_steps : (xs ys : List Step) (old mid new : Network) → HasRun xs old mid → HasRun ys mid new → HasRun (xs ++ ys) old new

@@ -2,7 +2,7 @@
 use Rattle.std.proofs.Common.{◌≡◌, ◌++◌, List, [], ◌∷◌, append_assoc, append-nil, refl, ap, sym, ◌∙◌, subst}
 use Rattle.std.specs.Prelude.{All}
 use Rattle.exb_model.specs.History.{Basis}
-use Rattle.exb_model.specs.Input.{Input, Segment, basis_of, tree_of, bounds_of}
+use Rattle.exb_model.specs.Input.{Input, Segment, Mode, Eager, Seeded, basis_of, tree_of, bounds_of}
 use Rattle.exb_model.specs.Lists.{Pairwise}
 use Rattle.exb_model.specs.Setup.{Limits, IsValid}
 use Rattle.exb_model.specs.Tree.{Shape}
@@ -15,7 +15,7 @@ use Rattle.exb_machine_laws.proofs.Rounds.{run_then}
 use Rattle.exb_flight.specs.Items.{Each}
 use Rattle.exb_motion.specs.Kept.{HasVid, given_in}
 use Rattle.exb_motion.specs.Playing.{seconds_in, IsUnmarked, Plays, PlayAll, IsEager, marked_each, nothing_given}
-use Rattle.exb_resting.specs.Playing.{begin_of, PlaysSoFar}
+use Rattle.exb_resting.specs.Playing.{begin_of, AreOrdered, PlaysIn}
 use Rattle.exb_resting.specs.Settles.{MayTakeAll}
 use Rattle.exb_schedule.proofs.Runs.{take_then}
 
@@ -40,9 +40,22 @@ eager_then [] (ys ∷ plays) s xs all one = absurd all
 eager_then (r ∷ ss) [] s xs all one = absurd all
 eager_then (r ∷ ss) (ys ∷ plays) s xs all one = (all.0, eager_then ss plays s xs all.1 one)
 
-pub plays_more : (i : Input) (ss : List Segment) (done : Stepped) (s : Segment) (xs : List Step) → PlaysSoFar i ss done → MayTakeAll (tree_of i) (bounds_of i) done.world (xs ++ Mark ∷ []) →
-    Plays (tree_of i) (bounds_of i) (basis_of i) s done.world xs → IsEager s xs → PlaysSoFar i (ss ++ s ∷ []) (followed_by done (run (tree_of i) (bounds_of i) (xs ++ Mark ∷ []) done.world))
-plays_more i ss done s xs k may one eager =
+-- what a mode asks of one segment
+abbrev pub IsOrdered : Mode → Segment → List Step → Type 0
+IsOrdered Eager s xs = IsEager s xs
+IsOrdered Seeded s xs = Unit {0}
+
+ordered_then : (m : Mode) (ss : List Segment) (plays : List (List Step)) (s : Segment) (xs : List Step) → AreOrdered m ss plays → IsOrdered m s xs → AreOrdered m (ss ++ s ∷ []) (plays ++ xs ∷ [])
+ordered_then Eager ss plays s xs all one = eager_then ss plays s xs all one
+ordered_then Seeded ss plays s xs all one = tt
+
+ordered_none : (m : Mode) → AreOrdered m [] []
+ordered_none Eager = tt
+ordered_none Seeded = tt
+
+pub plays_more : (m : Mode) (i : Input) (ss : List Segment) (done : Stepped) (s : Segment) (xs : List Step) → PlaysIn m i ss done → MayTakeAll (tree_of i) (bounds_of i) done.world (xs ++ Mark ∷ []) →
+    Plays (tree_of i) (bounds_of i) (basis_of i) s done.world xs → IsOrdered m s xs → PlaysIn m i (ss ++ s ∷ []) (followed_by done (run (tree_of i) (bounds_of i) (xs ++ Mark ∷ []) done.world))
+plays_more m i ss done s xs k may one ordered =
     let t : Shape = tree_of i in
     let l : Limits = bounds_of i in
     let w : World = begin_of i in
@@ -56,14 +69,14 @@ plays_more i ss done s xs k may one eager =
       may = subst (MayTakeAll t l w) (sym (marked_then (k.first ∷ k.plays) xs))
           (take_then t l (marked_each (k.first ∷ k.plays)) (xs ++ Mark ∷ []) w k.may (subst (λ (v : World). MayTakeAll t l v (xs ++ Mark ∷ [])) at may));
       play = play_then t l (basis_of i) (nothing_given ∷ ss) (k.first ∷ k.plays) s xs w k.play (subst (λ (v : World). Plays t l (basis_of i) s v xs) at one);
-      eager = eager_then ss k.plays s xs k.eager eager;
+      eager = ordered_then m ss k.plays s xs k.eager ordered;
       is = ap (λ (z : Stepped). followed_by z (run t l (xs ++ Mark ∷ []) z.world)) k.is
           ∙ (sym (run_then t l (marked_each (k.first ∷ k.plays)) (xs ++ Mark ∷ []) w) ∙ ap (λ (zs : List Step). run t l zs w) (sym (marked_then (k.first ∷ k.plays) xs)));
     }
 
-pub plays_first : (i : Input) (xs : List Step) → IsValid i.setup → All HasVid i.setup.start → MayTakeAll (tree_of i) (bounds_of i) (begin_of i) (xs ++ Mark ∷ []) →
-    Plays (tree_of i) (bounds_of i) (basis_of i) nothing_given (begin_of i) xs → PlaysSoFar i [] (run (tree_of i) (bounds_of i) (xs ++ Mark ∷ []) (begin_of i))
-plays_first i xs valid vids may one =
+pub plays_first : (m : Mode) (i : Input) (xs : List Step) → IsValid i.setup → All HasVid i.setup.start → MayTakeAll (tree_of i) (bounds_of i) (begin_of i) (xs ++ Mark ∷ []) →
+    Plays (tree_of i) (bounds_of i) (basis_of i) nothing_given (begin_of i) xs → PlaysIn m i [] (run (tree_of i) (bounds_of i) (xs ++ Mark ∷ []) (begin_of i))
+plays_first m i xs valid vids may one =
     record {
       first = xs;
       plays = [];
@@ -71,7 +84,7 @@ plays_first i xs valid vids may one =
       vids = vids;
       may = subst (MayTakeAll (tree_of i) (bounds_of i) (begin_of i)) (sym (append-nil (xs ++ Mark ∷ []))) may;
       play = (one, tt);
-      eager = tt;
+      eager = ordered_none m;
       is = ap (λ (zs : List Step). run (tree_of i) (bounds_of i) zs (begin_of i)) (sym (append-nil (xs ++ Mark ∷ [])));
     }
 

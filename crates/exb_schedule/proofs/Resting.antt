@@ -66,7 +66,7 @@ ends_at law n k =
 pub rests_begin : Settles → (n : Network) → (n.failed ≡ false → Reached n) → IsResting n n 0
 rests_begin law n reached =
     record {
-      same = record { site = refl; failed = refl };
+      same = record { site = refl; failed = refl; tracing = refl };
       rests = λ awake. record {
         tree = tree_is n (reached awake);
         ends = ends_at law n (reached awake);

@@ -1,30 +1,33 @@
 -- The opening is played, and one segment after another.
-use Rattle.std.proofs.Common.{◌≡◌, ℕ, ◌++◌, List, [], ◌∷◌, append_assoc, ap, sym, ◌∙◌, subst}
+use Rattle.std.proofs.Common.{◌≡◌, ℕ, ◌++◌, true, List, [], ◌∷◌, append_assoc, ap, sym, ◌∙◌, subst}
 use Rattle.std.specs.Prelude.{All}
 use Rattle.exb_model.specs.declared.event.Event.{Event}
 use Rattle.exb_model.specs.declared.setup.Setup.{Setup}
-use Rattle.exb_model.specs.declared.setup.Timed.{Timed}
-use Rattle.exb_model.specs.Input.{Input, Segment}
+use Rattle.exb_model.specs.Input.{Input, Segment, Mode, basis_of}
 use Rattle.exb_model.specs.Input.{tree_of as tree_in, bounds_of as bounds_in}
 use Rattle.exb_model.specs.Setup.{Limits, IsValid, shape_of, limits_of, start_of}
+use Rattle.exb_model.specs.Traces.{TraceLine}
 use Rattle.exb_model.specs.Tree.{Shape}
 use Rattle.exb_machine.specs.Allowing.{IsSettled}
 use Rattle.exb_machine.specs.Settling.{followed_by, run}
 use Rattle.exb_machine.specs.Stepping.{Stepped, stepped}
+use Rattle.exb_machine.specs.Telling.{all_told}
 use Rattle.exb_machine.specs.Worlds.{World, Step, Mark, Left, first_world}
 use Rattle.exb_machine_laws.proofs.Rounds.{run_then}
+use Rattle.exb_machine_laws.specs.Laws.{IsMove}
+use Rattle.exb_machine_laws.specs.Sessions.{Each}
 use Rattle.exb_motion.specs.Kept.{HasVid}
+use Rattle.exb_motion.specs.Playing.{Gives}
 use Rattle.exb_network.specs.Networks.{Network, world_of, tree_of, bounds_of, IsQuiet, IsStepped}
 use Rattle.exb_network.specs.Sites.{Site, limits_in}
 use Rattle.exb_network.specs.Worlds.{all_left}
 use Rattle.exb_resting.specs.Playing.{begin_of}
 use Rattle.exb_resting.specs.Settles.{MayTake, MayTakeAll}
-use Rattle.exb_schedule.specs.declared.segment.Arrival.{Arrival}
 use Rattle.exb_schedule.specs.Moves.{HasRun, HasGone, HasEnded}
-use Rattle.exb_schedule.specs.Playing.{gives, HasPlayed, IsSegment}
-use Rattle.exb_schedule.proofs.Giving.{gives_segment, gives_eagerly, gives_nothing}
-use Rattle.exb_schedule.proofs.Leading.{run_step, run_steps}
-use Rattle.exb_schedule.proofs.Playing.{plays_first, plays_more}
+use Rattle.exb_schedule.specs.Playing.{HasPlayed}
+use Rattle.exb_schedule.proofs.Giving.{gives_nothing}
+use Rattle.exb_schedule.proofs.Leading.{run_step, run_steps, told_then}
+use Rattle.exb_schedule.proofs.Playing.{IsOrdered, plays_first, plays_more}
 
 -- ---- settled and marked
 pub has_ended : (done : Stepped) (old mid new : Network) → HasGone done old mid → IsSettled (tree_of mid) (world_of mid) → IsStepped Mark mid new → MayTake (tree_of mid) (world_of mid) Mark → HasEnded old new
@@ -50,9 +53,10 @@ record EndsSo (t : Shape) (l : Limits) (w : World) (steps : List Step) (old new 
   world : world_of new ≡ (run t l (steps ++ Mark ∷ []) w).world
   events : new.log.events ≡ old.log.events ++ (run t l (steps ++ Mark ∷ []) w).events
   left : all_left new.log.left ≡ all_left old.log.left ++ (run t l (steps ++ Mark ∷ []) w).left
+  lines : old.log.tracing ≡ true → new.log.lines ≡ old.log.lines ++ all_told (run t l (steps ++ Mark ∷ []) w).lines
 
 ends_so : (old new : Network) → (e : HasEnded old new) → EndsSo (tree_of old) (bounds_of old) (world_of old) e.steps old new
-ends_so old new e = record { may = e.made.may; settled = e.settled; world = e.made.moved.world; events = e.made.moved.events; left = e.made.moved.left }
+ends_so old new e = record { may = e.made.may; settled = e.settled; world = e.made.moved.world; events = e.made.moved.events; left = e.made.moved.left; lines = e.made.moved.lines }
 
 ends_after : (xs : List Step) (old mid new : Network) → HasRun xs old mid → (e : HasEnded mid new) → EndsSo (tree_of old) (bounds_of old) (world_of old) (xs ++ e.steps) old new
 ends_after xs old mid new r e =
@@ -68,6 +72,7 @@ ends_after xs old mid new r e =
       world = all.moved.world;
       events = all.moved.events;
       left = all.moved.left;
+      lines = all.moved.lines;
     }
 
 -- from the world of an input
@@ -76,38 +81,48 @@ moved_to t v l m w u steps old new e f g k =
     subst (λ (z : World). EndsSo v m z steps old new) g (subst (λ (z : Limits). EndsSo v z w steps old new) f (subst (λ (z : Shape). EndsSo z l w steps old new) e k))
 
 -- ---- the opening
-pub opened : (i : Input) (s : Setup) (begin new : Network) → i.setup ≡ s → IsValid s → All HasVid s.start → world_of begin ≡ first_world (shape_of s) (limits_of s) (start_of s) s.ageing → tree_of begin ≡ shape_of s →
-    bounds_of begin ≡ limits_of s → IsQuiet begin → HasEnded begin new → HasPlayed i [] new new.log.events (all_left new.log.left)
-opened i s begin new is valid vids world tree limits quiet e =
+pub opened : (m : Mode) (i : Input) (s : Setup) (begin new : Network) → i.setup ≡ s → IsValid s → All HasVid s.start → world_of begin ≡ first_world (shape_of s) (limits_of s) (start_of s) s.ageing → tree_of begin ≡ shape_of s →
+    bounds_of begin ≡ limits_of s → IsQuiet begin → HasEnded begin new → HasPlayed m i [] new new.log.events (all_left new.log.left) new.log.lines
+opened m i s begin new is valid vids world tree limits quiet e =
     let steps : List Step = e.steps in
     let k : EndsSo (tree_in i) (bounds_in i) (begin_of i) e.steps begin new =
     moved_to _ _ _ _ _ _ e.steps begin new (tree ∙ sym (ap shape_of is)) (limits ∙ sym (ap limits_of is)) (world ∙ sym (ap (λ (z : Setup). first_world (shape_of z) (limits_of z) (start_of z) z.ageing) is)) (ends_so begin new e) in
     record {
       done = run (tree_in i) (bounds_in i) (e.steps ++ Mark ∷ []) (begin_of i);
-      plays = plays_first i e.steps (subst IsValid (sym is) valid) (subst (λ (z : Setup). All HasVid z.start) (sym is) vids) k.may (record { gives = gives_nothing i e.steps e.moves; settled = k.settled });
+      plays = plays_first m i e.steps (subst IsValid (sym is) valid) (subst (λ (z : Setup). All HasVid z.start) (sym is) vids) k.may (record { gives = gives_nothing i e.steps e.moves; settled = k.settled });
       tree = ap (λ (z : Site). z.tree) e.made.moved.same.site ∙ (tree ∙ sym (ap shape_of is));
       limits = ap limits_in e.made.moved.same.site ∙ (limits ∙ sym (ap limits_of is));
       world = k.world;
       told = k.events ∙ ap (λ (es : List Event). es ++ (run (tree_in i) (bounds_in i) (e.steps ++ Mark ∷ []) (begin_of i)).events) quiet.events;
       gone = k.left ∙ ap (λ (xs : List _). all_left xs ++ (run (tree_in i) (bounds_in i) (e.steps ++ Mark ∷ []) (begin_of i)).left) quiet.left;
+      traced = λ on.
+          k.lines (sym e.made.moved.same.tracing ∙ on)
+          ∙ ap (λ (es : List TraceLine). es ++ all_told (run (tree_in i) (bounds_in i) (e.steps ++ Mark ∷ []) (begin_of i)).lines) quiet.lines;
     }
 
 -- ---- one segment more
-pub played_more : (i : Input) (so_far : List Segment) (s : Segment) (seconds : ℕ) (cs : List Timed) (frames : List Arrival) (old mid new : Network) (events : List Event) (left : List Left) → IsSegment i s seconds cs frames →
-    HasRun (gives seconds cs frames) old mid → HasEnded mid new → HasPlayed i so_far old (events ++ old.log.events) (left ++ all_left old.log.left) →
-    HasPlayed i (so_far ++ s ∷ []) new (events ++ new.log.events) (left ++ all_left new.log.left)
-played_more i so_far s seconds cs frames old mid new events left is r e k =
-    let steps : List Step = gives seconds cs frames ++ e.steps in
-    let z : EndsSo (tree_in i) (bounds_in i) k.done.world (gives seconds cs frames ++ e.steps) old new =
-    moved_to _ _ _ _ _ _ (gives seconds cs frames ++ e.steps) old new k.tree k.limits k.world (ends_after (gives seconds cs frames) old mid new r e) in
-    let more : Stepped = run (tree_in i) (bounds_in i) ((gives seconds cs frames ++ e.steps) ++ Mark ∷ []) k.done.world in
+-- by steps that give it, whatever moves come after them
+pub record GivesIt (m : Mode) (i : Input) (s : Segment) (xs : List Step) : Type 0 where
+  pub gives : (moves : List Step) → Each IsMove moves → Gives (basis_of i) s (xs ++ moves)
+  pub ordered : (moves : List Step) → IsOrdered m s (xs ++ moves)
+
+pub played_more : (m : Mode) (i : Input) (so_far : List Segment) (s : Segment) (xs : List Step) (old mid new : Network) (events : List Event) (left : List Left) (lines : List TraceLine) → GivesIt m i s xs →
+    HasRun xs old mid → HasEnded mid new → HasPlayed m i so_far old (events ++ old.log.events) (left ++ all_left old.log.left) (lines ++ old.log.lines) →
+    HasPlayed m i (so_far ++ s ∷ []) new (events ++ new.log.events) (left ++ all_left new.log.left) (lines ++ new.log.lines)
+played_more m i so_far s xs old mid new events left lines is r e k =
+    let z : EndsSo (tree_in i) (bounds_in i) k.done.world (xs ++ e.steps) old new = moved_to _ _ _ _ _ _ (xs ++ e.steps) old new k.tree k.limits k.world (ends_after xs old mid new r e) in
+    let more : Stepped = run (tree_in i) (bounds_in i) ((xs ++ e.steps) ++ Mark ∷ []) k.done.world in
+    let before : new.log.tracing ≡ true → old.log.tracing ≡ true = λ on. sym r.moved.same.tracing ∙ (sym e.made.moved.same.tracing ∙ on) in
     record {
-      done = followed_by k.done (run (tree_in i) (bounds_in i) ((gives seconds cs frames ++ e.steps) ++ Mark ∷ []) k.done.world);
-      plays = plays_more i so_far k.done s (gives seconds cs frames ++ e.steps) k.plays z.may (record { gives = gives_segment i s seconds cs frames e.steps is e.moves; settled = z.settled })
-          (gives_eagerly i s seconds cs frames e.steps is);
+      done = followed_by k.done (run (tree_in i) (bounds_in i) ((xs ++ e.steps) ++ Mark ∷ []) k.done.world);
+      plays = plays_more m i so_far k.done s (xs ++ e.steps) k.plays z.may (record { gives = is.gives e.steps e.moves; settled = z.settled }) (is.ordered e.steps);
       tree = ap (λ (x : Site). x.tree) (e.made.moved.same.site ∙ r.moved.same.site) ∙ k.tree;
       limits = ap limits_in (e.made.moved.same.site ∙ r.moved.same.site) ∙ k.limits;
       world = z.world;
       told = ap (λ (es : List Event). events ++ es) z.events ∙ (sym (append_assoc events old.log.events more.events) ∙ ap (λ (es : List Event). es ++ more.events) k.told);
       gone = ap (λ (xs : List Left). left ++ xs) z.left ∙ (sym (append_assoc left (all_left old.log.left) more.left) ∙ ap (λ (xs : List Left). xs ++ more.left) k.gone);
+      traced = λ on.
+          ap (λ (es : List TraceLine). lines ++ es) (z.lines (before on))
+          ∙ (sym (append_assoc lines old.log.lines (all_told more.lines))
+          ∙ (ap (λ (es : List TraceLine). es ++ all_told more.lines) (k.traced (before on)) ∙ sym (told_then k.done.lines more.lines)));
     }

@@ -5,7 +5,7 @@ use Rattle.exb_schedule.proofs.delivery.go_one_way.Given as goal
 
 -- Of the whole the directions from this place on are still to be gone through.
 abbrev pub invariant-directions : goal.invariant-directions
-invariant-directions l = ThoseFrom (way_of l.way) l.fn.world l.world l.from × (l.from ≤ 64)
+invariant-directions l = ThoseFrom (way_of l.way) l.fn.motion l.motion l.from × (l.from ≤ 64)
 
 abbrev pub decreases-directions : goal.decreases-directions
 decreases-directions l = 64 - l.from

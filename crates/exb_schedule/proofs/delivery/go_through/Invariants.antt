@@ -8,7 +8,7 @@ use Rattle.exb_schedule.proofs.delivery.go_through.Given as goal
 -- Of the whole the words that are left are still to be taken.
 abbrev pub invariant-words : goal.invariant-words
 invariant-words l =
-    GoesThrough l.link (way_of l.way) (gone_along (tree_of l.fn.world) (bounds_of l.fn.world) (direction (way_of l.way) l.link) (world_of l.fn.world)) l.fn.world l.world l.left
+    GoesThrough l.link (way_of l.way) (gone_along (tree_of l.fn.motion) (bounds_of l.fn.motion) (direction (way_of l.way) l.link) (world_of l.fn.motion)) l.fn.motion l.motion l.left
 
 abbrev pub decreases-words : goal.decreases-words
 decreases-words l = l.left.frames + l.left.control

@@ -8,9 +8,9 @@ use Rattle.exb_schedule.proofs.delivery.round.Goals as goal
 
 pub returns-clause-ok : goal.returns-clause-ok
 returns-clause-ok c =
-    let down = c.go_one_way-2.new.world in
+    let down = c.go_one_way-2.new.motion in
     on_ok_two c.step.result
     (λ made may.
-    has_round c.args.world.now c.go_one_way.new.world c.go_one_way-2.new.world c.step.new.self c.in_ok-go_one_way.ensures.ok c.in_ok-go_one_way-2.ensures.ok
-    (subst (λ (s : Step). IsStepped s c.go_one_way-2.new.world c.step.new.self) c.beat.ensures made) (subst (MayTake (tree_of down) (world_of down)) c.beat.ensures may))
+    has_round c.args.motion.now c.go_one_way.new.motion c.go_one_way-2.new.motion c.step.new.self c.in_ok-go_one_way.ensures.ok c.in_ok-go_one_way-2.ensures.ok
+    (subst (λ (s : Step). IsStepped s c.go_one_way-2.new.motion c.step.new.self) c.beat.ensures made) (subst (MayTake (tree_of down) (world_of down)) c.beat.ensures may))
     c.step.ensures.ok c.step.ensures.may

@@ -13,24 +13,24 @@ use Rattle.exb_schedule.proofs.delivery.take_next.Goals as goal
 
 pub overflow_sub-left : goal.overflow_sub-left
 overflow_sub-left c =
-    left_control c.args.link (way_of c.args.way) (world_of c.args.world.now) c.args.left.now c.requires.next c.requires.some (c.free_at.ensures.0 c.if-free_at.true)
+    left_control c.args.link (way_of c.args.way) (world_of c.args.motion.now) c.args.left.now c.requires.next c.requires.some (c.free_at.ensures.0 c.if-free_at.true)
 
 pub overflow_sub-left-else-free_at : goal.overflow_sub-left-else-free_at
 overflow_sub-left-else-free_at c =
-    (left_data c.args.link (way_of c.args.way) (world_of c.args.world.now) c.args.left.now c.requires.next c.requires.some
+    (left_data c.args.link (way_of c.args.way) (world_of c.args.motion.now) c.args.left.now c.requires.next c.requires.some
     (λ h. false≢true (sym c.if-free_at.false ∙ c.free_at.ensures.1 h))).0
 
 pub step-requires-else-free_at : goal.step-requires-else-free_at
 step-requires-else-free_at c =
-    let now = c.args.world.now in
-    let some = left_data c.args.link (way_of c.args.way) (world_of c.args.world.now) c.args.left.now c.requires.next c.requires.some (λ h. false≢true (sym c.if-free_at.false ∙ c.free_at.ensures.1 h)) in
+    let now = c.args.motion.now in
+    let some = left_data c.args.link (way_of c.args.way) (world_of c.args.motion.now) c.args.left.now c.requires.next c.requires.some (λ h. false≢true (sym c.if-free_at.false ∙ c.free_at.ensures.1 h)) in
     subst (Can (tree_of now) (world_of now)) (sym c.carry.ensures) (c.requires.there, some.1)
 
 pub returns-then-free_at-clause-ok : goal.returns-then-free_at-clause-ok
 returns-then-free_at-clause-ok c = λ whole old k.
-    let now = c.args.world.now in
+    let now = c.args.motion.now in
     let free = c.free_at.ensures.0 c.if-free_at.true in
-    let some = left_control c.args.link (way_of c.args.way) (world_of c.args.world.now) c.args.left.now c.requires.next c.requires.some free in
+    let some = left_control c.args.link (way_of c.args.way) (world_of c.args.motion.now) c.args.left.now c.requires.next c.requires.some free in
     on_ok_two c.step.result
     (λ made may.
     control_by c.args.link (way_of c.args.way) whole old now c.step.new.self _ c.args.left.now k.next.rest k.next.more c.requires.there k.next.is k.next.frames k.next.control c.requires.some free
@@ -39,9 +39,9 @@ returns-then-free_at-clause-ok c = λ whole old k.
 
 pub returns-else-free_at-clause-ok : goal.returns-else-free_at-clause-ok
 returns-else-free_at-clause-ok c = λ whole old k.
-    let now = c.args.world.now in
-    let none : 0 < leading (words_on c.args.link (way_of c.args.way) (world_of c.args.world.now)) → ⊥ = λ h. false≢true (sym c.if-free_at.false ∙ c.free_at.ensures.1 h) in
-    let some = (left_data c.args.link (way_of c.args.way) (world_of c.args.world.now) c.args.left.now c.requires.next c.requires.some none).0 in
+    let now = c.args.motion.now in
+    let none : 0 < leading (words_on c.args.link (way_of c.args.way) (world_of c.args.motion.now)) → ⊥ = λ h. false≢true (sym c.if-free_at.false ∙ c.free_at.ensures.1 h) in
+    let some = (left_data c.args.link (way_of c.args.way) (world_of c.args.motion.now) c.args.left.now c.requires.next c.requires.some none).0 in
     on_ok_two c.step-else-free_at.result
     (λ made may.
     data_by c.args.link (way_of c.args.way) whole old now c.step-else-free_at.new.self _ c.args.left.now k.next.rest k.next.more c.requires.there k.next.is k.next.frames k.next.control c.requires.some none
@@ -50,10 +50,10 @@ returns-else-free_at-clause-ok c = λ whole old k.
 
 pub returns-then-free_at-clause-fewer : goal.returns-then-free_at-clause-fewer
 returns-then-free_at-clause-fewer c =
-    let some = left_control c.args.link (way_of c.args.way) (world_of c.args.world.now) c.args.left.now c.requires.next c.requires.some (c.free_at.ensures.0 c.if-free_at.true) in
+    let some = left_control c.args.link (way_of c.args.way) (world_of c.args.motion.now) c.args.left.now c.requires.next c.requires.some (c.free_at.ensures.0 c.if-free_at.true) in
     omega (arith, some)
 
 pub returns-else-free_at-clause-fewer : goal.returns-else-free_at-clause-fewer
 returns-else-free_at-clause-fewer c =
-    let some = (left_data c.args.link (way_of c.args.way) (world_of c.args.world.now) c.args.left.now c.requires.next c.requires.some (λ h. false≢true (sym c.if-free_at.false ∙ c.free_at.ensures.1 h))).0 in
+    let some = (left_data c.args.link (way_of c.args.way) (world_of c.args.motion.now) c.args.left.now c.requires.next c.requires.some (λ h. false≢true (sym c.if-free_at.false ∙ c.free_at.ensures.1 h))).0 in
     omega (arith, some)
