@@ -1,10 +1,11 @@
 -- How what a network does is put together.
-use Rattle.std.proofs.Common.{◌≡◌, ◌++◌, true, List, [], append_assoc, append-nil, refl, ap, sym, ◌∙◌, subst, ◌∷◌}
+use Rattle.std.proofs.Common.{◌≡◌, ◌++◌, ℕ, ◌+◌, ◌≤◌, true, List, [], append_assoc, append-nil, refl, ap, sym, ◌∙◌, subst, ◌∷◌, arith}
 use Rattle.exb_model.specs.declared.event.Event.{Event}
+use Rattle.exb_model.specs.declared.setup.Verdict.{Verdict}
 use Rattle.exb_model.specs.Setup.{Limits}
 use Rattle.exb_model.specs.Traces.{TraceLine}
 use Rattle.exb_model.specs.Tree.{Shape}
-use Rattle.exb_machine.specs.Settling.{nothing, followed_by, run}
+use Rattle.exb_machine.specs.Settling.{nothing, followed_by, run, Played, played_before}
 use Rattle.exb_machine.specs.Stepping.{Stepped, stepped}
 use Rattle.exb_machine.specs.Telling.{told, all_told}
 use Rattle.exb_machine.specs.Worlds.{World, Step, Left, Line}
@@ -14,9 +15,10 @@ use Rattle.exb_machine_laws.proofs.Words.{each_append}
 use Rattle.exb_network.specs.Networks.{Network, world_of, tree_of, bounds_of, IsSame, IsStepped}
 use Rattle.exb_network.specs.Sites.{Site, limits_in}
 use Rattle.exb_network.specs.Worlds.{all_left}
+use Rattle.exb_resting.specs.Costs.{costs}
 use Rattle.exb_resting.specs.Settles.{MayTake, MayTakeAll}
 use Rattle.exb_schedule.specs.Moves.{IsMoved, HasRun, HasGone}
-use Rattle.exb_schedule.specs.Rounds.{Leads}
+use Rattle.exb_schedule.specs.Rounds.{HasAsked, Leads}
 use Rattle.exb_schedule.proofs.Runs.{then_nothing, then_then, one_step, take_then}
 
 -- ---- memory and what never changes stay
@@ -106,14 +108,59 @@ gone_then a b old mid new x y =
 pub gone_world : (done : Stepped) (old new : Network) → HasGone done old new → world_of new ≡ done.world
 gone_world done old new x = x.made.moved.world ∙ ap (λ (z : Stepped). z.world) (sym x.is)
 
--- ---- what is still to be done
-pub leads_begin : (whole : Stepped) (n : Network) → Leads whole whole n n
-leads_begin whole n = record { done = nothing (world_of n); gone = gone_nothing n; is = refl }
+-- ---- verdicts
+pub costs_then : (xs ys : List Verdict) → costs (xs ++ ys) ≡ costs xs + costs ys
+costs_then [] ys = omega arith
+costs_then (x ∷ xs) ys = (let e = costs_then xs ys in omega (arith, e))
 
-pub leads_on : (whole a b : Stepped) (old now new : Network) → Leads whole (followed_by a b) old now → HasGone a now new → Leads whole b old new
-leads_on whole a b old now new x y = record { done = followed_by x.done a; gone = gone_then x.done a old now new x.gone y; is = x.is ∙ sym (then_then x.done a b) }
+pub played_then : (a b : Stepped) (p : Played) → played_before a (played_before b p) ≡ played_before (followed_by a b) p
+played_then a b p = ap (λ (z : Stepped). record { done = z; verdicts = p.verdicts }) (sym (then_then a b p.done))
 
-pub leads_end : (whole : Stepped) (old now : Network) → Leads whole (nothing (world_of now)) old now → HasGone whole old now
-leads_end whole old now x =
-    let end : followed_by x.done (nothing (world_of now)) ≡ x.done = ap (λ (w : World). followed_by x.done (nothing w)) (gone_world x.done old now x.gone) ∙ then_nothing x.done in
-    subst (λ (z : Stepped). HasGone z old now) (sym (x.is ∙ end)) x.gone
+-- ---- what is still to be played
+abbrev pub Play : Type 0
+Play = List Verdict → Played
+
+pub leads_begin : (whole : Play) (budget : ℕ) (n : Network) → Leads whole whole budget budget n n
+leads_begin whole budget n = record { asked = []; paid = omega arith; done = nothing (world_of n); gone = gone_nothing n; is = λ more. refl }
+
+pub leads_on : (whole rest next : Play) (given : List Verdict) (a : Stepped) (before budget less : ℕ) (old now new : Network) → Leads whole rest before budget old now →
+    ((more : List Verdict) → rest (given ++ more) ≡ played_before a (next more)) → costs given + less ≤ budget → HasGone a now new → Leads whole next before less old new
+leads_on whole rest next given a before budget less old now new x split paid gone =
+    let sums = costs_then x.asked given in
+    let so_far = x.paid in
+    record {
+      asked = x.asked ++ given;
+      paid = omega (arith, sums, so_far, paid);
+      done = followed_by x.done a;
+      gone = gone_then x.done a old now new x.gone gone;
+      is = λ more. ap whole (append_assoc x.asked given more) ∙ (x.is (given ++ more) ∙ (ap (played_before x.done) (split more) ∙ played_then x.done a (next more)));
+    }
+
+pub leads_same : (whole rest next : Play) (before budget : ℕ) (old now : Network) → Leads whole rest before budget old now → ((more : List Verdict) → rest more ≡ next more) → Leads whole next before budget old now
+leads_same whole rest next before budget old now x same = record { asked = x.asked; paid = x.paid; done = x.done; gone = x.gone; is = λ more. x.is more ∙ ap (played_before x.done) (same more) }
+
+pub then_end : (a : Stepped) (w : World) (more : List Verdict) → w ≡ a.world → played_before a (record { done = nothing w; verdicts = more }) ≡ record { done = a; verdicts = more }
+then_end a w more here =
+    ap (λ (z : Stepped). record { done = z; verdicts = more }) (ap (λ (v : World). followed_by a (nothing v)) here ∙ then_nothing a)
+
+pub leads_end : (whole rest : Play) (before budget : ℕ) (old now : Network) → Leads whole rest before budget old now → ((more : List Verdict) → rest more ≡ record { done = nothing (world_of now); verdicts = more }) →
+    HasAsked whole before budget old now
+leads_end whole rest before budget old now x none =
+    record {
+      asked = x.asked;
+      paid = x.paid;
+      done = x.done;
+      gone = x.gone;
+      is = λ more. x.is more ∙ (ap (played_before x.done) (none more) ∙ then_end x.done (world_of now) more (gone_world x.done old now x.gone));
+    }
+
+-- a part that was played, and what comes after it
+pub leads_by : (whole rest part : Play) (next : World → Play) (before budget less : ℕ) (old now new : Network) → Leads whole rest before budget old now →
+    ((vs : List Verdict) → rest vs ≡ played_before (part vs).done (next (part vs).done.world (part vs).verdicts)) → HasAsked part budget less now new → Leads whole (next (world_of new)) before less old new
+leads_by whole rest part next before budget less old now new x split one =
+    let here : world_of new ≡ one.done.world = gone_world one.done now new one.gone in
+    leads_on whole rest (next (world_of new)) one.asked one.done before budget less old now new x
+    (λ more.
+    split (one.asked ++ more)
+    ∙ (ap (λ (p : Played). played_before p.done (next p.done.world p.verdicts)) (one.is more) ∙ ap (λ (w : World). played_before one.done (next w more)) (sym here)))
+    one.paid one.gone

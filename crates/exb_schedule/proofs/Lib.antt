@@ -1,12 +1,10 @@
 mod Runs
-mod Rounds
-mod RoundsLeft
-mod Playing
 mod Leading
-mod Passing
+mod Rounds
+mod Playing
 mod Giving
-mod Resting
 mod Segments
 mod Reaching
 mod Going
+mod Passing
 mod Played

@@ -1,45 +1,85 @@
--- Rounds in which each control word passes, and how far they are.
-use Rattle.std.specs.Prelude.{◌≡◌, ℕ, zero, suc, if◌then◌else◌, ◌++◌, List, [], filter, length, map}
+-- Rounds in which a fate is asked at each control word, and how far they are.
+use Rattle.std.specs.Prelude.{◌≡◌, ℕ, zero, suc, ◌+◌, ◌-◌, ◌≤◌, ◌^◌, min, if◌then◌else◌, true, ◌++◌, List, [], filter, length, map}
+use Rattle.exb_model.specs.declared.setup.Verdict.{Verdict}
 use Rattle.exb_model.specs.Setup.{Limits}
 use Rattle.exb_model.specs.Tree.{Shape}
-use Rattle.exb_link.specs.declared.link.Counts.{Counts}
 use Rattle.exb_link.specs.declared.word.Word.{Word}
 use Rattle.exb_link.specs.Words.{is_control, is_data}
-use Rattle.exb_machine.specs.Settling.{Direction, direction, followed_by, gone_through, goes_through, is_settled, round, run, through_all}
+use Rattle.exb_machine.specs.Settling.{Direction, Played, direction, gone_through, goes_through, is_settled, next_place, played_before, round, run, settled_within, steps_for, through_all}
 use Rattle.exb_machine.specs.Stepping.{Stepped, words_on}
 use Rattle.exb_machine.specs.Worlds.{World, Way}
+use Rattle.exb_machine_laws.specs.Sessions.{Each}
 use Rattle.exb_network.specs.Networks.{Network, world_of, tree_of, bounds_of}
-use Rattle.exb_schedule.specs.Moves.{HasGone}
 use Rattle.exb_network.specs.Turns.{order_of}
+use Rattle.exb_resting.specs.Costs.{cost_of, costs}
+use Rattle.exb_schedule.specs.declared.remaining.Remaining.{Remaining}
+use Rattle.exb_schedule.specs.Moves.{HasGone, HasRun}
+
+-- ---- what is played, by the verdicts of a fate
+-- of a direction: these words, the next control word at that place
+abbrev pub goes_on : Shape → Limits → ℕ → Way → ℕ → List Word → World → List Verdict → Played
+goes_on t l n way k rest w vs = record { done = run t l (gone_through n way k rest vs).steps w; verdicts = (gone_through n way k rest vs).verdicts }
 
 -- the words that stand on a direction are gone through once
-abbrev pub gone_along : Shape → Limits → Direction → World → Stepped
-gone_along t l d w = run t l (goes_through d w []).steps w
+abbrev pub goes_along : Shape → Limits → Direction → World → List Verdict → Played
+goes_along t l d w vs = record { done = run t l (goes_through d w vs).steps w; verdicts = (goes_through d w vs).verdicts }
 
 -- so are those of all directions of one way, in their order
-abbrev pub gone_one_way : Shape → Limits → Way → World → Stepped
-gone_one_way t l way w = (through_all t l (map (direction way) (order_of t way)) w []).done
+abbrev pub goes_one_way : Shape → Limits → Way → World → List Verdict → Played
+goes_one_way t l way w vs = through_all t l (map (direction way) (order_of t way)) w vs
 
 -- how many rounds settling makes, of at most so many
-unfoldable pub rounds_made : Shape → Limits → ℕ → World → ℕ
-rounds_made t l zero w = 0
-rounds_made t l (suc n) w = if is_settled t w then 0 else suc (rounds_made t l n (round t l w []).done.world)
+unfoldable pub rounds_made : Shape → Limits → ℕ → World → List Verdict → ℕ
+rounds_made t l zero w vs = 0
+rounds_made t l (suc n) w vs = if is_settled t w then 0 else suc (rounds_made t l n (round t l w vs).done.world (round t l w vs).verdicts)
 
--- Of a whole this rest is still to be done. What came before it was done by moves alone.
-pub record Leads (whole rest : Stepped) (old now : Network) : Type 0 where
+-- ---- what a fate made of it
+-- It was played, by moves alone, with the verdicts that the fate gave when it was asked. The fate, which might give so many verdicts
+-- other than Pass, may give so many now: less by each that it gave.
+pub record HasAsked (play : List Verdict → Played) (before left : ℕ) (old new : Network) : Type 0 where
+  pub asked : List Verdict
+  pub paid : costs asked + left ≤ before
+  pub done : Stepped
+  pub gone : HasGone done old new
+  pub is : (more : List Verdict) → play (asked ++ more) ≡ record { done = done; verdicts = more }
+
+-- Settling was played so, and made so many rounds, a number that stays at 2^64 - 1.
+pub record HasSettled (most made before left : ℕ) (old new : Network) : Type 0 where
+  pub asked : List Verdict
+  pub paid : costs asked + left ≤ before
+  pub done : Stepped
+  pub gone : HasGone done old new
+  pub is : (more : List Verdict) → settled_within (tree_of old) (bounds_of old) most (world_of old) (asked ++ more) ≡ record { done = done; verdicts = more }
+  pub counted : (more : List Verdict) → made ≡ min (rounds_made (tree_of old) (bounds_of old) most (world_of old) (asked ++ more)) (2 ^ 64 - 1)
+
+-- The control word at a place was looked at: the fate gave a verdict on it.
+pub record HasTaken (n : ℕ) (way : Way) (place next before left : ℕ) (old new : Network) : Type 0 where
+  pub verdict : Verdict
+  pub paid : cost_of verdict + left ≤ before
+  pub next_is : next ≡ next_place place verdict
+  pub made : HasRun (steps_for n way place verdict) old new
+
+-- Of a whole this rest is still to be played. What came before it was done by moves alone, with the verdicts that the fate gave so far.
+pub record Leads (whole rest : List Verdict → Played) (before left : ℕ) (old now : Network) : Type 0 where
+  pub asked : List Verdict
+  pub paid : costs asked + left ≤ before
   pub done : Stepped
   pub gone : HasGone done old now
-  pub is : whole ≡ followed_by done rest
+  pub is : (more : List Verdict) → whole (asked ++ more) ≡ played_before done (rest more)
 
--- These words are next on a direction, and so many of them are data words and control words.
-pub record AreNext (n : ℕ) (way : Way) (w : World) (left : Counts) : Type 0 where
+-- ---- a direction that is gone through
+-- So many data words and control words are next on a direction. The control words before them were looked at and stay.
+pub record AreNext (n : ℕ) (way : Way) (w : World) (left : Remaining) : Type 0 where
+  pub kept : List Word
   pub rest : List Word
   pub more : List Word
-  pub is : words_on n way w ≡ rest ++ more
+  pub control_alone : Each (λ (x : Word). is_control x ≡ true) kept
+  pub place : left.place ≡ length kept
+  pub is : words_on n way w ≡ kept ++ (rest ++ more)
   pub frames : left.frames ≡ length (filter is_data rest)
   pub control : left.control ≡ length (filter is_control rest)
 
--- Of a whole these words are still to be taken.
-pub record GoesThrough (n : ℕ) (way : Way) (whole : Stepped) (old now : Network) (left : Counts) : Type 0 where
+-- Of a whole these words are still to be looked at.
+pub record GoesThrough (n : ℕ) (way : Way) (whole : List Verdict → Played) (before budget : ℕ) (old now : Network) (left : Remaining) : Type 0 where
   pub next : AreNext n way (world_of now) left
-  pub leads : Leads whole (run (tree_of now) (bounds_of now) (gone_through n way 0 next.rest []).steps (world_of now)) old now
+  pub leads : Leads whole (λ vs. goes_on (tree_of now) (bounds_of now) n way left.place next.rest (world_of now) vs) before budget old now

@@ -1,74 +1,120 @@
 //! One round of delivery.
-ghost use Rattle.std.specs.Prelude.{◌≡◌, ◌↔◌, ◌<◌, ◌+◌, ℕ, [], true, OnErr, OnOk};
+ghost use Rattle.std.specs.Prelude.{⊤, ◌≡◌, ◌↔◌, ◌<◌, ◌≤◌, ◌+◌, ◌^◌, ℕ, List, true, IfOk, OnErr, OnOk};
+ghost use Rattle.exb_model.specs.declared.setup.Verdict.{Verdict};
 ghost use Rattle.exb_model.specs.Tree.{is_extender};
-ghost use Rattle.exb_machine.specs.Settling.{direction, round};
-ghost use Rattle.exb_machine.specs.Stepping.{Stepped};
+ghost use Rattle.exb_link.specs.Words.{leading};
+ghost use Rattle.exb_machine.specs.Settling.{direction, round, Played};
+ghost use Rattle.exb_machine.specs.Stepping.{words_on};
 ghost use Rattle.exb_network.specs.Networks.{Network, world_of, tree_of, bounds_of};
 ghost use Rattle.exb_network.specs.Steps.{way_of};
-ghost use Rattle.exb_schedule.specs.Moves.{HasGone};
-ghost use Rattle.exb_schedule.specs.Rounds.{gone_along, gone_one_way, AreNext, GoesThrough};
+ghost use Rattle.exb_schedule.specs.Rounds.{goes_along, goes_one_way, AreNext, GoesThrough, HasAsked, HasTaken};
+ghost use Rattle.exb_schedule.specs.Worlds.{network_of};
 
-use crate::steps::{beat, carry, deliver};
-use crate::motion::Motion;
-use exb_link::Counts;
+use crate::remaining::Remaining;
+use crate::steps::{beat, carry, deliver, lose};
+use crate::world::World;
+use exb_model::setup::Verdict;
 use exb_network::{Way, WorldFault};
 
-/// Takes the next word of a direction: a control word is delivered, a data word is carried. It is no longer left.
-fn take_next(motion: &mut Motion, link: u8, way: Way, left: &mut Counts) -> Result<(), WorldFault>
-    requires there { is_extender (tree_of motion.old) link ≡ true }
-    requires next { AreNext link (way_of way) (world_of motion.old) left.old }
-    requires some { 0 < left.old.frames + left.old.control }
-    ensures ok { (whole : Stepped) (old : Network) → GoesThrough link (way_of way) whole old motion.old left.old → OnOk result (GoesThrough link (way_of way) whole old motion.new left.new) }
-    ensures fewer { left.new.frames + left.new.control + 1 ≡ left.old.frames + left.old.control }
-    ensures failed { (result ≡ Err WorldFault.Failed) ↔ (motion.old.failed ≡ true) }
-    ensures memory { OnErr result (motion.new.failed ≡ true) }
+/// Asks the fate of a control word that is free, and does what it says: the word is delivered, lost, delivered and kept, or left.
+/// Answers the place of the next one.
+pub(crate) fn take_control(world: &mut World, link: u8, way: Way, place: u64) -> Result<u64, WorldFault>
+    requires there { is_extender (tree_of (network_of world.old)) link ≡ true }
+    requires free { place < leading (words_on link (way_of way) (world_of (network_of world.old))) }
+    requires low { place + 1 < 2 ^ 64 }
+    ensures ok { IfOk result (λ next. HasTaken link (way_of way) place next (left world.old.fate) (left world.new.fate) (network_of world.old) (network_of world.new)) }
+    ensures failed { OnErr result ((result ≡ Err WorldFault.Failed) ↔ ((network_of world.old).failed ≡ true)) }
+    ensures memory { OnErr result ((network_of world.new).failed ≡ true) }
+    ensures falls { left world.new.fate ≤ left world.old.fate }
 {
-    if motion.free_at(link, way, 0) {
-        left.control -= 1;
-        motion.step(deliver(link, way))
-    } else {
-        left.frames -= 1;
-        motion.step(carry(link, way))
+    match world.fate() {
+        Verdict::Pass => {
+            world.step(deliver(link, way, place, false))?;
+            Ok(place)
+        }
+        Verdict::Lose => {
+            world.step(lose(link, way, place))?;
+            Ok(place)
+        }
+        Verdict::Twice => {
+            world.step(deliver(link, way, place, true))?;
+            Ok(place + 1)
+        }
+        Verdict::Later => Ok(place + 1),
     }
 }
 
-/// Goes once, in order, through the words that stand on a direction, and takes each.
-fn go_through(motion: &mut Motion, link: u8, way: Way) -> Result<(), WorldFault>
-    requires { is_extender (tree_of motion.old) link ≡ true }
-    ensures ok { OnOk result (HasGone (gone_along (tree_of motion.old) (bounds_of motion.old) (direction (way_of way) link) (world_of motion.old)) motion.old motion.new) }
-    ensures failed { OnErr result ((result ≡ Err WorldFault.Failed) ↔ (motion.old.failed ≡ true)) }
-    ensures memory { OnErr result (motion.new.failed ≡ true) }
+/// Looks at the next word of a direction: a data word is carried, and of a control word the fate is asked. It is no longer left.
+fn take_next(world: &mut World, link: u8, way: Way, rest: &mut Remaining) -> Result<(), WorldFault>
+    requires there { is_extender (tree_of (network_of world.old)) link ≡ true }
+    requires next { AreNext link (way_of way) (world_of (network_of world.old)) rest.old }
+    requires some { 0 < rest.old.frames + rest.old.control }
+    requires low { rest.old.place + rest.old.control < 2 ^ 64 }
+    ensures ok { (whole : List Verdict → Played) (before : ℕ) (old : Network) → GoesThrough link (way_of way) whole before (left world.old.fate) old (network_of world.old) rest.old
+        → OnOk result (GoesThrough link (way_of way) whole before (left world.new.fate) old (network_of world.new) rest.new) }
+    ensures fewer { OnOk result (rest.new.frames + rest.new.control + 1 ≡ rest.old.frames + rest.old.control) }
+    ensures low { OnOk result (rest.new.place + rest.new.control < 2 ^ 64) }
+    ensures failed { OnErr result ((result ≡ Err WorldFault.Failed) ↔ ((network_of world.old).failed ≡ true)) }
+    ensures memory { OnErr result ((network_of world.new).failed ≡ true) }
+    ensures falls { left world.new.fate ≤ left world.old.fate }
 {
-    let mut left = motion.counts(link, way);
-    'words: while left.frames > 0 || left.control > 0 {
-        take_next(motion, link, way, &mut left)?;
+    if world.free_at(link, way, rest.place) {
+        rest.control -= 1;
+        rest.place = take_control(world, link, way, rest.place)?;
+        Ok(())
+    } else {
+        rest.frames -= 1;
+        world.step(carry(link, way))
+    }
+}
+
+/// Goes once, in order, through the words that stand on a direction, and looks at each.
+fn go_through(world: &mut World, link: u8, way: Way) -> Result<(), WorldFault>
+    requires { is_extender (tree_of (network_of world.old)) link ≡ true }
+    ensures ok { OnOk result (HasAsked (goes_along (tree_of (network_of world.old)) (bounds_of (network_of world.old)) (direction (way_of way) link) (world_of (network_of world.old))) (left world.old.fate) (left world.new.fate) (network_of world.old) (network_of world.new)) }
+    ensures failed { OnErr result ((result ≡ Err WorldFault.Failed) ↔ ((network_of world.old).failed ≡ true)) }
+    ensures memory { OnErr result ((network_of world.new).failed ≡ true) }
+    ensures falls { left world.new.fate ≤ left world.old.fate }
+{
+    let counts = world.counts(link, way);
+    let mut rest = Remaining {
+        frames: counts.frames,
+        control: counts.control,
+        place: 0,
+    };
+    'words: while rest.frames > 0 || rest.control > 0 {
+        take_next(world, link, way, &mut rest)?;
     }
     Ok(())
 }
 
 /// Goes through all directions of one way that have a word when their turn comes: up from the deepest extender, down from
 /// the bridge.
-fn go_one_way(motion: &mut Motion, way: Way) -> Result<(), WorldFault>
-    ensures ok { OnOk result (HasGone (gone_one_way (tree_of motion.old) (bounds_of motion.old) (way_of way) (world_of motion.old)) motion.old motion.new) }
-    ensures failed { OnErr result ((result ≡ Err WorldFault.Failed) ↔ (motion.old.failed ≡ true)) }
-    ensures memory { OnErr result (motion.new.failed ≡ true) }
+fn go_one_way(world: &mut World, way: Way) -> Result<(), WorldFault>
+    requires { ⊤ }
+    ensures ok { OnOk result (HasAsked (goes_one_way (tree_of (network_of world.old)) (bounds_of (network_of world.old)) (way_of way) (world_of (network_of world.old))) (left world.old.fate) (left world.new.fate) (network_of world.old) (network_of world.new)) }
+    ensures failed { OnErr result ((result ≡ Err WorldFault.Failed) ↔ ((network_of world.old).failed ≡ true)) }
+    ensures memory { OnErr result ((network_of world.new).failed ≡ true) }
+    ensures falls { left world.new.fate ≤ left world.old.fate }
 {
     let mut from = 0;
-    'directions: while let Some(turn) = motion.next_busy(way, from) {
-        go_through(motion, turn.link, way)?;
+    'directions: while let Some(turn) = world.motion.next_busy(way, from) {
+        go_through(world, turn.link, way)?;
         from = turn.place + 1;
     }
     Ok(())
 }
 
 /// One round: the words that stand on the links upwards are gone through once, from the deepest extender, then those downwards,
-/// from the bridge; data words are taken, and control words delivered. Then one beat passes.
-pub fn round(motion: &mut Motion) -> Result<(), WorldFault>
-    ensures ok { OnOk result (HasGone (round (tree_of motion.old) (bounds_of motion.old) (world_of motion.old) []).done motion.old motion.new) }
-    ensures failed { (result ≡ Err WorldFault.Failed) ↔ (motion.old.failed ≡ true) }
-    ensures memory { OnErr result (motion.new.failed ≡ true) }
+/// from the bridge; data words are taken, and the fate is asked of each control word. Then one beat passes.
+pub fn round(world: &mut World) -> Result<(), WorldFault>
+    requires { ⊤ }
+    ensures ok { OnOk result (HasAsked (round (tree_of (network_of world.old)) (bounds_of (network_of world.old)) (world_of (network_of world.old))) (left world.old.fate) (left world.new.fate) (network_of world.old) (network_of world.new)) }
+    ensures failed { (result ≡ Err WorldFault.Failed) ↔ ((network_of world.old).failed ≡ true) }
+    ensures memory { OnErr result ((network_of world.new).failed ≡ true) }
+    ensures falls { left world.new.fate ≤ left world.old.fate }
 {
-    go_one_way(motion, Way::Up)?;
-    go_one_way(motion, Way::Down)?;
-    motion.step(beat())
+    go_one_way(world, Way::Up)?;
+    go_one_way(world, Way::Down)?;
+    world.step(beat())
 }

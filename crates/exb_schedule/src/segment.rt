@@ -13,7 +13,7 @@ ghost use Rattle.exb_schedule.specs.Moves.{HasEnded, HasRun};
 ghost use Rattle.exb_schedule.specs.Playing.{gives, letters_in, orders, CanAll, HasPlayed, IsSegment};
 ghost use Rattle.exb_schedule.specs.Worlds.{network_of};
 
-use crate::giving::{let_arrive, let_pass};
+use crate::arriving::{let_arrive, let_pass};
 use crate::settling::settle;
 use crate::steps::{mark, order};
 use crate::world::World;

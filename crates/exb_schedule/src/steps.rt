@@ -1,6 +1,6 @@
 //! The steps that schedules make of their own: each takes what comes first.
-ghost use Rattle.std.specs.Prelude.{◌≡◌, false};
-ghost use Rattle.exb_machine.specs.Worlds.{Beat, Carry, Control, Mark, Order, Tick};
+ghost use Rattle.std.specs.Prelude.{◌≡◌};
+ghost use Rattle.exb_machine.specs.Worlds.{Beat, Carry, Control, Lose, Mark, Order, Tick};
 ghost use Rattle.exb_network.specs.Networks.{step_of};
 ghost use Rattle.exb_network.specs.Steps.{way_of};
 
@@ -14,16 +14,23 @@ pub(crate) fn carry(link: u8, way: Way) -> Step<'static>
     Step::Carry { link, way }
 }
 
-/// The first control word of a direction is delivered.
-pub(crate) fn deliver(link: u8, way: Way) -> Step<'static>
-    ensures { step_of result ≡ Control link (way_of way) 0 false }
+/// The control word at a place is delivered, and may be kept.
+pub(crate) fn deliver(link: u8, way: Way, at: u64, keep: bool) -> Step<'static>
+    ensures { step_of result ≡ Control link (way_of way) at keep }
 {
     Step::Control {
         link,
         way,
-        at: 0,
-        keep: false,
+        at,
+        keep,
     }
+}
+
+/// The control word at a place is lost.
+pub(crate) fn lose(link: u8, way: Way, at: u64) -> Step<'static>
+    ensures { step_of result ≡ Lose link (way_of way) at }
+{
+    Step::Lose { link, way, at }
 }
 
 /// A beat passes.
