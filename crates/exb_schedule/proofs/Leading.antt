@@ -84,7 +84,7 @@ run_steps xs ys old mid new x y =
     }
 
 -- ---- moves alone
-gone_nothing : (n : Network) → HasGone (nothing (world_of n)) n n
+unfoldable pub gone_nothing : (n : Network) → HasGone (nothing (world_of n)) n n
 unfolding run
 gone_nothing n = record { steps = []; moves = tt; is = refl; made = run_nothing n }
 
@@ -120,10 +120,10 @@ played_then a b p = ap (λ (z : Stepped). record { done = z; verdicts = p.verdic
 abbrev pub Play : Type 0
 Play = List Verdict → Played
 
-pub leads_begin : (whole : Play) (budget : ℕ) (n : Network) → Leads whole whole budget budget n n
+unfoldable pub leads_begin : (whole : Play) (budget : ℕ) (n : Network) → Leads whole whole budget budget n n
 leads_begin whole budget n = record { asked = []; paid = omega arith; done = nothing (world_of n); gone = gone_nothing n; is = λ more. refl }
 
-pub leads_on : (whole rest next : Play) (given : List Verdict) (a : Stepped) (before budget less : ℕ) (old now new : Network) → Leads whole rest before budget old now →
+unfoldable pub leads_on : (whole rest next : Play) (given : List Verdict) (a : Stepped) (before budget less : ℕ) (old now new : Network) → Leads whole rest before budget old now →
     ((more : List Verdict) → rest (given ++ more) ≡ played_before a (next more)) → costs given + less ≤ budget → HasGone a now new → Leads whole next before less old new
 leads_on whole rest next given a before budget less old now new x split paid gone =
     let sums = costs_then x.asked given in
@@ -143,7 +143,7 @@ pub then_end : (a : Stepped) (w : World) (more : List Verdict) → w ≡ a.world
 then_end a w more here =
     ap (λ (z : Stepped). record { done = z; verdicts = more }) (ap (λ (v : World). followed_by a (nothing v)) here ∙ then_nothing a)
 
-pub leads_end : (whole rest : Play) (before budget : ℕ) (old now : Network) → Leads whole rest before budget old now → ((more : List Verdict) → rest more ≡ record { done = nothing (world_of now); verdicts = more }) →
+unfoldable pub leads_end : (whole rest : Play) (before budget : ℕ) (old now : Network) → Leads whole rest before budget old now → ((more : List Verdict) → rest more ≡ record { done = nothing (world_of now); verdicts = more }) →
     HasAsked whole before budget old now
 leads_end whole rest before budget old now x none =
     record {
@@ -155,7 +155,7 @@ leads_end whole rest before budget old now x none =
     }
 
 -- a part that was played, and what comes after it
-pub leads_by : (whole rest part : Play) (next : World → Play) (before budget less : ℕ) (old now new : Network) → Leads whole rest before budget old now →
+unfoldable pub leads_by : (whole rest part : Play) (next : World → Play) (before budget less : ℕ) (old now new : Network) → Leads whole rest before budget old now →
     ((vs : List Verdict) → rest vs ≡ played_before (part vs).done (next (part vs).done.world (part vs).verdicts)) → HasAsked part budget less now new → Leads whole (next (world_of new)) before less old new
 leads_by whole rest part next before budget less old now new x split one =
     let here : world_of new ≡ one.done.world = gone_world one.done now new one.gone in

@@ -7,4 +7,6 @@ mod Segments
 mod Reaching
 mod Going
 mod Passing
+mod RoundsLeft
+mod Resting
 mod Played
