@@ -7,6 +7,7 @@ mod Segments
 mod Reaching
 mod Going
 mod Passing
+mod Taking
 mod RoundsLeft
 mod Resting
 mod Played
