@@ -52,6 +52,12 @@ all_left xs = map left_of xs
 abbrev pub if_tracing : Bool → List TraceLine → List TraceLine
 if_tracing tracing lines = filter (λ line. tracing) lines
 
+-- Nothing is added to the trace.
+pub record KeepsTrace (old new : Log) : Type 0 where
+  pub outs : new.outs ≡ old.outs
+  pub lines : new.lines ≡ old.lines
+  pub tracing : new.tracing ≡ old.tracing
+
 -- The world is that of the effect, and what it tells stands behind what was told before; so do the lines of what it
 -- sends, where a trace is kept, among those of the step that is being made. The site is the same.
 pub record Does (e : Effect) (s : Site) (c : Core) (old new : Log) : Type 0 where
