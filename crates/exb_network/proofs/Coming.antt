@@ -160,7 +160,7 @@ module _ (s : Site) (c : Core) (p : Parts) (a : Arrival) (out : Outbox) (came : 
             ∙ ap (λ bs. old.passed ++ bs)
             (ap (λ (es : List Event). passed_in es out.ingress) came.events ∙ ap (passed_in (arrival_event (bridge_in c.control.fabric) a ∷ [])) came.ingress ∙ told_passed (bridge_in c.control.fabric) a);
         left = ap all_left left ∙ sym (append-nil (all_left old.left));
-        outs = ap (λ (v : _). v.items) trace.outs ∙ sym (append-nil old.outs.items);
+        outs = trace.outs ∙ sym (append-nil old.outs.items);
         lines = trace.lines;
         tracing = trace.tracing;
         at = learned_at s c p came.rest at;

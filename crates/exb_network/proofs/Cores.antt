@@ -14,7 +14,7 @@ use Rattle.exb_network.specs.Devices.{Devices, far_of, AreSame}
 use Rattle.exb_network.specs.Directions.{words_of}
 use Rattle.exb_network.specs.Ends.{near_of}
 use Rattle.exb_network.specs.Sites.{Site}
-use Rattle.exb_network.specs.Worlds.{world_in, all_left, left_of, if_tracing, IsAt, Does}
+use Rattle.exb_network.specs.Worlds.{world_in, all_left, left_of, if_tracing, IsAt, Does, HasLeft}
 
 -- ---- the world
 module _ (c : Core) (n : ℕ) where
@@ -100,19 +100,31 @@ module _ (s : Site) (c : Core) (old new : Log) (line : Line) (n : ℕ) (ws : Lis
   sends_up d h = sends_word line (with_up n ws (world_in c)) s (record c { up = d }) old new (up_in c n d ws h) (up_at s c is d) noted left
 
 -- a frame leaves
+pub has_left : (s : Site) (c : Core) (old new : Log) (line : Line) (x : Leaving) → IsAt s c → HasLeft x (told line) old new → Does (leaving line x (world_in c)) s c old new
+has_left s c old new line x is left =
+    record {
+      world = refl;
+      events = left.events ∙ sym (append-nil old.events);
+      passed = left.passed ∙ sym (append-nil old.passed);
+      left = left.left;
+      outs = left.outs;
+      lines = left.lines;
+      tracing = left.tracing;
+      at = is;
+    }
+
 pub leaves : (s : Site) (c : Core) (old new : Log) (line : Line) (x : Left) (y : Leaving) → IsAt s c → IsNoted line old new → left_of x ≡ y → new.left ≡ old.left ++ x ∷ [] →
     Does (leaving line y (world_in c)) s c old new
 leaves s c old new line x y is noted same h =
-    record {
-      world = refl;
-      events = noted.events ∙ sym (append-nil old.events);
-      passed = noted.passed ∙ sym (append-nil old.passed);
+    has_left s c old new line y is
+    (record {
       left = ap all_left h ∙ map-append left_of old.left (x ∷ []) ∙ ap (λ z. all_left old.left ++ z ∷ []) same;
       outs = noted.outs;
+      events = noted.events;
+      passed = noted.passed;
       lines = noted.lines;
       tracing = noted.tracing;
-      at = is;
-    }
+    })
 
 -- nothing is done
 pub does_nothing : (s : Site) (c : Core) (log : Log) → IsAt s c → Does (only (world_in c)) s c log log

@@ -35,9 +35,9 @@ pub came_at : (p : ℕ) (f : List ℕ) → In (p / 64) (p % 64 + 1) f ≡ told (
 came_at p f =
     elim (cases_lt p 64) [
       | inl low ↦
-        let device : p / 64 ≡ 0 = omega (arith, low) in
-        let place : p % 64 ≡ p = omega (arith, low) in
-        rw (lt-ltb p 64 low, device, place) refl
+          let device : p / 64 ≡ 0 = omega (arith, low) in
+          let place : p % 64 ≡ p = omega (arith, low) in
+          rw (lt-ltb p 64 low, device, place) refl
       | inr high ↦ rw (le-ltb p 64 high) refl
     ]
 
@@ -88,12 +88,12 @@ lines_off old ins journal begun done new a c off_a off_c first same last =
     last ∙ sym (kept_off c done journal off_c) ∙ same ∙ first ∙ sym (kept_off a old ins off_a)
 
 -- what was told in the step
-pub told_in : (e : Effect) (old events more : List Event) → events ≡ old ++ more → drop (length old) events ≡ more
-told_in e old events more is = ap (drop (length old)) is ∙ behind old more
-  where
-    behind : (xs ys : List Event) → drop (length xs) (xs ++ ys) ≡ ys
-    behind [] ys = refl
-    behind (x ∷ xs) ys = behind xs ys
+all_behind : (xs ys : List Event) → drop (length xs) (xs ++ ys) ≡ ys
+all_behind [] ys = refl
+all_behind (x ∷ xs) ys = all_behind xs ys
+
+told_in : (old events more : List Event) → events ≡ old ++ more → drop (length old) events ≡ more
+told_in old events more is = ap (drop (length old)) is ∙ all_behind old more
 
 parts_told : (ins : List Line) (events : List Event) (outs : List Line) → all_told (ins ++ map Journal events ++ outs) ≡ all_told ins ++ (all_told (map Journal events) ++ all_told outs)
 parts_told ins events outs =
@@ -106,7 +106,7 @@ unfolding stepped
 stepped_is s c d step old begun done new f events first does behind last =
     let e : Effect = done_by s.tree (limits_in s) step (world_in c) in
     let happened : done.events ≡ old.events ++ e.events = does.events ∙ ap (λ xs. xs ++ e.events) first.events in
-    let these : events ≡ e.events = behind ∙ told_in e old.events done.events e.events happened in
+    let these : events ≡ e.events = behind ∙ told_in old.events done.events e.events happened in
     let sent : done.outs.items ≡ if_tracing begun.tracing (all_told e.outs) = does.outs ∙ ap (λ xs. xs ++ if_tracing begun.tracing (all_told e.outs)) first.outs in
     let ended : new.lines ≡ done.lines ++ if_tracing done.tracing (all_told (map Journal e.events) ++ done.outs.items) =
     last.lines ∙ ap (λ (es : List Event). done.lines ++ if_tracing done.tracing (all_told (map Journal es) ++ done.outs.items)) these in

@@ -16,11 +16,11 @@ use Rattle.exb_network.specs.Worlds.{world_in, all_left, IsAt, Does, KeepsTrace}
 use Rattle.exb_network.proofs.Doing.{does_then}
 
 -- A step of the machine of changes: what it told was added to the log, and what it asked went out.
-pub moved_on : (t : Shape) (m : Moved) (w : World) (s : Site) (b c : Core) (events : List Event) (asked : List Asked) (old told new : Log) → IsAt s b →
+pub moved_on : (t : Shape) (m : Moved) (w : World) (s : Site) (b c : Core) (events : List Event) (asked : List Asked) (old told new : Log) → Does (each (asks t) asked (world_in b)) s c told new → IsAt s b →
     world_in b ≡ with_table (forgotten_all m.downs w.table) (with_control m.state w) → events ≡ m.events → asked ≡ m.asks →
     told.events ≡ old.events ++ events → told.passed ≡ old.passed → told.left ≡ old.left → KeepsTrace old told →
-    Does (each (asks t) asked (world_in b)) s c told new → Does (moves t m w) s c old new
-moved_on t m w s b c events asked old told new here is telling asked_is added passed left trace sent =
+    Does (moves t m w) s c old new
+moved_on t m w s b c events asked old told new sent here is telling asked_is added passed left trace =
     let from : World = with_table (forgotten_all m.downs w.table) (with_control m.state w) in
     does_then (record (only from) { events = m.events }) (each (asks t) m.asks) s b c old told new (
     record {
@@ -28,7 +28,7 @@ moved_on t m w s b c events asked old told new here is telling asked_is added pa
       events = added ∙ ap (λ xs. old.events ++ xs) telling;
       passed = passed ∙ sym (append-nil old.passed);
       left = ap all_left left ∙ sym (append-nil (all_left old.left));
-      outs = ap (λ (v : _). v.items) trace.outs ∙ sym (append-nil old.outs.items);
+      outs = trace.outs ∙ sym (append-nil old.outs.items);
       lines = trace.lines;
       tracing = trace.tracing;
       at = here;

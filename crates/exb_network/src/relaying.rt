@@ -14,7 +14,7 @@ ghost use Rattle.exb_network.specs.Arrivals.{arrival_of};
 ghost use Rattle.exb_machine_laws.specs.Asks.{AsksWell};
 ghost use Rattle.exb_network.specs.Sends.{CanSend, HasPassed, is_passed, is_relay_first, passed_in, told_by};
 ghost use Rattle.exb_network.specs.Sites.{limits_in};
-ghost use Rattle.exb_network.specs.Worlds.{world_in, all_left, if_tracing, IsAt, Does, KeepsTrace};
+ghost use Rattle.exb_network.specs.Worlds.{world_in, IsAt, Does, HasLeft, KeepsTrace};
 
 use crate::arrivals::Arrived;
 use crate::forms::{put_stripped, put_tagged};
@@ -54,21 +54,9 @@ fn leave(
 ) -> Result<(), NoMemory>
     requires from1 { 1 ≤ bridge_port }
     requires to64 { bridge_port ≤ 64 }
-    ensures left { OnOk result (all_left log.new.left ≡ all_left log.old.left ++ record { port = bridge_port - 1; moment = moment; bytes = frame.now } ∷ []) }
-    ensures outs { OnOk result (log.new.outs.items ≡ log.old.outs.items ++ if_tracing log.old.tracing (Out 0 bridge_port frame.now ∷ [])) }
-    ensures events { log.new.events ≡ log.old.events }
-    ensures passed { log.new.passed ≡ log.old.passed }
-    ensures lines { log.new.lines ≡ log.old.lines }
-    ensures tracing { log.new.tracing ≡ log.old.tracing }
+    ensures { OnOk result (HasLeft (record { port = bridge_port - 1; moment = moment; bytes = frame.now }) (Out 0 bridge_port frame.now) log.old log.new) }
 {
-    note_out(
-        alloc,
-        log.tracing,
-        0,
-        bridge_port,
-        frame,
-        &mut log.outs,
-    )?;
+    note_out(alloc, log.tracing, 0, bridge_port, frame, &mut log.outs)?;
     log.left.push(Left {
         port: PortId::at(0, bridge_port - 1),
         moment,
@@ -96,14 +84,7 @@ fn put_word(
     let Some(below) = hung_on(tree, PortId::at(0, bridge_port - 1)) else {
         return Ok(());
     };
-    note_out(
-        alloc,
-        log.tracing,
-        0,
-        bridge_port,
-        frame,
-        &mut log.outs,
-    )?;
+    note_out(alloc, log.tracing, 0, bridge_port, frame, &mut log.outs)?;
     let word = Word {
         bytes: Bytes::from_slice(alloc, frame)?,
         stamp: Some(stamp),

@@ -142,7 +142,7 @@ const TRACES: [Case; 2] = [
     Case {
         topology: "[bridge]\nports = 2\n[[extender]]\nnumber = 1\nports = 2\non = \"b1\"\n",
         steps: "settle; skip; arrive x1.1 FFFFFFFFFFFF0200000000010800AABB; carry 1 up; carry 1 down; trace; skip; tick 3; arrive b2 FF; mark; trace",
-        log: "in x1 1 ffffffffffff0200000000010800aabb\nout x1 up ffffffffffff020000000001893f0000000100000800aabb\nin b 1 ffffffffffff020000000001893f0000000100000800aabb\n= relay x1.1 1\nout b 2 ffffffffffff0200000000010800aabb\nout b 1 ?\nin x1 up ?\nout x1 2 ffffffffffff0200000000010800aabb\n= tick 3\nin b 2 ff\n= ignore b2 1\n= settled\n",
+        log: "in x1 1 ffffffffffff0200000000010800aabb\nout x1 up ffffffffffff020000000001893f0000000100000800aabb\nin b 1 ffffffffffff020000000001893f0000000100000800aabb\n= relay x1.1 1\nout b 1 ffffffffffff020000000001893f0001100100000800aabb\nout b 2 ffffffffffff0200000000010800aabb\nin x1 up ffffffffffff020000000001893f0001100100000800aabb\nout x1 2 ffffffffffff0200000000010800aabb\n= tick 3\nin b 2 ff\n= ignore b2 1\n= settled\n",
     },
 ];
 
