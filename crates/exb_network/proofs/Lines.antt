@@ -97,7 +97,9 @@ told_in old events more is = ap (drop (length old)) is ∙ all_behind old more
 
 parts_told : (ins : List Line) (events : List Event) (outs : List Line) → all_told (ins ++ map Journal events ++ outs) ≡ all_told ins ++ (all_told (map Journal events) ++ all_told outs)
 parts_told ins events outs =
-    map-append told ins (map Journal events ++ outs) ∙ ap (λ xs. all_told ins ++ xs) (map-append told (map Journal events) outs)
+    map-append told (ins ++ map Journal events) outs
+    ∙ ap (λ xs. xs ++ all_told outs) (map-append told ins (map Journal events))
+    ∙ append_assoc (all_told ins) (all_told (map Journal events)) (all_told outs)
 
 pub stepped_is : (s : Site) (c d : Core) (step : Step) (old begun done new : Log) (f : Bool) (events : List Event) → IsBegun (lines_in s.tree step (world_in c)) old begun →
     Does (done_by s.tree (limits_in s) step (world_in c)) s d begun done → events ≡ drop (length old.events) done.events → IsTold events done new →
