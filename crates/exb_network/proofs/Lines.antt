@@ -1,12 +1,11 @@
 -- The lines of a step: what comes in, then the journal, then what goes out.
-use Rattle.std.proofs.Common.{◌≡◌, ℕ, zero, suc, ◌+◌, ◌/◌, ◌%◌, ◌<◌, ◌≤◌, if◌then◌else◌, nat_lt, Bool, true, false, List, [], ◌∷◌, ◌++◌, length, get_or, map, take, drop, refl, ap, sym, subst, ◌∙◌, inl, inr, arith}
+use Rattle.std.proofs.Common.{◌≡◌, ℕ, ◌+◌, ◌/◌, ◌%◌, ◌<◌, Bool, true, false, List, [], ◌∷◌, ◌++◌, length, get_or, map, take, drop, refl, ap, sym, ◌∙◌, inl, inr, arith}
 use Rattle.std.proofs.lemmas.Bool.{cases_lt, lt-ltb, le-ltb}
 use Rattle.std.proofs.lemmas.List.{append-nil, append_assoc, map-append, take_more}
 use Rattle.exb_model.specs.declared.event.Event.{Event}
 use Rattle.exb_model.specs.Traces.{TraceLine, In}
-use Rattle.exb_model.specs.Tree.{Shape}
 use Rattle.exb_machine.specs.Effects.{Effect}
-use Rattle.exb_machine.specs.Stepping.{done_by, line_at, lines_by, lines_in, stepped}
+use Rattle.exb_machine.specs.Stepping.{done_by, line_at, lines_in, stepped}
 use Rattle.exb_machine.specs.Telling.{all_told, told}
 use Rattle.exb_machine.specs.Worlds.{Line, Journal, Step}
 use Rattle.exb_network.specs.declared.log.Log.{Log}

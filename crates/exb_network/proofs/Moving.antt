@@ -1,12 +1,12 @@
 -- A step of the machine of changes, done in two parts.
-use Rattle.std.proofs.Common.{◌≡◌, List, [], ◌++◌, refl, ap, sym, subst, ◌∙◌}
+use Rattle.std.proofs.Common.{◌≡◌, List, ◌++◌, ap, sym, subst, ◌∙◌}
 use Rattle.std.proofs.lemmas.List.{append-nil}
 use Rattle.exb_model.specs.declared.event.Event.{Event}
 use Rattle.exb_model.specs.Tree.{Shape}
 use Rattle.exb_changing.specs.declared.asked.Asked.{Asked}
 use Rattle.exb_changing.specs.Machine.{Moved}
 use Rattle.exb_machine.specs.Worlds.{World, with_control, with_table}
-use Rattle.exb_machine.specs.Effects.{Effect, only, then_do, each}
+use Rattle.exb_machine.specs.Effects.{only, each}
 use Rattle.exb_machine.specs.Controls.{forgotten_all}
 use Rattle.exb_machine.specs.Hearing.{asks, moves}
 use Rattle.exb_network.specs.declared.log.Log.{Log}

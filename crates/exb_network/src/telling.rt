@@ -91,7 +91,7 @@ fn put_any(
     to: &mut List<TraceLine>,
 ) -> Result<(), NoMemory>
     requires { is_extender site.now.tree number ≡ true }
-    ensures { OnOk result (to.new ≡ to.old ++ all_told (line_of_any site.now.tree number (way_of way) (option_copied word))) }
+    ensures { OnOk result (to.new ≡ to.old ++ all_told (line_of_any site.now.tree number (way_of way) (option_copied word.entry))) }
 {
     match word {
         None => Ok(()),

@@ -8,7 +8,7 @@ use Rattle.exb_network.proofs.world.make_told.Goals as goal
 pub returns-clause-made : goal.returns-clause-made
 returns-clause-made c =
     let old = c.args.log.now in
-    let before = c.len-before.ensures ∙ ap length c.as_slice.ensures in
+    let before = ap length c.as_slice-before.ensures in
     let behind =
     c.behind.ensures
     ∙ ap (λ (n : ℕ). drop n c.as_slice-events.result.now) before
