@@ -28,14 +28,14 @@ words-preserved g c =
 pub words-smaller : goal.words-smaller
 words-smaller g c = (let less = c.in_ok-take_next.ensures.fewer in omega (arith, less))
 
-pub take_next-requires-there : goal.take_next-requires-there
-take_next-requires-there g c = there_still c.args.link (way_of c.args.way) _ _ _ _ _ _ c.words.invariant.whole c.requires
+pub take_next-requires-clause-there : goal.take_next-requires-clause-there
+take_next-requires-clause-there g c = there_still c.args.link (way_of c.args.way) _ _ _ _ _ _ c.words.invariant.whole c.requires
 
-pub take_next-requires-next : goal.take_next-requires-next
-take_next-requires-next g c = c.words.invariant.whole.next
+pub take_next-requires-clause-next : goal.take_next-requires-clause-next
+take_next-requires-clause-next g c = c.words.invariant.whole.next
 
-pub take_next-requires-low : goal.take_next-requires-low
-take_next-requires-low g c = c.words.invariant.low
+pub take_next-requires-clause-low : goal.take_next-requires-clause-low
+take_next-requires-clause-low g c = c.words.invariant.low
 
 pub returns-clause-ok : goal.returns-clause-ok
 returns-clause-ok g c = through_last c.args.link (way_of c.args.way) _ _ _ _ _ _ c.words.invariant.whole (omega arith) (omega arith)

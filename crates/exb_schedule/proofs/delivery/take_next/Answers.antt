@@ -21,11 +21,11 @@ pub overflow_sub-rest-else-free_at : goal.overflow_sub-rest-else-free_at
 overflow_sub-rest-else-free_at g c =
     (left_data c.args.link (way_of c.args.way) (world_of (network_of c.args.world.now)) c.args.rest.now c.requires.next c.requires.some (λ h. false≢true (sym c.if-free_at.false ∙ c.free_at.ensures.1 h))).0
 
-pub take_control-requires-free : goal.take_control-requires-free
-take_control-requires-free g c = c.free_at.ensures.0 c.if-free_at.true
+pub take_control-requires-clause-free : goal.take_control-requires-clause-free
+take_control-requires-clause-free g c = c.free_at.ensures.0 c.if-free_at.true
 
-pub take_control-requires-low : goal.take_control-requires-low
-take_control-requires-low g c =
+pub take_control-requires-clause-low : goal.take_control-requires-clause-low
+take_control-requires-clause-low g c =
     let low = c.requires.low in
     let some = left_control c.args.link (way_of c.args.way) (world_of (network_of c.args.world.now)) c.args.rest.now c.requires.next c.requires.some (c.free_at.ensures.0 c.if-free_at.true) in
     omega (arith, low, some)

@@ -19,13 +19,13 @@ loop-command-preserved g c =
       few = omega (arith, few, next, fate);
     }
 
-pub give_one-requires-can : goal.give_one-requires-can
-give_one-requires-can g c =
+pub give_one-requires-clause-can : goal.give_one-requires-clause-can
+give_one-requires-clause-can g c =
     given_can (λ (x : Timed). Order x.command) c.args.commands.now c.loop-command.command-index c.command-item.result (network_of c.args.world.now) (network_of c.loop-command.world) c.loop-command-test.true c.command-item.is
     c.loop-command.invariant.given
 
-pub give_one-requires-few : goal.give_one-requires-few
-give_one-requires-few g c =
+pub give_one-requires-clause-few : goal.give_one-requires-clause-few
+give_one-requires-clause-few g c =
     let few = c.loop-command.invariant.few in
     let next = letters_next c.args.commands.now c.loop-command.command-index c.command-item.result c.loop-command-test.true c.command-item.is in
     let all = c.requires.few in

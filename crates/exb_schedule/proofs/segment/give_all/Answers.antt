@@ -5,8 +5,8 @@ use Rattle.exb_schedule.specs.Worlds.{network_of}
 use Rattle.exb_schedule.proofs.Giving.{can_after, can_first, on_ok_any, run_gives}
 use Rattle.exb_schedule.proofs.segment.give_all.Goals as goal
 
-pub give-requires-can : goal.give-requires-can
-give-requires-can g c =
+pub give-requires-clause-can : goal.give-requires-clause-can
+give-requires-clause-can g c =
     let mid = c.let_pass.new.motion in
     let cs = c.args.commands.now in
     let frames = c.args.arrivals.now in
