@@ -29,3 +29,6 @@ take_control-requires-clause-low g c =
     let low = c.requires.low in
     let some = left_control c.args.link (way_of c.args.way) (world_of (network_of c.args.world.now)) c.args.rest.now c.requires.next c.requires.some (c.free_at.ensures.0 c.if-free_at.true) in
     omega (arith, low, some)
+
+pub returns-in_ok-rest-clause-ok : goal.returns-in_ok-rest-clause-ok
+returns-in_ok-rest-clause-ok g c = ?
