@@ -176,3 +176,7 @@ on_ok_any (Err e) f p = tt
 pub if_ok_any : {A E : Type 0} {P Q : A → Type 0} (r : Result A E) → ((x : A) → P x → Q x) → IfOk r P → IfOk r Q
 if_ok_any (Ok x) f p = f x p
 if_ok_any (Err e) f p = tt
+
+pub on_ok_all : {A E P : Type 0} (r : Result A E) → P → OnOk r P
+on_ok_all (Ok x) p = p
+on_ok_all (Err e) p = tt

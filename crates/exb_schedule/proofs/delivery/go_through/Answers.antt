@@ -10,7 +10,7 @@ use Rattle.exb_schedule.proofs.delivery.go_through.Goals as goal
 pub words-init : goal.words-init
 words-init g c =
     record {
-      whole = through_first c.args.link (way_of c.args.way) _ (network_of c.args.world.now) _ _ c.counts.ensures.frames c.counts.ensures.control;
+      whole = through_first c.args.link (way_of c.args.way) _ (network_of c.args.world.now) _ _ c.counts-counts.ensures.frames c.counts-counts.ensures.control;
       low = omega arith;
       falls = omega arith;
     }

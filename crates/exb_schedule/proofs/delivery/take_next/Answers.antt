@@ -10,6 +10,7 @@ use Rattle.exb_network.proofs.Coming.{on_ok_two}
 use Rattle.exb_resting.specs.Settles.{MayTake}
 use Rattle.exb_schedule.specs.Worlds.{network_of}
 use Rattle.exb_schedule.proofs.Leading.{run_step}
+use Rattle.exb_schedule.proofs.Giving.{on_ok_all}
 use Rattle.exb_schedule.proofs.Passing.{control_by, data_by, left_control, left_data}
 use Rattle.exb_schedule.proofs.delivery.take_next.Goals as goal
 
@@ -31,4 +32,37 @@ take_control-requires-clause-low g c =
     omega (arith, low, some)
 
 pub returns-in_ok-rest-clause-ok : goal.returns-in_ok-rest-clause-ok
-returns-in_ok-rest-clause-ok g c = ?
+returns-in_ok-rest-clause-ok g c = λ whole before old k.
+    let free = c.free_at.ensures.0 c.if-free_at.true in
+    let some = left_control c.args.link (way_of c.args.way) (world_of (network_of c.args.world.now)) c.args.rest.now c.requires.next c.requires.some free in
+    control_by c.args.link (way_of c.args.way) whole before _ _ old (network_of c.args.world.now) (network_of c.take_control.new.world) c.args.rest.now _ k.next.kept k.next.rest k.next.more c.requires.there k.next.control_alone
+    k.next.place k.next.is k.next.frames k.next.control c.requires.some free c.in_ok-rest.ensures.ok refl (omega (arith, some)) k.leads
+
+pub returns-in_ok-rest-clause-fewer : goal.returns-in_ok-rest-clause-fewer
+returns-in_ok-rest-clause-fewer g c =
+    let some = left_control c.args.link (way_of c.args.way) (world_of (network_of c.args.world.now)) c.args.rest.now c.requires.next c.requires.some (c.free_at.ensures.0 c.if-free_at.true) in
+    omega (arith, some)
+
+pub step-requires : goal.step-requires
+step-requires g c =
+    let now = network_of c.args.world.now in
+    let some = left_data c.args.link (way_of c.args.way) (world_of (network_of c.args.world.now)) c.args.rest.now c.requires.next c.requires.some (λ h. false≢true (sym c.if-free_at.false ∙ c.free_at.ensures.1 h)) in
+    subst (Can (tree_of now) (world_of now)) (sym c.carry.ensures) (c.requires.there, some.1)
+
+pub returns-else-free_at-clause-ok : goal.returns-else-free_at-clause-ok
+returns-else-free_at-clause-ok g c = λ whole before old k.
+    let now = network_of c.args.world.now in
+    let none : c.args.rest.now.place < leading (words_on c.args.link (way_of c.args.way) (world_of (network_of c.args.world.now))) → ⊥ = λ h. false≢true (sym c.if-free_at.false ∙ c.free_at.ensures.1 h) in
+    let some = (left_data c.args.link (way_of c.args.way) (world_of (network_of c.args.world.now)) c.args.rest.now c.requires.next c.requires.some none).0 in
+    on_ok_two c.step.result
+    (λ made may.
+    data_by c.args.link (way_of c.args.way) whole before _ _ old (network_of c.args.world.now) c.step.new.self c.args.rest.now _ k.next.kept k.next.rest k.next.more c.requires.there k.next.control_alone k.next.place k.next.is
+    k.next.frames k.next.control c.requires.some none
+    (run_step _ now c.step.new.self (subst (λ (s : Step). IsStepped s now c.step.new.self) c.carry.ensures made) (subst (MayTake (tree_of now) (world_of now)) c.carry.ensures may)) refl (omega (arith, some)) refl (omega arith)
+    k.leads)
+    c.step.ensures.ok c.step.ensures.may
+
+pub returns-else-free_at-clause-fewer : goal.returns-else-free_at-clause-fewer
+returns-else-free_at-clause-fewer g c =
+    let some = (left_data c.args.link (way_of c.args.way) (world_of (network_of c.args.world.now)) c.args.rest.now c.requires.next c.requires.some (λ h. false≢true (sym c.if-free_at.false ∙ c.free_at.ensures.1 h))).0 in
+    on_ok_all c.step.result (omega (arith, some))
