@@ -111,6 +111,10 @@ module _ (tells : Type 0) (f : Files) (name : List ℕ) (a b : ℕ → Id) (read
   pub check_refused_opens : (x : Fault) → IsOfTopology x → OpensBy tells (status_of (Err x)) (Some (Check name)) f a b
   check_refused_opens x is = opens_by_check (status_of (Err x)) (not_two x is)
 
+  pub check_opens : (o : Outcome) → IfErr o (λ x. x ≡ Memory) → OpensBy tells (status_of o) (Some (Check name)) f a b
+  check_opens (Ok lines) memory = opens_by_check 0 (λ e. omega arith)
+  check_opens (Err x) memory = opens_by_check (status_of (Err x)) (subst (λ (y : Fault). status_of (Err y) ≢ 2) (sym memory) (λ e. omega arith))
+
   module _ (trace : Bool) (seed : _) where
     pub run_refused_opens : (x : Fault) → IsOfTopology x → OpensBy tells (status_of (Err x)) (Some (Run name trace seed)) f a b
     run_refused_opens x is = record {

@@ -55,6 +55,17 @@ come_of a o x come e = subst (λ (p : Outcome). IfErr p (CanCome a)) e come
 pub can_be : (a : Option Ask) (o : Outcome) → IfErr o (CanCome a) → (x : Fault) → o ≡ Err x → CanBe x
 can_be a o come x e = can_be_come a x (come_of a o x come e)
 
+-- the words alone are answered with the usage line
+usage_none : (a : Option Ask) → CanCome a Usage → a ≡ None
+usage_none None is = refl
+usage_none (Some (Run name trace seed)) (inl is) = absurd is
+usage_none (Some (Run name trace seed)) (inr is) = absurd is
+usage_none (Some (Check name)) is = absurd is
+usage_none (Some (Make number)) is = absurd (cc)
+
+pub none_by_usage : (a : Option Ask) (o : Outcome) → IfErr o (CanCome a) → o ≡ Err Usage → a ≡ None
+none_by_usage a o come e = usage_none a (come_of a o Usage come e)
+
 -- only a run writes
 write_runs : (a : Option Ask) → CanCome a Write → IsRun a
 write_runs None is = absurd (cc)

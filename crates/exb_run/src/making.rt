@@ -9,6 +9,7 @@ use crate::plan::Plan;
 use crate::play::{Script, play};
 use crate::schedule::Schedule;
 use exb_fate::Fate;
+use exb_made::laws::arrives_at_externals;
 use exb_made::make;
 use exb_model::memory::NoMemory;
 use exb_shelf::ScratchShelf;
@@ -34,6 +35,7 @@ pub(crate) fn make_input(alloc: Global, number: u64, fate: Box<dyn Fate>) -> Res
     ensures line { IfOk result (λ line. string_bytes line ≡ eager_summary (made number)) }
     ensures memory { IfErr result (λ fault. fault ≡ Fault.Memory) }
 {
+    arrives_at_externals();
     let input = make(alloc, number)?;
     let captures = taken(alloc, input.captures)?;
     let plan = Plan::new(alloc, &input.setup, "", false)?;
