@@ -1,13 +1,14 @@
 //! Playing an input that is made from a number.
-ghost use Rattle.std.specs.Prelude.{◌≡◌, ◌<◌, ◌^◌, map, IfOk, IfErr, string_bytes};
+ghost use Rattle.std.specs.Prelude.{◌≡◌, ◌<◌, ◌^◌, IfOk, IfErr, string_bytes};
 ghost use Rattle.exb_made.specs.Made.{made};
 ghost use Rattle.exb_run.specs.Answers.{eager_summary};
+ghost use Rattle.exb_run.specs.Reading.{contents, made_contents};
 
 use crate::captures::Capture;
 use crate::fault::Fault;
 use crate::plan::Plan;
-use crate::play::{Script, play};
-use crate::schedule::Schedule;
+use crate::play::play;
+use crate::script::{Schedule, Script};
 use exb_fate::Fate;
 use exb_made::laws::arrives_at_externals;
 use exb_made::make;
@@ -17,7 +18,7 @@ use std::alloc::Global;
 
 /// Captures that were made, as those that are read.
 fn taken(alloc: Global, made: Vec<exb_made::Capture>) -> Result<Vec<Capture>, NoMemory>
-    ensures { IfOk result (λ captures. map (λ c. (c.port, c.file.items)) captures.items ≡ map (λ c. (c.port, c.file.items)) made.items) }
+    ensures { IfOk result (λ captures. contents captures.items ≡ made_contents made.items) }
 {
     let mut captures = Vec::new(alloc);
     for capture in made {
