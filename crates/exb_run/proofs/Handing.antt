@@ -31,7 +31,7 @@ use Rattle.exb_run.specs.Inputs.{Taken, is_named, records_or_none}
 use Rattle.exb_run.specs.Outputs.{HasPlayed}
 use Rattle.exb_run.specs.Plans.{Planned}
 use Rattle.exb_run.specs.Playing.{IsScript}
-use Rattle.exb_run.specs.Reading.{AreNamed, AreRead, contents, input_with, records_in}
+use Rattle.exb_run.specs.Reading.{AreNamed, AreRead, contents, input_with, records_in, taken_of}
 use Rattle.exb_run.specs.Shelving.{CountsFaults, IsOfWriting}
 use Rattle.exb_run.proofs.Places.{external_low}
 use Rattle.exb_run.proofs.Running.{Outcome, named_by}
@@ -69,6 +69,10 @@ taken_read (c ∷ cs) = ap (λ (xs : List Read). read_in c ∷ xs) (taken_read c
 held_read : (ms : List MadeCapture) → map read_from (map held_in ms) ≡ map read_of ms
 held_read [] = refl
 held_read (m ∷ ms) = ap (λ (xs : List Read). read_of m ∷ xs) (held_read ms)
+
+contents_taken : (ms : List MadeCapture) → contents (map taken_of ms) ≡ map held_in ms
+contents_taken [] = refl
+contents_taken (m ∷ ms) = ap (λ (xs : List Taken). held_in m ∷ xs) (contents_taken ms)
 
 -- what was made is read as that
 read_same : (cs : List Capture) (ms : List MadeCapture) → contents cs ≡ map held_in ms → map read_in cs ≡ map read_of ms
@@ -162,8 +166,11 @@ external_there t q tree is = has_passed (is_external t) 0 4160 q (omega arith) (
 
 -- ---- what was made is what is handed on
 -- its setup, its commands and what is read of its captures
-module _ (number : ℕ) (setup : Setup) (commands : List Timed) (cs : List Capture) (ms : List MadeCapture) (same : contents cs ≡ map held_in ms)
+module _ (number : ℕ) (setup : Setup) (commands : List Timed) (cs : List Capture) (ms : List MadeCapture) (taken : cs ≡ map taken_of ms)
     (is : setup ≡ (made number).setup) (read : map read_of ms ≡ map (λ q. (q, Ok ((made number).records q))) (external_ports (tree_of (made number)))) where
+  same : contents cs ≡ map held_in ms
+  same = ap contents taken ∙ contents_taken ms
+
   all_read : map read_in cs ≡ map (At (made number).records) (external_ports (tree_of (made number)))
   all_read = read_same cs ms same ∙ read
 

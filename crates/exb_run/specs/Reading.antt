@@ -19,9 +19,9 @@ use Rattle.exb_run.specs.Inputs.{Taken, is_named, records_or_none}
 abbrev pub contents : List Capture → List Taken
 contents captures = map (λ c. (c.port, c.file.items)) captures
 
--- captures that were made, by port
-abbrev pub made_contents : List MadeCapture → List Taken
-made_contents captures = map (λ c. (c.port, c.file.items)) captures
+-- a capture that was made, as one that was read
+abbrev pub taken_of : MadeCapture → Capture
+taken_of c = record { port = c.port; file = c.file }
 
 -- a capture at its first record
 abbrev pub stream_in : Capture → Stream

@@ -1,8 +1,8 @@
 //! Playing an input that is made from a number.
-ghost use Rattle.std.specs.Prelude.{◌≡◌, ◌<◌, ◌^◌, IfOk, IfErr, string_bytes};
+ghost use Rattle.std.specs.Prelude.{◌≡◌, ◌<◌, ◌^◌, map, IfOk, IfErr, string_bytes};
 ghost use Rattle.exb_made.specs.Made.{made};
 ghost use Rattle.exb_run.specs.Answers.{eager_summary};
-ghost use Rattle.exb_run.specs.Reading.{contents, made_contents};
+ghost use Rattle.exb_run.specs.Reading.{taken_of};
 
 use crate::captures::Capture;
 use crate::fault::Fault;
@@ -18,7 +18,7 @@ use std::alloc::Global;
 
 /// Captures that were made, as those that are read.
 fn taken(alloc: Global, made: Vec<exb_made::Capture>) -> Result<Vec<Capture>, NoMemory>
-    ensures { IfOk result (λ captures. contents captures.items ≡ made_contents made.items) }
+    ensures { IfOk result (λ captures. captures.items ≡ map taken_of made.items) }
 {
     let mut captures = Vec::new(alloc);
     for capture in made {
