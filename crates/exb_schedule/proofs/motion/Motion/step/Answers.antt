@@ -1,6 +1,6 @@
 use Rattle.exb_schedule.proofs.Reaching.{kept_made}
-use Rattle.exb_schedule.proofs.world.World.step.Goals as goal
-use Rattle.exb_schedule.proofs.world.World.step.Goals.{in-Arrive, in-Carry, in-Control, in-Lose, in-Beat, in-Tick, in-Command, in-Mark}
+use Rattle.exb_schedule.proofs.motion.Motion.step.Goals as goal
+use Rattle.exb_schedule.proofs.motion.Motion.step.Goals.{in-Arrive, in-Carry, in-Control, in-Lose, in-Beat, in-Tick, in-Command, in-Mark}
 
 pub invariant_of-self : goal.invariant_of-self
 invariant_of-self c =

@@ -2,7 +2,7 @@ use Rattle.std.proofs.Common.{subst}
 use Rattle.std.specs.Prelude.{All}
 use Rattle.exb_motion.specs.Kept.{HasVid}
 use Rattle.exb_schedule.proofs.Reaching.{kept_first}
-use Rattle.exb_schedule.proofs.world.World.new.Goals as goal
+use Rattle.exb_schedule.proofs.motion.Motion.new.Goals as goal
 
 pub invariant_of-result : goal.invariant_of-result
 invariant_of-result c =
