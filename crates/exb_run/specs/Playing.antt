@@ -18,7 +18,7 @@ use Rattle.exb_motion.specs.Playing.{IsTimely}
 use Rattle.exb_network.specs.Networks.{Network, IsQuiet}
 use Rattle.exb_resting.specs.Playing.{arrivals_in}
 use Rattle.exb_schedule.specs.declared.segment.Arrival.{Arrival}
-use Rattle.exb_schedule.specs.Playing.{HasPlayed as IsPlayedBy, arrived}
+use Rattle.exb_schedule.specs.Playing.{CanAll, HasPlayed as IsPlayedBy, IsSegment, arrived, gives}
 use Rattle.exb_shelf.specs.Files.{Files}
 use Rattle.exb_standing.specs.Showing.{left_at}
 use Rattle.exb_text.specs.Tallies.{nothing_counted}
@@ -149,8 +149,17 @@ pub record CanGoOn (tells : Type 0) (m : Mode) (r : Run) (plan : Planned) (now :
   pub from_is : from ≡ old.taken
   pub seconds_are : seconds ≡ seconds_after last (second_by first)
 
--- what is played next after some segments: a segment that can be written
-pub record CanFollow (m : Mode) (i : Input) (so_far : List Segment) : Type 0 where
+-- So many arrivals and commands were played that all counts stay low, and arrivals can be written in a capture.
+pub record CanFollow (i : Input) (so_far : List Segment) : Type 0 where
   pub kept : CanBeKept so_far
   pub few_arrivals : length (arrivals_in so_far) ≤ 2 ^ 30
   pub few_commands : length (flat_map (λ (s : Segment). filter_map (command_of (basis_of i)) s.commands) so_far) ≤ 65536
+
+-- the run stands after some segments, and these seconds, commands and arrivals make the next one, which can be played
+pub record CanBePlayed (tells : Type 0) (m : Mode) (r : Run) (plan : Planned) (now : Files) (n : Network) (c : Counts) (o : Outputs) (seconds : ℕ) (cs : List Timed) (frames : List Arrival) : Type 0 where
+  pub so_far : List Segment
+  pub is : IsTold tells m r plan now n c o so_far
+  pub next : Segment
+  pub segment : IsSegment r.input next seconds cs frames
+  pub can : CanAll n (gives seconds cs frames)
+  pub follows : CanFollow r.input (so_far ++ next ∷ [])

@@ -312,13 +312,7 @@ impl Outputs {
         if write_trace_line(line, one).is_err() {
             return Err(Fault::Memory);
         }
-        self.add_to(
-            shelf,
-            plan,
-            plan.count() as usize + 1,
-            &[],
-            line.as_slice(),
-        )
+        self.add_to(shelf, plan, plan.count() as usize + 1, &[], line.as_slice())
     }
 
     /// Puts a frame that left a port behind the port's capture.

@@ -22,9 +22,9 @@ use crate::check::check_topology;
 use crate::fault::Fault;
 use crate::making::make_input;
 use crate::plan::Plan;
-use crate::play::{Script, play};
+use crate::play::play;
 use crate::report::report;
-use crate::schedule::Schedule;
+use crate::script::{Schedule, Script};
 use crate::topology::read_topology;
 use exb_fate::Fate;
 use exb_shelf::{Shelf, Sink};
@@ -125,11 +125,13 @@ fn work<S: Shelf>(
 {
     match accept(words) {
         None => Err(Fault::Usage),
-        Some(Asked::Run {
-            topology,
-            trace,
-            seed,
-        }) => run_topology(alloc, shelf, topology, trace, seed, fate),
+        Some(
+            Asked::Run {
+                topology,
+                trace,
+                seed,
+            },
+        ) => run_topology(alloc, shelf, topology, trace, seed, fate),
         Some(Asked::Check { topology }) => check_topology(alloc, shelf, topology),
         Some(Asked::Make { number }) => make_input(alloc, number, fate),
     }
