@@ -92,6 +92,7 @@ pub record IsDueAfter (m : Mode) (i : Input) (so_far : List Segment) (last : Opt
   pub given : i.commands ≡ map given_by a.commands
   pub names : All (λ c. NamesExternal (tree_of i) c.command) a.commands
   pub few_commands : length a.commands ≤ 65536
+  pub within : a.taken ≤ length a.commands
   pub external : (q : ℕ) → is_external (tree_of i) q ≡ false → i.records q ≡ []
   pub taken : length (flat_map (λ (s : Segment). filter_map (command_of (basis_of i)) s.commands) so_far) ≡ a.taken
   pub kept : CanBeKept so_far
