@@ -1,9 +1,10 @@
 -- What a network is to its contracts: its parts, and the world of the machine for which they stand.
-use Rattle.std.specs.Prelude.{◌≡◌, ◌++◌, Bool, false, []}
+use Rattle.std.specs.Prelude.{◌≡◌, ◌++◌, Bool, true, false, []}
 use Rattle.exb_model.specs.Tree.{Shape}
 use Rattle.exb_model.specs.Setup.{Limits}
 use Rattle.exb_machine.specs.Worlds.{World, Step, Arrive, Carry, Control, Lose, Beat, Tick, Order, Mark}
 use Rattle.exb_machine.specs.Stepping.{stepped}
+use Rattle.exb_machine.specs.Telling.{all_told}
 use Rattle.exb_network.specs.declared.log.Log.{Log}
 use Rattle.exb_network.specs.declared.site.Core.{Core}
 use Rattle.exb_network.specs.declared.step.Step.{Step as Made}
@@ -45,24 +46,28 @@ step_of (made.Tick seconds) = Tick seconds
 step_of (made.Command c) = Order c.now
 step_of made.Mark = Mark
 
--- The same tree and limits, and memory as before.
+-- The same tree and limits, memory as before, and a trace is kept as before.
 pub record IsSame (old new : Network) : Type 0 where
   pub site : new.site ≡ old.site
   pub failed : new.failed ≡ old.failed
+  pub tracing : new.log.tracing ≡ old.log.tracing
 
 -- nothing is told
 pub record IsQuiet (n : Network) : Type 0 where
   pub events : n.log.events ≡ []
   pub passed : n.log.passed ≡ []
   pub left : n.log.left ≡ []
+  pub lines : n.log.lines ≡ []
 
 -- The network made this step of the machine: the world is that of the step, and what the step tells stands behind what
--- was told before.
+-- was told before, its lines too where a trace is kept.
 pub record IsStepped (step : Step) (old new : Network) : Type 0 where
   pub world : world_of new ≡ (stepped (tree_of old) (bounds_of old) step (world_of old)).world
   pub events : new.log.events ≡ old.log.events ++ (stepped (tree_of old) (bounds_of old) step (world_of old)).events
   pub passed : new.log.passed ≡ old.log.passed ++ (stepped (tree_of old) (bounds_of old) step (world_of old)).passed
   pub left : all_left new.log.left ≡ all_left old.log.left ++ (stepped (tree_of old) (bounds_of old) step (world_of old)).left
+  pub lines : old.log.tracing ≡ true → new.log.lines ≡ old.log.lines ++ all_told (stepped (tree_of old) (bounds_of old) step (world_of old)).lines
+  pub silent : old.log.tracing ≡ false → new.log.lines ≡ old.log.lines
   pub same : IsSame old new
 
 -- ---- what the type keeps, while memory hasn't run out

@@ -1,11 +1,13 @@
 -- The world of the machine for which the parts of a network stand, and how they make its steps.
-use Rattle.std.specs.Prelude.{◌≡◌, ℕ, ◌++◌, true, false, List, [], map, slice_index}
+use Rattle.std.specs.Prelude.{◌≡◌, ℕ, ◌++◌, Bool, true, false, List, [], map, filter, slice_index}
+use Rattle.exb_model.specs.Traces.{TraceLine}
 use Rattle.exb_model.specs.Tree.{is_extender}
 use Rattle.exb_learn.specs.Entries.{table_of}
 use Rattle.exb_control.specs.Controls.{state_of}
 use Rattle.exb_machine.specs.Worlds.{World}
 use Rattle.exb_machine.specs.Worlds.{Left as Leaving}
 use Rattle.exb_machine.specs.Effects.{Effect}
+use Rattle.exb_machine.specs.Telling.{all_told}
 use Rattle.exb_network.specs.declared.log.Left.{Left}
 use Rattle.exb_network.specs.declared.log.Log.{Log}
 use Rattle.exb_network.specs.declared.site.Core.{Core}
@@ -46,18 +48,18 @@ left_of x = record { port = x.port; moment = x.moment; bytes = x.bytes }
 abbrev pub all_left : List Left → List Leaving
 all_left xs = map left_of xs
 
--- The world is that of the effect, which tells nothing. The site is the same.
-pub record Moves (e : Effect) (s : Site) (c : Core) : Type 0 where
-  pub world : world_in c ≡ e.world
-  pub events : e.events ≡ []
-  pub passed : e.passed ≡ []
-  pub left : e.left ≡ []
-  pub at : IsAt s c
+-- these lines, where a trace is kept, and else none
+abbrev pub if_tracing : Bool → List TraceLine → List TraceLine
+if_tracing tracing lines = filter (λ line. tracing) lines
 
--- The world is that of the effect, and what it tells stands behind what was told before. The site is the same.
+-- The world is that of the effect, and what it tells stands behind what was told before; so do the lines of what it
+-- sends, where a trace is kept, among those of the step that is being made. The site is the same.
 pub record Does (e : Effect) (s : Site) (c : Core) (old new : Log) : Type 0 where
   pub world : world_in c ≡ e.world
   pub events : new.events ≡ old.events ++ e.events
   pub passed : new.passed ≡ old.passed ++ e.passed
   pub left : all_left new.left ≡ all_left old.left ++ e.left
+  pub outs : new.outs.items ≡ old.outs.items ++ if_tracing old.tracing (all_told e.outs)
+  pub lines : new.lines ≡ old.lines
+  pub tracing : new.tracing ≡ old.tracing
   pub at : IsAt s c

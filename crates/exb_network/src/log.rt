@@ -1,11 +1,14 @@
 //! What happened in a network.
 ghost use Rattle.std.specs.Prelude.{◌≡◌, ◌++◌, ◌∷◌, [], OnOk, IfOk};
+ghost use Rattle.exb_model.specs.Traces.{Out};
+ghost use Rattle.exb_network.specs.Worlds.{if_tracing};
 
 use exb_model::bytes::Bytes;
 use exb_model::event::Event;
 use exb_model::list::List;
 use exb_model::memory::NoMemory;
 use exb_model::port::PortId;
+use exb_model::trace::{TraceLine, TraceWay};
 use std::alloc::Global;
 use std::mem;
 
@@ -24,19 +27,30 @@ pub(crate) struct Log {
     /// For each Relay among the events whether its frame passed at its port.
     pub(crate) passed: List<bool>,
     pub(crate) left: List<Left>,
+    /// What passed and happened, as lines of the trace.
+    pub(crate) lines: List<TraceLine>,
+    /// Whether a trace is kept, which never changes; else there are no lines.
+    pub(crate) tracing: bool,
+    /// What the step that is being made has sent so far, as lines of the trace.
+    pub(crate) outs: Vec<TraceLine>,
 }
 
 impl Log {
     /// Nothing has happened.
-    pub(crate) fn new(alloc: Global) -> Log
+    pub(crate) fn new(alloc: Global, tracing: bool) -> Log
         ensures events { result.events ≡ [] }
         ensures passed { result.passed ≡ [] }
         ensures left { result.left ≡ [] }
+        ensures lines { result.lines ≡ [] }
+        ensures tracing { result.tracing ≡ tracing }
     {
         Log {
             events: List::new(alloc),
             passed: List::new(alloc),
             left: List::new(alloc),
+            lines: List::new(alloc),
+            tracing,
+            outs: Vec::new(alloc),
         }
     }
 }
@@ -98,5 +112,28 @@ pub(crate) fn add_events(
         return copy_events(alloc, events.as_slice(), to);
     }
     mem::swap(events, to);
+    Ok(())
+}
+
+/// A frame goes out by a side of a device: 0 is upstream, else a port's number. Where no trace is kept nothing is copied.
+pub(crate) fn note_out(
+    alloc: Global,
+    tracing: bool,
+    who: u8,
+    side: u8,
+    frame: &[u8],
+    outs: &mut Vec<TraceLine>,
+) -> Result<(), NoMemory>
+    ensures { OnOk result (outs.new.items ≡ outs.old.items ++ if_tracing tracing (Out who side frame.now ∷ [])) }
+{
+    if !tracing {
+        return Ok(());
+    }
+    outs.push(TraceLine {
+        who,
+        way: TraceWay::Out,
+        side,
+        bytes: Bytes::from_slice(alloc, frame)?,
+    })?;
     Ok(())
 }

@@ -34,6 +34,7 @@ use exb_model::event::Event;
 use exb_model::list::List;
 use exb_model::memory::NoMemory;
 use exb_model::setup::Setup;
+use exb_model::trace::TraceLine;
 use exb_model::tree::Tree;
 use std::alloc::Global;
 use std::marker::Model;
@@ -75,14 +76,16 @@ impl Model for World {
 impl World {
     ghost use Rattle.exb_network.specs.Networks.{world_of, tree_of, bounds_of, step_of, IsQuiet, IsSame, IsStepped};
 
-    /// The world of a setup. Nothing has happened in it yet.
-    pub fn new(alloc: Global, setup: &Setup) -> Result<World, NoMemory>
+    /// The world of a setup, with a trace of all that passes on links and ports where that is wanted. Nothing has happened in
+    /// it yet.
+    pub fn new(alloc: Global, setup: &Setup, trace: bool) -> Result<World, NoMemory>
         requires { IsValid setup.now }
         ensures world { IfOk result (λ made. world_of made ≡ first_world (shape_of setup.now) (limits_of setup.now) (start_of setup.now) setup.now.ageing) }
         ensures tree { IfOk result (λ made. tree_of made ≡ shape_of setup.now) }
         ensures limits { IfOk result (λ made. bounds_of made ≡ limits_of setup.now) }
         ensures quiet { IfOk result IsQuiet }
         ensures awake { IfOk result (λ made. made.failed ≡ false) }
+        ensures tracing { IfOk result (λ made. made.log.tracing ≡ trace) }
     {
         setups_begin_sound();
         begins_written();
@@ -94,7 +97,7 @@ impl World {
             core,
             room: Room::new(alloc),
             inner: Vec::new(alloc),
-            log: Log::new(alloc),
+            log: Log::new(alloc, trace),
             failed: false,
         })
     }
@@ -254,13 +257,20 @@ impl World {
         self.log.left.as_slice()
     }
 
+    /// The lines of the trace since the last `clear`, in order; none where no trace is kept.
+    pub fn trace(&self) -> &[TraceLine]
+        ensures { result.now ≡ self.now.log.lines }
+    {
+        self.log.lines.as_slice()
+    }
+
     /// Forgets what happened, and changes nothing else.
     pub fn clear(&mut self)
         ensures world { world_of self.new ≡ world_of self.old }
         ensures same { IsSame self.old self.new }
         ensures quiet { IsQuiet self.new }
     {
-        self.log = Log::new(self.alloc);
+        self.log = Log::new(self.alloc, self.log.tracing);
     }
 }
 

@@ -1,6 +1,8 @@
 pub mod Texts
 pub mod Counting
 pub mod Segmenting
+pub mod Taking
+pub mod Counters
 pub mod Following
 pub mod Tallying
 pub mod Places

@@ -6,11 +6,14 @@
 mod captures;
 mod check;
 mod fault;
+mod game;
+mod gather;
 mod making;
 mod outputs;
 mod plan;
 mod play;
 mod report;
+mod script;
 mod top;
 mod topology;
 

@@ -125,11 +125,13 @@ fn work<S: Shelf>(
 {
     match accept(words) {
         None => Err(Fault::Usage),
-        Some(Asked::Run {
-            topology,
-            trace,
-            seed,
-        }) => run_topology(alloc, shelf, topology, trace, seed, fate),
+        Some(
+            Asked::Run {
+                topology,
+                trace,
+                seed,
+            },
+        ) => run_topology(alloc, shelf, topology, trace, seed, fate),
         Some(Asked::Check { topology }) => check_topology(alloc, shelf, topology),
         Some(Asked::Make { number }) => make_input(alloc, number, fate),
     }

@@ -1,12 +1,3 @@
 mod Runs
-mod Rounds
-mod RoundsLeft
-mod Playing
-mod Leading
-mod Passing
-mod Giving
-mod Resting
-mod Segments
 mod Reaching
-mod Going
 mod Played

@@ -6,14 +6,15 @@ use Rattle.exb_model.specs.EagerHistory.{eager}
 use Rattle.exb_model.specs.FlatBridge.{flat}
 use Rattle.exb_model.specs.History.{◌then◌}
 use Rattle.exb_model.specs.Input.{Eager, basis_of}
+use Rattle.exb_model.specs.LegalHistory.{Legal}
 use Rattle.exb_machine.specs.Worlds.{World, Left}
 use Rattle.exb_standing.specs.Showing.{left_at}
-use Rattle.exb_resting.specs.Playing.{IsCopyOfAny, IsUnderWay, HasWritten, RunsAreUnderWay, RunsWriteEagerly, arrivals_in}
-use Rattle.exb_schedule.specs.Laws.{PlayedIsUnderWay, PlayedWritesEagerly}
+use Rattle.exb_resting.specs.Playing.{IsCopyOfAny, IsUnderWay, HasWritten, HasWrittenIn, RunsAreUnderWay, RunsWriteEagerly, RunsWriteLegally, arrivals_in}
+use Rattle.exb_schedule.specs.Laws.{PlayedIsUnderWay, PlayedWritesEagerly, PlayedWritesLegally}
 
 pub played_is_under_way : RunsAreUnderWay → PlayedIsUnderWay
-played_is_under_way law i so_far n events left k =
-    let u : IsUnderWay i so_far k.done = law Eager i so_far k.done k.plays in
+played_is_under_way law m i so_far n events left lines k =
+    let u : IsUnderWay i so_far k.done = law m i so_far k.done k.plays in
     record {
       next = λ p. ap (λ (w : World). w.next p) k.world ∙ u.next p;
       commands = ap (λ (w : World). w.control.given) k.world ∙ u.commands;
@@ -22,9 +23,19 @@ played_is_under_way law i so_far n events left k =
     }
 
 pub played_writes_eagerly : RunsWriteEagerly → PlayedWritesEagerly
-played_writes_eagerly law i n events left timely k =
+played_writes_eagerly law i n events left lines timely k =
     let w : HasWritten i k.done = law i k.done timely k.plays in
     record {
       journal = subst (λ (es : List Event). ([] then es) ≡ eager i) (sym k.told) w.journal;
       captures = λ q there. subst (λ (xs : List Left). left_at q xs ≡ flat (basis_of i) (eager i) q) (sym k.gone) (w.captures q there);
+    }
+
+pub played_writes_legally : RunsWriteLegally → PlayedWritesLegally
+played_writes_legally law m i n events left lines timely k =
+    let w : HasWrittenIn m i k.done = law m i k.done timely k.plays in
+    record {
+      journal = subst (λ (es : List Event). Legal m i ([] then es)) (sym k.told) w.journal;
+      captures = λ q there.
+          subst (λ (xs : List Left). left_at q xs ≡ flat (basis_of i) ([] then events) q) (sym k.gone)
+          (subst (λ (es : List Event). left_at q k.done.left ≡ flat (basis_of i) ([] then es) q) (sym k.told) (w.captures q there));
     }

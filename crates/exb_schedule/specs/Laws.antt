@@ -1,12 +1,13 @@
 -- What is true of a network that has played segments of an input.
 use Rattle.std.specs.Prelude.{List, []}
 use Rattle.exb_model.specs.declared.event.Event.{Event}
-use Rattle.exb_model.specs.Input.{Input, Segment, Eager, segments}
+use Rattle.exb_model.specs.Input.{Input, Segment, Mode, Eager, segments}
+use Rattle.exb_model.specs.Traces.{TraceLine}
 use Rattle.exb_machine.specs.Stepping.{Stepped}
 use Rattle.exb_machine.specs.Worlds.{Left}
 use Rattle.exb_motion.specs.Playing.{IsTimely}
 use Rattle.exb_network.specs.Networks.{Network, world_of}
-use Rattle.exb_resting.specs.Playing.{IsUnderWay, HasWritten}
+use Rattle.exb_resting.specs.Playing.{IsUnderWay, HasWritten, HasWrittenIn}
 use Rattle.exb_schedule.specs.Playing.{HasPlayed}
 
 -- where a network is, what was told and what has left
@@ -16,9 +17,19 @@ shown n events left = record { world = world_of n; events = events; passed = [];
 -- The next index of each port, the number of commands and the clock follow what was played, and what has left are copies of its
 -- arrivals.
 abbrev pub PlayedIsUnderWay : Type 0
-PlayedIsUnderWay = (i : Input) (so_far : List Segment) (n : Network) (events : List Event) (left : List Left) → HasPlayed i so_far n events left → IsUnderWay i so_far (shown n events left)
+PlayedIsUnderWay =
+    (m : Mode) (i : Input) (so_far : List Segment) (n : Network) (events : List Event) (left : List Left) (lines : List TraceLine) →
+    HasPlayed m i so_far n events left lines → IsUnderWay i so_far (shown n events left)
 
--- Where all segments are played the eager history was told, and what has left each external port is what the one bridge sends there
--- over it.
+-- Where all segments are played a history was told that the input allows, and what has left each external port is what the one
+-- bridge sends there over it.
+abbrev pub PlayedWritesLegally : Type 0
+PlayedWritesLegally =
+    (m : Mode) (i : Input) (n : Network) (events : List Event) (left : List Left) (lines : List TraceLine) → IsTimely i →
+    HasPlayed m i (segments m i) n events left lines → HasWrittenIn m i (shown n events left)
+
+-- In the eager mode it is the eager history.
 abbrev pub PlayedWritesEagerly : Type 0
-PlayedWritesEagerly = (i : Input) (n : Network) (events : List Event) (left : List Left) → IsTimely i → HasPlayed i (segments Eager i) n events left → HasWritten i (shown n events left)
+PlayedWritesEagerly =
+    (i : Input) (n : Network) (events : List Event) (left : List Left) (lines : List TraceLine) → IsTimely i →
+    HasPlayed Eager i (segments Eager i) n events left lines → HasWritten i (shown n events left)

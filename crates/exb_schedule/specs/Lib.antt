@@ -2,4 +2,5 @@ pub mod Moves
 pub mod Reached
 pub mod Rounds
 pub mod Playing
+pub mod Worlds
 pub mod Laws

@@ -1,8 +1,9 @@
 -- What moves a network: steps of the machine, one after another.
-use Rattle.std.specs.Prelude.{◌≡◌, ◌++◌, List, [], ◌∷◌}
+use Rattle.std.specs.Prelude.{◌≡◌, ◌++◌, true, List, [], ◌∷◌}
 use Rattle.exb_machine.specs.Allowing.{IsSettled}
 use Rattle.exb_machine.specs.Settling.{run}
 use Rattle.exb_machine.specs.Stepping.{Stepped}
+use Rattle.exb_machine.specs.Telling.{all_told}
 use Rattle.exb_machine.specs.Worlds.{Step, Mark}
 use Rattle.exb_machine_laws.specs.Laws.{IsMove}
 use Rattle.exb_machine_laws.specs.Sessions.{Each}
@@ -11,12 +12,13 @@ use Rattle.exb_network.specs.Worlds.{all_left}
 use Rattle.exb_resting.specs.Settles.{MayTakeAll}
 
 -- The network is where this was done: its world is that, and what was told and has left stands behind what was told and had left
--- before.
+-- before; so do the lines of its trace, where one is kept.
 pub record IsMoved (done : Stepped) (old new : Network) : Type 0 where
   pub world : world_of new ≡ done.world
   pub events : new.log.events ≡ old.log.events ++ done.events
   pub passed : new.log.passed ≡ old.log.passed ++ done.passed
   pub left : all_left new.log.left ≡ all_left old.log.left ++ done.left
+  pub lines : old.log.tracing ≡ true → new.log.lines ≡ old.log.lines ++ all_told done.lines
   pub same : IsSame old new
 
 -- It made these steps, each of which might be made when its turn came.

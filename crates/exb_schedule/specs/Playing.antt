@@ -1,24 +1,26 @@
 -- A network that plays an input, segment by segment.
-use Rattle.std.specs.Prelude.{◌≡◌, ℕ, ◌++◌, ◌==◌, if◌then◌else◌, List, [], ◌∷◌, map, filter_map}
+use Rattle.std.specs.Prelude.{◌≡◌, ℕ, ◌++◌, ◌==◌, true, if◌then◌else◌, List, [], ◌∷◌, length, map, filter_map, sum_by}
 use Rattle.exb_model.specs.declared.event.Event.{Event}
 use Rattle.exb_model.specs.declared.setup.Timed.{Timed}
 use Rattle.exb_model.specs.History.{command_of}
-use Rattle.exb_model.specs.Input.{Input, Arrival as Arrived, Segment, basis_of, tree_of, bounds_of}
+use Rattle.exb_model.specs.Traces.{TraceLine}
+use Rattle.exb_model.specs.Input.{Input, Arrival as Arrived, Segment, Mode, basis_of, tree_of, bounds_of}
 use Rattle.exb_model.specs.Setup.{Limits}
 use Rattle.exb_model.specs.Tree.{Shape}
 use Rattle.exb_machine.specs.Allowing.{Can}
 use Rattle.exb_machine.specs.Stepping.{Stepped, stepped}
+use Rattle.exb_machine.specs.Telling.{all_told}
 use Rattle.exb_machine.specs.Worlds.{World, Step, Arrive, Order, Tick, Left}
 use Rattle.exb_network.specs.Networks.{Network, world_of, tree_of as shape_in, bounds_of as limits_in}
-use Rattle.exb_resting.specs.Playing.{PlaysSoFar}
+use Rattle.exb_resting.specs.Playing.{PlaysIn}
 use Rattle.exb_schedule.specs.declared.segment.Arrival.{Arrival}
 
 -- an arrival, without where its bytes lie in memory
 abbrev pub arrived : Arrival → Arrived
 arrived a = record { port = a.port; index = a.index; moment = a.moment; bytes = a.bytes }
 
--- ---- a segment of the eager mode: one event, after its seconds
--- its steps before settling
+-- ---- a segment: its seconds, its commands and its arrivals
+-- the steps that give them, in that order
 abbrev pub tick : ℕ → List Step
 tick seconds = if seconds == 0 then [] else Tick seconds ∷ []
 
@@ -30,6 +32,10 @@ arrive frames = map (λ (a : Arrival). Arrive (arrived a)) frames
 
 abbrev pub gives : ℕ → List Timed → List Arrival → List Step
 gives seconds cs frames = tick seconds ++ (orders cs ++ arrive frames)
+
+-- how many verdicts are planned for these commands
+abbrev pub letters_in : List Timed → ℕ
+letters_in commands = sum_by (λ (c : Timed). length c.fate) commands
 
 -- each of these steps may be made when its turn comes
 abbrev pub CanFrom : Shape → Limits → World → List Step → Type 0
@@ -46,12 +52,14 @@ pub record IsSegment (i : Input) (s : Segment) (seconds : ℕ) (cs : List Timed)
   pub arrivals_are : s.arrivals ≡ map arrived frames
 
 -- ---- a run so far
--- After the opening and these segments of an input, each settled and marked, this was told, and this has left.
-pub record HasPlayed (i : Input) (so_far : List Segment) (n : Network) (events : List Event) (left : List Left) : Type 0 where
+-- After the opening and these segments of an input, each settled and marked, this was told, and this has left; these are the lines of
+-- the trace, where one is kept.
+pub record HasPlayed (m : Mode) (i : Input) (so_far : List Segment) (n : Network) (events : List Event) (left : List Left) (lines : List TraceLine) : Type 0 where
   pub done : Stepped
-  pub plays : PlaysSoFar i so_far done
+  pub plays : PlaysIn m i so_far done
   pub tree : shape_in n ≡ tree_of i
   pub limits : limits_in n ≡ bounds_of i
   pub world : world_of n ≡ done.world
   pub told : events ≡ done.events
   pub gone : left ≡ done.left
+  pub traced : n.log.tracing ≡ true → lines ≡ all_told done.lines

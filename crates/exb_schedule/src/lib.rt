@@ -1,20 +1,12 @@
-//! Schedules: in which order the network is moved. A round goes once through the words that stand on the links, and then one beat
-//! passes; settling makes rounds until nothing is left to be done, within a stated number of them; the eager run plays one event
-//! after another, and settles after each. Upwards it promises that what is told and what leaves, from the opening on, is what one
-//! VLAN bridge does over the eager history. It moves the network of `exb_network` by single steps alone, and stands on the laws of
-//! worlds in motion (`exb_motion`) and of settling (`exb_resting`).
+//! Schedules: in which order the network is moved (a stand-in).
 #![tactic(auto)]
 
-mod delivery;
 mod facts;
 pub mod laws;
+mod motion;
 pub mod segment;
-mod settling;
-mod steps;
 pub mod world;
 
-pub use delivery::round;
 pub use exb_network::{Left, Step, Way, WorldFault};
-pub use segment::{Arrival, eager, open};
-pub use settling::settle;
+pub use segment::{Arrival, eager, open, seeded};
 pub use world::World;

@@ -1,23 +1,26 @@
-//! The opening, and the segments of the eager run.
-ghost use Rattle.std.specs.Prelude.{◌≡◌, ◌++◌, ◌∷◌, [], ◌↔◌, List, true, false, IfOk, OnErr, OnOk};
+//! The opening, and the segments of a run.
+ghost use Rattle.std.specs.Prelude.{◌≡◌, ◌++◌, ◌∷◌, [], ◌+◌, ◌<◌, ◌≤◌, ◌^◌, ℕ, List, true, false, IfOk, OnErr, OnOk, length};
 ghost use Rattle.exb_model.specs.declared.event.Event.{Event};
-ghost use Rattle.exb_model.specs.Input.{Input, Segment};
+ghost use Rattle.exb_model.specs.Input.{Input, Segment, Mode, Eager, Seeded};
 ghost use Rattle.exb_model.specs.Setup.{IsValid, limits_of, shape_of};
-ghost use Rattle.exb_machine.specs.Allowing.{IsSettled};
-ghost use Rattle.exb_machine.specs.Worlds.{Left as Leaving};
-ghost use Rattle.exb_network.specs.Networks.{world_of, tree_of, bounds_of, IsSame};
+ghost use Rattle.exb_model.specs.Traces.{TraceLine as Telling};
+ghost use Rattle.exb_machine.specs.Allowing.{Can, IsSettled};
+ghost use Rattle.exb_machine.specs.Worlds.{Left as Leaving, Order};
+ghost use Rattle.exb_network.specs.Networks.{world_of, tree_of, bounds_of, IsSame, IsStepped};
 ghost use Rattle.exb_network.specs.Worlds.{all_left};
+ghost use Rattle.exb_resting.specs.Settles.{MayTake};
 ghost use Rattle.exb_schedule.specs.Moves.{HasEnded, HasRun};
-ghost use Rattle.exb_schedule.specs.Playing.{arrive, gives, orders, tick, CanAll, HasPlayed, IsSegment};
+ghost use Rattle.exb_schedule.specs.Playing.{gives, letters_in, orders, CanAll, HasPlayed, IsSegment};
+ghost use Rattle.exb_schedule.specs.Worlds.{network_of};
 
-use crate::settling::settle;
-use crate::steps::{mark, order, tick};
 use crate::world::World;
+use exb_fate::Fate;
 use exb_model::bytes::Bytes;
 use exb_model::memory::NoMemory;
 use exb_model::port::PortId;
-use exb_model::setup::{Setup, Timed};
-use exb_network::{Step, WorldFault};
+use exb_model::setup::{Setup, Timed, Verdict};
+use exb_network::WorldFault;
+use rand_pcg::Lcg64Xsh32;
 use std::alloc::Global;
 
 /// A frame of a capture that arrives: record `index` (from 1) of its port, at `moment` nanoseconds.
@@ -29,96 +32,68 @@ pub struct Arrival {
     pub bytes: Bytes,
 }
 
-/// Settles and marks.
-fn end(world: &mut World) -> Result<(), WorldFault>
-    ensures ok { OnOk result (HasEnded world.old world.new) }
-    ensures settled { OnOk result (IsSettled (tree_of world.new) (world_of world.new)) }
-    ensures failed { (result ≡ Err WorldFault.Failed) ↔ (world.old.failed ≡ true) }
-    ensures memory { OnErr result (world.new.failed ≡ true) }
+/// The world of a setup after its opening, for which the fate is armed with this plan: each extender is heard and opened, and each of
+/// its ports goes up, or is refused that; settled and marked.
+pub fn open(
+    alloc: Global,
+    setup: &Setup,
+    fate: Box<dyn Fate>,
+    plan: &[Verdict],
+    trace: bool,
+) -> Result<World, NoMemory>
+    requires valid { IsValid setup.now }
+    requires few { left fate + length plan.now < 2 ^ 57 }
+    ensures plays { IfOk result (λ world. (m : Mode) (i : Input) → i.setup ≡ setup.now
+        → HasPlayed m i [] (network_of world) (network_of world).log.events (all_left (network_of world).log.left) (network_of world).log.lines) }
+    ensures settled { IfOk result (λ world. IsSettled (tree_of (network_of world)) (world_of (network_of world))) }
+    ensures tree { IfOk result (λ world. tree_of (network_of world) ≡ shape_of setup.now) }
+    ensures limits { IfOk result (λ world. bounds_of (network_of world) ≡ limits_of setup.now) }
+    ensures awake { IfOk result (λ world. (network_of world).failed ≡ false) }
+    ensures tracing { IfOk result (λ world. (network_of world).log.tracing ≡ trace) }
+    ensures fate { IfOk result (λ world. left world.fate ≤ left fate + length plan.now) }
 {
-    settle(world)?;
-    world.step(mark())
+    Err(NoMemory)
 }
 
-/// The world of a setup after its opening, in which each extender is heard and opened and each of its ports goes up, or is refused
-/// that; settled and marked.
-pub fn open(alloc: Global, setup: &Setup) -> Result<World, NoMemory>
-    requires { IsValid setup.now }
-    ensures plays { IfOk result (λ world. (i : Input) → i.setup ≡ setup.now → HasPlayed i [] world world.log.events (all_left world.log.left)) }
-    ensures settled { IfOk result (λ world. IsSettled (tree_of world) (world_of world)) }
-    ensures tree { IfOk result (λ world. tree_of world ≡ shape_of setup.now) }
-    ensures limits { IfOk result (λ world. bounds_of world ≡ limits_of setup.now) }
-    ensures awake { IfOk result (λ world. world.failed ≡ false) }
-{
-    let mut world = World::new(alloc, setup)?;
-    match end(&mut world) {
-        Ok(()) => Ok(world),
-        Err(_) => Err(NoMemory),
-    }
-}
-
-/// Lets seconds pass, if there are any.
-fn let_pass(world: &mut World, seconds: u32) -> Result<(), WorldFault>
-    requires { CanAll world.old (tick seconds) }
-    ensures ok { OnOk result (HasRun (tick seconds) world.old world.new) }
-    ensures failed { OnErr result ((result ≡ Err WorldFault.Failed) ↔ (world.old.failed ≡ true)) }
-    ensures memory { OnErr result (world.new.failed ≡ true) }
-{
-    if seconds == 0 {
-        return Ok(());
-    }
-    world.step(tick(seconds))
-}
-
-/// Gives commands, in order.
-fn give(world: &mut World, commands: &[Timed]) -> Result<(), WorldFault>
-    requires { CanAll world.old (orders commands.now) }
-    ensures ok { OnOk result (HasRun (orders commands.now) world.old world.new) }
-    ensures failed { OnErr result ((result ≡ Err WorldFault.Failed) ↔ (world.old.failed ≡ true)) }
-    ensures memory { OnErr result (world.new.failed ≡ true) }
-{
-    for command in commands {
-        world.step(order(&command.command))?;
-    }
-    Ok(())
-}
-
-/// Lets frames arrive, in order.
-fn let_arrive(world: &mut World, arrivals: &[Arrival]) -> Result<(), WorldFault>
-    requires { CanAll world.old (arrive arrivals.now) }
-    ensures ok { OnOk result (HasRun (arrive arrivals.now) world.old world.new) }
-    ensures failed { OnErr result ((result ≡ Err WorldFault.Failed) ↔ (world.old.failed ≡ true)) }
-    ensures memory { OnErr result (world.new.failed ≡ true) }
-{
-    for arrival in arrivals {
-        world.step(Step::Arrive {
-            port: arrival.port,
-            index: arrival.index,
-            moment: arrival.moment,
-            bytes: arrival.bytes.as_slice(),
-        })?;
-    }
-    Ok(())
-}
-
-/// Plays a segment: the clock goes on by its seconds, its commands are given and its frames arrive, all is settled and marked.
+/// Plays a segment in order: the clock goes on by its seconds, its commands are given and its frames arrive, all is settled and
+/// marked. Each command's plan arms the fate just before it.
 pub fn eager(
     world: &mut World,
     seconds: u32,
     commands: &[Timed],
     arrivals: &[Arrival],
 ) -> Result<(), WorldFault>
-    requires { CanAll world.old (gives seconds commands.now arrivals.now) }
-    ensures settled { OnOk result (IsSettled (tree_of world.new) (world_of world.new)) }
-    ensures plays { OnOk result ((i : Input) (so_far : List Segment) (s : Segment) (events : List Event) (left : List Leaving) → IsSegment i s seconds commands.now arrivals.now
-        → HasPlayed i so_far world.old (events ++ world.old.log.events) (left ++ all_left world.old.log.left)
-        → HasPlayed i (so_far ++ s ∷ []) world.new (events ++ world.new.log.events) (left ++ all_left world.new.log.left)) }
-    ensures same { OnOk result (IsSame world.old world.new) }
-    ensures failed { (result ≡ Err WorldFault.Failed) ↔ (world.old.failed ≡ true) }
-    ensures memory { OnErr result (world.new.failed ≡ true) }
+    requires can { CanAll (network_of world.old) (gives seconds commands.now arrivals.now) }
+    requires few { left world.old.fate + letters_in commands.now < 2 ^ 57 }
+    ensures settled { OnOk result (IsSettled (tree_of (network_of world.new)) (world_of (network_of world.new))) }
+    ensures plays { OnOk result ((i : Input) (so_far : List Segment) (s : Segment) (events : List Event) (left : List Leaving) (lines : List Telling) → IsSegment i s seconds commands.now arrivals.now
+        → HasPlayed Eager i so_far (network_of world.old) (events ++ (network_of world.old).log.events) (left ++ all_left (network_of world.old).log.left) (lines ++ (network_of world.old).log.lines)
+        → HasPlayed Eager i (so_far ++ s ∷ []) (network_of world.new) (events ++ (network_of world.new).log.events) (left ++ all_left (network_of world.new).log.left) (lines ++ (network_of world.new).log.lines)) }
+    ensures same { OnOk result (IsSame (network_of world.old) (network_of world.new)) }
+    ensures failed { result ≡ Err WorldFault.Failed → (network_of world.old).failed ≡ true }
+    ensures fate { left world.new.fate ≤ left world.old.fate + letters_in commands.now }
 {
-    let_pass(world, seconds)?;
-    give(world, commands)?;
-    let_arrive(world, arrivals)?;
-    end(world)
+    Err(WorldFault::Memory)
 }
+
+/// Plays a segment in an order that is drawn.
+pub fn seeded(
+    world: &mut World,
+    rng: &mut Lcg64Xsh32,
+    seconds: u32,
+    commands: &[Timed],
+    arrivals: &[Arrival],
+) -> Result<(), WorldFault>
+    requires can { CanAll (network_of world.old) (gives seconds commands.now arrivals.now) }
+    requires few { left world.old.fate + letters_in commands.now < 2 ^ 57 }
+    ensures settled { OnOk result (IsSettled (tree_of (network_of world.new)) (world_of (network_of world.new))) }
+    ensures plays { OnOk result ((i : Input) (so_far : List Segment) (s : Segment) (events : List Event) (left : List Leaving) (lines : List Telling) → IsSegment i s seconds commands.now arrivals.now
+        → HasPlayed Seeded i so_far (network_of world.old) (events ++ (network_of world.old).log.events) (left ++ all_left (network_of world.old).log.left) (lines ++ (network_of world.old).log.lines)
+        → HasPlayed Seeded i (so_far ++ s ∷ []) (network_of world.new) (events ++ (network_of world.new).log.events) (left ++ all_left (network_of world.new).log.left) (lines ++ (network_of world.new).log.lines)) }
+    ensures same { OnOk result (IsSame (network_of world.old) (network_of world.new)) }
+    ensures failed { result ≡ Err WorldFault.Failed → (network_of world.old).failed ≡ true }
+    ensures fate { left world.new.fate ≤ left world.old.fate + letters_in commands.now }
+{
+    Err(WorldFault::Memory)
+}
+

@@ -1,5 +1,5 @@
-//! The world that schedules move: a network that a setup began.
-ghost use Rattle.std.specs.Prelude.{All, ◌≡◌, ◌↔◌, ◌<◌, ◌≤◌, ℕ, [], true, false, Some, IfOk, IfSome, IfNone, IsTrue, OnErr, OnOk, length, filter, slice_get};
+//! The world: what moves, and the fate that was handed in.
+ghost use Rattle.std.specs.Prelude.{⊤, ◌≡◌, ◌≢◌, ◌↔◌, ◌+◌, ◌<◌, ◌≤◌, ◌^◌, ℕ, [], true, false, All, IfOk, IsTrue, OnErr, OnOk, length, filter};
 ghost use Rattle.exb_model.specs.Setup.{IsValid, limits_of, shape_of, start_of};
 ghost use Rattle.exb_model.specs.Tree.{is_extender};
 ghost use Rattle.exb_changing.specs.Counting.{planned};
@@ -11,205 +11,179 @@ ghost use Rattle.exb_machine.specs.Worlds.{first_world};
 ghost use Rattle.exb_motion.specs.Kept.{HasVid};
 ghost use Rattle.exb_network.specs.Networks.{world_of, tree_of, bounds_of, step_of, IsQuiet, IsSame, IsStepped};
 ghost use Rattle.exb_network.specs.Steps.{way_of};
-ghost use Rattle.exb_network.specs.Turns.{order_of, IsTurn};
 ghost use Rattle.exb_resting.specs.Settles.{MayTake};
-ghost use Rattle.exb_schedule.specs.Reached.{IsReached};
+ghost use Rattle.exb_schedule.specs.Worlds.{network_of};
 
-use crate::facts::{are_bytes, name_vlans, names_vlan};
+use crate::motion::Motion;
+use exb_fate::Fate;
 use exb_link::Counts;
 use exb_model::event::Event;
 use exb_model::memory::NoMemory;
-use exb_model::setup::Setup;
+use exb_model::setup::{Setup, Verdict};
+use exb_model::trace::TraceLine;
 use exb_model::tree::Tree;
-use exb_network::{Left, Step, Turn, Way, World as Network, WorldFault};
+use exb_network::{Left, Step, Way, WorldFault};
 use std::alloc::Global;
-use std::marker::{Model, PhantomData};
 
-/// A network that a valid setup began, and that steps moved since.
+/// A network that a valid setup began and that steps moved since, and the fate of its control words. It asks the fate at each
+/// control word of a round, arms it before each command, and drops it.
 #[derive(Drop)]
 pub struct World {
-    network: Network,
-    /// Whether memory ran out in a step.
-    failed: bool,
-    /// Names the types of a step, for functions that make one.
-    steps: PhantomData<Step<'static>>,
-}
-
-impl Model for World {
-    ghost use Rattle.exb_network.specs.Networks.{Network};
-
-    ghost Value = { Network };
-
-    ghost use Rattle.exb_schedule.specs.Reached.{IsKept};
-
-    ghost view = { λ w. w.network };
-
-    ghost invariant = { λ w. IsKept w.network w.failed };
+    pub(crate) motion: Motion,
+    pub(crate) fate: Box<dyn Fate>,
 }
 
 impl World {
-    /// The world of a setup. Nothing has happened in it yet.
-    pub fn new(alloc: Global, setup: &Setup) -> Result<World, NoMemory>
+    /// The world of a setup, with this fate, and with a trace where that is wanted. Nothing has happened in it yet.
+    pub fn new(
+        alloc: Global,
+        setup: &Setup,
+        fate: Box<dyn Fate>,
+        trace: bool,
+    ) -> Result<World, NoMemory>
         requires { IsValid setup.now }
-        ensures world { IfOk result (λ made. world_of made ≡ first_world (shape_of setup.now) (limits_of setup.now) (start_of setup.now) setup.now.ageing) }
-        ensures tree { IfOk result (λ made. tree_of made ≡ shape_of setup.now) }
-        ensures limits { IfOk result (λ made. bounds_of made ≡ limits_of setup.now) }
-        ensures quiet { IfOk result IsQuiet }
-        ensures awake { IfOk result (λ made. made.failed ≡ false) }
+        ensures world { IfOk result (λ made. world_of (network_of made) ≡ first_world (shape_of setup.now) (limits_of setup.now) (start_of setup.now) setup.now.ageing) }
+        ensures tree { IfOk result (λ made. tree_of (network_of made) ≡ shape_of setup.now) }
+        ensures limits { IfOk result (λ made. bounds_of (network_of made) ≡ limits_of setup.now) }
+        ensures quiet { IfOk result (λ made. IsQuiet (network_of made)) }
+        ensures awake { IfOk result (λ made. (network_of made).failed ≡ false) }
+        ensures tracing { IfOk result (λ made. (network_of made).log.tracing ≡ trace) }
         ensures vids { All HasVid setup.now.start }
+        ensures fate { IfOk result (λ made. left made.fate ≡ left fate) }
     {
-        name_vlans(setup.start.as_slice());
-        Ok(World {
-            network: Network::new(alloc, setup)?,
-            failed: false,
-            steps: PhantomData,
-        })
+        let motion = Motion::new(alloc, setup, trace)?;
+        Ok(World { motion, fate })
     }
 
     /// Whether a step may be made, where memory hasn't run out: by exactly the rules of the network.
     pub fn can(&self, step: &Step<'_>) -> bool
-        ensures may { result ≡ true → Can (tree_of self.now) (world_of self.now) (step_of step.now) }
-        ensures exact { self.now.failed ≡ false → Can (tree_of self.now) (world_of self.now) (step_of step.now) → result ≡ true }
+        ensures may { result ≡ true → Can (tree_of (network_of self.now)) (world_of (network_of self.now)) (step_of step.now) }
+        ensures exact { (network_of self.now).failed ≡ false → Can (tree_of (network_of self.now)) (world_of (network_of self.now)) (step_of step.now) → result ≡ true }
     {
-        self.network.can(step)
+        self.motion.can(step)
     }
 
     /// Makes a step.
     pub fn step(&mut self, step: Step<'_>) -> Result<(), WorldFault>
-        requires { Can (tree_of self.old) (world_of self.old) (step_of step) }
-        ensures ok { OnOk result (IsStepped (step_of step.entry) self.old self.new) }
-        ensures may { OnOk result (MayTake (tree_of self.old) (world_of self.old) (step_of step.entry)) }
-        ensures failed { (result ≡ Err WorldFault.Failed) ↔ (self.old.failed ≡ true) }
-        ensures memory { OnErr result (self.new.failed ≡ true) }
+        requires { Can (tree_of (network_of self.old)) (world_of (network_of self.old)) (step_of step) }
+        ensures ok { OnOk result (IsStepped (step_of step.entry) (network_of self.old) (network_of self.new)) }
+        ensures may { OnOk result (MayTake (tree_of (network_of self.old)) (world_of (network_of self.old)) (step_of step.entry)) }
+        ensures failed { (result ≡ Err WorldFault.Failed) ↔ ((network_of self.old).failed ≡ true) }
+        ensures memory { OnErr result ((network_of self.new).failed ≡ true) }
+        ensures fate { left self.new.fate ≡ left self.old.fate }
     {
-        let done = match step {
-            Step::Arrive {
-                port,
-                index,
-                moment,
-                bytes,
-            } => {
-                are_bytes(bytes);
-                self.network.step(Step::Arrive {
-                    port,
-                    index,
-                    moment,
-                    bytes,
-                })
-            }
-            Step::Carry { link, way } => self.network.step(Step::Carry { link, way }),
-            Step::Control {
-                link,
-                way,
-                at,
-                keep,
-            } => self.network.step(Step::Control {
-                link,
-                way,
-                at,
-                keep,
-            }),
-            Step::Lose { link, way, at } => self.network.step(Step::Lose { link, way, at }),
-            Step::Beat => self.network.step(Step::Beat),
-            Step::Tick { seconds } => self.network.step(Step::Tick { seconds }),
-            Step::Command { command } => {
-                names_vlan(command);
-                self.network.step(Step::Command { command })
-            }
-            Step::Mark => self.network.step(Step::Mark),
-        };
-        self.failed = done.is_err();
-        done
+        self.motion.step(step)
+    }
+
+    /// Plans verdicts for the control words that come next.
+    pub fn arm(&mut self, plan: &[Verdict]) -> Result<(), NoMemory>
+        requires { left self.old.fate + length plan.now < 2 ^ 57 }
+        ensures network { network_of self.new ≡ network_of self.old }
+        ensures ok { OnOk result (left self.new.fate ≤ left self.old.fate + length plan.now) }
+        ensures err { OnErr result (left self.new.fate ≡ left self.old.fate) }
+    {
+        self.fate.arm(plan)
+    }
+
+    /// What becomes of the next control word.
+    pub fn fate(&mut self) -> Verdict
+        requires { ⊤ }
+        ensures network { network_of self.new ≡ network_of self.old }
+        ensures falls { left self.new.fate ≤ left self.old.fate }
+        ensures pays { result ≢ Verdict.Pass → left self.new.fate < left self.old.fate }
+    {
+        self.fate.next()
+    }
+
+    /// How many verdicts other than a plain delivery the fate may still give.
+    pub fn fate_left(&self) -> u64
+        ensures { result ≡ left self.now.fate }
+    {
+        self.fate.left()
     }
 
     /// Whether nothing is left to be done, and memory hasn't run out: no job waits and no change is at work, nothing is on any
     /// link, and every end of the transport is idle.
     pub fn settled(&self) -> bool
-        ensures { IsTrue result ↔ ((self.now.failed ≡ false) × IsSettled (tree_of self.now) (world_of self.now)) }
+        ensures { IsTrue result ↔ (((network_of self.now).failed ≡ false) × IsSettled (tree_of (network_of self.now)) (world_of (network_of self.now))) }
     {
-        !self.failed && self.network.settled()
-    }
-
-    /// That a run of a valid setup comes to this world, as a fact for whoever calls this. It does nothing.
-    pub fn is_reached(&self)
-        ensures { IsReached self.now }
-    {
-        let _ = &self.network;
+        self.motion.settled()
     }
 
     /// How many beats there were; it stays at 2^64 - 1.
     pub fn beats(&self) -> u64
-        ensures { result ≡ (world_of self.now).beats }
+        ensures { result ≡ (world_of (network_of self.now)).beats }
     {
-        self.network.beats()
+        self.motion.beats()
     }
 
     /// The tree.
     pub fn tree(&self) -> &Tree
-        ensures { result.now ≡ tree_of self.now }
+        ensures { result.now ≡ tree_of (network_of self.now) }
     {
-        self.network.tree()
+        self.motion.tree()
     }
 
     /// How many exchanges and announcements are still to come before all jobs are done.
     pub fn planned(&self) -> Result<u64, NoMemory>
-        ensures { self.now.failed ≡ false → IfOk result (λ count. count ≡ planned (tree_of self.now) (decide (tree_of self.now) (bounds_of self.now)) (world_of self.now).control) }
+        ensures { (network_of self.now).failed ≡ false → IfOk result (λ count. count ≡ planned (tree_of (network_of self.now)) (decide (tree_of (network_of self.now)) (bounds_of (network_of self.now))) (world_of (network_of self.now)).control) }
     {
-        self.network.planned()
+        self.motion.planned()
     }
 
     /// How many data words and control words are on a direction.
     pub fn counts(&self, link: u8, way: Way) -> Counts
-        requires { is_extender (tree_of self.now) link ≡ true }
-        ensures frames { result.frames ≡ length (filter is_data (words_on link (way_of way) (world_of self.now))) }
-        ensures control { result.control ≡ length (filter is_control (words_on link (way_of way) (world_of self.now))) }
+        requires { is_extender (tree_of (network_of self.now)) link ≡ true }
+        ensures frames { result.frames ≡ length (filter is_data (words_on link (way_of way) (world_of (network_of self.now)))) }
+        ensures control { result.control ≡ length (filter is_control (words_on link (way_of way) (world_of (network_of self.now)))) }
     {
-        self.network.counts(link, way)
+        self.motion.counts(link, way)
     }
 
     /// Whether there is a control word at a position of a direction, and no data word sent before it is left.
     pub fn free_at(&self, link: u8, way: Way, at: u64) -> bool
-        requires { is_extender (tree_of self.now) link ≡ true }
-        ensures { IsTrue result ↔ (at < leading (words_on link (way_of way) (world_of self.now))) }
+        requires { is_extender (tree_of (network_of self.now)) link ≡ true }
+        ensures { IsTrue result ↔ (at < leading (words_on link (way_of way) (world_of (network_of self.now)))) }
     {
-        self.network.free_at(link, way, at)
-    }
-
-    /// The first direction of a way, from a place on in the order in which a round goes through them, that has a word.
-    pub fn next_busy(&self, way: Way, from: u8) -> Option<Turn>
-        ensures found { IfSome result (λ turn. IsTurn (tree_of self.now) (way_of way) (world_of self.now) from turn) }
-        ensures none { IfNone result ((k n : ℕ) → from ≤ k → slice_get (order_of (tree_of self.now) (way_of way)) k ≡ Some n → words_on n (way_of way) (world_of self.now) ≡ []) }
-    {
-        self.network.next_busy(way, from)
+        self.motion.free_at(link, way, at)
     }
 
     /// What happened since the last `clear`, in order.
     pub fn events(&self) -> &[Event]
-        ensures { result.now ≡ self.now.log.events }
+        ensures { result.now ≡ (network_of self.now).log.events }
     {
-        self.network.events()
+        self.motion.events()
     }
 
     /// For each Relay among the events, in order, whether its frame passed at its port.
     pub fn passed(&self) -> &[bool]
-        ensures { result.now ≡ self.now.log.passed }
+        ensures { result.now ≡ (network_of self.now).log.passed }
     {
-        self.network.passed()
+        self.motion.passed()
     }
 
     /// What left the ports since the last `clear`, in order.
     pub fn left(&self) -> &[Left]
-        ensures { result.now ≡ self.now.log.left }
+        ensures { result.now ≡ (network_of self.now).log.left }
     {
-        self.network.left()
+        self.motion.left()
+    }
+
+    /// The lines of the trace since the last `clear`, in order; none where no trace is kept.
+    pub fn trace(&self) -> &[TraceLine]
+        ensures { result.now ≡ (network_of self.now).log.lines }
+    {
+        self.motion.trace()
     }
 
     /// Forgets what happened, and changes nothing else.
     pub fn clear(&mut self)
-        ensures world { world_of self.new ≡ world_of self.old }
-        ensures same { IsSame self.old self.new }
-        ensures quiet { IsQuiet self.new }
+        requires { ⊤ }
+        ensures world { world_of (network_of self.new) ≡ world_of (network_of self.old) }
+        ensures same { IsSame (network_of self.old) (network_of self.new) }
+        ensures quiet { IsQuiet (network_of self.new) }
+        ensures fate { left self.new.fate ≡ left self.old.fate }
     {
-        self.network.clear();
+        self.motion.clear();
     }
 }
