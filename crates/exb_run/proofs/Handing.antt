@@ -78,7 +78,7 @@ contents_taken (m ∷ ms) = ap (λ (xs : List Taken). held_in m ∷ xs) (content
 read_same : (cs : List Capture) (ms : List MadeCapture) → contents cs ≡ map held_in ms → map read_in cs ≡ map read_of ms
 read_same cs ms same = sym (taken_read cs) ∙ ap (map read_from) same ∙ held_read ms
 
-size_of : Taken → ℕ
+abbrev size_of : Taken → ℕ
 size_of x = length x.1
 
 sizes : (cs : List Capture) → sum_by (λ c. length c.file.items) cs ≡ sum_by size_of (contents cs)
@@ -107,12 +107,12 @@ module _ (r : ℕ → List Record) where
       ap (λ (q : ℕ). q ∷ map (λ (x : Capture). x.port) cs) (ap (λ (x : Read). x.0) head) ∙ ap (λ (qs : List ℕ). p ∷ qs) (ports_are cs ps tail)
 
   whole_are : (cs : List Capture) (ps : List ℕ) → map read_in cs ≡ map At ps → All (λ c. IsOk (pcap_records c.file.items)) cs
-  whole_are [] ps e k d low = absurd (omega (arith, low))
+  whole_are [] ps e = λ k d low. absurd (omega (arith, low))
   whole_are (c ∷ cs) [] e = absurd (cc)
   whole_are (c ∷ cs) (p ∷ ps) e =
       let head : read_in c ≡ At p = cc in
       let tail : map read_in cs ≡ map At ps = cc in
-      All-cons (λ (x : Capture). IsOk (pcap_records x.file.items)) c cs (subst IsOk (sym (ap (λ (x : Read). x.1) head)) tt) (whole_are cs ps tail)
+      All-cons (λ (x : Capture). IsOk (pcap_records x.file.items)) c cs (subst IsOk (sym (ap (λ (x : Read). x.1) head)) refl) (whole_are cs ps tail)
 
   records_are : (q : ℕ) (cs : List Capture) (ps : List ℕ) → map read_in cs ≡ map At ps → list_any (λ p. p == q) ps ≡ true → records_in cs q ≡ r q
   records_are q [] [] e has = absurd (cc)
@@ -214,7 +214,7 @@ made_script number setup commands is none named few rising = record {
   commands = subst (λ (s : Setup). All (λ (c : Timed). NamesExternal (shape_of s) c.command) commands) (sym is) named;
   few_commands = omega (arith, few);
   rising = rising;
-  few_letters = (let no = letterless commands none in omega (arith, no));
+  few_letters = (let zero_letters = letterless commands none in omega (arith, zero_letters));
 }
 
 -- ---- how the run of what was made ends

@@ -85,11 +85,11 @@ opened_for plan traced t f a b c same prefix tree good read made =
 -- ---- by the status
 -- nothing is opened
 pub opens_by_none : (tells : Type 0) (a : Option Ask) (f : Files) (status : ℕ) (ids : ℕ → Id) → ((name : List ℕ) → a ≢ Some (Check name)) → OpensBy tells status a f ids ids
-opens_by_none tells a f status ids no = record {
+opens_by_none tells a f status ids not_check = record {
   nothing = λ e j. refl;
   made = λ number e j. refl;
   topology = λ e. opens_none _ ids;
-  checked = λ name e. absurd (no name e);
+  checked = λ name e. absurd (not_check name e);
   reads = λ n0 n1 n7. opens_none _ ids;
   wanted = λ t n0 n1 n7. opens_none _ ids;
   only = λ t. opens_none _ ids;
@@ -115,7 +115,7 @@ module _ (tells : Type 0) (f : Files) (name : List ℕ) (a b : ℕ → Id) (read
   check_opens (Ok lines) memory = opens_by_check 0 (λ e. omega arith)
   check_opens (Err x) memory = opens_by_check (status_of (Err x)) (subst (λ (y : Fault). status_of (Err y) ≢ 2) (sym memory) (λ e. omega arith))
 
-  module _ (trace : Bool) (seed : _) where
+  module _ (trace : Bool) (seed : Option ℕ) where
     pub run_refused_opens : (x : Fault) → IsOfTopology x → OpensBy tells (status_of (Err x)) (Some (Run name trace seed)) f a b
     run_refused_opens x is = record {
       nothing = λ e. absurd (not_two x is e);

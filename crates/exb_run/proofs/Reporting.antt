@@ -1,5 +1,5 @@
 -- What is printed of what was done, and with which status.
-use Rattle.std.proofs.Common.{◌≡◌, ◌≢◌, ◌<◌, ◌++◌, ◌⊎◌, ◌==◌, inl, inr, ℕ, List, Option, Some, None, Ok, Err, ap, sym, ◌∙◌, refl, subst, arith}
+use Rattle.std.proofs.Common.{◌≡◌, ◌≢◌, ◌<◌, ◌++◌, ◌⊎◌, ◌==◌, inl, inr, Bool, ℕ, List, Option, Some, None, Ok, Err, ap, sym, ◌∙◌, refl, subst, arith}
 use Rattle.std.specs.Prelude.{IfOk, IfErr, OnErr, IsErrOf, string_bytes, codes}
 use Rattle.std.proofs.lemmas.Bool.{false≢true, cases_eq}
 use Rattle.exb_keys.specs.declared.faults.TopoFault.TheVariants as topology
@@ -127,43 +127,43 @@ is_missing (Err Memory) e = absurd (omega arith)
 -- ---- statuses
 topology_status : (name : List ℕ) (x : Fault) → IsOfTopology x → IsStatus (Some (Check name)) (fault_status x)
 topology_status name Usage is = absurd is
-topology_status name (Missing n) is = tt
-topology_status name (BadTopology fault) is = tt
+topology_status name (Missing n) is = refl
+topology_status name (BadTopology fault) is = refl
 topology_status name (Capture p flaw) is = absurd is
-topology_status name Read is = tt
+topology_status name Read is = refl
 topology_status name Write is = absurd is
-topology_status name Memory is = tt
+topology_status name Memory is = refl
 
-run_status : (name : List ℕ) (trace : _) (seed : _) (x : Fault) → IsOfTopology x ⊎ IsOfPlaying x → IsStatus (Some (Run name trace seed)) (fault_status x)
+run_status : (name : List ℕ) (trace : Bool) (seed : Option ℕ) (x : Fault) → IsOfTopology x ⊎ IsOfPlaying x → IsStatus (Some (Run name trace seed)) (fault_status x)
 run_status name trace seed Usage (inl is) = absurd is
 run_status name trace seed Usage (inr is) = absurd is
-run_status name trace seed (Missing n) is = tt
-run_status name trace seed (BadTopology fault) is = tt
-run_status name trace seed (Capture p flaw) is = tt
-run_status name trace seed Read is = tt
-run_status name trace seed Write is = tt
-run_status name trace seed Memory is = tt
+run_status name trace seed (Missing n) is = refl
+run_status name trace seed (BadTopology fault) is = refl
+run_status name trace seed (Capture p flaw) is = refl
+run_status name trace seed Read is = refl
+run_status name trace seed Write is = refl
+run_status name trace seed Memory is = refl
 
 status_comes : (a : Option Ask) (o : Outcome) → IfErr o (CanCome a) → (a ≡ None → IsErrOf o Usage) → IsStatus a (status_of o)
-status_comes None o come none = subst (λ (p : Outcome). IsStatus None (status_of p)) (sym (none refl)) tt
-status_comes (Some (Run name trace seed)) (Ok text) come none = tt
+status_comes None o come none = subst (λ (p : Outcome). IsStatus None (status_of p)) (sym (none refl)) refl
+status_comes (Some (Run name trace seed)) (Ok text) come none = refl
 status_comes (Some (Run name trace seed)) (Err x) come none = run_status name trace seed x come
-status_comes (Some (Check name)) (Ok text) come none = tt
+status_comes (Some (Check name)) (Ok text) come none = refl
 status_comes (Some (Check name)) (Err x) come none = topology_status name x come
-status_comes (Some (Make number)) (Ok text) come none = tt
-status_comes (Some (Make number)) (Err x) come none = subst (λ (y : Fault). IsStatus (Some (Make number)) (fault_status y)) (sym come) tt
+status_comes (Some (Make number)) (Ok text) come none = refl
+status_comes (Some (Make number)) (Err x) come none = subst (λ (y : Fault). IsStatus (Some (Make number)) (fault_status y)) (sym come) refl
 
 one_is : (a : Option Ask) → IsStatus a 1
-one_is None = tt
-one_is (Some (Run name trace seed)) = tt
-one_is (Some (Check name)) = tt
-one_is (Some (Make number)) = tt
+one_is None = refl
+one_is (Some (Run name trace seed)) = refl
+one_is (Some (Check name)) = refl
+one_is (Some (Make number)) = refl
 
 seven_is : (a : Option Ask) → IsStatus a 7
-seven_is None = tt
-seven_is (Some (Run name trace seed)) = tt
-seven_is (Some (Check name)) = tt
-seven_is (Some (Make number)) = tt
+seven_is None = refl
+seven_is (Some (Run name trace seed)) = refl
+seven_is (Some (Check name)) = refl
+seven_is (Some (Make number)) = refl
 
 pub status_is : (a : Option Ask) (o : Outcome) (s : ℕ) → IfErr o (CanCome a) → (a ≡ None → IsErrOf o Usage) → (s ≢ 1 → s ≢ 7 → s ≡ status_of o) → IsStatus a s
 status_is a o s come none is = elim (cases_eq s 1) [

@@ -1,5 +1,5 @@
 -- The parts of what is asked for make the whole.
-use Rattle.std.proofs.Common.{◌≡◌, ◌≢◌, ◌⊎◌, inl, inr, Bool, ℕ, List, Some, None, Ok, Err, ap, sym, ◌∙◌, refl, subst}
+use Rattle.std.proofs.Common.{◌≡◌, ◌≢◌, ◌⊎◌, inl, inr, Bool, ℕ, List, Option, Some, None, Ok, Err, ap, sym, ◌∙◌, refl, subst}
 use Rattle.std.specs.Prelude.{IfOk, IfErr, OnErr, IsErrOf, String, string_bytes}
 use Rattle.std.specs.declared.alloc.Global.{Global}
 use Rattle.exb_made.specs.Made.{made}
@@ -31,7 +31,7 @@ came_unaccepted tells f = record {
   stops = λ t fault is. inl (ap Err (sym is));
   can_come = refl;
   early = λ nw nm n. refl;
-  read_only = λ no n. refl;
+  read_only = λ other n. refl;
   stopped = λ t fault is n. refl;
   others = λ t n. refl;
 }
@@ -44,7 +44,7 @@ module _ (tells : Type 0) (name : List ℕ) (f g : Files) (x : Fault) (is : tell
   ends fault (inr (inl read)) one = inr (inl (ap Err read))
   ends fault (inr (inr memory)) one = inr (inr (ap Err memory))
 
-  pub came_run_refused : (trace : Bool) (seed : _) → CameOut tells (Some (Run name trace seed)) (Err x) f g
+  pub came_run_refused : (trace : Bool) (seed : Option ℕ) → CameOut tells (Some (Run name trace seed)) (Err x) f g
   came_run_refused trace seed = record {
     unaccepted = λ none. absurd (cc);
     done = λ t. tt;
@@ -61,7 +61,7 @@ module _ (tells : Type 0) (name : List ℕ) (f g : Files) (x : Fault) (is : tell
     ]);
     can_come = inl causes;
     early = λ nw nm. same;
-    read_only = λ no. same;
+    read_only = λ other. same;
     stopped = λ t fault stops. same;
     others = λ t u holds m captures journal trace_file. same m;
   }
@@ -77,7 +77,7 @@ module _ (tells : Type 0) (name : List ℕ) (f g : Files) (x : Fault) (is : tell
     stops = λ t fault stops. ends fault (is t) (λ refused. refused_once name (f name) x fault refused stops);
     can_come = causes;
     early = λ nw nm. same;
-    read_only = λ no. same;
+    read_only = λ other. same;
     stopped = λ t fault stops. same;
     others = λ t. same;
   }
@@ -92,7 +92,7 @@ came_checked tells name f g t (Ok lines) holds same says memory = record {
   stops = λ told fault stops. absurd (held_not name f t fault (holds told) stops);
   can_come = tt;
   early = λ nw nm. tt;
-  read_only = λ no. same;
+  read_only = λ other. same;
   stopped = λ told fault stops. same;
   others = λ told. same;
 }
@@ -103,7 +103,7 @@ came_checked tells name f g t (Err x) holds same says memory = record {
   stops = λ told fault stops. absurd (held_not name f t fault (holds told) stops);
   can_come = subst IsOfTopology (sym memory) tt;
   early = λ nw nm. same;
-  read_only = λ no. same;
+  read_only = λ other. same;
   stopped = λ told fault stops. same;
   others = λ told. same;
 }
@@ -118,7 +118,7 @@ came_made tells number f (Ok line) says memory = record {
   stops = λ told fault stops. absurd stops;
   can_come = tt;
   early = λ nw nm. tt;
-  read_only = λ no n. refl;
+  read_only = λ other n. refl;
   stopped = λ told fault stops n. refl;
   others = λ told n. refl;
 }
@@ -129,14 +129,14 @@ came_made tells number f (Err x) says memory = record {
   stops = λ told fault stops. absurd stops;
   can_come = memory;
   early = λ nw nm n. refl;
-  read_only = λ no n. refl;
+  read_only = λ other n. refl;
   stopped = λ told fault stops n. refl;
   others = λ told n. refl;
 }
 
 -- ---- the topology is played
 -- what comes of it, over the files before and after
-pub record PlaysOut (tells : Type 0) (trace : Bool) (seed : _) (t : Topology) (o : Outcome) (old new : Files) : Type 0 where
+pub record PlaysOut (tells : Type 0) (trace : Bool) (seed : Option ℕ) (t : Topology) (o : Outcome) (old new : Files) : Type 0 where
   pub good : tells → IfOk o (λ line. AreGood t.captures old)
   pub done : tells → IfOk o (λ line. IsPlayed (mode_for seed) trace (input_of t old) t.prefix old new (string_bytes line))
   pub cause : tells → IfErr o (λ x. ((p : ℕ) × FirstFlaw t.captures old p x) ⊎ (x ≡ Read) ⊎ (x ≡ Write) ⊎ (x ≡ Memory))
@@ -146,7 +146,7 @@ pub record PlaysOut (tells : Type 0) (trace : Bool) (seed : _) (t : Topology) (o
   pub stopped : tells → (p : ℕ) (x : Fault) → FirstFlaw t.captures old p x → SameFiles old new
   pub others : tells → OnlyOutputs trace (shape_of t.setup) t.prefix old new
 
-module _ (tells : Type 0) (name : List ℕ) (trace : Bool) (seed : _) (t : Topology) (f h : Files) (holds : tells → HoldsTopology name f t) where
+module _ (tells : Type 0) (name : List ℕ) (trace : Bool) (seed : Option ℕ) (t : Topology) (f h : Files) (holds : tells → HoldsTopology name f t) where
   done-by : (o : Outcome) → IfOk o (λ line. AreGood t.captures f) → IfOk o (λ line. IsPlayed (mode_for seed) trace (input_of t f) t.prefix f h (string_bytes line)) → HoldsTopology name f t
       → IfOk o (λ line. IsDone (Some (Run name trace seed)) f h (string_bytes line))
   done-by (Ok line) good played held = record { topology = t; ready = record { holds = held; good = good }; played = played }
@@ -181,7 +181,7 @@ module _ (tells : Type 0) (name : List ℕ) (trace : Bool) (seed : _) (t : Topol
     stops = λ told x stops. let found = first-by x (holds told) stops in out.stops told found.0 x found.1;
     can_come = comes o out.causes;
     early = out.early;
-    read_only = λ no. absurd (no tt);
+    read_only = λ other. absurd (other tt);
     stopped = λ told x stops. let found = first-by x (holds told) stops in out.stopped told found.0 x found.1;
     others = λ told. others-by (out.others told) (holds told);
   }

@@ -12,14 +12,14 @@ use Rattle.exb_run.proofs.top.run.Goals as goal
 -- ---- what is done
 pub returns-clause-ran : goal.returns-clause-ran
 returns-clause-ran g c = λ t e.
-    let found = done_by c.work-outcome.result _ _ _ (c.work-outcome.ensures.came.done t) (sym (c.report.ensures.status (λ h. omega arith) (λ h. omega arith)) ∙ e) in
+    let found = done_by c.work-outcome.result (asked c.args.words.now) (g.S.Shelf.file c.args.shelf.now) (g.S.Shelf.file c.work-outcome.new.shelf) (c.work-outcome.ensures.came.done t) (sym (c.report.ensures.status (λ h. omega arith) (λ h. omega arith)) ∙ e) in
     (found.0, found.1)
 
 pub returns-clause-headline : goal.returns-clause-headline
 returns-clause-headline g c = λ t o e.
     let n1 : c.report.result ≢ 1 = λ h. omega arith in
     let n7 : c.report.result ≢ 7 = λ h. omega arith in
-    let found = done_by c.work-outcome.result _ _ _ (c.work-outcome.ensures.came.done t) (sym (c.report.ensures.status n1 n7) ∙ e) in
+    let found = done_by c.work-outcome.result (asked c.args.words.now) (g.S.Shelf.file c.args.shelf.now) (g.S.Shelf.file c.work-outcome.new.shelf) (c.work-outcome.ensures.came.done t) (sym (c.report.ensures.status n1 n7) ∙ e) in
     (found.0, found.1, c.report.ensures.whole o n1 n7 ∙ ap (λ (xs : List ℕ). g.O.Sink.text c.args.out.now ++ xs) (sym found.2))
 
 pub returns-clause-makes : goal.returns-clause-makes
@@ -33,7 +33,7 @@ returns-clause-makes g c = λ number a o e.
 pub returns-clause-two : goal.returns-clause-two
 returns-clause-two g c = λ e.
     let is = is_usage c.work-outcome.result (sym (c.report.ensures.status (λ h. omega arith) (λ h. omega arith)) ∙ e) in
-    none_by_usage _ c.work-outcome.result c.work-outcome.ensures.came.can_come is
+    none_by_usage (asked c.args.words.now) c.work-outcome.result c.work-outcome.ensures.came.can_come is
 
 pub returns-clause-usage : goal.returns-clause-usage
 returns-clause-usage g c = λ none n1 n7. c.report.ensures.status n1 n7 ∙ ap status_of (c.work-outcome.ensures.came.unaccepted none)
@@ -44,7 +44,7 @@ returns-clause-usage_seven g c = λ none e. c.report.ensures.seven e (λ h. let 
 pub returns-clause-first : goal.returns-clause-first
 returns-clause-first g c = λ t h.
     let is = of_input c.report.result h in
-    stops_with c.work-outcome.result _ _ c.report.result (c.work-outcome.ensures.came.cause t) (sym (c.report.ensures.status is.one is.seven)) is.late is.six is.seven
+    stops_with c.work-outcome.result (asked c.args.words.now) (g.S.Shelf.file c.args.shelf.now) c.report.result (c.work-outcome.ensures.came.cause t) (sym (c.report.ensures.status is.one is.seven)) is.late is.six is.seven
 
 pub returns-clause-rose : goal.returns-clause-rose
 returns-clause-rose g c =
@@ -53,7 +53,7 @@ returns-clause-rose g c =
       five = λ e. let missing = is_missing o (sym (c.report.ensures.status (λ h. omega arith) (λ h. omega arith)) ∙ e) in c.work-outcome.ensures.faults.missing missing.0 missing.1;
       six = λ e. c.work-outcome.ensures.faults.read (is_read o (sym (c.report.ensures.status (λ h. omega arith) (λ h. omega arith)) ∙ e));
       seven = λ e. elim (write_or_not o) [
-        | inl write ↦ inl (run_by_write _ o c.work-outcome.ensures.came.can_come write, c.work-outcome.ensures.faults.write write)
+        | inl write ↦ inl (run_by_write (asked c.args.words.now) o c.work-outcome.ensures.came.can_come write, c.work-outcome.ensures.faults.write write)
         | inr other ↦ inr (c.report.ensures.seven e other)
       ];
     }
@@ -71,7 +71,7 @@ returns-clause-stops g c = λ t fault stops n1 n6 n7.
 
 pub returns-clause-stops_seven : goal.returns-clause-stops_seven
 returns-clause-stops_seven g c = λ t fault stops e. c.report.ensures.seven e (elim (c.work-outcome.ensures.came.stops t fault stops) [
-  | inl found ↦ λ s. stop_not_seven _ _ fault stops (sym (ap status_of found) ∙ s)
+  | inl found ↦ λ s. stop_not_seven (asked c.args.words.now) (g.S.Shelf.file c.args.shelf.now) fault stops (sym (ap status_of found) ∙ s)
   | inr other ↦ elim other [
     | inl read ↦ λ s. let h : 6 ≡ 7 = sym (ap status_of read) ∙ s in omega arith
     | inr memory ↦ λ s. let h : 1 ≡ 7 = sym (ap status_of memory) ∙ s in omega arith
@@ -79,18 +79,18 @@ returns-clause-stops_seven g c = λ t fault stops e. c.report.ensures.seven e (e
 ])
 
 pub returns-clause-status : goal.returns-clause-status
-returns-clause-status g c = status_is _ c.work-outcome.result c.report.result c.work-outcome.ensures.came.can_come c.work-outcome.ensures.came.unaccepted c.report.ensures.status
+returns-clause-status g c = status_is (asked c.args.words.now) c.work-outcome.result c.report.result c.work-outcome.ensures.came.can_come c.work-outcome.ensures.came.unaccepted c.report.ensures.status
 
 -- ---- what is printed
 pub returns-clause-stops_says : goal.returns-clause-stops_says
 returns-clause-stops_says g c = λ t o fault stops e.
-    let n1 : c.report.result ≢ 1 = λ h. stop_not_one _ _ fault stops (sym e ∙ h) in
-    let n7 : c.report.result ≢ 7 = λ h. stop_not_seven _ _ fault stops (sym e ∙ h) in
+    let n1 : c.report.result ≢ 1 = λ h. stop_not_one (asked c.args.words.now) (g.S.Shelf.file c.args.shelf.now) fault stops (sym e ∙ h) in
+    let n7 : c.report.result ≢ 7 = λ h. stop_not_seven (asked c.args.words.now) (g.S.Shelf.file c.args.shelf.now) fault stops (sym e ∙ h) in
     let is : c.report.result ≡ status_of c.work-outcome.result = c.report.ensures.status n1 n7 in
     elim (c.work-outcome.ensures.came.stops t fault stops) [
       | inl found ↦ c.report.ensures.whole o n1 n7 ∙ ap (λ (p : Outcome). g.O.Sink.text c.args.out.now ++ line_of p) found
       | inr other ↦ elim other [
-        | inl read ↦ absurd (stop_not_six _ _ fault stops (sym e ∙ is ∙ ap status_of read))
+        | inl read ↦ absurd (stop_not_six (asked c.args.words.now) (g.S.Shelf.file c.args.shelf.now) fault stops (sym e ∙ is ∙ ap status_of read))
         | inr memory ↦ absurd (n1 (is ∙ ap status_of memory))
       ]
     ]
@@ -105,15 +105,15 @@ returns-clause-says g c = λ t. record {
   three = λ e.
       let n1 : c.report.result ≢ 1 = λ h. omega arith in
       let n7 : c.report.result ≢ 7 = λ h. omega arith in
-      fault_says c.work-outcome.result 3 _ _ (sym (c.report.ensures.status n1 n7) ∙ e) (omega arith) (can_be _ c.work-outcome.result c.work-outcome.ensures.came.can_come) (c.report.ensures.whole t n1 n7);
+      fault_says c.work-outcome.result 3 _ _ (sym (c.report.ensures.status n1 n7) ∙ e) (omega arith) (can_be (asked c.args.words.now) c.work-outcome.result c.work-outcome.ensures.came.can_come) (c.report.ensures.whole t n1 n7);
   four = λ e.
       let n1 : c.report.result ≢ 1 = λ h. omega arith in
       let n7 : c.report.result ≢ 7 = λ h. omega arith in
-      fault_says c.work-outcome.result 4 _ _ (sym (c.report.ensures.status n1 n7) ∙ e) (omega arith) (can_be _ c.work-outcome.result c.work-outcome.ensures.came.can_come) (c.report.ensures.whole t n1 n7);
+      fault_says c.work-outcome.result 4 _ _ (sym (c.report.ensures.status n1 n7) ∙ e) (omega arith) (can_be (asked c.args.words.now) c.work-outcome.result c.work-outcome.ensures.came.can_come) (c.report.ensures.whole t n1 n7);
   five = λ e.
       let n1 : c.report.result ≢ 1 = λ h. omega arith in
       let n7 : c.report.result ≢ 7 = λ h. omega arith in
-      fault_says c.work-outcome.result 5 _ _ (sym (c.report.ensures.status n1 n7) ∙ e) (omega arith) (can_be _ c.work-outcome.result c.work-outcome.ensures.came.can_come) (c.report.ensures.whole t n1 n7);
+      fault_says c.work-outcome.result 5 _ _ (sym (c.report.ensures.status n1 n7) ∙ e) (omega arith) (can_be (asked c.args.words.now) c.work-outcome.result c.work-outcome.ensures.came.can_come) (c.report.ensures.whole t n1 n7);
   six = λ e.
       let n1 : c.report.result ≢ 1 = λ h. omega arith in
       let n7 : c.report.result ≢ 7 = λ h. omega arith in
@@ -128,7 +128,7 @@ returns-clause-says g c = λ t. record {
 
 pub returns-clause-front : goal.returns-clause-front
 returns-clause-front g c = λ t o.
-    front_by c.work-outcome.result _ _ _ (g.S.Shelf.faults c.args.shelf.now) (g.S.Shelf.faults c.work-outcome.new.shelf) _ _ (c.work-outcome.ensures.came.done t)
+    front_by c.work-outcome.result (asked c.args.words.now) (g.S.Shelf.file c.args.shelf.now) (g.S.Shelf.file c.work-outcome.new.shelf) (g.S.Shelf.faults c.args.shelf.now) (g.S.Shelf.faults c.work-outcome.new.shelf) _ _ (c.work-outcome.ensures.came.done t)
     (c.work-outcome.ensures.came.cause t) c.work-outcome.ensures.faults.read c.work-outcome.ensures.faults.write (c.report.ensures.front o)
 
 -- ---- what stays, and what is opened
@@ -138,7 +138,7 @@ returns-clause-early g c = λ n0 n1 n7.
     early_end c.work-outcome.result _ c.work-outcome.ensures.came.early (λ e. n0 (is ∙ e)) (λ e. n1 (is ∙ e)) (λ e. n7 (is ∙ e))
 
 pub returns-clause-opens : goal.returns-clause-opens
-returns-clause-opens g c = opens_by_status _ _ _ c.report.result c.work-outcome.result _ _ c.report.ensures.status c.work-outcome.ensures.opens
+returns-clause-opens g c = opens_by_status _ (asked c.args.words.now) (g.S.Shelf.file c.args.shelf.now) c.report.result c.work-outcome.result _ _ c.report.ensures.status c.work-outcome.ensures.opens
 
 -- ---- completeness
 pub returns-clause-complete : goal.returns-clause-complete
@@ -149,9 +149,9 @@ returns-clause-complete g c = λ t can no_reads no_writes no_out n1.
       | inr other ↦ no_out (c.report.ensures.seven e other)
     ] in
     let is : c.report.result ≡ status_of o = c.report.ensures.status n1 n7 in
-    status_cases o (c.report.result ≡ 0) (λ zero. is ∙ zero) (λ x e. absurd (elim (cause_of _ _ o x (c.work-outcome.ensures.came.cause t) e) [
-      | inl stops ↦ can_not _ _ x can stops
-      | inr failure ↦ elim (failure_is _ x failure) [
+    status_cases o (c.report.result ≡ 0) (λ zero. is ∙ zero) (λ x e. absurd (elim (cause_of (asked c.args.words.now) (g.S.Shelf.file c.args.shelf.now) o x (c.work-outcome.ensures.came.cause t) e) [
+      | inl stops ↦ can_not (asked c.args.words.now) (g.S.Shelf.file c.args.shelf.now) x can stops
+      | inr failure ↦ elim (failure_is (asked c.args.words.now) x failure) [
         | inl read ↦ no_reads (c.work-outcome.ensures.faults.read (e ∙ ap Err read))
         | inr other ↦ elim other [
           | inl write ↦ no_writes (c.work-outcome.ensures.faults.write (e ∙ ap Err write))
