@@ -4,6 +4,7 @@ pub mod Segmenting
 pub mod Taking
 pub mod Counters
 pub mod Following
+pub mod Going
 pub mod Tallying
 pub mod Places
 pub mod Telling

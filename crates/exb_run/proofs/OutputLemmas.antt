@@ -16,7 +16,6 @@ use Rattle.exb_network.specs.declared.log.Left.{Left}
 use Rattle.exb_network.specs.Worlds.{all_left}
 use Rattle.exb_standing.specs.Showing.{left_at}
 use Rattle.exb_run.specs.Plans.{Planned, output_count, port_count, port_at, place_in}
-use Rattle.exb_run.specs.Opening.{IsOutput}
 use Rattle.exb_run.specs.Outputs.{output_name}
 use Rattle.exb_run.specs.Writing.{Holds, HasTexts, with_more, lines_of, with_left_frames, CanBeWritten}
 use Rattle.exb_run.proofs.Filling.{weaker, still_filled, one_more}
@@ -87,15 +86,6 @@ name_of_journal plan j is = rw (le-ltb j (port_count plan) (omega (arith, is)), 
 pub name_of_trace : (plan : Planned) (j : ℕ) → j ≡ port_count plan + 1 → output_name plan j ≡ trace_name plan.prefix
 name_of_trace plan j is = rw (le-ltb j (port_count plan) (omega (arith, is)), ne_eqb j (port_count plan) (λ e. omega (arith, is, e))) refl
 
-pub output_is : (plan : Planned) (j : ℕ) → j < output_count plan → IsOutput plan.traced plan.tree plan.prefix (output_name plan j)
-output_is plan j low = elim (place_is plan j low) [
-  | inl below ↦ inl (port_at plan j, (port_is plan j below).passes, name_of_capture plan j below)
-  | inr other ↦ elim other [
-    | inl is ↦ inr (inl (name_of_journal plan j is))
-    | inr last ↦ inr (inr (last.0, name_of_trace plan j last.1))
-  ]
-]
-
 -- they differ, as those of a run do
 module _ (captures : (prefix : List ℕ) (p q : ℕ) → p < 4160 → q < 4160 → capture_name prefix p ≡ capture_name prefix q → p ≡ q)
     (journal : (prefix : List ℕ) (p : ℕ) → capture_name prefix p ≢ journal_name prefix)
@@ -154,7 +144,7 @@ has_more plan f g h pieces text j piece more apart lt in_pieces p (inl kept) =
     ]))
     kept.0
 has_more plan f g h pieces text j piece more apart lt in_pieces p (inr written) =
-    one_more f g h (port_count plan + 1) j (output_name plan) (Holds pieces text) (Holds (set pieces j piece) (with_more text j more))
+    one_more f g h (output_count plan) j (output_name plan) (Holds pieces text) (Holds (set pieces j piece) (with_more text j more))
     (get_or pieces j [] ++ more) apart lt p written.0
     (λ k bytes other held. holds_other pieces text j piece more k bytes other held)
     (λ bytes held.

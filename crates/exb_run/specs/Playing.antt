@@ -1,5 +1,5 @@
 -- A run under way: what was told and has left so far, what is written and counted of it, and what is still to come.
-use Rattle.std.specs.Prelude.{◌≡◌, ◌≤◌, ◌<◌, ◌+◌, ◌-◌, ◌*◌, ◌^◌, ◌==◌, ℕ, List, [], ◌∷◌, ◌++◌, Option, Some, None, IfSome, nat_lt, if◌then◌else◌, length, map, filter_map, flat_map, fold, sum_by, All, AllPairs}
+use Rattle.std.specs.Prelude.{◌≡◌, ◌≤◌, ◌<◌, ◌+◌, ◌-◌, ◌*◌, ◌^◌, ◌==◌, ℕ, false, List, [], ◌∷◌, ◌++◌, Option, Some, None, IfSome, nat_lt, if◌then◌else◌, length, map, filter_map, flat_map, fold, sum_by, All, AllPairs}
 use Rattle.std.specs.List.{AllByRecursion}
 use Rattle.exb_model.specs.declared.event.Event.{Event}
 use Rattle.exb_model.specs.declared.setup.Setup.{Setup}
@@ -35,11 +35,11 @@ mode_of (schedule.Seeded seed) = Seeded
 
 -- Commands that name external ports of a tree, in the order of their seconds; with a fate for the opening all fates are short
 -- enough.
-pub record IsScript (t : Shape) (commands : List Timed) (fate : List Verdict) : Type 0 where
-  pub commands : All (λ c. NamesExternal t c.command) commands
-  pub few_commands : length commands ≤ 65536
-  pub rising : AllPairs (λ a b. a.at ≤ b.at) commands
-  pub few_letters : length fate + sum_by (λ c. length c.fate) commands ≤ 60000
+pub record IsScript (t : Shape) (given : List Timed) (fate : List Verdict) : Type 0 where
+  pub commands : All (λ c. NamesExternal t c.command) given
+  pub few_commands : length given ≤ 65536
+  pub rising : AllPairs (λ a b. a.at ≤ b.at) given
+  pub few_letters : length fate + sum_by (λ c. length c.fate) given ≤ 60000
 
 -- ---- what is told
 -- the text of output j after this was told and this has left

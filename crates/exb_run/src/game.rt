@@ -339,7 +339,7 @@ pub(crate) fn begin<S: Shelf>(
     ensures ready { IfOk result (λ game. IsReady plan.now (S.ids shelf.new) game.outputs) }
     ensures told { IfOk result (λ game. (m : Mode) (run : Run) → run.input.setup ≡ script.now.setup.now → (S.tells → run.before ≡ S.file shelf.old)
         → IsTold S.tells m run plan.now (S.file shelf.new) (network_of game.world) (counts_of game.tally) game.outputs []) }
-    ensures budget { IfOk result (λ game. left (fate_in game.world) ≤ left fate + length script.now.fate.now) }
+    ensures budget { IfOk result (λ game. left game.world.fate ≤ left fate + length script.now.fate.now) }
     ensures only { OnlyMakes S.tells plan.now (S.file shelf.old) (S.file shelf.new) (S.ids shelf.old) (S.ids shelf.new) }
     ensures causes { IfErr result IsOfWriting }
     ensures faults { CountsFaults result (S.faults shelf.old) (S.faults shelf.new) }

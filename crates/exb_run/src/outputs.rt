@@ -223,10 +223,11 @@ impl Outputs {
         ensures causes { IfErr result IsOfWriting }
         ensures faults { CountsFaults result (S.faults shelf.old) (S.faults shelf.new) }
     {
-        if !plan.traced() {
-            return Ok(());
+        if plan.traced() {
+            self.add_lines(shelf, plan, line, lines)
+        } else {
+            Ok(())
         }
-        self.add_lines(shelf, plan, line, lines)
     }
 
     /// Puts lines behind the trace, which is asked for.

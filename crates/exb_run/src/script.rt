@@ -11,6 +11,7 @@ pub(crate) enum Schedule {
 }
 
 /// A setup, the commands of its run with their fates, and the fate of its opening.
+#[derive(Clone, Copy)]
 pub(crate) struct Script<'a> {
     pub(crate) setup: &'a Setup,
     pub(crate) commands: &'a [Timed],
