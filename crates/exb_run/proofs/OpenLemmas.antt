@@ -1,5 +1,5 @@
 -- Which files are opened.
-use Rattle.std.proofs.Common.{◌≡◌, ◌≢◌, inl, inr, Bool, ℕ, List, Option, Some, None, Ok, Err, refl, ap, sym, subst, ◌∙◌, arith}
+use Rattle.std.proofs.Common.{◌≡◌, ◌≢◌, ◌<◌, inl, inr, Bool, ℕ, List, Option, Some, None, Ok, Err, refl, ap, sym, subst, ◌∙◌, arith}
 use Rattle.std.specs.Prelude.{IfErr, OnErr}
 use Rattle.exb_model.specs.Setup.{shape_of}
 use Rattle.exb_model.specs.Tree.{Shape}
@@ -10,14 +10,15 @@ use Rattle.exb_topology.specs.declared.topology.Topology.{Topology}
 use Rattle.exb_words.specs.Words.{Ask, Run, Check, Make}
 use Rattle.exb_run.specs.declared.fault.Fault.{Fault}
 use Rattle.exb_run.specs.declared.fault.Fault.TheVariants.{Usage, Missing, Topology as BadTopology, Capture, Read, Write, Memory}
-use Rattle.exb_run.specs.Plans.{Planned}
+use Rattle.exb_run.specs.Plans.{Planned, output_count, port_at}
 use Rattle.exb_run.specs.Outputs.{output_name}
 use Rattle.exb_run.specs.Shelving.{IsOfWriting, WritesPlanned}
 use Rattle.exb_run.specs.Flaws.{AreGood}
 use Rattle.exb_run.specs.Answers.{HoldsTopology, status_of}
 use Rattle.exb_run.specs.Reading.{IsOfCapture, IsOfPlaying, IsOfTopology}
 use Rattle.exb_run.specs.Opening.{IsOutput, ReadsTopology, ReadsCapture, WritesOutput, IsOpenedFor, OpensBy}
-use Rattle.exb_run.proofs.OutputLemmas.{output_is}
+use Rattle.exb_run.proofs.OutputLemmas.{name_of_capture, name_of_journal, name_of_trace, place_is}
+use Rattle.exb_run.proofs.Places.{port_is}
 use Rattle.exb_run.proofs.Reporting.{early_end, opens_on}
 use Rattle.exb_run.proofs.Running.{Outcome}
 
@@ -62,6 +63,15 @@ not_two Write is = absurd is
 not_two Memory is = λ e. omega arith
 
 -- ---- outputs
+output_is : (plan : Planned) (j : ℕ) → j < output_count plan → IsOutput plan.traced plan.tree plan.prefix (output_name plan j)
+output_is plan j low = elim (place_is plan j low) [
+  | inl below ↦ inl (port_at plan j, (port_is plan j below).passes, name_of_capture plan j below)
+  | inr other ↦ elim other [
+    | inl journal ↦ inr (inl (name_of_journal plan j journal))
+    | inr trace ↦ inr (inr (trace.0, name_of_trace plan j trace.1))
+  ]
+]
+
 -- an output of a plan is one of its topology
 planned_is_output : (plan : Planned) (traced : Bool) (t : Topology) → plan.traced ≡ traced → plan.prefix ≡ t.prefix → plan.tree ≡ shape_of t.setup → (i : Id)
     → WritesPlanned plan i → WritesOutput traced t i
