@@ -221,9 +221,9 @@ made_script number setup commands is none named few rising = record {
 -- its line is the summary of the eager run
 pub eager_says : (o : Outcome) (i j : Input) (plan : Planned) (old new : Files) → i ≡ j → IfOk o (λ line. HasPlayed Eager i plan old new (string_bytes line))
     → IfOk o (λ line. string_bytes line ≡ eager_summary j)
-eager_says (Ok line) i j plan old new same played =
-    played.says ∙ ap (λ (h : History). summary (tree_of i) (basis_of i) h) (played.eager refl) ∙ ap eager_summary same
-eager_says (Err x) i j plan old new same played = tt
+eager_says (Ok line) i j plan old new is played =
+    played.says ∙ ap (λ (h : History). summary (tree_of i) (basis_of i) h) (played.eager refl) ∙ ap eager_summary is
+eager_says (Err x) i j plan old new is played = tt
 
 -- it can't fail, since no count of the shelf's rises
 pub memory_alone : (o : Outcome) (m n : ℕ) → IfErr o IsOfWriting → CountsFaults o (record { missing = m; reads = 0; writes = 0 }) (record { missing = n; reads = 0; writes = 0 })

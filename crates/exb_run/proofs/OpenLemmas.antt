@@ -1,5 +1,5 @@
 -- Which files are opened.
-use Rattle.std.proofs.Common.{◌≡◌, ◌≢◌, ◌<◌, inl, inr, Bool, ℕ, List, Option, Some, None, Ok, Err, refl, ap, sym, subst, ◌∙◌, arith}
+use Rattle.std.proofs.Common.{◌≡◌, ◌≢◌, ◌<◌, inl, inr, Bool, ℕ, List, Option, Some, Ok, Err, refl, sym, subst, ◌∙◌, arith}
 use Rattle.std.specs.Prelude.{IfErr, OnErr}
 use Rattle.exb_model.specs.Setup.{shape_of}
 use Rattle.exb_model.specs.Tree.{Shape}
@@ -7,7 +7,7 @@ use Rattle.exb_shelf.specs.Files.{Files}
 use Rattle.exb_shelf.specs.Shelf.{Id, IsReading, IsReadingOf, Opens}
 use Rattle.exb_shelf.proofs.IdLemmas.{opens_none, opens_weaker, opens_then}
 use Rattle.exb_topology.specs.declared.topology.Topology.{Topology}
-use Rattle.exb_words.specs.Words.{Ask, Run, Check, Make}
+use Rattle.exb_words.specs.Words.{Ask, Run, Check}
 use Rattle.exb_run.specs.declared.fault.Fault.{Fault}
 use Rattle.exb_run.specs.declared.fault.Fault.TheVariants.{Usage, Missing, Topology as BadTopology, Capture, Read, Write, Memory}
 use Rattle.exb_run.specs.Plans.{Planned, output_count, port_at}
@@ -15,8 +15,8 @@ use Rattle.exb_run.specs.Outputs.{output_name}
 use Rattle.exb_run.specs.Shelving.{IsOfWriting, WritesPlanned}
 use Rattle.exb_run.specs.Flaws.{AreGood}
 use Rattle.exb_run.specs.Answers.{HoldsTopology, status_of}
-use Rattle.exb_run.specs.Reading.{IsOfCapture, IsOfPlaying, IsOfTopology}
-use Rattle.exb_run.specs.Opening.{IsOutput, ReadsTopology, ReadsCapture, WritesOutput, IsOpenedFor, OpensBy}
+use Rattle.exb_run.specs.Reading.{IsOfCapture, IsOfPlaying}
+use Rattle.exb_run.specs.Opening.{IsOutput, ReadsCapture, WritesOutput, IsOpenedFor, OpensBy}
 use Rattle.exb_run.proofs.OutputLemmas.{name_of_capture, name_of_journal, name_of_trace, place_is}
 use Rattle.exb_run.proofs.Places.{port_is}
 use Rattle.exb_run.proofs.Reporting.{early_end, opens_on}
@@ -37,30 +37,16 @@ writing_plays (Ok line) is = tt
 writing_plays (Err x) (inl write) = subst IsOfPlaying (sym write) tt
 writing_plays (Err x) (inr memory) = subst IsOfPlaying (sym memory) tt
 
--- neither the words nor the topology are at fault
-record IsLater (status : ℕ) : Type 0 where
-  two : status ≢ 2
-  three : status ≢ 3
-
-is_later : (o : Outcome) → IfErr o IsOfPlaying → IsLater (status_of o)
-is_later (Ok line) is = record { two = λ e. omega arith; three = λ e. omega arith }
-is_later (Err Usage) is = absurd is
-is_later (Err (Missing name)) is = record { two = λ e. omega arith; three = λ e. omega arith }
-is_later (Err (BadTopology fault)) is = absurd is
-is_later (Err (Capture p flaw)) is = record { two = λ e. omega arith; three = λ e. omega arith }
-is_later (Err Read) is = record { two = λ e. omega arith; three = λ e. omega arith }
-is_later (Err Write) is = record { two = λ e. omega arith; three = λ e. omega arith }
-is_later (Err Memory) is = record { two = λ e. omega arith; three = λ e. omega arith }
-
--- the words are not at fault
-not_two : (x : Fault) → IsOfTopology x → status_of (Err x) ≢ 2
-not_two Usage is = absurd is
-not_two (Missing name) is = λ e. omega arith
-not_two (BadTopology fault) is = λ e. omega arith
-not_two (Capture p flaw) is = absurd is
-not_two Read is = λ e. omega arith
-not_two Write is = absurd is
-not_two Memory is = λ e. omega arith
+-- the topology is not at fault
+not_three : (o : Outcome) → IfErr o IsOfPlaying → status_of o ≢ 3
+not_three (Ok line) is = λ e. omega arith
+not_three (Err Usage) is = absurd is
+not_three (Err (Missing name)) is = λ e. omega arith
+not_three (Err (BadTopology fault)) is = absurd is
+not_three (Err (Capture p flaw)) is = λ e. omega arith
+not_three (Err Read) is = λ e. omega arith
+not_three (Err Write) is = λ e. omega arith
+not_three (Err Memory) is = λ e. omega arith
 
 -- ---- outputs
 output_is : (plan : Planned) (j : ℕ) → j < output_count plan → IsOutput plan.traced plan.tree plan.prefix (output_name plan j)
@@ -107,9 +93,9 @@ opens_by_none tells a f status ids not_check = record {
 
 module _ (tells : Type 0) (f : Files) (name : List ℕ) (a b : ℕ → Id) (read : Opens (IsReadingOf name) a b) where
   -- the topology alone
-  pub opens_by_check : (status : ℕ) → status ≢ 2 → OpensBy tells status (Some (Check name)) f a b
-  opens_by_check status n2 = record {
-    nothing = λ e. absurd (n2 e);
+  pub check_opens : (status : ℕ) → OpensBy tells status (Some (Check name)) f a b
+  check_opens status = record {
+    nothing = λ e. absurd (cc);
     made = λ number e. absurd (cc);
     topology = λ e. read;
     checked = λ n e. read;
@@ -118,17 +104,11 @@ module _ (tells : Type 0) (f : Files) (name : List ℕ) (a b : ℕ → Id) (read
     only = λ t. opens_weaker _ _ a b (λ i r. inl (inl r)) read;
   }
 
-  pub check_refused_opens : (x : Fault) → IsOfTopology x → OpensBy tells (status_of (Err x)) (Some (Check name)) f a b
-  check_refused_opens x is = opens_by_check (status_of (Err x)) (not_two x is)
-
-  pub check_opens : (o : Outcome) → IfErr o (λ x. x ≡ Memory) → OpensBy tells (status_of o) (Some (Check name)) f a b
-  check_opens (Ok lines) memory = opens_by_check 0 (λ e. omega arith)
-  check_opens (Err x) memory = opens_by_check (status_of (Err x)) (subst (λ (y : Fault). status_of (Err y) ≢ 2) (sym memory) (λ e. omega arith))
-
   module _ (trace : Bool) (seed : Option ℕ) where
-    pub run_refused_opens : (x : Fault) → IsOfTopology x → OpensBy tells (status_of (Err x)) (Some (Run name trace seed)) f a b
-    run_refused_opens x is = record {
-      nothing = λ e. absurd (not_two x is e);
+    -- the topology alone, since it is refused
+    pub run_refused_opens : (status : ℕ) → OpensBy tells status (Some (Run name trace seed)) f a b
+    run_refused_opens status = record {
+      nothing = λ e. absurd (cc);
       made = λ number e. absurd (cc);
       topology = λ e. read;
       checked = λ n e. absurd (cc);
@@ -142,40 +122,38 @@ module _ (tells : Type 0) (f : Files) (name : List ℕ) (a b : ℕ → Id) (read
         → (o ≢ Err Write → o ≢ Err Memory → OnErr o (Opens (ReadsCapture t.captures) b c))
         → (tells → Opens (IsOpenedFor trace t g) b c)
         → OpensBy tells (status_of o) (Some (Run name trace seed)) f a c
-    opens_by_run o t g c holds same causes early played =
-        let later = is_later o causes in
-        record {
-          nothing = λ e. absurd (later.two e);
-          made = λ number e. absurd (cc);
-          topology = λ e. absurd (later.three e);
-          checked = λ n e. absurd (cc);
-          reads = λ n0 n1 n7.
-              early_end o _
-              (opens_on o IsReading (ReadsCapture t.captures) a b c (opens_weaker _ _ a b (λ i r. record { given = r.given; reads = r.reads }) read)
-              (λ i r. record { given = r.reads.given; reads = r.reads.reads }) early)
-              n0 n1 n7;
-          wanted = λ told n0 n1 n7.
-              early_end o _
-              (opens_on o _ (ReadsCapture t.captures) a b c (opens_weaker _ _ a b (λ i r. inl r) read)
-              (λ i r. inr (record { topology = t; holds = holds told; capture = r })) early)
-              n0 n1 n7;
-          only = λ told.
-              opens_then _ a b c (opens_weaker _ _ a b (λ i r. inl (inl r)) read)
-              (opens_weaker _ _ b c (λ i opened. elim opened [
-                | inl r ↦ inl (inr (record { topology = t; holds = holds told; capture = r }))
-                | inr made ↦ inr (record {
-                  topology = t;
-                  ready = record { holds = holds told; good = subst (λ (k : Files). AreGood t.captures k) same made.0 };
-                  output = made.1;
-                })
-              ]) (played told));
-        }
+    opens_by_run o t g c holds same causes early played = record {
+      nothing = λ e. absurd (cc);
+      made = λ number e. absurd (cc);
+      topology = λ e. absurd (not_three o causes e);
+      checked = λ n e. absurd (cc);
+      reads = λ n0 n1 n7.
+          early_end o _
+          (opens_on o IsReading (ReadsCapture t.captures) a b c (opens_weaker _ _ a b (λ i r. record { given = r.given; reads = r.reads }) read)
+          (λ i r. record { given = r.reads.given; reads = r.reads.reads }) early)
+          n0 n1 n7;
+      wanted = λ told n0 n1 n7.
+          early_end o _
+          (opens_on o _ (ReadsCapture t.captures) a b c (opens_weaker _ _ a b (λ i r. inl r) read)
+          (λ i r. inr (record { topology = t; holds = holds told; capture = r })) early)
+          n0 n1 n7;
+      only = λ told.
+          opens_then _ a b c (opens_weaker _ _ a b (λ i r. inl (inl r)) read)
+          (opens_weaker _ _ b c (λ i opened. elim opened [
+            | inl r ↦ inl (inr (record { topology = t; holds = holds told; capture = r }))
+            | inr made ↦ inr (record {
+              topology = t;
+              ready = record { holds = holds told; good = subst (λ (k : Files). AreGood t.captures k) same made.0 };
+              output = made.1;
+            })
+          ]) (played told));
+    }
 
 -- the status is that of the outcome, or 1 or 7
 pub opens_by_status : (tells : Type 0) (asked : Option Ask) (f : Files) (status : ℕ) (o : Outcome) (a b : ℕ → Id) → (status ≢ 1 → status ≢ 7 → status ≡ status_of o)
     → OpensBy tells (status_of o) asked f a b → OpensBy tells status asked f a b
 opens_by_status tells asked f status o a b is opens = record {
-  nothing = λ e. opens.nothing (sym (is (λ x. omega arith) (λ x. omega arith)) ∙ e);
+  nothing = opens.nothing;
   made = opens.made;
   topology = λ e. opens.topology (sym (is (λ x. omega arith) (λ x. omega arith)) ∙ e);
   checked = opens.checked;

@@ -1,10 +1,10 @@
 -- What is printed of what was done, and with which status.
-use Rattle.std.proofs.Common.{◌≡◌, ◌≢◌, ◌<◌, ◌++◌, ◌⊎◌, ◌==◌, inl, inr, Bool, ℕ, List, Option, Some, None, Ok, Err, ap, sym, ◌∙◌, refl, subst, arith}
+use Rattle.std.proofs.Common.{◌≡◌, ◌≢◌, ◌<◌, ◌++◌, ◌⊎◌, inl, inr, Bool, ℕ, List, Option, Some, None, Ok, Err, ap, sym, ◌∙◌, refl, subst, arith}
 use Rattle.std.specs.Prelude.{IfOk, IfErr, OnErr, IsErrOf, string_bytes, codes}
 use Rattle.std.proofs.lemmas.Bool.{false≢true, cases_eq}
 use Rattle.exb_keys.specs.declared.faults.TopoFault.TheVariants as topology
 use Rattle.exb_keys.specs.Faults.{Refusal, not_toml, large, at}
-use Rattle.exb_shelf.specs.Files.{Files, SameFiles, AppendsFront}
+use Rattle.exb_shelf.specs.Files.{Files, AppendsFront}
 use Rattle.exb_shelf.specs.Shelf.{Id, Faults, Rose, Opens}
 use Rattle.exb_shelf.proofs.IdLemmas.{opens_weaker, opens_then}
 use Rattle.exb_tables.specs.declared.rows.Named.{Named}
@@ -96,7 +96,6 @@ is_read (Err (Capture p x)) e = absurd (omega arith)
 is_read (Err Read) e = refl
 is_read (Err Write) e = absurd (omega arith)
 is_read (Err Memory) e = absurd (omega arith)
-
 
 -- the outcome is writing that failed, or its status is another
 pub write_or_not : (o : Outcome) → (o ≡ Err Write) ⊎ (status_of o ≢ 7)
@@ -272,7 +271,6 @@ pub fault_says : (o : Outcome) (s : ℕ) (before after : List ℕ) → status_of
 fault_says o s before after is more can says =
     let found = is_fault o s is more in
     (fault_line found.0, (found.0, can found.0 found.1, found.2, refl), says ∙ ap (λ (p : Outcome). before ++ line_of p) found.1)
-
 
 pub front_by : (o : Outcome) (a : Option Ask) (f h : Files) (c d : Faults) (before after : List ℕ)
     → IfOk o (λ text. IsDone a f h (string_bytes text)) → IfErr o (λ x. Stops a f x ⊎ IsFailure a x)

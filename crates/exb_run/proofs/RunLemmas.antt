@@ -1,7 +1,6 @@
 -- The parts of what is asked for make the whole.
-use Rattle.std.proofs.Common.{◌≡◌, ◌≢◌, ◌⊎◌, inl, inr, Bool, ℕ, List, Option, Some, None, Ok, Err, ap, sym, ◌∙◌, refl, subst}
-use Rattle.std.specs.Prelude.{IfOk, IfErr, OnErr, IsErrOf, String, string_bytes}
-use Rattle.std.specs.declared.alloc.Global.{Global}
+use Rattle.std.proofs.Common.{◌≡◌, ◌≢◌, ◌⊎◌, inl, inr, Bool, ℕ, List, Option, Some, None, Ok, Err, ap, sym, refl, subst}
+use Rattle.std.specs.Prelude.{IfOk, IfErr, OnErr, IsErrOf, string_bytes}
 use Rattle.exb_made.specs.Made.{made}
 use Rattle.exb_model.specs.Setup.{shape_of, limits_of}
 use Rattle.exb_model.specs.Tree.{Shape}
@@ -16,7 +15,7 @@ use Rattle.exb_run.specs.Inputs.{input_of}
 use Rattle.exb_run.specs.Outputs.{IsPlayed, OnlyOutputs}
 use Rattle.exb_run.specs.Flaws.{AreGood, FirstFlaw}
 use Rattle.exb_run.specs.Reading.{IsOfTopology, IsOfPlaying}
-use Rattle.exb_run.specs.Answers.{CaptureFaulty, HoldsTopology, IsDone, IsFailure, IsRefused, OnlyAsked, Stops, eager_summary, mode_for}
+use Rattle.exb_run.specs.Answers.{HoldsTopology, IsDone, IsFailure, IsRefused, OnlyAsked, Stops, eager_summary, mode_for}
 use Rattle.exb_run.specs.Outcomes.{CameOut}
 use Rattle.exb_run.proofs.Asking.{holds_once, shape_same, prefix_same}
 use Rattle.exb_run.proofs.Running.{Outcome}

@@ -1,5 +1,5 @@
 -- What comes of all that is done but printing.
-use Rattle.std.specs.Prelude.{◌≡◌, ◌≢◌, ◌⊎◌, List, Option, Some, None, Result, Err, IfOk, IfErr, OnErr, IsErrOf, String, string_bytes}
+use Rattle.std.specs.Prelude.{◌≡◌, ◌≢◌, ◌⊎◌, Option, Some, None, Result, Err, IfOk, IfErr, OnErr, IsErrOf, String, string_bytes}
 use Rattle.std.specs.declared.alloc.Global.{Global}
 use Rattle.exb_shelf.specs.Files.{Files, SameFiles}
 use Rattle.exb_words.specs.Words.{Ask, Run, Check, Make}

@@ -1,6 +1,6 @@
 use Rattle.std.proofs.lemmas.Result.{err_from_is_err_and}
 use Rattle.exb_run.specs.declared.fault.Fault.{Fault}
-use Rattle.exb_run.proofs.OpenLemmas.{check_refused_opens, check_opens}
+use Rattle.exb_run.proofs.OpenLemmas.{check_opens}
 use Rattle.exb_run.proofs.RunLemmas.{came_check_refused, came_checked}
 use Rattle.exb_run.proofs.check.check_topology.Goals as goal
 
@@ -14,9 +14,7 @@ returns-in_err-topology-clause-came g c =
 pub returns-in_err-topology-clause-opens : goal.returns-in_err-topology-clause-opens
 returns-in_err-topology-clause-opens g c =
     let p = err_from_is_err_and c.from_residual.result c.from_residual.ensures.1 in
-    let x : Fault = c.in_err-topology.field-0.0 in
-    let found = c.in_err-topology.ensures in
-    rw (p.1, p.2) (check_refused_opens g.S.Shelf.tells _ c.args.name.now _ _ found.opened x found.causes)
+    rw (p.1, p.2) (check_opens g.S.Shelf.tells _ c.args.name.now _ _ c.in_err-topology.ensures.opened _)
 
 pub returns-clause-came : goal.returns-clause-came
 returns-clause-came g c =
@@ -26,4 +24,4 @@ returns-clause-came g c =
     found.read found.files c.lines_of.ensures.lines c.lines_of.ensures.memory
 
 pub returns-clause-opens : goal.returns-clause-opens
-returns-clause-opens g c = check_opens g.S.Shelf.tells _ c.args.name.now _ _ c.in_ok-topology.ensures.opened c.lines_of.result c.lines_of.ensures.memory
+returns-clause-opens g c = check_opens g.S.Shelf.tells _ c.args.name.now _ _ c.in_ok-topology.ensures.opened _

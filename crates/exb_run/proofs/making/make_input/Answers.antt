@@ -1,11 +1,8 @@
 use Rattle.std.proofs.Common.{◌≡◌, ◌∙◌, List, [], ap, sym, subst}
-use Rattle.std.specs.Prelude.{IfOk, string_bytes}
 use Rattle.exb_made.specs.Made.{made}
 use Rattle.exb_model.specs.declared.setup.Timed.{Timed}
-use Rattle.exb_model.specs.Input.{Input, Eager}
 use Rattle.exb_model.specs.Setup.{shape_of}
 use Rattle.exb_run.specs.declared.captures.Capture.{Capture}
-use Rattle.exb_run.specs.Outputs.{HasPlayed}
 use Rattle.exb_run.specs.Playing.{IsScript}
 use Rattle.exb_run.specs.Reading.{AreRead, input_with}
 use Rattle.exb_run.proofs.Handing.{input_made, made_read, made_script, eager_says, memory_alone}

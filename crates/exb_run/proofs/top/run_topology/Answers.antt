@@ -17,9 +17,7 @@ returns-in_err-topology-clause-came g c =
 pub returns-in_err-topology-clause-opens : goal.returns-in_err-topology-clause-opens
 returns-in_err-topology-clause-opens g c =
     let p = err_from_is_err_and c.from_residual.result c.from_residual.ensures.1 in
-    let x : Fault = c.in_err-topology.field-0.0 in
-    let found = c.in_err-topology.ensures in
-    rw (p.1, p.2) (run_refused_opens g.S.Shelf.tells _ c.args.name.now _ _ found.opened c.args.trace c.args.seed x found.causes)
+    rw (p.1, p.2) (run_refused_opens g.S.Shelf.tells _ c.args.name.now _ _ c.in_err-topology.ensures.opened c.args.trace c.args.seed _)
 
 pub returns-clause-came : goal.returns-clause-came
 returns-clause-came g c =
