@@ -23,7 +23,7 @@ module _ (tells : Type 0) (m : Mode) (r : Run) (plan : Planned) (now : Files) (n
   abbrev pub the_next : Segment
   the_next = segment_of seconds (came_by (first ∷ got.more))
 
-  has : HasTaken r.input p.old b (first ∷ got.more)
+  abbrev has : HasTaken r.input p.old b (first ∷ got.more)
   has = taken m r.input p.playing.so_far p.last p.old n b first frames seconds p.playing.next p.next got p.seconds_are
 
   -- so many commands were taken before

@@ -2,6 +2,7 @@ pub mod Texts
 pub mod Counting
 pub mod Segmenting
 pub mod Taking
+pub mod Gathering
 pub mod Counters
 pub mod Following
 pub mod Going
