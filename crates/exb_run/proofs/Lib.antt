@@ -15,11 +15,12 @@ pub mod Beginning
 pub mod Filling
 pub mod OutputLemmas
 pub mod FlawLemmas
-pub mod BuiltLemmas
 pub mod Refusing
 pub mod Asking
 pub mod Stopping
 pub mod Running
 pub mod RunLemmas
+pub mod Reporting
+pub mod Handing
 pub mod ShelvingLemmas
 pub mod OpenLemmas

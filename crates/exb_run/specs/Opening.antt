@@ -68,11 +68,11 @@ abbrev pub MakesOutput : Option Ask → Files → Id → Type 0
 MakesOutput (Some (Run name trace seed)) file i = MakesOutputOf name trace file i
 MakesOutput _ file i = ⊥
 
--- Which files are opened, by the status: none where the words are not accepted or an input is made, the topology alone where it
--- is refused or checked, and files to be written at 0, 1 and 7 alone. Where files are told, none is read but the topology
--- and its captures, and none is made but its outputs.
+-- Which files are opened: none where the words are not accepted or an input is made, the topology alone where it is refused or
+-- checked, and files to be written at statuses 0, 1 and 7 alone. Where files are told, none is read but the topology and its
+-- captures, and none is made but its outputs.
 pub record OpensBy (tells : Type 0) (status : ℕ) (a : Option Ask) (file : Files) (given ids : ℕ → Id) : Type 0 where
-  pub nothing : status ≡ 2 → (j : ℕ) → ids j ≡ given j
+  pub nothing : a ≡ None → (j : ℕ) → ids j ≡ given j
   pub made : (number : ℕ) → a ≡ Some (Make number) → (j : ℕ) → ids j ≡ given j
   pub topology : status ≡ 3 → Opens (ReadsTopology a) given ids
   pub checked : (name : List ℕ) → a ≡ Some (Check name) → Opens (ReadsTopology a) given ids

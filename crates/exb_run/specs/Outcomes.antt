@@ -1,5 +1,5 @@
 -- What comes of all that is done but printing.
-use Rattle.std.specs.Prelude.{◌≡◌, ◌≢◌, ◌⊎◌, List, Option, Some, None, Result, Err, IfOk, IfErr, OnErr, IsErrOf, String, string_bytes}
+use Rattle.std.specs.Prelude.{◌≡◌, ◌≢◌, ◌⊎◌, Option, Some, None, Result, Err, IfOk, IfErr, OnErr, IsErrOf, String, string_bytes}
 use Rattle.std.specs.declared.alloc.Global.{Global}
 use Rattle.exb_shelf.specs.Files.{Files, SameFiles}
 use Rattle.exb_words.specs.Words.{Ask, Run, Check, Make}
@@ -17,6 +17,7 @@ CanCome (Some (Make number)) fault = fault ≡ Memory
 
 -- By the result: what is done, which cause a fault has, and what has become of the files.
 pub record CameOut (tells : Type 0) (a : Option Ask) (o : Result (String Global) Fault) (old new : Files) : Type 0 where
+  pub unaccepted : a ≡ None → IsErrOf o Usage
   pub done : tells → IfOk o (λ text. IsDone a old new (string_bytes text))
   pub cause : tells → IfErr o (λ fault. Stops a old fault ⊎ IsFailure a fault)
   pub stops : tells → (fault : Fault) → Stops a old fault → IsErrOf o fault ⊎ IsErrOf o Read ⊎ IsErrOf o Memory

@@ -1,5 +1,6 @@
 -- The topology and the captures as they are read.
 use Rattle.std.specs.Prelude.{⊤, ◌≡◌, ◌≤◌, ◌<◌, ◌==◌, ℕ, Bool, true, if◌then◌else◌, List, [], ◌∷◌, IsOk, All, map, filter, length, sum_by}
+use Rattle.exb_made.specs.declared.captures.Capture.{Capture as MadeCapture}
 use Rattle.exb_model.specs.declared.setup.Setup.{Setup}
 use Rattle.exb_model.specs.declared.setup.Timed.{Timed}
 use Rattle.exb_model.specs.Input.{Input, Record, given_by}
@@ -17,6 +18,10 @@ use Rattle.exb_run.specs.Inputs.{Taken, is_named, records_or_none}
 -- the captures that were read, by port
 abbrev pub contents : List Capture → List Taken
 contents captures = map (λ c. (c.port, c.file.items)) captures
+
+-- a capture that was made, as one that was read
+abbrev pub taken_of : MadeCapture → Capture
+taken_of c = record { port = c.port; file = c.file }
 
 -- a capture at its first record
 abbrev pub stream_in : Capture → Stream

@@ -35,7 +35,6 @@ pub(crate) fn check_topology<S: Shelf>(
     ensures came { CameOut S.tells (Some (Check name.now)) result (S.file shelf.old) (S.file shelf.new) }
     ensures opens { OpensBy S.tells (status_of result) (Some (Check name.now)) (S.file shelf.old) (S.ids shelf.old) (S.ids shelf.new) }
     ensures faults { CountsFaults result (S.faults shelf.old) (S.faults shelf.new) }
-    ensures no_write { IfErr result (λ fault. fault ≢ Fault.Write) }
 {
     let topology = read_topology(alloc, shelf, name)?;
     lines_of(alloc, &topology.setup)

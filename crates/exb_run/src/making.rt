@@ -2,6 +2,7 @@
 ghost use Rattle.std.specs.Prelude.{◌≡◌, ◌<◌, ◌^◌, map, IfOk, IfErr, string_bytes};
 ghost use Rattle.exb_made.specs.Made.{made};
 ghost use Rattle.exb_run.specs.Answers.{eager_summary};
+ghost use Rattle.exb_run.specs.Reading.{taken_of};
 
 use crate::captures::Capture;
 use crate::fault::Fault;
@@ -9,6 +10,7 @@ use crate::plan::Plan;
 use crate::play::play;
 use crate::script::{Schedule, Script};
 use exb_fate::Fate;
+use exb_made::laws::arrives_at_externals;
 use exb_made::make;
 use exb_model::memory::NoMemory;
 use exb_shelf::ScratchShelf;
@@ -16,7 +18,7 @@ use std::alloc::Global;
 
 /// Captures that were made, as those that are read.
 fn taken(alloc: Global, made: Vec<exb_made::Capture>) -> Result<Vec<Capture>, NoMemory>
-    ensures { IfOk result (λ captures. map (λ c. (c.port, c.file.items)) captures.items ≡ map (λ c. (c.port, c.file.items)) made.items) }
+    ensures { IfOk result (λ captures. captures.items ≡ map taken_of made.items) }
 {
     let mut captures = Vec::new(alloc);
     for capture in made {
@@ -34,6 +36,7 @@ pub(crate) fn make_input(alloc: Global, number: u64, fate: Box<dyn Fate>) -> Res
     ensures line { IfOk result (λ line. string_bytes line ≡ eager_summary (made number)) }
     ensures memory { IfErr result (λ fault. fault ≡ Fault.Memory) }
 {
+    arrives_at_externals();
     let input = make(alloc, number)?;
     let captures = taken(alloc, input.captures)?;
     let plan = Plan::new(alloc, &input.setup, "", false)?;
