@@ -1,4 +1,4 @@
-use Rattle.std.proofs.Common.{◌≡◌, ap, sym, subst, ◌∙◌}
+use Rattle.std.proofs.Common.{◌≡◌, ap, sym, subst, ◌∙◌, arith}
 use Rattle.std.specs.Prelude.{string_bytes}
 use Rattle.exb_model.specs.Setup.{shape_of}
 use Rattle.exb_shelf.specs.Files.{Files}
@@ -54,3 +54,12 @@ returns-clause-only g c = makes_then _ _ _ _ _ _ _ _ c.in_ok-outputs.ensures.onl
 
 pub returns-clause-faults : goal.returns-clause-faults
 returns-clause-faults g c = counts_after c.play_opened.result _ _ _ c.in_ok-outputs.ensures.faults.none_fell c.play_opened.ensures.faults
+
+pub play_opened-requires-clause-ready : goal.play_opened-requires-clause-ready
+play_opened-requires-clause-ready g c = c.in_ok-outputs.ensures.ready
+
+pub play_opened-requires-clause-budget : goal.play_opened-requires-clause-budget
+play_opened-requires-clause-budget g c =
+    let spent = c.in-Ok.ensures.fate in
+    let low = c.requires.budget in
+    omega (arith, spent, low)
