@@ -16,6 +16,7 @@ use Rattle.exb_merge.specs.Agendas.{ToPlay, IsNext, TakesAll, begins_in, still_t
 use Rattle.exb_merge.specs.declared.agenda.Due.{Due}
 use Rattle.exb_motion.specs.Playing.{IsTimely}
 use Rattle.exb_network.specs.Networks.{Network, IsQuiet}
+use Rattle.exb_network.specs.Worlds.{all_left}
 use Rattle.exb_resting.specs.Playing.{arrivals_in}
 use Rattle.exb_schedule.specs.declared.segment.Arrival.{Arrival}
 use Rattle.exb_schedule.specs.Playing.{CanAll, HasPlayed as IsPlayedBy, IsSegment, arrived, gives}
@@ -26,7 +27,7 @@ use Rattle.exb_run.specs.declared.outputs.Outputs.{Outputs}
 use Rattle.exb_run.specs.declared.script.Schedule.{Schedule}
 use Rattle.exb_run.specs.declared.script.Schedule.TheVariants as schedule
 use Rattle.exb_run.specs.Plans.{Planned, port_count, port_at}
-use Rattle.exb_run.specs.Writing.{HasTexts, pieces_of}
+use Rattle.exb_run.specs.Writing.{HasTexts, first_text, pieces_of}
 
 -- ---- what is asked for
 abbrev pub mode_of : Schedule → Mode
@@ -111,6 +112,16 @@ pub record IsPlaying (tells : Type 0) (m : Mode) (r : Run) (plan : Planned) (now
 pub record CanBegin (tells : Type 0) (m : Mode) (r : Run) (s : Setup) (now : Files) (a : ToPlay) : Type 0 where
   pub setup : r.input.setup ≡ s
   pub before : tells → r.before ≡ now
+  pub timely : IsTimely r.input
+  pub next : IsDueAfter m r.input [] None a
+
+-- The world is opened, and nothing of it is written or counted yet; the agenda has all of an input.
+pub record IsOpened (tells : Type 0) (m : Mode) (r : Run) (plan : Planned) (now : Files) (n : Network) (c : Counts) (o : Outputs) (a : ToPlay) : Type 0 where
+  pub tree : plan.tree ≡ tree_of r.input
+  pub played : IsPlayedBy m r.input [] n n.log.events (all_left n.log.left) n.log.lines
+  pub tracing : n.log.tracing ≡ plan.traced
+  pub counted : c ≡ nothing_counted
+  pub texts : tells → HasTexts plan (pieces_of o) r.before now (first_text plan)
   pub timely : IsTimely r.input
   pub next : IsDueAfter m r.input [] None a
 

@@ -15,7 +15,7 @@ ghost use Rattle.exb_schedule.specs.Worlds.{network_of, fate_in};
 ghost use Rattle.exb_shelf.specs.Files.{Files, Filled};
 ghost use Rattle.exb_text.specs.Tallies.{counts_of, FitsTally};
 ghost use Rattle.exb_run.specs.Plans.{output_count, port_count};
-ghost use Rattle.exb_run.specs.Playing.{Run, CanBePlayed, CanGoOn, IsPlaying, IsTold, mode_of, second_by, seconds_after};
+ghost use Rattle.exb_run.specs.Playing.{Run, CanBegin, CanBePlayed, CanGoOn, IsOpened, IsPlaying, IsTold, mode_of, second_by, seconds_after};
 ghost use Rattle.exb_run.specs.Outputs.{HasPlayed, output_name};
 ghost use Rattle.exb_run.specs.Shelving.{CountsFaults, IsOfWriting, OnlyMakes, OnlyWrites};
 ghost use Rattle.exb_run.specs.Writing.{HasTexts, IsReady, pieces_of, lines_of, with_more, with_left_frames, CanBeWritten};
@@ -51,7 +51,7 @@ struct Room {
 
 /// The world, what is written of it, and what is counted.
 #[derive(Drop)]
-pub(crate) struct Game {
+struct Game {
     world: World,
     outputs: Outputs,
     tally: Tally,
@@ -296,7 +296,7 @@ impl Game {
     }
 
     /// Plays all that comes, writes what is still to be written, and answers the summary line.
-    pub(crate) fn play_on<S: Shelf>(
+    fn play_on<S: Shelf>(
         &mut self,
         alloc: Global,
         shelf: &mut S,
@@ -322,30 +322,53 @@ impl Game {
         self.play_all(alloc, shelf, plan, schedule, agenda)?;
         self.end(alloc, shelf, plan)
     }
+    /// Writes and counts what happened by the opening, plays all that comes, and answers the summary line.
+    fn play_opened<S: Shelf>(
+        &mut self,
+        alloc: Global,
+        shelf: &mut S,
+        plan: &Plan,
+        schedule: Schedule,
+        agenda: &mut Agenda<'_>,
+    ) -> Result<String, Fault>
+        requires ready { IsReady plan.now (S.ids shelf.old) self.old.outputs }
+        requires opened { (run : Run) × IsOpened S.tells (mode_of schedule) run plan.now (S.file shelf.old) (network_of self.old.world) (counts_of self.old.tally) self.old.outputs agenda.old }
+        requires budget { left (fate_in self.old.world) + letters_in (drop agenda.old.taken agenda.old.commands) < 2 ^ 57 }
+        ensures done { S.tells → IfOk result (λ line. (run : Run)
+            → IsOpened S.tells (mode_of schedule) run plan.now (S.file shelf.old) (network_of self.old.world) (counts_of self.old.tally) self.old.outputs agenda.old
+            → HasPlayed (mode_of schedule) run.input plan.now run.before (S.file shelf.new) (string_bytes line)) }
+        ensures only { OnlyWrites S.tells plan.now (S.file shelf.old) (S.file shelf.new) (S.ids shelf.old) (S.ids shelf.new) }
+        ensures causes { IfErr result IsOfWriting }
+        ensures faults { CountsFaults result (S.faults shelf.old) (S.faults shelf.new) }
+    {
+        runs_are_under_way();
+        runs_are_few();
+        plan.is_tree();
+        self.note(shelf, plan)?;
+        self.play_on(alloc, shelf, plan, schedule, agenda)
+    }
 }
 
-/// Makes the outputs, opens the world of a setup, and writes and counts what happened by that.
-pub(crate) fn begin<S: Shelf>(
+/// Makes the outputs, opens the world of a script's setup, plays an agenda from there, and answers the summary line.
+pub(crate) fn play_agenda<S: Shelf>(
     alloc: Global,
     shelf: &mut S,
     plan: &Plan,
     script: &Script<'_>,
     schedule: Schedule,
     fate: Box<dyn Fate>,
-) -> Result<Game, Fault>
+    agenda: &mut Agenda<'_>,
+) -> Result<String, Fault>
     requires valid { IsValid script.now.setup.now }
     requires tree { plan.now.tree ≡ shape_of script.now.setup.now }
-    requires few { left fate + length script.now.fate.now < 2 ^ 57 }
-    ensures ready { IfOk result (λ game. IsReady plan.now (S.ids shelf.new) game.outputs) }
-    ensures told { IfOk result (λ game. (m : Mode) (run : Run) → run.input.setup ≡ script.now.setup.now → (S.tells → run.before ≡ S.file shelf.old)
-        → IsTold S.tells m run plan.now (S.file shelf.new) (network_of game.world) (counts_of game.tally) game.outputs []) }
-    ensures budget { IfOk result (λ game. left game.world.fate ≤ left fate + length script.now.fate.now) }
+    requires begins { (run : Run) × CanBegin S.tells (mode_of schedule) run script.now.setup.now (S.file shelf.old) agenda.old }
+    requires budget { left fate + length script.now.fate.now + letters_in (drop agenda.old.taken agenda.old.commands) < 2 ^ 57 }
+    ensures done { S.tells → IfOk result (λ line. (run : Run) → CanBegin S.tells (mode_of schedule) run script.now.setup.now (S.file shelf.old) agenda.old
+        → HasPlayed (mode_of schedule) run.input plan.now (S.file shelf.old) (S.file shelf.new) (string_bytes line)) }
     ensures only { OnlyMakes S.tells plan.now (S.file shelf.old) (S.file shelf.new) (S.ids shelf.old) (S.ids shelf.new) }
     ensures causes { IfErr result IsOfWriting }
     ensures faults { CountsFaults result (S.faults shelf.old) (S.faults shelf.new) }
 {
-    runs_are_under_way();
-    runs_are_few();
     let outputs = create_all(alloc, shelf, plan)?;
     let Ok(world) = open(alloc, script.setup, fate, script.fate, plan.traced()) else {
         return Err(Fault::Memory);
@@ -360,6 +383,5 @@ pub(crate) fn begin<S: Shelf>(
             text: Vec::new(alloc),
         },
     };
-    game.note(shelf, plan)?;
-    Ok(game)
+    game.play_opened(alloc, shelf, plan, schedule, agenda)
 }

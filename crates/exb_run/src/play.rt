@@ -3,15 +3,14 @@ ghost use Rattle.std.specs.Prelude.{◌≡◌, ◌≤◌, ◌<◌, ◌+◌, ◌^
 ghost use Rattle.exb_model.specs.Setup.{IsValid, shape_of};
 ghost use Rattle.exb_merge.specs.Streams.{to_come};
 ghost use Rattle.exb_pcap.specs.Captures.{pcap_records};
-ghost use Rattle.exb_schedule.specs.Playing.{letters_in};
-ghost use Rattle.exb_run.specs.Playing.{Run, CanBegin, IsScript, mode_of};
+ghost use Rattle.exb_run.specs.Playing.{IsScript, mode_of};
 ghost use Rattle.exb_run.specs.Reading.{AreRead, input_with, stream_in};
 ghost use Rattle.exb_run.specs.Outputs.{HasPlayed};
 ghost use Rattle.exb_run.specs.Shelving.{CountsFaults, IsOfWriting, OnlyMakes};
 
 use crate::captures::Capture;
 use crate::fault::Fault;
-use crate::game::begin;
+use crate::game::play_agenda;
 use crate::plan::Plan;
 use crate::script::{Schedule, Script};
 use exb_fate::Fate;
@@ -35,30 +34,6 @@ fn add_all<'a>(sources: &mut Captures<'a>, captures: &'a [Capture]) -> Result<()
         }
     }
     Ok(())
-}
-
-/// Plays an agenda from the opening of a setup, and answers the summary line.
-fn play_agenda<S: Shelf>(
-    alloc: Global,
-    shelf: &mut S,
-    plan: &Plan,
-    script: &Script<'_>,
-    schedule: Schedule,
-    fate: Box<dyn Fate>,
-    agenda: &mut Agenda<'_>,
-) -> Result<String, Fault>
-    requires valid { IsValid script.now.setup.now }
-    requires tree { plan.now.tree ≡ shape_of script.now.setup.now }
-    requires begins { (run : Run) × CanBegin S.tells (mode_of schedule) run script.now.setup.now (S.file shelf.old) agenda.old }
-    requires budget { left fate + length script.now.fate.now + letters_in (drop agenda.old.taken agenda.old.commands) < 2 ^ 57 }
-    ensures done { S.tells → IfOk result (λ line. (run : Run) → CanBegin S.tells (mode_of schedule) run script.now.setup.now (S.file shelf.old) agenda.old
-        → HasPlayed (mode_of schedule) run.input plan.now (S.file shelf.old) (S.file shelf.new) (string_bytes line)) }
-    ensures only { OnlyMakes S.tells plan.now (S.file shelf.old) (S.file shelf.new) (S.ids shelf.old) (S.ids shelf.new) }
-    ensures causes { IfErr result IsOfWriting }
-    ensures faults { CountsFaults result (S.faults shelf.old) (S.faults shelf.new) }
-{
-    let mut game = begin(alloc, shelf, plan, script, schedule, fate)?;
-    game.play_on(alloc, shelf, plan, schedule, agenda)
 }
 
 /// Plays a script and captures that were read, and answers the summary line.

@@ -61,14 +61,14 @@ events-preserved g c =
             from_is = inv.taken;
             seconds_are = c.seconds_since-seconds.ensures ∙ ap (λ (m : ℕ). seconds_after c.events.last (second_of m)) c.moment-second.ensures;
           }));
-      taken = c.taken-taken.ensures.value;
+      taken = c.taken-taken-in-Some.ensures.value;
       budget = c.in_ok-go_on.ensures.budget;
       only = writes_then _ _ _ _ _ _ _ _ inv.only c.in_ok-go_on.ensures.only;
       faults = fewer_then _ _ _ inv.faults c.in_ok-go_on.ensures.faults.none_fell;
     }
 
-pub events-decreases : goal.events-decreases
-events-decreases g c =
+pub events-smaller : goal.events-smaller
+events-smaller g c =
     let left = ap (λ (xs : List Coming). length xs) c.in-Some.ensures.found.order in
     let fewer = c.in_ok-go_on.ensures.fewer in
     omega (arith, left, fewer)
