@@ -1,8 +1,8 @@
 //! Runs of generated inputs beside the plain bridge.
 use crate::trial::Trial;
+use exb_fate::{Fate, ScriptFate};
 use exb_flat_run::merge::Capture;
 use exb_flat_run::outcome::{Outcome, flat_outcome};
-use exb_fate::{Fate, ScriptFate};
 use exb_model::port::PortId;
 use exb_run::run;
 use exb_shelf::{MemShelf, MemSink};
