@@ -56,19 +56,23 @@ fn play_topology<S: Shelf>(
     requires fate { left fate < 2 ^ 56 }
     ensures good { S.tells → IfOk result (λ line. AreGood topology.now.captures (S.file shelf.old)) }
     ensures done { S.tells → IfOk result (λ line.
-        IsPlayed (mode_for seed) trace (input_of topology.now (S.file shelf.old)) topology.now.prefix (S.file shelf.old) (S.file shelf.new) (string_bytes line)) }
+        IsPlayed (mode_for seed) trace (input_of topology.now (S.file shelf.old)) topology.now.prefix
+        (S.file shelf.old) (S.file shelf.new) (string_bytes line)) }
 
     // Each fault has its cause.
-    ensures cause { S.tells → IfErr result (λ fault. ((p : ℕ) × FirstFlaw topology.now.captures (S.file shelf.old) p fault) ⊎ (fault ≡ Fault.Read) ⊎ (fault ≡ Fault.Write) ⊎ (fault ≡ Fault.Memory)) }
+    ensures cause { S.tells → IfErr result (λ fault.
+        ((p : ℕ) × FirstFlaw topology.now.captures (S.file shelf.old) p fault) ⊎ (fault ≡ Fault.Read) ⊎ (fault ≡ Fault.Write) ⊎ (fault ≡ Fault.Memory)) }
     ensures stops { S.tells → (p : ℕ) (fault : Fault) → FirstFlaw topology.now.captures (S.file shelf.old) p fault
         → IsErrOf result fault ⊎ IsErrOf result Fault.Read ⊎ IsErrOf result Fault.Memory }
     ensures causes { IfErr result IsOfPlaying }
 
     // What stays, and what is opened.
     ensures early { result ≢ Err Fault.Write → result ≢ Err Fault.Memory → OnErr result (SameFiles (S.file shelf.old) (S.file shelf.new)) }
-    ensures stopped { S.tells → (p : ℕ) (fault : Fault) → FirstFlaw topology.now.captures (S.file shelf.old) p fault → SameFiles (S.file shelf.old) (S.file shelf.new) }
+    ensures stopped { S.tells → (p : ℕ) (fault : Fault) → FirstFlaw topology.now.captures (S.file shelf.old) p fault
+        → SameFiles (S.file shelf.old) (S.file shelf.new) }
     ensures others { S.tells → OnlyOutputs trace (shape_of topology.now.setup) topology.now.prefix (S.file shelf.old) (S.file shelf.new) }
-    ensures opened { result ≢ Err Fault.Write → result ≢ Err Fault.Memory → OnErr result (Opens (ReadsCapture topology.now.captures) (S.ids shelf.old) (S.ids shelf.new)) }
+    ensures opened { result ≢ Err Fault.Write → result ≢ Err Fault.Memory
+        → OnErr result (Opens (ReadsCapture topology.now.captures) (S.ids shelf.old) (S.ids shelf.new)) }
     ensures played { S.tells → Opens (IsOpenedFor trace topology.now (S.file shelf.old)) (S.ids shelf.old) (S.ids shelf.new) }
     ensures faults { CountsFaults result (S.faults shelf.old) (S.faults shelf.new) }
 {
@@ -118,7 +122,8 @@ fn work<S: Shelf>(
 ) -> Result<String, Fault>
     requires { left fate < 2 ^ 56 }
     ensures came { CameOut S.tells (asked words.now) result (S.file shelf.old) (S.file shelf.new) }
-    ensures makes { (number : ℕ) → asked words.now ≡ Some (Make number) → IfOk result (λ line. string_bytes line ≡ eager_summary (made number)) }
+    ensures makes { (number : ℕ) → asked words.now ≡ Some (Make number)
+        → IfOk result (λ line. string_bytes line ≡ eager_summary (made number)) }
     ensures alone { (number : ℕ) → asked words.now ≡ Some (Make number) → shelf.new ≡ shelf.old }
     ensures opens { OpensBy S.tells (status_of result) (asked words.now) (S.file shelf.old) (S.ids shelf.old) (S.ids shelf.new) }
     ensures faults { CountsFaults result (S.faults shelf.old) (S.faults shelf.new) }
@@ -151,21 +156,26 @@ pub fn run<S: Shelf, O: Sink>(
     ensures ran { S.tells → result ≡ 0 → (text : List ℕ) × IsDone (asked words.now) (S.file shelf.old) (S.file shelf.new) text }
     ensures headline { S.tells → O.tells → result ≡ 0
         → (text : List ℕ) × IsDone (asked words.now) (S.file shelf.old) (S.file shelf.new) text × (O.text out.new ≡ O.text out.old ++ text) }
-    ensures makes { (number : ℕ) → asked words.now ≡ Some (Make number) → O.tells → result ≡ 0 → O.text out.new ≡ O.text out.old ++ eager_summary (made number) }
+    ensures makes { (number : ℕ) → asked words.now ≡ Some (Make number) → O.tells → result ≡ 0
+        → O.text out.new ≡ O.text out.old ++ eager_summary (made number) }
     // 2: exactly where the words are not accepted. 3, 4 and 5: exactly by the first fault of the topology and of
     // the captures that it names. 5, 6 and 7: only where a count of faults rose.
     ensures two { result ≡ 2 → asked words.now ≡ None }
     ensures usage { asked words.now ≡ None → result ≢ 1 → result ≢ 7 → result ≡ 2 }
     ensures usage_seven { asked words.now ≡ None → result ≡ 7 → Rose (O.faults out.old) (O.faults out.new) }
     ensures first { S.tells → IsOfInput result → StopsWith (asked words.now) (S.file shelf.old) result }
-    ensures stops { S.tells → (fault : Fault) → Stops (asked words.now) (S.file shelf.old) fault → result ≢ 1 → result ≢ 6 → result ≢ 7 → result ≡ fault_status fault }
-    ensures stops_seven { S.tells → (fault : Fault) → Stops (asked words.now) (S.file shelf.old) fault → result ≡ 7 → Rose (O.faults out.old) (O.faults out.new) }
+    ensures stops { S.tells → (fault : Fault) → Stops (asked words.now) (S.file shelf.old) fault
+        → result ≢ 1 → result ≢ 6 → result ≢ 7 → result ≡ fault_status fault }
+    ensures stops_seven { S.tells → (fault : Fault) → Stops (asked words.now) (S.file shelf.old) fault
+        → result ≡ 7 → Rose (O.faults out.old) (O.faults out.new) }
     ensures rose { RoseBy (asked words.now) result (S.faults shelf.old) (S.faults shelf.new) (O.faults out.old) (O.faults out.new) }
     ensures status { IsStatus (asked words.now) result }
     // What is printed: the text of the status and nothing else, and a front of one text where printing ended early.
     ensures says { O.tells → SaysBy result (O.faults out.old) (O.faults out.new) (O.text out.old) (O.text out.new) }
-    ensures stops_says { S.tells → O.tells → (fault : Fault) → Stops (asked words.now) (S.file shelf.old) fault → result ≡ fault_status fault → O.text out.new ≡ O.text out.old ++ fault_line fault }
-    ensures front { S.tells → O.tells → (text : List ℕ) × IsText (asked words.now) (S.file shelf.old) (S.file shelf.new) (S.faults shelf.old) (S.faults shelf.new) text
+    ensures stops_says { S.tells → O.tells → (fault : Fault) → Stops (asked words.now) (S.file shelf.old) fault
+        → result ≡ fault_status fault → O.text out.new ≡ O.text out.old ++ fault_line fault }
+    ensures front { S.tells → O.tells
+        → (text : List ℕ) × IsText (asked words.now) (S.file shelf.old) (S.file shelf.new) (S.faults shelf.old) (S.faults shelf.new) text
         × AppendsFront (O.text out.old) (O.text out.new) text }
     // What stays, and which files are opened.
     ensures early { result ≢ 0 → result ≢ 1 → result ≢ 7 → SameFiles (S.file shelf.old) (S.file shelf.new) }
@@ -181,7 +191,8 @@ pub fn run<S: Shelf, O: Sink>(
         → ¬ Rose (S.faults shelf.old).writes (S.faults shelf.new).writes
         → ¬ Rose (O.faults out.old) (O.faults out.new)
         → result ≢ 1 → result ≡ 0 }
-    ensures complete_made { (number : ℕ) → asked words.now ≡ Some (Make number) → ¬ Rose (O.faults out.old) (O.faults out.new) → result ≢ 1 → result ≡ 0 }
+    ensures complete_made { (number : ℕ) → asked words.now ≡ Some (Make number)
+        → ¬ Rose (O.faults out.old) (O.faults out.new) → result ≢ 1 → result ≡ 0 }
 {
     let outcome = work(alloc, words, shelf, fate);
     report(alloc, out, &outcome)
