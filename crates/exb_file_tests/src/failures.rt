@@ -1,4 +1,5 @@
 //! Runs over a shelf or a sink that fails. Each file then holds a front of its text.
+use exb_fate::{Fate, ScriptFate};
 use exb_run::run;
 use exb_shelf::{MemShelf, MemSink};
 use std::alloc::{AllocError, Global};
@@ -34,6 +35,17 @@ fn shelf_of(alloc: Global, failing: u64) -> Result<MemShelf, Fail> {
     Ok(shelf)
 }
 
+/// Plays the words over a fate that does as it is armed to.
+fn play(
+    alloc: Global,
+    words: &[String],
+    shelf: &mut MemShelf,
+    out: &mut MemSink,
+) -> Result<u8, Fail> {
+    let fate: Box<dyn Fate> = Box::new(alloc, ScriptFate::new(alloc))?;
+    Ok(run(alloc, words, shelf, out, fate))
+}
+
 /// Whether the file isn't there, or holds a front of what it holds on the other shelf.
 fn is_front(shelf: &MemShelf, whole: &MemShelf, name: &str) -> bool {
     match (shelf.file(name), whole.file(name)) {
@@ -51,13 +63,13 @@ fn whichever_call_of_the_shelf_fails_each_file_holds_a_front_of_its_text(
     let words = words(alloc)?;
     let mut whole = shelf_of(alloc, 0)?;
     let mut out = MemSink::new(alloc, &[])?;
-    assert_eq!(rt; run(alloc, &words, &mut whole, &mut out), 0);
+    assert_eq!(rt; play(alloc, &words, &mut whole, &mut out)?, 0);
     let mut read_failed = false;
     let mut write_failed = false;
     for failing in 1..64u64 {
         let mut shelf = shelf_of(alloc, failing)?;
         let mut out = MemSink::new(alloc, &[])?;
-        match run(alloc, &words, &mut shelf, &mut out) {
+        match play(alloc, &words, &mut shelf, &mut out)? {
             0 => {
                 assert!(rt; failing > 10 && read_failed && write_failed);
                 return Ok(());
@@ -82,10 +94,10 @@ fn where_the_summary_fails_captures_and_journal_are_whole(rt: HostRuntime) -> Re
     let words = words(alloc)?;
     let mut whole = shelf_of(alloc, 0)?;
     let mut out = MemSink::new(alloc, &[])?;
-    assert_eq!(rt; run(alloc, &words, &mut whole, &mut out), 0);
+    assert_eq!(rt; play(alloc, &words, &mut whole, &mut out)?, 0);
     let mut shelf = shelf_of(alloc, 0)?;
     let mut failing = MemSink::new(alloc, &[1])?;
-    assert_eq!(rt; run(alloc, &words, &mut shelf, &mut failing), 7);
+    assert_eq!(rt; play(alloc, &words, &mut shelf, &mut failing)?, 7);
     assert!(rt; failing.text().is_empty());
     for name in OUTPUTS {
         assert!(rt; shelf.file(name).is_some() && shelf.file(name) == whole.file(name));

@@ -3,13 +3,13 @@ use Rattle.std.proofs.Common.{◌≡◌, ℕ, suc, ◌+◌, ◌*◌, ◌^◌, �
 use Rattle.std.specs.Prelude.{nat_lt, nat_le, Option, Some, None, IfSome, IfNone}
 use Rattle.std.specs.List.{AllByRecursion}
 use Rattle.std.proofs.lemmas.List.{drop_more, get_or-drop}
-use Rattle.std.proofs.lemmas.Bool.{lt-ltb, le-ltb, leb-true}
+use Rattle.std.proofs.lemmas.Bool.{lt-ltb, le-ltb, leb-true, eqb-true}
 use Rattle.std.proofs.lemmas.Bool.Decides.{leb_tells}
 use Rattle.exb_model.specs.declared.setup.Timed.{Timed}
 use Rattle.exb_model.specs.Input.{Coming, Ordered, Captured, given_by, moment_of, second_of, put_in_order, commands_from}
 use Rattle.exb_merge.specs.declared.source.Coming.{Coming as Read}
 use Rattle.exb_merge.specs.declared.agenda.Due.{Due}
-use Rattle.exb_merge.specs.Agendas.{ToPlay, IsNext, IsReadable, with_commands, commands_left, still_to_come, first_moment, comes_first}
+use Rattle.exb_merge.specs.Agendas.{ToPlay, IsNext, IsReadable, with_commands, commands_left, still_to_come, first_moment, comes_first, begins_in}
 use Rattle.exb_merge.specs.Arrivals.{arrival_of}
 use Rattle.exb_merge.specs.Kept.{records_left}
 use Rattle.exb_merge.proofs.InOrder.{NoneBefore}
@@ -140,6 +140,38 @@ none-left a is first = ap (with_commands (commands_left a)) is ∙ none (command
     none : (cs : List Coming) → comes_first (first_moment cs) None ≡ false → with_commands cs [] ≡ []
     none [] h = refl
     none (c ∷ cs) h = absurd (let e : true ≡ false = h in cc)
+
+plus-zero : (n : ℕ) → n + 0 ≡ n
+plus-zero n = omega arith
+
+-- its moment, where it is a command and where it is none
+pub moment-command : (a : ToPlay) → Rising a.commands → comes_first (first_moment (commands_left a)) (first_moment a.records) ≡ true → first_moment (commands_left a) ≡ first_moment (still_to_come a)
+moment-command a rising first = by_left (drop a.taken a.commands) refl
+  where
+    by_left : (cs : List Timed) → drop a.taken a.commands ≡ cs → first_moment (commands_left a) ≡ first_moment (still_to_come a)
+    by_left [] e =
+        absurd (let none = ap (λ (cs : List Timed). comes_first (first_moment (commands_from a.start (a.taken + 1) (map given_by cs))) (first_moment a.records)) e in
+        let same : false ≡ true = sym none ∙ first in cc)
+    by_left (c ∷ cs) e =
+        let size = length-drop a.taken a.commands in
+        let some = ap (λ (xs : List Timed). length xs) e in
+        let low : a.taken < length a.commands = omega (arith, size, some) in
+        let own : c ≡ get_or a.commands a.taken c = sym (ap (λ (xs : List Timed). get_or xs 0 c) e) ∙ get_or-drop a.taken a.commands 0 c ∙ ap (λ k. get_or a.commands k c) (plus-zero a.taken) in
+        ap first_moment (left-is a c low own) ∙ sym (ap first_moment (command-next a c rising low own first))
+
+pub moment-record : (a : ToPlay) → Rising a.commands → comes_first (first_moment (commands_left a)) (first_moment a.records) ≡ false → first_moment a.records ≡ first_moment (still_to_come a)
+moment-record a rising first = by_records a.records refl
+  where
+    by_records : (rs : List Coming) → a.records ≡ rs → first_moment a.records ≡ first_moment (still_to_come a)
+    by_records [] e = ap first_moment e ∙ sym (ap first_moment (none-left a e first))
+    by_records (r ∷ rest) e = ap first_moment e ∙ sym (ap first_moment (record-next a r rest rising e first))
+
+-- nothing is left where nothing begins
+pub none-begins : (second : ℕ) (xs : List Coming) → begins_in second xs ≡ true → xs ≡ [] → ⊥
+none-begins second xs begins none = let same : false ≡ true = sym (ap (begins_in second) none) ∙ begins in cc
+
+pub within-is : (second : ℕ) (xs ys : List Coming) (x : Coming) → begins_in second xs ≡ true → xs ≡ x ∷ ys → second_of (moment_of x) ≡ second
+within-is second xs ys x begins is = eqb-true (second_of (moment_of x)) second (sym (ap (begins_in second) is) ∙ begins)
 
 -- ---- seconds
 pub second-after : (start second : ℕ) → second_of ((start + second) * 1000000000) ≡ start + second

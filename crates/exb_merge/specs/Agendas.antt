@@ -1,5 +1,5 @@
 -- What is still to be played: the commands of a topology among the records of its captures.
-use Rattle.std.specs.Prelude.{◌≡◌, ℕ, ◌+◌, ◌*◌, ◌<◌, ◌≤◌, ◌^◌, nat_le, Bool, true, false, List, [], ◌∷◌, length, drop, Option, Some, None, map, slice_get}
+use Rattle.std.specs.Prelude.{◌≡◌, ◌==◌, ℕ, ◌+◌, ◌*◌, ◌<◌, ◌≤◌, ◌^◌, nat_le, Bool, true, false, List, [], ◌∷◌, length, drop, Option, Some, None, map, slice_get}
 use Rattle.exb_model.specs.declared.setup.Timed.{Timed}
 use Rattle.exb_model.specs.Input.{Coming, Ordered, Captured, given_by, second_of, moment_of, put_in_order, commands_from}
 use Rattle.exb_merge.specs.declared.agenda.Due.{Due}
@@ -84,3 +84,18 @@ abbrev pub comes_first : Option ℕ → Option ℕ → Bool
 comes_first None m = false
 comes_first (Some k) None = true
 comes_first (Some k) (Some m) = nat_le k m
+
+-- ---- what comes in one second
+-- a moment is of this second
+abbrev pub is_of : Option ℕ → ℕ → Bool
+is_of None second = false
+is_of (Some m) second = second_of m == second
+
+-- what comes first is of this second
+abbrev pub begins_in : ℕ → List Coming → Bool
+begins_in second xs = is_of (first_moment xs) second
+
+-- all of these were taken, one after another
+abbrev pub TakesAll : ToPlay → List Due → ToPlay → Type 0
+TakesAll old [] new = old ≡ new
+TakesAll old (d ∷ ds) new = (next : ToPlay) × IsNext old d next × TakesAll next ds new

@@ -1,7 +1,7 @@
 //! Commands and records in the order in which they are played.
-ghost use Rattle.std.specs.Prelude.{◌≡◌, ◌+◌, ◌*◌, ◌^◌, ◌<◌, ◌≤◌, [], true, false, length, AllPairs, IfSome, IfNone};
-ghost use Rattle.exb_model.specs.Input.{moment_of};
-ghost use Rattle.exb_merge.specs.Agendas.{begun, coming_of, second_in, still_to_come, commands_left, first_moment, comes_first, IsNext, IsReadable};
+ghost use Rattle.std.specs.Prelude.{◌≡◌, ◌+◌, ◌-◌, ◌*◌, ◌^◌, ◌<◌, ◌≤◌, [], true, false, length, take, drop, AllPairs, IfSome, IfNone};
+ghost use Rattle.exb_model.specs.Input.{moment_of, second_of};
+ghost use Rattle.exb_merge.specs.Agendas.{begun, coming_of, second_in, still_to_come, commands_left, first_moment, comes_first, is_of, begins_in, IsNext, IsReadable};
 ghost use Rattle.exb_merge.specs.Streams.{to_come};
 
 use crate::captures::Captures;
@@ -71,6 +71,16 @@ fn comes_first(command: Option<u64>, captured: Option<u64>) -> bool
         (None, _) => false,
         (Some(_), None) => true,
         (Some(command), Some(captured)) => command <= captured,
+    }
+}
+
+/// Whether a moment is of this second.
+fn is_of(moment: Option<u64>, second: u64) -> bool
+    ensures { result ≡ is_of moment second }
+{
+    match moment {
+        None => false,
+        Some(moment) => moment / NANOSECONDS == second,
     }
 }
 
@@ -174,5 +184,49 @@ impl<'a> Agenda<'a> {
         } else {
             self.take_record()
         }
+    }
+    /// The moment of what comes next, if anything does.
+    fn next_moment(&self) -> Option<u64>
+        ensures { result ≡ first_moment (still_to_come self.now) }
+    {
+        // The commands are in order.
+        let _ = &self.commands;
+        let command = self.command_moment();
+        let captured = self.record_moment();
+        if comes_first(command, captured) {
+            command
+        } else {
+            captured
+        }
+    }
+
+    /// Takes what comes next, where it is of this second; else it changes nothing.
+    pub fn next_within(&mut self, second: u64) -> Option<Due<'a>>
+        ensures found { IfSome result (λ due. IsNext self.old due self.new) }
+        ensures within { IfSome result (λ due. second_of (moment_of (coming_of due)) ≡ second) }
+        ensures other { IfNone result (begins_in second (still_to_come self.old) ≡ false) }
+        ensures same { IfNone result (self.new ≡ self.old) }
+    {
+        if is_of(self.next_moment(), second) {
+            self.next()
+        } else {
+            None
+        }
+    }
+
+    /// How many of the commands were taken.
+    pub fn taken(&self) -> usize
+        ensures value { result ≡ self.now.taken }
+        ensures within { result ≤ length self.now.commands }
+    {
+        self.taken
+    }
+
+    /// The commands that were taken since so many of them were.
+    pub fn taken_since(&self, from: usize) -> &'a [Timed]
+        requires { from ≤ self.now.taken }
+        ensures { result.now ≡ take (self.now.taken - from) (drop from self.now.commands) }
+    {
+        &self.commands[from..self.taken]
     }
 }

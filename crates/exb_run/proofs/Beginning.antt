@@ -1,12 +1,14 @@
 -- Before anything was played: the captures that were read, and the agenda of them.
-use Rattle.std.proofs.Common.{◌≡◌, ℕ, zero, suc, ◌+◌, ◌^◌, ◌<◌, ◌≤◌, ◌==◌, ◌||◌, Bool, true, false, cond, List, [], ◌∷◌, length, map, filter, All, AllPairs, get_or, refl, ap, sym, subst, ◌∙◌, arith, inl, inr, eq-eqb}
+use Rattle.std.proofs.Common.{◌≡◌, ℕ, zero, suc, ◌+◌, ◌^◌, ◌<◌, ◌≤◌, ◌==◌, ◌||◌, Bool, true, false, cond, List, [], ◌∷◌, length, map, filter, drop, All, AllPairs, get_or, refl, ap, sym, subst, ◌∙◌, arith, inl, inr, eq-eqb}
 use mathlib.Core.Path.{fun_ext}
-use Rattle.std.specs.Prelude.{None, if◌then◌else◌, sum_by}
+use Rattle.std.specs.Prelude.{None, filter_map, if◌then◌else◌, sum_by}
 use Rattle.std.specs.List.{AllByRecursion, list_any, range_with_len}
 use Rattle.std.proofs.lemmas.Bool.{cases_Bool, cases_eq, eqb-true, ne_eqb}
 use Rattle.std.proofs.lemmas.List.{length-map}
+use Rattle.exb_model.specs.declared.setup.Setup.{Setup}
 use Rattle.exb_model.specs.declared.setup.Timed.{Timed}
-use Rattle.exb_model.specs.Input.{Input, Record, Given, given_by, merge}
+use Rattle.exb_model.specs.declared.setup.Verdict.{Verdict}
+use Rattle.exb_model.specs.Input.{Input, Mode, Record, Given, arrival_in, given_by, merge}
 use Rattle.exb_model.specs.Ports.{below, all_ports}
 use Rattle.exb_model.specs.Setup.{IsValid, NamesExternal, shape_of}
 use Rattle.exb_model.specs.Tree.{Shape, IsTree, is_external}
@@ -14,13 +16,14 @@ use Rattle.exb_merge.specs.Agendas.{ToPlay, begun, still_to_come}
 use Rattle.exb_merge.specs.Streams.{Stream, stream_of, stream_at, to_come}
 use Rattle.exb_motion.specs.Playing.{IsTimely}
 use Rattle.exb_pcap.specs.Captures.{pcap_records}
+use Rattle.exb_schedule.specs.Playing.{letters_in}
 use Rattle.exb_shelf.specs.Files.{Files}
 use Rattle.exb_tables.specs.declared.rows.Named.{Named}
 use Rattle.exb_topology.specs.declared.topology.Topology.{Topology}
 use Rattle.exb_topology.specs.Sound.{IsSound}
 use Rattle.exb_run.specs.declared.captures.Capture.{Capture}
 use Rattle.exb_run.specs.Inputs.{Taken, bytes_at, captures_of, input_of, is_named, records_at, records_or_none}
-use Rattle.exb_run.specs.Playing.{CanBegin, IsDueAfter, segments_after}
+use Rattle.exb_run.specs.Playing.{CanBegin, IsDueAfter, IsScript, segments_after}
 use Rattle.exb_run.specs.Reading.{AreRead, contents, input_with, records_in, stream_in}
 use Rattle.exb_run.proofs.Counting.{passing}
 use Rattle.exb_run.proofs.Places.{external_low}
@@ -74,9 +77,10 @@ streams-at (c ∷ cs) apart =
     own true e = refl
     own false e = absurd (cc)
 
-pub streams-are : (t : Topology) (names : List Named) (cs : List Capture) → AreRead names cs → map stream_in cs ≡ map (stream_at (input_with t cs)) (filter (is_named names) all_ports)
-streams-are t names cs are =
-    sym (streams-at cs (subst Apart (sym are.ports) (apart-ports (is_named names))))
+pub streams-are : (setup : Setup) (commands : List Timed) (t : Shape) (cs : List Capture) (are : AreRead t cs) →
+    map stream_in cs ≡ map (stream_at (input_with setup commands cs)) (filter are.chosen all_ports)
+streams-are setup commands t cs are =
+    sym (streams-at cs (subst Apart (sym are.ports) (apart-ports are.chosen)))
     ∙ ap (map (λ q. stream_of q (records_in cs q))) are.ports
 
 -- a port without a capture has no record
@@ -88,17 +92,17 @@ none-read test (c ∷ cs) q all isnt = by_port (c.port == q) refl (none-read tes
     by_port true e rest = absurd (let same : true ≡ false = sym all.0 ∙ (ap test (eqb-true c.port q e) ∙ isnt) in cc)
     by_port false e rest = rest
 
-pub none-elsewhere : (names : List Named) (cs : List Capture) → AreRead names cs → (q : ℕ) → is_named names q ≡ false → records_in cs q ≡ []
-none-elsewhere names cs are q isnt =
-    let P : List ℕ → Type 0 = AllByRecursion (λ p. is_named names p ≡ true) in
-    none-read (is_named names) cs q (subst P (sym are.ports) (passing (is_named names) all_ports)) isnt
+pub none-elsewhere : (t : Shape) (cs : List Capture) (are : AreRead t cs) → (q : ℕ) → are.chosen q ≡ false → records_in cs q ≡ []
+none-elsewhere t cs are q isnt =
+    let P : List ℕ → Type 0 = AllByRecursion (λ p. are.chosen p ≡ true) in
+    none-read are.chosen cs q (subst P (sym are.ports) (passing are.chosen all_ports)) isnt
 
 -- only external ports have records
-pub external-alone : (t : Shape) (names : List Named) (cs : List Capture) → AreRead names cs → All (λ x. is_external t x.port ≡ true) names → (q : ℕ) → is_external t q ≡ false → records_in cs q ≡ []
-external-alone t names cs are external q isnt =
-    elim (cases_Bool (is_named names q)) [
-      | inl named ↦ absurd (let same : true ≡ false = sym (named_by (is_external t) names q external named) ∙ isnt in cc)
-      | inr not_named ↦ none-elsewhere names cs are q not_named
+pub external-alone : (t : Shape) (cs : List Capture) → AreRead t cs → (q : ℕ) → is_external t q ≡ false → records_in cs q ≡ []
+external-alone t cs are q isnt =
+    elim (cases_Bool (are.chosen q)) [
+      | inl named ↦ absurd (let same : true ≡ false = sym (are.external q named) ∙ isnt in cc)
+      | inr not_named ↦ none-elsewhere t cs are q not_named
     ]
 
 -- ---- the input is that of the files
@@ -164,7 +168,7 @@ module _ (names : List Named) (file : Files) (q : ℕ) where
         | inr isnt ↦ nowhere all_ports isnt ∙ sym (ap (λ (b : Bool). if b then records_or_none (pcap_records (bytes_at names file q)) else []) isnt)
       ]
 
-pub input-same : (t : Topology) (file : Files) (cs : List Capture) → IsValid t.setup → IsSound t → contents cs ≡ captures_of t.captures file all_ports → input_with t cs ≡ input_of t file
+pub input-same : (t : Topology) (file : Files) (cs : List Capture) → IsValid t.setup → IsSound t → contents cs ≡ captures_of t.captures file all_ports → input_with t.setup t.commands cs ≡ input_of t file
 input-same t file cs valid sound read =
     ap (λ (records : ℕ → List Record). record { setup = t.setup; commands = map given_by t.commands; records = records })
     (fun_ext λ q. records-same t.captures file q (shape_of t.setup) cs valid.tree sound.captures read)
@@ -184,45 +188,57 @@ rising-given (c ∷ cs) rising i j d low within =
     let own = rising i j c low (omega (arith, within, size)) in
     omega (arith, one, other, own)
 
-pub timely : (t : Topology) (cs : List Capture) → IsSound t → IsTimely (input_with t cs)
-timely t cs sound = rising-given t.commands sound.rising
+pub timely : (setup : Setup) (commands : List Timed) (t : Shape) (fate : List Verdict) (cs : List Capture) → IsScript t commands fate → IsTimely (input_with setup commands cs)
+timely setup commands t fate cs script = rising-given commands script.rising
 
-pub due-begin : (t : Topology) (cs : List Capture) (a : ToPlay) → IsSound t → AreRead t.captures cs → a ≡ begun (to_come (map stream_in cs)) t.commands → length (still_to_come a) ≤ 2 ^ 30 →
-    ((i : Input) (chosen : ℕ → Bool) (commands : List Timed) → i.commands ≡ map given_by commands → ((q : ℕ) → chosen q ≡ false → i.records q ≡ []) →
-    still_to_come (begun (to_come (map (stream_at i) (filter chosen all_ports))) commands) ≡ merge i) → IsDueAfter (input_with t cs) [] None a
-due-begin t cs a sound read is few law =
-    let i : Input = input_with t cs in
+pub due-begin : (m : Mode) (setup : Setup) (commands : List Timed) (fate : List Verdict) (cs : List Capture) (a : ToPlay) → IsScript (shape_of setup) commands fate → AreRead (shape_of setup) cs →
+    a ≡ begun (to_come (map stream_in cs)) commands → length (still_to_come a) ≤ 2 ^ 30 →
+    ((i : Input) (chosen : ℕ → Bool) (given : List Timed) → i.commands ≡ map given_by given → ((q : ℕ) → chosen q ≡ false → i.records q ≡ []) →
+    still_to_come (begun (to_come (map (stream_at i) (filter chosen all_ports))) given) ≡ merge i) → IsDueAfter m (input_with setup commands cs) [] None a
+due-begin m setup commands fate cs a script read is few law =
+    let i : Input = input_with setup commands cs in
     let merged : still_to_come a ≡ merge i =
-    ap still_to_come (is ∙ ap (λ (ss : List Stream). begun (to_come ss) t.commands) (streams-are t t.captures cs read))
-    ∙ law i (is_named t.captures) t.commands refl (none-elsewhere t.captures cs read) in
-    let commands : a.commands ≡ t.commands = ap (λ (b : ToPlay). b.commands) is in
+    ap still_to_come (is ∙ ap (λ (ss : List Stream). begun (to_come ss) commands) (streams-are setup commands (shape_of setup) cs read))
+    ∙ law i read.chosen commands refl (none-elsewhere (shape_of setup) cs read) in
+    let same : a.commands ≡ commands = ap (λ (b : ToPlay). b.commands) is in
     let none : a.taken ≡ 0 = ap (λ (b : ToPlay). b.taken) is in
     record {
-      rest = segments-begin i ∙ ap (segments_after None) (sym merged);
-      given = ap (map given_by) (sym commands);
-      names = (let P : List Timed → Type 0 = All (λ (c : Timed). NamesExternal (shape_of t.setup) c.command) in subst P (sym commands) sound.commands);
-      few_commands = (let size = ap (λ (xs : List Timed). length xs) commands in let low = sound.few_commands in omega (arith, size, low));
-      external = external-alone (shape_of t.setup) t.captures cs read sound.captures;
+      rest = segments-begin m i ∙ ap (segments_after m None) (sym merged);
+      came = ap (filter_map arrival_in) (sym merged);
+      given = ap (map given_by) (sym same);
+      names = (let P : List Timed → Type 0 = All (λ (c : Timed). NamesExternal (shape_of setup) c.command) in subst P (sym same) script.commands);
+      few_commands = (let size = ap (λ (xs : List Timed). length xs) same in let low = script.few_commands in omega (arith, size, low));
+      within = omega (arith, none);
+      external = external-alone (shape_of setup) cs read;
       taken = sym none;
       kept = tt;
       clock = omega arith;
       few = (let low = few in omega (arith, low));
+      few_arrivals = (let low = few in omega (arith, low));
       since = tt;
     }
 
 -- a run of what was read begins so
-pub can-begin : (tells : Type 0) (t : Topology) (cs : List Capture) (f : Files) (a : ToPlay) (sources : List Stream) (commands : List Timed) → IsSound t → AreRead t.captures cs →
-    a ≡ begun (to_come sources) commands → length (still_to_come a) ≡ length (to_come sources) + length commands → sources ≡ map stream_in cs →
-    length (to_come sources) ≤ sum_by (λ c. length c.file.items) cs → commands ≡ t.commands →
-    ((i : Input) (chosen : ℕ → Bool) (given : List Timed) → i.commands ≡ map given_by given → ((q : ℕ) → chosen q ≡ false → i.records q ≡ []) →
-    still_to_come (begun (to_come (map (stream_at i) (filter chosen all_ports))) given) ≡ merge i) →
-    CanBegin tells (record { input = input_with t cs; before = f }) t.setup f a
-can-begin tells t cs f a sources commands sound read is size streams few same law =
-    let short : length (still_to_come a) ≤ 2 ^ 30 =
-    (let small = read.small in let most = sound.few_commands in let all = ap (λ (xs : List Timed). length xs) same in omega (arith, size, few, small, most, all)) in
+pub can-begin : (tells : Type 0) (m : Mode) (setup : Setup) (given : List Timed) (fate : List Verdict) (cs : List Capture) (f : Files) (a : ToPlay) (sources : List Stream) →
+    IsScript (shape_of setup) given fate → AreRead (shape_of setup) cs →
+    a ≡ begun (to_come sources) given → length (still_to_come a) ≡ length (to_come sources) + length given → sources ≡ map stream_in cs →
+    length (to_come sources) ≤ sum_by (λ c. length c.file.items) cs →
+    ((i : Input) (chosen : ℕ → Bool) (commands : List Timed) → i.commands ≡ map given_by commands → ((q : ℕ) → chosen q ≡ false → i.records q ≡ []) →
+    still_to_come (begun (to_come (map (stream_at i) (filter chosen all_ports))) commands) ≡ merge i) →
+    CanBegin tells m (record { input = input_with setup given cs; before = f }) setup f a
+can-begin tells m setup given fate cs f a sources script read is size streams few law =
+    let short : length (still_to_come a) ≤ 2 ^ 30 = (let small = read.small in let most = script.few_commands in omega (arith, size, few, small, most)) in
     record {
       setup = refl;
       before = λ told. refl;
-      timely = timely t cs sound;
-      next = due-begin t cs a sound read (is ∙ ap (λ (ss : List Stream). begun (to_come ss) commands) streams ∙ ap (λ (gs : List Timed). begun (to_come (map stream_in cs)) gs) same) short law;
+      timely = timely setup given (shape_of setup) fate cs script;
+      next = due-begin m setup given fate cs a script read (is ∙ ap (λ (ss : List Stream). begun (to_come ss) given) streams) short law;
     }
+
+-- the budget has room for all fates
+pub has-budget : (setup : Setup) (given : List Timed) (fate : List Verdict) (a : ToPlay) (sources : List Stream) (left : ℕ) → IsScript (shape_of setup) given fate →
+    a ≡ begun (to_come sources) given → left < 2 ^ 56 → left + length fate + letters_in (drop a.taken a.commands) < 2 ^ 57
+has-budget setup given fate a sources left script is low =
+    let all = ap (λ (b : ToPlay). letters_in (drop b.taken b.commands)) is in
+    let few = script.few_letters in
+    omega (arith, all, few, low)

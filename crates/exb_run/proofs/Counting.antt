@@ -10,7 +10,6 @@ use Rattle.exb_model.specs.Learning.{learned}
 use Rattle.exb_model.specs.FlatBridge.{Sent, sent_by, flat}
 use Rattle.exb_model.specs.Tree.{Shape, is_external, external_ports}
 use Rattle.exb_text.specs.Tallies.{nothing_counted}
-use Rattle.exb_run.specs.Playing.{IsSmall}
 use Rattle.exb_model.specs.Texts.{Counts, counted, left_by, with_left, counts}
 use Rattle.exb_machine.specs.Worlds.{Left}
 use Rattle.exb_standing.specs.Showing.{left_at}
@@ -212,30 +211,3 @@ counts-whole t b h es xs is sent own =
     lengths : (qs : List ℕ) → AllByRecursion (λ q. is_external t q ≡ true) qs → AllByRecursion (λ q. length (flat b h q) ≡ length (left_at q xs)) qs
     lengths [] each = tt
     lengths (q ∷ qs) each = (ap (λ (ys : List Sent). length ys) (sym (sent q each.0)), lengths qs each.1)
-
--- ---- how much is counted
-abbrev pub all_counted : Counts → ℕ
-all_counted c = c.relayed + c.ignored + c.commits + c.refusals
-
-one-counted : (e : Event) (c : Counts) → all_counted (counted e c) ≤ all_counted c + 1
-one-counted (event.Relay p k m f) c = omega arith
-one-counted (event.Ignored p k) c = omega arith
-one-counted (event.Tick s) c = omega arith
-one-counted (event.Commit k) c = omega arith
-one-counted (event.Refuse k x) c = omega arith
-one-counted (event.Up p) c = omega arith
-one-counted (event.NoUp p x) c = omega arith
-one-counted event.Settled c = omega arith
-
-pub events-counted : (es : List Event) (c : Counts) → all_counted (count_events c es) ≤ all_counted c + length es
-events-counted [] c = omega arith
-events-counted (e ∷ es) c = let one = one-counted e c in let rest = events-counted es (counted e c) in omega (arith, one, rest)
-
--- counts with so many events and frames more stay small
-pub small-after : (c d : Counts) (es : List Event) (n : ℕ) → d ≡ with_left n (count_events c es) → all_counted c + length es < 2 ^ 63 → c.left + n < 2 ^ 63 → IsSmall d
-small-after c d es n is room room_left =
-    let all = ap all_counted is in
-    let most = events-counted es c in
-    let left = ap (λ (x : Counts). x.left) is in
-    let same = count_events-left es c in
-    record { all = omega (arith, all, most, room); left = omega (arith, left, same, room_left) }

@@ -1,56 +1,77 @@
 -- The end of a run: what it wrote and counted is what the input calls for.
-use Rattle.std.proofs.Common.{◌≡◌, ℕ, ◌<◌, Bool, true, false, List, [], length, nat_lt, All, get_or, refl, ap, sym, ◌∙◌, arith}
+use Rattle.std.proofs.Common.{◌≡◌, ℕ, ◌<◌, ◌==◌, Bool, true, false, List, [], length, nat_lt, All, get_or, refl, ap, sym, subst, ◌∙◌, arith}
 use Rattle.std.specs.Prelude.{if◌then◌else◌}
 use Rattle.std.proofs.lemmas.Bool.{ltb-true}
 use Rattle.exb_model.specs.declared.event.Event.{Event}
 use Rattle.exb_model.specs.EagerHistory.{eager}
 use Rattle.exb_model.specs.FlatBridge.{flat}
-use Rattle.exb_model.specs.History.{◌then◌}
-use Rattle.exb_model.specs.Input.{Input, Eager, basis_of, tree_of, segments}
+use Rattle.exb_model.specs.History.{History, ◌then◌}
+use Rattle.exb_model.specs.Input.{Input, Mode, Eager, Seeded, basis_of, tree_of, segments}
+use Rattle.exb_model.specs.LegalHistory.{Legal}
 use Rattle.exb_model.specs.Texts.{capture_text, counts, journal_text}
+use Rattle.exb_model.specs.Traces.{TraceLine, trace_text}
 use Rattle.exb_model.specs.Tree.{Shape, IsTree, is_external}
+use Rattle.exb_machine.specs.Telling.{all_told}
 use Rattle.exb_machine.specs.Worlds.{Left}
 use Rattle.exb_motion.specs.Playing.{IsTimely}
 use Rattle.exb_network.specs.Networks.{Network}
-use Rattle.exb_resting.specs.Playing.{HasWritten, RunsAreUnderWay, RunsWriteEagerly}
+use Rattle.exb_resting.specs.Playing.{HasWrittenIn, PlaysIn, RunsAreUnderWay, RunsWriteEagerly, RunsWriteLegally}
 use Rattle.exb_schedule.specs.Playing.{HasPlayed}
 use Rattle.exb_standing.specs.Showing.{left_at}
-use Rattle.exb_run.specs.Outputs.{output_text}
+use Rattle.exb_tracing.specs.Runs.{RunsTellLegally}
+use Rattle.exb_run.specs.Outputs.{IsTraceOf, output_text}
 use Rattle.exb_run.specs.Plans.{Planned, port_count, port_at}
 use Rattle.exb_run.specs.Playing.{counts_so_far, text_so_far}
 use Rattle.exb_run.proofs.Counting.{LeftExternal, counts-whole}
 use Rattle.exb_run.proofs.Places.{external_low, port_is}
 
-module _ (i : Input) (plan : Planned) (tree : plan.tree ≡ tree_of i) (is_tree : IsTree plan.tree) (timely : IsTimely i) (under_way : RunsAreUnderWay) (eagerly : RunsWriteEagerly)
-    (n : Network) (told : List Event) (gone : List Left) (played : HasPlayed i (segments Eager i) n told gone) where
-  written : HasWritten i played.done
-  written = eagerly i played.done timely played.plays
+module _ (m : Mode) (i : Input) (plan : Planned) (tree : plan.tree ≡ tree_of i) (is_tree : IsTree plan.tree) (timely : IsTimely i) (under_way : RunsAreUnderWay) (legally : RunsWriteLegally)
+    (n : Network) (told : List Event) (gone : List Left) (lines : List TraceLine) (played : HasPlayed m i (segments m i) n told gone lines) where
+  written : HasWrittenIn m i played.done
+  written = legally m i played.done timely played.plays
 
-  journal : ([] then told) ≡ eager i
-  journal = ap (λ (es : List Event). [] then es) played.told ∙ written.journal
+  same-history : ([] then told) ≡ ([] then played.done.events)
+  same-history = ap (λ (es : List Event). [] then es) played.told
 
-  sent : (q : ℕ) → is_external (tree_of i) q ≡ true → left_at q gone ≡ flat (basis_of i) (eager i) q
-  sent q is = ap (left_at q) played.gone ∙ written.captures q is
+  -- the history is legal
+  pub legal : Legal m i ([] then told)
+  legal = subst (Legal m i) (sym same-history) written.journal
+
+  -- and in an eager run the eager one
+  pub eagerly : RunsWriteEagerly → m ≡ Eager → ([] then told) ≡ eager i
+  eagerly law is = same-history ∙ (law i played.done timely (subst (λ (k : Mode). PlaysIn k i (segments k i) played.done) is played.plays)).journal
+
+  -- its trace is legal
+  pub trace : RunsTellLegally → n.log.tracing ≡ true → IsTraceOf i ([] then told) lines
+  trace law on =
+      subst (λ (ls : List TraceLine). IsTraceOf i ([] then told) ls) (sym (played.traced on))
+      (subst (λ (g : History). IsTraceOf i g (all_told played.done.lines)) (sym same-history) (law m i played.done timely played.plays))
+
+  sent : (q : ℕ) → is_external (tree_of i) q ≡ true → left_at q gone ≡ flat (basis_of i) ([] then told) q
+  sent q is = ap (left_at q) played.gone ∙ written.captures q is ∙ ap (λ (g : History). flat (basis_of i) g q) (sym same-history)
 
   -- its texts
-  pub texts-whole : (j : ℕ) → text_so_far plan told gone j ≡ output_text i plan j
+  pub texts-whole : (j : ℕ) → text_so_far plan told gone lines j ≡ output_text i plan ([] then told) lines j
   texts-whole j = by_place (nat_lt j (port_count plan)) refl
     where
+      rest : List ℕ
+      rest = if j == port_count plan then journal_text ([] then told) else trace_text lines
+
       by_place : (b : Bool) → nat_lt j (port_count plan) ≡ b →
-          (if b then capture_text (left_at (port_at plan j) gone) else journal_text ([] then told)) ≡ (if b then capture_text (flat (basis_of i) (eager i) (port_at plan j)) else journal_text (eager i))
+          (if b then capture_text (left_at (port_at plan j) gone) else rest) ≡ (if b then capture_text (flat (basis_of i) ([] then told) (port_at plan j)) else rest)
       by_place true e =
           let inside : j < port_count plan = ltb-true j (port_count plan) e in
           ap capture_text (sent (port_at plan j) (ap (λ (t : Shape). is_external t (port_at plan j)) (sym tree) ∙ (port_is plan j inside).passes))
-      by_place false e = ap journal_text journal
+      by_place false e = refl
 
   own : All (LeftExternal (tree_of i)) gone
   own k d low =
       let same : (get_or gone k d) ≡ get_or played.done.left k d = ap (λ (xs : List Left). get_or xs k d) played.gone in
       let size = ap (λ (xs : List Left). length xs) played.gone in
-      let copy = (under_way Eager i (segments Eager i) played.done played.plays).copies k d (omega (arith, low, size)) in
+      let copy = (under_way m i (segments m i) played.done played.plays).copies k d (omega (arith, low, size)) in
       let port : is_external (tree_of i) (get_or gone k d).port ≡ true = ap (λ (x : Left). is_external (tree_of i) x.port) same ∙ copy.port in
       record { port = port; low = external_low plan.tree (get_or gone k d).port is_tree (ap (λ (t : Shape). is_external t (get_or gone k d).port) tree ∙ port) }
 
   -- its counts
-  pub counts-end : counts_so_far told gone ≡ counts (tree_of i) (basis_of i) (eager i)
-  counts-end = counts-whole (tree_of i) (basis_of i) (eager i) told gone journal sent own
+  pub counts-end : counts_so_far told gone ≡ counts (tree_of i) (basis_of i) ([] then told)
+  counts-end = counts-whole (tree_of i) (basis_of i) ([] then told) told gone refl sent own

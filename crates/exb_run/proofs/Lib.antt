@@ -1,7 +1,11 @@
 pub mod Texts
 pub mod Counting
 pub mod Segmenting
+pub mod Taking
+pub mod Gathering
+pub mod Counters
 pub mod Following
+pub mod Going
 pub mod Tallying
 pub mod Places
 pub mod Telling
@@ -11,11 +15,12 @@ pub mod Beginning
 pub mod Filling
 pub mod OutputLemmas
 pub mod FlawLemmas
-pub mod BuiltLemmas
 pub mod Refusing
 pub mod Asking
 pub mod Stopping
 pub mod Running
 pub mod RunLemmas
+pub mod Reporting
+pub mod Handing
 pub mod ShelvingLemmas
 pub mod OpenLemmas

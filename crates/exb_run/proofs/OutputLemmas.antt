@@ -7,14 +7,15 @@ use Rattle.std.proofs.Math.Seq.{get_or-append_seam}
 use Rattle.exb_model.specs.declared.event.Event.{Event}
 use Rattle.exb_model.specs.FlatBridge.{Sent}
 use Rattle.exb_model.specs.Texts.{line_of, record_text}
+use Rattle.exb_model.specs.Traces.{TraceLine, trace_line, trace_text}
 use Rattle.exb_shelf.specs.Files.{Files, SameFiles, Adds, Filled}
 use Rattle.exb_shelf.specs.Shelf.{Id, writing}
 use Rattle.exb_shelf.proofs.FileLemmas.{Apart}
-use Rattle.exb_text.specs.Names.{capture_name, journal_name}
+use Rattle.exb_text.specs.Names.{capture_name, journal_name, trace_name}
 use Rattle.exb_network.specs.declared.log.Left.{Left}
 use Rattle.exb_network.specs.Worlds.{all_left}
 use Rattle.exb_standing.specs.Showing.{left_at}
-use Rattle.exb_run.specs.Plans.{Planned, port_count, port_at, place_in}
+use Rattle.exb_run.specs.Plans.{Planned, output_count, port_count, port_at, place_in}
 use Rattle.exb_run.specs.Outputs.{output_name}
 use Rattle.exb_run.specs.Writing.{Holds, HasTexts, with_more, lines_of, with_left_frames, CanBeWritten}
 use Rattle.exb_run.proofs.Filling.{weaker, still_filled, one_more}
@@ -36,32 +37,81 @@ sent_at-append (x ∷ xs) ys q = rw (sent_at-append xs ys q) (head_at (x.port ==
 sent_at-nil : (q : ℕ) → sent_at [] q ≡ []
 sent_at-nil q = refl
 
+-- ---- the places of the outputs
+-- that of a capture, of the journal or of the trace
+abbrev pub IsPlace : Planned → ℕ → Type 0
+IsPlace plan j = (j < port_count plan) ⊎ (j ≡ port_count plan) ⊎ ((plan.traced ≡ true) × (j ≡ port_count plan + 1))
+
+pub place_is : (plan : Planned) (j : ℕ) → j < output_count plan → IsPlace plan j
+place_is plan j low = by_traced plan.traced refl low
+  where
+    by_traced : (b : Bool) → plan.traced ≡ b → j < (if b then port_count plan + 2 else port_count plan + 1) → IsPlace plan j
+    by_traced true e within = elim (cases_lt j (port_count plan)) [
+      | inl below ↦ inl below
+      | inr above ↦ elim (cases_eq j (port_count plan)) [
+        | inl same ↦ inr (inl same)
+        | inr other ↦ inr (inr (e, omega (arith, within, above, other)))
+      ]
+    ]
+    by_traced false e within = elim (cases_lt j (port_count plan)) [
+      | inl below ↦ inl below
+      | inr above ↦ inr (inl (omega (arith, within, above)))
+    ]
+
+-- all of them are there
+pub capture_low : (plan : Planned) (j : ℕ) → j < port_count plan → j < output_count plan
+capture_low plan j below = by_traced plan.traced
+  where
+    by_traced : (b : Bool) → j < (if b then port_count plan + 2 else port_count plan + 1)
+    by_traced true = omega (arith, below)
+    by_traced false = omega (arith, below)
+
+pub journal_low : (plan : Planned) → port_count plan < output_count plan
+journal_low plan = by_traced plan.traced
+  where
+    by_traced : (b : Bool) → port_count plan < (if b then port_count plan + 2 else port_count plan + 1)
+    by_traced true = omega arith
+    by_traced false = omega arith
+
+pub trace_low : (plan : Planned) → plan.traced ≡ true → port_count plan + 1 < output_count plan
+trace_low plan is = rw is (omega arith)
+
 -- the names of the outputs
 pub name_of_capture : (plan : Planned) (j : ℕ) → j < port_count plan → output_name plan j ≡ capture_name plan.prefix (port_at plan j)
 name_of_capture plan j h = rw (lt-ltb j (port_count plan) h) refl
 
-pub name_of_journal : (plan : Planned) (j : ℕ) → port_count plan ≤ j → output_name plan j ≡ journal_name plan.prefix
-name_of_journal plan j h = rw (le-ltb j (port_count plan) h) refl
+pub name_of_journal : (plan : Planned) (j : ℕ) → j ≡ port_count plan → output_name plan j ≡ journal_name plan.prefix
+name_of_journal plan j is = rw (le-ltb j (port_count plan) (omega (arith, is)), eq-eqb j (port_count plan) is) refl
+
+pub name_of_trace : (plan : Planned) (j : ℕ) → j ≡ port_count plan + 1 → output_name plan j ≡ trace_name plan.prefix
+name_of_trace plan j is = rw (le-ltb j (port_count plan) (omega (arith, is)), ne_eqb j (port_count plan) (λ e. omega (arith, is, e))) refl
 
 -- they differ, as those of a run do
-pub names_apart : ((prefix : List ℕ) (p q : ℕ) → p < 4160 → q < 4160 → capture_name prefix p ≡ capture_name prefix q → p ≡ q)
-    → ((prefix : List ℕ) (p : ℕ) → capture_name prefix p ≢ journal_name prefix)
-    → (plan : Planned) → Apart (port_count plan + 1) (output_name plan)
-names_apart captures journal plan i j li lj differ e = elim (cases_lt i (port_count plan)) [
-  | inl hi ↦ elim (cases_lt j (port_count plan)) [
-    | inl hj ↦
-        let same : port_at plan i ≡ port_at plan j =
-        captures plan.prefix (port_at plan i) (port_at plan j) (port_is plan i hi).low (port_is plan j hj).low
-        (sym (name_of_capture plan i hi) ∙ e ∙ name_of_capture plan j hj)
-        in
-        differ (sym (place_of_port plan i hi) ∙ ap (place_in plan.tree) same ∙ place_of_port plan j hj)
-    | inr hj ↦ journal plan.prefix (port_at plan i) (sym (name_of_capture plan i hi) ∙ e ∙ name_of_journal plan j hj)
-  ]
-  | inr hi ↦ elim (cases_lt j (port_count plan)) [
-    | inl hj ↦ journal plan.prefix (port_at plan j) (sym (name_of_capture plan j hj) ∙ sym e ∙ name_of_journal plan i hi)
-    | inr hj ↦ differ (omega arith)
-  ]
-]
+module _ (captures : (prefix : List ℕ) (p q : ℕ) → p < 4160 → q < 4160 → capture_name prefix p ≡ capture_name prefix q → p ≡ q)
+    (journal : (prefix : List ℕ) (p : ℕ) → capture_name prefix p ≢ journal_name prefix)
+    (trace : (prefix : List ℕ) (p : ℕ) → capture_name prefix p ≢ trace_name prefix)
+    (both : (prefix : List ℕ) → journal_name prefix ≢ trace_name prefix) (plan : Planned) where
+  -- that of a capture from all others
+  capture_apart : (i j : ℕ) → i < port_count plan → IsPlace plan j → i ≢ j → output_name plan i ≢ output_name plan j
+  capture_apart i j hi (inl hj) differ e =
+      let same : port_at plan i ≡ port_at plan j =
+      captures plan.prefix (port_at plan i) (port_at plan j) (port_is plan i hi).low (port_is plan j hj).low
+      (sym (name_of_capture plan i hi) ∙ e ∙ name_of_capture plan j hj)
+      in
+      differ (sym (place_of_port plan i hi) ∙ ap (place_in plan.tree) same ∙ place_of_port plan j hj)
+  capture_apart i j hi (inr (inl hj)) differ e = journal plan.prefix (port_at plan i) (sym (name_of_capture plan i hi) ∙ e ∙ name_of_journal plan j hj)
+  capture_apart i j hi (inr (inr hj)) differ e = trace plan.prefix (port_at plan i) (sym (name_of_capture plan i hi) ∙ e ∙ name_of_trace plan j hj.1)
+
+  places_apart : (i j : ℕ) → IsPlace plan i → IsPlace plan j → i ≢ j → output_name plan i ≢ output_name plan j
+  places_apart i j (inl hi) hj differ e = capture_apart i j hi hj differ e
+  places_apart i j (inr hi) (inl hj) differ e = capture_apart j i hj (inr hi) (λ same. differ (sym same)) (sym e)
+  places_apart i j (inr (inl hi)) (inr (inl hj)) differ e = differ (hi ∙ sym hj)
+  places_apart i j (inr (inl hi)) (inr (inr hj)) differ e = both plan.prefix (sym (name_of_journal plan i hi) ∙ e ∙ name_of_trace plan j hj.1)
+  places_apart i j (inr (inr hi)) (inr (inl hj)) differ e = both plan.prefix (sym (name_of_journal plan j hj) ∙ sym e ∙ name_of_trace plan i hi.1)
+  places_apart i j (inr (inr hi)) (inr (inr hj)) differ e = differ (hi.1 ∙ sym hj.1)
+
+  pub names_apart : Apart (output_count plan) (output_name plan)
+  names_apart i j li lj differ e = places_apart i j (place_is plan i li) (place_is plan j lj) differ e
 
 -- the text of one output and of the others, where that of one has more
 with_more_here : (text : ℕ → List ℕ) (j : ℕ) (more : List ℕ) → with_more text j more j ≡ text j ++ more
@@ -78,12 +128,12 @@ holds_other pieces text j piece more k bytes ne h =
 
 -- an output has more in its piece, or in its file
 pub has_more : (plan : Planned) (f g h : Files) (pieces : List (List ℕ)) (text : ℕ → List ℕ) (j : ℕ) (piece more : List ℕ)
-    → Apart (port_count plan + 1) (output_name plan) → j < port_count plan + 1 → j < length pieces → HasTexts plan pieces f g text
+    → Apart (output_count plan) (output_name plan) → j < output_count plan → j < length pieces → HasTexts plan pieces f g text
     → (SameFiles g h × (piece ≡ get_or pieces j [] ++ more)) ⊎ (Adds g h (output_name plan j) (get_or pieces j [] ++ more) × (piece ≡ []))
     → HasTexts plan (set pieces j piece) f h (with_more text j more)
 has_more plan f g h pieces text j piece more apart lt in_pieces p (inl kept) =
-    still_filled f g h (port_count plan + 1) (output_name plan) (Holds (set pieces j piece) (with_more text j more))
-    (weaker f g (port_count plan + 1) (output_name plan) (Holds pieces text) (Holds (set pieces j piece) (with_more text j more)) p
+    still_filled f g h (output_count plan) (output_name plan) (Holds (set pieces j piece) (with_more text j more))
+    (weaker f g (output_count plan) (output_name plan) (Holds pieces text) (Holds (set pieces j piece) (with_more text j more)) p
     (λ k bytes _ held. elim (cases_eq k j) [
       | inl same ↦ subst (λ (i : ℕ). Holds (set pieces j piece) (with_more text j more) i bytes) (sym same)
           (ap (λ (xs : List ℕ). bytes ++ xs) (get_or-set_same pieces j piece [] in_pieces ∙ kept.1)
@@ -94,7 +144,7 @@ has_more plan f g h pieces text j piece more apart lt in_pieces p (inl kept) =
     ]))
     kept.0
 has_more plan f g h pieces text j piece more apart lt in_pieces p (inr written) =
-    one_more f g h (port_count plan + 1) j (output_name plan) (Holds pieces text) (Holds (set pieces j piece) (with_more text j more))
+    one_more f g h (output_count plan) j (output_name plan) (Holds pieces text) (Holds (set pieces j piece) (with_more text j more))
     (get_or pieces j [] ++ more) apart lt p written.0
     (λ k bytes other held. holds_other pieces text j piece more k bytes other held)
     (λ bytes held.
@@ -112,7 +162,7 @@ name_of_id given ids at id name read inside is =
 
 -- the same of the pieces of values, where one is read and written
 pub has_more_at : {X : Type 0} (of : X → List ℕ) (plan : Planned) (f g h : Files) (all : List X) (text : ℕ → List ℕ) (j : ℕ) (was now : X) (name more : List ℕ)
-    → Apart (port_count plan + 1) (output_name plan) → j < port_count plan + 1 → length all ≡ port_count plan + 1 → was ≡ get_or all j was → name ≡ output_name plan j
+    → Apart (output_count plan) (output_name plan) → j < output_count plan → length all ≡ output_count plan → was ≡ get_or all j was → name ≡ output_name plan j
     → HasTexts plan (map of all) f g text
     → (SameFiles g h × (of now ≡ of was ++ more)) ⊎ (Adds g h name (of was ++ more) × (of now ≡ []))
     → HasTexts plan (map of (set all j now)) f h (with_more text j more)
@@ -141,11 +191,11 @@ with_more_nothing text j k = elim (cases_eq k j) [
 
 -- a piece is written
 pub is_flushed : {X : Type 0} (of : X → List ℕ) (plan : Planned) (f g h : Files) (all : List X) (text : ℕ → List ℕ) (j : ℕ) (was now : X) (name : List ℕ)
-    → Apart (port_count plan + 1) (output_name plan) → j < port_count plan + 1 → length all ≡ port_count plan + 1 → was ≡ get_or all j was → name ≡ output_name plan j
+    → Apart (output_count plan) (output_name plan) → j < output_count plan → length all ≡ output_count plan → was ≡ get_or all j was → name ≡ output_name plan j
     → HasTexts plan (map of all) f g text → Adds g h name (of was) → of now ≡ []
     → HasTexts plan (map of (set all j now)) f h text
 is_flushed of plan f g h all text j was now name apart lt long read named p add empty =
-    weaker f h (port_count plan + 1) (output_name plan) (Holds (map of (set all j now)) (with_more text j [])) (Holds (map of (set all j now)) text)
+    weaker f h (output_count plan) (output_name plan) (Holds (map of (set all j now)) (with_more text j [])) (Holds (map of (set all j now)) text)
     (has_more_at of plan f g h all text j was now name [] apart lt long read named p
     (inr (subst (λ (xs : List ℕ). Adds g h name xs) (sym (append-nil (of was))) add, empty)))
     (λ k bytes _ held. held ∙ with_more_nothing text j k)
@@ -164,18 +214,18 @@ more_empty of all i now inside empty before j lt =
 
 -- with nothing left in the pieces, each file is its text
 pub all_written : (plan : Planned) (f g : Files) (pieces : List (List ℕ)) (text : ℕ → List ℕ)
-    → ((j : ℕ) → j < port_count plan + 1 → get_or pieces j [] ≡ []) → HasTexts plan pieces f g text
-    → Filled f g (port_count plan + 1) (output_name plan) (λ j bytes. bytes ≡ text j)
+    → ((j : ℕ) → j < output_count plan → get_or pieces j [] ≡ []) → HasTexts plan pieces f g text
+    → Filled f g (output_count plan) (output_name plan) (λ j bytes. bytes ≡ text j)
 all_written plan f g pieces text empty p =
-    weaker f g (port_count plan + 1) (output_name plan) (Holds pieces text) (λ j bytes. bytes ≡ text j) p
+    weaker f g (output_count plan) (output_name plan) (Holds pieces text) (λ j bytes. bytes ≡ text j) p
     (λ j bytes l held. sym (append-nil bytes) ∙ ap (λ (xs : List ℕ). bytes ++ xs) (sym (empty j l)) ∙ held)
 
 -- empty files have the texts that their pieces are
 pub none_written : (plan : Planned) (f g : Files) (pieces : List (List ℕ)) (text : ℕ → List ℕ)
-    → ((j : ℕ) → j < port_count plan + 1 → get_or pieces j [] ≡ text j)
-    → Filled f g (port_count plan + 1) (output_name plan) (λ j bytes. bytes ≡ []) → HasTexts plan pieces f g text
+    → ((j : ℕ) → j < output_count plan → get_or pieces j [] ≡ text j)
+    → Filled f g (output_count plan) (output_name plan) (λ j bytes. bytes ≡ []) → HasTexts plan pieces f g text
 none_written plan f g pieces text is p =
-    weaker f g (port_count plan + 1) (output_name plan) (λ j bytes. bytes ≡ []) (Holds pieces text) p
+    weaker f g (output_count plan) (output_name plan) (λ j bytes. bytes ≡ []) (Holds pieces text) p
     (λ j bytes l empty. ap (λ (xs : List ℕ). xs ++ get_or pieces j []) empty ∙ is j l)
 
 -- one more id has its name, and one more piece its text
@@ -226,33 +276,68 @@ more_spelled plan f g pieces text i j xs ys ei ex p =
     subst (λ (k : ℕ). HasTexts plan pieces f g (with_more text k ys)) ei
     (subst (λ (zs : List ℕ). HasTexts plan pieces f g (with_more text i zs)) ex p)
 
--- no events
-pub no_lines : (plan : Planned) (f g : Files) (pieces : List (List ℕ)) (text : ℕ → List ℕ)
-    → HasTexts plan pieces f g text → HasTexts plan pieces f g (with_more text (port_count plan) [])
-no_lines plan f g pieces text p =
-    weaker f g (port_count plan + 1) (output_name plan) (Holds pieces text) (Holds pieces (with_more text (port_count plan) [])) p
-    (λ k bytes _ held. held ∙ sym (with_more_nothing text (port_count plan) k))
+-- nothing more of an output
+pub no_more : (plan : Planned) (f g : Files) (pieces : List (List ℕ)) (text : ℕ → List ℕ) (j : ℕ)
+    → HasTexts plan pieces f g text → HasTexts plan pieces f g (with_more text j [])
+no_more plan f g pieces text j p =
+    weaker f g (output_count plan) (output_name plan) (Holds pieces text) (Holds pieces (with_more text j [])) p
+    (λ k bytes _ held. held ∙ sym (with_more_nothing text j k))
 
--- the lines of one event more
-lines_more : (events : List Event) (i : ℕ) (e : Event) → i < length events → e ≡ get_or events i e
-    → lines_of (take i events) ++ (line_of e ++ 10 ∷ []) ≡ lines_of (take (i + 1) events)
-lines_more events i e inside is =
-    ap (λ (xs : List ℕ). lines_of (take i events) ++ xs) (sym (append-nil (line_of e ++ 10 ∷ [])))
-    ∙ sym (flat_map-append (λ (x : Event). line_of x ++ 10 ∷ []) (take i events) (e ∷ []))
-    ∙ ap (λ (x : Event). lines_of (take i events ++ x ∷ [])) is
-    ∙ ap lines_of (sym (take_more events i e inside))
+-- more, and then more
+more_behind : (plan : Planned) (f g : Files) (pieces : List (List ℕ)) (text : ℕ → List ℕ) (j : ℕ) (before one after : List ℕ) → before ++ one ≡ after
+    → HasTexts plan pieces f g (with_more (with_more text j before) j one) → HasTexts plan pieces f g (with_more text j after)
+more_behind plan f g pieces text j before one after is p =
+    weaker f g (output_count plan) (output_name plan) (Holds pieces (with_more (with_more text j before) j one)) (Holds pieces (with_more text j after)) p
+    (λ k bytes _ held. held ∙ with_more_twice text j before one k ∙ ap (λ (xs : List ℕ). with_more text j xs k) is)
 
+-- the texts of one of a list more
+texts_more : {X : Type 0} (text : X → List ℕ) (xs : List X) (i : ℕ) (x : X) → i < length xs → x ≡ get_or xs i x
+    → flat_map text (take i xs) ++ text x ≡ flat_map text (take (i + 1) xs)
+texts_more text xs i x inside is =
+    ap (λ (ys : List ℕ). flat_map text (take i xs) ++ ys) (sym (append-nil (text x)))
+    ∙ sym (flat_map-append text (take i xs) (x ∷ []))
+    ∙ ap (λ y. flat_map text (take i xs ++ y ∷ [])) is
+    ∙ ap (flat_map text) (sym (take_more xs i x inside))
+
+-- the line of one event more
 pub more_lines : (plan : Planned) (f g : Files) (pieces : List (List ℕ)) (text : ℕ → List ℕ) (events : List Event) (i : ℕ) (e : Event)
     → i < length events → e ≡ get_or events i e
     → HasTexts plan pieces f g (with_more (with_more text (port_count plan) (lines_of (take i events))) (port_count plan) (line_of e ++ 10 ∷ []))
     → HasTexts plan pieces f g (with_more text (port_count plan) (lines_of (take (i + 1) events)))
-more_lines plan f g pieces text events i e inside is p =
-    let new = with_more text (port_count plan) (lines_of (take (i + 1) events)) in
-    weaker f g (port_count plan + 1) (output_name plan) (Holds pieces (with_more (with_more text (port_count plan) (lines_of (take i events))) (port_count plan) (line_of e ++ 10 ∷ []))) (Holds pieces new) p
-    (λ k bytes _ held.
-    held
-    ∙ with_more_twice text (port_count plan) (lines_of (take i events)) (line_of e ++ 10 ∷ []) k
-    ∙ ap (λ (xs : List ℕ). with_more text (port_count plan) xs k) (lines_more events i e inside is))
+more_lines plan f g pieces text events i e inside is =
+    more_behind plan f g pieces text (port_count plan) (lines_of (take i events)) (line_of e ++ 10 ∷ []) (lines_of (take (i + 1) events))
+    (texts_more (λ (x : Event). line_of x ++ 10 ∷ []) events i e inside is)
+
+-- and one line of the trace more
+pub no_trace : trace_text [] ≡ []
+unfolding trace_text
+no_trace = refl
+
+trace_more : (lines : List TraceLine) (i : ℕ) (one : TraceLine) → i < length lines → one ≡ get_or lines i one
+    → trace_text (take i lines) ++ (trace_line one ++ 10 ∷ []) ≡ trace_text (take (i + 1) lines)
+unfolding trace_text
+trace_more lines i one inside is = texts_more (λ (x : TraceLine). trace_line x ++ 10 ∷ []) lines i one inside is
+
+pub more_trace : (plan : Planned) (f g : Files) (pieces : List (List ℕ)) (text : ℕ → List ℕ) (lines : List TraceLine) (i : ℕ) (one : TraceLine)
+    → i < length lines → one ≡ get_or lines i one
+    → HasTexts plan pieces f g (with_more (with_more text (port_count plan + 1) (trace_text (take i lines))) (port_count plan + 1) (trace_line one ++ 10 ∷ []))
+    → HasTexts plan pieces f g (with_more text (port_count plan + 1) (trace_text (take (i + 1) lines)))
+more_trace plan f g pieces text lines i one inside is =
+    more_behind plan f g pieces text (port_count plan + 1) (trace_text (take i lines)) (trace_line one ++ 10 ∷ []) (trace_text (take (i + 1) lines))
+    (trace_more lines i one inside is)
+
+-- where no trace is asked for there is no such output
+pub untraced : (plan : Planned) (f g : Files) (pieces : List (List ℕ)) (text : ℕ → List ℕ) (more : List ℕ) → plan.traced ≡ false
+    → HasTexts plan pieces f g text → HasTexts plan pieces f g (with_more text (port_count plan + 1) more)
+untraced plan f g pieces text more isnt p =
+    weaker f g (output_count plan) (output_name plan) (Holds pieces text) (Holds pieces (with_more text (port_count plan + 1) more)) p
+    (λ k bytes low held. held ∙ sym (with_more_other text (port_count plan + 1) more k (λ e. elim (place_is plan k low) [
+      | inl below ↦ omega (arith, below, e)
+      | inr other ↦ elim other [
+        | inl is ↦ omega (arith, is, e)
+        | inr last ↦ absurd (let same : true ≡ false = sym last.0 ∙ isnt in cc)
+      ]
+    ])))
 
 -- no frames
 left_nothing : (plan : Planned) (text : ℕ → List ℕ) (k : ℕ) → with_left_frames plan text [] k ≡ text k
@@ -265,7 +350,7 @@ left_nothing plan text k = elim (cases_lt k (port_count plan)) [
 pub no_frames : (plan : Planned) (f g : Files) (pieces : List (List ℕ)) (text : ℕ → List ℕ)
     → HasTexts plan pieces f g text → HasTexts plan pieces f g (with_left_frames plan text [])
 no_frames plan f g pieces text p =
-    weaker f g (port_count plan + 1) (output_name plan) (Holds pieces text) (Holds pieces (with_left_frames plan text [])) p
+    weaker f g (output_count plan) (output_name plan) (Holds pieces text) (Holds pieces (with_left_frames plan text [])) p
     (λ k bytes _ held. held ∙ sym (left_nothing plan text k))
 
 -- what one frame is at its port and at others
@@ -327,7 +412,7 @@ pub more_frames : (plan : Planned) (f g : Files) (pieces : List (List ℕ)) (tex
     → HasTexts plan pieces f g (with_more (with_left_frames plan text (take i left)) (place_in plan.tree x.port) (record_text (x.moment, x.bytes)))
     → HasTexts plan pieces f g (with_left_frames plan text (take (i + 1) left))
 more_frames plan f g pieces text left i x inside is can p =
-    weaker f g (port_count plan + 1) (output_name plan)
+    weaker f g (output_count plan) (output_name plan)
     (Holds pieces (with_more (with_left_frames plan text (take i left)) (place_in plan.tree x.port) (record_text (x.moment, x.bytes))))
     (Holds pieces (with_left_frames plan text (take (i + 1) left))) p
     (λ k bytes _ held.

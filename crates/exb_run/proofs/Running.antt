@@ -1,61 +1,84 @@
 -- A topology that is run: what its plan writes is what is told of its external ports.
-use Rattle.std.proofs.Common.{◌≡◌, ◌≢◌, ◌+◌, ◌<◌, ◌≤◌, ◌==◌, ◌⊎◌, inl, inr, ℕ, Bool, true, false, List, [], ◌∷◌, Some, Result, Ok, Err, suc, All, refl, ap, sym, ◌∙◌, arith}
+use Rattle.std.proofs.Common.{◌≡◌, ◌≢◌, ◌+◌, ◌<◌, ◌≤◌, ◌==◌, ◌⊎◌, inl, inr, ℕ, Bool, true, false, List, [], ◌∷◌, Some, Result, Ok, Err, suc, All, refl, ap, sym, ◌∙◌, arith, eq-eqb}
 use mathlib.Core.Path.{fun_ext}
 use Rattle.std.specs.Prelude.{is_some, if◌then◌else◌, String, IfOk, IfErr, OnErr}
 use Rattle.std.specs.declared.alloc.Global.{Global}
-use Rattle.std.proofs.lemmas.Bool.{cases_lt, lt-ltb, le-ltb, eqb-true}
-use Rattle.exb_model.specs.Input.{Input, basis_of, tree_of}
+use Rattle.std.proofs.lemmas.Bool.{cases_lt, lt-ltb, le-ltb, eqb-true, ne_eqb}
+use Rattle.exb_model.specs.History.{History}
+use Rattle.exb_model.specs.Input.{Input, Mode, basis_of, tree_of}
 use Rattle.exb_model.specs.Tree.{Shape, IsTree, is_external}
-use Rattle.exb_model.specs.EagerHistory.{eager}
 use Rattle.exb_model.specs.FlatBridge.{flat}
 use Rattle.exb_model.specs.Texts.{capture_text, journal_text}
+use Rattle.exb_model.specs.Traces.{TraceLine, trace_text}
 use Rattle.exb_shelf.specs.Files.{Files, SameFiles}
-use Rattle.exb_text.specs.Names.{capture_name, journal_name}
+use Rattle.exb_text.specs.Names.{capture_name, journal_name, trace_name}
 use Rattle.exb_tables.specs.declared.rows.Named.{Named}
 use Rattle.exb_run.specs.declared.fault.Fault.{Fault}
 use Rattle.exb_run.specs.declared.fault.Fault.TheVariants.{Write, Memory}
 use Rattle.exb_run.specs.Plans.{Planned, port_count, port_at, place_in}
 use Rattle.exb_run.specs.Inputs.{is_named, name_of}
 use Rattle.exb_run.specs.Outputs.{OnlyOutputs, OnlyPlanned, IsPlayed, HasPlayed, output_name, output_text}
-use Rattle.exb_run.proofs.OutputLemmas.{name_of_capture, name_of_journal}
+use Rattle.exb_run.proofs.OutputLemmas.{IsPlace, place_is, capture_low, journal_low, trace_low, name_of_capture, name_of_journal, name_of_trace}
 use Rattle.exb_run.proofs.Places.{external_low, port_is, place_low, port_of_place}
 
 pub files_same : (f g : Files) → SameFiles f g → g ≡ f
 files_same f g same = fun_ext λ n. same n
 
 module _ (i : Input) (plan : Planned) (prefix : List ℕ) (same : plan.prefix ≡ prefix) (tree : plan.tree ≡ tree_of i) where
-  pub only_by : (f g : Files) → OnlyPlanned plan f g → OnlyOutputs (tree_of i) prefix f g
-  only_by f g only m captures journal = only m apart
+  pub only_by : (f g : Files) → OnlyPlanned plan f g → OnlyOutputs plan.traced (tree_of i) prefix f g
+  only_by f g only m captures journal trace = only m (λ j low e. apart j (place_is plan j low) e)
     where
-      apart : (j : ℕ) → j < port_count plan + 1 → m ≢ output_name plan j
-      apart j low e = elim (cases_lt j (port_count plan)) [
-        | inl inside ↦
-            captures (port_at plan j) (ap (λ (t : Shape). is_external t (port_at plan j)) (sym tree) ∙ (port_is plan j inside).passes)
-            (e ∙ name_of_capture plan j inside ∙ ap (λ (p : List ℕ). capture_name p (port_at plan j)) same)
-        | inr above ↦ journal (e ∙ name_of_journal plan j above ∙ ap journal_name same)
-      ]
+      apart : (j : ℕ) → IsPlace plan j → m ≡ output_name plan j → ⊥
+      apart j (inl inside) e =
+          captures (port_at plan j) (ap (λ (t : Shape). is_external t (port_at plan j)) (sym tree) ∙ (port_is plan j inside).passes)
+          (e ∙ name_of_capture plan j inside ∙ ap (λ (p : List ℕ). capture_name p (port_at plan j)) same)
+      apart j (inr (inl is)) e = journal (e ∙ name_of_journal plan j is ∙ ap journal_name same)
+      apart j (inr (inr last)) e = trace last.0 (e ∙ name_of_trace plan j last.1 ∙ ap trace_name same)
 
-  pub played_by : IsTree (tree_of i) → (f g : Files) (line : List ℕ) → HasPlayed i plan f g line → IsPlayed i prefix f g line
-  played_by is_tree f g line played = record {
+  module _ (h : History) (lines : List TraceLine) where
+    text_of_capture : (j : ℕ) → j < port_count plan → output_text i plan h lines j ≡ capture_text (flat (basis_of i) h (port_at plan j))
+    text_of_capture j inside = rw (lt-ltb j (port_count plan) inside) refl
+
+    text_of_journal : (j : ℕ) → j ≡ port_count plan → output_text i plan h lines j ≡ journal_text h
+    text_of_journal j is = rw (le-ltb j (port_count plan) (omega (arith, is)), eq-eqb j (port_count plan) is) refl
+
+    text_of_trace : (j : ℕ) → j ≡ port_count plan + 1 → output_text i plan h lines j ≡ trace_text lines
+    text_of_trace j is = rw (le-ltb j (port_count plan) (omega (arith, is)), ne_eqb j (port_count plan) (λ e. omega (arith, is, e))) refl
+
+  pub played_by : (m : Mode) → IsTree (tree_of i) → (f g : Files) (line : List ℕ) → HasPlayed m i plan f g line → IsPlayed m plan.traced i prefix f g line
+  played_by m is_tree f g line played = record {
+    history = h;
+    legal = played.legal;
+    eager = played.eager;
     captures = λ q is.
         let low = external_low (tree_of i) q is_tree is in
         let own : is_external plan.tree q ≡ true = ap (λ (t : Shape). is_external t q) tree ∙ is in
         let j : ℕ = place_in plan.tree q in
         let inside : j < port_count plan = place_low plan q low own in
         let place : q ≡ port_at plan j = sym (port_of_place plan q low own) in
-        let found = played.outputs.each j (omega arith) in
-        let text : output_text i plan j ≡ capture_text (flat (basis_of i) (eager i) (port_at plan j)) = rw (lt-ltb j (port_count plan) inside) refl in
+        let found = played.outputs.each j (capture_low plan j inside) in
         let name : capture_name prefix q ≡ output_name plan j =
         ap (capture_name prefix) place ∙ ap (λ (p : List ℕ). capture_name p (port_at plan j)) (sym same) ∙ sym (name_of_capture plan j inside) in
-        ap g name ∙ found.1 ∙ ap Some (found.2 ∙ text ∙ ap (λ (p : ℕ). capture_text (flat (basis_of i) (eager i) p)) (sym place));
+        ap g name ∙ found.1 ∙ ap Some (found.2 ∙ text_of_capture h lines j inside ∙ ap (λ (p : ℕ). capture_text (flat (basis_of i) h p)) (sym place));
     journal =
-        let found = played.outputs.each (port_count plan) (omega arith) in
-        let low : port_count plan ≤ port_count plan = omega arith in
-        let text : output_text i plan (port_count plan) ≡ journal_text (eager i) = rw (le-ltb (port_count plan) (port_count plan) low) refl in
-        ap g (ap journal_name (sym same) ∙ sym (name_of_journal plan (port_count plan) low)) ∙ found.1 ∙ ap Some (found.2 ∙ text);
+        let found = played.outputs.each (port_count plan) (journal_low plan) in
+        ap g (ap journal_name (sym same) ∙ sym (name_of_journal plan (port_count plan) refl)) ∙ found.1 ∙ ap Some (found.2 ∙ text_of_journal h lines (port_count plan) refl);
+    trace = λ traced.
+        let found = played.outputs.each (port_count plan + 1) (trace_low plan traced) in
+        record {
+          lines = lines;
+          is = ap g (ap trace_name (sym same) ∙ sym (name_of_trace plan (port_count plan + 1) refl)) ∙ found.1 ∙ ap Some (found.2 ∙ text_of_trace h lines (port_count plan + 1) refl);
+          legal = played.trace traced;
+        };
     others = only_by f g played.outputs.others;
     says = played.says;
   }
+    where
+      h : History
+      h = played.history
+
+      lines : List TraceLine
+      lines = played.lines
 
 -- a capture that is named has a port of which this is told of all
 pub named_by : (test : ℕ → Bool) (names : List Named) (q : ℕ) → All (λ x. test x.port ≡ true) names → is_named names q ≡ true → test q ≡ true

@@ -1,49 +1,85 @@
 -- Counts that fit 64 bits.
-use Rattle.std.proofs.Common.{◌≡◌, ℕ, ◌+◌, ◌^◌, ◌<◌, ◌≤◌, List, [], ◌∷◌, length, take, get_or, add-one, refl, ap, sym, ◌∙◌, arith}
+use Rattle.std.proofs.Common.{◌≡◌, ℕ, ◌+◌, ◌^◌, ◌<◌, ◌≤◌, List, [], ◌∷◌, ◌++◌, length, take, drop, get_or, add-one, refl, ap, sym, ◌∙◌, arith}
 use Rattle.std.proofs.Math.Seq.{take-suc}
+use Rattle.std.proofs.lemmas.List.{take-append-drop}
 use Rattle.std.proofs.lemmas.List.Sums.{fold-append}
 use Rattle.exb_model.specs.declared.event.Event.{Event}
 use Rattle.exb_model.specs.declared.event.Event.TheVariants as event
-use Rattle.exb_model.specs.Texts.{Counts, counted}
+use Rattle.exb_model.specs.Texts.{Counts, counted, with_left}
 use Rattle.exb_text.specs.Tallies.{FitsTally}
-use Rattle.exb_run.proofs.Counting.{count_events}
+use Rattle.exb_run.proofs.Counting.{count_events, count_events-left}
 
-fits : (c : Counts) → c.relayed < 2 ^ 64 → c.ignored < 2 ^ 64 → c.left < 2 ^ 64 → c.commits < 2 ^ 64 → c.refusals < 2 ^ 64 → FitsTally c
-fits c a b l d e = record { relayed = a; ignored = b; left = l; commits = d; refusals = e }
+-- no count is above that of another
+record IsBelow (c d : Counts) : Type 0 where
+  relayed : c.relayed ≤ d.relayed
+  ignored : c.ignored ≤ d.ignored
+  left : c.left ≤ d.left
+  commits : c.commits ≤ d.commits
+  refusals : c.refusals ≤ d.refusals
 
-pub fits_one_more : (e : Event) (c : Counts) → c.relayed + 1 < 2 ^ 64 → c.ignored + 1 < 2 ^ 64 → c.left < 2 ^ 64 → c.commits + 1 < 2 ^ 64 → c.refusals + 1 < 2 ^ 64 →
-    FitsTally (counted e c)
-fits_one_more (event.Relay p n t f) c a b l d r = fits _ (omega arith) (omega arith) (omega arith) (omega arith) (omega arith)
-fits_one_more (event.Ignored p n) c a b l d r = fits _ (omega arith) (omega arith) (omega arith) (omega arith) (omega arith)
-fits_one_more (event.Tick s) c a b l d r = fits _ (omega arith) (omega arith) (omega arith) (omega arith) (omega arith)
-fits_one_more (event.Commit n) c a b l d r = fits _ (omega arith) (omega arith) (omega arith) (omega arith) (omega arith)
-fits_one_more (event.Refuse n x) c a b l d r = fits _ (omega arith) (omega arith) (omega arith) (omega arith) (omega arith)
-fits_one_more (event.Up p) c a b l d r = fits _ (omega arith) (omega arith) (omega arith) (omega arith) (omega arith)
-fits_one_more (event.NoUp p x) c a b l d r = fits _ (omega arith) (omega arith) (omega arith) (omega arith) (omega arith)
-fits_one_more event.Settled c a b l d r = fits _ (omega arith) (omega arith) (omega arith) (omega arith) (omega arith)
+below-itself : (c : Counts) → IsBelow c c
+below-itself c = record { relayed = omega arith; ignored = omega arith; left = omega arith; commits = omega arith; refusals = omega arith }
 
--- d is c after n events
-pub record IsWithin (c d : Counts) (n : ℕ) : Type 0 where
-  pub relayed : d.relayed ≤ c.relayed + n
-  pub ignored : d.ignored ≤ c.ignored + n
-  pub left : d.left ≡ c.left
-  pub commits : d.commits ≤ c.commits + n
-  pub refusals : d.refusals ≤ c.refusals + n
+below-one : (e : Event) (c : Counts) → IsBelow c (counted e c)
+below-one (event.Relay p n t f) c = record { relayed = omega arith; ignored = omega arith; left = omega arith; commits = omega arith; refusals = omega arith }
+below-one (event.Ignored p n) c = record { relayed = omega arith; ignored = omega arith; left = omega arith; commits = omega arith; refusals = omega arith }
+below-one (event.Tick s) c = below-itself c
+below-one (event.Commit n) c = record { relayed = omega arith; ignored = omega arith; left = omega arith; commits = omega arith; refusals = omega arith }
+below-one (event.Refuse n x) c = record { relayed = omega arith; ignored = omega arith; left = omega arith; commits = omega arith; refusals = omega arith }
+below-one (event.Up p) c = below-itself c
+below-one (event.NoUp p x) c = below-itself c
+below-one event.Settled c = below-itself c
 
-pub within_none : (c : Counts) → IsWithin c c 0
-within_none c = record { relayed = omega arith; ignored = omega arith; left = refl; commits = omega arith; refusals = omega arith }
+below-then : (a b c : Counts) → IsBelow a b → IsBelow b c → IsBelow a c
+below-then a b c x y = record {
+  relayed = (let m = x.relayed in let n = y.relayed in omega (arith, m, n));
+  ignored = (let m = x.ignored in let n = y.ignored in omega (arith, m, n));
+  left = (let m = x.left in let n = y.left in omega (arith, m, n));
+  commits = (let m = x.commits in let n = y.commits in omega (arith, m, n));
+  refusals = (let m = x.refusals in let n = y.refusals in omega (arith, m, n));
+}
 
-pub within_more : (e : Event) (c d : Counts) (n : ℕ) → IsWithin c d n → IsWithin c (counted e d) (n + 1)
-within_more (event.Relay p i t f) c d n w = record { relayed = omega arith; ignored = omega arith; left = w.left; commits = omega arith; refusals = omega arith }
-within_more (event.Ignored p i) c d n w = record { relayed = omega arith; ignored = omega arith; left = w.left; commits = omega arith; refusals = omega arith }
-within_more (event.Tick s) c d n w = record { relayed = omega arith; ignored = omega arith; left = w.left; commits = omega arith; refusals = omega arith }
-within_more (event.Commit i) c d n w = record { relayed = omega arith; ignored = omega arith; left = w.left; commits = omega arith; refusals = omega arith }
-within_more (event.Refuse i x) c d n w = record { relayed = omega arith; ignored = omega arith; left = w.left; commits = omega arith; refusals = omega arith }
-within_more (event.Up p) c d n w = record { relayed = omega arith; ignored = omega arith; left = w.left; commits = omega arith; refusals = omega arith }
-within_more (event.NoUp p x) c d n w = record { relayed = omega arith; ignored = omega arith; left = w.left; commits = omega arith; refusals = omega arith }
-within_more event.Settled c d n w = record { relayed = omega arith; ignored = omega arith; left = w.left; commits = omega arith; refusals = omega arith }
+below-all : (es : List Event) (c : Counts) → IsBelow c (count_events c es)
+below-all [] c = below-itself c
+below-all (e ∷ es) c = below-then c (counted e c) (count_events (counted e c) es) (below-one e c) (below-all es (counted e c))
+
+fits-below : (c d : Counts) → IsBelow c d → FitsTally d → FitsTally c
+fits-below c d b f = record {
+  relayed = (let m = b.relayed in let n = f.relayed in omega (arith, m, n));
+  ignored = (let m = b.ignored in let n = f.ignored in omega (arith, m, n));
+  left = (let m = b.left in let n = f.left in omega (arith, m, n));
+  commits = (let m = b.commits in let n = f.commits in omega (arith, m, n));
+  refusals = (let m = b.refusals in let n = f.refusals in omega (arith, m, n));
+}
 
 -- one event more is counted
 pub counted_next : (es : List Event) (c : Counts) (k : ℕ) (e : Event) → k < length es → e ≡ get_or es k e → counted e (count_events c (take k es)) ≡ count_events c (take (k + 1) es)
 counted_next es c k e low is =
     rw (add-one, take-suc es k e low) (sym (fold-append (λ d x. counted x d) c (take k es) (get_or es k e ∷ []) ∙ ap (λ x. counted x (count_events c (take k es))) (sym is)))
+
+-- with the events so far the counts fit where they do with all
+pub fits-so-far : (es : List Event) (c : Counts) (k : ℕ) → FitsTally (count_events c es) → FitsTally (count_events c (take k es))
+fits-so-far es c k fits =
+    fits-below (count_events c (take k es)) (count_events c es) (by_split (take k es) (drop k es) (take-append-drop k es)) fits
+  where
+    by_split : (xs ys : List Event) → xs ++ ys ≡ es → IsBelow (count_events c xs) (count_events c es)
+    by_split xs ys is =
+        let whole : count_events c es ≡ count_events (count_events c xs) ys = ap (count_events c) (sym is) ∙ fold-append (λ d x. counted x d) c xs ys in
+        let b = below-all ys (count_events c xs) in
+        record {
+          relayed = (let m = b.relayed in let n = ap (λ (d : Counts). d.relayed) whole in omega (arith, m, n));
+          ignored = (let m = b.ignored in let n = ap (λ (d : Counts). d.ignored) whole in omega (arith, m, n));
+          left = (let m = b.left in let n = ap (λ (d : Counts). d.left) whole in omega (arith, m, n));
+          commits = (let m = b.commits in let n = ap (λ (d : Counts). d.commits) whole in omega (arith, m, n));
+          refusals = (let m = b.refusals in let n = ap (λ (d : Counts). d.refusals) whole in omega (arith, m, n));
+        }
+
+-- and so they do without what has left
+pub fits-events : (es : List Event) (c : Counts) (n : ℕ) → FitsTally (with_left n (count_events c es)) → FitsTally (count_events c es)
+fits-events es c n f = record {
+  relayed = f.relayed;
+  ignored = f.ignored;
+  left = (let low = f.left in omega (arith, low));
+  commits = f.commits;
+  refusals = f.refusals;
+}

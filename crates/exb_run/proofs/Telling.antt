@@ -1,37 +1,36 @@
 -- What a run has told and what has left, one segment more.
-use Rattle.std.proofs.Common.{◌≡◌, ℕ, zero, suc, ◌+◌, ◌*◌, ◌^◌, ◌<◌, ◌==◌, Bool, true, false, List, [], ◌∷◌, ◌++◌, length, map, All, get_or, nat_lt, refl, ap, sym, subst, ◌∙◌, arith, eq-eqb, length-append}
-use Rattle.std.specs.Prelude.{Some, Result, Ok, Err, is_err, OnOk, if◌then◌else◌, filter_map, slice_index_or}
+use Rattle.std.proofs.Common.{◌≡◌, ℕ, zero, suc, ◌+◌, ◌*◌, ◌^◌, ◌<◌, ◌≤◌, ◌==◌, Bool, true, false, List, [], ◌∷◌, ◌++◌, length, map, All, get_or, nat_lt, refl, ap, sym, subst, ◌∙◌, arith, inl, inr, eq-eqb, length-append}
+use Rattle.std.specs.Prelude.{Some, Result, Ok, Err, is_err, OnOk, if◌then◌else◌, slice_index_or}
 use Rattle.std.specs.List.{AllByRecursion}
-use Rattle.std.proofs.lemmas.Bool.{ne_eqb, ltb-true, ltb-false}
+use Rattle.std.proofs.lemmas.Bool.{ne_eqb, lt-ltb, le-ltb}
+use Rattle.std.proofs.lemmas.Grind.{flat_map-append}
 use Rattle.std.proofs.lemmas.List.{append-nil, length-map}
 use Rattle.std.proofs.lemmas.List.Sums.{fold-append}
 use Rattle.exb_model.specs.declared.event.Event.{Event}
 use Rattle.exb_model.specs.declared.event.Event.TheVariants as event
-use Rattle.exb_model.specs.declared.setup.Timed.{Timed}
 use Rattle.exb_model.specs.FlatBridge.{Sent}
-use Rattle.exb_model.specs.History.{History, ◌then◌, command_of}
-use Rattle.exb_model.specs.Input.{Eager, Input, Arrival as Arrived, Segment, basis_of, tree_of}
+use Rattle.exb_model.specs.History.{History, ◌then◌}
+use Rattle.exb_model.specs.Input.{Mode, Input, Arrival as Arrived, Segment, tree_of}
 use Rattle.exb_model.specs.Texts.{Counts, with_left, counted, capture_header, capture_text, journal_text}
+use Rattle.exb_model.specs.Traces.{TraceLine, trace_line, trace_text}
 use Rattle.exb_model.specs.Tree.{Shape, IsTree, is_external}
-use Rattle.exb_machine.specs.Worlds.{Left as Leaving, Step, Arrive}
-use Rattle.exb_merge.specs.declared.agenda.Due.{Due}
-use Rattle.exb_merge.specs.declared.agenda.Due.TheVariants as due
+use Rattle.exb_machine.specs.Worlds.{Left as Leaving}
 use Rattle.exb_network.specs.Networks.{Network, world_of, IsQuiet, IsSame}
 use Rattle.exb_network.specs.Sites.{Site, limits_in as limits_at}
 use Rattle.exb_network.specs.Worlds.{all_left, left_of}
 use Rattle.exb_network.specs.declared.log.Left.{Left}
-use Rattle.exb_resting.specs.Playing.{IsCopyOfAny, RunsAreUnderWay, arrivals_in}
-use Rattle.exb_schedule.specs.declared.segment.Arrival.{Arrival}
-use Rattle.exb_schedule.specs.Playing.{HasPlayed, IsSegment, arrived, arrive, gives, orders, tick}
+use Rattle.exb_resting.specs.Playing.{IsCopyOfAny, RunsAreUnderWay, RunsAreFew, arrivals_in}
+use Rattle.exb_schedule.specs.Playing.{HasPlayed}
 use Rattle.exb_shelf.specs.Files.{Files}
 use Rattle.exb_standing.specs.Showing.{left_at}
-use Rattle.exb_text.specs.Tallies.{nothing_counted}
+use Rattle.exb_text.specs.Tallies.{FitsTally, nothing_counted}
 use Rattle.exb_run.specs.Outputs.{output_name}
-use Rattle.exb_run.specs.Plans.{Planned, port_count, port_at}
-use Rattle.exb_run.specs.Playing.{IsGivenIn, CanBeKept, commands_in, counts_so_far, frames_in, next_segment, steps_of, text_so_far}
+use Rattle.exb_run.specs.Plans.{Planned, output_count, port_count, port_at}
+use Rattle.exb_run.specs.Playing.{CanBeKept, CanFollow, counts_so_far, text_so_far}
 use Rattle.exb_run.specs.Writing.{HasTexts, Holds, CanBeWritten, first_text, lines_of, with_more, with_left_frames}
-use Rattle.exb_run.proofs.Counting.{count_events}
+use Rattle.exb_run.proofs.Counting.{count_events, count_events-left}
 use Rattle.exb_run.proofs.Filling.{weaker}
+use Rattle.exb_run.proofs.OutputLemmas.{IsPlace, place_is, no_trace}
 use Rattle.exb_run.proofs.Places.{external_low}
 use Rattle.exb_run.proofs.Texts.{capture_text-append, capture_text-nil, journal_text-then}
 
@@ -45,9 +44,9 @@ on_ok_by (Ok v) f = f (λ P p. p)
 on_ok_by (Err e) f = tt
 
 -- the same texts
-pub same_texts : (plan : Planned) (pieces : List (List ℕ)) (old new : Files) (text text' : ℕ → List ℕ) → ((j : ℕ) → j < port_count plan + 1 → text j ≡ text' j) →
+pub same_texts : (plan : Planned) (pieces : List (List ℕ)) (old new : Files) (text text' : ℕ → List ℕ) → ((j : ℕ) → j < output_count plan → text j ≡ text' j) →
     HasTexts plan pieces old new text → HasTexts plan pieces old new text'
-same_texts plan pieces old new text text' same = λ held. weaker old new (port_count plan + 1) (output_name plan) (Holds pieces text) (Holds pieces text') held (λ j bytes low is. is ∙ same j low)
+same_texts plan pieces old new text text' same = λ held. weaker old new (output_count plan) (output_name plan) (Holds pieces text) (Holds pieces text') held (λ j bytes low is. is ∙ same j low)
 
 -- ---- texts
 then-append : (h : History) (xs ys : List Event) → (h then (xs ++ ys)) ≡ ((h then xs) then ys)
@@ -63,30 +62,48 @@ left_at-append q (x ∷ xs) ys = by_port (x.port == q) (left_at-append q xs ys)
     by_port true rest = ap (λ (ss : List Sent). (x.moment, x.bytes) ∷ ss) rest
     by_port false rest = rest
 
-pub text-more : (plan : Planned) (told more : List Event) (gone : List Leaving) (xs : List Left) (j : ℕ) → j < port_count plan + 1 →
-    with_left_frames plan (with_more (text_so_far plan told gone) (port_count plan) (lines_of more)) xs j ≡ text_so_far plan (told ++ more) (gone ++ all_left xs) j
-text-more plan told more gone xs j low = by_place (nat_lt j (port_count plan)) refl
-  where
-    by_place : (b : Bool) → nat_lt j (port_count plan) ≡ b →
-        with_left_frames plan (with_more (text_so_far plan told gone) (port_count plan) (lines_of more)) xs j ≡ text_so_far plan (told ++ more) (gone ++ all_left xs) j
-    by_place true e =
-        let other : (j == port_count plan) ≡ false = ne_eqb j (port_count plan) (λ same. let below = ltb-true j (port_count plan) e in omega (arith, same, below)) in
-        rw (e, other) (sym (ap capture_text (left_at-append (port_at plan j) gone (all_left xs)) ∙ capture_text-append (left_at (port_at plan j) gone) (left_at (port_at plan j) (all_left xs))))
-    by_place false e =
-        let same : (j == port_count plan) ≡ true = eq-eqb j (port_count plan) (let above = ltb-false j (port_count plan) e in omega (arith, above, low)) in
-        rw (e, same) (sym (ap journal_text (then-append [] told more) ∙ journal_text-then ([] then told) more))
+trace_text-append : (xs ys : List TraceLine) → trace_text (xs ++ ys) ≡ trace_text xs ++ trace_text ys
+unfolding trace_text
+trace_text-append xs ys = flat_map-append (λ (l : TraceLine). trace_line l ++ 10 ∷ []) xs ys
+
+module _ (plan : Planned) (told more : List Event) (gone : List Leaving) (xs : List Left) (lines new : List TraceLine) where
+  -- the texts with what was told, has left and was traced more
+  abbrev pub texts-with : ℕ → List ℕ
+  texts-with = with_more (with_left_frames plan (with_more (text_so_far plan told gone lines) (port_count plan) (lines_of more)) xs) (port_count plan + 1) (trace_text new)
+
+  pub text-more : (j : ℕ) → j < output_count plan → texts-with j ≡ text_so_far plan (told ++ more) (gone ++ all_left xs) (lines ++ new) j
+  text-more j low = by_place (place_is plan j low)
+    where
+      by_place : IsPlace plan j → texts-with j ≡ text_so_far plan (told ++ more) (gone ++ all_left xs) (lines ++ new) j
+      by_place (inl below) =
+          let here : nat_lt j (port_count plan) ≡ true = lt-ltb j (port_count plan) below in
+          let journal : (j == port_count plan) ≡ false = ne_eqb j (port_count plan) (λ e. omega (arith, e, below)) in
+          let trace : (j == port_count plan + 1) ≡ false = ne_eqb j (port_count plan + 1) (λ e. omega (arith, e, below)) in
+          rw (trace, here, journal) (sym (ap capture_text (left_at-append (port_at plan j) gone (all_left xs)) ∙ capture_text-append (left_at (port_at plan j) gone) (left_at (port_at plan j) (all_left xs))))
+      by_place (inr (inl is)) =
+          let here : nat_lt j (port_count plan) ≡ false = le-ltb j (port_count plan) (omega (arith, is)) in
+          let journal : (j == port_count plan) ≡ true = eq-eqb j (port_count plan) is in
+          let trace : (j == port_count plan + 1) ≡ false = ne_eqb j (port_count plan + 1) (λ e. omega (arith, e, is)) in
+          rw (trace, here, journal) (sym (ap journal_text (then-append [] told more) ∙ journal_text-then ([] then told) more))
+      by_place (inr (inr last)) =
+          let is = last.1 in
+          let here : nat_lt j (port_count plan) ≡ false = le-ltb j (port_count plan) (omega (arith, is)) in
+          let journal : (j == port_count plan) ≡ false = ne_eqb j (port_count plan) (λ e. omega (arith, e, is)) in
+          let trace : (j == port_count plan + 1) ≡ true = eq-eqb j (port_count plan + 1) is in
+          rw (trace, here, journal) (sym (trace_text-append lines new))
 
 -- before anything is told
 journal-none : journal_text [] ≡ []
 unfolding journal_text
 journal-none = refl
 
-pub text-first : (plan : Planned) (j : ℕ) → first_text plan j ≡ text_so_far plan [] [] j
-text-first plan j = by_place (nat_lt j (port_count plan))
+pub text-first : (plan : Planned) (j : ℕ) → first_text plan j ≡ text_so_far plan [] [] [] j
+text-first plan j = by_place (nat_lt j (port_count plan)) (j == port_count plan)
   where
-    by_place : (b : Bool) → (if b then capture_header else []) ≡ (if b then capture_text [] else journal_text [])
-    by_place true = sym capture_text-nil
-    by_place false = sym journal-none
+    by_place : (b c : Bool) → (if b then capture_header else []) ≡ (if b then capture_text [] else (if c then journal_text [] else trace_text []))
+    by_place true c = sym capture_text-nil
+    by_place false true = sym journal-none
+    by_place false false = sym no_trace
 
 -- ---- counts
 left-aside : (es : List Event) (n : ℕ) (c : Counts) → count_events (with_left n c) es ≡ with_left n (count_events c es)
@@ -115,9 +132,9 @@ counts-more told more gone xs =
     ∙ ap (with_left (length (gone ++ all_left xs))) (sym (fold-append (λ (b : Counts) (e : Event). counted e b) nothing_counted told more))
 
 -- ---- the run
-pub quiet-played : (i : Input) (so_far : List Segment) (n : Network) (told : List Event) (gone : List Leaving) → IsQuiet n → HasPlayed i so_far n told gone →
-    HasPlayed i so_far n (told ++ n.log.events) (gone ++ all_left n.log.left)
-quiet-played i so_far n told gone quiet p = record {
+pub quiet-played : (m : Mode) (i : Input) (so_far : List Segment) (n : Network) (told : List Event) (gone : List Leaving) (lines : List TraceLine) → IsQuiet n → HasPlayed m i so_far n told gone lines →
+    HasPlayed m i so_far n (told ++ n.log.events) (gone ++ all_left n.log.left) (lines ++ n.log.lines)
+quiet-played m i so_far n told gone lines quiet p = record {
   done = p.done;
   plays = p.plays;
   tree = p.tree;
@@ -125,11 +142,12 @@ quiet-played i so_far n told gone quiet p = record {
   world = p.world;
   told = ap (λ (es : List Event). told ++ es) quiet.events ∙ append-nil told ∙ p.told;
   gone = ap (λ (xs : List Left). gone ++ all_left xs) quiet.left ∙ append-nil gone ∙ p.gone;
+  traced = λ on. ap (λ (ls : List TraceLine). lines ++ ls) quiet.lines ∙ append-nil lines ∙ p.traced on;
 }
 
-pub cleared-played : (i : Input) (so_far : List Segment) (n m : Network) (told : List Event) (gone : List Leaving) → world_of m ≡ world_of n → IsSame n m → HasPlayed i so_far n told gone →
-    HasPlayed i so_far m told gone
-cleared-played i so_far n m told gone world same p = record {
+pub cleared-played : (m : Mode) (i : Input) (so_far : List Segment) (n v : Network) (told : List Event) (gone : List Leaving) (lines : List TraceLine) → world_of v ≡ world_of n → IsSame n v →
+    HasPlayed m i so_far n told gone lines → HasPlayed m i so_far v told gone lines
+cleared-played m i so_far n v told gone lines world same p = record {
   done = p.done;
   plays = p.plays;
   tree = ap (λ (s : Site). s.tree) same.site ∙ p.tree;
@@ -137,7 +155,53 @@ cleared-played i so_far n m told gone world same p = record {
   world = world ∙ p.world;
   told = p.told;
   gone = p.gone;
+  traced = λ on. p.traced (sym same.tracing ∙ on);
 }
+
+-- ---- how much is counted
+-- the counts of what a run told fit, with what has left
+pub counts-fit : (m : Mode) (i : Input) (so_far : List Segment) (n : Network) (told : List Event) (gone : List Leaving) (lines : List TraceLine) → RunsAreFew → CanFollow i so_far →
+    HasPlayed m i so_far n told gone lines → FitsTally (counts_so_far told gone)
+counts-fit m i so_far n told gone lines law follows p =
+    let few = law m i so_far p.done p.plays in
+    let events = p.told in
+    let relayed = ap (λ (es : List Event). (count_events nothing_counted es).relayed) events in
+    let ignored = ap (λ (es : List Event). (count_events nothing_counted es).ignored) events in
+    let commits = ap (λ (es : List Event). (count_events nothing_counted es).commits) events in
+    let refusals = ap (λ (es : List Event). (count_events nothing_counted es).refusals) events in
+    let entered = few.entered in
+    let decided = few.decided in
+    let arrivals = follows.few_arrivals in
+    let commands = follows.few_commands in
+    let none = count_events-left told nothing_counted in
+    let frames = few.left in
+    let size = ap (λ (xs : List Leaving). length xs) p.gone in
+    record {
+      relayed = omega (arith, relayed, entered, arrivals);
+      ignored = omega (arith, ignored, entered, arrivals);
+      left = omega (arith, none, frames, size, arrivals);
+      commits = omega (arith, commits, decided, commands);
+      refusals = omega (arith, refusals, decided, commands);
+    }
+
+-- arrivals together
+pub arrivals-low : (m : Mode) (i : Input) (so_far : List Segment) (n : Network) (told : List Event) (gone : List Leaving) (lines : List TraceLine) → RunsAreFew → length (arrivals_in so_far) ≤ 2 ^ 30 →
+    HasPlayed m i so_far n told gone lines → (counts_so_far told gone).relayed + (counts_so_far told gone).ignored < 2 ^ 64
+arrivals-low m i so_far n told gone lines law low p =
+    let few = law m i so_far p.done p.plays in
+    let events = p.told in
+    let relayed = ap (λ (es : List Event). (count_events nothing_counted es).relayed) events in
+    let ignored = ap (λ (es : List Event). (count_events nothing_counted es).ignored) events in
+    let entered = few.entered in
+    omega (arith, relayed, ignored, entered, low)
+
+-- so do those of a tally, one segment more
+pub tally-fits : (m : Mode) (i : Input) (so_far : List Segment) (n : Network) (told more : List Event) (gone : List Leaving) (xs : List Left) (lines : List TraceLine) (c : Counts) → RunsAreFew → CanFollow i so_far →
+    HasPlayed m i so_far n (told ++ more) (gone ++ all_left xs) lines → c ≡ counts_so_far told gone → FitsTally (with_left (length xs) (count_events c more))
+tally-fits m i so_far n told more gone xs lines c law follows p is =
+    let whole : with_left (length xs) (count_events c more) ≡ counts_so_far (told ++ more) (gone ++ all_left xs) =
+    ap (λ (b : Counts). with_left (length xs) (count_events b more)) is ∙ counts-more told more gone xs in
+    subst FitsTally (sym whole) (counts-fit m i so_far n (told ++ more) (gone ++ all_left xs) lines law follows p)
 
 -- ---- what leaves can be written
 all-right : (P : Leaving → Type 0) (xs ys : List Leaving) → All P (xs ++ ys) → All P ys
@@ -155,11 +219,11 @@ kept-at [] k a low is all = absurd (omega (arith, low))
 kept-at (b ∷ came) zero a low is all = let same = ap (λ (x : Arrived). x.moment) is in let own = all.0 in omega (arith, same, own)
 kept-at (b ∷ came) (suc k) a low is all = kept-at came k a (omega (arith, low)) is all.1
 
-pub frames-fit : (i : Input) (plan : Planned) (so_far : List Segment) (n : Network) (told : List Event) (gone : List Leaving) (xs : List Left) → RunsAreUnderWay → plan.tree ≡ tree_of i →
-    IsTree plan.tree → CanBeKept so_far → HasPlayed i so_far n told (gone ++ all_left xs) → All (λ (x : Left). CanBeWritten plan x) xs
-frames-fit i plan so_far n told gone xs law tree is_tree kept p k d low =
+pub frames-fit : (m : Mode) (i : Input) (plan : Planned) (so_far : List Segment) (n : Network) (told : List Event) (gone : List Leaving) (xs : List Left) (lines : List TraceLine) → RunsAreUnderWay → plan.tree ≡ tree_of i →
+    IsTree plan.tree → CanBeKept so_far → HasPlayed m i so_far n told (gone ++ all_left xs) lines → All (λ (x : Left). CanBeWritten plan x) xs
+frames-fit m i plan so_far n told gone xs lines law tree is_tree kept p k d low =
     let P : List Leaving → Type 0 = All (λ (x : Leaving). IsCopyOfAny i (arrivals_in so_far) x) in
-    let all = subst P (sym p.gone) (law Eager i so_far p.done p.plays).copies in
+    let all = subst P (sym p.gone) (law m i so_far p.done p.plays).copies in
     let copy = all-mapped (λ (x : Leaving). IsCopyOfAny i (arrivals_in so_far) x) xs (all-right (λ (x : Leaving). IsCopyOfAny i (arrivals_in so_far) x) gone (all_left xs) all) k d low in
     let own : is_external plan.tree (get_or xs k d).port ≡ true = ap (λ (t : Shape). is_external t (get_or xs k d).port) tree ∙ copy.port in
     record {
@@ -171,32 +235,3 @@ frames-fit i plan so_far n told gone xs law tree is_tree kept p k d low =
           omega (arith, within, same));
       bytes = (let short = copy.short in omega (arith, short));
     }
-
--- ---- the segment of what comes next
-map-arrive : (frames : List Arrival) → arrive frames ≡ map (λ (a : Arrived). Arrive a) (map arrived frames)
-map-arrive [] = refl
-map-arrive (a ∷ frames) = ap (λ (steps : List Step). Arrive (arrived a) ∷ steps) (map-arrive frames)
-
-pub gives-is : (seconds : ℕ) (d : Due) (cs : List Timed) (frames : List Arrival) → cs ≡ commands_in d → map arrived frames ≡ frames_in d → gives seconds cs frames ≡ steps_of seconds d
-gives-is seconds (due.Command number moment command) cs frames given came =
-    ap (λ (xs : List Timed). tick seconds ++ (orders xs ++ arrive frames)) given
-    ∙ ap (λ (steps : List Step). tick seconds ++ (orders (command.now ∷ []) ++ steps)) (map-arrive frames ∙ ap (map (λ (a : Arrived). Arrive a)) came)
-gives-is seconds (due.Record r) cs frames given came =
-    ap (λ (xs : List Timed). tick seconds ++ (orders xs ++ arrive frames)) given
-    ∙ ap (λ (steps : List Step). tick seconds ++ steps) (map-arrive frames ∙ ap (map (λ (a : Arrived). Arrive a)) came)
-
-pub segment-is : (i : Input) (seconds : ℕ) (d : Due) (cs : List Timed) (frames : List Arrival) → IsGivenIn i d → cs ≡ commands_in d → map arrived frames ≡ frames_in d →
-    IsSegment i (next_segment seconds d) seconds cs frames
-segment-is i seconds (due.Command number moment command) cs frames is given came = record {
-  seconds_are = refl;
-  commands = one is ∙ ap (map (λ (c : Timed). c.command)) (sym given);
-  arrivals_are = sym came;
-}
-  where
-    one : command_of (basis_of i) number ≡ Some command.now.command → filter_map (command_of (basis_of i)) (number ∷ []) ≡ command.now.command ∷ []
-    one e = rw e refl
-segment-is i seconds (due.Record r) cs frames is given came = record {
-  seconds_are = refl;
-  commands = ap (map (λ (c : Timed). c.command)) (sym given);
-  arrivals_are = sym came;
-}

@@ -1,55 +1,97 @@
--- How a run ends: its status, and what it prints.
-use Rattle.std.specs.Prelude.{⊤, ◌≡◌, ◌<◌, ◌++◌, ◌⊎◌, ◌==◌, ◌||◌, IsTrue, ℕ, List, Some, None, Result, Ok, Err, String, codes, string_bytes}
+-- How what is asked for ends: its status, and what is printed.
+use Rattle.std.specs.Prelude.{⊤, ◌≡◌, ◌<◌, ◌++◌, ◌⊎◌, ◌==◌, ◌||◌, IsTrue, Bool, ℕ, List, map, Option, Some, None, Result, Ok, Err, String, codes, string_bytes}
 use Rattle.std.specs.declared.alloc.Global.{Global}
 use Rattle.std.specs.Fmt.{decimal}
-use Rattle.exb_model.specs.Setup.{shape_of}
-use Rattle.exb_model.specs.Texts.{port_name}
+use Rattle.exb_model.specs.EagerHistory.{eager}
+use Rattle.exb_model.specs.Input.{Input, Mode, Eager, Seeded, basis_of, tree_of}
+use Rattle.exb_model.specs.Setup.{shape_of, limits_of}
+use Rattle.exb_model.specs.Texts.{port_name, summary}
 use Rattle.exb_keys.specs.declared.faults.KeyFault.{KeyFault}
 use Rattle.exb_keys.specs.declared.faults.KeyFault.TheVariants as keys
 use Rattle.exb_keys.specs.declared.faults.TopoFault.{TopoFault}
 use Rattle.exb_keys.specs.declared.faults.TopoFault.TheVariants as topology
 use Rattle.exb_keys.specs.Faults.{Refusal, not_toml, large, at}
+use Rattle.exb_made.specs.Made.{made}
+use Rattle.exb_needs.specs.Lines.{lines_of}
+use Rattle.exb_needs.specs.Needed.{needs_of}
 use Rattle.exb_pcap.specs.declared.reader.PcapFault.{PcapFault}
 use Rattle.exb_pcap.specs.declared.reader.PcapFault.TheVariants as pcap
 use Rattle.exb_shelf.specs.declared.shelf.ShelfFault.{ShelfFault}
 use Rattle.exb_shelf.specs.declared.shelf.ShelfFault.TheVariants as shelf
-use Rattle.exb_shelf.specs.Files.{Files}
+use Rattle.exb_shelf.specs.Files.{Files, SameFiles}
 use Rattle.exb_shelf.specs.Shelf.{Faults, Rose}
 use Rattle.exb_topology.specs.declared.topology.Topology.{Topology}
 use Rattle.exb_topology.specs.Topologies.{topology_of, topology_view}
+use Rattle.exb_words.specs.Words.{Ask, Run, Check, Make, words_of}
 use Rattle.exb_run.specs.declared.fault.Flaw.{Flaw}
 use Rattle.exb_run.specs.declared.fault.Flaw.TheVariants.{Large, Broken}
 use Rattle.exb_run.specs.declared.fault.Fault.{Fault}
-use Rattle.exb_run.specs.declared.fault.Fault.TheVariants.{Usage, Missing, Topology as BadTopology, NotBuilt, Capture, Read, Write, Memory}
-use Rattle.exb_run.specs.Words.{words_of}
-use Rattle.exb_run.specs.Inputs.{IsBuilt, input_of}
+use Rattle.exb_run.specs.declared.fault.Fault.TheVariants.{Usage, Missing, Topology as BadTopology, Capture, Read, Write, Memory}
+use Rattle.exb_run.specs.Inputs.{input_of}
 use Rattle.exb_run.specs.Outputs.{IsPlayed, OnlyOutputs}
 use Rattle.exb_run.specs.Flaws.{AreGood, FirstFlaw}
 
 -- ---- what is asked for
--- the words name a file that holds this topology
-pub record Asks (words : List (List ℕ)) (file : Files) (t : Topology) : Type 0 where
-  pub name : List ℕ
-  pub accepted : words_of words ≡ Some name
+-- what words ask for, where they are accepted
+abbrev pub asked : List (String Global) → Option Ask
+asked words = words_of (map string_bytes words)
+
+-- the file of this name holds this topology
+pub record HoldsTopology (name : List ℕ) (file : Files) (t : Topology) : Type 0 where
   pub bytes : List ℕ
   pub there : file name ≡ Some bytes
   pub read : topology_of bytes ≡ Ok (topology_view t)
 
--- it can be played, and so can each capture that it names
-pub record IsReady (words : List (List ℕ)) (file : Files) (t : Topology) : Type 0 where
-  pub asks : Asks words file t
-  pub built : IsBuilt t
+-- and each capture that it names can be played
+pub record IsReady (name : List ℕ) (file : Files) (t : Topology) : Type 0 where
+  pub holds : HoldsTopology name file t
   pub good : AreGood t.captures file
 
+-- what is asked for can be done
+abbrev pub CanBeDone : Option Ask → Files → Type 0
+CanBeDone None file = ⊥
+CanBeDone (Some (Run name trace seed)) file = (t : Topology) × IsReady name file t
+CanBeDone (Some (Check name)) file = (t : Topology) × HoldsTopology name file t
+CanBeDone (Some (Make number)) file = ⊤
+
+-- to play a topology is asked for, by which alone files are written
+abbrev pub IsRun : Option Ask → Type 0
+IsRun (Some (Run name trace seed)) = ⊤
+IsRun _ = ⊥
+
+-- ---- what is done
+-- eagerly, or in a drawn order where there is a seed
+abbrev pub mode_for : Option ℕ → Mode
+mode_for None = Eager
+mode_for (Some seed) = Seeded
+
 -- all was played and written; this line sums it up
-pub record Ran (words : List (List ℕ)) (old new : Files) (line : List ℕ) : Type 0 where
+pub record Played (name : List ℕ) (trace : Bool) (seed : Option ℕ) (old new : Files) (line : List ℕ) : Type 0 where
   pub topology : Topology
-  pub ready : IsReady words old topology
-  pub played : IsPlayed (input_of topology old) topology.prefix old new line
+  pub ready : IsReady name old topology
+  pub played : IsPlayed (mode_for seed) trace (input_of topology old) topology.prefix old new line
+
+-- these lines say what numbers the topology needs
+pub record Checked (name : List ℕ) (file : Files) (lines : List ℕ) : Type 0 where
+  pub topology : Topology
+  pub holds : HoldsTopology name file topology
+  pub says : lines ≡ lines_of (needs_of topology.setup) (limits_of topology.setup)
+
+-- the summary of the eager run of an input
+abbrev pub eager_summary : Input → List ℕ
+eager_summary i = summary (tree_of i) (basis_of i) (eager i)
+
+-- what was asked for is done, and this text says so
+abbrev pub IsDone : Option Ask → Files → Files → List ℕ → Type 0
+IsDone None old new text = ⊥
+IsDone (Some (Run name trace seed)) old new text = Played name trace seed old new text
+IsDone (Some (Check name)) old new text = Checked name old text
+IsDone (Some (Make number)) old new text = text ≡ eager_summary (made number)
 
 -- no file but the outputs of what is asked for has changed
-abbrev pub OnlyAsked : List (List ℕ) → Files → Files → Type 0
-OnlyAsked words old new = (t : Topology) → Asks words old t → OnlyOutputs (shape_of t.setup) t.prefix old new
+abbrev pub OnlyAsked : Option Ask → Files → Files → Type 0
+OnlyAsked (Some (Run name trace seed)) old new = (t : Topology) → HoldsTopology name old t → OnlyOutputs trace (shape_of t.setup) t.prefix old new
+OnlyAsked _ old new = SameFiles old new
 
 -- ---- faults
 -- a failure of the shelf while files are made and written
@@ -70,48 +112,36 @@ refused_by not_toml = BadTopology topology.NotToml
 refused_by large = BadTopology topology.Large
 refused_by (at fault key) = BadTopology (topology.At fault key)
 
--- this is what is wrong with the topology of the words, or with a capture that it names: the first, in the
--- order in which they are looked at
-pub record TopologyMissing (words : List (List ℕ)) (file : Files) (fault : Fault) : Type 0 where
-  pub name : List ℕ
-  pub accepted : words_of words ≡ Some name
-  pub nothing : file name ≡ None
-  pub is : fault ≡ Missing name
+-- this is why a topology file with these bytes is not taken
+abbrev pub IsRefusal : List ℕ → Fault → Type 0
+IsRefusal bytes fault = (refusal : Refusal) × (topology_of bytes ≡ Err refusal) × (fault ≡ refused_by refusal)
 
-pub record TopologyRefused (words : List (List ℕ)) (file : Files) (fault : Fault) : Type 0 where
-  pub name : List ℕ
-  pub accepted : words_of words ≡ Some name
-  pub bytes : List ℕ
-  pub there : file name ≡ Some bytes
-  pub refusal : Refusal
-  pub refused : topology_of bytes ≡ Err refusal
-  pub is : fault ≡ refused_by refusal
+-- the same, where the file may be missing
+abbrev pub IsRefused : List ℕ → Option (List ℕ) → Fault → Type 0
+IsRefused name None fault = fault ≡ Missing name
+IsRefused name (Some bytes) fault = IsRefusal bytes fault
 
-pub record TopologyNotBuilt (words : List (List ℕ)) (file : Files) (fault : Fault) : Type 0 where
+-- this is the first fault of a capture, in port order, that the topology names
+pub record CaptureFaulty (name : List ℕ) (file : Files) (fault : Fault) : Type 0 where
   pub topology : Topology
-  pub asks : Asks words file topology
-  pub other : ¬ IsBuilt topology
-  pub is : fault ≡ NotBuilt
-
-pub record CaptureFaulty (words : List (List ℕ)) (file : Files) (fault : Fault) : Type 0 where
-  pub topology : Topology
-  pub asks : Asks words file topology
-  pub built : IsBuilt topology
+  pub holds : HoldsTopology name file topology
   pub port : ℕ
   pub first : FirstFlaw topology.captures file port fault
 
--- the words are not accepted, or this is the first fault of what they ask for
-abbrev pub Stops : List (List ℕ) → Files → Fault → Type 0
-Stops words file fault =
-    ((words_of words ≡ None) × (fault ≡ Usage))
-    ⊎ TopologyMissing words file fault
-    ⊎ TopologyRefused words file fault
-    ⊎ TopologyNotBuilt words file fault
-    ⊎ CaptureFaulty words file fault
+-- this stops what is asked for, the first in the order in which things are looked at: the words, the topology, and where it
+-- is played its captures
+abbrev pub Stops : Option Ask → Files → Fault → Type 0
+Stops None file fault = fault ≡ Usage
+Stops (Some (Run name trace seed)) file fault = IsRefused name (file name) fault ⊎ CaptureFaulty name file fault
+Stops (Some (Check name)) file fault = IsRefused name (file name) fault
+Stops (Some (Make number)) file fault = ⊥
 
 -- a fault of the shelf, or want of memory
-abbrev pub IsFailure : Fault → Type 0
-IsFailure fault = (fault ≡ Read) ⊎ (fault ≡ Write) ⊎ (fault ≡ Memory)
+abbrev pub IsFailure : Option Ask → Fault → Type 0
+IsFailure None fault = ⊥
+IsFailure (Some (Run name trace seed)) fault = (fault ≡ Read) ⊎ (fault ≡ Write) ⊎ (fault ≡ Memory)
+IsFailure (Some (Check name)) fault = (fault ≡ Read) ⊎ (fault ≡ Memory)
+IsFailure (Some (Make number)) fault = fault ≡ Memory
 
 -- where it speaks of a port, this is one; and want of memory is no fault of a topology
 abbrev pub CanBe : Fault → Type 0
@@ -153,15 +183,18 @@ topology_text topology.NotToml = codes "NotToml"
 topology_text topology.Large = codes "Large"
 topology_text (topology.At fault key) = key_fault_text fault ++ codes " at " ++ key
 
+-- the words that are accepted
+abbrev pub usage : List ℕ
+usage = codes "exbr: usage: exbr run TOPOLOGY [--trace] [--seed N] | exbr check TOPOLOGY | exbr make N\n"
+
 -- the line of a capture that is not taken
 unfoldable pub capture_line : ℕ → List ℕ → List ℕ
 capture_line p text = codes "exbr: capture " ++ (port_name p ++ (codes ": " ++ (text ++ codes "\n")))
 
 unfoldable pub fault_line : Fault → List ℕ
-fault_line Usage = codes "exbr: usage: exbr run TOPOLOGY\n"
+fault_line Usage = usage
 fault_line (Missing name) = codes "exbr: missing " ++ name ++ codes "\n"
 fault_line (BadTopology fault) = codes "exbr: topology: " ++ topology_text fault ++ codes "\n"
-fault_line NotBuilt = codes "exbr: not built\n"
 fault_line (Capture p flaw) = capture_line p (flaw_text flaw)
 fault_line Read = codes "exbr: read fault\n"
 fault_line Write = codes "exbr: write fault\n"
@@ -181,52 +214,51 @@ fault_status (Capture p flaw) = 4
 fault_status (Missing name) = 5
 fault_status Read = 6
 fault_status Write = 7
-fault_status NotBuilt = 8
 
 abbrev pub status_of : Result (String Global) Fault → ℕ
 status_of (Ok line) = 0
 status_of (Err fault) = fault_status fault
 
--- the statuses that there are
-abbrev pub IsStatus : ℕ → Type 0
-IsStatus n = IsTrue (n == 0 || n == 1 || n == 2 || n == 3 || n == 4 || n == 5 || n == 6 || n == 7 || n == 8)
+-- the statuses that can come
+abbrev pub IsStatus : Option Ask → ℕ → Type 0
+IsStatus None n = IsTrue (n == 1 || n == 2 || n == 7)
+IsStatus (Some (Run name trace seed)) n = IsTrue (n == 0 || n == 1 || n == 3 || n == 4 || n == 5 || n == 6 || n == 7)
+IsStatus (Some (Check name)) n = IsTrue (n == 0 || n == 1 || n == 3 || n == 5 || n == 6 || n == 7)
+IsStatus (Some (Make number)) n = IsTrue (n == 0 || n == 1 || n == 7)
 
 -- the statuses of faults of what is asked for: the topology, and the captures that it names
 abbrev pub IsOfInput : ℕ → Type 0
-IsOfInput n = IsTrue (n == 3 || n == 4 || n == 5 || n == 8)
+IsOfInput n = IsTrue (n == 3 || n == 4 || n == 5)
 
 -- the first fault has this status
-abbrev pub StopsWith : List (List ℕ) → Files → ℕ → Type 0
-StopsWith words file status = (fault : Fault) × Stops words file fault × (fault_status fault ≡ status)
+abbrev pub StopsWith : Option Ask → Files → ℕ → Type 0
+StopsWith a file status = (fault : Fault) × Stops a file fault × (fault_status fault ≡ status)
 
 -- the line of a fault of this status
 abbrev pub IsFaultLine : ℕ → List ℕ → Type 0
 IsFaultLine status line = (fault : Fault) × CanBe fault × (fault_status fault ≡ status) × (line ≡ fault_line fault)
 
--- By its status, which count of faults rose: those of the shelf, or those of the sink.
-pub record RoseBy (status : ℕ) (counted counts : Faults) (failed fails : ℕ) : Type 0 where
+-- By its status, which count of faults rose: those of the shelf, or those of the sink. Only a run counts failures to write.
+pub record RoseBy (a : Option Ask) (status : ℕ) (counted counts : Faults) (failed fails : ℕ) : Type 0 where
   pub five : status ≡ 5 → Rose counted.missing counts.missing
   pub six : status ≡ 6 → Rose counted.reads counts.reads
-  pub seven : status ≡ 7 → Rose counted.writes counts.writes ⊎ Rose failed fails
+  pub seven : status ≡ 7 → (IsRun a × Rose counted.writes counts.writes) ⊎ Rose failed fails
 
 -- What is printed by its status: one line and nothing else. At 7 the sink may have failed.
 pub record SaysBy (status : ℕ) (failed fails : ℕ) (old new : List ℕ) : Type 0 where
-  pub two : status ≡ 2 → new ≡ old ++ codes "exbr: usage: exbr run TOPOLOGY\n"
+  pub two : status ≡ 2 → new ≡ old ++ usage
   pub three : status ≡ 3 → (line : List ℕ) × IsFaultLine 3 line × (new ≡ old ++ line)
   pub four : status ≡ 4 → (line : List ℕ) × IsFaultLine 4 line × (new ≡ old ++ line)
   pub five : status ≡ 5 → (line : List ℕ) × IsFaultLine 5 line × (new ≡ old ++ line)
   pub six : status ≡ 6 → new ≡ old ++ codes "exbr: read fault\n"
   pub seven : status ≡ 7 → ¬ Rose failed fails → new ≡ old ++ codes "exbr: write fault\n"
-  pub eight : status ≡ 8 → new ≡ old ++ codes "exbr: not built\n"
 
--- this ended the run: the first fault of what is asked for, a fault that the shelf counted, or want of memory
-abbrev pub IsCause : List (List ℕ) → Files → Faults → Faults → Fault → Type 0
-IsCause words file counted counts fault =
-    Stops words file fault
-    ⊎ ((fault ≡ Read) × Rose counted.reads counts.reads)
-    ⊎ ((fault ≡ Write) × Rose counted.writes counts.writes)
-    ⊎ (fault ≡ Memory)
+-- this ended what was asked for: its first fault, a fault that the shelf counted, or want of memory
+abbrev pub IsCause : Option Ask → Files → Faults → Faults → Fault → Type 0
+IsCause a file counted counts fault =
+    Stops a file fault
+    ⊎ (IsFailure a fault × (fault ≡ Read → Rose counted.reads counts.reads) × (fault ≡ Write → Rose counted.writes counts.writes))
 
--- the line that was to be printed: that of what ended the run, or the summary
-abbrev pub IsLine : List (List ℕ) → Files → Files → Faults → Faults → List ℕ → Type 0
-IsLine words old new counted counts line = ((fault : Fault) × IsCause words old counted counts fault × (line ≡ fault_line fault)) ⊎ Ran words old new line
+-- the text that was to be printed: the line of what ended it, or what says that it is done
+abbrev pub IsText : Option Ask → Files → Files → Faults → Faults → List ℕ → Type 0
+IsText a old new counted counts text = ((fault : Fault) × IsCause a old counted counts fault × (text ≡ fault_line fault)) ⊎ IsDone a old new text

@@ -1,16 +1,11 @@
 -- What a run is given: its topology, the captures that this names, and the input that they make.
-use Rattle.std.specs.Prelude.{◌≡◌, ℕ, Bool, ◌==◌, if◌then◌else◌, List, [], ◌∷◌, All, Option, Some, None, Result, Ok, Err, map, filter, is_some}
+use Rattle.std.specs.Prelude.{ℕ, Bool, ◌==◌, if◌then◌else◌, List, [], ◌∷◌, Option, Some, None, Result, Ok, Err, map, filter, is_some}
 use Rattle.exb_model.specs.Input.{Input, Record, given_by}
 use Rattle.exb_pcap.specs.declared.reader.PcapFault.{PcapFault}
 use Rattle.exb_pcap.specs.Captures.{pcap_records}
 use Rattle.exb_shelf.specs.Files.{Files, bytes_of}
 use Rattle.exb_tables.specs.declared.rows.Named.{Named}
 use Rattle.exb_topology.specs.declared.topology.Topology.{Topology}
-
--- A topology that can be played today: no control frame of it has a fate.
-pub record IsBuilt (t : Topology) : Type 0 where
-  pub fate : t.fate ≡ []
-  pub fates : All (λ c. c.fate ≡ []) t.commands
 
 -- ---- captures
 -- the name of the file with the capture of port q, if it has one

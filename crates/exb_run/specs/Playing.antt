@@ -1,43 +1,56 @@
 -- A run under way: what was told and has left so far, what is written and counted of it, and what is still to come.
-use Rattle.std.specs.Prelude.{◌≡◌, ◌≤◌, ◌<◌, ◌+◌, ◌-◌, ◌*◌, ◌^◌, ℕ, false, List, [], ◌∷◌, ◌++◌, Option, Some, None, IfSome, nat_lt, if◌then◌else◌, length, map, filter_map, flat_map, fold, sum_by, All}
+use Rattle.std.specs.Prelude.{◌≡◌, ◌≤◌, ◌<◌, ◌+◌, ◌-◌, ◌*◌, ◌^◌, ◌==◌, ℕ, false, List, [], ◌∷◌, ◌++◌, Option, Some, None, IfSome, nat_lt, if◌then◌else◌, length, map, filter_map, flat_map, fold, sum_by, All, AllPairs}
 use Rattle.std.specs.List.{AllByRecursion}
 use Rattle.exb_model.specs.declared.event.Event.{Event}
 use Rattle.exb_model.specs.declared.setup.Setup.{Setup}
 use Rattle.exb_model.specs.declared.setup.Timed.{Timed}
+use Rattle.exb_model.specs.declared.setup.Verdict.{Verdict}
 use Rattle.exb_model.specs.History.{◌then◌, command_of}
-use Rattle.exb_model.specs.Input.{Input, Arrival, Segment, Coming, Eager, basis_of, tree_of, alone, given_by, segment_of, segments, segments_in, segments_since}
+use Rattle.exb_model.specs.Input.{Input, Segment, Coming, Mode, Eager, Seeded, basis_of, tree_of, arrival_in, given_by, groups_in, merge, moment_of, second_of, segment_of, segments, segments_in, segments_since}
 use Rattle.exb_model.specs.Setup.{NamesExternal}
 use Rattle.exb_model.specs.Texts.{Counts, counted, with_left, capture_text, journal_text}
-use Rattle.exb_model.specs.Tree.{is_external}
-use Rattle.exb_machine.specs.Worlds.{Step, Arrive, Order, Left}
-use Rattle.exb_merge.specs.Agendas.{ToPlay, still_to_come, coming_of}
-use Rattle.exb_merge.specs.Arrivals.{arrival_of}
+use Rattle.exb_model.specs.Traces.{TraceLine, trace_text}
+use Rattle.exb_model.specs.Tree.{Shape, is_external}
+use Rattle.exb_machine.specs.Worlds.{Left}
+use Rattle.exb_merge.specs.Agendas.{ToPlay, IsNext, TakesAll, begins_in, still_to_come, coming_of}
 use Rattle.exb_merge.specs.declared.agenda.Due.{Due}
-use Rattle.exb_merge.specs.declared.agenda.Due.TheVariants as due
 use Rattle.exb_motion.specs.Playing.{IsTimely}
 use Rattle.exb_network.specs.Networks.{Network, IsQuiet}
+use Rattle.exb_network.specs.Worlds.{all_left}
 use Rattle.exb_resting.specs.Playing.{arrivals_in}
-use Rattle.exb_schedule.specs.Playing.{CanAll, HasPlayed as IsPlayedBy, tick}
+use Rattle.exb_schedule.specs.declared.segment.Arrival.{Arrival}
+use Rattle.exb_schedule.specs.Playing.{CanAll, HasPlayed as IsPlayedBy, IsSegment, arrived, gives}
 use Rattle.exb_shelf.specs.Files.{Files}
 use Rattle.exb_standing.specs.Showing.{left_at}
 use Rattle.exb_text.specs.Tallies.{nothing_counted}
 use Rattle.exb_run.specs.declared.outputs.Outputs.{Outputs}
+use Rattle.exb_run.specs.declared.script.Schedule.{Schedule}
+use Rattle.exb_run.specs.declared.script.Schedule.TheVariants as schedule
 use Rattle.exb_run.specs.Plans.{Planned, port_count, port_at}
-use Rattle.exb_run.specs.Writing.{HasTexts, pieces_of}
+use Rattle.exb_run.specs.Writing.{HasTexts, first_text, pieces_of}
+
+-- ---- what is asked for
+abbrev pub mode_of : Schedule → Mode
+mode_of schedule.Eager = Eager
+mode_of (schedule.Seeded seed) = Seeded
+
+-- Commands that name external ports of a tree, in the order of their seconds; with a fate for the opening all fates are short
+-- enough.
+pub record IsScript (t : Shape) (given : List Timed) (fate : List Verdict) : Type 0 where
+  pub commands : All (λ c. NamesExternal t c.command) given
+  pub few_commands : length given ≤ 65536
+  pub rising : AllPairs (λ a b. a.at ≤ b.at) given
+  pub few_letters : length fate + sum_by (λ c. length c.fate) given ≤ 60000
 
 -- ---- what is told
 -- the text of output j after this was told and this has left
-abbrev pub text_so_far : Planned → List Event → List Left → ℕ → List ℕ
-text_so_far plan told gone j = if nat_lt j (port_count plan) then capture_text (left_at (port_at plan j) gone) else journal_text ([] then told)
+abbrev pub text_so_far : Planned → List Event → List Left → List TraceLine → ℕ → List ℕ
+text_so_far plan told gone lines j =
+    if nat_lt j (port_count plan) then capture_text (left_at (port_at plan j) gone) else (if j == port_count plan then journal_text ([] then told) else trace_text lines)
 
 -- and the counts
 abbrev pub counts_so_far : List Event → List Left → Counts
 counts_so_far told gone = with_left (length gone) (fold (λ c e. counted e c) nothing_counted told)
-
--- counts that fit 63 bits
-pub record IsSmall (c : Counts) : Type 0 where
-  pub all : c.relayed + c.ignored + c.commits + c.refusals < 2 ^ 63
-  pub left : c.left < 2 ^ 63
 
 -- an input, and the files before its run
 pub record Run : Type 0 where
@@ -46,15 +59,16 @@ pub record Run : Type 0 where
 
 -- The network has played these segments of the input, what is written and counted are those of what it told, and nothing is
 -- still to be written.
-pub record IsTold (tells : Type 0) (r : Run) (plan : Planned) (now : Files) (n : Network) (c : Counts) (o : Outputs) (so_far : List Segment) : Type 0 where
+pub record IsTold (tells : Type 0) (m : Mode) (r : Run) (plan : Planned) (now : Files) (n : Network) (c : Counts) (o : Outputs) (so_far : List Segment) : Type 0 where
   pub tree : plan.tree ≡ tree_of r.input
   pub told : List Event
   pub gone : List Left
-  pub played : IsPlayedBy r.input so_far n told gone
+  pub lines : List TraceLine
+  pub played : IsPlayedBy m r.input so_far n told gone lines
+  pub tracing : n.log.tracing ≡ plan.traced
   pub counted : c ≡ counts_so_far told gone
-  pub texts : tells → HasTexts plan (pieces_of o) r.before now (text_so_far plan told gone)
+  pub texts : tells → HasTexts plan (pieces_of o) r.before now (text_so_far plan told gone lines)
   pub quiet : IsQuiet n
-  pub small : IsSmall c
 
 -- ---- what comes
 -- the seconds of a segment, by the second of the one before it, if there is one
@@ -63,72 +77,101 @@ seconds_after None second = 0
 seconds_after (Some last) second = second - last
 
 -- the segments of what is still to come
-abbrev pub segments_after : Option ℕ → List Coming → List Segment
-segments_after None coming = segments_in (map alone coming)
-segments_after (Some last) coming = segments_since last (map alone coming)
-
--- the segment of what comes next
-abbrev pub next_segment : ℕ → Due → Segment
-next_segment seconds d = segment_of seconds (coming_of d ∷ [])
+abbrev pub segments_after : Mode → Option ℕ → List Coming → List Segment
+segments_after m None coming = segments_in (groups_in m coming)
+segments_after m (Some last) coming = segments_since last (groups_in m coming)
 
 -- the arrivals of some segments can be written in a capture
 abbrev pub CanBeKept : List Segment → Type 0
 CanBeKept so_far = AllByRecursion (λ a. a.moment < 2 ^ 32 * 1_000_000_000) (arrivals_in so_far)
 
 -- What an agenda has leads from these segments of an input to all of them. The commands are those of the input, and name external
--- ports, as its records do; so many were played, and all segments are few.
-pub record IsDueAfter (i : Input) (so_far : List Segment) (last : Option ℕ) (a : ToPlay) : Type 0 where
-  pub rest : segments Eager i ≡ so_far ++ segments_after last (still_to_come a)
+-- ports, as its records do; so many were played, and all that comes is little.
+pub record IsDueAfter (m : Mode) (i : Input) (so_far : List Segment) (last : Option ℕ) (a : ToPlay) : Type 0 where
+  pub rest : segments m i ≡ so_far ++ segments_after m last (still_to_come a)
+  pub came : filter_map arrival_in (merge i) ≡ arrivals_in so_far ++ filter_map arrival_in (still_to_come a)
   pub given : i.commands ≡ map given_by a.commands
   pub names : All (λ c. NamesExternal (tree_of i) c.command) a.commands
   pub few_commands : length a.commands ≤ 65536
+  pub within : a.taken ≤ length a.commands
   pub external : (q : ℕ) → is_external (tree_of i) q ≡ false → i.records q ≡ []
   pub taken : length (flat_map (λ (s : Segment). filter_map (command_of (basis_of i)) s.commands) so_far) ≡ a.taken
   pub kept : CanBeKept so_far
   pub clock : sum_by (λ (s : Segment). s.seconds) so_far ≤ 2 ^ 32 * length so_far
   pub few : length so_far + length (still_to_come a) ≤ 2 ^ 30
+  pub few_arrivals : length (arrivals_in so_far) + length (still_to_come a) ≤ 2 ^ 30
   pub since : IfSome last (λ second. a.start ≤ second)
 
 -- the run stands after some segments, and the agenda leads on
-pub record IsPlaying (tells : Type 0) (r : Run) (plan : Planned) (now : Files) (n : Network) (c : Counts) (o : Outputs) (last : Option ℕ) (a : ToPlay) : Type 0 where
+pub record IsPlaying (tells : Type 0) (m : Mode) (r : Run) (plan : Planned) (now : Files) (n : Network) (c : Counts) (o : Outputs) (last : Option ℕ) (a : ToPlay) : Type 0 where
   pub so_far : List Segment
-  pub is : IsTold tells r plan now n c o so_far
-  pub next : IsDueAfter r.input so_far last a
+  pub is : IsTold tells m r plan now n c o so_far
+  pub next : IsDueAfter m r.input so_far last a
 
 -- before anything was played: the agenda has all of an input, whose seconds of commands don't fall
-pub record CanBegin (tells : Type 0) (r : Run) (s : Setup) (now : Files) (a : ToPlay) : Type 0 where
+pub record CanBegin (tells : Type 0) (m : Mode) (r : Run) (s : Setup) (now : Files) (a : ToPlay) : Type 0 where
   pub setup : r.input.setup ≡ s
   pub before : tells → r.before ≡ now
   pub timely : IsTimely r.input
-  pub next : IsDueAfter r.input [] None a
+  pub next : IsDueAfter m r.input [] None a
+
+-- The world is opened, and nothing of it is written or counted yet; the agenda has all of an input.
+pub record IsOpened (tells : Type 0) (m : Mode) (r : Run) (plan : Planned) (now : Files) (n : Network) (c : Counts) (o : Outputs) (a : ToPlay) : Type 0 where
+  pub tree : plan.tree ≡ tree_of r.input
+  pub played : IsPlayedBy m r.input [] n n.log.events (all_left n.log.left) n.log.lines
+  pub tracing : n.log.tracing ≡ plan.traced
+  pub counted : c ≡ nothing_counted
+  pub texts : tells → HasTexts plan (pieces_of o) r.before now (first_text plan)
+  pub timely : IsTimely r.input
+  pub next : IsDueAfter m r.input [] None a
 
 -- ---- what comes next
-abbrev pub commands_in : Due → List Timed
-commands_in (due.Command number moment command) = command.now ∷ []
-commands_in (due.Record r) = []
+-- the second of what comes
+abbrev pub second_by : Due → ℕ
+second_by d = second_of (moment_of (coming_of d))
 
-abbrev pub frames_in : Due → List Arrival
-frames_in (due.Command number moment command) = []
-frames_in (due.Record r) = arrival_of r ∷ []
+-- the arrivals of what comes
+abbrev pub came_by : List Due → List Coming
+came_by ds = map coming_of ds
 
--- its steps before settling
-abbrev pub steps_of : ℕ → Due → List Step
-steps_of seconds (due.Command number moment command) = tick seconds ++ Order command.now.command ∷ []
-steps_of seconds (due.Record r) = tick seconds ++ Arrive (arrival_of r) ∷ []
+-- With what comes first, this was gathered from the agenda: nothing more in the eager mode, and in a seeded one all of the same
+-- second. The arrivals are these.
+pub record IsGathered (m : Mode) (first : Due) (old : ToPlay) (arrivals : List Arrival) (new : ToPlay) : Type 0 where
+  pub more : List Due
+  pub takes : TakesAll old more new
+  pub alone : m ≡ Eager → more ≡ []
+  pub within : AllByRecursion (λ d. second_by d ≡ second_by first) more
+  pub whole : m ≡ Seeded → begins_in (second_by first) (still_to_come new) ≡ false
+  pub arrivals_are : map arrived arrivals ≡ filter_map arrival_in (came_by (first ∷ more))
 
--- a command is that of its number
-abbrev pub IsGivenIn : Input → Due → Type 0
-IsGivenIn i (due.Command number moment command) = command_of (basis_of i) number ≡ Some command.now.command
-IsGivenIn i (due.Record r) = Unit {0}
+-- all of one second was gathered, behind the arrivals so far
+pub record HasGathered (second : ℕ) (old : ToPlay) (before : List Arrival) (new : ToPlay) (after : List Arrival) : Type 0 where
+  pub more : List Due
+  pub takes : TakesAll old more new
+  pub within : AllByRecursion (λ d. second_by d ≡ second) more
+  pub arrivals_are : map arrived after ≡ map arrived before ++ filter_map arrival_in (came_by more)
 
--- it can be played after these segments
-pub record CanFollow (i : Input) (so_far : List Segment) (n : Network) (seconds : ℕ) (d : Due) : Type 0 where
-  pub is : IsGivenIn i d
-  pub kept : CanBeKept (so_far ++ next_segment seconds d ∷ [])
-  pub can : CanAll n (steps_of seconds d)
+-- The run stands after some segments, and this comes first of what is due: so many commands were taken before it, and so many
+-- seconds pass before it.
+pub record CanGoOn (tells : Type 0) (m : Mode) (r : Run) (plan : Planned) (now : Files) (n : Network) (c : Counts) (o : Outputs) (seconds from : ℕ) (first : Due) (a : ToPlay) : Type 0 where
+  pub last : Option ℕ
+  pub old : ToPlay
+  pub playing : IsPlaying tells m r plan now n c o last old
+  pub next : IsNext old first a
+  pub from_is : from ≡ old.taken
+  pub seconds_are : seconds ≡ seconds_after last (second_by first)
 
--- so it stands after some segments
-pub record CanBePlayed (tells : Type 0) (r : Run) (plan : Planned) (now : Files) (n : Network) (c : Counts) (o : Outputs) (seconds : ℕ) (d : Due) : Type 0 where
+-- So many arrivals and commands were played that all counts stay low, and arrivals can be written in a capture.
+pub record CanFollow (i : Input) (so_far : List Segment) : Type 0 where
+  pub kept : CanBeKept so_far
+  pub few_arrivals : length (arrivals_in so_far) ≤ 2 ^ 30
+  pub few_commands : length (flat_map (λ (s : Segment). filter_map (command_of (basis_of i)) s.commands) so_far) ≤ 65536
+
+-- the run stands after some segments, and these seconds, commands and arrivals make the next one, which can be played
+pub record CanBePlayed (tells : Type 0) (m : Mode) (r : Run) (plan : Planned) (now : Files) (n : Network) (c : Counts) (o : Outputs) (seconds : ℕ) (cs : List Timed) (frames : List Arrival) : Type 0 where
   pub so_far : List Segment
-  pub is : IsTold tells r plan now n c o so_far
-  pub next : CanFollow r.input so_far n seconds d
+  pub is : IsTold tells m r plan now n c o so_far
+  pub next : Segment
+  pub segment : IsSegment r.input next seconds cs frames
+  pub can : CanAll n (gives seconds cs frames)
+  pub follows : CanFollow r.input (so_far ++ next ∷ [])

@@ -1,23 +1,27 @@
 -- The topology and the captures as they are read.
-use Rattle.std.specs.Prelude.{⊤, ◌≡◌, ◌≤◌, ◌<◌, ◌==◌, ℕ, if◌then◌else◌, List, [], ◌∷◌, Option, Some, None, Err, IsOk, All, map, filter, length, sum_by}
+use Rattle.std.specs.Prelude.{⊤, ◌≡◌, ◌≤◌, ◌<◌, ◌==◌, ℕ, Bool, true, if◌then◌else◌, List, [], ◌∷◌, IsOk, All, map, filter, length, sum_by}
+use Rattle.exb_made.specs.declared.captures.Capture.{Capture as MadeCapture}
+use Rattle.exb_model.specs.declared.setup.Setup.{Setup}
+use Rattle.exb_model.specs.declared.setup.Timed.{Timed}
 use Rattle.exb_model.specs.Input.{Input, Record, given_by}
 use Rattle.exb_model.specs.Ports.{all_ports}
+use Rattle.exb_model.specs.Tree.{Shape, is_external}
 use Rattle.exb_merge.specs.Streams.{Stream, stream_of}
 use Rattle.exb_pcap.specs.Captures.{pcap_records}
 use Rattle.exb_tables.specs.declared.rows.Named.{Named}
-use Rattle.exb_topology.specs.declared.topology.Topology.{Topology}
 use Rattle.exb_keys.specs.declared.faults.TopoFault.TheVariants as topology
-use Rattle.exb_keys.specs.Faults.{Refusal}
-use Rattle.exb_topology.specs.Topologies.{topology_of}
 use Rattle.exb_run.specs.declared.captures.Capture.{Capture}
 use Rattle.exb_run.specs.declared.fault.Fault.{Fault}
-use Rattle.exb_run.specs.declared.fault.Fault.TheVariants.{Usage, Missing, Topology as BadTopology, NotBuilt, Capture as Faulty, Read, Write, Memory}
+use Rattle.exb_run.specs.declared.fault.Fault.TheVariants.{Usage, Missing, Topology as BadTopology, Capture as Faulty, Read, Write, Memory}
 use Rattle.exb_run.specs.Inputs.{Taken, is_named, records_or_none}
-use Rattle.exb_run.specs.Answers.{refused_by}
 
 -- the captures that were read, by port
 abbrev pub contents : List Capture → List Taken
 contents captures = map (λ c. (c.port, c.file.items)) captures
+
+-- a capture that was made, as one that was read
+abbrev pub taken_of : MadeCapture → Capture
+taken_of c = record { port = c.port; file = c.file }
 
 -- a capture at its first record
 abbrev pub stream_in : Capture → Stream
@@ -28,12 +32,20 @@ abbrev pub records_in : List Capture → ℕ → List Record
 records_in [] q = []
 records_in (c ∷ cs) q = if c.port == q then records_or_none (pcap_records c.file.items) else records_in cs q
 
--- the input of a topology and of captures that were read
-abbrev pub input_with : Topology → List Capture → Input
-input_with t captures = record { setup = t.setup; commands = map given_by t.commands; records = records_in captures }
+-- the input of a setup, of commands and of captures that were read
+abbrev pub input_with : Setup → List Timed → List Capture → Input
+input_with setup commands captures = record { setup = setup; commands = map given_by commands; records = records_in captures }
 
--- the captures are those of the ports that have one, in port order, each one of the grammar, and not too large together
-pub record AreRead (names : List Named) (captures : List Capture) : Type 0 where
+-- the captures are those of some external ports of a tree, in port order, each one of the grammar, and not too large together
+pub record AreRead (t : Shape) (captures : List Capture) : Type 0 where
+  pub chosen : ℕ → Bool
+  pub ports : map (λ c. c.port) captures ≡ filter chosen all_ports
+  pub external : (q : ℕ) → chosen q ≡ true → is_external t q ≡ true
+  pub whole : All (λ c. IsOk (pcap_records c.file.items)) captures
+  pub small : sum_by (λ c. length c.file.items) captures ≤ 536_870_912
+
+-- the captures are those that are named
+pub record AreNamed (names : List Named) (captures : List Capture) : Type 0 where
   pub ports : map (λ c. c.port) captures ≡ filter (is_named names) all_ports
   pub whole : All (λ c. IsOk (pcap_records c.file.items)) captures
   pub small : sum_by (λ c. length c.file.items) captures ≤ 536_870_912
@@ -42,7 +54,6 @@ pub record AreRead (names : List Named) (captures : List Capture) : Type 0 where
 abbrev pub IsOfCapture : Fault → Type 0
 IsOfCapture Usage = ⊥
 IsOfCapture (BadTopology fault) = ⊥
-IsOfCapture NotBuilt = ⊥
 IsOfCapture Write = ⊥
 IsOfCapture (Faulty p flaw) = p < 4160
 IsOfCapture _ = ⊤
@@ -60,15 +71,5 @@ IsOfTopology _ = ⊥
 abbrev pub IsOfPlaying : Fault → Type 0
 IsOfPlaying Usage = ⊥
 IsOfPlaying (BadTopology fault) = ⊥
-IsOfPlaying NotBuilt = ⊥
 IsOfPlaying (Faulty p flaw) = p < 4160
 IsOfPlaying _ = ⊤
-
--- this is why a topology file with these bytes is not taken
-abbrev pub IsRefusal : List ℕ → Fault → Type 0
-IsRefusal bytes fault = (refusal : Refusal) × (topology_of bytes ≡ Err refusal) × (fault ≡ refused_by refusal)
-
--- the same, where the file may be missing
-abbrev pub IsRefused : List ℕ → Option (List ℕ) → Fault → Type 0
-IsRefused name None fault = fault ≡ Missing name
-IsRefused name (Some bytes) fault = IsRefusal bytes fault

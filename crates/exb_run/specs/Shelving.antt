@@ -4,7 +4,7 @@ use Rattle.exb_shelf.specs.Files.{Files}
 use Rattle.exb_shelf.specs.Shelf.{Id, Faults, Rose, NoFewer, Opens, writing}
 use Rattle.exb_run.specs.declared.fault.Fault.{Fault}
 use Rattle.exb_run.specs.declared.fault.Fault.TheVariants.{Missing, Read, Write, Memory}
-use Rattle.exb_run.specs.Plans.{Planned, port_count}
+use Rattle.exb_run.specs.Plans.{Planned, output_count}
 use Rattle.exb_run.specs.Outputs.{output_name, OnlyPlanned}
 
 -- no count has fallen, and a fault of the shelf came only where its count rose
@@ -21,7 +21,7 @@ IsOfWriting fault = (fault ≡ Write) ⊎ (fault ≡ Memory)
 -- an id to write an output of a plan
 pub record WritesPlanned (plan : Planned) (i : Id) : Type 0 where
   pub at : ℕ
-  pub within : at < port_count plan + 1
+  pub within : at < output_count plan
   pub writes : i ≡ writing (output_name plan at)
 
 -- no file but the outputs of a plan has changed, and none was opened

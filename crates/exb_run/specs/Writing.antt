@@ -10,7 +10,7 @@ use Rattle.exb_standing.specs.Showing.{left_at}
 use Rattle.exb_shelf.specs.Files.{Files, Filled}
 use Rattle.exb_shelf.specs.Shelf.{Id, writing}
 use Rattle.exb_run.specs.declared.outputs.Outputs.{Outputs}
-use Rattle.exb_run.specs.Plans.{Planned, port_count, port_at}
+use Rattle.exb_run.specs.Plans.{Planned, output_count, port_count, port_at}
 use Rattle.exb_run.specs.Outputs.{output_name}
 
 -- the pieces that are not written yet
@@ -23,13 +23,13 @@ Holds pieces text j bytes = bytes ++ slice_index_or pieces j [] ≡ text j
 
 -- each output has its text, and no other file has changed
 abbrev pub HasTexts : Planned → List (List ℕ) → Files → Files → (ℕ → List ℕ) → Type 0
-HasTexts plan pieces old new text = Filled old new (port_count plan + 1) (output_name plan) (Holds pieces text)
+HasTexts plan pieces old new text = Filled old new (output_count plan) (output_name plan) (Holds pieces text)
 
 -- the outputs of a plan: each has an id of its file, and a piece
 pub record IsReady (plan : Planned) (given : ℕ → Id) (o : Outputs) : Type 0 where
-  pub ids : length o.ids.items ≡ port_count plan + 1
-  pub pieces : length o.pieces.items ≡ port_count plan + 1
-  pub named : (j : ℕ) → j < port_count plan + 1 → given (slice_index o.ids.items j) ≡ writing (output_name plan j)
+  pub ids : length o.ids.items ≡ output_count plan
+  pub pieces : length o.pieces.items ≡ output_count plan
+  pub named : (j : ℕ) → j < output_count plan → given (slice_index o.ids.items j) ≡ writing (output_name plan j)
 
 -- what the outputs begin with: captures with their header
 abbrev pub first_text : Planned → ℕ → List ℕ

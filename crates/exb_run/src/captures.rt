@@ -7,7 +7,7 @@ ghost use Rattle.exb_shelf.specs.Shelf.{IsReadingOf, Opens};
 ghost use Rattle.exb_run.specs.Inputs.{name_of, captures_of};
 ghost use Rattle.exb_run.specs.Flaws.{flaw_in, flaw_of_bytes, flaw_of, AreGood, FirstFlaw};
 ghost use Rattle.exb_run.specs.Opening.{ReadsCapture};
-ghost use Rattle.exb_run.specs.Reading.{AreRead, contents, IsOfCapture};
+ghost use Rattle.exb_run.specs.Reading.{AreNamed, contents, IsOfCapture};
 ghost use Rattle.exb_run.specs.Shelving.{CountsFaults};
 
 use crate::fault::{Fault, Flaw};
@@ -147,7 +147,7 @@ pub(crate) fn read_captures<S: Shelf>(
 ) -> Result<Vec<Capture>, Fault>
     ensures there { S.tells → IfOk result (λ captures. contents captures.items ≡ captures_of names.now (S.file shelf.old) all_ports) }
     ensures good { S.tells → OnOk result (AreGood names.now (S.file shelf.old)) }
-    ensures read { IfOk result (λ captures. AreRead names.now captures.items) }
+    ensures read { IfOk result (λ captures. AreNamed names.now captures.items) }
     ensures flaw { S.tells → IfErr result (λ fault. ((p : ℕ) × FirstFlaw names.now (S.file shelf.old) p fault) ⊎ (fault ≡ Fault.Read) ⊎ (fault ≡ Fault.Memory)) }
     ensures causes { IfErr result IsOfCapture }
     ensures opened { Opens (ReadsCapture names.now) (S.ids shelf.old) (S.ids shelf.new) }

@@ -29,8 +29,6 @@ pub(crate) enum Fault {
     Missing { name: Text },
     /// The topology is refused.
     Topology { fault: TopoFault },
-    /// The topology asks for what can't be played yet.
-    NotBuilt,
     /// The capture of this port can't be taken.
     Capture { port: PortId, flaw: Flaw },
     /// A file could not be read.

@@ -1,17 +1,20 @@
 //! The top call: from the words of the command line over topology, captures, world and schedule to captures,
-//! journal and summary line. It reaches bridge and extenders through `exb_schedule` alone, and files through
-//! `exb_shelf`'s traits.
+//! journal, trace and summary line; to what a topology needs; and to the run of an input that is made. It reaches bridge
+//! and extenders through `exb_schedule` alone, and files through `exb_shelf`'s traits.
 #![tactic(auto)]
 
-mod built;
 mod captures;
+mod check;
 mod fault;
+mod game;
+mod gather;
+mod making;
 mod outputs;
 mod plan;
 mod play;
 mod report;
+mod script;
 mod top;
 mod topology;
-mod words;
 
 pub use top::run;

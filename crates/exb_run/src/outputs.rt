@@ -1,26 +1,33 @@
 //! The output files while they are written.
-ghost use Rattle.std.specs.Prelude.{◌≡◌, ◌≢◌, ◌≤◌, ◌<◌, ◌+◌, ◌-◌, ◌*◌, ◌++◌, ℕ, List, [], length, IfOk, OnOk, OnErr, IfErr, string_bytes, ◌∷◌, ◌⊎◌, All};
+ghost use Rattle.std.specs.Prelude.{◌≡◌, ◌≢◌, true, ◌≤◌, ◌<◌, ◌+◌, ◌-◌, ◌*◌, ◌++◌, ℕ, List, [], length, IfOk, OnOk, OnErr, IfErr, string_bytes, ◌∷◌, ◌⊎◌, All};
 ghost use Rattle.exb_shelf.specs.Files.{Files, SameFiles, Puts, Adds, Filled};
 ghost use Rattle.exb_shelf.specs.Shelf.{IsWriting, Opens, writing};
-ghost use Rattle.exb_run.specs.Plans.{Planned, port_count, place_in};
+ghost use Rattle.exb_run.specs.Plans.{Planned, output_count, port_count, place_in};
 ghost use Rattle.exb_run.specs.Outputs.{output_name};
 ghost use Rattle.exb_run.specs.Shelving.{CountsFaults, IsOfWriting, OnlyMakes, OnlyWrites, WritesPlanned};
 ghost use Rattle.exb_model.specs.Texts.{line_of, record_text as record_of};
+ghost use Rattle.exb_model.specs.Traces.{trace_line, trace_text};
 ghost use Rattle.exb_run.specs.Writing.{pieces_of, Holds, HasTexts, IsReady, first_text, with_more, lines_of, with_left_frames, CanBeWritten};
 
 use crate::fault::Fault;
 use crate::plan::Plan;
 use exb_model::event::Event;
 use exb_model::memory::NoMemory;
+use exb_model::trace::TraceLine;
 use exb_pcap::{header_text, record_text};
 use exb_schedule::Left;
 use exb_shelf::{PIECE, Shelf, write_text};
-use exb_text::laws::{capture_names_differ, no_capture_is_the_journal};
-use exb_text::{capture_file_name, journal_file_name, write_line};
+use exb_text::laws::{
+    capture_names_differ, no_capture_is_the_journal, no_capture_is_the_trace,
+    the_journal_is_no_trace,
+};
+use exb_text::{
+    capture_file_name, journal_file_name, trace_file_name, write_line, write_trace_line,
+};
 use std::alloc::Global;
 
-/// The outputs: the capture of each port, and last the journal. Each has the id of its file and a piece of
-/// its text that is not written yet.
+/// The outputs: the capture of each port, the journal, and last the trace where it is asked for. Each has the id of its file and a
+/// piece of its text that is not written yet.
 #[derive(Drop)]
 pub(crate) struct Outputs {
     ids: Vec<u32>,
@@ -34,17 +41,21 @@ fn output_name(alloc: Global, plan: &Plan, at: u16) -> Result<String, NoMemory>
     let prefix = plan.prefix();
     if at < plan.count() {
         capture_file_name(alloc, prefix, plan.port(at))
-    } else {
+    } else if at == plan.count() {
         journal_file_name(alloc, prefix)
+    } else {
+        trace_file_name(alloc, prefix)
     }
 }
 
 /// The outputs of a plan have different names.
 fn output_names_differ()
-    ensures { (plan : Planned) (i j : ℕ) → i < port_count plan + 1 → j < port_count plan + 1 → i ≢ j → output_name plan i ≢ output_name plan j }
+    ensures { (plan : Planned) (i j : ℕ) → i < output_count plan → j < output_count plan → i ≢ j → output_name plan i ≢ output_name plan j }
 {
     capture_names_differ();
     no_capture_is_the_journal();
+    no_capture_is_the_trace();
+    the_journal_is_no_trace();
 }
 
 /// What output `at` begins with.
@@ -66,7 +77,7 @@ fn create_one<S: Shelf>(
     at: u16,
     outputs: &mut Outputs,
 ) -> Result<(), Fault>
-    requires within { at < port_count plan.now + 1 }
+    requires within { at < output_count plan.now }
     requires ids { length outputs.old.ids.items ≡ at }
     requires pieces { length outputs.old.pieces.items ≡ at }
     ensures ids { OnOk result ((id : ℕ) × (outputs.new.ids.items ≡ outputs.old.ids.items ++ id ∷ []) × (S.ids shelf.new id ≡ writing (output_name plan.now at))) }
@@ -104,7 +115,7 @@ pub(crate) fn create_all<S: Shelf>(
         pieces: Vec::new(alloc),
     };
     output_names_differ();
-    for at in 0..plan.count() + 1 {
+    for at in 0..plan.outputs() {
         create_one(alloc, shelf, plan, at, &mut outputs)?;
     }
     Ok(outputs)
@@ -196,11 +207,57 @@ impl Outputs {
         Ok(())
     }
 
+    /// Puts lines behind the trace, where it is asked for. `line` is room for one line.
+    pub(crate) fn write_trace<S: Shelf>(
+        &mut self,
+        shelf: &mut S,
+        plan: &Plan,
+        line: &mut Vec<u8>,
+        lines: &[TraceLine],
+    ) -> Result<(), Fault>
+        requires ready { IsReady plan.now (S.ids shelf.old) self.old }
+        ensures ready { IsReady plan.now (S.ids shelf.new) self.new }
+        ensures texts { S.tells → OnOk result ((orig : Files) (text : ℕ → List ℕ) → HasTexts plan.now (pieces_of self.old) orig (S.file shelf.old) text
+            → HasTexts plan.now (pieces_of self.new) orig (S.file shelf.new) (with_more text (port_count plan.now + 1) (trace_text lines.now))) }
+        ensures only { OnlyWrites S.tells plan.now (S.file shelf.old) (S.file shelf.new) (S.ids shelf.old) (S.ids shelf.new) }
+        ensures causes { IfErr result IsOfWriting }
+        ensures faults { CountsFaults result (S.faults shelf.old) (S.faults shelf.new) }
+    {
+        if plan.traced() {
+            self.add_lines(shelf, plan, line, lines)
+        } else {
+            Ok(())
+        }
+    }
+
+    /// Puts lines behind the trace, which is asked for.
+    fn add_lines<S: Shelf>(
+        &mut self,
+        shelf: &mut S,
+        plan: &Plan,
+        line: &mut Vec<u8>,
+        lines: &[TraceLine],
+    ) -> Result<(), Fault>
+        requires traced { plan.now.traced ≡ true }
+        requires ready { IsReady plan.now (S.ids shelf.old) self.old }
+        ensures ready { IsReady plan.now (S.ids shelf.new) self.new }
+        ensures texts { S.tells → OnOk result ((orig : Files) (text : ℕ → List ℕ) → HasTexts plan.now (pieces_of self.old) orig (S.file shelf.old) text
+            → HasTexts plan.now (pieces_of self.new) orig (S.file shelf.new) (with_more text (port_count plan.now + 1) (trace_text lines.now))) }
+        ensures only { OnlyWrites S.tells plan.now (S.file shelf.old) (S.file shelf.new) (S.ids shelf.old) (S.ids shelf.new) }
+        ensures causes { IfErr result IsOfWriting }
+        ensures faults { CountsFaults result (S.faults shelf.old) (S.faults shelf.new) }
+    {
+        for one in lines {
+            self.add_line(shelf, plan, line, one)?;
+        }
+        Ok(())
+    }
+
     /// Writes all that is not written yet.
     pub(crate) fn finish<S: Shelf>(&mut self, shelf: &mut S, plan: &Plan) -> Result<(), Fault>
         requires ready { IsReady plan.now (S.ids shelf.old) self.old }
         ensures texts { S.tells → OnOk result ((orig : Files) (text : ℕ → List ℕ) → HasTexts plan.now (pieces_of self.old) orig (S.file shelf.old) text
-            → Filled orig (S.file shelf.new) (port_count plan.now + 1) (output_name plan.now) (λ j bytes. bytes ≡ text j)) }
+            → Filled orig (S.file shelf.new) (output_count plan.now) (output_name plan.now) (λ j bytes. bytes ≡ text j)) }
         ensures only { OnlyWrites S.tells plan.now (S.file shelf.old) (S.file shelf.new) (S.ids shelf.old) (S.ids shelf.new) }
         ensures causes { IfErr result IsOfWriting }
         ensures faults { CountsFaults result (S.faults shelf.old) (S.faults shelf.new) }
@@ -235,6 +292,30 @@ impl Outputs {
         self.add_to(shelf, plan, plan.count() as usize, &[], line.as_bytes())
     }
 
+    /// Puts a line behind the trace, which is asked for.
+    fn add_line<S: Shelf>(
+        &mut self,
+        shelf: &mut S,
+        plan: &Plan,
+        line: &mut Vec<u8>,
+        one: &TraceLine,
+    ) -> Result<(), Fault>
+        requires traced { plan.now.traced ≡ true }
+        requires ready { IsReady plan.now (S.ids shelf.old) self.old }
+        ensures ready { IsReady plan.now (S.ids shelf.new) self.new }
+        ensures texts { S.tells → OnOk result ((orig : Files) (text : ℕ → List ℕ) → HasTexts plan.now (pieces_of self.old) orig (S.file shelf.old) text
+            → HasTexts plan.now (pieces_of self.new) orig (S.file shelf.new) (with_more text (port_count plan.now + 1) (trace_line one.now ++ 10 ∷ []))) }
+        ensures only { OnlyWrites S.tells plan.now (S.file shelf.old) (S.file shelf.new) (S.ids shelf.old) (S.ids shelf.new) }
+        ensures causes { IfErr result IsOfWriting }
+        ensures faults { CountsFaults result (S.faults shelf.old) (S.faults shelf.new) }
+    {
+        line.clear();
+        if write_trace_line(line, one).is_err() {
+            return Err(Fault::Memory);
+        }
+        self.add_to(shelf, plan, plan.count() as usize + 1, &[], line.as_slice())
+    }
+
     /// Puts a frame that left a port behind the port's capture.
     fn add_left<S: Shelf>(&mut self, shelf: &mut S, plan: &Plan, left: &Left) -> Result<(), Fault>
         requires ready { IsReady plan.now (S.ids shelf.old) self.old }
@@ -262,7 +343,7 @@ impl Outputs {
         bytes: &[u8],
     ) -> Result<(), Fault>
         requires ready { IsReady plan.now (S.ids shelf.old) self.old }
-        requires within { at ≤ port_count plan.now }
+        requires within { at < output_count plan.now }
         ensures ready { IsReady plan.now (S.ids shelf.new) self.new }
         ensures texts { S.tells → OnOk result ((orig : Files) (text : ℕ → List ℕ) → HasTexts plan.now (pieces_of self.old) orig (S.file shelf.old) text
             → HasTexts plan.now (pieces_of self.new) orig (S.file shelf.new) (with_more text at (head.now ++ bytes.now))) }

@@ -1,8 +1,8 @@
-//! What a run writes: a capture for each external port of a tree, and the journal, under a prefix.
+//! What a run writes under a prefix: a capture for each external port of a tree, the journal, and the trace where it is asked for.
 ghost use Rattle.std.specs.Prelude.{◌≡◌, ◌<◌, ◌≤◌, ◌++◌, ◌∷◌, [], if◌then◌else◌, IfOk, OnOk};
 ghost use Rattle.exb_model.specs.Setup.{IsValid, shape_of};
 ghost use Rattle.exb_model.specs.Tree.{IsTree};
-ghost use Rattle.exb_run.specs.Plans.{ArePlaced, place_in, port_at, port_count};
+ghost use Rattle.exb_run.specs.Plans.{ArePlaced, output_count, place_in, port_at, port_count};
 
 use exb_model::memory::NoMemory;
 use exb_model::port::PortId;
@@ -24,13 +24,15 @@ struct Places {
     places: Vec<u16>,
 }
 
-/// What a run writes: the capture of each external port of a tree in port order, and last the journal.
+/// What a run writes: the capture of each external port of a tree in port order, then the journal, and last the trace where it is
+/// asked for.
 #[derive(Drop)]
 pub(crate) struct Plan {
     tree: Tree,
     places: Places,
     /// What each name of a file begins with.
     prefix: Text,
+    traced: bool,
 }
 
 impl Model for Plan {
@@ -38,7 +40,7 @@ impl Model for Plan {
 
     ghost Value = { Planned };
 
-    ghost view = { λ p. record { tree = p.tree; prefix = p.prefix } };
+    ghost view = { λ p. record { tree = p.tree; prefix = p.prefix; traced = p.traced } };
 
     ghost invariant = { λ p. ArePlaced p.tree p.places.ports.items p.places.places.items };
 }
@@ -69,10 +71,16 @@ fn places_of(alloc: Global, tree: &Tree) -> Result<Places, NoMemory>
 
 impl Plan {
     /// What a run of a setup writes under a prefix.
-    pub(crate) fn new(alloc: Global, setup: &Setup, prefix: &str) -> Result<Plan, NoMemory>
+    pub(crate) fn new(
+        alloc: Global,
+        setup: &Setup,
+        prefix: &str,
+        traced: bool,
+    ) -> Result<Plan, NoMemory>
         requires { IsValid setup.now }
         ensures tree { IfOk result (λ plan. plan.tree ≡ shape_of setup.now) }
         ensures prefix { IfOk result (λ plan. plan.prefix ≡ prefix.now) }
+        ensures traced { IfOk result (λ plan. plan.traced ≡ traced) }
     {
         let tree = Tree::new(alloc, setup)?;
         let places = places_of(alloc, &tree)?;
@@ -81,6 +89,7 @@ impl Plan {
             tree,
             places,
             prefix,
+            traced,
         })
     }
 
@@ -98,6 +107,25 @@ impl Plan {
         ensures range { result ≤ 4160 }
     {
         self.places.ports.len() as u16
+    }
+
+    /// How many files there are.
+    pub(crate) fn outputs(&self) -> u16
+        ensures value { result ≡ output_count self.now }
+        ensures range { result ≤ 4162 }
+    {
+        if self.traced {
+            self.count() + 2
+        } else {
+            self.count() + 1
+        }
+    }
+
+    /// Whether a trace is written.
+    pub(crate) fn traced(&self) -> bool
+        ensures { result ≡ self.now.traced }
+    {
+        self.traced
     }
 
     /// The port of capture `at`, counted from 0.

@@ -12,6 +12,10 @@ use exb_shelf::{ShelfFault, Sink, print_text};
 use exb_text::PortName;
 use std::alloc::{AllocError, Global};
 
+/// The words that are accepted.
+const USAGE: &str =
+    "exbr: usage: exbr run TOPOLOGY [--trace] [--seed N] | exbr check TOPOLOGY | exbr make N\n";
+
 /// The fault of a capture, and its place.
 fn broken_text(alloc: Global, fault: PcapFault) -> Result<String, AllocError>
     ensures { IfOk result (λ text. string_bytes text ≡ broken_text fault) }
@@ -95,8 +99,7 @@ fn fault_line(alloc: Global, fault: &Fault) -> Result<String, AllocError>
             let text = flaw_text(alloc, *flaw)?;
             capture_line(alloc, *port, text.as_str())
         }
-        Fault::Usage => format!(in alloc; "exbr: usage: exbr run TOPOLOGY\n"),
-        Fault::NotBuilt => format!(in alloc; "exbr: not built\n"),
+        Fault::Usage => String::from_str(alloc, USAGE),
         Fault::Read => format!(in alloc; "exbr: read fault\n"),
         Fault::Write => format!(in alloc; "exbr: write fault\n"),
         Fault::Memory => format!(in alloc; "exbr: out of memory\n"),
@@ -116,7 +119,7 @@ fn print_fault<O: Sink>(alloc: Global, out: &mut O, fault: &Fault) -> Result<(),
     }
 }
 
-/// Prints the summary, or the line of the fault. The lines that are always the same take no memory.
+/// Prints the summary or the lines of a check, or the line of the fault. The lines that are always the same take no memory.
 #[tactic(auto, unfolding(crate::specs::Answers::fault_line))]
 fn print_outcome<O: Sink>(
     alloc: Global,
@@ -129,9 +132,8 @@ fn print_outcome<O: Sink>(
     ensures failed { IsErrOf result ShelfFault.Failed → Rose (O.faults out.old) (O.faults out.new) }
 {
     match outcome {
-        Ok(summary) => print_text(out, summary.as_bytes()),
-        Err(Fault::Usage) => print_text(out, b"exbr: usage: exbr run TOPOLOGY\n"),
-        Err(Fault::NotBuilt) => print_text(out, b"exbr: not built\n"),
+        Ok(text) => print_text(out, text.as_bytes()),
+        Err(Fault::Usage) => print_text(out, USAGE.as_bytes()),
         Err(Fault::Read) => print_text(out, b"exbr: read fault\n"),
         Err(Fault::Write) => print_text(out, b"exbr: write fault\n"),
         Err(Fault::Memory) => print_text(out, b"exbr: out of memory\n"),
@@ -150,7 +152,6 @@ fn fault_status(fault: &Fault) -> u8
         Fault::Missing { .. } => 5,
         Fault::Read => 6,
         Fault::Write => 7,
-        Fault::NotBuilt => 8,
     }
 }
 

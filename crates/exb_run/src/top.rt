@@ -1,124 +1,199 @@
 //! The top call.
-ghost use Rattle.std.specs.Prelude.{◌≡◌, ◌≢◌, ◌++◌, ◌⊎◌, ℕ, List, Some, None, Ok, Err, map, string_bytes, codes, IfOk, IfErr, OnErr, IsErrOf};
+ghost use Rattle.std.specs.Prelude.{◌≡◌, ◌≢◌, ◌<◌, ◌++◌, ◌⊎◌, ◌^◌, ℕ, List, Some, None, Ok, Err, codes, string_bytes, IfOk, IfErr, OnErr, IsErrOf};
+ghost use Rattle.exb_made.specs.Made.{made};
 ghost use Rattle.exb_model.specs.Setup.{IsValid, shape_of};
 ghost use Rattle.exb_shelf.specs.Files.{SameFiles, AppendsFront};
 ghost use Rattle.exb_shelf.specs.Shelf.{Opens, Rose};
-ghost use Rattle.exb_topology.specs.declared.topology.Topology.{Topology};
 ghost use Rattle.exb_topology.specs.Sound.{IsSound};
-ghost use Rattle.exb_run.specs.declared.fault.Flaw.{Flaw};
+ghost use Rattle.exb_words.specs.Words.{Run, Make};
 ghost use Rattle.exb_run.specs.declared.fault.Fault.{Fault};
-ghost use Rattle.exb_run.specs.Words.{words_of};
 ghost use Rattle.exb_run.specs.Inputs.{input_of};
 ghost use Rattle.exb_run.specs.Outputs.{IsPlayed, OnlyOutputs};
 ghost use Rattle.exb_run.specs.Flaws.{AreGood, FirstFlaw};
 ghost use Rattle.exb_run.specs.Opening.{ReadsCapture, IsOpenedFor, OpensBy};
 ghost use Rattle.exb_run.specs.Shelving.{CountsFaults};
 ghost use Rattle.exb_run.specs.Reading.{IsOfPlaying};
-ghost use Rattle.exb_run.specs.Answers.{Ran, IsReady, OnlyAsked, Stops, StopsWith, IsFailure, CanBe, fault_status, status_of, fault_line, IsLine, IsOfInput, RoseBy, SaysBy, IsStatus};
+ghost use Rattle.exb_run.specs.Answers.{asked, mode_for, eager_summary, IsDone, IsRun, CanBeDone, OnlyAsked, Stops, StopsWith, fault_status, status_of, fault_line, IsText, IsOfInput, RoseBy, SaysBy, IsStatus};
+ghost use Rattle.exb_run.specs.Outcomes.{CameOut};
+ghost use Rattle.exb_run.specs.Playing.{mode_of};
 
-use crate::built::is_built;
 use crate::captures::read_captures;
+use crate::check::check_topology;
 use crate::fault::Fault;
+use crate::making::make_input;
 use crate::plan::Plan;
 use crate::play::play;
 use crate::report::report;
+use crate::script::{Schedule, Script};
 use crate::topology::read_topology;
-use crate::words::accept;
+use exb_fate::Fate;
 use exb_shelf::{Shelf, Sink};
 use exb_topology::Topology;
+use exb_words::{Asked, accept};
 use std::alloc::Global;
 
+/// Eager, or drawn from a seed.
+fn schedule_of(seed: Option<u64>) -> Schedule
+    ensures { mode_of result ≡ mode_for seed }
+{
+    match seed {
+        None => Schedule::Eager,
+        Some(seed) => Schedule::Seeded { seed },
+    }
+}
+
 /// Reads and checks the captures of a topology, plays them, and answers the summary line.
-fn run_topology<S: Shelf>(
+fn play_topology<S: Shelf>(
     alloc: Global,
     shelf: &mut S,
     topology: &Topology,
+    trace: bool,
+    seed: Option<u64>,
+    fate: Box<dyn Fate>,
 ) -> Result<String, Fault>
     requires valid { IsValid topology.now.setup }
     requires sound { IsSound topology.now }
+    requires fate { left fate < 2 ^ 56 }
     ensures good { S.tells → IfOk result (λ line. AreGood topology.now.captures (S.file shelf.old)) }
-    ensures done { S.tells → IfOk result (λ line. IsPlayed (input_of topology.now (S.file shelf.old)) topology.now.prefix (S.file shelf.old) (S.file shelf.new) (string_bytes line)) }
+    ensures done { S.tells → IfOk result (λ line.
+        IsPlayed (mode_for seed) trace (input_of topology.now (S.file shelf.old)) topology.now.prefix
+        (S.file shelf.old) (S.file shelf.new) (string_bytes line)) }
 
     // Each fault has its cause.
-    ensures cause { S.tells → IfErr result (λ fault. ((p : ℕ) × FirstFlaw topology.now.captures (S.file shelf.old) p fault) ⊎ IsFailure fault) }
+    ensures cause { S.tells → IfErr result (λ fault.
+        ((p : ℕ) × FirstFlaw topology.now.captures (S.file shelf.old) p fault) ⊎ (fault ≡ Fault.Read) ⊎ (fault ≡ Fault.Write) ⊎ (fault ≡ Fault.Memory)) }
     ensures stops { S.tells → (p : ℕ) (fault : Fault) → FirstFlaw topology.now.captures (S.file shelf.old) p fault
         → IsErrOf result fault ⊎ IsErrOf result Fault.Read ⊎ IsErrOf result Fault.Memory }
     ensures causes { IfErr result IsOfPlaying }
 
     // What stays, and what is opened.
     ensures early { result ≢ Err Fault.Write → result ≢ Err Fault.Memory → OnErr result (SameFiles (S.file shelf.old) (S.file shelf.new)) }
-    ensures stopped { S.tells → (p : ℕ) (fault : Fault) → FirstFlaw topology.now.captures (S.file shelf.old) p fault → SameFiles (S.file shelf.old) (S.file shelf.new) }
-    ensures others { S.tells → OnlyOutputs (shape_of topology.now.setup) topology.now.prefix (S.file shelf.old) (S.file shelf.new) }
-    ensures opened { result ≢ Err Fault.Write → result ≢ Err Fault.Memory → OnErr result (Opens (ReadsCapture topology.now.captures) (S.ids shelf.old) (S.ids shelf.new)) }
-    ensures played { S.tells → Opens (IsOpenedFor topology.now (S.file shelf.old)) (S.ids shelf.old) (S.ids shelf.new) }
+    ensures stopped { S.tells → (p : ℕ) (fault : Fault) → FirstFlaw topology.now.captures (S.file shelf.old) p fault
+        → SameFiles (S.file shelf.old) (S.file shelf.new) }
+    ensures others { S.tells → OnlyOutputs trace (shape_of topology.now.setup) topology.now.prefix (S.file shelf.old) (S.file shelf.new) }
+    ensures opened { result ≢ Err Fault.Write → result ≢ Err Fault.Memory
+        → OnErr result (Opens (ReadsCapture topology.now.captures) (S.ids shelf.old) (S.ids shelf.new)) }
+    ensures played { S.tells → Opens (IsOpenedFor trace topology.now (S.file shelf.old)) (S.ids shelf.old) (S.ids shelf.new) }
     ensures faults { CountsFaults result (S.faults shelf.old) (S.faults shelf.new) }
 {
     let captures = read_captures(alloc, shelf, topology.captures.as_slice())?;
-    let plan = Plan::new(alloc, &topology.setup, topology.prefix.as_str())?;
-    play(alloc, shelf, &plan, topology, captures.as_slice())
+    let plan = Plan::new(alloc, &topology.setup, topology.prefix.as_str(), trace)?;
+    let script = Script {
+        setup: &topology.setup,
+        commands: topology.commands.as_slice(),
+        fate: topology.fate.as_slice(),
+    };
+    let schedule = schedule_of(seed);
+    play(
+        alloc,
+        shelf,
+        &plan,
+        &script,
+        captures.as_slice(),
+        schedule,
+        fate,
+    )
 }
 
-/// Does all but print: reads the topology that the words name, and runs it.
-fn work<S: Shelf>(alloc: Global, words: &[String], shelf: &mut S) -> Result<String, Fault>
-    ensures done { S.tells → IfOk result (λ line. Ran (map string_bytes words.now) (S.file shelf.old) (S.file shelf.new) (string_bytes line)) }
-
-    // Each fault has its cause.
-    ensures usage { IsErrOf result Fault.Usage → words_of (map string_bytes words.now) ≡ None }
-    ensures refused { words_of (map string_bytes words.now) ≡ None → IsErrOf result Fault.Usage }
-    ensures cause { S.tells → (fault : Fault) → result ≡ Err fault → Stops (map string_bytes words.now) (S.file shelf.old) fault ⊎ IsFailure fault }
-    ensures stops { S.tells → (fault : Fault) → Stops (map string_bytes words.now) (S.file shelf.old) fault → IsErrOf result fault ⊎ IsErrOf result Fault.Read ⊎ IsErrOf result Fault.Memory }
-    ensures can_be { (fault : Fault) → result ≡ Err fault → CanBe fault }
-
-    // What stays, and what is opened.
-    ensures early { result ≢ Err Fault.Write → result ≢ Err Fault.Memory → OnErr result (SameFiles (S.file shelf.old) (S.file shelf.new)) }
-    ensures nothing { words_of (map string_bytes words.now) ≡ None → SameFiles (S.file shelf.old) (S.file shelf.new) }
-    ensures stopped { S.tells → (fault : Fault) → Stops (map string_bytes words.now) (S.file shelf.old) fault → SameFiles (S.file shelf.old) (S.file shelf.new) }
-    ensures others { S.tells → OnlyAsked (map string_bytes words.now) (S.file shelf.old) (S.file shelf.new) }
-    ensures opens { OpensBy S.tells (status_of result) (map string_bytes words.now) (S.file shelf.old) (S.ids shelf.old) (S.ids shelf.new) }
+/// Reads the topology of this name, plays it, and answers the summary line.
+fn run_topology<S: Shelf>(
+    alloc: Global,
+    shelf: &mut S,
+    name: &str,
+    trace: bool,
+    seed: Option<u64>,
+    fate: Box<dyn Fate>,
+) -> Result<String, Fault>
+    requires { left fate < 2 ^ 56 }
+    ensures came { CameOut S.tells (Some (Run name.now trace seed)) result (S.file shelf.old) (S.file shelf.new) }
+    ensures opens { OpensBy S.tells (status_of result) (Some (Run name.now trace seed)) (S.file shelf.old) (S.ids shelf.old) (S.ids shelf.new) }
     ensures faults { CountsFaults result (S.faults shelf.old) (S.faults shelf.new) }
 {
-    let Some(name) = accept(words) else {
-        return Err(Fault::Usage);
-    };
     let topology = read_topology(alloc, shelf, name)?;
-    if !is_built(&topology) {
-        return Err(Fault::NotBuilt);
+    play_topology(alloc, shelf, &topology, trace, seed, fate)
+}
+
+/// Does all but print: what the words ask for.
+fn work<S: Shelf>(
+    alloc: Global,
+    words: &[String],
+    shelf: &mut S,
+    fate: Box<dyn Fate>,
+) -> Result<String, Fault>
+    requires { left fate < 2 ^ 56 }
+    ensures came { CameOut S.tells (asked words.now) result (S.file shelf.old) (S.file shelf.new) }
+    ensures makes { (number : ℕ) → asked words.now ≡ Some (Make number)
+        → IfOk result (λ line. string_bytes line ≡ eager_summary (made number)) }
+    ensures alone { (number : ℕ) → asked words.now ≡ Some (Make number) → shelf.new ≡ shelf.old }
+    ensures opens { OpensBy S.tells (status_of result) (asked words.now) (S.file shelf.old) (S.ids shelf.old) (S.ids shelf.new) }
+    ensures faults { CountsFaults result (S.faults shelf.old) (S.faults shelf.new) }
+{
+    match accept(words) {
+        None => Err(Fault::Usage),
+        Some(
+            Asked::Run {
+                topology,
+                trace,
+                seed,
+            },
+        ) => run_topology(alloc, shelf, topology, trace, seed, fate),
+        Some(Asked::Check { topology }) => check_topology(alloc, shelf, topology),
+        Some(Asked::Make { number }) => make_input(alloc, number, fate),
     }
-    run_topology(alloc, shelf, &topology)
 }
 
 /// Does all that the program does, by its words without the program's name, and answers its status.
-pub fn run<S: Shelf, O: Sink>(alloc: Global, words: &[String], shelf: &mut S, out: &mut O) -> u8
-    // At status 0 all was read, played and written, and the sink got the summary and nothing else.
-    ensures ran { S.tells → result ≡ 0 → (line : List ℕ) × Ran (map string_bytes words.now) (S.file shelf.old) (S.file shelf.new) line }
-    ensures headline { S.tells → O.tells → result ≡ 0 → (line : List ℕ) × Ran (map string_bytes words.now) (S.file shelf.old) (S.file shelf.new) line × (O.text out.new ≡ O.text out.old ++ line) }
-    // 2: exactly where the words are not accepted. 3, 4, 5 and 8: exactly by the first fault of the topology and of
+pub fn run<S: Shelf, O: Sink>(
+    alloc: Global,
+    words: &[String],
+    shelf: &mut S,
+    out: &mut O,
+    fate: Box<dyn Fate>,
+) -> u8
+    requires { left fate < 2 ^ 56 }
+    // At status 0 what is asked for is done: a topology and its captures were read, played and written; what a topology needs is
+    // said; or the input of a number was played in memory. The sink got the text that says so and nothing else.
+    ensures ran { S.tells → result ≡ 0 → (text : List ℕ) × IsDone (asked words.now) (S.file shelf.old) (S.file shelf.new) text }
+    ensures headline { S.tells → O.tells → result ≡ 0
+        → (text : List ℕ) × IsDone (asked words.now) (S.file shelf.old) (S.file shelf.new) text × (O.text out.new ≡ O.text out.old ++ text) }
+    ensures makes { (number : ℕ) → asked words.now ≡ Some (Make number) → O.tells → result ≡ 0
+        → O.text out.new ≡ O.text out.old ++ eager_summary (made number) }
+    // 2: exactly where the words are not accepted. 3, 4 and 5: exactly by the first fault of the topology and of
     // the captures that it names. 5, 6 and 7: only where a count of faults rose.
-    ensures two { result ≡ 2 → words_of (map string_bytes words.now) ≡ None }
-    ensures usage { words_of (map string_bytes words.now) ≡ None → result ≢ 1 → result ≢ 7 → result ≡ 2 }
-    ensures usage_seven { words_of (map string_bytes words.now) ≡ None → result ≡ 7 → Rose (O.faults out.old) (O.faults out.new) }
-    ensures first { S.tells → IsOfInput result → StopsWith (map string_bytes words.now) (S.file shelf.old) result }
-    ensures stops { S.tells → (fault : Fault) → Stops (map string_bytes words.now) (S.file shelf.old) fault → result ≢ 1 → result ≢ 6 → result ≢ 7 → result ≡ fault_status fault }
-    ensures stops_seven { S.tells → (fault : Fault) → Stops (map string_bytes words.now) (S.file shelf.old) fault → result ≡ 7 → Rose (O.faults out.old) (O.faults out.new) }
-    ensures rose { RoseBy result (S.faults shelf.old) (S.faults shelf.new) (O.faults out.old) (O.faults out.new) }
-    ensures status { IsStatus result }
-    // What is printed: the line of the status and nothing else, and a front of one line where printing ended early.
+    ensures two { result ≡ 2 → asked words.now ≡ None }
+    ensures usage { asked words.now ≡ None → result ≢ 1 → result ≢ 7 → result ≡ 2 }
+    ensures usage_seven { asked words.now ≡ None → result ≡ 7 → Rose (O.faults out.old) (O.faults out.new) }
+    ensures first { S.tells → IsOfInput result → StopsWith (asked words.now) (S.file shelf.old) result }
+    ensures stops { S.tells → (fault : Fault) → Stops (asked words.now) (S.file shelf.old) fault
+        → result ≢ 1 → result ≢ 6 → result ≢ 7 → result ≡ fault_status fault }
+    ensures stops_seven { S.tells → (fault : Fault) → Stops (asked words.now) (S.file shelf.old) fault
+        → result ≡ 7 → Rose (O.faults out.old) (O.faults out.new) }
+    ensures rose { RoseBy (asked words.now) result (S.faults shelf.old) (S.faults shelf.new) (O.faults out.old) (O.faults out.new) }
+    ensures status { IsStatus (asked words.now) result }
+    // What is printed: the text of the status and nothing else, and a front of one text where printing ended early.
     ensures says { O.tells → SaysBy result (O.faults out.old) (O.faults out.new) (O.text out.old) (O.text out.new) }
-    ensures stops_says { S.tells → O.tells → (fault : Fault) → Stops (map string_bytes words.now) (S.file shelf.old) fault → result ≡ fault_status fault → O.text out.new ≡ O.text out.old ++ fault_line fault }
-    ensures front { S.tells → O.tells → (line : List ℕ) × IsLine (map string_bytes words.now) (S.file shelf.old) (S.file shelf.new) (S.faults shelf.old) (S.faults shelf.new) line × AppendsFront (O.text out.old) (O.text out.new) line }
+    ensures stops_says { S.tells → O.tells → (fault : Fault) → Stops (asked words.now) (S.file shelf.old) fault
+        → result ≡ fault_status fault → O.text out.new ≡ O.text out.old ++ fault_line fault }
+    ensures front { S.tells → O.tells
+        → (text : List ℕ) × IsText (asked words.now) (S.file shelf.old) (S.file shelf.new) (S.faults shelf.old) (S.faults shelf.new) text
+        × AppendsFront (O.text out.old) (O.text out.new) text }
     // What stays, and which files are opened.
     ensures early { result ≢ 0 → result ≢ 1 → result ≢ 7 → SameFiles (S.file shelf.old) (S.file shelf.new) }
-    ensures refused { words_of (map string_bytes words.now) ≡ None → SameFiles (S.file shelf.old) (S.file shelf.new) }
-    ensures stopped { S.tells → (fault : Fault) → Stops (map string_bytes words.now) (S.file shelf.old) fault → SameFiles (S.file shelf.old) (S.file shelf.new) }
-    ensures others { S.tells → OnlyAsked (map string_bytes words.now) (S.file shelf.old) (S.file shelf.new) }
-    ensures opens { OpensBy S.tells result (map string_bytes words.now) (S.file shelf.old) (S.ids shelf.old) (S.ids shelf.new) }
-    // With no fault of what is asked for, and none of shelf or sink, it does all, or memory ran out.
-    ensures complete { S.tells → (topology : Topology) → IsReady (map string_bytes words.now) (S.file shelf.old) topology
+    ensures read_only { ¬ IsRun (asked words.now) → SameFiles (S.file shelf.old) (S.file shelf.new) }
+    ensures stopped { S.tells → (fault : Fault) → Stops (asked words.now) (S.file shelf.old) fault → SameFiles (S.file shelf.old) (S.file shelf.new) }
+    ensures others { S.tells → OnlyAsked (asked words.now) (S.file shelf.old) (S.file shelf.new) }
+    ensures opens { OpensBy S.tells result (asked words.now) (S.file shelf.old) (S.ids shelf.old) (S.ids shelf.new) }
+    ensures alone { (number : ℕ) → asked words.now ≡ Some (Make number) → shelf.new ≡ shelf.old }
+    // With no fault of what is asked for, and none of shelf or sink, it does all, or memory ran out. To make an input asks nothing
+    // of the shelf.
+    ensures complete { S.tells → CanBeDone (asked words.now) (S.file shelf.old)
         → ¬ Rose (S.faults shelf.old).reads (S.faults shelf.new).reads
         → ¬ Rose (S.faults shelf.old).writes (S.faults shelf.new).writes
         → ¬ Rose (O.faults out.old) (O.faults out.new)
         → result ≢ 1 → result ≡ 0 }
+    ensures complete_made { (number : ℕ) → asked words.now ≡ Some (Make number)
+        → ¬ Rose (O.faults out.old) (O.faults out.new) → result ≢ 1 → result ≡ 0 }
 {
-    let outcome = work(alloc, words, shelf);
+    let outcome = work(alloc, words, shelf, fate);
     report(alloc, out, &outcome)
 }

@@ -5,8 +5,8 @@ ghost use Rattle.exb_shelf.specs.Files.{SameFiles};
 ghost use Rattle.exb_shelf.specs.Shelf.{IsReadingOf, Opens};
 ghost use Rattle.exb_topology.specs.Sound.{IsSound};
 ghost use Rattle.exb_topology.specs.Topologies.{topology_of, topology_view};
-ghost use Rattle.exb_run.specs.Answers.{fault_by};
-ghost use Rattle.exb_run.specs.Reading.{IsRefusal, IsRefused, IsOfTopology};
+ghost use Rattle.exb_run.specs.Answers.{HoldsTopology, IsRefusal, IsRefused, fault_by};
+ghost use Rattle.exb_run.specs.Reading.{IsOfTopology};
 ghost use Rattle.exb_run.specs.Shelving.{CountsFaults};
 
 use crate::captures::missing;
@@ -75,7 +75,7 @@ pub(crate) fn read_topology<S: Shelf>(
     shelf: &mut S,
     name: &str,
 ) -> Result<Topology, Fault>
-    ensures read { S.tells → IfOk result (λ topology. (bytes : List ℕ) × (S.file shelf.old name.now ≡ Some bytes) × (topology_of bytes ≡ Ok (topology_view topology))) }
+    ensures read { S.tells → IfOk result (HoldsTopology name.now (S.file shelf.old)) }
     ensures valid { IfOk result (λ topology. IsValid topology.setup) }
     ensures sound { IfOk result IsSound }
     ensures refused { S.tells → IfErr result (λ fault. IsRefused name.now (S.file shelf.old name.now) fault ⊎ (fault ≡ Fault.Read) ⊎ (fault ≡ Fault.Memory)) }

@@ -1,7 +1,7 @@
 -- Ids that are given one after the other.
-use Rattle.std.proofs.Common.{◌≡◌, ◌≢◌, ℕ, true, false, inl, inr, refl, sym, ap, subst, ◌∙◌}
+use Rattle.std.proofs.Common.{◌≡◌, ◌≢◌, ℕ, true, inl, inr, refl, sym, ap, subst, ◌∙◌}
 use Rattle.std.proofs.lemmas.Bool.{cases_Bool, cases_eq, false≢true}
-use Rattle.exb_shelf.specs.Shelf.{Id, NewIds, Opens}
+use Rattle.exb_shelf.specs.Shelf.{Id, Opens}
 
 -- nothing is opened
 pub opens_none : (P : Id → Type 0) (a : ℕ → Id) → Opens P a a

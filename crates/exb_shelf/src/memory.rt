@@ -5,11 +5,9 @@ ghost use Rattle.exb_shelf.specs.Files.{SameFiles, Puts, bytes_of};
 ghost use Rattle.exb_shelf.specs.Shelf.{Faults, IsReading, IsWriting, reading, writing, moved, no_id, Rose, NoFewer};
 ghost use Rattle.exb_shelf.specs.Memory.{file_in, files_of, ids_of, faults_of, calls_of, failing_of, one_more, text_of, sink_faults_of, sink_calls_of, sink_failing_of};
 
-use crate::entries::{Entry, advance, give};
-use crate::{OpenFault, Shelf, ShelfFault, Sink};
+use crate::{OpenFault, ScratchShelf, Shelf, ShelfFault, Sink};
 use exb_model::memory::NoMemory;
 use std::alloc::Global;
-use std::collections::BTreeMap;
 
 // Counts a call, and says whether its number is listed. Numbers begin at 1; no list has a number
 // past 2^64 - 1.
@@ -93,12 +91,9 @@ impl Sink for MemSink {
 /// it was given.
 #[derive(Drop)]
 pub struct MemShelf {
-    alloc: Global,
-    files: BTreeMap<String, Vec<u8>>,
-    entries: Vec<Entry>,
+    kept: ScratchShelf,
     fail: Vec<u64>,
     calls: u64,
-    missing: u64,
     reads: u64,
     writes: u64,
 }
@@ -113,12 +108,9 @@ impl MemShelf {
     {
         let fail = fail.to_vec(alloc)?;
         Ok(MemShelf {
-            alloc,
-            files: BTreeMap::new(alloc),
-            entries: Vec::new(alloc),
+            kept: ScratchShelf::new(alloc),
             fail,
             calls: 0,
-            missing: 0,
             reads: 0,
             writes: 0,
         })
@@ -133,69 +125,15 @@ impl MemShelf {
         ensures calls { calls_of self.new ≡ calls_of self.old }
         ensures fail { failing_of self.new ≡ failing_of self.old }
     {
-        let bytes = bytes.to_vec(self.alloc)?;
-        put_file(self.alloc, &mut self.files, name, bytes)
+        self.kept.put(name, bytes)
     }
 
     /// What the file of this name holds, and None exactly where it is not there.
     pub fn file(&self, name: &str) -> Option<&[u8]>
         ensures { option_copied result ≡ files_of self.now name.now }
     {
-        match self.files.get(name) {
-            Some(bytes) => Some(bytes.as_slice()),
-            None => None,
-        }
+        self.kept.file(name)
     }
-}
-
-#[tactic(auto, using(std::proofs::lemmas::Map::Text::text_keys))]
-fn put_file(
-    alloc: Global,
-    files: &mut BTreeMap<String, Vec<u8>>,
-    name: &str,
-    bytes: Vec<u8>,
-) -> Result<(), NoMemory>
-    ensures ok { OnOk result (Puts (file_in files.old) (file_in files.new) name.now bytes.items) }
-    ensures err { OnErr result (SameFiles (file_in files.old) (file_in files.new)) }
-{
-    let name = String::from_str(alloc, name)?;
-    files.insert(name, bytes)?;
-    Ok(())
-}
-
-#[tactic(auto, using(std::proofs::lemmas::Map::Text::text_keys))]
-fn append(
-    alloc: Global,
-    files: &mut BTreeMap<String, Vec<u8>>,
-    name: &str,
-    bytes: &[u8],
-) -> Result<(), NoMemory>
-    ensures ok { OnOk result (Puts (file_in files.old) (file_in files.new) name.now (bytes_of (file_in files.old name.now) ++ bytes.now)) }
-    ensures err { OnErr result (SameFiles (file_in files.old) (file_in files.new)) }
-{
-    match files.get_mut(name) {
-        Some(file) => {
-            file.extend_from_slice(bytes)?;
-            Ok(())
-        }
-        None => put_file(alloc, files, name, bytes.to_vec(alloc)?),
-    }
-}
-
-// Copies what stands at a place as far as there is room.
-fn copy_part(bytes: &[u8], place: u64, into: &mut [u8]) -> usize
-    ensures bound { result ≤ length into.old }
-    ensures fits { place + result < 2 ^ 64 }
-    ensures bytes { take result into.new ≡ take result (drop place bytes.now) }
-    ensures end { 0 < length into.old → (result ≡ 0) ↔ (drop place bytes.now ≡ []) }
-{
-    if place >= bytes.len() as u64 {
-        return 0;
-    }
-    let rest = &bytes[place as usize..];
-    let n = rest.len().min(into.len());
-    into[..n].copy_from_slice(&rest[..n]);
-    n
 }
 
 impl Shelf for MemShelf {
@@ -207,7 +145,6 @@ impl Shelf for MemShelf {
 
     ghost faults = { faults_of };
 
-    #[tactic(auto, using(crate::proofs::EntryLemmas::entries))]
     fn open(&mut self, name: &str) -> Result<u32, OpenFault>
         ensures id { IfOk result (λ id. ids_of self.new id ≡ reading name.now 0) }
         ensures fresh { IfOk result (λ id. (ids_of self.old id).given ≡ false) }
@@ -229,17 +166,9 @@ impl Shelf for MemShelf {
             self.reads = self.reads.saturating_add(1);
             return Err(OpenFault::Failed);
         }
-        if !self.files.contains_key(name) {
-            self.missing = self.missing.saturating_add(1);
-            return Err(OpenFault::Missing);
-        }
-        match give(self.alloc, &mut self.entries, true, name) {
-            Ok(id) => Ok(id),
-            Err(_) => Err(OpenFault::Memory),
-        }
+        self.kept.open(name)
     }
 
-    #[tactic(auto, using(crate::proofs::EntryLemmas::entries))]
     fn read(&mut self, id: u32, into: &mut [u8]) -> Result<usize, ShelfFault>
         requires { IsReading (ids_of self.old id) }
         ensures bound { IfOk result (λ n. n ≤ length into.old) }
@@ -262,16 +191,9 @@ impl Shelf for MemShelf {
             self.reads = self.reads.saturating_add(1);
             return Err(ShelfFault::Failed);
         }
-        let entry = &self.entries[id as usize];
-        let Some(bytes) = self.files.get(entry.name.as_str()) else {
-            return Ok(0);
-        };
-        let n = copy_part(bytes.as_slice(), entry.place, into);
-        advance(&mut self.entries, id, n);
-        Ok(n)
+        self.kept.read(id, into)
     }
 
-    #[tactic(auto, using(crate::proofs::EntryLemmas::entries))]
     fn create(&mut self, name: &str) -> Result<u32, ShelfFault>
         ensures id { IfOk result (λ id. ids_of self.new id ≡ writing name.now) }
         ensures fresh { IfOk result (λ id. (ids_of self.old id).given ≡ false) }
@@ -291,20 +213,9 @@ impl Shelf for MemShelf {
             self.writes = self.writes.saturating_add(1);
             return Err(ShelfFault::Failed);
         }
-        let given = self.entries.len();
-        let Ok(id) = give(self.alloc, &mut self.entries, false, name) else {
-            return Err(ShelfFault::Memory);
-        };
-        match put_file(self.alloc, &mut self.files, name, Vec::new(self.alloc)) {
-            Ok(()) => Ok(id),
-            Err(_) => {
-                self.entries.truncate(given);
-                Err(ShelfFault::Memory)
-            }
-        }
+        self.kept.create(name)
     }
 
-    #[tactic(auto, using(crate::proofs::EntryLemmas::entries))]
     fn write(&mut self, id: u32, bytes: &[u8]) -> Result<usize, ShelfFault>
         requires { IsWriting (ids_of self.old id) }
         ensures bound { IfOk result (λ n. n ≤ length bytes.now) }
@@ -324,10 +235,6 @@ impl Shelf for MemShelf {
             self.writes = self.writes.saturating_add(1);
             return Err(ShelfFault::Failed);
         }
-        let entry = &self.entries[id as usize];
-        match append(self.alloc, &mut self.files, entry.name.as_str(), bytes) {
-            Ok(()) => Ok(bytes.len()),
-            Err(_) => Err(ShelfFault::Memory),
-        }
+        self.kept.write(id, bytes)
     }
 }

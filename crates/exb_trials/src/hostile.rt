@@ -1,6 +1,7 @@
 //! Inputs that no run takes: files past the limits of their sizes, and a folder in the place of a file.
+use exb_fate::{Fate, ScriptFate};
 use exb_run::run;
-use exb_shelf::{FileShelf, MemShelf, MemSink};
+use exb_shelf::{FileShelf, MemShelf, MemSink, Shelf};
 use std::alloc::Global;
 use std::process::Abort;
 use std::test::Fail;
@@ -15,6 +16,17 @@ fn words(alloc: Global, topology: &str) -> Result<Vec<String>, Fail> {
     words.push(String::from_str(alloc, "run")?)?;
     words.push(String::from_str(alloc, topology)?)?;
     Ok(words)
+}
+
+/// Plays the words over a fate that does as it is armed to.
+fn play<S: Shelf>(
+    alloc: Global,
+    words: &[String],
+    shelf: &mut S,
+    out: &mut MemSink,
+) -> Result<u8, Fail> {
+    let fate: Box<dyn Fate> = Box::new(alloc, ScriptFate::new(alloc))?;
+    Ok(run(alloc, words, shelf, out, fate))
 }
 
 /// So many zeros.
@@ -36,7 +48,7 @@ fn expect_refused(
     shelf.put("zeros.pcap", capture)?;
     let mut out = MemSink::new(alloc, &[])?;
     assert_eq!(rt;
-        run(alloc, &words(alloc, "t.toml")?, &mut shelf, &mut out),
+        play(alloc, &words(alloc, "t.toml")?, &mut shelf, &mut out)?,
         status
     );
     assert!(rt; out.text() == line.as_bytes());
@@ -71,7 +83,7 @@ fn a_folder_can_be_opened_and_not_read(rt: HostRuntime) -> Result<(), Fail> {
     let words = words(rt.alloc(), ".")?;
     let mut shelf = FileShelf::new(rt.alloc(), rt);
     let mut out = MemSink::new(rt.alloc(), &[])?;
-    assert_eq!(rt; run(rt.alloc(), &words, &mut shelf, &mut out), 6);
+    assert_eq!(rt; play(rt.alloc(), &words, &mut shelf, &mut out)?, 6);
     assert!(rt; out.text() == b"exbr: read fault\n".as_slice());
     Ok(())
 }

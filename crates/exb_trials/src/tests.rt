@@ -1,5 +1,6 @@
 //! Runs of generated inputs beside the plain bridge.
 use crate::trial::Trial;
+use exb_fate::{Fate, ScriptFate};
 use exb_flat_run::merge::Capture;
 use exb_flat_run::outcome::{Outcome, flat_outcome};
 use exb_model::port::PortId;
@@ -70,6 +71,17 @@ fn words(alloc: Global) -> Result<Vec<String>, Fail> {
     Ok(words)
 }
 
+/// Plays the words over a fate that does as it is armed to.
+fn play(
+    alloc: Global,
+    words: &[String],
+    shelf: &mut MemShelf,
+    out: &mut MemSink,
+) -> Result<u8, Fail> {
+    let fate: Box<dyn Fate> = Box::new(alloc, ScriptFate::new(alloc))?;
+    Ok(run(alloc, words, shelf, out, fate))
+}
+
 /// Each file of the shelf, and the summary, are those of the plain bridge.
 fn expect_same(
     rt: &impl Abort,
@@ -93,7 +105,7 @@ fn expect_trial(rt: &impl Abort, alloc: Global, number: u64, extenders: u8) -> R
     let trial = Trial::new(alloc, number, extenders)?;
     let mut shelf = shelf_of(alloc, &trial)?;
     let mut out = MemSink::new(alloc, &[])?;
-    assert_eq!(rt; run(alloc, &words(alloc)?, &mut shelf, &mut out), 0);
+    assert_eq!(rt; play(alloc, &words(alloc)?, &mut shelf, &mut out)?, 0);
     let want = plain(rt, alloc, &trial)?;
     expect_same(rt, alloc, &shelf, &out, &want)
 }

@@ -2,6 +2,7 @@
 //! which does all the work, so that nothing here needs a promise of its own.
 #![tactic(auto)]
 
+use exb_fate::{Fate, ScriptFate};
 use exb_run::run;
 use exb_shelf::{FileShelf, OutSink};
 use std::alloc::{AllocError, Global};
@@ -21,7 +22,10 @@ fn main(rt: HostRuntime) -> ExitCode {
     let Ok(words) = words(alloc, &rt) else {
         return ExitCode::from(1);
     };
+    let Ok(fate) = Box::new(alloc, ScriptFate::new(alloc)) else {
+        return ExitCode::from(1);
+    };
     let mut shelf = FileShelf::new(alloc, rt);
     let mut out = OutSink::new(rt);
-    ExitCode::from(run(alloc, &words, &mut shelf, &mut out))
+    ExitCode::from(run(alloc, &words, &mut shelf, &mut out, fate))
 }

@@ -3,7 +3,7 @@ use Rattle.std.proofs.lemmas.List.{length-map, length_push}
 use Rattle.exb_shelf.specs.Files.{Filled}
 use Rattle.exb_shelf.proofs.FileLemmas.{filled_one}
 use Rattle.exb_shelf.proofs.IdLemmas.{opens_then}
-use Rattle.exb_run.specs.Plans.{port_count}
+use Rattle.exb_run.specs.Plans.{output_count}
 use Rattle.exb_run.specs.Outputs.{output_name}
 use Rattle.exb_run.specs.Writing.{pieces_of, first_text}
 use Rattle.exb_run.proofs.OutputLemmas.{more_named, more_texts, none_written}
@@ -17,7 +17,7 @@ loop-at-preserved g c =
     let name = output_name c.args.plan.now in
     let ids = c.loop-at.outputs.ids.items in
     let pieces = pieces_of c.loop-at.outputs in
-    let lt : c.loop-at.at < port_count c.args.plan.now + 1 = omega arith in
+    let lt : c.loop-at.at < output_count c.args.plan.now = omega arith in
     record {
       ids = ap length made.ids.1 ∙ length_push ids made.ids.0 ∙ ap (λ (n : ℕ). n + 1) before.ids;
       pieces = made.count;
@@ -29,7 +29,7 @@ loop-at-preserved g c =
           ∙ more_texts pieces (first_text c.args.plan.now c.loop-at.at) c.loop-at.at (first_text c.args.plan.now) (length-map c.loop-at.outputs.pieces.items (λ v. v.items) ∙ before.pieces)
           before.texts refl j l;
       files = λ t.
-          filled_one (S.file c.args.shelf.now) (S.file c.loop-at.shelf) (S.file c.create_one.new.shelf) (port_count c.args.plan.now + 1) c.loop-at.at name (λ j bytes. bytes ≡ [])
+          filled_one (S.file c.args.shelf.now) (S.file c.loop-at.shelf) (S.file c.create_one.new.shelf) (output_count c.args.plan.now) c.loop-at.at name (λ j bytes. bytes ≡ [])
           [] (c.output_names_differ.ensures c.args.plan.now) lt (before.files t) (made.empty t) refl;
       opened = opens_then _ _ _ _ before.opened made.opened;
       faults = search (arith, made.faults.none_fell, before.faults);
@@ -38,7 +38,7 @@ loop-at-preserved g c =
 pub returns-clause-texts : goal.returns-clause-texts
 returns-clause-texts g c = λ t.
     let S = g.S.Shelf in
-    let all : c.loop-at.at ≡ port_count c.args.plan.now + 1 = omega arith in
+    let all : c.loop-at.at ≡ output_count c.args.plan.now = omega arith in
     none_written c.args.plan.now (S.file c.args.shelf.now) (S.file c.loop-at.shelf) (pieces_of c.loop-at.outputs) (first_text c.args.plan.now)
     (λ j l. c.loop-at.invariant.texts j (omega arith))
     (subst (λ (n : ℕ). Filled (S.file c.args.shelf.now) (S.file c.loop-at.shelf) n (output_name c.args.plan.now) (λ j bytes. bytes ≡ [])) all (c.loop-at.invariant.files t))

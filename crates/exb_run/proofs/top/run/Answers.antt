@@ -1,13 +1,50 @@
-use Rattle.std.proofs.Common.{◌≡◌, ◌≢◌, ◌++◌, ◌∙◌, inl, inr, ℕ, List, Err, sym, ap, arith}
-use Rattle.exb_run.specs.Answers.{status_of, line_of}
-use Rattle.exb_run.proofs.RunLemmas.{is_usage, is_read, is_missing, is_not_built, write_or_not, stop_not_one, stop_not_six, stop_not_seven, of_input, stops_with, fault_says, usage_line, read_line, write_line, not_built_line, front_by, ran_by, ready_not, status_cases, Outcome}
+use Rattle.std.proofs.Common.{◌≡◌, ◌≢◌, ◌++◌, ◌∙◌, inl, inr, ℕ, List, Option, Err, sym, ap, subst, arith}
+use Rattle.std.specs.Prelude.{IfErr}
+use Rattle.exb_words.specs.Words.{Ask}
+use Rattle.exb_run.specs.Answers.{asked, status_of, line_of}
+use Rattle.exb_run.specs.Outcomes.{CanCome}
 use Rattle.exb_run.proofs.OpenLemmas.{opens_by_status}
+use Rattle.exb_run.proofs.Reporting.{can_be, cause_of, done_by, early_end, fault_says, front_by, is_missing, is_read, is_usage, made_is, none_by_usage, of_input, read_line, run_by_write, status_cases, status_is, stop_not_one, stop_not_seven, stop_not_six, stops_with, text_by, usage_line, write_line, write_or_not}
+use Rattle.exb_run.proofs.Running.{Outcome}
+use Rattle.exb_run.proofs.Stopping.{can_not, failure_is}
 use Rattle.exb_run.proofs.top.run.Goals as goal
+
+-- ---- what is done
+pub returns-clause-ran : goal.returns-clause-ran
+returns-clause-ran g c = λ t e.
+    let found = done_by c.work-outcome.result (asked c.args.words.now) (g.S.Shelf.file c.args.shelf.now) (g.S.Shelf.file c.work-outcome.new.shelf) (c.work-outcome.ensures.came.done t) (sym (c.report.ensures.status (λ h. omega arith) (λ h. omega arith)) ∙ e) in
+    (found.0, found.1)
+
+pub returns-clause-headline : goal.returns-clause-headline
+returns-clause-headline g c = λ t o e.
+    let n1 : c.report.result ≢ 1 = λ h. omega arith in
+    let n7 : c.report.result ≢ 7 = λ h. omega arith in
+    let found = done_by c.work-outcome.result (asked c.args.words.now) (g.S.Shelf.file c.args.shelf.now) (g.S.Shelf.file c.work-outcome.new.shelf) (c.work-outcome.ensures.came.done t) (sym (c.report.ensures.status n1 n7) ∙ e) in
+    (found.0, found.1, c.report.ensures.whole o n1 n7 ∙ ap (λ (xs : List ℕ). g.O.Sink.text c.args.out.now ++ xs) (sym found.2))
+
+pub returns-clause-makes : goal.returns-clause-makes
+returns-clause-makes g c = λ number a o e.
+    let n1 : c.report.result ≢ 1 = λ h. omega arith in
+    let n7 : c.report.result ≢ 7 = λ h. omega arith in
+    c.report.ensures.whole o n1 n7
+    ∙ ap (λ (xs : List ℕ). g.O.Sink.text c.args.out.now ++ xs) (text_by c.work-outcome.result _ (c.work-outcome.ensures.makes number a) (sym (c.report.ensures.status n1 n7) ∙ e))
+
+-- ---- statuses
+pub returns-clause-two : goal.returns-clause-two
+returns-clause-two g c = λ e.
+    let is = is_usage c.work-outcome.result (sym (c.report.ensures.status (λ h. omega arith) (λ h. omega arith)) ∙ e) in
+    none_by_usage (asked c.args.words.now) c.work-outcome.result c.work-outcome.ensures.came.can_come is
+
+pub returns-clause-usage : goal.returns-clause-usage
+returns-clause-usage g c = λ none n1 n7. c.report.ensures.status n1 n7 ∙ ap status_of (c.work-outcome.ensures.came.unaccepted none)
+
+pub returns-clause-usage_seven : goal.returns-clause-usage_seven
+returns-clause-usage_seven g c = λ none e. c.report.ensures.seven e (λ h. let two : 2 ≡ 7 = sym (ap status_of (c.work-outcome.ensures.came.unaccepted none)) ∙ h in omega arith)
 
 pub returns-clause-first : goal.returns-clause-first
 returns-clause-first g c = λ t h.
     let is = of_input c.report.result h in
-    stops_with c.work-outcome.result _ _ c.report.result (c.work-outcome.ensures.cause t) (sym (c.report.ensures.status is.one is.seven)) is.late is.six is.seven
+    stops_with c.work-outcome.result (asked c.args.words.now) (g.S.Shelf.file c.args.shelf.now) c.report.result (c.work-outcome.ensures.came.cause t) (sym (c.report.ensures.status is.one is.seven)) is.late is.six is.seven
 
 pub returns-clause-rose : goal.returns-clause-rose
 returns-clause-rose g c =
@@ -16,7 +53,7 @@ returns-clause-rose g c =
       five = λ e. let missing = is_missing o (sym (c.report.ensures.status (λ h. omega arith) (λ h. omega arith)) ∙ e) in c.work-outcome.ensures.faults.missing missing.0 missing.1;
       six = λ e. c.work-outcome.ensures.faults.read (is_read o (sym (c.report.ensures.status (λ h. omega arith) (λ h. omega arith)) ∙ e));
       seven = λ e. elim (write_or_not o) [
-        | inl write ↦ inl (c.work-outcome.ensures.faults.write write)
+        | inl write ↦ inl (run_by_write (asked c.args.words.now) o c.work-outcome.ensures.came.can_come write, c.work-outcome.ensures.faults.write write)
         | inr other ↦ inr (c.report.ensures.seven e other)
       ];
     }
@@ -24,7 +61,7 @@ returns-clause-rose g c =
 pub returns-clause-stops : goal.returns-clause-stops
 returns-clause-stops g c = λ t fault stops n1 n6 n7.
     let is : c.report.result ≡ status_of c.work-outcome.result = c.report.ensures.status n1 n7 in
-    elim (c.work-outcome.ensures.stops t fault stops) [
+    elim (c.work-outcome.ensures.came.stops t fault stops) [
       | inl found ↦ is ∙ ap status_of found
       | inr other ↦ elim other [
         | inl read ↦ absurd (n6 (is ∙ ap status_of read))
@@ -33,23 +70,27 @@ returns-clause-stops g c = λ t fault stops n1 n6 n7.
     ]
 
 pub returns-clause-stops_seven : goal.returns-clause-stops_seven
-returns-clause-stops_seven g c = λ t fault stops e. c.report.ensures.seven e (elim (c.work-outcome.ensures.stops t fault stops) [
-  | inl found ↦ λ s. stop_not_seven _ _ fault stops (sym (ap status_of found) ∙ s)
+returns-clause-stops_seven g c = λ t fault stops e. c.report.ensures.seven e (elim (c.work-outcome.ensures.came.stops t fault stops) [
+  | inl found ↦ λ s. stop_not_seven (asked c.args.words.now) (g.S.Shelf.file c.args.shelf.now) fault stops (sym (ap status_of found) ∙ s)
   | inr other ↦ elim other [
     | inl read ↦ λ s. let h : 6 ≡ 7 = sym (ap status_of read) ∙ s in omega arith
     | inr memory ↦ λ s. let h : 1 ≡ 7 = sym (ap status_of memory) ∙ s in omega arith
   ]
 ])
 
+pub returns-clause-status : goal.returns-clause-status
+returns-clause-status g c = status_is (asked c.args.words.now) c.work-outcome.result c.report.result c.work-outcome.ensures.came.can_come c.work-outcome.ensures.came.unaccepted c.report.ensures.status
+
+-- ---- what is printed
 pub returns-clause-stops_says : goal.returns-clause-stops_says
 returns-clause-stops_says g c = λ t o fault stops e.
-    let n1 : c.report.result ≢ 1 = λ h. stop_not_one _ _ fault stops (sym e ∙ h) in
-    let n7 : c.report.result ≢ 7 = λ h. stop_not_seven _ _ fault stops (sym e ∙ h) in
+    let n1 : c.report.result ≢ 1 = λ h. stop_not_one (asked c.args.words.now) (g.S.Shelf.file c.args.shelf.now) fault stops (sym e ∙ h) in
+    let n7 : c.report.result ≢ 7 = λ h. stop_not_seven (asked c.args.words.now) (g.S.Shelf.file c.args.shelf.now) fault stops (sym e ∙ h) in
     let is : c.report.result ≡ status_of c.work-outcome.result = c.report.ensures.status n1 n7 in
-    elim (c.work-outcome.ensures.stops t fault stops) [
+    elim (c.work-outcome.ensures.came.stops t fault stops) [
       | inl found ↦ c.report.ensures.whole o n1 n7 ∙ ap (λ (p : Outcome). g.O.Sink.text c.args.out.now ++ line_of p) found
       | inr other ↦ elim other [
-        | inl read ↦ absurd (stop_not_six _ _ fault stops (sym e ∙ is ∙ ap status_of read))
+        | inl read ↦ absurd (stop_not_six (asked c.args.words.now) (g.S.Shelf.file c.args.shelf.now) fault stops (sym e ∙ is ∙ ap status_of read))
         | inr memory ↦ absurd (n1 (is ∙ ap status_of memory))
       ]
     ]
@@ -64,15 +105,15 @@ returns-clause-says g c = λ t. record {
   three = λ e.
       let n1 : c.report.result ≢ 1 = λ h. omega arith in
       let n7 : c.report.result ≢ 7 = λ h. omega arith in
-      fault_says c.work-outcome.result 3 _ _ (sym (c.report.ensures.status n1 n7) ∙ e) (omega arith) c.work-outcome.ensures.can_be (c.report.ensures.whole t n1 n7);
+      fault_says c.work-outcome.result 3 _ _ (sym (c.report.ensures.status n1 n7) ∙ e) (omega arith) (can_be (asked c.args.words.now) c.work-outcome.result c.work-outcome.ensures.came.can_come) (c.report.ensures.whole t n1 n7);
   four = λ e.
       let n1 : c.report.result ≢ 1 = λ h. omega arith in
       let n7 : c.report.result ≢ 7 = λ h. omega arith in
-      fault_says c.work-outcome.result 4 _ _ (sym (c.report.ensures.status n1 n7) ∙ e) (omega arith) c.work-outcome.ensures.can_be (c.report.ensures.whole t n1 n7);
+      fault_says c.work-outcome.result 4 _ _ (sym (c.report.ensures.status n1 n7) ∙ e) (omega arith) (can_be (asked c.args.words.now) c.work-outcome.result c.work-outcome.ensures.came.can_come) (c.report.ensures.whole t n1 n7);
   five = λ e.
       let n1 : c.report.result ≢ 1 = λ h. omega arith in
       let n7 : c.report.result ≢ 7 = λ h. omega arith in
-      fault_says c.work-outcome.result 5 _ _ (sym (c.report.ensures.status n1 n7) ∙ e) (omega arith) c.work-outcome.ensures.can_be (c.report.ensures.whole t n1 n7);
+      fault_says c.work-outcome.result 5 _ _ (sym (c.report.ensures.status n1 n7) ∙ e) (omega arith) (can_be (asked c.args.words.now) c.work-outcome.result c.work-outcome.ensures.came.can_come) (c.report.ensures.whole t n1 n7);
   six = λ e.
       let n1 : c.report.result ≢ 1 = λ h. omega arith in
       let n7 : c.report.result ≢ 7 = λ h. omega arith in
@@ -83,33 +124,34 @@ returns-clause-says g c = λ t. record {
         | inl is ↦ c.report.ensures.whole_seven t e no_sink ∙ ap (λ (xs : List ℕ). g.O.Sink.text c.args.out.now ++ xs) (write_line c.work-outcome.result is)
         | inr other ↦ absurd (no_sink (c.report.ensures.seven e other))
       ];
-  eight = λ e.
-      let n1 : c.report.result ≢ 1 = λ h. omega arith in
-      let n7 : c.report.result ≢ 7 = λ h. omega arith in
-      let is = is_not_built c.work-outcome.result (sym (c.report.ensures.status n1 n7) ∙ e) in
-      c.report.ensures.whole t n1 n7 ∙ ap (λ (xs : List ℕ). g.O.Sink.text c.args.out.now ++ xs) (not_built_line c.work-outcome.result is);
 }
 
 pub returns-clause-front : goal.returns-clause-front
-returns-clause-front g c = λ t o. front_by c.work-outcome.result _ _ _ (g.S.Shelf.faults c.args.shelf.now) (g.S.Shelf.faults c.work-outcome.new.shelf) _ _ (c.work-outcome.ensures.done t) (c.work-outcome.ensures.cause t) c.work-outcome.ensures.faults.read c.work-outcome.ensures.faults.write (c.report.ensures.front o)
+returns-clause-front g c = λ t o.
+    front_by c.work-outcome.result (asked c.args.words.now) (g.S.Shelf.file c.args.shelf.now) (g.S.Shelf.file c.work-outcome.new.shelf) (g.S.Shelf.faults c.args.shelf.now) (g.S.Shelf.faults c.work-outcome.new.shelf) _ _ (c.work-outcome.ensures.came.done t)
+    (c.work-outcome.ensures.came.cause t) c.work-outcome.ensures.faults.read c.work-outcome.ensures.faults.write (c.report.ensures.front o)
 
-pub returns-clause-ran : goal.returns-clause-ran
-returns-clause-ran g c = λ t e. ran_by c.work-outcome.result _ _ _ (c.work-outcome.ensures.done t) (sym (c.report.ensures.status (λ h. omega arith) (λ h. omega arith)) ∙ e)
+-- ---- what stays, and what is opened
+pub returns-clause-early : goal.returns-clause-early
+returns-clause-early g c = λ n0 n1 n7.
+    let is : c.report.result ≡ status_of c.work-outcome.result = c.report.ensures.status n1 n7 in
+    early_end c.work-outcome.result _ c.work-outcome.ensures.came.early (λ e. n0 (is ∙ e)) (λ e. n1 (is ∙ e)) (λ e. n7 (is ∙ e))
 
 pub returns-clause-opens : goal.returns-clause-opens
-returns-clause-opens g c = opens_by_status _ _ _ c.report.result c.work-outcome.result _ _ c.report.ensures.status c.work-outcome.ensures.opens
+returns-clause-opens g c = opens_by_status _ (asked c.args.words.now) (g.S.Shelf.file c.args.shelf.now) c.report.result c.work-outcome.result _ _ c.report.ensures.status c.work-outcome.ensures.opens
 
+-- ---- completeness
 pub returns-clause-complete : goal.returns-clause-complete
-returns-clause-complete g c = λ t topology ready no_reads no_writes no_out n1.
+returns-clause-complete g c = λ t can no_reads no_writes no_out n1.
     let o = c.work-outcome.result in
     let n7 : c.report.result ≢ 7 = λ e. elim (write_or_not o) [
       | inl write ↦ no_writes (c.work-outcome.ensures.faults.write write)
       | inr other ↦ no_out (c.report.ensures.seven e other)
     ] in
     let is : c.report.result ≡ status_of o = c.report.ensures.status n1 n7 in
-    status_cases o (c.report.result ≡ 0) (λ zero. is ∙ zero) (λ x e. absurd (elim (c.work-outcome.ensures.cause t x e) [
-      | inl stops ↦ ready_not _ _ topology x ready stops
-      | inr failure ↦ elim failure [
+    status_cases o (c.report.result ≡ 0) (λ zero. is ∙ zero) (λ x e. absurd (elim (cause_of (asked c.args.words.now) (g.S.Shelf.file c.args.shelf.now) o x (c.work-outcome.ensures.came.cause t) e) [
+      | inl stops ↦ can_not (asked c.args.words.now) (g.S.Shelf.file c.args.shelf.now) x can stops
+      | inr failure ↦ elim (failure_is (asked c.args.words.now) x failure) [
         | inl read ↦ no_reads (c.work-outcome.ensures.faults.read (e ∙ ap Err read))
         | inr other ↦ elim other [
           | inl write ↦ no_writes (c.work-outcome.ensures.faults.write (e ∙ ap Err write))
@@ -117,3 +159,12 @@ returns-clause-complete g c = λ t topology ready no_reads no_writes no_out n1.
         ]
       ]
     ]))
+
+pub returns-clause-complete_made : goal.returns-clause-complete_made
+returns-clause-complete_made g c = λ number a no_out n1.
+    let o = c.work-outcome.result in
+    let come = subst (λ (b : Option Ask). IfErr o (CanCome b)) a c.work-outcome.ensures.came.can_come in
+    elim (made_is o number come) [
+      | inl zero ↦ c.report.ensures.status n1 (λ e. no_out (c.report.ensures.seven e (λ h. let seven : 0 ≡ 7 = sym zero ∙ h in omega arith))) ∙ zero
+      | inr one ↦ absurd (n1 (c.report.ensures.status n1 (λ e. no_out (c.report.ensures.seven e (λ h. let seven : 1 ≡ 7 = sym one ∙ h in omega arith))) ∙ one))
+    ]

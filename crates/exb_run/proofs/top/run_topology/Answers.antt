@@ -1,93 +1,50 @@
-use Rattle.std.proofs.Common.{◌≡◌, List, ap, sym, subst, ◌∙◌, inl}
+use Rattle.std.proofs.Common.{subst}
 use Rattle.std.proofs.lemmas.Result.{err_from_is_err_and}
-use Rattle.std.specs.Prelude.{string_bytes}
-use Rattle.exb_model.specs.Ports.{all_ports}
-use Rattle.exb_model.specs.Input.{Input}
 use Rattle.exb_shelf.specs.Files.{Files}
-use Rattle.exb_tables.specs.declared.rows.Named.{Named}
-use Rattle.exb_run.specs.declared.captures.Capture.{Capture}
-use Rattle.exb_run.specs.Inputs.{input_of, captures_of}
-use Rattle.exb_run.specs.Outputs.{HasPlayed, OnlyPlanned}
-use Rattle.exb_shelf.specs.Shelf.{Opens}
-use Rattle.exb_shelf.proofs.IdLemmas.{opens_weaker}
-use Rattle.exb_run.specs.Flaws.{AreGood}
-use Rattle.exb_run.specs.Opening.{ReadsCapture}
-use Rattle.exb_run.specs.Reading.{AreRead, contents, input_with}
-use Rattle.exb_run.proofs.Running.{files_same, only_by, played_by, early_by, if_ok_map}
-use Rattle.exb_run.proofs.OpenLemmas.{capture_plays, writing_plays, opened_for}
-use Rattle.exb_run.proofs.Beginning.{input-same}
+use Rattle.exb_run.specs.declared.fault.Fault.{Fault}
+use Rattle.exb_run.proofs.OpenLemmas.{run_refused_opens, opens_by_run}
+use Rattle.exb_run.proofs.RunLemmas.{PlaysOut, came_run_refused, came_played}
+use Rattle.exb_run.proofs.Running.{files_same}
 use Rattle.exb_run.proofs.top.run_topology.Goals as goal
 
-pub play-requires-clause-read : goal.play-requires-clause-read
-play-requires-clause-read g c =
-    subst (λ (cs : List Capture). AreRead c.args.topology.now.captures cs) (sym c.as_slice-2.ensures.value)
-    (subst (λ (names : List Named). AreRead names c.in_ok-captures.captures.items) c.as_slice.ensures c.in_ok-captures.ensures.read)
-
-pub returns-clause-done : goal.returns-clause-done
-returns-clause-done g c tells =
-    let S = g.S.Shelf in
-    let t = c.args.topology.now in
-    let plan = c.in_ok-plan.plan in
-    let before = S.file c.args.shelf.now in
-    let read = S.file c.read_captures.new.shelf in
-    let after = S.file c.play.new.shelf in
-    let i : Input = input_of t before in
-    let there : contents c.in_ok-captures.captures.items ≡ captures_of t.captures before all_ports =
-    c.in_ok-captures.ensures.there tells ∙ ap (λ (names : List Named). captures_of names before all_ports) c.as_slice.ensures in
-    let same : input_with t c.as_slice-2.result.now ≡ i =
-    ap (input_with t) c.as_slice-2.ensures.value ∙ input-same t before c.in_ok-captures.captures.items c.requires.valid c.requires.sound there in
-    if_ok_map c.play.result
-    (λ line played.
-    played_by i plan t.prefix (c.in_ok-plan.ensures.prefix ∙ c.as_str.ensures) c.in_ok-plan.ensures.tree c.requires.valid.tree before after (string_bytes line)
-    (subst (λ (f : Files). HasPlayed i plan f after (string_bytes line)) (files_same before read c.in_ok-captures.ensures.files)
-    (subst (λ (j : Input). HasPlayed j plan read after (string_bytes line)) same played)))
-    (c.play.ensures.done tells)
-
-pub returns-clause-others : goal.returns-clause-others
-returns-clause-others g c tells =
-    let S = g.S.Shelf in
-    let t = c.args.topology.now in
-    let plan = c.in_ok-plan.plan in
-    let before = S.file c.args.shelf.now in
-    let read = S.file c.read_captures.new.shelf in
-    let after = S.file c.play.new.shelf in
-    let i : Input = input_of t before in
-    only_by i plan t.prefix (c.in_ok-plan.ensures.prefix ∙ c.as_str.ensures) c.in_ok-plan.ensures.tree before after
-    (subst (λ (f : Files). OnlyPlanned plan f after) (files_same before read c.in_ok-captures.ensures.files) (c.play.ensures.only.others tells))
-
-pub returns-in_err-captures-clause-opened : goal.returns-in_err-captures-clause-opened
-returns-in_err-captures-clause-opened g c =
+pub returns-in_err-topology-clause-came : goal.returns-in_err-topology-clause-came
+returns-in_err-topology-clause-came g c =
     let p = err_from_is_err_and c.from_residual.result c.from_residual.ensures.1 in
-    rw p.1 (λ nw nm. subst (λ (names : List Named). Opens (ReadsCapture names) (g.S.Shelf.ids c.args.shelf.now) (g.S.Shelf.ids c.read_captures.new.shelf)) c.as_slice.ensures c.in_err-captures.ensures.opened)
+    let x : Fault = c.in_err-topology.field-0.0 in
+    let found = c.in_err-topology.ensures in
+    rw (p.1, p.2) (came_run_refused g.S.Shelf.tells c.args.name.now _ _ x found.refused found.causes found.files c.args.trace c.args.seed)
 
-pub returns-clause-opened : goal.returns-clause-opened
-returns-clause-opened g c = early_by c.play.result _ c.play.ensures.causes
-
-pub returns-in_err-captures-clause-causes : goal.returns-in_err-captures-clause-causes
-returns-in_err-captures-clause-causes g c =
+pub returns-in_err-topology-clause-opens : goal.returns-in_err-topology-clause-opens
+returns-in_err-topology-clause-opens g c =
     let p = err_from_is_err_and c.from_residual.result c.from_residual.ensures.1 in
-    rw (p.1, p.2) (capture_plays c.in_err-captures.field-0.0 c.in_err-captures.ensures.causes)
+    rw (p.1, p.2) (run_refused_opens g.S.Shelf.tells _ c.args.name.now _ _ c.in_err-topology.ensures.opened c.args.trace c.args.seed _)
 
-pub returns-clause-causes : goal.returns-clause-causes
-returns-clause-causes g c = writing_plays c.play.result c.play.ensures.causes
-
--- ---- what is opened
-pub returns-in_err-captures-clause-played : goal.returns-in_err-captures-clause-played
-returns-in_err-captures-clause-played g c tells =
-    opens_weaker _ _ _ _ (λ i reads. inl reads)
-    (subst (λ (names : List Named). Opens (ReadsCapture names) (g.S.Shelf.ids c.args.shelf.now) (g.S.Shelf.ids c.read_captures.new.shelf)) c.as_slice.ensures c.in_err-captures.ensures.opened)
-
-pub returns-in_err-plan-clause-played : goal.returns-in_err-plan-clause-played
-returns-in_err-plan-clause-played g c tells =
-    opens_weaker _ _ _ _ (λ i reads. inl reads)
-    (subst (λ (names : List Named). Opens (ReadsCapture names) (g.S.Shelf.ids c.args.shelf.now) (g.S.Shelf.ids c.read_captures.new.shelf)) c.as_slice.ensures c.in_ok-captures.ensures.opened)
-
-pub returns-clause-played : goal.returns-clause-played
-returns-clause-played g c tells =
+pub returns-clause-came : goal.returns-clause-came
+returns-clause-came g c =
     let S = g.S.Shelf in
-    let t = c.args.topology.now in
+    let t = c.in_ok-topology.topology in
+    let found = c.in_ok-topology.ensures in
     let f = S.file c.args.shelf.now in
-    opened_for c.in_ok-plan.plan t f _ _ _ (c.in_ok-plan.ensures.prefix ∙ c.as_str.ensures) c.in_ok-plan.ensures.tree
-    (subst (λ (names : List Named). AreGood names f) c.as_slice.ensures (c.in_ok-captures.ensures.good tells))
-    (subst (λ (names : List Named). Opens (ReadsCapture names) (S.ids c.args.shelf.now) (S.ids c.read_captures.new.shelf)) c.as_slice.ensures c.in_ok-captures.ensures.opened)
-    c.play.ensures.only.opened
+    let h = S.file c.play_topology.new.shelf in
+    let o = c.play_topology.result in
+    let is = c.play_topology.ensures in
+    came_played S.tells c.args.name.now c.args.trace c.args.seed t f h found.read o
+    (subst (λ (k : Files). PlaysOut S.tells c.args.trace c.args.seed t o k h) (files_same f (S.file c.read_topology.new.shelf) found.files) (record {
+      good = is.good;
+      done = is.done;
+      cause = is.cause;
+      stops = is.stops;
+      causes = is.causes;
+      early = is.early;
+      stopped = is.stopped;
+      others = is.others;
+    }))
+
+pub returns-clause-opens : goal.returns-clause-opens
+returns-clause-opens g c =
+    let S = g.S.Shelf in
+    let found = c.in_ok-topology.ensures in
+    let f = S.file c.args.shelf.now in
+    let read = S.file c.read_topology.new.shelf in
+    opens_by_run S.tells f c.args.name.now _ _ found.opened c.args.trace c.args.seed c.play_topology.result c.in_ok-topology.topology read _ found.read
+    (files_same f read found.files) c.play_topology.ensures.causes c.play_topology.ensures.opened c.play_topology.ensures.played

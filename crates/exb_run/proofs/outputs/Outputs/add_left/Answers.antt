@@ -3,7 +3,7 @@ use Rattle.std.proofs.lemmas.Result.{on_ok_weaker}
 use Rattle.exb_model.specs.Texts.{record_text}
 use Rattle.exb_run.specs.Plans.{place_in}
 use Rattle.exb_run.specs.Writing.{pieces_of}
-use Rattle.exb_run.proofs.OutputLemmas.{more_spelled}
+use Rattle.exb_run.proofs.OutputLemmas.{capture_low, more_spelled}
 use Rattle.exb_run.proofs.Places.{place_low}
 use Rattle.exb_run.proofs.outputs.Outputs.add_left.Goals as goal
 
@@ -11,7 +11,8 @@ pub add_to-requires-clause-within : goal.add_to-requires-clause-within
 add_to-requires-clause-within g c =
     let can = c.requires.frame in
     let low = place_low c.args.plan.now c.args.left.now.port can.low can.port in
-    omega (arith, c.place-at.ensures, low)
+    let same = c.place-at.ensures in
+    capture_low c.args.plan.now c.place-at.result (omega (arith, same, low))
 
 pub returns-clause-texts : goal.returns-clause-texts
 returns-clause-texts g c = λ t.

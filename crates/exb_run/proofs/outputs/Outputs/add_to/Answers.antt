@@ -1,6 +1,6 @@
 use Rattle.std.proofs.Common.{◌≡◌, ◌<◌, ◌+◌, length, arith}
 use Rattle.std.proofs.lemmas.Result.{on_ok_weaker}
-use Rattle.exb_run.specs.Plans.{port_count}
+use Rattle.exb_run.specs.Plans.{output_count}
 use Rattle.exb_run.specs.Outputs.{output_name}
 use Rattle.exb_run.proofs.OutputLemmas.{name_of_id, has_more_at}
 use Rattle.exb_run.proofs.outputs.Outputs.add_to.Goals as goal
@@ -9,7 +9,7 @@ pub returns-clause-texts : goal.returns-clause-texts
 returns-clause-texts g c = λ t.
     let given = g.S.Shelf.ids c.args.shelf.now in
     let ids = c.args.self.now.ids.items in
-    let lt : c.args.at < port_count c.args.plan.now + 1 = omega arith in
+    let lt : c.args.at < output_count c.args.plan.now = c.requires.within in
     let inside : c.args.at < length ids = omega arith in
     let named : (given c.index.result.now).name ≡ output_name c.args.plan.now c.args.at =
     name_of_id given ids c.args.at c.index.result.now _ c.index.ensures inside (c.requires.ready.named c.args.at lt)

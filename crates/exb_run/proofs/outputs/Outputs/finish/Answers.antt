@@ -1,5 +1,5 @@
 use Rattle.std.proofs.Common.{rules, ◌≡◌, ◌<◌, ◌+◌, ◌∙◌, length, arith}
-use Rattle.exb_run.specs.Plans.{port_count}
+use Rattle.exb_run.specs.Plans.{output_count}
 use Rattle.exb_run.specs.Outputs.{output_name}
 use Rattle.exb_run.specs.Writing.{pieces_of}
 use Rattle.exb_run.proofs.OutputLemmas.{name_of_id, is_flushed, more_empty, all_written}
@@ -12,7 +12,7 @@ loop-at-preserved g c =
     let given = S.ids c.loop-at.shelf in
     let ids = c.loop-at.self.ids.items in
     let pieces = c.loop-at.self.pieces.items in
-    let lt : c.loop-at.at < port_count c.args.plan.now + 1 = omega arith in
+    let lt : c.loop-at.at < output_count c.args.plan.now = omega arith in
     let in_ids : c.loop-at.at < length ids = omega arith in
     let in_pieces : c.loop-at.at < length pieces = omega arith in
     let named : (given c.index.result.now).name ≡ output_name c.args.plan.now c.loop-at.at =

@@ -1,7 +1,7 @@
 use Rattle.std.proofs.Common.{rules, ◌<◌, take, length, arith}
 use Rattle.exb_run.specs.Plans.{port_count}
 use Rattle.exb_run.specs.Writing.{pieces_of, with_more, lines_of}
-use Rattle.exb_run.proofs.OutputLemmas.{no_lines, more_lines}
+use Rattle.exb_run.proofs.OutputLemmas.{no_more, more_lines}
 use Rattle.exb_run.proofs.ShelvingLemmas.{writes_none, writes_then}
 use Rattle.exb_run.proofs.outputs.Outputs.write_events.Goals as goal
 
@@ -10,7 +10,7 @@ loop-event-init g c =
     let file = g.S.Shelf.file c.args.shelf.now in
     record {
       ready = c.requires.ready;
-      texts = λ t orig text p. no_lines c.args.plan.now orig file (pieces_of c.args.self.now) text p;
+      texts = λ t orig text p. no_more c.args.plan.now orig file (pieces_of c.args.self.now) text (port_count c.args.plan.now) p;
       only = writes_none _ _ _ _;
       faults = search rules;
     }

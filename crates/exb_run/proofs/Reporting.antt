@@ -1,0 +1,324 @@
+-- What is printed of what was done, and with which status.
+use Rattle.std.proofs.Common.{◌≡◌, ◌≢◌, ◌<◌, ◌++◌, ◌⊎◌, inl, inr, Bool, ℕ, List, Option, Some, None, Ok, Err, ap, sym, ◌∙◌, refl, subst, arith}
+use Rattle.std.specs.Prelude.{IfOk, IfErr, OnErr, IsErrOf, string_bytes, codes}
+use Rattle.std.proofs.lemmas.Bool.{false≢true, cases_eq}
+use Rattle.exb_keys.specs.declared.faults.TopoFault.TheVariants as topology
+use Rattle.exb_keys.specs.Faults.{Refusal, not_toml, large, at}
+use Rattle.exb_shelf.specs.Files.{Files, AppendsFront}
+use Rattle.exb_shelf.specs.Shelf.{Id, Faults, Rose, Opens}
+use Rattle.exb_shelf.proofs.IdLemmas.{opens_weaker, opens_then}
+use Rattle.exb_tables.specs.declared.rows.Named.{Named}
+use Rattle.exb_words.specs.Words.{Ask, Run, Check, Make}
+use Rattle.exb_run.specs.declared.fault.Fault.{Fault}
+use Rattle.exb_run.specs.declared.fault.Fault.TheVariants.{Usage, Missing, Topology as BadTopology, Capture, Read, Write, Memory}
+use Rattle.exb_run.specs.Inputs.{name_of}
+use Rattle.exb_run.specs.Flaws.{FirstFlaw, flaw_of_bytes, flaw_of, flaw_named, flaw_at, size_below}
+use Rattle.exb_run.specs.Reading.{IsOfTopology, IsOfPlaying}
+use Rattle.exb_run.specs.Answers.{CanBe, IsCause, IsDone, IsFailure, IsFaultLine, IsOfInput, IsRefused, IsRun, IsStatus, IsText, Stops, StopsWith, fault_line, fault_status, line_of, refused_by, status_of, usage}
+use Rattle.exb_run.specs.Outcomes.{CanCome}
+use Rattle.exb_run.proofs.FlawLemmas.{in_bytes}
+use Rattle.exb_run.proofs.Running.{Outcome}
+use Rattle.exb_run.proofs.Stopping.{failure_is}
+
+-- ---- which faults can come
+pub topology_can_be : (x : Fault) → IsOfTopology x → CanBe x
+topology_can_be Usage is = absurd is
+topology_can_be (Missing name) is = tt
+topology_can_be (BadTopology topology.Memory) is = absurd is
+topology_can_be (BadTopology topology.NotToml) is = tt
+topology_can_be (BadTopology topology.Large) is = tt
+topology_can_be (BadTopology (topology.At fault key)) is = tt
+topology_can_be (Capture p flaw) is = absurd is
+topology_can_be Read is = tt
+topology_can_be Write is = absurd is
+topology_can_be Memory is = tt
+
+pub playing_can_be : (x : Fault) → IsOfPlaying x → CanBe x
+playing_can_be Usage is = tt
+playing_can_be (Missing name) is = tt
+playing_can_be (BadTopology fault) is = absurd is
+playing_can_be (Capture p flaw) is = is
+playing_can_be Read is = tt
+playing_can_be Write is = tt
+playing_can_be Memory is = tt
+
+can_be_come : (a : Option Ask) (x : Fault) → CanCome a x → CanBe x
+can_be_come None x is = subst CanBe (sym is) tt
+can_be_come (Some (Run name trace seed)) x (inl topology) = topology_can_be x topology
+can_be_come (Some (Run name trace seed)) x (inr playing) = playing_can_be x playing
+can_be_come (Some (Check name)) x is = topology_can_be x is
+can_be_come (Some (Make number)) x is = subst CanBe (sym is) tt
+
+come_of : (a : Option Ask) (o : Outcome) (x : Fault) → IfErr o (CanCome a) → o ≡ Err x → CanCome a x
+come_of a o x come e = subst (λ (p : Outcome). IfErr p (CanCome a)) e come
+
+pub can_be : (a : Option Ask) (o : Outcome) → IfErr o (CanCome a) → (x : Fault) → o ≡ Err x → CanBe x
+can_be a o come x e = can_be_come a x (come_of a o x come e)
+
+-- the words alone are answered with the usage line
+usage_none : (a : Option Ask) → CanCome a Usage → a ≡ None
+usage_none None is = refl
+usage_none (Some (Run name trace seed)) (inl is) = absurd is
+usage_none (Some (Run name trace seed)) (inr is) = absurd is
+usage_none (Some (Check name)) is = absurd is
+usage_none (Some (Make number)) is = absurd (cc)
+
+pub none_by_usage : (a : Option Ask) (o : Outcome) → IfErr o (CanCome a) → o ≡ Err Usage → a ≡ None
+none_by_usage a o come e = usage_none a (come_of a o Usage come e)
+
+-- only a run writes
+write_runs : (a : Option Ask) → CanCome a Write → IsRun a
+write_runs None is = absurd (cc)
+write_runs (Some (Run name trace seed)) is = tt
+write_runs (Some (Check name)) is = absurd is
+write_runs (Some (Make number)) is = absurd (cc)
+
+pub run_by_write : (a : Option Ask) (o : Outcome) → IfErr o (CanCome a) → o ≡ Err Write → IsRun a
+run_by_write a o come e = write_runs a (come_of a o Write come e)
+
+-- ---- which outcome has a status
+pub is_usage : (o : Outcome) → status_of o ≡ 2 → o ≡ Err Usage
+is_usage (Ok line) e = absurd (omega arith)
+is_usage (Err Usage) e = refl
+is_usage (Err (Missing name)) e = absurd (omega arith)
+is_usage (Err (BadTopology fault)) e = absurd (omega arith)
+is_usage (Err (Capture p x)) e = absurd (omega arith)
+is_usage (Err Read) e = absurd (omega arith)
+is_usage (Err Write) e = absurd (omega arith)
+is_usage (Err Memory) e = absurd (omega arith)
+
+pub is_read : (o : Outcome) → status_of o ≡ 6 → o ≡ Err Read
+is_read (Ok line) e = absurd (omega arith)
+is_read (Err Usage) e = absurd (omega arith)
+is_read (Err (Missing name)) e = absurd (omega arith)
+is_read (Err (BadTopology fault)) e = absurd (omega arith)
+is_read (Err (Capture p x)) e = absurd (omega arith)
+is_read (Err Read) e = refl
+is_read (Err Write) e = absurd (omega arith)
+is_read (Err Memory) e = absurd (omega arith)
+
+-- the outcome is writing that failed, or its status is another
+pub write_or_not : (o : Outcome) → (o ≡ Err Write) ⊎ (status_of o ≢ 7)
+write_or_not (Ok line) = inr (λ e. omega arith)
+write_or_not (Err Usage) = inr (λ e. omega arith)
+write_or_not (Err (Missing name)) = inr (λ e. omega arith)
+write_or_not (Err (BadTopology fault)) = inr (λ e. omega arith)
+write_or_not (Err (Capture p x)) = inr (λ e. omega arith)
+write_or_not (Err Read) = inr (λ e. omega arith)
+write_or_not (Err Write) = inl refl
+write_or_not (Err Memory) = inr (λ e. omega arith)
+
+-- from 2 on it is that of a fault
+pub is_fault : (o : Outcome) (s : ℕ) → status_of o ≡ s → 1 < s → (x : Fault) × (o ≡ Err x) × (fault_status x ≡ s)
+is_fault (Ok line) s e more = absurd (omega arith)
+is_fault (Err x) s e more = (x, refl, e)
+
+pub is_missing : (o : Outcome) → status_of o ≡ 5 → (name : List ℕ) × (o ≡ Err (Missing name))
+is_missing (Ok line) e = absurd (omega arith)
+is_missing (Err Usage) e = absurd (omega arith)
+is_missing (Err (Missing name)) e = (name, refl)
+is_missing (Err (BadTopology fault)) e = absurd (omega arith)
+is_missing (Err (Capture p x)) e = absurd (omega arith)
+is_missing (Err Read) e = absurd (omega arith)
+is_missing (Err Write) e = absurd (omega arith)
+is_missing (Err Memory) e = absurd (omega arith)
+
+-- ---- statuses
+topology_status : (name : List ℕ) (x : Fault) → IsOfTopology x → IsStatus (Some (Check name)) (fault_status x)
+topology_status name Usage is = absurd is
+topology_status name (Missing n) is = refl
+topology_status name (BadTopology fault) is = refl
+topology_status name (Capture p flaw) is = absurd is
+topology_status name Read is = refl
+topology_status name Write is = absurd is
+topology_status name Memory is = refl
+
+run_status : (name : List ℕ) (trace : Bool) (seed : Option ℕ) (x : Fault) → IsOfTopology x ⊎ IsOfPlaying x → IsStatus (Some (Run name trace seed)) (fault_status x)
+run_status name trace seed Usage (inl is) = absurd is
+run_status name trace seed Usage (inr is) = absurd is
+run_status name trace seed (Missing n) is = refl
+run_status name trace seed (BadTopology fault) is = refl
+run_status name trace seed (Capture p flaw) is = refl
+run_status name trace seed Read is = refl
+run_status name trace seed Write is = refl
+run_status name trace seed Memory is = refl
+
+status_comes : (a : Option Ask) (o : Outcome) → IfErr o (CanCome a) → (a ≡ None → IsErrOf o Usage) → IsStatus a (status_of o)
+status_comes None o come none = subst (λ (p : Outcome). IsStatus None (status_of p)) (sym (none refl)) refl
+status_comes (Some (Run name trace seed)) (Ok text) come none = refl
+status_comes (Some (Run name trace seed)) (Err x) come none = run_status name trace seed x come
+status_comes (Some (Check name)) (Ok text) come none = refl
+status_comes (Some (Check name)) (Err x) come none = topology_status name x come
+status_comes (Some (Make number)) (Ok text) come none = refl
+status_comes (Some (Make number)) (Err x) come none = subst (λ (y : Fault). IsStatus (Some (Make number)) (fault_status y)) (sym come) refl
+
+one_is : (a : Option Ask) → IsStatus a 1
+one_is None = refl
+one_is (Some (Run name trace seed)) = refl
+one_is (Some (Check name)) = refl
+one_is (Some (Make number)) = refl
+
+seven_is : (a : Option Ask) → IsStatus a 7
+seven_is None = refl
+seven_is (Some (Run name trace seed)) = refl
+seven_is (Some (Check name)) = refl
+seven_is (Some (Make number)) = refl
+
+pub status_is : (a : Option Ask) (o : Outcome) (s : ℕ) → IfErr o (CanCome a) → (a ≡ None → IsErrOf o Usage) → (s ≢ 1 → s ≢ 7 → s ≡ status_of o) → IsStatus a s
+status_is a o s come none is = elim (cases_eq s 1) [
+  | inl one ↦ subst (IsStatus a) (sym one) (one_is a)
+  | inr n1 ↦ elim (cases_eq s 7) [
+    | inl seven ↦ subst (IsStatus a) (sym seven) (seven_is a)
+    | inr n7 ↦ subst (IsStatus a) (sym (is n1 n7)) (status_comes a o come none)
+  ]
+]
+
+-- ---- a fault that stops a run is none of its failures
+module _ (s : ℕ) (two : s ≢ 2) (three : s ≢ 3) (four : s ≢ 4) (five : s ≢ 5) where
+  refusal_status : (r : Refusal) → fault_status (refused_by r) ≢ s
+  refusal_status not_toml e = three (sym e)
+  refusal_status large e = three (sym e)
+  refusal_status (at fault key) e = three (sym e)
+
+  bytes_status : (p : ℕ) (bytes : List ℕ) (before : ℕ) (x : Fault) → flaw_of_bytes p bytes before ≡ Some x → fault_status x ≢ s
+  bytes_status p bytes before x e = let is = in_bytes p bytes before x e in λ h. four (sym h ∙ ap fault_status is.1)
+
+  file_status : (p : ℕ) (name : List ℕ) (o : Option (List ℕ)) (before : ℕ) (x : Fault) → flaw_of p name o before ≡ Some x → fault_status x ≢ s
+  file_status p name None before x e = let is : x ≡ Missing name = cc in λ h. five (sym h ∙ ap fault_status is)
+  file_status p name (Some bytes) before x e = bytes_status p bytes before x e
+
+  named_status : (p : ℕ) (o : Option (List ℕ)) (file : Files) (before : ℕ) (x : Fault) → flaw_named p o file before ≡ Some x → fault_status x ≢ s
+  named_status p None file before x e = absurd (cc)
+  named_status p (Some name) file before x e = file_status p name (file name) before x e
+
+  refused_status : (name : List ℕ) (o : Option (List ℕ)) (x : Fault) → IsRefused name o x → fault_status x ≢ s
+  refused_status name None x is h = five (sym h ∙ ap fault_status is)
+  refused_status name (Some bytes) x (r, refused, is) h = refusal_status r (sym (ap fault_status is) ∙ h)
+
+  first_status : (names : List Named) (file : Files) (p : ℕ) (x : Fault) → FirstFlaw names file p x → fault_status x ≢ s
+  unfolding flaw_at
+  first_status names file p x first = named_status p (name_of names p) file (size_below names file p) x first.here
+
+  pub stop_status : (a : Option Ask) (f : Files) (x : Fault) → Stops a f x → fault_status x ≢ s
+  stop_status None f x is h = two (sym h ∙ ap fault_status is)
+  stop_status (Some (Run name trace seed)) f x (inl refused) h = refused_status name (f name) x refused h
+  stop_status (Some (Run name trace seed)) f x (inr p) h = first_status p.topology.captures f p.port x p.first h
+  stop_status (Some (Check name)) f x refused h = refused_status name (f name) x refused h
+  stop_status (Some (Make number)) f x is h = absurd is
+
+pub stop_not_seven : (a : Option Ask) (f : Files) (x : Fault) → Stops a f x → fault_status x ≢ 7
+stop_not_seven = stop_status 7 (λ e. omega arith) (λ e. omega arith) (λ e. omega arith) (λ e. omega arith)
+
+pub stop_not_six : (a : Option Ask) (f : Files) (x : Fault) → Stops a f x → fault_status x ≢ 6
+stop_not_six = stop_status 6 (λ e. omega arith) (λ e. omega arith) (λ e. omega arith) (λ e. omega arith)
+
+pub stop_not_one : (a : Option Ask) (f : Files) (x : Fault) → Stops a f x → fault_status x ≢ 1
+stop_not_one = stop_status 1 (λ e. omega arith) (λ e. omega arith) (λ e. omega arith) (λ e. omega arith)
+
+-- a fault has one of these causes
+pub cause_of : (a : Option Ask) (f : Files) (o : Outcome) (x : Fault) → IfErr o (λ y. Stops a f y ⊎ IsFailure a y) → o ≡ Err x → Stops a f x ⊎ IsFailure a x
+cause_of a f o x cause e = subst (λ (p : Outcome). IfErr p (λ y. Stops a f y ⊎ IsFailure a y)) e cause
+
+-- a status from 2 on, but for 6 and 7, is that of a fault that stops
+pub stops_with : (o : Outcome) (a : Option Ask) (f : Files) (s : ℕ) → IfErr o (λ y. Stops a f y ⊎ IsFailure a y) →
+    status_of o ≡ s → 1 < s → s ≢ 6 → s ≢ 7 → StopsWith a f s
+stops_with o a f s cause is more n6 n7 =
+    let found = is_fault o s is more in
+    elim (cause_of a f o found.0 cause found.1) [
+      | inl stops ↦ (found.0, stops, found.2)
+      | inr failure ↦ elim (failure_is a found.0 failure) [
+        | inl read ↦ absurd (n6 (sym found.2 ∙ ap fault_status read))
+        | inr other ↦ elim other [
+          | inl write ↦ absurd (n7 (sym found.2 ∙ ap fault_status write))
+          | inr memory ↦ absurd (let one : s ≡ 1 = sym found.2 ∙ ap fault_status memory in omega arith)
+        ]
+      ]
+    ]
+
+-- the statuses of faults of what is asked for
+pub record OfInput (n : ℕ) : Type 0 where
+  pub late : 1 < n
+  pub one : n ≢ 1
+  pub six : n ≢ 6
+  pub seven : n ≢ 7
+
+pub of_input : (n : ℕ) → IsOfInput n → OfInput n
+of_input n is =
+    let zero : n ≢ 0 = λ e. false≢true (subst IsOfInput e is) in
+    let one : n ≢ 1 = λ e. false≢true (subst IsOfInput e is) in
+    record {
+      late = omega arith;
+      one = one;
+      six = λ e. false≢true (subst IsOfInput e is);
+      seven = λ e. false≢true (subst IsOfInput e is);
+    }
+
+-- ---- what is printed
+pub usage_line : (o : Outcome) → o ≡ Err Usage → line_of o ≡ usage
+unfolding fault_line
+usage_line o e = ap line_of e
+
+pub read_line : (o : Outcome) → o ≡ Err Read → line_of o ≡ codes "exbr: read fault\n"
+unfolding fault_line
+read_line o e = ap line_of e
+
+pub write_line : (o : Outcome) → o ≡ Err Write → line_of o ≡ codes "exbr: write fault\n"
+unfolding fault_line
+write_line o e = ap line_of e
+
+pub fault_says : (o : Outcome) (s : ℕ) (before after : List ℕ) → status_of o ≡ s → 1 < s → ((x : Fault) → o ≡ Err x → CanBe x)
+    → after ≡ before ++ line_of o → (line : List ℕ) × IsFaultLine s line × (after ≡ before ++ line)
+fault_says o s before after is more can says =
+    let found = is_fault o s is more in
+    (fault_line found.0, (found.0, can found.0 found.1, found.2, refl), says ∙ ap (λ (p : Outcome). before ++ line_of p) found.1)
+
+pub front_by : (o : Outcome) (a : Option Ask) (f h : Files) (c d : Faults) (before after : List ℕ)
+    → IfOk o (λ text. IsDone a f h (string_bytes text)) → IfErr o (λ x. Stops a f x ⊎ IsFailure a x)
+    → (IsErrOf o Read → Rose c.reads d.reads) → (IsErrOf o Write → Rose c.writes d.writes) → AppendsFront before after (line_of o)
+    → (text : List ℕ) × IsText a f h c d text × AppendsFront before after text
+front_by (Ok text) a f h c d before after done cause read write front = (string_bytes text, inr done, front)
+front_by (Err x) a f h c d before after done cause read write front =
+    let is : IsCause a f c d x = elim cause [
+      | inl stops ↦ inl stops
+      | inr failure ↦ inr (failure, λ e. read (ap (λ (y : Fault). Err y) e), λ e. write (ap (λ (y : Fault). Err y) e))
+    ] in
+    (fault_line x, inl (x, is, refl), front)
+
+no_zero : (y : Fault) → fault_status y ≡ 0 → ⊥
+no_zero Usage e = omega arith
+no_zero (Missing name) e = omega arith
+no_zero (BadTopology fault) e = omega arith
+no_zero (Capture p flaw) e = omega arith
+no_zero Read e = omega arith
+no_zero Write e = omega arith
+no_zero Memory e = omega arith
+
+-- what is done where all went well
+pub done_by : (o : Outcome) (a : Option Ask) (f h : Files) → IfOk o (λ text. IsDone a f h (string_bytes text)) → status_of o ≡ 0 → (text : List ℕ) × IsDone a f h text × (text ≡ line_of o)
+done_by (Ok text) a f h done zero = (string_bytes text, done, refl)
+done_by (Err x) a f h done zero = absurd (no_zero x zero)
+
+-- and its text
+pub text_by : (o : Outcome) (text : List ℕ) → IfOk o (λ t. string_bytes t ≡ text) → status_of o ≡ 0 → line_of o ≡ text
+text_by (Ok t) text is zero = is
+text_by (Err x) text is zero = absurd (no_zero x zero)
+
+-- an early end is none of a write or of memory
+pub early_end : (o : Outcome) (P : Type 0) → (o ≢ Err Write → o ≢ Err Memory → OnErr o P) → status_of o ≢ 0 → status_of o ≢ 1 → status_of o ≢ 7 → P
+early_end (Ok line) P early n0 n1 n7 = absurd (n0 refl)
+early_end (Err x) P early n0 n1 n7 = early (λ e. n7 (ap status_of e)) (λ e. n1 (ap status_of e))
+
+-- what is opened first, and then by a run that ends early
+pub opens_on : (o : Outcome) (P Q : Id → Type 0) (a b d : ℕ → Id) → Opens P a b → ((i : Id) → Q i → P i) → (o ≢ Err Write → o ≢ Err Memory → OnErr o (Opens Q b d))
+    → o ≢ Err Write → o ≢ Err Memory → OnErr o (Opens P a d)
+opens_on (Ok line) P Q a b d first so later nw nm = tt
+opens_on (Err x) P Q a b d first so later nw nm = opens_then P a b d first (opens_weaker Q P b d so (later nw nm))
+
+-- ---- completeness
+pub made_is : (o : Outcome) (number : ℕ) → IfErr o (CanCome (Some (Make number))) → (status_of o ≡ 0) ⊎ (status_of o ≡ 1)
+made_is (Ok text) number come = inl refl
+made_is (Err x) number come = inr (ap fault_status come)
+
+pub status_cases : (o : Outcome) (P : Type 0) → (status_of o ≡ 0 → P) → ((x : Fault) → o ≡ Err x → P) → P
+status_cases (Ok line) P zero fault = zero refl
+status_cases (Err x) P zero fault = fault x refl

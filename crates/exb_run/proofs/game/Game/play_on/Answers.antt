@@ -1,0 +1,38 @@
+use Rattle.std.proofs.Common.{◌≡◌, ◌∙◌, [], ap}
+use Rattle.exb_model.specs.History.{◌then◌}
+use Rattle.exb_model.specs.Texts.{summary_line}
+use Rattle.exb_schedule.specs.Worlds.{network_of}
+use Rattle.exb_run.specs.Outputs.{output_name, output_text}
+use Rattle.exb_run.specs.Plans.{output_count}
+use Rattle.exb_run.specs.Playing.{mode_of, text_so_far}
+use Rattle.exb_run.proofs.Coming.{if_ok_both}
+use Rattle.exb_run.proofs.Ending.{counts-end, eagerly, legal, texts-whole, trace}
+use Rattle.exb_run.proofs.Filling.{weaker}
+use Rattle.exb_run.proofs.ShelvingLemmas.{writes_then}
+use Rattle.exb_run.proofs.game.Game.play_on.Goals as goal
+
+pub returns-clause-done : goal.returns-clause-done
+returns-clause-done g c tells =
+    let S = g.S.Shelf in
+    let plan = c.args.plan.now in
+    let m = mode_of c.args.schedule in
+    let n = network_of c.play_all.new.self.world in
+    if_ok_both c.end.result (λ line says texts run timely start.
+    let i = run.input in
+    let t = c.in_ok-play_all.ensures.told run start in
+    let way = c.runs_are_under_way.ensures in
+    let law = c.runs_write_legally.ensures in
+    record {
+      history = [] then t.told;
+      lines = t.lines;
+      legal = legal m i plan t.tree c.is_tree.ensures timely way law n t.told t.gone t.lines t.played;
+      eager = eagerly m i plan t.tree c.is_tree.ensures timely way law n t.told t.gone t.lines t.played c.runs_write_eagerly.ensures;
+      trace = λ on. trace m i plan t.tree c.is_tree.ensures timely way law n t.told t.gone t.lines t.played c.runs_tell_legally.ensures (t.tracing ∙ on);
+      outputs = weaker run.before (S.file c.end.new.shelf) (output_count plan) (output_name plan) (λ j bytes. bytes ≡ text_so_far plan t.told t.gone t.lines j)
+          (λ j bytes. bytes ≡ output_text i plan ([] then t.told) t.lines j) (texts run.before (text_so_far plan t.told t.gone t.lines) (t.texts tells))
+          (λ j bytes low is. is ∙ texts-whole m i plan t.tree c.is_tree.ensures timely way law n t.told t.gone t.lines t.played j);
+      says = says ∙ ap summary_line (t.counted ∙ counts-end m i plan t.tree c.is_tree.ensures timely way law n t.told t.gone t.lines t.played);
+    }) c.end.ensures.line (c.end.ensures.texts tells)
+
+pub returns-clause-only : goal.returns-clause-only
+returns-clause-only g c = writes_then _ _ _ _ _ _ _ _ c.in_ok-play_all.ensures.only c.end.ensures.only

@@ -1,0 +1,61 @@
+use Rattle.std.proofs.Common.{◌≡◌, ◌++◌, ◌∷◌, [], List, length, ap, sym, ◌∙◌}
+use Rattle.exb_model.specs.Texts.{Counts, with_left}
+use Rattle.exb_network.specs.Worlds.{all_left}
+use Rattle.exb_schedule.specs.Worlds.{network_of}
+use Rattle.exb_run.specs.Playing.{mode_of, text_so_far}
+use Rattle.exb_run.specs.Writing.{pieces_of}
+use Rattle.exb_run.proofs.Counting.{count_events}
+use Rattle.exb_run.proofs.Telling.{when_ok, on_ok_by, same_texts, text-more, counts-more, quiet-played, cleared-played, frames-fit, tally-fits}
+use Rattle.exb_run.proofs.game.Game.turn.Goals as goal
+
+pub note-requires-clause-frames : goal.note-requires-clause-frames
+note-requires-clause-frames g c =
+    let m = mode_of c.args.schedule in
+    let n = network_of c.args.self.now.world in
+    let i = c.requires.playable.0.input in
+    let can = c.requires.playable.1 in
+    let is = can.is in
+    let ok = sym c.is_err.ensures.value ∙ c.if-is_err.false in
+    let v = network_of c.play_segment.new.world in
+    let after = when_ok c.play_segment.result ok c.play_segment.ensures.plays i can.so_far can.next is.told is.gone is.lines can.segment (quiet-played m i can.so_far n is.told is.gone is.lines is.quiet is.played) in
+    frames-fit m i c.args.plan.now (can.so_far ++ can.next ∷ []) v (is.told ++ v.log.events) is.gone v.log.left (is.lines ++ v.log.lines)
+    c.runs_are_under_way.ensures is.tree c.is_tree.ensures can.follows.kept after
+
+pub note-requires-clause-fits : goal.note-requires-clause-fits
+note-requires-clause-fits g c =
+    let m = mode_of c.args.schedule in
+    let n = network_of c.args.self.now.world in
+    let i = c.requires.playable.0.input in
+    let can = c.requires.playable.1 in
+    let is = can.is in
+    let ok = sym c.is_err.ensures.value ∙ c.if-is_err.false in
+    let v = network_of c.play_segment.new.world in
+    let after = when_ok c.play_segment.result ok c.play_segment.ensures.plays i can.so_far can.next is.told is.gone is.lines can.segment (quiet-played m i can.so_far n is.told is.gone is.lines is.quiet is.played) in
+    tally-fits m i (can.so_far ++ can.next ∷ []) v is.told v.log.events is.gone v.log.left (is.lines ++ v.log.lines) _ c.runs_are_few.ensures can.follows after is.counted
+
+pub returns-clause-told : goal.returns-clause-told
+returns-clause-told g c = on_ok_by c.note.result (λ get run so_far s segment is.
+    let S = g.S.Shelf in
+    let m = mode_of c.args.schedule in
+    let n = network_of c.args.self.now.world in
+    let plan = c.args.plan.now in
+    let ok = sym c.is_err.ensures.value ∙ c.if-is_err.false in
+    let v = network_of c.play_segment.new.world in
+    let more = v.log.events in
+    let left = v.log.left in
+    let new = v.log.lines in
+    let after = when_ok c.play_segment.result ok c.play_segment.ensures.plays run.input so_far s is.told is.gone is.lines segment (quiet-played m run.input so_far n is.told is.gone is.lines is.quiet is.played) in
+    record {
+      tree = is.tree;
+      told = is.told ++ more;
+      gone = is.gone ++ all_left left;
+      lines = is.lines ++ new;
+      played = cleared-played m run.input (so_far ++ s ∷ []) v (network_of c.note.new.self.world) (is.told ++ more) (is.gone ++ all_left left) (is.lines ++ new)
+          (get _ c.note.ensures.world) (get _ c.note.ensures.same) after;
+      tracing = (get _ c.note.ensures.same).tracing ∙ (when_ok c.play_segment.result ok c.play_segment.ensures.same).tracing ∙ is.tracing;
+      counted = get _ c.note.ensures.counts ∙ ap (λ (b : Counts). with_left (length left) (count_events b more)) is.counted ∙ counts-more is.told more is.gone left;
+      texts = λ tells.
+          same_texts plan (pieces_of c.note.new.self.outputs) run.before (S.file c.note.new.shelf) _ (text_so_far plan (is.told ++ more) (is.gone ++ all_left left) (is.lines ++ new))
+          (text-more plan is.told more is.gone left is.lines new) (get _ (c.note.ensures.texts tells) run.before (text_so_far plan is.told is.gone is.lines) (is.texts tells));
+      quiet = get _ c.note.ensures.quiet;
+    })

@@ -1,0 +1,34 @@
+use Rattle.std.proofs.Common.{◌≡◌, ◌+◌, ℕ, List, subst}
+use Rattle.std.proofs.lemmas.Result.{on_ok_weaker}
+use Rattle.exb_model.specs.declared.event.Event.{Event}
+use Rattle.exb_model.specs.Traces.{TraceLine, trace_text}
+use Rattle.exb_network.specs.declared.log.Left.{Left}
+use Rattle.exb_schedule.specs.Worlds.{network_of}
+use Rattle.exb_run.specs.Plans.{port_count}
+use Rattle.exb_run.specs.Writing.{HasTexts, pieces_of, lines_of, with_more, with_left_frames}
+use Rattle.exb_run.proofs.ShelvingLemmas.{writes_then}
+use Rattle.exb_run.proofs.game.write_all.Goals as goal
+
+pub returns-clause-texts : goal.returns-clause-texts
+returns-clause-texts g c tells =
+    let plan = c.args.plan.now in
+    let S = g.S.Shelf in
+    on_ok_weaker c.write_trace.result
+    (λ last orig text held.
+    let first = c.in_ok-write_events.ensures.texts tells orig text held in
+    let second = c.in_ok-write_left.ensures.texts tells orig (with_more text (port_count plan) (lines_of c.events.result.now)) first in
+    let third = last orig (with_left_frames plan (with_more text (port_count plan) (lines_of c.events.result.now)) c.left.result.now) second in
+    let n = network_of c.args.world.now in
+    let P = λ (es : List Event) (xs : List Left) (ls : List TraceLine). HasTexts plan (pieces_of c.write_trace.new.self) orig (S.file c.write_trace.new.shelf)
+    (with_more (with_left_frames plan (with_more text (port_count plan) (lines_of es)) xs) (port_count plan + 1) (trace_text ls)) in
+    let one : P n.log.events c.left.result.now c.trace.result.now = subst (λ (es : List Event). P es c.left.result.now c.trace.result.now) c.events.ensures third in
+    let two : P n.log.events n.log.left c.trace.result.now = subst (λ (xs : List Left). P n.log.events xs c.trace.result.now) c.left.ensures one in
+    subst (λ (ls : List TraceLine). P n.log.events n.log.left ls) c.trace.ensures two)
+    (c.write_trace.ensures.texts tells)
+
+pub returns-in_err-write_left-clause-only : goal.returns-in_err-write_left-clause-only
+returns-in_err-write_left-clause-only g c = writes_then _ _ _ _ _ _ _ _ c.in_ok-write_events.ensures.only c.in_err-write_left.ensures.only
+
+pub returns-clause-only : goal.returns-clause-only
+returns-clause-only g c =
+    writes_then _ _ _ _ _ _ _ _ (writes_then _ _ _ _ _ _ _ _ c.in_ok-write_events.ensures.only c.in_ok-write_left.ensures.only) c.write_trace.ensures.only

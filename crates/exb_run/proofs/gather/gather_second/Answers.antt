@@ -1,0 +1,7 @@
+use Rattle.exb_run.proofs.Gathering.{gathers-more}
+use Rattle.exb_run.proofs.gather.gather_second.Goals as goal
+
+pub second-preserved : goal.second-preserved
+second-preserved c =
+    gathers-more c.args.second c.args.agenda.now c.second.agenda c.next_within.new.self c.args.arrivals.now.items c.second.arrivals.items c.put_arrival.new.arrivals.items c.in-Some.due
+    c.second.invariant c.in-Some.ensures.found c.in-Some.ensures.within c.in_ok-put_arrival.ensures

@@ -1,0 +1,37 @@
+use Rattle.std.proofs.Common.{rules, ◌<◌, ◌+◌, take, length, arith}
+use Rattle.exb_run.specs.Plans.{port_count}
+use Rattle.exb_model.specs.Traces.{trace_text}
+use Rattle.exb_run.specs.Writing.{pieces_of, with_more}
+use Rattle.exb_run.proofs.OutputLemmas.{no_more, more_trace}
+use Rattle.exb_run.proofs.ShelvingLemmas.{writes_none, writes_then}
+use Rattle.exb_run.proofs.outputs.Outputs.add_lines.Goals as goal
+
+pub loop-one-init : goal.loop-one-init
+unfolding trace_text
+loop-one-init g c =
+    let file = g.S.Shelf.file c.args.shelf.now in
+    record {
+      ready = c.requires.ready;
+      texts = λ t orig text p. no_more c.args.plan.now orig file (pieces_of c.args.self.now) text (port_count c.args.plan.now + 1) p;
+      only = writes_none _ _ _ _;
+      faults = search rules;
+    }
+
+pub loop-one-preserved : goal.loop-one-preserved
+loop-one-preserved g c =
+    let before = c.loop-one.invariant in
+    let added = c.in_ok-add_line.ensures in
+    let lines = c.args.lines.now in
+    let inside : c.loop-one.one-index < length lines = omega arith in
+    record {
+      ready = added.ready;
+      texts = λ t orig text p.
+          more_trace c.args.plan.now orig (g.S.Shelf.file c.add_line.new.shelf) (pieces_of c.add_line.new.self) text lines c.loop-one.one-index c.one-item.result
+          inside c.one-item.is
+          (added.texts t orig (with_more text (port_count c.args.plan.now + 1) (trace_text (take c.loop-one.one-index lines))) (before.texts t orig text p));
+      only = writes_then _ _ _ _ _ _ _ _ before.only added.only;
+      faults = search (arith, added.faults.none_fell, before.faults);
+    }
+
+pub returns-in_err-add_line-clause-only : goal.returns-in_err-add_line-clause-only
+returns-in_err-add_line-clause-only g c = writes_then _ _ _ _ _ _ _ _ c.loop-one.invariant.only c.in_err-add_line.ensures.only

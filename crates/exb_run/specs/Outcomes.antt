@@ -1,0 +1,28 @@
+-- What comes of all that is done but printing.
+use Rattle.std.specs.Prelude.{◌≡◌, ◌≢◌, ◌⊎◌, Option, Some, None, Result, Err, IfOk, IfErr, OnErr, IsErrOf, String, string_bytes}
+use Rattle.std.specs.declared.alloc.Global.{Global}
+use Rattle.exb_shelf.specs.Files.{Files, SameFiles}
+use Rattle.exb_words.specs.Words.{Ask, Run, Check, Make}
+use Rattle.exb_run.specs.declared.fault.Fault.{Fault}
+use Rattle.exb_run.specs.declared.fault.Fault.TheVariants.{Usage, Read, Write, Memory}
+use Rattle.exb_run.specs.Answers.{IsDone, IsFailure, IsRun, OnlyAsked, Stops}
+use Rattle.exb_run.specs.Reading.{IsOfTopology, IsOfPlaying}
+
+-- a fault that can come where this is asked for
+abbrev pub CanCome : Option Ask → Fault → Type 0
+CanCome None fault = fault ≡ Usage
+CanCome (Some (Run name trace seed)) fault = IsOfTopology fault ⊎ IsOfPlaying fault
+CanCome (Some (Check name)) fault = IsOfTopology fault
+CanCome (Some (Make number)) fault = fault ≡ Memory
+
+-- By the result: what is done, which cause a fault has, and what has become of the files.
+pub record CameOut (tells : Type 0) (a : Option Ask) (o : Result (String Global) Fault) (old new : Files) : Type 0 where
+  pub unaccepted : a ≡ None → IsErrOf o Usage
+  pub done : tells → IfOk o (λ text. IsDone a old new (string_bytes text))
+  pub cause : tells → IfErr o (λ fault. Stops a old fault ⊎ IsFailure a fault)
+  pub stops : tells → (fault : Fault) → Stops a old fault → IsErrOf o fault ⊎ IsErrOf o Read ⊎ IsErrOf o Memory
+  pub can_come : IfErr o (CanCome a)
+  pub early : o ≢ Err Write → o ≢ Err Memory → OnErr o (SameFiles old new)
+  pub read_only : ¬ IsRun a → SameFiles old new
+  pub stopped : tells → (fault : Fault) → Stops a old fault → SameFiles old new
+  pub others : tells → OnlyAsked a old new

@@ -1,0 +1,387 @@
+//! A run under way: the world, what is written of it, and what is counted.
+ghost use Rattle.std.specs.Prelude.{◌≡◌, ◌≤◌, ◌<◌, ◌+◌, ◌^◌, ◌++◌, ◌∷◌, [], ℕ, List, length, drop, All, fold, IsOk, IfOk, OnOk, OnErr, IfErr, None, Some, string_bytes};
+ghost use Rattle.exb_model.specs.declared.event.Event.{Event};
+ghost use Rattle.exb_model.specs.Input.{Input, Mode, Segment, segments};
+ghost use Rattle.exb_model.specs.Setup.{IsValid, shape_of};
+ghost use Rattle.exb_model.specs.Texts.{counted, with_left, summary_line};
+ghost use Rattle.exb_model.specs.Traces.{TraceLine, trace_text};
+ghost use Rattle.exb_machine.specs.Worlds.{Left as Leaving};
+ghost use Rattle.exb_merge.specs.Agendas.{still_to_come};
+ghost use Rattle.exb_motion.specs.Playing.{IsTimely};
+ghost use Rattle.exb_network.specs.Networks.{world_of, IsQuiet, IsSame};
+ghost use Rattle.exb_network.specs.Worlds.{all_left};
+ghost use Rattle.exb_schedule.specs.Playing.{CanAll, HasPlayed as IsPlayedBy, IsSegment, gives, letters_in};
+ghost use Rattle.exb_schedule.specs.Worlds.{network_of, fate_in};
+ghost use Rattle.exb_shelf.specs.Files.{Files, Filled};
+ghost use Rattle.exb_text.specs.Tallies.{counts_of, FitsTally};
+ghost use Rattle.exb_run.specs.Plans.{output_count, port_count};
+ghost use Rattle.exb_run.specs.Playing.{Run, CanBegin, CanBePlayed, CanGoOn, IsOpened, IsPlaying, IsTold, mode_of, second_by, seconds_after};
+ghost use Rattle.exb_run.specs.Outputs.{HasPlayed, output_name};
+ghost use Rattle.exb_run.specs.Shelving.{CountsFaults, IsOfWriting, OnlyMakes, OnlyWrites};
+ghost use Rattle.exb_run.specs.Writing.{HasTexts, IsReady, pieces_of, lines_of, with_more, with_left_frames, CanBeWritten};
+
+use crate::fault::Fault;
+use crate::gather::gather;
+use crate::outputs::{Outputs, create_all};
+use crate::plan::Plan;
+use crate::script::{Schedule, Script};
+use exb_fate::Fate;
+use exb_merge::laws::merge_keeps_order;
+use exb_merge::{Agenda, Due};
+use exb_model::event::Event;
+use exb_model::setup::Timed;
+use exb_resting::laws::{runs_are_few, runs_are_under_way, runs_write_eagerly, runs_write_legally};
+use exb_schedule::{Arrival, World, WorldFault, eager, open, seeded};
+use exb_shelf::Shelf;
+use exb_text::Tally;
+use exb_tracing::laws::runs_tell_legally;
+use rand_core::SeedableRng;
+use rand_pcg::Lcg64Xsh32;
+use std::alloc::Global;
+
+/// A second in nanoseconds.
+const NANOSECONDS: u64 = 1_000_000_000;
+
+/// Room for one line of the journal and for one of the trace.
+#[derive(Drop)]
+struct Room {
+    line: String,
+    text: Vec<u8>,
+}
+
+/// The world, what is written of it, and what is counted.
+#[derive(Drop)]
+struct Game {
+    world: World,
+    outputs: Outputs,
+    tally: Tally,
+    /// What seeded runs draw from.
+    rng: Lcg64Xsh32,
+    room: Room,
+}
+
+/// The generator of a schedule; an eager run draws nothing from it.
+fn rng_of(schedule: Schedule) -> Lcg64Xsh32 {
+    match schedule {
+        Schedule::Eager => Lcg64Xsh32::seed_from_u64(0),
+        Schedule::Seeded { seed } => Lcg64Xsh32::seed_from_u64(seed),
+    }
+}
+
+/// Counts events.
+fn count_all(tally: &mut Tally, events: &[Event])
+    requires { FitsTally (fold (λ c e. counted e c) (counts_of tally.old) events.now) }
+    ensures { counts_of tally.new ≡ fold (λ c e. counted e c) (counts_of tally.old) events.now }
+{
+    for event in events {
+        tally.count(event);
+    }
+}
+
+/// Writes what has happened in a world since it was cleared.
+fn write_all<S: Shelf>(
+    shelf: &mut S,
+    plan: &Plan,
+    outputs: &mut Outputs,
+    room: &mut Room,
+    world: &World,
+) -> Result<(), Fault>
+    requires ready { IsReady plan.now (S.ids shelf.old) outputs.old }
+    requires frames { All (λ x. CanBeWritten plan.now x) (network_of world.now).log.left }
+    ensures ready { IsReady plan.now (S.ids shelf.new) outputs.new }
+    ensures texts { S.tells → OnOk result ((orig : Files) (text : ℕ → List ℕ) → HasTexts plan.now (pieces_of outputs.old) orig (S.file shelf.old) text
+        → HasTexts plan.now (pieces_of outputs.new) orig (S.file shelf.new)
+        (with_more (with_left_frames plan.now (with_more text (port_count plan.now) (lines_of (network_of world.now).log.events)) (network_of world.now).log.left)
+        (port_count plan.now + 1) (trace_text (network_of world.now).log.lines))) }
+    ensures only { OnlyWrites S.tells plan.now (S.file shelf.old) (S.file shelf.new) (S.ids shelf.old) (S.ids shelf.new) }
+    ensures causes { IfErr result IsOfWriting }
+    ensures faults { CountsFaults result (S.faults shelf.old) (S.faults shelf.new) }
+{
+    outputs.write_events(shelf, plan, &mut room.line, world.events())?;
+    outputs.write_left(shelf, plan, world.left())?;
+    outputs.write_trace(shelf, plan, &mut room.text, world.trace())
+}
+
+/// Plays a segment by a schedule.
+fn play_segment(
+    schedule: Schedule,
+    world: &mut World,
+    rng: &mut Lcg64Xsh32,
+    seconds: u32,
+    commands: &[Timed],
+    arrivals: &[Arrival],
+) -> Result<(), WorldFault>
+    requires can { CanAll (network_of world.old) (gives seconds commands.now arrivals.now) }
+    requires few { left (fate_in world.old) + letters_in commands.now < 2 ^ 57 }
+    ensures plays { OnOk result ((i : Input) (so_far : List Segment) (s : Segment) (events : List Event) (left : List Leaving) (lines : List TraceLine) → IsSegment i s seconds commands.now arrivals.now
+        → IsPlayedBy (mode_of schedule) i so_far (network_of world.old) (events ++ (network_of world.old).log.events) (left ++ all_left (network_of world.old).log.left) (lines ++ (network_of world.old).log.lines)
+        → IsPlayedBy (mode_of schedule) i (so_far ++ s ∷ []) (network_of world.new) (events ++ (network_of world.new).log.events) (left ++ all_left (network_of world.new).log.left) (lines ++ (network_of world.new).log.lines)) }
+    ensures same { OnOk result (IsSame (network_of world.old) (network_of world.new)) }
+    ensures fate { left (fate_in world.new) ≤ left (fate_in world.old) + letters_in commands.now }
+{
+    match schedule {
+        Schedule::Eager => eager(world, seconds, commands, arrivals),
+        Schedule::Seeded { .. } => seeded(world, rng, seconds, commands, arrivals),
+    }
+}
+
+/// The seconds from what came before to what comes at `second`, 0 for what comes first.
+fn seconds_since(last: Option<u64>, second: u64) -> u32
+    requires { seconds_after last second < 2 ^ 32 }
+    ensures { result ≡ seconds_after last second }
+{
+    match last {
+        None => 0,
+        Some(last) => second.saturating_sub(last) as u32,
+    }
+}
+
+impl Game {
+    /// Writes and counts what has happened in the world since it was cleared, and clears it.
+    fn note<S: Shelf>(&mut self, shelf: &mut S, plan: &Plan) -> Result<(), Fault>
+        requires ready { IsReady plan.now (S.ids shelf.old) self.old.outputs }
+        requires frames { All (λ x. CanBeWritten plan.now x) (network_of self.old.world).log.left }
+        requires fits { FitsTally (with_left (length (network_of self.old.world).log.left) (fold (λ c e. counted e c) (counts_of self.old.tally) (network_of self.old.world).log.events)) }
+        ensures ready { IsReady plan.now (S.ids shelf.new) self.new.outputs }
+        ensures world { OnOk result (world_of (network_of self.new.world) ≡ world_of (network_of self.old.world)) }
+        ensures same { OnOk result (IsSame (network_of self.old.world) (network_of self.new.world)) }
+        ensures quiet { OnOk result (IsQuiet (network_of self.new.world)) }
+        ensures texts { S.tells → OnOk result ((orig : Files) (text : ℕ → List ℕ) → HasTexts plan.now (pieces_of self.old.outputs) orig (S.file shelf.old) text
+            → HasTexts plan.now (pieces_of self.new.outputs) orig (S.file shelf.new)
+            (with_more (with_left_frames plan.now (with_more text (port_count plan.now) (lines_of (network_of self.old.world).log.events)) (network_of self.old.world).log.left)
+            (port_count plan.now + 1) (trace_text (network_of self.old.world).log.lines))) }
+        ensures counts { OnOk result (counts_of self.new.tally
+            ≡ with_left (length (network_of self.old.world).log.left) (fold (λ c e. counted e c) (counts_of self.old.tally) (network_of self.old.world).log.events)) }
+        ensures fate { OnOk result (left (fate_in self.new.world) ≡ left (fate_in self.old.world)) }
+        ensures only { OnlyWrites S.tells plan.now (S.file shelf.old) (S.file shelf.new) (S.ids shelf.old) (S.ids shelf.new) }
+        ensures causes { IfErr result IsOfWriting }
+        ensures faults { CountsFaults result (S.faults shelf.old) (S.faults shelf.new) }
+    {
+        write_all(shelf, plan, &mut self.outputs, &mut self.room, &self.world)?;
+        count_all(&mut self.tally, self.world.events());
+        self.tally.add_left(self.world.left().len() as u64);
+        self.world.clear();
+        Ok(())
+    }
+
+    /// Plays a segment, and writes and counts what happens.
+    fn turn<S: Shelf>(
+        &mut self,
+        shelf: &mut S,
+        plan: &Plan,
+        schedule: Schedule,
+        seconds: u32,
+        commands: &[Timed],
+        arrivals: &[Arrival],
+    ) -> Result<(), Fault>
+        requires ready { IsReady plan.now (S.ids shelf.old) self.old.outputs }
+        requires playable { (run : Run) × CanBePlayed S.tells (mode_of schedule) run plan.now (S.file shelf.old) (network_of self.old.world) (counts_of self.old.tally) self.old.outputs seconds commands.now arrivals.now }
+        requires budget { left (fate_in self.old.world) + letters_in commands.now < 2 ^ 57 }
+        ensures ready { IsReady plan.now (S.ids shelf.new) self.new.outputs }
+        ensures told { OnOk result ((run : Run) (so_far : List Segment) (s : Segment) → IsSegment run.input s seconds commands.now arrivals.now
+            → IsTold S.tells (mode_of schedule) run plan.now (S.file shelf.old) (network_of self.old.world) (counts_of self.old.tally) self.old.outputs so_far
+            → IsTold S.tells (mode_of schedule) run plan.now (S.file shelf.new) (network_of self.new.world) (counts_of self.new.tally) self.new.outputs (so_far ++ s ∷ [])) }
+        ensures budget { OnOk result (left (fate_in self.new.world) ≤ left (fate_in self.old.world) + letters_in commands.now) }
+        ensures only { OnlyWrites S.tells plan.now (S.file shelf.old) (S.file shelf.new) (S.ids shelf.old) (S.ids shelf.new) }
+        ensures causes { IfErr result IsOfWriting }
+        ensures faults { CountsFaults result (S.faults shelf.old) (S.faults shelf.new) }
+    {
+        runs_are_under_way();
+        runs_are_few();
+        plan.is_tree();
+        if play_segment(
+            schedule,
+            &mut self.world,
+            &mut self.rng,
+            seconds,
+            commands,
+            arrivals,
+        )
+        .is_err()
+        {
+            return Err(Fault::Memory);
+        }
+        self.note(shelf, plan)
+    }
+
+    /// Plays what comes first, `seconds` after what came before it and with all that is played with it. So many commands were
+    /// taken `from` the agenda before it.
+    fn go_on<S: Shelf>(
+        &mut self,
+        alloc: Global,
+        shelf: &mut S,
+        plan: &Plan,
+        schedule: Schedule,
+        seconds: u32,
+        from: usize,
+        first: &Due<'_>,
+        agenda: &mut Agenda<'_>,
+    ) -> Result<(), Fault>
+        requires ready { IsReady plan.now (S.ids shelf.old) self.old.outputs }
+        requires playing { (run : Run) × CanGoOn S.tells (mode_of schedule) run plan.now (S.file shelf.old) (network_of self.old.world) (counts_of self.old.tally) self.old.outputs seconds from first.now agenda.old }
+        requires budget { left (fate_in self.old.world) + letters_in (drop from agenda.old.commands) < 2 ^ 57 }
+        ensures ready { IsReady plan.now (S.ids shelf.new) self.new.outputs }
+        ensures told { OnOk result ((run : Run)
+            → CanGoOn S.tells (mode_of schedule) run plan.now (S.file shelf.old) (network_of self.old.world) (counts_of self.old.tally) self.old.outputs seconds from first.now agenda.old
+            → IsPlaying S.tells (mode_of schedule) run plan.now (S.file shelf.new) (network_of self.new.world) (counts_of self.new.tally) self.new.outputs (Some (second_by first.now)) agenda.new) }
+        ensures budget { OnOk result (left (fate_in self.new.world) + letters_in (drop agenda.new.taken agenda.new.commands) < 2 ^ 57) }
+        ensures fewer { OnOk result (length (still_to_come agenda.new) ≤ length (still_to_come agenda.old)) }
+        ensures only { OnlyWrites S.tells plan.now (S.file shelf.old) (S.file shelf.new) (S.ids shelf.old) (S.ids shelf.new) }
+        ensures causes { IfErr result IsOfWriting }
+        ensures faults { CountsFaults result (S.faults shelf.old) (S.faults shelf.new) }
+    {
+        merge_keeps_order();
+        runs_are_under_way();
+        let Ok(arrivals) = gather(alloc, schedule, first, agenda) else {
+            return Err(Fault::Memory);
+        };
+        let commands = agenda.taken_since(from);
+        self.turn(
+            shelf,
+            plan,
+            schedule,
+            seconds,
+            commands,
+            arrivals.as_slice(),
+        )
+    }
+
+    /// Plays all that comes, one segment after another.
+    fn play_all<S: Shelf>(
+        &mut self,
+        alloc: Global,
+        shelf: &mut S,
+        plan: &Plan,
+        schedule: Schedule,
+        agenda: &mut Agenda<'_>,
+    ) -> Result<(), Fault>
+        requires ready { IsReady plan.now (S.ids shelf.old) self.old.outputs }
+        requires playing { (run : Run) × IsPlaying S.tells (mode_of schedule) run plan.now (S.file shelf.old) (network_of self.old.world) (counts_of self.old.tally) self.old.outputs None agenda.old }
+        requires budget { left (fate_in self.old.world) + letters_in (drop agenda.old.taken agenda.old.commands) < 2 ^ 57 }
+        ensures ready { IsReady plan.now (S.ids shelf.new) self.new.outputs }
+        ensures few { OnOk result (self.new.tally.relayed + self.new.tally.ignored < 2 ^ 64) }
+        ensures told { OnOk result ((run : Run)
+            → IsPlaying S.tells (mode_of schedule) run plan.now (S.file shelf.old) (network_of self.old.world) (counts_of self.old.tally) self.old.outputs None agenda.old
+            → IsTold S.tells (mode_of schedule) run plan.now (S.file shelf.new) (network_of self.new.world) (counts_of self.new.tally) self.new.outputs (segments (mode_of schedule) run.input)) }
+        ensures only { OnlyWrites S.tells plan.now (S.file shelf.old) (S.file shelf.new) (S.ids shelf.old) (S.ids shelf.new) }
+        ensures causes { IfErr result IsOfWriting }
+        ensures faults { CountsFaults result (S.faults shelf.old) (S.faults shelf.new) }
+    {
+        runs_are_few();
+        let mut last: Option<u64> = None;
+        let mut taken = agenda.taken();
+        'events: while let Some(first) = agenda.next() {
+            let second = first.moment() / NANOSECONDS;
+            let seconds = seconds_since(last, second);
+            self.go_on(alloc, shelf, plan, schedule, seconds, taken, &first, agenda)?;
+            taken = agenda.taken();
+            last = Some(second);
+        }
+        Ok(())
+    }
+
+    /// Writes what is still to be written, and answers the summary line.
+    fn end<S: Shelf>(&mut self, alloc: Global, shelf: &mut S, plan: &Plan) -> Result<String, Fault>
+        requires ready { IsReady plan.now (S.ids shelf.old) self.old.outputs }
+        requires few { self.old.tally.relayed + self.old.tally.ignored < 2 ^ 64 }
+        ensures texts { S.tells → OnOk result ((orig : Files) (text : ℕ → List ℕ) → HasTexts plan.now (pieces_of self.old.outputs) orig (S.file shelf.old) text
+            → Filled orig (S.file shelf.new) (output_count plan.now) (output_name plan.now) (λ j bytes. bytes ≡ text j)) }
+        ensures line { IfOk result (λ line. string_bytes line ≡ summary_line (counts_of self.old.tally)) }
+        ensures only { OnlyWrites S.tells plan.now (S.file shelf.old) (S.file shelf.new) (S.ids shelf.old) (S.ids shelf.new) }
+        ensures causes { IfErr result IsOfWriting }
+        ensures faults { CountsFaults result (S.faults shelf.old) (S.faults shelf.new) }
+    {
+        self.outputs.finish(shelf, plan)?;
+        Ok(self.tally.line(alloc)?)
+    }
+
+    /// Plays all that comes, writes what is still to be written, and answers the summary line.
+    fn play_on<S: Shelf>(
+        &mut self,
+        alloc: Global,
+        shelf: &mut S,
+        plan: &Plan,
+        schedule: Schedule,
+        agenda: &mut Agenda<'_>,
+    ) -> Result<String, Fault>
+        requires ready { IsReady plan.now (S.ids shelf.old) self.old.outputs }
+        requires playing { (run : Run) × IsPlaying S.tells (mode_of schedule) run plan.now (S.file shelf.old) (network_of self.old.world) (counts_of self.old.tally) self.old.outputs None agenda.old }
+        requires budget { left (fate_in self.old.world) + letters_in (drop agenda.old.taken agenda.old.commands) < 2 ^ 57 }
+        ensures done { S.tells → IfOk result (λ line. (run : Run) → IsTimely run.input
+            → IsPlaying S.tells (mode_of schedule) run plan.now (S.file shelf.old) (network_of self.old.world) (counts_of self.old.tally) self.old.outputs None agenda.old
+            → HasPlayed (mode_of schedule) run.input plan.now run.before (S.file shelf.new) (string_bytes line)) }
+        ensures only { OnlyWrites S.tells plan.now (S.file shelf.old) (S.file shelf.new) (S.ids shelf.old) (S.ids shelf.new) }
+        ensures causes { IfErr result IsOfWriting }
+        ensures faults { CountsFaults result (S.faults shelf.old) (S.faults shelf.new) }
+    {
+        runs_are_under_way();
+        runs_write_legally();
+        runs_write_eagerly();
+        runs_tell_legally();
+        plan.is_tree();
+        self.play_all(alloc, shelf, plan, schedule, agenda)?;
+        self.end(alloc, shelf, plan)
+    }
+    /// Writes and counts what happened by the opening, plays all that comes, and answers the summary line.
+    fn play_opened<S: Shelf>(
+        &mut self,
+        alloc: Global,
+        shelf: &mut S,
+        plan: &Plan,
+        schedule: Schedule,
+        agenda: &mut Agenda<'_>,
+    ) -> Result<String, Fault>
+        requires ready { IsReady plan.now (S.ids shelf.old) self.old.outputs }
+        requires opened { (run : Run) × IsOpened S.tells (mode_of schedule) run plan.now (S.file shelf.old) (network_of self.old.world) (counts_of self.old.tally) self.old.outputs agenda.old }
+        requires budget { left (fate_in self.old.world) + letters_in (drop agenda.old.taken agenda.old.commands) < 2 ^ 57 }
+        ensures done { S.tells → IfOk result (λ line. (run : Run)
+            → IsOpened S.tells (mode_of schedule) run plan.now (S.file shelf.old) (network_of self.old.world) (counts_of self.old.tally) self.old.outputs agenda.old
+            → HasPlayed (mode_of schedule) run.input plan.now run.before (S.file shelf.new) (string_bytes line)) }
+        ensures only { OnlyWrites S.tells plan.now (S.file shelf.old) (S.file shelf.new) (S.ids shelf.old) (S.ids shelf.new) }
+        ensures causes { IfErr result IsOfWriting }
+        ensures faults { CountsFaults result (S.faults shelf.old) (S.faults shelf.new) }
+    {
+        runs_are_under_way();
+        runs_are_few();
+        plan.is_tree();
+        self.note(shelf, plan)?;
+        self.play_on(alloc, shelf, plan, schedule, agenda)
+    }
+}
+
+/// Makes the outputs, opens the world of a script's setup, plays an agenda from there, and answers the summary line.
+pub(crate) fn play_agenda<S: Shelf>(
+    alloc: Global,
+    shelf: &mut S,
+    plan: &Plan,
+    script: &Script<'_>,
+    schedule: Schedule,
+    fate: Box<dyn Fate>,
+    agenda: &mut Agenda<'_>,
+) -> Result<String, Fault>
+    requires valid { IsValid script.now.setup.now }
+    requires tree { plan.now.tree ≡ shape_of script.now.setup.now }
+    requires begins { (run : Run) × CanBegin S.tells (mode_of schedule) run script.now.setup.now (S.file shelf.old) agenda.old }
+    requires budget { left fate + length script.now.fate.now + letters_in (drop agenda.old.taken agenda.old.commands) < 2 ^ 57 }
+    ensures done { S.tells → IfOk result (λ line. (run : Run) → CanBegin S.tells (mode_of schedule) run script.now.setup.now (S.file shelf.old) agenda.old
+        → HasPlayed (mode_of schedule) run.input plan.now (S.file shelf.old) (S.file shelf.new) (string_bytes line)) }
+    ensures only { OnlyMakes S.tells plan.now (S.file shelf.old) (S.file shelf.new) (S.ids shelf.old) (S.ids shelf.new) }
+    ensures causes { IfErr result IsOfWriting }
+    ensures faults { CountsFaults result (S.faults shelf.old) (S.faults shelf.new) }
+{
+    let outputs = create_all(alloc, shelf, plan)?;
+    let Ok(world) = open(alloc, script.setup, fate, script.fate, plan.traced()) else {
+        return Err(Fault::Memory);
+    };
+    let mut game = Game {
+        world,
+        outputs,
+        tally: Tally::new(),
+        rng: rng_of(schedule),
+        room: Room {
+            line: String::new(alloc),
+            text: Vec::new(alloc),
+        },
+    };
+    game.play_opened(alloc, shelf, plan, schedule, agenda)
+}
