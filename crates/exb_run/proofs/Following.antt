@@ -160,8 +160,7 @@ module _ (t : Shape) (l : Limits) where
       let follows : Follows v (given + 1) before = record {
         next = λ p. order_next t l w c.command p ∙ f.next p;
         many = order_given t l w c.command ∙ ap (λ n. n + 1) f.many;
-      } in
-      (
+      } in (
         (names.0, low),
         can-order cs v (given + 1) before rest follows names.1 (omega (arith, few)) (λ u g. then_can u (record { next = g.next; many = g.many ∙ shift given (length cs) })),
       )
