@@ -60,11 +60,11 @@ struct Game {
     room: Room,
 }
 
-/// The generator of a schedule; an eager run draws nothing from it.
-fn rng_of(schedule: Schedule) -> Lcg64Xsh32 {
+/// The number from which a schedule's generator begins; an eager run draws nothing.
+fn seed_of(schedule: Schedule) -> u64 {
     match schedule {
-        Schedule::Eager => Lcg64Xsh32::seed_from_u64(0),
-        Schedule::Seeded { seed } => Lcg64Xsh32::seed_from_u64(seed),
+        Schedule::Eager => 0,
+        Schedule::Seeded { seed } => seed,
     }
 }
 
@@ -373,7 +373,7 @@ fn play_world<S: Shelf>(
         world,
         outputs,
         tally: Tally::new(),
-        rng: rng_of(schedule),
+        rng: Lcg64Xsh32::seed_from_u64(seed_of(schedule)),
         room: Room {
             line: String::new(alloc),
             text: Vec::new(alloc),
