@@ -13,7 +13,7 @@ ghost use Rattle.exb_network.specs.Worlds.{all_left};
 ghost use Rattle.exb_schedule.specs.Playing.{CanAll, HasPlayed as IsPlayedBy, IsSegment, gives, letters_in};
 ghost use Rattle.exb_schedule.specs.Worlds.{network_of, fate_in};
 ghost use Rattle.exb_shelf.specs.Files.{Files, Filled};
-ghost use Rattle.exb_text.specs.Tallies.{counts_of, FitsTally};
+ghost use Rattle.exb_text.specs.Tallies.{counts_of, nothing_counted, FitsTally};
 ghost use Rattle.exb_run.specs.Plans.{output_count, port_count};
 ghost use Rattle.exb_run.specs.Playing.{Run, CanBegin, CanBePlayed, CanGoOn, IsOpened, IsPlaying, IsTold, mode_of, second_by, seconds_after};
 ghost use Rattle.exb_run.specs.Outputs.{HasPlayed, output_name};
@@ -60,11 +60,11 @@ struct Game {
     room: Room,
 }
 
-/// The generator of a schedule; an eager run draws nothing from it.
-fn rng_of(schedule: Schedule) -> Lcg64Xsh32 {
+/// The number from which a schedule's generator begins; an eager run draws nothing.
+fn seed_of(schedule: Schedule) -> u64 {
     match schedule {
-        Schedule::Eager => Lcg64Xsh32::seed_from_u64(0),
-        Schedule::Seeded { seed } => Lcg64Xsh32::seed_from_u64(seed),
+        Schedule::Eager => 0,
+        Schedule::Seeded { seed } => seed,
     }
 }
 
@@ -349,6 +349,39 @@ impl Game {
     }
 }
 
+/// Plays an agenda in a world that is opened, and answers the summary line.
+fn play_world<S: Shelf>(
+    alloc: Global,
+    shelf: &mut S,
+    plan: &Plan,
+    schedule: Schedule,
+    world: World,
+    outputs: Outputs,
+    agenda: &mut Agenda<'_>,
+) -> Result<String, Fault>
+    requires ready { IsReady plan.now (S.ids shelf.old) outputs }
+    requires opened { (run : Run) × IsOpened S.tells (mode_of schedule) run plan.now (S.file shelf.old) (network_of world) nothing_counted outputs agenda.old }
+    requires budget { left world.fate + letters_in (drop agenda.old.taken agenda.old.commands) < 2 ^ 57 }
+    ensures done { S.tells → IfOk result (λ line. (run : Run)
+        → IsOpened S.tells (mode_of schedule) run plan.now (S.file shelf.old) (network_of world) nothing_counted outputs agenda.old
+        → HasPlayed (mode_of schedule) run.input plan.now run.before (S.file shelf.new) (string_bytes line)) }
+    ensures only { OnlyWrites S.tells plan.now (S.file shelf.old) (S.file shelf.new) (S.ids shelf.old) (S.ids shelf.new) }
+    ensures causes { IfErr result IsOfWriting }
+    ensures faults { CountsFaults result (S.faults shelf.old) (S.faults shelf.new) }
+{
+    let mut game = Game {
+        world,
+        outputs,
+        tally: Tally::new(),
+        rng: Lcg64Xsh32::seed_from_u64(seed_of(schedule)),
+        room: Room {
+            line: String::new(alloc),
+            text: Vec::new(alloc),
+        },
+    };
+    game.play_opened(alloc, shelf, plan, schedule, agenda)
+}
+
 /// Makes the outputs, opens the world of a script's setup, plays an agenda from there, and answers the summary line.
 pub(crate) fn play_agenda<S: Shelf>(
     alloc: Global,
@@ -373,15 +406,5 @@ pub(crate) fn play_agenda<S: Shelf>(
     let Ok(world) = open(alloc, script.setup, fate, script.fate, plan.traced()) else {
         return Err(Fault::Memory);
     };
-    let mut game = Game {
-        world,
-        outputs,
-        tally: Tally::new(),
-        rng: rng_of(schedule),
-        room: Room {
-            line: String::new(alloc),
-            text: Vec::new(alloc),
-        },
-    };
-    game.play_opened(alloc, shelf, plan, schedule, agenda)
+    play_world(alloc, shelf, plan, schedule, world, outputs, agenda)
 }

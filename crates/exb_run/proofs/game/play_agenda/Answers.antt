@@ -1,4 +1,4 @@
-use Rattle.std.proofs.Common.{◌≡◌, ap, sym, subst, ◌∙◌, arith}
+use Rattle.std.proofs.Common.{◌≡◌, ap, refl, sym, subst, ◌∙◌, arith}
 use Rattle.std.specs.Prelude.{string_bytes}
 use Rattle.exb_model.specs.Setup.{shape_of}
 use Rattle.exb_shelf.specs.Files.{Files}
@@ -9,8 +9,8 @@ use Rattle.exb_run.proofs.Running.{if_ok_map}
 use Rattle.exb_run.proofs.ShelvingLemmas.{makes_then, counts_after}
 use Rattle.exb_run.proofs.game.play_agenda.Goals as goal
 
-pub play_opened-requires-clause-opened : goal.play_opened-requires-clause-opened
-play_opened-requires-clause-opened g c =
+pub play_world-requires-clause-opened : goal.play_world-requires-clause-opened
+play_world-requires-clause-opened g c =
     let S = g.S.Shelf in
     let plan = c.args.plan.now in
     let run = c.requires.begins.0 in
@@ -20,7 +20,7 @@ play_opened-requires-clause-opened g c =
         tree = c.requires.tree ∙ sym (ap shape_of b.setup);
         played = c.in-Ok.ensures.plays (mode_of c.args.schedule) run.input b.setup;
         tracing = c.in-Ok.ensures.tracing ∙ c.traced.ensures;
-        counted = c.new.ensures;
+        counted = refl;
         texts = λ tells.
             subst (λ (f : Files). HasTexts plan (pieces_of c.in_ok-outputs.outputs) f (S.file c.create_all.new.shelf) (first_text plan)) (sym (b.before tells)) (c.in_ok-outputs.ensures.texts tells);
         timely = b.timely;
@@ -33,33 +33,33 @@ returns-clause-done g c tells =
     let S = g.S.Shelf in
     let plan = c.args.plan.now in
     let m = mode_of c.args.schedule in
-    if_ok_map c.play_opened.result
+    if_ok_map c.play_world.result
     (λ line played run b.
-    subst (λ (f : Files). HasPlayed m run.input plan f (S.file c.play_opened.new.shelf) (string_bytes line)) (b.before tells)
+    subst (λ (f : Files). HasPlayed m run.input plan f (S.file c.play_world.new.shelf) (string_bytes line)) (b.before tells)
     (played run
     record {
       tree = c.requires.tree ∙ sym (ap shape_of b.setup);
       played = c.in-Ok.ensures.plays m run.input b.setup;
       tracing = c.in-Ok.ensures.tracing ∙ c.traced.ensures;
-      counted = c.new.ensures;
+      counted = refl;
       texts = λ told.
           subst (λ (f : Files). HasTexts plan (pieces_of c.in_ok-outputs.outputs) f (S.file c.create_all.new.shelf) (first_text plan)) (sym (b.before told)) (c.in_ok-outputs.ensures.texts told);
       timely = b.timely;
       next = b.next;
     }))
-    (c.play_opened.ensures.done tells)
+    (c.play_world.ensures.done tells)
 
 pub returns-clause-only : goal.returns-clause-only
-returns-clause-only g c = makes_then _ _ _ _ _ _ _ _ c.in_ok-outputs.ensures.only c.play_opened.ensures.only
+returns-clause-only g c = makes_then _ _ _ _ _ _ _ _ c.in_ok-outputs.ensures.only c.play_world.ensures.only
 
 pub returns-clause-faults : goal.returns-clause-faults
-returns-clause-faults g c = counts_after c.play_opened.result _ _ _ c.in_ok-outputs.ensures.faults.none_fell c.play_opened.ensures.faults
+returns-clause-faults g c = counts_after c.play_world.result _ _ _ c.in_ok-outputs.ensures.faults.none_fell c.play_world.ensures.faults
 
-pub play_opened-requires-clause-ready : goal.play_opened-requires-clause-ready
-play_opened-requires-clause-ready g c = c.in_ok-outputs.ensures.ready
+pub play_world-requires-clause-ready : goal.play_world-requires-clause-ready
+play_world-requires-clause-ready g c = c.in_ok-outputs.ensures.ready
 
-pub play_opened-requires-clause-budget : goal.play_opened-requires-clause-budget
-play_opened-requires-clause-budget g c =
+pub play_world-requires-clause-budget : goal.play_world-requires-clause-budget
+play_world-requires-clause-budget g c =
     let spent = c.in-Ok.ensures.fate in
     let low = c.requires.budget in
     omega (arith, spent, low)
