@@ -1,5 +1,5 @@
 //! Frames that come to an extender in several states, cut before each byte, with each bit turned, and longer. What it sends of
-//! each is that of the tables. Whatever came, what isn't asked for stays as it was, and the next request is answered.
+//! each stands in the tables. Whatever came, what isn't asked for stays as it was, and the next request is answered.
 mod cases;
 
 use crate::drive::{Step, frame_step, judge, sent_text};
@@ -212,7 +212,18 @@ fn judge_in(rt: &impl Abort, alloc: Global, case: &Case, frame: &[u8], verdict: 
     judge_frame(rt, alloc, case.state, case.from, frame, verdict);
 }
 
-// Asserts what becomes of a frame, its fronts, of it with each bit turned, and longer.
+// Asserts what becomes of a frame with zeros behind it.
+fn judge_longer(rt: &impl Abort, alloc: Global, case: &Case) {
+    let mut frame = bytes_of(rt, alloc, case.frame);
+    let one_more: usize = frame.len().wrapping_add(1);
+    for length in [one_more, 9216, 9217, 9224, 9225, 9232, 65535] {
+        frame.resize(length, 0).expect(rt, "memory");
+        let verdict = verdict_at(rt, case.longer, length);
+        judge_in(rt, alloc, case, frame.as_slice(), verdict);
+    }
+}
+
+// Asserts what becomes of a frame, of its fronts, and of it with each bit turned.
 fn judge_case(rt: &impl Abort, alloc: Global, case: &Case) {
     let mut frame = bytes_of(rt, alloc, case.frame);
     judge_in(rt, alloc, case, frame.as_slice(), Some("same"));
@@ -225,24 +236,6 @@ fn judge_case(rt: &impl Abort, alloc: Global, case: &Case) {
             judge_in(rt, alloc, case, frame.as_slice(), verdict);
             turn(&mut frame, place, bit);
         }
-    }
-    for length in [
-        frame.len().wrapping_add(1),
-        9216,
-        9217,
-        9224,
-        9225,
-        9232,
-        65535,
-    ] {
-        frame.resize(length, 0).expect(rt, "memory");
-        judge_in(
-            rt,
-            alloc,
-            case,
-            frame.as_slice(),
-            verdict_at(rt, case.longer, length),
-        );
     }
 }
 
@@ -257,6 +250,7 @@ fn cut_and_turned_frames_are_met_as_they_must(rt: HostRuntime) {
     ] {
         for case in cases {
             judge_case(&rt, alloc, case);
+            judge_longer(&rt, alloc, case);
         }
     }
 }

@@ -1,5 +1,5 @@
-//! Tests of files: captures, texts, topologies, shelves, and runs whose files fail. The topologies are
-//! texts behind a driver; broken files are tables of their own; whole runs are the cases of `exb_cases`. Nothing stands on this crate.
+//! Tests of files: captures, texts, topologies, shelves, and runs whose files fail. The topologies are texts behind a driver;
+//! files that are cut or broken are tables of their own; whole runs are the cases of `exb_cases`. Nothing stands on this crate.
 #![tactic(auto)]
 
 #[cfg(test)]

@@ -286,7 +286,7 @@ pub(super) const FROM_BELOW: [Case; 7] = [
     },
 ];
 
-/// Frames of stations. They go up whatever they hold, but for those that are short or reserved, and where the port has no channel.
+/// Frames of stations. They go up whatever they hold, unless they are short, long or reserved, or the port has no channel.
 pub(super) const FROM_STATIONS: [Case; 6] = [
     Case {
         state: State::Rows,
