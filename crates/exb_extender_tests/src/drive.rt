@@ -39,8 +39,8 @@ fn own_text(alloc: Global, name: &str, frame: &[u8]) -> Result<String, AllocErro
     }
 }
 
-// All that the last step sent.
-fn sent_text(alloc: Global, fixture: &Fixture) -> Result<String, AllocError> {
+/// All that the last step sent.
+pub(crate) fn sent_text(alloc: Global, fixture: &Fixture) -> Result<String, AllocError> {
     let mut text = own_text(alloc, "first", fixture.first())?;
     text.push_str(own_text(alloc, "second", fixture.second())?.as_str())?;
     for out in fixture.outs() {
@@ -60,8 +60,8 @@ fn beats(alloc: Global, fixture: &mut Fixture, beats: u16) -> Result<String, All
     Ok(text)
 }
 
-// Does a step with a frame of so many bytes.
-fn frame_step(
+/// Takes a frame from that side, and tells it.
+pub(crate) fn frame_step(
     rt: &impl Abort,
     alloc: Global,
     fixture: &mut Fixture,

@@ -35,7 +35,8 @@ impl Fixture {
         self.extender.take(Side::Up, frame, &mut self.sends);
     }
 
-    fn control(&mut self, acknowledgement: bool, sequence: u16, payload: &[u8])
+    /// ECP comes from the bridge, with any sequence.
+    pub(crate) fn control(&mut self, acknowledgement: bool, sequence: u16, payload: &[u8])
         requires { length payload.now ≤ 1024 }
     {
         let pdu = Pdu {

@@ -7,7 +7,7 @@ use exb_frame::etag::{ETag, tag_into};
 use exb_model::buffers::FrameBuf;
 
 /// Lays the tables.
-const LAID: [Step; 5] = [
+pub(crate) const LAID: [Step; 5] = [
     (
         "hear 0100000000000000010000",
         "first 894014020001; second 89401002000181000000000000000100020003;",
@@ -139,7 +139,7 @@ const ARRIVE: [Step; 16] = [
 ];
 
 /// Without a channel a cascade port lets no control frame up.
-const UNCHANNELLED: [Step; 2] = [
+pub(crate) const UNCHANNELLED: [Step; 2] = [
     (
         "hear 030000000000000006000103",
         "first 894014020006; second 894010020006830000000000000006000100;",

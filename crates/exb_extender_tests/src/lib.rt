@@ -1,5 +1,5 @@
-//! Tests of one port extender: what it announces, acknowledges and answers, and where frames of every kind go. One driver
-//! goes through tables of steps. Nothing stands on this crate.
+//! Tests of one port extender: what it announces, acknowledges and answers, where frames of every kind go, and what becomes of
+//! those that are cut or have a bit turned. One driver goes through tables of steps. Nothing stands on this crate.
 #![tactic(auto)]
 
 #[cfg(test)]
@@ -12,3 +12,7 @@ mod fixture;
 mod forwarding;
 #[cfg(test)]
 mod hex;
+#[cfg(test)]
+mod hostile;
+#[cfg(test)]
+mod turned;

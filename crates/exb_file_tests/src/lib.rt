@@ -1,7 +1,9 @@
-//! Tests of files: captures, texts, topologies, shelves, and runs whose files fail. The topologies are
-//! texts behind a driver; whole runs are the cases of `exb_cases`. Nothing stands on this crate.
+//! Tests of files: captures, texts, topologies, shelves, and runs whose files fail. The topologies are texts behind a driver;
+//! files that are cut or broken are tables of their own; whole runs are the cases of `exb_cases`. Nothing stands on this crate.
 #![tactic(auto)]
 
+#[cfg(test)]
+mod broken;
 #[cfg(test)]
 mod captures;
 #[cfg(test)]

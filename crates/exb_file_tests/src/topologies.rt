@@ -17,8 +17,8 @@ mod trees;
 /// A bridge with the external ports b1, b3, b4, b5, and x2.1, x2.2 of an extender on b2.
 const SITE: &str = "bridge = {ports = 5}\nextender = [{number = 2, on = 'b2', ports = 2}]\n";
 
-// The fault and key of a file, or `ok`.
-fn verdict(alloc: Global, file: &[u8]) -> Result<String, AllocError> {
+/// The fault and key of a file, or `ok`.
+pub(crate) fn verdict(alloc: Global, file: &[u8]) -> Result<String, AllocError> {
     match read(alloc, file) {
         Ok(_) => String::from_str(alloc, "ok"),
         Err(TopoFault::At { fault, key }) => {
@@ -118,8 +118,8 @@ fn headed(alloc: Global, head: &str, tail: &str) -> Result<String, AllocError> {
     verdict(alloc, file.as_bytes())
 }
 
-// Asserts that each file, behind a head, has the verdict that stands beside it.
-fn judge(rt: &impl Abort, alloc: Global, head: &str, cases: &[(&str, &str)]) {
+/// Asserts that each file, behind a head, has the verdict that stands beside it.
+pub(crate) fn judge(rt: &impl Abort, alloc: Global, head: &str, cases: &[(&str, &str)]) {
     for (tail, wanted) in cases {
         let given = headed(alloc, head, tail).expect(rt, "memory");
         assert_eq!(rt; given.as_str(), *wanted, "of {head}{tail}");
