@@ -201,7 +201,7 @@ class Bridge:
     """The bridge in motion. `journal` has the lines of what happened, `left` the moments and frames that left each port."""
 
     def __init__(self, text):
-        topology = tomllib.loads(text)
+        self.topology = topology = tomllib.loads(text)
         self.bridge, self.commands = topology["bridge"], topology.get("command", [])
         self.tree = Tree(self.bridge, topology.get("extender", []))
         self.now = Configuration(self.tree, topology)
