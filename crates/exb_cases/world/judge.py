@@ -30,6 +30,7 @@ class Trace:
         self.tree = self.bridge.tree
         self.ports = {0: self.bridge.bridge["ports"]} | {it["number"]: it["ports"] for it in self.bridge.topology.get("extender", [])}
         self.below = {port: number for number, port in self.tree.on.items()}
+        self.external = set(self.tree.external)
         self.captures, self.outputs, self.journal = captures, outputs, journal
         self.lines = [Line(line) for line in lines]
 
@@ -38,7 +39,7 @@ class Trace:
         return 64 * line.device + line.side - 1
 
     def is_external(self, line):
-        return line.side > 0 and self.place(line) in self.tree.external
+        return line.side > 0 and self.place(line) in self.external
 
     def is_data(self, line):
         return self.is_external(line) or not is_control(line.frame)
@@ -72,6 +73,7 @@ class Trace:
 
     def links_carry(self):
         """Rule 3: data words come in as they went out, and control words behind the data words that went out before them."""
+        # Of each control word how many data words went out before it first did.
         data_out, data_in, control = {}, {}, {}
         for line in self.lines:
             if not line.way or self.is_external(line):
@@ -82,11 +84,11 @@ class Trace:
             sent, came = data_out.setdefault(link, []), data_in.setdefault(link, [])
             if line.way == "out":
                 if is_control(line.frame):
-                    control.setdefault(link, []).append((line.frame, len(sent)))
+                    control.setdefault((link, line.frame), len(sent))
                 else:
                     sent.append(line.frame)
             elif is_control(line.frame):
-                if not any(frame == line.frame and before <= len(came) for frame, before in control.get(link, [])):
+                if control.get((link, line.frame), len(came) + 1) > len(came):
                     return False
             else:
                 came.append(line.frame)

@@ -199,16 +199,38 @@ def play(text, records, seed=None):
     return world
 
 
-def run(text, files, seed=None, trace=False):
+def run(text, files, seed=None):
     """Plays a topology with files: the files that are written by their names, the summary, and the world at its end."""
     records = {port: records_of(files[name]) for port, name in Bridge(text).captures.items()}
     world = play(text, records, seed)
     prefix = world.bridge.bridge.get("out", "out-")
     written = {f"{prefix}{name_of(port)}.pcap": capture_of(left) for port, left in world.left.items()}
     written[f"{prefix}journal.txt"] = "".join(f"{line}\n" for line in world.journal).encode()
-    if trace:
-        written[f"{prefix}trace.txt"] = "".join(f"{line}\n" for line in world.trace).encode()
+    written[f"{prefix}trace.txt"] = "".join(f"{line}\n" for line in world.trace).encode()
     return written, summary(world), world
+
+
+def is_in_order(world, text, files, seed):
+    """Whether the journal, behind the opening, has each segment's tick, commands in order, and records, those of a local port in order."""
+    records = {port: records_of(files[name]) for port, name in Bridge(text).captures.items()}
+    events = merged(world.bridge.commands, records)
+    segments = "\n".join(world.journal).split("settled")[1:-1]
+    wanted = with_seconds([[event] for event in events] if seed is None else by_second(events))
+    return len(segments) == len(wanted) and all(is_played(told.split("\n")[1:-1], *it) for told, it in zip(segments, wanted))
+
+
+def is_played(lines, seconds, segment):
+    """Whether these lines are those of a segment."""
+    told = [line.split() for line in lines]
+    ticks = [int(words[1]) for words in told if words[0] == "tick"]
+    commands = [int(words[1]) for words in told if words[0] in ("commit", "refuse")]
+    records = [(words[1], int(words[2])) for words in told if words[0] in ("relay", "ignore")]
+    wanted = [(name_of(event.port), event.number) for event in segment if event.port is not None]
+    by_port = lambda them: sorted(it for it in them if it[0].startswith("b"))
+    local = [it for it in records if it[0].startswith("b")]
+    return (ticks == [seconds] * (seconds > 0) and commands == [event.number for event in segment if event.port is None]
+            and sorted(records) == sorted(wanted) and sorted(local, key=lambda it: it[0]) == by_port(wanted)
+            and len(told) == len(ticks) + len(commands) + len(records))
 
 
 def summary(world):
