@@ -84,18 +84,20 @@ class Cases:
 
     def plays(self, name, topology, captures, before=None, options="", seed=None, file="topology.toml"):
         """A case that is played to its end, of which the plain bridge alone says what comes of it, and the tree over links what its trace is.
-        Further words of the run, as `--trace`, stand in `options`."""
+        Further words of the run, as `--trace`, stand in `options`, or all of its words."""
         given = {file: capture(*data) if isinstance(data, list) else data for file, data in captures.items()}
         files = {f"{name}/{file}": data for file, data in given.items()}
         topology = topology.replace("FOLDER", name)
         written, line = agree_with_world(name, topology, files, seed)
         written = {file.removeprefix(f"{name}/"): data for file, data in written.items()}
         trace = next(file for file in written if file.endswith("trace.txt"))
-        if "--trace" not in options:
+        absent = [] if "--trace" in options else [f"!{trace}"]
+        if absent:
             del written[trace]
         self.put(name, {file: topology, **given, **(before or {})})
         self.put(name, {f"expected/{file}": data for file, data in written.items()})
-        self.end(name, 0, f"run FOLDER/{file} {options}".rstrip(), sorted(written), line)
+        words = options if "run" in options else f"run FOLDER/{file} {options}".rstrip()
+        self.end(name, 0, words, sorted(written) + absent, line)
         return written, line
 
     def stops(self, name, status, topology, captures, line, words="run FOLDER/topology.toml"):

@@ -89,6 +89,9 @@ def traces(cases):
     two = "vlan = [{ vid = 2, tagged = ['x1.1-2'] }, { vid = 3, tagged = ['x1.1', 'x1.3'] }]\n"
     cases.plays("trace-of-a-down", one_extender(3, A, more=two + commands("0 down port = 'x1.1'")), {"a.pcap": [(100, F), (100, frame(size=13))]},
                 options="--trace")
+    # A port of the bridge takes and sends frames as they are. The line of a frame without a byte ends with a space.
+    cases.plays("trace-without-extender", tree([], {"b1": "a.pcap"}, "ports = 3"), {"a.pcap": [(100, F), (101, b"")]}, options="--trace")
+    cases.plays("trace-of-an-empty-frame", one_extender(1, A), {"a.pcap": [(100, b"")]}, options="--trace")
     deep = tree([(1, "b1", 2), (2, "x1.2", 2)], {"x2.1": "a.pcap", "b2": "b.pcap"}, "ports = 2")
     cases.plays("trace-of-two-levels", deep, {"a.pcap": [(100, F)], "b.pcap": [(101, frame(ONE, TWO))]}, options="--trace")
 
