@@ -5,7 +5,7 @@ from generated import EVERY, at_random
 
 
 def around_a_change(cases):
-    """A member is retagged while frames fly: by the first 64 seeds each frame leaves wholly by the old rules or by the new ones."""
+    """A member is retagged while frames fly: each frame leaves wholly by the old rules or by the new ones."""
     name, sent = "retagged-in-flight", tagged(10)
     member = "vlan = [{ vid = 10, tagged = ['x1.1-2'] }]\n" + commands("0 member vid = 10, port = 'x1.2', kind = 'untagged'")
     topology, between, orders = one_extender(2, {"x1.1": "a.pcap"}, more=member), 0, set()

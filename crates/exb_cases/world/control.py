@@ -29,8 +29,8 @@ class Space:
 
 
 class Control:
-    """Each change is a generator: it gives what is to be asked next, None while it waits for an announcement, and goes on when that
-    was answered or heard."""
+    """Each change is a generator: it gives what is to be asked next, None while it waits for an announcement, and goes on when
+    that was answered or heard."""
 
     def __init__(self, bridge):
         self.bridge, self.tree = bridge, bridge.tree
@@ -108,12 +108,14 @@ class Control:
     def lay(self, groups):
         """Registers fresh groups: each a port of the bridge, a number and its ports."""
         for extender in self.tree.opened:
-            rows = [struct.pack(">HQ", number, self.row(extender, ports)) for _, number, ports in groups if self.row(extender, ports)]
+            masks = [(number, self.row(extender, ports)) for _, number, ports in groups]
+            rows = [struct.pack(">HQ", number, mask) for number, mask in masks if mask]
             yield from self.in_messages(extender, rows, REGISTER, REGISTER_MANY)
 
     def clear(self, groups):
         for extender in self.tree.opened:
-            rows = [struct.pack(">H", number) for _, number, ports in sorted(groups, key=lambda it: it[1]) if self.row(extender, ports)]
+            numbers = sorted(number for _, number, ports in groups if self.row(extender, ports))
+            rows = [struct.pack(">H", number) for number in numbers]
             yield from self.in_messages(extender, rows, UNREGISTER, UNREGISTER_MANY)
 
     def automatic(self, port):
@@ -133,7 +135,8 @@ class Control:
             Space.claim(self.space(port).channels, 1, port)
             yield from self.create(port, EXTERNAL)
         old, new = self.sets(before), self.sets(after)
-        yield from self.lay([(trunk, Space.claim(self.spaces[trunk].groups, 0x1000, ports), ports) for trunk, ports in new if (trunk, ports) not in old])
+        fresh = [(trunk, ports) for trunk, ports in new if (trunk, ports) not in old]
+        yield from self.lay([(trunk, Space.claim(self.spaces[trunk].groups, 0x1000, ports), ports) for trunk, ports in fresh])
         self.commit(command, after, committed)
         gone = [(trunk, self.spaces[trunk].group(ports), ports) for trunk, ports in old if (trunk, ports) not in new]
         yield from self.clear(gone)

@@ -1,4 +1,4 @@
-"""What a trace has to keep to, as five rules over the files of a run, whoever wrote them. `judge` tells the first rule that is broken."""
+"""What a trace has to keep to, as five rules over the files of a run, whoever wrote them."""
 import re
 
 from bridge import Bridge, number_of, records_of
@@ -47,9 +47,10 @@ class Trace:
     def names_places(self):
         """Rule 1: the journal's lines, and places that are there."""
         told = [line.journal for line in self.lines if line.journal is not None]
-        there = all(line.device in self.ports and (line.device and not line.side or 1 <= line.side <= self.ports[line.device])
-                    for line in self.lines if line.way)
-        return told == self.journal and bool(there)
+        return told == self.journal and all(self.is_there(line) for line in self.lines if line.way)
+
+    def is_there(self, line):
+        return line.device in self.ports and (0 if line.device else 1) <= line.side <= self.ports[line.device]
 
     def extenders_act(self):
         """Rule 2: each extender sends what such a machine sends."""

@@ -8,8 +8,8 @@ DOWN = 1
 
 
 class World:
-    """A world of a topology. A word on a link is its bytes and the port, index and moment of the record that it comes from; a control
-    word has None in their place. `fate` are the letters that are still to be given."""
+    """A world of a topology. A word on a link is its bytes and the port, index and moment of the record that it comes from; a
+    control word has None in their place. `fate` are the letters that are still to be given."""
 
     def __init__(self, text):
         self.bridge = Bridge(text)

@@ -3,7 +3,8 @@ from bridge import Bridge, name_of
 from world.schedule import SECOND, Lcg64Xsh32
 
 EXTENDERS = [(1, "b1"), (2, "b2"), (3, "x1.8"), (4, "x3.8"), (5, "x2.8"), (6, "x5.8")]
-BRIDGE = "bridge = { ports = 4 }\nextender = [" + ", ".join(f"{{ number = {number}, on = '{on}', ports = 8 }}" for number, on in EXTENDERS) + "]\n"
+TABLES = ", ".join(f"{{ number = {number}, on = '{on}', ports = 8 }}" for number, on in EXTENDERS)
+BRIDGE = f"bridge = {{ ports = 4 }}\nextender = [{TABLES}]\n"
 
 
 def listed(ports):
@@ -23,7 +24,8 @@ def made(number):
     text += "]\nport = [\n" + "".join(f"  {{ name = '{name}', pvid = {1 + below(4)} }},\n" for name in names) + "]\ncommand = [\n"
     for turn in range(20):
         vid, port, kind = 1 + below(4), names[below(46)], below(2)
-        text += f"  {{ at = {5 * turn}, op = 'member', vid = {vid}, port = '{port}', kind = '{'untagged' if kind else 'tagged'}' }},\n"
+        kind = "untagged" if kind else "tagged"
+        text += f"  {{ at = {5 * turn}, op = 'member', vid = {vid}, port = '{port}', kind = '{kind}' }},\n"
     records = {port: [] for port in ports}
     for turn in range(1000):
         moment = (1000 + turn // 10) * SECOND + turn % 10 * 1_000_000

@@ -211,7 +211,7 @@ def run(text, files, seed=None):
 
 
 def is_in_order(world, text, files, seed):
-    """Whether the journal, behind the opening, has each segment's tick, commands in order, and records, those of a local port in order."""
+    """Whether the journal, behind the opening, has each segment's tick, commands in order, and records."""
     records = {port: records_of(files[name]) for port, name in Bridge(text).captures.items()}
     events = merged(world.bridge.commands, records)
     segments = "\n".join(world.journal).split("settled")[1:-1]
@@ -226,10 +226,10 @@ def is_played(lines, seconds, segment):
     commands = [int(words[1]) for words in told if words[0] in ("commit", "refuse")]
     records = [(words[1], int(words[2])) for words in told if words[0] in ("relay", "ignore")]
     wanted = [(name_of(event.port), event.number) for event in segment if event.port is not None]
-    by_port = lambda them: sorted(it for it in them if it[0].startswith("b"))
-    local = [it for it in records if it[0].startswith("b")]
+    # Those of a port of the bridge stand in order.
+    by_port = sorted((it for it in records if it[0].startswith("b")), key=lambda it: it[0])
     return (ticks == [seconds] * (seconds > 0) and commands == [event.number for event in segment if event.port is None]
-            and sorted(records) == sorted(wanted) and sorted(local, key=lambda it: it[0]) == by_port(wanted)
+            and sorted(records) == sorted(wanted) and by_port == sorted(by_port)
             and len(told) == len(ticks) + len(commands) + len(records))
 
 

@@ -55,8 +55,9 @@ def is_number(ecid):
 
 
 def announcement(extender, ports):
-    values = [(1, b"\x04" + address(extender)), (2, b"\x07up"), (3, b"\x00\x78"), (127, bytes.fromhex("02454201") + bytes([ports])), (0, b"")]
-    return frame_of(extender, b"\x88\xcc" + b"".join(struct.pack(">H", kind << 9 | len(value)) + value for kind, value in values))
+    values = [(1, b"\x04" + address(extender)), (2, b"\x07up"), (3, b"\x00\x78"), (127, b"\x02\x45\x42\x01" + bytes([ports])), (0, b"")]
+    told = [struct.pack(">H", kind << 9 | len(value)) + value for kind, value in values]
+    return frame_of(extender, b"\x88\xcc" + b"".join(told))
 
 
 def read_announcement(frame):
@@ -78,8 +79,9 @@ def read_announcement(frame):
     (_, chassis), (_, port), (_, living) = values[:3]
     if len(chassis) != 7 or chassis[0] != 4 or len(port) < 2 or len(living) != 2:
         return None
-    ours = [value[4] for kind, value in values if kind == 127 and len(value) == 5 and value[:4] == b"\x02\x45\x42\x01" and 1 <= value[4] <= 64]
-    return (chassis[1:], ours[0]) if ours else None
+    ours = [value[4] for kind, value in values if kind == 127 and len(value) == 5 and value[:4] == b"\x02\x45\x42\x01"]
+    counts = [count for count in ours if 1 <= count <= 64]
+    return (chassis[1:], counts[0]) if counts else None
 
 
 def pdu(extender, sequence, payload=None):
@@ -89,7 +91,7 @@ def pdu(extender, sequence, payload=None):
 
 
 def read_pdu(frame):
-    """Sequence and payload of a frame of stop and wait, None for the payload of an acknowledgement; or None where it is no such frame."""
+    """Sequence and payload of a frame of stop and wait, or None where it is none. An acknowledgement has None for its payload."""
     if len(frame) < 18 or not is_control(frame) or frame[12:14] != b"\x89\x40":
         return None
     head, sequence = struct.unpack_from(">HH", frame, 14)
