@@ -201,7 +201,7 @@ class Bridge:
     """The bridge in motion. `journal` has the lines of what happened, `left` the moments and frames that left each port."""
 
     def __init__(self, text):
-        topology = tomllib.loads(text)
+        self.topology = topology = tomllib.loads(text)
         self.bridge, self.commands = topology["bridge"], topology.get("command", [])
         self.tree = Tree(self.bridge, topology.get("extender", []))
         self.now = Configuration(self.tree, topology)
@@ -300,6 +300,21 @@ class Bridge:
                 self.obey(index, what)
             self.journal.append("settled")
 
+    def follow(self, lines, records):
+        """Plays what the lines of a journal name, in their order. What is told of it has to be these lines."""
+        self.open()
+        for line in lines[len(self.journal):]:
+            kind, *words = line.split()
+            if kind in ("relay", "ignore"):
+                port, index = number_of(words[0]), int(words[1])
+                moment = max(moment for moment, _ in records[port][:index])
+                self.arrive(port, index, moment, records[port][index - 1][1])
+            elif kind in ("commit", "refuse"):
+                self.obey(int(words[0]), self.commands[int(words[0]) - 1])
+            else:
+                self.clock += int(words[0]) if kind == "tick" else 0
+                self.journal.append(line)
+
     def summary(self):
         arrivals, left = self.counts["relayed"] + self.counts["ignored"], sum(map(len, self.left.values()))
         return (f"arrivals {arrivals} relayed {self.counts['relayed']} ignored {self.counts['ignored']} left {left} "
@@ -325,10 +340,14 @@ def capture_of(records):
     )
 
 
-def run(text, files):
-    """Plays a topology with files: the files that are written by their names, and the summary."""
+def run(text, files, journal=None):
+    """Plays a topology with files: the files that are written by their names, and the summary. Where a journal is given its order is followed."""
     bridge = Bridge(text)
-    bridge.play({port: records_of(files[name]) for port, name in bridge.captures.items()})
+    records = {port: records_of(files[name]) for port, name in bridge.captures.items()}
+    if journal is None:
+        bridge.play(records)
+    else:
+        bridge.follow(journal, records)
     prefix = bridge.bridge.get("out", "out-")
     written = {f"{prefix}{name_of(port)}.pcap": capture_of(left) for port, left in bridge.left.items()}
     written[f"{prefix}journal.txt"] = "".join(f"{line}\n" for line in bridge.journal).encode()

@@ -2,8 +2,10 @@
 """Writes the folder data/ and the file stdout of this crate: topologies, captures, and what a run of each must answer and write.
 
 The expected files come from what is said here of each case, which frames leave which port and when, and never from exbr. Beside
-them stands a plain bridge (bridge.py), which has to come to the same in each case that is played to its end, and which alone says
-what comes of the cases that are too long to be told. Run it in any folder: `crates/exb_cases/cases.py` (Python 3.11 or later).
+them stand a plain bridge (bridge.py), which has to come to the same in each case that is played to its end, and which alone says
+what comes of the cases that are too long to be told; and the tree over links (world/), which has to come to the same again,
+whatever its links lose, and which alone says what its trace is and in which order a seed plays. Run it in any folder:
+`crates/exb_cases/cases.py` (Python 3.11 or later).
 """
 import os
 import re
@@ -17,13 +19,32 @@ sys.path.insert(0, HERE)
 import bridge
 import changes
 import examples
+import fates
 import generated
+import seeds
 import trees
+import words
 from frames import *
+from world.judge import judge_files
+from world.schedule import is_in_order, run as run_world
 
 DATA = os.path.join(HERE, "data")
-USAGE = "exbr: usage: exbr run TOPOLOGY"
 
+
+def agree_with_world(name, topology, files, seed=None):
+    """What a run writes and prints, its trace among it. The tree over links and the plain bridge have to come to the same, and the
+    trace and the order of events have to keep to their rules. Without a seed each event is played by itself."""
+    written, line, world = run_world(topology, files, seed)
+    plainly = bridge.run(topology, files, None if seed is None else world.journal)
+    trace = next(file for file in written if file.endswith("trace.txt"))
+    if ({file: data for file, data in written.items() if file != trace}, line) != plainly:
+        sys.exit(f"{name}: the tree over links and the plain bridge come to different files")
+    if not is_in_order(world, topology, files, seed):
+        sys.exit(f"{name}: the journal of the tree over links isn't in order")
+    rule = judge_files(topology, files, written)
+    if rule:
+        sys.exit(f"{name}: the trace of the tree over links breaks rule {rule}")
+    return written, line
 
 class Cases:
     """The lines of the list and of what is printed."""
@@ -49,32 +70,45 @@ class Cases:
         how = f"0, {len(files)} files as expected" if status == 0 else f"{status}, none of {len(files)} files is there"
         self.printed += [line.replace("FOLDER", name), f"{name}: {how}"]
 
-    def runs(self, name, topology, captures, expected, line, before=None):
-        """A case that is played to its end. Frames of an expected capture are given as records. A port without frames has no capture here."""
-        written, printed = self.plays(name, topology, captures, before)
+    def runs(self, name, topology, captures, expected, line, before=None, options=""):
+        """A case that is played to its end. Frames of an expected capture are given as records. A port without frames has no capture here,
+        and a trace isn't told."""
+        written, printed = self.plays(name, topology, captures, before, options)
         whole = {file: capture(*data) if isinstance(data, list) else data for file, data in expected.items()}
-        silent = {file: HEADER for file in written if file.endswith(".pcap")}
+        silent = {file: data if file.endswith("trace.txt") else HEADER for file, data in written.items() if not file.endswith("journal.txt")}
         for file, data in (silent | whole).items():
             if written.get(file) != data:
                 sys.exit(f"{name}: the plain bridge comes to another {file}: {written.get(file)} {data}")
         if printed != line:
             sys.exit(f"{name}: the plain bridge comes to {printed}")
 
-    def plays(self, name, topology, captures, before=None):
-        """A case that is played to its end, of which the plain bridge alone says what comes of it."""
+    def plays(self, name, topology, captures, before=None, options="", seed=None, file="topology.toml"):
+        """A case that is played to its end, of which the plain bridge alone says what comes of it, and the tree over links what its trace is.
+        Further words of the run, as `--trace`, stand in `options`, or all of its words."""
         given = {file: capture(*data) if isinstance(data, list) else data for file, data in captures.items()}
         files = {f"{name}/{file}": data for file, data in given.items()}
-        written, line = bridge.run(topology.replace("FOLDER", name), files)
+        topology = topology.replace("FOLDER", name)
+        written, line = agree_with_world(name, topology, files, seed)
         written = {file.removeprefix(f"{name}/"): data for file, data in written.items()}
-        self.put(name, {"topology.toml": topology, **given, **(before or {})})
+        trace = next(file for file in written if file.endswith("trace.txt"))
+        absent = [] if "--trace" in options else [f"!{trace}"]
+        if absent:
+            del written[trace]
+        self.put(name, {file: topology, **given, **(before or {})})
         self.put(name, {f"expected/{file}": data for file, data in written.items()})
-        self.end(name, 0, "run FOLDER/topology.toml", sorted(written), line)
+        words = options if "run" in options else f"run FOLDER/{file} {options}".rstrip()
+        self.end(name, 0, words, sorted(written) + absent, line)
         return written, line
 
     def stops(self, name, status, topology, captures, line, words="run FOLDER/topology.toml"):
         """A case that makes no file."""
         self.put(name, {"topology.toml": topology, **captures})
-        self.end(name, status, words, ["out-journal.txt", "out-x1.1.pcap", "out-x1.2.pcap"], line)
+        self.end(name, status, words, ["out-journal.txt", "out-trace.txt", "out-x1.1.pcap", "out-x1.2.pcap"], line)
+
+    def prints(self, name, words, lines, topology=""):
+        """A case that prints lines and makes no file."""
+        self.put(name, {"topology.toml": topology})
+        self.end(name, 0, words, ["!out-journal.txt", "!out-x1.1.pcap"], "\n".join(lines))
 
     def write(self):
         with open(os.path.join(DATA, "cases.txt"), "w", encoding="utf-8") as out:
@@ -205,11 +239,7 @@ def files(cases):
 
 
 def faults(cases):
-    """Runs that make no file: words, topologies and captures with a fault."""
-    for name, words in [("run-alone", "run"), ("a-word-too-many", "run FOLDER/topology.toml FOLDER/topology.toml"),
-                        ("another-word", "walk FOLDER/topology.toml"), ("a-dash", "run -"), ("an-option", "run --trace"),
-                        ("number-of-ports", "run 04 2")]:
-        cases.stops(name, 2, TWO_PORTS, {"a.pcap": HEADER}, USAGE, words)
+    """Runs that make no file: topologies and captures with a fault."""
     two = "bridge = {{ ports = 1, out = 'FOLDER/out-' }}\nextender = [{{ number = 1, on = '{}', ports = 1 }}, {{ number = 2, on = '{}', ports = 1 }}]\n"
     for name, topology, fault in [("not-toml", "nothing of the kind", "NotToml"), ("empty-topology", "", "Missing at bridge"),
                                   ("shared-port", two.format("b1", "b1"), "SharedPort at extender[1].on"),
@@ -232,13 +262,6 @@ def faults(cases):
     cases.stops("first-broken", 4, both, {"a.pcap": HEADER[:3]}, "exbr: capture x1.1: NotPcap at 0")
     cases.stops("second-broken", 4, both, {"a.pcap": HEADER, "b.pcap": HEADER[:20]}, "exbr: capture x1.2: Cut at 0")
     cases.stops("no-topology", 5, "", {}, "exbr: missing FOLDER/other.toml", "run FOLDER/other.toml")
-
-
-def not_built(cases):
-    """Topologies that can be read and not yet played."""
-    fate, later = "links = { fate = 'P' }\n", "command = [{ at = 0, op = 'down', port = 'x1.1', fate = 'L' }]\n"
-    for name, more in [("a-fate", fate), ("fate-of-a-command", later)]:
-        cases.stops(name, 8, one_extender(2, A, more=more), {"a.pcap": HEADER}, "exbr: not built")
 
 
 def agree_with_tables():
@@ -264,7 +287,8 @@ def agree_with_tables():
 def main():
     print(f"{agree_with_tables()} cases of exb_flat_tests come to the same")
     cases = Cases()
-    for part in (examples.play, frames, vlans, files, *trees.PARTS, *changes.PARTS, *generated.PARTS, faults, not_built):
+    for part in (examples.play, frames, vlans, files, *trees.PARTS, *changes.PARTS, *generated.PARTS, *fates.PARTS, *seeds.PARTS,
+                 *words.PARTS, faults):
         part(cases)
     cases.write()
 

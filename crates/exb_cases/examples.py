@@ -2,6 +2,7 @@
 import os
 
 from frames import *
+from world.schedule import run as run_world
 
 EXAMPLES = os.path.join(os.path.dirname(os.path.abspath(__file__)), "..", "..", "examples")
 
@@ -68,9 +69,23 @@ def too_few_groups():
     return given, left, lines, summary(5, 5, 0, 2, 3, 1)
 
 
+def lossy_links():
+    """A desk that becomes staff over links that lose control frames: nothing of that is seen at the ports."""
+    router, desk = map(address, (1, 2))
+    hello, answer = frame(ALL, desk), frame(desk, router)
+    given = {"b2": [(1001, tagged(10, 0, desk, router))], "x1.1": [(1000, hello), (1002, hello), (1003, hello)]}
+    both = [(1000, hello), (1002, hello), (1003, hello)]
+    left = {"x1.1": [(1001, answer)], "x1.2": both, "x2.1": both, "x2.2": both[1:], "b2": [(at, tagged(10, 0, ALL, desk)) for at, _ in both]}
+    ups = [f"up x{port}" for port in ("1.1", "1.2", "2.1", "2.2")]
+    lines = [*ups, "settled", *relays("x1.1 1"), "tick 1", *relays("b2 1"), "tick 1", *commits(1), *relays("x1.1 2"), "tick 1", *relays("x1.1 3")]
+    return given, left, lines, summary(4, 4, 0, 12, 1)
+
+
 # What comes of each example. The first two were made by hand.
 LINES = {"first-path": summary(1, 1, 0, 3), "office": summary(7, 6, 1, 8)}
-MADE = {"campus": campus, "private-hosts": private_hosts, "static-group": static_group, "too-few-groups": too_few_groups}
+MADE = {"campus": campus, "private-hosts": private_hosts, "static-group": static_group, "too-few-groups": too_few_groups,
+        "lossy-links": lossy_links}
+OPTIONS = {"lossy-links": "--trace"}
 
 
 def write(folder, name, data):
@@ -85,10 +100,19 @@ def make():
         given, left, lines, line = what()
         for port, records in given.items():
             write(os.path.join(EXAMPLES, name), f"in-{port}.pcap", capture(*records))
-        for port in {line.split()[1] for line in lines if line.startswith("up")} | {"b1", "b3", "b4"} & left.keys():
+        for port in {line.split()[1] for line in lines if line.startswith("up")} | {"b1", "b2", "b3", "b4"} & left.keys():
             write(os.path.join(EXAMPLES, name, "expected"), f"out-{port}.pcap", capture(*left.get(port, [])))
         write(os.path.join(EXAMPLES, name, "expected"), "out-journal.txt", journal(*lines))
         LINES[name] = line
+        if name in OPTIONS:
+            write(os.path.join(EXAMPLES, name, "expected"), "out-trace.txt", trace_of(name, given))
+
+
+def trace_of(name, given):
+    """The trace of an example, for which the tree over links alone can say it."""
+    with open(os.path.join(EXAMPLES, name, "topology.toml"), encoding="utf-8") as it:
+        written, _, _ = run_world(it.read(), {f"in-{port}.pcap": capture(*records) for port, records in given.items()})
+    return written["out-trace.txt"]
 
 
 def play(cases):
@@ -103,4 +127,4 @@ def play(cases):
             for file in sorted(it for it in os.listdir(where) if it.startswith(begin)):
                 with open(os.path.join(where, file), "rb") as it:
                     files[file] = it.read()
-        cases.runs(name, topology, given, expected, line)
+        cases.runs(name, topology, given, expected, line, options=OPTIONS.get(name, ""))

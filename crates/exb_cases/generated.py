@@ -131,7 +131,7 @@ def frame_at_random(chance):
     return frame(destination, source, rest, 14 + chance.below(20))
 
 
-def at_random(cases, seed, count, groups):
+def at_random(cases, seed, count, groups, options="", order=None):
     """Any tree with so many extenders, any rules, twenty commands, and frames at eight of its ports."""
     chance = Chance(seed)
     local = 2 + chance.below(3)
@@ -143,7 +143,7 @@ def at_random(cases, seed, count, groups):
     records = {port: [(100 * SECOND + (turn * 4 + chance.below(6)) * SECOND // 2 + chance.below(1000) * 1000, frame_at_random(chance))
                       for turn in range(chance.below(12))] for port in speaking}
     cases.plays(f"tree-at-random-{seed}", tree(extenders, {port: f"{port}.pcap" for port in speaking}, bridge, more),
-                {f"{port}.pcap": capture_of(its) for port, its in records.items()})
+                {f"{port}.pcap": capture_of(its) for port, its in records.items()}, options=options, seed=order)
 
 
 def trees_at_random(cases):

@@ -1,9 +1,11 @@
 //! Whole runs, each with its files. `data/cases.txt` has a line a case: its name, which is its folder's, the status that is
-//! wanted, the words that the program is given, a colon, and the files that it writes into the folder. Where the status is
-//! 0, each of these must be as the one of its name in the folder `expected` of the case; otherwise none of them may be
-//! there. What the run prints stands in front of the line that tells how the case ended.
+//! wanted, the words that the program is given (`""` is an empty one), a colon, and the files that it writes into the folder.
+//! Where the status is 0, each of these must be as the one of its name in the folder `expected` of the case, or absent where
+//! `!` stands before its name; otherwise none of them may be there. What the run prints stands in front of the line that
+//! tells how the case ended.
 #![tactic(auto)]
 
+use exb_fate::{Fate, ScriptFate};
 use exb_run::run;
 use exb_shelf::{FileShelf, OpenFault, OutSink, Shelf, read_file};
 use std::alloc::Global;
@@ -12,10 +14,11 @@ use std::{fs, io};
 /// The most bytes of a file that is compared.
 const LARGEST: usize = 16_777_216;
 
-/// The words of a text, at most those of a line.
+/// The words of a text, at most those of a line. Two quotation marks stand for an empty word.
 fn words_in(alloc: Global, text: &str) -> io::Result<Vec<String>> {
     let mut words = Vec::new(alloc);
     for word in text.split_whitespace() {
+        let word = if word == "\"\"" { "" } else { word };
         words.push(String::from_str(alloc, word)?)?;
     }
     Ok(words)
@@ -41,17 +44,25 @@ fn is_absent(alloc: Global, shelf: &mut FileShelf, folder: &str, name: &str) -> 
     Ok(matches!(opened, Err(OpenFault::Missing)))
 }
 
+/// Whether a file is as it must be after a run that was played to its end.
+fn is_right(alloc: Global, shelf: &mut FileShelf, folder: &str, name: &str) -> io::Result<bool> {
+    match name.strip_prefix("!") {
+        Some(name) => is_absent(alloc, shelf, folder, name),
+        None => is_expected(alloc, shelf, folder, name),
+    }
+}
+
 /// Prints how a case ended: the first file that isn't as it must be, or that all are.
 fn judge(rt: HostRuntime, folder: &str, status: u8, files: &[String]) -> io::Result<()> {
     let alloc = rt.alloc();
     let mut shelf = FileShelf::new(alloc, rt);
     for file in files {
         let name = file.as_str();
-        let is_right = match status {
-            0 => is_expected(alloc, &mut shelf, folder, name)?,
+        let holds = match status {
+            0 => is_right(alloc, &mut shelf, folder, name)?,
             _ => is_absent(alloc, &mut shelf, folder, name)?,
         };
-        if !is_right {
+        if !holds {
             println!(rt; "{folder}: {status}, and {name} is not as expected")?;
             return Ok(());
         }
@@ -71,7 +82,8 @@ fn play(rt: HostRuntime, name: &str, wanted: &str, told: &str, files: &str) -> i
     let files = words_in(alloc, files)?;
     let mut shelf = FileShelf::new(alloc, rt);
     let mut out = OutSink::new(rt);
-    let status = run(alloc, &words, &mut shelf, &mut out);
+    let fate: Box<dyn Fate> = Box::new(alloc, ScriptFate::new(alloc))?;
+    let status = run(alloc, &words, &mut shelf, &mut out, fate);
     if wanted.parse::<u8>() != Ok(status) {
         println!(rt; "{name}: {status} in place of {wanted}")?;
         return Ok(());
