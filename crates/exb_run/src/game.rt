@@ -361,7 +361,7 @@ fn play_world<S: Shelf>(
 ) -> Result<String, Fault>
     requires ready { IsReady plan.now (S.ids shelf.old) outputs }
     requires opened { (run : Run) × IsOpened S.tells (mode_of schedule) run plan.now (S.file shelf.old) (network_of world) nothing_counted outputs agenda.old }
-    requires budget { left world.fate + letters_in (drop agenda.old.taken agenda.old.commands) < 2 ^ 57 }
+    requires budget { left (fate_in world) + letters_in (drop agenda.old.taken agenda.old.commands) < 2 ^ 57 }
     ensures done { S.tells → IfOk result (λ line. (run : Run)
         → IsOpened S.tells (mode_of schedule) run plan.now (S.file shelf.old) (network_of world) nothing_counted outputs agenda.old
         → HasPlayed (mode_of schedule) run.input plan.now run.before (S.file shelf.new) (string_bytes line)) }
