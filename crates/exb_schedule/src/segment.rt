@@ -5,7 +5,7 @@ ghost use Rattle.exb_model.specs.Input.{Input, Segment, Mode, Eager, Seeded};
 ghost use Rattle.exb_model.specs.Setup.{IsValid, limits_of, shape_of};
 ghost use Rattle.exb_model.specs.Traces.{TraceLine as Telling};
 ghost use Rattle.exb_machine.specs.Allowing.{Can, IsSettled};
-ghost use Rattle.exb_machine.specs.Worlds.{Left as Leaving, Order};
+ghost use Rattle.exb_machine.specs.Worlds.{Left as Leaving, Mark, Order};
 ghost use Rattle.exb_network.specs.Networks.{world_of, tree_of, bounds_of, IsSame, IsStepped};
 ghost use Rattle.exb_network.specs.Worlds.{all_left};
 ghost use Rattle.exb_resting.specs.Settles.{MayTake};
@@ -14,6 +14,7 @@ ghost use Rattle.exb_schedule.specs.Playing.{gives, letters_in, orders, CanAll, 
 ghost use Rattle.exb_schedule.specs.Worlds.{network_of};
 
 use crate::arriving::{let_arrive, let_pass};
+use crate::motion::Motion;
 use crate::settling::settle;
 use crate::steps::{mark, order};
 use crate::world::World;
@@ -34,6 +35,17 @@ pub struct Arrival {
     pub bytes: Bytes,
 }
 
+/// Marks what is settled.
+fn set_mark(motion: &mut Motion) -> Result<(), WorldFault>
+    requires { IsSettled (tree_of motion.old) (world_of motion.old) }
+    ensures ok { OnOk result (IsStepped Mark motion.old motion.new) }
+    ensures may { OnOk result (MayTake (tree_of motion.old) (world_of motion.old) Mark) }
+    ensures failed { (result ≡ Err WorldFault.Failed) ↔ (motion.old.failed ≡ true) }
+    ensures memory { OnErr result (motion.new.failed ≡ true) }
+{
+    motion.step(mark())
+}
+
 /// Settles and marks.
 pub(crate) fn end(world: &mut World) -> Result<(), WorldFault>
     requires few { left world.old.fate < 2 ^ 57 }
@@ -44,7 +56,7 @@ pub(crate) fn end(world: &mut World) -> Result<(), WorldFault>
     ensures fate { left world.new.fate ≤ left world.old.fate }
 {
     settle(world)?;
-    world.motion.step(mark())
+    set_mark(&mut world.motion)
 }
 
 /// The world after its opening, for which the fate was armed.
