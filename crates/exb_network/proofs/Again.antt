@@ -13,11 +13,12 @@ use Rattle.exb_machine.specs.Stepping.{if_there}
 use Rattle.exb_machine.specs.Worlds.{World, at, with_near}
 use Rattle.exb_machine_laws.proofs.Hearing.{to_extender_control}
 use Rattle.exb_machine_laws.proofs.Words.{at_here}
+use Rattle.exb_network.specs.declared.log.Log.{Log}
 use Rattle.exb_network.specs.declared.site.Core.{Core}
 use Rattle.exb_network.specs.Ends.{near_of}
 use Rattle.exb_network.specs.Sites.{Site}
-use Rattle.exb_network.specs.Worlds.{world_in, IsAt, Moves}
-use Rattle.exb_network.proofs.Cores.{near_in, near_at}
+use Rattle.exb_network.specs.Worlds.{world_in, IsAt, Does}
+use Rattle.exb_network.proofs.Cores.{near_in, near_at, tells_nothing}
 
 -- ---- one end
 -- it has had one beat more
@@ -49,24 +50,24 @@ none_again t n due.SendAgain o w other = absurd (other refl)
 none_again t n due.Nothing o w other = refl
 none_again t n due.GaveUp o w other = refl
 
-pub again_on : (t : Shape) (n : ℕ) (s : Site) (c d : Core) (ends : List Ecp) (sequence : ℕ) (payload frame : List ℕ) → near_of ends ≡ at n (beaten (near_of c.near n)) (near_of c.near) →
+pub again_on : (t : Shape) (n : ℕ) (s : Site) (c d : Core) (ends : List Ecp) (sequence : ℕ) (payload frame : List ℕ) (old new : Log) → near_of ends ≡ at n (beaten (near_of c.near n)) (near_of c.near) →
     beat_of (near_of c.near n).sending ≡ due.SendAgain → IfSome (near_of ends n).sending (λ x. sequence ≡ x.sequence) → payload ≡ sent_payload (near_of ends n).sending → frame ≡ bridge_request sequence payload →
-    Moves (to_extender t n frame (world_in (record c { near = ends }))) s d → Moves (beats_near t n (world_in c)) s d
-again_on t n s c d ends sequence payload frame near is its bytes spelled moves =
+    Does (to_extender t n frame (world_in (record c { near = ends }))) s d old new → Does (beats_near t n (world_in c)) s d old new
+again_on t n s c d ends sequence payload frame old new near is its bytes spelled moves =
     let w : World = with_near n (beaten (near_of c.near n)) (world_in c) in
     let end : near_of ends n ≡ beaten (near_of c.near n) = ap (λ (f : ℕ → Ecp). f n) near ∙ at_here n (beaten (near_of c.near n)) (near_of c.near) in
     let same : sends_again t n (beat_of (near_of c.near n).sending) (near_of c.near n).sending w ≡ to_extender t n (bridge_request sequence payload) w =
     again_is t n (near_of c.near n).sending sequence payload w is (subst (λ (e : Ecp). IfSome e.sending (λ x. sequence ≡ x.sequence)) end its) (bytes ∙ ap (λ (e : Ecp). sent_payload e.sending) end) in
-    subst (λ (e : Effect). Moves e s d) (sym same)
-    (subst (λ (v : World). Moves (to_extender t n (bridge_request sequence payload) v) s d) (near_in c n ends _ near)
-    (subst (λ (f : List ℕ). Moves (to_extender t n f (world_in (record c { near = ends }))) s d) spelled moves))
+    subst (λ (e : Effect). Does e s d old new) (sym same)
+    (subst (λ (v : World). Does (to_extender t n (bridge_request sequence payload) v) s d old new) (near_in c n ends _ near)
+    (subst (λ (f : List ℕ). Does (to_extender t n f (world_in (record c { near = ends }))) s d old new) spelled moves))
 
-pub not_again_on : (t : Shape) (n : ℕ) (s : Site) (c : Core) (ends : List Ecp) → near_of ends ≡ at n (beaten (near_of c.near n)) (near_of c.near) →
-    beat_of (near_of c.near n).sending ≢ due.SendAgain → IsAt s c → Moves (beats_near t n (world_in c)) s (record c { near = ends })
-not_again_on t n s c ends near other here =
+pub not_again_on : (t : Shape) (n : ℕ) (s : Site) (c : Core) (ends : List Ecp) (log : Log) → near_of ends ≡ at n (beaten (near_of c.near n)) (near_of c.near) →
+    beat_of (near_of c.near n).sending ≢ due.SendAgain → IsAt s c → Does (beats_near t n (world_in c)) s (record c { near = ends }) log log
+not_again_on t n s c ends log near other here =
     let w : World = with_near n (beaten (near_of c.near n)) (world_in c) in
-    subst (λ (e : Effect). Moves e s (record c { near = ends })) (sym (none_again t n (beat_of (near_of c.near n).sending) (near_of c.near n).sending w other))
-    (record { world = near_in c n ends _ near; events = refl; passed = refl; left = refl; at = near_at s c here ends })
+    subst (λ (e : Effect). Does e s (record c { near = ends }) log log) (sym (none_again t n (beat_of (near_of c.near n).sending) (near_of c.near n).sending w other))
+    (tells_nothing (only w) s (record c { near = ends }) log (near_in c n ends _ near) refl refl refl refl (near_at s c here ends))
 
 -- one that sends nothing stays
 same_at : (n : ℕ) (f : ℕ → Ecp) → at n (f n) f ≡ f

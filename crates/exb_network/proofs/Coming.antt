@@ -38,7 +38,7 @@ use Rattle.exb_network.specs.declared.relaying.Passed.{Passed}
 use Rattle.exb_network.specs.declared.site.Core.{Core}
 use Rattle.exb_network.specs.Sends.{CanSend, HasPassed, is_passed, is_relay_first, passed_in, told_by}
 use Rattle.exb_network.specs.Sites.{Site}
-use Rattle.exb_network.specs.Worlds.{world_in, all_left, IsAt, Does}
+use Rattle.exb_network.specs.Worlds.{world_in, all_left, IsAt, Does, KeepsTrace}
 use Rattle.exb_network.proofs.BridgeSends.{can_all, sends_as}
 
 -- ---- what has passed
@@ -150,8 +150,8 @@ module _ (s : Site) (c : Core) (p : Parts) (rest : p ≡ record c.control { lear
 
 module _ (s : Site) (c : Core) (p : Parts) (a : Arrival) (out : Outbox) (came : HasCome a c.control p out) where
   pub came_does : (old new : Log) → IsAt s c → new.events ≡ old.events ++ out.events → new.passed ≡ old.passed ++ passed_in out.events out.ingress → new.left ≡ old.left →
-      Does (told_by a (world_in c)) s (record c { control = p }) old new
-  came_does old new at events passed left =
+      KeepsTrace old new → Does (told_by a (world_in c)) s (record c { control = p }) old new
+  came_does old new at events passed left trace =
       record {
         world = learned_world s c p came.rest _ came.table;
         events = events ∙ ap (λ es. old.events ++ es) came.events;
@@ -160,6 +160,9 @@ module _ (s : Site) (c : Core) (p : Parts) (a : Arrival) (out : Outbox) (came : 
             ∙ ap (λ bs. old.passed ++ bs)
             (ap (λ (es : List Event). passed_in es out.ingress) came.events ∙ ap (passed_in (arrival_event (bridge_in c.control.fabric) a ∷ [])) came.ingress ∙ told_passed (bridge_in c.control.fabric) a);
         left = ap all_left left ∙ sym (append-nil (all_left old.left));
+        outs = trace.outs ∙ sym (append-nil old.outs.items);
+        lines = trace.lines;
+        tracing = trace.tracing;
         at = learned_at s c p came.rest at;
       }
 

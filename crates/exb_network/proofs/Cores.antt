@@ -4,7 +4,8 @@ use Rattle.std.proofs.lemmas.List.{append-nil, map-append}
 use Rattle.exb_ecp.specs.Machine.{State as Ecp}
 use Rattle.exb_extender.specs.Machine.{ExtenderState}
 use Rattle.exb_link.specs.declared.word.Word.{Word}
-use Rattle.exb_machine.specs.Worlds.{Line, Left as Leaving, at, with_near, with_far, with_down, with_up}
+use Rattle.exb_machine.specs.Telling.{all_told, told}
+use Rattle.exb_machine.specs.Worlds.{World, Line, Left as Leaving, at, with_near, with_far, with_down, with_up}
 use Rattle.exb_machine.specs.Effects.{Effect, only, sending, leaving}
 use Rattle.exb_network.specs.declared.log.Left.{Left}
 use Rattle.exb_network.specs.declared.log.Log.{Log}
@@ -13,7 +14,7 @@ use Rattle.exb_network.specs.Devices.{Devices, far_of, AreSame}
 use Rattle.exb_network.specs.Directions.{words_of}
 use Rattle.exb_network.specs.Ends.{near_of}
 use Rattle.exb_network.specs.Sites.{Site}
-use Rattle.exb_network.specs.Worlds.{world_in, all_left, left_of, IsAt, Does}
+use Rattle.exb_network.specs.Worlds.{world_in, all_left, left_of, if_tracing, IsAt, Does, HasLeft}
 
 -- ---- the world
 module _ (c : Core) (n : ℕ) where
@@ -55,36 +56,76 @@ module _ (s : Site) (c : Core) (is : IsAt s c) where
 
 -- ---- what is done
 -- nothing is told
-pub tells_nothing : (e : Effect) (s : Site) (c : Core) (log : Log) → world_in c ≡ e.world → e.events ≡ [] → e.passed ≡ [] → e.left ≡ [] → IsAt s c → Does e s c log log
-tells_nothing e s c log world events passed left is =
+pub tells_nothing : (e : Effect) (s : Site) (c : Core) (log : Log) → world_in c ≡ e.world → e.events ≡ [] → e.passed ≡ [] → e.left ≡ [] → e.outs ≡ [] → IsAt s c → Does e s c log log
+tells_nothing e s c log world events passed left outs is =
     record {
       world = world;
       events = sym (append-nil log.events) ∙ ap (λ xs. log.events ++ xs) (sym events);
       passed = sym (append-nil log.passed) ∙ ap (λ xs. log.passed ++ xs) (sym passed);
       left = sym (append-nil (all_left log.left)) ∙ ap (λ xs. all_left log.left ++ xs) (sym left);
+      outs = sym (append-nil log.outs.items) ∙ ap (λ xs. log.outs.items ++ if_tracing log.tracing (all_told xs)) (sym outs);
+      lines = refl;
+      tracing = refl;
       at = is;
     }
 
-module _ (s : Site) (c : Core) (log : Log) (line : Line) (n : ℕ) (ws : List Word) (is : IsAt s c) where
-  -- a word goes onto a link
-  pub sends_down : (d : List (List Word)) → words_of d ≡ at n ws (words_of c.down) → Does (sending line (with_down n ws (world_in c))) s (record c { down = d }) log log
-  sends_down d h = tells_nothing (sending line (with_down n ws (world_in c))) s (record c { down = d }) log (down_in c n d ws h) refl refl refl (down_at s c is d)
+-- the line of what goes out is noted, and nothing else
+pub record IsNoted (line : Line) (old new : Log) : Type 0 where
+  pub outs : new.outs.items ≡ old.outs.items ++ if_tracing old.tracing (told line ∷ [])
+  pub events : new.events ≡ old.events
+  pub passed : new.passed ≡ old.passed
+  pub lines : new.lines ≡ old.lines
+  pub tracing : new.tracing ≡ old.tracing
 
-  pub sends_up : (d : List (List Word)) → words_of d ≡ at n ws (words_of c.up) → Does (sending line (with_up n ws (world_in c))) s (record c { up = d }) log log
-  sends_up d h = tells_nothing (sending line (with_up n ws (world_in c))) s (record c { up = d }) log (up_in c n d ws h) refl refl refl (up_at s c is d)
+-- a word goes out
+pub sends_word : (line : Line) (w : World) (s : Site) (c : Core) (old new : Log) → world_in c ≡ w → IsAt s c → IsNoted line old new → new.left ≡ old.left → Does (sending line w) s c old new
+sends_word line w s c old new world is noted left =
+    record {
+      world = world;
+      events = noted.events ∙ sym (append-nil old.events);
+      passed = noted.passed ∙ sym (append-nil old.passed);
+      left = ap all_left left ∙ sym (append-nil (all_left old.left));
+      outs = noted.outs;
+      lines = noted.lines;
+      tracing = noted.tracing;
+      at = is;
+    }
+
+module _ (s : Site) (c : Core) (old new : Log) (line : Line) (n : ℕ) (ws : List Word) (is : IsAt s c) (noted : IsNoted line old new) (left : new.left ≡ old.left) where
+  -- a word goes onto a link
+  pub sends_down : (d : List (List Word)) → words_of d ≡ at n ws (words_of c.down) → Does (sending line (with_down n ws (world_in c))) s (record c { down = d }) old new
+  sends_down d h = sends_word line (with_down n ws (world_in c)) s (record c { down = d }) old new (down_in c n d ws h) (down_at s c is d) noted left
+
+  pub sends_up : (d : List (List Word)) → words_of d ≡ at n ws (words_of c.up) → Does (sending line (with_up n ws (world_in c))) s (record c { up = d }) old new
+  sends_up d h = sends_word line (with_up n ws (world_in c)) s (record c { up = d }) old new (up_in c n d ws h) (up_at s c is d) noted left
 
 -- a frame leaves
-pub leaves : (s : Site) (c : Core) (log : Log) (line : Line) (x : Left) (y : Leaving) (more : List Left) → IsAt s c → left_of x ≡ y → more ≡ log.left ++ x ∷ [] →
-    Does (leaving line y (world_in c)) s c log (record log { left = more })
-leaves s c log line x y more is same h =
+pub has_left : (s : Site) (c : Core) (old new : Log) (line : Line) (x : Leaving) → IsAt s c → HasLeft x (told line) old new → Does (leaving line x (world_in c)) s c old new
+has_left s c old new line x is left =
     record {
       world = refl;
-      events = sym (append-nil log.events);
-      passed = sym (append-nil log.passed);
-      left = ap all_left h ∙ map-append left_of log.left (x ∷ []) ∙ ap (λ z. all_left log.left ++ z ∷ []) same;
+      events = left.events ∙ sym (append-nil old.events);
+      passed = left.passed ∙ sym (append-nil old.passed);
+      left = left.left;
+      outs = left.outs;
+      lines = left.lines;
+      tracing = left.tracing;
       at = is;
     }
+
+pub leaves : (s : Site) (c : Core) (old new : Log) (line : Line) (x : Left) (y : Leaving) → IsAt s c → IsNoted line old new → left_of x ≡ y → new.left ≡ old.left ++ x ∷ [] →
+    Does (leaving line y (world_in c)) s c old new
+leaves s c old new line x y is noted same h =
+    has_left s c old new line y is
+    (record {
+      left = ap all_left h ∙ map-append left_of old.left (x ∷ []) ∙ ap (λ z. all_left old.left ++ z ∷ []) same;
+      outs = noted.outs;
+      events = noted.events;
+      passed = noted.passed;
+      lines = noted.lines;
+      tracing = noted.tracing;
+    })
 
 -- nothing is done
 pub does_nothing : (s : Site) (c : Core) (log : Log) → IsAt s c → Does (only (world_in c)) s c log log
-does_nothing s c log is = tells_nothing (only (world_in c)) s c log refl refl refl refl is
+does_nothing s c log is = tells_nothing (only (world_in c)) s c log refl refl refl refl refl is

@@ -1,20 +1,36 @@
 -- Effects are done one after another.
-use Rattle.std.proofs.Common.{◌≡◌, ℕ, suc, ◌+◌, ◌<◌, ◌≤◌, List, [], ◌∷◌, ◌++◌, length, get_or, map, drop, refl, ap, sym, subst, ◌∙◌, add-one, drop-cons}
-use Rattle.std.proofs.lemmas.List.{append-nil, append_assoc, drop_all}
-use Rattle.exb_machine.specs.Worlds.{World}
+use Rattle.std.proofs.Common.{◌≡◌, ℕ, Bool, suc, ◌+◌, ◌<◌, ◌≤◌, List, [], ◌∷◌, ◌++◌, length, get_or, map, drop, refl, ap, sym, subst, ◌∙◌, add-one, drop-cons}
+use Rattle.std.proofs.lemmas.List.{append-nil, append_assoc, drop_all, map-append}
+use Rattle.std.proofs.lemmas.List.Elements.{filter-append}
+use Rattle.exb_model.specs.Traces.{TraceLine}
+use Rattle.exb_machine.specs.Telling.{all_told, told as told_line}
+use Rattle.exb_machine.specs.Worlds.{World, Line}
 use Rattle.exb_machine.specs.Effects.{Effect, only, joined, then_do, each}
 use Rattle.exb_network.specs.declared.log.Log.{Log}
 use Rattle.exb_network.specs.declared.site.Core.{Core}
 use Rattle.exb_network.specs.Sites.{Site}
-use Rattle.exb_network.specs.Worlds.{world_in, all_left, IsAt, Does, Moves}
+use Rattle.exb_network.specs.Worlds.{world_in, all_left, if_tracing, IsAt, Does}
 use Rattle.exb_network.specs.Leading.{Leads}
 
 -- nothing is done yet
 pub leads_first : (e : Effect) (old : Log) → Leads e e old old
-leads_first e old = record { world = refl; events = refl; passed = refl; left = refl }
+leads_first e old = record { world = refl; events = refl; passed = refl; left = refl; outs = refl; lines = refl; tracing = refl }
 
 joins : {A : Type 0} (told more rest whole : List A) (mid : List A) → mid ≡ told ++ more → told ++ (more ++ rest) ≡ whole → mid ++ rest ≡ whole
 joins told more rest whole mid is h = ap (λ xs. xs ++ rest) is ∙ append_assoc told more rest ∙ h
+
+-- the lines of one thing after another
+abbrev traced : Bool → List Line → List TraceLine
+traced tracing ls = if_tracing tracing (all_told ls)
+
+traced_parts : (tracing : Bool) (xs ys : List Line) → traced tracing (xs ++ ys) ≡ traced tracing xs ++ traced tracing ys
+traced_parts tracing xs ys = ap (if_tracing tracing) (map-append told_line xs ys) ∙ filter-append (λ line. tracing) (all_told xs) (all_told ys)
+
+joins_traced : (xs ys : List TraceLine) (before now : Bool) (more rest : List Line) (whole : List TraceLine) → now ≡ before → ys ≡ xs ++ traced before more →
+    xs ++ traced before (more ++ rest) ≡ whole → ys ++ traced now rest ≡ whole
+joins_traced xs ys before now more rest whole same is h =
+    subst (λ (b : Bool). ys ++ traced b rest ≡ whole) (sym same)
+    (joins xs (traced before more) (traced before rest) whole ys is (subst (λ (zs : List TraceLine). xs ++ zs ≡ whole) (traced_parts before more rest) h))
 
 -- the first part is done
 pub leads_on : (whole e : Effect) (g : World → Effect) (s : Site) (c : Core) (old told new : Log) →
@@ -26,6 +42,11 @@ leads_on whole e g s c old told new leads done =
       events = joins told.events e.events (g e.world).events (old.events ++ whole.events) new.events done.events leads.events;
       passed = joins told.passed e.passed (g e.world).passed (old.passed ++ whole.passed) new.passed done.passed leads.passed;
       left = joins (all_left told.left) e.left (g e.world).left (all_left old.left ++ whole.left) (all_left new.left) done.left leads.left;
+      outs =
+          joins_traced told.outs.items new.outs.items told.tracing new.tracing e.outs (g e.world).outs (old.outs.items ++ traced old.tracing whole.outs) done.tracing done.outs
+          leads.outs;
+      lines = done.lines ∙ leads.lines;
+      tracing = done.tracing ∙ leads.tracing;
     })
 
 -- the rest is done
@@ -36,6 +57,9 @@ leads_end whole rest s c old told new leads done =
       events = done.events ∙ leads.events;
       passed = done.passed ∙ leads.passed;
       left = done.left ∙ leads.left;
+      outs = done.outs ∙ leads.outs;
+      lines = done.lines ∙ leads.lines;
+      tracing = done.tracing ∙ leads.tracing;
       at = done.at;
     }
 
@@ -47,34 +71,11 @@ leads_only whole s c old told leads at =
       events = sym (append-nil told.events) ∙ leads.events;
       passed = sym (append-nil told.passed) ∙ leads.passed;
       left = sym (append-nil (all_left told.left)) ∙ leads.left;
+      outs = sym (append-nil told.outs.items) ∙ leads.outs;
+      lines = leads.lines;
+      tracing = leads.tracing;
       at = at;
     }
-
--- an effect that tells nothing leaves the log
-pub moves_does : (e : Effect) (s : Site) (c : Core) (log : Log) → Moves e s c → Does e s c log log
-moves_does e s c log moves =
-    record {
-      world = moves.world;
-      events = sym (append-nil log.events) ∙ ap (λ xs. log.events ++ xs) (sym moves.events);
-      passed = sym (append-nil log.passed) ∙ ap (λ xs. log.passed ++ xs) (sym moves.passed);
-      left = sym (append-nil (all_left log.left)) ∙ ap (λ xs. all_left log.left ++ xs) (sym moves.left);
-      at = moves.at;
-    }
-
--- one effect that tells nothing after another
-pub moves_then : (e : Effect) (g : World → Effect) (s : Site) (c d : Core) → Moves e s c → Moves (g (world_in c)) s d → Moves (then_do e g) s d
-moves_then e g s c d first second = by_world (world_in c) first.world second
-  where
-    by_world : (w : World) → w ≡ e.world → Moves (g w) s d → Moves (then_do e g) s d
-    by_world w is more =
-        let m : Moves (g e.world) s d = subst (λ (v : World). Moves (g v) s d) is more in
-        record {
-          world = m.world;
-          events = ap (λ xs. xs ++ (g e.world).events) first.events ∙ m.events;
-          passed = ap (λ xs. xs ++ (g e.world).passed) first.passed ∙ m.passed;
-          left = ap (λ xs. xs ++ (g e.world).left) first.left ∙ m.left;
-          at = m.at;
-        }
 
 -- one effect after another
 pub does_then : (e : Effect) (g : World → Effect) (s : Site) (c d : Core) (old told new : Log) →

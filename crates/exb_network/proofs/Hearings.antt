@@ -32,9 +32,9 @@ use Rattle.exb_network.specs.declared.log.Log.{Log}
 use Rattle.exb_network.specs.declared.site.Core.{Core}
 use Rattle.exb_network.specs.Ends.{near_of}
 use Rattle.exb_network.specs.Sites.{Site, limits_in}
-use Rattle.exb_network.specs.Worlds.{world_in, IsAt, Does, Moves}
-use Rattle.exb_network.proofs.Doing.{moves_does, does_then}
-use Rattle.exb_network.proofs.Cores.{near_in, near_at}
+use Rattle.exb_network.specs.Worlds.{world_in, IsAt, Does}
+use Rattle.exb_network.proofs.Doing.{does_then}
+use Rattle.exb_network.proofs.Cores.{near_in, near_at, tells_nothing}
 use Rattle.exb_network.proofs.Fields.{moved_is}
 
 -- ---- the control has made a step, which is the machine's at this site
@@ -55,8 +55,8 @@ pub asks_go : (t : Shape) (m : Moved) (old new : Parts) (out : Outbox) → IsMov
 asks_go t m old new out moved go low = subst (Each (CanGo t)) (sym moved.asks) (go (subst (λ (x : State). AreLow x.askers) moved.state low))
 
 -- it still can after a control frame went out
-pub still_asks : (t : Shape) (l : Limits) (n : ℕ) (f : List ℕ) (s : Site) (c d : Core) → Moves (to_extender t n f (world_in c)) s d → AsksWell t l (world_in c).control → AsksWell t l (world_in d).control
-still_asks t l n f s c d moves asks = subst (AsksWell t l) (sym (ap (λ (w : World). w.control) moves.world ∙ to_extender_control t n f (world_in c))) asks
+pub still_asks : (t : Shape) (l : Limits) (n : ℕ) (f : List ℕ) (s : Site) (c d : Core) (old new : Log) → Does (to_extender t n f (world_in c)) s d old new → AsksWell t l (world_in c).control → AsksWell t l (world_in d).control
+still_asks t l n f s c d old new moves asks = subst (AsksWell t l) (sym (ap (λ (w : World). w.control) moves.world ∙ to_extender_control t n f (world_in c))) asks
 
 -- ---- answers
 -- an answer that is taken ends the sending of its request
@@ -97,27 +97,25 @@ stale sequence e old = ap (λ (o : Option ℕ). record e { received = o }) (by_r
         by_test true y = refl
         by_test false y = absurd (false≢true (sym y))
 
-pub stale_on : (t : Shape) (l : Limits) (n sequence : ℕ) (payload frame : List ℕ) (s : Site) (c mid : Core) (ends : List Ecp) (log : Log) → frame ≡ bridge_acknowledgement sequence →
-    Moves (to_extender t n frame (world_in c)) s mid → near_of ends ≡ at n (heard sequence (near_of mid.near n)) (near_of mid.near) → is_fresh sequence (near_of mid.near n) ≡ false →
-    Does (hears_request t l n sequence payload (world_in c)) s (record mid { near = ends }) log log
-stale_on t l n sequence payload frame s c mid ends log spelled sent near old =
+pub stale_on : (t : Shape) (l : Limits) (n sequence : ℕ) (payload frame : List ℕ) (s : Site) (c mid : Core) (ends : List Ecp) (old new : Log) → frame ≡ bridge_acknowledgement sequence →
+    Does (to_extender t n frame (world_in c)) s mid old new → near_of ends ≡ at n (heard sequence (near_of mid.near n)) (near_of mid.near) → is_fresh sequence (near_of mid.near n) ≡ false →
+    Does (hears_request t l n sequence payload (world_in c)) s (record mid { near = ends }) old new
+stale_on t l n sequence payload frame s c mid ends old new spelled sent near last =
     let d : Core = record mid { near = ends } in
-    let first : Moves (to_extender t n (bridge_acknowledgement sequence) (world_in c)) s mid = subst (λ (f : List ℕ). Moves (to_extender t n f (world_in c)) s mid) spelled sent in
-    let same : near_of ends ≡ near_of mid.near = near ∙ ap (λ (e : Ecp). at n e (near_of mid.near)) (stale sequence (near_of mid.near n) old) ∙ at_own n (near_of mid.near) in
-    let rest : Moves (only (world_in mid)) s d =
-    record { world = ap (λ (f : ℕ → Ecp). record (world_in mid) { near = f }) same; events = refl; passed = refl; left = refl; at = near_at s mid first.at ends } in
-    does_then (to_extender t n (bridge_acknowledgement sequence) (world_in c)) (λ v. hears_fresh t l n (is_fresh sequence (v.near n)) sequence payload v) s mid d log log log
-    (moves_does (to_extender t n (bridge_acknowledgement sequence) (world_in c)) s mid log first)
-    (rw old (moves_does (only (world_in mid)) s d log rest))
+    let first : Does (to_extender t n (bridge_acknowledgement sequence) (world_in c)) s mid old new = subst (λ (f : List ℕ). Does (to_extender t n f (world_in c)) s mid old new) spelled sent in
+    let same : near_of ends ≡ near_of mid.near = near ∙ ap (λ (e : Ecp). at n e (near_of mid.near)) (stale sequence (near_of mid.near n) last) ∙ at_own n (near_of mid.near) in
+    let rest : Does (only (world_in mid)) s d new new =
+    tells_nothing (only (world_in mid)) s d new (ap (λ (f : ℕ → Ecp). record (world_in mid) { near = f }) same) refl refl refl refl (near_at s mid first.at ends) in
+    does_then (to_extender t n (bridge_acknowledgement sequence) (world_in c)) (λ v. hears_fresh t l n (is_fresh sequence (v.near n)) sequence payload v) s mid d old new new first
+    (rw last rest)
 
-pub fresh_on : (t : Shape) (l : Limits) (n sequence : ℕ) (payload frame : List ℕ) (s : Site) (c mid d : Core) (ends : List Ecp) (old new : Log) → frame ≡ bridge_acknowledgement sequence →
-    Moves (to_extender t n frame (world_in c)) s mid → near_of ends ≡ at n (heard sequence (near_of mid.near n)) (near_of mid.near) → is_fresh sequence (near_of mid.near n) ≡ true →
-    Does (hears_message t l n (read_message payload) (world_in (record mid { near = ends }))) s d old new → Does (hears_request t l n sequence payload (world_in c)) s d old new
-fresh_on t l n sequence payload frame s c mid d ends old new spelled sent near fresh done =
-    let first : Moves (to_extender t n (bridge_acknowledgement sequence) (world_in c)) s mid = subst (λ (f : List ℕ). Moves (to_extender t n f (world_in c)) s mid) spelled sent in
-    does_then (to_extender t n (bridge_acknowledgement sequence) (world_in c)) (λ v. hears_fresh t l n (is_fresh sequence (v.near n)) sequence payload v) s mid d old old new
-    (moves_does (to_extender t n (bridge_acknowledgement sequence) (world_in c)) s mid old first)
-    (rw fresh (subst (λ (w : World). Does (hears_message t l n (read_message payload) w) s d old new) (near_in mid n ends _ near) done))
+pub fresh_on : (t : Shape) (l : Limits) (n sequence : ℕ) (payload frame : List ℕ) (s : Site) (c mid d : Core) (ends : List Ecp) (old told new : Log) → frame ≡ bridge_acknowledgement sequence →
+    Does (to_extender t n frame (world_in c)) s mid old told → near_of ends ≡ at n (heard sequence (near_of mid.near n)) (near_of mid.near) → is_fresh sequence (near_of mid.near n) ≡ true →
+    Does (hears_message t l n (read_message payload) (world_in (record mid { near = ends }))) s d told new → Does (hears_request t l n sequence payload (world_in c)) s d old new
+fresh_on t l n sequence payload frame s c mid d ends old told new spelled sent near fresh done =
+    let first : Does (to_extender t n (bridge_acknowledgement sequence) (world_in c)) s mid old told = subst (λ (f : List ℕ). Does (to_extender t n f (world_in c)) s mid old told) spelled sent in
+    does_then (to_extender t n (bridge_acknowledgement sequence) (world_in c)) (λ v. hears_fresh t l n (is_fresh sequence (v.near n)) sequence payload v) s mid d old told new first
+    (rw fresh (subst (λ (w : World). Does (hears_message t l n (read_message payload) w) s d told new) (near_in mid n ends _ near) done))
 
 -- a control frame that is an announcement
 pub announcement_on : (t : Shape) (l : Limits) (n : ℕ) (f : List ℕ) (a : Announce) (s : Site) (c d : Core) (old new : Log) → announcement_in f ≡ Ok a →

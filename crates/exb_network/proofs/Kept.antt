@@ -1,5 +1,5 @@
 -- What a network keeps: the machine's world stays sound, and words stay bytes.
-use Rattle.std.proofs.Common.{◌≡◌, ℕ, ◌<◌, ◌^◌, ◌≤◌, Bool, true, List, [], ◌∷◌, Option, Some, None, refl, sym, subst}
+use Rattle.std.proofs.Common.{◌≡◌, ℕ, ◌<◌, ◌^◌, ◌≤◌, true, List, [], ◌∷◌, Option, Some, None, refl, sym, subst}
 use Rattle.std.specs.Prelude.{is_none}
 use Rattle.exb_model.specs.declared.setup.Setup.{Setup}
 use Rattle.exb_model.specs.Setup.{Limits, IsValid, shape_of, limits_of, start_of}
@@ -23,18 +23,12 @@ use Rattle.exb_machine_laws.specs.Written.{AreWritten, BeginsWritten, StepsStayW
 use Rattle.exb_network.specs.declared.log.Log.{Log}
 use Rattle.exb_network.specs.declared.site.Core.{Core}
 use Rattle.exb_network.specs.Idle.{IsIdle}
-use Rattle.exb_network.specs.Networks.{IsLive, IsStepped, network_of}
+use Rattle.exb_network.specs.Networks.{IsLive}
 use Rattle.exb_network.specs.Sites.{Site, limits_in}
 use Rattle.exb_network.specs.Worlds.{world_in, IsAt, Does}
 use Rattle.exb_network.proofs.ToExtenders.{serials_low}
 
 -- ---- a step
-pub stepped_is : (s : Site) (c d : Core) (step : Step) (old new : Log) (f g : Bool) → g ≡ f → Does (done_by s.tree (limits_in s) step (world_in c)) s d old new →
-    IsStepped step (network_of s c old f) (network_of s d new g)
-unfolding stepped
-stepped_is s c d step old new f g same does =
-    record { world = does.world; events = does.events; passed = does.passed; left = does.left; same = record { site = refl; failed = same } }
-
 pub setting_of : (s : Site) (c : Core) → IsFabric c.control.fabric → IsAt s c → IsSetting s.tree (limits_in s)
 setting_of s c fabric is_at =
     record {

@@ -14,6 +14,7 @@ pub mod Again
 pub mod Loops
 pub mod Beats
 pub mod Kept
+pub mod Lines
 pub mod Hanging
 pub mod Cores
 pub mod Reacting

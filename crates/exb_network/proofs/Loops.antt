@@ -1,5 +1,5 @@
 -- Effects that are done for each of a list, or for each of the extenders in order.
-use Rattle.std.proofs.Common.{◌≡◌, ℕ, suc, zero, ◌+◌, ◌-◌, ◌<◌, ◌≤◌, List, [], ◌∷◌, length, get_or, drop, ap, refl, sym, subst, ◌∙◌, arith}
+use Rattle.std.proofs.Common.{◌≡◌, ℕ, suc, zero, ◌+◌, ◌-◌, ◌<◌, ◌≤◌, List, [], ◌∷◌, length, get_or, drop, ap, sym, subst, ◌∙◌, arith}
 use Rattle.std.proofs.lemmas.List.{drop_more, drop_all}
 use Rattle.std.proofs.lemmas.List.FromFn.{length-range_with_len, get_or-range_with_len}
 use Rattle.exb_machine.specs.Effects.{Effect, only, each}
@@ -10,10 +10,9 @@ use Rattle.exb_network.specs.declared.log.Log.{Log}
 use Rattle.exb_network.specs.declared.site.Core.{Core}
 use Rattle.exb_network.specs.Leading.{Leads}
 use Rattle.exb_network.specs.Sites.{Site}
-use Rattle.exb_network.specs.Worlds.{world_in, IsAt, Does, Moves}
+use Rattle.exb_network.specs.Worlds.{world_in, IsAt, Does}
 use Rattle.exb_network.proofs.Cores.{does_nothing}
 use Rattle.exb_network.proofs.Doing.{leads_on, leads_only}
-use Rattle.exb_network.proofs.Moving.{Remains, remains_on, remains_only}
 
 -- ---- a list
 each_at : {A : Type 0} (P : A → Type 0) (xs : List A) (i : ℕ) (d : A) → Each P xs → i < length xs → P (get_or xs i d)
@@ -25,24 +24,13 @@ pub each_item : {A : Type 0} (P : A → Type 0) (xs : List A) (i : ℕ) (x : A) 
 each_item P xs i x all few is = subst P (sym is) (each_at P xs i x all few)
 
 -- it was done for one more
-pub each_on : {A : Type 0} (f : A → World → Effect) (whole : Effect) (xs : List A) (i : ℕ) (x : A) (s : Site) (c d : Core) → i < length xs → x ≡ get_or xs i x →
-    Remains whole (each f (drop i xs) (world_in c)) → Moves (f x (world_in c)) s d → Remains whole (each f (drop (i + 1) xs) (world_in d))
-each_on f whole xs i x s c d few is remains moves =
-    remains_on whole (f x (world_in c)) (each f (drop (i + 1) xs)) s d
-    (subst (λ ys. Remains whole (each f ys (world_in c))) (drop_more xs i x few ∙ ap (λ y. y ∷ drop (i + 1) xs) (sym is)) remains) moves
-
--- it was done for all
-pub each_end : {A : Type 0} (f : A → World → Effect) (whole : Effect) (xs : List A) (i : ℕ) (s : Site) (c : Core) → length xs ≤ i →
-    Remains whole (each f (drop i xs) (world_in c)) → IsAt s c → Moves whole s c
-each_end f whole xs i s c all remains at =
-    remains_only whole s c (subst (λ ys. Remains whole (each f ys (world_in c))) (drop_all i xs all) remains) at
-
 pub each_leads : {A : Type 0} (f : A → World → Effect) (whole : Effect) (xs : List A) (i : ℕ) (x : A) (s : Site) (c d : Core) (old told new : Log) → i < length xs → x ≡ get_or xs i x →
     Leads whole (each f (drop i xs) (world_in c)) old told → Does (f x (world_in c)) s d told new → Leads whole (each f (drop (i + 1) xs) (world_in d)) old new
 each_leads f whole xs i x s c d old told new few is leads does =
     leads_on whole (f x (world_in c)) (each f (drop (i + 1) xs)) s d old told new
     (subst (λ ys. Leads whole (each f ys (world_in c)) old told) (drop_more xs i x few ∙ ap (λ y. y ∷ drop (i + 1) xs) (sym is)) leads) does
 
+-- it was done for all
 pub each_told : {A : Type 0} (f : A → World → Effect) (whole : Effect) (xs : List A) (i : ℕ) (s : Site) (c : Core) (old told : Log) → length xs ≤ i →
     Leads whole (each f (drop i xs) (world_in c)) old told → IsAt s c → Does whole s c old told
 each_told f whole xs i s c old told all leads at =
@@ -57,13 +45,6 @@ number_at n some few =
     let back : n ≡ 1 + (n - 1) = omega (arith, some) in
     back ∙ sym (get_or-range_with_len 1 64 (n - 1) n (omega (arith, some, few)))
 
-pub numbers_on : (f : ℕ → World → Effect) (whole : Effect) (n : ℕ) (s : Site) (c d : Core) → 0 < n → n < 65 →
-    Remains whole (each f (drop (n - 1) all_extenders) (world_in c)) → Moves (f n (world_in c)) s d → Remains whole (each f (drop (n + 1 - 1) all_extenders) (world_in d))
-numbers_on f whole n s c d some few remains moves =
-    let next : n - 1 + 1 ≡ n + 1 - 1 = omega (arith, some) in
-    subst (λ (k : ℕ). Remains whole (each f (drop k all_extenders) (world_in d))) next
-    (each_on f whole all_extenders (n - 1) n s c d (few_numbers n some few) (number_at n some few) remains moves)
-
 pub numbers_lead : (f : ℕ → World → Effect) (whole : Effect) (n : ℕ) (s : Site) (c d : Core) (old told new : Log) → 0 < n → n < 65 →
     Leads whole (each f (drop (n - 1) all_extenders) (world_in c)) old told → Does (f n (world_in c)) s d told new → Leads whole (each f (drop (n + 1 - 1) all_extenders) (world_in d)) old new
 numbers_lead f whole n s c d old told new some few leads does =
@@ -74,38 +55,21 @@ numbers_lead f whole n s c d old told new some few leads does =
 all_numbers : (n : ℕ) → 65 ≤ n → length all_extenders ≤ n - 1
 all_numbers n all = rw (length-range_with_len 1 64) (omega (arith, all))
 
-pub numbers_end : (f : ℕ → World → Effect) (whole : Effect) (n : ℕ) (s : Site) (c : Core) → 65 ≤ n → Remains whole (each f (drop (n - 1) all_extenders) (world_in c)) → IsAt s c → Moves whole s c
-numbers_end f whole n s c all remains at = each_end f whole all_extenders (n - 1) s c (all_numbers n all) remains at
-
 pub numbers_told : (f : ℕ → World → Effect) (whole : Effect) (n : ℕ) (s : Site) (c : Core) (old told : Log) → 65 ≤ n → Leads whole (each f (drop (n - 1) all_extenders) (world_in c)) old told → IsAt s c →
     Does whole s c old told
 numbers_told f whole n s c old told all leads at = each_told f whole all_extenders (n - 1) s c old told (all_numbers n all) leads at
 
 -- ---- numbers at which nothing is done
-pub numbers_skip : (f : ℕ → World → Effect) (whole : Effect) (d n : ℕ) (s : Site) (c : Core) → 0 < n → n + d ≤ 65 → IsAt s c → ((k : ℕ) → n ≤ k → k < n + d → f k (world_in c) ≡ only (world_in c)) →
-    Remains whole (each f (drop (n - 1) all_extenders) (world_in c)) → Remains whole (each f (drop (n + d - 1) all_extenders) (world_in c))
-numbers_skip f whole zero n s c some few here nothing remains =
-    let e : n ≡ n + 0 = omega arith in
-    subst (λ (k : ℕ). Remains whole (each f (drop (k - 1) all_extenders) (world_in c))) e remains
-numbers_skip f whole (suc d) n s c some few here nothing remains =
-    let e : n + 1 + d ≡ n + suc d = omega arith in
-    let low : n < 65 = omega (arith, few) in
-    let this : Moves (f n (world_in c)) s c =
-    subst (λ (one : Effect). Moves one s c) (sym (nothing n (omega arith) (omega arith))) (record { world = refl; events = refl; passed = refl; left = refl; at = here }) in
-    subst (λ (k : ℕ). Remains whole (each f (drop (k - 1) all_extenders) (world_in c))) e
-    (numbers_skip f whole d (n + 1) s c (omega arith) (omega (arith, few)) here (λ k from before. nothing k (omega (arith, from)) (omega (arith, before)))
-    (numbers_on f whole n s c c some low remains this))
-
-pub numbers_skip_told : (f : ℕ → World → Effect) (whole : Effect) (d n : ℕ) (s : Site) (c : Core) (old told : Log) → 0 < n → n + d ≤ 65 → IsAt s c →
+pub numbers_skip : (f : ℕ → World → Effect) (whole : Effect) (d n : ℕ) (s : Site) (c : Core) (old told : Log) → 0 < n → n + d ≤ 65 → IsAt s c →
     ((k : ℕ) → n ≤ k → k < n + d → f k (world_in c) ≡ only (world_in c)) → Leads whole (each f (drop (n - 1) all_extenders) (world_in c)) old told →
     Leads whole (each f (drop (n + d - 1) all_extenders) (world_in c)) old told
-numbers_skip_told f whole zero n s c old told some few here nothing leads =
+numbers_skip f whole zero n s c old told some few here nothing leads =
     let e : n ≡ n + 0 = omega arith in
     subst (λ (k : ℕ). Leads whole (each f (drop (k - 1) all_extenders) (world_in c)) old told) e leads
-numbers_skip_told f whole (suc d) n s c old told some few here nothing leads =
+numbers_skip f whole (suc d) n s c old told some few here nothing leads =
     let e : n + 1 + d ≡ n + suc d = omega arith in
     let low : n < 65 = omega (arith, few) in
     let this : Does (f n (world_in c)) s c told told = subst (λ (one : Effect). Does one s c told told) (sym (nothing n (omega arith) (omega arith))) (does_nothing s c told here) in
     subst (λ (k : ℕ). Leads whole (each f (drop (k - 1) all_extenders) (world_in c)) old told) e
-    (numbers_skip_told f whole d (n + 1) s c old told (omega arith) (omega (arith, few)) here (λ k from before. nothing k (omega (arith, from)) (omega (arith, before)))
+    (numbers_skip f whole d (n + 1) s c old told (omega arith) (omega (arith, few)) here (λ k from before. nothing k (omega (arith, from)) (omega (arith, before)))
     (numbers_lead f whole n s c c old told told some low leads this))

@@ -26,7 +26,7 @@ use Rattle.exb_network.specs.Arrivals.{IsPortAt}
 use Rattle.exb_network.specs.Devices.{Devices, far_of}
 use Rattle.exb_network.specs.Forms.{CanGo}
 use Rattle.exb_network.specs.Sites.{Site}
-use Rattle.exb_network.specs.Worlds.{world_in, all_left, IsAt, Does}
+use Rattle.exb_network.specs.Worlds.{world_in, all_left, IsAt, Does, KeepsTrace}
 use Rattle.exb_network.proofs.Cores.{far_in, does_nothing}
 
 -- ---- an extender reacts
@@ -48,14 +48,17 @@ not_from_cascade t n k x s c log isnt is = rw isnt (does_nothing s c log is)
 
 -- ---- a frame arrives
 -- it is ignored
-pub ignores : (s : Site) (c : Core) (a : Arrival) (old new : Log) → new.events ≡ old.events ++ event.Ignored a.port a.index ∷ [] → new.passed ≡ old.passed → new.left ≡ old.left → IsAt s c →
+pub ignores : (s : Site) (c : Core) (a : Arrival) (old new : Log) → new.events ≡ old.events ++ event.Ignored a.port a.index ∷ [] → new.passed ≡ old.passed → new.left ≡ old.left → KeepsTrace old new → IsAt s c →
     Does (ignored a (world_in c)) s c old new
-ignores s c a old new events passed left is =
+ignores s c a old new events passed left trace is =
     record {
       world = refl;
       events = events;
       passed = passed ∙ sym (append-nil old.passed);
       left = ap all_left left ∙ sym (append-nil (all_left old.left));
+      outs = trace.outs ∙ sym (append-nil old.outs.items);
+      lines = trace.lines;
+      tracing = trace.tracing;
       at = is;
     }
 

@@ -1,5 +1,5 @@
 -- What an extender sends of its own, and all that it sends.
-use Rattle.std.proofs.Common.{◌≡◌, ℕ, List, [], ◌∷◌, ◌++◌, map, All, refl, ap, sym, subst, ◌∙◌, arith}
+use Rattle.std.proofs.Common.{◌≡◌, ℕ, List, [], ◌∷◌, ◌++◌, map, All, refl, sym, subst, arith}
 use Rattle.std.specs.Prelude.{Option}
 use Rattle.exb_model.specs.Tree.{Shape}
 use Rattle.exb_link.specs.declared.word.Stamp.{Stamp}
@@ -10,7 +10,6 @@ use Rattle.exb_extender.specs.declared.sends.Side.{Side}
 use Rattle.exb_extender.specs.declared.sends.Side.TheVariants.{Up}
 use Rattle.exb_extender.specs.Forwarding.{Sent, up}
 use Rattle.exb_extender.specs.Sending.{own_sent, out_sent, sent_by}
-use Rattle.exb_machine.specs.Worlds.{World}
 use Rattle.exb_machine.specs.Effects.{Effect, each}
 use Rattle.exb_machine.specs.Extending.{sends, sent_to}
 use Rattle.exb_network.specs.declared.log.Log.{Log}

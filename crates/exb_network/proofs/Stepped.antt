@@ -29,8 +29,9 @@ use Rattle.exb_network.specs.Arrivals.{IsPortAt}
 use Rattle.exb_network.specs.Directions.{words_of}
 use Rattle.exb_network.specs.Indices.{next_of}
 use Rattle.exb_network.specs.Sites.{Site, limits_in}
-use Rattle.exb_network.specs.Worlds.{world_in, all_left, IsAt, Does}
+use Rattle.exb_network.specs.Worlds.{world_in, all_left, IsAt, Does, KeepsTrace}
 use Rattle.exb_network.proofs.Coming.{learned_world, learned_at}
+use Rattle.exb_network.proofs.Cores.{tells_nothing}
 
 -- ---- fields
 pub up_is : (c : Core) (links : List (List Word)) (f : ℕ → List Word) → words_of links ≡ f → world_in (record c { up = links }) ≡ record (world_in c) { up = f }
@@ -95,6 +96,9 @@ module _ (s : Site) (l : Limits) (c d : Core) (n : ℕ) (way : Way) (rest : List
         events = sym (append-nil log.events);
         passed = sym (append-nil log.passed);
         left = sym (append-nil (all_left log.left));
+        outs = sym (append-nil log.outs.items);
+        lines = refl;
+        tracing = refl;
         at = is_at;
       })
 
@@ -126,28 +130,34 @@ no_control s l c d n way k keep log none world is_at =
 pub lost : (s : Site) (l : Limits) (c d : Core) (n : ℕ) (way : Way) (k : ℕ) (log : Log) → world_in d ≡ (done_by s.tree l (Lose n way k) (world_in c)).world → IsAt s d →
     Does (done_by s.tree l (Lose n way k) (world_in c)) s d log log
 lost s l c d n way k log world is_at =
-    record { world = world; events = sym (append-nil log.events); passed = sym (append-nil log.passed); left = sym (append-nil (all_left log.left)); at = is_at }
+    tells_nothing (done_by s.tree l (Lose n way k) (world_in c)) s d log world refl refl refl refl is_at
 
 pub ticked : (s : Site) (l : Limits) (c : Core) (p : Parts) (seconds : ℕ) (out : Outbox) (old new : Log) → HasTicked seconds c.control p out → IsAt s c →
-    new.events ≡ old.events ++ event.Tick seconds ∷ [] → new.passed ≡ old.passed → new.left ≡ old.left →
+    new.events ≡ old.events ++ event.Tick seconds ∷ [] → new.passed ≡ old.passed → new.left ≡ old.left → KeepsTrace old new →
     Does (done_by s.tree l (Ticks seconds) (world_in c)) s (record c { control = p }) old new
-ticked s l c p seconds out old new ticks is_at events passed left =
+ticked s l c p seconds out old new ticks is_at events passed left trace =
     record {
       world = learned_world s c p ticks.rest _ ticks.table;
       events = events;
       passed = passed ∙ sym (append-nil old.passed);
       left = ap all_left left ∙ sym (append-nil (all_left old.left));
+      outs = trace.outs ∙ sym (append-nil old.outs.items);
+      lines = trace.lines;
+      tracing = trace.tracing;
       at = learned_at s c p ticks.rest is_at;
     }
 
-pub marked : (s : Site) (l : Limits) (c : Core) (old new : Log) → IsAt s c → new.events ≡ old.events ++ event.Settled ∷ [] → new.passed ≡ old.passed → new.left ≡ old.left →
+pub marked : (s : Site) (l : Limits) (c : Core) (old new : Log) → IsAt s c → new.events ≡ old.events ++ event.Settled ∷ [] → new.passed ≡ old.passed → new.left ≡ old.left → KeepsTrace old new →
     Does (done_by s.tree l Mark (world_in c)) s c old new
-marked s l c old new is_at events passed left =
+marked s l c old new is_at events passed left trace =
     record {
       world = refl;
       events = events;
       passed = passed ∙ sym (append-nil old.passed);
       left = ap all_left left ∙ sym (append-nil (all_left old.left));
+      outs = trace.outs ∙ sym (append-nil old.outs.items);
+      lines = trace.lines;
+      tracing = trace.tracing;
       at = is_at;
     }
 

@@ -1,5 +1,5 @@
 -- What the bridge sends to an extender goes onto the link of the extender on its own port.
-use Rattle.std.proofs.Common.{◌≡◌, ◌≢◌, ℕ, ◌+◌, ◌-◌, ◌*◌, ◌/◌, ◌<◌, ◌^◌, Bool, true, false, List, [], ◌∷◌, ◌++◌, Option, Some, None, refl, sym, subst, ◌∙◌, arith}
+use Rattle.std.proofs.Common.{◌≡◌, ◌≢◌, ℕ, ◌+◌, ◌-◌, ◌*◌, ◌/◌, ◌<◌, ◌^◌, Bool, true, false, List, [], ◌∷◌, ◌++◌, Option, Some, None, sym, subst, ◌∙◌, arith}
 use Rattle.std.specs.Prelude.{if◌then◌else◌, nat_lt}
 use Rattle.std.proofs.lemmas.Bool.{lt-ltb, le-ltb}
 use Rattle.exb_model.specs.ETags.{TagFits, tagged}
@@ -11,18 +11,19 @@ use Rattle.exb_link.specs.declared.word.Word.{Word}
 use Rattle.exb_plans.specs.Held.{Held, channel_in}
 use Rattle.exb_plans.proofs.Giving.{channel_found}
 use Rattle.exb_session.specs.Asking.{AskerState}
-use Rattle.exb_machine.specs.Worlds.{World, at, control_word}
+use Rattle.exb_machine.specs.Worlds.{World, BridgeOut, at, control_word}
 use Rattle.exb_machine.specs.Controls.{channel_at_trunk}
 use Rattle.exb_machine.specs.Extending.{hung_on}
 use Rattle.exb_machine.specs.Hearing.{bridge_request, puts, puts_tagged, to_extender, submits}
 use Rattle.exb_machine_laws.specs.Sessions.{AreLow}
 use Rattle.exb_machine_laws.proofs.Trees.{extender_there, hung_is}
+use Rattle.exb_network.specs.declared.log.Log.{Log}
 use Rattle.exb_network.specs.declared.site.Core.{Core}
 use Rattle.exb_network.specs.Directions.{words_of}
 use Rattle.exb_network.specs.Ends.{near_of}
 use Rattle.exb_network.specs.Sites.{Site}
-use Rattle.exb_network.specs.Worlds.{world_in, IsAt, Moves}
-use Rattle.exb_network.proofs.Cores.{near_in, down_in, down_at}
+use Rattle.exb_network.specs.Worlds.{world_in, IsAt, Does}
+use Rattle.exb_network.proofs.Cores.{IsNoted, near_in, does_nothing, sends_down}
 
 -- ---- numbers
 -- the extender that hangs somewhere has a number below 65
@@ -48,16 +49,10 @@ serials_low askers low n = (let x = low n in omega (arith, x))
 
 -- ---- words
 -- a control frame is put on a link
-pub put_on : (s : Site) (c : Core) (links : List (List Word)) (k below : ℕ) (frame : List ℕ) →
-    words_of links ≡ at below (words_of c.down below ++ control_word frame ∷ []) (words_of c.down) → IsAt s c → Moves (puts k below frame (world_in c)) s (record c { down = links })
-put_on s c links k below frame is at =
-    record {
-      world = down_in c below links _ is;
-      events = refl;
-      passed = refl;
-      left = refl;
-      at = down_at s c at links;
-    }
+pub put_on : (s : Site) (c : Core) (links : List (List Word)) (k below : ℕ) (frame : List ℕ) (old new : Log) →
+    words_of links ≡ at below (words_of c.down below ++ control_word frame ∷ []) (words_of c.down) → IsAt s c → IsNoted (BridgeOut (k + 1) frame) old new → new.left ≡ old.left →
+    Does (puts k below frame (world_in c)) s (record c { down = links }) old new
+put_on s c links k below frame old new is here noted left = sends_down s c old new (BridgeOut (k + 1) frame) below (words_of c.down below ++ control_word frame ∷ []) here noted left links is
 
 -- who hangs on the bridge port above an extender
 pub trunk_below : (t u : Shape) (n p top : ℕ) (o : Option ℕ) (m : ℕ) → u ≡ t → top ≡ trunk u n + 1 → p ≡ 64 * 0 + (top - 1) → o ≡ hung_on u p → o ≡ Some m → hung_on t (trunk t n) ≡ Some m
@@ -71,41 +66,40 @@ channel_has t u h n p o channel tree place found has =
     subst (λ (k : ℕ). channel_at_trunk t h k ≡ Some channel) place (subst (λ (x : Shape). channel_at_trunk x h p ≡ Some channel) tree (sym found ∙ has))
 
 -- nothing hangs on that port
-pub none_below : (s : Site) (c : Core) (k : ℕ) (below channel : Option ℕ) (frame : List ℕ) → below ≡ None → IsAt s c → Moves (puts_tagged k below channel frame (world_in c)) s c
-none_below s c k below channel frame is at =
-    rw is (record { world = refl; events = refl; passed = refl; left = refl; at = at })
+pub none_below : (s : Site) (c : Core) (k : ℕ) (below channel : Option ℕ) (frame : List ℕ) (log : Log) → below ≡ None → IsAt s c → Does (puts_tagged k below channel frame (world_in c)) s c log log
+none_below s c k below channel frame log is at = rw is (does_nothing s c log at)
 
 -- it has no channel
-pub no_channel : (s : Site) (c : Core) (k : ℕ) (below channel : Option ℕ) (frame : List ℕ) → channel ≡ None → IsAt s c → Moves (puts_tagged k below channel frame (world_in c)) s c
-no_channel s c k below channel frame is at = rw is (by_below below)
+pub no_channel : (s : Site) (c : Core) (k : ℕ) (below channel : Option ℕ) (frame : List ℕ) (log : Log) → channel ≡ None → IsAt s c → Does (puts_tagged k below channel frame (world_in c)) s c log log
+no_channel s c k below channel frame log is at = rw is (by_below below)
   where
-    by_below : (o : Option ℕ) → Moves (puts_tagged k o None frame (world_in c)) s c
-    by_below None = record { world = refl; events = refl; passed = refl; left = refl; at = at }
-    by_below (Some m) = record { world = refl; events = refl; passed = refl; left = refl; at = at }
+    by_below : (o : Option ℕ) → Does (puts_tagged k o None frame (world_in c)) s c log log
+    by_below None = does_nothing s c log at
+    by_below (Some m) = does_nothing s c log at
 
 -- it goes by way of the extender on that port, with its channel
-pub tagged_on : (s : Site) (c d : Core) (k : ℕ) (below channel : Option ℕ) (frame : List ℕ) (m n : ℕ) → below ≡ Some m → channel ≡ Some n →
-    Moves (puts k m (tagged frame (channel_tag n)) (world_in c)) s d → Moves (puts_tagged k below channel frame (world_in c)) s d
-tagged_on s c d k below channel frame m n is has moves = rw (is, has) moves
+pub tagged_on : (s : Site) (c d : Core) (k : ℕ) (below channel : Option ℕ) (frame : List ℕ) (m n : ℕ) (old new : Log) → below ≡ Some m → channel ≡ Some n →
+    Does (puts k m (tagged frame (channel_tag n)) (world_in c)) s d old new → Does (puts_tagged k below channel frame (world_in c)) s d old new
+tagged_on s c d k below channel frame m n old new is has moves = rw (is, has) moves
 
 -- ---- to an extender
 -- it hangs on the bridge
-pub near_by : (t : Shape) (s : Site) (c d : Core) (n : ℕ) (frame : List ℕ) → on t n / 64 ≡ 0 → Moves (puts (on t n) n frame (world_in c)) s d → Moves (to_extender t n frame (world_in c)) s d
-near_by t s c d n frame low moves =
+pub near_by : (t : Shape) (s : Site) (c d : Core) (n : ℕ) (frame : List ℕ) (old new : Log) → on t n / 64 ≡ 0 → Does (puts (on t n) n frame (world_in c)) s d old new → Does (to_extender t n frame (world_in c)) s d old new
+near_by t s c d n frame old new low moves =
     let is : nat_lt (on t n) 64 ≡ true = lt-ltb (on t n) 64 (omega (arith, low)) in
     rw is moves
 
 -- it hangs deeper
-pub deeper : (t : Shape) (s : Site) (c d : Core) (n : ℕ) (frame : List ℕ) → on t n / 64 ≢ 0 →
-    Moves (puts_tagged (trunk t n) (hung_on t (trunk t n)) (channel_at_trunk t (world_in c).control.held (on t n)) frame (world_in c)) s d → Moves (to_extender t n frame (world_in c)) s d
-deeper t s c d n frame high moves =
+pub deeper : (t : Shape) (s : Site) (c d : Core) (n : ℕ) (frame : List ℕ) (old new : Log) → on t n / 64 ≢ 0 →
+    Does (puts_tagged (trunk t n) (hung_on t (trunk t n)) (channel_at_trunk t (world_in c).control.held (on t n)) frame (world_in c)) s d old new → Does (to_extender t n frame (world_in c)) s d old new
+deeper t s c d n frame old new high moves =
     let is : nat_lt (on t n) 64 ≡ false = le-ltb (on t n) 64 (omega (arith, high)) in
     rw is moves
 
 -- a message is submitted, and its frame goes out
-pub submitted_on : (t : Shape) (s : Site) (c d : Core) (n : ℕ) (bytes payload frame : List ℕ) (ends : List Ecp) → payload ≡ bytes → frame ≡ bridge_request (near_of c.near n).next payload →
-    near_of ends ≡ at n (submitted payload (stopped (near_of c.near n))) (near_of c.near) → Moves (to_extender t n frame (world_in (record c { near = ends }))) s d → Moves (submits t n bytes (world_in c)) s d
-submitted_on t s c d n bytes payload frame ends is spelled near moves =
-    subst (λ (p : List ℕ). Moves (submits t n p (world_in c)) s d) is
-    (subst (λ (w : World). Moves (to_extender t n (bridge_request (near_of c.near n).next payload) w) s d) (near_in c n ends _ near)
-    (subst (λ (f : List ℕ). Moves (to_extender t n f (world_in (record c { near = ends }))) s d) spelled moves))
+pub submitted_on : (t : Shape) (s : Site) (c d : Core) (n : ℕ) (bytes payload frame : List ℕ) (ends : List Ecp) (old new : Log) → payload ≡ bytes → frame ≡ bridge_request (near_of c.near n).next payload →
+    near_of ends ≡ at n (submitted payload (stopped (near_of c.near n))) (near_of c.near) → Does (to_extender t n frame (world_in (record c { near = ends }))) s d old new → Does (submits t n bytes (world_in c)) s d old new
+submitted_on t s c d n bytes payload frame ends old new is spelled near moves =
+    subst (λ (p : List ℕ). Does (submits t n p (world_in c)) s d old new) is
+    (subst (λ (w : World). Does (to_extender t n (bridge_request (near_of c.near n).next payload) w) s d old new) (near_in c n ends _ near)
+    (subst (λ (f : List ℕ). Does (to_extender t n f (world_in (record c { near = ends }))) s d old new) spelled moves))

@@ -1,5 +1,5 @@
 -- The world of the machine for which the parts of a network stand, and how they make its steps.
-use Rattle.std.specs.Prelude.{◌≡◌, ℕ, ◌++◌, Bool, true, false, List, [], map, filter, slice_index}
+use Rattle.std.specs.Prelude.{◌≡◌, ℕ, ◌++◌, Bool, true, false, List, [], ◌∷◌, map, filter, slice_index}
 use Rattle.exb_model.specs.Traces.{TraceLine}
 use Rattle.exb_model.specs.Tree.{is_extender}
 use Rattle.exb_learn.specs.Entries.{table_of}
@@ -51,6 +51,21 @@ all_left xs = map left_of xs
 -- these lines, where a trace is kept, and else none
 abbrev pub if_tracing : Bool → List TraceLine → List TraceLine
 if_tracing tracing lines = filter (λ line. tracing) lines
+
+-- A frame has left, and the line of what went out is gathered; nothing else is told.
+pub record HasLeft (x : Leaving) (line : TraceLine) (old new : Log) : Type 0 where
+  pub left : all_left new.left ≡ all_left old.left ++ x ∷ []
+  pub outs : new.outs.items ≡ old.outs.items ++ if_tracing old.tracing (line ∷ [])
+  pub events : new.events ≡ old.events
+  pub passed : new.passed ≡ old.passed
+  pub lines : new.lines ≡ old.lines
+  pub tracing : new.tracing ≡ old.tracing
+
+-- Nothing is added to the trace.
+pub record KeepsTrace (old new : Log) : Type 0 where
+  pub outs : new.outs.items ≡ old.outs.items
+  pub lines : new.lines ≡ old.lines
+  pub tracing : new.tracing ≡ old.tracing
 
 -- The world is that of the effect, and what it tells stands behind what was told before; so do the lines of what it
 -- sends, where a trace is kept, among those of the step that is being made. The site is the same.

@@ -11,10 +11,10 @@ ghost use Rattle.exb_machine.specs.Hearing.{asks, bridge_acknowledgement, bridge
 ghost use Rattle.exb_machine.specs.Worlds.{World, with_control, with_table};
 ghost use Rattle.exb_machine_laws.specs.Asks.{CanGo};
 ghost use Rattle.exb_machine_laws.specs.Sessions.{AreLow, Each};
-ghost use Rattle.exb_network.specs.Worlds.{world_in, IsAt, Does, Moves};
+ghost use Rattle.exb_network.specs.Worlds.{world_in, IsAt, Does};
 
 use crate::forms::{channel_tag, put_tagged};
-use crate::log::{Log, add_events};
+use crate::log::{Log, add_events, note_out};
 use crate::sending::hung_on;
 use crate::site::{Buffers, Core, Room, Site};
 use exb_changing::Asked;
@@ -68,13 +68,23 @@ pub(crate) fn has_low_number(site: &Site, extender: u8)
     tree.is_tree();
 }
 
-/// A control frame goes onto the link of an extender that hangs on the bridge.
-fn put(alloc: Global, site: &Site, below: u8, frame: &[u8], core: &mut Core) -> Result<(), NoMemory>
+/// A control frame goes out at a port of the bridge, counted from 0, onto the link of the extender that hangs there.
+fn put(
+    alloc: Global,
+    site: &Site,
+    place: u8,
+    below: u8,
+    frame: &[u8],
+    core: &mut Core,
+    log: &mut Log,
+) -> Result<(), NoMemory>
     requires at { IsAt site.now core.old }
+    requires place { place < 64 }
     requires known { below < 65 }
-    ensures { OnOk result ((k : ℕ) → Moves (puts k below frame.now (world_in core.old)) site.now core.new) }
+    ensures { OnOk result (Does (puts place below frame.now (world_in core.old)) site.now core.new log.old log.new) }
 {
     let _ = site;
+    note_out(alloc, log.tracing, 0, place + 1, frame, &mut log.outs)?;
     let word = Word {
         bytes: Bytes::from_slice(alloc, frame)?,
         stamp: None,
@@ -91,24 +101,26 @@ fn put_deeper(
     frame: &[u8],
     into: &mut Vec<u8>,
     core: &mut Core,
+    log: &mut Log,
 ) -> Result<(), NoMemory>
     requires at { IsAt site.now core.old }
     requires there { is_extender site.now.tree extender ≡ true }
     requires long { 12 ≤ length frame.now }
-    ensures { OnOk result (Moves (puts_tagged (trunk site.now.tree extender) (hung_on site.now.tree (trunk site.now.tree extender))
-        (channel_at_trunk site.now.tree (world_in core.old).control.held (on site.now.tree extender)) frame.now (world_in core.old)) site.now core.new) }
+    ensures { OnOk result (Does (puts_tagged (trunk site.now.tree extender) (hung_on site.now.tree (trunk site.now.tree extender))
+        (channel_at_trunk site.now.tree (world_in core.old).control.held (on site.now.tree extender)) frame.now (world_in core.old)) site.now core.new log.old log.new) }
 {
     let tree = site.tree();
     tree.is_tree();
     let trunk = tree.trunk(extender);
-    let Some(below) = hung_on(tree, PortId::at(0, trunk - 1)) else {
+    let place = trunk - 1;
+    let Some(below) = hung_on(tree, PortId::at(0, place)) else {
         return Ok(());
     };
     let Some(channel) = core.control.of(site.on(extender)) else {
         return Ok(());
     };
     put_tagged(frame, &channel_tag(channel), into)?;
-    put(alloc, site, below, into.as_slice(), core)
+    put(alloc, site, place, below, into.as_slice(), core, log)
 }
 
 /// A control frame goes to an extender.
@@ -119,17 +131,19 @@ pub(crate) fn send_to_extender(
     frame: &[u8],
     into: &mut Vec<u8>,
     core: &mut Core,
+    log: &mut Log,
 ) -> Result<(), NoMemory>
     requires at { IsAt site.now core.old }
     requires there { is_extender site.now.tree extender ≡ true }
     requires long { 12 ≤ length frame.now }
-    ensures { OnOk result (Moves (to_extender site.now.tree extender frame.now (world_in core.old)) site.now core.new) }
+    ensures { OnOk result (Does (to_extender site.now.tree extender frame.now (world_in core.old)) site.now core.new log.old log.new) }
 {
     has_low_number(site, extender);
-    if site.on(extender).device() == 0 {
-        put(alloc, site, extender, frame, core)
+    let port = site.on(extender);
+    if port.device() == 0 {
+        put(alloc, site, port.place(), extender, frame, core, log)
     } else {
-        put_deeper(alloc, site, extender, frame, into, core)
+        put_deeper(alloc, site, extender, frame, into, core, log)
     }
 }
 
@@ -140,10 +154,11 @@ fn ask(
     asked: &Asked,
     buffers: &mut Buffers,
     core: &mut Core,
+    log: &mut Log,
 ) -> Result<(), NoMemory>
     requires at { IsAt site.now core.old }
     requires askable { CanGo site.now.tree asked.now }
-    ensures { OnOk result (Moves (asks site.now.tree asked.now (world_in core.old)) site.now core.new) }
+    ensures { OnOk result (Does (asks site.now.tree asked.now (world_in core.old)) site.now core.new log.old log.new) }
 {
     has_low_number(site, asked.extender);
     exb_csp::write(&asked.message, &mut buffers.message);
@@ -151,7 +166,15 @@ fn ask(
     let sequence = core.near.submit(asked.extender, payload);
     spell_request(sequence, payload, &mut buffers.control);
     let frame = buffers.control.as_slice();
-    send_to_extender(alloc, site, asked.extender, frame, &mut buffers.word, core)
+    send_to_extender(
+        alloc,
+        site,
+        asked.extender,
+        frame,
+        &mut buffers.word,
+        core,
+        log,
+    )
 }
 
 /// All messages go out, in order.
@@ -161,13 +184,14 @@ fn ask_all(
     asked: &[Asked],
     buffers: &mut Buffers,
     core: &mut Core,
+    log: &mut Log,
 ) -> Result<(), NoMemory>
     requires at { IsAt site.now core.old }
     requires askable { Each (CanGo site.now.tree) asked.now }
-    ensures { OnOk result (Moves (each (asks site.now.tree) asked.now (world_in core.old)) site.now core.new) }
+    ensures { OnOk result (Does (each (asks site.now.tree) asked.now (world_in core.old)) site.now core.new log.old log.new) }
 {
     for one in asked {
-        ask(alloc, site, one, buffers, core)?;
+        ask(alloc, site, one, buffers, core, log)?;
     }
     Ok(())
 }
@@ -189,5 +213,5 @@ pub(crate) fn follow(
     core.control.has_low_serials();
     add_events(alloc, &mut room.outbox.events, &mut log.events)?;
     let asked = room.outbox.asks.as_slice();
-    ask_all(alloc, site, asked, &mut room.buffers, core)
+    ask_all(alloc, site, asked, &mut room.buffers, core, log)
 }

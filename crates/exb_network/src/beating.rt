@@ -9,7 +9,7 @@ ghost use Rattle.exb_machine.specs.Hearing.{beats_control, beats_near};
 ghost use Rattle.exb_machine.specs.Stepping.{all_extenders, beats_all, if_there};
 ghost use Rattle.exb_machine_laws.specs.Asks.{AsksWell};
 ghost use Rattle.exb_network.specs.Sites.{limits_in};
-ghost use Rattle.exb_network.specs.Worlds.{world_in, IsAt, Does, Moves};
+ghost use Rattle.exb_network.specs.Worlds.{world_in, IsAt, Does};
 
 use crate::asking::{follow, has_low_number, send_to_extender, spell_request};
 use crate::log::Log;
@@ -37,10 +37,11 @@ fn beat_near(
     number: u8,
     buffers: &mut Buffers,
     core: &mut Core,
+    log: &mut Log,
 ) -> Result<(), NoMemory>
     requires at { IsAt site.now core.old }
     requires there { is_extender site.now.tree number ≡ true }
-    ensures { OnOk result (Moves (beats_near site.now.tree number (world_in core.old)) site.now core.new) }
+    ensures { OnOk result (Does (beats_near site.now.tree number (world_in core.old)) site.now core.new log.old log.new) }
 {
     has_low_number(site, number);
     if core.near.beat(number) != Beat::SendAgain {
@@ -49,7 +50,7 @@ fn beat_near(
     let end = core.near.with(number);
     spell_request(end.sequence(), payload_of(end), &mut buffers.control);
     let frame = buffers.control.as_slice();
-    send_to_extender(alloc, site, number, frame, &mut buffers.word, core)
+    send_to_extender(alloc, site, number, frame, &mut buffers.word, core, log)
 }
 
 /// The same for a number that may be no extender's; then nothing is done.
@@ -59,14 +60,15 @@ fn beat_near_any(
     number: u8,
     buffers: &mut Buffers,
     core: &mut Core,
+    log: &mut Log,
 ) -> Result<(), NoMemory>
     requires at { IsAt site.now core.old }
-    ensures { OnOk result (Moves (if_there site.now.tree (beats_near site.now.tree) number (world_in core.old)) site.now core.new) }
+    ensures { OnOk result (Does (if_there site.now.tree (beats_near site.now.tree) number (world_in core.old)) site.now core.new log.old log.new) }
 {
     if !site.tree().is_extender(number) {
         return Ok(());
     }
-    beat_near(alloc, site, number, buffers, core)
+    beat_near(alloc, site, number, buffers, core, log)
 }
 
 /// All of the bridge's ends count the beat, by extender. One that sends nothing has nothing to count.
@@ -75,13 +77,14 @@ fn beat_all_near(
     site: &Site,
     buffers: &mut Buffers,
     core: &mut Core,
+    log: &mut Log,
 ) -> Result<(), NoMemory>
     requires at { IsAt site.now core.old }
-    ensures { OnOk result (Moves (each (if_there site.now.tree (beats_near site.now.tree)) all_extenders (world_in core.old)) site.now core.new) }
+    ensures { OnOk result (Does (each (if_there site.now.tree (beats_near site.now.tree)) all_extenders (world_in core.old)) site.now core.new log.old log.new) }
 {
     let mut from = 1u8;
     'numbers: while let Some(number) = core.near.next_sending(from) {
-        beat_near_any(alloc, site, number, buffers, core)?;
+        beat_near_any(alloc, site, number, buffers, core, log)?;
         from = number + 1;
     }
     Ok(())
@@ -158,7 +161,7 @@ pub(crate) fn beat(
     ensures { OnOk result (Does (beats_all site.now.tree (world_in core.old)) site.now core.new log.old log.new) }
 {
     core.beats = core.beats.saturating_add(1);
-    beat_all_near(alloc, site, &mut room.buffers, core)?;
+    beat_all_near(alloc, site, &mut room.buffers, core, log)?;
     beat_control(alloc, site, room, core, log)?;
     beat_all_far(alloc, site, room, core, log)
 }

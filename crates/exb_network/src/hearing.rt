@@ -100,7 +100,15 @@ fn hear_request(
     has_low_number(site, number);
     spell_acknowledgement(sequence, &mut room.buffers.control);
     let frame = room.buffers.control.as_slice();
-    send_to_extender(alloc, site, number, frame, &mut room.buffers.word, core)?;
+    send_to_extender(
+        alloc,
+        site,
+        number,
+        frame,
+        &mut room.buffers.word,
+        core,
+        log,
+    )?;
     if !core.near.received(number, sequence) {
         return Ok(());
     }

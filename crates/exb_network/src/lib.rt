@@ -24,6 +24,7 @@ mod site;
 pub mod step;
 mod stepping;
 mod taking;
+mod telling;
 pub mod world;
 
 pub use busy::Turn;

@@ -2,6 +2,7 @@
 ghost use Rattle.std.specs.Prelude.{◌≡◌, ◌-◌, ◌≤◌, ◌++◌, ◌∷◌, [], true, if◌then◌else◌, OnOk, Some};
 ghost use Rattle.std.specs.List.{All};
 ghost use Rattle.exb_model.specs.ETags.{read_etag, stripped};
+ghost use Rattle.exb_model.specs.Traces.{Out};
 ghost use Rattle.exb_model.specs.Tree.{HangsOn, is_cascade, is_external};
 ghost use Rattle.exb_control.specs.Boxes.{ingress_for};
 ghost use Rattle.exb_extender.specs.Forwarding.{has_etag_type};
@@ -13,12 +14,12 @@ ghost use Rattle.exb_network.specs.Arrivals.{arrival_of};
 ghost use Rattle.exb_machine_laws.specs.Asks.{AsksWell};
 ghost use Rattle.exb_network.specs.Sends.{CanSend, HasPassed, is_passed, is_relay_first, passed_in, told_by};
 ghost use Rattle.exb_network.specs.Sites.{limits_in};
-ghost use Rattle.exb_network.specs.Worlds.{world_in, all_left, IsAt, Does, Moves};
+ghost use Rattle.exb_network.specs.Worlds.{world_in, IsAt, Does, HasLeft, KeepsTrace};
 
 use crate::arrivals::Arrived;
 use crate::forms::{put_stripped, put_tagged};
 use crate::hearing::hear;
-use crate::log::{Left, Log, add_events};
+use crate::log::{Left, Log, add_events, note_out};
 use crate::sending::hung_on;
 use crate::site::{Buffers, Core, Room, Site};
 use exb_control::{Ingress, Outbox, SendTo};
@@ -53,10 +54,9 @@ fn leave(
 ) -> Result<(), NoMemory>
     requires from1 { 1 ≤ bridge_port }
     requires to64 { bridge_port ≤ 64 }
-    ensures left { OnOk result (all_left log.new.left ≡ all_left log.old.left ++ record { port = bridge_port - 1; moment = moment; bytes = frame.now } ∷ []) }
-    ensures events { log.new.events ≡ log.old.events }
-    ensures passed { log.new.passed ≡ log.old.passed }
+    ensures { OnOk result (HasLeft (record { port = bridge_port - 1; moment = moment; bytes = frame.now }) (Out 0 bridge_port frame.now) log.old log.new) }
 {
+    note_out(alloc, log.tracing, 0, bridge_port, frame, &mut log.outs)?;
     log.left.push(Left {
         port: PortId::at(0, bridge_port - 1),
         moment,
@@ -72,17 +72,19 @@ fn put_word(
     frame: &[u8],
     stamp: Stamp,
     core: &mut Core,
+    log: &mut Log,
 ) -> Result<(), NoMemory>
     requires at { IsAt site.now core.old }
     requires from1 { 1 ≤ bridge_port }
     requires to64 { bridge_port ≤ 64 }
-    ensures { OnOk result (Moves (puts_word bridge_port (hung_on site.now.tree (bridge_port - 1)) (record { bytes = frame.now; stamp = Some stamp }) (world_in core.old)) site.now core.new) }
+    ensures { OnOk result (Does (puts_word bridge_port (hung_on site.now.tree (bridge_port - 1)) (record { bytes = frame.now; stamp = Some stamp }) (world_in core.old)) site.now core.new log.old log.new) }
 {
     let tree = site.tree();
     tree.is_tree();
     let Some(below) = hung_on(tree, PortId::at(0, bridge_port - 1)) else {
         return Ok(());
     };
+    note_out(alloc, log.tracing, 0, bridge_port, frame, &mut log.outs)?;
     let word = Word {
         bytes: Bytes::from_slice(alloc, frame)?,
         stamp: Some(stamp),
@@ -132,6 +134,7 @@ fn send(
                 buffers.word.as_slice(),
                 stamp,
                 core,
+                log,
             )
         }
     }
@@ -196,6 +199,7 @@ fn tell(
     ensures events { OnOk result (log.new.events ≡ log.old.events ++ events.old) }
     ensures passed { OnOk result (log.new.passed ≡ log.old.passed ++ passed_in events.old ingress.now) }
     ensures left { log.new.left ≡ log.old.left }
+    ensures trace { KeepsTrace log.old log.new }
 {
     let relayed = is_relay(events.as_slice());
     put_passed(relayed, has_passed(ingress), &mut log.passed)?;

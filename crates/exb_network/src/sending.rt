@@ -10,7 +10,7 @@ ghost use Rattle.exb_network.specs.Forms.{IsSide, CanGo, GoesOn, IsMade};
 ghost use Rattle.exb_network.specs.Worlds.{world_in, IsAt, Does};
 
 use crate::forms::put_form;
-use crate::log::{Left, Log};
+use crate::log::{Left, Log, note_out};
 use crate::site::{Core, Site};
 use exb_extender::{Form, Out, Sends, Side};
 use exb_link::{Stamp, Word};
@@ -44,6 +44,7 @@ fn moment_of(stamp: &Option<Stamp>) -> u64
 
 /// A word goes out at a port of an extender.
 fn send_at(
+    alloc: Global,
     site: &Site,
     number: u8,
     port: u8,
@@ -56,6 +57,14 @@ fn send_at(
     requires port { (0 < port) × (port ≤ 64) }
     ensures { OnOk result (Does (sent_at number port (hung_on site.now.tree (port_of number port)) word.stamp word.bytes (world_in core.old)) site.now core.new log.old log.new) }
 {
+    note_out(
+        alloc,
+        log.tracing,
+        number,
+        port,
+        word.bytes.as_slice(),
+        &mut log.outs,
+    )?;
     let place = PortId::at(number, port - 1);
     let tree = site.tree();
     tree.is_tree();
@@ -72,8 +81,34 @@ fn send_at(
     }
 }
 
+/// A word goes up from an extender.
+fn send_up(
+    alloc: Global,
+    site: &Site,
+    number: u8,
+    word: Word,
+    core: &mut Core,
+    log: &mut Log,
+) -> Result<(), NoMemory>
+    requires at { IsAt site.now core.old }
+    requires number { number < 65 }
+    ensures { OnOk result (Does (sent_to site.now.tree number word.stamp Side.Up word.bytes (world_in core.old)) site.now core.new log.old log.new) }
+{
+    let _ = site;
+    note_out(
+        alloc,
+        log.tracing,
+        number,
+        0,
+        word.bytes.as_slice(),
+        &mut log.outs,
+    )?;
+    core.up.push(number, word)
+}
+
 /// A word goes out at a side of an extender.
 fn send_to(
+    alloc: Global,
     site: &Site,
     number: u8,
     side: Side,
@@ -87,8 +122,8 @@ fn send_to(
     ensures { OnOk result (Does (sent_to site.now.tree number word.stamp side word.bytes (world_in core.old)) site.now core.new log.old log.new) }
 {
     match side {
-        Side::Up => core.up.push(number, word),
-        Side::Port { port } => send_at(site, number, port, word, core, log),
+        Side::Up => send_up(alloc, site, number, word, core, log),
+        Side::Port { port } => send_at(alloc, site, number, port, word, core, log),
     }
 }
 
@@ -137,7 +172,7 @@ fn send_frame(
         bytes: Bytes::from_slice(alloc, into.as_slice())?,
         stamp: *stamp,
     };
-    send_to(site, number, out.to, word, core, log)
+    send_to(alloc, site, number, out.to, word, core, log)
 }
 
 /// A frame that an extender took goes out in each form.
@@ -187,7 +222,7 @@ fn send_own(
         bytes: Bytes::from_slice(alloc, frame)?,
         stamp: *stamp,
     };
-    send_to(site, number, Side::Up, word, core, log)
+    send_to(alloc, site, number, Side::Up, word, core, log)
 }
 
 /// All that an extender sends where this frame came goes out: the frame in its forms, then the extender's own frames.
@@ -264,7 +299,7 @@ pub(crate) fn send_on(
     ensures { OnOk result (Does (each (sends site.now.tree number word.stamp) (sent_by word.bytes reaction.now) (world_in core.old)) site.now core.new log.old log.new) }
 {
     match only_side(reaction) {
-        Some(side) => send_to(site, number, side, word, core, log),
+        Some(side) => send_to(alloc, site, number, side, word, core, log),
         None => {
             let frame = word.bytes.as_slice();
             send_all(

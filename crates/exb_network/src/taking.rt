@@ -4,7 +4,7 @@ ghost use Rattle.exb_model.specs.Tree.{device, is_extender};
 ghost use Rattle.exb_extender.specs.Machine.{Beats};
 ghost use Rattle.exb_machine.specs.Extending.{arrives_at, port_number, reacts, takes_from_above, takes_from_below};
 ghost use Rattle.exb_network.specs.Arrivals.{arrival_of, IsPortAt};
-ghost use Rattle.exb_network.specs.Worlds.{world_in, IsAt, Does};
+ghost use Rattle.exb_network.specs.Worlds.{world_in, IsAt, Does, KeepsTrace};
 
 use crate::arrivals::Arrived;
 use crate::log::Log;
@@ -91,6 +91,7 @@ pub(crate) fn ignore(arrived: &Arrived, log: &mut Log) -> Result<(), NoMemory>
     ensures events { OnOk result (log.new.events ≡ log.old.events ++ Event.Ignored arrived.now.port arrived.now.index ∷ []) }
     ensures passed { log.new.passed ≡ log.old.passed }
     ensures left { log.new.left ≡ log.old.left }
+    ensures trace { KeepsTrace log.old log.new }
 {
     log.events.push(Event::Ignored {
         port: arrived.port,

@@ -1,5 +1,5 @@
 //! The network as one value, and its calls.
-ghost use Rattle.std.specs.Prelude.{◌≡◌, ◌↔◌, ◌<◌, ◌≤◌, ℕ, [], true, false, IfNone, IfOk, IfSome, IsTrue, OnErr, OnOk, Some, length, filter, slice_get};
+ghost use Rattle.std.specs.Prelude.{◌≡◌, ◌↔◌, ◌<◌, ◌≤◌, Bool, ℕ, [], true, false, IfNone, IfOk, IfSome, IsTrue, OnErr, OnOk, Some, drop, length, filter, slice_get};
 ghost use Rattle.exb_model.specs.Setup.{IsValid, limits_of, shape_of, start_of};
 ghost use Rattle.exb_model.specs.Tree.{is_extender};
 ghost use Rattle.exb_link.specs.Words.{is_control, is_data, leading};
@@ -11,7 +11,7 @@ ghost use Rattle.exb_machine.specs.Worlds.{first_world};
 ghost use Rattle.exb_machine_laws.specs.Asks.{AsksWell};
 ghost use Rattle.exb_machine_laws.specs.Laws.{HasBytes};
 ghost use Rattle.exb_network.specs.Idle.{IsIdle};
-ghost use Rattle.exb_network.specs.Networks.{step_of, IsLive};
+ghost use Rattle.exb_network.specs.Networks.{network_of, step_of, IsLive, IsStepped};
 ghost use Rattle.exb_network.specs.Sites.{limits_in};
 ghost use Rattle.exb_network.specs.Steps.{way_of};
 ghost use Rattle.exb_network.specs.Turns.{order_of, IsTurn};
@@ -24,6 +24,7 @@ use crate::relaying::are_bytes;
 use crate::site::{Core, Room, Site};
 use crate::step::{Step, Way};
 use crate::stepping::{arrive, carry, deliver, lose, mark, order, tick};
+use crate::telling::{tell_ins, tell_outs};
 use crate::{allowing, beating, busy};
 use exb_link::{Counts, Link};
 use exb_machine_laws::laws::{
@@ -163,7 +164,7 @@ impl World {
             return Err(WorldFault::Failed);
         }
         let site = &self.site;
-        match advance(
+        match make_told(
             self.alloc,
             site,
             step,
@@ -281,6 +282,43 @@ fn brings_bytes(step: &Step<'_>)
     if let Step::Arrive { bytes, .. } = step {
         are_bytes(*bytes);
     }
+}
+
+/// Makes a step, and tells its lines where a trace is kept.
+fn make_told(
+    alloc: Global,
+    site: &Site,
+    step: &Step<'_>,
+    inner: &mut Vec<u8>,
+    room: &mut Room,
+    core: &mut Core,
+    log: &mut Log,
+) -> Result<(), NoMemory>
+    requires live { IsLive site.now core.old }
+    requires can { Can site.now.tree (world_in core.old) (step_of step.now) }
+    ensures live { OnOk result (IsLive site.now core.new) }
+    ensures made { OnOk result ((failed : Bool) → IsStepped (step_of step.now) (network_of site.now core.old log.old failed) (network_of site.now core.new log.new failed)) }
+{
+    let before = log.events.as_slice().len();
+    log.outs.clear();
+    tell_ins(alloc, log.tracing, site, step, core, &mut log.lines)?;
+    advance(alloc, site, step, inner, room, core, log)?;
+    let events = log.events.as_slice();
+    tell_outs(
+        alloc,
+        log.tracing,
+        behind(events, before),
+        &mut log.outs,
+        &mut log.lines,
+    )
+}
+
+/// The events from a place on.
+fn behind(events: &[Event], from: usize) -> &[Event]
+    requires { from ≤ length events.now }
+    ensures { result.now ≡ drop from events.now }
+{
+    &events[from..]
 }
 
 /// Makes a step, and what the machine keeps is kept.

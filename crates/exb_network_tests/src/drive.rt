@@ -7,13 +7,13 @@
 //! - `decide`: free control words are delivered, those of all links upward, then downward, and beats pass, until a command is decided
 //! - `settle`: rounds until all is settled, and a mark; `twice`: from now on each control word of a round is delivered twice
 //! - `tell`: logs the events and what has left; `planned`, `counts N`: logs how many exchanges are planned, and what
-//!   is on a link, up and down; `skip`: forgets what was told
+//!   is on a link, up and down; `trace`: logs the lines of the trace; `skip`: forgets what was told
 use crate::hex::{bytes_of, text_of};
 use exb_link::Counts;
 use exb_model::event::Event;
 use exb_model::port::PortId;
 use exb_network::{Step, Way, World};
-use exb_text::{PortName, write_line};
+use exb_text::{PortName, write_line, write_trace_line};
 use exb_topology::{Topology, read};
 use std::alloc::{AllocError, Global};
 use std::process::Abort;
@@ -69,11 +69,12 @@ fn way(word: Option<&str>) -> Way {
 }
 
 impl Driver {
-    /// The world of a topology's text. What may want memory comes first, so that no world has to be let go on the way.
-    pub(crate) fn new(rt: &impl Abort, alloc: Global, text: &str) -> Driver {
+    /// The world of a topology's text, with a trace where that is wanted. What may want memory comes first, so that no world has
+    /// to be let go on the way.
+    pub(crate) fn new(rt: &impl Abort, alloc: Global, text: &str, trace: bool) -> Driver {
         let next = vec![in alloc; 1u64; 4160].expect(rt, "memory");
         let topology = read(alloc, text.as_bytes()).expect(rt, "a topology");
-        let world = World::new(alloc, &topology.setup).expect(rt, "memory");
+        let world = World::new(alloc, &topology.setup, trace).expect(rt, "memory");
         Driver {
             topology,
             world,
@@ -290,6 +291,17 @@ impl Driver {
         Ok(())
     }
 
+    // Writes the lines of the trace.
+    fn trace(&mut self, rt: &impl Abort, alloc: Global) -> Result<(), AllocError> {
+        let mut text = Vec::new(alloc);
+        for line in self.world.trace() {
+            write_trace_line(&mut text, line).expect(rt, "memory");
+        }
+        let lines = str::from_utf8(text.as_slice()).expect(rt, "text");
+        self.log.push_str(lines)?;
+        Ok(())
+    }
+
     // Writes what is on the link of an extender.
     fn count(&mut self, rt: &impl Abort, alloc: Global, link: u8) -> Result<(), AllocError> {
         let up = self.counts(rt, link, Way::Up);
@@ -343,6 +355,7 @@ impl Driver {
                 Some("beat") => self.beat(rt),
                 Some("mark") => self.mark(rt),
                 Some("tell") => self.tell(rt, alloc)?,
+                Some("trace") => self.trace(rt, alloc)?,
                 Some("skip") => self.world.clear(),
                 Some("planned") => self.plan(rt, alloc)?,
                 Some("tick") => self.tick(rt, words.next()),

@@ -124,7 +124,33 @@ const CASES: [Case; 18] = [
 fn worlds_move(rt: HostRuntime) -> Result<(), AllocError> {
     let alloc = rt.alloc();
     for case in &CASES {
-        let mut driver = Driver::new(&rt, alloc, case.topology);
+        let mut driver = Driver::new(&rt, alloc, case.topology, false);
+        driver.run(&rt, alloc, case.steps).expect(&rt, "memory");
+        assert!(rt; driver.log() == case.log);
+    }
+    Ok(())
+}
+
+const TRACES: [Case; 2] = [
+    // an extender announces itself, and is opened
+    Case {
+        topology: "[bridge]\nports = 4\n[[extender]]\nnumber = 1\nports = 4\non = \"b1\"\n",
+        steps: "beat; control 1 up 0; control 1 down 0; beat; trace",
+        log: "beat\nout x1 up 0180c200000e02454201000188cc020704024542010001040307757006020078fe0502454201040000\nin b 1 0180c200000e02454201000188cc020704024542010001040307757006020078fe0502454201040000\nout b 1 0180c200000e0245420000008940100200010100000000000000010000\nin x1 up 0180c200000e0245420000008940100200010100000000000000010000\nout x1 up 0180c200000e024542010001894014020001\nout x1 up 0180c200000e02454201000189401002000181000000000000000100020004\nbeat\n",
+    },
+    // a frame that is relayed, one that is ignored, one that passes nothing by, and none of a lost word
+    Case {
+        topology: "[bridge]\nports = 2\n[[extender]]\nnumber = 1\nports = 2\non = \"b1\"\n",
+        steps: "settle; skip; arrive x1.1 FFFFFFFFFFFF0200000000010800AABB; carry 1 up; carry 1 down; trace; skip; tick 3; arrive b2 FF; mark; trace",
+        log: "in x1 1 ffffffffffff0200000000010800aabb\nout x1 up ffffffffffff020000000001893f0000000100000800aabb\nin b 1 ffffffffffff020000000001893f0000000100000800aabb\n= relay x1.1 1\nout b 1 ffffffffffff020000000001893f0001100100000800aabb\nout b 2 ffffffffffff0200000000010800aabb\nin x1 up ffffffffffff020000000001893f0001100100000800aabb\nout x1 2 ffffffffffff0200000000010800aabb\n= tick 3\nin b 2 ff\n= ignore b2 1\n= settled\n",
+    },
+];
+
+#[test]
+fn traces_are_told(rt: HostRuntime) -> Result<(), AllocError> {
+    let alloc = rt.alloc();
+    for case in &TRACES {
+        let mut driver = Driver::new(&rt, alloc, case.topology, true);
         driver.run(&rt, alloc, case.steps).expect(&rt, "memory");
         assert!(rt; driver.log() == case.log);
     }
@@ -152,7 +178,7 @@ fn chain(alloc: Global) -> Result<String, AllocError> {
 fn the_deepest_chain_opens(rt: HostRuntime) -> Result<(), AllocError> {
     let alloc = rt.alloc();
     let text = chain(alloc)?;
-    let mut driver = Driver::new(&rt, alloc, text.as_str());
+    let mut driver = Driver::new(&rt, alloc, text.as_str(), false);
     driver
         .run(
             &rt,

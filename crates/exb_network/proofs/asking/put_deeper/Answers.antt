@@ -1,12 +1,13 @@
-use Rattle.std.proofs.Common.{ℕ, List, sym, ap, subst, ◌∙◌}
+use Rattle.std.proofs.Common.{◌≡◌, ℕ, ◌-◌, List, sym, ap, subst, ◌∙◌, arith}
 use Rattle.std.proofs.lemmas.Result.{on_ok_weaker}
 use Rattle.exb_model.specs.ETags.{Tag, TagFits, tagged}
-use Rattle.exb_model.specs.Tree.{on, trunk}
+use Rattle.exb_extender.specs.Forwarding.{channel_tag}
+use Rattle.exb_model.specs.Tree.{Shape, on, trunk}
 use Rattle.exb_changes.specs.Fabrics.{held_in}
 use Rattle.exb_machine.specs.Controls.{channel_at_trunk}
 use Rattle.exb_machine.specs.Extending.{hung_on}
 use Rattle.exb_machine.specs.Hearing.{puts}
-use Rattle.exb_network.specs.Worlds.{world_in, Moves}
+use Rattle.exb_network.specs.Worlds.{world_in, Does}
 use Rattle.exb_network.proofs.ToExtenders.{channel_fits, hung_low, trunk_below, channel_has, tagged_on}
 use Rattle.exb_network.proofs.asking.put_deeper.Goals as goal
 
@@ -27,6 +28,10 @@ returns c =
     let below = trunk_below t c.tree-tree.result.now n c.at.result c.trunk-trunk.result c.hung_on.result c.in-Some.below c.tree-tree.ensures c.trunk-trunk.ensures.value c.at.ensures c.hung_on.ensures c.in-Some.is in
     let has = channel_has t f.shape (held_in f) n c.on.result c.of.result c.in-Some-of.channel c.requires.at.shape c.on.ensures c.of.ensures c.in-Some-of.is in
     let spelled = c.as_slice.ensures.value ∙ c.in_ok-put_tagged.ensures ∙ ap (λ (x : Tag). tagged c.args.frame.now x) c.channel_tag.ensures in
-    on_ok_weaker c.put.result (λ moves.
-    tagged_on c.args.site.now core c.put.new.core (trunk t n) (hung_on t (trunk t n)) (channel_at_trunk t (held_in f) (on t n)) c.args.frame.now c.in-Some.below c.in-Some-of.channel below has
-    (subst (λ (x : List ℕ). Moves (puts (trunk t n) c.in-Some.below x (world_in core)) c.args.site.now c.put.new.core) spelled (moves (trunk t n)))) c.put.ensures
+    let top = c.trunk-trunk.ensures.value in
+    let place : c.trunk-trunk.result - 1 ≡ trunk c.tree-tree.result.now n = omega (arith, top) in
+    let here : c.trunk-trunk.result - 1 ≡ trunk t n = place ∙ ap (λ (u : Shape). trunk u n) c.tree-tree.ensures in
+    on_ok_weaker c.put.result (λ done.
+    tagged_on c.args.site.now core c.put.new.core (trunk t n) (hung_on t (trunk t n)) (channel_at_trunk t (held_in f) (on t n)) c.args.frame.now c.in-Some.below c.in-Some-of.channel c.args.log.now c.put.new.log below has
+    (subst (λ (k : ℕ). Does (puts k c.in-Some.below (tagged c.args.frame.now (channel_tag c.in-Some-of.channel)) (world_in core)) c.args.site.now c.put.new.core c.args.log.now c.put.new.log) here
+    (subst (λ (x : List ℕ). Does (puts (c.trunk-trunk.result - 1) c.in-Some.below x (world_in core)) c.args.site.now c.put.new.core c.args.log.now c.put.new.log) spelled done))) c.put.ensures

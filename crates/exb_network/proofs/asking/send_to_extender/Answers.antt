@@ -1,6 +1,8 @@
-use Rattle.std.proofs.Common.{ℕ, ◌/◌, ap, sym, ◌∙◌}
+use Rattle.std.proofs.Common.{◌≡◌, ℕ, ◌/◌, arith, subst}
 use Rattle.std.proofs.lemmas.Result.{on_ok_weaker}
 use Rattle.exb_model.specs.Tree.{on}
+use Rattle.exb_machine.specs.Hearing.{puts}
+use Rattle.exb_network.specs.Worlds.{world_in, Does}
 use Rattle.exb_network.proofs.ToExtenders.{near_by}
 use Rattle.exb_network.proofs.asking.send_to_extender.Goals as goal
 
@@ -8,5 +10,12 @@ pub returns-then-device-eq0 : goal.returns-then-device-eq0
 returns-then-device-eq0 c =
     let t = c.args.site.now.tree in
     let n = c.args.extender in
-    let low = ap (λ (p : ℕ). p / 64) (sym c.on.ensures) ∙ sym c.device.ensures.value ∙ c.if-device-eq0.true in
-    on_ok_weaker c.put.result (λ moves. near_by t c.args.site.now c.args.core.now c.put.new.core n c.args.frame.now low (moves (on t n))) c.put.ensures
+    let port = c.on-port.ensures in
+    let device = c.device.ensures.value in
+    let is = c.if-device-eq0.true in
+    let place = c.place.ensures.value in
+    let low : on t n / 64 ≡ 0 = omega (arith, port, device, is) in
+    let here : c.place.result ≡ on t n = omega (arith, port, device, is, place) in
+    on_ok_weaker c.put.result (λ done.
+    near_by t c.args.site.now c.args.core.now c.put.new.core n c.args.frame.now c.args.log.now c.put.new.log low
+    (subst (λ (k : ℕ). Does (puts k n c.args.frame.now (world_in c.args.core.now)) c.args.site.now c.put.new.core c.args.log.now c.put.new.log) here done)) c.put.ensures

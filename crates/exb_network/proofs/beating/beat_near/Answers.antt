@@ -12,6 +12,6 @@ returns c =
     let its = subst (λ (e : Ecp). IfSome e.sending (λ x. c.sequence.result ≡ x.sequence)) c.with-end.ensures c.sequence.ensures.sent in
     let bytes = c.payload_of.ensures.is ∙ ap (λ (e : Ecp). sent_payload e.sending) c.with-end.ensures in
     let spelled = c.as_slice-frame.ensures.value ∙ c.spell_request.ensures.bytes in
-    on_ok_weaker c.send_to_extender.result (λ moves.
+    on_ok_weaker c.send_to_extender.result (λ done.
     again_on c.args.site.now.tree c.args.number c.args.site.now c.args.core.now c.send_to_extender.new.core c.beat.new.self c.sequence.result c.payload_of.result.now c.as_slice-frame.result.now
-    c.beat.ensures.state (sym c.beat.ensures.due ∙ is) its bytes spelled moves) c.send_to_extender.ensures
+    c.args.log.now c.send_to_extender.new.log c.beat.ensures.state (sym c.beat.ensures.due ∙ is) its bytes spelled done) c.send_to_extender.ensures

@@ -20,7 +20,7 @@ returns-in-Ignored c =
     (on_ok_weaker c.ignore-in-Ignored.result
     (λ told.
     arrives_ignored s.tree a s core c.args.log.now c.ignore-in-Ignored.new.log outer (ignored.0 c.in-Ignored.is)
-    (ignores s core a c.args.log.now c.ignore-in-Ignored.new.log told c.ignore-in-Ignored.ensures.passed c.ignore-in-Ignored.ensures.left c.requires.at))
+    (ignores s core a c.args.log.now c.ignore-in-Ignored.new.log told c.ignore-in-Ignored.ensures.passed c.ignore-in-Ignored.ensures.left c.ignore-in-Ignored.ensures.trace c.requires.at))
     c.ignore-in-Ignored.ensures.events)
 
 pub returns-in-Sent : goal.returns-in-Sent
