@@ -1,9 +1,10 @@
 -- The steps of a segment give it.
 use Rattle.std.proofs.Common.{◌≡◌, ◌≢◌, ℕ, ◌+◌, ◌<◌, ◌≤◌, ◌++◌, ◌==◌, inl, inr, List, [], ◌∷◌, map, take, drop, length, get_or, append_assoc, refl, ap, sym, ◌∙◌, subst}
-use Rattle.std.specs.Prelude.{IsPermutation, if◌then◌else◌}
+use Rattle.std.specs.Prelude.{IsPermutation, if◌then◌else◌, Result, Ok, Err, OnOk, IfOk}
 use Rattle.std.proofs.lemmas.Bool.{cases_Bool, ne_eqb}
 use Rattle.std.proofs.lemmas.List.{drop_more, take_more, take_all}
 use Rattle.std.proofs.lemmas.List.Sorted.{IsPermutation-refl}
+use Rattle.std.proofs.lemmas.List.Sums.{sum_by-cons}
 use Rattle.exb_model.specs.declared.command.Command.{Command}
 use Rattle.exb_model.specs.declared.setup.Timed.{Timed}
 use Rattle.exb_model.specs.Input.{Input, Segment, Mode, Eager, Seeded, basis_of}
@@ -25,7 +26,7 @@ use Rattle.exb_network.specs.Sites.{Site, limits_in}
 use Rattle.exb_resting.specs.Settles.{MayTake}
 use Rattle.exb_schedule.specs.declared.segment.Arrival.{Arrival}
 use Rattle.exb_schedule.specs.Moves.{HasRun}
-use Rattle.exb_schedule.specs.Playing.{arrived, arrive, gives, orders, tick, CanAll, CanFrom, IsSegment}
+use Rattle.exb_schedule.specs.Playing.{arrived, arrive, gives, letters_in, orders, tick, CanAll, CanFrom, IsSegment}
 use Rattle.exb_schedule.proofs.Leading.{run_nothing, run_step, run_steps}
 use Rattle.exb_schedule.proofs.Playing.{IsOrdered, moves_give_nothing}
 
@@ -150,6 +151,11 @@ given_on f xs i x old now new few is k stepped may =
       can = subst Q (sym stepped.same.site) ahead;
     }
 
+-- the plan of the next command, and those of the others
+pub letters_next : (cs : List Timed) (i : ℕ) (c : Timed) → i < length cs → c ≡ get_or cs i c → letters_in (drop i cs) ≡ length c.fate + letters_in (drop (i + 1) cs)
+letters_next cs i c few is =
+    ap letters_in (drop_more cs i c few ∙ ap (λ (y : Timed). y ∷ drop (i + 1) cs) (sym is)) ∙ sum_by-cons (λ (x : Timed). length x.fate) c (drop (i + 1) cs)
+
 pub given_all : {A : Type 0} (f : A → Step) (xs : List A) (i : ℕ) (old now : Network) → length xs ≤ i → HasGiven f xs i old now → HasRun (map f xs) old now
 given_all f xs i old now all k = subst (λ ys. HasRun (map f ys) old now) (take_all i xs all) k.made
 
@@ -161,3 +167,12 @@ run_gives seconds cs frames old ticked told came x y z = run_steps (tick seconds
 pub gives_in_order : (m : Mode) (i : Input) (s : Segment) (seconds : ℕ) (cs : List Timed) (frames : List Arrival) → IsSegment i s seconds cs frames → (moves : List Step) → IsOrdered m s (gives seconds cs frames ++ moves)
 gives_in_order Eager i s seconds cs frames is moves = gives_eagerly i s seconds cs frames moves is
 gives_in_order Seeded i s seconds cs frames is moves = tt
+
+-- ---- results
+pub on_ok_any : {A E P Q : Type 0} (r : Result A E) → (P → Q) → OnOk r P → OnOk r Q
+on_ok_any (Ok x) f p = f p
+on_ok_any (Err e) f p = tt
+
+pub if_ok_any : {A E : Type 0} {P Q : A → Type 0} (r : Result A E) → ((x : A) → P x → Q x) → IfOk r P → IfOk r Q
+if_ok_any (Ok x) f p = f x p
+if_ok_any (Err e) f p = tt

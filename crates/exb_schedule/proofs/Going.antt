@@ -101,10 +101,10 @@ those_next way before budget less old now new place link at leads one =
     subst Q (sym one.gone.made.moved.same.site) on
 
 -- ---- a round
-pub has_round : (before middle less : ℕ) (old up down new : Network) → HasAsked (goes_one_way (tree_of old) (bounds_of old) Up (world_of old)) before middle old up →
-    HasAsked (goes_one_way (tree_of up) (bounds_of up) Down (world_of up)) middle less up down → IsStepped Beat down new → MayTake (tree_of down) (world_of down) Beat →
-    HasAsked (round (tree_of old) (bounds_of old) (world_of old)) before less old new
-has_round before middle less old up down new x y made may =
+pub has_round : (before middle less last : ℕ) (old up down new : Network) → HasAsked (goes_one_way (tree_of old) (bounds_of old) Up (world_of old)) before middle old up →
+    HasAsked (goes_one_way (tree_of up) (bounds_of up) Down (world_of up)) middle less up down → IsStepped Beat down new → MayTake (tree_of down) (world_of down) Beat → last ≤ less →
+    HasAsked (round (tree_of old) (bounds_of old) (world_of old)) before last old new
+has_round before middle less last old up down new x y made may low =
     let t : Shape = tree_of old in
     let l : Limits = bounds_of old in
     let whole : Play = round t l (world_of old) in
@@ -115,9 +115,9 @@ has_round before middle less old up down new x y made may =
     let two : Leads whole (then_beat t l (world_of down)) before less old down =
     leads_by whole (then_down t l (world_of up)) (goes_one_way t l Down (world_of up)) (then_beat t l) before middle less old up down one (λ vs. refl) (subst P x.gone.made.moved.same.site y) in
     let beat : HasGone (stepped (tree_of down) (bounds_of down) Beat (world_of down)) down new = gone_step Beat down new tt (run_step Beat down new made may) in
-    let last : HasGone (stepped t l Beat (world_of down)) down new = subst Q (y.gone.made.moved.same.site ∙ x.gone.made.moved.same.site) beat in
+    let beaten : HasGone (stepped t l Beat (world_of down)) down new = subst Q (y.gone.made.moved.same.site ∙ x.gone.made.moved.same.site) beat in
     let b : Stepped = stepped t l Beat (world_of down) in
     let none : Play = λ more. record { done = nothing (world_of new); verdicts = more } in
-    let three : Leads whole none before less old new =
-    leads_on whole (then_beat t l (world_of down)) none [] b before less less old down new two (λ more. sym (then_end b (world_of new) more (gone_world b down new last))) (omega arith) last in
-    leads_end whole none before less old new three (λ more. refl)
+    let three : Leads whole none before last old new =
+    leads_on whole (then_beat t l (world_of down)) none [] b before less last old down new two (λ more. sym (then_end b (world_of new) more (gone_world b down new beaten))) (omega (arith, low)) beaten in
+    leads_end whole none before last old new three (λ more. refl)

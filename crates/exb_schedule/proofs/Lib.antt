@@ -4,9 +4,12 @@ mod Rounds
 mod Playing
 mod Giving
 mod Segments
+mod Still
+mod Drawing
 mod Reaching
 mod Going
 mod Passing
+mod Taking
 mod RoundsLeft
 mod Resting
 mod Played

@@ -3,6 +3,7 @@ use Rattle.std.proofs.Common.{◌≡◌, ℕ, ◌++◌, true, List, [], ◌∷�
 use Rattle.std.specs.Prelude.{All}
 use Rattle.exb_model.specs.declared.event.Event.{Event}
 use Rattle.exb_model.specs.declared.setup.Setup.{Setup}
+use Rattle.exb_model.specs.declared.setup.Timed.{Timed}
 use Rattle.exb_model.specs.Input.{Input, Segment, Mode, basis_of}
 use Rattle.exb_model.specs.Input.{tree_of as tree_in, bounds_of as bounds_in}
 use Rattle.exb_model.specs.Setup.{Limits, IsValid, shape_of, limits_of, start_of}
@@ -24,8 +25,9 @@ use Rattle.exb_network.specs.Worlds.{all_left}
 use Rattle.exb_resting.specs.Playing.{begin_of}
 use Rattle.exb_resting.specs.Settles.{MayTake, MayTakeAll}
 use Rattle.exb_schedule.specs.Moves.{HasRun, HasGone, HasEnded}
-use Rattle.exb_schedule.specs.Playing.{HasPlayed}
-use Rattle.exb_schedule.proofs.Giving.{gives_nothing}
+use Rattle.exb_schedule.specs.declared.segment.Arrival.{Arrival}
+use Rattle.exb_schedule.specs.Playing.{gives, HasPlayed, IsSegment}
+use Rattle.exb_schedule.proofs.Giving.{gives_in_order, gives_nothing, gives_segment}
 use Rattle.exb_schedule.proofs.Leading.{run_step, run_steps, told_then}
 use Rattle.exb_schedule.proofs.Playing.{IsOrdered, plays_first, plays_more}
 
@@ -105,6 +107,9 @@ opened m i s begin new is valid vids world tree limits quiet e =
 pub record GivesIt (m : Mode) (i : Input) (s : Segment) (xs : List Step) : Type 0 where
   pub gives : (moves : List Step) → Each IsMove moves → Gives (basis_of i) s (xs ++ moves)
   pub ordered : (moves : List Step) → IsOrdered m s (xs ++ moves)
+
+pub in_order : (m : Mode) (i : Input) (s : Segment) (seconds : ℕ) (cs : List Timed) (frames : List Arrival) → IsSegment i s seconds cs frames → GivesIt m i s (gives seconds cs frames)
+in_order m i s seconds cs frames is = record { gives = λ moves only. gives_segment i s seconds cs frames moves is only; ordered = λ moves. gives_in_order m i s seconds cs frames is moves }
 
 pub played_more : (m : Mode) (i : Input) (so_far : List Segment) (s : Segment) (xs : List Step) (old mid new : Network) (events : List Event) (left : List Left) (lines : List TraceLine) → GivesIt m i s xs →
     HasRun xs old mid → HasEnded mid new → HasPlayed m i so_far old (events ++ old.log.events) (left ++ all_left old.log.left) (lines ++ old.log.lines) →

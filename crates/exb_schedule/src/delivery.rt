@@ -29,15 +29,15 @@ pub(crate) fn take_control(world: &mut World, link: u8, way: Way, place: u64) ->
 {
     match world.fate() {
         Verdict::Pass => {
-            world.step(deliver(link, way, place, false))?;
+            world.motion.step(deliver(link, way, place, false))?;
             Ok(place)
         }
         Verdict::Lose => {
-            world.step(lose(link, way, place))?;
+            world.motion.step(lose(link, way, place))?;
             Ok(place)
         }
         Verdict::Twice => {
-            world.step(deliver(link, way, place, true))?;
+            world.motion.step(deliver(link, way, place, true))?;
             Ok(place + 1)
         }
         Verdict::Later => Ok(place + 1),
@@ -64,7 +64,7 @@ fn take_next(world: &mut World, link: u8, way: Way, rest: &mut Remaining) -> Res
         Ok(())
     } else {
         rest.frames -= 1;
-        world.step(carry(link, way))
+        world.motion.step(carry(link, way))
     }
 }
 
@@ -116,5 +116,5 @@ pub fn round(world: &mut World) -> Result<(), WorldFault>
 {
     go_one_way(world, Way::Up)?;
     go_one_way(world, Way::Down)?;
-    world.step(beat())
+    world.motion.step(beat())
 }

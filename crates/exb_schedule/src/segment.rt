@@ -1,5 +1,5 @@
 //! The opening, and the segments of a run.
-ghost use Rattle.std.specs.Prelude.{◌≡◌, ◌++◌, ◌∷◌, [], ◌+◌, ◌<◌, ◌≤◌, ◌^◌, ℕ, List, true, false, IfOk, OnErr, OnOk, length};
+ghost use Rattle.std.specs.Prelude.{◌≡◌, ◌++◌, ◌∷◌, [], ◌↔◌, ◌+◌, ◌<◌, ◌≤◌, ◌^◌, ℕ, List, true, false, IfOk, OnErr, OnOk, length};
 ghost use Rattle.exb_model.specs.declared.event.Event.{Event};
 ghost use Rattle.exb_model.specs.Input.{Input, Segment, Mode, Eager, Seeded};
 ghost use Rattle.exb_model.specs.Setup.{IsValid, limits_of, shape_of};
@@ -44,7 +44,7 @@ pub(crate) fn end(world: &mut World) -> Result<(), WorldFault>
     ensures fate { left world.new.fate ≤ left world.old.fate }
 {
     settle(world)?;
-    world.step(mark())
+    world.motion.step(mark())
 }
 
 /// The world after its opening, for which the fate was armed.
@@ -86,7 +86,7 @@ pub fn open(
 }
 
 /// Gives a command. What is planned for it the fate is armed with just before.
-fn give_one(world: &mut World, command: &Timed) -> Result<(), WorldFault>
+pub(crate) fn give_one(world: &mut World, command: &Timed) -> Result<(), WorldFault>
     requires can { Can (tree_of (network_of world.old)) (world_of (network_of world.old)) (Order command.now.command) }
     requires few { left world.old.fate + length command.now.fate < 2 ^ 57 }
     ensures ok { OnOk result (IsStepped (Order command.now.command) (network_of world.old) (network_of world.new)) }
@@ -95,7 +95,7 @@ fn give_one(world: &mut World, command: &Timed) -> Result<(), WorldFault>
     ensures fate { left world.new.fate ≤ left world.old.fate + length command.now.fate }
 {
     match world.arm(command.fate.as_slice()) {
-        Ok(()) => world.step(order(&command.command)),
+        Ok(()) => world.motion.step(order(&command.command)),
         Err(_) => Err(WorldFault::Memory),
     }
 }
@@ -114,8 +114,26 @@ fn give(world: &mut World, commands: &[Timed]) -> Result<(), WorldFault>
     Ok(())
 }
 
-/// Plays a segment in order: the clock goes on by its seconds, its commands are given and its frames arrive, all is settled and
-/// marked. Each command's plan arms the fate just before it.
+/// Gives a segment in order: the clock goes on by its seconds, its commands are given and its frames arrive. Each command's plan arms
+/// the fate just before it.
+fn give_all(
+    world: &mut World,
+    seconds: u32,
+    commands: &[Timed],
+    arrivals: &[Arrival],
+) -> Result<(), WorldFault>
+    requires can { CanAll (network_of world.old) (gives seconds commands.now arrivals.now) }
+    requires few { left world.old.fate + letters_in commands.now < 2 ^ 57 }
+    ensures ok { OnOk result (HasRun (gives seconds commands.now arrivals.now) (network_of world.old) (network_of world.new)) }
+    ensures failed { result ≡ Err WorldFault.Failed → (network_of world.old).failed ≡ true }
+    ensures fate { left world.new.fate ≤ left world.old.fate + letters_in commands.now }
+{
+    let_pass(&mut world.motion, seconds)?;
+    give(world, commands)?;
+    let_arrive(&mut world.motion, arrivals)
+}
+
+/// Plays a segment of the eager run: it is given in order, all is settled and marked.
 pub fn eager(
     world: &mut World,
     seconds: u32,
@@ -132,8 +150,6 @@ pub fn eager(
     ensures failed { result ≡ Err WorldFault.Failed → (network_of world.old).failed ≡ true }
     ensures fate { left world.new.fate ≤ left world.old.fate + letters_in commands.now }
 {
-    let_pass(&mut world.motion, seconds)?;
-    give(world, commands)?;
-    let_arrive(&mut world.motion, arrivals)?;
+    give_all(world, seconds, commands, arrivals)?;
     end(world)
 }

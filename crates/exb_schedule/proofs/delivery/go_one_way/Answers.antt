@@ -1,23 +1,26 @@
 use Rattle.std.proofs.Common.{arith}
 use Rattle.exb_network.specs.Steps.{way_of}
+use Rattle.exb_schedule.specs.Worlds.{network_of}
 use Rattle.exb_schedule.proofs.Going.{none_after, none_between, those_first, those_next}
 use Rattle.exb_schedule.proofs.delivery.go_one_way.Goals as goal
 
 pub directions-init : goal.directions-init
-directions-init c = (those_first (way_of c.args.way) c.args.motion.now, omega arith)
+directions-init g c = record { those = those_first (way_of c.args.way) _ (network_of c.args.world.now); low = omega arith; falls = omega arith }
 
 pub directions-preserved : goal.directions-preserved
-directions-preserved c =
-    let way = way_of c.args.way in
-    let old = c.args.motion.now in
-    let now = c.directions.motion in
+directions-preserved g c =
     let turn = c.in-Some.turn in
     let is = c.in-Some.ensures.found in
-    let low = is.low in (
-      those_next (way_of c.args.way) c.args.motion.now c.directions.motion c.go_through.new.motion turn.place turn.link is.at
-          (none_between (way_of c.args.way) c.args.motion.now c.directions.motion c.directions.from turn.place is.from is.before c.directions.invariant.0) c.in_ok-go_through.ensures.ok,
-      omega (arith, low),
-    )
+    let low = is.low in
+    let falls = c.in_ok-go_through.ensures.falls in
+    let before = c.directions.invariant.falls in
+    record {
+      those = those_next (way_of c.args.way) _ _ _ (network_of c.args.world.now) (network_of c.directions.world) (network_of c.go_through.new.world) turn.place turn.link is.at
+          (none_between (way_of c.args.way) _ _ (network_of c.args.world.now) (network_of c.directions.world) c.directions.from turn.place is.from is.before c.directions.invariant.those) c.in_ok-go_through.ensures.ok;
+      low = omega (arith, low);
+      falls = omega (arith, falls, before);
+    }
 
 pub returns-clause-ok : goal.returns-clause-ok
-returns-clause-ok c = none_after (way_of c.args.way) c.args.motion.now c.directions.motion c.directions.from c.in_default.ensures.none c.directions.invariant.0
+returns-clause-ok g c =
+    none_after (way_of c.args.way) _ _ (network_of c.args.world.now) (network_of c.directions.world) c.directions.from c.in_default.ensures.none c.directions.invariant.those

@@ -2,18 +2,40 @@ use Rattle.std.proofs.Common.{arith}
 use Rattle.exb_machine.specs.Settling.{direction}
 use Rattle.exb_network.specs.Networks.{world_of, tree_of, bounds_of}
 use Rattle.exb_network.specs.Steps.{way_of}
-use Rattle.exb_schedule.specs.Rounds.{gone_along}
-use Rattle.exb_schedule.proofs.Passing.{through_first, through_last}
+use Rattle.exb_schedule.specs.Rounds.{goes_along}
+use Rattle.exb_schedule.specs.Worlds.{network_of}
+use Rattle.exb_schedule.proofs.Passing.{there_still, through_first, through_last}
 use Rattle.exb_schedule.proofs.delivery.go_through.Goals as goal
 
 pub words-init : goal.words-init
-words-init c = through_first c.args.link (way_of c.args.way) c.args.motion.now c.counts-left.result c.counts-left.ensures.frames c.counts-left.ensures.control
+words-init g c =
+    record {
+      whole = through_first c.args.link (way_of c.args.way) _ (network_of c.args.world.now) _ _ c.counts.ensures.frames c.counts.ensures.control;
+      low = omega arith;
+      falls = omega arith;
+    }
+
+pub words-preserved : goal.words-preserved
+words-preserved g c =
+    let falls = c.in_ok-take_next.ensures.falls in
+    let before = c.words.invariant.falls in
+    record {
+      whole = c.in_ok-take_next.ensures.ok _ _ _ c.words.invariant.whole;
+      low = c.in_ok-take_next.ensures.low;
+      falls = omega (arith, falls, before);
+    }
 
 pub words-smaller : goal.words-smaller
-words-smaller c = (let less = c.take_next.ensures.fewer in omega (arith, less))
+words-smaller g c = (let less = c.in_ok-take_next.ensures.fewer in omega (arith, less))
+
+pub take_next-requires-clause-there : goal.take_next-requires-clause-there
+take_next-requires-clause-there g c = there_still c.args.link (way_of c.args.way) _ _ _ _ _ _ c.words.invariant.whole c.requires
+
+pub take_next-requires-clause-next : goal.take_next-requires-clause-next
+take_next-requires-clause-next g c = c.words.invariant.whole.next
+
+pub take_next-requires-clause-low : goal.take_next-requires-clause-low
+take_next-requires-clause-low g c = c.words.invariant.low
 
 pub returns-clause-ok : goal.returns-clause-ok
-returns-clause-ok c =
-    let old = c.args.motion.now in
-    through_last c.args.link (way_of c.args.way) (gone_along (tree_of old) (bounds_of old) (direction (way_of c.args.way) c.args.link) (world_of old)) old c.words.motion c.words.left c.words.invariant
-    (omega arith) (omega arith)
+returns-clause-ok g c = through_last c.args.link (way_of c.args.way) _ _ _ _ _ _ c.words.invariant.whole (omega arith) (omega arith)

@@ -6,19 +6,19 @@ use Rattle.exb_resting.specs.Settles.{MayTake}
 use Rattle.exb_schedule.specs.Moves.{HasRun}
 use Rattle.exb_schedule.proofs.Giving.{tick_none, tick_some}
 use Rattle.exb_schedule.proofs.Leading.{run_nothing, run_step}
-use Rattle.exb_schedule.proofs.segment.let_pass.Goals as goal
+use Rattle.exb_schedule.proofs.arriving.let_pass.Goals as goal
 
 pub returns-then-seconds-eq0-clause-ok : goal.returns-then-seconds-eq0-clause-ok
 returns-then-seconds-eq0-clause-ok c =
-    let old = c.args.world.now in
-    subst (λ (zs : List Step). HasRun zs old old) (sym (tick_none c.args.seconds c.if-seconds-eq0.true)) (run_nothing c.args.world.now)
+    let old = c.args.motion.now in
+    subst (λ (zs : List Step). HasRun zs old old) (sym (tick_none c.args.seconds c.if-seconds-eq0.true)) (run_nothing c.args.motion.now)
 
 pub returns-clause-ok : goal.returns-clause-ok
 returns-clause-ok c =
-    let old = c.args.world.now in
+    let old = c.args.motion.now in
     on_ok_two c.step.result
     (λ made may.
     subst (λ (zs : List Step). HasRun zs old c.step.new.self) (sym (tick_some c.args.seconds c.if-seconds-eq0.false))
-    (run_step (Tick c.args.seconds) c.args.world.now c.step.new.self (subst (λ (s : Step). IsStepped s old c.step.new.self) c.tick.ensures made)
+    (run_step (Tick c.args.seconds) c.args.motion.now c.step.new.self (subst (λ (s : Step). IsStepped s old c.step.new.self) c.tick.ensures made)
     (subst (MayTake (tree_of old) (world_of old)) c.tick.ensures may)))
     c.step.ensures.ok c.step.ensures.may
