@@ -23,7 +23,7 @@ use Rattle.exb_network.specs.Networks.{Network, world_of, tree_of, bounds_of, Is
 use Rattle.exb_network.specs.Sites.{Site, limits_in}
 use Rattle.exb_resting.specs.Settles.{MayTake}
 use Rattle.exb_schedule.specs.declared.segment.Arrival.{Arrival}
-use Rattle.exb_schedule.specs.Drawing.{left_of, seconds_of, MayCome, MayComeAll, MayOrderAll, IsReady, HasDrawn}
+use Rattle.exb_schedule.specs.Drawing.{left_of, seconds_of, MayCome, MayComeAll, MayOrderAll, IsReady, HasDrawn, Keeps}
 use Rattle.exb_schedule.specs.Moves.{HasRun}
 use Rattle.exb_schedule.specs.Playing.{arrived, arrive, gives, orders, tick, CanAll, CanFrom, IsSegment}
 use Rattle.exb_schedule.proofs.Leading.{run_nothing, run_step, run_steps}
@@ -344,3 +344,9 @@ module _ (all : ℕ) (cs : List Timed) (frames : List Arrival) (seconds taken : 
             };
         ordered = λ moves. tt;
       }
+
+-- a move gives nothing
+pub keeps_by : (x step : Step) (now new : Network) → x ≡ step → IsMove step → IsStepped x now new → MayTake (tree_of now) (world_of now) x → Keeps now new
+keeps_by x step now new is move made may =
+    λ all cs frames seconds taken given old k.
+    drawn_move all cs frames seconds taken given old now new k step move (subst (λ (s : Step). IsStepped s now new) is made) (subst (MayTake (tree_of now) (world_of now)) is may)

@@ -13,7 +13,7 @@ ghost use Rattle.exb_schedule.specs.Worlds.{network_of};
 
 use crate::draws::{Choice, choose};
 use crate::queues::{Queue, next_in, queues_of, take_from};
-use crate::rest::{Rest, arrive, come, command, pass};
+use crate::rest::{Rest, can_come, come, command, pass};
 use crate::segment::{Arrival, end};
 use crate::steps::{beat, carry, deliver, lose};
 use crate::world::World;
@@ -103,7 +103,7 @@ fn come_next(
     let Some(at) = next_in(queues.as_slice(), queue) else {
         return Ok(());
     };
-    if at >= arrivals.len() || !world.can(&arrive(&arrivals[at])) {
+    if at >= arrivals.len() || !can_come(world, arrivals, at) {
         return Ok(());
     }
     come(world, rest, arrivals, at)?;

@@ -50,6 +50,14 @@ pub(crate) fn arrive<'a>(arrival: &'a Arrival) -> Step<'a>
     }
 }
 
+/// Whether an arrival may come now, where memory hasn't run out.
+pub(crate) fn can_come(world: &World, arrivals: &[Arrival], at: usize) -> bool
+    requires { at < length arrivals.now }
+    ensures { result ≡ true → (a : _) → a ≡ slice_index_or arrivals.now at a → Can (tree_of (network_of world.now)) (world_of (network_of world.now)) (Arrive (arrived a)) }
+{
+    world.can(&arrive(&arrivals[at]))
+}
+
 /// Lets the seconds pass, if any are left.
 pub(crate) fn pass(world: &mut World, rest: &mut Rest) -> Result<(), WorldFault>
     requires can { rest.old.seconds ≢ 0 → Can (tree_of (network_of world.old)) (world_of (network_of world.old)) (Tick rest.old.seconds) }
