@@ -1,6 +1,6 @@
 -- Of a segment whose order is drawn: what was given, and that what is left can be given.
 use Rattle.std.proofs.Common.{◌≡◌, ◌≢◌, ℕ, zero, suc, ◌+◌, ◌<◌, ◌≤◌, ◌^◌, ◌++◌, ◌==◌, Bool, true, false, cond, inl, inr, List, [], ◌∷◌, map, take, drop, length, set, replicate, get_or, append_assoc, append-nil, refl, ap, sym, ◌∙◌, subst, arith}
-use Rattle.std.specs.Prelude.{IsPermutation, if◌then◌else◌}
+use Rattle.std.specs.Prelude.{IsPermutation, if◌then◌else◌, Result, Ok, Err, OnOk}
 use Rattle.std.proofs.lemmas.Bool.{cases_Bool, cases_eq, eq-eqb, eqb-true, ne_eqb, false≢true}
 use Rattle.std.proofs.lemmas.List.{drop_all, drop_more, length-replicate, length-set}
 use Rattle.std.proofs.lemmas.List.Sorted.{IsPermutation-refl, IsPermutation-trans, IsPermutation-sym, IsPermutation-middle, IsPermutation-append_right, IsPermutation-map}
@@ -350,3 +350,16 @@ pub keeps_by : (x step : Step) (now new : Network) → x ≡ step → IsMove ste
 keeps_by x step now new is move made may =
     λ all cs frames seconds taken given old k.
     drawn_move all cs frames seconds taken given old now new k step move (subst (λ (s : Step). IsStepped s now new) is made) (subst (MayTake (tree_of now) (world_of now)) is may)
+
+-- ---- results
+pub on_ok_four : {A E P Q R S T : Type 0} (r : Result A E) → (P → Q → R → S → T) → OnOk r P → OnOk r Q → OnOk r R → OnOk r S → OnOk r T
+on_ok_four (Ok x) f p q r s = f p q r s
+on_ok_four (Err e) f p q r s = tt
+
+-- as it begins
+pub drawn_begin : (seconds : ℕ) (cs : List Timed) (frames : List Arrival) (left taken : ℕ) (given : List Bool) (now : Network) → left ≡ seconds → taken ≡ 0 → given ≡ replicate (length frames) false →
+    CanAll now (gives seconds cs frames) → HasDrawn seconds cs frames left taken given now now
+drawn_begin seconds cs frames left taken given now e f g can =
+    subst (λ (n : ℕ). HasDrawn seconds cs frames n taken given now now) (sym e)
+    (subst (λ (n : ℕ). HasDrawn seconds cs frames seconds n given now now) (sym f)
+    (subst (λ (bs : List Bool). HasDrawn seconds cs frames seconds 0 bs now now) (sym g) (drawn_first seconds cs frames (length frames) now refl can)))

@@ -179,6 +179,7 @@ fn draw_all(
     requires few { left world.old.fate + letters_in (drop rest.old.taken commands.now) < 2 ^ 57 }
     ensures ok { OnOk result ((all : ℕ) → HasDrawn all commands.now arrivals.now rest.old.seconds rest.old.taken rest.old.given.items (network_of world.old) (network_of world.old)
         → HasDrawn all commands.now arrivals.now rest.new.seconds rest.new.taken rest.new.given.items (network_of world.old) (network_of world.new)) }
+    ensures same { OnOk result ((network_of world.new).failed ≡ (network_of world.old).failed) }
     ensures failed { result ≡ Err WorldFault.Failed → (network_of world.old).failed ≡ true }
     ensures fate { OnOk result (left world.new.fate + letters_in (drop rest.new.taken commands.now) ≤ left world.old.fate + letters_in (drop rest.old.taken commands.now)) }
     ensures low { left world.new.fate ≤ left world.old.fate + letters_in (drop rest.old.taken commands.now) }
@@ -208,6 +209,7 @@ fn give_commands(
     ensures ok { OnOk result (GoesOn commands.now arrivals.now rest.old rest.new (network_of world.old) (network_of world.new)) }
     ensures all { OnOk result (length commands.now ≤ rest.new.taken) }
     ensures seconds { OnOk result (rest.new.seconds ≡ rest.old.seconds) }
+    ensures same { OnOk result ((network_of world.new).failed ≡ (network_of world.old).failed) }
     ensures failed { result ≡ Err WorldFault.Failed → (network_of world.old).failed ≡ true }
     ensures fate { left world.new.fate ≤ left world.old.fate + letters_in (drop rest.old.taken commands.now) }
 {
@@ -240,7 +242,29 @@ fn give_arrivals(
     Ok(())
 }
 
-/// Gives a segment, in an order that is drawn; what is left after so many draws is given in order.
+/// Gives what is left of a segment: in an order that is drawn, and what is left after so many draws in order.
+fn give_rest(
+    world: &mut World,
+    rest: &mut Rest,
+    rng: &mut Lcg64Xsh32,
+    seconds: u32,
+    commands: &[Timed],
+    arrivals: &[Arrival],
+) -> Result<(), WorldFault>
+    requires drawn { HasDrawn seconds commands.now arrivals.now rest.old.seconds rest.old.taken rest.old.given.items (network_of world.old) (network_of world.old) }
+    requires few { left world.old.fate + letters_in (drop rest.old.taken commands.now) < 2 ^ 57 }
+    ensures ok { OnOk result (IsDrawn seconds commands.now arrivals.now (network_of world.old) (network_of world.new)) }
+    ensures failed { result ≡ Err WorldFault.Failed → (network_of world.old).failed ≡ true }
+    ensures fate { left world.new.fate ≤ left world.old.fate + letters_in (drop rest.old.taken commands.now) }
+{
+    let _ = seconds;
+    draw_all(world, rest, rng, commands, arrivals)?;
+    pass(world, rest)?;
+    give_commands(world, rest, commands, arrivals)?;
+    give_arrivals(world, rest, commands, arrivals)
+}
+
+/// Gives a segment so.
 fn give_drawn(
     world: &mut World,
     rng: &mut Lcg64Xsh32,
@@ -254,14 +278,10 @@ fn give_drawn(
     ensures failed { result ≡ Err WorldFault.Failed → (network_of world.old).failed ≡ true }
     ensures fate { left world.new.fate ≤ left world.old.fate + letters_in commands.now }
 {
-    let mut rest = match Rest::new(world.alloc, seconds, arrivals.len()) {
-        Ok(rest) => rest,
-        Err(NoMemory) => return Err(WorldFault::Memory),
+    let Ok(mut rest) = Rest::new(world.alloc, seconds, arrivals.len()) else {
+        return Err(WorldFault::Memory);
     };
-    draw_all(world, &mut rest, rng, commands, arrivals)?;
-    pass(world, &mut rest)?;
-    give_commands(world, &mut rest, commands, arrivals)?;
-    give_arrivals(world, &mut rest, commands, arrivals)
+    give_rest(world, &mut rest, rng, seconds, commands, arrivals)
 }
 
 /// Plays a segment of a seeded run: one draw after another says what comes next, of the segment, of the words on the links, or a beat;

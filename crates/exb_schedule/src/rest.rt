@@ -50,12 +50,19 @@ pub(crate) fn arrive<'a>(arrival: &'a Arrival) -> Step<'a>
     }
 }
 
+/// Whether a step may be made, where memory hasn't run out.
+fn can_make(world: &World, step: Step<'_>) -> bool
+    ensures { result ≡ true → Can (tree_of (network_of world.now)) (world_of (network_of world.now)) (step_of step.entry) }
+{
+    world.can(&step)
+}
+
 /// Whether an arrival may come now, where memory hasn't run out.
 pub(crate) fn can_come(world: &World, arrivals: &[Arrival], at: usize) -> bool
     requires { at < length arrivals.now }
     ensures { result ≡ true → (a : _) → a ≡ slice_index_or arrivals.now at a → Can (tree_of (network_of world.now)) (world_of (network_of world.now)) (Arrive (arrived a)) }
 {
-    world.can(&arrive(&arrivals[at]))
+    can_make(world, arrive(&arrivals[at]))
 }
 
 /// Lets the seconds pass, if any are left.
@@ -65,6 +72,7 @@ pub(crate) fn pass(world: &mut World, rest: &mut Rest) -> Result<(), WorldFault>
     ensures seconds { OnOk result (rest.new.seconds ≡ 0) }
     ensures taken { rest.new.taken ≡ rest.old.taken }
     ensures given { rest.new.given ≡ rest.old.given }
+    ensures same { OnOk result ((network_of world.new).failed ≡ (network_of world.old).failed) }
     ensures failed { result ≡ Err WorldFault.Failed → (network_of world.old).failed ≡ true }
     ensures fate { left world.new.fate ≡ left world.old.fate }
 {

@@ -1,4 +1,4 @@
-use Rattle.std.proofs.Common.{ℕ, ◌+◌, ◌≤◌, drop}
+use Rattle.std.proofs.Common.{◌≡◌, ℕ, ◌+◌, ◌≤◌, drop}
 use Rattle.exb_schedule.specs.Drawing.{HasDrawn}
 use Rattle.exb_schedule.specs.Playing.{letters_in}
 use Rattle.exb_schedule.specs.Worlds.{network_of}
@@ -11,6 +11,7 @@ invariant-draws g l = record {
       → HasDrawn all l.commands l.arrivals l.rest.seconds l.rest.taken l.rest.given.items (network_of l.fn.world) (network_of l.world);
   few : (goal.Fate-dyn g (l.world.fate.vtable, l.world.fate.value)).left l.world.fate.value + letters_in (drop l.rest.taken l.commands)
       ≤ (goal.Fate-dyn g (l.fn.world.fate.vtable, l.fn.world.fate.value)).left l.fn.world.fate.value + letters_in (drop l.fn.rest.taken l.commands);
+  failed : (network_of l.world).failed ≡ (network_of l.fn.world).failed;
 }
 
 abbrev pub decreases-draws : goal.decreases-draws

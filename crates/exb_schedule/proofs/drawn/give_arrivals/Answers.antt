@@ -5,7 +5,7 @@ use Rattle.exb_schedule.proofs.Drawing.{arrival_can}
 use Rattle.exb_schedule.proofs.drawn.give_arrivals.Goals as goal
 
 pub loop-at-init : goal.loop-at-init
-loop-at-init g c = record { on = λ all old k. k; before = λ i low. absurd (omega (arith, low)); seconds = refl; taken = refl; fate = refl }
+loop-at-init g c = record { on = λ all old k. k; before = λ i low. absurd (omega (arith, low)); seconds = refl; taken = refl; fate = refl; failed = refl }
 
 pub loop-at-preserved : goal.loop-at-preserved
 loop-at-preserved g c =
@@ -19,6 +19,7 @@ loop-at-preserved g c =
       seconds = c.come.ensures.seconds ∙ c.loop-at.invariant.seconds;
       taken = c.come.ensures.taken ∙ c.loop-at.invariant.taken;
       fate = c.come.ensures.fate ∙ c.loop-at.invariant.fate;
+      failed = (let r = c.requires.drawn in (c.in_ok-come.ensures.ok c.args.commands.now r.0 r.1 (c.loop-at.invariant.on r.0 r.1 r.2)).made.moved.same.failed ∙ sym r.2.made.moved.same.failed);
     }
 
 pub come-requires-clause-whole : goal.come-requires-clause-whole

@@ -11,4 +11,5 @@ invariant-loop-at g l = record {
   seconds : l.rest.seconds ≡ l.fn.rest.seconds;
   taken : l.rest.taken ≡ l.fn.rest.taken;
   fate : (goal.Fate-dyn g (l.world.fate.vtable, l.world.fate.value)).left l.world.fate.value ≡ (goal.Fate-dyn g (l.fn.world.fate.vtable, l.fn.world.fate.value)).left l.fn.world.fate.value;
+  failed : (network_of l.world).failed ≡ (network_of l.fn.world).failed;
 }

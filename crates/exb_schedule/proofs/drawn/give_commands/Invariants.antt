@@ -11,6 +11,7 @@ invariant-commands g l = record {
   few : (goal.Fate-dyn g (l.world.fate.vtable, l.world.fate.value)).left l.world.fate.value + letters_in (drop l.rest.taken l.commands)
       ≤ (goal.Fate-dyn g (l.fn.world.fate.vtable, l.fn.world.fate.value)).left l.fn.world.fate.value + letters_in (drop l.fn.rest.taken l.commands);
   seconds : l.rest.seconds ≡ l.fn.rest.seconds;
+  failed : (network_of l.world).failed ≡ (network_of l.fn.world).failed;
 }
 
 abbrev pub decreases-commands : goal.decreases-commands

@@ -1,4 +1,4 @@
-use Rattle.std.proofs.Common.{◌<◌, length, arith, subst, sym, ◌∙◌}
+use Rattle.std.proofs.Common.{◌<◌, true, length, arith, subst, sym, ◌∙◌}
 use Rattle.std.proofs.lemmas.List.{get_or_default}
 use Rattle.exb_machine.specs.Worlds.{Step}
 use Rattle.exb_network.specs.Networks.{world_of, tree_of, IsStepped}
@@ -14,5 +14,5 @@ returns-clause-ok g c cs all old k =
     let whole = c.requires.whole in
     let low : c.args.at < length c.args.rest.now.given.items = omega (arith, there, whole) in
     drawn_arrival all cs c.args.arrivals.now c.args.rest.now.seconds c.args.rest.now.taken c.args.rest.now.given.items old (network_of c.args.world.now) c.step.new.self k c.args.at c.index-arrivals-at.result low c.requires.there
-    (get_or_default c.args.rest.now.given.items c.args.at _ _ low ∙ c.if-index.false) c.index-arrivals-at.is
+    (get_or_default c.args.rest.now.given.items c.args.at true c.index.result.now low ∙ (sym c.index.ensures ∙ c.if-index.false)) c.index-arrivals-at.is
     (subst (λ (s : Step). IsStepped s now c.step.new.self) c.arrive.ensures c.in_ok-step.ensures.ok) (subst (MayTake (tree_of now) (world_of now)) c.arrive.ensures c.in_ok-step.ensures.may)
