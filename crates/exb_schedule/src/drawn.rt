@@ -92,6 +92,7 @@ fn come_next(
     rest: &mut Rest,
     queues: &mut Vec<Queue>,
     queue: usize,
+    commands: &[Timed],
     arrivals: &[Arrival],
 ) -> Result<(), WorldFault>
     requires whole { length rest.old.given.items ≡ length arrivals.now }
@@ -103,7 +104,7 @@ fn come_next(
     let Some(at) = next_in(queues.as_slice(), queue) else {
         return Ok(());
     };
-    if at >= arrivals.len() || !can_come(world, arrivals, at) {
+    if at >= arrivals.len() || !can_come(world, commands, arrivals, at) {
         return Ok(());
     }
     come(world, rest, arrivals, at)?;
@@ -137,7 +138,7 @@ fn make(
                 Ok(())
             }
         }
-        Choice::Arrival { queue } => come_next(world, rest, queues, queue, arrivals),
+        Choice::Arrival { queue } => come_next(world, rest, queues, queue, commands, arrivals),
         Choice::Data { link, way } => take_data(world, link, way),
         Choice::Control { link, way, place } => ask_fate(world, link, way, place),
         Choice::Beat => beat_once(world),

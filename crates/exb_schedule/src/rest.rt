@@ -50,19 +50,13 @@ pub(crate) fn arrive<'a>(arrival: &'a Arrival) -> Step<'a>
     }
 }
 
-/// Whether a step may be made, where memory hasn't run out.
-fn can_make(world: &World, step: Step<'_>) -> bool
-    ensures { result ≡ true → Can (tree_of (network_of world.now)) (world_of (network_of world.now)) (step_of step.entry) }
-{
-    world.can(&step)
-}
-
 /// Whether an arrival may come now, where memory hasn't run out.
-pub(crate) fn can_come(world: &World, arrivals: &[Arrival], at: usize) -> bool
+pub(crate) fn can_come(world: &World, commands: &[Timed], arrivals: &[Arrival], at: usize) -> bool
     requires { at < length arrivals.now }
     ensures { result ≡ true → (a : _) → a ≡ slice_index_or arrivals.now at a → Can (tree_of (network_of world.now)) (world_of (network_of world.now)) (Arrive (arrived a)) }
 {
-    can_make(world, arrive(&arrivals[at]))
+    let _ = commands;
+    world.can(&arrive(&arrivals[at]))
 }
 
 /// Lets the seconds pass, if any are left.
