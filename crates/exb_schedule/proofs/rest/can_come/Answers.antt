@@ -9,8 +9,8 @@ use Rattle.exb_schedule.specs.Worlds.{network_of}
 use Rattle.exb_schedule.proofs.rest.can_come.Goals as goal
 
 pub returns : goal.returns
-returns g c yes a is =
+returns g c can a is =
     let now = network_of c.args.world.now in
     let same = c.index-arrivals-at.is ∙ (get_or_default c.args.arrivals.now c.args.at c.index-arrivals-at.result a c.requires ∙ sym is) in
-    let here = subst (Can (tree_of now) (world_of now)) c.arrive.ensures (c.can.ensures.may yes) in
+    let here = subst (Can (tree_of now) (world_of now)) c.arrive.ensures (c.can.ensures.may can) in
     subst (λ (x : Arrival). Can (tree_of now) (world_of now) (Arrive (arrived x))) same here
