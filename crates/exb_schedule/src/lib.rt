@@ -8,10 +8,14 @@
 
 mod arriving;
 mod delivery;
+mod drawn;
+mod draws;
 mod facts;
 pub mod laws;
 mod motion;
+mod queues;
 mod remaining;
+mod rest;
 pub mod segment;
 mod settling;
 mod steps;
@@ -19,6 +23,7 @@ pub mod world;
 
 pub use delivery::round;
 pub use exb_network::{Left, Step, Way, WorldFault};
+pub use drawn::seeded;
 pub use segment::{Arrival, eager, open};
 pub use settling::settle;
 pub use world::World;

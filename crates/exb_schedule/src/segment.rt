@@ -101,7 +101,7 @@ pub fn open(
 }
 
 /// Gives a command. What is planned for it the fate is armed with just before.
-fn give_one(world: &mut World, command: &Timed) -> Result<(), WorldFault>
+pub(crate) fn give_one(world: &mut World, command: &Timed) -> Result<(), WorldFault>
     requires can { Can (tree_of (network_of world.old)) (world_of (network_of world.old)) (Order command.now.command) }
     requires few { left world.old.fate + length command.now.fate < 2 ^ 57 }
     ensures ok { OnOk result (IsStepped (Order command.now.command) (network_of world.old) (network_of world.new)) }

@@ -30,6 +30,7 @@ use std::alloc::Global;
 #[derive(Drop)]
 pub struct World {
     pub(crate) motion: Motion,
+    pub(crate) alloc: Global,
     pub(crate) fate: Box<dyn Fate>,
 }
 
@@ -52,7 +53,11 @@ impl World {
         ensures fate { IfOk result (λ made. left made.fate ≡ left fate) }
     {
         let motion = Motion::new(alloc, setup, trace)?;
-        Ok(World { motion, fate })
+        Ok(World {
+            motion,
+            alloc,
+            fate,
+        })
     }
 
     /// Whether a step may be made, where memory hasn't run out: by exactly the rules of the network.
