@@ -154,9 +154,10 @@ set_here (b ∷ flags) (suc k) = set_here flags k
 module _ (t : Shape) (l : Limits) where
   can_come : (frames : List Arrival) (w : World) (next : ℕ → ℕ) → ((p : ℕ) → w.next p ≡ next p) → CanFrom t l w (arrive frames) → MayComeAll t next frames
   can_come [] w next same can = tt
-  can_come (a ∷ frames) w next same can =
-      (record { external = can.0.external; index = can.0.next ∙ same a.port; few = can.0.few; short = can.0.short },
-      can_come frames (stepped t l (Arrive (arrived a)) w).world (bumped a.port next) (λ p. (arrival_stays t l (arrived a) w).awaits p ∙ sym (bumped_same w.next next a.port (λ r. sym (same r)) p)) can.1)
+  can_come (a ∷ frames) w next same can = (
+    record { external = can.0.external; index = can.0.next ∙ same a.port; few = can.0.few; short = can.0.short },
+    can_come frames (stepped t l (Arrive (arrived a)) w).world (bumped a.port next) (λ p. (arrival_stays t l (arrived a) w).awaits p ∙ sym (bumped_same w.next next a.port (λ r. sym (same r)) p)) can.1,
+  )
 
   can_order : (cs : List Timed) (frames : List Arrival) (w : World) (next : ℕ → ℕ) (given : ℕ) → ((p : ℕ) → w.next p ≡ next p) → w.control.given ≡ given → CanFrom t l w (orders cs ++ arrive frames) →
       MayOrderAll t given cs × MayComeAll t next frames

@@ -36,7 +36,13 @@ fn take_data(world: &mut World, link: u8, way: Way) -> Result<(), WorldFault>
 }
 
 /// Delivers a control word, and may keep it.
-fn deliver_at(world: &mut World, link: u8, way: Way, place: u64, keep: bool) -> Result<(), WorldFault>
+fn deliver_at(
+    world: &mut World,
+    link: u8,
+    way: Way,
+    place: u64,
+    keep: bool,
+) -> Result<(), WorldFault>
     requires { ⊤ }
     ensures ok { OnOk result (Keeps (network_of world.old) (network_of world.new)) }
     ensures failed { result ≡ Err WorldFault.Failed → (network_of world.old).failed ≡ true }
@@ -162,7 +168,14 @@ fn draw(
     ensures fate { OnOk result (left world.new.fate + letters_in (drop rest.new.taken commands.now) ≤ left world.old.fate + letters_in (drop rest.old.taken commands.now)) }
     ensures low { left world.new.fate ≤ left world.old.fate + letters_in (drop rest.old.taken commands.now) }
 {
-    match choose(world, rest, commands.len(), queues.as_slice(), world.alloc, rng) {
+    match choose(
+        world,
+        rest,
+        commands.len(),
+        queues.as_slice(),
+        world.alloc,
+        rng,
+    ) {
         Ok(choice) => make(world, rest, queues, choice, commands, arrivals),
         Err(NoMemory) => Err(WorldFault::Memory),
     }
@@ -189,7 +202,9 @@ fn draw_all(
         Ok(queues) => queues,
         Err(NoMemory) => return Err(WorldFault::Memory),
     };
-    let count = (commands.len() as u64).saturating_add(arrivals.len() as u64).saturating_add(1);
+    let count = (commands.len() as u64)
+        .saturating_add(arrivals.len() as u64)
+        .saturating_add(1);
     let mut draws = count.saturating_mul(64);
     'draws: while draws > 0 {
         draw(world, rest, &mut queues, rng, commands, arrivals)?;

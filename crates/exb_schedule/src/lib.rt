@@ -22,8 +22,8 @@ mod steps;
 pub mod world;
 
 pub use delivery::round;
-pub use exb_network::{Left, Step, Way, WorldFault};
 pub use drawn::seeded;
+pub use exb_network::{Left, Step, Way, WorldFault};
 pub use segment::{Arrival, eager, open};
 pub use settling::settle;
 pub use world::World;

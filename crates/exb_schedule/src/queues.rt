@@ -28,13 +28,21 @@ fn place_of(queues: &[Queue], port: PortId) -> usize
 }
 
 /// Puts an arrival behind those of its port.
-fn enqueue(queues: &mut Vec<Queue>, alloc: Global, port: PortId, at: usize) -> Result<(), NoMemory> {
+fn enqueue(
+    queues: &mut Vec<Queue>,
+    alloc: Global,
+    port: PortId,
+    at: usize,
+) -> Result<(), NoMemory> {
     let place = place_of(queues.as_slice(), port);
     if place == queues.len() || queues[place].port != port {
-        queues.insert(place, Queue {
-            port,
-            waiting: VecDeque::new(alloc),
-        })?;
+        queues.insert(
+            place,
+            Queue {
+                port,
+                waiting: VecDeque::new(alloc),
+            },
+        )?;
     }
     queues[place].waiting.push_back(at)?;
     Ok(())

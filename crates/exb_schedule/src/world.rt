@@ -106,9 +106,7 @@ impl World {
             Step::Lose { link, way, at } => self.motion.step(Step::Lose { link, way, at }),
             Step::Beat => self.motion.step(Step::Beat),
             Step::Tick { seconds } => self.motion.step(Step::Tick { seconds }),
-            Step::Command { command } => {
-                self.motion.step(Step::Command { command })
-            }
+            Step::Command { command } => { self.motion.step(Step::Command { command }) }
             Step::Mark => self.motion.step(Step::Mark),
         }
     }

@@ -22,10 +22,12 @@ give_commands-requires-clause-drawn g c =
 pub give_arrivals-requires : goal.give_arrivals-requires
 give_arrivals-requires g c =
     record {
-      drawn =
-          (c.args.seconds, network_of c.args.world.now,
-          c.in_ok-give_commands.ensures.ok c.args.seconds (network_of c.args.world.now)
-          (c.in_ok-pass.ensures.ok c.args.commands.now c.args.arrivals.now c.args.seconds (network_of c.args.world.now) (c.in_ok-draw_all.ensures.ok c.args.seconds c.requires.drawn)));
+      drawn = (
+        c.args.seconds,
+        network_of c.args.world.now,
+        c.in_ok-give_commands.ensures.ok c.args.seconds (network_of c.args.world.now)
+            (c.in_ok-pass.ensures.ok c.args.commands.now c.args.arrivals.now c.args.seconds (network_of c.args.world.now) (c.in_ok-draw_all.ensures.ok c.args.seconds c.requires.drawn)),
+      );
     }
 
 pub returns-clause-ok : goal.returns-clause-ok
