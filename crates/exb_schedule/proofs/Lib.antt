@@ -4,6 +4,8 @@ mod Rounds
 mod Playing
 mod Giving
 mod Segments
+mod Still
+mod Drawing
 mod Reaching
 mod Going
 mod Passing

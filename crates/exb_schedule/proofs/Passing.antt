@@ -208,7 +208,7 @@ module _ (n : ℕ) (way : Way) (whole : Play) (before budget less : ℕ) (old no
       AllControl kept → left.place ≡ length kept → left.frames ≡ length (filter is_data rest) → left.control ≡ length (filter is_control rest) →
       StandsAt n way kept rest (run (tree_of now) (bounds_of now) steps (world_of now)).world →
       ((vs : List Verdict) → was (given ++ vs) ≡ played_before (run (tree_of now) (bounds_of now) steps (world_of now))
-          (goes_on (tree_of now) (bounds_of now) n way left.place rest (run (tree_of now) (bounds_of now) steps (world_of now)).world vs)) →
+      (goes_on (tree_of now) (bounds_of now) n way left.place rest (run (tree_of now) (bounds_of now) steps (world_of now)).world vs)) →
       Leads whole was before budget old now → GoesThrough n way whole before less old new left
   looked steps given kept rest was left moves made paid all place frames control stands split leads =
       let t : Shape = tree_of now in

@@ -103,7 +103,7 @@ count_on so_far counted made is more = more ∙ (ap (λ (m : ℕ). min (m + 1) (
     next k m = omega arith
 
 module _ (law : RoundsSpend) (old now new : Network) (before budget less made more : ℕ) (same : IsSame old now) (k : Rests old now before budget made) (none : IsSettled (tree_of now) (world_of now) → ⊥)
-  (one : HasAsked (round (tree_of now) (bounds_of now) (world_of now)) budget less now new) where
+    (one : HasAsked (round (tree_of now) (bounds_of now) (world_of now)) budget less now new) where
   abbrev t : Shape
   t = tree_of old
 
@@ -128,7 +128,7 @@ module _ (law : RoundsSpend) (old now new : Network) (before budget less made mo
   -- the rest, after the verdicts of this round
   split : (m : ℕ) → k.ahead ≡ suc m → (vs : List Verdict) → settled_within (tree_of old) (bounds_of old) k.ahead (world_of now) vs
       ≡ played_before (round (tree_of old) (bounds_of old) (world_of now) vs).done
-          (settled_within (tree_of old) (bounds_of old) m (round (tree_of old) (bounds_of old) (world_of now) vs).done.world (round (tree_of old) (bounds_of old) (world_of now) vs).verdicts)
+      (settled_within (tree_of old) (bounds_of old) m (round (tree_of old) (bounds_of old) (world_of now) vs).done.world (round (tree_of old) (bounds_of old) (world_of now) vs).verdicts)
   split m e vs = ap (λ (n : ℕ). settled_within t l n w vs) e ∙ one_more t l m w vs unsettled
 
   unfoldable leads_to : (m : ℕ) → k.ahead ≡ suc m → Leads (settled_within (tree_of old) (bounds_of old) (most old before) (world_of old)) (settled_within (tree_of old) (bounds_of old) m (world_of new)) before less old new

@@ -3,4 +3,5 @@ pub mod Reached
 pub mod Rounds
 pub mod Playing
 pub mod Worlds
+pub mod Drawing
 pub mod Laws

@@ -18,7 +18,12 @@ use exb_network::{Way, WorldFault};
 
 /// Asks the fate of a control word that is free, and does what it says: the word is delivered, lost, delivered and kept, or left.
 /// Answers the place of the next one.
-pub(crate) fn take_control(world: &mut World, link: u8, way: Way, place: u64) -> Result<u64, WorldFault>
+pub(crate) fn take_control(
+    world: &mut World,
+    link: u8,
+    way: Way,
+    place: u64,
+) -> Result<u64, WorldFault>
     requires there { is_extender (tree_of (network_of world.old)) link ≡ true }
     requires free { place < leading (words_on link (way_of way) (world_of (network_of world.old))) }
     requires low { place + 1 < 2 ^ 64 }

@@ -8,16 +8,21 @@
 
 mod arriving;
 mod delivery;
+mod drawn;
+mod draws;
 mod facts;
 pub mod laws;
 mod motion;
+mod queues;
 mod remaining;
+mod rest;
 pub mod segment;
 mod settling;
 mod steps;
 pub mod world;
 
 pub use delivery::round;
+pub use drawn::seeded;
 pub use exb_network::{Left, Step, Way, WorldFault};
 pub use segment::{Arrival, eager, open};
 pub use settling::settle;

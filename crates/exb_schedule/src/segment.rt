@@ -59,16 +59,16 @@ pub(crate) fn end(world: &mut World) -> Result<(), WorldFault>
     set_mark(&mut world.motion)
 }
 
-/// The world after its opening, for which the fate was armed.
-fn opened(mut world: World, plan: &[Verdict]) -> Result<World, NoMemory>
-    requires few { left world.fate + length plan.now < 2 ^ 57 }
-    ensures ended { IfOk result (λ made. HasEnded (network_of world) (network_of made)) }
-    ensures settled { IfOk result (λ made. IsSettled (tree_of (network_of made)) (world_of (network_of made))) }
-    ensures fate { IfOk result (λ made. left made.fate ≤ left world.fate + length plan.now) }
+/// Arms the fate, settles and marks.
+fn open_armed(world: &mut World, plan: &[Verdict]) -> Result<(), NoMemory>
+    requires few { left world.old.fate + length plan.now < 2 ^ 57 }
+    ensures ended { OnOk result (HasEnded (network_of world.old) (network_of world.new)) }
+    ensures settled { OnOk result (IsSettled (tree_of (network_of world.new)) (world_of (network_of world.new))) }
+    ensures fate { OnOk result (left world.new.fate ≤ left world.old.fate + length plan.now) }
 {
     world.arm(plan)?;
-    match end(&mut world) {
-        Ok(()) => Ok(world),
+    match end(world) {
+        Ok(()) => Ok(()),
         Err(_) => Err(NoMemory),
     }
 }
@@ -93,12 +93,15 @@ pub fn open(
     ensures tracing { IfOk result (λ world. (network_of world).log.tracing ≡ trace) }
     ensures fate { IfOk result (λ world. left world.fate ≤ left fate + length plan.now) }
 {
-    let world = World::new(alloc, setup, fate, trace)?;
-    opened(world, plan)
+    let mut world = World::new(alloc, setup, fate, trace)?;
+    match open_armed(&mut world, plan) {
+        Ok(()) => Ok(world),
+        Err(_) => Err(NoMemory),
+    }
 }
 
 /// Gives a command. What is planned for it the fate is armed with just before.
-fn give_one(world: &mut World, command: &Timed) -> Result<(), WorldFault>
+pub(crate) fn give_one(world: &mut World, command: &Timed) -> Result<(), WorldFault>
     requires can { Can (tree_of (network_of world.old)) (world_of (network_of world.old)) (Order command.now.command) }
     requires few { left world.old.fate + length command.now.fate < 2 ^ 57 }
     ensures ok { OnOk result (IsStepped (Order command.now.command) (network_of world.old) (network_of world.new)) }

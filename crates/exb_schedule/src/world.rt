@@ -30,6 +30,7 @@ use std::alloc::Global;
 #[derive(Drop)]
 pub struct World {
     pub(crate) motion: Motion,
+    pub(crate) alloc: Global,
     pub(crate) fate: Box<dyn Fate>,
 }
 
@@ -52,7 +53,11 @@ impl World {
         ensures fate { IfOk result (λ made. left made.fate ≡ left fate) }
     {
         let motion = Motion::new(alloc, setup, trace)?;
-        Ok(World { motion, fate })
+        Ok(World {
+            motion,
+            alloc,
+            fate,
+        })
     }
 
     /// Whether a step may be made, where memory hasn't run out: by exactly the rules of the network.
@@ -101,9 +106,7 @@ impl World {
             Step::Lose { link, way, at } => self.motion.step(Step::Lose { link, way, at }),
             Step::Beat => self.motion.step(Step::Beat),
             Step::Tick { seconds } => self.motion.step(Step::Tick { seconds }),
-            Step::Command { command } => {
-                self.motion.step(Step::Command { command })
-            }
+            Step::Command { command } => { self.motion.step(Step::Command { command }) }
             Step::Mark => self.motion.step(Step::Mark),
         }
     }

@@ -1,0 +1,324 @@
+//! The segments of a seeded run.
+ghost use Rattle.std.specs.Prelude.{⊤, ◌≡◌, ◌≢◌, ◌++◌, ◌∷◌, [], ◌+◌, ◌*◌, ◌<◌, ◌≤◌, ◌^◌, ℕ, List, true, OnOk, length, drop, slice_index_or};
+ghost use Rattle.exb_model.specs.declared.event.Event.{Event};
+ghost use Rattle.exb_model.specs.Input.{Input, Segment, Mode, Seeded};
+ghost use Rattle.exb_model.specs.Traces.{TraceLine as Telling};
+ghost use Rattle.exb_machine.specs.Allowing.{IsSettled};
+ghost use Rattle.exb_machine.specs.Worlds.{Left as Leaving};
+ghost use Rattle.exb_network.specs.Networks.{world_of, tree_of, IsSame};
+ghost use Rattle.exb_network.specs.Worlds.{all_left};
+ghost use Rattle.exb_schedule.specs.Drawing.{left_of, GoesOn, HasDrawn, IsDrawn, IsReady, Keeps};
+ghost use Rattle.exb_schedule.specs.Playing.{gives, letters_in, CanAll, HasPlayed, IsSegment};
+ghost use Rattle.exb_schedule.specs.Worlds.{network_of};
+
+use crate::draws::{Choice, choose};
+use crate::queues::{Queue, next_in, queues_of, take_from};
+use crate::rest::{Rest, can_come, come, command, pass};
+use crate::segment::{Arrival, end};
+use crate::steps::{beat, carry, deliver, lose};
+use crate::world::World;
+use exb_model::memory::NoMemory;
+use exb_model::setup::{Timed, Verdict};
+use exb_network::{Way, WorldFault};
+use rand_pcg::Lcg64Xsh32;
+
+/// Takes the first data word of a direction.
+fn take_data(world: &mut World, link: u8, way: Way) -> Result<(), WorldFault>
+    requires { ⊤ }
+    ensures ok { OnOk result (Keeps (network_of world.old) (network_of world.new)) }
+    ensures failed { result ≡ Err WorldFault.Failed → (network_of world.old).failed ≡ true }
+    ensures fate { left world.new.fate ≡ left world.old.fate }
+{
+    if !world.can(&carry(link, way)) {
+        return Ok(());
+    }
+    world.motion.step(carry(link, way))
+}
+
+/// Delivers a control word, and may keep it.
+fn deliver_at(
+    world: &mut World,
+    link: u8,
+    way: Way,
+    place: u64,
+    keep: bool,
+) -> Result<(), WorldFault>
+    requires { ⊤ }
+    ensures ok { OnOk result (Keeps (network_of world.old) (network_of world.new)) }
+    ensures failed { result ≡ Err WorldFault.Failed → (network_of world.old).failed ≡ true }
+    ensures fate { left world.new.fate ≡ left world.old.fate }
+{
+    if !world.can(&deliver(link, way, place, keep)) {
+        return Ok(());
+    }
+    world.motion.step(deliver(link, way, place, keep))
+}
+
+/// Loses a control word.
+fn lose_at(world: &mut World, link: u8, way: Way, place: u64) -> Result<(), WorldFault>
+    requires { ⊤ }
+    ensures ok { OnOk result (Keeps (network_of world.old) (network_of world.new)) }
+    ensures failed { result ≡ Err WorldFault.Failed → (network_of world.old).failed ≡ true }
+    ensures fate { left world.new.fate ≡ left world.old.fate }
+{
+    if !world.can(&lose(link, way, place)) {
+        return Ok(());
+    }
+    world.motion.step(lose(link, way, place))
+}
+
+/// A beat passes.
+fn beat_once(world: &mut World) -> Result<(), WorldFault>
+    requires { ⊤ }
+    ensures ok { OnOk result (Keeps (network_of world.old) (network_of world.new)) }
+    ensures failed { result ≡ Err WorldFault.Failed → (network_of world.old).failed ≡ true }
+    ensures fate { left world.new.fate ≡ left world.old.fate }
+{
+    world.motion.step(beat())
+}
+
+/// Asks the fate of a control word, and does what it says.
+fn ask_fate(world: &mut World, link: u8, way: Way, place: u64) -> Result<(), WorldFault>
+    requires { ⊤ }
+    ensures ok { OnOk result (Keeps (network_of world.old) (network_of world.new)) }
+    ensures failed { result ≡ Err WorldFault.Failed → (network_of world.old).failed ≡ true }
+    ensures fate { left world.new.fate ≤ left world.old.fate }
+{
+    match world.fate() {
+        Verdict::Pass => deliver_at(world, link, way, place, false),
+        Verdict::Lose => lose_at(world, link, way, place),
+        Verdict::Twice => deliver_at(world, link, way, place, true),
+        Verdict::Later => Ok(()),
+    }
+}
+
+/// The next arrival of a queue comes.
+fn come_next(
+    world: &mut World,
+    rest: &mut Rest,
+    queues: &mut Vec<Queue>,
+    queue: usize,
+    commands: &[Timed],
+    arrivals: &[Arrival],
+) -> Result<(), WorldFault>
+    requires whole { length rest.old.given.items ≡ length arrivals.now }
+    ensures ok { (cs : List _) → OnOk result (GoesOn cs arrivals.now rest.old rest.new (network_of world.old) (network_of world.new)) }
+    ensures taken { OnOk result (rest.new.taken ≡ rest.old.taken) }
+    ensures failed { result ≡ Err WorldFault.Failed → (network_of world.old).failed ≡ true }
+    ensures fate { left world.new.fate ≡ left world.old.fate }
+{
+    let Some(at) = next_in(queues.as_slice(), queue) else {
+        return Ok(());
+    };
+    if at >= arrivals.len() || !can_come(world, commands, arrivals, at) {
+        return Ok(());
+    }
+    come(world, rest, arrivals, at)?;
+    take_from(queues.as_mut_slice(), queue);
+    Ok(())
+}
+
+/// Makes what was drawn, where it may be made.
+fn make(
+    world: &mut World,
+    rest: &mut Rest,
+    queues: &mut Vec<Queue>,
+    choice: Choice,
+    commands: &[Timed],
+    arrivals: &[Arrival],
+) -> Result<(), WorldFault>
+    requires whole { length rest.old.given.items ≡ length arrivals.now }
+    requires ready { IsReady (network_of world.old) rest.old.seconds (drop rest.old.taken commands.now) (left_of rest.old.given.items arrivals.now) }
+    requires few { left world.old.fate + letters_in (drop rest.old.taken commands.now) < 2 ^ 57 }
+    ensures ok { OnOk result (GoesOn commands.now arrivals.now rest.old rest.new (network_of world.old) (network_of world.new)) }
+    ensures failed { result ≡ Err WorldFault.Failed → (network_of world.old).failed ≡ true }
+    ensures fate { OnOk result (left world.new.fate + letters_in (drop rest.new.taken commands.now) ≤ left world.old.fate + letters_in (drop rest.old.taken commands.now)) }
+    ensures low { left world.new.fate ≤ left world.old.fate + letters_in (drop rest.old.taken commands.now) }
+{
+    match choice {
+        Choice::Tick => pass(world, rest),
+        Choice::Command => {
+            if rest.taken < commands.len() {
+                command(world, rest, commands)
+            } else {
+                Ok(())
+            }
+        }
+        Choice::Arrival { queue } => come_next(world, rest, queues, queue, commands, arrivals),
+        Choice::Data { link, way } => take_data(world, link, way),
+        Choice::Control { link, way, place } => ask_fate(world, link, way, place),
+        Choice::Beat => beat_once(world),
+    }
+}
+
+/// Draws once.
+fn draw(
+    world: &mut World,
+    rest: &mut Rest,
+    queues: &mut Vec<Queue>,
+    rng: &mut Lcg64Xsh32,
+    commands: &[Timed],
+    arrivals: &[Arrival],
+) -> Result<(), WorldFault>
+    requires whole { length rest.old.given.items ≡ length arrivals.now }
+    requires ready { IsReady (network_of world.old) rest.old.seconds (drop rest.old.taken commands.now) (left_of rest.old.given.items arrivals.now) }
+    requires few { left world.old.fate + letters_in (drop rest.old.taken commands.now) < 2 ^ 57 }
+    ensures ok { OnOk result (GoesOn commands.now arrivals.now rest.old rest.new (network_of world.old) (network_of world.new)) }
+    ensures failed { result ≡ Err WorldFault.Failed → (network_of world.old).failed ≡ true }
+    ensures fate { OnOk result (left world.new.fate + letters_in (drop rest.new.taken commands.now) ≤ left world.old.fate + letters_in (drop rest.old.taken commands.now)) }
+    ensures low { left world.new.fate ≤ left world.old.fate + letters_in (drop rest.old.taken commands.now) }
+{
+    match choose(
+        world,
+        rest,
+        commands.len(),
+        queues.as_slice(),
+        world.alloc,
+        rng,
+    ) {
+        Ok(choice) => make(world, rest, queues, choice, commands, arrivals),
+        Err(NoMemory) => Err(WorldFault::Memory),
+    }
+}
+
+/// Draws so often: 64 times for each of a segment's commands and arrivals, and 64 times.
+fn draw_all(
+    world: &mut World,
+    rest: &mut Rest,
+    rng: &mut Lcg64Xsh32,
+    commands: &[Timed],
+    arrivals: &[Arrival],
+) -> Result<(), WorldFault>
+    requires drawn { (all : ℕ) × HasDrawn all commands.now arrivals.now rest.old.seconds rest.old.taken rest.old.given.items (network_of world.old) (network_of world.old) }
+    requires few { left world.old.fate + letters_in (drop rest.old.taken commands.now) < 2 ^ 57 }
+    ensures ok { OnOk result ((all : ℕ) → HasDrawn all commands.now arrivals.now rest.old.seconds rest.old.taken rest.old.given.items (network_of world.old) (network_of world.old)
+        → HasDrawn all commands.now arrivals.now rest.new.seconds rest.new.taken rest.new.given.items (network_of world.old) (network_of world.new)) }
+    ensures same { OnOk result ((network_of world.new).failed ≡ (network_of world.old).failed) }
+    ensures failed { result ≡ Err WorldFault.Failed → (network_of world.old).failed ≡ true }
+    ensures fate { OnOk result (left world.new.fate + letters_in (drop rest.new.taken commands.now) ≤ left world.old.fate + letters_in (drop rest.old.taken commands.now)) }
+    ensures low { left world.new.fate ≤ left world.old.fate + letters_in (drop rest.old.taken commands.now) }
+{
+    let mut queues = match queues_of(world.alloc, arrivals) {
+        Ok(queues) => queues,
+        Err(NoMemory) => return Err(WorldFault::Memory),
+    };
+    let count = (commands.len() as u64)
+        .saturating_add(arrivals.len() as u64)
+        .saturating_add(1);
+    let mut draws = count.saturating_mul(64);
+    'draws: while draws > 0 {
+        draw(world, rest, &mut queues, rng, commands, arrivals)?;
+        draws -= 1;
+    }
+    Ok(())
+}
+
+/// Gives the commands that are left, in order.
+fn give_commands(
+    world: &mut World,
+    rest: &mut Rest,
+    commands: &[Timed],
+    arrivals: &[Arrival],
+) -> Result<(), WorldFault>
+    requires drawn { (all : ℕ) × (old : _) × HasDrawn all commands.now arrivals.now rest.old.seconds rest.old.taken rest.old.given.items old (network_of world.old) }
+    requires few { left world.old.fate + letters_in (drop rest.old.taken commands.now) < 2 ^ 57 }
+    ensures ok { OnOk result (GoesOn commands.now arrivals.now rest.old rest.new (network_of world.old) (network_of world.new)) }
+    ensures all { OnOk result (length commands.now ≤ rest.new.taken) }
+    ensures seconds { OnOk result (rest.new.seconds ≡ rest.old.seconds) }
+    ensures same { OnOk result ((network_of world.new).failed ≡ (network_of world.old).failed) }
+    ensures failed { result ≡ Err WorldFault.Failed → (network_of world.old).failed ≡ true }
+    ensures fate { left world.new.fate ≤ left world.old.fate + letters_in (drop rest.old.taken commands.now) }
+{
+    let _ = arrivals;
+    'commands: while rest.taken < commands.len() {
+        command(world, rest, commands)?;
+    }
+    Ok(())
+}
+
+/// Lets the arrivals that are left come, in order.
+fn give_arrivals(
+    world: &mut World,
+    rest: &mut Rest,
+    commands: &[Timed],
+    arrivals: &[Arrival],
+) -> Result<(), WorldFault>
+    requires drawn { (all : ℕ) × (old : _) × HasDrawn all commands.now arrivals.now rest.old.seconds rest.old.taken rest.old.given.items old (network_of world.old) }
+    ensures ok { OnOk result (GoesOn commands.now arrivals.now rest.old rest.new (network_of world.old) (network_of world.new)) }
+    ensures all { OnOk result ((at : ℕ) → at < length arrivals.now → slice_index_or rest.new.given.items at true ≡ true) }
+    ensures seconds { OnOk result (rest.new.seconds ≡ rest.old.seconds) }
+    ensures taken { OnOk result (rest.new.taken ≡ rest.old.taken) }
+    ensures failed { result ≡ Err WorldFault.Failed → (network_of world.old).failed ≡ true }
+    ensures fate { left world.new.fate ≡ left world.old.fate }
+{
+    let _ = commands;
+    for at in 0..arrivals.len() {
+        come(world, rest, arrivals, at)?;
+    }
+    Ok(())
+}
+
+/// Gives what is left of a segment: in an order that is drawn, and what is left after so many draws in order.
+fn give_rest(
+    world: &mut World,
+    rest: &mut Rest,
+    rng: &mut Lcg64Xsh32,
+    seconds: u32,
+    commands: &[Timed],
+    arrivals: &[Arrival],
+) -> Result<(), WorldFault>
+    requires drawn { HasDrawn seconds commands.now arrivals.now rest.old.seconds rest.old.taken rest.old.given.items (network_of world.old) (network_of world.old) }
+    requires few { left world.old.fate + letters_in (drop rest.old.taken commands.now) < 2 ^ 57 }
+    ensures ok { OnOk result (IsDrawn seconds commands.now arrivals.now (network_of world.old) (network_of world.new)) }
+    ensures failed { result ≡ Err WorldFault.Failed → (network_of world.old).failed ≡ true }
+    ensures fate { left world.new.fate ≤ left world.old.fate + letters_in (drop rest.old.taken commands.now) }
+{
+    let _ = seconds;
+    draw_all(world, rest, rng, commands, arrivals)?;
+    pass(world, rest)?;
+    give_commands(world, rest, commands, arrivals)?;
+    give_arrivals(world, rest, commands, arrivals)
+}
+
+/// Gives a segment so.
+fn give_drawn(
+    world: &mut World,
+    rng: &mut Lcg64Xsh32,
+    seconds: u32,
+    commands: &[Timed],
+    arrivals: &[Arrival],
+) -> Result<(), WorldFault>
+    requires can { CanAll (network_of world.old) (gives seconds commands.now arrivals.now) }
+    requires few { left world.old.fate + letters_in commands.now < 2 ^ 57 }
+    ensures ok { OnOk result (IsDrawn seconds commands.now arrivals.now (network_of world.old) (network_of world.new)) }
+    ensures failed { result ≡ Err WorldFault.Failed → (network_of world.old).failed ≡ true }
+    ensures fate { left world.new.fate ≤ left world.old.fate + letters_in commands.now }
+{
+    let Ok(mut rest) = Rest::new(world.alloc, seconds, arrivals.len()) else {
+        return Err(WorldFault::Memory);
+    };
+    give_rest(world, &mut rest, rng, seconds, commands, arrivals)
+}
+
+/// Plays a segment of a seeded run: one draw after another says what comes next, of the segment, of the words on the links, or a beat;
+/// what is left after 64 draws for each command and each arrival and 64 more is given in order. Then all is settled and marked.
+pub fn seeded(
+    world: &mut World,
+    rng: &mut Lcg64Xsh32,
+    seconds: u32,
+    commands: &[Timed],
+    arrivals: &[Arrival],
+) -> Result<(), WorldFault>
+    requires can { CanAll (network_of world.old) (gives seconds commands.now arrivals.now) }
+    requires few { left world.old.fate + letters_in commands.now < 2 ^ 57 }
+    ensures settled { OnOk result (IsSettled (tree_of (network_of world.new)) (world_of (network_of world.new))) }
+    ensures plays { OnOk result ((i : Input) (so_far : List Segment) (s : Segment) (events : List Event) (left : List Leaving) (lines : List Telling) → IsSegment i s seconds commands.now arrivals.now
+        → HasPlayed Seeded i so_far (network_of world.old) (events ++ (network_of world.old).log.events) (left ++ all_left (network_of world.old).log.left) (lines ++ (network_of world.old).log.lines)
+        → HasPlayed Seeded i (so_far ++ s ∷ []) (network_of world.new) (events ++ (network_of world.new).log.events) (left ++ all_left (network_of world.new).log.left) (lines ++ (network_of world.new).log.lines)) }
+    ensures same { OnOk result (IsSame (network_of world.old) (network_of world.new)) }
+    ensures failed { result ≡ Err WorldFault.Failed → (network_of world.old).failed ≡ true }
+    ensures fate { left world.new.fate ≤ left world.old.fate + letters_in commands.now }
+{
+    give_drawn(world, rng, seconds, commands, arrivals)?;
+    end(world)
+}
