@@ -1,35 +1,33 @@
 -- Of a segment whose order is drawn: what was given, and that what is left can be given.
-use Rattle.std.proofs.Common.{◌≡◌, ◌≢◌, ℕ, zero, suc, ◌+◌, ◌<◌, ◌≤◌, ◌^◌, ◌++◌, ◌==◌, Bool, true, false, cond, inl, inr, List, [], ◌∷◌, map, take, drop, length, set, replicate, get_or, append_assoc, append-nil, refl, ap, sym, ◌∙◌, subst, arith}
+use Rattle.std.proofs.Common.{◌≡◌, ◌≢◌, ℕ, zero, suc, ◌+◌, ◌<◌, ◌≤◌, ◌^◌, ◌++◌, ◌==◌, Bool, true, false, inl, inr, List, [], ◌∷◌, map, drop, length, set, replicate, get_or, append_assoc, append-nil, refl, ap, sym, ◌∙◌, subst, arith}
 use Rattle.std.specs.Prelude.{IsPermutation, if◌then◌else◌, Result, Ok, Err, OnOk}
 use Rattle.std.proofs.lemmas.Bool.{cases_Bool, cases_eq, eq-eqb, eqb-true, ne_eqb, false≢true}
 use Rattle.std.proofs.lemmas.List.{drop_all, drop_more, length-replicate, length-set}
 use Rattle.std.proofs.lemmas.List.Sorted.{IsPermutation-refl, IsPermutation-trans, IsPermutation-sym, IsPermutation-middle, IsPermutation-append_right, IsPermutation-map}
 use Rattle.exb_model.specs.declared.command.Command.{Command}
 use Rattle.exb_model.specs.declared.setup.Timed.{Timed}
-use Rattle.exb_model.specs.Input.{Input, Segment, Seeded, basis_of}
+use Rattle.exb_model.specs.Input.{Input, Segment, Seeded}
 use Rattle.exb_model.specs.Input.{Arrival as Arrived}
 use Rattle.exb_model.specs.Setup.{Limits}
 use Rattle.exb_model.specs.Tree.{Shape}
 use Rattle.exb_machine.specs.Allowing.{Can}
 use Rattle.exb_machine.specs.Stepping.{stepped}
-use Rattle.exb_machine.specs.Worlds.{World, Step, Arrive, Carry, Control, Lose, Beat, Tick, Order, Mark, at}
+use Rattle.exb_machine.specs.Worlds.{World, Step, Arrive, Tick, Order, at}
 use Rattle.exb_machine_laws.specs.Laws.{IsMove}
-use Rattle.exb_machine_laws.specs.Sessions as machine
 use Rattle.exb_flight.specs.Items.{Each}
 use Rattle.exb_motion.specs.Given.{Given, Came, Told, given_by, arrivals_of, commands_of}
 use Rattle.exb_motion.specs.Kept.{given_in}
-use Rattle.exb_motion.specs.Playing.{seconds_by, seconds_in, IsUnmarked, Gives}
+use Rattle.exb_motion.specs.Playing.{seconds_by, seconds_in, IsUnmarked}
 use Rattle.exb_network.specs.Networks.{Network, world_of, tree_of, bounds_of, IsStepped}
-use Rattle.exb_network.specs.Sites.{Site, limits_in}
+use Rattle.exb_network.specs.Sites.{Site}
 use Rattle.exb_resting.specs.Settles.{MayTake}
 use Rattle.exb_schedule.specs.declared.segment.Arrival.{Arrival}
 use Rattle.exb_schedule.specs.Drawing.{left_of, seconds_of, MayCome, MayComeAll, MayOrderAll, IsReady, HasDrawn, Keeps}
-use Rattle.exb_schedule.specs.Moves.{HasRun}
-use Rattle.exb_schedule.specs.Playing.{arrived, arrive, gives, orders, tick, CanAll, CanFrom, IsSegment}
+use Rattle.exb_schedule.specs.Playing.{arrived, arrive, gives, orders, CanAll, CanFrom, IsSegment}
 use Rattle.exb_schedule.proofs.Leading.{run_nothing, run_step, run_steps}
 use Rattle.exb_schedule.proofs.Playing.{moves_give_nothing}
 use Rattle.exb_schedule.proofs.Segments.{GivesIt}
-use Rattle.exb_schedule.proofs.Still.{Has, HasAs, move_stays, tick_stays, order_stays, arrival_stays}
+use Rattle.exb_schedule.proofs.Still.{HasAs, move_stays, tick_stays, order_stays, arrival_stays}
 
 -- ---- indices that are awaited
 abbrev bumped : ℕ → (ℕ → ℕ) → ℕ → ℕ

@@ -5,7 +5,7 @@ use Rattle.std.proofs.lemmas.Option.{slice_get_within, get_or_from_slice_get}
 use Rattle.exb_model.specs.declared.setup.Verdict.{Verdict}
 use Rattle.exb_model.specs.Setup.{Limits}
 use Rattle.exb_model.specs.Tree.{Shape}
-use Rattle.exb_machine.specs.Settling.{direction, nothing, Played, played_before, round, through_all}
+use Rattle.exb_machine.specs.Settling.{direction, nothing, round, through_all}
 use Rattle.exb_machine.specs.Stepping.{Stepped, stepped, words_on}
 use Rattle.exb_machine.specs.Worlds.{World, Way, Up, Down, Beat}
 use Rattle.exb_network.specs.Networks.{Network, world_of, tree_of, bounds_of, IsStepped}

@@ -1,5 +1,5 @@
 -- How what a network does is put together.
-use Rattle.std.proofs.Common.{◌≡◌, ◌++◌, ℕ, ◌+◌, ◌≤◌, true, List, [], append_assoc, append-nil, refl, ap, sym, ◌∙◌, subst, ◌∷◌, arith}
+use Rattle.std.proofs.Common.{◌≡◌, ◌++◌, ℕ, ◌+◌, ◌≤◌, List, [], append_assoc, append-nil, refl, ap, sym, ◌∙◌, subst, ◌∷◌, arith}
 use Rattle.exb_model.specs.declared.event.Event.{Event}
 use Rattle.exb_model.specs.declared.setup.Verdict.{Verdict}
 use Rattle.exb_model.specs.Setup.{Limits}

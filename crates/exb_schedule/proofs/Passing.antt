@@ -1,5 +1,5 @@
 -- One word is looked at, and the next ones stand.
-use Rattle.std.proofs.Common.{◌≡◌, ℕ, ◌+◌, ◌-◌, ◌<◌, ◌≤◌, ◌^◌, inl, inr, true, false, List, [], ◌∷◌, ◌++◌, append_assoc, append-nil, length, filter, Some, refl, ap, sym, ◌∙◌, subst, arith}
+use Rattle.std.proofs.Common.{◌≡◌, ℕ, ◌+◌, ◌<◌, ◌≤◌, inl, inr, true, false, List, [], ◌∷◌, ◌++◌, append-nil, length, filter, Some, refl, ap, sym, ◌∙◌, subst, arith}
 use Rattle.std.proofs.lemmas.Bool.{cases_Bool}
 use Rattle.exb_model.specs.declared.setup.Verdict.{Verdict}
 use Rattle.exb_model.specs.declared.setup.Verdict.TheVariants as verdict
@@ -7,22 +7,21 @@ use Rattle.exb_model.specs.Setup.{Limits}
 use Rattle.exb_model.specs.Tree.{Shape, is_extender}
 use Rattle.exb_link.specs.declared.word.Word.{Word}
 use Rattle.exb_link.specs.Words.{is_control, is_data, leading, without_data, without_control}
-use Rattle.exb_machine.specs.Settling.{direction, followed_by, next_place, nothing, played_before, run, steps_for}
+use Rattle.exb_machine.specs.Settling.{direction, next_place, played_before, run, steps_for}
 use Rattle.exb_machine.specs.Stepping.{Stepped, stepped, words_on, with_words, first_data, control_at, rest_of}
 use Rattle.exb_machine.specs.Worlds.{World, Way, Up, Down, Step, Carry, Control, Lose}
 use Rattle.exb_machine_laws.specs.Laws.{IsMove}
 use Rattle.exb_machine_laws.specs.Sessions.{Each}
 use Rattle.exb_machine_laws.proofs.Words.{each_append, at_here}
-use Rattle.exb_network.specs.Networks.{Network, world_of, tree_of, bounds_of, IsStepped}
+use Rattle.exb_network.specs.Networks.{Network, world_of, tree_of, bounds_of}
 use Rattle.exb_network.specs.Sites.{Site, limits_in}
-use Rattle.exb_resting.specs.Costs.{cost_of, costs}
+use Rattle.exb_resting.specs.Costs.{costs}
 use Rattle.exb_resting.specs.Facts.{Moves}
-use Rattle.exb_resting.specs.Settles.{MayTake}
 use Rattle.exb_resting.proofs.RoundSteps.{data_at, data_out, control_there, control_out, StandsAt, taken_stands, step_is}
 use Rattle.exb_schedule.specs.declared.remaining.Remaining.{Remaining}
 use Rattle.exb_schedule.specs.Moves.{HasGone, HasRun}
 use Rattle.exb_schedule.specs.Rounds.{goes_along, goes_on, AreNext, GoesThrough, HasAsked, HasTaken, Leads}
-use Rattle.exb_schedule.proofs.Leading.{Play, leads_begin, leads_end, leads_on, run_step}
+use Rattle.exb_schedule.proofs.Leading.{Play, leads_begin, leads_end, leads_on}
 use Rattle.exb_schedule.proofs.Rounds.{next_control, next_data, next_none}
 use Rattle.exb_schedule.proofs.Runs.{one_step}
 

@@ -5,7 +5,7 @@ use Rattle.exb_model.specs.declared.event.Event.{Event}
 use Rattle.exb_model.specs.EagerHistory.{eager}
 use Rattle.exb_model.specs.FlatBridge.{flat}
 use Rattle.exb_model.specs.History.{◌then◌}
-use Rattle.exb_model.specs.Input.{Eager, basis_of}
+use Rattle.exb_model.specs.Input.{basis_of}
 use Rattle.exb_model.specs.LegalHistory.{Legal}
 use Rattle.exb_machine.specs.Worlds.{World, Left}
 use Rattle.exb_standing.specs.Showing.{left_at}

@@ -1,13 +1,12 @@
 -- Settling that is under way.
-use Rattle.std.proofs.Common.{◌≡◌, ◌≢◌, ℕ, ◌-◌, ◌^◌, min, suc, ◌+◌, ◌*◌, ◌<◌, ◌≤◌, inl, inr, true, false, List, [], ◌++◌, append_assoc, append-nil, refl, ap, sym, ◌∙◌, subst, arith}
+use Rattle.std.proofs.Common.{◌≡◌, ℕ, ◌-◌, ◌^◌, min, suc, ◌+◌, ◌*◌, ◌<◌, ◌≤◌, inl, inr, true, false, List, [], ◌++◌, append_assoc, append-nil, refl, ap, sym, ◌∙◌, subst, arith}
 use Rattle.std.proofs.lemmas.Bool.{cases_Bool, cases_lt}
 use Rattle.exb_model.specs.declared.setup.Verdict.{Verdict}
 use Rattle.exb_model.specs.Rounds.{rounds}
 use Rattle.exb_model.specs.Setup.{Limits, shape_of, limits_of}
 use Rattle.exb_model.specs.Tree.{Shape, IsTree}
 use Rattle.exb_machine.specs.Allowing.{IsSettled}
-use Rattle.exb_machine.specs.Settling.{is_settled, followed_by, nothing, planned_in, played_before, round, settled_within, Played}
-use Rattle.exb_machine.specs.Stepping.{Stepped}
+use Rattle.exb_machine.specs.Settling.{is_settled, planned_in, played_before, round, settled_within, Played}
 use Rattle.exb_machine.specs.Worlds.{World}
 use Rattle.exb_machine_laws.proofs.Rounds.{settled_exactly}
 use Rattle.exb_motion.proofs.Setups.{setups_may_start}
@@ -16,10 +15,9 @@ use Rattle.exb_network.specs.Sites.{Site, limits_in}
 use Rattle.exb_resting.specs.Costs.{costs}
 use Rattle.exb_resting.specs.Laws.{RoundsSpend}
 use Rattle.exb_resting.specs.Settles.{Settles, reached_by}
-use Rattle.exb_schedule.specs.Moves.{HasGone}
 use Rattle.exb_schedule.specs.Reached.{Reached}
 use Rattle.exb_schedule.specs.Rounds.{HasAsked, HasSettled, Leads, rounds_made}
-use Rattle.exb_schedule.proofs.Leading.{Play, costs_then, same_then, leads_begin, leads_by, leads_end, leads_on, gone_world}
+use Rattle.exb_schedule.proofs.Leading.{costs_then, same_then, leads_begin, leads_by, leads_end, leads_on, gone_world}
 use Rattle.exb_schedule.proofs.RoundsLeft.{Ends, ends_next, left_over, left_within, measured, no_more, none_left, one_more, passes_less, passes_nothing, some_left, some_round}
 
 -- how many rounds there are at most, where the fate may give so many verdicts that aren't Pass

@@ -7,7 +7,7 @@ use Rattle.exb_model.specs.Tree.{Shape}
 use Rattle.exb_model.specs.Setup.{Limits}
 use Rattle.exb_link.specs.declared.word.Word.{Word}
 use Rattle.exb_link.specs.Words.{is_control}
-use Rattle.exb_machine.specs.Settling.{Direction, directions, gone_through, goes_through, is_settled, nothing, followed_by, round, run, settled_within, through_all, Played, played_before}
+use Rattle.exb_machine.specs.Settling.{Direction, directions, gone_through, goes_through, is_settled, nothing, round, run, settled_within, through_all, Played, played_before}
 use Rattle.exb_machine.specs.Stepping.{words_on}
 use Rattle.exb_machine.specs.Worlds.{World, Way}
 use Rattle.exb_resting.specs.Costs.{costs}

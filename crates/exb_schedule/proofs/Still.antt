@@ -1,5 +1,5 @@
 -- What steps do to the indices that are awaited, to the clock and to the number of commands.
-use Rattle.std.proofs.Common.{◌≡◌, ℕ, ◌+◌, ◌-◌, ◌==◌, ◌++◌, nat_lt, Bool, true, false, cond, List, [], ◌∷◌, drop, Option, Some, None, Ok, Err, refl, sym, ◌∙◌, ap, inl, inr}
+use Rattle.std.proofs.Common.{◌≡◌, ℕ, ◌+◌, ◌-◌, ◌==◌, nat_lt, Bool, true, false, cond, List, [], ◌∷◌, drop, Option, Some, None, Ok, Err, refl, sym, ◌∙◌, inl, inr}
 use Rattle.exb_model.specs.declared.command.Command.{Command}
 use Rattle.exb_model.specs.Configuration.{Bridge}
 use Rattle.exb_model.specs.EagerHistory.{is_relayed}
@@ -7,17 +7,16 @@ use Rattle.exb_link.specs.Words.{is_control, without_control, without_data}
 use Rattle.exb_learn.specs.Calls.{Table, Forget, See, after_call}
 use Rattle.exb_learn.specs.Histories.{relay_call, after_any}
 use Rattle.exb_changing.specs.Machine.{Moved, answered, beats, heard, ordered, still}
-use Rattle.exb_change_laws.specs.Systems.{System, Hear, Stray, Order as Ordering, Beat as BeatOf}
+use Rattle.exb_change_laws.specs.Systems.{Hear, Stray, Order as Ordering, Beat as BeatOf}
 use Rattle.exb_machine.specs.Controls.{channel_at_trunk, forgotten_all, taught, announced, is_of}
-use Rattle.exb_machine.specs.Extending.{hung_on, port_number, stamp_of, sent_at, sent_to, sends, does, reacts, takes_from_above, takes_from_below, ignored, does_or_ignores, arrives_at}
-use Rattle.exb_machine.specs.Stepping.{takes_up, takes, takes_any, words_on, with_words, first_data, control_at, rest_of, counted, stepped, if_there, all_extenders, beats_all}
+use Rattle.exb_machine.specs.Extending.{hung_on, port_number, stamp_of, sent_at, sent_to, sends, does, reacts, takes_from_below, ignored, does_or_ignores, arrives_at}
+use Rattle.exb_machine.specs.Stepping.{takes, takes_any, words_on, with_words, first_data, control_at, rest_of, counted, stepped, if_there, all_extenders, beats_all}
 use Rattle.exb_machine.specs.Worlds.{World, Way, Up, Down, Step, Arrive, Carry, Control, Lose, Beat, Tick, Order, Mark, at, control_word, push_down, push_up, with_near, with_far, with_control, with_table, next_beat}
 use Rattle.exb_machine_laws.specs.Laws.{IsMove}
 use Rattle.exb_machine_laws.specs.Simulation.{system_of}
 use Rattle.exb_machine_laws.proofs.Jobs.{moved_given}
 use Rattle.std.specs.Prelude.{Result}
 use Rattle.std.proofs.lemmas.Bool.{cases_Bool}
-use Rattle.std.proofs.lemmas.List.{append-nil}
 use Rattle.exb_model.specs.Tree.{Shape, on, device, trunk, is_extender, is_external}
 use Rattle.exb_model.specs.Setup.{Limits}
 use Rattle.exb_model.specs.Frames.{egress, source, is_group}
@@ -46,9 +45,8 @@ use Rattle.exb_session.specs.Asking.{took}
 use Rattle.exb_extender.specs.declared.sends.Side.{Side}
 use Rattle.exb_extender.specs.declared.sends.Side.TheVariants as side
 use Rattle.exb_csp.specs.AllTables.{port_of}
-use Rattle.exb_extender.specs.Forwarding.{Sent, channel_tag, has_etag_type, is_bare_control, emitted}
+use Rattle.exb_extender.specs.Forwarding.{channel_tag, has_etag_type}
 use Rattle.exb_extender.specs.Machine.{Reaction, Arrives, Beats, react}
-use Rattle.exb_extender.specs.Machine.{hears as far_hears}
 use Rattle.exb_link.specs.declared.word.Stamp.{Stamp}
 use Rattle.exb_link.specs.declared.word.Word.{Word}
 use Rattle.exb_relay.specs.declared.send.SendTo.{SendTo}

@@ -1,7 +1,6 @@
 -- What is still to be given of a segment whose order is drawn.
 use Rattle.std.specs.Prelude.{◌≡◌, ◌≢◌, ℕ, ◌+◌, ◌<◌, ◌≤◌, ◌^◌, ◌++◌, ◌==◌, Bool, true, if◌then◌else◌, List, [], ◌∷◌, length, map, drop, slice_index_or, IsPermutation}
 use Rattle.exb_model.specs.declared.setup.Timed.{Timed}
-use Rattle.exb_model.specs.Input.{Arrival as Arrived}
 use Rattle.exb_model.specs.Setup.{NamesExternal}
 use Rattle.exb_model.specs.Tree.{Shape, is_external}
 use Rattle.exb_machine.specs.Worlds.{Step, at}

@@ -1,5 +1,5 @@
 -- Rounds in which a fate is asked at each control word, and how far they are.
-use Rattle.std.specs.Prelude.{◌≡◌, ℕ, zero, suc, ◌+◌, ◌-◌, ◌≤◌, ◌^◌, min, if◌then◌else◌, true, ◌++◌, List, [], filter, length, map}
+use Rattle.std.specs.Prelude.{◌≡◌, ℕ, zero, suc, ◌+◌, ◌-◌, ◌≤◌, ◌^◌, min, if◌then◌else◌, true, ◌++◌, List, filter, length, map}
 use Rattle.exb_model.specs.declared.setup.Verdict.{Verdict}
 use Rattle.exb_model.specs.Setup.{Limits}
 use Rattle.exb_model.specs.Tree.{Shape}

@@ -1,8 +1,5 @@
 use Rattle.std.proofs.Common.{arith}
-use Rattle.exb_machine.specs.Settling.{direction}
-use Rattle.exb_network.specs.Networks.{world_of, tree_of, bounds_of}
 use Rattle.exb_network.specs.Steps.{way_of}
-use Rattle.exb_schedule.specs.Rounds.{goes_along}
 use Rattle.exb_schedule.specs.Worlds.{network_of}
 use Rattle.exb_schedule.proofs.Passing.{there_still, through_first, through_last}
 use Rattle.exb_schedule.proofs.delivery.go_through.Goals as goal

@@ -1,6 +1,4 @@
-use Rattle.std.proofs.Common.{◌<◌, subst, sym}
-use Rattle.exb_model.specs.Tree.{is_extender}
-use Rattle.exb_link.specs.Words.{leading}
+use Rattle.std.proofs.Common.{subst, sym}
 use Rattle.exb_machine.specs.Allowing.{Can}
 use Rattle.exb_machine.specs.Stepping.{words_on}
 use Rattle.exb_machine.specs.Worlds.{Step, Lose}

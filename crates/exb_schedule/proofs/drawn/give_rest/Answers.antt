@@ -1,4 +1,4 @@
-use Rattle.std.proofs.Common.{◌≡◌, ℕ, ◌∙◌, length, arith, subst}
+use Rattle.std.proofs.Common.{ℕ, ◌∙◌, arith, subst}
 use Rattle.exb_schedule.specs.Drawing.{HasDrawn}
 use Rattle.exb_schedule.specs.Worlds.{network_of}
 use Rattle.exb_schedule.proofs.Drawing.{on_ok_four, tick_can}

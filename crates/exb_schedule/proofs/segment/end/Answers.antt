@@ -1,4 +1,3 @@
-use Rattle.exb_network.specs.Networks.{world_of, tree_of}
 use Rattle.exb_network.proofs.Coming.{on_ok_two}
 use Rattle.exb_schedule.specs.Worlds.{network_of}
 use Rattle.exb_schedule.proofs.Segments.{has_ended, stays_settled}

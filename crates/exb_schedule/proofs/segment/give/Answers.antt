@@ -1,4 +1,4 @@
-use Rattle.std.proofs.Common.{◌≤◌, arith}
+use Rattle.std.proofs.Common.{arith}
 use Rattle.exb_model.specs.declared.setup.Timed.{Timed}
 use Rattle.exb_machine.specs.Worlds.{Order}
 use Rattle.exb_schedule.specs.Worlds.{network_of}
