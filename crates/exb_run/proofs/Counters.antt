@@ -7,7 +7,6 @@ use Rattle.exb_model.specs.Tree.{Shape, device, on, trunk}
 use Rattle.exb_ecp.specs.Machine.{submitted, stopped}
 use Rattle.exb_csp.specs.Spelling.{message_bytes}
 use Rattle.exb_csp.specs.AllTables.{port_of}
-use Rattle.exb_learn.specs.Calls.{Table, Tick as Ticks, after_call}
 use Rattle.exb_extender.specs.declared.sends.Side.{Side}
 use Rattle.exb_extender.specs.declared.sends.Side.TheVariants as side
 use Rattle.exb_extender.specs.Forwarding.{Sent}
@@ -23,7 +22,7 @@ use Rattle.exb_change_laws.specs.Systems.{Order as Orders}
 use Rattle.exb_model.specs.Learning.{passes}
 use Rattle.exb_model.specs.Frames.{egress}
 use Rattle.exb_machine.specs.Controls.{channel_at_trunk, forgotten_all, taught}
-use Rattle.exb_machine.specs.Effects.{Effect, only, then_do, each}
+use Rattle.exb_machine.specs.Effects.{Effect, then_do, each}
 use Rattle.exb_machine.specs.Extending.{hung_on, port_number, sent_at, sent_to, sends, does, does_or_ignores, ignored, arrives_at, stamp_of}
 use Rattle.exb_machine.specs.Hearing.{bridge_request, puts_tagged, to_extender, asks, moves}
 use Rattle.exb_machine.specs.Relaying.{puts_word, sent_by, sends_in, sends_all, sends_for, comes}

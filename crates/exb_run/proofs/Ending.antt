@@ -6,7 +6,7 @@ use Rattle.exb_model.specs.declared.event.Event.{Event}
 use Rattle.exb_model.specs.EagerHistory.{eager}
 use Rattle.exb_model.specs.FlatBridge.{flat}
 use Rattle.exb_model.specs.History.{History, ◌then◌}
-use Rattle.exb_model.specs.Input.{Input, Mode, Eager, Seeded, basis_of, tree_of, segments}
+use Rattle.exb_model.specs.Input.{Input, Mode, Eager, basis_of, tree_of, segments}
 use Rattle.exb_model.specs.LegalHistory.{Legal}
 use Rattle.exb_model.specs.Texts.{capture_text, counts, journal_text}
 use Rattle.exb_model.specs.Traces.{TraceLine, trace_text}

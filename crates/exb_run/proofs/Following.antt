@@ -1,27 +1,27 @@
 -- What comes next follows the segments so far: it can be played, and the agenda leads on.
 use Rattle.std.proofs.Common.{◌≡◌, ℕ, zero, suc, ◌+◌, ◌-◌, ◌*◌, ◌^◌, ◌<◌, ◌≤◌, ◌==◌, Bool, true, false, List, [], ◌∷◌, ◌++◌, length, map, drop, take, filter, max, All, refl, ap, sym, subst, ◌∙◌, arith, inl, inr, eq-eqb, append_assoc, length-append}
-use Rattle.std.specs.Prelude.{Option, Some, None, IfSome, if◌then◌else◌, filter_map, flat_map, sum_by}
+use Rattle.std.specs.Prelude.{Option, Some, None, IfSome, if◌then◌else◌, filter_map, flat_map}
 use Rattle.std.specs.List.{AllByRecursion}
 use Rattle.std.proofs.lemmas.Bool.{cases_lt, cases_Bool, cases_eq, ne_eqb}
 use Rattle.std.proofs.lemmas.Grind.{flat_map-append}
-use Rattle.std.proofs.lemmas.List.{append-nil, length-drop, get_or-drop}
+use Rattle.std.proofs.lemmas.List.{append-nil, length-drop}
 use Rattle.std.proofs.lemmas.List.Elements.{filter-append}
 use Rattle.std.proofs.lemmas.List.Sums.{sum_by-append}
 use Rattle.exb_model.specs.declared.event.Event.{Event}
 use Rattle.exb_model.specs.declared.setup.Timed.{Timed}
 use Rattle.exb_model.specs.declared.command.Command.{Command}
 use Rattle.exb_model.specs.History.{command_of}
-use Rattle.exb_model.specs.Input.{Input, Record, Arrival, Segment, Coming, Mode, basis_of, tree_of, arrivals_from, arrivals_at, arrival_in, given_by, merge, moment_of, second_of, segment_of, segments}
+use Rattle.exb_model.specs.Input.{Input, Record, Arrival, Segment, Coming, Mode, basis_of, tree_of, arrivals_from, arrivals_at, arrival_in, given_by, merge, segment_of}
 use Rattle.exb_model.specs.Setup.{Limits, NamesExternal}
 use Rattle.exb_model.specs.Traces.{TraceLine}
 use Rattle.exb_model.specs.Tree.{Shape, is_external}
-use Rattle.exb_machine.specs.Allowing.{Can, MayArrive}
+use Rattle.exb_machine.specs.Allowing.{MayArrive}
 use Rattle.exb_machine.specs.Stepping.{stepped}
-use Rattle.exb_machine.specs.Worlds.{World, Step, Arrive, Order, Tick, Left, at}
-use Rattle.exb_merge.specs.Agendas.{ToPlay, IsNext, TakesAll, coming_of, still_to_come}
+use Rattle.exb_machine.specs.Worlds.{World, Step, Arrive, Order, Tick, Left}
+use Rattle.exb_merge.specs.Agendas.{ToPlay, IsNext, TakesAll, still_to_come}
 use Rattle.exb_merge.specs.declared.agenda.Due.{Due}
 use Rattle.exb_network.specs.Networks.{Network, world_of, bounds_of as limits_in}
-use Rattle.exb_resting.specs.Playing.{IsUnderWay, RunsAreUnderWay, arrivals_in}
+use Rattle.exb_resting.specs.Playing.{RunsAreUnderWay, arrivals_in}
 use Rattle.exb_schedule.specs.declared.segment.Arrival.{Arrival as Given}
 use Rattle.exb_schedule.specs.Playing.{CanAll, CanFrom, HasPlayed, IsSegment, arrive, arrived, gives, letters_in, orders, tick}
 use Rattle.exb_run.specs.Playing.{IsDueAfter, IsGathered, CanBeKept, CanFollow, came_by, second_by, seconds_after, segments_after}

@@ -3,7 +3,7 @@ use Rattle.std.proofs.Common.{◌≡◌, ℕ, List, [], ◌∷◌, ◌++◌, map
 use Rattle.std.specs.Prelude.{filter_map}
 use Rattle.std.specs.List.{AllByRecursion}
 use mathlib.Core.List.{map-append}
-use Rattle.exb_model.specs.Input.{Arrival as Arrived, Coming, arrival_in}
+use Rattle.exb_model.specs.Input.{Arrival as Arrived, arrival_in}
 use Rattle.exb_merge.specs.Agendas.{ToPlay, IsNext, coming_of}
 use Rattle.exb_merge.specs.declared.agenda.Due.{Due}
 use Rattle.exb_schedule.specs.declared.segment.Arrival.{Arrival}

@@ -1,5 +1,5 @@
 -- A run that goes on by what was gathered.
-use Rattle.std.proofs.Common.{◌≡◌, ◌==◌, ℕ, ◌+◌, ◌-◌, ◌≤◌, ◌<◌, ◌^◌, List, ◌∷◌, [], ◌++◌, drop, take, length, filter, refl, ap, sym, subst, ◌∙◌, arith}
+use Rattle.std.proofs.Common.{◌≡◌, ◌==◌, ℕ, ◌+◌, ◌-◌, ◌≤◌, ◌<◌, List, ◌∷◌, [], ◌++◌, drop, take, length, filter, ap, sym, ◌∙◌, arith}
 use Rattle.std.specs.Prelude.{Some, filter_map}
 use Rattle.exb_model.specs.declared.setup.Timed.{Timed}
 use Rattle.exb_model.specs.Input.{Input, Arrival, Segment, Mode, arrival_in, arrivals_at, merge, segment_of}

@@ -1,9 +1,9 @@
 -- A topology that is run: what its plan writes is what is told of its external ports.
-use Rattle.std.proofs.Common.{◌≡◌, ◌≢◌, ◌+◌, ◌<◌, ◌≤◌, ◌==◌, ◌⊎◌, inl, inr, ℕ, Bool, true, false, List, [], ◌∷◌, Some, Result, Ok, Err, suc, All, refl, ap, sym, ◌∙◌, arith, eq-eqb}
+use Rattle.std.proofs.Common.{◌≡◌, ◌≢◌, ◌+◌, ◌<◌, ◌==◌, ◌⊎◌, inl, inr, ℕ, Bool, true, false, List, [], ◌∷◌, Some, Result, Ok, Err, suc, All, refl, ap, sym, ◌∙◌, arith, eq-eqb}
 use mathlib.Core.Path.{fun_ext}
 use Rattle.std.specs.Prelude.{is_some, if◌then◌else◌, String, IfOk, IfErr, OnErr}
 use Rattle.std.specs.declared.alloc.Global.{Global}
-use Rattle.std.proofs.lemmas.Bool.{cases_lt, lt-ltb, le-ltb, eqb-true, ne_eqb}
+use Rattle.std.proofs.lemmas.Bool.{lt-ltb, le-ltb, eqb-true, ne_eqb}
 use Rattle.exb_model.specs.History.{History}
 use Rattle.exb_model.specs.Input.{Input, Mode, basis_of, tree_of}
 use Rattle.exb_model.specs.Tree.{Shape, IsTree, is_external}

@@ -1,12 +1,12 @@
 -- What is taken from an agenda, one after another.
-use Rattle.std.proofs.Common.{◌≡◌, ℕ, false, zero, suc, ◌+◌, ◌*◌, ◌^◌, ◌<◌, ◌≤◌, List, [], ◌∷◌, ◌++◌, length, map, drop, take, refl, ap, sym, subst, ◌∙◌, arith, append_assoc}
-use Rattle.std.specs.Prelude.{Option, Some, None, filter_map, slice_get}
+use Rattle.std.proofs.Common.{◌≡◌, ℕ, false, zero, suc, ◌+◌, ◌*◌, ◌^◌, ◌<◌, ◌≤◌, List, [], ◌∷◌, ◌++◌, length, map, drop, take, refl, ap, sym, subst, ◌∙◌, arith}
+use Rattle.std.specs.Prelude.{Some, filter_map, slice_get}
 use Rattle.std.specs.List.{AllByRecursion}
 use Rattle.exb_model.specs.declared.setup.Timed.{Timed}
 use Rattle.exb_model.specs.declared.command.Command.{Command}
 use Rattle.exb_model.specs.History.{command_of}
-use Rattle.exb_model.specs.Input.{Input, Given, Arrival, Coming, Group, Ordered, Captured, Mode, Eager, Seeded, alone, arrival_in, basis_of, given_by, groups_in, moment_of, number_in, second_of}
-use Rattle.exb_merge.specs.Agendas.{ToPlay, IsNext, IsOf, TakesAll, begins_in, coming_of, still_to_come}
+use Rattle.exb_model.specs.Input.{Input, Given, Arrival, Coming, Ordered, Captured, Mode, Eager, Seeded, alone, arrival_in, basis_of, given_by, groups_in, moment_of, number_in, second_of}
+use Rattle.exb_merge.specs.Agendas.{ToPlay, IsNext, TakesAll, begins_in, coming_of, still_to_come}
 use Rattle.exb_merge.specs.declared.agenda.Due.{Due}
 use Rattle.exb_merge.specs.declared.agenda.Due.TheVariants as due
 use Rattle.exb_run.specs.Playing.{came_by, second_by}

@@ -6,7 +6,7 @@ use Rattle.exb_model.specs.declared.setup.Setup.{Setup}
 use Rattle.exb_model.specs.declared.setup.Timed.{Timed}
 use Rattle.exb_model.specs.declared.setup.Verdict.{Verdict}
 use Rattle.exb_model.specs.History.{◌then◌, command_of}
-use Rattle.exb_model.specs.Input.{Input, Segment, Coming, Mode, Eager, Seeded, basis_of, tree_of, arrival_in, given_by, groups_in, merge, moment_of, second_of, segment_of, segments, segments_in, segments_since}
+use Rattle.exb_model.specs.Input.{Input, Segment, Coming, Mode, Eager, Seeded, basis_of, tree_of, arrival_in, given_by, groups_in, merge, moment_of, second_of, segments, segments_in, segments_since}
 use Rattle.exb_model.specs.Setup.{NamesExternal}
 use Rattle.exb_model.specs.Texts.{Counts, counted, with_left, capture_text, journal_text}
 use Rattle.exb_model.specs.Traces.{TraceLine, trace_text}

@@ -1,10 +1,10 @@
-use Rattle.std.proofs.Common.{◌≡◌, ◌<◌, ◌+◌, ◌^◌, List, length, ap, sym, subst, ◌∙◌, arith}
+use Rattle.std.proofs.Common.{List, length, ap, sym, subst, arith}
 use Rattle.exb_model.specs.declared.event.Event.{Event}
-use Rattle.exb_model.specs.Texts.{Counts, with_left}
+use Rattle.exb_model.specs.Texts.{Counts}
 use Rattle.exb_network.specs.declared.log.Left.{Left}
 use Rattle.exb_schedule.specs.Worlds.{network_of}
 use Rattle.exb_text.specs.Tallies.{FitsTally, counts_of}
-use Rattle.exb_run.proofs.Counting.{count_events, count_events-left}
+use Rattle.exb_run.proofs.Counting.{count_events}
 use Rattle.exb_run.proofs.Tallying.{fits-events}
 use Rattle.exb_run.proofs.game.Game.note.Goals as goal
 

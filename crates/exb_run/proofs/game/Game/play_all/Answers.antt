@@ -1,4 +1,4 @@
-use Rattle.std.proofs.Common.{◌≡◌, ◌<◌, ◌≤◌, ◌+◌, ◌^◌, ◌++◌, ◌∷◌, [], ℕ, List, Some, drop, length, ap, sym, subst, ◌∙◌, arith}
+use Rattle.std.proofs.Common.{◌<◌, ◌^◌, ◌++◌, ℕ, List, Some, drop, length, ap, sym, subst, ◌∙◌, arith}
 use Rattle.std.proofs.lemmas.List.{append-nil}
 use Rattle.exb_model.specs.declared.setup.Timed.{Timed}
 use Rattle.exb_model.specs.Input.{Coming, Segment, second_of, moment_of}
@@ -6,7 +6,7 @@ use Rattle.exb_merge.specs.Agendas.{coming_of}
 use Rattle.exb_schedule.specs.Playing.{letters_in}
 use Rattle.exb_schedule.specs.Worlds.{network_of}
 use Rattle.exb_text.specs.Tallies.{counts_of}
-use Rattle.exb_run.specs.Playing.{CanGoOn, IsPlaying, IsTold, mode_of, second_by, seconds_after, segments_after}
+use Rattle.exb_run.specs.Playing.{IsPlaying, IsTold, mode_of, seconds_after, segments_after}
 use Rattle.exb_run.proofs.Following.{seconds-low}
 use Rattle.exb_run.proofs.Segmenting.{segments_after-end}
 use Rattle.exb_run.proofs.ShelvingLemmas.{writes_then, fewer_then}

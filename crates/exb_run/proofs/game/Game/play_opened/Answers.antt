@@ -1,4 +1,4 @@
-use Rattle.std.proofs.Common.{◌≡◌, [], List, length, ap, sym, ◌∙◌, arith}
+use Rattle.std.proofs.Common.{[], length, ap, ◌∙◌, arith}
 use Rattle.exb_model.specs.Texts.{Counts, with_left}
 use Rattle.exb_network.specs.Worlds.{all_left}
 use Rattle.exb_schedule.specs.Worlds.{network_of}
