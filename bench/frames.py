@@ -10,6 +10,7 @@ same run, and compares what the two write byte for byte.
     bench/frames.py --commands  what a command takes where there are 64 extenders and 4,094 VLANs, and what it takes a port of 4,094
                                 VLANs with a set each to go down and up. There the outputs are compared with the plain bridge in
                                 Python of crates/exb_cases
+    bench/frames.py --options   a run with a trace, and a run in a drawn order, beside the same run without, as ratios
     bench/frames.py --costs     where the time goes, by callgrind (instructions, and not seconds)
 
 It works in a folder of its own under the system's folder for such, and takes it away at the end. The program and the
@@ -248,6 +249,22 @@ def commands():
              [((), "down", [("down", 'port = "x1.13"')]), (("down",), "up", [("up", 'port = "x1.13"')])])
 
 
+def options():
+    """The same frames without an option, with a trace, and in a drawn order, in turn; the best time of each counts."""
+    star = Tree(6, [(number, f"b{number}", 8) for number in range(1, 7)])
+    for name, tree in (("an extender of 8 ports", one_extender(8)), ("six extenders of 8 ports", star), ("through 8 extenders", chain(8))):
+        ports = tree.ports
+        write_topology(tree)
+        write_captures(ports, learned(20_000, len(ports), 64, None, len(ports)), len(ports))
+        ways = ([], ["--trace"], ["--seed", "1"])
+        turns = [[run([PROGRAM, "run", "topology.toml"] + way) for way in ways] for _ in range(TURNS)]
+        plain, trace, seed = (min(turn[at][0] for turn in turns) for at in range(3))
+        memory = max(turn[1][1] for turn in turns)
+        size = os.path.getsize("out-trace.txt") / 1e6
+        print(f"{name:42} {plain:6.2f} s | with a trace {trace:6.2f} s, ratio {trace / plain:5.1f}, {size:6.1f} MB written, {memory:4.0f} MB of memory"
+              f" | with a seed {seed:6.2f} s, ratio {seed / plain:5.1f}", flush=True)
+
+
 def costs():
     tree = one_extender(64)
     write_captures(tree.ports, learned(5_000, 64, 60, None, 64) + flooded(640, 64, 60), 64)
@@ -272,6 +289,8 @@ def main():
             trees()
         elif "--commands" in sys.argv:
             commands()
+        elif "--options" in sys.argv:
+            options()
         elif "--costs" in sys.argv:
             costs()
         else:
