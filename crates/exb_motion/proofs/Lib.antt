@@ -17,4 +17,5 @@ mod Opening
 mod Numbers
 pub mod Playing
 mod Eager
+pub mod Fronts
 pub mod Setups

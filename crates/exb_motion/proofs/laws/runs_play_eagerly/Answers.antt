@@ -1,4 +1,4 @@
-use Rattle.exb_motion.proofs.Playing.{runs_play_eagerly}
+use Rattle.exb_motion.proofs.Fronts.{runs_play_eagerly}
 use Rattle.exb_motion.proofs.laws.runs_play_eagerly.Goals as goal
 
 pub returns : goal.returns

@@ -1,0 +1,5 @@
+use Rattle.exb_run.proofs.Cutting.{cut_whole}
+use Rattle.exb_run.proofs.game.Game.end.Goals as goal
+
+pub returns-in_err-line-clause-cut : goal.returns-in_err-line-clause-cut
+returns-in_err-line-clause-cut g c = λ t orig text p. cut_whole c.args.plan.now orig (g.S.Shelf.file c.finish.new.shelf) text (c.in_ok-finish.ensures.texts t orig text p)
