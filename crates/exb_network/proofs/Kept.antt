@@ -5,7 +5,7 @@ use Rattle.exb_model.specs.declared.setup.Setup.{Setup}
 use Rattle.exb_model.specs.Setup.{Limits, IsValid, shape_of, limits_of, start_of}
 use Rattle.exb_model.specs.Tree.{Shape, IsTree, is_extender}
 use Rattle.exb_changing.specs.Runs.Planned.{IsSetting}
-use Rattle.exb_changes.specs.Fabrics.{IsFabric}
+use Rattle.exb_control.specs.Fabrics.{IsFabric}
 use Rattle.exb_changing.specs.Counting.{planned}
 use Rattle.exb_changing.specs.Deciding.{decide}
 use Rattle.exb_changing.specs.Machine.{State}
