@@ -14,14 +14,14 @@ use Rattle.exb_model.specs.Texts.{Counts, capture_header, capture_text, journal_
 use Rattle.exb_model.specs.Traces.{TraceLine, trace_text}
 use Rattle.exb_model.specs.Tree.{Shape, is_external}
 use Rattle.exb_machine.specs.Worlds.{Left as Leaving}
-use Rattle.exb_motion.specs.Playing.{IsTimely}
+use Rattle.exb_resting.specs.Motion.Playing.{IsTimely}
 use Rattle.exb_network.specs.Networks.{Network}
 use Rattle.exb_network.specs.Worlds.{all_left}
 use Rattle.exb_network.specs.declared.log.Left.{Left}
-use Rattle.exb_resting.specs.Playing.{HasWrittenFront, RunsWriteFronts}
+use Rattle.exb_resting.specs.Rest.Playing.{HasWrittenFront, RunsWriteFronts}
 use Rattle.exb_schedule.specs.Playing.{HasPlayed as IsPlayedBy}
 use Rattle.exb_shelf.specs.Files.{Files, SameFiles}
-use Rattle.exb_standing.specs.Showing.{left_at}
+use Rattle.exb_resting.specs.Flight.Showing.{left_at}
 use Rattle.exb_text.specs.Names.{capture_name, journal_name}
 use Rattle.exb_run.specs.declared.fault.Fault.{Fault}
 use Rattle.exb_run.specs.declared.outputs.Outputs.{Outputs}
