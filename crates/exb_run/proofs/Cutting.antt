@@ -14,7 +14,7 @@ use Rattle.exb_run.specs.Plans.{Planned, output_count, port_count, port_at, plac
 use Rattle.exb_run.specs.Outputs.{output_name}
 use Rattle.exb_run.specs.Writing.{AreCut, Holds, HasTexts, with_more, lines_of, with_left_frames, CanBeWritten}
 use Rattle.exb_run.proofs.Filling.{still_filled}
-use Rattle.exb_run.proofs.OutputLemmas.{capture_left, journal_left, left_more, sent_at, sent_at-append, texts_more, trace_more, with_more_here, with_more_other, with_more_twice}
+use Rattle.exb_run.proofs.OutputLemmas.{capture_left, journal_left, left_more, sent_at, sent_at-append, texts_more, trace_more, with_more_here, with_more_nothing, with_more_other, with_more_twice}
 
 -- ---- fronts
 -- the first of two parts is a front of both
@@ -167,10 +167,7 @@ pub cut_piece : {X : Type 0} (of : X → List ℕ) (plan : Planned) (f g h : Fil
     → Apart (output_count plan) (output_name plan) → j < output_count plan → length all ≡ output_count plan → was ≡ get_or all j was → name ≡ output_name plan j
     → HasTexts plan (map of all) f g text → AddsFront g h name (of was) → AreCut plan f h text
 cut_piece of plan f g h all text j was name apart lt long read named p added =
-    cut_same plan f h (with_more text j []) text (λ k l. elim (cases_eq k j) [
-      | inl same ↦ ap (with_more text j []) same ∙ with_more_here text j [] ∙ append-nil (text j) ∙ ap text (sym same)
-      | inr other ↦ with_more_other text j [] k other
-    ])
+    cut_same plan f h (with_more text j []) text (λ k l. with_more_nothing text j k)
     (cut_at of plan f g h all text j was name [] apart lt long read named p (subst (λ (xs : List ℕ). AddsFront g h name xs) (sym (append-nil (of was))) added))
 
 -- more of one output

@@ -186,7 +186,7 @@ module _ (tells : Type 0) (name : List ℕ) (trace : Bool) (seed : Option ℕ) (
       subst (λ (p : List ℕ). OnlyOutputs trace (shape_of u.setup) p f h) (prefix_same t u e)
       (subst (λ (s : Shape). OnlyOutputs trace s t.prefix f h) (shape_same t u e) only)
 
-  fronts-by : (seed : Option ℕ) → (mode_for seed ≡ Eager → AreFrontsOf (input_of t f) t.prefix f h) → HoldsTopology name f t → AreFronts (Some (Run name trace seed)) f h
+  fronts-by : (s : Option ℕ) → (mode_for s ≡ Eager → AreFrontsOf (input_of t f) t.prefix f h) → HoldsTopology name f t → AreFronts (Some (Run name trace s)) f h
   fronts-by None fronts held = inr (record { topology = t; holds = held; fronts = fronts refl })
   fronts-by (Some n) fronts held = tt
 
