@@ -21,7 +21,7 @@ ghost use Rattle.exb_run.specs.Shelving.{CountsFaults, IsOfWriting, OnlyMakes, O
 ghost use Rattle.exb_run.specs.Writing.{AreCut, HasTexts, IsReady, pieces_of, lines_of, with_more, with_left_frames, CanBeWritten};
 
 use crate::fault::Fault;
-use crate::gather::gather;
+use crate::gather::{NANOSECONDS, gather};
 use crate::outputs::{Outputs, create_all};
 use crate::plan::Plan;
 use crate::script::{Schedule, Script};
@@ -40,9 +40,6 @@ use exb_tracing::laws::runs_tell_legally;
 use rand_core::SeedableRng;
 use rand_pcg::Lcg64Xsh32;
 use std::alloc::Global;
-
-/// A second in nanoseconds.
-const NANOSECONDS: u64 = 1_000_000_000;
 
 /// Room for one line of the journal and for one of the trace.
 #[derive(Drop)]
