@@ -1,5 +1,5 @@
 use Rattle.std.proofs.Common.{◌+◌, List, subst}
-use Rattle.std.proofs.lemmas.Result.{on_err_weaker, on_ok_weaker}
+use Rattle.std.proofs.lemmas.Result.{err_from_is_err_and, on_err_weaker, on_ok_weaker}
 use Rattle.exb_model.specs.declared.event.Event.{Event}
 use Rattle.exb_model.specs.Traces.{TraceLine, trace_text}
 use Rattle.exb_network.specs.declared.log.Left.{Left}
@@ -35,16 +35,22 @@ returns-clause-only g c =
     writes_then _ _ _ _ _ _ _ _ (writes_then _ _ _ _ _ _ _ _ c.in_ok-write_events.ensures.only c.in_ok-write_left.ensures.only) c.write_trace.ensures.only
 
 pub returns-in_err-write_events-clause-cut : goal.returns-in_err-write_events-clause-cut
-returns-in_err-write_events-clause-cut g c = λ t orig text p.
+returns-in_err-write_events-clause-cut g c = λ t.
+    let e = err_from_is_err_and c.from_residual.result c.from_residual.ensures.1 in
+    rw e.1
+    (λ orig text p.
     let plan = c.args.plan.now in
     let file = g.S.Shelf.file c.write_events.new.shelf in
     let n = network_of c.args.world.now in
     let first = subst (λ (es : List Event). AreCut plan orig file (with_more text (port_count plan) (lines_of es))) c.events.ensures (c.in_err-write_events.ensures.cut t orig text p) in
     cut_more plan orig file (with_left_frames plan (with_more text (port_count plan) (lines_of n.log.events)) n.log.left) (port_count plan + 1) (trace_text n.log.lines)
-    (cut_frames plan orig file (with_more text (port_count plan) (lines_of n.log.events)) n.log.left first)
+    (cut_frames plan orig file (with_more text (port_count plan) (lines_of n.log.events)) n.log.left first))
 
 pub returns-in_err-write_left-clause-cut : goal.returns-in_err-write_left-clause-cut
-returns-in_err-write_left-clause-cut g c = λ t orig text p.
+returns-in_err-write_left-clause-cut g c = λ t.
+    let e = err_from_is_err_and c.from_residual.result c.from_residual.ensures.1 in
+    rw e.1
+    (λ orig text p.
     let plan = c.args.plan.now in
     let file = g.S.Shelf.file c.write_left.new.shelf in
     let n = network_of c.args.world.now in
@@ -52,7 +58,7 @@ returns-in_err-write_left-clause-cut g c = λ t orig text p.
     let second = c.in_err-write_left.ensures.cut t orig (with_more text (port_count plan) (lines_of c.events.result.now)) first in
     let one = subst (λ (es : List Event). AreCut plan orig file (with_left_frames plan (with_more text (port_count plan) (lines_of es)) c.left.result.now)) c.events.ensures second in
     let two = subst (λ (xs : List Left). AreCut plan orig file (with_left_frames plan (with_more text (port_count plan) (lines_of n.log.events)) xs)) c.left.ensures one in
-    cut_more plan orig file (with_left_frames plan (with_more text (port_count plan) (lines_of n.log.events)) n.log.left) (port_count plan + 1) (trace_text n.log.lines) two
+    cut_more plan orig file (with_left_frames plan (with_more text (port_count plan) (lines_of n.log.events)) n.log.left) (port_count plan + 1) (trace_text n.log.lines) two)
 
 pub returns-clause-cut : goal.returns-clause-cut
 returns-clause-cut g c tells =

@@ -1,5 +1,6 @@
 use Rattle.std.proofs.Common.{◌<◌, ◌^◌, ◌++◌, ℕ, List, Some, drop, length, ap, sym, subst, ◌∙◌, arith}
 use Rattle.std.proofs.lemmas.List.{append-nil}
+use Rattle.std.proofs.lemmas.Result.{err_from_is_err_and}
 use Rattle.exb_model.specs.declared.setup.Timed.{Timed}
 use Rattle.exb_model.specs.Input.{Coming, Segment, second_of, moment_of}
 use Rattle.exb_merge.specs.Agendas.{coming_of}
@@ -94,7 +95,10 @@ returns-clause-told g c run start =
     p.is
 
 pub returns-in_err-go_on-clause-cut : goal.returns-in_err-go_on-clause-cut
-returns-in_err-go_on-clause-cut g c = λ t run start.
+returns-in_err-go_on-clause-cut g c = λ t.
+    let e = err_from_is_err_and c.from_residual.result c.from_residual.ensures.1 in
+    rw e.1
+    (λ run start.
     c.in_err-go_on.ensures.cut t run
     (record {
       last = c.events.last;
@@ -103,4 +107,4 @@ returns-in_err-go_on-clause-cut g c = λ t run start.
       next = c.in-Some.ensures.found;
       from_is = c.events.invariant.taken;
       seconds_are = c.seconds_since-seconds.ensures ∙ ap (λ (m : ℕ). seconds_after c.events.last (second_of m)) c.moment-second.ensures;
-    })
+    }))

@@ -1,5 +1,5 @@
 use Rattle.std.proofs.Common.{[], refl, arith}
-use Rattle.std.proofs.lemmas.Result.{on_err_weaker}
+use Rattle.std.proofs.lemmas.Result.{err_from_is_err_and, on_err_weaker}
 use Rattle.exb_model.specs.Input.{segments}
 use Rattle.exb_schedule.specs.Worlds.{network_of}
 use Rattle.exb_text.specs.Tallies.{counts_of}
@@ -48,14 +48,17 @@ returns-clause-done g c tells = if_ok_map c.play_on.result
     (c.play_on.ensures.done tells)
 
 pub returns-in_err-note-clause-cut : goal.returns-in_err-note-clause-cut
-returns-in_err-note-clause-cut g c = λ t run is.
+returns-in_err-note-clause-cut g c = λ t.
+    let e = err_from_is_err_and c.from_residual.result c.from_residual.ensures.1 in
+    rw e.1
+    (λ run is.
     let S = g.S.Shelf in
     let plan = c.args.plan.now in
     let m = mode_of c.args.schedule in
     let n = network_of c.args.self.now.world in
     cut_amid m run plan (S.file c.note.new.shelf) [] (segments m run.input) n [] n.log.events [] n.log.left [] n.log.lines is.tree refl is.played
     (c.in_err-note.ensures.cut t run.before (text_so_far plan [] [] [])
-    (same_texts plan (pieces_of c.args.self.now.outputs) run.before (S.file c.args.shelf.now) (first_text plan) (text_so_far plan [] [] []) (λ j low. text-first plan j) (is.texts t)))
+    (same_texts plan (pieces_of c.args.self.now.outputs) run.before (S.file c.args.shelf.now) (first_text plan) (text_so_far plan [] [] []) (λ j low. text-first plan j) (is.texts t))))
 
 pub returns-clause-cut : goal.returns-clause-cut
 returns-clause-cut g c = λ t. on_err_weaker c.play_on.result

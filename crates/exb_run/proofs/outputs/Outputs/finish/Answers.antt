@@ -1,4 +1,5 @@
 use Rattle.std.proofs.Common.{rules, ◌≡◌, ◌<◌, ◌∙◌, length, arith}
+use Rattle.std.proofs.lemmas.Result.{err_from_is_err_and}
 use Rattle.exb_run.specs.Plans.{output_count}
 use Rattle.exb_run.specs.Outputs.{output_name}
 use Rattle.exb_run.specs.Writing.{pieces_of}
@@ -39,7 +40,10 @@ returns-clause-texts g c = λ t orig text p.
     (c.loop-at.invariant.texts t orig text p)
 
 pub returns-in_err-flush-clause-cut : goal.returns-in_err-flush-clause-cut
-returns-in_err-flush-clause-cut g c = λ t orig text p.
+returns-in_err-flush-clause-cut g c = λ t.
+    let e = err_from_is_err_and c.from_residual.result c.from_residual.ensures.1 in
+    rw e.1
+    (λ orig text p.
     let S = g.S.Shelf in
     let before = c.loop-at.invariant in
     let given = S.ids c.loop-at.shelf in
@@ -51,4 +55,4 @@ returns-in_err-flush-clause-cut g c = λ t orig text p.
     name_of_id given ids c.loop-at.at c.index.result.now _ c.index.ensures in_ids (before.ready.named c.loop-at.at lt)
     in
     cut_piece (λ v. v.items) c.args.plan.now orig (S.file c.loop-at.shelf) (S.file c.flush.new.shelf) pieces text c.loop-at.at c.index_mut.result.now _
-    (c.output_names_differ.ensures c.args.plan.now) lt before.ready.pieces c.index_mut.ensures.value named (before.texts t orig text p) (c.in_err-flush.ensures.front t)
+    (c.output_names_differ.ensures c.args.plan.now) lt before.ready.pieces c.index_mut.ensures.value named (before.texts t orig text p) (c.in_err-flush.ensures.front t))
