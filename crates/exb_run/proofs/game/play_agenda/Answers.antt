@@ -38,8 +38,8 @@ returns-clause-done g c tells =
 pub returns-in_err-outputs-clause-fronts : goal.returns-in_err-outputs-clause-fronts
 returns-in_err-outputs-clause-fronts g c tells eager run b = made_eagerly run.input c.args.plan.now _ _ (c.in_err-outputs.ensures.cut tells)
 
-pub returns-else-clause-fronts : goal.returns-else-clause-fronts
-returns-else-clause-fronts g c tells eager run b = begun_eagerly run.input c.args.plan.now _ _ (pieces_of c.in_ok-outputs.outputs) (c.in_ok-outputs.ensures.texts tells)
+pub returns-in_default-clause-fronts : goal.returns-in_default-clause-fronts
+returns-in_default-clause-fronts g c tells eager run b = begun_eagerly run.input c.args.plan.now _ _ (pieces_of c.in_ok-outputs.outputs) (c.in_ok-outputs.ensures.texts tells)
 
 pub returns-clause-fronts : goal.returns-clause-fronts
 returns-clause-fronts g c tells eager run b =

@@ -63,8 +63,8 @@ returns-clause-fewer g c = on_ok_by c.turn.result (λ get.
     left-fewer S.tells (mode_of c.args.schedule) run c.args.plan.now (S.file c.args.shelf.now) (network_of c.args.self.now.world) (counts_of c.args.self.now.tally) c.args.self.now.outputs c.args.seconds c.args.from c.args.first.now c.args.agenda.now
     c.gather.new.agenda c.in-Ok.arrivals.items c.requires.playing.1 c.in-Ok.ensures)
 
-pub returns-else-clause-cut : goal.returns-else-clause-cut
-returns-else-clause-cut g c = λ t run p.
+pub returns-in_default-clause-cut : goal.returns-in_default-clause-cut
+returns-in_default-clause-cut g c = λ t run p.
     cut_before g.S.Shelf.tells (mode_of c.args.schedule) run c.args.plan.now (g.S.Shelf.file c.args.shelf.now) (network_of c.args.self.now.world) (counts_of c.args.self.now.tally) c.args.self.now.outputs p.playing.so_far _ t p.playing.is
     p.playing.next.rest
 
