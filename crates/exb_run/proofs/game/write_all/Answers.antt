@@ -48,7 +48,7 @@ returns-in_err-write_events-clause-cut g c = λ t.
 
 pub returns-in_err-write_left-clause-cut : goal.returns-in_err-write_left-clause-cut
 returns-in_err-write_left-clause-cut g c = λ t.
-    let e = err_from_is_err_and c.from_residual.result c.from_residual.ensures.1 in
+    let e = err_from_is_err_and c.from_residual-in_err-write_left.result c.from_residual-in_err-write_left.ensures.1 in
     rw e.1
     (λ orig text p.
     let plan = c.args.plan.now in
