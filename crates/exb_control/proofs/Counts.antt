@@ -10,10 +10,10 @@ use Rattle.exb_plans.specs.declared.change.Change.{Change}
 use Rattle.exb_plans.specs.Held.{Held}
 use Rattle.exb_changing.specs.declared.job.Job.{Job}
 use Rattle.exb_changing.specs.declared.job.Phase.TheVariants.{Preparing, Cleaning}
-use Rattle.exb_changes.specs.declared.stage.Stage.{Stage}
-use Rattle.exb_changes.specs.declared.stage.Stage.TheVariants.{AtRest, Prepared, InForce}
+use Rattle.exb_control.specs.declared.stage.Stage.{Stage}
+use Rattle.exb_control.specs.declared.stage.Stage.TheVariants.{AtRest, Prepared, InForce}
 use Rattle.exb_changing.specs.Deciding.{Decide, bridge_after, release}
-use Rattle.exb_changes.specs.Fabrics.{Fabric, bridge_in, held_in, bridge_at_end, held_at_end}
+use Rattle.exb_control.specs.Fabrics.{Fabric, bridge_in, held_in, bridge_at_end, held_at_end}
 use Rattle.exb_changing.specs.Fitting.{Fits, AreFit}
 use Rattle.exb_changing.specs.Machine.{Work, State}
 use Rattle.exb_changing.specs.Counting.{requests_of, requests_in, requests_by, bridge_left, held_left, unheard, planned}

@@ -14,7 +14,7 @@ use Rattle.exb_relay.specs.declared.send.Ingress.TheVariants as ingress
 use Rattle.exb_relay.specs.Sends.{sends_of, ingress_of}
 use Rattle.exb_relay.specs.Spaces.{numbers_of}
 use Rattle.exb_changing.specs.Machine.{Moved}
-use Rattle.exb_changes.specs.Fabrics.{Fabric, bridge_in}
+use Rattle.exb_control.specs.Fabrics.{Fabric, bridge_in}
 use Rattle.exb_control.specs.declared.outbox.Outbox.{Outbox}
 use Rattle.exb_control.specs.Controls.{Parts, state_of, forgotten_all}
 

@@ -7,6 +7,7 @@ ghost use Rattle.exb_learn.specs.Calls.{empty_table};
 ghost use Rattle.exb_learn.specs.Entries.{table_of};
 
 use crate::announcements::Heard;
+use crate::fabric::Fabric;
 use crate::frames::{Arrived, arrive};
 use crate::jobs::first_jobs;
 use crate::numbers::{channel_of, port_of};
@@ -16,7 +17,6 @@ use crate::queue::Queue;
 use crate::sessions::Sessions;
 use crate::turns::{give, take, wake};
 use crate::working::{Core, beat, outstanding};
-use exb_changes::Fabric;
 use exb_changing::Job;
 use exb_csp::Message;
 use exb_learn::Learned;
@@ -65,7 +65,7 @@ impl Model for Control {
 
 impl Control {
     ghost use Rattle.exb_changing.specs.Counting.{planned};
-    ghost use Rattle.exb_changes.specs.Fabrics.{IsFabric, held_in};
+    ghost use Rattle.exb_control.specs.Fabrics.{IsFabric, held_in};
     ghost use Rattle.exb_changing.specs.Machine.{ordered, answered, beats};
     ghost use Rattle.exb_control.specs.Boxes.{IsMoved, HasCome, HasTicked};
     ghost use Rattle.exb_control.specs.Controls.{state_of, decide_of, first_of, is_settled, announced, channel_at_trunk};

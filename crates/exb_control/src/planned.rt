@@ -2,15 +2,16 @@
 ghost use Rattle.std.specs.Prelude.{◌≡◌, ◌+◌, ◌*◌, ◌≤◌, ◌<◌, ◌^◌, IfOk, OnOk, length};
 ghost use Rattle.exb_changing.specs.Counting.{requests_of, requests_in, bridge_left, held_left, planned};
 ghost use Rattle.exb_changing.specs.Fitting.{Fits, AreFit};
-ghost use Rattle.exb_changes.specs.Fabrics.{bridge_in, held_in};
+ghost use Rattle.exb_control.specs.Fabrics.{bridge_in, held_in};
 ghost use Rattle.exb_control.specs.Controls.{decide_of};
 ghost use Rattle.exb_control.specs.Steps.{Front, state_in, left_at};
 ghost use Rattle.exb_control.specs.Soundness.{AsksOrRests};
 
 use crate::announcements::Heard;
+use crate::fabric::Fabric;
 use crate::queue::Queue;
+use crate::stage::Stage;
 use crate::working::{Core, asks_after, asks_in};
-use exb_changes::{Fabric, Stage};
 use exb_changing::Job;
 use exb_model::memory::NoMemory;
 

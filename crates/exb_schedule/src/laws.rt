@@ -1,7 +1,7 @@
 //! What is true of a run that has played its input. Each law is a function that does nothing and ensures it.
 ghost use Rattle.exb_schedule.specs.Laws.{PlayedIsUnderWay, PlayedWritesEagerly, PlayedWritesLegally};
 
-use exb_resting::laws::{runs_are_under_way, runs_write_eagerly, runs_write_legally};
+use exb_resting::laws::rest::{runs_are_under_way, runs_write_eagerly, runs_write_legally};
 
 /// Of a network that has played the opening and some segments of an input the next index of each port, the number of commands and
 /// the clock follow what was played, and each frame that has left is a copy of one of its arrivals.

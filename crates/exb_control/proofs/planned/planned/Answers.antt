@@ -1,7 +1,7 @@
 use Rattle.std.proofs.Common.{ap, ◌∙◌}
 use Rattle.exb_changing.specs.Counting.{requests_in}
 use Rattle.exb_changing.specs.Deciding.{Decide}
-use Rattle.exb_changes.specs.Fabrics.{bridge_in, held_in}
+use Rattle.exb_control.specs.Fabrics.{bridge_in, held_in}
 use Rattle.exb_control.specs.Controls.{decide_of}
 use Rattle.exb_control.proofs.NextJobs.{same_decide}
 use Rattle.exb_control.proofs.Counts.{all_planned}
