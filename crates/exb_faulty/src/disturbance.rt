@@ -41,9 +41,7 @@ pub(crate) enum Turn {
     Fails,
     WantsMemory,
     /// It moves at most so many bytes, and one where it could move one.
-    Moves {
-        most: usize,
-    },
+    Moves { most: usize },
 }
 
 impl Disturbance {
