@@ -207,14 +207,14 @@ impl<'a> Bench<'a> {
         self.judge(rt, how, Disturbance::Slow { bytes: 2 }, (status, line));
     }
 
-    // Disturbs a call in every way.
-    fn sweep_call(&self, rt: &impl Abort, at: usize, call: Call) {
-        for how in [Disturbance::Fails { at }, Disturbance::WantsMemory { at }] {
-            self.judge_call(rt, call.asked, how);
-            if call.asked != Asked::Print {
-                self.judge_line(rt, call.asked, how);
-            }
-        }
+    // A call fails, or wants memory.
+    fn stop_call(&self, rt: &impl Abort, at: usize, call: Call) {
+        self.judge_call(rt, call.asked, Disturbance::Fails { at });
+        self.judge_call(rt, call.asked, Disturbance::WantsMemory { at });
+    }
+
+    // A call moves fewer bytes than it could, and the run goes on, or the next call fails.
+    fn shorten_call(&self, rt: &impl Abort, at: usize, call: Call) {
         for bytes in 1..call.moved {
             if is_tried(bytes, call.moved) {
                 self.judge_call(rt, call.asked, Disturbance::Short { at, bytes });
@@ -223,10 +223,20 @@ impl<'a> Bench<'a> {
         }
     }
 
-    // Disturbs each of these calls.
+    // Disturbs each of these calls in every way.
     fn sweep_calls(&self, rt: &impl Abort, calls: &[Call]) {
-        for (at, call) in calls.iter().enumerate() {
-            self.sweep_call(rt, at.saturating_add(1), *call);
+        for (before, call) in calls.iter().enumerate() {
+            let at = before.saturating_add(1);
+            self.stop_call(rt, at, *call);
+            self.shorten_call(rt, at, *call);
+        }
+    }
+
+    // Has each call of the shelf fail, and the sink too while it prints the line for that.
+    fn sweep_lines(&self, rt: &impl Abort) {
+        for (before, call) in self.whole.shelf.calls().iter().enumerate() {
+            let at = before.saturating_add(1);
+            self.judge_line(rt, call.asked, Disturbance::Fails { at });
         }
     }
 
@@ -234,9 +244,21 @@ impl<'a> Bench<'a> {
     fn sweep(&self, rt: &impl Abort) {
         self.sweep_calls(rt, self.whole.shelf.calls());
         self.sweep_calls(rt, self.whole.out.calls());
-        for bytes in [1, 2, 3, 7, 16, 100] {
+        self.sweep_lines(rt);
+        for bytes in [1, 7, 100] {
             let how = Disturbance::Slow { bytes };
             self.judge(rt, how, how, (0, self.site.run.summary));
+        }
+    }
+
+    // Has each call of the shelf fail, want memory, and move one byte before the next one fails.
+    fn stop(&self, rt: &impl Abort) {
+        for (before, call) in self.whole.shelf.calls().iter().enumerate() {
+            let at = before.saturating_add(1);
+            self.stop_call(rt, at, *call);
+            if call.moved > 1 {
+                self.judge_call(rt, call.asked, Disturbance::Stops { at, bytes: 1 });
+            }
         }
     }
 }
@@ -249,10 +271,11 @@ fn is_loud(of_sink: Disturbance) -> bool {
     )
 }
 
-// Whether a call that could move so many bytes is tried with these: all of a short text, and of a long one its ends and each 499th.
+// Whether a call that could move so many bytes is tried with these: all of them where they are few, else some from end to end.
 fn is_tried(bytes: usize, moved: usize) -> bool {
     let left = moved.saturating_sub(bytes);
-    moved < 500 || bytes < 50 || left < 50 || bytes % 499 == 0
+    let step = (moved / 8).saturating_add(1);
+    moved < 64 || bytes < 3 || left < 3 || bytes % step == 0
 }
 
 // How many calls asked for this.
@@ -271,13 +294,14 @@ fn judge_calls(rt: &impl Abort, bench: &Bench<'_>) {
     assert_eq!(rt; bench.whole.out.calls().len(), 1);
 }
 
-// Disturbs each call of a run, where its outputs aren't there and where they are.
+// Disturbs each call of a run in every way, and in some where other texts are there under the names of its outputs.
 fn sweep_run(rt: &impl Abort, alloc: Global, run: &Run) {
-    for before in ["", BEFORE] {
-        let bench = Bench::new(rt, alloc, run, before);
-        judge_calls(rt, &bench);
-        bench.sweep(rt);
-    }
+    let bench = Bench::new(rt, alloc, run, "");
+    judge_calls(rt, &bench);
+    bench.sweep(rt);
+    let bench = Bench::new(rt, alloc, run, BEFORE);
+    judge_calls(rt, &bench);
+    bench.stop(rt);
 }
 
 #[test]
