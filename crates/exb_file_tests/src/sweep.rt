@@ -1,6 +1,7 @@
 //! Whole runs of which each call of shelf and sink is disturbed in turn: it fails, wants memory, or moves fewer bytes than it could.
 //! The status is the one that this means, what is printed is its line or a front of the summary, and each file that the run makes
-//! is absent, as it was, or a front of what the undisturbed run writes. Where nothing failed all is whole.
+//! is absent, as it was, or a front of what the undisturbed run writes, and holds all that the shelf took for it. Where nothing failed
+//! all is whole.
 mod runs;
 
 use crate::broken::hex::bytes_of;
@@ -144,6 +145,25 @@ impl<'a> Bench<'a> {
         }
     }
 
+    // How many bytes the run has put into the outputs that they still hold.
+    fn held(&self, played: &Played) -> usize {
+        let mut held = 0usize;
+        for name in self.site.run.outputs {
+            let file = played.shelf.file(name).unwrap_or(&[]);
+            if file != self.site.before.as_bytes() {
+                held = held.saturating_add(file.len());
+            }
+        }
+        held
+    }
+
+    // Asserts that no output was made twice, and that all that the shelf took is still there.
+    fn judge_taken(&self, rt: &impl Abort, played: &Played) {
+        let calls = played.shelf.calls();
+        assert!(rt; made(calls, Asked::Create) <= self.site.run.outputs.len());
+        assert_eq!(rt; self.held(played), moved(calls, Asked::Append));
+    }
+
     // Asserts that a file is as it was.
     fn judge_kept(&self, rt: &impl Abort, played: &Played, name: &str) {
         let file = played.shelf.file(name);
@@ -185,6 +205,7 @@ impl<'a> Bench<'a> {
         };
         assert!(rt; printed, "{of_shelf:?} {of_sink:?}");
         self.judge_outputs(rt, &played, of_shelf == Disturbance::Quiet || status == 0);
+        self.judge_taken(rt, &played);
         self.judge_others(rt, &played);
     }
 
@@ -281,6 +302,17 @@ fn is_tried(bytes: usize, moved: usize) -> bool {
 // How many calls asked for this.
 fn made(calls: &[Call], asked: Asked) -> usize {
     calls.iter().filter(|call| call.asked == asked).count()
+}
+
+// How many bytes the calls moved that asked for this.
+fn moved(calls: &[Call], asked: Asked) -> usize {
+    let mut moved = 0usize;
+    for call in calls {
+        if call.asked == asked {
+            moved = moved.saturating_add(call.moved);
+        }
+    }
+    moved
 }
 
 // Asserts that all calls were made that a run can make: each kind, as many files as there are, and one line.
