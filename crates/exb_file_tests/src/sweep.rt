@@ -5,9 +5,8 @@
 mod runs;
 
 use crate::broken::hex::bytes_of;
-use exb_fate::{Fate, ScriptFate};
+use crate::play::{play, words_of};
 use exb_faulty::{Asked, Call, Disturbance, FaultyShelf, FaultySink};
-use exb_run::run;
 use runs::{BARE, LOSSY, Run, TREE};
 use std::alloc::Global;
 use std::process::Abort;
@@ -56,29 +55,18 @@ fn shelf_of(rt: &impl Abort, alloc: Global, site: Site<'_>, how: Disturbance) ->
     shelf
 }
 
-// The words of a text.
-fn words_of(rt: &impl Abort, alloc: Global, text: &str) -> Vec<String> {
-    let mut words = Vec::new(alloc);
-    for word in text.split_whitespace() {
-        let word = String::from_str(alloc, word).expect(rt, "memory");
-        words.push(word).expect(rt, "memory");
-    }
-    words
-}
-
 // Plays a run, where the calls of the shelf and those of the sink are disturbed.
-fn play(
+fn play_site(
     rt: &impl Abort,
     alloc: Global,
     site: Site<'_>,
     of_shelf: Disturbance,
     of_sink: Disturbance,
 ) -> Played {
-    let words = words_of(rt, alloc, site.run.words);
-    let fate: Box<dyn Fate> = Box::new(alloc, ScriptFate::new(alloc)).expect(rt, "memory");
+    let words = words_of(alloc, site.run.words).expect(rt, "memory");
     let mut shelf = shelf_of(rt, alloc, site, of_shelf);
     let mut out = FaultySink::new(alloc, of_sink);
-    let status = run(alloc, &words, &mut shelf, &mut out, fate);
+    let status = play(alloc, &words, &mut shelf, &mut out).expect(rt, "memory");
     Played { shelf, out, status }
 }
 
@@ -114,7 +102,7 @@ impl<'a> Bench<'a> {
             alloc,
             site,
             first: shelf_of(rt, alloc, site, Disturbance::Quiet),
-            whole: play(rt, alloc, site, Disturbance::Quiet, Disturbance::Quiet),
+            whole: play_site(rt, alloc, site, Disturbance::Quiet, Disturbance::Quiet),
         };
         assert_eq!(rt; bench.whole.status, 0);
         assert!(rt; bench.whole.out.text() == run.summary.as_bytes());
@@ -194,7 +182,7 @@ impl<'a> Bench<'a> {
         of_sink: Disturbance,
         wanted: (u8, &str),
     ) {
-        let played = play(rt, self.alloc, self.site, of_shelf, of_sink);
+        let played = play_site(rt, self.alloc, self.site, of_shelf, of_sink);
         let (status, line) = wanted;
         assert_eq!(rt; played.status, status, "{of_shelf:?} {of_sink:?}");
         let text = played.out.text();
