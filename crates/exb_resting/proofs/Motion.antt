@@ -9,7 +9,7 @@ pub mod Keeping
 pub mod Standing
 pub mod Pairs
 pub mod Marks
-mod Telling
+pub mod Telling
 pub mod Going
 mod Ticks
 pub mod InFile
@@ -19,3 +19,4 @@ mod Numbers
 pub mod Playing
 mod Eager
 pub mod Setups
+pub mod Moving

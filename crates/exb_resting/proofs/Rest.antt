@@ -74,8 +74,8 @@ mod Kept
 mod GoingBeat
 mod GoingSteps
 -- the laws
-mod Windows
-mod Orderly
+pub mod Windows
+pub mod Orderly
 pub mod Reached
 pub mod OrderShown
 pub mod OtherSteps
@@ -89,4 +89,4 @@ mod TellsNumbers
 pub mod Playing
 pub mod UnderWay
 -- how much was told and has left
-mod Counted
+pub mod Counted
