@@ -20,3 +20,4 @@ pub mod Playing
 mod Eager
 pub mod Fronts
 pub mod Setups
+pub mod Moving
