@@ -65,10 +65,10 @@ goes_more_frames plan text xs ys k = elim (cases_lt k (port_count plan)) [
       let behind = flat_map record_text (sent_at ys q) in (
         behind,
         capture_left plan text (xs ++ ys) k below
-        ∙ ap (λ (zs : List Sent). text k ++ flat_map record_text zs) (sent_at-append xs ys q)
-        ∙ ap (λ (zs : List ℕ). text k ++ zs) (flat_map-append record_text (sent_at xs q) (sent_at ys q))
-        ∙ sym (append_assoc (text k) first behind)
-        ∙ ap (λ (zs : List ℕ). zs ++ behind) (sym (capture_left plan text xs k below)),
+            ∙ ap (λ (zs : List Sent). text k ++ flat_map record_text zs) (sent_at-append xs ys q)
+            ∙ ap (λ (zs : List ℕ). text k ++ zs) (flat_map-append record_text (sent_at xs q) (sent_at ys q))
+            ∙ sym (append_assoc (text k) first behind)
+            ∙ ap (λ (zs : List ℕ). zs ++ behind) (sym (capture_left plan text xs k below)),
       )
   | inr above ↦
       goes_same (with_left_frames plan text xs) (with_left_frames plan text (xs ++ ys)) k
@@ -145,7 +145,7 @@ cut_adds plan f g h pieces text j more apart lt p (n, added) = record {
         inr (
           r.0,
           added.others (output_name plan k) (apart k j l lt other) ∙ now.1
-          ∙ ap Some (r.1 ∙ ap (take r.0) (now.2 ∙ sym (with_more_other text j more k other))),
+              ∙ ap Some (r.1 ∙ ap (take r.0) (now.2 ∙ sym (with_more_other text j more k other))),
         )
   ];
   others = λ m away. added.others m (away j lt) ∙ p.others m away;
@@ -191,7 +191,7 @@ cut_behind plan f g text j before one rest whole is =
     let on = goes_more (with_more text j (before ++ one)) j rest k in (
       on.0,
       ap (λ (xs : List ℕ). with_more text j xs k) (sym is) ∙ sym (with_more_twice text j (before ++ one) rest k) ∙ on.1
-      ∙ ap (λ (xs : List ℕ). xs ++ on.0) (sym (with_more_twice text j before one k)),
+          ∙ ap (λ (xs : List ℕ). xs ++ on.0) (sym (with_more_twice text j before one k)),
     ))
 
 both_parts : {X : Type 0} (n : ℕ) (xs : List X) → take n xs ++ drop n xs ≡ xs

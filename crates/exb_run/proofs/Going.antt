@@ -95,7 +95,7 @@ pub opened-playing : (tells : Type 0) (m : Mode) (r : Run) (plan : Planned) (now
     → (now' : Files) (v : Network) (c' : Counts) (o' : Outputs) → world_of v ≡ world_of n → IsSame n v → IsQuiet v
     → c' ≡ with_left (length n.log.left) (count_events c n.log.events)
     → (tells → (orig : Files) (text : ℕ → List ℕ) → HasTexts plan (pieces_of o) orig now text
-      → HasTexts plan (pieces_of o') orig now' (with_more (with_left_frames plan (with_more text (port_count plan) (lines_of n.log.events)) n.log.left) (port_count plan + 1) (trace_text n.log.lines)))
+    → HasTexts plan (pieces_of o') orig now' (with_more (with_left_frames plan (with_more text (port_count plan) (lines_of n.log.events)) n.log.left) (port_count plan + 1) (trace_text n.log.lines)))
     → IsPlaying tells m r plan now' v c' o' None a
 opened-playing tells m r plan now n c o a is now' v c' o' world same quiet counts texts =
     let told = n.log.events in
