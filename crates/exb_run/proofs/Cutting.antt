@@ -1,5 +1,5 @@
 -- Outputs that were left in the middle of writing hold fronts of their texts.
-use Rattle.std.proofs.Common.{◌≡◌, ◌≢◌, ◌<◌, ◌≤◌, ◌+◌, ◌++◌, ◌⊎◌, inl, inr, ℕ, zero, suc, List, [], ◌∷◌, length, take, drop, get_or, map, flat_map, Some, refl, ap, sym, ◌∙◌, subst, arith, append_assoc}
+use Rattle.std.proofs.Common.{◌≡◌, ◌<◌, ◌+◌, ◌++◌, ◌⊎◌, inl, inr, ℕ, zero, suc, List, [], ◌∷◌, length, take, drop, get_or, map, flat_map, Some, refl, ap, sym, ◌∙◌, subst, arith, append_assoc}
 use Rattle.std.proofs.lemmas.Bool.{cases_lt, cases_eq}
 use Rattle.std.proofs.lemmas.List.{append-nil, get_or-map, take_more}
 use Rattle.std.proofs.lemmas.Grind.{flat_map-append}
@@ -14,7 +14,7 @@ use Rattle.exb_run.specs.Plans.{Planned, output_count, port_count, port_at, plac
 use Rattle.exb_run.specs.Outputs.{output_name}
 use Rattle.exb_run.specs.Writing.{AreCut, Holds, HasTexts, with_more, lines_of, with_left_frames, CanBeWritten}
 use Rattle.exb_run.proofs.Filling.{still_filled}
-use Rattle.exb_run.proofs.OutputLemmas.{capture_left, journal_left, left_more, sent_at, sent_at-append, texts_more, trace_more, with_more_here, with_more_nothing, with_more_other, with_more_twice}
+use Rattle.exb_run.proofs.OutputLemmas.{capture_left, journal_left, left_more, sent_at, sent_at-append, texts_more, with_more_here, with_more_nothing, with_more_other, with_more_twice}
 
 -- ---- fronts
 -- the first of two parts is a front of both

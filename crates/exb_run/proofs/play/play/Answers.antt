@@ -34,7 +34,10 @@ returns-clause-done g c tells =
     (c.play_agenda.ensures.done tells)
 
 pub returns-then-is_err-clause-fronts : goal.returns-then-is_err-clause-fronts
-returns-then-is_err-clause-fronts g c tells eager = same_eagerly _ c.args.plan.now _ _ (λ n. refl)
+returns-then-is_err-clause-fronts g c tells eager =
+    let s = c.args.script.now in
+    let file = g.S.Shelf.file c.args.shelf.now in
+    same_eagerly (input_with s.setup.now s.commands.now c.args.captures.now) c.args.plan.now file file (λ n. refl)
 
 pub returns-clause-fronts : goal.returns-clause-fronts
 returns-clause-fronts g c tells eager =
