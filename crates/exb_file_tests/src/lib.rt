@@ -11,6 +11,8 @@ mod failures;
 #[cfg(test)]
 mod shelves;
 #[cfg(test)]
+mod sweep;
+#[cfg(test)]
 mod texts;
 #[cfg(test)]
 mod topologies;
