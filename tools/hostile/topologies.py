@@ -2,13 +2,14 @@
 """Makes topology files of 16 MiB that ask much of a reader of TOML, has the program check each, and prints for each the status,
 what it says, the seconds of processor time, and the most memory that it had at once.
 
-    tools/hostile/topologies.py [--program FILE] [--bytes N] [--only WORD] [--keep FOLDER]
+    tools/hostile/topologies.py [--program FILE] [--bytes N] [--only WORD] [--room MIB] [--keep FOLDER]
 
-The program is crates/exbr/out/exbr, as ./exbr builds it. With --keep the files stay in that folder. A file is to take at most 1 GiB,
-or to end with status 1; the last line says whether each did.
+The program is crates/exbr/out/exbr, as ./exbr builds it. With --room it gets no more addresses than so many MiB, and with --keep the
+files stay in that folder. A file is to take at most 1 GiB, or to end with status 1; the last line says whether each did.
 """
 import argparse
 import os
+import resource
 import subprocess
 import sys
 import tempfile
@@ -90,12 +91,13 @@ FILES = {
 }
 
 
-def checked(program, folder, text):
+def checked(program, folder, text, room):
     """Status, print, seconds of processor time and KiB of memory of a check of this topology."""
+    limit = (lambda: resource.setrlimit(resource.RLIMIT_AS, (room * 2**20,) * 2)) if room else None
     with open(os.path.join(folder, "t.toml"), "w", encoding="utf-8", newline="") as out:
         out.write(text)
     with open(os.path.join(folder, "out"), "wb") as out:
-        child = subprocess.Popen([program, "check", "t.toml"], cwd=folder, stdout=out)
+        child = subprocess.Popen([program, "check", "t.toml"], cwd=folder, stdout=out, preexec_fn=limit)
         _, status, used = os.wait4(child.pid, 0)
         child.returncode = os.waitstatus_to_exitcode(status)
     with open(os.path.join(folder, "out"), "rb") as out:
@@ -109,6 +111,7 @@ def main():
     words.add_argument("--program", default=own)
     words.add_argument("--bytes", type=int, default=LARGEST)
     words.add_argument("--only", default="")
+    words.add_argument("--room", type=int)
     words.add_argument("--keep")
     words = words.parse_args()
     print("| File | Status | What is said | Seconds | MiB |\n|---|---|---|---|---|")
@@ -119,7 +122,7 @@ def main():
                 continue
             text = make(words.bytes)
             assert words.bytes - 200 < len(text.encode()) <= words.bytes, name
-            status, printed, seconds, memory = checked(os.path.abspath(words.program), folder, text)
+            status, printed, seconds, memory = checked(os.path.abspath(words.program), folder, text, words.room)
             said = printed if len(printed) <= 50 else f"{printed[:50]} .."
             print(f"| {name} | {status} | {said} | {seconds:.1f} | {memory / 1024:.0f} |", flush=True)
             if memory > 2**20 and status != 1:

@@ -1,7 +1,6 @@
 //! A run over a shelf or a sink in memory that fails at one call, with each option. Each file then holds a front of its text.
 use crate::broken::hex::bytes_of;
-use exb_fate::{Fate, ScriptFate};
-use exb_run::run;
+use crate::play::{play, words_of};
 use exb_shelf::{MemShelf, MemSink};
 use std::alloc::Global;
 use std::process::Abort;
@@ -16,11 +15,11 @@ const CAPTURE: &str =
     FFFFFFFFFFFF 020000000001 0800 46x00";
 
 /// The words of each run.
-const WORDS: [&[&str]; 4] = [
-    &["run", "t.toml"],
-    &["run", "t.toml", "--trace"],
-    &["run", "t.toml", "--seed", "5"],
-    &["run", "t.toml", "--seed", "5", "--trace"],
+const WORDS: [&str; 4] = [
+    "run t.toml",
+    "run t.toml --trace",
+    "run t.toml --seed 5",
+    "run t.toml --seed 5 --trace",
 ];
 
 /// The outputs of two ports.
@@ -46,19 +45,14 @@ fn shelf_of(rt: &impl Abort, alloc: Global, failing: u64) -> MemShelf {
 fn played(
     rt: &impl Abort,
     alloc: Global,
-    told: &[&str],
+    told: &str,
     failing: u64,
     mute: u64,
 ) -> (MemShelf, MemSink, u8) {
-    let mut words = Vec::new(alloc);
-    for word in told {
-        let word = String::from_str(alloc, word).expect(rt, "memory");
-        words.push(word).expect(rt, "memory");
-    }
+    let words = words_of(alloc, told).expect(rt, "memory");
     let mut shelf = shelf_of(rt, alloc, failing);
     let mut out = MemSink::new(alloc, &[mute]).expect(rt, "memory");
-    let fate: Box<dyn Fate> = Box::new(alloc, ScriptFate::new(alloc)).expect(rt, "memory");
-    let status = run(alloc, &words, &mut shelf, &mut out, fate);
+    let status = play(alloc, &words, &mut shelf, &mut out).expect(rt, "memory");
     (shelf, out, status)
 }
 
@@ -79,7 +73,7 @@ fn judge_fronts(rt: &impl Abort, shelf: &MemShelf, whole: &MemShelf) {
 }
 
 /// Asserts what comes of the words where each call of the shelf fails in turn, up to the first number that is no call.
-fn judge_words(rt: &impl Abort, alloc: Global, told: &[&str]) {
+fn judge_words(rt: &impl Abort, alloc: Global, told: &str) {
     let (whole, _out, status) = played(rt, alloc, told, 0, 0);
     assert_eq!(rt; status, 0);
     let mut reads = 0u32;

@@ -1,12 +1,12 @@
 //! Whole runs of which each call of shelf and sink is disturbed in turn: it fails, wants memory, or moves fewer bytes than it could.
 //! The status is the one that this means, what is printed is its line or a front of the summary, and each file that the run makes
-//! is absent, as it was, or a front of what the undisturbed run writes. Where nothing failed all is whole.
+//! is absent, as it was, or a front of what the undisturbed run writes, and holds all that the shelf took for it. Where nothing failed
+//! all is whole.
 mod runs;
 
 use crate::broken::hex::bytes_of;
-use exb_fate::{Fate, ScriptFate};
+use crate::play::{play, words_of};
 use exb_faulty::{Asked, Call, Disturbance, FaultyShelf, FaultySink};
-use exb_run::run;
 use runs::{BARE, LOSSY, Run, TREE};
 use std::alloc::Global;
 use std::process::Abort;
@@ -55,29 +55,18 @@ fn shelf_of(rt: &impl Abort, alloc: Global, site: Site<'_>, how: Disturbance) ->
     shelf
 }
 
-// The words of a text.
-fn words_of(rt: &impl Abort, alloc: Global, text: &str) -> Vec<String> {
-    let mut words = Vec::new(alloc);
-    for word in text.split_whitespace() {
-        let word = String::from_str(alloc, word).expect(rt, "memory");
-        words.push(word).expect(rt, "memory");
-    }
-    words
-}
-
 // Plays a run, where the calls of the shelf and those of the sink are disturbed.
-fn play(
+fn play_site(
     rt: &impl Abort,
     alloc: Global,
     site: Site<'_>,
     of_shelf: Disturbance,
     of_sink: Disturbance,
 ) -> Played {
-    let words = words_of(rt, alloc, site.run.words);
-    let fate: Box<dyn Fate> = Box::new(alloc, ScriptFate::new(alloc)).expect(rt, "memory");
+    let words = words_of(alloc, site.run.words).expect(rt, "memory");
     let mut shelf = shelf_of(rt, alloc, site, of_shelf);
     let mut out = FaultySink::new(alloc, of_sink);
-    let status = run(alloc, &words, &mut shelf, &mut out, fate);
+    let status = play(alloc, &words, &mut shelf, &mut out).expect(rt, "memory");
     Played { shelf, out, status }
 }
 
@@ -113,7 +102,7 @@ impl<'a> Bench<'a> {
             alloc,
             site,
             first: shelf_of(rt, alloc, site, Disturbance::Quiet),
-            whole: play(rt, alloc, site, Disturbance::Quiet, Disturbance::Quiet),
+            whole: play_site(rt, alloc, site, Disturbance::Quiet, Disturbance::Quiet),
         };
         assert_eq!(rt; bench.whole.status, 0);
         assert!(rt; bench.whole.out.text() == run.summary.as_bytes());
@@ -142,6 +131,25 @@ impl<'a> Bench<'a> {
             let same = played.shelf.file(name) == self.whole.shelf.file(name);
             assert!(rt; same || !whole, "{name} is whole");
         }
+    }
+
+    // How many bytes the run has put into the outputs that they still hold.
+    fn held(&self, played: &Played) -> usize {
+        let mut held = 0usize;
+        for name in self.site.run.outputs {
+            let file = played.shelf.file(name).unwrap_or(&[]);
+            if file != self.site.before.as_bytes() {
+                held = held.saturating_add(file.len());
+            }
+        }
+        held
+    }
+
+    // Asserts that no output was made twice, and that all that the shelf took is still there.
+    fn judge_taken(&self, rt: &impl Abort, played: &Played) {
+        let calls = played.shelf.calls();
+        assert!(rt; made(calls, Asked::Create) <= self.site.run.outputs.len());
+        assert_eq!(rt; self.held(played), moved(calls, Asked::Append));
     }
 
     // Asserts that a file is as it was.
@@ -174,7 +182,7 @@ impl<'a> Bench<'a> {
         of_sink: Disturbance,
         wanted: (u8, &str),
     ) {
-        let played = play(rt, self.alloc, self.site, of_shelf, of_sink);
+        let played = play_site(rt, self.alloc, self.site, of_shelf, of_sink);
         let (status, line) = wanted;
         assert_eq!(rt; played.status, status, "{of_shelf:?} {of_sink:?}");
         let text = played.out.text();
@@ -185,6 +193,7 @@ impl<'a> Bench<'a> {
         };
         assert!(rt; printed, "{of_shelf:?} {of_sink:?}");
         self.judge_outputs(rt, &played, of_shelf == Disturbance::Quiet || status == 0);
+        self.judge_taken(rt, &played);
         self.judge_others(rt, &played);
     }
 
@@ -281,6 +290,17 @@ fn is_tried(bytes: usize, moved: usize) -> bool {
 // How many calls asked for this.
 fn made(calls: &[Call], asked: Asked) -> usize {
     calls.iter().filter(|call| call.asked == asked).count()
+}
+
+// How many bytes the calls moved that asked for this.
+fn moved(calls: &[Call], asked: Asked) -> usize {
+    let mut moved = 0usize;
+    for call in calls {
+        if call.asked == asked {
+            moved = moved.saturating_add(call.moved);
+        }
+    }
+    moved
 }
 
 // Asserts that all calls were made that a run can make: each kind, as many files as there are, and one line.

@@ -19,3 +19,4 @@ mod Numbers
 pub mod Playing
 mod Eager
 pub mod Setups
+pub mod Moving

@@ -34,6 +34,22 @@ pub(super) const BARE: Run = Run {
     summary: "arrivals 2 relayed 2 ignored 0 left 3 commits 0 refusals 0\n",
 };
 
+/// What comes to two ports of a tree: two frames of two VLANs, an answer and a broadcast.
+const IN_A_TREE: &[(&str, &str)] = &[
+    (
+        "a.pcap",
+        "D4C3B2A1 0200 0400 8x00 FFFF0000 01000000 64000000 00000000 0E000000 0E000000 \
+         FFFFFFFFFFFF 020000000001 0800 65000000 00000000 12000000 12000000 \
+         FFFFFFFFFFFF 020000000001 8100 0002 0800",
+    ),
+    (
+        "b.pcap",
+        "D4C3B2A1 0200 0400 8x00 FFFF0000 01000000 64000000 00000000 0E000000 0E000000 \
+         020000000001 020000000002 0800 66000000 00000000 0E000000 0E000000 \
+         FFFFFFFFFFFF 020000000002 0800",
+    ),
+];
+
 /// An extender below another: a port goes down, VLANs come, and then groups don't suffice for the port to go up again.
 pub(super) const TREE: Run = Run {
     words: "run t.toml",
@@ -46,20 +62,7 @@ pub(super) const TREE: Run = Run {
         {at = 2, op = 'up', port = 'x2.2'},\n\
         ]\n\
         captures = {'x1.1' = 'a.pcap', 'b2' = 'b.pcap'}\n",
-    captures: &[
-        (
-            "a.pcap",
-            "D4C3B2A1 0200 0400 8x00 FFFF0000 01000000 64000000 00000000 0E000000 0E000000 \
-             FFFFFFFFFFFF 020000000001 0800 65000000 00000000 12000000 12000000 \
-             FFFFFFFFFFFF 020000000001 8100 0002 0800",
-        ),
-        (
-            "b.pcap",
-            "D4C3B2A1 0200 0400 8x00 FFFF0000 01000000 64000000 00000000 0E000000 0E000000 \
-             020000000001 020000000002 0800 66000000 00000000 0E000000 0E000000 \
-             FFFFFFFFFFFF 020000000002 0800",
-        ),
-    ],
+    captures: IN_A_TREE,
     outputs: &[
         "out-b2.pcap",
         "out-x1.1.pcap",
@@ -83,7 +86,7 @@ pub(super) const LOSSY: Run = Run {
         {at = 1, op = 'up', port = 'x2.2', fate = 'TTTDDD'},\n\
         ]\n\
         captures = {'x1.1' = 'a.pcap', 'b2' = 'b.pcap'}\n",
-    captures: TREE.captures,
+    captures: IN_A_TREE,
     outputs: &[
         "out-b2.pcap",
         "out-x1.1.pcap",
