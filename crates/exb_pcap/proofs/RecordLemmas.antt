@@ -48,18 +48,18 @@ from_record f place (b ∷ bs) r h e =
     ∙ ap (before r) (within_enough (length bs) (length rest) f (place + (16 + length r.bytes)) rest fits (omega arith))
 
 -- what is cut off behind a place begins no earlier
+cut_behind : (f : Form) (place : ℕ) (left : List ℕ) (at : ℕ) (x : Result Record PcapFault) (rest : Record → Capture) → record_at f place left ≡ x
+    → ((r : Record) → (rest r).fault ≡ Some (Cut at) → place ≤ at) → (followed x rest).fault ≡ Some (Cut at) → place ≤ at
+cut_behind f place left at (Ok r) rest is later e = later r e
+cut_behind f place left at (Err fault) rest is later e = let same : fault ≡ Cut at = cc in let there = cut_there f place left at (is ∙ ap Err same) in omega (arith, there)
+
 cut_within : (n : ℕ) (f : Form) (place : ℕ) (left : List ℕ) (at : ℕ) → (records_within n f place left).fault ≡ Some (Cut at) → place ≤ at
 unfolding records_within
 cut_within zero f place left at e = absurd (cc)
 cut_within (suc n) f place [] at e = absurd (cc)
-cut_within (suc n) f place (b ∷ bs) at e = behind (record_at f place (b ∷ bs)) refl e
-  where
-    rest : Record → Capture
-    rest r = records_within n f (place + (16 + length r.bytes)) (drop (16 + length r.bytes) (b ∷ bs))
-
-    behind : (x : Result Record PcapFault) → record_at f place (b ∷ bs) ≡ x → (followed x rest).fault ≡ Some (Cut at) → place ≤ at
-    behind (Ok r) is t = let later = cut_within n f (place + (16 + length r.bytes)) (drop (16 + length r.bytes) (b ∷ bs)) at t in omega (arith, later)
-    behind (Err fault) is t = let same : fault ≡ Cut at = cc in omega (arith, cut_there f place (b ∷ bs) at (is ∙ ap Err same))
+cut_within (suc n) f place (b ∷ bs) at e =
+    cut_behind f place (b ∷ bs) at (record_at f place (b ∷ bs)) (λ r. records_within n f (place + (16 + length r.bytes)) (drop (16 + length r.bytes) (b ∷ bs))) refl
+    (λ r t. let later = cut_within n f (place + (16 + length r.bytes)) (drop (16 + length r.bytes) (b ∷ bs)) at t in omega (arith, later)) e
 
 pub cut_from : (f : Form) (place : ℕ) (left : List ℕ) (at : ℕ) → (records_from f place left).fault ≡ Some (Cut at) → place ≤ at
 unfolding records_from

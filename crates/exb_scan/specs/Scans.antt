@@ -8,9 +8,10 @@ use Rattle.exb_shelf.specs.declared.shelf.OpenFault.TheVariants as opening
 use Rattle.exb_scan.specs.declared.checking.Scanned.{Scanned}
 use Rattle.exb_scan.specs.declared.checking.ScanFault.{ScanFault}
 use Rattle.exb_scan.specs.declared.checking.ScanFault.TheVariants.{Memory, Missing, Read, Fault, Large}
+use Rattle.exb_scan.specs.declared.file.CaptureFile.{CaptureFile}
 use Rattle.exb_scan.specs.declared.file.Halt.{Halt}
 use Rattle.exb_scan.specs.declared.file.Halt.TheVariants as halt
-use Rattle.exb_scan.specs.Reading.{Stands}
+use Rattle.exb_scan.specs.Reading.{HasRead, Stands}
 
 abbrev pub unopened : OpenFault → ScanFault
 unopened opening.Missing = Missing
@@ -58,3 +59,10 @@ IsScanOf limit bytes (Err Memory) = ⊤
 abbrev pub IsScan : ℕ → Option (List ℕ) → Result Scanned ScanFault → Type 0
 IsScan limit (Some bytes) result = IsScanOf limit bytes result
 IsScan limit None result = (result ≡ Err Missing) ⊎ (result ≡ Err Read) ⊎ (result ≡ Err Memory)
+
+-- of a file of these bytes some records were taken, and this was told of them
+pub record HasCounted (bytes : List ℕ) (f : CaptureFile) (s : Scanned) : Type 0 where
+  pub taken : List Record
+  pub read : HasRead bytes taken f
+  pub records : s.records ≡ length taken
+  pub first : s.first ≡ first_time taken

@@ -8,8 +8,9 @@ ghost use Rattle.exb_shelf.specs.Files.{SameFiles, bytes_of};
 ghost use Rattle.exb_shelf.specs.Shelf.{IsReadingOf, Opens, reading, Rose, NoFewer};
 ghost use Rattle.exb_scan.specs.Reading.{IsAt, IsBegun, IsSameFile, IsSound, IsWhole, HasRead, HaltsBy, ComesNext, MovesOn, left_to_read};
 
+use exb_model::bytes::Bytes;
 use exb_model::memory::NoMemory;
-use exb_pcap::{Ahead, PcapFault, PieceReader};
+use exb_pcap::{Ahead, Next, PcapFault, PieceReader};
 use exb_shelf::{OpenFault, Shelf, ShelfFault};
 use std::alloc::Global;
 
@@ -119,6 +120,13 @@ impl CaptureFile {
         self.got
     }
 
+    /// How many bytes may be read.
+    pub fn limit(&self) -> u64
+        ensures { result ≡ self.now.limit }
+    {
+        self.limit
+    }
+
     /// Looks whether the file ends where no more of it may be read.
     fn look_for_end<S: Shelf>(&mut self, shelf: &mut S, piece: &mut [u8]) -> Result<(), Halt>
         requires at { IsAt (S.ids shelf.old self.old.id) self.old.got }
@@ -224,6 +232,24 @@ impl CaptureFile {
                 Ok(Ahead::More) => self.read_on(shelf, piece)?,
                 Err(fault) => return Err(Halt::Broken { fault }),
             }
+        }
+    }
+
+    /// Takes the record that comes next, and gives its bytes as a copy.
+    pub fn take(&mut self, alloc: Global) -> Result<Bytes, NoMemory>
+        requires found { (moment : ℕ) × ComesNext moment self.old }
+        requires sound { IsSound self.old }
+        ensures sound { IsSound self.new }
+        ensures same { IsSameFile self.old self.new }
+        ensures got { self.new.got ≡ self.old.got }
+        ensures left { left_to_read self.new < left_to_read self.old }
+        ensures bytes { (x : Record) → (asked self.old.ended self.old.reader).answer ≡ Found x → IfOk result (λ bytes. bytes ≡ x.bytes) }
+        ensures read { (bytes : List ℕ) (xs : List Record) (x : Record) → (asked self.old.ended self.old.reader).answer ≡ Found x
+            → HasRead bytes xs self.old → HasRead bytes (xs ++ x ∷ []) self.new }
+    {
+        match self.reader.next(self.ended) {
+            Ok(Next::Record { moment: _, bytes }) => Bytes::from_slice(alloc, bytes),
+            _ => unreachable!(),
         }
     }
 
