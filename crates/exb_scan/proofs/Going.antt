@@ -70,6 +70,16 @@ fed_read bytes xs f n piece opened there is h =
           ∙ ap (after xs) (sym (fed_coming f.reader.stage f.reader.place f.reader.held f.reader.room n piece more));
     }
 
+pub fed_on : (bytes : List ℕ) (xs : List Record) (f : CaptureFile) (n k : ℕ) (piece : List ℕ) (r : Reading) → r ≡ fed k piece f.reader → k ≡ n → f.ended ≡ false → n ≤ length piece
+    → take n piece ≡ take n (drop f.got bytes) → HasRead bytes xs f → HasRead bytes xs (record f { reader = r; got = f.got + n })
+fed_on bytes xs f n k piece r is count opened there part h =
+    subst (λ (q : Reading). HasRead bytes xs (record f { reader = q; got = f.got + n })) (sym (is ∙ ap (λ m. fed m piece f.reader) count)) (fed_read bytes xs f n piece opened there part h)
+
+pub fed_fits : (f : CaptureFile) (n k : ℕ) (piece : List ℕ) (r : Reading) → r ≡ fed k piece f.reader → k ≡ n → IsSound f → IsBytes piece → n ≤ length piece → f.got + n ≤ f.limit
+    → IsSound (record f { reader = r; got = f.got + n })
+fed_fits f n k piece r is count s bytes there fits =
+    subst (λ (q : Reading). IsSound (record f { reader = q; got = f.got + n })) (sym (is ∙ ap (λ m. fed m piece f.reader) count)) (fed_sound f n piece s bytes there fits)
+
 -- ---- the end was told
 pub ended_read : (bytes : List ℕ) (xs : List Record) (f : CaptureFile) → f.got ≡ length bytes → HasRead bytes xs f → HasRead bytes xs (record f { ended = true })
 ended_read bytes xs f is h = record { all = h.all; within = h.within; few = h.few; ended = λ t. is; whole = λ more b last. h.whole more b (λ t. last refl) }

@@ -1,5 +1,5 @@
 //! One capture on a shelf, read in pieces.
-ghost use Rattle.std.specs.Prelude.{◌≡◌, ◌≢◌, ◌<◌, ◌≤◌, ◌+◌, ◌-◌, ◌^◌, ◌∷◌, ◌++◌, ◌⊎◌, [], ℕ, List, true, false, Some, None, Ok, length, take, drop, IfOk, OnOk, IfErr, OnErr, IsErrOf, IfSome, IfNone, IsSome};
+ghost use Rattle.std.specs.Prelude.{◌≡◌, ◌≢◌, ◌<◌, ◌≤◌, ◌+◌, ◌-◌, ◌*◌, ◌^◌, ◌∷◌, ◌++◌, ◌⊎◌, [], ℕ, List, true, false, Some, None, Ok, length, take, drop, IfOk, OnOk, IfErr, OnErr, IsErrOf, IfSome, IfNone, IsSome};
 ghost use Rattle.exb_model.specs.Input.{Record};
 ghost use Rattle.exb_pcap.specs.Captures.{pcap_records};
 ghost use Rattle.exb_pcap.specs.Cutting.{IsBytes};
@@ -156,6 +156,25 @@ impl CaptureFile {
         Ok(())
     }
 
+    /// Feeds the first bytes of a piece to the reader, which has room for them.
+    fn take_in(&mut self, piece: &[u8], n: usize)
+        requires there { n ≤ length piece.now }
+        requires room { n ≤ self.old.reader.room }
+        requires within { self.old.got + n ≤ self.old.limit }
+        requires sound { IsSound self.old }
+        ensures sound { IsSound self.new }
+        ensures same { IsSameFile self.old self.new }
+        ensures got { self.new.got ≡ self.old.got + n }
+        ensures ended { self.new.ended ≡ self.old.ended }
+        ensures left { left_to_read self.new ≡ left_to_read self.old }
+        ensures read { (bytes : List ℕ) (xs : List Record) → self.old.ended ≡ false → take n piece.now ≡ take n (drop self.old.got bytes)
+            → HasRead bytes xs self.old → HasRead bytes xs self.new }
+    {
+        are_bytes(piece);
+        self.reader.feed(&piece[..n]);
+        self.got += n as u64;
+    }
+
     /// Reads the next bytes of the file, or its end. More bytes than may be read are none to read.
     fn read_on<S: Shelf>(&mut self, shelf: &mut S, piece: &mut [u8]) -> Result<(), Halt>
         requires at { IsAt (S.ids shelf.old self.old.id) self.old.got }
@@ -183,13 +202,12 @@ impl CaptureFile {
             return self.look_for_end(shelf, piece);
         }
         let size = size_of(self.reader.room(), self.limit - self.got, piece.len());
-        let n = shelf.read(self.id, &mut piece[..size])?;
-        are_bytes(piece);
+        let part = &mut piece[..size];
+        let n = shelf.read(self.id, part)?;
         if n == 0 {
             self.ended = true;
         } else {
-            self.reader.feed(&piece[..n]);
-            self.got += n as u64;
+            self.take_in(part, n);
         }
         Ok(())
     }

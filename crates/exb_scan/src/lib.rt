@@ -4,13 +4,9 @@
 //! cuts what it reads, each fault with its cause. It stands on `exb_pcap`, `exb_shelf` and `exb_model`.
 #![tactic(auto)]
 
-mod again;
 mod checking;
 mod file;
 
-pub use again::{Replay, ReplayFault};
 pub use checking::{ScanFault, Scanned, scan};
 pub use file::{CaptureFile, Halt};
 
-#[cfg(test)]
-mod tests;
