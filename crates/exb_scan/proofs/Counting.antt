@@ -21,13 +21,13 @@ pub one_counted : (bytes : List ℕ) (f g : CaptureFile) (s t : Scanned) (m : �
     → t.records ≡ min (s.records + 1) (2 ^ 64 - 1) → t.first ≡ or_this s.first m → HasCounted bytes g t
 one_counted bytes f g s t m c next passes sound records first =
     let x = next.0 in
-    let read = passes c.taken x next.1.0 c.read in
+    let read = passes c.taken x next.1 c.read in
     let size : length (c.taken ++ x ∷ []) ≡ length c.taken + 1 = length-append c.taken (x ∷ []) in
     record {
       taken = c.taken ++ x ∷ [];
       read = read;
       records = omega (arith, records, c.records, size, read.few, sound.most, sound.small);
-      first = first ∙ ap (λ o. or_this o m) c.first ∙ first_on c.taken x m next.1.1;
+      first = first ∙ ap (λ o. or_this o m) c.first ∙ first_on c.taken x m next.2;
     }
 
 pub all_counted : (bytes : List ℕ) (f g : CaptureFile) (s : Scanned) (got limit : ℕ) (c : HasCounted bytes f s) → IsWhole bytes c.taken g → got ≡ g.got → g.limit ≡ limit

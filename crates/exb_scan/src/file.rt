@@ -186,6 +186,7 @@ impl CaptureFile {
         ensures sound { IsSound self.new }
         ensures same { IsSameFile self.old self.new }
         ensures at { OnOk result (IsAt (S.ids shelf.new self.new.id) self.new.got) }
+        ensures rises { OnOk result (self.old.got ≤ self.new.got) }
         ensures on { OnOk result ((self.new.ended ≡ true) ⊎ (self.old.got < self.new.got)) }
         ensures left { left_to_read self.new ≡ left_to_read self.old }
         ensures read { S.tells → OnOk result ((xs : List Record) → HasRead (bytes_of (S.file shelf.old (S.ids shelf.old self.old.id).name)) xs self.old

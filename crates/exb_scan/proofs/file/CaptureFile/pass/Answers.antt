@@ -11,7 +11,7 @@ returns-clause-sound c =
 
 pub returns-clause-left : goal.returns-clause-left
 returns-clause-left c =
-    let size = taken_size c.args.self.now c.requires.found.1.0 c.requires.found.1.1.0 in
+    let size = taken_size c.args.self.now c.requires.found.1.0 c.requires.found.1.1 in
     let same = ap (λ (r : Reading). length r.held) c.next.follows.holds-at-none in
     omega (arith, size, same)
 
