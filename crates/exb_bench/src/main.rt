@@ -10,10 +10,10 @@
 
 ghost use Rattle.std.specs.Prelude.{◌≡◌, ◌≤◌, ◌<◌, true, length, IsSome};
 ghost use Rattle.exb_changing.specs.Fitting.{Fits};
-ghost use Rattle.exb_changes.specs.Fabrics.{IsPrepared, IsInForce};
+ghost use Rattle.exb_control.specs.Fabrics.{IsPrepared, IsInForce};
 
-use exb_changes::{Fabric, Stage};
 use exb_changing::Job;
+use exb_control::{Fabric, Stage};
 use exb_extender::{Extender, Sends, Side};
 use exb_model::command::Command;
 use exb_model::list::List;

@@ -7,3 +7,4 @@ pub mod Short
 pub mod FirstClaims
 pub mod FirstJobs
 pub mod Known
+pub mod Runs

@@ -4,3 +4,4 @@ pub mod Counting
 pub mod Beginning
 pub mod Fitting
 pub mod Planned
+pub mod Runs

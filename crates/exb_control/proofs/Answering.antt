@@ -18,8 +18,8 @@ use Rattle.exb_plans.specs.declared.change.Change.{Change}
 use Rattle.exb_changing.specs.declared.job.Job.{Job}
 use Rattle.exb_changing.specs.declared.job.Phase.{Phase}
 use Rattle.exb_changing.specs.declared.job.Phase.TheVariants.{Preparing, Cleaning}
-use Rattle.exb_changes.specs.declared.stage.Stage.{Stage}
-use Rattle.exb_changes.specs.declared.stage.Stage.TheVariants.{AtRest, Prepared, InForce}
+use Rattle.exb_control.specs.declared.stage.Stage.{Stage}
+use Rattle.exb_control.specs.declared.stage.Stage.TheVariants.{AtRest, Prepared, InForce}
 use Rattle.exb_changing.specs.Deciding.{Decide}
 use Rattle.exb_changing.specs.Machine.{Work, State, Moved, wakes, answered_where, answered_in, answered_by, still, followed_by}
 use Rattle.exb_control.specs.Controls.{work_from, work_at}

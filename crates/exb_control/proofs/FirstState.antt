@@ -4,9 +4,9 @@ use Rattle.exb_model.specs.declared.setup.Setup.{Setup}
 use Rattle.exb_model.specs.Setup.{shape_of, limits_of, start_of}
 use Rattle.exb_session.specs.Asking.{begun}
 use Rattle.exb_changing.specs.declared.job.Job.{Job}
-use Rattle.exb_changes.specs.declared.stage.Stage.TheVariants.{AtRest}
+use Rattle.exb_control.specs.declared.stage.Stage.TheVariants.{AtRest}
 use Rattle.exb_changing.specs.Beginning.{first_jobs, first_held}
-use Rattle.exb_changes.specs.Fabrics.{bridge_in, held_in}
+use Rattle.exb_control.specs.Fabrics.{bridge_in, held_in}
 use Rattle.exb_control.specs.declared.working.Core.{Core}
 use Rattle.exb_control.specs.Controls.{state_of, first_of}
 use Rattle.exb_control.specs.Steps.{Heard, heard_of, askers_of}

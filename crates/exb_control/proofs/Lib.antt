@@ -1,3 +1,12 @@
+pub mod Spaces
+pub mod FirstSpaces
+pub mod Decided
+pub mod Roles
+pub mod Freeing
+pub mod Copies
+pub mod Openings
+pub mod Kept
+pub mod GroupUses
 pub mod Steps
 pub mod Soundness
 pub mod Starting

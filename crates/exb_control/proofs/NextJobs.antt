@@ -5,13 +5,13 @@ use Rattle.std.specs.Option.{is_none}
 use Rattle.exb_model.specs.declared.event.Event.{Event}
 use Rattle.exb_learn.specs.Calls.{Table}
 use Rattle.exb_learn.specs.Entries.{table_of}
-use Rattle.exb_changes.specs.Fabrics.{Fabric, bridge_in, held_in}
+use Rattle.exb_control.specs.Fabrics.{Fabric, bridge_in, held_in}
 use Rattle.exb_changing.specs.Fitting.{AreFit}
 use Rattle.exb_changing.specs.declared.asked.Asked.{Asked}
 use Rattle.exb_changing.specs.declared.job.Job.{Job}
 use Rattle.exb_changing.specs.declared.job.Job.TheVariants as job
-use Rattle.exb_changes.specs.declared.stage.Stage.{Stage}
-use Rattle.exb_changes.specs.declared.stage.Stage.TheVariants.{AtRest, Prepared, InForce}
+use Rattle.exb_control.specs.declared.stage.Stage.{Stage}
+use Rattle.exb_control.specs.declared.stage.Stage.TheVariants.{AtRest, Prepared, InForce}
 use Rattle.exb_changing.specs.Deciding.{Decide}
 use Rattle.exb_changing.specs.Machine.{Work, State, Moved, waits, after_start, starts, goes_on}
 use Rattle.exb_control.specs.declared.working.Core.{Core}

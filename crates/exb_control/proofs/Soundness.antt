@@ -11,8 +11,8 @@ use Rattle.exb_plans.specs.declared.change.Change.{Change}
 use Rattle.exb_changing.specs.declared.asked.Asked.{Asked}
 use Rattle.exb_changing.specs.declared.job.Job.{Job}
 use Rattle.exb_changing.specs.declared.job.Phase.TheVariants.{Preparing, Cleaning}
-use Rattle.exb_changes.specs.declared.stage.Stage.{Stage}
-use Rattle.exb_changes.specs.declared.stage.Stage.TheVariants.{AtRest, Prepared, InForce}
+use Rattle.exb_control.specs.declared.stage.Stage.{Stage}
+use Rattle.exb_control.specs.declared.stage.Stage.TheVariants.{AtRest, Prepared, InForce}
 use Rattle.exb_changing.specs.Deciding.{bridge_after}
 use Rattle.exb_changing.specs.Machine.{Work, State, Moved, cleans, asking}
 use Rattle.exb_control.specs.Steps.{Reached, reached, reached_by, put, is_at_rest, asks_after, advances}

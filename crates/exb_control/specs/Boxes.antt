@@ -14,7 +14,7 @@ use Rattle.exb_relay.specs.declared.send.Ingress.TheVariants as ingress
 use Rattle.exb_relay.specs.Sends.{sends_of, ingress_of}
 use Rattle.exb_relay.specs.Spaces.{numbers_of}
 use Rattle.exb_changing.specs.Machine.{Moved}
-use Rattle.exb_changes.specs.Fabrics.{Fabric, bridge_in}
+use Rattle.exb_control.specs.Fabrics.{Fabric, bridge_in}
 use Rattle.exb_control.specs.declared.outbox.Outbox.{Outbox}
 use Rattle.exb_control.specs.Controls.{Parts, state_of, forgotten_all}
 
@@ -33,6 +33,13 @@ pub record IsMoved (m : Moved) (old new : Parts) (out : Outbox) : Type 0 where
   pub shape : new.fabric.shape ≡ old.fabric.shape
   pub limits : new.fabric.limits ≡ old.fabric.limits
   pub failed : new.failed ≡ old.failed
+  pub quiet : IsQuiet out
+
+-- The control had failed before the call: nothing has changed, and nothing is in the outbox.
+pub record IsStill (old new : Parts) (out : Outbox) : Type 0 where
+  pub same : new ≡ old
+  pub events : out.events ≡ []
+  pub asks : out.asks ≡ []
   pub quiet : IsQuiet out
 
 -- ---- frames

@@ -14,10 +14,10 @@ use Rattle.exb_plans.specs.Held.{Held, channel_in}
 use Rattle.exb_changing.specs.declared.job.Job.{Job}
 use Rattle.exb_changing.specs.declared.job.Phase.{Phase}
 use Rattle.exb_changing.specs.declared.job.Phase.TheVariants.{Preparing, Cleaning}
-use Rattle.exb_changes.specs.declared.stage.Stage.{Stage}
-use Rattle.exb_changes.specs.declared.stage.Stage.TheVariants.{AtRest, Prepared, InForce}
+use Rattle.exb_control.specs.declared.stage.Stage.{Stage}
+use Rattle.exb_control.specs.declared.stage.Stage.TheVariants.{AtRest, Prepared, InForce}
 use Rattle.exb_changing.specs.Deciding.{Decide, decide}
-use Rattle.exb_changes.specs.Fabrics.{Fabric, bridge_in, held_in}
+use Rattle.exb_control.specs.Fabrics.{Fabric, bridge_in, held_in}
 use Rattle.exb_changing.specs.Machine.{Work, State, Moved, still, heard}
 use Rattle.exb_changing.specs.Beginning.{first_state}
 use Rattle.exb_control.specs.Queues.{is_empty}

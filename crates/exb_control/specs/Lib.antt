@@ -1,3 +1,5 @@
+pub mod Fabrics
+pub mod GroupUses
 pub mod Queues
 pub mod Controls
 pub mod Boxes

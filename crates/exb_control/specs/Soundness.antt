@@ -6,7 +6,7 @@ use Rattle.exb_plans.specs.declared.change.Change.{Change}
 use Rattle.exb_changing.specs.declared.job.Job.{Job}
 use Rattle.exb_changing.specs.declared.job.Phase.{Phase}
 use Rattle.exb_changing.specs.declared.job.Phase.TheVariants.{Preparing, Cleaning}
-use Rattle.exb_changes.specs.declared.stage.Stage.TheVariants.{AtRest}
+use Rattle.exb_control.specs.declared.stage.Stage.TheVariants.{AtRest}
 use Rattle.exb_changing.specs.Fitting.{AreFit}
 use Rattle.exb_changing.specs.Machine.{Work}
 use Rattle.exb_control.specs.declared.working.Core.{Core}

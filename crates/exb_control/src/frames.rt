@@ -7,12 +7,12 @@ ghost use Rattle.exb_learn.specs.Entries.{table_of, look_of};
 ghost use Rattle.exb_learn.specs.Histories.{relay_call, after_any};
 ghost use Rattle.exb_relay.specs.Spaces.{numbers_of};
 ghost use Rattle.exb_relay.specs.Sends.{sends_of, ingress_of};
-ghost use Rattle.exb_changes.specs.Fabrics.{bridge_in};
+ghost use Rattle.exb_control.specs.Fabrics.{bridge_in};
 ghost use Rattle.exb_control.specs.Arrivals.{arrival_of};
 ghost use Rattle.exb_control.specs.Boxes.{taught, sends_for, ingress_for, vid_in};
 
+use crate::fabric::Fabric;
 use crate::outbox::Outbox;
-use exb_changes::Fabric;
 use exb_config::Config;
 use exb_frame::{is_relayed_kind, source};
 use exb_learn::Learned;

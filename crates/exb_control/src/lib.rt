@@ -1,19 +1,27 @@
-//! The controlling bridge's control (after IEEE 802.1BR; the protocol is this project's own): it opens each
-//! extender once that was heard, lets ports go up, carries out commands one after another, relays frames and
-//! learns from them. Upwards it promises that each call is exactly a step of the machine of changes, with its
-//! events and messages, and that frames are relayed and learned as the configuration in force says. It stands on
-//! `exb_changes`, `exb_relay`, `exb_learn`, `exb_session`, `exb_lldp` and what these stand on.
+//! The controlling bridge's control (after IEEE 802.1BR; the protocol is this project's own). Its fabric is the
+//! configuration in force with its numbers and the change at work, and decides and does each change as the machine of
+//! `exb_changing` says. The control opens each extender once that was heard, lets ports go up, carries out commands one
+//! after another, relays frames and learns from them. Upwards it promises that each call is exactly a step of the
+//! machine of changes, with its events and messages, and that frames are relayed and learned as the configuration in
+//! force says. It stands on `exb_changing`, `exb_plan`, `exb_relay`, `exb_learn`, `exb_session`, `exb_lldp` and what these
+//! stand on.
 #![tactic(auto)]
 
 mod announcements;
+mod beginning;
 pub mod control;
+mod copying;
+mod deciding;
+pub mod fabric;
 mod frames;
 mod jobs;
 mod numbers;
 pub mod outbox;
 mod planned;
 mod queue;
+mod releasing;
 mod sessions;
+pub mod stage;
 mod turns;
 mod working;
 
@@ -21,4 +29,6 @@ pub use control::{Control, ControlFault};
 pub use exb_changing::{Asked, Job};
 pub use exb_relay::{Ingress, SendTo};
 pub use exb_session::Taken;
+pub use fabric::Fabric;
 pub use outbox::Outbox;
+pub use stage::Stage;

@@ -1,11 +1,11 @@
 //! Which channels ports hold.
 ghost use Rattle.std.specs.Prelude.{◌≡◌, ◌-◌, ◌≤◌, true};
 ghost use Rattle.exb_model.specs.Tree.{is_cascade};
-ghost use Rattle.exb_changes.specs.Fabrics.{held_in};
+ghost use Rattle.exb_control.specs.Fabrics.{held_in};
 ghost use Rattle.exb_control.specs.Controls.{channel_at_trunk};
 
 use crate::announcements::Heard;
-use exb_changes::Fabric;
+use crate::fabric::Fabric;
 use exb_model::port::PortId;
 
 /// The channel that a port of an extender holds at its trunk.

@@ -3,7 +3,7 @@ ghost use Rattle.std.specs.Prelude.{◌≡◌, ◌++◌, ◌∷◌, [], ◌+◌,
 ghost use Rattle.exb_model.specs.Setup.{NamesExternal};
 ghost use Rattle.exb_learn.specs.Entries.{table_of};
 ghost use Rattle.exb_session.specs.Asking.{took};
-ghost use Rattle.exb_changes.specs.Fabrics.{bridge_in};
+ghost use Rattle.exb_control.specs.Fabrics.{bridge_in};
 ghost use Rattle.exb_changing.specs.Fitting.{AreFit};
 ghost use Rattle.exb_changing.specs.Machine.{goes_on, wakes, answered};
 ghost use Rattle.exb_control.specs.Controls.{work_at, decide_of};
@@ -12,8 +12,8 @@ ghost use Rattle.exb_control.specs.Soundness.{MayAsk, IsSteady, AsksOrRests};
 
 use crate::announcements::Heard;
 use crate::queue::Queue;
+use crate::stage::Stage;
 use crate::working::{Core, is_at_rest, proceed, start};
-use exb_changes::Stage;
 use exb_changing::{Asked, Job};
 use exb_csp::Message;
 use exb_model::command::Command;

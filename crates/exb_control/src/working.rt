@@ -2,15 +2,16 @@
 ghost use Rattle.std.specs.Prelude.{◌≡◌, ◌+◌, ◌<◌, ◌^◌, ◌++◌, [], true, false, ℕ, List, OnOk, IfOk, Some, drop, is_some, length};
 ghost use Rattle.std.specs.Option.{option_copied};
 ghost use Rattle.exb_learn.specs.Entries.{table_of};
-ghost use Rattle.exb_changes.specs.Fabrics.{IsPrepared, IsInForce, bridge_in, held_in};
+ghost use Rattle.exb_control.specs.Fabrics.{IsPrepared, IsInForce, bridge_in, held_in};
 ghost use Rattle.exb_changing.specs.Fitting.{Fits};
 ghost use Rattle.exb_changing.specs.Machine.{commanded_down, committed, refused, downs_of, starts};
 ghost use Rattle.exb_control.specs.Controls.{work_at, forgotten_all, decide_of};
 ghost use Rattle.exb_control.specs.Steps.{Front, is_at_rest, advances, after_beat, messages_at_beat, rest_of, state_in, askers_of, commits_at, left_at, reached, reached_by, asks_in, asks_after, ask_at, after_ask, messages_for};
 ghost use Rattle.exb_control.specs.Soundness.{AreKnown, MayAsk, CanAsk, IsSteady, AsksOrRests};
 
+use crate::fabric::Fabric;
 use crate::sessions::Sessions;
-use exb_changes::{Fabric, Stage};
+use crate::stage::Stage;
 use exb_changing::{Asked, Job};
 use exb_csp::AskAt;
 use exb_learn::Learned;

@@ -19,10 +19,10 @@ use Rattle.exb_plans.proofs.Trunks.{under_home}
 use Rattle.exb_frame.specs.TagValues.{TagRoundTrip}
 use Rattle.exb_relay.specs.Laws.{SendsAreWords, SendsLeaveAsFlat}
 use Rattle.exb_changing.specs.Deciding.{decide}
-use Rattle.exb_change_laws.specs.Planned.{IsSetting}
-use Rattle.exb_change_laws.specs.Systems as systems
-use Rattle.exb_change_laws.proofs.Middle.{ready_midway, held_are_numbers}
-use Rattle.exb_change_laws.proofs.LaidMidway.{laid_midway}
+use Rattle.exb_changing.specs.Runs.Planned.{IsSetting}
+use Rattle.exb_changing.specs.Runs.Systems as systems
+use Rattle.exb_changing.proofs.Runs.Middle.{ready_midway, held_are_numbers}
+use Rattle.exb_changing.proofs.Runs.LaidMidway.{laid_midway}
 use Rattle.exb_flight.specs.Flight.{Flight, Step, Arrive, CarryUp, CarryIn, Relay, CarryDown, SendDown, SendUp, LoseDown, LoseUp, Move, Note, tables_of, bridge_of, held_of, arrive, stepped}
 use Rattle.exb_flight.specs.Steps.{run, Runs}
 use Rattle.exb_flight.specs.Facts.{Facts, beginning}

@@ -11,8 +11,8 @@ use Rattle.exb_machine.specs.Effects.{Effect, only, each}
 use Rattle.exb_machine.specs.Hearing.{beats_near, bridge_request, sends_again, to_extender}
 use Rattle.exb_machine.specs.Stepping.{if_there}
 use Rattle.exb_machine.specs.Worlds.{World, at, with_near}
-use Rattle.exb_machine_laws.proofs.Hearing.{to_extender_control}
-use Rattle.exb_machine_laws.proofs.Words.{at_here}
+use Rattle.exb_machine.proofs.Hearing.{to_extender_control}
+use Rattle.exb_machine.proofs.Words.{at_here}
 use Rattle.exb_network.specs.declared.log.Log.{Log}
 use Rattle.exb_network.specs.declared.site.Core.{Core}
 use Rattle.exb_network.specs.Ends.{near_of}

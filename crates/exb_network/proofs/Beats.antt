@@ -9,7 +9,7 @@ use Rattle.exb_machine.specs.Extending.{reacts}
 use Rattle.exb_machine.specs.Hearing.{beats_control, beats_near}
 use Rattle.exb_machine.specs.Stepping.{all_extenders, beats_all, if_there}
 use Rattle.exb_machine.specs.Worlds.{World, next_beat}
-use Rattle.exb_machine_laws.specs.Asks.{AsksWell}
+use Rattle.exb_machine.specs.Runs.Asks.{AsksWell}
 use Rattle.exb_network.specs.declared.log.Log.{Log}
 use Rattle.exb_network.specs.declared.site.Core.{Core}
 use Rattle.exb_network.specs.Ends.{near_of}

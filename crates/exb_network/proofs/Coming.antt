@@ -26,7 +26,7 @@ use Rattle.exb_relay.specs.Numbers.{IsNumbering}
 use Rattle.exb_relay.specs.Sends.{ingress_by, ingress_of, pcp_of, dei_of}
 use Rattle.exb_relay.specs.Spaces.{numbers_of}
 use Rattle.exb_relay.proofs.Words.{pcp_small}
-use Rattle.exb_changes.specs.Fabrics.{bridge_in}
+use Rattle.exb_control.specs.Fabrics.{bridge_in}
 use Rattle.exb_control.specs.declared.outbox.Outbox.{Outbox}
 use Rattle.exb_control.specs.Boxes.{HasCome, ingress_for}
 use Rattle.exb_control.specs.Controls.{Parts, state_of}

@@ -7,7 +7,7 @@ use Rattle.exb_model.specs.declared.role.Role.TheVariants as role
 use Rattle.exb_model.specs.Tree.{Shape, IsTree, HasRole, HangsOn, is_port, is_cascade}
 use Rattle.exb_model.proofs.TreeHung.{hung_cascade, extender-low}
 use Rattle.exb_machine.specs.Extending.{hung_on}
-use Rattle.exb_machine_laws.proofs.Trees.{hung_is, hung_found, extender_there}
+use Rattle.exb_machine.proofs.Trees.{hung_is, hung_found, extender_there}
 
 -- it has a number below 65
 pub hung_low : (t : Shape) → IsTree t → (p n : ℕ) → hung_on t p ≡ Some n → n < 65

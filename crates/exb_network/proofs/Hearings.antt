@@ -25,9 +25,9 @@ use Rattle.exb_machine.specs.Controls.{announced, forgotten_all}
 use Rattle.exb_machine.specs.Effects.{only}
 use Rattle.exb_machine.specs.Hearing.{bridge_acknowledgement, hears, hears_frame, hears_fresh, hears_message, hears_pdu, hears_request, stops, to_extender}
 use Rattle.exb_machine.specs.Worlds.{World, at, with_control, with_table}
-use Rattle.exb_machine_laws.specs.Asks.{AsksGo, AsksWell, CanGo}
-use Rattle.exb_machine_laws.specs.Sessions.{AreLow, Each}
-use Rattle.exb_machine_laws.proofs.Hearing.{to_extender_control}
+use Rattle.exb_machine.specs.Runs.Asks.{AsksGo, AsksWell, CanGo}
+use Rattle.exb_machine.specs.Runs.Sessions.{AreLow, Each}
+use Rattle.exb_machine.proofs.Hearing.{to_extender_control}
 use Rattle.exb_network.specs.declared.log.Log.{Log}
 use Rattle.exb_network.specs.declared.site.Core.{Core}
 use Rattle.exb_network.specs.Ends.{near_of}

@@ -4,8 +4,8 @@ use Rattle.std.specs.Prelude.{is_none}
 use Rattle.exb_model.specs.declared.setup.Setup.{Setup}
 use Rattle.exb_model.specs.Setup.{Limits, IsValid, shape_of, limits_of, start_of}
 use Rattle.exb_model.specs.Tree.{Shape, IsTree, is_extender}
-use Rattle.exb_change_laws.specs.Planned.{IsSetting}
-use Rattle.exb_changes.specs.Fabrics.{IsFabric}
+use Rattle.exb_changing.specs.Runs.Planned.{IsSetting}
+use Rattle.exb_control.specs.Fabrics.{IsFabric}
 use Rattle.exb_changing.specs.Counting.{planned}
 use Rattle.exb_changing.specs.Deciding.{decide}
 use Rattle.exb_changing.specs.Machine.{State}
@@ -15,11 +15,11 @@ use Rattle.exb_machine.specs.Allowing.{Can, IsSettled}
 use Rattle.exb_machine.specs.Settling.{run}
 use Rattle.exb_machine.specs.Stepping.{done_by, stepped}
 use Rattle.exb_machine.specs.Worlds.{World, Step, first_world}
-use Rattle.exb_machine_laws.specs.Asks.{AsksCanBeSent, AsksWell}
-use Rattle.exb_machine_laws.specs.Laws.{HasBytes, RunsStaySound, SetupsBeginSound}
-use Rattle.exb_machine_laws.specs.Sessions.{AreLow}
-use Rattle.exb_machine_laws.specs.Simulation.{IsSound}
-use Rattle.exb_machine_laws.specs.Written.{AreWritten, BeginsWritten, StepsStayWritten, WrittenAreShort}
+use Rattle.exb_machine.specs.Runs.Asks.{AsksCanBeSent, AsksWell}
+use Rattle.exb_machine.specs.Runs.Laws.{HasBytes, RunsStaySound, SetupsBeginSound}
+use Rattle.exb_machine.specs.Runs.Sessions.{AreLow}
+use Rattle.exb_machine.specs.Runs.Simulation.{IsSound}
+use Rattle.exb_machine.specs.Runs.Written.{AreWritten, BeginsWritten, StepsStayWritten, WrittenAreShort}
 use Rattle.exb_network.specs.declared.log.Log.{Log}
 use Rattle.exb_network.specs.declared.site.Core.{Core}
 use Rattle.exb_network.specs.Idle.{IsIdle}

@@ -5,7 +5,7 @@ use Rattle.std.proofs.lemmas.List.FromFn.{length-range_with_len, get_or-range_wi
 use Rattle.exb_machine.specs.Effects.{Effect, only, each}
 use Rattle.exb_machine.specs.Stepping.{all_extenders}
 use Rattle.exb_machine.specs.Worlds.{World}
-use Rattle.exb_machine_laws.specs.Sessions.{Each}
+use Rattle.exb_machine.specs.Runs.Sessions.{Each}
 use Rattle.exb_network.specs.declared.log.Log.{Log}
 use Rattle.exb_network.specs.declared.site.Core.{Core}
 use Rattle.exb_network.specs.Leading.{Leads}

@@ -21,8 +21,8 @@ use Rattle.exb_machine.specs.Worlds.{Tick as Ticks, Mark, Lose}
 use Rattle.exb_machine.specs.Extending.{arrives_at, port_number, takes_from_below}
 use Rattle.exb_machine.specs.Relaying.{bridge_takes, comes}
 use Rattle.exb_machine.specs.Stepping.{arrives, control_at, counted, done_by, first_data, rest_of, takes, takes_any, takes_up, with_words, words_on}
-use Rattle.exb_machine_laws.specs.Asks.{AsksWell}
-use Rattle.exb_machine_laws.proofs.Trees.{above_there}
+use Rattle.exb_machine.specs.Runs.Asks.{AsksWell}
+use Rattle.exb_machine.proofs.Trees.{above_there}
 use Rattle.exb_network.specs.declared.log.Log.{Log}
 use Rattle.exb_network.specs.declared.site.Core.{Core}
 use Rattle.exb_network.specs.Arrivals.{IsPortAt}

@@ -15,8 +15,8 @@ use Rattle.exb_machine.specs.Worlds.{World, BridgeOut, at, control_word}
 use Rattle.exb_machine.specs.Controls.{channel_at_trunk}
 use Rattle.exb_machine.specs.Extending.{hung_on}
 use Rattle.exb_machine.specs.Hearing.{bridge_request, puts, puts_tagged, to_extender, submits}
-use Rattle.exb_machine_laws.specs.Sessions.{AreLow}
-use Rattle.exb_machine_laws.proofs.Trees.{extender_there, hung_is}
+use Rattle.exb_machine.specs.Runs.Sessions.{AreLow}
+use Rattle.exb_machine.proofs.Trees.{extender_there, hung_is}
 use Rattle.exb_network.specs.declared.log.Log.{Log}
 use Rattle.exb_network.specs.declared.site.Core.{Core}
 use Rattle.exb_network.specs.Directions.{words_of}

@@ -9,8 +9,8 @@ use Rattle.exb_network.specs.declared.log.Log.{Log}
 use Rattle.exb_network.specs.declared.site.Core.{Core}
 use Rattle.exb_network.specs.declared.step.Step.{Step as Made}
 use Rattle.exb_network.specs.declared.step.Step.TheVariants as made
-use Rattle.exb_machine_laws.specs.Simulation.{IsSound}
-use Rattle.exb_machine_laws.specs.Written.{AreWritten}
+use Rattle.exb_machine.specs.Runs.Simulation.{IsSound}
+use Rattle.exb_machine.specs.Runs.Written.{AreWritten}
 use Rattle.exb_network.specs.Sites.{Site, limits_in}
 use Rattle.exb_network.specs.Steps.{way_of}
 use Rattle.exb_network.specs.Worlds.{world_in, all_left, IsAt}

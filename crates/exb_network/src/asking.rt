@@ -9,8 +9,8 @@ ghost use Rattle.exb_machine.specs.Effects.{each};
 ghost use Rattle.exb_machine.specs.Extending.{hung_on};
 ghost use Rattle.exb_machine.specs.Hearing.{asks, bridge_acknowledgement, bridge_request, moves, puts, puts_tagged, submits, to_extender};
 ghost use Rattle.exb_machine.specs.Worlds.{World, with_control, with_table};
-ghost use Rattle.exb_machine_laws.specs.Asks.{CanGo};
-ghost use Rattle.exb_machine_laws.specs.Sessions.{AreLow, Each};
+ghost use Rattle.exb_machine.specs.Runs.Asks.{CanGo};
+ghost use Rattle.exb_machine.specs.Runs.Sessions.{AreLow, Each};
 ghost use Rattle.exb_network.specs.Worlds.{world_in, IsAt, Does};
 
 use crate::forms::{channel_tag, put_tagged};

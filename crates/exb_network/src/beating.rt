@@ -7,7 +7,7 @@ ghost use Rattle.exb_machine.specs.Effects.{each};
 ghost use Rattle.exb_machine.specs.Extending.{reacts};
 ghost use Rattle.exb_machine.specs.Hearing.{beats_control, beats_near};
 ghost use Rattle.exb_machine.specs.Stepping.{all_extenders, beats_all, if_there};
-ghost use Rattle.exb_machine_laws.specs.Asks.{AsksWell};
+ghost use Rattle.exb_machine.specs.Runs.Asks.{AsksWell};
 ghost use Rattle.exb_network.specs.Sites.{limits_in};
 ghost use Rattle.exb_network.specs.Worlds.{world_in, IsAt, Does};
 

@@ -5,7 +5,7 @@ ghost use Rattle.exb_ecp.specs.Frames.{pdu_in};
 ghost use Rattle.exb_model.specs.Tree.{is_extender};
 ghost use Rattle.exb_machine.specs.Hearing.{hears, hears_frame, hears_message, hears_pdu, hears_request, stops};
 ghost use Rattle.exb_machine.specs.Worlds.{World};
-ghost use Rattle.exb_machine_laws.specs.Asks.{AsksWell};
+ghost use Rattle.exb_machine.specs.Runs.Asks.{AsksWell};
 ghost use Rattle.exb_network.specs.Ends.{near_of};
 ghost use Rattle.exb_network.specs.Sites.{limits_in};
 ghost use Rattle.exb_network.specs.Worlds.{world_in, IsAt, Does};

@@ -11,7 +11,7 @@ ghost use Rattle.exb_machine.specs.Extending.{hung_on};
 ghost use Rattle.exb_machine.specs.Relaying.{bridge_takes, comes, comes_from, holder_by, puts_word, sends_for, sends_in, takes_control};
 ghost use Rattle.exb_relay.specs.Laws.{IsBytes};
 ghost use Rattle.exb_network.specs.Arrivals.{arrival_of};
-ghost use Rattle.exb_machine_laws.specs.Asks.{AsksWell};
+ghost use Rattle.exb_machine.specs.Runs.Asks.{AsksWell};
 ghost use Rattle.exb_network.specs.Sends.{CanSend, HasPassed, is_passed, is_relay_first, passed_in, told_by};
 ghost use Rattle.exb_network.specs.Sites.{limits_in};
 ghost use Rattle.exb_network.specs.Worlds.{world_in, IsAt, Does, HasLeft, KeepsTrace};

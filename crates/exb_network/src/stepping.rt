@@ -6,7 +6,7 @@ ghost use Rattle.exb_machine.specs.Stepping.{arrives, control_at, done_by, first
 ghost use Rattle.exb_machine.specs.Worlds.{Carry, Control, Lose, Mark, Order, Tick};
 ghost use Rattle.exb_link.specs.Words.{is_control, without_control, without_data};
 ghost use Rattle.exb_network.specs.Arrivals.{arrival_of};
-ghost use Rattle.exb_machine_laws.specs.Asks.{AsksWell};
+ghost use Rattle.exb_machine.specs.Runs.Asks.{AsksWell};
 ghost use Rattle.exb_network.specs.Directions.{words_of};
 ghost use Rattle.exb_network.specs.Sites.{limits_in};
 ghost use Rattle.exb_network.specs.Steps.{way_of};

@@ -8,8 +8,8 @@ ghost use Rattle.exb_changing.specs.Deciding.{decide};
 ghost use Rattle.exb_machine.specs.Allowing.{Can, IsSettled};
 ghost use Rattle.exb_machine.specs.Stepping.{done_by, words_on};
 ghost use Rattle.exb_machine.specs.Worlds.{first_world};
-ghost use Rattle.exb_machine_laws.specs.Asks.{AsksWell};
-ghost use Rattle.exb_machine_laws.specs.Laws.{HasBytes};
+ghost use Rattle.exb_machine.specs.Runs.Asks.{AsksWell};
+ghost use Rattle.exb_machine.specs.Runs.Laws.{HasBytes};
 ghost use Rattle.exb_network.specs.Idle.{IsIdle};
 ghost use Rattle.exb_network.specs.Networks.{network_of, step_of, IsLive, IsStepped};
 ghost use Rattle.exb_network.specs.Sites.{limits_in};
@@ -27,7 +27,7 @@ use crate::stepping::{arrive, carry, deliver, lose, mark, order, tick};
 use crate::telling::{tell_ins, tell_outs};
 use crate::{allowing, beating, busy};
 use exb_link::{Counts, Link};
-use exb_machine_laws::laws::{
+use exb_machine::laws::{
     asks_can_be_sent, begins_written, runs_stay_sound, setups_begin_sound, steps_stay_written,
     written_are_short,
 };

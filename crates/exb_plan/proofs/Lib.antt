@@ -15,3 +15,16 @@ pub mod ChannelClaims
 pub mod WholePlans
 pub mod PartLists
 pub mod Once
+pub mod UseRows
+pub mod TouchedParts
+pub mod Touching
+pub mod InOrder
+pub mod GoneNumbers
+pub mod Recounting
+pub mod Presences
+pub mod Leaving
+pub mod TouchedSets
+pub mod Moving
+pub mod Claimed
+pub mod Afterwards
+pub mod Freed

@@ -2,3 +2,10 @@ pub mod Branches
 pub mod Parts
 pub mod Spaces
 pub mod Working
+pub mod Counted
+pub mod TouchedSources
+pub mod Rising
+pub mod Recount
+pub mod LostUses
+pub mod Decisions
+pub mod TouchedSets

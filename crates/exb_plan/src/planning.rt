@@ -1,195 +1,160 @@
-//! The plan of a change.
-ghost use Rattle.std.specs.Prelude.{◌≡◌, map, IfOk, OnOk, OnErr};
+//! The plan of a command, by what it touches.
+ghost use Rattle.std.specs.Prelude.{◌≡◌, ℕ, ◌+◌, ◌≤◌, ◌<◌, true, None, [], map, length, slice_index_or, IfOk, OnOk, OnErr};
+ghost use Rattle.std.specs.List.{All};
+ghost use Rattle.exb_model.specs.Tree.{is_cascade};
 ghost use Rattle.exb_model.specs.Setup.{Limits};
-ghost use Rattle.exb_plans.specs.Sets.{seen};
+ghost use Rattle.exb_model.specs.Configuration.{after};
+ghost use Rattle.exb_numbers.specs.Spaces.{groups_at};
+ghost use Rattle.exb_config.specs.Tables.{bridge_of};
+ghost use Rattle.exb_plans.specs.Sets.{seen, sets_of};
 ghost use Rattle.exb_plan.specs.Spaces.{held_by, HasSpaces};
-ghost use Rattle.exb_plans.specs.Plans.{own_channel, new_channel, with_channel, without_channel, freed_channel, number_of, prepare_with, cleanup_with};
-ghost use Rattle.exb_plans.specs.Making.{seen_group, IsAnyExtended};
-ghost use Rattle.exb_plan.specs.Working.{IsAlike, CanClaim, CanClaimUp, HasUp, SpacesOf, prepare_by, claimed_by, change_with};
+ghost use Rattle.exb_plans.specs.Held.{HoldsNeeded};
+ghost use Rattle.exb_plans.specs.Between.{goes_up, goes_down, refusal_between};
+ghost use Rattle.exb_plans.specs.Plans.{change_of, claimed, decision, held_after};
+ghost use Rattle.exb_plan.specs.Working.{IsPlaced, IsAlike, SpacesOf};
+ghost use Rattle.exb_plans.specs.Making.{IsAnyExtended, how_many, is_at, refusal_by};
+ghost use Rattle.exb_plan.specs.TouchedSets.{AreTouched};
+ghost use Rattle.exb_plan.specs.Counted.{IsCounted, used_at};
+ghost use Rattle.exb_plan.specs.Recount.{AreOwn, HavePlaces, AreEnough, AreMoved, HaveRowsOf};
+ghost use Rattle.exb_plan.specs.Decisions.{IfDecided};
 
-use crate::asks::{put_create, put_delete};
-use crate::claims::{claim_channel, claim_groups, free_channel, free_groups};
-use crate::group_asks::put_groups;
-use exb_csp::AskAt;
-use exb_model::list::List;
+use crate::change::make_change;
+use crate::group_uses::GroupUses;
+use crate::lost_uses::gone_groups;
+use crate::presence::{goes_down, goes_up};
+use crate::recount::{lower_all, raise_all, raise_new};
+use crate::refusals::channels_short;
+use crate::shortage::groups_short;
+use crate::touched_sets::{TouchedSets, touched_sets};
+use exb_config::Config;
+use exb_model::command::Command;
+use exb_model::event::Cause;
 use exb_model::memory::NoMemory;
 use exb_model::port::PortId;
 use exb_model::tree::Tree;
 use exb_numbers::Spaces;
-use exb_plans::{Change, GroupAt, Number, SetAt, Step};
+use exb_plans::{Change, Decision, SetAt};
 use std::alloc::Global;
 
-// The channel of a port that goes down; 0 where none does.
-fn own_channel(tree: &Tree, spaces: &Spaces, down: &Option<PortId>) -> u16
-    requires down { IsAnyExtended tree.now down.now }
-    requires spaces { SpacesOf tree.now spaces.now }
-    ensures { result ≡ own_channel tree.now (held_by spaces.now) down.now }
+// The uses after a command, at the groups that there are.
+fn moved(
+    spaces: &Spaces,
+    uses: &GroupUses,
+    before: &[SetAt],
+    later: &[SetAt],
+) -> Result<GroupUses, NoMemory>
+    requires before { All (λ s. IsPlaced spaces.now (seen s)) before.now }
+    requires later { All (λ s. IsPlaced spaces.now (seen s)) later.now }
+    requires own { AreOwn spaces.now }
+    requires places { HavePlaces spaces.now uses.now }
+    requires enough { AreEnough spaces.now (map seen before.now) uses.now }
+    ensures { IfOk result (λ made. AreMoved spaces.now (map seen before.now) (map seen later.now) uses.now made) }
+{
+    let mut next = uses.copy()?;
+    lower_all(&mut next, spaces, before);
+    raise_all(&mut next, spaces, later)?;
+    Ok(next)
+}
+
+// The change of a command that isn't refused. The uses are then those of the configuration after it.
+fn ready(
+    alloc: Global,
+    tree: &Tree,
+    spaces: &mut Spaces,
+    uses: &mut GroupUses,
+    config: &Config,
+    command: &Command,
+    up: &Option<PortId>,
+    touched: &TouchedSets,
+) -> Result<Change, NoMemory>
+    requires limits { (l : Limits) × HasSpaces tree.now l spaces.old × (l.groups ≤ 12288) }
+    requires rows { (k : ℕ) → k < 64 → is_cascade tree.now k ≡ true → length (slice_index_or uses.old k []) ≡ (groups_at spaces.old k).limit }
+    requires held { HoldsNeeded tree.now (bridge_of config.now) (held_by spaces.old) }
+    requires counted { IsCounted tree.now (bridge_of config.now) (held_by spaces.old) uses.old }
+    requires up { up.now ≡ goes_up tree.now (bridge_of config.now) (after command.now (bridge_of config.now)) }
+    requires touched { AreTouched tree.now command.now (bridge_of config.now) (held_by spaces.old) touched.now }
+    requires fits { (l : Limits) → HasSpaces tree.now l spaces.old → refusal_between tree.now l (bridge_of config.now) (after command.now (bridge_of config.now)) ≡ None }
+    ensures change { (l : Limits) → HasSpaces tree.now l spaces.old
+        → IfOk result (λ made. made ≡ change_of tree.now l (bridge_of config.now) (after command.now (bridge_of config.now)) (held_by spaces.old)) }
+    ensures held { (l : Limits) → HasSpaces tree.now l spaces.old
+        → OnOk result (held_by spaces.new ≡ claimed tree.now l (bridge_of config.now) (after command.now (bridge_of config.now)) (held_by spaces.old)) }
+    ensures err { OnErr result (held_by spaces.new ≡ held_by spaces.old) }
+    ensures alike { IsAlike spaces.old spaces.new }
+    ensures counted { OnOk result (IsCounted tree.now (after command.now (bridge_of config.now)) (held_by spaces.new) uses.new) }
+    ensures unchanged { OnErr result (uses.new ≡ uses.old) }
+    ensures rows { HaveRowsOf uses.old uses.new }
 {
     tree.is_tree();
-    match down {
-        Some(port) => {
-            let bridge_port = tree.trunk(port.device());
-            spaces.channels(bridge_port).of(*port).unwrap_or(0)
-        }
-        None => 0,
-    }
+    let before = touched.before.as_slice();
+    let fresh = touched.fresh.as_slice();
+    let mut next = moved(spaces, uses, before, touched.later.as_slice())?;
+    let gone = gone_groups(alloc, tree, spaces, &next, before)?;
+    let down = goes_down(tree, config, command);
+    let change = make_change(alloc, tree, spaces, up, &down, gone.as_slice(), fresh)?;
+    raise_new(&mut next, spaces, touched.unfound.as_slice());
+    *uses = next;
+    Ok(change)
 }
 
-// The channel of a port that goes down, as one to free.
-fn freed_channel(
-    alloc: Global,
+// Why a command is refused, if it is.
+fn refusal(
     tree: &Tree,
-    channel: u16,
-    down: &Option<PortId>,
-) -> Result<List<Number>, NoMemory>
-    requires { IsAnyExtended tree.now down.now }
-    ensures { IfOk result (λ made. made ≡ freed_channel tree.now channel down.now) }
-{
-    let mut channels = List::new(alloc);
-    if let Some(port) = down {
-        channels.push(Number {
-            bridge_port: tree.trunk(port.device()),
-            number: channel,
-        })?;
-    }
-    Ok(channels)
-}
-
-// The numbers of groups.
-fn numbers_of(alloc: Global, groups: &[GroupAt]) -> Result<List<Number>, NoMemory>
-    ensures { IfOk result (λ made. made ≡ map number_of (map seen_group groups.now)) }
-{
-    let mut numbers = List::new(alloc);
-    for group in groups {
-        numbers.push(Number {
-            bridge_port: group.bridge_port,
-            number: group.number,
-        })?;
-    }
-    Ok(numbers)
-}
-
-/// What is asked after the commit.
-pub(crate) fn cleanup(
-    alloc: Global,
-    tree: &Tree,
-    channel: u16,
-    down: &Option<PortId>,
-    gone: &[GroupAt],
-) -> Result<List<AskAt>, NoMemory>
-    ensures { IfOk result (λ made. made ≡ cleanup_with tree.now channel down.now (map seen_group gone.now)) }
-{
-    let mut asks = List::new(alloc);
-    put_groups(alloc, tree, Step::Clear, gone, &mut asks)?;
-    if let Some(port) = down {
-        put_delete(alloc, tree, *port, channel, &mut asks)?;
-    }
-    Ok(asks)
-}
-
-/// What is asked before the commit.
-pub(crate) fn prepare(
-    alloc: Global,
-    tree: &Tree,
-    channel: u16,
+    spaces: &Spaces,
+    uses: &GroupUses,
+    config: &Config,
     up: &Option<PortId>,
-    fresh: &[GroupAt],
-) -> Result<List<AskAt>, NoMemory>
-    ensures { IfOk result (λ made. made ≡ prepare_with tree.now channel up.now (map seen_group fresh.now)) }
+    fresh: &[SetAt],
+) -> Option<Cause>
+    requires up { IsAnyExtended tree.now up.now }
+    requires spaces { SpacesOf tree.now spaces.now }
+    requires counted { (k : ℕ) → k < 64 → is_cascade tree.now k ≡ true → used_at uses.now k ≡ how_many (is_at (k + 1)) (sets_of tree.now (bridge_of config.now)) }
+    ensures { (l : Limits) → HasSpaces tree.now l spaces.now
+        → result ≡ refusal_by tree.now l (bridge_of config.now) up.now (sets_of tree.now (bridge_of config.now)) (map seen fresh.now) }
 {
-    let mut asks = List::new(alloc);
+    tree.is_tree();
     if let Some(port) = up {
-        put_create(alloc, tree, *port, false, channel, &mut asks)?;
+        let short = channels_short(tree, spaces, config, *port);
+        if short.is_some() {
+            return short;
+        }
     }
-    put_groups(alloc, tree, Step::Lay, fresh, &mut asks)?;
-    Ok(asks)
+    groups_short(tree, spaces, uses, fresh)
 }
 
-// Claims the channel of a port that goes up; 0 where none does.
-fn claim_up(spaces: &mut Spaces, tree: &Tree, up: &Option<PortId>) -> u16
-    requires { CanClaimUp tree.now spaces.old up.now }
-    ensures number { (l : Limits) → HasSpaces tree.now l spaces.old → result ≡ new_channel tree.now l (held_by spaces.old) up.now }
-    ensures held { held_by spaces.new ≡ with_channel tree.now result up.now (held_by spaces.old) }
-    ensures has { HasUp tree.now spaces.new up.now result }
-    ensures back { without_channel tree.now result up.now (held_by spaces.new) ≡ held_by spaces.old }
-    ensures alike { IsAlike spaces.old spaces.new }
-{
-    match up {
-        Some(port) => claim_channel(spaces, tree, *port),
-        None => 0,
-    }
-}
-
-// Frees that channel.
-fn free_up(spaces: &mut Spaces, tree: &Tree, up: &Option<PortId>, channel: u16)
-    requires { HasUp tree.now spaces.old up.now channel }
-    ensures held { held_by spaces.new ≡ without_channel tree.now channel up.now (held_by spaces.old) }
-    ensures alike { IsAlike spaces.old spaces.new }
-{
-    if let Some(port) = up {
-        free_channel(spaces, tree, *port, channel);
-    }
-}
-
-// Claims the numbers, and says what is asked before the commit. Out of memory nothing is claimed.
-fn claim(
+/// The plan of a command, by what it touches. Refused exactly where the numbers of a bridge port don't suffice for the
+/// configurations before and after the command; else the new numbers are claimed, the lowest free ones, and the asks
+/// are those that lay and clear what changes. The spaces hold just what the configuration needs, and the uses are
+/// those of its sets; afterwards the uses are those after the command. Refused or out of memory nothing is claimed, and
+/// no use changes.
+pub fn plan(
     alloc: Global,
     tree: &Tree,
     spaces: &mut Spaces,
-    up: &Option<PortId>,
-    fresh: &[SetAt],
-) -> Result<List<AskAt>, NoMemory>
-    requires up { CanClaimUp tree.now spaces.old up.now }
-    requires fresh { CanClaim spaces.old (map seen fresh.now) }
-    ensures prepare { (l : Limits) → HasSpaces tree.now l spaces.old → IfOk result (λ made. made ≡ prepare_by tree.now l (held_by spaces.old) up.now (map seen fresh.now)) }
-    ensures held { (l : Limits) → HasSpaces tree.now l spaces.old → OnOk result (held_by spaces.new ≡ claimed_by tree.now l (held_by spaces.old) up.now (map seen fresh.now)) }
-    ensures err { OnErr result (held_by spaces.new ≡ held_by spaces.old) }
-    ensures alike { IsAlike spaces.old spaces.new }
+    uses: &mut GroupUses,
+    config: &Config,
+    command: &Command,
+) -> Result<Decision, NoMemory>
+    requires limits { (l : Limits) × HasSpaces tree.now l spaces.old × (l.groups ≤ 12288) }
+    requires rows { (k : ℕ) → k < 64 → is_cascade tree.now k ≡ true → length (slice_index_or uses.old k []) ≡ (groups_at spaces.old k).limit }
+    requires held { HoldsNeeded tree.now (bridge_of config.now) (held_by spaces.old) }
+    requires counted { IsCounted tree.now (bridge_of config.now) (held_by spaces.old) uses.old }
+    ensures decision { (l : Limits) → HasSpaces tree.now l spaces.old
+        → IfOk result (λ made. made ≡ decision tree.now l (bridge_of config.now) (after command.now (bridge_of config.now)) (held_by spaces.old)) }
+    ensures claimed { (l : Limits) → HasSpaces tree.now l spaces.old
+        → OnOk result (held_by spaces.new ≡ held_after tree.now l (bridge_of config.now) (after command.now (bridge_of config.now)) (held_by spaces.old)) }
+    ensures no_memory { OnErr result (held_by spaces.new ≡ held_by spaces.old) }
+    ensures spaces { (l : Limits) → HasSpaces tree.now l spaces.old → HasSpaces tree.now l spaces.new }
+    ensures counted { IfOk result (λ made. IfDecided made (uses.new ≡ uses.old) (IsCounted tree.now (after command.now (bridge_of config.now)) (held_by spaces.new) uses.new)) }
+    ensures unchanged { OnErr result (uses.new ≡ uses.old) }
+    ensures rows { HaveRowsOf uses.old uses.new }
 {
-    let mut given = Vec::with_capacity(alloc, fresh.len())?;
-    let channel = claim_up(spaces, tree, up);
-    claim_groups(spaces, fresh, &mut given);
-    match prepare(alloc, tree, channel, up, given.as_slice()) {
-        Ok(asks) => Ok(asks),
-        Err(NoMemory) => {
-            free_groups(spaces, given);
-            free_up(spaces, tree, up, channel);
-            Err(NoMemory)
-        }
+    tree.is_tree();
+    let touched = touched_sets(alloc, tree, spaces, config, command)?;
+    let up = goes_up(tree, config, command);
+    let fresh = touched.fresh.as_slice();
+    if let Some(cause) = refusal(tree, spaces, uses, config, &up, fresh) {
+        return Ok(Decision::Refused(cause));
     }
-}
-
-/// The change in which a port goes up or down, these groups go and these fresh sets get one. The new numbers are
-/// claimed, the lowest free ones, and the asks are those that lay and clear what changes. Out of memory nothing is
-/// claimed.
-pub fn make_change(
-    alloc: Global,
-    tree: &Tree,
-    spaces: &mut Spaces,
-    up: &Option<PortId>,
-    down: &Option<PortId>,
-    gone: &[GroupAt],
-    fresh: &[SetAt],
-) -> Result<Change, NoMemory>
-    requires up { CanClaimUp tree.now spaces.old up.now }
-    requires down { IsAnyExtended tree.now down.now }
-    requires fresh { CanClaim spaces.old (map seen fresh.now) }
-    requires spaces { SpacesOf tree.now spaces.old }
-    ensures change { (l : Limits) → HasSpaces tree.now l spaces.old → IfOk result (λ made. made
-        ≡ change_with tree.now l (held_by spaces.old) up.now down.now (map seen_group gone.now) (map seen fresh.now)) }
-    ensures held { (l : Limits) → HasSpaces tree.now l spaces.old → OnOk result (held_by spaces.new ≡ claimed_by tree.now l (held_by spaces.old) up.now (map seen fresh.now)) }
-    ensures err { OnErr result (held_by spaces.new ≡ held_by spaces.old) }
-    ensures alike { IsAlike spaces.old spaces.new }
-{
-    let channel = own_channel(tree, spaces, down);
-    let channels = freed_channel(alloc, tree, channel, down)?;
-    let groups = numbers_of(alloc, gone)?;
-    let cleanup = cleanup(alloc, tree, channel, down, gone)?;
-    let prepare = claim(alloc, tree, spaces, up, fresh)?;
-    Ok(Change {
-        prepare,
-        cleanup,
-        channels,
-        groups,
-    })
+    let change = ready(alloc, tree, spaces, uses, config, command, &up, &touched)?;
+    Ok(Decision::Ready(change))
 }

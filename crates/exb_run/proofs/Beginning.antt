@@ -14,7 +14,7 @@ use Rattle.exb_model.specs.Setup.{IsValid, NamesExternal, shape_of}
 use Rattle.exb_model.specs.Tree.{Shape, IsTree, is_external}
 use Rattle.exb_merge.specs.Agendas.{ToPlay, begun, still_to_come}
 use Rattle.exb_merge.specs.Streams.{Stream, stream_of, stream_at, to_come}
-use Rattle.exb_motion.specs.Playing.{IsTimely}
+use Rattle.exb_resting.specs.Motion.Playing.{IsTimely}
 use Rattle.exb_pcap.specs.Captures.{pcap_records}
 use Rattle.exb_schedule.specs.Playing.{letters_in}
 use Rattle.exb_shelf.specs.Files.{Files}

@@ -18,7 +18,7 @@ use Rattle.exb_relay.specs.declared.send.SendTo.{SendTo}
 use Rattle.exb_changing.specs.declared.asked.Asked.{Asked}
 use Rattle.exb_changing.specs.Deciding.{decide}
 use Rattle.exb_changing.specs.Machine.{Moved, State, ordered}
-use Rattle.exb_change_laws.specs.Systems.{Order as Orders}
+use Rattle.exb_changing.specs.Runs.Systems.{Order as Orders}
 use Rattle.exb_model.specs.Learning.{passes}
 use Rattle.exb_model.specs.Frames.{egress}
 use Rattle.exb_machine.specs.Controls.{channel_at_trunk, forgotten_all, taught}
@@ -28,8 +28,8 @@ use Rattle.exb_machine.specs.Hearing.{bridge_request, puts_tagged, to_extender, 
 use Rattle.exb_machine.specs.Relaying.{puts_word, sent_by, sends_in, sends_all, sends_for, comes}
 use Rattle.exb_machine.specs.Stepping.{counted, arrives, stepped}
 use Rattle.exb_machine.specs.Worlds.{World, Arrive, Order, Tick, at, with_near, with_far, with_table, with_control}
-use Rattle.exb_machine_laws.specs.Simulation.{system_of}
-use Rattle.exb_machine_laws.proofs.Jobs.{moved_given}
+use Rattle.exb_machine.specs.Runs.Simulation.{system_of}
+use Rattle.exb_machine.proofs.Jobs.{moved_given}
 
 -- the next indices stay, and so does the control
 pub record Keeps (w : World) (e : Effect) : Type 0 where

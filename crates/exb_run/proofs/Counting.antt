@@ -12,7 +12,7 @@ use Rattle.exb_model.specs.Tree.{Shape, is_external, external_ports}
 use Rattle.exb_text.specs.Tallies.{nothing_counted}
 use Rattle.exb_model.specs.Texts.{Counts, counted, left_by, with_left, counts}
 use Rattle.exb_machine.specs.Worlds.{Left}
-use Rattle.exb_standing.specs.Showing.{left_at}
+use Rattle.exb_resting.specs.Flight.Showing.{left_at}
 
 -- what left all of some ports over a history
 abbrev pub left_over : Basis → History → List ℕ → ℕ

@@ -13,11 +13,11 @@ use Rattle.exb_model.specs.Traces.{TraceLine, trace_text}
 use Rattle.exb_model.specs.Tree.{Shape, IsTree, is_external}
 use Rattle.exb_machine.specs.Telling.{all_told}
 use Rattle.exb_machine.specs.Worlds.{Left}
-use Rattle.exb_motion.specs.Playing.{IsTimely}
+use Rattle.exb_resting.specs.Motion.Playing.{IsTimely}
 use Rattle.exb_network.specs.Networks.{Network}
-use Rattle.exb_resting.specs.Playing.{HasWrittenIn, PlaysIn, RunsAreUnderWay, RunsWriteEagerly, RunsWriteLegally}
+use Rattle.exb_resting.specs.Rest.Playing.{HasWrittenIn, PlaysIn, RunsAreUnderWay, RunsWriteEagerly, RunsWriteLegally}
 use Rattle.exb_schedule.specs.Playing.{HasPlayed}
-use Rattle.exb_standing.specs.Showing.{left_at}
+use Rattle.exb_resting.specs.Flight.Showing.{left_at}
 use Rattle.exb_tracing.specs.Runs.{RunsTellLegally}
 use Rattle.exb_run.specs.Outputs.{IsTraceOf, output_text}
 use Rattle.exb_run.specs.Plans.{Planned, port_count, port_at}

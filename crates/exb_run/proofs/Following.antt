@@ -21,7 +21,7 @@ use Rattle.exb_machine.specs.Worlds.{World, Step, Arrive, Order, Tick, Left}
 use Rattle.exb_merge.specs.Agendas.{ToPlay, IsNext, TakesAll, still_to_come}
 use Rattle.exb_merge.specs.declared.agenda.Due.{Due}
 use Rattle.exb_network.specs.Networks.{Network, world_of, bounds_of as limits_in}
-use Rattle.exb_resting.specs.Playing.{RunsAreUnderWay, arrivals_in}
+use Rattle.exb_resting.specs.Rest.Playing.{RunsAreUnderWay, arrivals_in}
 use Rattle.exb_schedule.specs.declared.segment.Arrival.{Arrival as Given}
 use Rattle.exb_schedule.specs.Playing.{CanAll, CanFrom, HasPlayed, IsSegment, arrive, arrived, gives, letters_in, orders, tick}
 use Rattle.exb_run.specs.Playing.{IsDueAfter, IsGathered, CanBeKept, CanFollow, came_by, second_by, seconds_after, segments_after}

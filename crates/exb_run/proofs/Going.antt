@@ -7,7 +7,7 @@ use Rattle.exb_model.specs.Texts.{Counts}
 use Rattle.exb_merge.specs.Agendas.{ToPlay, still_to_come}
 use Rattle.exb_merge.specs.declared.agenda.Due.{Due}
 use Rattle.exb_network.specs.Networks.{Network}
-use Rattle.exb_resting.specs.Playing.{RunsAreUnderWay}
+use Rattle.exb_resting.specs.Rest.Playing.{RunsAreUnderWay}
 use Rattle.exb_schedule.specs.declared.segment.Arrival.{Arrival as Given}
 use Rattle.exb_schedule.specs.Playing.{IsSegment, letters_in}
 use Rattle.exb_shelf.specs.Files.{Files}

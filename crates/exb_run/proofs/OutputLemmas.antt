@@ -14,7 +14,7 @@ use Rattle.exb_shelf.proofs.FileLemmas.{Apart}
 use Rattle.exb_text.specs.Names.{capture_name, journal_name, trace_name}
 use Rattle.exb_network.specs.declared.log.Left.{Left}
 use Rattle.exb_network.specs.Worlds.{all_left}
-use Rattle.exb_standing.specs.Showing.{left_at}
+use Rattle.exb_resting.specs.Flight.Showing.{left_at}
 use Rattle.exb_run.specs.Plans.{Planned, output_count, port_count, port_at, place_in}
 use Rattle.exb_run.specs.Outputs.{output_name}
 use Rattle.exb_run.specs.Writing.{Holds, HasTexts, with_more, lines_of, with_left_frames, CanBeWritten}

@@ -19,10 +19,10 @@ use Rattle.exb_network.specs.Networks.{Network, world_of, IsQuiet, IsSame}
 use Rattle.exb_network.specs.Sites.{Site, limits_in as limits_at}
 use Rattle.exb_network.specs.Worlds.{all_left, left_of}
 use Rattle.exb_network.specs.declared.log.Left.{Left}
-use Rattle.exb_resting.specs.Playing.{IsCopyOfAny, RunsAreUnderWay, RunsAreFew, arrivals_in}
+use Rattle.exb_resting.specs.Rest.Playing.{IsCopyOfAny, RunsAreUnderWay, RunsAreFew, arrivals_in}
 use Rattle.exb_schedule.specs.Playing.{HasPlayed}
 use Rattle.exb_shelf.specs.Files.{Files}
-use Rattle.exb_standing.specs.Showing.{left_at}
+use Rattle.exb_resting.specs.Flight.Showing.{left_at}
 use Rattle.exb_text.specs.Tallies.{FitsTally, nothing_counted}
 use Rattle.exb_run.specs.Outputs.{output_name}
 use Rattle.exb_run.specs.Plans.{Planned, output_count, port_count, port_at}

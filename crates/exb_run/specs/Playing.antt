@@ -14,14 +14,14 @@ use Rattle.exb_model.specs.Tree.{Shape, is_external}
 use Rattle.exb_machine.specs.Worlds.{Left}
 use Rattle.exb_merge.specs.Agendas.{ToPlay, IsNext, TakesAll, begins_in, still_to_come, coming_of}
 use Rattle.exb_merge.specs.declared.agenda.Due.{Due}
-use Rattle.exb_motion.specs.Playing.{IsTimely}
+use Rattle.exb_resting.specs.Motion.Playing.{IsTimely}
 use Rattle.exb_network.specs.Networks.{Network, IsQuiet}
 use Rattle.exb_network.specs.Worlds.{all_left}
-use Rattle.exb_resting.specs.Playing.{arrivals_in}
+use Rattle.exb_resting.specs.Rest.Playing.{arrivals_in}
 use Rattle.exb_schedule.specs.declared.segment.Arrival.{Arrival}
 use Rattle.exb_schedule.specs.Playing.{CanAll, HasPlayed as IsPlayedBy, IsSegment, arrived, gives}
 use Rattle.exb_shelf.specs.Files.{Files}
-use Rattle.exb_standing.specs.Showing.{left_at}
+use Rattle.exb_resting.specs.Flight.Showing.{left_at}
 use Rattle.exb_text.specs.Tallies.{nothing_counted}
 use Rattle.exb_run.specs.declared.outputs.Outputs.{Outputs}
 use Rattle.exb_run.specs.declared.script.Schedule.{Schedule}

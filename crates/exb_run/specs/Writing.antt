@@ -6,7 +6,7 @@ use Rattle.exb_model.specs.Tree.{is_external}
 use Rattle.exb_model.specs.Texts.{capture_header, record_text, line_of}
 use Rattle.exb_network.specs.declared.log.Left.{Left}
 use Rattle.exb_network.specs.Worlds.{all_left}
-use Rattle.exb_standing.specs.Showing.{left_at}
+use Rattle.exb_resting.specs.Flight.Showing.{left_at}
 use Rattle.exb_shelf.specs.Files.{Files, Filled}
 use Rattle.exb_shelf.specs.Shelf.{Id, writing}
 use Rattle.exb_run.specs.declared.outputs.Outputs.{Outputs}

@@ -7,7 +7,7 @@ ghost use Rattle.exb_model.specs.Texts.{counted, with_left, summary_line};
 ghost use Rattle.exb_model.specs.Traces.{TraceLine, trace_text};
 ghost use Rattle.exb_machine.specs.Worlds.{Left as Leaving};
 ghost use Rattle.exb_merge.specs.Agendas.{still_to_come};
-ghost use Rattle.exb_motion.specs.Playing.{IsTimely};
+ghost use Rattle.exb_resting.specs.Motion.Playing.{IsTimely};
 ghost use Rattle.exb_network.specs.Networks.{world_of, IsQuiet, IsSame};
 ghost use Rattle.exb_network.specs.Worlds.{all_left};
 ghost use Rattle.exb_schedule.specs.Playing.{CanAll, HasPlayed as IsPlayedBy, IsSegment, gives, letters_in};
@@ -30,7 +30,9 @@ use exb_merge::laws::merge_keeps_order;
 use exb_merge::{Agenda, Due};
 use exb_model::event::Event;
 use exb_model::setup::Timed;
-use exb_resting::laws::{runs_are_few, runs_are_under_way, runs_write_eagerly, runs_write_legally};
+use exb_resting::laws::rest::{
+    runs_are_few, runs_are_under_way, runs_write_eagerly, runs_write_legally,
+};
 use exb_schedule::{Arrival, World, WorldFault, eager, open, seeded};
 use exb_shelf::Shelf;
 use exb_text::Tally;

@@ -16,5 +16,6 @@ mod report;
 mod script;
 mod top;
 mod topology;
+mod weight;
 
 pub use top::run;

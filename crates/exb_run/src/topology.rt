@@ -11,6 +11,7 @@ ghost use Rattle.exb_run.specs.Shelving.{CountsFaults};
 
 use crate::captures::missing;
 use crate::fault::Fault;
+use crate::weight::is_heavy;
 use exb_keys::faults::TopoFault;
 use exb_shelf::{ReadFault, Shelf, read_file};
 use exb_topology::{Topology, read};
@@ -34,13 +35,16 @@ fn refused(fault: TopoFault) -> Fault
     }
 }
 
-/// What a topology file says.
+/// What a topology file says. Memory is wanted too where it could take more than there is to be for it.
 fn parse(alloc: Global, file: &[u8]) -> Result<Topology, Fault>
     ensures read { IfOk result (λ topology. topology_of file.now ≡ Ok (topology_view topology)) }
     ensures valid { IfOk result (λ topology. IsValid topology.setup) }
     ensures sound { IfOk result IsSound }
     ensures refused { IfErr result (λ fault. IsRefusal file.now fault ⊎ (fault ≡ Fault.Memory)) }
 {
+    if is_heavy(file) {
+        return Err(Fault::Memory);
+    }
     match read(alloc, file) {
         Ok(topology) => Ok(topology),
         Err(fault) => Err(refused(fault)),

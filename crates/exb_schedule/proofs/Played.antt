@@ -8,8 +8,8 @@ use Rattle.exb_model.specs.History.{◌then◌}
 use Rattle.exb_model.specs.Input.{basis_of}
 use Rattle.exb_model.specs.LegalHistory.{Legal}
 use Rattle.exb_machine.specs.Worlds.{World, Left}
-use Rattle.exb_standing.specs.Showing.{left_at}
-use Rattle.exb_resting.specs.Playing.{IsCopyOfAny, IsUnderWay, HasWritten, HasWrittenIn, RunsAreUnderWay, RunsWriteEagerly, RunsWriteLegally, arrivals_in}
+use Rattle.exb_resting.specs.Flight.Showing.{left_at}
+use Rattle.exb_resting.specs.Rest.Playing.{IsCopyOfAny, IsUnderWay, HasWritten, HasWrittenIn, RunsAreUnderWay, RunsWriteEagerly, RunsWriteLegally, arrivals_in}
 use Rattle.exb_schedule.specs.Laws.{PlayedIsUnderWay, PlayedWritesEagerly, PlayedWritesLegally}
 
 pub played_is_under_way : RunsAreUnderWay → PlayedIsUnderWay

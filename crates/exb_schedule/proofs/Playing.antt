@@ -9,14 +9,14 @@ use Rattle.exb_model.specs.Tree.{Shape}
 use Rattle.exb_machine.specs.Settling.{followed_by, run}
 use Rattle.exb_machine.specs.Stepping.{Stepped}
 use Rattle.exb_machine.specs.Worlds.{World, Step, Carry, Control, Lose, Beat, Arrive, Tick, Order, Mark}
-use Rattle.exb_machine_laws.specs.Laws.{IsMove}
-use Rattle.exb_machine_laws.specs.Sessions as machine
-use Rattle.exb_machine_laws.proofs.Rounds.{run_then}
+use Rattle.exb_machine.specs.Runs.Laws.{IsMove}
+use Rattle.exb_machine.specs.Runs.Sessions as machine
+use Rattle.exb_machine.proofs.Rounds.{run_then}
 use Rattle.exb_flight.specs.Items.{Each}
-use Rattle.exb_motion.specs.Kept.{HasVid, given_in}
-use Rattle.exb_motion.specs.Playing.{seconds_in, IsUnmarked, Plays, PlayAll, IsEager, marked_each, nothing_given}
-use Rattle.exb_resting.specs.Playing.{begin_of, AreOrdered, PlaysIn}
-use Rattle.exb_resting.specs.Settles.{MayTakeAll}
+use Rattle.exb_resting.specs.Motion.Kept.{HasVid, given_in}
+use Rattle.exb_resting.specs.Motion.Playing.{seconds_in, IsUnmarked, Plays, PlayAll, IsEager, marked_each, nothing_given}
+use Rattle.exb_resting.specs.Rest.Playing.{begin_of, AreOrdered, PlaysIn}
+use Rattle.exb_resting.specs.Rest.Settles.{MayTakeAll}
 use Rattle.exb_schedule.proofs.Runs.{take_then}
 
 -- ---- marks

@@ -8,7 +8,7 @@ use Rattle.exb_link.specs.Words.{is_control}
 use Rattle.exb_machine.specs.Worlds.{World, Way, Up, Down, Beat, Step, Carry}
 use Rattle.exb_machine.specs.Stepping.{words_on, stepped, Stepped}
 use Rattle.exb_machine.specs.Settling.{before, Direction, direction, directions, followed_by, Gone, gone_through, next_place, nothing, Played, played_before, round, run, steps_for, through_all}
-use Rattle.exb_machine_laws.proofs.Rounds.{run_then}
+use Rattle.exb_machine.proofs.Rounds.{run_then}
 use Rattle.exb_network.specs.Turns.{order_of}
 use Rattle.exb_schedule.specs.Rounds.{goes_along, goes_on, goes_one_way}
 use Rattle.exb_schedule.proofs.Leading.{played_then}

@@ -14,16 +14,16 @@ use Rattle.exb_machine.specs.Settling.{followed_by, run}
 use Rattle.exb_machine.specs.Stepping.{Stepped, stepped}
 use Rattle.exb_machine.specs.Telling.{all_told}
 use Rattle.exb_machine.specs.Worlds.{World, Step, Mark, Left, first_world}
-use Rattle.exb_machine_laws.proofs.Rounds.{run_then}
-use Rattle.exb_machine_laws.specs.Laws.{IsMove}
-use Rattle.exb_machine_laws.specs.Sessions.{Each}
-use Rattle.exb_motion.specs.Kept.{HasVid}
-use Rattle.exb_motion.specs.Playing.{Gives}
+use Rattle.exb_machine.proofs.Rounds.{run_then}
+use Rattle.exb_machine.specs.Runs.Laws.{IsMove}
+use Rattle.exb_machine.specs.Runs.Sessions.{Each}
+use Rattle.exb_resting.specs.Motion.Kept.{HasVid}
+use Rattle.exb_resting.specs.Motion.Playing.{Gives}
 use Rattle.exb_network.specs.Networks.{Network, world_of, tree_of, bounds_of, IsQuiet, IsStepped}
 use Rattle.exb_network.specs.Sites.{Site, limits_in}
 use Rattle.exb_network.specs.Worlds.{all_left}
-use Rattle.exb_resting.specs.Playing.{begin_of}
-use Rattle.exb_resting.specs.Settles.{MayTake, MayTakeAll}
+use Rattle.exb_resting.specs.Rest.Playing.{begin_of}
+use Rattle.exb_resting.specs.Rest.Settles.{MayTake, MayTakeAll}
 use Rattle.exb_schedule.specs.Moves.{HasRun, HasGone, HasEnded}
 use Rattle.exb_schedule.specs.declared.segment.Arrival.{Arrival}
 use Rattle.exb_schedule.specs.Playing.{gives, HasPlayed, IsSegment}

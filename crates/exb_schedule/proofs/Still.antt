@@ -7,14 +7,14 @@ use Rattle.exb_link.specs.Words.{is_control, without_control, without_data}
 use Rattle.exb_learn.specs.Calls.{Table, Forget, See, after_call}
 use Rattle.exb_learn.specs.Histories.{relay_call, after_any}
 use Rattle.exb_changing.specs.Machine.{Moved, answered, beats, heard, ordered, still}
-use Rattle.exb_change_laws.specs.Systems.{Hear, Stray, Order as Ordering, Beat as BeatOf}
+use Rattle.exb_changing.specs.Runs.Systems.{Hear, Stray, Order as Ordering, Beat as BeatOf}
 use Rattle.exb_machine.specs.Controls.{channel_at_trunk, forgotten_all, taught, announced, is_of}
 use Rattle.exb_machine.specs.Extending.{hung_on, port_number, stamp_of, sent_at, sent_to, sends, does, reacts, takes_from_below, ignored, does_or_ignores, arrives_at}
 use Rattle.exb_machine.specs.Stepping.{takes, takes_any, words_on, with_words, first_data, control_at, rest_of, counted, stepped, if_there, all_extenders, beats_all}
 use Rattle.exb_machine.specs.Worlds.{World, Way, Up, Down, Step, Arrive, Carry, Control, Lose, Beat, Tick, Order, Mark, at, control_word, push_down, push_up, with_near, with_far, with_control, with_table, next_beat}
-use Rattle.exb_machine_laws.specs.Laws.{IsMove}
-use Rattle.exb_machine_laws.specs.Simulation.{system_of}
-use Rattle.exb_machine_laws.proofs.Jobs.{moved_given}
+use Rattle.exb_machine.specs.Runs.Laws.{IsMove}
+use Rattle.exb_machine.specs.Runs.Simulation.{system_of}
+use Rattle.exb_machine.proofs.Jobs.{moved_given}
 use Rattle.std.specs.Prelude.{Result}
 use Rattle.std.proofs.lemmas.Bool.{cases_Bool}
 use Rattle.exb_model.specs.Tree.{Shape, on, device, trunk, is_extender, is_external}
@@ -55,7 +55,7 @@ use Rattle.exb_changing.specs.Deciding.{decide}
 use Rattle.exb_machine.specs.Effects.{Effect, only, each}
 use Rattle.exb_machine.specs.Hearing.{bridge_request, bridge_acknowledgement, puts_tagged, to_extender, asks, moves, stops, hears_message, hears_fresh, hears_request, hears_pdu, hears_frame, hears, sends_again, beats_near, beats_control}
 use Rattle.exb_machine.specs.Relaying.{puts_word, sent_by, sends_in, sends_all, sends_for, comes, arrival_by, comes_from, holder_by, hung_at, hears_from, bridge_takes}
-use Rattle.exb_machine_laws.specs.Sessions.{Each}
+use Rattle.exb_machine.specs.Runs.Sessions.{Each}
 
 -- ---- what stays
 each_any : {A : Type 0} (xs : List A) → Each (λ x. Unit {0}) xs

@@ -8,10 +8,10 @@ use Rattle.exb_link.specs.Words.{is_control, is_data}
 use Rattle.exb_machine.specs.Settling.{Direction, Played, direction, gone_through, goes_through, is_settled, next_place, played_before, round, run, settled_within, steps_for, through_all}
 use Rattle.exb_machine.specs.Stepping.{Stepped, words_on}
 use Rattle.exb_machine.specs.Worlds.{World, Way}
-use Rattle.exb_machine_laws.specs.Sessions.{Each}
+use Rattle.exb_machine.specs.Runs.Sessions.{Each}
 use Rattle.exb_network.specs.Networks.{Network, world_of, tree_of, bounds_of}
 use Rattle.exb_network.specs.Turns.{order_of}
-use Rattle.exb_resting.specs.Costs.{cost_of, costs}
+use Rattle.exb_resting.specs.Rest.Costs.{cost_of, costs}
 use Rattle.exb_schedule.specs.declared.remaining.Remaining.{Remaining}
 use Rattle.exb_schedule.specs.Moves.{HasGone, HasRun}
 

@@ -1,7 +1,7 @@
 //! What the types of frames and commands bring, as facts for whoever calls these functions. They do nothing.
 ghost use Rattle.std.specs.Prelude.{All};
 ghost use Rattle.exb_csp.specs.Spelling.{IsBytes};
-ghost use Rattle.exb_motion.specs.Kept.{HasVid};
+ghost use Rattle.exb_resting.specs.Motion.Kept.{HasVid};
 
 use exb_model::command::Command;
 

@@ -8,11 +8,11 @@ ghost use Rattle.exb_link.specs.Words.{is_control, is_data, leading};
 ghost use Rattle.exb_machine.specs.Allowing.{Can, IsSettled};
 ghost use Rattle.exb_machine.specs.Stepping.{words_on};
 ghost use Rattle.exb_machine.specs.Worlds.{first_world};
-ghost use Rattle.exb_motion.specs.Kept.{HasVid};
+ghost use Rattle.exb_resting.specs.Motion.Kept.{HasVid};
 ghost use Rattle.exb_network.specs.Networks.{world_of, tree_of, bounds_of, step_of, IsQuiet, IsSame, IsStepped};
 ghost use Rattle.exb_network.specs.Steps.{way_of};
 ghost use Rattle.exb_network.specs.Turns.{order_of, IsTurn};
-ghost use Rattle.exb_resting.specs.Settles.{MayTake};
+ghost use Rattle.exb_resting.specs.Rest.Settles.{MayTake};
 ghost use Rattle.exb_schedule.specs.Reached.{IsReached};
 
 use crate::facts::{are_bytes, name_vlans, names_vlan};

@@ -8,10 +8,10 @@ ghost use Rattle.exb_link.specs.Words.{is_control, is_data, leading};
 ghost use Rattle.exb_machine.specs.Allowing.{Can, IsSettled};
 ghost use Rattle.exb_machine.specs.Stepping.{words_on};
 ghost use Rattle.exb_machine.specs.Worlds.{first_world};
-ghost use Rattle.exb_motion.specs.Kept.{HasVid};
+ghost use Rattle.exb_resting.specs.Motion.Kept.{HasVid};
 ghost use Rattle.exb_network.specs.Networks.{world_of, tree_of, bounds_of, step_of, IsQuiet, IsSame, IsStepped};
 ghost use Rattle.exb_network.specs.Steps.{way_of};
-ghost use Rattle.exb_resting.specs.Settles.{MayTake};
+ghost use Rattle.exb_resting.specs.Rest.Settles.{MayTake};
 ghost use Rattle.exb_schedule.specs.Worlds.{network_of};
 
 use crate::motion::Motion;
@@ -77,6 +77,7 @@ impl World {
         ensures memory { OnErr result ((network_of self.new).failed ≡ true) }
         ensures fate { left self.new.fate ≡ left self.old.fate }
     {
+        // a step that is passed on as it is isn't covered by the borrow checker, since a variant holds a reference
         match step {
             Step::Arrive {
                 port,

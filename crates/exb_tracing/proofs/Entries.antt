@@ -10,7 +10,7 @@ use Rattle.exb_model.specs.declared.event.Event.TheVariants as event
 use Rattle.exb_model.specs.History.{History, ◌then◌}
 use Rattle.exb_model.specs.Input.{Arrival}
 use Rattle.exb_model.specs.Texts.{port_name, cause_text, line_of, journal_text}
-use Rattle.exb_machine_laws.specs.Sessions.{Each}
+use Rattle.exb_machine.specs.Runs.Sessions.{Each}
 use Rattle.exb_tracing.specs.Entries.{Entry, Relayed, Ignored, Ticked, Committed, Refused, Rose, Stayed, Settled, entry_of, cause_words, entry_words, entry_text, arrival_by, refused_in, entry_by, entry_in, relay_of, event_by, event_in, history_in, IsCounted, IsWritable, IsFound, IsRecorded}
 use Rattle.exb_tracing.specs.TextReading.{lines_in, words_in, all_read}
 use Rattle.exb_tracing.specs.TextLaws.{EntriesReadBack, JournalsReadBack, JournalsDiffer}

@@ -14,10 +14,10 @@ use Rattle.exb_model.specs.Lists.{Pairwise}
 use Rattle.exb_model.specs.Refusals.{refusal}
 use Rattle.exb_model.specs.Setup.{Limits}
 use Rattle.exb_model.specs.Tree.{Shape, opening_ports}
-use Rattle.exb_machine_laws.specs.Sessions.{Each}
-use Rattle.exb_machine_laws.proofs.Words.{each_append}
+use Rattle.exb_machine.specs.Runs.Sessions.{Each}
+use Rattle.exb_machine.proofs.Words.{each_append}
 use Rattle.exb_flight.specs.Items as items
-use Rattle.exb_motion.proofs.InFile.{IsNumberedIn, segments_numbered}
+use Rattle.exb_resting.proofs.Motion.InFile.{IsNumberedIn, segments_numbered}
 use Rattle.exb_tracing.specs.Entries.{history_in, IsFound, IsRecorded}
 use Rattle.exb_tracing.specs.TextLaws.{IsOfNumbers, InputsReadBack, InputsHaveOneHistory}
 use Rattle.exb_tracing.proofs.Entries.{journals_read_back}

@@ -10,7 +10,7 @@ use Rattle.std.proofs.lemmas.List.Elements.{All-cons, All-nil}
 use Rattle.std.proofs.lemmas.List.Splits.{slice_split_at, slice_split_none}
 use Rattle.std.proofs.lemmas.Str.Parse.{IsNumeralModel, numerals_by_value, tells_all_ascii_digits}
 use Rattle.exb_model.specs.Texts.{port_name}
-use Rattle.exb_machine_laws.specs.Sessions.{Each}
+use Rattle.exb_machine.specs.Runs.Sessions.{Each}
 use Rattle.exb_tracing.specs.TextReading.{each_ended, lines_in, all_read, number_in, if_small, small_in, port_at, extended_in, port_in}
 
 -- ---- texts without a byte

@@ -9,10 +9,10 @@ use Rattle.exb_machine.specs.Allowing.{IsSettled}
 use Rattle.exb_machine.specs.Settling.{run}
 use Rattle.exb_machine.specs.Stepping.{Stepped}
 use Rattle.exb_machine.specs.Worlds.{Step}
-use Rattle.exb_motion.specs.Kept.{HasVid}
-use Rattle.exb_motion.specs.Playing.{IsTimely}
-use Rattle.exb_resting.specs.Playing.{PlaysIn}
-use Rattle.exb_resting.specs.Settles.{MayTakeAll, beginning}
+use Rattle.exb_resting.specs.Motion.Kept.{HasVid}
+use Rattle.exb_resting.specs.Motion.Playing.{IsTimely}
+use Rattle.exb_resting.specs.Rest.Playing.{PlaysIn}
+use Rattle.exb_resting.specs.Rest.Settles.{MayTakeAll, beginning}
 use Rattle.exb_tracing.specs.Laws.{given_in}
 use Rattle.exb_tracing.specs.LegalTrace.{LegalTrace}
 use Rattle.exb_machine.specs.Telling.{all_told}

@@ -5,7 +5,7 @@ use Rattle.exb_model.specs.History.{History}
 use Rattle.exb_model.specs.Input.{Input, Arrival, Mode, arrivals_at}
 use Rattle.exb_model.specs.LegalHistory.{Legal}
 use Rattle.exb_model.specs.Texts.{journal_text}
-use Rattle.exb_machine_laws.specs.Sessions.{Each}
+use Rattle.exb_machine.specs.Runs.Sessions.{Each}
 use Rattle.exb_tracing.specs.Entries.{Entry, entry_of, entry_text, entry_in, history_in, IsWritable, IsRecorded}
 use Rattle.exb_model.specs.Traces.{TraceLine, trace_line, trace_text}
 use Rattle.exb_tracing.specs.LineTexts.{read_line, read_trace, IsSpelled}

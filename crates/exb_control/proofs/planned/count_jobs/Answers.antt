@@ -1,7 +1,7 @@
 use Rattle.std.proofs.Common.{ap, ◌∙◌, arith}
 use Rattle.exb_changing.specs.Deciding.{Decide}
 use Rattle.exb_changing.specs.Counting.{requests_of, bridge_left, held_left}
-use Rattle.exb_changes.specs.Fabrics.{bridge_in, held_in}
+use Rattle.exb_control.specs.Fabrics.{bridge_in, held_in}
 use Rattle.exb_control.specs.Controls.{decide_of}
 use Rattle.exb_control.proofs.NextJobs.{same_decide}
 use Rattle.exb_control.proofs.Counts.{next_fits, requests_next, none_left}

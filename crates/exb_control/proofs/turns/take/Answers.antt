@@ -4,7 +4,7 @@ use Rattle.exb_session.specs.Asking.{AskerState, took}
 use Rattle.exb_changing.specs.Machine.{Moved, with_asker}
 use Rattle.exb_control.specs.Controls.{decide_of}
 use Rattle.exb_control.specs.Steps.{askers_of, asks_in, left_at, rest_of, state_in, reached, reached_by, advances}
-use Rattle.exb_changes.specs.Fabrics.{bridge_in, held_in}
+use Rattle.exb_control.specs.Fabrics.{bridge_in, held_in}
 use Rattle.exb_control.proofs.NextJobs.{same_decide}
 use Rattle.exb_control.proofs.Soundness.{may_ask}
 use Rattle.exb_control.proofs.Starting.{short_phase}

@@ -2,8 +2,8 @@ use Rattle.std.proofs.Common.{◌≡◌, ◌+◌, ◌^◌, refl, ap, ◌∙◌, 
 use Rattle.std.proofs.lemmas.Result.{on_ok_weaker}
 use Rattle.exb_config.specs.Tables.{bridge_of}
 use Rattle.exb_learn.specs.Entries.{table_of}
-use Rattle.exb_changes.specs.declared.stage.Stage.TheVariants.{Prepared}
-use Rattle.exb_changes.specs.Fabrics.{bridge_in, held_in, stage_of}
+use Rattle.exb_control.specs.declared.stage.Stage.TheVariants.{Prepared}
+use Rattle.exb_control.specs.Fabrics.{bridge_in, held_in, stage_of}
 use Rattle.exb_control.specs.Controls.{decide_of}
 use Rattle.exb_control.specs.Steps.{askers_of, rest_of}
 use Rattle.exb_control.proofs.Starting.{is_ready, begins, short}

@@ -3,7 +3,7 @@ use Rattle.std.proofs.lemmas.Result.{on_ok_weaker}
 use Rattle.exb_model.specs.ETags.{Tag, TagFits, tagged}
 use Rattle.exb_extender.specs.Forwarding.{channel_tag}
 use Rattle.exb_model.specs.Tree.{Shape, on, trunk}
-use Rattle.exb_changes.specs.Fabrics.{held_in}
+use Rattle.exb_control.specs.Fabrics.{held_in}
 use Rattle.exb_machine.specs.Controls.{channel_at_trunk}
 use Rattle.exb_machine.specs.Extending.{hung_on}
 use Rattle.exb_machine.specs.Hearing.{puts}

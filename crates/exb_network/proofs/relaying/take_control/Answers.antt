@@ -2,7 +2,7 @@ use Rattle.std.proofs.Common.{◌-◌, ap, sym, subst, ◌∙◌}
 use Rattle.exb_model.specs.Tree.{Shape, IsTree}
 use Rattle.exb_model.proofs.TreeHung.{hung_cascade}
 use Rattle.exb_machine.specs.Extending.{hung_on}
-use Rattle.exb_machine_laws.proofs.Trees.{extender_there, hung_is}
+use Rattle.exb_machine.proofs.Trees.{extender_there, hung_is}
 use Rattle.exb_network.proofs.relaying.take_control.Goals as goal
 
 pub holder-requires-clause-cascade : goal.holder-requires-clause-cascade

@@ -2,7 +2,7 @@ use Rattle.std.proofs.Common.{List, sym, subst}
 use Rattle.exb_machine.specs.Worlds.{Step, Tick}
 use Rattle.exb_network.specs.Networks.{world_of, tree_of, IsStepped}
 use Rattle.exb_network.proofs.Coming.{on_ok_two}
-use Rattle.exb_resting.specs.Settles.{MayTake}
+use Rattle.exb_resting.specs.Rest.Settles.{MayTake}
 use Rattle.exb_schedule.specs.Moves.{HasRun}
 use Rattle.exb_schedule.proofs.Giving.{tick_none, tick_some}
 use Rattle.exb_schedule.proofs.Leading.{run_nothing, run_step}

@@ -7,7 +7,7 @@ use Rattle.exb_machine.specs.Worlds.{Step}
 use Rattle.exb_network.specs.Networks.{world_of, tree_of, IsStepped}
 use Rattle.exb_network.specs.Steps.{way_of}
 use Rattle.exb_network.proofs.Coming.{on_ok_two}
-use Rattle.exb_resting.specs.Settles.{MayTake}
+use Rattle.exb_resting.specs.Rest.Settles.{MayTake}
 use Rattle.exb_schedule.specs.Worlds.{network_of}
 use Rattle.exb_schedule.proofs.Leading.{run_step}
 use Rattle.exb_schedule.proofs.Giving.{on_ok_all}

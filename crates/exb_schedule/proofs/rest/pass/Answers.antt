@@ -1,7 +1,7 @@
 use Rattle.std.proofs.Common.{subst}
 use Rattle.exb_machine.specs.Worlds.{Step}
 use Rattle.exb_network.specs.Networks.{world_of, tree_of, IsStepped}
-use Rattle.exb_resting.specs.Settles.{MayTake}
+use Rattle.exb_resting.specs.Rest.Settles.{MayTake}
 use Rattle.exb_schedule.specs.Worlds.{network_of}
 use Rattle.exb_schedule.proofs.Drawing.{drawn_tick}
 use Rattle.exb_schedule.proofs.rest.pass.Goals as goal

@@ -1,6 +1,0 @@
-use Rattle.exb_change_laws.proofs.Telling.{decided_once_of}
-use Rattle.exb_plans.proofs.Commanded.{refused_as_commanded}
-use Rattle.exb_change_laws.proofs.laws.decided_once.Goals as goal
-
-pub returns : goal.returns
-returns c = decided_once_of refused_as_commanded

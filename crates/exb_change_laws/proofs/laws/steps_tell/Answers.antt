@@ -1,6 +1,0 @@
-use Rattle.exb_change_laws.proofs.Telling.{steps_tell_of}
-use Rattle.exb_plans.proofs.Commanded.{refused_as_commanded}
-use Rattle.exb_change_laws.proofs.laws.steps_tell.Goals as goal
-
-pub returns : goal.returns
-returns c = steps_tell_of refused_as_commanded

@@ -1,9 +1,0 @@
-pub mod Spaces
-pub mod FirstSpaces
-pub mod Decided
-pub mod Roles
-pub mod Freeing
-pub mod Copies
-pub mod Openings
-pub mod Kept
-pub mod GroupUses

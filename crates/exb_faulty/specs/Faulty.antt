@@ -1,0 +1,24 @@
+-- What a shelf and a sink hold whose calls are disturbed.
+use Rattle.std.specs.Prelude.{ℕ, List}
+use Rattle.exb_shelf.specs.Files.{Files}
+use Rattle.exb_shelf.specs.Shelf.{Id, Faults}
+use Rattle.exb_shelf.specs.Memory.{scratch_files, scratch_ids}
+use Rattle.exb_faulty.specs.declared.shelf.FaultyShelf.{FaultyShelf}
+use Rattle.exb_faulty.specs.declared.sink.FaultySink.{FaultySink}
+
+-- ---- files
+abbrev pub files_of : FaultyShelf → Files
+files_of s = scratch_files s.kept
+
+abbrev pub ids_of : FaultyShelf → ℕ → Id
+ids_of s = scratch_ids s.kept
+
+abbrev pub faults_of : FaultyShelf → Faults
+faults_of s = record { missing = s.kept.missing; reads = s.reads; writes = s.writes }
+
+-- ---- a sink
+abbrev pub printed : FaultySink → List ℕ
+printed s = s.text.items
+
+abbrev pub print_faults : FaultySink → ℕ
+print_faults s = s.faults

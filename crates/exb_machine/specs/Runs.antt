@@ -1,0 +1,10 @@
+-- What is true of every step and every run of the world.
+pub mod Fixing
+pub mod Sessions
+pub mod Simulation
+pub mod Laws
+pub mod Journal
+pub mod Stamped
+pub mod Carried
+pub mod Asks
+pub mod Written

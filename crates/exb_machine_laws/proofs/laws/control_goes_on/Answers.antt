@@ -1,5 +1,0 @@
-use Rattle.exb_machine_laws.proofs.Hops.{control_goes_on}
-use Rattle.exb_machine_laws.proofs.laws.control_goes_on.Goals as goal
-
-pub returns : goal.returns
-returns c = control_goes_on c.tag_round_trip.ensures

@@ -1,5 +1,0 @@
-use Rattle.exb_machine_laws.proofs.Directions.{directions_in_order}
-use Rattle.exb_machine_laws.proofs.laws.directions_go_in_order.Goals as goal
-
-pub returns : goal.returns
-returns c = directions_in_order

@@ -1,5 +1,0 @@
-use Rattle.exb_machine_laws.proofs.Journal.{journal_decides_once}
-use Rattle.exb_machine_laws.proofs.laws.journal_decides_once.Goals as goal
-
-pub returns : goal.returns
-returns c = journal_decides_once c.steps_tell.ensures c.tag_round_trip.ensures

@@ -1,5 +1,0 @@
-use Rattle.exb_machine_laws.proofs.Rounds.{rounds_are_steps}
-use Rattle.exb_machine_laws.proofs.laws.rounds_are_steps.Goals as goal
-
-pub returns : goal.returns
-returns c = rounds_are_steps

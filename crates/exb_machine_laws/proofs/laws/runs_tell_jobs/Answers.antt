@@ -1,5 +1,0 @@
-use Rattle.exb_machine_laws.proofs.Journal.{runs_tell_jobs}
-use Rattle.exb_machine_laws.proofs.laws.runs_tell_jobs.Goals as goal
-
-pub returns : goal.returns
-returns c = runs_tell_jobs c.steps_tell.ensures c.tag_round_trip.ensures

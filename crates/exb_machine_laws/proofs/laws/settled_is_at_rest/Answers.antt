@@ -1,5 +1,0 @@
-use Rattle.exb_machine_laws.proofs.Hops.{settled_is_at_rest}
-use Rattle.exb_machine_laws.proofs.laws.settled_is_at_rest.Goals as goal
-
-pub returns : goal.returns
-returns c = settled_is_at_rest

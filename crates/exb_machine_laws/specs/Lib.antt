@@ -1,9 +1,0 @@
-pub mod Fixing
-pub mod Sessions
-pub mod Simulation
-pub mod Laws
-pub mod Journal
-pub mod Stamped
-pub mod Carried
-pub mod Asks
-pub mod Written

@@ -1,0 +1,82 @@
+-- The uses of groups: how many have one, and that there is none at the start.
+use Rattle.std.proofs.Common.{◌≡◌, ℕ, zero, suc, ◌+◌, ◌-◌, ◌<◌, ◌≤◌, Bool, true, false, cond, List, [], ◌∷◌, ◌++◌, length, get_or, replicate, refl, sym, ap, ◌∙◌, inl, inr, arith, length-append}
+use Rattle.std.specs.Prelude.{nat_lt, count_by}
+use Rattle.std.specs.List.{range_with_len}
+use Rattle.std.proofs.lemmas.Bool.{cases_eq, cases_lt}
+use Rattle.std.proofs.lemmas.List.{get_or_past, get_or_push, get_or_append_left, length-replicate}
+use Rattle.std.proofs.lemmas.List.Sums.{sum_by-cons}
+use Rattle.exb_model.proofs.Words.{get_or-same}
+use Rattle.exb_model.specs.Tree.{Shape, is_cascade}
+use Rattle.exb_plan.specs.Counted.{count_in, count_at, used_in}
+
+-- ---- how many have a use
+abbrev one_if : (ℕ → Bool) → ℕ → ℕ
+one_if p x = cond (p x) 1 0
+
+pub counted_alike : (p q : ℕ → Bool) (a n : ℕ) → ((g : ℕ) → a ≤ g → p g ≡ q g) → count_by p (range_with_len a n) ≡ count_by q (range_with_len a n)
+counted_alike p q a zero same = refl
+counted_alike p q a (suc n) same =
+    let rest = counted_alike p q (a + 1) n (λ g low. same g (omega arith)) in
+    let left = sum_by-cons (one_if p) a (range_with_len (a + 1) n) in
+    let right = sum_by-cons (one_if q) a (range_with_len (a + 1) n) in
+    let here : one_if p a ≡ one_if q a = ap (λ (b : Bool). cond b 1 0) (same a (omega arith)) in
+    omega (arith, rest, left, right, here)
+
+none_counted : (p : ℕ → Bool) (xs : List ℕ) → ((g : ℕ) → p g ≡ false) → count_by p xs ≡ 0
+none_counted p [] never = refl
+none_counted p (x ∷ xs) never =
+    let rest = none_counted p xs never in
+    let first = sum_by-cons (one_if p) x xs in
+    let here : one_if p x ≡ 0 = ap (λ (b : Bool). cond b 1 0) (never x) in
+    omega (arith, rest, first, here)
+
+-- a test by places counts as the test on the list itself
+counted_places : (row : List ℕ) (a n : ℕ) → length row ≤ n → count_by (λ g. nat_lt 0 (get_or row (g - a) 0)) (range_with_len a n) ≡ count_by (nat_lt 0) row
+counted_places [] a n few = none_counted _ (range_with_len a n) (λ g. refl)
+counted_places (x ∷ xs) a zero few = absurd (omega arith)
+counted_places (x ∷ xs) a (suc n) few =
+    let rest = counted_places xs (a + 1) n (omega arith) in
+    let whole : ℕ → Bool = λ g. nat_lt 0 (get_or (x ∷ xs) (g - a) 0) in
+    let later : ℕ → Bool = λ g. nat_lt 0 (get_or xs (g - (a + 1)) 0) in
+    let shift = counted_alike whole later (a + 1) n (λ g low.
+    let e : g - a ≡ suc (g - (a + 1)) = omega arith in ap (λ (i : ℕ). nat_lt 0 (get_or (x ∷ xs) i 0)) e) in
+    let left = sum_by-cons (one_if whole) a (range_with_len (a + 1) n) in
+    let right = sum_by-cons (one_if (nat_lt 0)) x xs in
+    let z : a - a ≡ 0 = omega arith in
+    let here : one_if whole a ≡ one_if (nat_lt 0) x = ap (λ (i : ℕ). cond (nat_lt 0 (get_or (x ∷ xs) i 0)) 1 0) z in
+    left ∙ ap (λ (m : ℕ). m + count_by whole (range_with_len (a + 1) n)) here ∙ ap (λ (m : ℕ). one_if (nat_lt 0) x + m) (shift ∙ rest) ∙ sym right
+
+pub used_count : (row : List ℕ) → length row ≤ 12288 → count_by (nat_lt 0) row ≡ used_in row
+unfolding used_in
+used_count row few = sym (counted_places row 4096 12288 few)
+
+pub used_none : used_in [] ≡ 0
+used_none = sym (used_count [] (omega arith))
+
+-- ---- the rows at the start, of the first n bridge ports
+pub record AreRows (t : Shape) (groups : ℕ) (v : List (List ℕ)) (n : ℕ) : Type 0 where
+  pub sized : length v ≡ n
+  pub row : (k : ℕ) → k < n → get_or v k [] ≡ replicate (cond (is_cascade t k) groups 0) 0
+
+pub row_more : (t : Shape) (groups granted : ℕ) (v : List (List ℕ)) (n : ℕ) → AreRows t groups v n → granted ≡ cond (is_cascade t (n + 1 - 1)) groups 0 → AreRows t groups (v ++ replicate granted 0 ∷ []) (n + 1)
+row_more t groups granted v n r is =
+    let z = r.sized in
+    let place : n + 1 - 1 ≡ n = omega arith in
+    record {
+      sized = let l = length-append v (replicate granted 0 ∷ []) in omega (arith, l, z);
+      row = λ k h. elim (cases_eq k n) [
+        | inl e ↦ get_or_push v (replicate granted 0) [] k (z ∙ sym e) ∙ ap (λ (m : ℕ). replicate m 0) (is ∙ ap (λ (j : ℕ). cond (is_cascade t j) groups 0) (place ∙ sym e))
+        | inr e ↦ get_or_append_left v (replicate granted 0 ∷ []) [] k (omega (arith, z)) ∙ r.row k (omega arith)
+      ];
+    }
+
+pub rows_zero : (t : Shape) (groups : ℕ) (v : List (List ℕ)) (n : ℕ) → AreRows t groups v n → (k g : ℕ) → count_at v k g ≡ 0
+rows_zero t groups v n r k g =
+    elim (cases_lt k n) [
+      | inl l ↦ ap (λ (xs : List ℕ). count_in xs g) (r.row k l) ∙ get_or-same (cond (is_cascade t k) groups 0) (g - 4096) 0
+      | inr l ↦ ap (λ (xs : List ℕ). count_in xs g) (get_or_past v k [] (let z = r.sized in omega (arith, l, z)))
+    ]
+
+pub rows_sized : (t : Shape) (groups : ℕ) (v : List (List ℕ)) (n : ℕ) → AreRows t groups v n → (k : ℕ) → k < n → is_cascade t k ≡ true → length (get_or v k []) ≡ groups
+rows_sized t groups v n r k l is =
+    ap length (r.row k l) ∙ length-replicate (cond (is_cascade t k) groups 0) 0 ∙ ap (λ (b : Bool). cond b groups 0) is

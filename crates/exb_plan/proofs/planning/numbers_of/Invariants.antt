@@ -1,8 +1,0 @@
-use Rattle.std.proofs.Common.{◌≡◌, map, take}
-use Rattle.exb_plans.specs.Plans.{number_of}
-use Rattle.exb_plans.specs.Making.{seen_group}
-use Rattle.exb_plan.proofs.planning.numbers_of.Given as goal
-
--- the numbers so far
-abbrev pub invariant-loop-group : goal.invariant-loop-group
-invariant-loop-group l = l.numbers ≡ map number_of (map seen_group (take l.group-index l.groups))

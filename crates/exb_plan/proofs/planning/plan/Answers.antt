@@ -1,0 +1,67 @@
+use Rattle.std.proofs.Common.{◌∙◌, map, refl, sym, ap}
+use Rattle.exb_model.specs.Configuration.{after}
+use Rattle.exb_config.specs.Tables.{bridge_of}
+use Rattle.exb_plans.specs.Sets.{seen, sets_of}
+use Rattle.exb_plan.specs.Spaces.{held_by}
+use Rattle.exb_plans.specs.declared.change.Decision.TheVariants.{Ready}
+use Rattle.exb_plans.proofs.Channels.{any_extended}
+use Rattle.exb_plan.proofs.WholePlans.{spaces_of, refusal_are, refused_is, refused_held, decided, decided_held}
+use Rattle.exb_plan.proofs.Moving.{used_sets}
+use Rattle.exb_plan.proofs.planning.plan.Goals as goal
+
+pub touched_sets-requires-clause-spaces : goal.touched_sets-requires-clause-spaces
+touched_sets-requires-clause-spaces c = spaces_of c.args.tree.now c.requires.limits.0 c.args.spaces.now c.requires.limits.1
+
+pub refusal-requires-clause-up : goal.refusal-requires-clause-up
+refusal-requires-clause-up c =
+    let b = bridge_of c.args.config.now in
+    any_extended c.args.tree.now b (after c.args.command.now b) c.goes_up-up.result (sym c.goes_up-up.ensures)
+
+pub refusal-requires-clause-counted : goal.refusal-requires-clause-counted
+refusal-requires-clause-counted c =
+    used_sets c.args.tree.now (bridge_of c.args.config.now) c.args.spaces.now c.requires.limits.0 c.requires.limits.1 c.requires.held c.args.uses.now c.requires.counted
+
+pub returns-in-Some-clause-decision : goal.returns-in-Some-clause-decision
+returns-in-Some-clause-decision c l has =
+    let t = c.args.tree.now in
+    let b = bridge_of c.args.config.now in
+    let d = after c.args.command.now b in
+    let fresh = ap (map seen) c.as_slice-fresh.ensures.value ∙ c.in_ok-touched.ensures.fresh in
+    let is = c.refusal.ensures l has ∙ refusal_are t c.is_tree.ensures l b d c.goes_up-up.result (sets_of t b) (map seen c.as_slice-fresh.result.now) c.goes_up-up.ensures refl fresh in
+    refused_is t l b d (held_by c.args.spaces.now) c.in-Some.cause (sym is ∙ c.in-Some.is)
+
+pub returns-in-Some-clause-claimed : goal.returns-in-Some-clause-claimed
+returns-in-Some-clause-claimed c l has =
+    let t = c.args.tree.now in
+    let b = bridge_of c.args.config.now in
+    let d = after c.args.command.now b in
+    let fresh = ap (map seen) c.as_slice-fresh.ensures.value ∙ c.in_ok-touched.ensures.fresh in
+    let is = c.refusal.ensures l has ∙ refusal_are t c.is_tree.ensures l b d c.goes_up-up.result (sets_of t b) (map seen c.as_slice-fresh.result.now) c.goes_up-up.ensures refl fresh in
+    refused_held t l b d (held_by c.args.spaces.now) c.in-Some.cause (sym is ∙ c.in-Some.is)
+
+pub ready-requires-clause-fits : goal.ready-requires-clause-fits
+ready-requires-clause-fits c l has =
+    let t = c.args.tree.now in
+    let b = bridge_of c.args.config.now in
+    let d = after c.args.command.now b in
+    let fresh = ap (map seen) c.as_slice-fresh.ensures.value ∙ c.in_ok-touched.ensures.fresh in
+    let is = c.refusal.ensures l has ∙ refusal_are t c.is_tree.ensures l b d c.goes_up-up.result (sets_of t b) (map seen c.as_slice-fresh.result.now) c.goes_up-up.ensures refl fresh in
+    sym is ∙ c.in_default.is
+
+pub returns-clause-decision : goal.returns-clause-decision
+returns-clause-decision c l has =
+    let t = c.args.tree.now in
+    let b = bridge_of c.args.config.now in
+    let d = after c.args.command.now b in
+    let fresh = ap (map seen) c.as_slice-fresh.ensures.value ∙ c.in_ok-touched.ensures.fresh in
+    let is = c.refusal.ensures l has ∙ refusal_are t c.is_tree.ensures l b d c.goes_up-up.result (sets_of t b) (map seen c.as_slice-fresh.result.now) c.goes_up-up.ensures refl fresh in
+    ap Ready (c.in_ok-change.ensures.change l has) ∙ decided t l b d (held_by c.args.spaces.now) (sym is ∙ c.in_default.is)
+
+pub returns-clause-claimed : goal.returns-clause-claimed
+returns-clause-claimed c l has =
+    let t = c.args.tree.now in
+    let b = bridge_of c.args.config.now in
+    let d = after c.args.command.now b in
+    let fresh = ap (map seen) c.as_slice-fresh.ensures.value ∙ c.in_ok-touched.ensures.fresh in
+    let is = c.refusal.ensures l has ∙ refusal_are t c.is_tree.ensures l b d c.goes_up-up.result (sets_of t b) (map seen c.as_slice-fresh.result.now) c.goes_up-up.ensures refl fresh in
+    c.in_ok-change.ensures.held l has ∙ decided_held t l b d (held_by c.args.spaces.now) (sym is ∙ c.in_default.is)

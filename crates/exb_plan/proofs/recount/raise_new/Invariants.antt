@@ -1,0 +1,11 @@
+use Rattle.std.proofs.Common.{map, take}
+use Rattle.exb_plans.specs.Sets.{seen}
+use Rattle.exb_plan.specs.Recount.{AreRaised, HaveRowsOf}
+use Rattle.exb_plan.proofs.recount.raise_new.Given as goal
+
+-- the parts so far are counted
+abbrev pub invariant-loop-part : goal.invariant-loop-part
+invariant-loop-part l = record {
+  counts : AreRaised l.spaces (map seen (take l.part-index l.parts)) l.fn.uses l.uses;
+  rows : HaveRowsOf l.fn.uses l.uses;
+}

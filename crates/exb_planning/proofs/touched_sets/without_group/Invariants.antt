@@ -1,9 +1,0 @@
-use Rattle.std.proofs.Common.{◌≡◌, filter, map, not, take}
-use Rattle.exb_plans.specs.Sets.{seen}
-use Rattle.exb_plan.specs.Spaces.{held_by}
-use Rattle.exb_plans.specs.Making.{has_group}
-use Rattle.exb_planning.proofs.touched_sets.without_group.Given as goal
-
--- those of the parts so far
-abbrev pub invariant-loop-part : goal.invariant-loop-part
-invariant-loop-part l = map seen l.fresh.items ≡ filter (λ s. not (has_group (held_by l.spaces) s)) (map seen (take l.part-index l.parts))

@@ -1,0 +1,21 @@
+-- That each step of the world is a list of steps of its flight, by kind of step, and what it promises so.
+pub mod Items
+pub mod Standing
+pub mod Flying
+pub mod Promising
+pub mod Keys
+pub mod Pushing
+pub mod Telling
+pub mod Sending
+pub mod Movings
+pub mod Owning
+pub mod Beating
+pub mod Executing
+pub mod Hearing
+pub mod Passing
+pub mod Controlling
+pub mod Relaying
+pub mod Arriving
+pub mod Carrying
+pub mod Descending
+pub mod Falling

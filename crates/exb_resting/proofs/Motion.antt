@@ -1,0 +1,22 @@
+-- That every step and every list of steps leaves a world standing.
+mod Quiet
+pub mod Rising
+mod Naming
+pub mod Histories
+mod Deciding
+pub mod Jobs
+pub mod Keeping
+pub mod Standing
+pub mod Pairs
+pub mod Marks
+pub mod Telling
+pub mod Going
+mod Ticks
+pub mod InFile
+pub mod AllCame
+mod Opening
+mod Numbers
+pub mod Playing
+mod Eager
+pub mod Setups
+pub mod Moving

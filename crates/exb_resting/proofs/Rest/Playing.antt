@@ -1,0 +1,121 @@
+-- Runs that play the segments of an input.
+use Rattle.std.proofs.Common.{◌≡◌, ℕ, ◌++◌, List, [], ◌∷◌, length, reverse, refl, ap, sym, ◌∙◌, subst}
+use Rattle.std.specs.Prelude.{filter_map, flat_map}
+use Rattle.std.specs.List.{range_with_len}
+use Rattle.exb_model.specs.declared.command.Command.{Command}
+use Rattle.exb_model.specs.EagerHistory.{opening, eager}
+use Rattle.exb_model.specs.FlatBridge.{flat}
+use Rattle.exb_model.specs.History.{Basis, History, ◌then◌, command_of}
+use Rattle.exb_model.specs.Input.{Input, Segment, Mode, Eager, tree_of, bounds_of, segments}
+use Rattle.exb_model.specs.Input.{basis_of as basis_in}
+use Rattle.exb_model.specs.LegalHistory.{Legal, number_of, settled_each}
+use Rattle.exb_model.specs.Setup.{Limits}
+use Rattle.exb_model.specs.Tree.{Shape}
+use Rattle.exb_frame.specs.TagValues.{TagRoundTrip}
+use Rattle.exb_relay.specs.Laws.{SendsAreWords, SendsLeaveAsFlat}
+use Rattle.exb_changing.specs.Runs.Journal.{StepsTell}
+use Rattle.exb_machine.specs.Allowing.{IsSettled}
+use Rattle.exb_machine.specs.Settling.{run}
+use Rattle.exb_machine.specs.Stepping.{Stepped}
+use Rattle.exb_machine.specs.Worlds.{Step, Mark}
+use Rattle.exb_machine.specs.Runs.Written.{StepsStayWritten}
+use Rattle.exb_machine.proofs.Rounds.{run_then}
+use Rattle.exb_resting.specs.Motion.Given.{Given, commands_of, basis_with}
+use Rattle.exb_resting.specs.Motion.Going.{MayGoAll}
+use Rattle.exb_resting.specs.Motion.Kept.{MayStart, MayDoAll, given_in, Kept, basis_of}
+use Rattle.exb_resting.specs.Motion.Marks.{IsOrderly, SettledIsOrderly}
+use Rattle.exb_resting.specs.Motion.Playing.{IsTimely, marked_each, nothing_given}
+use Rattle.exb_resting.proofs.Motion.Going.{runs_go_on}
+use Rattle.exb_resting.proofs.Motion.Histories.{longer, flat_stays}
+use Rattle.exb_resting.proofs.Motion.Keeping.{kept_commands}
+use Rattle.exb_resting.proofs.Motion.Playing.{runs_play_legally, runs_play_eagerly}
+use Rattle.exb_resting.proofs.Motion.Setups.{setups_may_start}
+use Rattle.exb_resting.proofs.Motion.Standing.{begins_kept, runs_kept, settled_owes_nothing}
+use Rattle.exb_resting.specs.Rest.Playing.{begin_of, PlaysIn, RunsWriteLegally, RunsWriteEagerly}
+use Rattle.exb_resting.proofs.Rest.PlaysGive.{marked_world, plays_settled, plays_commands, commands_numbered}
+use Rattle.exb_resting.proofs.Rest.Settles.{runs_stay_low}
+use Rattle.exb_resting.proofs.Rest.TellsNumbers.{numbers_then, opening_none, numbers_played, first_commands}
+
+module _ (round : TagRoundTrip) (words : SendsAreWords) (leave : SendsLeaveAsFlat) (law : StepsTell) (stay : StepsStayWritten) where
+  module _ (m : Mode) (i : Input) (so_far : List Segment) (done : Stepped) (k : PlaysIn m i so_far done) where
+    pub start : MayStart (tree_of i) (bounds_of i) (basis_of i.setup)
+    start = setups_may_start i.setup k.valid k.vids
+
+    low : MayGoAll (tree_of i) (bounds_of i) (begin_of i) (marked_each (k.first ∷ k.plays))
+    low = runs_stay_low round words leave law stay i.setup (marked_each (k.first ∷ k.plays)) k.valid k.vids k.may
+
+    may_all : MayDoAll (tree_of i) (bounds_of i) (begin_of i) (marked_each (k.first ∷ k.plays))
+    may_all = (runs_go_on round words leave law stay (tree_of i) (bounds_of i) (basis_of i.setup) start (marked_each (k.first ∷ k.plays)) low).may
+
+    -- what was given, told and has left so far
+    pub kept : Kept (tree_of i) (bounds_of i) (basis_of i.setup) done.world (given_in (marked_each (k.first ∷ k.plays))) ([] then done.events) done.left
+    kept =
+        subst (λ (z : Stepped). Kept (tree_of i) (bounds_of i) (basis_of i.setup) z.world (given_in (marked_each (k.first ∷ k.plays))) ([] then z.events) z.left) (sym k.is)
+        (runs_kept round words leave law (tree_of i) (bounds_of i) (basis_of i.setup) start (marked_each (k.first ∷ k.plays)) (begin_of i) [] [] [] (begins_kept (tree_of i) (bounds_of i) (basis_of i.setup) start) may_all)
+
+    pub settled : IsSettled (tree_of i) done.world
+    settled =
+        let t : Shape = tree_of i in
+        let l : Limits = bounds_of i in
+        let ys : List Step = k.first ++ Mark ∷ [] in
+        let opened : IsSettled t (run t l ys (begin_of i)).world = subst (IsSettled t) (sym (marked_world t l k.first (begin_of i))) k.play.0.settled in
+        let rest = plays_settled t l (basis_in i) so_far k.plays (run t l ys (begin_of i)).world k.play.1 opened in
+        subst (λ (z : Stepped). IsSettled t z.world) (sym k.is) (subst (IsSettled t) (sym (ap (λ (z : Stepped). z.world) (run_then t l ys (marked_each k.plays) (begin_of i)))) rest)
+
+    pub commands : commands_of (given_in (marked_each (k.first ∷ k.plays))) ≡ flat_map (λ (s : Segment). filter_map (command_of (basis_in i)) s.commands) so_far
+    commands = plays_commands (tree_of i) (bounds_of i) (basis_in i) (nothing_given ∷ so_far) (k.first ∷ k.plays) (begin_of i) k.play
+
+  -- ---- the whole
+  module _ (orderly : SettledIsOrderly) where
+    -- a whole run tells a history that the input allows
+    told_legally : (m : Mode) (i : Input) (done : Stepped) → IsTimely i → PlaysIn m i (segments m i) done → Legal m i ([] then done.events)
+    told_legally m i done timely k =
+        subst (λ (z : Stepped). Legal m i ([] then z.events)) (sym k.is) (runs_play_legally round words leave law stay m i (k.first ∷ k.plays) k.valid k.vids timely (low m i (segments m i) done k) k.play)
+
+    -- the numbers of the segments' commands are those from 1 on
+    numbers_told : (m : Mode) (i : Input) (done : Stepped) → IsTimely i → (k : PlaysIn m i (segments m i) done) →
+        flat_map (λ (s : Segment). s.commands) (segments m i) ≡ range_with_len 1 (length (commands_of (given_in (marked_each (k.first ∷ k.plays)))))
+    numbers_told m i done timely k =
+        let t : Shape = tree_of i in
+        let l : Limits = bounds_of i in
+        let b : Basis = basis_in i in
+        let ss : List Segment = segments m i in
+        let g : List Given = given_in (marked_each (k.first ∷ k.plays)) in
+        let h : History = [] then done.events in
+        let legal : Legal m i h = told_legally m i done timely k in
+        let o : IsOrderly t l (basis_of i.setup) g h = orderly t l (basis_of i.setup) (start m i ss done k) done.world g h done.left (kept m i ss done k) (settled m i ss done k) in
+        let parts : filter_map number_of (reverse h) ≡ filter_map number_of (settled_each legal.plays) =
+        ap (λ (z : History). filter_map number_of (reverse z)) legal.segments_in_order
+        ∙ (numbers_then (opening t l b) (settled_each legal.plays) ∙ ap (λ (ns : List ℕ). ns ++ filter_map number_of (settled_each legal.plays)) (opening_none t l b)) in
+        sym (numbers_played ss legal.plays legal.commands_in_order) ∙ (sym parts ∙ o.commands)
+
+    -- so the commands that were given are the first of the input
+    first_given : (m : Mode) (i : Input) (so_far : List Segment) (done : Stepped) (k : PlaysIn m i so_far done) → let cs = commands_of (given_in (marked_each (k.first ∷ k.plays))) in
+        flat_map (λ (s : Segment). s.commands) so_far ≡ range_with_len 1 (length cs) → (rest : List Command) × ((basis_in i).commands ≡ cs ++ rest)
+    first_given m i so_far done k numbers =
+        let b : Basis = basis_in i in
+        let cs : List Command = commands_of (given_in (marked_each (k.first ∷ k.plays))) in
+        first_commands b [] b.commands cs refl (sym (commands m i so_far done k ∙ (commands_numbered b so_far ∙ ap (filter_map (command_of b)) numbers)))
+
+    pub runs_write_legally : RunsWriteLegally
+    runs_write_legally m i done timely k =
+        let t : Shape = tree_of i in
+        let b : Basis = basis_in i in
+        let ss : List Segment = segments m i in
+        let g : List Given = given_in (marked_each (k.first ∷ k.plays)) in
+        let h : History = [] then done.events in
+        let end = kept m i ss done k in
+        let more = first_given m i ss done k (numbers_told m i done timely k) in
+        let longer_is : longer (basis_with (basis_of i.setup) g) more.0 ≡ b = ap (λ (cs : List Command). record b { commands = cs }) (sym more.1) in
+        let same : (q : ℕ) → flat (basis_with (basis_of i.setup) g) h q ≡ flat b h q = λ q.
+        sym (flat_stays (basis_with (basis_of i.setup) g) more.0 h q (kept_commands t (bounds_of i) (basis_of i.setup) done.world g h done.left end)) ∙ ap (λ (a : Basis). flat a h q) longer_is in
+        record {
+          journal = told_legally m i done timely k;
+          captures = λ q ext. (settled_owes_nothing t (bounds_of i) (basis_of i.setup) (start m i ss done k) done.world g h done.left end (settled m i ss done k) q ext).1 ∙ same q;
+        }
+
+    -- the eager history
+    pub runs_write_eagerly : RunsWriteEagerly
+    runs_write_eagerly i done timely k =
+        let told : ([] then done.events) ≡ eager i = ap (λ (z : Stepped). [] then z.events) k.is ∙ runs_play_eagerly round words leave law stay i k.first k.plays k.valid k.vids timely (low Eager i (segments Eager i) done k) k.play k.eager in
+        record { journal = told; captures = λ q ext. (runs_write_legally Eager i done timely k).captures q ext ∙ ap (λ (z : History). flat (basis_in i) z q) told }

@@ -1,0 +1,166 @@
+//! What is true of rounds and of settling.
+ghost use Rattle.exb_resting.specs.Rest.Laws.{SetupsHaveFacts, SettlingEnds, RoundsSpend, RoundsPlanNothing, RoundsDeliver, WindowsGetOn, OrderKeepsFacts, TurnsAreOrderly, SetupsBeginGoing};
+ghost use Rattle.exb_resting.specs.Rest.Settles.{RunsAreReady, RunsStayLow, Settles, SettlingAlwaysPlays};
+ghost use Rattle.exb_resting.specs.Rest.Playing.{RunsAreFew, RunsAreUnderWay, RunsWriteLegally, RunsWriteEagerly};
+
+use crate::laws::motion::settled_is_orderly;
+use exb_changing::laws::steps_tell;
+use exb_frame::laws::tag_round_trip;
+use exb_machine::laws::steps_stay_written;
+use exb_relay::laws::{sends_are_words, sends_leave_as_flat};
+
+/// The world of each valid setup has the facts that the other laws ask of each world that rounds reach.
+pub fn setups_have_facts()
+    ensures { SetupsHaveFacts }
+{}
+
+/// Whatever the verdicts are, of which at most b aren't Pass, settling ends settled within 64 rounds for each of them, for
+/// each exchange that is planned, and for one more.
+pub fn settling_ends()
+    ensures { SettlingEnds }
+{
+    tag_round_trip();
+}
+
+/// A round spends a verdict that isn't Pass, or each word passes in it.
+pub fn rounds_spend()
+    ensures { RoundsSpend }
+{}
+
+/// No round makes the number of planned exchanges greater.
+pub fn rounds_plan_nothing()
+    ensures { RoundsPlanNothing }
+{}
+
+/// In a round in which each word passes no word is left on the way up before words go down, and none on the way down
+/// before the beat.
+pub fn rounds_deliver()
+    ensures { RoundsDeliver }
+{
+    tag_round_trip();
+}
+
+/// Within 64 rounds in which each word passes a planned exchange is done, or the world is settled.
+pub fn windows_get_on()
+    ensures { WindowsGetOn }
+{
+    tag_round_trip();
+}
+
+/// The world of each valid setup begins going: its sessions stand, both ends of each are as they should be, and control words
+/// stand on the way of their extenders.
+pub fn setups_begin_going()
+    ensures { SetupsBeginGoing }
+{}
+
+/// Where a world stays orderly, whatever words are delivered, lost or repeated and whatever beats pass, it keeps the facts that
+/// the laws on settling ask.
+pub fn order_keeps_facts()
+    ensures { OrderKeepsFacts }
+{
+    tag_round_trip();
+}
+
+/// A sound world in which extenders are asked in their turn is orderly: an extender that wasn't heard was asked nothing, its first
+/// request is Open, and whoever is waited for is reached.
+pub fn turns_are_orderly()
+    ensures { TurnsAreOrderly }
+{}
+
+/// Every world that a run of a valid setup reaches, whatever arrives, is ordered, lost, repeated or overtaken, keeps the facts
+/// that the bound on settling asks, and each serial is below 2 to the power of 38.
+pub fn runs_are_ready()
+    ensures { RunsAreReady }
+{
+    tag_round_trip();
+    sends_are_words();
+    sends_leave_as_flat();
+    steps_tell();
+    steps_stay_written();
+}
+
+/// So that serials fit their field is no premise of a run.
+pub fn runs_stay_low()
+    ensures { RunsStayLow }
+{
+    tag_round_trip();
+    sends_are_words();
+    sends_leave_as_flat();
+    steps_tell();
+    steps_stay_written();
+}
+
+/// From every world that a run of a valid setup reaches settling ends settled, whatever the verdicts are, of which at most b
+/// aren't Pass: within 64 rounds for each of them, for each exchange that is planned, and for one more.
+pub fn settles()
+    ensures { Settles }
+{
+    tag_round_trip();
+    sends_are_words();
+    sends_leave_as_flat();
+    steps_tell();
+    steps_stay_written();
+}
+
+/// So steps that give a segment, from a world that a run of a valid setup reaches, play it with the settling after them: that
+/// settling ends settled is no premise of playing.
+pub fn settling_always_plays()
+    ensures { SettlingAlwaysPlays }
+{
+    tag_round_trip();
+    sends_are_words();
+    sends_leave_as_flat();
+    steps_tell();
+    steps_stay_written();
+}
+
+/// Of a run that has played the opening and some segments of an input, in either mode, the next index of each port, the number of commands and the clock
+/// follow what was played, and each frame that has left is a copy of one of its arrivals.
+pub fn runs_are_under_way()
+    ensures { RunsAreUnderWay }
+{
+    tag_round_trip();
+    sends_are_words();
+    sends_leave_as_flat();
+    steps_tell();
+    steps_stay_written();
+}
+
+/// In such a run each arrival was relayed or ignored, once, each command took effect or was refused, once, and of each arrival at
+/// most one frame has left a port.
+pub fn runs_are_few()
+    ensures { RunsAreFew }
+{
+    tag_round_trip();
+    sends_are_words();
+    sends_leave_as_flat();
+    steps_tell();
+    steps_stay_written();
+    settled_is_orderly();
+}
+
+/// A run that has played all segments of an input, in the eager mode or in a seeded one, told a history that the input allows, and
+/// what has left each external port is what one VLAN bridge sends there over it.
+pub fn runs_write_legally()
+    ensures { RunsWriteLegally }
+{
+    tag_round_trip();
+    sends_are_words();
+    sends_leave_as_flat();
+    steps_tell();
+    steps_stay_written();
+    settled_is_orderly();
+}
+
+/// A run that has played all segments of the eager mode told the eager history, and what has left each external port is what one
+/// VLAN bridge sends there over it.
+pub fn runs_write_eagerly()
+    ensures { RunsWriteEagerly }
+{
+    tag_round_trip();
+    sends_are_words();
+    sends_leave_as_flat();
+    steps_tell();
+    steps_stay_written();
+    settled_is_orderly();
+}

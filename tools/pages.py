@@ -1,0 +1,133 @@
+#!/usr/bin/env python3
+"""Lists what the pages say that isn't so by the sources, in seconds:
+
+    tools/pages.py
+
+links that lead nowhere, names in docs/PROMISES.md and docs/DEFINITIONS.md that no source has, laws and clauses of `run` that
+docs/PROMISES.md doesn't name, crates that docs/ARCHITECTURE.md doesn't have under their heading of crates.txt, a README that is longer
+or wider than it may be, and paths of a machine. It prints a line each, and ends with status 1 where there is one. It knows names,
+and not what is said of them.
+"""
+import os
+import re
+import sys
+
+TOP = os.path.dirname(os.path.dirname(os.path.abspath(__file__)))
+LINK = re.compile(r'(?<!!)\[[^\]]+\]\(([^)\s]+)\)', re.S)
+LAW = re.compile(r'^pub fn (\w+)', re.M)
+NAME = re.compile(r"[A-Za-z_]\w*")
+MACHINE = re.compile(r'(?<![\w.~])/(?:work|root|home|opt|tmp|Users)/')
+WIDE, LONG = 120, 120
+
+
+def text(path):
+    with open(os.path.join(TOP, path), encoding='utf-8') as file:
+        return file.read()
+
+
+def files(where, *endings):
+    for folder, folders, names in os.walk(os.path.join(TOP, where)):
+        folders[:] = sorted(it for it in folders if it not in ('out', 'data', '.git'))
+        for name in sorted(names):
+            if name.endswith(endings):
+                yield os.path.relpath(os.path.join(folder, name), TOP)
+
+
+def anchor(heading):
+    """The anchor of a heading, as viewers of Markdown make it."""
+    return re.sub(r'[^\w\- ]', '', heading.strip().lower()).replace(' ', '-')
+
+
+def anchors(page):
+    return {anchor(it) for it in re.findall(r'^#+ (.*)$', text(page), re.M)}
+
+
+def links(page):
+    for link in LINK.findall(text(page)):
+        if '://' in link:
+            continue
+        file, _, part = link.partition('#')
+        there = os.path.normpath(os.path.join(os.path.dirname(page), file)) if file else page
+        if not os.path.exists(os.path.join(TOP, there)):
+            yield f'{page}: {link} leads nowhere'
+        elif part and part not in anchors(there):
+            yield f'{page}: {link} has no such heading'
+
+
+def sources(crate):
+    """All words of a crate's sources, and the names of its files."""
+    found = {crate}
+    for path in files(f'crates/{crate}', '.rt', '.antt'):
+        found.update(NAME.findall(text(path)))
+        found.update(os.path.splitext(path)[0].split(os.sep)[2:])
+    return found
+
+
+def spoken(part):
+    """The names between backquotes, but for the files that are named there."""
+    for quoted in re.findall(r'`([^`]+)`', part):
+        if not re.search(r'[\w.]+\.(?:rt|md|py|antt|toml|txt|pcap)\b', quoted):
+            yield from (it for it in NAME.findall(quoted) if len(it) > 2)
+
+
+def promises(crates):
+    """Each paragraph that begins with crates in bold speaks of them and of what it names beside them."""
+    page = text('docs/PROMISES.md')
+    everything = set().union(*map(sources, crates))
+    for part in re.split(r'\n(?=\*\*`|#)', page):
+        mine = [it for it in re.findall(r'`(\w+)`', part) if it in crates]
+        words = set().union(*map(sources, mine)) if part.startswith('**') else everything
+        for name in spoken(part):
+            if name not in words | {'src', 'specs', 'out'}:
+                yield f'docs/PROMISES.md: {", ".join(dict.fromkeys(mine))}: no {name} there'
+    named = set(re.findall(r'`(\w+)`', page))
+    for crate in crates:
+        for path in (it for it in files(f'crates/{crate}/src', '.rt') if re.search(r'/laws(?:\.rt|/)', it)):
+            yield from (f'docs/PROMISES.md: law {law} of {crate} is missing' for law in LAW.findall(text(path)) if law not in named)
+    run = text('crates/exb_run/src/top.rt').split('\npub fn run<')[1]
+    yield from (f'docs/PROMISES.md: clause {it} of run is missing' for it in re.findall(r'^    ensures (\w+) \{', run, re.M) if it not in named)
+
+
+def definitions(crates):
+    everything = set().union(*map(sources, crates)) | {'specs', 'src'}
+    yield from (f'docs/DEFINITIONS.md: no {it} anywhere' for it in spoken(text('docs/DEFINITIONS.md')) if it not in everything)
+
+
+def groups():
+    """The groups of crates.txt, each with its crates."""
+    found = {}
+    for line in text('crates.txt').splitlines()[1:]:
+        if line.startswith('# '):
+            group = found.setdefault(line[2:].strip().lower(), [])
+        elif ':' in line:
+            group.append(line.split(':')[0].split()[0])
+    return found
+
+
+def architecture():
+    page = text('docs/ARCHITECTURE.md')
+    parts = {it.split('\n')[0].strip().lower(): it for it in page.split('\n### ')[1:]}
+    for group, crates in groups().items():
+        for crate in crates:
+            if f'`{crate}`' not in parts.get(group, ''):
+                yield f'docs/ARCHITECTURE.md: {crate} does not stand under {group}'
+
+
+def readme():
+    lines = text('README.md').splitlines()
+    if len(lines) > LONG:
+        yield f'README.md: {len(lines)} lines'
+    yield from (f'README.md: line {at} has {len(it)} columns' for at, it in enumerate(lines, 1) if len(it) > WIDE)
+
+
+def main():
+    crates = [it for crates in groups().values() for it in crates]
+    pages = [it for it in files('.', '.md')]
+    found = [it for page in pages for it in links(page)]
+    found += [f'{page}: a path of a machine' for page in [*pages, 'docs/exbr.1'] if MACHINE.search(text(page))]
+    found += [*promises(crates), *definitions(crates), *architecture(), *readme()]
+    print(*found, sep='\n', end='\n' if found else '')
+    sys.exit(1 if found else 0)
+
+
+main()
