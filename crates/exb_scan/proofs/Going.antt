@@ -2,7 +2,7 @@
 use Rattle.std.proofs.Common.{◌≡◌, ◌<◌, ◌≤◌, ◌+◌, ◌-◌, ◌^◌, ℕ, Bool, true, false, List, [], ◌∷◌, ◌++◌, length, take, drop, Some, None, Result, Ok, Err, refl, ap, sym, subst, ◌∙◌, arith, length-append, length-drop, length-take, append_assoc, take-add}
 use Rattle.std.proofs.Math.Seq.{take-length}
 use Rattle.std.proofs.lemmas.Bool.{false≢true}
-use Rattle.std.proofs.lemmas.List.{append-nil, take-append-drop, take-take}
+use Rattle.std.proofs.lemmas.List.{append-nil, take-append-drop}
 use Rattle.exb_model.specs.Input.{Record}
 use Rattle.exb_pcap.specs.Captures.{Capture, before, at_end, at_fault, records_from, capture_of, whole, all_records, pcap_records}
 use Rattle.exb_pcap.specs.declared.reader.PcapFault.{PcapFault}
@@ -16,7 +16,7 @@ use Rattle.exb_pcap.proofs.OpenLemmas.{asked_more, asked_end}
 use Rattle.exb_pcap.proofs.PeekLemmas.{peeked_reads, peeked_in_bound, peeked_takes, asked_takes, size_in}
 use Rattle.exb_scan.specs.declared.file.CaptureFile.{CaptureFile}
 use Rattle.exb_scan.specs.declared.file.Halt.TheVariants.{Broken, Large}
-use Rattle.exb_scan.specs.Reading.{IsSound, HasRead, IsWhole, HaltsBy, Stands, after}
+use Rattle.exb_scan.specs.Reading.{IsSound, HasRead, IsWhole, HaltsBy, after}
 
 is_in : (f : CaptureFile) → IsSound f → IsIn (2 ^ 64 - 1) f.reader
 is_in f s = record { fits = omega (arith, s.fits, s.most, s.small); bytes = s.held }
@@ -169,8 +169,8 @@ end_told bytes xs f s h e =
     let nothing : to_come f.reader [] ≡ at_end = end_first _ _ _ e (asked_reads f.ended f.reader [] (is_in f s) no_bytes (λ t. refl)) in
     record {
       records =
-      read_whole (capture_of bytes) xs
-      (ap (λ ys. read_of (capture_of ys)) (sym (all_taken bytes f.got size)) ∙ h.whole [] no_bytes (λ t. refl) ∙ ap (after xs) nothing ∙ after_end xs);
+          read_whole (capture_of bytes) xs
+          (ap (λ ys. read_of (capture_of ys)) (sym (all_taken bytes f.got size)) ∙ h.whole [] no_bytes (λ t. refl) ∙ ap (after xs) nothing ∙ after_end xs);
       size = size;
       small = omega (arith, size, s.most);
     }
@@ -208,9 +208,11 @@ pub large_told : (bytes : List ℕ) (xs : List Record) (f : CaptureFile) → IsS
     → f.got ≡ f.limit → f.limit < length bytes → HaltsBy bytes f.limit Large
 unfolding pcap_records
 large_told bytes xs f s h e full long =
-    let undecided = asked_more f.ended f.reader e in
-    (long, λ fault stands. undecided.unsettled s.held fault (λ more b.
-        let last : f.ended ≡ true → more ≡ [] = λ t. absurd (false≢true (sym undecided.before_end ∙ t)) in
-        let read : read_of (capture_of (take f.limit bytes ++ more)) ≡ after xs (to_come f.reader more) =
-        ap (λ n. read_of (capture_of (take n bytes ++ more))) (sym full) ∙ h.whole more b last in
-        sym (fault_after xs (to_come f.reader more)) ∙ ap (λ (c : Capture). c.fault) (sym read) ∙ fault_read (capture_of (take f.limit bytes ++ more)) fault (stands more b)))
+    let undecided = asked_more f.ended f.reader e in (
+      long,
+      λ fault stands. undecided.unsettled s.held fault (λ more b.
+          let last : f.ended ≡ true → more ≡ [] = λ t. absurd (false≢true (sym undecided.before_end ∙ t)) in
+          let read : read_of (capture_of (take f.limit bytes ++ more)) ≡ after xs (to_come f.reader more) =
+          ap (λ n. read_of (capture_of (take n bytes ++ more))) (sym full) ∙ h.whole more b last in
+          sym (fault_after xs (to_come f.reader more)) ∙ ap (λ (c : Capture). c.fault) (sym read) ∙ fault_read (capture_of (take f.limit bytes ++ more)) fault (stands more b)),
+    )
