@@ -25,6 +25,7 @@ pub enum Choice {
 
 /// What may be drawn, offered one after another in a fixed order: how many there were so far, and the one with the number that is
 /// wanted, from 0. So a draw keeps no list: they are gone through once to be counted, and once more for the one that is drawn.
+#[derive(Drop)]
 struct Offers {
     count: u64,
     wanted: u64,
@@ -87,13 +88,7 @@ fn offer_link(offers: &mut Offers, world: &World, link: u8) {
 }
 
 /// All that may be drawn: what is left of the segment, the words of all links, and last a beat.
-fn offer_all(
-    offers: &mut Offers,
-    world: &World,
-    rest: &Rest,
-    commands: usize,
-    queues: &[Queue],
-) {
+fn offer_all(offers: &mut Offers, world: &World, rest: &Rest, commands: usize, queues: &[Queue]) {
     offer_given(offers, rest, commands, queues);
     for link in 1..65u8 {
         offer_link(offers, world, link);

@@ -56,8 +56,8 @@ impl World {
         ensures clean { IfOk result (λ made. HasCleanLinks (network_of made)) }
         ensures fate { IfOk result (λ made. left made.fate ≡ left fate) }
     {
-        setups_begin_standing();
         let motion = Motion::new(alloc, setup, trace)?;
+        setups_begin_standing();
         Ok(World {
             motion,
             alloc,
