@@ -25,6 +25,7 @@ pub enum Choice {
 
 /// What may be drawn, offered one after another in a fixed order: how many there were so far, and the one with the number that is
 /// wanted, from 0. So a draw keeps no list: they are gone through once to be counted, and once more for the one that is drawn.
+#[derive(Drop)]
 struct Offers {
     count: u64,
     wanted: u64,
