@@ -9,6 +9,8 @@ mod captures;
 #[cfg(test)]
 mod failures;
 #[cfg(test)]
+mod heavy;
+#[cfg(test)]
 mod play;
 #[cfg(test)]
 mod shelves;

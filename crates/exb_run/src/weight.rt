@@ -6,8 +6,8 @@
 /// The most bytes that a file may be thought to take.
 const MOST: usize = 900_000_000;
 
-/// What is thought to be taken, by measure and with room to spare: by the table of a part of a key, by an inline table, by a key with
-/// its value or a list, and by a value in a list.
+/// What is thought to be taken, by measure and with room to spare: by the table of a part of a key, by a table that has a header or
+/// stands inline, by a key with its value or a list, and by a value in a list.
 const PART: usize = 1_300;
 
 const TABLE: usize = 1_000;
@@ -30,10 +30,11 @@ enum Place {
     Lines { quote: u8, run: u8 },
 }
 
-/// A place in a file, whether a backslash stands before it, and the weight of what stands before it.
+/// A place in a file, whether a line begins there, whether a backslash stands before it, and the weight of what stands before it.
 #[derive(Drop)]
 struct Scale {
     place: Place,
+    begins: bool,
     escaped: bool,
     weight: usize,
 }
@@ -52,16 +53,20 @@ impl Scale {
         let weight = match byte {
             b'.' => PART,
             b'{' => TABLE,
+            b'[' if self.begins => TABLE,
             b'=' | b'[' => ENTRY,
             b',' => VALUE,
             _ => 0,
         };
         self.weight = self.weight.saturating_add(weight);
+        self.begins = byte == b'\n' || (self.begins && matches!(byte, b' ' | b'\t'));
     }
 
     // In a string of one line, which ends at its quote, and at the end of the line in a file that is none.
     fn line(&mut self, byte: u8, quote: u8) {
-        if byte == quote || byte == b'\n' {
+        if byte == b'\n' {
+            self.open(byte);
+        } else if byte == quote {
             self.place = Place::Open;
         } else {
             self.place = Place::Line { quote };
@@ -100,7 +105,7 @@ impl Scale {
         }
         match self.place {
             Place::Open => self.open(byte),
-            Place::Comment if byte == b'\n' => self.place = Place::Open,
+            Place::Comment if byte == b'\n' => self.open(byte),
             Place::Comment => {}
             Place::Quotes { quote, run } => self.quotes(byte, quote, run),
             Place::Line { quote } => self.line(byte, quote),
@@ -113,6 +118,7 @@ impl Scale {
 fn weight(file: &[u8]) -> usize {
     let mut scale = Scale {
         place: Place::Open,
+        begins: true,
         escaped: false,
         weight: 0,
     };

@@ -4,6 +4,7 @@ use Rattle.std.specs.Prelude.{All}
 use Rattle.std.proofs.lemmas.List.{append_cancel_left}
 use Rattle.exb_model.specs.declared.event.Event.{Event}
 use Rattle.exb_model.specs.declared.setup.Setup.{Setup}
+use Rattle.exb_model.specs.Configuration.{Bridge}
 use Rattle.exb_model.specs.History.{Basis, History, ◌then◌}
 use Rattle.exb_model.specs.Setup.{Limits, IsValid, limits_of, shape_of, start_of}
 use Rattle.exb_model.specs.Tree.{Shape}
@@ -98,7 +99,7 @@ steps_leave_standing starts begins keep goes tell clean low ons step old new k m
 -- ---- as it begins
 with_basis : (t : Shape) (l : Limits) (i j : Basis) → i.start ≡ j.start → MayStart t l j → MayStart t l i
 with_basis t l i j e k =
-    let R = λ b. MayStart t l (record j { start = b }) in
+    let R : Bridge → Type 0 = λ b. MayStart t l (record j { start = b }) in
     let same : MayStart t l (record j { start = i.start }) = subst R (sym e) k in
     record { setting = same.setting; few = same.few; begin = same.begin; absent = same.absent; pvids = same.pvids }
 
@@ -115,6 +116,6 @@ setups_begin_standing starts begins stands clean s n valid vids world tree limit
           let mine : Stands t l i (first_world t l i.start i.ageing) [] [] [] = stands t l i may (first_world t l i.start i.ageing) [] [] [] (begins t l i may) in
           subst (λ (a : Shape). Stands a (bounds_of n) i (world_of n) [] [] []) (sym tree)
           (subst (λ (b : Limits). Stands t b i (world_of n) [] [] []) (sym limits)
-          (subst (λ (w : World). Stands t l i w [] [] []) (ap (λ b. first_world t l b i.ageing) begun ∙ (ap (first_world t l (start_of s)) aged ∙ sym world)) mine));
+          (subst (λ (w : World). Stands t l i w [] [] []) (ap (λ (b : Bridge). first_world t l b i.ageing) begun ∙ (ap (first_world t l (start_of s)) aged ∙ sym world)) mine));
       clean = subst (λ (a : Shape). IsClean a (world_of n)) (sym tree) (subst (IsClean t) (sym world) (clean t l (basis_of s) start first [] [] [] kept));
     }

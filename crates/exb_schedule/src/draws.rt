@@ -87,13 +87,7 @@ fn offer_link(offers: &mut Offers, world: &World, link: u8) {
 }
 
 /// All that may be drawn: what is left of the segment, the words of all links, and last a beat.
-fn offer_all(
-    offers: &mut Offers,
-    world: &World,
-    rest: &Rest,
-    commands: usize,
-    queues: &[Queue],
-) {
+fn offer_all(offers: &mut Offers, world: &World, rest: &Rest, commands: usize, queues: &[Queue]) {
     offer_given(offers, rest, commands, queues);
     for link in 1..65u8 {
         offer_link(offers, world, link);

@@ -3,8 +3,8 @@ ghost use Rattle.exb_schedule.specs.Laws.{PlayedIsUnderWay, PlayedWritesEagerly,
 ghost use Rattle.exb_schedule.specs.Standing.{SetupsBeginStanding, StepsLeaveStanding};
 
 use exb_resting::laws::motion::{
-    begins_kept, kept_is_clean, kept_stands, setups_go_on, setups_may_start, stands_go_on, steps_keep,
-    steps_tell_so,
+    begins_kept, kept_is_clean, kept_stands, setups_go_on, setups_may_start, stands_go_on,
+    steps_keep, steps_tell_so,
 };
 use exb_resting::laws::rest::{
     runs_are_under_way, runs_stay_low, runs_write_eagerly, runs_write_legally,

@@ -333,10 +333,10 @@ module _ (t : Shape) (l : Limits) (w : World) (i : Basis) (g : List Given) (h : 
   new_of Beat = tt
   new_of (steps.Tick seconds) = tt
   new_of (Order c) = (
-      ap (λ (xs : List Command). numbered xs (w.control.given + 1)) (commands_append g (given_by (Order c)))
-      ∙ (ap (λ (n : ℕ). numbered (commands_of g ++ c ∷ []) (n + 1)) s.follows.commands ∙ numbered_last (commands_of g) c),
-      tt,
-    )
+    ap (λ (xs : List Command). numbered xs (w.control.given + 1)) (commands_append g (given_by (Order c)))
+        ∙ (ap (λ (n : ℕ). numbered (commands_of g ++ c ∷ []) (n + 1)) s.follows.commands ∙ numbered_last (commands_of g) c),
+    tt,
+  )
   new_of Mark = tt
 
   all_of_step : (step : Step) → AreOf (basis_with i (g ++ given_by step)) (pending w.control ++ jobs_after w.control.given (ordered_by step))
@@ -383,7 +383,7 @@ module _ (round : TagRoundTrip) (words : SendsAreWords) (leave : SendsLeaveAsFla
   decides =
       let one : StaysSound t l (ordered_by step) w made events = steps_stay_sound round t l start.setting w step k.stood.sound may.may in
       let told = follows_telling t l w.control.bridge law start.setting.tree (pending w.control) [] [] (ordered_by step) events w made one.follows
-          (record { decided = []; order = refl; lines = refl; ports = refl; bridge = refl; will = k.tells.will }) in
+      (record { decided = []; order = refl; lines = refl; ports = refl; bridge = refl; will = k.tells.will }) in
       record { downs = told.by_step.told.more; tells = told.by_step.told.tells }
 
   kept_after : Kept t l b (stepped t l step w).world (given ++ given_by step) (before then (stepped t l step w).events) (gone ++ (stepped t l step w).left)
@@ -443,7 +443,7 @@ module _ (round : TagRoundTrip) (words : SendsAreWords) (leave : SendsLeaveAsFla
               ∙ (ap (λ (ns : List ℕ). ns ++ filter_map command_number ps) (filter_map-append number_of (reverse h) events)
               ∙ (append_assoc (filter_map number_of (reverse h)) (filter_map number_of events) (filter_map command_number ps)
               ∙ (ap (λ (ns : List ℕ). filter_map number_of (reverse h) ++ ns)
-                  (ap (λ (ns : List ℕ). ns ++ filter_map command_number ps) numbers ∙ (sym (filter_map-append command_number ds ps) ∙ (ap (filter_map command_number) decides.tells.order ∙ filter_map-append command_number js xs)))
+              (ap (λ (ns : List ℕ). ns ++ filter_map command_number ps) numbers ∙ (sym (filter_map-append command_number ds ps) ∙ (ap (filter_map command_number) decides.tells.order ∙ filter_map-append command_number js xs)))
               ∙ (sym (append_assoc (filter_map number_of (reverse h)) (filter_map command_number js) (filter_map command_number xs))
               ∙ (ap (λ (ns : List ℕ). ns ++ filter_map command_number xs) s.decided.commands
               ∙ (ap (λ (ns : List ℕ). range_with_len 1 (length (commands_of g)) ++ ns) (after_numbers w.control.given (ordered_by step) ∙ ap (λ (n : ℕ). range_with_len (n + 1) (length (ordered_by step))) given_is)
@@ -454,10 +454,10 @@ module _ (round : TagRoundTrip) (words : SendsAreWords) (leave : SendsLeaveAsFla
               ∙ (ap (λ (ns : List ℕ). ns ++ filter_map automatic_port ps) (filter_map-append up_port (reverse h) events)
               ∙ (append_assoc (filter_map up_port (reverse h)) (filter_map up_port events) (filter_map automatic_port ps)
               ∙ (ap (λ (ns : List ℕ). filter_map up_port (reverse h) ++ ns)
-                  (ap (λ (ns : List ℕ). ns ++ filter_map automatic_port ps) ups
-                  ∙ (sym (filter_map-append automatic_port ds ps)
-                  ∙ (ap (filter_map automatic_port) decides.tells.order
-                  ∙ (filter_map-append automatic_port js xs ∙ (ap (λ (ns : List ℕ). filter_map automatic_port js ++ ns) (new_ups w.control.given step) ∙ append-nil (filter_map automatic_port js))))))
+              (ap (λ (ns : List ℕ). ns ++ filter_map automatic_port ps) ups
+              ∙ (sym (filter_map-append automatic_port ds ps)
+              ∙ (ap (filter_map automatic_port) decides.tells.order
+              ∙ (filter_map-append automatic_port js xs ∙ (ap (λ (ns : List ℕ). filter_map automatic_port js ++ ns) (new_ups w.control.given step) ∙ append-nil (filter_map automatic_port js))))))
               ∙ s.decided.automatic)));
         }
 
