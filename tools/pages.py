@@ -3,8 +3,8 @@
 
     tools/pages.py
 
-links that lead nowhere, names in docs/PROMISES.md and docs/DEFINITIONS.md that no source has, laws and clauses of `run` that
-docs/PROMISES.md doesn't name, crates that docs/ARCHITECTURE.md doesn't have under their heading of crates.txt, a README that is longer
+links that lead nowhere, names in PROMISES, DEFINITIONS, ARCHITECTURE and SETTLING that no source has, laws and clauses of `run` that
+PROMISES doesn't name, crates that ARCHITECTURE doesn't have under their heading of crates.txt, a README that is longer
 or wider than it may be, and paths of a machine. It prints a line each, and ends with status 1 where there is one. It knows names,
 and not what is said of them.
 """
@@ -89,8 +89,9 @@ def promises(crates):
 
 
 def definitions(crates):
-    everything = set().union(*map(sources, crates)) | {'specs', 'src'}
-    yield from (f'docs/DEFINITIONS.md: no {it} anywhere' for it in spoken(text('docs/DEFINITIONS.md')) if it not in everything)
+    everything = set().union(*map(sources, crates)) | {'specs', 'src', 'proofs', 'tools', 'hostile', 'bench', 'must', 'fail'}
+    for page in 'docs/DEFINITIONS.md', 'docs/ARCHITECTURE.md', 'docs/SETTLING.md':
+        yield from (f'{page}: no {it} anywhere' for it in spoken(text(page)) if it not in everything)
 
 
 def groups():
