@@ -64,8 +64,8 @@ def sources(crate):
 
 
 def spoken(part):
-    """The names between backquotes, but for the files that are named there."""
-    for quoted in re.findall(r'`([^`]+)`', part):
+    """The names between backquotes, but for the files that are named there, and outside of pictures."""
+    for quoted in re.findall(r'`([^`]+)`', re.sub(r'```.*?```', '', part, flags=re.S)):
         if not re.search(r'[\w.]+\.(?:rt|md|py|antt|toml|txt|pcap)\b', quoted):
             yield from (it for it in NAME.findall(quoted) if len(it) > 2)
 
@@ -89,7 +89,7 @@ def promises(crates):
 
 
 def definitions(crates):
-    everything = set().union(*map(sources, crates)) | {'specs', 'src', 'proofs', 'tools', 'hostile', 'bench', 'must', 'fail'}
+    everything = set().union(*map(sources, crates)) | {'specs', 'src', 'proofs', 'antt', 'must', 'fail', 'MODULE', 'FUNCTION'}
     for page in 'docs/DEFINITIONS.md', 'docs/ARCHITECTURE.md', 'docs/SETTLING.md':
         yield from (f'{page}: no {it} anywhere' for it in spoken(text(page)) if it not in everything)
 
