@@ -169,8 +169,8 @@ end_told bytes xs f s h e =
     let nothing : to_come f.reader [] ≡ at_end = end_first _ _ _ e (asked_reads f.ended f.reader [] (is_in f s) no_bytes (λ t. refl)) in
     record {
       records =
-      read_whole (capture_of bytes) xs
-      (ap (λ ys. read_of (capture_of ys)) (sym (all_taken bytes f.got size)) ∙ h.whole [] no_bytes (λ t. refl) ∙ ap (after xs) nothing ∙ after_end xs);
+          read_whole (capture_of bytes) xs
+          (ap (λ ys. read_of (capture_of ys)) (sym (all_taken bytes f.got size)) ∙ h.whole [] no_bytes (λ t. refl) ∙ ap (after xs) nothing ∙ after_end xs);
       size = size;
       small = omega (arith, size, s.most);
     }
@@ -208,9 +208,11 @@ pub large_told : (bytes : List ℕ) (xs : List Record) (f : CaptureFile) → IsS
     → f.got ≡ f.limit → f.limit < length bytes → HaltsBy bytes f.limit Large
 unfolding pcap_records
 large_told bytes xs f s h e full long =
-    let undecided = asked_more f.ended f.reader e in
-    (long, λ fault stands. undecided.unsettled s.held fault (λ more b.
-        let last : f.ended ≡ true → more ≡ [] = λ t. absurd (false≢true (sym undecided.before_end ∙ t)) in
-        let read : read_of (capture_of (take f.limit bytes ++ more)) ≡ after xs (to_come f.reader more) =
-        ap (λ n. read_of (capture_of (take n bytes ++ more))) (sym full) ∙ h.whole more b last in
-        sym (fault_after xs (to_come f.reader more)) ∙ ap (λ (c : Capture). c.fault) (sym read) ∙ fault_read (capture_of (take f.limit bytes ++ more)) fault (stands more b)))
+    let undecided = asked_more f.ended f.reader e in (
+      long,
+      λ fault stands. undecided.unsettled s.held fault (λ more b.
+          let last : f.ended ≡ true → more ≡ [] = λ t. absurd (false≢true (sym undecided.before_end ∙ t)) in
+          let read : read_of (capture_of (take f.limit bytes ++ more)) ≡ after xs (to_come f.reader more) =
+          ap (λ n. read_of (capture_of (take n bytes ++ more))) (sym full) ∙ h.whole more b last in
+          sym (fault_after xs (to_come f.reader more)) ∙ ap (λ (c : Capture). c.fault) (sym read) ∙ fault_read (capture_of (take f.limit bytes ++ more)) fault (stands more b)),
+    )

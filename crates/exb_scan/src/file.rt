@@ -215,11 +215,7 @@ impl CaptureFile {
 
     /// Reads on until it is known what comes next, and answers the time of the record, or None at the end.
     /// What comes next isn't taken yet. `piece` has room for what is read at once.
-    pub fn ahead<S: Shelf>(
-        &mut self,
-        shelf: &mut S,
-        piece: &mut [u8],
-    ) -> Result<Option<u64>, Halt>
+    pub fn ahead<S: Shelf>(&mut self, shelf: &mut S, piece: &mut [u8]) -> Result<Option<u64>, Halt>
         requires at { IsAt (S.ids shelf.old self.old.id) self.old.got }
         requires piece { 0 < length piece.old }
         requires sound { IsSound self.old }

@@ -9,4 +9,3 @@ mod file;
 
 pub use checking::{ScanFault, Scanned, scan};
 pub use file::{CaptureFile, Halt};
-

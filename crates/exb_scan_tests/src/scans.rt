@@ -138,7 +138,11 @@ fn a_scan_tells_what_the_whole_reader_reads(rt: HostRuntime) -> Result<(), Alloc
         let whole = whole_text(alloc, file.as_slice())?;
         for most in CUTS {
             let told = scan_text(&rt, alloc, file.as_slice(), most, 1_000_000)?;
-            assert_eq!(rt; told.as_str(), whole.as_str(), "{bytes:?} at {at}, cut to {length}, {most} at once");
+            assert_eq!(rt;
+                told.as_str(),
+                whole.as_str(),
+                "{bytes:?} at {at}, cut to {length}, {most} at once"
+            );
         }
     }
     Ok(())
@@ -161,7 +165,11 @@ fn a_scan_keeps_its_limit(rt: HostRuntime) -> Result<(), AllocError> {
     for (length, limit, wanted) in LIMITED {
         let file = changed(&rt, alloc, 0, [0xD4, 0xC3, 0xB2, 0xA1], length);
         let told = scan_text(&rt, alloc, file.as_slice(), 7, limit)?;
-        assert_eq!(rt; told.as_str(), wanted, "{length} bytes of which {limit} may be read");
+        assert_eq!(rt;
+            told.as_str(),
+            wanted,
+            "{length} bytes of which {limit} may be read"
+        );
     }
     // A fault that stands whatever follows comes before the limit.
     let late = changed(&rt, alloc, 28, [0x40, 0x42, 0x0F, 0], 100);
@@ -173,9 +181,7 @@ fn a_scan_keeps_its_limit(rt: HostRuntime) -> Result<(), AllocError> {
     let told = told_text(alloc, scan(alloc, &mut empty, "in.pcap", 100))?;
     assert_eq!(rt; told.as_str(), "Missing");
     let mut fails = FaultyShelf::new(alloc, Disturbance::Fails { at: 2 });
-    fails
-        .put("in.pcap", late.as_slice())
-        .expect(&rt, "memory");
+    fails.put("in.pcap", late.as_slice()).expect(&rt, "memory");
     let told = told_text(alloc, scan(alloc, &mut fails, "in.pcap", 100))?;
     assert_eq!(rt; told.as_str(), "Read");
     Ok(())

@@ -75,7 +75,7 @@ module _ (t : Shape) (l : Limits) (b : Basis) where
       came.1 ∙ ap (λ (z : History). z then came.0) (ordered.1 ∙ ap (λ (z : History). z then ordered.0) ticked.1) in (
         ((ticked.0 ++ ordered.0) ++ came.0) ++ event.Settled ∷ [],
         ap (λ (z : History). event.Settled ∷ z) (all ∙ (ap (λ (z : History). z then came.0) (sym (then_append h ticked.0 ordered.0)) ∙ sym (then_append h (ticked.0 ++ ordered.0) came.0)))
-        ∙ sym (then_append h ((ticked.0 ++ ordered.0) ++ came.0) (event.Settled ∷ [])),
+            ∙ sym (then_append h ((ticked.0 ++ ordered.0) ++ came.0) (event.Settled ∷ [])),
       )
 
   -- by the events of more segments
@@ -125,7 +125,7 @@ module _ (i : Input) (ss rest : List Segment) (timely : IsTimely i) (front : seg
       let later = eagerly_later t l b rest h in (
         later.0,
         ap (eagerly t l b (opening t l b)) front
-        ∙ (fold-append (eager_segment t l b) (opening t l b) ss rest ∙ (ap (λ (z : History). eagerly t l b z rest) (sym is) ∙ later.1)),
+            ∙ (fold-append (eager_segment t l b) (opening t l b) ss rest ∙ (ap (λ (z : History). eagerly t l b z rest) (sym is) ∙ later.1)),
       )
 
 module _ (round : TagRoundTrip) (words : SendsAreWords) (leave : SendsLeaveAsFlat) (law : StepsTell) (stay : StepsStayWritten) (i : Input) (ss rest : List Segment) (os : List Step) (xss : List (List Step))

@@ -19,10 +19,10 @@ returns-in_err-moment-clause-halts g c =
     let same = kept_bytes (S.file c.args.shelf.now) (S.file c.records.shelf) (S.ids c.args.shelf.now) (S.ids c.records.shelf) c.args.file.now.id f.id c.args.file.now.got c.requires.at inv.moves inv.files inv.same.id in
     rw (p.1, p.2)
     (λ tells h.
-        let counted = inv.counted tells h in
-        subst (λ (n : ℕ). HaltsBy bytes n halt) inv.same.limit_is
-        (subst (λ (b : List ℕ). HaltsBy b f.limit halt) same
-        (c.in_err-moment.ensures.halts tells counted.taken (subst (λ (b : List ℕ). HasRead b counted.taken f) (sym same) counted.read))))
+    let counted = inv.counted tells h in
+    subst (λ (n : ℕ). HaltsBy bytes n halt) inv.same.limit_is
+    (subst (λ (b : List ℕ). HaltsBy b f.limit halt) same
+    (c.in_err-moment.ensures.halts tells counted.taken (subst (λ (b : List ℕ). HasRead b counted.taken f) (sym same) counted.read))))
 
 pub records-preserved : goal.records-preserved
 records-preserved g c =

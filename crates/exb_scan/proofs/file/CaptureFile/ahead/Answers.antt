@@ -67,14 +67,14 @@ returns-in_err-read_on-in-Ok-More-clause-halts g c =
     let same = kept_bytes (S.file c.args.shelf.now) (S.file c.looking.shelf) (S.ids c.args.shelf.now) (S.ids c.looking.shelf) c.args.self.now.id f.id c.args.self.now.got c.requires.at inv.moves inv.files inv.same.id in
     rw (p.1, p.2)
     (λ tells xs h.
-        let read = looked_read f c.peek.new.self c.peek.ensures.left bytes xs inv.sound (inv.read tells xs h) in
-        subst (λ (n : ℕ). HaltsBy bytes n halt) inv.same.limit_is
-        (halts_on f bytes xs halt inv.sound (inv.read tells xs h)
-        (ap (λ (a : Ahead). seen (Ok a)) (sym c.in-Ok-More.field-0-is) ∙ c.in-Ok-More.ensures.answer)
-        (λ fault is. found.unbroken fault (ap Err is))
-        (λ is.
-            let full = found.large tells (ap Err is) xs (subst (λ (b : List ℕ). HasRead b xs (looked f c.peek.new.self c.peek.ensures.left)) (sym same) read) in
-            (full.0, subst (λ (b : List ℕ). f.limit < length b) same full.1))))
+    let read = looked_read f c.peek.new.self c.peek.ensures.left bytes xs inv.sound (inv.read tells xs h) in
+    subst (λ (n : ℕ). HaltsBy bytes n halt) inv.same.limit_is
+    (halts_on f bytes xs halt inv.sound (inv.read tells xs h)
+    (ap (λ (a : Ahead). seen (Ok a)) (sym c.in-Ok-More.field-0-is) ∙ c.in-Ok-More.ensures.answer)
+    (λ fault is. found.unbroken fault (ap Err is))
+    (λ is.
+    let full = found.large tells (ap Err is) xs (subst (λ (b : List ℕ). HasRead b xs (looked f c.peek.new.self c.peek.ensures.left)) (sym same) read) in
+    (full.0, subst (λ (b : List ℕ). f.limit < length b) same full.1))))
 
 pub looking-smaller : goal.looking-smaller
 looking-smaller g c =
