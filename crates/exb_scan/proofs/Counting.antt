@@ -1,13 +1,12 @@
 -- What is told of the records that were taken.
-use Rattle.std.proofs.Common.{◌≡◌, ◌≤◌, ◌<◌, ◌+◌, ◌-◌, ◌^◌, ℕ, List, [], ◌∷◌, ◌++◌, length, Some, None, Ok, refl, ap, sym, subst, ◌∙◌, arith, length-append}
+use Rattle.std.proofs.Common.{◌≡◌, ◌+◌, ◌-◌, ◌^◌, ℕ, List, [], ◌∷◌, ◌++◌, length, Some, None, refl, ap, sym, ◌∙◌, arith, length-append}
 use Rattle.std.specs.Prelude.{min}
 use Rattle.exb_model.specs.Input.{Record}
-use Rattle.exb_pcap.specs.Captures.{pcap_records}
 use Rattle.exb_pcap.specs.Pieces.{Found, asked}
 use Rattle.exb_scan.specs.declared.checking.Scanned.{Scanned}
 use Rattle.exb_scan.specs.declared.file.CaptureFile.{CaptureFile}
 use Rattle.exb_scan.specs.Reading.{IsSound, HasRead, IsWhole, ComesNext}
-use Rattle.exb_scan.specs.Scans.{HasCounted, IsScanned, first_time, or_this, scanned_of}
+use Rattle.exb_scan.specs.Scans.{HasCounted, IsScanned, first_time, or_this}
 
 pub none_counted : (bytes : List ℕ) (f : CaptureFile) → HasRead bytes [] f → HasCounted bytes f (record { bytes = 0; records = 0; first = None })
 none_counted bytes f h = record { taken = []; read = h; records = refl; first = refl }

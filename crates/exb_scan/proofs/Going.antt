@@ -2,7 +2,7 @@
 use Rattle.std.proofs.Common.{◌≡◌, ◌<◌, ◌≤◌, ◌+◌, ◌-◌, ◌^◌, ℕ, Bool, true, false, List, [], ◌∷◌, ◌++◌, length, take, drop, Some, None, Result, Ok, Err, refl, ap, sym, subst, ◌∙◌, arith, length-append, length-drop, length-take, append_assoc, take-add}
 use Rattle.std.proofs.Math.Seq.{take-length}
 use Rattle.std.proofs.lemmas.Bool.{false≢true}
-use Rattle.std.proofs.lemmas.List.{append-nil, take-append-drop, take-take}
+use Rattle.std.proofs.lemmas.List.{append-nil, take-append-drop}
 use Rattle.exb_model.specs.Input.{Record}
 use Rattle.exb_pcap.specs.Captures.{Capture, before, at_end, at_fault, records_from, capture_of, whole, all_records, pcap_records}
 use Rattle.exb_pcap.specs.declared.reader.PcapFault.{PcapFault}
@@ -16,7 +16,7 @@ use Rattle.exb_pcap.proofs.OpenLemmas.{asked_more, asked_end}
 use Rattle.exb_pcap.proofs.PeekLemmas.{peeked_reads, peeked_in_bound, peeked_takes, asked_takes, size_in}
 use Rattle.exb_scan.specs.declared.file.CaptureFile.{CaptureFile}
 use Rattle.exb_scan.specs.declared.file.Halt.TheVariants.{Broken, Large}
-use Rattle.exb_scan.specs.Reading.{IsSound, HasRead, IsWhole, HaltsBy, Stands, after}
+use Rattle.exb_scan.specs.Reading.{IsSound, HasRead, IsWhole, HaltsBy, after}
 
 is_in : (f : CaptureFile) → IsSound f → IsIn (2 ^ 64 - 1) f.reader
 is_in f s = record { fits = omega (arith, s.fits, s.most, s.small); bytes = s.held }

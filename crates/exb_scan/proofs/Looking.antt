@@ -4,7 +4,7 @@ use Rattle.std.specs.Prelude.{◌⊎◌}
 use Rattle.exb_model.specs.Input.{Record}
 use Rattle.exb_pcap.specs.declared.reader.PcapFault.{PcapFault}
 use Rattle.exb_pcap.specs.Pieces.{Reading, Step, Answer, Found, More, End, Faulty, asked, peeked}
-use Rattle.exb_pcap.specs.Told.{Seen, Moment, NotYet, Nothing, Fault, seen_of}
+use Rattle.exb_pcap.specs.Told.{Moment, NotYet, Nothing, Fault, seen_of}
 use Rattle.exb_pcap.proofs.PeekLemmas.{peeked_again, peeked_takes}
 use Rattle.exb_scan.specs.declared.file.CaptureFile.{CaptureFile}
 use Rattle.exb_scan.specs.declared.file.Halt.{Halt}

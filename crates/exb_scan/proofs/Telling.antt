@@ -1,5 +1,5 @@
 -- What is answered of a file that isn't read to its end.
-use Rattle.std.proofs.Common.{◌≡◌, ℕ, List, Option, Some, None, Err, refl, sym, subst}
+use Rattle.std.proofs.Common.{◌≡◌, ℕ, List, Option, Some, None, Err, refl, subst}
 use Rattle.std.specs.Prelude.{IsSome}
 use Rattle.exb_shelf.specs.Files.{bytes_of}
 use Rattle.exb_scan.specs.declared.file.Halt.{Halt}

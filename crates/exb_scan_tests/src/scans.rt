@@ -1,7 +1,7 @@
 //! Captures that are checked, each on a shelf that reads at most so many bytes at once.
 use exb_faulty::{Disturbance, FaultyShelf};
 use exb_pcap::{PcapFault, Reader, header_text, record_text};
-use exb_scan::{ScanFault, Scanned, scan};
+use exb_scan::{CaptureFile, ScanFault, Scanned, scan};
 use std::alloc::{AllocError, Global};
 use std::process::Abort;
 
@@ -15,7 +15,7 @@ const FRAMES: [(u64, u32); 4] = [
 ];
 
 /// At most so many bytes are read at once.
-const CUTS: [usize; 9] = [1, 2, 3, 7, 16, 23, 24, 4_096, 65_536];
+const CUTS: [usize; 5] = [1, 3, 16, 24, 65_536];
 
 /// Bytes that stand at a place in the capture, and the length to which it is cut.
 const CHANGED: [(usize, [u8; 4], usize); 16] = [
@@ -58,11 +58,11 @@ fn put_bytes(rt: &impl Abort, file: &mut Vec<u8>, count: u32) {
     }
 }
 
-// A capture of these frames.
-fn capture(rt: &impl Abort, alloc: Global) -> Vec<u8> {
+// A capture of the first so many frames.
+fn capture(rt: &impl Abort, alloc: Global, count: usize) -> Vec<u8> {
     let mut file = Vec::new(alloc);
     file.extend_from_slice(&header_text()).expect(rt, "memory");
-    for (moment, length) in FRAMES {
+    for (moment, length) in FRAMES.iter().copied().take(count) {
         assert!(rt; moment < 4_294_967_296_000_000_000);
         file.extend_from_slice(&record_text(moment, length))
             .expect(rt, "memory");
@@ -71,9 +71,9 @@ fn capture(rt: &impl Abort, alloc: Global) -> Vec<u8> {
     file
 }
 
-// The capture with four other bytes at a place, and cut to a length.
+// The capture of the first three with four other bytes at a place, and cut to a length.
 fn changed(rt: &impl Abort, alloc: Global, at: usize, bytes: [u8; 4], length: usize) -> Vec<u8> {
-    let whole = capture(rt, alloc);
+    let whole = capture(rt, alloc, 3);
     let behind = at.saturating_add(4);
     let mut file = Vec::new(alloc);
     let front = whole.iter().take(at);
@@ -151,8 +151,8 @@ fn a_scan_tells_what_the_whole_reader_reads(rt: HostRuntime) -> Result<(), Alloc
 #[test]
 fn a_long_frame_is_read_in_pieces(rt: HostRuntime) -> Result<(), AllocError> {
     let alloc = rt.alloc();
-    let file = capture(&rt, alloc);
-    for most in [5, 65_536] {
+    let file = capture(&rt, alloc, 4);
+    for most in [500, 65_536] {
         let told = scan_text(&rt, alloc, file.as_slice(), most, 1_000_000)?;
         assert_eq!(rt; told.as_str(), "70149 4 Some(100000000000)");
     }
@@ -184,5 +184,29 @@ fn a_scan_keeps_its_limit(rt: HostRuntime) -> Result<(), AllocError> {
     fails.put("in.pcap", late.as_slice()).expect(&rt, "memory");
     let told = told_text(alloc, scan(alloc, &mut fails, "in.pcap", 100))?;
     assert_eq!(rt; told.as_str(), "Read");
+    Ok(())
+}
+
+#[test]
+fn an_open_capture_gives_its_records(rt: HostRuntime) -> Result<(), AllocError> {
+    let alloc = rt.alloc();
+    let file = capture(&rt, alloc, 4);
+    let mut piece = vec![in alloc; 0u8; 1_000]?;
+    let mut shelf = FaultyShelf::new(alloc, Disturbance::Slow { bytes: 50 });
+    shelf.put("in.pcap", file.as_slice()).expect(&rt, "memory");
+    let mut opened = CaptureFile::open(alloc, &mut shelf, "in.pcap", 70_149).expect(&rt, "open");
+    for (moment, length) in FRAMES {
+        let ahead = opened
+            .ahead(&mut shelf, piece.as_mut_slice())
+            .expect(&rt, "read");
+        assert_eq!(rt; ahead, Some(moment));
+        let bytes = opened.take(alloc).expect(&rt, "memory");
+        assert_eq!(rt; bytes.as_slice().len(), length as usize);
+    }
+    let ahead = opened
+        .ahead(&mut shelf, piece.as_mut_slice())
+        .expect(&rt, "read");
+    assert_eq!(rt; ahead, None);
+    assert_eq!(rt; opened.got(), opened.limit());
     Ok(())
 }

@@ -1,16 +1,18 @@
 -- Each step leaves a network that a run reaches standing, with clean links, and adds the events of its kind.
-use Rattle.std.proofs.Common.{◌≡◌, ◌++◌, List, [], ◌∷◌, refl, sym, ◌∙◌, ap, subst}
-use Rattle.std.specs.Prelude.{All}
+use Rattle.std.proofs.Common.{◌≡◌, ◌↔◌, ◌++◌, true, List, [], ◌∷◌, Result, Ok, Err, sym, ◌∙◌, ap, subst}
+use Rattle.std.specs.Prelude.{OnOk}
 use Rattle.std.proofs.lemmas.List.{append_cancel_left}
 use Rattle.exb_model.specs.declared.event.Event.{Event}
 use Rattle.exb_model.specs.declared.setup.Setup.{Setup}
 use Rattle.exb_model.specs.Configuration.{Bridge}
 use Rattle.exb_model.specs.History.{Basis, History, ◌then◌}
-use Rattle.exb_model.specs.Setup.{Limits, IsValid, limits_of, shape_of, start_of}
+use Rattle.exb_model.specs.Setup.{Limits, limits_of, shape_of, start_of}
 use Rattle.exb_model.specs.Tree.{Shape}
 use Rattle.exb_machine.specs.Settling.{run}
 use Rattle.exb_machine.specs.Stepping.{stepped}
 use Rattle.exb_machine.specs.Worlds.{World, Step, Left, first_world}
+use Rattle.exb_network.specs.declared.world.WorldFault.{WorldFault}
+use Rattle.exb_network.specs.declared.world.WorldFault.TheVariants as fault
 use Rattle.exb_network.specs.Networks.{Network, world_of, tree_of, bounds_of, IsStepped}
 use Rattle.exb_network.specs.Sites.{Site, limits_in}
 use Rattle.exb_network.specs.Worlds.{all_left}
@@ -18,11 +20,12 @@ use Rattle.exb_resting.specs.Flight.Promises.{IsClean}
 use Rattle.exb_resting.specs.Motion.Events.{TellsOf, StepsTellSo}
 use Rattle.exb_resting.specs.Motion.Given.{Given, given_by}
 use Rattle.exb_resting.specs.Motion.Going.{SetupsGoOn}
-use Rattle.exb_resting.specs.Motion.Kept.{HasVid, MayStart, MayDo, MayDoAll, Kept, SetupsMayStart, BeginsKept, StepsKeep, KeptStands, KeptIsClean, StandsGoOn, basis_of}
+use Rattle.exb_resting.specs.Motion.Kept.{MayStart, MayDo, MayDoAll, Kept, SetupsMayStart, BeginsKept, StepsKeep, KeptStands, KeptIsClean, StandsGoOn, basis_of}
 use Rattle.exb_resting.specs.Motion.Stands.{Stands}
 use Rattle.exb_resting.specs.Rest.Settles.{MayTake, RunsStayLow, beginning, reached_by}
-use Rattle.exb_schedule.specs.Reached.{Reached}
-use Rattle.exb_schedule.specs.Standing.{IsBegun, IsLeft, IsStanding, SetupsBeginStanding, StepsLeaveStanding}
+use Rattle.exb_schedule.specs.Reached.{IsReached}
+use Rattle.exb_schedule.specs.Standing.{HasCleanLinks, IsLeft, SetupsBeginStanding, StepsLeaveStanding}
+use Rattle.exb_schedule.proofs.Reaching.{ok_awake}
 use Rattle.exb_schedule.proofs.Runs.{take_then}
 
 -- ---- along a run
@@ -60,17 +63,19 @@ left_so step old new k made =
     let lefts : (gone : List Left) → all_left new.log.left ≡ all_left old.log.left ++ gone → (stepped t l step w).left ≡ gone = λ gone e.
     append_cancel_left (all_left old.log.left) (stepped t l step w).left gone (sym made.left ∙ e) in
     record {
-      stands = λ i aged g h left s es gone told goes.
-          let done = k.stands i aged g h left s in
-          let v : World = (stepped t l step w).world in
-          let j : List Given = g ++ given_by step in
-          subst (λ (a : Shape). Stands a (bounds_of new) i (world_of new) j (h then es) (left ++ gone)) (sym tree)
-          (subst (λ (b : Limits). Stands t b i (world_of new) j (h then es) (left ++ gone)) (sym limits)
-          (subst (λ (x : World). Stands t l i x j (h then es) (left ++ gone)) (sym made.world)
-          (subst (λ (xs : List Event). Stands t l i v j (h then xs) (left ++ gone)) (events es told)
-          (subst (λ (xs : List Left). Stands t l i v j (h then (stepped t l step w).events) (left ++ xs)) (lefts gone goes) done))));
+      stands = record {
+        stands = λ i aged g h left s es gone told goes.
+            let done = k.stands i aged g h left s in
+            let v : World = (stepped t l step w).world in
+            let j : List Given = g ++ given_by step in
+            subst (λ (a : Shape). Stands a (bounds_of new) i (world_of new) j (h then es) (left ++ gone)) (sym tree)
+            (subst (λ (b : Limits). Stands t b i (world_of new) j (h then es) (left ++ gone)) (sym limits)
+            (subst (λ (x : World). Stands t l i x j (h then es) (left ++ gone)) (sym made.world)
+            (subst (λ (xs : List Event). Stands t l i v j (h then xs) (left ++ gone)) (events es told)
+            (subst (λ (xs : List Left). Stands t l i v j (h then (stepped t l step w).events) (left ++ xs)) (lefts gone goes) done))));
+      };
       clean = subst (λ (a : Shape). IsClean a (world_of new)) (sym tree) (subst (IsClean t) (sym made.world) k.clean);
-      tells = λ es told. subst (TellsOf t w step) (events es told) k.tells;
+      tells = record { tells = λ es told. subst (TellsOf t w step) (events es told) k.tells };
     }
 
 pub steps_leave_standing : SetupsMayStart → BeginsKept → StepsKeep → StandsGoOn → StepsTellSo → KeptIsClean → RunsStayLow → SetupsGoOn → StepsLeaveStanding
@@ -96,6 +101,12 @@ steps_leave_standing starts begins keep goes tell clean low ons step old new k m
     (subst (λ (b : Limits). Leaves step t b (world_of old)) (sym k.limits) (subst (Leaves step t l) (sym k.world) here)))
     made
 
+-- so a step of the code leaves clean links, or answers an error
+pub clean_on : StepsLeaveStanding → (step : Step) (old new : Network) (r : Result (Unit {0}) WorldFault) → IsReached old → (r ≡ Err fault.Failed) ↔ (old.failed ≡ true) →
+    OnOk r (IsStepped step old new) → OnOk r (MayTake (tree_of old) (world_of old) step) → OnOk r (HasCleanLinks new)
+clean_on law step old new (Ok x) k fails made may = (law step old new (k (ok_awake old x fails)) may made).clean
+clean_on law step old new (Err x) k fails made may = tt
+
 -- ---- as it begins
 with_basis : (t : Shape) (l : Limits) (i j : Basis) → i.start ≡ j.start → MayStart t l j → MayStart t l i
 with_basis t l i j e k =
@@ -111,11 +122,13 @@ setups_begin_standing starts begins stands clean s n valid vids world tree limit
     let first : World = first_world t l (start_of s) s.ageing in
     let kept : Kept t l (basis_of s) first [] [] [] = begins t l (basis_of s) start in
     record {
-      stands = λ i begun aged.
-          let may : MayStart t l i = with_basis t l i (basis_of s) begun start in
-          let mine : Stands t l i (first_world t l i.start i.ageing) [] [] [] = stands t l i may (first_world t l i.start i.ageing) [] [] [] (begins t l i may) in
-          subst (λ (a : Shape). Stands a (bounds_of n) i (world_of n) [] [] []) (sym tree)
-          (subst (λ (b : Limits). Stands t b i (world_of n) [] [] []) (sym limits)
-          (subst (λ (w : World). Stands t l i w [] [] []) (ap (λ (b : Bridge). first_world t l b i.ageing) begun ∙ (ap (first_world t l (start_of s)) aged ∙ sym world)) mine));
+      stands = record {
+        stands = λ i begun aged.
+            let may : MayStart t l i = with_basis t l i (basis_of s) begun start in
+            let mine : Stands t l i (first_world t l i.start i.ageing) [] [] [] = stands t l i may (first_world t l i.start i.ageing) [] [] [] (begins t l i may) in
+            subst (λ (a : Shape). Stands a (bounds_of n) i (world_of n) [] [] []) (sym tree)
+            (subst (λ (b : Limits). Stands t b i (world_of n) [] [] []) (sym limits)
+            (subst (λ (w : World). Stands t l i w [] [] []) (ap (λ (b : Bridge). first_world t l b i.ageing) begun ∙ (ap (first_world t l (start_of s)) aged ∙ sym world)) mine));
+      };
       clean = subst (λ (a : Shape). IsClean a (world_of n)) (sym tree) (subst (IsClean t) (sym world) (clean t l (basis_of s) start first [] [] [] kept));
     }

@@ -23,20 +23,19 @@ abbrev pub HasCleanLinks : Network → Type 0
 HasCleanLinks n = IsClean (tree_of n) (world_of n)
 
 -- As it begins it stands, with nothing given, told or left.
-abbrev pub BeginsStanding : Setup → Network → Type 0
-BeginsStanding s n = (i : Basis) → i.start ≡ start_of s → i.ageing ≡ s.ageing → IsStanding i n [] [] []
+pub record BeginsStanding (s : Setup) (n : Network) : Type 0 where
+  pub stands : (i : Basis) → i.start ≡ start_of s → i.ageing ≡ s.ageing → IsStanding i n [] [] []
 
 -- Whatever was given, was told and has left, with which it stood before the step: it stands with what the step gave, the events that
 -- it added and what it made leave.
-abbrev pub StaysStanding : Step → Network → Network → Type 0
-StaysStanding step old new =
-    (i : Basis) → i.ageing ≡ (world_of old).table.ageing → (g : List Given) (h : History) (left : List Left) → IsStanding i old g h left →
-    (es : List Event) (gone : List Left) → new.log.events ≡ old.log.events ++ es → all_left new.log.left ≡ all_left old.log.left ++ gone →
-    IsStanding i new (g ++ given_by step) (h then es) (left ++ gone)
+pub record StaysStanding (step : Step) (old new : Network) : Type 0 where
+  pub stands : (i : Basis) → i.ageing ≡ (world_of old).table.ageing → (g : List Given) (h : History) (left : List Left) → IsStanding i old g h left →
+      (es : List Event) (gone : List Left) → new.log.events ≡ old.log.events ++ es → all_left new.log.left ≡ all_left old.log.left ++ gone →
+      IsStanding i new (g ++ given_by step) (h then es) (left ++ gone)
 
 -- The events that it added are by its kind.
-abbrev pub TellsByKind : Step → Network → Network → Type 0
-TellsByKind step old new = (es : List Event) → new.log.events ≡ old.log.events ++ es → TellsOf (tree_of old) (world_of old) step es
+pub record TellsByKind (step : Step) (old new : Network) : Type 0 where
+  pub tells : (es : List Event) → new.log.events ≡ old.log.events ++ es → TellsOf (tree_of old) (world_of old) step es
 
 -- ---- the laws
 pub record IsLeft (step : Step) (old new : Network) : Type 0 where

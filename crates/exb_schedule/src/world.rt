@@ -12,8 +12,10 @@ ghost use Rattle.exb_resting.specs.Motion.Kept.{HasVid};
 ghost use Rattle.exb_network.specs.Networks.{world_of, tree_of, bounds_of, step_of, IsQuiet, IsSame, IsStepped};
 ghost use Rattle.exb_network.specs.Steps.{way_of};
 ghost use Rattle.exb_resting.specs.Rest.Settles.{MayTake};
+ghost use Rattle.exb_schedule.specs.Standing.{BeginsStanding, HasCleanLinks, StaysStanding, TellsByKind};
 ghost use Rattle.exb_schedule.specs.Worlds.{network_of};
 
+use crate::laws::{setups_begin_standing, steps_leave_standing};
 use crate::motion::Motion;
 use exb_fate::Fate;
 use exb_link::Counts;
@@ -50,9 +52,12 @@ impl World {
         ensures awake { IfOk result (λ made. (network_of made).failed ≡ false) }
         ensures tracing { IfOk result (λ made. (network_of made).log.tracing ≡ trace) }
         ensures vids { All HasVid setup.now.start }
+        ensures stands { IfOk result (λ made. BeginsStanding setup.now (network_of made)) }
+        ensures clean { IfOk result (λ made. HasCleanLinks (network_of made)) }
         ensures fate { IfOk result (λ made. left made.fate ≡ left fate) }
     {
         let motion = Motion::new(alloc, setup, trace)?;
+        setups_begin_standing();
         Ok(World {
             motion,
             alloc,
@@ -76,7 +81,12 @@ impl World {
         ensures failed { (result ≡ Err WorldFault.Failed) ↔ ((network_of self.old).failed ≡ true) }
         ensures memory { OnErr result ((network_of self.new).failed ≡ true) }
         ensures fate { left self.new.fate ≡ left self.old.fate }
+        ensures stands { OnOk result (StaysStanding (step_of step.entry) (network_of self.old) (network_of self.new)) }
+        ensures clean { OnOk result (HasCleanLinks (network_of self.new)) }
+        ensures events { OnOk result (TellsByKind (step_of step.entry) (network_of self.old) (network_of self.new)) }
     {
+        steps_leave_standing();
+        self.motion.is_reached();
         // a step that is passed on as it is isn't covered by the borrow checker, since a variant holds a reference
         match step {
             Step::Arrive {

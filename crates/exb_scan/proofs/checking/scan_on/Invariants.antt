@@ -1,5 +1,4 @@
-use Rattle.std.proofs.Common.{◌≡◌, ◌≤◌, List, [], length}
-use Rattle.exb_model.specs.Input.{Record}
+use Rattle.std.proofs.Common.{◌≡◌, [], length}
 use Rattle.exb_shelf.specs.Files.{SameFiles, bytes_of}
 use Rattle.exb_shelf.specs.Shelf.{NoFewer}
 use Rattle.exb_scan.specs.Reading.{IsAt, IsSameFile, IsSound, HasRead, MovesOn, left_to_read}

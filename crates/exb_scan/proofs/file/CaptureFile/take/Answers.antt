@@ -1,4 +1,4 @@
-use Rattle.std.proofs.Common.{◌<◌, ◌++◌, ◌∷◌, [], length, ap, sym, subst, arith}
+use Rattle.std.proofs.Common.{◌++◌, ◌∷◌, [], length, ap, sym, subst, arith}
 use Rattle.exb_pcap.specs.Pieces.{Reading}
 use Rattle.exb_scan.specs.Reading.{IsSound, HasRead}
 use Rattle.exb_scan.proofs.Going.{taken_sound, taken_size, taken_read}

@@ -1,4 +1,4 @@
-use Rattle.std.proofs.Common.{◌≡◌, ◌≤◌, ◌+◌, ◌-◌, length, take, ap, ◌∙◌, arith, length-take, length-append}
+use Rattle.std.proofs.Common.{◌≡◌, length, take, ap, ◌∙◌, arith, length-take, length-append}
 use Rattle.std.proofs.lemmas.List.{take-take}
 use Rattle.exb_pcap.specs.Pieces.{Reading}
 use Rattle.exb_pcap.proofs.GoingLemmas.{bytes_take}
