@@ -1,9 +1,10 @@
 #!/usr/bin/env python3
 """Measures how long exbr takes to read topology files, and how much memory: one at the limits of the format, and with
---hostile files of up to 16 MB: many small tables, many static entries, and a long prefix with thousands of ports. All ask
-for what isn't built yet or are refused, so nothing is played: the time is that of reading.
+--hostile files of up to 16 MB: many small tables, many static entries, and a long prefix with thousands of ports. What is
+measured is `exbr check`, which plays nothing: it reads the file and, where that has no fault, counts what is needed.
 
-    bench/topology.py [--hostile]    (in a folder for its files; the program is built before where that is needed)
+    bench/topology.py [--hostile]    (in a folder for its files; the program is built before where that is needed, or named by
+                                     EXBR=FILE)
 """
 import os
 import resource
@@ -12,6 +13,7 @@ import sys
 import time
 
 TOP = os.path.dirname(os.path.dirname(os.path.abspath(__file__)))
+PROGRAM = os.environ.get("EXBR", f"{TOP}/exbr")
 
 
 def at_the_limits():
@@ -59,14 +61,14 @@ def measure(name, text):
     with open(name, "w", encoding="utf-8") as file:
         file.write(text)
     before = time.monotonic()
-    ran = subprocess.run([f"{TOP}/exbr", "run", name], capture_output=True, text=True, check=False)
+    ran = subprocess.run([PROGRAM, "check", name], capture_output=True, text=True, check=False)
     seconds = time.monotonic() - before
     peak = resource.getrusage(resource.RUSAGE_CHILDREN).ru_maxrss // 1024
     print(f"{name}: {len(text)} bytes, status {ran.returncode} ({ran.stdout.strip()}), {seconds:.2f} s, peak so far {peak} MB")
 
 
 if __name__ == "__main__":
-    subprocess.run([f"{TOP}/exbr"], capture_output=True, check=False)
+    subprocess.run([PROGRAM], capture_output=True, check=False)
     measure("limits.toml", at_the_limits())
     if "--hostile" in sys.argv:
         measure("static.toml", static_entries())

@@ -4,7 +4,7 @@
     tools/seams.py
 
 names that a definition or proof imports and no file declares, names that code imports and its crate doesn't have, crates
-that are used and not listed in crates.txt, proofs of functions that aren't there, and edits whose text isn't there once.
+that are used and not listed in crates.txt or are listed twice, proofs of functions that aren't there, and edits whose text isn't there once.
 It prints a line each, and ends with status 1 where there is one. It knows names and no types, so it proves nothing.
 """
 import os
@@ -31,12 +31,14 @@ def text(path):
 
 
 def listed():
-    needs = {}
+    """What each crate stands on, and the crates that crates.txt has on two lines."""
+    needs, twice = {}, []
     for line in text(os.path.join(TOP, 'crates.txt')).splitlines():
         if line.strip() and not line.startswith('#'):
             name, libraries = line.split(':')
+            twice += [name.strip()] if name.strip() in needs else []
             needs[name.strip()] = libraries.split()
-    return needs
+    return needs, twice
 
 
 def lemma_file(crate, kind, module):
@@ -114,9 +116,9 @@ def edit_seams(crate):
 
 
 def main():
-    needs = listed()
+    needs, twice = listed()
     sources = {crate: '\n'.join(text(path) for path in files(crate, '.rt')) for crate in sorted(os.listdir(CRATES))}
-    seams = []
+    seams = [f'crates.txt has {crate} on two lines' for crate in twice]
     for crate, source in sources.items():
         if crate not in needs:
             seams.append(f'crates.txt has no line for {crate}')

@@ -18,6 +18,7 @@ use Rattle.exb_changing.specs.Fitting.{Fits, AreFit}
 use Rattle.exb_changing.specs.Machine.{Work, State}
 use Rattle.exb_changing.specs.Counting.{requests_of, requests_in, requests_by, bridge_left, held_left, unheard, planned}
 use Rattle.exb_control.specs.declared.working.Core.{Core}
+use Rattle.exb_control.specs.Queues.{is_empty}
 use Rattle.exb_control.specs.Controls.{decide_of, work_from, work_at}
 use Rattle.exb_control.specs.Steps.{Front, Heard, heard_of, state_in, left_at, unheard_to}
 use Rattle.exb_control.specs.Soundness.{AsksOrRests}
@@ -58,6 +59,12 @@ drop_past (j ∷ js) (suc i) past = drop_past js i (omega arith)
 pub none_left : (decide : Decide) (b : Bridge) (h : Held) (q : List Job) (i count total : ℕ) → length q ≤ i → count + requests_in decide b h (drop i q) ≡ total → count ≡ total
 unfolding requests_in
 none_left decide b h q i count total past e = sym (add-zero count) ∙ (rw (drop_past q i past) at e)
+
+-- where none waits
+pub none_waits : (decide : Decide) (b : Bridge) (h : Held) (q : List Job) → is_empty q ≡ true → 0 ≡ requests_in decide b h q
+unfolding requests_in
+none_waits decide b h [] e = refl
+none_waits decide b h (j ∷ js) e = absurd (cc)
 
 -- ---- all of it
 prepared_with : (j : Job) (x : Change) (decide : Decide) (s : State) (ys : List AskAt) → s.work ≡ work_from j x Preparing ys →

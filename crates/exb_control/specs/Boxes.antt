@@ -35,6 +35,13 @@ pub record IsMoved (m : Moved) (old new : Parts) (out : Outbox) : Type 0 where
   pub failed : new.failed ≡ old.failed
   pub quiet : IsQuiet out
 
+-- The control had failed before the call: nothing has changed, and nothing is in the outbox.
+pub record IsStill (old new : Parts) (out : Outbox) : Type 0 where
+  pub same : new ≡ old
+  pub events : out.events ≡ []
+  pub asks : out.asks ≡ []
+  pub quiet : IsQuiet out
+
 -- ---- frames
 -- what a frame that comes to a bridge teaches
 abbrev pub taught : Bridge → Arrival → Table → Table

@@ -1,5 +1,5 @@
 //! The control, and its calls.
-ghost use Rattle.std.specs.Prelude.{◌≡◌, ℕ, ◌+◌, ◌-◌, ◌<◌, ◌≤◌, ◌^◌, ◌↔◌, true, false, IfOk, OnOk, OnErr};
+ghost use Rattle.std.specs.Prelude.{◌≡◌, ℕ, ◌+◌, ◌-◌, ◌<◌, ◌≤◌, ◌^◌, ◌↔◌, [], true, false, IfOk, OnOk, OnErr, is_err};
 ghost use Rattle.exb_model.specs.Setup.{IsValid, NamesExternal, shape_of, limits_of};
 ghost use Rattle.exb_model.specs.Tree.{is_extender, is_external, is_cascade};
 ghost use Rattle.exb_session.specs.Asking.{took};
@@ -40,7 +40,8 @@ pub enum ControlFault {
     Failed,
 }
 
-/// The controlling bridge's control.
+/// The controlling bridge's control. A call in which memory runs out leaves it failed, with the tree and the limits that it
+/// had; each later call that can answer so then says that it has failed, and changes nothing.
 #[derive(Drop)]
 pub struct Control {
     alloc: Global,
@@ -67,7 +68,7 @@ impl Control {
     ghost use Rattle.exb_changing.specs.Counting.{planned};
     ghost use Rattle.exb_control.specs.Fabrics.{IsFabric, held_in};
     ghost use Rattle.exb_changing.specs.Machine.{ordered, answered, beats};
-    ghost use Rattle.exb_control.specs.Boxes.{IsMoved, HasCome, HasTicked};
+    ghost use Rattle.exb_control.specs.Boxes.{IsMoved, IsStill, HasCome, HasTicked};
     ghost use Rattle.exb_control.specs.Controls.{state_of, decide_of, first_of, is_settled, announced, channel_at_trunk};
 
     /// The control of a setup: nothing was heard, given or learned yet.
@@ -106,6 +107,9 @@ impl Control {
         ensures ok { OnOk result (IsMoved (ordered (decide_of self.old.fabric) command.now (state_of self.old)) self.old self.new out.new) }
         ensures failed { (result ≡ Err ControlFault.Failed) ↔ (self.old.failed ≡ true) }
         ensures memory { OnErr result (self.new.failed ≡ true) }
+        ensures still { self.old.failed ≡ true → IsStill self.old self.new out.new }
+        ensures shape { self.new.fabric.shape ≡ self.old.fabric.shape }
+        ensures limits { self.new.fabric.limits ≡ self.old.fabric.limits }
     {
         out.empty(self.alloc);
         if self.failed {
@@ -140,6 +144,9 @@ impl Control {
         ensures ok { OnOk result (IsMoved (announced (decide_of self.old.fabric) self.old.fabric.shape extender announce.now (state_of self.old)) self.old self.new out.new) }
         ensures failed { (result ≡ Err ControlFault.Failed) ↔ (self.old.failed ≡ true) }
         ensures memory { OnErr result (self.new.failed ≡ true) }
+        ensures still { self.old.failed ≡ true → IsStill self.old self.new out.new }
+        ensures shape { self.new.fabric.shape ≡ self.old.fabric.shape }
+        ensures limits { self.new.fabric.limits ≡ self.old.fabric.limits }
     {
         out.empty(self.alloc);
         if self.failed {
@@ -176,6 +183,9 @@ impl Control {
         ensures taken { IfOk result (λ taken. taken ≡ (took ((state_of self.old).askers extender) message.now).1) }
         ensures failed { (result ≡ Err ControlFault.Failed) ↔ (self.old.failed ≡ true) }
         ensures memory { OnErr result (self.new.failed ≡ true) }
+        ensures still { self.old.failed ≡ true → IsStill self.old self.new out.new }
+        ensures shape { self.new.fabric.shape ≡ self.old.fabric.shape }
+        ensures limits { self.new.fabric.limits ≡ self.old.fabric.limits }
     {
         out.empty(self.alloc);
         if self.failed {
@@ -214,6 +224,9 @@ impl Control {
         ensures ok { OnOk result (HasCome (record { port = port; index = index; moment = moment; bytes = frame.now }) self.old self.new out.new) }
         ensures failed { (result ≡ Err ControlFault.Failed) ↔ (self.old.failed ≡ true) }
         ensures memory { OnErr result (self.new.failed ≡ true) }
+        ensures still { self.old.failed ≡ true → IsStill self.old self.new out.new }
+        ensures shape { self.new.fabric.shape ≡ self.old.fabric.shape }
+        ensures limits { self.new.fabric.limits ≡ self.old.fabric.limits }
     {
         out.empty(self.alloc);
         if self.failed {
@@ -246,6 +259,9 @@ impl Control {
         ensures ok { OnOk result (HasTicked seconds self.old self.new out.new) }
         ensures failed { (result ≡ Err ControlFault.Failed) ↔ (self.old.failed ≡ true) }
         ensures memory { OnErr result (self.new.failed ≡ true) }
+        ensures still { self.old.failed ≡ true → IsStill self.old self.new out.new }
+        ensures shape { self.new.fabric.shape ≡ self.old.fabric.shape }
+        ensures limits { self.new.fabric.limits ≡ self.old.fabric.limits }
     {
         out.empty(self.alloc);
         if self.failed {
@@ -264,6 +280,9 @@ impl Control {
         ensures ok { OnOk result (IsMoved (beats (state_of self.old)) self.old self.new out.new) }
         ensures failed { (result ≡ Err ControlFault.Failed) ↔ (self.old.failed ≡ true) }
         ensures memory { OnErr result (self.new.failed ≡ true) }
+        ensures still { self.old.failed ≡ true → IsStill self.old self.new out.new }
+        ensures shape { self.new.fabric.shape ≡ self.old.fabric.shape }
+        ensures limits { self.new.fabric.limits ≡ self.old.fabric.limits }
     {
         out.empty(self.alloc);
         if self.failed {
@@ -301,9 +320,10 @@ impl Control {
     }
 
     /// How many requests and announcements are still to come before all jobs are done: requests that aren't answered,
-    /// and extenders that weren't heard.
+    /// and extenders that weren't heard. Where no job waits it needs no memory.
     pub fn planned(&self) -> Result<u64, NoMemory>
-        ensures { IfOk result (λ count. count ≡ planned self.now.fabric.shape (decide_of self.now.fabric) (state_of self.now)) }
+        ensures count { IfOk result (λ count. count ≡ planned self.now.fabric.shape (decide_of self.now.fabric) (state_of self.now)) }
+        ensures none { self.now.failed ≡ false → self.now.queue ≡ [] → is_err result ≡ false }
     {
         if self.failed {
             return Err(NoMemory);

@@ -1,8 +1,8 @@
 //! How many exchanges are still to come.
-ghost use Rattle.std.specs.Prelude.{◌≡◌, ◌+◌, ◌*◌, ◌≤◌, ◌<◌, ◌^◌, IfOk, OnOk, length};
+ghost use Rattle.std.specs.Prelude.{◌≡◌, ◌+◌, ◌*◌, ◌≤◌, ◌<◌, ◌^◌, [], false, Ok, IfOk, OnOk, is_err, length};
 ghost use Rattle.exb_changing.specs.Counting.{requests_of, requests_in, bridge_left, held_left, planned};
 ghost use Rattle.exb_changing.specs.Fitting.{Fits, AreFit};
-ghost use Rattle.exb_control.specs.Fabrics.{bridge_in, held_in};
+ghost use Rattle.exb_control.specs.Fabrics.{bridge_in, held_in, bridge_at_end, held_at_end};
 ghost use Rattle.exb_control.specs.Controls.{decide_of};
 ghost use Rattle.exb_control.specs.Steps.{Front, state_in, left_at};
 ghost use Rattle.exb_control.specs.Soundness.{AsksOrRests};
@@ -62,17 +62,34 @@ fn count_jobs(fabric: &mut Fabric, queue: &Queue<Job>) -> Result<u64, NoMemory>
     Ok(count)
 }
 
+/// The requests of the jobs that wait, run in order once the change at work is done. The fabric is copied only where a job
+/// waits.
+fn waiting(fabric: &Fabric, queue: &Queue<Job>) -> Result<u64, NoMemory>
+    requires fit { AreFit fabric.now.shape queue.now }
+    requires few { 2 ^ 21 * length queue.now < 2 ^ 63 }
+    ensures count { IfOk result (λ count. count ≡ requests_in (decide_of fabric.now)
+        (bridge_at_end fabric.now.stage (bridge_in fabric.now)) (held_at_end fabric.now.stage (held_in fabric.now)) queue.now) }
+    ensures few { IfOk result (λ count. count ≤ 2 ^ 21 * length queue.now) }
+    ensures none { queue.now ≡ [] → result ≡ Ok 0 }
+{
+    if queue.is_empty() {
+        return Ok(0);
+    }
+    let mut trial = fabric.copy_at_rest()?;
+    count_jobs(&mut trial, queue)
+}
+
 /// How many requests and announcements are still to come.
 pub(crate) fn planned(core: &Core, queue: &Queue<Job>, heard: &Heard) -> Result<u64, NoMemory>
     requires ports { heard.now.ports ≡ core.now.fabric.shape.ports }
     requires fit { AreFit core.now.fabric.shape queue.now }
     requires rests { AsksOrRests core.now }
     requires few { 2 ^ 21 * length queue.now < 2 ^ 63 }
-    ensures { IfOk result (λ count. (f : Front) → f.queue ≡ queue.now → f.heard ≡ heard.now.heard →
+    ensures count { IfOk result (λ count. (f : Front) → f.queue ≡ queue.now → f.heard ≡ heard.now.heard →
         count ≡ planned core.now.fabric.shape (decide_of core.now.fabric) (state_in f core.now)) }
+    ensures none { queue.now ≡ [] → is_err result ≡ false }
 {
-    let mut fabric = core.fabric.copy_at_rest()?;
     let asked = left(&core.fabric, core.place);
-    let waiting = count_jobs(&mut fabric, queue)?;
+    let waiting = waiting(&core.fabric, queue)?;
     Ok(asked + waiting + heard.unheard())
 }

@@ -72,6 +72,17 @@ unfolding record_at
 by_tests f place left = refl
 
 -- which tests were passed
+cut_at_tests : (place at : ℕ) (a b c d : Bool) (x : Record) → tested place a b c d x ≡ Err (Cut at) → place ≡ at
+cut_at_tests place at true b c d x e = let same : Cut place ≡ Cut at = cc in cc
+cut_at_tests place at false true c d x e = absurd (cc)
+cut_at_tests place at false false true d x e = absurd (cc)
+cut_at_tests place at false false false true x e = let same : Cut place ≡ Cut at = cc in cc
+cut_at_tests place at false false false false x e = absurd (cc)
+
+-- what is cut off is cut off where it begins
+pub cut_there : (f : Form) (place : ℕ) (left : List ℕ) (at : ℕ) → record_at f place left ≡ Err (Cut at) → place ≡ at
+cut_there f place left at e = cut_at_tests place at _ _ _ _ _ (sym (by_tests f place left) ∙ e)
+
 pub passes : (place : ℕ) (a b c d : Bool) (x y : Record) → tested place a b c d x ≡ Ok y → (a ≡ false) × (d ≡ false) × (x ≡ y)
 passes place true b c d x y e = absurd (cc)
 passes place false true c d x y e = absurd (cc)

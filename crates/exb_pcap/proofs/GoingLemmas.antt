@@ -28,7 +28,7 @@ header_read ended p h m more (Some (Err fault)) e bytes last =
     let read = so_far_stands ended h more (Err fault) bytes last e in
     ap (λ x. read_of (records_under x (h ++ more))) read.1
 
-headed_reads_at : (s : Stage) (ended : Bool) (p : ℕ) (h : List ℕ) (m : ℕ) (more : List ℕ) → IsBytes (h ++ more) → (ended ≡ true → more ≡ [])
+pub headed_reads_at : (s : Stage) (ended : Bool) (p : ℕ) (h : List ℕ) (m : ℕ) (more : List ℕ) → IsBytes (h ++ more) → (ended ≡ true → more ≡ [])
     → to_come (reading s p h m) more ≡ to_come (headed ended (reading s p h m)) more
 headed_reads_at Header ended p h m more bytes last = header_read ended p h m more (header_so_far ended h) refl bytes last
 headed_reads_at (Records f) ended p h m more bytes last = refl
@@ -124,7 +124,7 @@ header_in_bound ended p h m bound (Some (Ok f)) e k =
     record { fits = omega (arith, k.fits, length-drop 24 h); bytes = bytes_drop 24 h k.bytes }
 header_in_bound ended p h m bound (Some (Err fault)) e k = record { fits = k.fits; bytes = k.bytes }
 
-headed_in_bound_at : (s : Stage) (ended : Bool) (p : ℕ) (h : List ℕ) (m bound : ℕ) → IsIn bound (reading s p h m) → IsIn bound (headed ended (reading s p h m))
+pub headed_in_bound_at : (s : Stage) (ended : Bool) (p : ℕ) (h : List ℕ) (m bound : ℕ) → IsIn bound (reading s p h m) → IsIn bound (headed ended (reading s p h m))
 headed_in_bound_at Header ended p h m bound k = header_in_bound ended p h m bound (header_so_far ended h) refl k
 headed_in_bound_at (Records f) ended p h m bound k = k
 headed_in_bound_at (Failed fault) ended p h m bound k = k

@@ -3,6 +3,7 @@ pub mod CutLemmas
 pub mod GoingLemmas
 pub mod HeaderLemmas
 pub mod OpenLemmas
+pub mod PeekLemmas
 pub mod PieceLaws
 pub mod RecordLemmas
 pub mod StepLemmas

@@ -17,7 +17,7 @@ use Rattle.exb_pcap.proofs.BufferLemmas.{reading}
 use Rattle.exb_pcap.proofs.CutLemmas.{tested, by_tests, is_short, is_part, stored, decided_none}
 use Rattle.exb_pcap.proofs.GoingLemmas.{bytes_append, bytes_drop, header_read}
 use Rattle.exb_pcap.proofs.HeaderLemmas.{header_short, header_cut, header_open, magic_follows}
-use Rattle.exb_pcap.proofs.RecordLemmas.{from_empty, from_fault, from_record}
+use Rattle.exb_pcap.proofs.RecordLemmas.{from_empty, from_fault, from_record, cut_from}
 
 -- a record that is cut off
 cut_by_tests : (place : ℕ) (a b c d : Bool) (x : Record) → is_cut (tested place a b c d x) ≡ true
@@ -87,6 +87,37 @@ comes_found : (a : Answer) (c rest : Capture) (x : Record) → c ≡ before x re
 comes_found a c rest x e t =
     let all : Found x ∷ [] ≡ a ∷ [] = sym (first_found x rest.records rest.fault) ∙ ap (λ (y : Capture). in_turn 1 y.records y.fault) (sym e) ∙ t in cc
 
+-- whatever follows, what is read then has this fault
+abbrev pub Ends : PcapFault → (List ℕ → Capture) → Type 0
+Ends fault coming = (more : List ℕ) → IsBytes more → (coming more).fault ≡ Some fault
+
+fault_is : (c : Capture) (first fault : PcapFault) → c ≡ at_fault first → c.fault ≡ Some fault → fault ≡ first
+fault_is c first fault e t = let all : Some first ≡ Some fault = sym (ap (λ (x : Capture). x.fault) e) ∙ t in cc
+
+end_is : (c : Capture) (fault : PcapFault) → c ≡ at_end → c.fault ≡ Some fault → ⊥
+end_is c fault e t = let all : None ≡ Some fault = sym (ap (λ (x : Capture). x.fault) e) ∙ t in cc
+
+not_cut : (f : Form) (p : ℕ) (left : List ℕ) (fault : PcapFault) (x : Result Record PcapFault) → 0 < length left → record_at f p left ≡ x → is_cut x ≡ false
+    → (records_from f p left).fault ≡ Some fault → fault ≡ Cut p → ⊥
+not_cut f p left fault (Ok x) some e uncut t is =
+    let later = cut_from f (p + (16 + length x.bytes)) (drop (16 + length x.bytes) left) p
+    (sym (ap (λ (c : Capture). c.fault) (from_record f p left x some e)) ∙ t ∙ ap Some is) in
+    absurd (omega (arith, later))
+not_cut f p left fault (Err first) some e uncut t is =
+    let same : first ≡ Cut p = sym (fault_is (records_from f p left) first fault (from_fault f p left first some e) t) ∙ is in
+    false≢true (sym uncut ∙ ap fault_cuts same)
+
+record_is_unsettled : (f : Form) (p : ℕ) (h : List ℕ) (fault : PcapFault) → is_cut (record_at f p h) ≡ true → Ends fault (λ more. records_from f p (h ++ more)) → ⊥
+record_is_unsettled f p [] fault cut ends = end_is (records_from f p []) fault (from_empty f p [] refl) (ends [] no_bytes)
+record_is_unsettled f p (b ∷ bs) fault cut ends =
+    let h : List ℕ = b ∷ bs in
+    let more : List ℕ = replicate 262_160 0 in
+    let cut_off : record_at f p (h ++ []) ≡ Err (Cut p) = ap (record_at f p) (append-nil h) ∙ (record_cut f p h cut).0 in
+    let is : fault ≡ Cut p = fault_is (records_from f p (h ++ [])) (Cut p) fault (from_fault f p (h ++ []) (Cut p) (omega arith) cut_off) (ends [] no_bytes) in
+    let long : 262_160 ≤ length (h ++ more) = omega (arith, length-append h more, length-replicate {A = ℕ} 262_160 0) in
+    let whole : is_cut (record_at f p (h ++ more)) ≡ false = false_from_ne_true _ (λ t. absurd (omega (arith, (record_cut f p (h ++ more) t).1))) in
+    not_cut f p (h ++ more) fault (record_at f p (h ++ more)) (omega arith) refl whole (ends more (zeros 262_160)) is
+
 -- a part of a record
 first_of_record : (f : Form) (p : ℕ) (left : List ℕ) (a : Answer) (x : Result Record PcapFault) → 0 < length left → record_at f p left ≡ x → is_cut x ≡ false
     → in_turn 1 (records_from f p left).records (records_from f p left).fault ≡ a ∷ [] → a ≡ Faulty (Cut p) → ⊥
@@ -141,11 +172,36 @@ header_is_open h a (inr cut) comes =
     let whole : is_cut (header_of (h ++ more)) ≡ false = false_from_ne_true _ (λ t. absurd (omega (arith, (header_cut (h ++ more) t).0))) in
     first_of_header (h ++ more) a (header_of (h ++ more)) size refl whole (comes more (zeros (24 - length h))) is
 
--- where a reader answers More: the end wasn't told, there is room, and no answer comes whatever follows
+not_cut_header : (file : List ℕ) (fault : PcapFault) (x : Result Form PcapFault) → length file ≡ 24 → header_of file ≡ x → is_cut x ≡ false
+    → (read_of (capture_of file)).fault ≡ Some fault → fault ≡ Cut 0 → ⊥
+not_cut_header file fault (Ok f) size e uncut t is =
+    let none : length (drop 24 file) ≡ 0 = omega (arith, length-drop 24 file) in
+    end_is (read_of (capture_of file)) fault (ap (λ x. read_of (records_under x file)) e ∙ from_empty f 24 (drop 24 file) none) t
+not_cut_header file fault (Err first) size e uncut t is =
+    let same : first ≡ Cut 0 = sym (fault_is (read_of (capture_of file)) first fault (header_fault file first e) t) ∙ is in
+    false≢true (sym uncut ∙ ap fault_cuts same)
+
+header_is_unsettled : (h : List ℕ) (fault : PcapFault) → ((length h < 4) × (begins_magic h ≡ true)) ⊎ (is_cut (header_of h) ≡ true) → Ends fault (λ more. read_of (capture_of (h ++ more))) → ⊥
+header_is_unsettled h fault (inl begins) ends =
+    let follows = magic_follows h begins.1 in
+    let short = fault_is (read_of (capture_of (h ++ []))) NotPcap fault (header_fault (h ++ []) NotPcap (ap header_of (append-nil h) ∙ header_short h begins.0)) (ends [] no_bytes) in
+    let long = fault_is (read_of (capture_of (h ++ follows.0))) (Cut 0) fault (header_fault (h ++ follows.0) (Cut 0) follows.2) (ends follows.0 follows.1) in
+    let same : NotPcap ≡ Cut 0 = sym short ∙ long in
+    absurd (cc)
+header_is_unsettled h fault (inr cut) ends =
+    let short = header_cut h cut in
+    let more : List ℕ = replicate (24 - length h) 0 in
+    let is = fault_is (read_of (capture_of (h ++ []))) (Cut 0) fault (header_fault (h ++ []) (Cut 0) (ap header_of (append-nil h) ∙ short.1)) (ends [] no_bytes) in
+    let size : length (h ++ more) ≡ 24 = omega (arith, length-append h more, length-replicate {A = ℕ} (24 - length h) 0, short.0) in
+    let whole : is_cut (header_of (h ++ more)) ≡ false = false_from_ne_true _ (λ t. absurd (omega (arith, (header_cut (h ++ more) t).0))) in
+    not_cut_header (h ++ more) fault (header_of (h ++ more)) size refl whole (ends more (zeros (24 - length h))) is
+
+-- where a reader answers More: the end wasn't told, there is room, and neither an answer nor a fault comes whatever follows
 pub record IsOpenAt (ended : Bool) (held : List ℕ) (left : Reading) (coming : List ℕ → Capture) : Type 0 where
   pub before_end : ended ≡ false
   pub room : 0 < left.room
   pub undecided : IsBytes held → (a : Answer) → IsRecordOrFault a → Comes a coming → ⊥
+  pub unsettled : IsBytes held → (fault : PcapFault) → Ends fault coming → ⊥
 
 record_more : (ended : Bool) (f : Form) (p : ℕ) (h : List ℕ) (m : ℕ) (o : Option (Result Record PcapFault)) → decided ended (record_at f 0 h) ≡ o
     → (with_record o (reading (Records f) p h m)).answer ≡ More
@@ -153,7 +209,12 @@ record_more : (ended : Bool) (f : Form) (p : ℕ) (h : List ℕ) (m : ℕ) (o : 
 record_more ended f p h m None e is =
     let none = decided_none ended (record_at f 0 h) e in
     let short = (record_cut f 0 h none.1).1 in
-    record { before_end = none.0; room = omega (arith, short); undecided = λ bytes a told. record_is_open f p h a (cut_moved f p 0 h ∙ none.1) told }
+    record {
+      before_end = none.0;
+      room = omega (arith, short);
+      undecided = λ bytes a told. record_is_open f p h a (cut_moved f p 0 h ∙ none.1) told;
+      unsettled = λ bytes fault. record_is_unsettled f p h fault (cut_moved f p 0 h ∙ none.1);
+    }
 record_more ended f p h m (Some (Ok x)) e is = absurd (cc)
 record_more ended f p h m (Some (Err fault)) e is = absurd (cc)
 
@@ -177,7 +238,12 @@ header_more : (ended : Bool) (p : ℕ) (h : List ℕ) (m : ℕ) (o : Option (Res
 header_more ended p h m None e is =
     let open_end = header_open ended h e in
     let few : length h < 24 = ⊎_elim (λ begins. omega (arith, begins.0)) (λ cut. (header_cut h cut).0) open_end.1 in
-    record { before_end = open_end.0; room = omega arith; undecided = λ bytes a told. header_is_open h a open_end.1 }
+    record {
+      before_end = open_end.0;
+      room = omega arith;
+      undecided = λ bytes a told. header_is_open h a open_end.1;
+      unsettled = λ bytes fault. header_is_unsettled h fault open_end.1;
+    }
 header_more ended p h m (Some (Ok f)) e is =
     let behind = records_more ended f 24 (drop 24 h) m is in
     let same : (more : List ℕ) → IsBytes (h ++ more) → read_of (capture_of (h ++ more)) ≡ records_from f 24 (drop 24 h ++ more) =
@@ -188,6 +254,9 @@ header_more ended p h m (Some (Ok f)) e is =
       undecided = λ bytes a told comes.
           behind.undecided (bytes_drop 24 h bytes) a told
           (λ more follows. ap (λ (c : Capture). in_turn 1 c.records c.fault) (sym (same more (bytes_append h more bytes follows))) ∙ comes more follows);
+      unsettled = λ bytes fault ends.
+          behind.unsettled (bytes_drop 24 h bytes) fault
+          (λ more follows. ap (λ (c : Capture). c.fault) (sym (same more (bytes_append h more bytes follows))) ∙ ends more follows);
     }
 header_more ended p h m (Some (Err fault)) e is = absurd (cc)
 

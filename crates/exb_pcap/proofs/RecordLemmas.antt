@@ -1,9 +1,11 @@
 -- The records of what is left are the one at its front and those behind it.
-use Rattle.std.proofs.Common.{◌≡◌, ◌<◌, ◌≤◌, ◌+◌, ℕ, zero, suc, List, [], ◌∷◌, length, drop, Result, Ok, Err, refl, ap, ◌∙◌, arith, length-drop}
+use Rattle.std.proofs.Common.{◌≡◌, ◌<◌, ◌≤◌, ◌+◌, ℕ, zero, suc, List, [], ◌∷◌, length, drop, Some, Result, Ok, Err, refl, ap, ◌∙◌, arith, length-drop}
 use Rattle.exb_model.specs.Input.{Record}
 use Rattle.exb_pcap.specs.declared.format.Form.{Form}
 use Rattle.exb_pcap.specs.declared.reader.PcapFault.{PcapFault}
+use Rattle.exb_pcap.specs.declared.reader.PcapFault.TheVariants.{Cut}
 use Rattle.exb_pcap.specs.Captures.{record_at, Capture, at_end, at_fault, before, followed, records_within, records_from}
+use Rattle.exb_pcap.proofs.CutLemmas.{cut_there}
 
 followed_same : (x : Result Record PcapFault) (p q : Record → Capture) → ((r : Record) → p r ≡ q r) → followed x p ≡ followed x q
 followed_same (Ok r) p q h = ap (before r) (h r)
@@ -44,3 +46,21 @@ from_record f place (b ∷ bs) r h e =
     let fits : length rest ≤ length bs = shorter (length bs) (length r.bytes) b bs (omega arith) in
     ap (λ x. followed x (λ r. records_within (length bs) f (place + (16 + length r.bytes)) (drop (16 + length r.bytes) (b ∷ bs)))) e
     ∙ ap (before r) (within_enough (length bs) (length rest) f (place + (16 + length r.bytes)) rest fits (omega arith))
+
+-- what is cut off behind a place begins no earlier
+cut_behind : (f : Form) (place : ℕ) (left : List ℕ) (at : ℕ) (x : Result Record PcapFault) (rest : Record → Capture) → record_at f place left ≡ x
+    → ((r : Record) → (rest r).fault ≡ Some (Cut at) → place ≤ at) → (followed x rest).fault ≡ Some (Cut at) → place ≤ at
+cut_behind f place left at (Ok r) rest is later e = later r e
+cut_behind f place left at (Err fault) rest is later e = let same : fault ≡ Cut at = cc in let there = cut_there f place left at (is ∙ ap Err same) in omega (arith, there)
+
+cut_within : (n : ℕ) (f : Form) (place : ℕ) (left : List ℕ) (at : ℕ) → (records_within n f place left).fault ≡ Some (Cut at) → place ≤ at
+unfolding records_within
+cut_within zero f place left at e = absurd (cc)
+cut_within (suc n) f place [] at e = absurd (cc)
+cut_within (suc n) f place (b ∷ bs) at e =
+    cut_behind f place (b ∷ bs) at (record_at f place (b ∷ bs)) (λ r. records_within n f (place + (16 + length r.bytes)) (drop (16 + length r.bytes) (b ∷ bs))) refl
+    (λ r t. let later = cut_within n f (place + (16 + length r.bytes)) (drop (16 + length r.bytes) (b ∷ bs)) at t in omega (arith, later)) e
+
+pub cut_from : (f : Form) (place : ℕ) (left : List ℕ) (at : ℕ) → (records_from f place left).fault ≡ Some (Cut at) → place ≤ at
+unfolding records_from
+cut_from f place left at e = cut_within (length left) f place left at e

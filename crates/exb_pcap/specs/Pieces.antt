@@ -125,6 +125,16 @@ next_at (Failed fault) ended r = record { answer = Faulty fault; left = failing 
 unfoldable pub asked : Bool → Reading → Step
 asked ended r = next_at (headed ended r).stage ended (headed ended r)
 
+-- what a look ahead leaves: a record that comes next stays in the reader
+abbrev pub left_by : Answer → Reading → Reading → Reading
+left_by (Found x) looked left = looked
+left_by More looked left = left
+left_by End looked left = left
+left_by (Faulty fault) looked left = left
+
+abbrev pub peeked : Bool → Reading → Reading
+peeked ended r = left_by (asked ended r).answer (headed ended r) (asked ended r).left
+
 -- what is read of a file, a fault of its header included
 abbrev pub read_of : Result Capture PcapFault → Capture
 read_of (Ok c) = c

@@ -11,6 +11,6 @@ mod pieces;
 mod reader;
 mod writer;
 
-pub use pieces::{Next, PieceReader};
+pub use pieces::{Ahead, Next, PieceReader};
 pub use reader::{PcapFault, Reader, Record};
 pub use writer::{header_text, record_text};

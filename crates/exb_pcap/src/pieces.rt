@@ -1,10 +1,10 @@
 //! Reading a capture that is fed in pieces, with a buffer for one record.
-ghost use Rattle.std.specs.Prelude.{◌≡◌, ◌<◌, ◌≤◌, ◌+◌, ◌^◌, true, false, length, drop, take, IfOk, IfSome};
+ghost use Rattle.std.specs.Prelude.{◌≡◌, ◌<◌, ◌≤◌, ◌+◌, ◌^◌, true, false, length, drop, take, Ok, IfOk, IfSome};
 ghost use Rattle.std.specs.Io.BufRead.{Rests};
 ghost use Rattle.std.specs.Borrow.{sem};
 ghost use Rattle.exb_pcap.specs.Captures.{record_at};
-ghost use Rattle.exb_pcap.specs.Pieces.{Reading, More, End, unread, fitting, fed, roomy, decided, with_record, passed, failing, fault_cuts, header_so_far, at_place, headed, next_at, asked};
-ghost use Rattle.exb_pcap.specs.Told.{told, stepped, IsWithin, IsInTime, IsShort};
+ghost use Rattle.exb_pcap.specs.Pieces.{Reading, More, End, unread, fitting, fed, roomy, decided, with_record, passed, failing, fault_cuts, header_so_far, at_place, headed, next_at, asked, peeked};
+ghost use Rattle.exb_pcap.specs.Told.{told, stepped, seen, seen_of, IsWithin, IsInTime, IsAheadInTime, IsShort};
 
 use crate::format::{Form, begins_magic};
 use crate::reader::{HEADER, PcapFault, RECORD_HEAD, front_record, header};
@@ -25,6 +25,17 @@ pub enum Next<'a> {
         /// Its bytes as they are stored, at most 262,144, also where the capture has cut the frame.
         bytes: &'a [u8],
     },
+    /// Bytes that weren't fed yet decide what comes next.
+    More,
+    /// There is no further record.
+    End,
+}
+
+/// What comes next, where it isn't taken yet.
+#[derive(Clone, Copy, Debug, PartialEq, Eq)]
+pub enum Ahead {
+    /// A captured frame, with its moment in nanoseconds since the epoch: below 2^32 seconds.
+    Record { moment: u64 },
     /// Bytes that weren't fed yet decide what comes next.
     More,
     /// There is no further record.
@@ -205,6 +216,28 @@ impl PieceReader {
                 Ok(Next::More)
             }
             Front::End => Ok(Next::End),
+            Front::Fault(fault) => {
+                self.fail(fault);
+                Err(fault)
+            }
+        }
+    }
+
+    /// What comes next, as `next` would tell it, but a record isn't taken: `next` gives it.
+    pub fn peek(&mut self, ended: bool) -> Result<Ahead, PcapFault>
+        ensures answer { seen result ≡ seen_of (asked ended self.old).answer }
+        ensures more { result ≡ Ok Ahead.More → (ended ≡ false) × (0 < self.new.room) }
+        ensures moment { IfOk result IsAheadInTime }
+        ensures left { self.new ≡ peeked ended self.old }
+    {
+        self.read_header(ended);
+        match self.front(ended) {
+            Front::Record { moment, size: _ } => Ok(Ahead::Record { moment }),
+            Front::More => {
+                self.make_room();
+                Ok(Ahead::More)
+            }
+            Front::End => Ok(Ahead::End),
             Front::Fault(fault) => {
                 self.fail(fault);
                 Err(fault)

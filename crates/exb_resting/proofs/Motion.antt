@@ -18,4 +18,6 @@ mod Opening
 mod Numbers
 pub mod Playing
 mod Eager
+pub mod Fronts
 pub mod Setups
+pub mod Moving

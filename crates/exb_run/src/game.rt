@@ -30,7 +30,9 @@ use exb_merge::laws::merge_keeps_order;
 use exb_merge::{Agenda, Due};
 use exb_model::event::Event;
 use exb_model::setup::Timed;
-use exb_resting::laws::rest::{runs_are_few, runs_are_under_way, runs_write_eagerly, runs_write_legally};
+use exb_resting::laws::rest::{
+    runs_are_few, runs_are_under_way, runs_write_eagerly, runs_write_legally,
+};
 use exb_schedule::{Arrival, World, WorldFault, eager, open, seeded};
 use exb_shelf::Shelf;
 use exb_text::Tally;

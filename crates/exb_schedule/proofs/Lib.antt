@@ -13,3 +13,4 @@ mod Taking
 mod RoundsLeft
 mod Resting
 mod Played
+mod Standing

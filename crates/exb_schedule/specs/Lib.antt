@@ -5,3 +5,4 @@ pub mod Playing
 pub mod Worlds
 pub mod Drawing
 pub mod Laws
+pub mod Standing

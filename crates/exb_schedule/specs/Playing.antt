@@ -12,6 +12,7 @@ use Rattle.exb_machine.specs.Stepping.{Stepped, stepped}
 use Rattle.exb_machine.specs.Telling.{all_told}
 use Rattle.exb_machine.specs.Worlds.{World, Step, Arrive, Order, Tick, Left}
 use Rattle.exb_network.specs.Networks.{Network, world_of, tree_of as shape_in, bounds_of as limits_in}
+use Rattle.exb_network.specs.Worlds.{all_left}
 use Rattle.exb_resting.specs.Rest.Playing.{PlaysIn}
 use Rattle.exb_schedule.specs.declared.segment.Arrival.{Arrival}
 
@@ -63,3 +64,10 @@ pub record HasPlayed (m : Mode) (i : Input) (so_far : List Segment) (n : Network
   pub told : events ≡ done.events
   pub gone : left ≡ done.left
   pub traced : n.log.tracing ≡ true → lines ≡ all_told done.lines
+
+-- One segment more is played, whatever was played before: with what the network told and has left since then behind that of before.
+abbrev pub PlaysOn : Mode → ℕ → List Timed → List Arrival → Network → Network → Type 0
+PlaysOn m seconds cs frames old new =
+    (i : Input) (so_far : List Segment) (s : Segment) (events : List Event) (left : List Left) (lines : List TraceLine) → IsSegment i s seconds cs frames →
+    HasPlayed m i so_far old (events ++ old.log.events) (left ++ all_left old.log.left) (lines ++ old.log.lines) →
+    HasPlayed m i (so_far ++ s ∷ []) new (events ++ new.log.events) (left ++ all_left new.log.left) (lines ++ new.log.lines)

@@ -1,14 +1,10 @@
 //! The segments of a seeded run.
 ghost use Rattle.std.specs.Prelude.{⊤, ◌≡◌, ◌≢◌, ◌++◌, ◌∷◌, [], ◌+◌, ◌*◌, ◌<◌, ◌≤◌, ◌^◌, ℕ, List, true, OnOk, length, drop, slice_index_or};
-ghost use Rattle.exb_model.specs.declared.event.Event.{Event};
-ghost use Rattle.exb_model.specs.Input.{Input, Segment, Mode, Seeded};
-ghost use Rattle.exb_model.specs.Traces.{TraceLine as Telling};
+ghost use Rattle.exb_model.specs.Input.{Seeded};
 ghost use Rattle.exb_machine.specs.Allowing.{IsSettled};
-ghost use Rattle.exb_machine.specs.Worlds.{Left as Leaving};
 ghost use Rattle.exb_network.specs.Networks.{world_of, tree_of, IsSame};
-ghost use Rattle.exb_network.specs.Worlds.{all_left};
 ghost use Rattle.exb_schedule.specs.Drawing.{left_of, GoesOn, HasDrawn, IsDrawn, IsReady, Keeps};
-ghost use Rattle.exb_schedule.specs.Playing.{gives, letters_in, CanAll, HasPlayed, IsSegment};
+ghost use Rattle.exb_schedule.specs.Playing.{gives, letters_in, CanAll, PlaysOn};
 ghost use Rattle.exb_schedule.specs.Worlds.{network_of};
 
 use crate::draws::{Choice, choose};
@@ -168,17 +164,8 @@ fn draw(
     ensures fate { OnOk result (left world.new.fate + letters_in (drop rest.new.taken commands.now) ≤ left world.old.fate + letters_in (drop rest.old.taken commands.now)) }
     ensures low { left world.new.fate ≤ left world.old.fate + letters_in (drop rest.old.taken commands.now) }
 {
-    match choose(
-        world,
-        rest,
-        commands.len(),
-        queues.as_slice(),
-        world.alloc,
-        rng,
-    ) {
-        Ok(choice) => make(world, rest, queues, choice, commands, arrivals),
-        Err(NoMemory) => Err(WorldFault::Memory),
-    }
+    let choice = choose(world, rest, commands.len(), queues.as_slice(), rng);
+    make(world, rest, queues, choice, commands, arrivals)
 }
 
 /// Draws so often: 64 times for each of a segment's commands and arrivals, and 64 times.
@@ -229,6 +216,7 @@ fn give_commands(
     ensures failed { result ≡ Err WorldFault.Failed → (network_of world.old).failed ≡ true }
     ensures fate { left world.new.fate ≤ left world.old.fate + letters_in (drop rest.old.taken commands.now) }
 {
+    // the clauses alone speak of them
     let _ = arrivals;
     'commands: while rest.taken < commands.len() {
         command(world, rest, commands)?;
@@ -251,6 +239,7 @@ fn give_arrivals(
     ensures failed { result ≡ Err WorldFault.Failed → (network_of world.old).failed ≡ true }
     ensures fate { left world.new.fate ≡ left world.old.fate }
 {
+    // the clauses alone speak of them
     let _ = commands;
     for at in 0..arrivals.len() {
         come(world, rest, arrivals, at)?;
@@ -273,6 +262,7 @@ fn give_rest(
     ensures failed { result ≡ Err WorldFault.Failed → (network_of world.old).failed ≡ true }
     ensures fate { left world.new.fate ≤ left world.old.fate + letters_in (drop rest.old.taken commands.now) }
 {
+    // how many there were at first: the clauses alone speak of that
     let _ = seconds;
     draw_all(world, rest, rng, commands, arrivals)?;
     pass(world, rest)?;
@@ -312,9 +302,7 @@ pub fn seeded(
     requires can { CanAll (network_of world.old) (gives seconds commands.now arrivals.now) }
     requires few { left world.old.fate + letters_in commands.now < 2 ^ 57 }
     ensures settled { OnOk result (IsSettled (tree_of (network_of world.new)) (world_of (network_of world.new))) }
-    ensures plays { OnOk result ((i : Input) (so_far : List Segment) (s : Segment) (events : List Event) (left : List Leaving) (lines : List Telling) → IsSegment i s seconds commands.now arrivals.now
-        → HasPlayed Seeded i so_far (network_of world.old) (events ++ (network_of world.old).log.events) (left ++ all_left (network_of world.old).log.left) (lines ++ (network_of world.old).log.lines)
-        → HasPlayed Seeded i (so_far ++ s ∷ []) (network_of world.new) (events ++ (network_of world.new).log.events) (left ++ all_left (network_of world.new).log.left) (lines ++ (network_of world.new).log.lines)) }
+    ensures plays { OnOk result (PlaysOn Seeded seconds commands.now arrivals.now (network_of world.old) (network_of world.new)) }
     ensures same { OnOk result (IsSame (network_of world.old) (network_of world.new)) }
     ensures failed { result ≡ Err WorldFault.Failed → (network_of world.old).failed ≡ true }
     ensures fate { left world.new.fate ≤ left world.old.fate + letters_in commands.now }

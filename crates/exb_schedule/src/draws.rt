@@ -7,11 +7,9 @@ ghost use Rattle.exb_schedule.specs.Worlds.{network_of};
 use crate::queues::{Queue, next_in};
 use crate::rest::Rest;
 use crate::world::World;
-use exb_model::memory::NoMemory;
 use exb_network::Way;
 use rand_core::utils::NextWord;
 use rand_pcg::Lcg64Xsh32;
-use std::alloc::Global;
 
 /// What is drawn: that the seconds pass, that the next command is given, that the next arrival of a queue comes, that the first data
 /// word of a direction is taken, that the fate of a control word is asked, or a beat.
@@ -25,80 +23,93 @@ pub enum Choice {
     Beat,
 }
 
+/// What may be drawn, offered one after another in a fixed order: how many there were so far, and the one with the number that is
+/// wanted, from 0. So a draw keeps no list: they are gone through once to be counted, and once more for the one that is drawn.
+struct Offers {
+    count: u64,
+    wanted: u64,
+    drawn: Choice,
+}
+
+impl Offers {
+    fn new(wanted: u64) -> Offers {
+        Offers {
+            count: 0,
+            wanted,
+            drawn: Choice::Beat,
+        }
+    }
+
+    fn offer(&mut self, choice: Choice) {
+        if self.count == self.wanted {
+            self.drawn = choice;
+        }
+        self.count = self.count.saturating_add(1);
+    }
+}
+
 /// What is left of the segment.
-fn add_given(
-    choices: &mut Vec<Choice>,
-    rest: &Rest,
-    commands: usize,
-    queues: &[Queue],
-) -> Result<(), NoMemory> {
+fn offer_given(offers: &mut Offers, rest: &Rest, commands: usize, queues: &[Queue]) {
     if rest.seconds != 0 {
-        choices.push(Choice::Tick)?;
+        offers.offer(Choice::Tick);
     }
     if rest.taken < commands {
-        choices.push(Choice::Command)?;
+        offers.offer(Choice::Command);
     }
     for queue in 0..queues.len() {
         if next_in(queues, queue).is_some() {
-            choices.push(Choice::Arrival { queue })?;
+            offers.offer(Choice::Arrival { queue });
         }
     }
-    Ok(())
 }
 
 /// The words of a direction: the first data word, and each control word that is free.
-fn add_words(choices: &mut Vec<Choice>, world: &World, link: u8, way: Way) -> Result<(), NoMemory>
+fn offer_words(offers: &mut Offers, world: &World, link: u8, way: Way)
     requires { is_extender (tree_of (network_of world.now)) link ≡ true }
 {
     let counts = world.counts(link, way);
     if counts.frames > 0 {
-        choices.push(Choice::Data { link, way })?;
+        offers.offer(Choice::Data { link, way });
     }
     for place in 0..counts.control {
         if world.free_at(link, way, place) {
-            choices.push(Choice::Control { link, way, place })?;
+            offers.offer(Choice::Control { link, way, place });
         }
     }
-    Ok(())
 }
 
 /// The words of a link, first those upwards.
-fn add_link(choices: &mut Vec<Choice>, world: &World, link: u8) -> Result<(), NoMemory> {
+fn offer_link(offers: &mut Offers, world: &World, link: u8) {
     if world.tree().is_extender(link) {
-        add_words(choices, world, link, Way::Up)?;
-        add_words(choices, world, link, Way::Down)?;
+        offer_words(offers, world, link, Way::Up);
+        offer_words(offers, world, link, Way::Down);
     }
-    Ok(())
 }
 
-/// The words of all links.
-fn add_links(choices: &mut Vec<Choice>, world: &World) -> Result<(), NoMemory> {
+/// All that may be drawn: what is left of the segment, the words of all links, and last a beat.
+fn offer_all(offers: &mut Offers, world: &World, rest: &Rest, commands: usize, queues: &[Queue]) {
+    offer_given(offers, rest, commands, queues);
     for link in 1..65u8 {
-        add_link(choices, world, link)?;
+        offer_link(offers, world, link);
     }
-    Ok(())
+    offers.offer(Choice::Beat);
 }
 
-/// Draws what comes next; last of all that may be drawn is a beat.
+/// Draws what comes next.
 pub(crate) fn choose(
     world: &World,
     rest: &Rest,
     commands: usize,
     queues: &[Queue],
-    alloc: Global,
     rng: &mut Lcg64Xsh32,
-) -> Result<Choice, NoMemory> {
-    let mut choices = Vec::new(alloc);
-    add_given(&mut choices, rest, commands, queues)?;
-    add_links(&mut choices, world)?;
-    choices.push(Choice::Beat)?;
-    let count = choices.len() as u64;
-    if count == 0 {
-        return Ok(Choice::Beat);
+) -> Choice {
+    let mut all = Offers::new(u64::MAX);
+    offer_all(&mut all, world, rest, commands, queues);
+    // a beat is always among them
+    if all.count == 0 {
+        return Choice::Beat;
     }
-    let drawn = u64::from(rng.next_word()) % count;
-    match choices.get(drawn as usize) {
-        Some(choice) => Ok(*choice),
-        None => Ok(Choice::Beat),
-    }
+    let mut offers = Offers::new(u64::from(rng.next_word()) % all.count);
+    offer_all(&mut offers, world, rest, commands, queues);
+    offers.drawn
 }

@@ -55,6 +55,7 @@ pub(crate) fn can_come(world: &World, commands: &[Timed], arrivals: &[Arrival], 
     requires { at < length arrivals.now }
     ensures { result ≡ true → (a : _) → a ≡ slice_index_or arrivals.now at a → Can (tree_of (network_of world.now)) (world_of (network_of world.now)) (Arrive (arrived a)) }
 {
+    // a step may hold a command: a parameter of that type is asked for where a step is made
     let _ = commands;
     world.can(&arrive(&arrivals[at]))
 }

@@ -1,16 +1,14 @@
 //! The opening, and the segments of a run.
 ghost use Rattle.std.specs.Prelude.{◌≡◌, ◌++◌, ◌∷◌, [], ◌↔◌, ◌+◌, ◌<◌, ◌≤◌, ◌^◌, ℕ, List, true, false, IfOk, OnErr, OnOk, length};
-ghost use Rattle.exb_model.specs.declared.event.Event.{Event};
-ghost use Rattle.exb_model.specs.Input.{Input, Segment, Mode, Eager, Seeded};
+ghost use Rattle.exb_model.specs.Input.{Input, Mode, Eager};
 ghost use Rattle.exb_model.specs.Setup.{IsValid, limits_of, shape_of};
-ghost use Rattle.exb_model.specs.Traces.{TraceLine as Telling};
 ghost use Rattle.exb_machine.specs.Allowing.{Can, IsSettled};
-ghost use Rattle.exb_machine.specs.Worlds.{Left as Leaving, Mark, Order};
+ghost use Rattle.exb_machine.specs.Worlds.{Mark, Order};
 ghost use Rattle.exb_network.specs.Networks.{world_of, tree_of, bounds_of, IsSame, IsStepped};
 ghost use Rattle.exb_network.specs.Worlds.{all_left};
 ghost use Rattle.exb_resting.specs.Rest.Settles.{MayTake};
 ghost use Rattle.exb_schedule.specs.Moves.{HasEnded, HasRun};
-ghost use Rattle.exb_schedule.specs.Playing.{gives, letters_in, orders, CanAll, HasPlayed, IsSegment};
+ghost use Rattle.exb_schedule.specs.Playing.{gives, letters_in, orders, CanAll, HasPlayed, PlaysOn};
 ghost use Rattle.exb_schedule.specs.Worlds.{network_of};
 
 use crate::arriving::{let_arrive, let_pass};
@@ -158,9 +156,7 @@ pub fn eager(
     requires can { CanAll (network_of world.old) (gives seconds commands.now arrivals.now) }
     requires few { left world.old.fate + letters_in commands.now < 2 ^ 57 }
     ensures settled { OnOk result (IsSettled (tree_of (network_of world.new)) (world_of (network_of world.new))) }
-    ensures plays { OnOk result ((i : Input) (so_far : List Segment) (s : Segment) (events : List Event) (left : List Leaving) (lines : List Telling) → IsSegment i s seconds commands.now arrivals.now
-        → HasPlayed Eager i so_far (network_of world.old) (events ++ (network_of world.old).log.events) (left ++ all_left (network_of world.old).log.left) (lines ++ (network_of world.old).log.lines)
-        → HasPlayed Eager i (so_far ++ s ∷ []) (network_of world.new) (events ++ (network_of world.new).log.events) (left ++ all_left (network_of world.new).log.left) (lines ++ (network_of world.new).log.lines)) }
+    ensures plays { OnOk result (PlaysOn Eager seconds commands.now arrivals.now (network_of world.old) (network_of world.new)) }
     ensures same { OnOk result (IsSame (network_of world.old) (network_of world.new)) }
     ensures failed { result ≡ Err WorldFault.Failed → (network_of world.old).failed ≡ true }
     ensures fate { left world.new.fate ≤ left world.old.fate + letters_in commands.now }

@@ -77,6 +77,7 @@ impl World {
         ensures memory { OnErr result ((network_of self.new).failed ≡ true) }
         ensures fate { left self.new.fate ≡ left self.old.fate }
     {
+        // a step that is passed on as it is isn't covered by the borrow checker, since a variant holds a reference
         match step {
             Step::Arrive {
                 port,

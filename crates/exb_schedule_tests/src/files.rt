@@ -18,6 +18,19 @@ fn words(rt: &impl Abort, alloc: Global, options: &str) -> Vec<String> {
     words
 }
 
+// Plays the words over this fate, and answers the status.
+fn play(
+    rt: &impl Abort,
+    alloc: Global,
+    words: &[String],
+    shelf: &mut MemShelf,
+    out: &mut MemSink,
+    fate: Box<dyn Fate>,
+) -> u8 {
+    assert!(rt; fate.left() < 1_000_000_000);
+    run(alloc, words, shelf, out, fate)
+}
+
 /// The files of a run of a topology and the capture of x1.1 over this fate, with further words behind its name. It ends with 0.
 pub(crate) fn files_of(
     rt: &impl Abort,
@@ -34,9 +47,7 @@ pub(crate) fn files_of(
         .expect(rt, "memory");
     shelf.put("a.pcap", capture).expect(rt, "memory");
     let mut out = MemSink::new(alloc, &[]).expect(rt, "memory");
-    assert!(rt; fate.left() < 1_000_000_000);
-    let status = run(alloc, &words, &mut shelf, &mut out, fate);
-    assert_eq!(rt; status, 0);
+    assert_eq!(rt; play(rt, alloc, &words, &mut shelf, &mut out, fate), 0);
     shelf
 }
 

@@ -115,17 +115,17 @@ fn expect_chain(rt: &impl Abort, alloc: Global, levels: u8, budgets: &[u64; 4]) 
 
 #[test]
 fn one_level_comes_to_rest(rt: HostRuntime) {
-    expect_chain(&rt, rt.alloc(), 1, &[1_000; 4]);
+    expect_chain(&rt, rt.alloc(), 1, &[100_000; 4]);
 }
 
 #[test]
 fn eight_levels_come_to_rest(rt: HostRuntime) {
-    expect_chain(&rt, rt.alloc(), 8, &[1_000; 4]);
+    expect_chain(&rt, rt.alloc(), 8, &[100_000; 4]);
 }
 
 #[test]
 fn sixty_four_levels_come_to_rest(rt: HostRuntime) {
-    expect_chain(&rt, rt.alloc(), 64, &[1_000; 4]);
+    expect_chain(&rt, rt.alloc(), 64, &[100_000; 4]);
 }
 
 #[test]

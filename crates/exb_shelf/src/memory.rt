@@ -1,7 +1,7 @@
 //! Files and a sink in memory, which tell what they hold and fail where they are told to.
 ghost use Rattle.std.specs.Prelude.{◌≡◌, ◌≢◌, ◌<◌, ◌≤◌, ◌+◌, ◌^◌, ◌++◌, ◌↔◌, [], ℕ, List, None, true, false, length, take, drop, IfOk, OnOk, OnErr, IsErrOf, IsSome, IsTrue, Contains};
 ghost use Rattle.std.specs.Option.{option_copied};
-ghost use Rattle.exb_shelf.specs.Files.{SameFiles, Puts, bytes_of};
+ghost use Rattle.exb_shelf.specs.Files.{SameFiles, Puts, IsBytes, bytes_of};
 ghost use Rattle.exb_shelf.specs.Shelf.{Faults, IsReading, IsWriting, reading, writing, moved, no_id, Rose, NoFewer};
 ghost use Rattle.exb_shelf.specs.Memory.{file_in, files_of, ids_of, faults_of, calls_of, failing_of, one_more, text_of, sink_faults_of, sink_calls_of, sink_failing_of};
 
@@ -153,6 +153,7 @@ impl Shelf for MemShelf {
         ensures none_given { OnErr result ((j : ℕ) → ids_of self.new j ≡ ids_of self.old j) }
         ensures files { SameFiles (files_of self.old) (files_of self.new) }
         ensures there { OnOk result (IsSome (files_of self.old name.now)) }
+        ensures bytes { OnOk result (IsBytes (bytes_of (files_of self.old name.now))) }
         ensures not_there { IsErrOf result OpenFault.Missing → files_of self.old name.now ≡ None }
         ensures faults { NoFewer (faults_of self.old) (faults_of self.new) }
         ensures missing { IsErrOf result OpenFault.Missing → Rose (faults_of self.old).missing (faults_of self.new).missing }

@@ -1,7 +1,7 @@
 //! Files in memory. They fail for want of memory alone.
 ghost use Rattle.std.specs.Prelude.{◌≡◌, ◌<◌, ◌≤◌, ◌+◌, ◌^◌, ◌++◌, ◌↔◌, [], ℕ, List, None, length, take, drop, IfOk, OnOk, OnErr};
 ghost use Rattle.std.specs.Option.{option_copied};
-ghost use Rattle.exb_shelf.specs.Files.{SameFiles, Puts, bytes_of};
+ghost use Rattle.exb_shelf.specs.Files.{SameFiles, Puts, IsBytes, bytes_of};
 ghost use Rattle.exb_shelf.specs.Shelf.{no_id};
 ghost use Rattle.exb_shelf.specs.Memory.{file_in, scratch_files, scratch_ids, scratch_faults};
 
@@ -90,6 +90,13 @@ fn append(
     }
 }
 
+// The bytes of a file are bytes, as a fact for whoever calls this. It does nothing.
+fn are_bytes(bytes: &[u8])
+    ensures { IsBytes bytes.now }
+{
+    let _ = bytes;
+}
+
 // Copies what stands at a place as far as there is room.
 fn copy_part(bytes: &[u8], place: u64, into: &mut [u8]) -> usize
     ensures bound { result ≤ length into.old }
@@ -117,10 +124,11 @@ impl Shelf for ScratchShelf {
 
     #[tactic(auto, using(crate::proofs::EntryLemmas::entries))]
     fn open(&mut self, name: &str) -> Result<u32, OpenFault> {
-        if !self.files.contains_key(name) {
+        let Some(bytes) = self.files.get(name) else {
             self.missing = self.missing.saturating_add(1);
             return Err(OpenFault::Missing);
-        }
+        };
+        are_bytes(bytes.as_slice());
         match give(self.alloc, &mut self.entries, true, name) {
             Ok(id) => Ok(id),
             Err(_) => Err(OpenFault::Memory),

@@ -1,6 +1,6 @@
 //! The two traits through which all input and output goes.
 ghost use Rattle.std.specs.Prelude.{◌≡◌, ◌≢◌, ◌<◌, ◌≤◌, ◌+◌, ◌++◌, ◌↔◌, [], ℕ, true, false, List, Option, None, length, take, drop, IfOk, OnOk, OnErr, IsErrOf, IsSome};
-ghost use Rattle.exb_shelf.specs.Files.{Files, SameFiles, Puts, bytes_of};
+ghost use Rattle.exb_shelf.specs.Files.{Files, SameFiles, Puts, IsBytes, bytes_of};
 ghost use Rattle.exb_shelf.specs.Shelf.{Id, Faults, IsReading, IsWriting, reading, writing, moved, Rose, NoFewer};
 
 /// Why a file could not be opened.
@@ -51,6 +51,7 @@ pub trait Shelf {
 
         ensures files { SameFiles (file self.old) (file self.new) }
         ensures there { tells → OnOk result (IsSome (file self.old name.now)) }
+        ensures bytes { tells → OnOk result (IsBytes (bytes_of (file self.old name.now))) }
         ensures not_there { tells → IsErrOf result OpenFault.Missing → file self.old name.now ≡ None }
 
         ensures faults { NoFewer (faults self.old) (faults self.new) }

@@ -68,7 +68,7 @@ pub record TellsFirst (s : Segment) (es : List Event) : Type 0 where
   pub rest : List Event
   pub is : es ≡ tick_in s.seconds ++ rest
 
-with_tick_is : (seconds : ℕ) (h : History) → (h then tick_in seconds) ≡ with_tick seconds h
+pub with_tick_is : (seconds : ℕ) (h : History) → (h then tick_in seconds) ≡ with_tick seconds h
 with_tick_is seconds h = by_flag (seconds == 0)
   where
     by_flag : (c : Bool) → (h then (cond c [] (event.Tick seconds ∷ []))) ≡ cond c h (event.Tick seconds ∷ h)

@@ -1,20 +1,24 @@
 -- More commands change nothing of what was so far: a history reads the same where each command that it names was given.
-use Rattle.std.specs.Prelude.{slice_get}
-use Rattle.std.proofs.Common.{◌≡◌, ℕ, zero, suc, ◌==◌, ◌++◌, List, [], ◌∷◌, Option, Some, None, refl, sym, ◌∙◌, ap, subst, inl, inr}
+use Rattle.std.specs.Prelude.{IfSome, slice_get}
+use Rattle.std.proofs.Common.{◌≡◌, ℕ, zero, suc, ◌==◌, ◌++◌, false, List, [], ◌∷◌, Option, Some, None, refl, sym, ◌∙◌, ap, subst, inl, inr}
 use Rattle.std.proofs.lemmas.Bool.{cases_Bool}
 use mathlib.Core.Path.{fun_ext}
 use Rattle.exb_model.specs.declared.command.Command.{Command}
+use Rattle.exb_model.specs.declared.event.Cause.{Cause}
 use Rattle.exb_model.specs.declared.event.Event.{Event}
 use Rattle.exb_model.specs.declared.event.Event.TheVariants as event
 use Rattle.exb_model.specs.declared.command.Command.TheVariants as command
 use Rattle.exb_model.specs.Configuration.{Bridge, after}
-use Rattle.exb_model.specs.EagerHistory.{is_relayed}
+use Rattle.exb_model.specs.EagerHistory.{is_relayed, risen, up_event, with_ups, opening}
 use Rattle.exb_model.specs.Lists.{numbered}
 use Rattle.exb_model.specs.Input.{Arrival}
 use Rattle.exb_model.specs.Learning.{Look, passes, learned}
 use Rattle.exb_model.specs.FlatBridge.{Sent, sent_by, flat}
 use Rattle.exb_model.specs.History.{Basis, History, command_of, after_any, bridge_after}
-use Rattle.exb_model.specs.LegalHistory.{EachEvent}
+use Rattle.exb_model.specs.LegalHistory.{EachEvent, IsDecided, IsEntered}
+use Rattle.exb_model.specs.Refusals.{refusal}
+use Rattle.exb_model.specs.Setup.{Limits}
+use Rattle.exb_model.specs.Tree.{Shape, opening_ports}
 use Rattle.exb_learn.specs.Calls.{Tick, Table, look_in}
 use Rattle.exb_learn.specs.Calls.{after_call as after_one}
 use Rattle.exb_learn.specs.Histories.{relay_call, command_call, table_after}
@@ -111,6 +115,52 @@ module _ (i : Basis) (cs : List Command) where
       EachEvent (IsSurely i arrivals) h → EachEvent (IsSurely (longer i cs) more) h
   surely_stays arrivals more goes [] has k = tt
   surely_stays arrivals more goes (e ∷ h) has k = (surely_stays arrivals more goes h has.0 k.0, surely_step arrivals more goes h e (bridge_stays h has.0) k.1)
+
+  -- ---- what is refused, relayed and opened
+  decided_step : (t : Shape) (l : Limits) (h : History) (e : Event) → HasCommand i e → bridge_after (longer i cs) h ≡ bridge_after i h → IsDecided t l i h e → IsDecided t l (longer i cs) h e
+  decided_step t l h (event.Commit n) has same k =
+      subst (λ (o : Option Command). IfSome o (λ c. refusal t l (bridge_after (longer i cs) h) c ≡ None)) (sym (command_stays n has.0 has.1))
+      (subst (λ (b : Bridge). IfSome (command_of i n) (λ c. refusal t l b c ≡ None)) (sym same) k)
+  decided_step t l h (event.Refuse n x) has same k =
+      subst (λ (o : Option Command). IfSome o (λ c. refusal t l (bridge_after (longer i cs) h) c ≡ Some x)) (sym (command_stays n has.0 has.1))
+      (subst (λ (b : Bridge). IfSome (command_of i n) (λ c. refusal t l b c ≡ Some x)) (sym same) k)
+  decided_step t l h (event.Relay p n m f) has same k = tt
+  decided_step t l h (event.Ignored p n) has same k = tt
+  decided_step t l h (event.Tick seconds) has same k = tt
+  decided_step t l h (event.Up p) has same k = tt
+  decided_step t l h (event.NoUp p x) has same k = tt
+  decided_step t l h event.Settled has same k = tt
+
+  pub decided_stays : (t : Shape) (l : Limits) (h : History) → HasCommands i h → EachEvent (IsDecided t l i) h → EachEvent (IsDecided t l (longer i cs)) h
+  decided_stays t l [] has k = tt
+  decided_stays t l (e ∷ h) has k = (decided_stays t l h has.0 k.0, decided_step t l h e has.1 (bridge_stays h has.0) k.1)
+
+  entered_step : (arrivals : ℕ → List Arrival) (h : History) (e : Event) → bridge_after (longer i cs) h ≡ bridge_after i h → IsEntered i arrivals h e → IsEntered (longer i cs) arrivals h e
+  entered_step arrivals h (event.Relay p n m f) same k = ap (λ (b : Bridge). is_relayed b p f) same ∙ k
+  entered_step arrivals h (event.Ignored p n) same k = subst (λ (b : Bridge). IfSome (numbered (arrivals p) n) (λ a. is_relayed b p a.bytes ≡ false)) (sym same) k
+  entered_step arrivals h (event.Tick seconds) same k = tt
+  entered_step arrivals h (event.Commit n) same k = tt
+  entered_step arrivals h (event.Refuse n x) same k = tt
+  entered_step arrivals h (event.Up p) same k = tt
+  entered_step arrivals h (event.NoUp p x) same k = tt
+  entered_step arrivals h event.Settled same k = tt
+
+  pub entered_stays : (arrivals : ℕ → List Arrival) (h : History) → HasCommands i h → EachEvent (IsEntered i arrivals) h → EachEvent (IsEntered (longer i cs) arrivals) h
+  entered_stays arrivals [] has k = tt
+  entered_stays arrivals (e ∷ h) has k = (entered_stays arrivals h has.0 k.0, entered_step arrivals h e (bridge_stays h has.0) k.1)
+
+  risen_names_none : (p : ℕ) (o : Option Cause) → HasCommand i (risen p o)
+  risen_names_none p None = tt
+  risen_names_none p (Some x) = tt
+
+  ups_stay : (t : Shape) (l : Limits) (ps : List ℕ) (h : History) → HasCommands i h → with_ups t l (longer i cs) h ps ≡ with_ups t l i h ps
+  ups_stay t l [] h has = refl
+  ups_stay t l (p ∷ ps) h has =
+      ap (λ (b : Bridge). with_ups t l (longer i cs) (up_event t l b p ∷ h) ps) (bridge_stays h has)
+      ∙ ups_stay t l ps (up_event t l (bridge_after i h) p ∷ h) (has, risen_names_none p (refusal t l (bridge_after i h) (command.Up p)))
+
+  pub opening_stays : (t : Shape) (l : Limits) → opening t l (longer i cs) ≡ opening t l i
+  opening_stays t l = ap (λ (h : History). event.Settled ∷ h) (ups_stay t l (opening_ports t) [] tt)
 
 -- ---- VLANs of ports
 -- Those of the start and of all commands are 1 to 4094, and so are all that are in force.

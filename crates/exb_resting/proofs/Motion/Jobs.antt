@@ -34,7 +34,7 @@ reverse_then h (e ∷ es) =
     ∙ (ap (λ (xs : List Event). xs ++ es) (reverse_onto h e []) ∙ append_assoc (reverse h) (e ∷ []) es)
 
 -- what is of jobs stands among the events of jobs
-numbers_of_jobs : (es : List Event) → filter_map number_of es ≡ filter_map number_of (jobs_in es)
+pub numbers_of_jobs : (es : List Event) → filter_map number_of es ≡ filter_map number_of (jobs_in es)
 numbers_of_jobs [] = refl
 numbers_of_jobs (event.Relay p n t f ∷ es) = numbers_of_jobs es
 numbers_of_jobs (event.Ignored p n ∷ es) = numbers_of_jobs es
@@ -45,7 +45,7 @@ numbers_of_jobs (event.Up p ∷ es) = numbers_of_jobs es
 numbers_of_jobs (event.NoUp p x ∷ es) = numbers_of_jobs es
 numbers_of_jobs (event.Settled ∷ es) = numbers_of_jobs es
 
-ups_of_jobs : (es : List Event) → filter_map up_port es ≡ filter_map up_port (jobs_in es)
+pub ups_of_jobs : (es : List Event) → filter_map up_port es ≡ filter_map up_port (jobs_in es)
 ups_of_jobs [] = refl
 ups_of_jobs (event.Relay p n t f ∷ es) = ups_of_jobs es
 ups_of_jobs (event.Ignored p n ∷ es) = ups_of_jobs es
@@ -58,7 +58,7 @@ ups_of_jobs (event.Settled ∷ es) = ups_of_jobs es
 
 -- ---- what decided jobs tell
 module _ (t : Shape) (l : Limits) where
-  told_numbers : (ds : List Job) (b : Bridge) → filter_map number_of (told t l b ds) ≡ filter_map command_number ds
+  pub told_numbers : (ds : List Job) (b : Bridge) → filter_map number_of (told t l b ds) ≡ filter_map command_number ds
   told_numbers [] b = refl
   told_numbers (job.Opening n ∷ ds) b = told_numbers ds b
   told_numbers (job.AutomaticUp p ∷ ds) b = by_cause (cause_of t l b (job.AutomaticUp p)) (λ k. told_numbers ds k)
@@ -72,7 +72,7 @@ module _ (t : Shape) (l : Limits) where
       by_cause None rest = ap (λ (xs : List ℕ). n ∷ xs) (rest _)
       by_cause (Some x) rest = ap (λ (xs : List ℕ). n ∷ xs) (rest _)
 
-  told_ups : (ds : List Job) (b : Bridge) → filter_map up_port (told t l b ds) ≡ filter_map automatic_port ds
+  pub told_ups : (ds : List Job) (b : Bridge) → filter_map up_port (told t l b ds) ≡ filter_map automatic_port ds
   told_ups [] b = refl
   told_ups (job.Opening n ∷ ds) b = told_ups ds b
   told_ups (job.AutomaticUp p ∷ ds) b = by_cause (cause_of t l b (job.AutomaticUp p)) (λ k. told_ups ds k)
@@ -115,11 +115,11 @@ first_ups : (t : Shape) → filter_map automatic_port (first_jobs t) ≡ opening
 unfolding first_jobs
 first_ups t = opening_ups t (by_depth t)
 
-after_numbers : (n : ℕ) (cs : List Command) → filter_map command_number (jobs_after n cs) ≡ range_with_len (n + 1) (length cs)
+pub after_numbers : (n : ℕ) (cs : List Command) → filter_map command_number (jobs_after n cs) ≡ range_with_len (n + 1) (length cs)
 after_numbers n [] = refl
 after_numbers n (c ∷ cs) = ap (λ (xs : List ℕ). (n + 1) ∷ xs) (after_numbers (n + 1) cs)
 
-after_ups : (n : ℕ) (cs : List Command) → filter_map automatic_port (jobs_after n cs) ≡ []
+pub after_ups : (n : ℕ) (cs : List Command) → filter_map automatic_port (jobs_after n cs) ≡ []
 after_ups n [] = refl
 after_ups n (c ∷ cs) = after_ups (n + 1) cs
 

@@ -66,7 +66,7 @@ use Rattle.exb_resting.proofs.Flight.Items.{thins_words, items_words}
 use Rattle.exb_resting.proofs.Flight.Promising.{all_fly}
 use Rattle.exb_resting.proofs.Flight.Standing.{then_append, stood_promises, step_stands}
 use Rattle.exb_resting.specs.Motion.Given.{Given, Came, Told, given_by, arrivals_at, commands_of, indices_of, basis_with}
-use Rattle.exb_resting.specs.Motion.Stands.{IsWordOf, NamesGiven}
+use Rattle.exb_resting.specs.Motion.Stands.{FollowsGiven, IsWordOf, NamesGiven}
 use Rattle.exb_resting.specs.Motion.Kept.{HasVid, HasVidIn, MayStart, MayDo, IsSurely, Kept, StepsKeep}
 use Rattle.exb_resting.proofs.Motion.Deciding.{IsJust, AreJust, journal_just}
 use Rattle.exb_resting.proofs.Motion.Histories.{HasCommands, longer, bridge_stays, table_stays, flat_stays, surely_stays, pvids_after}
@@ -90,7 +90,7 @@ module _ (i : Basis) (cs : List Command) where
   of_longer (job.AutomaticUp p) k = tt
   of_longer (job.Ordered n c) k = numbered_more i.commands cs n c k
 
-  all_longer : (js : List Job) → AreOf i js → AreOf (longer i cs) js
+  pub all_longer : (js : List Job) → AreOf i js → AreOf (longer i cs) js
   all_longer js k = each_change (IsOf i) (IsOf (longer i cs)) js of_longer k
 
   work_longer : (o : Option Work) → WorkGood i o → WorkGood (longer i cs) o
@@ -135,6 +135,15 @@ module _ (i : Basis) (cs : List Command) where
       }
 
 -- ---- what a world that keeps all that has
+-- What was given and what happened, as a step goes on from it: the world follows what was given, names are given, and what is in force
+-- is of the history.
+pub record IsMet (t : Shape) (i : Basis) (w : World) (g : List Given) (h : History) : Type 0 where
+  pub follows : FollowsGiven w g
+  pub names : NamesGiven t w g h
+  pub entered : EachEvent (IsSurely (basis_with i g) (λ p. arrivals_at p g)) h
+  pub bridge : bridge_after (basis_with i g) h ≡ w.control.bridge
+  pub commands : HasCommands (basis_with i g) h
+
 has_commands : (t : Shape) (l : Limits) (i : Basis) (h : History) → EachEvent (IsJust t l i) h → HasCommands i h
 has_commands t l i [] k = tt
 has_commands t l i (e ∷ h) k = (has_commands t l i h k.0, k.1.has)
@@ -155,6 +164,9 @@ module _ (t : Shape) (l : Limits) (i : Basis) (w : World) (g : List Given) (h : 
 
   pub kept_pvids : HasPvids i.start → HasPvids w.control.bridge
   kept_pvids start = subst HasPvids kept_just.bridge (pvids_after (basis_with i g) start k.vids h)
+
+  pub its_own : IsMet t i w g h
+  its_own = record { follows = k.follows; names = k.names; entered = k.entered; bridge = kept_just.bridge; commands = kept_commands }
 
   -- the upward words of its flight
   flight_ups : (n : ℕ) → words_of (k.stood.flight.up n) ≡ data_words (w.up n)
@@ -215,26 +227,27 @@ pub record IsRenewed (t : Shape) (i : Basis) (w v : World) (g more : List Given)
   pub names : NamesGiven t v (g ++ more) (h then es)
   pub entered : EachEvent (IsSurely (basis_with i (g ++ more)) (λ p. arrivals_at p (g ++ more))) (h then es)
 
-module _ (t : Shape) (l : Limits) (i : Basis) (start : MayStart t l i) (round : TagRoundTrip) (words : SendsAreWords) (leave : SendsLeaveAsFlat) (w : World) (g : List Given) (h : History) (left : List Left) (k : Kept t l i w g h left) where
+-- Of the world it is enough that it is kept after anything that was given and happened (`g0`, `h0`).
+module _ (t : Shape) (l : Limits) (i0 : Basis) (start : MayStart t l i0) (round : TagRoundTrip) (words : SendsAreWords) (leave : SendsLeaveAsFlat) (w : World) (g0 : List Given) (h0 : History) (left : List Left) (k : Kept t l i0 w g0 h0 left) (i : Basis) (g : List Given) (h : History) (m : IsMet t i w g h) where
   -- the arrivals so far stay where they are
   entered_more : (more : List Given) → EachEvent (IsSurely (basis_with i (g ++ more)) (λ p. arrivals_at p (g ++ more))) h
   entered_more more =
       subst (λ (j : Basis). EachEvent (IsSurely j (λ p. arrivals_at p (g ++ more))) h) (sym (basis_more i g more))
       (surely_stays (basis_with i g) (commands_of more) (λ p. arrivals_at p g) (λ p. arrivals_at p (g ++ more))
-      (λ p n a e. ap (λ (xs : List Arrival). numbered xs n) (arrivals_append p g more) ∙ numbered_more (arrivals_at p g) (arrivals_at p more) n a e) h (kept_commands t l i w g h left k) k.entered)
+      (λ p n a e. ap (λ (xs : List Arrival). numbered xs n) (arrivals_append p g more) ∙ numbered_more (arrivals_at p g) (arrivals_at p more) n a e) h m.commands m.entered)
 
   -- and what is in force is of the history
   bridge_more : (more : List Given) → bridge_after (basis_with i (g ++ more)) h ≡ w.control.bridge
   bridge_more more =
-      ap (λ (j : Basis). bridge_after j h) (basis_more i g more) ∙ (bridge_stays (basis_with i g) (commands_of more) h (kept_commands t l i w g h left k) ∙ (kept_just t l i w g h left k).bridge)
+      ap (λ (j : Basis). bridge_after j h) (basis_more i g more) ∙ (bridge_stays (basis_with i g) (commands_of more) h m.commands ∙ m.bridge)
 
   -- nothing of arrivals happens
   quiet_renewed : (v : World) (more : List Given) (es : List Event) → ((r : ℕ) → arrivals_at r (g ++ more) ≡ arrivals_at r g) → Has (λ n. data_words (w.up n)) w.next v → Each NamesNone es → IsRenewed t i w v g more h es
   quiet_renewed v more es same has none =
       record {
-        indexed = λ p. subst (λ (xs : List Arrival). indices_of xs ≡ range_with_len 1 (length xs)) (sym (same p)) (k.follows.indexed p);
-        next = λ p. has.awaits p ∙ (k.follows.next p ∙ ap (λ (xs : List Arrival). length xs + 1) (sym (same p)));
-        names = names_quiet t w v g more h es has.ups same none k.names;
+        indexed = λ p. subst (λ (xs : List Arrival). indices_of xs ≡ range_with_len 1 (length xs)) (sym (same p)) (m.follows.indexed p);
+        next = λ p. has.awaits p ∙ (m.follows.next p ∙ ap (λ (xs : List Arrival). length xs + 1) (sym (same p)));
+        names = names_quiet t w v g more h es has.ups same none m.names;
         entered = surely_all_none (basis_with i (g ++ more)) (λ p. arrivals_at p (g ++ more)) es h none (entered_more more);
       }
 
@@ -256,26 +269,26 @@ module _ (t : Shape) (l : Limits) (i : Basis) (start : MayStart t l i) (round : 
   -- ---- an arrival
   module _ (a : Arrival) (index : a.index ≡ w.next a.port) where
     as_given : a.index ≡ length (arrivals_at a.port g) + 1
-    as_given = index ∙ k.follows.next a.port
+    as_given = index ∙ m.follows.next a.port
 
     indexed_more : (p : ℕ) → indices_of (arrivals_at p (g ++ Came a ∷ [])) ≡ range_with_len 1 (length (arrivals_at p (g ++ Came a ∷ [])))
     indexed_more p =
         elim (cases_eq a.port p) [
-          | inr other ↦ subst (λ (xs : List Arrival). indices_of xs ≡ range_with_len 1 (length xs)) (sym (arrivals_other g a p other)) (k.follows.indexed p)
+          | inr other ↦ subst (λ (xs : List Arrival). indices_of xs ≡ range_with_len 1 (length xs)) (sym (arrivals_other g a p other)) (m.follows.indexed p)
           | inl same ↦
               let most : ℕ = length (arrivals_at p g) in
               let next : a.index ≡ most + 1 = as_given ∙ ap (λ (x : ℕ). length (arrivals_at x g) + 1) same in
               ap indices_of (arrivals_here g a p same)
               ∙ (indices_more (arrivals_at p g) a
-              ∙ (ap (λ (xs : List ℕ). xs ++ a.index ∷ []) (k.follows.indexed p)
+              ∙ (ap (λ (xs : List ℕ). xs ++ a.index ∷ []) (m.follows.indexed p)
               ∙ (ap (λ (x : ℕ). range_with_len 1 most ++ x ∷ []) next ∙ (sym (range_more most) ∙ ap (range_with_len 1) (sym (length_here g a p same))))))
         ]
 
     next_more : (v : World) → ((p : ℕ) → v.next p ≡ at a.port (w.next a.port + 1) w.next p) → (p : ℕ) → v.next p ≡ length (arrivals_at p (g ++ Came a ∷ [])) + 1
     next_more v awaits p =
         awaits p ∙ elim (cases_eq p a.port) [
-          | inl same ↦ rw (eq-eqb p a.port same) (ap (λ (x : ℕ). x + 1) (k.follows.next a.port ∙ (ap (λ (x : ℕ). length (arrivals_at x g) + 1) (sym same) ∙ sym (length_here g a p (sym same)))))
-          | inr other ↦ rw (ne_eqb p a.port other) (k.follows.next p ∙ ap (λ (xs : List Arrival). length xs + 1) (sym (arrivals_other g a p (λ e. other (sym e)))))
+          | inl same ↦ rw (eq-eqb p a.port same) (ap (λ (x : ℕ). x + 1) (m.follows.next a.port ∙ (ap (λ (x : ℕ). length (arrivals_at x g) + 1) (sym same) ∙ sym (length_here g a p (sym same)))))
+          | inr other ↦ rw (ne_eqb p a.port other) (m.follows.next p ∙ ap (λ (xs : List Arrival). length xs + 1) (sym (arrivals_other g a p (λ e. other (sym e)))))
         ]
 
     -- it is the last of its port
@@ -307,7 +320,7 @@ module _ (t : Shape) (l : Limits) (i : Basis) (start : MayStart t l i) (round : 
             let none : nat_lt 0 ((tables_of k.stood.flight).own p) ≡ false = le-ltb 0 ((tables_of k.stood.flight).own p) (omega (arith, its, zero)) in
             let outer : is_extended t p ≡ true = and_from (nat_le 64 p) (is_external t p) (le-leb 64 p deep) ext in
             let gone : w.control.bridge.present p ≡ false =
-            subst (λ (y : System). y.state.bridge.present p ≡ false) k.stood.shows.system (not_present t l (basis_with i g) start.setting k.stood.flight k.stood.facts p outer none) in
+            subst (λ (y : System). y.state.bridge.present p ≡ false) k.stood.shows.system (not_present t l (basis_with i0 g0) start.setting k.stood.flight k.stood.facts p outer none) in
             ap (λ (b : Bool). b && is_relayed_kind (kind_of f)) gone
       ]
     where
@@ -331,7 +344,7 @@ module _ (t : Shape) (l : Limits) (i : Basis) (start : MayStart t l i) (round : 
             let done : R (arrival_event w.control.bridge a ∷ []) = record {
               indexed = indexed_more a index;
               next = next_more a index v has.awaits;
-              names = names_local t w v g h w.control.bridge a ext low (as_given a index) has.ups k.names;
+              names = names_local t w v g h w.control.bridge a ext low (as_given a index) has.ups m.names;
               entered = (entered_more more, surely_arrival more a a (last_given a index) refl);
             } in
             rw (lt-ltb a.port 64 low) (subst R (sym told) done)
@@ -344,7 +357,7 @@ module _ (t : Shape) (l : Limits) (i : Basis) (start : MayStart t l i) (round : 
           let done : R [] = record {
             indexed = indexed_more a index;
             next = next_more a index v r.has.awaits;
-            names = names_raised t start.setting.tree w v g h a r.bytes ext deep (as_given a index) r.clean r.has.ups k.names;
+            names = names_raised t start.setting.tree w v g h a r.bytes ext deep (as_given a index) r.clean r.has.ups m.names;
             entered = entered_more (Came a ∷ []);
           } in
           subst R (sym r.events) done
@@ -353,7 +366,7 @@ module _ (t : Shape) (l : Limits) (i : Basis) (start : MayStart t l i) (round : 
           let done : R (event.Ignored a.port a.index ∷ []) = record {
             indexed = indexed_more a index;
             next = next_more a index v r.has.awaits;
-            names = names_ignored t w v g h a ext deep (as_given a index) r.has.ups k.names;
+            names = names_ignored t w v g h a ext deep (as_given a index) r.has.ups m.names;
             entered = (
               entered_more (Came a ∷ []),
               (a, last_given a index, ap (λ (b : Bridge). is_relayed b a.port a.bytes) (bridge_more (Came a ∷ [])) ∙ not_relayed a.port a.bytes ext deep r.why),
@@ -386,17 +399,17 @@ module _ (t : Shape) (l : Limits) (i : Basis) (start : MayStart t l i) (round : 
   rise_renewed : (n : ℕ) → MayDo t l w (Carry n Up) → (x : Word) → first_data (w.up n) ≡ Some x → IsRenewed t i w (done_by t l (Carry n Up) w).world g [] h (done_by t l (Carry n Up) w).events
   rise_renewed n may x found =
       let link : IsLink t n = link_there t n may.may.can.0 in
-      let over : Over t n (device (datum x).port) = (up_of t l i w g h left k n x link found).below in
+      let over : Over t n (device (datum x).port) = (up_of t l i0 w g0 h0 left k n x link found).below in
       let v : World = (done_by t l (Carry n Up) w).world in
-      let same : NamesGiven t w (g ++ []) h = subst (λ (j : List Given). NamesGiven t w j h) (sym (append-nil g)) k.names in
+      let same : NamesGiven t w (g ++ []) h = subst (λ (j : List Given). NamesGiven t w j h) (sym (append-nil g)) m.names in
       let R : List Event → Type 0 = λ es. IsRenewed t i w v g [] h es in
       let indexed : (p : ℕ) → indices_of (arrivals_at p (g ++ [])) ≡ range_with_len 1 (length (arrivals_at p (g ++ []))) = λ p.
-      subst (λ (xs : List Arrival). indices_of xs ≡ range_with_len 1 (length xs)) (sym (none_given p)) (k.follows.indexed p) in
+      subst (λ (xs : List Arrival). indices_of xs ≡ range_with_len 1 (length xs)) (sym (none_given p)) (m.follows.indexed p) in
       let next : ((p : ℕ) → v.next p ≡ w.next p) → (p : ℕ) → v.next p ≡ length (arrivals_at p (g ++ [])) + 1 = λ awaits p.
-      awaits p ∙ (k.follows.next p ∙ ap (λ (xs : List Arrival). length xs + 1) (sym (none_given p))) in
+      awaits p ∙ (m.follows.next p ∙ ap (λ (xs : List Arrival). length xs + 1) (sym (none_given p))) in
       elim (cases_lt (on t n) 64) [
         | inl low ↦
-            let clean = (stood_promises t l (basis_with i g) start.setting w h left k.stood).clean.up n link in
+            let clean = (stood_promises t l (basis_with i0 g0) start.setting w h0 left k.stood).clean.up n link in
             let taken : IsTaken t w v n x (done_by t l (Carry n Up) w).events = taken_in t l w n x low found k.stamped clean in
             let s : Stamp = taken.stamp in
             let y : Arrival = arrival_by s.port s (stripped x.bytes) in
@@ -414,7 +427,7 @@ module _ (t : Shape) (l : Limits) (i : Basis) (start : MayStart t l i) (round : 
             let f : Flight = k.stood.flight in
             let u : World = with_words n Up (without_data (w.up n)) w in
             let apart : device (on t n) ≢ n = λ e. no_circle t start.setting.tree n link deep (itself e) in
-            let sent = on_sent t l (basis_with i g) start.setting round words leave w h left f k.stood.facts k.stood.shows n may.may.can.0 x found (first_bytes n x found may.may.bytes.ups) (kept_pvids t l i w g h left k start.pvids) k.stood.sound deep u refl in
+            let sent = on_sent t l (basis_with i0 g0) start.setting round words leave w h0 left f k.stood.facts k.stood.shows n may.may.can.0 x found (first_bytes n x found may.may.bytes.ups) (kept_pvids t l i0 w g0 h0 left k start.pvids) k.stood.sound deep u refl in
             let gone = gone_on t l w n x deep apart found sent in
             let done : R [] = record {
               indexed = indexed;
@@ -486,7 +499,7 @@ module _ (t : Shape) (l : Limits) (i : Basis) (start : MayStart t l i) (round : 
   step_renewed Mark may = quiet_renewed w [] (event.Settled ∷ []) none_given same_has (tt, tt)
 
 -- ---- a step
-ordered_given : (step : Step) → ordered_by step ≡ commands_of (given_by step)
+pub ordered_given : (step : Step) → ordered_by step ≡ commands_of (given_by step)
 ordered_given (Arrive a) = refl
 ordered_given (Carry n way) = refl
 ordered_given (Control n way j keep) = refl
@@ -527,7 +540,7 @@ step_kept round words leave law t l i start w g h left k step may =
     ∙ (ap (λ (n : ℕ). all ++ jobs_after n cs) given
     ∙ (append_assoc (first_jobs t) (jobs_after 0 (commands_of g)) (jobs_after (given_after 0 (commands_of g)) cs)
     ∙ (ap (λ (js : List Job). first_jobs t ++ js) (sym (jobs_more 0 (commands_of g) cs)) ∙ ap (λ (xs : List Command). first_jobs t ++ jobs_after 0 xs) (sym (commands_append g more))))) in
-    let renewed : IsRenewed t i w v g more h es = step_renewed t l i start round words leave w g h left k step may in
+    let renewed : IsRenewed t i w v g more h es = step_renewed t l i start round words leave w g h left k i g h (its_own t l i w g h left k) step may in
     let downs : List ℕ = k.downs ++ told.by_step.told.more in
     let tells : Tells t l i.start (first_jobs t ++ jobs_after 0 (commands_of j)) (jobs_in (k.journal ++ es)) downs v.control =
     subst (λ (js : List Job). Tells t l i.start js (jobs_in (k.journal ++ es)) downs v.control) jobs

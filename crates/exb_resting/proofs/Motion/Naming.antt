@@ -120,7 +120,7 @@ of_none t g (event.Up p) k = tt
 of_none t g (event.NoUp p x) k = tt
 of_none t g event.Settled k = tt
 
-told_step : (r : ℕ) (h : History) (e : Event) → told_at r (e ∷ h) ≡ told_at r h ++ told_by r e
+pub told_step : (r : ℕ) (h : History) (e : Event) → told_at r (e ∷ h) ≡ told_at r h ++ told_by r e
 unfolding told_at
 told_step r h e = refl
 

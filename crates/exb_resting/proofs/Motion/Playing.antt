@@ -228,21 +228,21 @@ module _ (round : TagRoundTrip) (words : SendsAreWords) (leave : SendsLeaveAsFla
   each_risen a arrivals (e ∷ h) k = (each_risen a arrivals h k.0, k.1.risen)
 
   -- all that is legal of a run, but that its commands and arrivals are those of an input
-  record IsLegal (ss : List Segment) (xss : List (List Step)) (h : History) (given : List Given) : Type 0 where
-    plays : List (List Event)
-    segments_in_order : h ≡ (opening t l (basis_with i given) then settled_each plays)
-    of_segments : All (All IsOfSegment) plays
-    commands_in_order : Pairwise PlaysCommands ss plays
-    refused_exactly : EachEvent (IsDecided t l (basis_with i given)) h
-    arrivals_once : Pairwise PlaysArrivals ss plays
-    ports_in_order : (p : ℕ) → IsInOrder t (reverse h) p
-    relayed_exactly : (arrivals : ℕ → List Arrival) → Each (λ (a : Arrival). numbered (arrivals a.port) a.index ≡ Some a) (arrivals_of given) → EachEvent (IsEntered (basis_with i given) arrivals) h
-    ticks : Pairwise PlaysTick ss plays
-    told : commands_of given ≡ filter_map (command_of b) (flat_map (λ (s : Segment). s.commands) ss)
-    came : Each P (arrivals_of given)
-    firsts : Pairwise IsEager ss xss → Pairwise TellsFirst ss plays
+  pub record IsLegal (ss : List Segment) (xss : List (List Step)) (h : History) (given : List Given) : Type 0 where
+    pub plays : List (List Event)
+    pub segments_in_order : h ≡ (opening t l (basis_with i given) then settled_each plays)
+    pub of_segments : All (All IsOfSegment) plays
+    pub commands_in_order : Pairwise PlaysCommands ss plays
+    pub refused_exactly : EachEvent (IsDecided t l (basis_with i given)) h
+    pub arrivals_once : Pairwise PlaysArrivals ss plays
+    pub ports_in_order : (p : ℕ) → IsInOrder t (reverse h) p
+    pub relayed_exactly : (arrivals : ℕ → List Arrival) → Each (λ (a : Arrival). numbered (arrivals a.port) a.index ≡ Some a) (arrivals_of given) → EachEvent (IsEntered (basis_with i given) arrivals) h
+    pub ticks : Pairwise PlaysTick ss plays
+    pub told : commands_of given ≡ filter_map (command_of b) (flat_map (λ (s : Segment). s.commands) ss)
+    pub came : Each P (arrivals_of given)
+    pub firsts : Pairwise IsEager ss xss → Pairwise TellsFirst ss plays
 
-  legal : (ss : List Segment) (os : List Step) (xss : List (List Step)) → let w = first_world t l i.start i.ageing in MayDoAll t l w (marked_each (os ∷ xss)) → PlayAll t l b w (nothing_given ∷ ss) (os ∷ xss) →
+  pub legal : (ss : List Segment) (os : List Step) (xss : List (List Step)) → let w = first_world t l i.start i.ageing in MayDoAll t l w (marked_each (os ∷ xss)) → PlayAll t l b w (nothing_given ∷ ss) (os ∷ xss) →
       GoOn b 1 ss → Each (λ (s : Segment). Each P s.arrivals) ss → IsLegal ss xss ([] then (run t l (marked_each (os ∷ xss)) w).events) (given_in (marked_each (os ∷ xss)))
   legal ss os xss may plays goes all =
       let w : World = first_world t l i.start i.ageing in
@@ -305,7 +305,7 @@ module _ (round : TagRoundTrip) (words : SendsAreWords) (leave : SendsLeaveAsFla
           by_flag false = tt
 
 -- ---- of an input
-mapped : (cs : List TimedCommand) → length (map (λ (c : TimedCommand). c.command) cs) ≡ length cs
+pub mapped : (cs : List TimedCommand) → length (map (λ (c : TimedCommand). c.command) cs) ≡ length cs
 mapped [] = refl
 mapped (c ∷ cs) = ap suc (mapped cs)
 
@@ -313,7 +313,7 @@ known_in : (b : Basis) (ns : List ℕ) → Each (HasCommand b) ns → Each (λ (
 known_in b [] k = tt
 known_in b (n ∷ ns) k = (ap is_some k.0.1, known_in b ns k.1)
 
-known_all : (b : Basis) (c : ℕ) (ss : List Segment) → GoOn b c ss → Each (λ (s : Segment). Each (λ (n : ℕ). is_some (command_of b n) ≡ true) s.commands) ss
+pub known_all : (b : Basis) (c : ℕ) (ss : List Segment) → GoOn b c ss → Each (λ (s : Segment). Each (λ (n : ℕ). is_some (command_of b n) ≡ true) s.commands) ss
 known_all b c [] k = tt
 known_all b c (s ∷ ss) k = (known_in b s.commands k.1, known_all b (c + length s.commands) ss k.2)
 
@@ -358,37 +358,9 @@ module _ (round : TagRoundTrip) (words : SendsAreWords) (leave : SendsLeaveAsFla
         ticks = whole.ticks;
       }
 
-  -- where each segment is one event, and its seconds pass first
-  pub is_eager : Each IsSingle (segments m i) → Pairwise IsEager (segments m i) xss →
-      ([] then (run (tree_of i) (bounds_of i) (marked_each (os ∷ xss)) (first_world (tree_of i) (bounds_of i) (start_of i.setup) i.setup.ageing)).events)
-      ≡ eagerly (tree_of i) (bounds_of i) (basis_in i) (opening (tree_of i) (bounds_of i) (basis_in i)) (segments m i)
-  unfolding is_legal
-  is_eager singles seconds_first =
-      let t : Shape = tree_of i in
-      let l : Limits = bounds_of i in
-      let b : Basis = basis_in i in
-      let k = is_legal in
-      k.segments_in_order
-      ∙ eager_is t l b (arrivals_in i) (segments m i) k.plays (opening t l b)
-      (record {
-        of_segments = k.of_segments;
-        commands = k.commands_in_order;
-        came = k.arrivals_once;
-        ticks = k.ticks;
-        firsts = whole.firsts seconds_first;
-        singles = singles;
-        known = known_all b 1 (segments m i) goes;
-        found = segments_numbered m i;
-      })
-      (subst (EachEvent (IsDecided t l b)) k.segments_in_order k.refused_exactly) (subst (EachEvent (IsEntered b (arrivals_in i))) k.segments_in_order k.relayed_exactly)
-
 pub runs_play_legally : TagRoundTrip → SendsAreWords → SendsLeaveAsFlat → StepsTell → StepsStayWritten → RunsPlayLegally
 runs_play_legally round words leave law stay m i [] valid vids timely may plays = absurd plays
 runs_play_legally round words leave law stay m i (os ∷ xss) valid vids timely may plays = is_legal round words leave law stay m i os xss valid vids timely may plays
-
-pub runs_play_eagerly : TagRoundTrip → SendsAreWords → SendsLeaveAsFlat → StepsTell → StepsStayWritten → RunsPlayEagerly
-unfolding eager
-runs_play_eagerly round words leave law stay i os xss valid vids timely may plays seconds_first = is_eager round words leave law stay Eager i os xss valid vids timely may plays (eager_singles i) seconds_first
 
 -- ---- settling
 each_moves : (xs : List Step) → machine.Each IsMove xs → (seconds_in xs ≡ []) × (given_in xs ≡ []) × Each IsUnmarked xs

@@ -44,7 +44,7 @@ module _ (t : Shape) (l : Limits) (i : Basis) (arrivals : ℕ → List Arrival) 
   entered_of h (event.NoUp p x) k = tt
   entered_of h event.Settled k = tt
 
-  rightly : (h : History) → EachEvent (IsSurely i arrivals) h → EachEvent (IsJust t l i) h → EachEvent (IsRightly t l i arrivals) h
+  pub rightly : (h : History) → EachEvent (IsSurely i arrivals) h → EachEvent (IsJust t l i) h → EachEvent (IsRightly t l i arrivals) h
   rightly [] a b = tt
   rightly (e ∷ h) a b = (rightly h a.0 b.0, record { entered = entered_of h e a.1; decided = b.1.decided; risen = b.1.risen })
 

@@ -1,16 +1,16 @@
 -- Runs that play the segments of an input.
-use Rattle.std.proofs.Common.{◌≡◌, ℕ, ◌++◌, List, [], ◌∷◌, length, reverse, refl, ap, sym, ◌∙◌, subst}
+use Rattle.std.proofs.Common.{◌≡◌, ℕ, ◌++◌, true, List, [], ◌∷◌, length, reverse, refl, ap, sym, ◌∙◌, subst}
 use Rattle.std.specs.Prelude.{filter_map, flat_map}
 use Rattle.std.specs.List.{range_with_len}
 use Rattle.exb_model.specs.declared.command.Command.{Command}
-use Rattle.exb_model.specs.EagerHistory.{opening, eager}
+use Rattle.exb_model.specs.EagerHistory.{opening, eager, eagerly}
 use Rattle.exb_model.specs.FlatBridge.{flat}
 use Rattle.exb_model.specs.History.{Basis, History, ◌then◌, command_of}
 use Rattle.exb_model.specs.Input.{Input, Segment, Mode, Eager, tree_of, bounds_of, segments}
 use Rattle.exb_model.specs.Input.{basis_of as basis_in}
 use Rattle.exb_model.specs.LegalHistory.{Legal, number_of, settled_each}
 use Rattle.exb_model.specs.Setup.{Limits}
-use Rattle.exb_model.specs.Tree.{Shape}
+use Rattle.exb_model.specs.Tree.{Shape, is_external}
 use Rattle.exb_frame.specs.TagValues.{TagRoundTrip}
 use Rattle.exb_relay.specs.Laws.{SendsAreWords, SendsLeaveAsFlat}
 use Rattle.exb_changing.specs.Runs.Journal.{StepsTell}
@@ -18,6 +18,7 @@ use Rattle.exb_machine.specs.Allowing.{IsSettled}
 use Rattle.exb_machine.specs.Settling.{run}
 use Rattle.exb_machine.specs.Stepping.{Stepped}
 use Rattle.exb_machine.specs.Worlds.{Step, Mark}
+use Rattle.exb_resting.specs.Flight.Showing.{left_at}
 use Rattle.exb_machine.specs.Runs.Written.{StepsStayWritten}
 use Rattle.exb_machine.proofs.Rounds.{run_then}
 use Rattle.exb_resting.specs.Motion.Given.{Given, commands_of, basis_with}
@@ -28,10 +29,11 @@ use Rattle.exb_resting.specs.Motion.Playing.{IsTimely, marked_each, nothing_give
 use Rattle.exb_resting.proofs.Motion.Going.{runs_go_on}
 use Rattle.exb_resting.proofs.Motion.Histories.{longer, flat_stays}
 use Rattle.exb_resting.proofs.Motion.Keeping.{kept_commands}
-use Rattle.exb_resting.proofs.Motion.Playing.{runs_play_legally, runs_play_eagerly}
+use Rattle.exb_resting.proofs.Motion.Fronts.{eager_front, is_eager, numbered, runs_play_eagerly}
+use Rattle.exb_resting.proofs.Motion.Playing.{runs_play_legally}
 use Rattle.exb_resting.proofs.Motion.Setups.{setups_may_start}
 use Rattle.exb_resting.proofs.Motion.Standing.{begins_kept, runs_kept, settled_owes_nothing}
-use Rattle.exb_resting.specs.Rest.Playing.{begin_of, PlaysIn, RunsWriteLegally, RunsWriteEagerly}
+use Rattle.exb_resting.specs.Rest.Playing.{begin_of, PlaysIn, RunsWriteLegally, RunsWriteEagerly, RunsWriteFronts}
 use Rattle.exb_resting.proofs.Rest.PlaysGive.{marked_world, plays_settled, plays_commands, commands_numbered}
 use Rattle.exb_resting.proofs.Rest.Settles.{runs_stay_low}
 use Rattle.exb_resting.proofs.Rest.TellsNumbers.{numbers_then, opening_none, numbers_played, first_commands}
@@ -65,6 +67,40 @@ module _ (round : TagRoundTrip) (words : SendsAreWords) (leave : SendsLeaveAsFla
     pub commands : commands_of (given_in (marked_each (k.first ∷ k.plays))) ≡ flat_map (λ (s : Segment). filter_map (command_of (basis_in i)) s.commands) so_far
     commands = plays_commands (tree_of i) (bounds_of i) (basis_in i) (nothing_given ∷ so_far) (k.first ∷ k.plays) (begin_of i) k.play
 
+  -- so the commands that were given are the first of the input
+  first_given : (m : Mode) (i : Input) (so_far : List Segment) (done : Stepped) (k : PlaysIn m i so_far done) → let cs = commands_of (given_in (marked_each (k.first ∷ k.plays))) in
+      flat_map (λ (s : Segment). s.commands) so_far ≡ range_with_len 1 (length cs) → (rest : List Command) × ((basis_in i).commands ≡ cs ++ rest)
+  first_given m i so_far done k numbers =
+      let b : Basis = basis_in i in
+      let cs : List Command = commands_of (given_in (marked_each (k.first ∷ k.plays))) in
+      first_commands b [] b.commands cs refl (sym (commands m i so_far done k ∙ (commands_numbered b so_far ∙ ap (filter_map (command_of b)) numbers)))
+
+  -- and what has left is what the one bridge sends over what was told
+  left_as_flat : (m : Mode) (i : Input) (so_far : List Segment) (done : Stepped) (k : PlaysIn m i so_far done) →
+      flat_map (λ (s : Segment). s.commands) so_far ≡ range_with_len 1 (length (commands_of (given_in (marked_each (k.first ∷ k.plays))))) →
+      (q : ℕ) → is_external (tree_of i) q ≡ true → left_at q done.left ≡ flat (basis_in i) ([] then done.events) q
+  left_as_flat m i so_far done k numbers q ext =
+      let t : Shape = tree_of i in
+      let b : Basis = basis_in i in
+      let g : List Given = given_in (marked_each (k.first ∷ k.plays)) in
+      let h : History = [] then done.events in
+      let end = kept m i so_far done k in
+      let more = first_given m i so_far done k numbers in
+      let longer_is : longer (basis_with (basis_of i.setup) g) more.0 ≡ b = ap (λ (cs : List Command). record b { commands = cs }) (sym more.1) in
+      let same : flat (basis_with (basis_of i.setup) g) h q ≡ flat b h q =
+      sym (flat_stays (basis_with (basis_of i.setup) g) more.0 h q (kept_commands t (bounds_of i) (basis_of i.setup) done.world g h done.left end)) ∙ ap (λ (a : Basis). flat a h q) longer_is in
+      (settled_owes_nothing t (bounds_of i) (basis_of i.setup) (start m i so_far done k) done.world g h done.left end (settled m i so_far done k) q ext).1 ∙ same
+
+  -- some segments of the eager mode, so far
+  pub runs_write_fronts : RunsWriteFronts
+  runs_write_fronts i so_far rest done timely front k =
+      let h : History = [] then done.events in
+      let told : h ≡ eagerly (tree_of i) (bounds_of i) (basis_in i) (opening (tree_of i) (bounds_of i) (basis_in i)) so_far =
+      ap (λ (z : Stepped). [] then z.events) k.is ∙ is_eager round words leave law stay i so_far rest k.first k.plays k.valid k.vids timely front (low Eager i so_far done k) k.play k.eager in
+      let more = eager_front i so_far rest timely front h told in
+      let numbers = numbered i so_far rest timely front ∙ ap (λ (cs : List Command). range_with_len 1 (length cs)) (sym (commands Eager i so_far done k ∙ commands_numbered (basis_in i) so_far)) in
+      record { more = more.0; journal = more.1; captures = left_as_flat Eager i so_far done k numbers }
+
   -- ---- the whole
   module _ (orderly : SettledIsOrderly) where
     -- a whole run tells a history that the input allows
@@ -89,30 +125,8 @@ module _ (round : TagRoundTrip) (words : SendsAreWords) (leave : SendsLeaveAsFla
         ∙ (numbers_then (opening t l b) (settled_each legal.plays) ∙ ap (λ (ns : List ℕ). ns ++ filter_map number_of (settled_each legal.plays)) (opening_none t l b)) in
         sym (numbers_played ss legal.plays legal.commands_in_order) ∙ (sym parts ∙ o.commands)
 
-    -- so the commands that were given are the first of the input
-    first_given : (m : Mode) (i : Input) (so_far : List Segment) (done : Stepped) (k : PlaysIn m i so_far done) → let cs = commands_of (given_in (marked_each (k.first ∷ k.plays))) in
-        flat_map (λ (s : Segment). s.commands) so_far ≡ range_with_len 1 (length cs) → (rest : List Command) × ((basis_in i).commands ≡ cs ++ rest)
-    first_given m i so_far done k numbers =
-        let b : Basis = basis_in i in
-        let cs : List Command = commands_of (given_in (marked_each (k.first ∷ k.plays))) in
-        first_commands b [] b.commands cs refl (sym (commands m i so_far done k ∙ (commands_numbered b so_far ∙ ap (filter_map (command_of b)) numbers)))
-
     pub runs_write_legally : RunsWriteLegally
-    runs_write_legally m i done timely k =
-        let t : Shape = tree_of i in
-        let b : Basis = basis_in i in
-        let ss : List Segment = segments m i in
-        let g : List Given = given_in (marked_each (k.first ∷ k.plays)) in
-        let h : History = [] then done.events in
-        let end = kept m i ss done k in
-        let more = first_given m i ss done k (numbers_told m i done timely k) in
-        let longer_is : longer (basis_with (basis_of i.setup) g) more.0 ≡ b = ap (λ (cs : List Command). record b { commands = cs }) (sym more.1) in
-        let same : (q : ℕ) → flat (basis_with (basis_of i.setup) g) h q ≡ flat b h q = λ q.
-        sym (flat_stays (basis_with (basis_of i.setup) g) more.0 h q (kept_commands t (bounds_of i) (basis_of i.setup) done.world g h done.left end)) ∙ ap (λ (a : Basis). flat a h q) longer_is in
-        record {
-          journal = told_legally m i done timely k;
-          captures = λ q ext. (settled_owes_nothing t (bounds_of i) (basis_of i.setup) (start m i ss done k) done.world g h done.left end (settled m i ss done k) q ext).1 ∙ same q;
-        }
+    runs_write_legally m i done timely k = record { journal = told_legally m i done timely k; captures = left_as_flat m i (segments m i) done k (numbers_told m i done timely k) }
 
     -- the eager history
     pub runs_write_eagerly : RunsWriteEagerly

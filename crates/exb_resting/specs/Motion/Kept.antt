@@ -119,6 +119,14 @@ SettledOwesNothing =
     (t : Shape) (l : Limits) (i : Basis) → MayStart t l i → (w : World) (g : List Given) (h : History) (left : List Left) → Kept t l i w g h left → IsSettled t w →
     (q : ℕ) → is_external t q ≡ true → (owed_at t w q ≡ []) × (left_at q left ≡ flat (basis_with i g) h q)
 
+-- And whatever was given, was told and has left: where a world stands with that, after a step it stands with what the step gives, tells
+-- and makes leave. Of the world it is enough that it is kept after anything.
+abbrev pub StandsGoOn : Type 0
+StandsGoOn =
+    (t : Shape) (l : Limits) (b : Basis) → MayStart t l b → (w : World) (given : List Given) (told : History) (gone : List Left) → Kept t l b w given told gone → (step : Step) → MayDo t l w step →
+    (i : Basis) → i.ageing ≡ w.table.ageing → (g : List Given) (h : History) (left : List Left) → Stands t l i w g h left →
+    Stands t l i (stepped t l step w).world (g ++ given_by step) (h then (stepped t l step w).events) (left ++ (stepped t l step w).left)
+
 -- So over every list of steps from the beginning of each setup that may start it stands, with all that was given, told and has
 -- left; and the links are clean.
 abbrev pub RunsStand : Type 0

@@ -1,5 +1,5 @@
 -- Runs that play the segments of an input, one after another, and what is known of them.
-use Rattle.std.specs.Prelude.{◌≡◌, ℕ, ◌+◌, ◌*◌, ◌≤◌, ◌==◌, true, List, [], ◌∷◌, length, filter, filter_map, flat_map, fold, sum_by, All, Contains}
+use Rattle.std.specs.Prelude.{◌≡◌, ℕ, ◌+◌, ◌*◌, ◌≤◌, ◌==◌, ◌++◌, true, List, [], ◌∷◌, length, filter, filter_map, flat_map, fold, sum_by, All, Contains}
 use Rattle.exb_model.specs.FlatBridge.{flat}
 use Rattle.exb_model.specs.History.{◌then◌, command_of}
 use Rattle.exb_model.specs.Input.{Input, Arrival, Segment, Mode, Eager, Seeded, basis_of, tree_of, bounds_of, segments}
@@ -100,3 +100,13 @@ pub record HasWritten (i : Input) (done : Stepped) : Type 0 where
 
 abbrev pub RunsWriteEagerly : Type 0
 RunsWriteEagerly = (i : Input) (done : Stepped) → IsTimely i → PlaysSoFar i (segments Eager i) done → HasWritten i done
+
+-- After some segments of the eager mode what was told is a front of the eager history: with these events more it is that. What has
+-- left each external port is what the one bridge sends there over it.
+pub record HasWrittenFront (i : Input) (done : Stepped) : Type 0 where
+  pub more : List Event
+  pub journal : eager i ≡ (([] then done.events) then more)
+  pub captures : (q : ℕ) → is_external (tree_of i) q ≡ true → left_at q done.left ≡ flat (basis_of i) ([] then done.events) q
+
+abbrev pub RunsWriteFronts : Type 0
+RunsWriteFronts = (i : Input) (so_far rest : List Segment) (done : Stepped) → IsTimely i → segments Eager i ≡ so_far ++ rest → PlaysSoFar i so_far done → HasWrittenFront i done

@@ -1,5 +1,5 @@
 //! What is true of a world after every step and every list of steps.
-ghost use Rattle.exb_resting.specs.Motion.Kept.{SetupsMayStart, BeginsKept, StepsKeep, KeptStands, KeptIsClean, SettledOwesNothing, RunsStand};
+ghost use Rattle.exb_resting.specs.Motion.Kept.{SetupsMayStart, BeginsKept, StepsKeep, KeptStands, KeptIsClean, SettledOwesNothing, RunsStand, StandsGoOn};
 ghost use Rattle.exb_resting.specs.Motion.Events.{StepsTellSo};
 ghost use Rattle.exb_resting.specs.Motion.Going.{StepsGoOn, RunsGoOn, SetupsGoOn};
 ghost use Rattle.exb_resting.specs.Motion.Playing.{RunsPlayLegally, RunsPlayEagerly, SettlingPlays};
@@ -24,6 +24,17 @@ pub fn begins_kept()
 /// events that the step adds, and what has left followed by what leaves in it. Whatever is lost, repeated or overtaken.
 pub fn steps_keep()
     ensures { StepsKeep }
+{
+    tag_round_trip();
+    sends_are_words();
+    sends_leave_as_flat();
+    steps_tell();
+}
+
+/// A step leaves a world standing whatever was given, was told and has left before it, so far as the world stands with that; that a run
+/// from the beginning comes to the world says all else.
+pub fn stands_go_on()
+    ensures { StandsGoOn }
 {
     tag_round_trip();
     sends_are_words();

@@ -1,7 +1,7 @@
 //! What is true of rounds and of settling.
 ghost use Rattle.exb_resting.specs.Rest.Laws.{SetupsHaveFacts, SettlingEnds, RoundsSpend, RoundsPlanNothing, RoundsDeliver, WindowsGetOn, OrderKeepsFacts, TurnsAreOrderly, SetupsBeginGoing};
 ghost use Rattle.exb_resting.specs.Rest.Settles.{RunsAreReady, RunsStayLow, Settles, SettlingAlwaysPlays};
-ghost use Rattle.exb_resting.specs.Rest.Playing.{RunsAreFew, RunsAreUnderWay, RunsWriteLegally, RunsWriteEagerly};
+ghost use Rattle.exb_resting.specs.Rest.Playing.{RunsAreFew, RunsAreUnderWay, RunsWriteLegally, RunsWriteEagerly, RunsWriteFronts};
 
 use crate::laws::motion::settled_is_orderly;
 use exb_changing::laws::steps_tell;
@@ -163,4 +163,16 @@ pub fn runs_write_eagerly()
     steps_tell();
     steps_stay_written();
     settled_is_orderly();
+}
+
+/// A run that has played some segments of the eager mode, so far, told a front of the eager history, and what has left each external
+/// port is what one VLAN bridge sends there over that front.
+pub fn runs_write_fronts()
+    ensures { RunsWriteFronts }
+{
+    tag_round_trip();
+    sends_are_words();
+    sends_leave_as_flat();
+    steps_tell();
+    steps_stay_written();
 }

@@ -14,8 +14,8 @@ planned-requires-clause-few c =
     let room = room_of (to_come w.queue w.given) (work_at w.core.fabric.stage w.core.place) (askers_of w.core.sessions) (c.self.invariant.sound c.if-self.false).steady in
     omega arith
 
-pub returns : goal.returns
-returns c =
+pub returns-clause-count : goal.returns-clause-count
+returns-clause-count c =
     let w = c.self.inside in
     subst (λ (p : Parts). IfOk c.planned.result (λ count. count ≡ planned p.fabric.shape (decide_of p.fabric) (state_of p))) c.self.view_is
-    (IfOk-weaker c.planned.result _ _ (λ count is. is (record { queue = w.queue; heard = w.heard.heard; given = w.given }) refl refl) c.planned.ensures)
+    (IfOk-weaker c.planned.result _ _ (λ count is. is (record { queue = w.queue; heard = w.heard.heard; given = w.given }) refl refl) c.planned.ensures.count)

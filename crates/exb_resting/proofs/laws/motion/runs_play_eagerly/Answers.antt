@@ -1,4 +1,4 @@
-use Rattle.exb_resting.proofs.Motion.Playing.{runs_play_eagerly}
+use Rattle.exb_resting.proofs.Motion.Fronts.{runs_play_eagerly}
 use Rattle.exb_resting.proofs.laws.motion.runs_play_eagerly.Goals as goal
 
 pub returns : goal.returns

@@ -1,0 +1,4 @@
+pub mod Counting
+pub mod Going
+pub mod Looking
+pub mod Telling
