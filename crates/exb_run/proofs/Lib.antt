@@ -14,6 +14,8 @@ pub mod Coming
 pub mod Beginning
 pub mod Filling
 pub mod OutputLemmas
+pub mod Cutting
+pub mod CuttingOff
 pub mod FlawLemmas
 pub mod Refusing
 pub mod Asking

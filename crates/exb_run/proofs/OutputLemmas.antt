@@ -22,7 +22,7 @@ use Rattle.exb_run.proofs.Filling.{weaker, still_filled, one_more}
 use Rattle.exb_run.proofs.Places.{port_is, place_low, port_of_place, place_of_port}
 
 -- what left a port
-abbrev sent_at : List Left → ℕ → List Sent
+abbrev pub sent_at : List Left → ℕ → List Sent
 sent_at xs q = left_at q (all_left xs)
 
 -- of two lists of frames
@@ -30,7 +30,7 @@ head_at : (b : Bool) (x : Sent) (xs ys : List Sent) → (if b then x ∷ (xs ++ 
 head_at true x xs ys = refl
 head_at false x xs ys = refl
 
-sent_at-append : (xs ys : List Left) (q : ℕ) → sent_at (xs ++ ys) q ≡ sent_at xs q ++ sent_at ys q
+pub sent_at-append : (xs ys : List Left) (q : ℕ) → sent_at (xs ++ ys) q ≡ sent_at xs q ++ sent_at ys q
 sent_at-append [] ys q = refl
 sent_at-append (x ∷ xs) ys q = rw (sent_at-append xs ys q) (head_at (x.port == q) (x.moment, x.bytes) (sent_at xs q) (sent_at ys q))
 
@@ -114,10 +114,10 @@ module _ (captures : (prefix : List ℕ) (p q : ℕ) → p < 4160 → q < 4160 �
   names_apart i j li lj differ e = places_apart i j (place_is plan i li) (place_is plan j lj) differ e
 
 -- the text of one output and of the others, where that of one has more
-with_more_here : (text : ℕ → List ℕ) (j : ℕ) (more : List ℕ) → with_more text j more j ≡ text j ++ more
+pub with_more_here : (text : ℕ → List ℕ) (j : ℕ) (more : List ℕ) → with_more text j more j ≡ text j ++ more
 with_more_here text j more = rw (eq-eqb j j refl) refl
 
-with_more_other : (text : ℕ → List ℕ) (j : ℕ) (more : List ℕ) (k : ℕ) → k ≢ j → with_more text j more k ≡ text k
+pub with_more_other : (text : ℕ → List ℕ) (j : ℕ) (more : List ℕ) (k : ℕ) → k ≢ j → with_more text j more k ≡ text k
 with_more_other text j more k ne = rw (ne_eqb k j ne) refl
 
 -- another output has its text yet
@@ -182,7 +182,7 @@ has_more_at of plan f g h all text j was now name more apart lt long read named 
     ]))
 
 -- nothing more
-with_more_nothing : (text : ℕ → List ℕ) (j k : ℕ) → with_more text j [] k ≡ text k
+pub with_more_nothing : (text : ℕ → List ℕ) (j k : ℕ) → with_more text j [] k ≡ text k
 with_more_nothing text j k = elim (cases_eq k j) [
   | inl same ↦
       subst (λ (i : ℕ). with_more text j [] i ≡ text i) (sym same) (with_more_here text j [] ∙ append-nil (text j))
@@ -258,7 +258,7 @@ more_texts pieces piece at text long before here j lt = elim (cases_lt j at) [
 ]
 
 -- more of the same output, and more spelled in another way
-with_more_twice : (text : ℕ → List ℕ) (j : ℕ) (xs ys : List ℕ) (k : ℕ) → with_more (with_more text j xs) j ys k ≡ with_more text j (xs ++ ys) k
+pub with_more_twice : (text : ℕ → List ℕ) (j : ℕ) (xs ys : List ℕ) (k : ℕ) → with_more (with_more text j xs) j ys k ≡ with_more text j (xs ++ ys) k
 with_more_twice text j xs ys k = elim (cases_eq k j) [
   | inl same ↦
       subst (λ (i : ℕ). with_more (with_more text j xs) j ys i ≡ with_more text j (xs ++ ys) i) (sym same)
@@ -291,7 +291,7 @@ more_behind plan f g pieces text j before one after is p =
     (λ k bytes _ held. held ∙ with_more_twice text j before one k ∙ ap (λ (xs : List ℕ). with_more text j xs k) is)
 
 -- the texts of one of a list more
-texts_more : {X : Type 0} (text : X → List ℕ) (xs : List X) (i : ℕ) (x : X) → i < length xs → x ≡ get_or xs i x
+pub texts_more : {X : Type 0} (text : X → List ℕ) (xs : List X) (i : ℕ) (x : X) → i < length xs → x ≡ get_or xs i x
     → flat_map text (take i xs) ++ text x ≡ flat_map text (take (i + 1) xs)
 texts_more text xs i x inside is =
     ap (λ (ys : List ℕ). flat_map text (take i xs) ++ ys) (sym (append-nil (text x)))
@@ -313,7 +313,7 @@ pub no_trace : trace_text [] ≡ []
 unfolding trace_text
 no_trace = refl
 
-trace_more : (lines : List TraceLine) (i : ℕ) (one : TraceLine) → i < length lines → one ≡ get_or lines i one
+pub trace_more : (lines : List TraceLine) (i : ℕ) (one : TraceLine) → i < length lines → one ≡ get_or lines i one
     → trace_text (take i lines) ++ (trace_line one ++ 10 ∷ []) ≡ trace_text (take (i + 1) lines)
 unfolding trace_text
 trace_more lines i one inside is = texts_more (λ (x : TraceLine). trace_line x ++ 10 ∷ []) lines i one inside is
@@ -361,11 +361,11 @@ left_elsewhere : (x : Left) (q : ℕ) → x.port ≢ q → sent_at (x ∷ []) q 
 left_elsewhere x q not = rw (ne_eqb x.port q not) refl
 
 -- the text of a capture with what left its port
-capture_left : (plan : Planned) (text : ℕ → List ℕ) (left : List Left) (k : ℕ) → k < port_count plan
+pub capture_left : (plan : Planned) (text : ℕ → List ℕ) (left : List Left) (k : ℕ) → k < port_count plan
     → with_left_frames plan text left k ≡ text k ++ flat_map record_text (sent_at left (port_at plan k))
 capture_left plan text left k below = rw (lt-ltb k (port_count plan) below) refl
 
-journal_left : (plan : Planned) (text : ℕ → List ℕ) (left : List Left) (k : ℕ) → port_count plan ≤ k → with_left_frames plan text left k ≡ text k
+pub journal_left : (plan : Planned) (text : ℕ → List ℕ) (left : List Left) (k : ℕ) → port_count plan ≤ k → with_left_frames plan text left k ≡ text k
 journal_left plan text left k above = rw (le-ltb k (port_count plan) above) refl
 
 -- frames in two parts
@@ -377,7 +377,7 @@ left_in_parts text left x q more is =
     ∙ sym (append_assoc text (flat_map record_text (sent_at left q)) (flat_map record_text (sent_at (x ∷ []) q)))
     ∙ ap (λ (xs : List ℕ). (text ++ flat_map record_text (sent_at left q)) ++ xs) is
 
-left_more : (plan : Planned) (text : ℕ → List ℕ) (left : List Left) (x : Left) (k : ℕ) → CanBeWritten plan x
+pub left_more : (plan : Planned) (text : ℕ → List ℕ) (left : List Left) (x : Left) (k : ℕ) → CanBeWritten plan x
     → with_more (with_left_frames plan text left) (place_in plan.tree x.port) (record_text (x.moment, x.bytes)) k ≡ with_left_frames plan text (left ++ x ∷ []) k
 left_more plan text left x k can =
     let place = place_in plan.tree x.port in

@@ -2,6 +2,7 @@
 use Rattle.std.proofs.Common.{◌≡◌, ◌≢◌, ◌⊎◌, inl, inr, Bool, ℕ, List, Option, Some, None, Ok, Err, ap, sym, refl, subst}
 use Rattle.std.specs.Prelude.{IfOk, IfErr, OnErr, IsErrOf, string_bytes}
 use Rattle.exb_made.specs.Made.{made}
+use Rattle.exb_model.specs.Input.{Eager}
 use Rattle.exb_model.specs.Setup.{shape_of, limits_of}
 use Rattle.exb_model.specs.Tree.{Shape}
 use Rattle.exb_needs.specs.Lines.{lines_of}
@@ -12,10 +13,10 @@ use Rattle.exb_words.specs.Words.{Run, Check, Make}
 use Rattle.exb_run.specs.declared.fault.Fault.{Fault}
 use Rattle.exb_run.specs.declared.fault.Fault.TheVariants.{Usage, Read, Write, Memory}
 use Rattle.exb_run.specs.Inputs.{input_of}
-use Rattle.exb_run.specs.Outputs.{IsPlayed, OnlyOutputs}
+use Rattle.exb_run.specs.Outputs.{AreFrontsOf, IsPlayed, OnlyOutputs}
 use Rattle.exb_run.specs.Flaws.{AreGood, FirstFlaw}
 use Rattle.exb_run.specs.Reading.{IsOfTopology, IsOfPlaying}
-use Rattle.exb_run.specs.Answers.{HoldsTopology, IsDone, IsFailure, IsRefused, OnlyAsked, Stops, eager_summary, mode_for}
+use Rattle.exb_run.specs.Answers.{AreFronts, HoldsTopology, IsDone, IsFailure, IsRefused, OnlyAsked, Stops, eager_summary, mode_for}
 use Rattle.exb_run.specs.Outcomes.{CameOut}
 use Rattle.exb_run.proofs.Asking.{holds_once, shape_same, prefix_same}
 use Rattle.exb_run.proofs.Running.{Outcome}
@@ -33,9 +34,15 @@ came_unaccepted tells f = record {
   read_only = λ other n. refl;
   stopped = λ t fault is n. refl;
   others = λ t n. refl;
+  fronts = λ t. tt;
 }
 
 -- ---- the topology is not taken
+-- no file has changed
+fronts_same : (name : List ℕ) (trace : Bool) (seed : Option ℕ) (f g : Files) → SameFiles f g → AreFronts (Some (Run name trace seed)) f g
+fronts_same name trace None f g same = inl same
+fronts_same name trace (Some n) f g same = tt
+
 module _ (tells : Type 0) (name : List ℕ) (f g : Files) (x : Fault) (is : tells → IsRefused name (f name) x ⊎ (x ≡ Read) ⊎ (x ≡ Memory)) (causes : IsOfTopology x) (same : SameFiles f g) where
   ends : (fault : Fault) → IsRefused name (f name) x ⊎ (x ≡ Read) ⊎ (x ≡ Memory) → (IsRefused name (f name) x → x ≡ fault)
       → ◌≡◌ {A = Outcome} (Err x) (Err fault) ⊎ ◌≡◌ {A = Outcome} (Err x) (Err Read) ⊎ ◌≡◌ {A = Outcome} (Err x) (Err Memory)
@@ -63,6 +70,7 @@ module _ (tells : Type 0) (name : List ℕ) (f g : Files) (x : Fault) (is : tell
     read_only = λ other. same;
     stopped = λ t fault stops. same;
     others = λ t u holds m captures journal trace_file. same m;
+    fronts = λ t. fronts_same name trace seed f g same;
   }
 
   pub came_check_refused : CameOut tells (Some (Check name)) (Err x) f g
@@ -79,6 +87,7 @@ module _ (tells : Type 0) (name : List ℕ) (f g : Files) (x : Fault) (is : tell
     read_only = λ other. same;
     stopped = λ t fault stops. same;
     others = λ t. same;
+    fronts = λ t. tt;
   }
 
 -- ---- the topology is checked
@@ -94,6 +103,7 @@ came_checked tells name f g t (Ok lines) holds same says memory = record {
   read_only = λ other. same;
   stopped = λ told fault stops. same;
   others = λ told. same;
+  fronts = λ told. tt;
 }
 came_checked tells name f g t (Err x) holds same says memory = record {
   unaccepted = λ none. absurd (cc);
@@ -105,6 +115,7 @@ came_checked tells name f g t (Err x) holds same says memory = record {
   read_only = λ other. same;
   stopped = λ told fault stops. same;
   others = λ told. same;
+  fronts = λ told. tt;
 }
 
 -- ---- an input is made
@@ -120,6 +131,7 @@ came_made tells number f (Ok line) says memory = record {
   read_only = λ other n. refl;
   stopped = λ told fault stops n. refl;
   others = λ told n. refl;
+  fronts = λ told. tt;
 }
 came_made tells number f (Err x) says memory = record {
   unaccepted = λ none. absurd (cc);
@@ -131,6 +143,7 @@ came_made tells number f (Err x) says memory = record {
   read_only = λ other n. refl;
   stopped = λ told fault stops n. refl;
   others = λ told n. refl;
+  fronts = λ told. tt;
 }
 
 -- ---- the topology is played
@@ -144,6 +157,7 @@ pub record PlaysOut (tells : Type 0) (trace : Bool) (seed : Option ℕ) (t : Top
   pub early : o ≢ Err Write → o ≢ Err Memory → OnErr o (SameFiles old new)
   pub stopped : tells → (p : ℕ) (x : Fault) → FirstFlaw t.captures old p x → SameFiles old new
   pub others : tells → OnlyOutputs trace (shape_of t.setup) t.prefix old new
+  pub fronts : tells → mode_for seed ≡ Eager → AreFrontsOf (input_of t old) t.prefix old new
 
 module _ (tells : Type 0) (name : List ℕ) (trace : Bool) (seed : Option ℕ) (t : Topology) (f h : Files) (holds : tells → HoldsTopology name f t) where
   done-by : (o : Outcome) → IfOk o (λ line. AreGood t.captures f) → IfOk o (λ line. IsPlayed (mode_for seed) trace (input_of t f) t.prefix f h (string_bytes line)) → HoldsTopology name f t
@@ -172,6 +186,10 @@ module _ (tells : Type 0) (name : List ℕ) (trace : Bool) (seed : Option ℕ) (
       subst (λ (p : List ℕ). OnlyOutputs trace (shape_of u.setup) p f h) (prefix_same t u e)
       (subst (λ (s : Shape). OnlyOutputs trace s t.prefix f h) (shape_same t u e) only)
 
+  fronts-by : (s : Option ℕ) → (mode_for s ≡ Eager → AreFrontsOf (input_of t f) t.prefix f h) → HoldsTopology name f t → AreFronts (Some (Run name trace s)) f h
+  fronts-by None fronts held = inr (record { topology = t; holds = held; fronts = fronts refl })
+  fronts-by (Some n) fronts held = tt
+
   pub came_played : (o : Outcome) → PlaysOut tells trace seed t o f h → CameOut tells (Some (Run name trace seed)) o f h
   came_played o out = record {
     unaccepted = λ none. absurd (cc);
@@ -183,4 +201,5 @@ module _ (tells : Type 0) (name : List ℕ) (trace : Bool) (seed : Option ℕ) (
     read_only = λ other. absurd (other tt);
     stopped = λ told x stops. let found = first-by x (holds told) stops in out.stopped told found.0 x found.1;
     others = λ told. others-by (out.others told) (holds told);
+    fronts = λ told. fronts-by seed (out.fronts told) (holds told);
   }

@@ -1,9 +1,10 @@
 -- A topology that is run: what its plan writes is what is told of its external ports.
-use Rattle.std.proofs.Common.{◌≡◌, ◌≢◌, ◌+◌, ◌<◌, ◌==◌, ◌⊎◌, inl, inr, ℕ, Bool, true, false, List, [], ◌∷◌, Some, Result, Ok, Err, suc, All, refl, ap, sym, ◌∙◌, arith, eq-eqb}
+use Rattle.std.proofs.Common.{◌≡◌, ◌≢◌, ◌+◌, ◌<◌, ◌==◌, ◌⊎◌, inl, inr, ℕ, Bool, true, false, List, [], ◌∷◌, Some, Result, Ok, Err, suc, All, refl, ap, sym, subst, ◌∙◌, arith, eq-eqb}
 use mathlib.Core.Path.{fun_ext}
 use Rattle.std.specs.Prelude.{is_some, if◌then◌else◌, String, IfOk, IfErr, OnErr}
 use Rattle.std.specs.declared.alloc.Global.{Global}
 use Rattle.std.proofs.lemmas.Bool.{lt-ltb, le-ltb, eqb-true, ne_eqb}
+use Rattle.exb_model.specs.EagerHistory.{eager}
 use Rattle.exb_model.specs.History.{History}
 use Rattle.exb_model.specs.Input.{Input, Mode, basis_of, tree_of}
 use Rattle.exb_model.specs.Tree.{Shape, IsTree, is_external}
@@ -17,7 +18,7 @@ use Rattle.exb_run.specs.declared.fault.Fault.{Fault}
 use Rattle.exb_run.specs.declared.fault.Fault.TheVariants.{Write, Memory}
 use Rattle.exb_run.specs.Plans.{Planned, port_count, port_at, place_in}
 use Rattle.exb_run.specs.Inputs.{is_named, name_of}
-use Rattle.exb_run.specs.Outputs.{OnlyOutputs, OnlyPlanned, IsPlayed, HasPlayed, output_name, output_text}
+use Rattle.exb_run.specs.Outputs.{AreCutEagerly, AreFrontsOf, IsCut, OnlyOutputs, OnlyPlanned, IsPlayed, HasPlayed, output_name, output_text}
 use Rattle.exb_run.proofs.OutputLemmas.{IsPlace, place_is, capture_low, journal_low, trace_low, name_of_capture, name_of_journal, name_of_trace}
 use Rattle.exb_run.proofs.Places.{external_low, port_is, place_low, port_of_place}
 
@@ -79,6 +80,26 @@ module _ (i : Input) (plan : Planned) (prefix : List ℕ) (same : plan.prefix �
 
       lines : List TraceLine
       lines = played.lines
+
+  -- where it ended early
+  pub fronts_by : IsTree (tree_of i) → (f g : Files) → AreCutEagerly i plan f g → AreFrontsOf i prefix f g
+  fronts_by is_tree f g cut = record {
+    captures = λ q is.
+        let low = external_low (tree_of i) q is_tree is in
+        let own : is_external plan.tree q ≡ true = ap (λ (t : Shape). is_external t q) tree ∙ is in
+        let j : ℕ = place_in plan.tree q in
+        let inside : j < port_count plan = place_low plan q low own in
+        let place : q ≡ port_at plan j = sym (port_of_place plan q low own) in
+        let name : output_name plan j ≡ capture_name prefix q =
+        name_of_capture plan j inside ∙ ap (λ (p : List ℕ). capture_name p (port_at plan j)) same ∙ ap (capture_name prefix) (sym place) in
+        subst (λ (text : List ℕ). IsCut (f (capture_name prefix q)) (g (capture_name prefix q)) text)
+        (text_of_capture (eager i) [] j inside ∙ ap (λ (p : ℕ). capture_text (flat (basis_of i) (eager i) p)) (sym place))
+        (subst (λ (m : List ℕ). IsCut (f m) (g m) (output_text i plan (eager i) [] j)) name (cut j (omega (arith, inside))));
+    journal =
+        subst (λ (text : List ℕ). IsCut (f (journal_name prefix)) (g (journal_name prefix)) text) (text_of_journal (eager i) [] (port_count plan) refl)
+        (subst (λ (m : List ℕ). IsCut (f m) (g m) (output_text i plan (eager i) [] (port_count plan))) (name_of_journal plan (port_count plan) refl ∙ ap journal_name same)
+        (cut (port_count plan) (omega arith)));
+  }
 
 -- a capture that is named has a port of which this is told of all
 pub named_by : (test : ℕ → Bool) (names : List Named) (q : ℕ) → All (λ x. test x.port ≡ true) names → is_named names q ≡ true → test q ≡ true

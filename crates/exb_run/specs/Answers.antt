@@ -28,7 +28,7 @@ use Rattle.exb_run.specs.declared.fault.Flaw.TheVariants.{Large, Broken}
 use Rattle.exb_run.specs.declared.fault.Fault.{Fault}
 use Rattle.exb_run.specs.declared.fault.Fault.TheVariants.{Usage, Missing, Topology as BadTopology, Capture, Read, Write, Memory}
 use Rattle.exb_run.specs.Inputs.{input_of}
-use Rattle.exb_run.specs.Outputs.{IsPlayed, OnlyOutputs}
+use Rattle.exb_run.specs.Outputs.{AreFrontsOf, IsPlayed, OnlyOutputs}
 use Rattle.exb_run.specs.Flaws.{AreGood, FirstFlaw}
 
 -- ---- what is asked for
@@ -92,6 +92,17 @@ IsDone (Some (Make number)) old new text = text ≡ eager_summary (made number)
 abbrev pub OnlyAsked : Option Ask → Files → Files → Type 0
 OnlyAsked (Some (Run name trace seed)) old new = (t : Topology) → HoldsTopology name old t → OnlyOutputs trace (shape_of t.setup) t.prefix old new
 OnlyAsked _ old new = SameFiles old new
+
+-- what a run of the topology in the file of this name leaves: fronts of what its input calls for
+pub record LeavesFronts (name : List ℕ) (old new : Files) : Type 0 where
+  pub topology : Topology
+  pub holds : HoldsTopology name old topology
+  pub fronts : AreFrontsOf (input_of topology old) topology.prefix old new
+
+-- However an eager run ends, no file has changed, or each capture and the journal are as they were or hold a front of their text.
+abbrev pub AreFronts : Option Ask → Files → Files → Type 0
+AreFronts (Some (Run name trace None)) old new = SameFiles old new ⊎ LeavesFronts name old new
+AreFronts _ old new = ⊤
 
 -- ---- faults
 -- a failure of the shelf while files are made and written

@@ -5,7 +5,7 @@ use Rattle.exb_shelf.specs.Files.{Files, SameFiles}
 use Rattle.exb_words.specs.Words.{Ask, Run, Check, Make}
 use Rattle.exb_run.specs.declared.fault.Fault.{Fault}
 use Rattle.exb_run.specs.declared.fault.Fault.TheVariants.{Usage, Read, Write, Memory}
-use Rattle.exb_run.specs.Answers.{IsDone, IsFailure, IsRun, OnlyAsked, Stops}
+use Rattle.exb_run.specs.Answers.{AreFronts, IsDone, IsFailure, IsRun, OnlyAsked, Stops}
 use Rattle.exb_run.specs.Reading.{IsOfTopology, IsOfPlaying}
 
 -- a fault that can come where this is asked for
@@ -26,3 +26,4 @@ pub record CameOut (tells : Type 0) (a : Option Ask) (o : Result (String Global)
   pub read_only : ¬ IsRun a → SameFiles old new
   pub stopped : tells → (fault : Fault) → Stops a old fault → SameFiles old new
   pub others : tells → OnlyAsked a old new
+  pub fronts : tells → AreFronts a old new

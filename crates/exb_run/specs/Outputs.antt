@@ -1,5 +1,5 @@
 -- What a run writes: the capture of each external port, the journal, the trace where it is asked for, and the summary line.
-use Rattle.std.specs.Prelude.{◌≡◌, ◌≢◌, ◌<◌, ◌==◌, ℕ, Bool, true, List, Option, Some, nat_lt, if◌then◌else◌}
+use Rattle.std.specs.Prelude.{◌≡◌, ◌≢◌, ◌<◌, ◌≤◌, ◌==◌, ◌⊎◌, ℕ, Bool, true, List, [], Option, Some, nat_lt, take, if◌then◌else◌}
 use Rattle.exb_model.specs.EagerHistory.{eager as eager_history}
 use Rattle.exb_model.specs.FlatBridge.{flat}
 use Rattle.exb_model.specs.History.{History}
@@ -43,6 +43,16 @@ pub record IsPlayed (m : Mode) (traced : Bool) (i : Input) (prefix : List ℕ) (
   pub others : OnlyOutputs traced (tree_of i) prefix old new
   pub says : line ≡ summary (tree_of i) (basis_of i) history
 
+-- ---- where a run ended early
+-- a file is as it was, or holds a front of a text
+abbrev pub IsCut : Option (List ℕ) → Option (List ℕ) → List ℕ → Type 0
+IsCut old new text = (new ≡ old) ⊎ ((n : ℕ) × (new ≡ Some (take n text)))
+
+-- The file of each external port and the journal are as they were, or hold a front of their text over the eager history.
+pub record AreFrontsOf (i : Input) (prefix : List ℕ) (old new : Files) : Type 0 where
+  pub captures : (q : ℕ) → is_external (tree_of i) q ≡ true → IsCut (old (capture_name prefix q)) (new (capture_name prefix q)) (capture_text (flat (basis_of i) (eager_history i) q))
+  pub journal : IsCut (old (journal_name prefix)) (new (journal_name prefix)) (journal_text (eager_history i))
+
 -- ---- the outputs of a plan
 -- the files of the external ports in port order (counted from 0), after them the journal, and then the trace
 abbrev pub output_name : Planned → ℕ → List ℕ
@@ -63,6 +73,10 @@ pub record HasPlayed (m : Mode) (i : Input) (plan : Planned) (old new : Files) (
   pub trace : plan.traced ≡ true → IsTraceOf i history lines
   pub outputs : Filled old new (output_count plan) (output_name plan) (λ j bytes. bytes ≡ output_text i plan history lines j)
   pub says : line ≡ summary (tree_of i) (basis_of i) history
+
+-- all but the trace are as they were, or hold a front of their text over the eager history
+abbrev pub AreCutEagerly : Input → Planned → Files → Files → Type 0
+AreCutEagerly i plan old new = (j : ℕ) → j ≤ port_count plan → IsCut (old (output_name plan j)) (new (output_name plan j)) (output_text i plan (eager_history i) [] j)
 
 -- no file but the outputs has changed
 abbrev pub OnlyPlanned : Planned → Files → Files → Type 0

@@ -27,7 +27,7 @@ use Rattle.exb_run.specs.declared.outputs.Outputs.{Outputs}
 use Rattle.exb_run.specs.declared.script.Schedule.{Schedule}
 use Rattle.exb_run.specs.declared.script.Schedule.TheVariants as schedule
 use Rattle.exb_run.specs.Plans.{Planned, port_count, port_at}
-use Rattle.exb_run.specs.Writing.{HasTexts, first_text, pieces_of}
+use Rattle.exb_run.specs.Writing.{AreCut, HasTexts, first_text, pieces_of}
 
 -- ---- what is asked for
 abbrev pub mode_of : Schedule → Mode
@@ -69,6 +69,19 @@ pub record IsTold (tells : Type 0) (m : Mode) (r : Run) (plan : Planned) (now : 
   pub counted : c ≡ counts_so_far told gone
   pub texts : tells → HasTexts plan (pieces_of o) r.before now (text_so_far plan told gone lines)
   pub quiet : IsQuiet n
+
+-- The run ended early, after some of its segments: each output is as it was, or holds a front of its text over what these told.
+pub record IsCutOff (m : Mode) (r : Run) (plan : Planned) (now : Files) : Type 0 where
+  pub tree : plan.tree ≡ tree_of r.input
+  pub so_far : List Segment
+  pub rest : List Segment
+  pub segments_are : segments m r.input ≡ so_far ++ rest
+  pub network : Network
+  pub told : List Event
+  pub gone : List Left
+  pub lines : List TraceLine
+  pub played : IsPlayedBy m r.input so_far network told gone lines
+  pub cut : AreCut plan r.before now (text_so_far plan told gone lines)
 
 -- ---- what comes
 -- the seconds of a segment, by the second of the one before it, if there is one

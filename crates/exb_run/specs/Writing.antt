@@ -7,7 +7,7 @@ use Rattle.exb_model.specs.Texts.{capture_header, record_text, line_of}
 use Rattle.exb_network.specs.declared.log.Left.{Left}
 use Rattle.exb_network.specs.Worlds.{all_left}
 use Rattle.exb_resting.specs.Flight.Showing.{left_at}
-use Rattle.exb_shelf.specs.Files.{Files, Filled}
+use Rattle.exb_shelf.specs.Files.{Files, Cut, Filled}
 use Rattle.exb_shelf.specs.Shelf.{Id, writing}
 use Rattle.exb_run.specs.declared.outputs.Outputs.{Outputs}
 use Rattle.exb_run.specs.Plans.{Planned, output_count, port_count, port_at}
@@ -24,6 +24,10 @@ Holds pieces text j bytes = bytes ++ slice_index_or pieces j [] ≡ text j
 -- each output has its text, and no other file has changed
 abbrev pub HasTexts : Planned → List (List ℕ) → Files → Files → (ℕ → List ℕ) → Type 0
 HasTexts plan pieces old new text = Filled old new (output_count plan) (output_name plan) (Holds pieces text)
+
+-- each output is as it was or holds a front of its text, and no other file has changed
+abbrev pub AreCut : Planned → Files → Files → (ℕ → List ℕ) → Type 0
+AreCut plan old new text = Cut old new (output_count plan) (output_name plan) text
 
 -- the outputs of a plan: each has an id of its file, and a piece
 pub record IsReady (plan : Planned) (given : ℕ → Id) (o : Outputs) : Type 0 where

@@ -1,7 +1,7 @@
 //! A run under way: the world, what is written of it, and what is counted.
 ghost use Rattle.std.specs.Prelude.{◌≡◌, ◌≤◌, ◌<◌, ◌+◌, ◌^◌, ◌++◌, ◌∷◌, [], ℕ, List, length, drop, All, fold, IsOk, IfOk, OnOk, OnErr, IfErr, None, Some, string_bytes};
 ghost use Rattle.exb_model.specs.declared.event.Event.{Event};
-ghost use Rattle.exb_model.specs.Input.{Input, Mode, Segment, segments};
+ghost use Rattle.exb_model.specs.Input.{Input, Mode, Eager, Segment, segments};
 ghost use Rattle.exb_model.specs.Setup.{IsValid, shape_of};
 ghost use Rattle.exb_model.specs.Texts.{counted, with_left, summary_line};
 ghost use Rattle.exb_model.specs.Traces.{TraceLine, trace_text};
@@ -15,13 +15,13 @@ ghost use Rattle.exb_schedule.specs.Worlds.{network_of, fate_in};
 ghost use Rattle.exb_shelf.specs.Files.{Files, Filled};
 ghost use Rattle.exb_text.specs.Tallies.{counts_of, nothing_counted, FitsTally};
 ghost use Rattle.exb_run.specs.Plans.{output_count, port_count};
-ghost use Rattle.exb_run.specs.Playing.{Run, CanBegin, CanBePlayed, CanGoOn, IsOpened, IsPlaying, IsTold, mode_of, second_by, seconds_after};
-ghost use Rattle.exb_run.specs.Outputs.{HasPlayed, output_name};
+ghost use Rattle.exb_run.specs.Playing.{Run, CanBegin, CanBePlayed, CanGoOn, IsCutOff, IsOpened, IsPlaying, IsTold, mode_of, second_by, seconds_after};
+ghost use Rattle.exb_run.specs.Outputs.{AreCutEagerly, HasPlayed, output_name};
 ghost use Rattle.exb_run.specs.Shelving.{CountsFaults, IsOfWriting, OnlyMakes, OnlyWrites};
-ghost use Rattle.exb_run.specs.Writing.{HasTexts, IsReady, pieces_of, lines_of, with_more, with_left_frames, CanBeWritten};
+ghost use Rattle.exb_run.specs.Writing.{AreCut, HasTexts, IsReady, pieces_of, lines_of, with_more, with_left_frames, CanBeWritten};
 
 use crate::fault::Fault;
-use crate::gather::gather;
+use crate::gather::{NANOSECONDS, gather};
 use crate::outputs::{Outputs, create_all};
 use crate::plan::Plan;
 use crate::script::{Schedule, Script};
@@ -31,7 +31,7 @@ use exb_merge::{Agenda, Due};
 use exb_model::event::Event;
 use exb_model::setup::Timed;
 use exb_resting::laws::rest::{
-    runs_are_few, runs_are_under_way, runs_write_eagerly, runs_write_legally,
+    runs_are_few, runs_are_under_way, runs_write_eagerly, runs_write_fronts, runs_write_legally,
 };
 use exb_schedule::{Arrival, World, WorldFault, eager, open, seeded};
 use exb_shelf::Shelf;
@@ -40,9 +40,6 @@ use exb_tracing::laws::runs_tell_legally;
 use rand_core::SeedableRng;
 use rand_pcg::Lcg64Xsh32;
 use std::alloc::Global;
-
-/// A second in nanoseconds.
-const NANOSECONDS: u64 = 1_000_000_000;
 
 /// Room for one line of the journal and for one of the trace.
 #[derive(Drop)]
@@ -93,6 +90,10 @@ fn write_all<S: Shelf>(
     ensures ready { IsReady plan.now (S.ids shelf.new) outputs.new }
     ensures texts { S.tells → OnOk result ((orig : Files) (text : ℕ → List ℕ) → HasTexts plan.now (pieces_of outputs.old) orig (S.file shelf.old) text
         → HasTexts plan.now (pieces_of outputs.new) orig (S.file shelf.new)
+        (with_more (with_left_frames plan.now (with_more text (port_count plan.now) (lines_of (network_of world.now).log.events)) (network_of world.now).log.left)
+        (port_count plan.now + 1) (trace_text (network_of world.now).log.lines))) }
+    ensures cut { S.tells → OnErr result ((orig : Files) (text : ℕ → List ℕ) → HasTexts plan.now (pieces_of outputs.old) orig (S.file shelf.old) text
+        → AreCut plan.now orig (S.file shelf.new)
         (with_more (with_left_frames plan.now (with_more text (port_count plan.now) (lines_of (network_of world.now).log.events)) (network_of world.now).log.left)
         (port_count plan.now + 1) (trace_text (network_of world.now).log.lines))) }
     ensures only { OnlyWrites S.tells plan.now (S.file shelf.old) (S.file shelf.new) (S.ids shelf.old) (S.ids shelf.new) }
@@ -152,6 +153,10 @@ impl Game {
             → HasTexts plan.now (pieces_of self.new.outputs) orig (S.file shelf.new)
             (with_more (with_left_frames plan.now (with_more text (port_count plan.now) (lines_of (network_of self.old.world).log.events)) (network_of self.old.world).log.left)
             (port_count plan.now + 1) (trace_text (network_of self.old.world).log.lines))) }
+        ensures cut { S.tells → OnErr result ((orig : Files) (text : ℕ → List ℕ) → HasTexts plan.now (pieces_of self.old.outputs) orig (S.file shelf.old) text
+            → AreCut plan.now orig (S.file shelf.new)
+            (with_more (with_left_frames plan.now (with_more text (port_count plan.now) (lines_of (network_of self.old.world).log.events)) (network_of self.old.world).log.left)
+            (port_count plan.now + 1) (trace_text (network_of self.old.world).log.lines))) }
         ensures counts { OnOk result (counts_of self.new.tally
             ≡ with_left (length (network_of self.old.world).log.left) (fold (λ c e. counted e c) (counts_of self.old.tally) (network_of self.old.world).log.events)) }
         ensures fate { OnOk result (left (fate_in self.new.world) ≡ left (fate_in self.old.world)) }
@@ -183,6 +188,10 @@ impl Game {
         ensures told { OnOk result ((run : Run) (so_far : List Segment) (s : Segment) → IsSegment run.input s seconds commands.now arrivals.now
             → IsTold S.tells (mode_of schedule) run plan.now (S.file shelf.old) (network_of self.old.world) (counts_of self.old.tally) self.old.outputs so_far
             → IsTold S.tells (mode_of schedule) run plan.now (S.file shelf.new) (network_of self.new.world) (counts_of self.new.tally) self.new.outputs (so_far ++ s ∷ [])) }
+        ensures cut { S.tells → OnErr result ((run : Run) (so_far rest : List Segment) (s : Segment) → segments (mode_of schedule) run.input ≡ so_far ++ s ∷ rest
+            → IsSegment run.input s seconds commands.now arrivals.now
+            → IsTold S.tells (mode_of schedule) run plan.now (S.file shelf.old) (network_of self.old.world) (counts_of self.old.tally) self.old.outputs so_far
+            → IsCutOff (mode_of schedule) run plan.now (S.file shelf.new)) }
         ensures budget { OnOk result (left (fate_in self.new.world) ≤ left (fate_in self.old.world) + letters_in commands.now) }
         ensures only { OnlyWrites S.tells plan.now (S.file shelf.old) (S.file shelf.new) (S.ids shelf.old) (S.ids shelf.new) }
         ensures causes { IfErr result IsOfWriting }
@@ -226,6 +235,9 @@ impl Game {
         ensures told { OnOk result ((run : Run)
             → CanGoOn S.tells (mode_of schedule) run plan.now (S.file shelf.old) (network_of self.old.world) (counts_of self.old.tally) self.old.outputs seconds from first.now agenda.old
             → IsPlaying S.tells (mode_of schedule) run plan.now (S.file shelf.new) (network_of self.new.world) (counts_of self.new.tally) self.new.outputs (Some (second_by first.now)) agenda.new) }
+        ensures cut { S.tells → OnErr result ((run : Run)
+            → CanGoOn S.tells (mode_of schedule) run plan.now (S.file shelf.old) (network_of self.old.world) (counts_of self.old.tally) self.old.outputs seconds from first.now agenda.old
+            → IsCutOff (mode_of schedule) run plan.now (S.file shelf.new)) }
         ensures budget { OnOk result (left (fate_in self.new.world) + letters_in (drop agenda.new.taken agenda.new.commands) < 2 ^ 57) }
         ensures fewer { OnOk result (length (still_to_come agenda.new) ≤ length (still_to_come agenda.old)) }
         ensures only { OnlyWrites S.tells plan.now (S.file shelf.old) (S.file shelf.new) (S.ids shelf.old) (S.ids shelf.new) }
@@ -265,6 +277,9 @@ impl Game {
         ensures told { OnOk result ((run : Run)
             → IsPlaying S.tells (mode_of schedule) run plan.now (S.file shelf.old) (network_of self.old.world) (counts_of self.old.tally) self.old.outputs None agenda.old
             → IsTold S.tells (mode_of schedule) run plan.now (S.file shelf.new) (network_of self.new.world) (counts_of self.new.tally) self.new.outputs (segments (mode_of schedule) run.input)) }
+        ensures cut { S.tells → OnErr result ((run : Run)
+            → IsPlaying S.tells (mode_of schedule) run plan.now (S.file shelf.old) (network_of self.old.world) (counts_of self.old.tally) self.old.outputs None agenda.old
+            → IsCutOff (mode_of schedule) run plan.now (S.file shelf.new)) }
         ensures only { OnlyWrites S.tells plan.now (S.file shelf.old) (S.file shelf.new) (S.ids shelf.old) (S.ids shelf.new) }
         ensures causes { IfErr result IsOfWriting }
         ensures faults { CountsFaults result (S.faults shelf.old) (S.faults shelf.new) }
@@ -288,6 +303,8 @@ impl Game {
         requires few { self.old.tally.relayed + self.old.tally.ignored < 2 ^ 64 }
         ensures texts { S.tells → OnOk result ((orig : Files) (text : ℕ → List ℕ) → HasTexts plan.now (pieces_of self.old.outputs) orig (S.file shelf.old) text
             → Filled orig (S.file shelf.new) (output_count plan.now) (output_name plan.now) (λ j bytes. bytes ≡ text j)) }
+        ensures cut { S.tells → OnErr result ((orig : Files) (text : ℕ → List ℕ) → HasTexts plan.now (pieces_of self.old.outputs) orig (S.file shelf.old) text
+            → AreCut plan.now orig (S.file shelf.new) text) }
         ensures line { IfOk result (λ line. string_bytes line ≡ summary_line (counts_of self.old.tally)) }
         ensures only { OnlyWrites S.tells plan.now (S.file shelf.old) (S.file shelf.new) (S.ids shelf.old) (S.ids shelf.new) }
         ensures causes { IfErr result IsOfWriting }
@@ -312,6 +329,9 @@ impl Game {
         ensures done { S.tells → IfOk result (λ line. (run : Run) → IsTimely run.input
             → IsPlaying S.tells (mode_of schedule) run plan.now (S.file shelf.old) (network_of self.old.world) (counts_of self.old.tally) self.old.outputs None agenda.old
             → HasPlayed (mode_of schedule) run.input plan.now run.before (S.file shelf.new) (string_bytes line)) }
+        ensures cut { S.tells → OnErr result ((run : Run)
+            → IsPlaying S.tells (mode_of schedule) run plan.now (S.file shelf.old) (network_of self.old.world) (counts_of self.old.tally) self.old.outputs None agenda.old
+            → IsCutOff (mode_of schedule) run plan.now (S.file shelf.new)) }
         ensures only { OnlyWrites S.tells plan.now (S.file shelf.old) (S.file shelf.new) (S.ids shelf.old) (S.ids shelf.new) }
         ensures causes { IfErr result IsOfWriting }
         ensures faults { CountsFaults result (S.faults shelf.old) (S.faults shelf.new) }
@@ -324,6 +344,7 @@ impl Game {
         self.play_all(alloc, shelf, plan, schedule, agenda)?;
         self.end(alloc, shelf, plan)
     }
+
     /// Writes and counts what happened by the opening, plays all that comes, and answers the summary line.
     fn play_opened<S: Shelf>(
         &mut self,
@@ -339,6 +360,9 @@ impl Game {
         ensures done { S.tells → IfOk result (λ line. (run : Run)
             → IsOpened S.tells (mode_of schedule) run plan.now (S.file shelf.old) (network_of self.old.world) (counts_of self.old.tally) self.old.outputs agenda.old
             → HasPlayed (mode_of schedule) run.input plan.now run.before (S.file shelf.new) (string_bytes line)) }
+        ensures cut { S.tells → OnErr result ((run : Run)
+            → IsOpened S.tells (mode_of schedule) run plan.now (S.file shelf.old) (network_of self.old.world) (counts_of self.old.tally) self.old.outputs agenda.old
+            → IsCutOff (mode_of schedule) run plan.now (S.file shelf.new)) }
         ensures only { OnlyWrites S.tells plan.now (S.file shelf.old) (S.file shelf.new) (S.ids shelf.old) (S.ids shelf.new) }
         ensures causes { IfErr result IsOfWriting }
         ensures faults { CountsFaults result (S.faults shelf.old) (S.faults shelf.new) }
@@ -367,6 +391,9 @@ fn play_world<S: Shelf>(
     ensures done { S.tells → IfOk result (λ line. (run : Run)
         → IsOpened S.tells (mode_of schedule) run plan.now (S.file shelf.old) (network_of world) nothing_counted outputs agenda.old
         → HasPlayed (mode_of schedule) run.input plan.now run.before (S.file shelf.new) (string_bytes line)) }
+    ensures cut { S.tells → OnErr result ((run : Run)
+        → IsOpened S.tells (mode_of schedule) run plan.now (S.file shelf.old) (network_of world) nothing_counted outputs agenda.old
+        → IsCutOff (mode_of schedule) run plan.now (S.file shelf.new)) }
     ensures only { OnlyWrites S.tells plan.now (S.file shelf.old) (S.file shelf.new) (S.ids shelf.old) (S.ids shelf.new) }
     ensures causes { IfErr result IsOfWriting }
     ensures faults { CountsFaults result (S.faults shelf.old) (S.faults shelf.new) }
@@ -400,10 +427,13 @@ pub(crate) fn play_agenda<S: Shelf>(
     requires budget { left fate + length script.now.fate.now + letters_in (drop agenda.old.taken agenda.old.commands) < 2 ^ 57 }
     ensures done { S.tells → IfOk result (λ line. (run : Run) → CanBegin S.tells (mode_of schedule) run script.now.setup.now (S.file shelf.old) agenda.old
         → HasPlayed (mode_of schedule) run.input plan.now (S.file shelf.old) (S.file shelf.new) (string_bytes line)) }
+    ensures fronts { S.tells → mode_of schedule ≡ Eager → (run : Run) → CanBegin S.tells (mode_of schedule) run script.now.setup.now (S.file shelf.old) agenda.old
+        → AreCutEagerly run.input plan.now (S.file shelf.old) (S.file shelf.new) }
     ensures only { OnlyMakes S.tells plan.now (S.file shelf.old) (S.file shelf.new) (S.ids shelf.old) (S.ids shelf.new) }
     ensures causes { IfErr result IsOfWriting }
     ensures faults { CountsFaults result (S.faults shelf.old) (S.faults shelf.new) }
 {
+    runs_write_fronts();
     let outputs = create_all(alloc, shelf, plan)?;
     let Ok(world) = open(alloc, script.setup, fate, script.fate, plan.traced()) else {
         return Err(Fault::Memory);

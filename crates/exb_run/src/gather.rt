@@ -13,7 +13,7 @@ use exb_schedule::Arrival;
 use std::alloc::Global;
 
 /// A second in nanoseconds.
-const NANOSECONDS: u64 = 1_000_000_000;
+pub(crate) const NANOSECONDS: u64 = 1_000_000_000;
 
 /// Puts the arrival of what comes behind others, with its bytes copied; a command has none.
 fn put_arrival(alloc: Global, arrivals: &mut Vec<Arrival>, due: &Due<'_>) -> Result<(), NoMemory>

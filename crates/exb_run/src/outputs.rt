@@ -1,13 +1,13 @@
 //! The output files while they are written.
 ghost use Rattle.std.specs.Prelude.{◌≡◌, ◌≢◌, true, ◌≤◌, ◌<◌, ◌+◌, ◌-◌, ◌*◌, ◌++◌, ℕ, List, [], length, IfOk, OnOk, OnErr, IfErr, string_bytes, ◌∷◌, ◌⊎◌, All};
-ghost use Rattle.exb_shelf.specs.Files.{Files, SameFiles, Puts, Adds, Filled};
+ghost use Rattle.exb_shelf.specs.Files.{Files, SameFiles, Puts, Adds, AddsFront, Filled};
 ghost use Rattle.exb_shelf.specs.Shelf.{IsWriting, Opens, writing};
 ghost use Rattle.exb_run.specs.Plans.{Planned, output_count, port_count, place_in};
 ghost use Rattle.exb_run.specs.Outputs.{output_name};
 ghost use Rattle.exb_run.specs.Shelving.{CountsFaults, IsOfWriting, OnlyMakes, OnlyWrites, WritesPlanned};
 ghost use Rattle.exb_model.specs.Texts.{line_of, record_text as record_of};
 ghost use Rattle.exb_model.specs.Traces.{trace_line, trace_text};
-ghost use Rattle.exb_run.specs.Writing.{pieces_of, Holds, HasTexts, IsReady, first_text, with_more, lines_of, with_left_frames, CanBeWritten};
+ghost use Rattle.exb_run.specs.Writing.{pieces_of, AreCut, Holds, HasTexts, IsReady, first_text, with_more, lines_of, with_left_frames, CanBeWritten};
 
 use crate::fault::Fault;
 use crate::plan::Plan;
@@ -86,6 +86,7 @@ fn create_one<S: Shelf>(
     ensures opened { Opens (WritesPlanned plan.now) (S.ids shelf.old) (S.ids shelf.new) }
     ensures empty { S.tells → OnOk result (Puts (S.file shelf.old) (S.file shelf.new) (output_name plan.now at) []) }
     ensures others { S.tells → OnErr result ((m : List ℕ) → m ≢ output_name plan.now at → S.file shelf.new m ≡ S.file shelf.old m) }
+    ensures stays { S.tells → OnErr result (SameFiles (S.file shelf.old) (S.file shelf.new) ⊎ Puts (S.file shelf.old) (S.file shelf.new) (output_name plan.now at) []) }
     ensures causes { IfErr result IsOfWriting }
     ensures faults { CountsFaults result (S.faults shelf.old) (S.faults shelf.new) }
 {
@@ -106,6 +107,7 @@ pub(crate) fn create_all<S: Shelf>(
 ) -> Result<Outputs, Fault>
     ensures ready { IfOk result (λ outputs. IsReady plan.now (S.ids shelf.new) outputs) }
     ensures texts { S.tells → IfOk result (λ outputs. HasTexts plan.now (pieces_of outputs) (S.file shelf.old) (S.file shelf.new) (first_text plan.now)) }
+    ensures cut { S.tells → OnErr result ((text : ℕ → List ℕ) → AreCut plan.now (S.file shelf.old) (S.file shelf.new) text) }
     ensures only { OnlyMakes S.tells plan.now (S.file shelf.old) (S.file shelf.new) (S.ids shelf.old) (S.ids shelf.new) }
     ensures causes { IfErr result IsOfWriting }
     ensures faults { CountsFaults result (S.faults shelf.old) (S.faults shelf.new) }
@@ -125,6 +127,7 @@ pub(crate) fn create_all<S: Shelf>(
 fn flush<S: Shelf>(shelf: &mut S, id: u32, piece: &mut Vec<u8>) -> Result<(), Fault>
     requires { IsWriting (S.ids shelf.old id) }
     ensures written { S.tells → OnOk result (Adds (S.file shelf.old) (S.file shelf.new) (S.ids shelf.old id).name piece.old.items) }
+    ensures front { S.tells → OnErr result (AddsFront (S.file shelf.old) (S.file shelf.new) (S.ids shelf.old id).name piece.old.items) }
     ensures empty { OnOk result (piece.new.items ≡ []) }
     ensures others { S.tells → (m : List ℕ) → m ≢ (S.ids shelf.old id).name → S.file shelf.new m ≡ S.file shelf.old m }
     ensures kept { (j : ℕ) → S.ids shelf.new j ≡ S.ids shelf.old j }
@@ -148,6 +151,7 @@ fn add<S: Shelf>(
     ensures kept_or_written { S.tells → OnOk result (
         (SameFiles (S.file shelf.old) (S.file shelf.new) × (piece.new.items ≡ piece.old.items ++ (head.now ++ bytes.now)))
         ⊎ (Adds (S.file shelf.old) (S.file shelf.new) (S.ids shelf.old id).name (piece.old.items ++ (head.now ++ bytes.now)) × (piece.new.items ≡ []))) }
+    ensures front { S.tells → OnErr result (AddsFront (S.file shelf.old) (S.file shelf.new) (S.ids shelf.old id).name (piece.old.items ++ (head.now ++ bytes.now))) }
     ensures others { S.tells → (m : List ℕ) → m ≢ (S.ids shelf.old id).name → S.file shelf.new m ≡ S.file shelf.old m }
     ensures kept { (j : ℕ) → S.ids shelf.new j ≡ S.ids shelf.old j }
     ensures causes { IfErr result IsOfWriting }
@@ -175,6 +179,8 @@ impl Outputs {
         ensures ready { IsReady plan.now (S.ids shelf.new) self.new }
         ensures texts { S.tells → OnOk result ((orig : Files) (text : ℕ → List ℕ) → HasTexts plan.now (pieces_of self.old) orig (S.file shelf.old) text
             → HasTexts plan.now (pieces_of self.new) orig (S.file shelf.new) (with_more text (port_count plan.now) (lines_of events.now))) }
+        ensures cut { S.tells → OnErr result ((orig : Files) (text : ℕ → List ℕ) → HasTexts plan.now (pieces_of self.old) orig (S.file shelf.old) text
+            → AreCut plan.now orig (S.file shelf.new) (with_more text (port_count plan.now) (lines_of events.now))) }
         ensures only { OnlyWrites S.tells plan.now (S.file shelf.old) (S.file shelf.new) (S.ids shelf.old) (S.ids shelf.new) }
         ensures causes { IfErr result IsOfWriting }
         ensures faults { CountsFaults result (S.faults shelf.old) (S.faults shelf.new) }
@@ -197,6 +203,8 @@ impl Outputs {
         ensures ready { IsReady plan.now (S.ids shelf.new) self.new }
         ensures texts { S.tells → OnOk result ((orig : Files) (text : ℕ → List ℕ) → HasTexts plan.now (pieces_of self.old) orig (S.file shelf.old) text
             → HasTexts plan.now (pieces_of self.new) orig (S.file shelf.new) (with_left_frames plan.now text left.now)) }
+        ensures cut { S.tells → OnErr result ((orig : Files) (text : ℕ → List ℕ) → HasTexts plan.now (pieces_of self.old) orig (S.file shelf.old) text
+            → AreCut plan.now orig (S.file shelf.new) (with_left_frames plan.now text left.now)) }
         ensures only { OnlyWrites S.tells plan.now (S.file shelf.old) (S.file shelf.new) (S.ids shelf.old) (S.ids shelf.new) }
         ensures causes { IfErr result IsOfWriting }
         ensures faults { CountsFaults result (S.faults shelf.old) (S.faults shelf.new) }
@@ -219,6 +227,8 @@ impl Outputs {
         ensures ready { IsReady plan.now (S.ids shelf.new) self.new }
         ensures texts { S.tells → OnOk result ((orig : Files) (text : ℕ → List ℕ) → HasTexts plan.now (pieces_of self.old) orig (S.file shelf.old) text
             → HasTexts plan.now (pieces_of self.new) orig (S.file shelf.new) (with_more text (port_count plan.now + 1) (trace_text lines.now))) }
+        ensures cut { S.tells → OnErr result ((orig : Files) (text : ℕ → List ℕ) → HasTexts plan.now (pieces_of self.old) orig (S.file shelf.old) text
+            → AreCut plan.now orig (S.file shelf.new) (with_more text (port_count plan.now + 1) (trace_text lines.now))) }
         ensures only { OnlyWrites S.tells plan.now (S.file shelf.old) (S.file shelf.new) (S.ids shelf.old) (S.ids shelf.new) }
         ensures causes { IfErr result IsOfWriting }
         ensures faults { CountsFaults result (S.faults shelf.old) (S.faults shelf.new) }
@@ -243,6 +253,8 @@ impl Outputs {
         ensures ready { IsReady plan.now (S.ids shelf.new) self.new }
         ensures texts { S.tells → OnOk result ((orig : Files) (text : ℕ → List ℕ) → HasTexts plan.now (pieces_of self.old) orig (S.file shelf.old) text
             → HasTexts plan.now (pieces_of self.new) orig (S.file shelf.new) (with_more text (port_count plan.now + 1) (trace_text lines.now))) }
+        ensures cut { S.tells → OnErr result ((orig : Files) (text : ℕ → List ℕ) → HasTexts plan.now (pieces_of self.old) orig (S.file shelf.old) text
+            → AreCut plan.now orig (S.file shelf.new) (with_more text (port_count plan.now + 1) (trace_text lines.now))) }
         ensures only { OnlyWrites S.tells plan.now (S.file shelf.old) (S.file shelf.new) (S.ids shelf.old) (S.ids shelf.new) }
         ensures causes { IfErr result IsOfWriting }
         ensures faults { CountsFaults result (S.faults shelf.old) (S.faults shelf.new) }
@@ -258,6 +270,8 @@ impl Outputs {
         requires ready { IsReady plan.now (S.ids shelf.old) self.old }
         ensures texts { S.tells → OnOk result ((orig : Files) (text : ℕ → List ℕ) → HasTexts plan.now (pieces_of self.old) orig (S.file shelf.old) text
             → Filled orig (S.file shelf.new) (output_count plan.now) (output_name plan.now) (λ j bytes. bytes ≡ text j)) }
+        ensures cut { S.tells → OnErr result ((orig : Files) (text : ℕ → List ℕ) → HasTexts plan.now (pieces_of self.old) orig (S.file shelf.old) text
+            → AreCut plan.now orig (S.file shelf.new) text) }
         ensures only { OnlyWrites S.tells plan.now (S.file shelf.old) (S.file shelf.new) (S.ids shelf.old) (S.ids shelf.new) }
         ensures causes { IfErr result IsOfWriting }
         ensures faults { CountsFaults result (S.faults shelf.old) (S.faults shelf.new) }
@@ -281,6 +295,8 @@ impl Outputs {
         ensures ready { IsReady plan.now (S.ids shelf.new) self.new }
         ensures texts { S.tells → OnOk result ((orig : Files) (text : ℕ → List ℕ) → HasTexts plan.now (pieces_of self.old) orig (S.file shelf.old) text
             → HasTexts plan.now (pieces_of self.new) orig (S.file shelf.new) (with_more text (port_count plan.now) (line_of event.now ++ 10 ∷ []))) }
+        ensures cut { S.tells → OnErr result ((orig : Files) (text : ℕ → List ℕ) → HasTexts plan.now (pieces_of self.old) orig (S.file shelf.old) text
+            → AreCut plan.now orig (S.file shelf.new) (with_more text (port_count plan.now) (line_of event.now ++ 10 ∷ []))) }
         ensures only { OnlyWrites S.tells plan.now (S.file shelf.old) (S.file shelf.new) (S.ids shelf.old) (S.ids shelf.new) }
         ensures causes { IfErr result IsOfWriting }
         ensures faults { CountsFaults result (S.faults shelf.old) (S.faults shelf.new) }
@@ -305,6 +321,8 @@ impl Outputs {
         ensures ready { IsReady plan.now (S.ids shelf.new) self.new }
         ensures texts { S.tells → OnOk result ((orig : Files) (text : ℕ → List ℕ) → HasTexts plan.now (pieces_of self.old) orig (S.file shelf.old) text
             → HasTexts plan.now (pieces_of self.new) orig (S.file shelf.new) (with_more text (port_count plan.now + 1) (trace_line one.now ++ 10 ∷ []))) }
+        ensures cut { S.tells → OnErr result ((orig : Files) (text : ℕ → List ℕ) → HasTexts plan.now (pieces_of self.old) orig (S.file shelf.old) text
+            → AreCut plan.now orig (S.file shelf.new) (with_more text (port_count plan.now + 1) (trace_line one.now ++ 10 ∷ []))) }
         ensures only { OnlyWrites S.tells plan.now (S.file shelf.old) (S.file shelf.new) (S.ids shelf.old) (S.ids shelf.new) }
         ensures causes { IfErr result IsOfWriting }
         ensures faults { CountsFaults result (S.faults shelf.old) (S.faults shelf.new) }
@@ -323,6 +341,8 @@ impl Outputs {
         ensures ready { IsReady plan.now (S.ids shelf.new) self.new }
         ensures texts { S.tells → OnOk result ((orig : Files) (text : ℕ → List ℕ) → HasTexts plan.now (pieces_of self.old) orig (S.file shelf.old) text
             → HasTexts plan.now (pieces_of self.new) orig (S.file shelf.new) (with_more text (place_in plan.now.tree left.now.port) (record_of (left.now.moment, left.now.bytes)))) }
+        ensures cut { S.tells → OnErr result ((orig : Files) (text : ℕ → List ℕ) → HasTexts plan.now (pieces_of self.old) orig (S.file shelf.old) text
+            → AreCut plan.now orig (S.file shelf.new) (with_more text (place_in plan.now.tree left.now.port) (record_of (left.now.moment, left.now.bytes)))) }
         ensures only { OnlyWrites S.tells plan.now (S.file shelf.old) (S.file shelf.new) (S.ids shelf.old) (S.ids shelf.new) }
         ensures causes { IfErr result IsOfWriting }
         ensures faults { CountsFaults result (S.faults shelf.old) (S.faults shelf.new) }
@@ -347,6 +367,8 @@ impl Outputs {
         ensures ready { IsReady plan.now (S.ids shelf.new) self.new }
         ensures texts { S.tells → OnOk result ((orig : Files) (text : ℕ → List ℕ) → HasTexts plan.now (pieces_of self.old) orig (S.file shelf.old) text
             → HasTexts plan.now (pieces_of self.new) orig (S.file shelf.new) (with_more text at (head.now ++ bytes.now))) }
+        ensures cut { S.tells → OnErr result ((orig : Files) (text : ℕ → List ℕ) → HasTexts plan.now (pieces_of self.old) orig (S.file shelf.old) text
+            → AreCut plan.now orig (S.file shelf.new) (with_more text at (head.now ++ bytes.now))) }
         ensures only { OnlyWrites S.tells plan.now (S.file shelf.old) (S.file shelf.new) (S.ids shelf.old) (S.ids shelf.new) }
         ensures causes { IfErr result IsOfWriting }
         ensures faults { CountsFaults result (S.faults shelf.old) (S.faults shelf.new) }

@@ -1,11 +1,12 @@
 //! Playing a script and captures: the opening, then each segment in its turn.
 ghost use Rattle.std.specs.Prelude.{◌≡◌, ◌≤◌, ◌<◌, ◌+◌, ◌^◌, [], length, drop, All, IsOk, IfOk, OnOk, IfErr, map, sum_by, string_bytes};
+ghost use Rattle.exb_model.specs.Input.{Eager};
 ghost use Rattle.exb_model.specs.Setup.{IsValid, shape_of};
 ghost use Rattle.exb_merge.specs.Streams.{to_come};
 ghost use Rattle.exb_pcap.specs.Captures.{pcap_records};
 ghost use Rattle.exb_run.specs.Playing.{IsScript, mode_of};
 ghost use Rattle.exb_run.specs.Reading.{AreRead, input_with, stream_in};
-ghost use Rattle.exb_run.specs.Outputs.{HasPlayed};
+ghost use Rattle.exb_run.specs.Outputs.{AreCutEagerly, HasPlayed};
 ghost use Rattle.exb_run.specs.Shelving.{CountsFaults, IsOfWriting, OnlyMakes};
 
 use crate::captures::Capture;
@@ -52,6 +53,7 @@ pub(crate) fn play<S: Shelf>(
     requires read { AreRead (shape_of script.now.setup.now) captures.now }
     requires fate { left fate < 2 ^ 56 }
     ensures done { S.tells → IfOk result (λ line. HasPlayed (mode_of schedule) (input_with script.now.setup.now script.now.commands.now captures.now) plan.now (S.file shelf.old) (S.file shelf.new) (string_bytes line)) }
+    ensures fronts { S.tells → mode_of schedule ≡ Eager → AreCutEagerly (input_with script.now.setup.now script.now.commands.now captures.now) plan.now (S.file shelf.old) (S.file shelf.new) }
     ensures only { OnlyMakes S.tells plan.now (S.file shelf.old) (S.file shelf.new) (S.ids shelf.old) (S.ids shelf.new) }
     ensures causes { IfErr result IsOfWriting }
     ensures faults { CountsFaults result (S.faults shelf.old) (S.faults shelf.new) }

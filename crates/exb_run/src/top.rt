@@ -1,6 +1,7 @@
 //! The top call.
 ghost use Rattle.std.specs.Prelude.{◌≡◌, ◌≢◌, ◌<◌, ◌++◌, ◌⊎◌, ◌^◌, ℕ, List, Some, None, Ok, Err, codes, string_bytes, IfOk, IfErr, OnErr, IsErrOf};
 ghost use Rattle.exb_made.specs.Made.{made};
+ghost use Rattle.exb_model.specs.Input.{Eager};
 ghost use Rattle.exb_model.specs.Setup.{IsValid, shape_of};
 ghost use Rattle.exb_shelf.specs.Files.{SameFiles, AppendsFront};
 ghost use Rattle.exb_shelf.specs.Shelf.{Opens, Rose};
@@ -8,12 +9,12 @@ ghost use Rattle.exb_topology.specs.Sound.{IsSound};
 ghost use Rattle.exb_words.specs.Words.{Run, Make};
 ghost use Rattle.exb_run.specs.declared.fault.Fault.{Fault};
 ghost use Rattle.exb_run.specs.Inputs.{input_of};
-ghost use Rattle.exb_run.specs.Outputs.{IsPlayed, OnlyOutputs};
+ghost use Rattle.exb_run.specs.Outputs.{AreFrontsOf, IsPlayed, OnlyOutputs};
 ghost use Rattle.exb_run.specs.Flaws.{AreGood, FirstFlaw};
 ghost use Rattle.exb_run.specs.Opening.{ReadsCapture, IsOpenedFor, OpensBy};
 ghost use Rattle.exb_run.specs.Shelving.{CountsFaults};
 ghost use Rattle.exb_run.specs.Reading.{IsOfPlaying};
-ghost use Rattle.exb_run.specs.Answers.{asked, mode_for, eager_summary, IsDone, IsRun, CanBeDone, OnlyAsked, Stops, StopsWith, fault_status, status_of, fault_line, IsText, IsOfInput, RoseBy, SaysBy, IsStatus};
+ghost use Rattle.exb_run.specs.Answers.{asked, mode_for, AreFronts, eager_summary, IsDone, IsRun, CanBeDone, OnlyAsked, Stops, StopsWith, fault_status, status_of, fault_line, IsText, IsOfInput, RoseBy, SaysBy, IsStatus};
 ghost use Rattle.exb_run.specs.Outcomes.{CameOut};
 ghost use Rattle.exb_run.specs.Playing.{mode_of};
 
@@ -58,6 +59,8 @@ fn play_topology<S: Shelf>(
     ensures done { S.tells → IfOk result (λ line.
         IsPlayed (mode_for seed) trace (input_of topology.now (S.file shelf.old)) topology.now.prefix
         (S.file shelf.old) (S.file shelf.new) (string_bytes line)) }
+    ensures fronts { S.tells → mode_for seed ≡ Eager
+        → AreFrontsOf (input_of topology.now (S.file shelf.old)) topology.now.prefix (S.file shelf.old) (S.file shelf.new) }
 
     // Each fault has its cause.
     ensures cause { S.tells → IfErr result (λ fault.
@@ -177,11 +180,12 @@ pub fn run<S: Shelf, O: Sink>(
     ensures front { S.tells → O.tells
         → (text : List ℕ) × IsText (asked words.now) (S.file shelf.old) (S.file shelf.new) (S.faults shelf.old) (S.faults shelf.new) text
         × AppendsFront (O.text out.old) (O.text out.new) text }
-    // What stays, and which files are opened.
+    // What stays, what was written where it ended early, and which files are opened.
     ensures early { result ≢ 0 → result ≢ 1 → result ≢ 7 → SameFiles (S.file shelf.old) (S.file shelf.new) }
     ensures read_only { ¬ IsRun (asked words.now) → SameFiles (S.file shelf.old) (S.file shelf.new) }
     ensures stopped { S.tells → (fault : Fault) → Stops (asked words.now) (S.file shelf.old) fault → SameFiles (S.file shelf.old) (S.file shelf.new) }
     ensures others { S.tells → OnlyAsked (asked words.now) (S.file shelf.old) (S.file shelf.new) }
+    ensures fronts { S.tells → AreFronts (asked words.now) (S.file shelf.old) (S.file shelf.new) }
     ensures opens { OpensBy S.tells result (asked words.now) (S.file shelf.old) (S.ids shelf.old) (S.ids shelf.new) }
     ensures alone { (number : ℕ) → asked words.now ≡ Some (Make number) → shelf.new ≡ shelf.old }
     // With no fault of what is asked for, and none of shelf or sink, it does all, or memory ran out. To make an input asks nothing

@@ -1,4 +1,5 @@
 use Rattle.std.proofs.Common.{sym, subst}
+use Rattle.std.proofs.lemmas.Result.{on_err_weaker}
 use Rattle.exb_model.specs.Texts.{Counts}
 use Rattle.exb_schedule.specs.Worlds.{network_of}
 use Rattle.exb_run.specs.Playing.{IsOpened, mode_of}
@@ -20,3 +21,11 @@ returns-clause-done g c tells =
     let P : Counts → Type 0 = λ x. IsOpened S.tells (mode_of c.args.schedule) run c.args.plan.now (S.file c.args.shelf.now) (network_of c.args.world) x c.args.outputs c.args.agenda.now in
     played run (subst P (sym c.new.ensures) is))
     (c.play_opened.ensures.done tells)
+
+pub returns-clause-cut : goal.returns-clause-cut
+returns-clause-cut g c = λ t. on_err_weaker c.play_opened.result
+    (λ cut run is.
+    let S = g.S.Shelf in
+    let P : Counts → Type 0 = λ x. IsOpened S.tells (mode_of c.args.schedule) run c.args.plan.now (S.file c.args.shelf.now) (network_of c.args.world) x c.args.outputs c.args.agenda.now in
+    cut run (subst P (sym c.new.ensures) is))
+    (c.play_opened.ensures.cut t)

@@ -1,12 +1,13 @@
 use Rattle.std.proofs.Common.{◌+◌, List, subst}
-use Rattle.std.proofs.lemmas.Result.{on_ok_weaker}
+use Rattle.std.proofs.lemmas.Result.{err_from_is_err_and, on_err_weaker, on_ok_weaker}
 use Rattle.exb_model.specs.declared.event.Event.{Event}
 use Rattle.exb_model.specs.Traces.{TraceLine, trace_text}
 use Rattle.exb_network.specs.declared.log.Left.{Left}
 use Rattle.exb_schedule.specs.Worlds.{network_of}
 use Rattle.exb_run.specs.Plans.{port_count}
-use Rattle.exb_run.specs.Writing.{HasTexts, pieces_of, lines_of, with_more, with_left_frames}
+use Rattle.exb_run.specs.Writing.{AreCut, HasTexts, pieces_of, lines_of, with_more, with_left_frames}
 use Rattle.exb_run.proofs.ShelvingLemmas.{writes_then}
+use Rattle.exb_run.proofs.Cutting.{cut_frames, cut_more}
 use Rattle.exb_run.proofs.game.write_all.Goals as goal
 
 pub returns-clause-texts : goal.returns-clause-texts
@@ -32,3 +33,46 @@ returns-in_err-write_left-clause-only g c = writes_then _ _ _ _ _ _ _ _ c.in_ok-
 pub returns-clause-only : goal.returns-clause-only
 returns-clause-only g c =
     writes_then _ _ _ _ _ _ _ _ (writes_then _ _ _ _ _ _ _ _ c.in_ok-write_events.ensures.only c.in_ok-write_left.ensures.only) c.write_trace.ensures.only
+
+pub returns-in_err-write_events-clause-cut : goal.returns-in_err-write_events-clause-cut
+returns-in_err-write_events-clause-cut g c = λ t.
+    let e = err_from_is_err_and c.from_residual.result c.from_residual.ensures.1 in
+    rw e.1
+    (λ orig text p.
+    let plan = c.args.plan.now in
+    let file = g.S.Shelf.file c.write_events.new.shelf in
+    let n = network_of c.args.world.now in
+    let first = subst (λ (es : List Event). AreCut plan orig file (with_more text (port_count plan) (lines_of es))) c.events.ensures (c.in_err-write_events.ensures.cut t orig text p) in
+    cut_more plan orig file (with_left_frames plan (with_more text (port_count plan) (lines_of n.log.events)) n.log.left) (port_count plan + 1) (trace_text n.log.lines)
+    (cut_frames plan orig file (with_more text (port_count plan) (lines_of n.log.events)) n.log.left first))
+
+pub returns-in_err-write_left-clause-cut : goal.returns-in_err-write_left-clause-cut
+returns-in_err-write_left-clause-cut g c = λ t.
+    let e = err_from_is_err_and c.from_residual-in_err-write_left.result c.from_residual-in_err-write_left.ensures.1 in
+    rw e.1
+    (λ orig text p.
+    let plan = c.args.plan.now in
+    let file = g.S.Shelf.file c.write_left.new.shelf in
+    let n = network_of c.args.world.now in
+    let first = c.in_ok-write_events.ensures.texts t orig text p in
+    let second = c.in_err-write_left.ensures.cut t orig (with_more text (port_count plan) (lines_of c.events.result.now)) first in
+    let one = subst (λ (es : List Event). AreCut plan orig file (with_left_frames plan (with_more text (port_count plan) (lines_of es)) c.left.result.now)) c.events.ensures second in
+    let two = subst (λ (xs : List Left). AreCut plan orig file (with_left_frames plan (with_more text (port_count plan) (lines_of n.log.events)) xs)) c.left.ensures one in
+    cut_more plan orig file (with_left_frames plan (with_more text (port_count plan) (lines_of n.log.events)) n.log.left) (port_count plan + 1) (trace_text n.log.lines) two)
+
+pub returns-clause-cut : goal.returns-clause-cut
+returns-clause-cut g c tells =
+    let plan = c.args.plan.now in
+    let S = g.S.Shelf in
+    on_err_weaker c.write_trace.result
+    (λ last orig text held.
+    let first = c.in_ok-write_events.ensures.texts tells orig text held in
+    let second = c.in_ok-write_left.ensures.texts tells orig (with_more text (port_count plan) (lines_of c.events.result.now)) first in
+    let third = last orig (with_left_frames plan (with_more text (port_count plan) (lines_of c.events.result.now)) c.left.result.now) second in
+    let n = network_of c.args.world.now in
+    let P = λ (es : List Event) (xs : List Left) (ls : List TraceLine). AreCut plan orig (S.file c.write_trace.new.shelf)
+    (with_more (with_left_frames plan (with_more text (port_count plan) (lines_of es)) xs) (port_count plan + 1) (trace_text ls)) in
+    let one : P n.log.events c.left.result.now c.trace.result.now = subst (λ (es : List Event). P es c.left.result.now c.trace.result.now) c.events.ensures third in
+    let two : P n.log.events n.log.left c.trace.result.now = subst (λ (xs : List Left). P n.log.events xs c.trace.result.now) c.left.ensures one in
+    subst (λ (ls : List TraceLine). P n.log.events n.log.left ls) c.trace.ensures two)
+    (c.write_trace.ensures.cut tells)

@@ -1,5 +1,6 @@
 use Rattle.std.proofs.Common.{◌≡◌, ◌<◌, ◌+◌, ◌∙◌, ℕ, List, [], ap, refl, get_or, length, arith, subst}
 use Rattle.std.proofs.lemmas.List.{length-map, length_push}
+use Rattle.std.proofs.lemmas.Result.{err_from_is_err_and}
 use Rattle.exb_shelf.specs.Files.{Filled}
 use Rattle.exb_shelf.proofs.FileLemmas.{filled_one}
 use Rattle.exb_shelf.proofs.IdLemmas.{opens_then}
@@ -7,6 +8,7 @@ use Rattle.exb_run.specs.Plans.{output_count}
 use Rattle.exb_run.specs.Outputs.{output_name}
 use Rattle.exb_run.specs.Writing.{pieces_of, first_text}
 use Rattle.exb_run.proofs.OutputLemmas.{more_named, more_texts, none_written}
+use Rattle.exb_run.proofs.Cutting.{cut_made}
 use Rattle.exb_run.proofs.outputs.create_all.Goals as goal
 
 pub loop-at-preserved : goal.loop-at-preserved
@@ -54,3 +56,13 @@ returns-clause-only g c = record {
   others = λ t m away. (c.loop-at.invariant.files t).others m (λ j l. away j (omega arith));
   opened = c.loop-at.invariant.opened;
 }
+
+pub returns-in_err-create_one-clause-cut : goal.returns-in_err-create_one-clause-cut
+returns-in_err-create_one-clause-cut g c = λ t.
+    let e = err_from_is_err_and c.from_residual.result c.from_residual.ensures.1 in
+    rw e.1
+    (λ text.
+    let S = g.S.Shelf in
+    let plan = c.args.plan.now in
+    cut_made plan (S.file c.args.shelf.now) (S.file c.loop-at.shelf) (S.file c.create_one.new.shelf) c.loop-at.at (c.output_names_differ.ensures plan) (omega arith)
+    (c.loop-at.invariant.files t) (c.in_err-create_one.ensures.stays t) text)

@@ -12,7 +12,7 @@ use Rattle.exb_shelf.proofs.IdLemmas.{opens_weaker}
 use Rattle.exb_tables.specs.declared.rows.Named.{Named}
 use Rattle.exb_run.specs.declared.captures.Capture.{Capture}
 use Rattle.exb_run.specs.Inputs.{input_of, captures_of}
-use Rattle.exb_run.specs.Outputs.{HasPlayed, IsPlayed, OnlyOutputs, OnlyPlanned}
+use Rattle.exb_run.specs.Outputs.{AreCutEagerly, HasPlayed, IsPlayed, OnlyOutputs, OnlyPlanned}
 use Rattle.exb_run.specs.Flaws.{AreGood}
 use Rattle.exb_run.specs.Opening.{ReadsCapture}
 use Rattle.exb_run.specs.Playing.{IsScript, mode_of}
@@ -21,7 +21,8 @@ use Rattle.exb_run.specs.Answers.{mode_for}
 use Rattle.exb_run.proofs.Beginning.{input-same}
 use Rattle.exb_run.proofs.Handing.{named_read, sound_script}
 use Rattle.exb_run.proofs.OpenLemmas.{capture_plays, writing_plays, opened_for}
-use Rattle.exb_run.proofs.Running.{files_same, only_by, played_by, early_by, if_ok_map}
+use Rattle.exb_run.proofs.Running.{files_same, fronts_by, only_by, played_by, early_by, if_ok_map}
+use Rattle.exb_run.proofs.CuttingOff.{unchanged_fronts}
 use Rattle.exb_run.proofs.top.play_topology.Goals as goal
 
 pub play-requires-clause-read : goal.play-requires-clause-read
@@ -111,3 +112,31 @@ returns-clause-played g c tells =
     (subst (λ (names : List Named). AreGood names f) c.as_slice.ensures (c.in_ok-captures.ensures.good tells))
     (subst (λ (names : List Named). Opens (ReadsCapture names) (S.ids c.args.shelf.now) (S.ids c.read_captures.new.shelf)) c.as_slice.ensures c.in_ok-captures.ensures.opened)
     c.play.ensures.only.opened
+
+-- ---- where it ended early
+pub returns-in_err-captures-clause-fronts : goal.returns-in_err-captures-clause-fronts
+returns-in_err-captures-clause-fronts g c tells eager =
+    unchanged_fronts (input_of c.args.topology.now (g.S.Shelf.file c.args.shelf.now)) c.args.topology.now.prefix _ _ c.in_err-captures.ensures.files
+
+pub returns-in_err-plan-clause-fronts : goal.returns-in_err-plan-clause-fronts
+returns-in_err-plan-clause-fronts g c tells eager =
+    unchanged_fronts (input_of c.args.topology.now (g.S.Shelf.file c.args.shelf.now)) c.args.topology.now.prefix _ _ c.in_ok-captures.ensures.files
+
+pub returns-clause-fronts : goal.returns-clause-fronts
+returns-clause-fronts g c tells eager =
+    let S = g.S.Shelf in
+    let t = c.args.topology.now in
+    let plan = c.in_ok-plan.plan in
+    let before = S.file c.args.shelf.now in
+    let read = S.file c.read_captures.new.shelf in
+    let after = S.file c.play.new.shelf in
+    let cs = c.in_ok-captures.captures.items in
+    let i : Input = input_of t before in
+    let there : contents cs ≡ captures_of t.captures before all_ports =
+    c.in_ok-captures.ensures.there tells ∙ ap (λ (names : List Named). captures_of names before all_ports) c.as_slice.ensures in
+    let same : input_with t.setup c.as_slice-2.result.now c.as_slice-4.result.now ≡ i =
+    ap (λ (xs : List Timed). input_with t.setup xs c.as_slice-4.result.now) c.as_slice-2.ensures ∙ ap (input_with t.setup t.commands) c.as_slice-4.ensures.value
+    ∙ input-same t before cs c.requires.valid c.requires.sound there in
+    fronts_by i plan t.prefix (c.in_ok-plan.ensures.prefix ∙ c.as_str.ensures) c.in_ok-plan.ensures.tree c.requires.valid.tree before after
+    (subst (λ (f : Files). AreCutEagerly i plan f after) (files_same before read c.in_ok-captures.ensures.files)
+    (subst (λ (j : Input). AreCutEagerly j plan read after) same (c.play.ensures.fronts tells (c.schedule_of-schedule.ensures ∙ eager))))

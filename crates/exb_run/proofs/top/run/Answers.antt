@@ -168,3 +168,6 @@ returns-clause-complete_made g c = λ number a no_out n1.
       | inl zero ↦ c.report.ensures.status n1 (λ e. no_out (c.report.ensures.seven e (λ h. let seven : 0 ≡ 7 = sym zero ∙ h in omega arith))) ∙ zero
       | inr one ↦ absurd (n1 (c.report.ensures.status n1 (λ e. no_out (c.report.ensures.seven e (λ h. let seven : 1 ≡ 7 = sym one ∙ h in omega arith))) ∙ one))
     ]
+
+pub returns-clause-fronts : goal.returns-clause-fronts
+returns-clause-fronts g c = c.work-outcome.ensures.came.fronts

@@ -38,6 +38,7 @@ returns-clause-came g c =
       early = is.early;
       stopped = is.stopped;
       others = is.others;
+      fronts = is.fronts;
     }))
 
 pub returns-clause-opens : goal.returns-clause-opens

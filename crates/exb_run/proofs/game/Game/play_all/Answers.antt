@@ -1,5 +1,6 @@
 use Rattle.std.proofs.Common.{◌<◌, ◌^◌, ◌++◌, ℕ, List, Some, drop, length, ap, sym, subst, ◌∙◌, arith}
 use Rattle.std.proofs.lemmas.List.{append-nil}
+use Rattle.std.proofs.lemmas.Result.{err_from_is_err_and}
 use Rattle.exb_model.specs.declared.setup.Timed.{Timed}
 use Rattle.exb_model.specs.Input.{Coming, Segment, second_of, moment_of}
 use Rattle.exb_merge.specs.Agendas.{coming_of}
@@ -92,3 +93,18 @@ returns-clause-told g c run start =
     subst (λ (ss : List Segment). IsTold S.tells m run c.args.plan.now (S.file c.events.shelf) (network_of c.events.self.world) (counts_of c.events.self.tally) c.events.self.outputs ss)
     (sym (p.next.rest ∙ ap (λ (xs : List Coming). p.so_far ++ segments_after m c.events.last xs) none ∙ ap (λ (ss : List Segment). p.so_far ++ ss) (segments_after-end m c.events.last) ∙ append-nil p.so_far))
     p.is
+
+pub returns-in_err-go_on-clause-cut : goal.returns-in_err-go_on-clause-cut
+returns-in_err-go_on-clause-cut g c = λ t.
+    let e = err_from_is_err_and c.from_residual.result c.from_residual.ensures.1 in
+    rw e.1
+    (λ run start.
+    c.in_err-go_on.ensures.cut t run
+    (record {
+      last = c.events.last;
+      old = c.events.agenda;
+      playing = c.events.invariant.goes_on run start;
+      next = c.in-Some.ensures.found;
+      from_is = c.events.invariant.taken;
+      seconds_are = c.seconds_since-seconds.ensures ∙ ap (λ (m : ℕ). seconds_after c.events.last (second_of m)) c.moment-second.ensures;
+    }))

@@ -1,7 +1,9 @@
 use Rattle.std.proofs.Common.{◌≡◌, ◌∙◌, [], ap}
+use Rattle.std.proofs.lemmas.Result.{on_err_weaker}
 use Rattle.exb_model.specs.History.{◌then◌}
 use Rattle.exb_model.specs.Texts.{summary_line}
 use Rattle.exb_schedule.specs.Worlds.{network_of}
+use Rattle.exb_text.specs.Tallies.{counts_of}
 use Rattle.exb_run.specs.Outputs.{output_name, output_text}
 use Rattle.exb_run.specs.Plans.{output_count}
 use Rattle.exb_run.specs.Playing.{mode_of, text_so_far}
@@ -9,6 +11,7 @@ use Rattle.exb_run.proofs.Coming.{if_ok_both}
 use Rattle.exb_run.proofs.Ending.{counts-end, eagerly, legal, texts-whole, trace}
 use Rattle.exb_run.proofs.Filling.{weaker}
 use Rattle.exb_run.proofs.ShelvingLemmas.{writes_then}
+use Rattle.exb_run.proofs.CuttingOff.{cut_at_end}
 use Rattle.exb_run.proofs.game.Game.play_on.Goals as goal
 
 pub returns-clause-done : goal.returns-clause-done
@@ -36,3 +39,11 @@ returns-clause-done g c tells =
 
 pub returns-clause-only : goal.returns-clause-only
 returns-clause-only g c = writes_then _ _ _ _ _ _ _ _ c.in_ok-play_all.ensures.only c.end.ensures.only
+
+pub returns-clause-cut : goal.returns-clause-cut
+returns-clause-cut g c = λ t. on_err_weaker c.end.result
+    (λ cut run start.
+    let S = g.S.Shelf in
+    cut_at_end S.tells (mode_of c.args.schedule) run c.args.plan.now (S.file c.play_all.new.shelf) (S.file c.end.new.shelf) (network_of c.play_all.new.self.world) (counts_of c.play_all.new.self.tally) c.play_all.new.self.outputs t
+    (c.in_ok-play_all.ensures.told run start) cut)
+    (c.end.ensures.cut t)

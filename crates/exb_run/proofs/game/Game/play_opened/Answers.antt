@@ -1,13 +1,15 @@
-use Rattle.std.proofs.Common.{[], length, ap, ◌∙◌, arith}
-use Rattle.exb_model.specs.Texts.{Counts, with_left}
-use Rattle.exb_network.specs.Worlds.{all_left}
+use Rattle.std.proofs.Common.{[], refl, arith}
+use Rattle.std.proofs.lemmas.Result.{err_from_is_err_and, on_err_weaker}
+use Rattle.exb_model.specs.Input.{segments}
 use Rattle.exb_schedule.specs.Worlds.{network_of}
+use Rattle.exb_text.specs.Tallies.{counts_of}
 use Rattle.exb_run.specs.Playing.{CanFollow, mode_of, text_so_far}
 use Rattle.exb_run.specs.Writing.{first_text, pieces_of}
-use Rattle.exb_run.proofs.Counting.{count_events}
+use Rattle.exb_run.proofs.CuttingOff.{cut_amid}
+use Rattle.exb_run.proofs.Going.{opened-playing}
 use Rattle.exb_run.proofs.Running.{if_ok_map}
 use Rattle.exb_run.proofs.ShelvingLemmas.{writes_then, counts_after}
-use Rattle.exb_run.proofs.Telling.{same_texts, text-first, text-more, counts-more, cleared-played, frames-fit, tally-fits}
+use Rattle.exb_run.proofs.Telling.{same_texts, text-first, frames-fit, tally-fits}
 use Rattle.exb_run.proofs.game.Game.play_opened.Goals as goal
 
 pub note-requires-clause-frames : goal.note-requires-clause-frames
@@ -28,67 +30,45 @@ note-requires-clause-fits g c =
 pub play_on-requires-clause-playing : goal.play_on-requires-clause-playing
 play_on-requires-clause-playing g c =
     let S = g.S.Shelf in
-    let plan = c.args.plan.now in
-    let m = mode_of c.args.schedule in
-    let n = network_of c.args.self.now.world in
-    let told = n.log.events in
-    let left = n.log.left in
-    let lines = n.log.lines in
     let note = c.in_ok-note.ensures in
-    let run = c.requires.opened.0 in
-    let is = c.requires.opened.1 in (
+    let run = c.requires.opened.0 in (
       run,
-      record {
-        so_far = [];
-        is = record {
-          tree = is.tree;
-          told = told;
-          gone = all_left left;
-          lines = lines;
-          played = cleared-played m run.input [] n (network_of c.note.new.self.world) told (all_left left) lines note.world note.same is.played;
-          tracing = note.same.tracing ∙ is.tracing;
-          counted = note.counts ∙ ap (λ (b : Counts). with_left (length left) (count_events b told)) is.counted ∙ counts-more [] told [] left;
-          texts = λ tells.
-              same_texts plan (pieces_of c.note.new.self.outputs) run.before (S.file c.note.new.shelf) _ (text_so_far plan told (all_left left) lines) (text-more plan [] told [] left [] lines)
-              (note.texts tells run.before (text_so_far plan [] [] [])
-              (same_texts plan (pieces_of c.args.self.now.outputs) run.before (S.file c.args.shelf.now) (first_text plan) (text_so_far plan [] [] []) (λ j low. text-first plan j) (is.texts tells)));
-          quiet = note.quiet;
-        };
-        next = is.next;
-      },
+      opened-playing S.tells (mode_of c.args.schedule) run c.args.plan.now (S.file c.args.shelf.now) (network_of c.args.self.now.world) (counts_of c.args.self.now.tally) c.args.self.now.outputs c.args.agenda.now c.requires.opened.1
+          (S.file c.note.new.shelf) (network_of c.note.new.self.world) (counts_of c.note.new.self.tally) c.note.new.self.outputs note.world note.same note.quiet note.counts note.texts,
     )
 
 pub returns-clause-done : goal.returns-clause-done
 returns-clause-done g c tells = if_ok_map c.play_on.result
     (λ line played run is.
     let S = g.S.Shelf in
+    let note = c.in_ok-note.ensures in
+    played run is.timely
+    (opened-playing S.tells (mode_of c.args.schedule) run c.args.plan.now (S.file c.args.shelf.now) (network_of c.args.self.now.world) (counts_of c.args.self.now.tally) c.args.self.now.outputs c.args.agenda.now is
+    (S.file c.note.new.shelf) (network_of c.note.new.self.world) (counts_of c.note.new.self.tally) c.note.new.self.outputs note.world note.same note.quiet note.counts note.texts))
+    (c.play_on.ensures.done tells)
+
+pub returns-in_err-note-clause-cut : goal.returns-in_err-note-clause-cut
+returns-in_err-note-clause-cut g c = λ t.
+    let e = err_from_is_err_and c.from_residual.result c.from_residual.ensures.1 in
+    rw e.1
+    (λ run is.
+    let S = g.S.Shelf in
     let plan = c.args.plan.now in
     let m = mode_of c.args.schedule in
     let n = network_of c.args.self.now.world in
-    let told = n.log.events in
-    let left = n.log.left in
-    let lines = n.log.lines in
+    cut_amid m run plan (S.file c.note.new.shelf) [] (segments m run.input) n [] n.log.events [] n.log.left [] n.log.lines is.tree refl is.played
+    (c.in_err-note.ensures.cut t run.before (text_so_far plan [] [] [])
+    (same_texts plan (pieces_of c.args.self.now.outputs) run.before (S.file c.args.shelf.now) (first_text plan) (text_so_far plan [] [] []) (λ j low. text-first plan j) (is.texts t))))
+
+pub returns-clause-cut : goal.returns-clause-cut
+returns-clause-cut g c = λ t. on_err_weaker c.play_on.result
+    (λ cut run is.
+    let S = g.S.Shelf in
     let note = c.in_ok-note.ensures in
-    played run is.timely
-    record {
-      so_far = [];
-      is = record {
-        tree = is.tree;
-        told = told;
-        gone = all_left left;
-        lines = lines;
-        played = cleared-played m run.input [] n (network_of c.note.new.self.world) told (all_left left) lines note.world note.same is.played;
-        tracing = note.same.tracing ∙ is.tracing;
-        counted = note.counts ∙ ap (λ (b : Counts). with_left (length left) (count_events b told)) is.counted ∙ counts-more [] told [] left;
-        texts = λ told_it.
-            same_texts plan (pieces_of c.note.new.self.outputs) run.before (S.file c.note.new.shelf) _ (text_so_far plan told (all_left left) lines) (text-more plan [] told [] left [] lines)
-            (note.texts told_it run.before (text_so_far plan [] [] [])
-            (same_texts plan (pieces_of c.args.self.now.outputs) run.before (S.file c.args.shelf.now) (first_text plan) (text_so_far plan [] [] []) (λ j low. text-first plan j) (is.texts told_it)));
-        quiet = note.quiet;
-      };
-      next = is.next;
-    })
-    (c.play_on.ensures.done tells)
+    cut run
+    (opened-playing S.tells (mode_of c.args.schedule) run c.args.plan.now (S.file c.args.shelf.now) (network_of c.args.self.now.world) (counts_of c.args.self.now.tally) c.args.self.now.outputs c.args.agenda.now is
+    (S.file c.note.new.shelf) (network_of c.note.new.self.world) (counts_of c.note.new.self.tally) c.note.new.self.outputs note.world note.same note.quiet note.counts note.texts))
+    (c.play_on.ensures.cut t)
 
 pub returns-clause-only : goal.returns-clause-only
 returns-clause-only g c = writes_then _ _ _ _ _ _ _ _ c.in_ok-note.ensures.only c.play_on.ensures.only

@@ -1,11 +1,14 @@
-use Rattle.std.proofs.Common.{◌++◌, ◌∷◌, [], length, ap, sym, ◌∙◌}
+use Rattle.std.proofs.Common.{◌++◌, ◌∷◌, [], length, ap, sym, ◌∙◌, append_assoc}
+use Rattle.std.proofs.lemmas.Result.{on_err_weaker}
 use Rattle.exb_model.specs.Texts.{Counts, with_left}
 use Rattle.exb_network.specs.Worlds.{all_left}
 use Rattle.exb_schedule.specs.Worlds.{network_of}
+use Rattle.exb_text.specs.Tallies.{counts_of}
 use Rattle.exb_run.specs.Playing.{mode_of, text_so_far}
 use Rattle.exb_run.specs.Writing.{pieces_of}
 use Rattle.exb_run.proofs.Counting.{count_events}
 use Rattle.exb_run.proofs.Telling.{when_ok, on_ok_by, same_texts, text-more, counts-more, quiet-played, cleared-played, frames-fit, tally-fits}
+use Rattle.exb_run.proofs.CuttingOff.{cut_amid, cut_before}
 use Rattle.exb_run.proofs.game.Game.turn.Goals as goal
 
 pub note-requires-clause-frames : goal.note-requires-clause-frames
@@ -59,3 +62,20 @@ returns-clause-told g c = on_ok_by c.note.result (λ get run so_far s segment is
           (text-more plan is.told more is.gone left is.lines new) (get _ (c.note.ensures.texts tells) run.before (text_so_far plan is.told is.gone is.lines) (is.texts tells));
       quiet = get _ c.note.ensures.quiet;
     })
+
+pub returns-then-is_err-clause-cut : goal.returns-then-is_err-clause-cut
+returns-then-is_err-clause-cut g c = λ t run so_far rest s segments_are segment is.
+    cut_before g.S.Shelf.tells (mode_of c.args.schedule) run c.args.plan.now (g.S.Shelf.file c.args.shelf.now) (network_of c.args.self.now.world) (counts_of c.args.self.now.tally) c.args.self.now.outputs so_far (s ∷ rest) t is segments_are
+
+pub returns-clause-cut : goal.returns-clause-cut
+returns-clause-cut g c = λ t. on_err_weaker c.note.result
+    (λ cut run so_far rest s segments_are segment is.
+    let m = mode_of c.args.schedule in
+    let n = network_of c.args.self.now.world in
+    let plan = c.args.plan.now in
+    let ok = sym c.is_err.ensures.value ∙ c.if-is_err.false in
+    let v = network_of c.play_segment.new.world in
+    let after = when_ok c.play_segment.result ok c.play_segment.ensures.plays run.input so_far s is.told is.gone is.lines segment (quiet-played m run.input so_far n is.told is.gone is.lines is.quiet is.played) in
+    cut_amid m run plan (g.S.Shelf.file c.note.new.shelf) (so_far ++ s ∷ []) rest v is.told v.log.events is.gone v.log.left is.lines v.log.lines is.tree
+    (segments_are ∙ sym (append_assoc so_far (s ∷ []) rest)) after (cut run.before (text_so_far plan is.told is.gone is.lines) (is.texts t)))
+    (c.note.ensures.cut t)

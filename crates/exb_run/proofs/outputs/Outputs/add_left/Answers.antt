@@ -1,10 +1,11 @@
 use Rattle.std.proofs.Common.{◌≡◌, ◌++◌, ℕ, List, ap, sym, ◌∙◌, length, arith}
-use Rattle.std.proofs.lemmas.Result.{on_ok_weaker}
+use Rattle.std.proofs.lemmas.Result.{on_err_weaker, on_ok_weaker}
 use Rattle.exb_model.specs.Texts.{record_text}
 use Rattle.exb_run.specs.Plans.{place_in}
 use Rattle.exb_run.specs.Writing.{pieces_of}
 use Rattle.exb_run.proofs.OutputLemmas.{capture_low, more_spelled}
 use Rattle.exb_run.proofs.Places.{place_low}
+use Rattle.exb_run.proofs.Cutting.{cut_spelled}
 use Rattle.exb_run.proofs.outputs.Outputs.add_left.Goals as goal
 
 pub add_to-requires-clause-within : goal.add_to-requires-clause-within
@@ -27,3 +28,17 @@ returns-clause-texts g c = λ t.
     more_spelled c.args.plan.now orig (S.file c.add_to.new.shelf) (pieces_of c.add_to.new.self) text c.place-at.result (place_in c.args.plan.now.tree left.port) _ _
     c.place-at.ensures written (added orig text p))
     (c.add_to.ensures.texts t)
+
+pub returns-clause-cut : goal.returns-clause-cut
+returns-clause-cut g c = λ t.
+    let S = g.S.Shelf in
+    let left = c.args.left.now in
+    let written : c.record_text-head.result ++ c.as_slice-bytes.result.now ≡ record_text (left.moment, left.bytes) =
+    ap (λ (xs : List ℕ). c.record_text-head.result ++ xs) c.as_slice-bytes.ensures
+    ∙ sym (c.record_text-head.ensures left.bytes (ap length (sym c.as_slice-bytes.ensures)))
+    in
+    on_err_weaker c.add_to.result
+    (λ cut orig text p.
+    cut_spelled c.args.plan.now orig (S.file c.add_to.new.shelf) text c.place-at.result (place_in c.args.plan.now.tree left.port) _ _
+    c.place-at.ensures written (cut orig text p))
+    (c.add_to.ensures.cut t)

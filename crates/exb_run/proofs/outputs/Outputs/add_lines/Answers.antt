@@ -1,9 +1,11 @@
 use Rattle.std.proofs.Common.{rules, ◌<◌, ◌+◌, take, length, arith}
+use Rattle.std.proofs.lemmas.Result.{err_from_is_err_and}
 use Rattle.exb_run.specs.Plans.{port_count}
 use Rattle.exb_model.specs.Traces.{trace_text}
 use Rattle.exb_run.specs.Writing.{pieces_of, with_more}
 use Rattle.exb_run.proofs.OutputLemmas.{no_more, more_trace}
 use Rattle.exb_run.proofs.ShelvingLemmas.{writes_none, writes_then}
+use Rattle.exb_run.proofs.Cutting.{cut_trace}
 use Rattle.exb_run.proofs.outputs.Outputs.add_lines.Goals as goal
 
 pub loop-one-init : goal.loop-one-init
@@ -35,3 +37,13 @@ loop-one-preserved g c =
 
 pub returns-in_err-add_line-clause-only : goal.returns-in_err-add_line-clause-only
 returns-in_err-add_line-clause-only g c = writes_then _ _ _ _ _ _ _ _ c.loop-one.invariant.only c.in_err-add_line.ensures.only
+
+pub returns-in_err-add_line-clause-cut : goal.returns-in_err-add_line-clause-cut
+returns-in_err-add_line-clause-cut g c = λ t.
+    let e = err_from_is_err_and c.from_residual.result c.from_residual.ensures.1 in
+    rw e.1
+    (λ orig text p.
+    let before = c.loop-one.invariant in
+    let lines = c.args.lines.now in
+    cut_trace c.args.plan.now orig (g.S.Shelf.file c.add_line.new.shelf) text lines c.loop-one.one-index c.one-item.result (omega arith) c.one-item.is
+    (c.in_err-add_line.ensures.cut t orig (with_more text (port_count c.args.plan.now + 1) (trace_text (take c.loop-one.one-index lines))) (before.texts t orig text p)))

@@ -1,8 +1,9 @@
 use Rattle.std.proofs.Common.{◌≡◌, ◌<◌, length, arith}
-use Rattle.std.proofs.lemmas.Result.{on_ok_weaker}
+use Rattle.std.proofs.lemmas.Result.{on_err_weaker, on_ok_weaker}
 use Rattle.exb_run.specs.Plans.{output_count}
 use Rattle.exb_run.specs.Outputs.{output_name}
 use Rattle.exb_run.proofs.OutputLemmas.{name_of_id, has_more_at}
+use Rattle.exb_run.proofs.Cutting.{cut_at}
 use Rattle.exb_run.proofs.outputs.Outputs.add_to.Goals as goal
 
 pub returns-clause-texts : goal.returns-clause-texts
@@ -19,3 +20,18 @@ returns-clause-texts g c = λ t.
     has_more_at (λ v. v.items) c.args.plan.now orig (g.S.Shelf.file c.args.shelf.now) (g.S.Shelf.file c.add.new.shelf) c.args.self.now.pieces.items text c.args.at
     c.index_mut.result.now c.add.new.piece _ _ (c.output_names_differ.ensures c.args.plan.now) lt c.requires.ready.pieces c.index_mut.ensures.value named p change)
     (c.add.ensures.kept_or_written t)
+
+pub returns-clause-cut : goal.returns-clause-cut
+returns-clause-cut g c = λ t.
+    let given = g.S.Shelf.ids c.args.shelf.now in
+    let ids = c.args.self.now.ids.items in
+    let lt : c.args.at < output_count c.args.plan.now = c.requires.within in
+    let inside : c.args.at < length ids = omega arith in
+    let named : (given c.index.result.now).name ≡ output_name c.args.plan.now c.args.at =
+    name_of_id given ids c.args.at c.index.result.now _ c.index.ensures inside (c.requires.ready.named c.args.at lt)
+    in
+    on_err_weaker c.add.result
+    (λ front orig text p.
+    cut_at (λ v. v.items) c.args.plan.now orig (g.S.Shelf.file c.args.shelf.now) (g.S.Shelf.file c.add.new.shelf) c.args.self.now.pieces.items text c.args.at
+    c.index_mut.result.now _ _ (c.output_names_differ.ensures c.args.plan.now) lt c.requires.ready.pieces c.index_mut.ensures.value named p front)
+    (c.add.ensures.front t)

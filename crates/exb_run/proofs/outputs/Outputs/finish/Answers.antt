@@ -1,8 +1,10 @@
 use Rattle.std.proofs.Common.{rules, ◌≡◌, ◌<◌, ◌∙◌, length, arith}
+use Rattle.std.proofs.lemmas.Result.{err_from_is_err_and}
 use Rattle.exb_run.specs.Plans.{output_count}
 use Rattle.exb_run.specs.Outputs.{output_name}
 use Rattle.exb_run.specs.Writing.{pieces_of}
 use Rattle.exb_run.proofs.OutputLemmas.{name_of_id, is_flushed, more_empty, all_written}
+use Rattle.exb_run.proofs.Cutting.{cut_piece}
 use Rattle.exb_run.proofs.outputs.Outputs.finish.Goals as goal
 
 pub loop-at-preserved : goal.loop-at-preserved
@@ -36,3 +38,21 @@ pub returns-clause-texts : goal.returns-clause-texts
 returns-clause-texts g c = λ t orig text p.
     all_written c.args.plan.now orig (g.S.Shelf.file c.loop-at.shelf) (pieces_of c.loop-at.self) text (λ j l. c.loop-at.invariant.empty j (omega arith))
     (c.loop-at.invariant.texts t orig text p)
+
+pub returns-in_err-flush-clause-cut : goal.returns-in_err-flush-clause-cut
+returns-in_err-flush-clause-cut g c = λ t.
+    let e = err_from_is_err_and c.from_residual.result c.from_residual.ensures.1 in
+    rw e.1
+    (λ orig text p.
+    let S = g.S.Shelf in
+    let before = c.loop-at.invariant in
+    let given = S.ids c.loop-at.shelf in
+    let ids = c.loop-at.self.ids.items in
+    let pieces = c.loop-at.self.pieces.items in
+    let lt : c.loop-at.at < output_count c.args.plan.now = omega arith in
+    let in_ids : c.loop-at.at < length ids = omega arith in
+    let named : (given c.index.result.now).name ≡ output_name c.args.plan.now c.loop-at.at =
+    name_of_id given ids c.loop-at.at c.index.result.now _ c.index.ensures in_ids (before.ready.named c.loop-at.at lt)
+    in
+    cut_piece (λ v. v.items) c.args.plan.now orig (S.file c.loop-at.shelf) (S.file c.flush.new.shelf) pieces text c.loop-at.at c.index_mut.result.now _
+    (c.output_names_differ.ensures c.args.plan.now) lt before.ready.pieces c.index_mut.ensures.value named (before.texts t orig text p) (c.in_err-flush.ensures.front t))

@@ -1,8 +1,10 @@
 use Rattle.std.proofs.Common.{rules, ◌<◌, take, length, arith}
+use Rattle.std.proofs.lemmas.Result.{err_from_is_err_and}
 use Rattle.exb_run.specs.Plans.{port_count}
 use Rattle.exb_run.specs.Writing.{pieces_of, with_more, lines_of}
 use Rattle.exb_run.proofs.OutputLemmas.{no_more, more_lines}
 use Rattle.exb_run.proofs.ShelvingLemmas.{writes_none, writes_then}
+use Rattle.exb_run.proofs.Cutting.{cut_lines}
 use Rattle.exb_run.proofs.outputs.Outputs.write_events.Goals as goal
 
 pub loop-event-init : goal.loop-event-init
@@ -33,3 +35,13 @@ loop-event-preserved g c =
 
 pub returns-in_err-add_event-clause-only : goal.returns-in_err-add_event-clause-only
 returns-in_err-add_event-clause-only g c = writes_then _ _ _ _ _ _ _ _ c.loop-event.invariant.only c.in_err-add_event.ensures.only
+
+pub returns-in_err-add_event-clause-cut : goal.returns-in_err-add_event-clause-cut
+returns-in_err-add_event-clause-cut g c = λ t.
+    let e = err_from_is_err_and c.from_residual.result c.from_residual.ensures.1 in
+    rw e.1
+    (λ orig text p.
+    let before = c.loop-event.invariant in
+    let events = c.args.events.now in
+    cut_lines c.args.plan.now orig (g.S.Shelf.file c.add_event.new.shelf) text events c.loop-event.event-index c.event-item.result (omega arith) c.event-item.is
+    (c.in_err-add_event.ensures.cut t orig (with_more text (port_count c.args.plan.now) (lines_of (take c.loop-event.event-index events))) (before.texts t orig text p)))

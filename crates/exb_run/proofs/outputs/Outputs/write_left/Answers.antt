@@ -1,7 +1,9 @@
 use Rattle.std.proofs.Common.{rules, ◌<◌, take, length, arith}
+use Rattle.std.proofs.lemmas.Result.{err_from_is_err_and}
 use Rattle.exb_run.specs.Writing.{pieces_of, with_left_frames, CanBeWritten}
 use Rattle.exb_run.proofs.OutputLemmas.{no_frames, more_frames}
 use Rattle.exb_run.proofs.ShelvingLemmas.{writes_none, writes_then}
+use Rattle.exb_run.proofs.Cutting.{cut_left}
 use Rattle.exb_run.proofs.outputs.Outputs.write_left.Goals as goal
 
 pub loop-frame-init : goal.loop-frame-init
@@ -33,3 +35,14 @@ loop-frame-preserved g c =
 
 pub returns-in_err-add_left-clause-only : goal.returns-in_err-add_left-clause-only
 returns-in_err-add_left-clause-only g c = writes_then _ _ _ _ _ _ _ _ c.loop-frame.invariant.only c.in_err-add_left.ensures.only
+
+pub returns-in_err-add_left-clause-cut : goal.returns-in_err-add_left-clause-cut
+returns-in_err-add_left-clause-cut g c = λ t.
+    let e = err_from_is_err_and c.from_residual.result c.from_residual.ensures.1 in
+    rw e.1
+    (λ orig text p.
+    let before = c.loop-frame.invariant in
+    let left = c.args.left.now in
+    let can : CanBeWritten c.args.plan.now c.frame-item.result = search (rules, c.requires.frames) in
+    cut_left c.args.plan.now orig (g.S.Shelf.file c.add_left.new.shelf) text left c.loop-frame.frame-index c.frame-item.result (omega arith) c.frame-item.is can
+    (c.in_err-add_left.ensures.cut t orig (with_left_frames c.args.plan.now text (take c.loop-frame.frame-index left)) (before.texts t orig text p)))
