@@ -1,5 +1,5 @@
 #!/usr/bin/env python3
-"""Measures calls of libraries that the program doesn't reach yet: the time of one call, and its instructions where
+"""Measures calls of libraries by themselves: the time of one call, and its instructions where
 valgrind is there.
 
     bench/libraries.py      (the program is the crate exb_bench, which is built where that is needed)

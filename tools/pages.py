@@ -3,8 +3,8 @@
 
     tools/pages.py
 
-links that lead nowhere, names in docs/PROMISES.md and docs/DEFINITIONS.md that no source has, laws and clauses of `run` that
-docs/PROMISES.md doesn't name, crates that docs/ARCHITECTURE.md doesn't have under their heading of crates.txt, a README that is longer
+links that lead nowhere, names in PROMISES, DEFINITIONS, ARCHITECTURE and SETTLING that no source has, laws and clauses of `run` that
+PROMISES doesn't name, crates that ARCHITECTURE doesn't have under their heading of crates.txt, a README that is longer
 or wider than it may be, and paths of a machine. It prints a line each, and ends with status 1 where there is one. It knows names,
 and not what is said of them.
 """
@@ -64,8 +64,8 @@ def sources(crate):
 
 
 def spoken(part):
-    """The names between backquotes, but for the files that are named there."""
-    for quoted in re.findall(r'`([^`]+)`', part):
+    """The names between backquotes, but for the files that are named there, and outside of pictures."""
+    for quoted in re.findall(r'`([^`]+)`', re.sub(r'```.*?```', '', part, flags=re.S)):
         if not re.search(r'[\w.]+\.(?:rt|md|py|antt|toml|txt|pcap)\b', quoted):
             yield from (it for it in NAME.findall(quoted) if len(it) > 2)
 
@@ -89,8 +89,9 @@ def promises(crates):
 
 
 def definitions(crates):
-    everything = set().union(*map(sources, crates)) | {'specs', 'src'}
-    yield from (f'docs/DEFINITIONS.md: no {it} anywhere' for it in spoken(text('docs/DEFINITIONS.md')) if it not in everything)
+    everything = set().union(*map(sources, crates)) | {'specs', 'src', 'proofs', 'antt', 'must', 'fail', 'MODULE', 'FUNCTION'}
+    for page in 'docs/DEFINITIONS.md', 'docs/ARCHITECTURE.md', 'docs/SETTLING.md':
+        yield from (f'{page}: no {it} anywhere' for it in spoken(text(page)) if it not in everything)
 
 
 def groups():

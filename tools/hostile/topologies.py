@@ -70,6 +70,8 @@ FILES = {
     "a list of ports": lambda size: filled(SITE + "[[vlan]]\nvid = 2\ntagged = [", "'b1',", "'b2']\n", size),
     "a list of all ports, again and again": lambda size: filled(SITE + "[[vlan]]\nvid = 2\ntagged = [", "'*',", "'*']\n", size),
     "tables": lambda size: numbered(SITE, "[N]\n", "", size),
+    "tables with a key": lambda size: numbered(SITE, "[N]\na=1\n", "", size),
+    "lists of tables with a key": lambda size: filled(SITE, "[[a]]\nb=1\n", "", size),
     "keys": lambda size: numbered(SITE, "N=1\n", "", size),
     "captures": lambda size: numbered(SITE + "[captures]\n", "N=''\n", "", size),
     "keys of an inline table": lambda size: numbered(SITE + "a = {", "N=1,", "z=1}\n", size),
@@ -91,17 +93,26 @@ FILES = {
 }
 
 
-def checked(program, folder, text, room):
-    """Status, print, seconds of processor time and KiB of memory of a check of this topology."""
+def write(path, make, size):
+    """Writes a file, in a process of its own: a child's memory counts from that of this process on, so this one stays small."""
+    writer = os.fork()
+    if writer == 0:
+        with open(path, "w", encoding="utf-8", newline="") as out:
+            out.write(make(size))
+        os._exit(0)
+    os.waitpid(writer, 0)
+    assert size - 200 < os.path.getsize(path) <= size, path
+
+
+def checked(program, folder, room):
+    """Status, print, seconds of processor time and KiB of memory of a check of the topology in a folder."""
     limit = (lambda: resource.setrlimit(resource.RLIMIT_AS, (room * 2**20,) * 2)) if room else None
-    with open(os.path.join(folder, "t.toml"), "w", encoding="utf-8", newline="") as out:
-        out.write(text)
     with open(os.path.join(folder, "out"), "wb") as out:
         child = subprocess.Popen([program, "check", "t.toml"], cwd=folder, stdout=out, preexec_fn=limit)
         _, status, used = os.wait4(child.pid, 0)
         child.returncode = os.waitstatus_to_exitcode(status)
     with open(os.path.join(folder, "out"), "rb") as out:
-        printed = out.read().decode(errors="replace").strip().replace("\n", ", ").removeprefix("exbr: ")
+        printed = out.read(200).decode(errors="replace").strip().replace("\n", ", ").removeprefix("exbr: ")
     return child.returncode, printed, used.ru_utime + used.ru_stime, used.ru_maxrss
 
 
@@ -120,9 +131,8 @@ def main():
         for name, make in FILES.items():
             if words.only not in name:
                 continue
-            text = make(words.bytes)
-            assert words.bytes - 200 < len(text.encode()) <= words.bytes, name
-            status, printed, seconds, memory = checked(os.path.abspath(words.program), folder, text, words.room)
+            write(os.path.join(folder, "t.toml"), make, words.bytes)
+            status, printed, seconds, memory = checked(os.path.abspath(words.program), folder, words.room)
             said = printed if len(printed) <= 50 else f"{printed[:50]} .."
             print(f"| {name} | {status} | {said} | {seconds:.1f} | {memory / 1024:.0f} |", flush=True)
             if memory > 2**20 and status != 1:

@@ -1,7 +1,7 @@
 //! Captures that are checked, each on a shelf that reads at most so many bytes at once.
 use exb_faulty::{Disturbance, FaultyShelf};
 use exb_pcap::{PcapFault, Reader, header_text, record_text};
-use exb_scan::{CaptureFile, ScanFault, Scanned, scan};
+use exb_scan::{ScanFault, Scanned, scan};
 use std::alloc::{AllocError, Global};
 use std::process::Abort;
 
@@ -184,29 +184,5 @@ fn a_scan_keeps_its_limit(rt: HostRuntime) -> Result<(), AllocError> {
     fails.put("in.pcap", late.as_slice()).expect(&rt, "memory");
     let told = told_text(alloc, scan(alloc, &mut fails, "in.pcap", 100))?;
     assert_eq!(rt; told.as_str(), "Read");
-    Ok(())
-}
-
-#[test]
-fn an_open_capture_gives_its_records(rt: HostRuntime) -> Result<(), AllocError> {
-    let alloc = rt.alloc();
-    let file = capture(&rt, alloc, 4);
-    let mut piece = vec![in alloc; 0u8; 1_000]?;
-    let mut shelf = FaultyShelf::new(alloc, Disturbance::Slow { bytes: 50 });
-    shelf.put("in.pcap", file.as_slice()).expect(&rt, "memory");
-    let mut opened = CaptureFile::open(alloc, &mut shelf, "in.pcap", 70_149).expect(&rt, "open");
-    for (moment, length) in FRAMES {
-        let ahead = opened
-            .ahead(&mut shelf, piece.as_mut_slice())
-            .expect(&rt, "read");
-        assert_eq!(rt; ahead, Some(moment));
-        let bytes = opened.take(alloc).expect(&rt, "memory");
-        assert_eq!(rt; bytes.as_slice().len(), length as usize);
-    }
-    let ahead = opened
-        .ahead(&mut shelf, piece.as_mut_slice())
-        .expect(&rt, "read");
-    assert_eq!(rt; ahead, None);
-    assert_eq!(rt; opened.got(), opened.limit());
     Ok(())
 }
