@@ -313,7 +313,7 @@ pub no_trace : trace_text [] ≡ []
 unfolding trace_text
 no_trace = refl
 
-trace_more : (lines : List TraceLine) (i : ℕ) (one : TraceLine) → i < length lines → one ≡ get_or lines i one
+pub trace_more : (lines : List TraceLine) (i : ℕ) (one : TraceLine) → i < length lines → one ≡ get_or lines i one
     → trace_text (take i lines) ++ (trace_line one ++ 10 ∷ []) ≡ trace_text (take (i + 1) lines)
 unfolding trace_text
 trace_more lines i one inside is = texts_more (λ (x : TraceLine). trace_line x ++ 10 ∷ []) lines i one inside is
