@@ -222,10 +222,11 @@ impl<'a> Bench<'a> {
         self.judge_call(rt, call.asked, Disturbance::WantsMemory { at });
     }
 
-    // Whether a call that could move so many bytes is tried with these: with all of them where they are few.
+    // Whether a call that could move so many bytes is tried with these: with all of them in the run of the fewest files, else with some.
     fn is_tried(&self, bytes: usize, moved: usize) -> bool {
-        let step = (moved / self.site.run.cuts.max(1)).saturating_add(1);
-        bytes == 1 || moved.saturating_sub(bytes) == 1 || bytes % step == 0
+        let step = (moved / 6).saturating_add(1);
+        let some = bytes == 1 || moved.saturating_sub(bytes) == 1 || bytes % step == 0;
+        some || self.site.run.outputs.len() <= BARE.outputs.len()
     }
 
     // A call moves fewer bytes than it could, and the run goes on, or the next call fails.
