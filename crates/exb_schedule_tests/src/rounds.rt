@@ -104,28 +104,63 @@ fn expect_undisturbed(
     expect_played(rt, alloc, &disturbed, &played);
 }
 
-// The same over a chain of so many levels, with each kind and a budget for each.
-fn expect_chain(rt: &impl Abort, alloc: Global, levels: u8, budgets: &[u64; 4]) {
+// The same over a chain of so many levels.
+fn expect_kind(rt: &impl Abort, alloc: Global, levels: u8, kind: Kind, budget: u64) {
     let text = chain(rt, alloc, levels);
     let file = bytes_of(rt, alloc, FRAMES);
+    expect_undisturbed(rt, alloc, text.as_str(), file.as_slice(), kind, budget);
+}
+
+// The same with each kind, and a budget for each.
+fn expect_chain(rt: &impl Abort, alloc: Global, levels: u8, budgets: &[u64; 4]) {
     for (kind, budget) in KINDS.iter().zip(budgets) {
-        expect_undisturbed(rt, alloc, text.as_str(), file.as_slice(), *kind, *budget);
+        expect_kind(rt, alloc, levels, *kind, *budget);
     }
 }
 
 #[test]
-fn one_level_comes_to_rest(rt: HostRuntime) {
-    expect_chain(&rt, rt.alloc(), 1, &[100_000; 4]);
+fn one_level_comes_to_rest_over_late_frames(rt: HostRuntime) {
+    expect_kind(&rt, rt.alloc(), 1, Kind::Only(Verdict::Later), 100_000);
+}
+
+#[test]
+fn one_level_comes_to_rest_over_doubled_frames(rt: HostRuntime) {
+    expect_kind(&rt, rt.alloc(), 1, Kind::Only(Verdict::Twice), 100_000);
+}
+
+#[test]
+fn one_level_comes_to_rest_over_lost_frames(rt: HostRuntime) {
+    expect_kind(&rt, rt.alloc(), 1, Kind::Only(Verdict::Lose), 100_000);
+}
+
+#[test]
+fn one_level_comes_to_rest_over_drawn_verdicts(rt: HostRuntime) {
+    expect_kind(&rt, rt.alloc(), 1, Kind::Drawn(1), 100_000);
 }
 
 #[test]
 fn eight_levels_come_to_rest(rt: HostRuntime) {
-    expect_chain(&rt, rt.alloc(), 8, &[100_000; 4]);
+    expect_chain(&rt, rt.alloc(), 8, &[10_000; 4]);
 }
 
 #[test]
-fn sixty_four_levels_come_to_rest(rt: HostRuntime) {
-    expect_chain(&rt, rt.alloc(), 64, &[100_000; 4]);
+fn sixty_four_levels_come_to_rest_over_late_frames(rt: HostRuntime) {
+    expect_kind(&rt, rt.alloc(), 64, Kind::Only(Verdict::Later), 1_000);
+}
+
+#[test]
+fn sixty_four_levels_come_to_rest_over_doubled_frames(rt: HostRuntime) {
+    expect_kind(&rt, rt.alloc(), 64, Kind::Only(Verdict::Twice), 1_000);
+}
+
+#[test]
+fn sixty_four_levels_come_to_rest_over_lost_frames(rt: HostRuntime) {
+    expect_kind(&rt, rt.alloc(), 64, Kind::Only(Verdict::Lose), 1_000);
+}
+
+#[test]
+fn sixty_four_levels_come_to_rest_over_drawn_verdicts(rt: HostRuntime) {
+    expect_kind(&rt, rt.alloc(), 64, Kind::Drawn(1), 1_000);
 }
 
 #[test]
