@@ -222,22 +222,43 @@ impl<'a> Bench<'a> {
         self.judge_call(rt, call.asked, Disturbance::WantsMemory { at });
     }
 
+    // Whether a call that could move so many bytes is tried with these: with all of them where they are few.
+    fn is_tried(&self, bytes: usize, moved: usize) -> bool {
+        let step = (moved / self.site.run.cuts.max(1)).saturating_add(1);
+        bytes == 1 || moved.saturating_sub(bytes) == 1 || bytes % step == 0
+    }
+
     // A call moves fewer bytes than it could, and the run goes on, or the next call fails.
-    fn shorten_call(&self, rt: &impl Abort, at: usize, call: Call) {
+    fn shorten_call(&self, rt: &impl Abort, at: usize, call: Call, stops: bool) {
         for bytes in 1..call.moved {
-            if is_tried(bytes, call.moved) {
-                self.judge_call(rt, call.asked, Disturbance::Short { at, bytes });
-                self.judge_call(rt, call.asked, Disturbance::Stops { at, bytes });
+            if self.is_tried(bytes, call.moved) {
+                let how = if stops {
+                    Disturbance::Stops { at, bytes }
+                } else {
+                    Disturbance::Short { at, bytes }
+                };
+                self.judge_call(rt, call.asked, how);
             }
         }
     }
 
-    // Disturbs each of these calls in every way.
-    fn sweep_calls(&self, rt: &impl Abort, calls: &[Call]) {
+    // The same of each of these calls.
+    fn shorten_calls(&self, rt: &impl Abort, calls: &[Call], stops: bool) {
         for (before, call) in calls.iter().enumerate() {
-            let at = before.saturating_add(1);
-            self.stop_call(rt, at, *call);
-            self.shorten_call(rt, at, *call);
+            self.shorten_call(rt, before.saturating_add(1), *call, stops);
+        }
+    }
+
+    // The same of each call.
+    fn shorten(&self, rt: &impl Abort, stops: bool) {
+        self.shorten_calls(rt, self.whole.shelf.calls(), stops);
+        self.shorten_calls(rt, self.whole.out.calls(), stops);
+    }
+
+    // Has each of these calls fail, or want memory.
+    fn stop_calls(&self, rt: &impl Abort, calls: &[Call]) {
+        for (before, call) in calls.iter().enumerate() {
+            self.stop_call(rt, before.saturating_add(1), *call);
         }
     }
 
@@ -249,10 +270,10 @@ impl<'a> Bench<'a> {
         }
     }
 
-    // Disturbs each call, and all of them.
-    fn sweep(&self, rt: &impl Abort) {
-        self.sweep_calls(rt, self.whole.shelf.calls());
-        self.sweep_calls(rt, self.whole.out.calls());
+    // Has each call fail, and all of them move few bytes.
+    fn fail(&self, rt: &impl Abort) {
+        self.stop_calls(rt, self.whole.shelf.calls());
+        self.stop_calls(rt, self.whole.out.calls());
         self.sweep_lines(rt);
         for bytes in [1, 7, 100] {
             let how = Disturbance::Slow { bytes };
@@ -278,13 +299,6 @@ fn is_loud(of_sink: Disturbance) -> bool {
         of_sink,
         Disturbance::Fails { .. } | Disturbance::WantsMemory { .. } | Disturbance::Stops { .. }
     )
-}
-
-// Whether a call that could move so many bytes is tried with these: all of them where they are few, else some from end to end.
-fn is_tried(bytes: usize, moved: usize) -> bool {
-    let left = moved.saturating_sub(bytes);
-    let step = (moved / 8).saturating_add(1);
-    moved < 64 || bytes < 3 || left < 3 || bytes % step == 0
 }
 
 // How many calls asked for this.
@@ -314,27 +328,55 @@ fn judge_calls(rt: &impl Abort, bench: &Bench<'_>) {
     assert_eq!(rt; bench.whole.out.calls().len(), 1);
 }
 
-// Disturbs each call of a run in every way, and in some where other texts are there under the names of its outputs.
-fn sweep_run(rt: &impl Abort, alloc: Global, run: &Run) {
+// Has each call of a run fail or want memory, also where other texts are there under the names of its outputs.
+fn fail_run(rt: &impl Abort, alloc: Global, run: &Run) {
     let bench = Bench::new(rt, alloc, run, "");
     judge_calls(rt, &bench);
-    bench.sweep(rt);
+    bench.fail(rt);
     let bench = Bench::new(rt, alloc, run, BEFORE);
     judge_calls(rt, &bench);
     bench.stop(rt);
 }
 
-#[test]
-fn each_disturbed_call_of_a_bridge_alone_is_answered_as_it_must(rt: HostRuntime) {
-    sweep_run(&rt, rt.alloc(), &BARE);
+// Has each call of a run move fewer bytes than it could, and go on, or fail at the next one.
+fn shorten_run(rt: &impl Abort, alloc: Global, run: &Run, stops: bool) {
+    let bench = Bench::new(rt, alloc, run, "");
+    bench.shorten(rt, stops);
 }
 
 #[test]
-fn each_disturbed_call_of_a_tree_with_commands_is_answered_as_it_must(rt: HostRuntime) {
-    sweep_run(&rt, rt.alloc(), &TREE);
+fn each_failing_call_of_a_bridge_alone_is_answered_as_it_must(rt: HostRuntime) {
+    fail_run(&rt, rt.alloc(), &BARE);
 }
 
 #[test]
-fn each_disturbed_call_of_a_lossy_tree_in_a_drawn_order_is_answered_as_it_must(rt: HostRuntime) {
-    sweep_run(&rt, rt.alloc(), &LOSSY);
+fn each_short_call_of_a_bridge_alone_is_answered_as_it_must(rt: HostRuntime) {
+    shorten_run(&rt, rt.alloc(), &BARE, false);
+}
+
+#[test]
+fn each_call_of_a_bridge_alone_that_stops_in_its_middle_is_answered_as_it_must(rt: HostRuntime) {
+    shorten_run(&rt, rt.alloc(), &BARE, true);
+}
+
+#[test]
+fn each_failing_call_of_a_tree_with_commands_is_answered_as_it_must(rt: HostRuntime) {
+    fail_run(&rt, rt.alloc(), &TREE);
+}
+
+#[test]
+fn each_short_call_of_a_tree_with_commands_is_answered_as_it_must(rt: HostRuntime) {
+    shorten_run(&rt, rt.alloc(), &TREE, false);
+    shorten_run(&rt, rt.alloc(), &TREE, true);
+}
+
+#[test]
+fn each_failing_call_of_a_lossy_tree_in_a_drawn_order_is_answered_as_it_must(rt: HostRuntime) {
+    fail_run(&rt, rt.alloc(), &LOSSY);
+}
+
+#[test]
+fn each_short_call_of_a_lossy_tree_in_a_drawn_order_is_answered_as_it_must(rt: HostRuntime) {
+    shorten_run(&rt, rt.alloc(), &LOSSY, false);
+    shorten_run(&rt, rt.alloc(), &LOSSY, true);
 }

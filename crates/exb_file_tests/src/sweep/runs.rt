@@ -1,12 +1,14 @@
 //! Three whole runs, by their files.
 
-/// A run: its words, its topology `t.toml`, its captures in hexadecimal, the files that it makes, in their order, and its summary.
+/// A run: its words, its topology `t.toml`, its captures in hexadecimal, the files that it makes, in their order, its summary, and into
+/// how many lengths a call's bytes are cut, each in its turn.
 pub(super) struct Run {
     pub(super) words: &'static str,
     pub(super) topology: &'static str,
     pub(super) captures: &'static [(&'static str, &'static str)],
     pub(super) outputs: &'static [&'static str],
     pub(super) summary: &'static str,
+    pub(super) cuts: usize,
 }
 
 /// A bridge alone: a broadcast, and an answer to its source.
@@ -32,6 +34,7 @@ pub(super) const BARE: Run = Run {
         "out-journal.txt",
     ],
     summary: "arrivals 2 relayed 2 ignored 0 left 3 commits 0 refusals 0\n",
+    cuts: 64,
 };
 
 /// What comes to two ports of a tree: two frames of two VLANs, an answer and a broadcast.
@@ -72,6 +75,7 @@ pub(super) const TREE: Run = Run {
         "out-journal.txt",
     ],
     summary: "arrivals 4 relayed 4 ignored 0 left 12 commits 3 refusals 1\n",
+    cuts: 6,
 };
 
 /// The same with control frames that are lost, late or come twice, in a drawn order and with a trace.
@@ -97,4 +101,5 @@ pub(super) const LOSSY: Run = Run {
         "out-trace.txt",
     ],
     summary: "arrivals 4 relayed 4 ignored 0 left 9 commits 3 refusals 0\n",
+    cuts: 6,
 };
