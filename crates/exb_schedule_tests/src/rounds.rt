@@ -56,31 +56,39 @@ fn quiet(rt: &impl Abort, alloc: Global) -> Box<dyn Fate> {
     Box::new(alloc, ScriptFate::new(alloc)).expect(rt, "memory")
 }
 
-// A chain of extenders, each on the last port of the one before. The last port of all is retagged, goes down and comes up again.
-fn chain(rt: &impl Abort, alloc: Global, levels: u8) -> String {
-    let mut text = String::from_str(alloc, "[bridge]\nports = 2\n").expect(rt, "memory");
-    for above in 0..levels {
-        let number = above.saturating_add(1);
-        let on = if above == 0 {
-            format!(in alloc; "b1")
-        } else {
-            format!(in alloc; "x{above}.2")
-        };
-        let on = on.expect(rt, "memory");
-        let table = format!(in alloc;
-            "[[extender]]\nnumber = {number}\nports = 2\non = \"{on}\"\n"
-        );
-        text.push_str(table.expect(rt, "memory").as_str())
-            .expect(rt, "memory");
-    }
-    let rest = format!(in alloc;
+// Puts the extender below this number behind a topology: on the last port of the one above, or on the bridge.
+fn put_extender(rt: &impl Abort, alloc: Global, text: &mut String, above: u8) {
+    let number = above.saturating_add(1);
+    let on = if above == 0 {
+        format!(in alloc; "b1")
+    } else {
+        format!(in alloc; "x{above}.2")
+    };
+    let on = on.expect(rt, "memory");
+    let table = format!(in alloc; "[[extender]]\nnumber = {number}\nports = 2\non = \"{on}\"\n");
+    text.push_str(table.expect(rt, "memory").as_str())
+        .expect(rt, "memory");
+}
+
+// What stands behind the extenders: the VLAN, the commands and the capture.
+fn end_of_chain(rt: &impl Abort, alloc: Global, levels: u8) -> String {
+    let text = format!(in alloc;
         "[[vlan]]\nvid = 10\ntagged = [\"x1.1\", \"x{levels}.2\"]\nuntagged = [\"b2\"]\n\
          [[command]]\nat = 1\nop = \"member\"\nvid = 10\nport = \"x{levels}.2\"\nkind = \"untagged\"\n\
          [[command]]\nat = 3\nop = \"down\"\nport = \"x{levels}.2\"\n\
          [[command]]\nat = 5\nop = \"up\"\nport = \"x{levels}.2\"\n\
          [captures]\n\"x1.1\" = \"a.pcap\"\n"
     );
-    text.push_str(rest.expect(rt, "memory").as_str())
+    text.expect(rt, "memory")
+}
+
+// A chain of extenders, each on the last port of the one before. The last port of all is retagged, goes down and comes up again.
+fn chain(rt: &impl Abort, alloc: Global, levels: u8) -> String {
+    let mut text = String::from_str(alloc, "[bridge]\nports = 2\n").expect(rt, "memory");
+    for above in 0..levels {
+        put_extender(rt, alloc, &mut text, above);
+    }
+    text.push_str(end_of_chain(rt, alloc, levels).as_str())
         .expect(rt, "memory");
     text
 }
