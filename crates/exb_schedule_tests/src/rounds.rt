@@ -56,31 +56,39 @@ fn quiet(rt: &impl Abort, alloc: Global) -> Box<dyn Fate> {
     Box::new(alloc, ScriptFate::new(alloc)).expect(rt, "memory")
 }
 
-// A chain of extenders, each on the last port of the one before. The last port of all is retagged, goes down and comes up again.
-fn chain(rt: &impl Abort, alloc: Global, levels: u8) -> String {
-    let mut text = String::from_str(alloc, "[bridge]\nports = 2\n").expect(rt, "memory");
-    for above in 0..levels {
-        let number = above.saturating_add(1);
-        let on = if above == 0 {
-            format!(in alloc; "b1")
-        } else {
-            format!(in alloc; "x{above}.2")
-        };
-        let on = on.expect(rt, "memory");
-        let table = format!(in alloc;
-            "[[extender]]\nnumber = {number}\nports = 2\non = \"{on}\"\n"
-        );
-        text.push_str(table.expect(rt, "memory").as_str())
-            .expect(rt, "memory");
-    }
-    let rest = format!(in alloc;
+// Puts the extender below this number behind a topology: on the last port of the one above, or on the bridge.
+fn put_extender(rt: &impl Abort, alloc: Global, text: &mut String, above: u8) {
+    let number = above.saturating_add(1);
+    let on = if above == 0 {
+        format!(in alloc; "b1")
+    } else {
+        format!(in alloc; "x{above}.2")
+    };
+    let on = on.expect(rt, "memory");
+    let table = format!(in alloc; "[[extender]]\nnumber = {number}\nports = 2\non = \"{on}\"\n");
+    text.push_str(table.expect(rt, "memory").as_str())
+        .expect(rt, "memory");
+}
+
+// What stands behind the extenders: the VLAN, the commands and the capture.
+fn end_of_chain(rt: &impl Abort, alloc: Global, levels: u8) -> String {
+    let text = format!(in alloc;
         "[[vlan]]\nvid = 10\ntagged = [\"x1.1\", \"x{levels}.2\"]\nuntagged = [\"b2\"]\n\
          [[command]]\nat = 1\nop = \"member\"\nvid = 10\nport = \"x{levels}.2\"\nkind = \"untagged\"\n\
          [[command]]\nat = 3\nop = \"down\"\nport = \"x{levels}.2\"\n\
          [[command]]\nat = 5\nop = \"up\"\nport = \"x{levels}.2\"\n\
          [captures]\n\"x1.1\" = \"a.pcap\"\n"
     );
-    text.push_str(rest.expect(rt, "memory").as_str())
+    text.expect(rt, "memory")
+}
+
+// A chain of extenders, each on the last port of the one before. The last port of all is retagged, goes down and comes up again.
+fn chain(rt: &impl Abort, alloc: Global, levels: u8) -> String {
+    let mut text = String::from_str(alloc, "[bridge]\nports = 2\n").expect(rt, "memory");
+    for above in 0..levels {
+        put_extender(rt, alloc, &mut text, above);
+    }
+    text.push_str(end_of_chain(rt, alloc, levels).as_str())
         .expect(rt, "memory");
     text
 }
@@ -104,28 +112,63 @@ fn expect_undisturbed(
     expect_played(rt, alloc, &disturbed, &played);
 }
 
-// The same over a chain of so many levels, with each kind and a budget for each.
-fn expect_chain(rt: &impl Abort, alloc: Global, levels: u8, budgets: &[u64; 4]) {
+// The same over a chain of so many levels.
+fn expect_kind(rt: &impl Abort, alloc: Global, levels: u8, kind: Kind, budget: u64) {
     let text = chain(rt, alloc, levels);
     let file = bytes_of(rt, alloc, FRAMES);
+    expect_undisturbed(rt, alloc, text.as_str(), file.as_slice(), kind, budget);
+}
+
+// The same with each kind, and a budget for each.
+fn expect_chain(rt: &impl Abort, alloc: Global, levels: u8, budgets: &[u64; 4]) {
     for (kind, budget) in KINDS.iter().zip(budgets) {
-        expect_undisturbed(rt, alloc, text.as_str(), file.as_slice(), *kind, *budget);
+        expect_kind(rt, alloc, levels, *kind, *budget);
     }
 }
 
 #[test]
-fn one_level_comes_to_rest(rt: HostRuntime) {
-    expect_chain(&rt, rt.alloc(), 1, &[100_000; 4]);
+fn one_level_comes_to_rest_over_late_frames(rt: HostRuntime) {
+    expect_kind(&rt, rt.alloc(), 1, Kind::Only(Verdict::Later), 100_000);
+}
+
+#[test]
+fn one_level_comes_to_rest_over_doubled_frames(rt: HostRuntime) {
+    expect_kind(&rt, rt.alloc(), 1, Kind::Only(Verdict::Twice), 100_000);
+}
+
+#[test]
+fn one_level_comes_to_rest_over_lost_frames(rt: HostRuntime) {
+    expect_kind(&rt, rt.alloc(), 1, Kind::Only(Verdict::Lose), 100_000);
+}
+
+#[test]
+fn one_level_comes_to_rest_over_drawn_verdicts(rt: HostRuntime) {
+    expect_kind(&rt, rt.alloc(), 1, Kind::Drawn(1), 100_000);
 }
 
 #[test]
 fn eight_levels_come_to_rest(rt: HostRuntime) {
-    expect_chain(&rt, rt.alloc(), 8, &[100_000; 4]);
+    expect_chain(&rt, rt.alloc(), 8, &[10_000; 4]);
 }
 
 #[test]
-fn sixty_four_levels_come_to_rest(rt: HostRuntime) {
-    expect_chain(&rt, rt.alloc(), 64, &[100_000; 4]);
+fn sixty_four_levels_come_to_rest_over_late_frames(rt: HostRuntime) {
+    expect_kind(&rt, rt.alloc(), 64, Kind::Only(Verdict::Later), 1_000);
+}
+
+#[test]
+fn sixty_four_levels_come_to_rest_over_doubled_frames(rt: HostRuntime) {
+    expect_kind(&rt, rt.alloc(), 64, Kind::Only(Verdict::Twice), 1_000);
+}
+
+#[test]
+fn sixty_four_levels_come_to_rest_over_lost_frames(rt: HostRuntime) {
+    expect_kind(&rt, rt.alloc(), 64, Kind::Only(Verdict::Lose), 1_000);
+}
+
+#[test]
+fn sixty_four_levels_come_to_rest_over_drawn_verdicts(rt: HostRuntime) {
+    expect_kind(&rt, rt.alloc(), 64, Kind::Drawn(1), 1_000);
 }
 
 #[test]
