@@ -23,7 +23,8 @@ use Rattle.exb_csp.specs.declared.form.Form.{Form}
 use Rattle.exb_csp.specs.declared.form.Form.TheVariants as form
 use Rattle.exb_csp.specs.Kinds.{kind_of, number_of, kind_numbered, type_of, form_of, is_length}
 use Rattle.exb_csp.specs.Reading.{◌>>=◌, refuse, u16_at, u64_at, row_at, rows_at, ecids_at, request_in, ports_in, response_in, body_in, form_at, serial_at, read_message}
-use Rattle.exb_csp.specs.Spelling.{row_bytes, ecid_bytes, request_bytes, answer_bytes, form_in, body_bytes, message_bytes, IsSpelledRequest, IsPortCount, IsSpelledBody, HasSpelling, IsBytes}
+use Rattle.exb_model.specs.Frames.{IsBytes}
+use Rattle.exb_csp.specs.Spelling.{row_bytes, ecid_bytes, request_bytes, answer_bytes, form_in, body_bytes, message_bytes, IsSpelledRequest, IsPortCount, IsSpelledBody, HasSpelling}
 
 -- ---- bytes
 

@@ -15,7 +15,8 @@ use Rattle.exb_csp.specs.declared.message.Body.TheVariants.{Ask, Answer}
 use Rattle.exb_csp.specs.declared.message.Message.{Message}
 use Rattle.exb_csp.specs.declared.message.Request.{Request}
 use Rattle.exb_csp.specs.declared.message.Request.TheVariants.{Open, PortCreate, PortDelete, Register, Unregister, RegisterMany, UnregisterMany}
-use Rattle.exb_csp.specs.Spelling.{IsBytes, message_bytes}
+use Rattle.exb_model.specs.Frames.{IsBytes}
+use Rattle.exb_csp.specs.Spelling.{message_bytes}
 use Rattle.exb_csp.specs.Reading.{read_message}
 use Rattle.exb_csp.specs.Execute.{ExtenderTables, create_code, code_of, done, executed}
 use Rattle.exb_csp.specs.Plain.{powered_on}

@@ -4,7 +4,7 @@ use Rattle.exb_model.specs.ExtenderForwarding.{emits}
 use Rattle.exb_csp.specs.declared.group_rows.GroupRow.{GroupRow}
 use Rattle.exb_csp.specs.declared.message.Request.TheVariants.{PortCreate, PortDelete, Register, Unregister, RegisterMany}
 use Rattle.exb_csp.specs.Execute.{ExtenderTables, in_mask, code_of, row_code}
-use Rattle.exb_csp.specs.Spelling.{IsBytes}
+use Rattle.exb_model.specs.Frames.{IsBytes}
 use Rattle.exb_csp.specs.AllTables.{tables_at, port_of}
 use Rattle.exb_extender.specs.declared.sends.Side.TheVariants.{Up}
 use Rattle.exb_extender.specs.Forwarding.{Sent, is_bare_control, forwarding_of}

@@ -11,7 +11,7 @@ use Rattle.exb_model.specs.declared.vlan.Kind.TheVariants.{Tagged, Untagged}
 use Rattle.exb_model.specs.Configuration.{Bridge, is_known}
 use Rattle.exb_model.specs.Learning.{admitted, passes_as, passes}
 use Rattle.exb_config.specs.Pvids.{HasPvids}
-use Rattle.exb_model.specs.Frames.{is_reserved, kind_of_tag, number_at, two_bytes, kind_of, body_after, priority_of, egress}
+use Rattle.exb_model.specs.Frames.{is_reserved, kind_of_tag, number_at, two_bytes, kind_of, body_after, priority_of, egress, IsBytes}
 use Rattle.exb_model.specs.ETags.{Tag, TagFits, tag_word, etag_bytes, tagged, stripped}
 use Rattle.exb_model.specs.EagerHistory.{is_relayed_kind}
 use Rattle.exb_lldp.specs.Spelling.{spelling as announcement}
@@ -30,7 +30,7 @@ use Rattle.exb_csp.specs.declared.message.Request.TheVariants as request
 use Rattle.exb_csp.specs.declared.message.RequestKind.{RequestKind}
 use Rattle.exb_csp.specs.declared.message.RequestKind.TheVariants as kind
 use Rattle.exb_csp.specs.Kinds.{kind_of as kind_asked, type_of, number_of}
-use Rattle.exb_csp.specs.Spelling.{row_bytes, ecid_bytes, request_bytes, answer_bytes, form_in, body_bytes, message_bytes, IsPortCount, IsSpelledBody, FitsRequest, FitsBody, IsBytes}
+use Rattle.exb_csp.specs.Spelling.{row_bytes, ecid_bytes, request_bytes, answer_bytes, form_in, body_bytes, message_bytes, IsPortCount, IsSpelledBody, FitsRequest, FitsBody}
 use Rattle.exb_extender.specs.Forwarding.{is_refused_kind}
 use Rattle.exb_extender.specs.Machine.{control_pdu}
 use Rattle.exb_machine.specs.Runs.Sessions.{Each}

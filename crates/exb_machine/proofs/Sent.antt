@@ -2,7 +2,7 @@
 use Rattle.std.proofs.Common.{◌≡◌, ℕ, ◌+◌, ◌<◌, ◌≤◌, ◌==◌, ◌&&◌, ◌||◌, not, nat_lt, Bool, true, false, cond, List, [], ◌∷◌, length, map, drop, Option, Some, None, Ok, Err, refl, ap, sym, subst, arith, inl, inr}
 use Rattle.std.specs.Prelude.{Result, IfSome}
 use Rattle.std.proofs.lemmas.Bool.{cases_Bool, and_parts}
-use Rattle.exb_model.specs.Frames.{kind_of}
+use Rattle.exb_model.specs.Frames.{kind_of, IsBytes}
 use Rattle.exb_model.specs.ETags.{Tag, TagFits, read_etag, tagged, stripped}
 use Rattle.exb_model.specs.ExtenderForwarding.{takes, left_out, bare, emits, emits_tagged}
 use Rattle.exb_frame.specs.TagValues.{TagRoundTrip}
@@ -23,7 +23,7 @@ use Rattle.exb_csp.specs.declared.message.Body.TheVariants as body
 use Rattle.exb_csp.specs.declared.message.Message.{Message}
 use Rattle.exb_csp.specs.declared.message.Response.{Response}
 use Rattle.exb_csp.specs.Reading.{read_message}
-use Rattle.exb_csp.specs.Spelling.{message_bytes, HasSpelling, IsBytes}
+use Rattle.exb_csp.specs.Spelling.{message_bytes, HasSpelling}
 use Rattle.exb_csp.specs.Execute.{ExtenderTables}
 use Rattle.exb_session.specs.declared.answerer.Due.{Due as Turn}
 use Rattle.exb_session.specs.declared.answerer.Due.TheVariants as turn

@@ -4,7 +4,7 @@ use Rattle.std.specs.Prelude.{Result, All}
 use Rattle.std.proofs.lemmas.Bool.{cases_Bool, cases_lt, and_parts, lt-ltb, le-ltb}
 use Rattle.exb_model.specs.Tree.{Shape, IsTree, on, device, trunk, is_extender, is_external}
 use Rattle.exb_model.specs.Setup.{Limits}
-use Rattle.exb_model.specs.Frames.{kind_of, egress}
+use Rattle.exb_model.specs.Frames.{kind_of, egress, IsBytes}
 use Rattle.exb_model.specs.ETags.{read_etag, tagged, stripped}
 use Rattle.exb_model.specs.Learning.{passes}
 use Rattle.exb_model.specs.Input.{Arrival}
@@ -28,7 +28,7 @@ use Rattle.exb_ecp.proofs.Sound.{keeps_sound}
 use Rattle.exb_csp.specs.declared.fault.CspFault.{CspFault}
 use Rattle.exb_csp.specs.declared.message.Message.{Message}
 use Rattle.exb_csp.specs.Reading.{read_message}
-use Rattle.exb_csp.specs.Spelling.{message_bytes, IsBytes}
+use Rattle.exb_csp.specs.Spelling.{message_bytes}
 use Rattle.exb_csp.specs.AllTables.{port_of}
 use Rattle.exb_session.specs.declared.asker.Taken.{Taken}
 use Rattle.exb_session.specs.declared.asker.Taken.TheVariants as taken

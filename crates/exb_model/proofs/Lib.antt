@@ -13,3 +13,4 @@ pub mod TreeHung
 pub mod TreeCovered
 pub mod Validity
 pub mod FrameKinds
+pub mod LegalPlays

@@ -44,22 +44,22 @@ kind_in tagged untagged q =
 
 -- the configuration where one rule of a port is changed
 abbrev pub with_rule : ℕ → (PortRule → PortRule) → Bridge → Bridge
-with_rule p change k = record k { rule = λ q. if q == p then change (k.rule q) else k.rule q }
+with_rule p change b = record b { rule = λ q. if q == p then change (b.rule q) else b.rule q }
 
 -- After(K, command)
 abbrev pub after : Command → Bridge → Bridge
-after (command.Vlan v tagged untagged) k = record k { member = λ w q. if w == v then kind_in tagged untagged q else k.member w q }
-after (command.Member v p kind) k = record k { member = λ w q. if w == v && q == p then Some kind else k.member w q }
-after (command.Unmember v p) k = record k { member = λ w q. if w == v && q == p then None else k.member w q }
-after (command.Pvid p v) k = with_rule p (λ r. record r { pvid = v }) k
-after (command.Accept p types) k = with_rule p (λ r. record r { accept = types }) k
-after (command.Filter p on) k = with_rule p (λ r. record r { filter = on }) k
-after (command.Isolate p on) k = with_rule p (λ r. record r { isolated = on }) k
-after (command.Static v m ports) k = record k { statics = put_static (record { vid = v; address = m; ports = ports }) k.statics }
-after (command.Unstatic v m) k = record k { statics = filter (λ e. not (is_for v m.0 e)) k.statics }
-after (command.Up p) k = record k { present = λ q. q == p || k.present q }
-after (command.Down p) k = record k { present = λ q. not (q == p) && k.present q }
+after (command.Vlan v tagged untagged) b = record b { member = λ w q. if w == v then kind_in tagged untagged q else b.member w q }
+after (command.Member v p kind) b = record b { member = λ w q. if w == v && q == p then Some kind else b.member w q }
+after (command.Unmember v p) b = record b { member = λ w q. if w == v && q == p then None else b.member w q }
+after (command.Pvid p v) b = with_rule p (λ r. record r { pvid = v }) b
+after (command.Accept p types) b = with_rule p (λ r. record r { accept = types }) b
+after (command.Filter p on) b = with_rule p (λ r. record r { filter = on }) b
+after (command.Isolate p on) b = with_rule p (λ r. record r { isolated = on }) b
+after (command.Static v m ports) b = record b { statics = put_static (record { vid = v; address = m; ports = ports }) b.statics }
+after (command.Unstatic v m) b = record b { statics = filter (λ e. not (is_for v m.0 e)) b.statics }
+after (command.Up p) b = record b { present = λ q. q == p || b.present q }
+after (command.Down p) b = record b { present = λ q. not (q == p) && b.present q }
 
 -- a VLAN is in the table where it has a member, present or not
 unfoldable pub is_known : Bridge → ℕ → Bool
-is_known k v = list_any (λ q. is_some (k.member v q)) all_ports
+is_known b v = list_any (λ q. is_some (b.member v q)) all_ports

@@ -24,10 +24,10 @@ is_relayed_kind _ = true
 
 -- the port is present, and the frame is neither short nor long nor reserved
 abbrev pub is_relayed : Bridge → ℕ → List ℕ → Bool
-is_relayed k p f = k.present p && is_relayed_kind (kind_of f)
+is_relayed b p f = b.present p && is_relayed_kind (kind_of f)
 
 abbrev pub arrival_event : Bridge → Arrival → Event
-arrival_event k a = if is_relayed k a.port a.bytes then event.Relay a.port a.index a.moment a.bytes else event.Ignored a.port a.index
+arrival_event b a = if is_relayed b a.port a.bytes then event.Relay a.port a.index a.moment a.bytes else event.Ignored a.port a.index
 
 abbrev pub decided : ℕ → Option Cause → Event
 decided n None = event.Commit n
@@ -35,18 +35,18 @@ decided n (Some x) = event.Refuse n x
 
 -- what is refused of command n, and nothing where there is none
 abbrev pub refusal_of : Shape → Limits → Bridge → Option Command → Option Cause
-refusal_of t l k None = None
-refusal_of t l k (Some c) = refusal t l k c
+refusal_of t l b None = None
+refusal_of t l b (Some c) = refusal t l b c
 
 abbrev pub command_event : Shape → Limits → Basis → Bridge → ℕ → Event
-command_event t l i k n = decided n (refusal_of t l k (command_of i n))
+command_event t l i b n = decided n (refusal_of t l b (command_of i n))
 
 abbrev pub risen : ℕ → Option Cause → Event
 risen p None = event.Up p
 risen p (Some x) = event.NoUp p x
 
 abbrev pub up_event : Shape → Limits → Bridge → ℕ → Event
-up_event t l k p = risen p (refusal t l k (command.Up p))
+up_event t l b p = risen p (refusal t l b (command.Up p))
 
 -- ---- Opening(I)
 abbrev pub with_ups : Shape → Limits → Basis → History → List ℕ → History

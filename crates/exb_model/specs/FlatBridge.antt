@@ -19,8 +19,8 @@ sent_as t f _ _ = []
 
 -- what one event sends at port q: a Relay the frame, where q is a target, and any other event nothing
 abbrev pub sent_by : Bridge → Look → Event → ℕ → List Sent
-sent_by k look (event.Relay p n t f) q = sent_as t f (passes k p f) (target k look p f q)
-sent_by k look _ q = []
+sent_by b look (event.Relay p n t f) q = sent_as t f (passes b p f) (target b look p f q)
+sent_by b look _ q = []
 
 -- Flat(H, q): what leaves at port q, in order. Each event is looked at in what stands before it.
 unfoldable pub flat : Basis → History → ℕ → List Sent

@@ -1,10 +1,14 @@
 -- Frames as lists of bytes (IEEE 802.1Q-2011, VLAN tag: clause 9; reserved addresses: clause 8.6.3).
-use Rattle.std.specs.Prelude.{ℕ, ◌+◌, ◌*◌, ◌/◌, ◌%◌, Bool, ◌==◌, ◌&&◌, nat_eq, nat_lt, if◌then◌else◌, List, [], ◌∷◌, ◌++◌, length, take, drop, slice_index}
+use Rattle.std.specs.Prelude.{ℕ, ◌+◌, ◌*◌, ◌/◌, ◌%◌, ◌<◌, Bool, ◌==◌, ◌&&◌, nat_eq, nat_lt, if◌then◌else◌, List, [], ◌∷◌, ◌++◌, length, take, drop, slice_index}
 use Rattle.std.specs.List.{starts_with}
 use Rattle.exb_model.specs.declared.frame_kind.Seen.{Seen}
 use Rattle.exb_model.specs.declared.frame_kind.Seen.TheVariants as seen
 use Rattle.exb_model.specs.declared.vlan.Kind.{Kind}
 use Rattle.exb_model.specs.declared.vlan.Kind.TheVariants.{Tagged, Untagged}
+
+-- the members of a list are bytes
+abbrev pub IsBytes : List ℕ → Type 0
+IsBytes bytes = (i : ℕ) → slice_index bytes i < 256
 
 -- the 16 bits at a place, the higher byte first
 abbrev pub number_at : List ℕ → ℕ → ℕ

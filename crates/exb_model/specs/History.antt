@@ -29,14 +29,14 @@ abbrev pub command_of : Basis → ℕ → Option Command
 command_of i n = numbered i.commands n
 
 abbrev pub after_any : Option Command → Bridge → Bridge
-after_any None k = k
-after_any (Some c) k = after c k
+after_any None b = b
+after_any (Some c) b = after c b
 
 -- what an event makes of the configuration
 abbrev pub changed : Basis → Event → Bridge → Bridge
-changed i (event.Commit n) k = after_any (command_of i n) k
-changed i (event.Up p) k = after (command.Up p) k
-changed i _ k = k
+changed i (event.Commit n) b = after_any (command_of i n) b
+changed i (event.Up p) b = after (command.Up p) b
+changed i _ b = b
 
 -- K(H)
 unfoldable pub bridge_after : Basis → History → Bridge

@@ -153,6 +153,16 @@ abbrev pub segments_in : List Group → List Segment
 segments_in [] = []
 segments_in (g ∷ gs) = segments_since g.second (g ∷ gs)
 
+-- the seconds of a segment, by the second of the one before it, if there was one
+abbrev pub seconds_after : Option ℕ → ℕ → ℕ
+seconds_after None second = 0
+seconds_after (Some last) second = second - last
+
+-- the segments of what is still to come, by the second of the segment before it, if there was one
+abbrev pub segments_after : Mode → Option ℕ → List Coming → List Segment
+segments_after m None coming = segments_in (groups_in m coming)
+segments_after m (Some last) coming = segments_since last (groups_in m coming)
+
 -- the segments of I
 unfoldable pub segments : Mode → Input → List Segment
 segments m i = segments_in (groups_in m (merge i))

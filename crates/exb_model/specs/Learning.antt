@@ -25,18 +25,18 @@ accepts_untagged _ = true
 
 -- the VLAN, where the port accepts the kind, the VLAN is in the table, and the port's filter lets it in
 abbrev pub admitted : Bridge → ℕ → Bool → ℕ → Option ℕ
-admitted k p accepted v =
-    if accepted && is_known k v && (not (k.rule p).filter || is_some (k.member v p)) then Some v else None
+admitted b p accepted v =
+    if accepted && is_known b v && (not (b.rule p).filter || is_some (b.member v p)) then Some v else None
 
 abbrev pub passes_as : Bridge → ℕ → Seen → Option ℕ
-passes_as k p seen.Plain = admitted k p (accepts_untagged (k.rule p).accept) (k.rule p).pvid
-passes_as k p (seen.Priority pcp dei) = admitted k p (accepts_untagged (k.rule p).accept) (k.rule p).pvid
-passes_as k p (seen.Tagged pcp dei v) = admitted k p (accepts_tagged (k.rule p).accept) v
-passes_as k p _ = None
+passes_as b p seen.Plain = admitted b p (accepts_untagged (b.rule p).accept) (b.rule p).pvid
+passes_as b p (seen.Priority pcp dei) = admitted b p (accepts_untagged (b.rule p).accept) (b.rule p).pvid
+passes_as b p (seen.Tagged pcp dei v) = admitted b p (accepts_tagged (b.rule p).accept) v
+passes_as b p _ = None
 
 -- Passes(K, p, f): the VLAN of a frame that passes at port p
 abbrev pub passes : Bridge → ℕ → List ℕ → Option ℕ
-passes k p f = passes_as k p (kind_of f)
+passes b p f = passes_as b p (kind_of f)
 
 -- ---- what they teach
 abbrev pub teaches_in : Option ℕ → List ℕ → ℕ → List ℕ → Bool
@@ -45,7 +45,7 @@ teaches_in (Some w) f v m = w == v && bytes_eq (source f) m && not (is_group (so
 
 -- the frame passes in VLAN v, and its source is the individual address m
 abbrev pub teaches : Bridge → ℕ → List ℕ → ℕ → List ℕ → Bool
-teaches k p f v m = teaches_in (passes k p f) f v m
+teaches b p f v m = teaches_in (passes b p f) f v m
 
 -- a Relay: its port, the clock before it, and the events after it, the newest first
 pub record Sighting : Type 0 where

@@ -1,5 +1,6 @@
 -- Which histories an input allows.
-use Rattle.std.specs.Prelude.{◌≡◌, ℕ, ◌<◌, Bool, true, false, ◌==◌, nat_lt, ◌||◌, if◌then◌else◌, List, [], ◌∷◌, ◌++◌, Option, Some, None, IfSome, reverse, map, flat_map, filter_map, max, MatchBool, All, Contains, IsPermutation}
+use Rattle.std.specs.Prelude.{◌≡◌, ℕ, ◌<◌, Bool, true, false, ◌==◌, nat_lt, ◌||◌, if◌then◌else◌, List, [], ◌∷◌, ◌++◌, Option, Some, None, reverse, map, flat_map, filter_map, max, MatchBool, All, Contains, IsPermutation}
+use Rattle.std.specs.Option.{IsSomeAnd}
 use Rattle.exb_model.specs.declared.event.Event.{Event}
 use Rattle.exb_model.specs.declared.event.Event.TheVariants as event
 use Rattle.exb_model.specs.Lists.{numbered, Pairwise}
@@ -37,8 +38,8 @@ abbrev pub PlaysCommands : Segment → List Event → Type 0
 PlaysCommands s es = filter_map number_of es ≡ s.commands
 
 abbrev pub IsDecided : Shape → Limits → Basis → History → Event → Type 0
-IsDecided t l i h (event.Commit n) = IfSome (command_of i n) (λ c. refusal t l (bridge_after i h) c ≡ None)
-IsDecided t l i h (event.Refuse n x) = IfSome (command_of i n) (λ c. refusal t l (bridge_after i h) c ≡ Some x)
+IsDecided t l i h (event.Commit n) = IsSomeAnd (command_of i n) (λ c. refusal t l (bridge_after i h) c ≡ None)
+IsDecided t l i h (event.Refuse n x) = IsSomeAnd (command_of i n) (λ c. refusal t l (bridge_after i h) c ≡ Some x)
 IsDecided t l i h _ = Unit {0}
 
 -- ---- rule 3: a segment's arrivals, each once
@@ -85,7 +86,7 @@ IsInOrder t es p =
 -- ---- rule 5: a Relay stands only where the bridge relays, and an Ignored only where it doesn't
 abbrev pub IsEntered : Basis → (ℕ → List Arrival) → History → Event → Type 0
 IsEntered i arrivals h (event.Relay p n t f) = is_relayed (bridge_after i h) p f ≡ true
-IsEntered i arrivals h (event.Ignored p n) = IfSome (numbered (arrivals p) n) (λ a. is_relayed (bridge_after i h) p a.bytes ≡ false)
+IsEntered i arrivals h (event.Ignored p n) = IsSomeAnd (numbered (arrivals p) n) (λ a. is_relayed (bridge_after i h) p a.bytes ≡ false)
 IsEntered i arrivals h _ = Unit {0}
 
 -- ---- rule 6: one Tick of a segment's seconds, where they aren't 0
@@ -96,14 +97,19 @@ tick_of _ = None
 abbrev pub PlaysTick : Segment → List Event → Type 0
 PlaysTick s es = filter_map tick_of es ≡ (if s.seconds == 0 then [] else s.seconds ∷ [])
 
+-- what the events of a segment, without its Settled, play of it: no event of the opening, its commands, its
+-- arrivals and its tick
+pub record Plays (s : Segment) (es : List Event) : Type 0 where
+  pub of_segment : All IsOfSegment es
+  pub commands : PlaysCommands s es
+  pub arrivals : PlaysArrivals s es
+  pub tick : PlaysTick s es
+
 -- Legal(I, H): there are plays, the events of each segment without its Settled, of which the rules hold
 pub record Legal (m : Mode) (i : Input) (h : History) : Type 0 where
   pub plays : List (List Event)
   pub segments_in_order : h ≡ (opening (tree_of i) (bounds_of i) (basis_of i) then settled_each plays)
-  pub of_segments : All (All IsOfSegment) plays
-  pub commands_in_order : Pairwise PlaysCommands (segments m i) plays
+  pub each_played : Pairwise Plays (segments m i) plays
   pub refused_exactly : EachEvent (IsDecided (tree_of i) (bounds_of i) (basis_of i)) h
-  pub arrivals_once : Pairwise PlaysArrivals (segments m i) plays
   pub ports_in_order : (p : ℕ) → IsInOrder (tree_of i) (reverse h) p
   pub relayed_exactly : EachEvent (IsEntered (basis_of i) (arrivals_at i)) h
-  pub ticks : Pairwise PlaysTick (segments m i) plays

@@ -18,22 +18,22 @@ is_chosen_by None None q = true
 
 -- for destination m in VLAN v; a group address is never looked up
 abbrev pub is_chosen : Bridge → Look → ℕ → List ℕ → ℕ → Bool
-is_chosen k look v m q = is_chosen_by (static_for k.statics v m) (if is_group m then None else look v m) q
+is_chosen b look v m q = is_chosen_by (static_for b.statics v m) (if is_group m then None else look v m) q
 
 abbrev pub both_isolated : Bridge → ℕ → ℕ → Bool
-both_isolated k p q = (k.rule p).isolated && (k.rule q).isolated
+both_isolated b p q = (b.rule p).isolated && (b.rule q).isolated
 
 -- of a frame that passes in VLAN v
 abbrev pub target_in : Bridge → Look → ℕ → List ℕ → ℕ → Option ℕ → Option Kind
-target_in k look p f q None = None
-target_in k look p f q (Some v) =
-    if k.present q && not (q == p) && not (both_isolated k p q) && is_chosen k look v (destination f) q
-    then k.member v q else None
+target_in b look p f q None = None
+target_in b look p f q (Some v) =
+    if b.present q && not (q == p) && not (both_isolated b p q) && is_chosen b look v (destination f) q
+    then b.member v q else None
 
 -- how the frame f that came at port p leaves at port q, if it does, given what is learned before it
 unfoldable pub target : Bridge → Look → ℕ → List ℕ → ℕ → Option Kind
-target k look p f q = if k.present p then target_in k look p f q (passes k p f) else None
+target b look p f q = if b.present p then target_in b look p f q (passes b p f) else None
 
--- Targets(H, p, f), where k is K(H) and look is what is learned after H: each target with its kind
+-- Targets(H, p, f), where b is K(H) and look is what is learned after H: each target with its kind
 unfoldable pub targets : Bridge → Look → ℕ → List ℕ → List (ℕ × Kind)
-targets k look p f = filter_map (λ q. option_map (λ kind. (q, kind)) (target k look p f q)) all_ports
+targets b look p f = filter_map (λ q. option_map (λ kind. (q, kind)) (target b look p f q)) all_ports

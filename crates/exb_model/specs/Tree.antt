@@ -60,19 +60,19 @@ HasRole t p role.External = is_external t p ≡ true
 HasRole t p (role.Cascade n) = (is_port t p ≡ true) × HangsOn t n p
 
 -- The ports from p up to the bridge, p first, at most d of them above p, where extender n hangs on port
--- n of `on`.
+-- n of `hung`.
 unfoldable pub up : List ℕ → ℕ → ℕ → List ℕ
-up on zero p = p ∷ []
-up on (suc d) p = p ∷ (if nat_lt p 64 then [] else up on d (slice_index on (device p)))
+up hung zero p = p ∷ []
+up hung (suc d) p = p ∷ (if nat_lt p 64 then [] else up hung d (slice_index hung (device p)))
 
 -- the last one
 unfoldable pub top : List ℕ → ℕ → ℕ → ℕ
-top on zero p = p
-top on (suc d) p = if nat_lt p 64 then p else top on d (slice_index on (device p))
+top hung zero p = p
+top hung (suc d) p = if nat_lt p 64 then p else top hung d (slice_index hung (device p))
 
 -- There are at most 64 extenders, so at most 64 ports stand above any.
 unfoldable pub path : List ℕ → ℕ → List ℕ
-path on p = up on 64 p
+path hung p = up hung 64 p
 
 -- port p lies on the way from q up to the bridge: q is p or lies below it
 abbrev pub above : Shape → ℕ → ℕ → Bool

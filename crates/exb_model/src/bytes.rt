@@ -1,10 +1,17 @@
 //! Bytes, and numbers among them.
 ghost use Rattle.std.specs.Prelude.{◌≡◌, ◌+◌, ◌<◌, length, IfOk};
-ghost use Rattle.exb_model.specs.Frames.{number_at};
+ghost use Rattle.exb_model.specs.Frames.{IsBytes, number_at};
 
 use crate::memory::NoMemory;
 use std::alloc::Global;
 use std::marker::Model;
+
+/// That the members of a slice are bytes, as a fact for whoever calls it. It does nothing.
+pub fn are_bytes(bytes: &[u8])
+    ensures { IsBytes bytes.now }
+{
+    let _ = bytes;
+}
 
 /// The 16 bits at a place, the higher byte first.
 pub fn number_at(bytes: &[u8], at: usize) -> u16
@@ -43,5 +50,19 @@ impl Bytes {
         ensures { result.now ≡ self.now }
     {
         self.items.as_slice()
+    }
+
+    /// Bytes that a buffer holds. Nothing is copied.
+    pub fn from_vec(items: Vec<u8>) -> Bytes
+        ensures { result ≡ items.items }
+    {
+        Bytes { items }
+    }
+
+    /// The buffer that holds the bytes, to be used again.
+    pub fn into_vec(self) -> Vec<u8>
+        ensures { result.items ≡ self }
+    {
+        self.items
     }
 }

@@ -1,5 +1,6 @@
 //! Lists on the heap.
-ghost use Rattle.std.specs.Prelude.{◌≡◌, ◌++◌, ◌∷◌, [], OnOk, OnErr};
+ghost use Rattle.std.specs.Prelude.{◌≡◌, ◌<◌, ◌↔◌, ◌++◌, ◌∷◌, [], length, IsSome, OnOk, OnErr};
+ghost use Rattle.std.specs.Option.{option_to_list};
 
 use crate::memory::NoMemory;
 use std::alloc::Global;
@@ -45,5 +46,22 @@ impl<T> List<T> {
         ensures { result.now ≡ self.now }
     {
         self.items.as_slice()
+    }
+
+    /// Takes the last item off, where there is one.
+    pub fn pop(&mut self) -> Option<T>
+        ensures items { self.old ≡ self.new ++ option_to_list result }
+        ensures some { IsSome result ↔ (0 < length self.old) }
+    {
+        self.items.pop()
+    }
+
+    /// Forgets the items. The memory stays, for those that come.
+    pub fn clear(&mut self)
+    where
+        T: Drop,
+        ensures { self.new ≡ [] }
+    {
+        self.items.clear();
     }
 }

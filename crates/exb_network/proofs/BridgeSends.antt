@@ -8,7 +8,7 @@ use mathlib.Core.Path.{fun_ext}
 use Rattle.exb_model.specs.declared.vlan.Kind.{Kind}
 use Rattle.exb_model.specs.declared.vlan.Kind.TheVariants.{Tagged, Untagged}
 use Rattle.exb_model.specs.Ports.{below, all_ports, port_in}
-use Rattle.exb_model.specs.Frames.{destination}
+use Rattle.exb_model.specs.Frames.{destination, IsBytes}
 use Rattle.exb_model.specs.Tree.{Shape, IsTree, device, trunk, is_under}
 use Rattle.exb_model.specs.Configuration.{Bridge}
 use Rattle.exb_model.specs.Learning.{Look, passes}
@@ -18,7 +18,6 @@ use Rattle.exb_relay.specs.declared.choice.Choice.{Choice}
 use Rattle.exb_relay.specs.declared.choice.Choice.TheVariants as chosen
 use Rattle.exb_relay.specs.declared.send.SendTo.{SendTo}
 use Rattle.exb_relay.specs.Choices.{choice}
-use Rattle.exb_relay.specs.Laws.{IsBytes}
 use Rattle.exb_relay.specs.Numbers.{Numbers, IsNumbering}
 use Rattle.exb_relay.specs.Spaces.{numbers_of}
 use Rattle.exb_relay.specs.Sends.{or_zero, ingress_at, etag_to, word_to, words_to, set_for, group_word, group_words, channel_word, words_down, local_send, sends_at, sends_in, sends_of}

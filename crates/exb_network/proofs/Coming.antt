@@ -11,7 +11,7 @@ use Rattle.exb_model.specs.declared.frame_kind.Seen.{Seen}
 use Rattle.exb_model.specs.declared.frame_kind.Seen.TheVariants as seen
 use Rattle.exb_model.specs.Configuration.{Bridge}
 use Rattle.exb_model.specs.EagerHistory.{is_relayed, arrival_event}
-use Rattle.exb_model.specs.Frames.{kind_of, priority_of}
+use Rattle.exb_model.specs.Frames.{kind_of, priority_of, IsBytes}
 use Rattle.exb_model.specs.Input.{Arrival}
 use Rattle.exb_model.specs.Learning.{passes, passes_as}
 use Rattle.exb_model.specs.Tree.{Shape, IsTree}
@@ -21,7 +21,6 @@ use Rattle.exb_learn.specs.Calls.{Table}
 use Rattle.exb_relay.specs.declared.send.Ingress.{Ingress}
 use Rattle.exb_relay.specs.declared.send.Ingress.TheVariants as ingress
 use Rattle.exb_relay.specs.declared.send.SendTo.{SendTo}
-use Rattle.exb_relay.specs.Laws.{IsBytes}
 use Rattle.exb_relay.specs.Numbers.{IsNumbering}
 use Rattle.exb_relay.specs.Sends.{ingress_by, ingress_of, pcp_of, dei_of}
 use Rattle.exb_relay.specs.Spaces.{numbers_of}

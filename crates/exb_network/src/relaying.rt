@@ -9,7 +9,6 @@ ghost use Rattle.exb_extender.specs.Forwarding.{has_etag_type};
 ghost use Rattle.exb_machine.specs.Effects.{each};
 ghost use Rattle.exb_machine.specs.Extending.{hung_on};
 ghost use Rattle.exb_machine.specs.Relaying.{bridge_takes, comes, comes_from, holder_by, puts_word, sends_for, sends_in, takes_control};
-ghost use Rattle.exb_relay.specs.Laws.{IsBytes};
 ghost use Rattle.exb_network.specs.Arrivals.{arrival_of};
 ghost use Rattle.exb_machine.specs.Runs.Asks.{AsksWell};
 ghost use Rattle.exb_network.specs.Sends.{CanSend, HasPassed, is_passed, is_relay_first, passed_in, told_by};
@@ -26,7 +25,7 @@ use exb_control::{Ingress, Outbox, SendTo};
 use exb_frame::egress::egress_into;
 use exb_frame::etag::{E_TAG_TYPE, ETag};
 use exb_link::{Stamp, Word};
-use exb_model::bytes::{Bytes, number_at};
+use exb_model::bytes::{Bytes, are_bytes, number_at};
 use exb_model::event::Event;
 use exb_model::list::List;
 use exb_model::memory::NoMemory;
@@ -173,13 +172,6 @@ fn has_passed(ingress: &Ingress) -> bool
     ensures { result ≡ is_passed ingress.now }
 {
     matches!(ingress, Ingress::Passed { .. })
-}
-
-/// That the bytes of a frame are bytes, as a fact for whoever calls it. It does nothing.
-pub(crate) fn are_bytes(frame: &[u8])
-    ensures { IsBytes frame.now }
-{
-    let _ = frame;
 }
 
 /// Tells whether a relayed frame passed.

@@ -20,7 +20,6 @@ ghost use Rattle.exb_network.specs.Worlds.{world_in, IsAt, Does};
 use crate::arrivals::Arrived;
 use crate::busy::Turn;
 use crate::log::{Left, Log};
-use crate::relaying::are_bytes;
 use crate::site::{Core, Room, Site};
 use crate::step::{Step, Way};
 use crate::stepping::{arrive, carry, deliver, lose, mark, order, tick};
@@ -31,6 +30,7 @@ use exb_machine::laws::{
     asks_can_be_sent, begins_written, runs_stay_sound, setups_begin_sound, steps_stay_written,
     written_are_short,
 };
+use exb_model::bytes::are_bytes;
 use exb_model::event::Event;
 use exb_model::list::List;
 use exb_model::memory::NoMemory;

@@ -9,7 +9,7 @@ use Rattle.exb_pcap.specs.declared.reader.PcapFault.{PcapFault}
 use Rattle.exb_pcap.specs.declared.pieces.Stage.{Stage}
 use Rattle.exb_pcap.specs.declared.pieces.Stage.TheVariants.{Header, Records, Failed}
 use Rattle.exb_pcap.specs.Captures.{Capture, at_end, before, record_at, records_from, records_under, capture_of}
-use Rattle.exb_pcap.specs.Cutting.{IsBytes}
+use Rattle.exb_model.specs.Frames.{IsBytes}
 use Rattle.exb_pcap.specs.Pieces.{Reading, Step, End, is_cut, decided, header_so_far, behind, at_place, with_header, headed, with_record, next_at, asked, read_of, to_come, IsFirst}
 use Rattle.exb_pcap.proofs.BufferLemmas.{reading}
 use Rattle.exb_pcap.proofs.CutLemmas.{moved, record_moved, record_stands, record_bytes, cut_at_place, decided_some, not_short, long_enough, by_tests}

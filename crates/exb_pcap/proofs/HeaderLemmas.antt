@@ -15,7 +15,7 @@ use Rattle.exb_pcap.specs.declared.format.Form.{Form}
 use Rattle.exb_pcap.specs.declared.reader.PcapFault.{PcapFault}
 use Rattle.exb_pcap.specs.declared.reader.PcapFault.TheVariants.{NotPcap, Version, LinkType, Cut}
 use Rattle.exb_pcap.specs.Captures.{word, half_word, form, form_of, header_in, header_of}
-use Rattle.exb_pcap.specs.Cutting.{IsBytes}
+use Rattle.exb_model.specs.Frames.{IsBytes}
 use Rattle.exb_pcap.specs.Magic.{begins_magic}
 use Rattle.exb_pcap.specs.Pieces.{is_cut, decided, header_so_far}
 use Rattle.exb_pcap.proofs.CutLemmas.{word_more, half_word_more, decided_some, decided_none}

@@ -10,7 +10,8 @@ use Rattle.exb_pcap.specs.declared.reader.PcapFault.TheVariants.{NotPcap, Cut}
 use Rattle.exb_pcap.specs.declared.pieces.Stage.{Stage}
 use Rattle.exb_pcap.specs.declared.pieces.Stage.TheVariants.{Header, Records, Failed}
 use Rattle.exb_pcap.specs.Captures.{Capture, at_end, at_fault, before, header_of, record_at, records_from, records_under, capture_of}
-use Rattle.exb_pcap.specs.Cutting.{IsBytes, IsRecordOrFault, in_turn}
+use Rattle.exb_model.specs.Frames.{IsBytes}
+use Rattle.exb_pcap.specs.Cutting.{IsRecordOrFault, in_turn}
 use Rattle.exb_pcap.specs.Magic.{begins_magic}
 use Rattle.exb_pcap.specs.Pieces.{Reading, Step, Answer, Found, More, End, Faulty, is_cut, fault_cuts, decided, header_so_far, with_header, headed, with_record, next_at, asked, read_of, to_come}
 use Rattle.exb_pcap.proofs.BufferLemmas.{reading}

@@ -7,7 +7,7 @@ use Rattle.exb_pcap.specs.declared.reader.PcapFault.{PcapFault}
 use Rattle.exb_pcap.specs.declared.pieces.Stage.{Stage}
 use Rattle.exb_pcap.specs.declared.pieces.Stage.TheVariants.{Header, Records, Failed}
 use Rattle.exb_pcap.specs.Captures.{Capture, record_at}
-use Rattle.exb_pcap.specs.Cutting.{IsBytes}
+use Rattle.exb_model.specs.Frames.{IsBytes}
 use Rattle.exb_pcap.specs.Pieces.{Reading, Step, Answer, Found, More, End, Faulty, decided, header_so_far, with_header, headed, with_record, next_at, asked, left_by, peeked, to_come, IsFirst}
 use Rattle.exb_pcap.proofs.BufferLemmas.{reading}
 use Rattle.exb_pcap.proofs.CutLemmas.{record_bytes, decided_some}

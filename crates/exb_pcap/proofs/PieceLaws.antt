@@ -9,7 +9,8 @@ use Rattle.exb_pcap.specs.declared.reader.PcapFault.{PcapFault}
 use Rattle.exb_pcap.specs.declared.pieces.Stage.{Stage}
 use Rattle.exb_pcap.specs.declared.pieces.Stage.TheVariants.{Header, Records, Failed}
 use Rattle.exb_pcap.specs.Captures.{Capture, before, records_from, capture_of, whole, all_records, pcap_records}
-use Rattle.exb_pcap.specs.Cutting.{IsBytes, Call, Feed, Ask, Feeding, begun, after_call, after_calls, but_more, answered, answers, MayBeCalled, in_turn, first_answers, IsOpen, IsRecordOrFault, Stands}
+use Rattle.exb_model.specs.Frames.{IsBytes}
+use Rattle.exb_pcap.specs.Cutting.{Call, Feed, Ask, Feeding, begun, after_call, after_calls, but_more, answered, answers, MayBeCalled, in_turn, first_answers, IsOpen, IsRecordOrFault, Stands}
 use Rattle.exb_pcap.specs.Pieces.{Reading, Answer, Found, More, End, Faulty, fitting, asked, read_of, to_come, IsFirst}
 use Rattle.exb_pcap.proofs.BufferLemmas.{reading}
 use Rattle.exb_pcap.proofs.OpenLemmas.{asked_more, asked_end}

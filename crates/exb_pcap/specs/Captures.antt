@@ -124,3 +124,8 @@ all_records (Err fault) = Err fault
 -- a capture as the list of its times and frames, or its first fault
 unfoldable pub pcap_records : List ℕ → Result (List Record) PcapFault
 pcap_records file = all_records (capture_of file)
+
+-- the records that were read, none where there was a fault
+abbrev pub records_or_none : Result (List Record) PcapFault → List Record
+records_or_none (Ok records) = records
+records_or_none (Err fault) = []

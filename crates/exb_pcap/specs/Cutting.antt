@@ -1,13 +1,10 @@
 -- A file that is fed in pieces, however it is cut: the calls that are made, and what is answered.
 use Rattle.std.specs.Prelude.{◌≡◌, ◌<◌, ◌+◌, ◌^◌, ℕ, All, zero, suc, Bool, true, false, List, [], ◌∷◌, ◌++◌, length, take, drop, slice_index, map, Option, Some, None, Ok, Err, ◌↔◌}
+use Rattle.exb_model.specs.Frames.{IsBytes}
 use Rattle.exb_model.specs.Input.{Record}
 use Rattle.exb_pcap.specs.declared.reader.PcapFault.{PcapFault}
 use Rattle.exb_pcap.specs.Captures.{capture_of, pcap_records}
 use Rattle.exb_pcap.specs.Pieces.{Reading, Answer, Found, More, End, Faulty, unread, fitting, fed, asked, read_of, to_come, IsFirst}
-
--- a list of bytes
-abbrev pub IsBytes : List ℕ → Type 0
-IsBytes bytes = (i : ℕ) → slice_index bytes i < 256
 
 -- a call: the next n bytes that weren't taken yet are fed, or it is asked what comes next
 pub data Call : Type 0 where

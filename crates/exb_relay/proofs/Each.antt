@@ -10,7 +10,7 @@ use Rattle.std.proofs.lemmas.Bool.{cases_eq, cases_lt, cases_Bool, ne_eqb, false
 use Rattle.exb_model.specs.declared.vlan.Kind.{Kind}
 use Rattle.exb_model.specs.declared.vlan.Kind.TheVariants.{Tagged, Untagged}
 use Rattle.exb_model.specs.Ports.{port_in}
-use Rattle.exb_model.specs.Frames.{destination}
+use Rattle.exb_model.specs.Frames.{destination, IsBytes}
 use Rattle.exb_model.specs.Tree.{Shape, IsTree, is_cascade, is_external, is_under}
 use Rattle.exb_model.specs.Configuration.{Bridge}
 use Rattle.exb_model.specs.Learning.{Look, passes}
@@ -24,7 +24,7 @@ use Rattle.exb_relay.specs.Numbers.{Numbers, IsReady, IsNumbering, has_set}
 use Rattle.exb_relay.specs.Choices.{choice}
 use Rattle.exb_relay.specs.Sends.{etag_to, word_to, words_to, set_for, group_word, group_words, channel_word, words_down, local_send, sends_at, sends_in, sends_of}
 use Rattle.exb_config.specs.Pvids.{HasPvids}
-use Rattle.exb_relay.specs.Laws.{IsBytes, listed_kind, local_kind, local_kinds, has_tag, words_of, IsAt}
+use Rattle.exb_relay.specs.Laws.{listed_kind, local_kind, local_kinds, has_tag, words_of, IsAt}
 use Rattle.exb_relay.proofs.Lists.{filter_flat, flat_flat, only_one, no_one, each_below}
 use Rattle.exb_relay.proofs.Under.{under_trunk, none_under, under_cascade, under_extended, home_low, external_free}
 use Rattle.exb_relay.proofs.Choosing.{target_is, target_says}

@@ -6,7 +6,7 @@ use Rattle.exb_model.specs.declared.vlan.Kind.{Kind}
 use Rattle.exb_model.specs.declared.event.Event.TheVariants as event
 use Rattle.exb_model.specs.declared.frame_kind.Seen.{Seen}
 use Rattle.exb_model.specs.declared.frame_kind.Seen.TheVariants as seen
-use Rattle.exb_model.specs.Frames.{number_at, is_reserved, kind_of_tag, kind_of, egress}
+use Rattle.exb_model.specs.Frames.{number_at, is_reserved, kind_of_tag, kind_of, egress, IsBytes}
 use Rattle.exb_model.specs.Tree.{Shape, IsTree, is_external}
 use Rattle.exb_model.specs.ExtenderForwarding.{Tables}
 use Rattle.exb_model.specs.Configuration.{Bridge, is_known}
@@ -18,7 +18,7 @@ use Rattle.exb_relay.specs.Numbers.{Numbers, IsReady, IsNumbering}
 use Rattle.exb_relay.specs.Sends.{sends_of}
 use Rattle.exb_relay.specs.Leaving.{Carries}
 use Rattle.exb_config.specs.Pvids.{HasPvids}
-use Rattle.exb_relay.specs.Laws.{IsBytes, left_by}
+use Rattle.exb_relay.specs.Laws.{left_by}
 use Rattle.exb_relay.proofs.Leaving.{listed_out, leaves_as_target}
 
 -- the VLAN of a tag is 1 to 4094

@@ -7,7 +7,7 @@ use Rattle.std.proofs.lemmas.Bool.{cases_eq, cases_lt, cases_Bool, ne_eqb, false
 use Rattle.exb_model.specs.declared.vlan.Kind.{Kind}
 use Rattle.exb_model.specs.declared.vlan.Kind.TheVariants.{Tagged, Untagged}
 use Rattle.exb_model.specs.Ports.{port_in}
-use Rattle.exb_model.specs.Frames.{destination, egress}
+use Rattle.exb_model.specs.Frames.{destination, egress, IsBytes}
 use Rattle.exb_model.specs.Tree.{Shape, IsTree, IsCascade, device, trunk, is_cascade, is_external, is_under}
 use Rattle.exb_model.specs.ExtenderForwarding.{Tables}
 use Rattle.exb_model.specs.Configuration.{Bridge}
@@ -23,7 +23,6 @@ use Rattle.exb_relay.specs.Choices.{choice, is_chosen_in}
 use Rattle.exb_relay.specs.Sends.{set_for, group_word, group_words, channel_word, words_down, local_send, sends_at, sends_of}
 use Rattle.exb_relay.specs.Leaving.{is_listed, Carries, leaving, all_leaving}
 use Rattle.exb_config.specs.Pvids.{HasPvids}
-use Rattle.exb_relay.specs.Laws.{IsBytes}
 use Rattle.exb_relay.proofs.Lists.{flat_flat, only_one, none_listed}
 use Rattle.exb_relay.proofs.Under.{under_home, under_other, none_low, none_under, under_cascade, hangs, home_low, external_below, extended_from}
 use Rattle.exb_relay.proofs.Choosing.{target_of, target_is, target_says, passes_long}

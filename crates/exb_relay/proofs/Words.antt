@@ -5,7 +5,7 @@ use Rattle.std.proofs.lemmas.List.{length-take}
 use Rattle.std.proofs.lemmas.Bool.{cases_eq, cases_lt, cases_Bool, ne_eqb, lt-ltb, false≢true, false_from_ne_true}
 use Rattle.exb_model.specs.declared.vlan.Kind.{Kind}
 use Rattle.exb_model.specs.declared.vlan.Kind.TheVariants.{Tagged, Untagged}
-use Rattle.exb_model.specs.Frames.{number_at, two_bytes, is_reserved, kind_of_tag, kind_of, body_after, priority_of, egress}
+use Rattle.exb_model.specs.Frames.{number_at, two_bytes, is_reserved, kind_of_tag, kind_of, body_after, priority_of, egress, IsBytes}
 use Rattle.exb_model.specs.ETags.{TagFits, tagged}
 use Rattle.exb_model.specs.Tree.{Shape, IsTree, HangsOn, is_external, is_under}
 use Rattle.exb_model.specs.ExtenderForwarding.{Tables}
@@ -15,7 +15,6 @@ use Rattle.exb_frame.specs.TagValues.{tag_of, TagRoundTrip}
 use Rattle.exb_relay.specs.Numbers.{Numbers, IsReady, IsNumbering, has_set}
 use Rattle.exb_relay.specs.Sends.{pcp_of, or_zero, ingress_at, etag_to, word_to}
 use Rattle.exb_relay.specs.Leaving.{is_listed, Carries, leaving}
-use Rattle.exb_relay.specs.Laws.{IsBytes}
 use Rattle.exb_relay.proofs.Under.{under_high, extended_from, extender_there, none_at_bridge}
 
 pub some_of : (o : Option ℕ) → is_some o ≡ true → (x : ℕ) × (o ≡ Some x)

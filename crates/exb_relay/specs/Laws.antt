@@ -4,7 +4,7 @@ use Rattle.std.specs.List.{All}
 use Rattle.exb_model.specs.declared.vlan.Kind.{Kind}
 use Rattle.exb_model.specs.declared.event.Event.TheVariants as event
 use Rattle.exb_model.specs.ETags.{TagFits}
-use Rattle.exb_model.specs.Frames.{destination, kind_of}
+use Rattle.exb_model.specs.Frames.{destination, kind_of, IsBytes}
 use Rattle.exb_model.specs.Tree.{Shape, IsTree, is_under, is_external, is_cascade}
 use Rattle.exb_model.specs.ExtenderForwarding.{Tables}
 use Rattle.exb_model.specs.Configuration.{Bridge}
@@ -20,10 +20,6 @@ use Rattle.exb_relay.specs.Numbers.{Numbers, IsReady, IsNumbering, has_set}
 use Rattle.exb_relay.specs.Choices.{choice, is_chosen_in}
 use Rattle.exb_relay.specs.Sends.{ingress_at, channel_word, sends_of, pcp_of, dei_of}
 use Rattle.exb_relay.specs.Leaving.{Carries, all_leaving}
-
--- the frame's bytes are bytes
-abbrev pub IsBytes : List ℕ → Type 0
-IsBytes f = (i : ℕ) → slice_index f i < 256
 
 -- ---- the choice is that of the one bridge
 abbrev pub ChoiceIsTheBridges : Type 0

@@ -8,7 +8,7 @@ use Rattle.exb_pcap.specs.Captures.{Capture, before, at_end, at_fault, records_f
 use Rattle.exb_pcap.specs.declared.reader.PcapFault.{PcapFault}
 use Rattle.exb_pcap.specs.declared.pieces.Stage.{Stage}
 use Rattle.exb_pcap.specs.declared.pieces.Stage.TheVariants.{Header, Records, Failed}
-use Rattle.exb_pcap.specs.Cutting.{IsBytes}
+use Rattle.exb_model.specs.Frames.{IsBytes}
 use Rattle.exb_pcap.specs.Pieces.{Reading, Answer, Found, More, End, Faulty, unread, fed, asked, peeked, read_of, to_come, IsFirst}
 use Rattle.exb_pcap.proofs.BufferLemmas.{reading}
 use Rattle.exb_pcap.proofs.GoingLemmas.{IsIn, no_bytes, bytes_drop, bytes_take, bytes_append, asked_in_bound, asked_reads}

@@ -3,7 +3,7 @@ use Rattle.std.specs.Prelude.{⊤, ◌≡◌, ◌≢◌, ◌<◌, ◌≤◌, ◌
 use Rattle.exb_model.specs.Input.{Record}
 use Rattle.exb_pcap.specs.Captures.{Capture, before, capture_of, pcap_records}
 use Rattle.exb_pcap.specs.declared.reader.PcapFault.{PcapFault}
-use Rattle.exb_pcap.specs.Cutting.{IsBytes}
+use Rattle.exb_model.specs.Frames.{IsBytes}
 use Rattle.exb_pcap.specs.Pieces.{Found, asked, read_of, to_come, unread}
 use Rattle.exb_shelf.specs.declared.shelf.ShelfFault.{ShelfFault}
 use Rattle.exb_shelf.specs.declared.shelf.ShelfFault.TheVariants as shelf

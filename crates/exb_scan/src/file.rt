@@ -2,13 +2,12 @@
 ghost use Rattle.std.specs.Prelude.{◌≡◌, ◌≢◌, ◌<◌, ◌≤◌, ◌+◌, ◌-◌, ◌*◌, ◌^◌, ◌∷◌, ◌++◌, ◌⊎◌, [], ℕ, List, true, false, Some, None, Ok, length, take, drop, IfOk, OnOk, IfErr, OnErr, IsErrOf, IfSome, IfNone, IsSome};
 ghost use Rattle.exb_model.specs.Input.{Record};
 ghost use Rattle.exb_pcap.specs.Captures.{pcap_records};
-ghost use Rattle.exb_pcap.specs.Cutting.{IsBytes};
 ghost use Rattle.exb_pcap.specs.Pieces.{Found, asked, fed};
 ghost use Rattle.exb_shelf.specs.Files.{SameFiles, bytes_of};
 ghost use Rattle.exb_shelf.specs.Shelf.{IsReadingOf, Opens, reading, Rose, NoFewer};
 ghost use Rattle.exb_scan.specs.Reading.{IsAt, IsBegun, IsSameFile, IsSound, IsWhole, HasRead, HaltsBy, ComesNext, MovesOn, left_to_read};
 
-use exb_model::bytes::Bytes;
+use exb_model::bytes::{Bytes, are_bytes};
 use exb_model::memory::NoMemory;
 use exb_pcap::{Ahead, Next, PcapFault, PieceReader};
 use exb_shelf::{OpenFault, Shelf, ShelfFault};
@@ -38,13 +37,6 @@ impl From<ShelfFault> for Halt {
             ShelfFault::Memory => Halt::Memory,
         }
     }
-}
-
-/// The bytes of a slice are bytes, as a fact for whoever calls this. It does nothing.
-fn are_bytes(bytes: &[u8])
-    ensures { IsBytes bytes.now }
-{
-    let _ = bytes;
 }
 
 /// How much is read at once.

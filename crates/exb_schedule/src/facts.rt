@@ -1,16 +1,8 @@
 //! What the types of frames and commands bring, as facts for whoever calls these functions. They do nothing.
 ghost use Rattle.std.specs.Prelude.{All};
-ghost use Rattle.exb_csp.specs.Spelling.{IsBytes};
 ghost use Rattle.exb_resting.specs.Motion.Kept.{HasVid};
 
 use exb_model::command::Command;
-
-/// The bytes of a frame are bytes.
-pub(crate) fn are_bytes(frame: &[u8])
-    ensures { IsBytes frame.now }
-{
-    let _ = frame;
-}
 
 /// The VLAN that a command names is a VLAN.
 pub(crate) fn names_vlan(command: &Command)

@@ -15,8 +15,9 @@ ghost use Rattle.exb_network.specs.Turns.{order_of, IsTurn};
 ghost use Rattle.exb_resting.specs.Rest.Settles.{MayTake};
 ghost use Rattle.exb_schedule.specs.Reached.{IsReached};
 
-use crate::facts::{are_bytes, name_vlans, names_vlan};
+use crate::facts::{name_vlans, names_vlan};
 use exb_link::Counts;
+use exb_model::bytes::are_bytes;
 use exb_model::event::Event;
 use exb_model::memory::NoMemory;
 use exb_model::setup::Setup;

@@ -1,5 +1,6 @@
 -- What happens to files: which change, which stay, and what they hold then.
 use Rattle.std.specs.Prelude.{◌≡◌, ◌≢◌, ◌<◌, ◌≤◌, ◌++◌, ◌⊎◌, ℕ, List, [], Option, Some, take, slice_index, unwrap_or}
+use Rattle.exb_model.specs.Frames.{IsBytes}
 
 -- files as a program sees them: the bytes of each name, none where there is no such file
 abbrev pub Files : Type 0
@@ -8,10 +9,6 @@ Files = List ℕ → Option (List ℕ)
 -- the bytes of a file, none where it isn't there
 abbrev pub bytes_of : Option (List ℕ) → List ℕ
 bytes_of file = unwrap_or file []
-
--- a list of bytes
-abbrev pub IsBytes : List ℕ → Type 0
-IsBytes bytes = (i : ℕ) → slice_index bytes i < 256
 
 -- no file has changed
 abbrev pub SameFiles : Files → Files → Type 0

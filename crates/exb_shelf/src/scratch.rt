@@ -1,12 +1,13 @@
 //! Files in memory. They fail for want of memory alone.
 ghost use Rattle.std.specs.Prelude.{◌≡◌, ◌<◌, ◌≤◌, ◌+◌, ◌^◌, ◌++◌, ◌↔◌, [], ℕ, List, None, length, take, drop, IfOk, OnOk, OnErr};
 ghost use Rattle.std.specs.Option.{option_copied};
-ghost use Rattle.exb_shelf.specs.Files.{SameFiles, Puts, IsBytes, bytes_of};
+ghost use Rattle.exb_shelf.specs.Files.{SameFiles, Puts, bytes_of};
 ghost use Rattle.exb_shelf.specs.Shelf.{no_id};
 ghost use Rattle.exb_shelf.specs.Memory.{file_in, scratch_files, scratch_ids, scratch_faults};
 
 use crate::entries::{Entry, advance, give};
 use crate::{OpenFault, Shelf, ShelfFault};
+use exb_model::bytes::are_bytes;
 use exb_model::memory::NoMemory;
 use std::alloc::Global;
 use std::collections::BTreeMap;
@@ -88,13 +89,6 @@ fn append(
         }
         None => put_file(alloc, files, name, bytes.to_vec(alloc)?),
     }
-}
-
-// The bytes of a file are bytes, as a fact for whoever calls this. It does nothing.
-fn are_bytes(bytes: &[u8])
-    ensures { IsBytes bytes.now }
-{
-    let _ = bytes;
 }
 
 // Copies what stands at a place as far as there is room.

@@ -1,6 +1,7 @@
 //! The two traits through which all input and output goes.
 ghost use Rattle.std.specs.Prelude.{◌≡◌, ◌≢◌, ◌<◌, ◌≤◌, ◌+◌, ◌++◌, ◌↔◌, [], ℕ, true, false, List, Option, None, length, take, drop, IfOk, OnOk, OnErr, IsErrOf, IsSome};
-ghost use Rattle.exb_shelf.specs.Files.{Files, SameFiles, Puts, IsBytes, bytes_of};
+ghost use Rattle.exb_model.specs.Frames.{IsBytes};
+ghost use Rattle.exb_shelf.specs.Files.{Files, SameFiles, Puts, bytes_of};
 ghost use Rattle.exb_shelf.specs.Shelf.{Id, Faults, IsReading, IsWriting, reading, writing, moved, Rose, NoFewer};
 
 /// Why a file could not be opened.

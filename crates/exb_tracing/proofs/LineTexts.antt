@@ -4,7 +4,7 @@ use Rattle.std.specs.Prelude.{codes, decimal, flat_map, option_and_then}
 use Rattle.std.specs.List.{join_with_byte}
 use Rattle.std.specs.Str.{bytes_eq, all_ascii_digits}
 use Rattle.std.proofs.lemmas.Bool.{cases_lt, cases_eq, cases_Bool, lt-ltb, le-ltb, le-leb, lt-leb, eq-eqb, ne_eqb}
-use Rattle.exb_csp.specs.Spelling.{IsBytes}
+use Rattle.exb_model.specs.Frames.{IsBytes}
 use Rattle.exb_machine.specs.Runs.Sessions.{Each}
 use Rattle.exb_plans.proofs.SetFacts.{bytes_is}
 use Rattle.exb_tracing.specs.Entries.{entry_in}

@@ -5,7 +5,7 @@ use Rattle.exb_model.specs.Setup.{Limits}
 use Rattle.exb_model.specs.Configuration.{Bridge}
 use Rattle.exb_config.specs.Pvids.{HasPvids}
 use Rattle.exb_ecp.specs.Machine.{Sending, State as Ecp, IsSound as IsSoundEnd}
-use Rattle.exb_csp.specs.Spelling.{IsBytes}
+use Rattle.exb_model.specs.Frames.{IsBytes}
 use Rattle.exb_extender.specs.Forwarding.{is_bare_control}
 use Rattle.exb_link.specs.declared.word.Word.{Word}
 use Rattle.exb_changing.specs.Runs.Planned.{IsSetting}

@@ -3,14 +3,13 @@ use Rattle.std.proofs.Common.{◌≡◌, ℕ, ◌+◌, ◌%◌, ◌==◌, ◌||�
 use Rattle.std.proofs.lemmas.Bool.{cases_Bool, cases_eq, cases_lt, lt-ltb, le-ltb, le-leb, and_from, eq-eqb, ne_eqb}
 use Rattle.exb_model.specs.declared.event.Event.TheVariants as event
 use Rattle.exb_model.specs.ETags.{tagged}
-use Rattle.exb_model.specs.Frames.{kind_of, is_control_frame}
+use Rattle.exb_model.specs.Frames.{kind_of, is_control_frame, IsBytes}
 use Rattle.exb_model.specs.Tree.{Shape, device, is_extender, is_external}
 use Rattle.exb_model.specs.Setup.{Limits}
 use Rattle.exb_model.specs.Input.{Arrival}
 use Rattle.exb_model.specs.History.{Basis, History, ◌then◌}
 use Rattle.exb_frame.specs.TagValues.{TagRoundTrip}
 use Rattle.exb_learn.specs.Histories.{table_after}
-use Rattle.exb_csp.specs.Spelling.{IsBytes}
 use Rattle.exb_extender.specs.declared.sends.Side.TheVariants as side
 use Rattle.exb_extender.specs.Forwarding.{Sent, up, channel_tag, is_refused_kind, is_ignored, sent_from_external, emitted}
 use Rattle.exb_extender.specs.Machine.{ExtenderState, IsExtender}

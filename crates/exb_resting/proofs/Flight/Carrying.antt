@@ -6,7 +6,7 @@ use Rattle.exb_model.specs.Tree.{Shape, device, on, is_extender, is_external}
 use Rattle.exb_model.specs.Setup.{Limits}
 use Rattle.exb_model.specs.History.{Basis, History}
 use Rattle.exb_frame.specs.TagValues.{TagRoundTrip}
-use Rattle.exb_csp.specs.Spelling.{IsBytes}
+use Rattle.exb_model.specs.Frames.{IsBytes}
 use Rattle.exb_link.specs.declared.word.Stamp.{Stamp}
 use Rattle.exb_link.specs.declared.word.Word.{Word}
 use Rattle.exb_link.specs.Words.{is_control, is_data, without_data}

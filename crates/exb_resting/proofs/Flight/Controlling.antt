@@ -7,7 +7,7 @@ use Rattle.exb_model.specs.Setup.{Limits}
 use Rattle.exb_model.specs.History.{Basis, History, ◌then◌}
 use Rattle.exb_frame.specs.TagValues.{TagRoundTrip}
 use Rattle.exb_lldp.specs.Announcing.{announced as announcement_in}
-use Rattle.exb_csp.specs.Spelling.{IsBytes}
+use Rattle.exb_model.specs.Frames.{IsBytes}
 use Rattle.exb_extender.specs.declared.sends.Side.TheVariants as side
 use Rattle.exb_extender.specs.Forwarding.{has_etag_type, is_bare_control, channel_tag, emitted}
 use Rattle.exb_extender.specs.Machine.{ExtenderState}

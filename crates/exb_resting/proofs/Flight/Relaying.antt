@@ -10,7 +10,7 @@ use Rattle.exb_model.specs.Tree.{Shape, IsTree, HangsOn, on, is_cascade, is_exte
 use Rattle.exb_model.specs.Setup.{Limits}
 use Rattle.exb_model.specs.Configuration.{Bridge}
 use Rattle.exb_model.specs.ETags.{tagged}
-use Rattle.exb_model.specs.Frames.{egress, kind_of, is_control_frame}
+use Rattle.exb_model.specs.Frames.{egress, kind_of, is_control_frame, IsBytes}
 use Rattle.exb_model.specs.FlatBridge.{Sent}
 use Rattle.exb_model.specs.Input.{Arrival}
 use Rattle.exb_model.specs.EagerHistory.{is_relayed, is_relayed_kind}
@@ -22,7 +22,6 @@ use Rattle.exb_frame.specs.TagValues.{TagRoundTrip, tag_of}
 use Rattle.exb_learn.specs.Calls.{Table, look_in}
 use Rattle.exb_learn.specs.Histories.{relay_call, after_any, table_after}
 use Rattle.exb_learn.proofs.Bridges.{looks_learned}
-use Rattle.exb_csp.specs.Spelling.{IsBytes}
 use Rattle.exb_link.specs.declared.word.Word.{Word}
 use Rattle.exb_link.specs.Words.{is_control}
 use Rattle.exb_relay.specs.declared.send.SendTo.{SendTo}

@@ -12,7 +12,7 @@ use Rattle.exb_model.specs.declared.event.Event.TheVariants as event
 use Rattle.exb_model.specs.declared.frame_kind.Seen.{Seen}
 use Rattle.exb_model.specs.declared.frame_kind.Seen.TheVariants as seen
 use Rattle.exb_model.specs.ETags.{stripped}
-use Rattle.exb_model.specs.Frames.{kind_of}
+use Rattle.exb_model.specs.Frames.{kind_of, IsBytes}
 use Rattle.exb_model.specs.EagerHistory.{is_relayed, is_relayed_kind, arrival_event}
 use Rattle.exb_model.specs.Lists.{numbered}
 use Rattle.exb_model.specs.Configuration.{Bridge}
@@ -41,7 +41,6 @@ use Rattle.exb_machine.specs.Runs.Journal.{is_to_bridge}
 use Rattle.exb_machine.specs.Runs.Laws.{ordered_by}
 use Rattle.exb_machine.specs.Relaying.{arrival_by, comes}
 use Rattle.exb_machine.specs.Runs.Simulation.{is_of_job, jobs_in, given_after, jobs_after, StaysSound}
-use Rattle.exb_csp.specs.Spelling.{IsBytes}
 use Rattle.exb_machine.specs.Runs.Sessions as machine
 use Rattle.exb_machine.proofs.Words.{each_filter, each_get}
 use Rattle.exb_machine.specs.Stepping.{words_on, with_words, takes_any, first_data, control_at, rest_of, counted, done_by, stepped}

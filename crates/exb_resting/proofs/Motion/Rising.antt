@@ -7,12 +7,11 @@ use Rattle.exb_model.specs.declared.frame_kind.Seen.{Seen}
 use Rattle.exb_model.specs.declared.frame_kind.Seen.TheVariants as seen
 use Rattle.exb_model.specs.ETags.{tagged, stripped}
 use Rattle.exb_model.specs.EagerHistory.{is_relayed_kind, arrival_event}
-use Rattle.exb_model.specs.Frames.{kind_of, is_control_frame}
+use Rattle.exb_model.specs.Frames.{kind_of, is_control_frame, IsBytes}
 use Rattle.exb_model.specs.Tree.{Shape, device, on, trunk, is_extender, is_external, is_extended}
 use Rattle.exb_model.specs.Setup.{Limits}
 use Rattle.exb_model.specs.Input.{Arrival}
 use Rattle.exb_frame.specs.TagValues.{TagRoundTrip}
-use Rattle.exb_csp.specs.Spelling.{IsBytes}
 use Rattle.exb_extender.specs.declared.sends.Side.TheVariants as side
 use Rattle.exb_extender.specs.Forwarding.{Sent, up, channel_tag, is_refused_kind, is_ignored, sent_from_external, emitted}
 use Rattle.exb_extender.specs.Machine.{ExtenderState, IsExtender, Arrives, react}

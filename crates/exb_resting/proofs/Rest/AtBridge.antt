@@ -5,14 +5,13 @@ use Rattle.std.proofs.lemmas.Bool.{and_parts, false≢true}
 use Rattle.exb_model.specs.Tree.{Shape, IsTree, is_external}
 use Rattle.exb_model.specs.Setup.{Limits}
 use Rattle.exb_model.specs.Input.{Arrival}
-use Rattle.exb_model.specs.Frames.{egress, kind_of, is_control_frame}
+use Rattle.exb_model.specs.Frames.{egress, kind_of, is_control_frame, IsBytes}
 use Rattle.exb_model.specs.EagerHistory.{is_relayed, is_relayed_kind}
 use Rattle.exb_model.specs.Learning.{passes}
 use Rattle.exb_model.specs.ETags.{Tag, tagged, stripped}
 use Rattle.exb_model.specs.declared.vlan.Kind.{Kind}
 use Rattle.exb_frame.specs.declared.etag.ETag.{ETag}
 use Rattle.exb_frame.specs.TagValues.{TagRoundTrip, tag_of}
-use Rattle.exb_csp.specs.Spelling.{IsBytes}
 use Rattle.exb_link.specs.declared.word.Stamp.{Stamp}
 use Rattle.exb_link.specs.declared.word.Word.{Word}
 use Rattle.exb_link.specs.Words.{is_control}

@@ -7,10 +7,9 @@ use Rattle.exb_csp.specs.declared.message.Body.{Body}
 use Rattle.exb_csp.specs.declared.message.Request.{Request}
 use Rattle.exb_csp.specs.declared.message.Response.{Response}
 use Rattle.exb_csp.specs.Kinds.{kind_of, number_of}
-use Rattle.exb_csp.specs.Spelling.{IsBytes}
 use Rattle.exb_session.specs.Kinds.{same_kind}
 use Rattle.exb_extender.specs.Forwarding.{has_etag_type, is_bare_control, channel_tag}
-use Rattle.exb_model.specs.Frames.{is_control_frame}
+use Rattle.exb_model.specs.Frames.{is_control_frame, IsBytes}
 use Rattle.exb_link.specs.declared.word.Word.{Word}
 use Rattle.exb_plans.specs.Held.{Held}
 use Rattle.exb_changing.specs.Beginning.{first_held}

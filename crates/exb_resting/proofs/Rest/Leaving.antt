@@ -5,7 +5,7 @@ use Rattle.std.proofs.lemmas.Bool.{cases_Bool, and_from, and_parts, lt-ltb}
 use Rattle.exb_model.specs.Configuration.{Bridge}
 use Rattle.exb_model.specs.EagerHistory.{is_relayed, is_relayed_kind}
 use Rattle.exb_model.specs.ETags.{read_etag, tagged, stripped}
-use Rattle.exb_model.specs.Frames.{kind_of, source, is_group, egress}
+use Rattle.exb_model.specs.Frames.{kind_of, source, is_group, egress, IsBytes}
 use Rattle.exb_model.specs.Input.{Arrival}
 use Rattle.exb_model.specs.Learning.{passes}
 use Rattle.exb_model.specs.Setup.{Limits}
@@ -27,7 +27,7 @@ use Rattle.exb_csp.specs.declared.fault.CspFault.{CspFault}
 use Rattle.exb_csp.specs.declared.message.Message.{Message}
 use Rattle.exb_csp.specs.AllTables.{port_of}
 use Rattle.exb_csp.specs.Reading.{read_message}
-use Rattle.exb_csp.specs.Spelling.{message_bytes, IsBytes}
+use Rattle.exb_csp.specs.Spelling.{message_bytes}
 use Rattle.exb_session.specs.declared.asker.Taken.{Taken}
 use Rattle.exb_session.specs.declared.asker.Taken.TheVariants as taken
 use Rattle.exb_session.specs.Asking.{took}

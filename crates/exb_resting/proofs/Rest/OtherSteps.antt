@@ -5,7 +5,7 @@ use Rattle.exb_model.specs.Input.{Arrival}
 use Rattle.exb_model.specs.Setup.{Limits, NamesExternal}
 use Rattle.exb_model.specs.Tree.{Shape, IsTree, device, is_extender}
 use Rattle.exb_frame.specs.TagValues.{TagRoundTrip}
-use Rattle.exb_csp.specs.Spelling.{IsBytes}
+use Rattle.exb_model.specs.Frames.{IsBytes}
 use Rattle.exb_extender.specs.declared.sends.Side.TheVariants as side
 use Rattle.exb_extender.specs.Forwarding.{Sent, emitted}
 use Rattle.exb_extender.specs.Machine.{ExtenderState, Arrives, react}

@@ -4,7 +4,7 @@ use Rattle.std.proofs.lemmas.Bool.{cases_lt, lt-ltb, le-ltb}
 use Rattle.exb_model.specs.Setup.{Limits}
 use Rattle.exb_model.specs.Tree.{Shape, IsTree, device, on, is_extender}
 use Rattle.exb_frame.specs.TagValues.{TagRoundTrip}
-use Rattle.exb_csp.specs.Spelling.{IsBytes}
+use Rattle.exb_model.specs.Frames.{IsBytes}
 use Rattle.exb_extender.specs.declared.sends.Side.TheVariants as side
 use Rattle.exb_extender.specs.Forwarding.{Sent, emitted, is_bare_control}
 use Rattle.exb_extender.specs.Machine.{ExtenderState, Arrives, react, hears}

@@ -6,7 +6,7 @@ use Rattle.std.proofs.lemmas.Bool.{cases_Bool, cases_lt, and_parts, lt-ltb, le-l
 use Rattle.exb_model.specs.Tree.{Shape, HangsOn, IsTree, device, on, is_extender, is_external, trunk}
 use Rattle.exb_model.specs.Setup.{Limits}
 use Rattle.exb_model.specs.ETags.{read_etag, stripped, tagged}
-use Rattle.exb_model.specs.Frames.{egress, kind_of, is_control_frame}
+use Rattle.exb_model.specs.Frames.{egress, kind_of, is_control_frame, IsBytes}
 use Rattle.exb_model.specs.Input.{Arrival}
 use Rattle.exb_model.specs.EagerHistory.{is_relayed, is_relayed_kind}
 use Rattle.exb_model.specs.Learning.{passes}
@@ -27,7 +27,7 @@ use Rattle.exb_csp.specs.declared.message.Body.TheVariants as body
 use Rattle.exb_csp.specs.declared.message.Message.{Message}
 use Rattle.exb_csp.specs.declared.message.Request.{Request}
 use Rattle.exb_csp.specs.Reading.{read_message}
-use Rattle.exb_csp.specs.Spelling.{IsBytes, message_bytes}
+use Rattle.exb_csp.specs.Spelling.{message_bytes}
 use Rattle.exb_csp.proofs.Again.{message_again}
 use Rattle.exb_session.specs.declared.asker.Taken.{Taken}
 use Rattle.exb_session.specs.declared.asker.Taken.TheVariants as taken

@@ -4,7 +4,7 @@ use Rattle.std.specs.Prelude.{◌≡◌, ◌≢◌, ℕ, ◌<◌, nat_lt, false,
 use Rattle.exb_model.specs.Tree.{Shape, is_extender}
 use Rattle.exb_csp.specs.declared.message.Request.{Request}
 use Rattle.exb_csp.specs.Reading.{read_message}
-use Rattle.exb_csp.specs.Spelling.{IsBytes}
+use Rattle.exb_model.specs.Frames.{IsBytes}
 use Rattle.exb_ecp.specs.Machine.{Sending, after, State as Ecp}
 use Rattle.exb_extender.specs.Forwarding.{is_bare_control}
 use Rattle.exb_extender.specs.Machine.{ExtenderState}
