@@ -42,10 +42,10 @@ use Rattle.exb_extender.proofs.KeepsLemmas.{stays_extender}
 use Rattle.exb_link.specs.declared.word.Stamp.{Stamp}
 use Rattle.exb_link.specs.declared.word.Word.{Word}
 use Rattle.exb_link.specs.Words.{is_control, is_data, without_data, without_control}
-use Rattle.exb_plans.specs.Held.{Held, channel_in}
+use Rattle.exb_plans.specs.Held.{Held, channel_in, numbers_in}
 use Rattle.exb_relay.specs.declared.send.SendTo.{SendTo}
 use Rattle.exb_relay.specs.Laws.{IsAt, IsSent, SendsAreWords}
-use Rattle.exb_relay.specs.Numbers.{Numbers}
+use Rattle.exb_model.specs.Numbers.{Numbers}
 use Rattle.exb_relay.specs.Sends.{pcp_of, sends_of}
 use Rattle.exb_learn.specs.Calls.{look_in}
 use Rattle.exb_model.specs.Configuration.{Bridge}
@@ -58,7 +58,7 @@ use Rattle.exb_machine.specs.Worlds.{World, Way, Up, Down, Step, Arrive, Carry, 
 use Rattle.exb_machine.specs.Allowing.{Can}
 use Rattle.exb_machine.specs.Effects.{Effect, only, each}
 use Rattle.exb_machine.specs.Extending.{hung_on, port_number, sent_at, sent_to, sends, does, reacts, takes_from_above, takes_from_below, stamp_of, ignored, does_or_ignores, arrives_at}
-use Rattle.exb_machine.specs.Controls.{channel_at_trunk, forgotten_all, taught, announced, numbers_in}
+use Rattle.exb_machine.specs.Controls.{channel_at_trunk, forgotten_all, taught, announced}
 use Rattle.exb_machine.specs.Hearing.{bridge_address, bridge_request, bridge_acknowledgement, puts_tagged, to_extender, asks, moves, stops, hears_message, hears_fresh, hears_request, hears_pdu, hears_frame, hears, sends_again, beats_near, beats_control}
 use Rattle.exb_machine.specs.Relaying.{puts_word, sent_by, sends_in, sends_all, comes, arrival_by, comes_from, holder_by, hung_at, hears_from, bridge_takes}
 use Rattle.exb_machine.specs.Stepping.{words_on, with_words, takes, takes_any, first_data, control_at, rest_of, counted, if_there, all_extenders, beats_all, done_by, stepped}

@@ -14,6 +14,7 @@ pub mod Learning
 pub mod Targets
 pub mod FlatBridge
 pub mod Numbering
+pub mod Numbers
 pub mod Refusals
 pub mod Input
 pub mod EagerHistory

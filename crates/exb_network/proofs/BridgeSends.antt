@@ -18,7 +18,7 @@ use Rattle.exb_relay.specs.declared.choice.Choice.{Choice}
 use Rattle.exb_relay.specs.declared.choice.Choice.TheVariants as chosen
 use Rattle.exb_relay.specs.declared.send.SendTo.{SendTo}
 use Rattle.exb_relay.specs.Choices.{choice}
-use Rattle.exb_relay.specs.Numbers.{Numbers, IsNumbering}
+use Rattle.exb_model.specs.Numbers.{Numbers, IsNumbering}
 use Rattle.exb_relay.specs.Spaces.{numbers_of}
 use Rattle.exb_relay.specs.Sends.{or_zero, ingress_at, etag_to, word_to, words_to, set_for, group_word, group_words, channel_word, words_down, local_send, sends_at, sends_in, sends_of}
 use Rattle.exb_relay.proofs.Under.{under_extended, under_trunk, home_low, under_cascade}
@@ -27,9 +27,8 @@ use Rattle.exb_numbers.specs.Channels.{channel_of}
 use Rattle.exb_numbers.specs.Groups.{group_of}
 use Rattle.exb_numbers.specs.Spaces.{Spaces}
 use Rattle.exb_model.specs.Numbering.{is_port}
-use Rattle.exb_plans.specs.Held.{Held, channel_in, group_in, in_spaces, is_place}
+use Rattle.exb_plans.specs.Held.{Held, channel_in, group_in, in_spaces, is_place, numbers_in}
 use Rattle.exb_plan.specs.Spaces.{held_by}
-use Rattle.exb_machine.specs.Controls.{numbers_in}
 use Rattle.exb_network.specs.Sends.{CanSend}
 
 -- ---- it can be sent

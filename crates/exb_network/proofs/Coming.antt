@@ -21,7 +21,7 @@ use Rattle.exb_learn.specs.Calls.{Table}
 use Rattle.exb_relay.specs.declared.send.Ingress.{Ingress}
 use Rattle.exb_relay.specs.declared.send.Ingress.TheVariants as ingress
 use Rattle.exb_relay.specs.declared.send.SendTo.{SendTo}
-use Rattle.exb_relay.specs.Numbers.{IsNumbering}
+use Rattle.exb_model.specs.Numbers.{IsNumbering}
 use Rattle.exb_relay.specs.Sends.{ingress_by, ingress_of, pcp_of, dei_of}
 use Rattle.exb_relay.specs.Spaces.{numbers_of}
 use Rattle.exb_relay.proofs.Words.{pcp_small}

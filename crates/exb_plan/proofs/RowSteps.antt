@@ -22,7 +22,8 @@ use Rattle.exb_plans.specs.declared.group_at.GroupAt.{GroupAt}
 use Rattle.exb_plan.specs.declared.group_asks.Covered.{Covered}
 use Rattle.exb_plans.specs.Held.{Held, Group}
 use Rattle.exb_plans.specs.Between.{gone_at, gone_groups}
-use Rattle.exb_plans.specs.Asks.{is_listed, row_by, row_at, rows_at, asks_with, group_asks}
+use Rattle.exb_model.specs.Lists.{is_listed}
+use Rattle.exb_plans.specs.Asks.{row_by, row_at, rows_at, asks_with, group_asks}
 use Rattle.exb_plans.specs.Making.{seen_group}
 use Rattle.exb_plan.specs.Working.{row_of_covered, rows_of_covered}
 

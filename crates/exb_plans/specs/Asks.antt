@@ -1,6 +1,6 @@
 -- What is asked of the extenders for a change, in order.
 use Rattle.std.specs.Prelude.{ℕ, zero, suc, ◌+◌, ◌%◌, ◌==◌, not, Bool, List, [], ◌∷◌, ◌++◌, Option, Some, None, if◌then◌else◌, filter, filter_map, flat_map, map, length, take, drop}
-use Rattle.std.specs.List.{list_any}
+use Rattle.exb_model.specs.Lists.{is_listed}
 use Rattle.exb_model.specs.Tree.{Shape, device, by_depth}
 use Rattle.exb_model.specs.TreeSets.{mask_of}
 use Rattle.exb_csp.specs.declared.group_rows.GroupRow.{GroupRow}
@@ -44,9 +44,6 @@ message Lay rows = register rows
 message Clear rows = unregister (numbers_of rows)
 
 -- ---- groups
-abbrev pub is_listed : List ℕ → ℕ → Bool
-is_listed ports q = list_any (λ x. x == q) ports
-
 abbrev pub row_by : ℕ → ℕ → Option GroupRow
 row_by number mask = if mask == 0 then None else Some (record { ecid = number; mask = mask })
 

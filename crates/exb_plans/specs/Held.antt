@@ -6,6 +6,7 @@ use Rattle.exb_model.specs.Tree.{Shape, device, is_cascade, is_under, is_cascade
 use Rattle.exb_model.specs.Configuration.{Bridge}
 use Rattle.exb_model.specs.Refusals.{is_empty_set, sets_at}
 use Rattle.exb_model.specs.Numbering.{lowest_free, is_port}
+use Rattle.exb_model.specs.Numbers.{Numbers}
 use Rattle.exb_plans.specs.Sets.{PortsAt}
 
 -- the port of a channel, and the ports of a group in order, none where it is free
@@ -20,6 +21,10 @@ channel_in h k p = find (λ c. is_port p (h.port k c)) (range_with_len 1 4094)
 -- the group of a set, among all that there can be
 unfoldable pub group_in : Held → ℕ → List ℕ → Option ℕ
 group_in h k set = if is_empty_set set then None else find (λ g. bytes_eq set (h.set k g)) (range_with_len 4096 12288)
+
+-- what is held, as the numbers by which the bridge reaches ports
+abbrev pub numbers_in : Held → Numbers
+numbers_in h = record { channel = channel_in h; group = group_in h }
 
 abbrev pub channel_used : Held → ℕ → ℕ → Bool
 channel_used h k c = is_some (h.port k c)

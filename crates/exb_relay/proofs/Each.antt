@@ -20,7 +20,7 @@ use Rattle.exb_frame.specs.declared.etag.ETag.{ETag}
 use Rattle.exb_relay.specs.declared.choice.Choice.{Choice}
 use Rattle.exb_relay.specs.declared.choice.Choice.TheVariants as chosen
 use Rattle.exb_relay.specs.declared.send.SendTo.{SendTo}
-use Rattle.exb_relay.specs.Numbers.{Numbers, IsReady, IsNumbering, has_set}
+use Rattle.exb_model.specs.Numbers.{Numbers, IsReady, IsNumbering, has_set}
 use Rattle.exb_relay.specs.Choices.{choice}
 use Rattle.exb_relay.specs.Sends.{etag_to, word_to, words_to, set_for, group_word, group_words, channel_word, words_down, local_send, sends_at, sends_in, sends_of}
 use Rattle.exb_config.specs.Pvids.{HasPvids}

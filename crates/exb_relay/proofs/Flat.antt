@@ -14,9 +14,9 @@ use Rattle.exb_model.specs.Learning.{Look, passes, passes_as, admitted}
 use Rattle.exb_model.specs.Targets.{target}
 use Rattle.exb_model.specs.FlatBridge.{sent_as, sent_by}
 use Rattle.exb_frame.specs.TagValues.{TagRoundTrip}
-use Rattle.exb_relay.specs.Numbers.{Numbers, IsReady, IsNumbering}
+use Rattle.exb_model.specs.Numbers.{Numbers, IsReady, IsNumbering}
 use Rattle.exb_relay.specs.Sends.{sends_of}
-use Rattle.exb_relay.specs.Leaving.{Carries}
+use Rattle.exb_model.specs.Carriage.{Carries}
 use Rattle.exb_config.specs.Pvids.{HasPvids}
 use Rattle.exb_relay.specs.Laws.{left_by}
 use Rattle.exb_relay.proofs.Leaving.{listed_out, leaves_as_target}

@@ -18,10 +18,12 @@ use Rattle.exb_model.proofs.PortLemmas.{filter_below-none}
 use Rattle.exb_frame.specs.TagValues.{TagRoundTrip}
 use Rattle.exb_relay.specs.declared.choice.Choice.{Choice}
 use Rattle.exb_relay.specs.declared.choice.Choice.TheVariants as chosen
-use Rattle.exb_relay.specs.Numbers.{Numbers, IsReady, IsNumbering, has_set}
+use Rattle.exb_model.specs.Numbers.{Numbers, IsReady, IsNumbering, has_set}
 use Rattle.exb_relay.specs.Choices.{choice, is_chosen_in}
 use Rattle.exb_relay.specs.Sends.{set_for, group_word, group_words, channel_word, words_down, local_send, sends_at, sends_of}
-use Rattle.exb_relay.specs.Leaving.{is_listed, Carries, leaving, all_leaving}
+use Rattle.exb_model.specs.Carriage.{Carries}
+use Rattle.exb_model.specs.Lists.{is_listed}
+use Rattle.exb_relay.specs.Leaving.{leaving, all_leaving}
 use Rattle.exb_config.specs.Pvids.{HasPvids}
 use Rattle.exb_relay.proofs.Lists.{flat_flat, only_one, none_listed}
 use Rattle.exb_relay.proofs.Under.{under_home, under_other, none_low, none_under, under_cascade, hangs, home_low, external_below, extended_from}

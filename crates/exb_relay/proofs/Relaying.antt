@@ -13,7 +13,7 @@ use Rattle.exb_model.proofs.PortLemmas.{any_below-true, filter_below-agree, filt
 use Rattle.exb_numbers.specs.Spaces.{Spaces, has_space}
 use Rattle.exb_relay.specs.declared.send.SendTo.{SendTo}
 use Rattle.exb_relay.specs.declared.source.Source.{Source}
-use Rattle.exb_relay.specs.Numbers.{Numbers}
+use Rattle.exb_model.specs.Numbers.{Numbers}
 use Rattle.exb_relay.specs.Spaces.{HasSpaces}
 use Rattle.exb_relay.specs.Sends.{or_zero, ingress_at, local_send}
 use Rattle.exb_relay.specs.Words.{ingress_for, kind_among, set_below, set_word, member_sends}

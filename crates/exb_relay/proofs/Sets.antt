@@ -15,10 +15,10 @@ use Rattle.exb_model.specs.Refusals.{is_kind, Source, both_kinds, all_vids, sour
 use Rattle.exb_model.proofs.PortLemmas.{any_below-true}
 use Rattle.exb_relay.specs.declared.choice.Choice.{Choice}
 use Rattle.exb_relay.specs.declared.choice.Choice.TheVariants as chosen
-use Rattle.exb_relay.specs.Numbers.{has_set}
+use Rattle.exb_model.specs.Numbers.{has_set}
 use Rattle.exb_relay.specs.Choices.{choice_by, choice}
 use Rattle.exb_relay.specs.Sends.{set_for}
-use Rattle.exb_relay.specs.Leaving.{is_listed}
+use Rattle.exb_model.specs.Lists.{is_listed}
 use Rattle.exb_relay.proofs.Lists.{Member, member_left, member_right, member_flat, member_range, find_member, listed_filter, filter_both, fold_has}
 
 -- a member in a kind below bridge port k

@@ -12,9 +12,11 @@ use Rattle.exb_model.specs.ExtenderForwarding.{Tables}
 use Rattle.exb_model.specs.Carriage.{carried}
 use Rattle.exb_model.specs.Configuration.{Bridge}
 use Rattle.exb_frame.specs.TagValues.{tag_of, TagRoundTrip}
-use Rattle.exb_relay.specs.Numbers.{Numbers, IsReady, IsNumbering, has_set}
+use Rattle.exb_model.specs.Numbers.{Numbers, IsReady, IsNumbering, has_set}
 use Rattle.exb_relay.specs.Sends.{pcp_of, or_zero, ingress_at, etag_to, word_to}
-use Rattle.exb_relay.specs.Leaving.{is_listed, Carries, leaving}
+use Rattle.exb_model.specs.Carriage.{Carries}
+use Rattle.exb_model.specs.Lists.{is_listed}
+use Rattle.exb_relay.specs.Leaving.{leaving}
 use Rattle.exb_relay.proofs.Under.{under_high, extended_from, extender_there, none_at_bridge}
 
 pub some_of : (o : Option ℕ) → is_some o ≡ true → (x : ℕ) × (o ≡ Some x)

@@ -1,5 +1,5 @@
 -- What is true of all sends.
-use Rattle.std.specs.Prelude.{◌≡◌, ℕ, ◌+◌, ◌<◌, ◌≤◌, ◌==◌, ◌≢◌, Bool, true, false, if◌then◌else◌, List, [], ◌∷◌, Option, Some, None, map, filter, flat_map, count_by, slice_index, ◌⊎◌}
+use Rattle.std.specs.Prelude.{◌≡◌, ℕ, ◌+◌, ◌<◌, ◌≤◌, ◌==◌, ◌≢◌, Bool, true, false, if◌then◌else◌, List, [], ◌∷◌, Option, Some, None, map, filter, flat_map, count_by, ◌⊎◌}
 use Rattle.std.specs.List.{All}
 use Rattle.exb_model.specs.declared.vlan.Kind.{Kind}
 use Rattle.exb_model.specs.declared.event.Event.TheVariants as event
@@ -16,10 +16,11 @@ use Rattle.exb_frame.specs.declared.etag.ETag.{ETag}
 use Rattle.exb_frame.specs.TagValues.{tag_of}
 use Rattle.exb_relay.specs.declared.choice.Choice.TheVariants.{Learned}
 use Rattle.exb_relay.specs.declared.send.SendTo.{SendTo}
-use Rattle.exb_relay.specs.Numbers.{Numbers, IsReady, IsNumbering, has_set}
+use Rattle.exb_model.specs.Numbers.{Numbers, IsReady, IsNumbering, has_set}
 use Rattle.exb_relay.specs.Choices.{choice, is_chosen_in}
 use Rattle.exb_relay.specs.Sends.{ingress_at, channel_word, sends_of, pcp_of, dei_of}
-use Rattle.exb_relay.specs.Leaving.{Carries, all_leaving}
+use Rattle.exb_model.specs.Carriage.{Carries}
+use Rattle.exb_relay.specs.Leaving.{all_leaving}
 
 -- ---- the choice is that of the one bridge
 abbrev pub ChoiceIsTheBridges : Type 0

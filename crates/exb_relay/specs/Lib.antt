@@ -1,4 +1,3 @@
-pub mod Numbers
 pub mod Choices
 pub mod Sends
 pub mod Words

@@ -19,7 +19,7 @@ use Rattle.exb_relay.specs.declared.choice.Choice.TheVariants.{All, Listed, Lear
 use Rattle.exb_relay.specs.declared.send.Ingress.{Ingress}
 use Rattle.exb_relay.specs.declared.send.Ingress.TheVariants as ingress
 use Rattle.exb_relay.specs.declared.send.SendTo.{SendTo}
-use Rattle.exb_relay.specs.Numbers.{Numbers}
+use Rattle.exb_model.specs.Numbers.{Numbers}
 use Rattle.exb_relay.specs.Choices.{choice}
 
 -- ---- priority

@@ -5,7 +5,7 @@ use Rattle.exb_model.specs.Configuration.{Bridge}
 use Rattle.exb_numbers.specs.Channels.{channel_of}
 use Rattle.exb_numbers.specs.Groups.{group_of}
 use Rattle.exb_numbers.specs.Spaces.{Spaces, has_space, channels_at, groups_at}
-use Rattle.exb_relay.specs.Numbers.{Numbers}
+use Rattle.exb_model.specs.Numbers.{Numbers}
 
 abbrev pub numbers_of : Spaces → Numbers
 numbers_of s = record { channel = λ k q. channel_of (channels_at s k) q; group = λ k set. group_of (groups_at s k) set }

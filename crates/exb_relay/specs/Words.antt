@@ -12,7 +12,7 @@ use Rattle.exb_frame.specs.declared.etag.ETag.{ETag}
 use Rattle.exb_relay.specs.declared.send.SendTo.{SendTo}
 use Rattle.exb_relay.specs.declared.source.Source.{Source}
 use Rattle.exb_relay.specs.declared.source.Uplink.{Uplink}
-use Rattle.exb_relay.specs.Numbers.{Numbers}
+use Rattle.exb_model.specs.Numbers.{Numbers}
 use Rattle.exb_relay.specs.Sends.{pcp_of, dei_of, ingress_at, word_to, local_send}
 
 -- the ingress number of words that go down at bridge port k

@@ -1,6 +1,6 @@
 //! Laws of what the bridge sends for a frame.
 ghost use Rattle.exb_numbers.specs.Spaces.{Spaces};
-ghost use Rattle.exb_relay.specs.Numbers.{IsNumbering};
+ghost use Rattle.exb_model.specs.Numbers.{IsNumbering};
 ghost use Rattle.exb_relay.specs.Spaces.{numbers_of};
 ghost use Rattle.exb_relay.specs.Laws.{ChoiceIsTheBridges, LocalSendsAreTargets, LearnedSendIsTarget, SendsAreWords, AtMostTwo, SendsLeaveAsFlat};
 

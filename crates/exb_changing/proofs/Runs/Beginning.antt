@@ -8,7 +8,7 @@ use Rattle.exb_model.specs.Tree.{Shape, IsTree, device, is_extender, is_port, by
 use Rattle.exb_model.specs.Setup.{Limits}
 use Rattle.exb_plans.specs.Held.{Held, is_place, in_spaces}
 use Rattle.exb_model.proofs.TreeOrder.{in_order}
-use Rattle.exb_plans.specs.Asks.{is_listed}
+use Rattle.exb_model.specs.Lists.{is_listed}
 use Rattle.exb_plans.specs.Laws.{IsBeginning, HoldsFirst}
 use Rattle.exb_plans.proofs.Beginning.{begins as needed_first}
 use Rattle.exb_changing.specs.Runs.Laid.{laid}

@@ -8,9 +8,10 @@ use Rattle.exb_model.specs.Setup.{Limits}
 use Rattle.exb_model.specs.Configuration.{Bridge}
 use Rattle.exb_model.specs.Refusals.{is_empty_set, sets_at}
 use Rattle.exb_model.specs.Numbering.{lowest_free}
+use Rattle.exb_model.specs.Numbers.{IsReady}
 use Rattle.exb_plans.specs.Sets.{PortsAt, sets_of}
 use Rattle.exb_plans.specs.declared.change.Change.{Change}
-use Rattle.exb_plans.specs.Held.{Held, HoldsNeeded, or_zero, needs_channel, channel_in, channel_used, group_in, group_used, free_channel, free_group, give, give_all, group_for, numbered}
+use Rattle.exb_plans.specs.Held.{Held, HoldsNeeded, or_zero, needs_channel, channel_in, channel_used, group_in, group_used, free_channel, free_group, give, give_all, group_for, numbered, numbers_in}
 use Rattle.exb_plans.specs.Between.{has_set, goes_up, fresh_sets}
 use Rattle.exb_plans.specs.Plans.{with_channel, new_channel, with_up, fresh_groups, claimed}
 use Rattle.exb_plans.proofs.Counting.{lowest_unused}
@@ -25,7 +26,6 @@ use Rattle.exb_changing.proofs.FreshGroups.{with_set, fresh_now, fresh_placed}
 use Rattle.exb_changing.specs.Deciding.{release, is_number}
 use Rattle.exb_changing.specs.Runs.Growing.{Keeps}
 use Rattle.exb_changing.proofs.Runs.Members.{each_has}
-use Rattle.exb_changing.specs.Runs.Planned.{HasNumbers}
 
 -- ---- what a configuration needs
 -- sets are there just below cascade ports of the bridge
@@ -37,7 +37,7 @@ set_cascade t valid b k set low e =
     let is : IsBelow t s = each_has (IsBelow t) (sets_of t b) s (sets_below t valid b) has in
     subst (λ (m : ℕ). is_cascade t m ≡ true) same is.cascade
 
-pub needed_numbers : (t : Shape) → IsTree t → (b : Bridge) (h : Held) → HoldsNeeded t b h → ((q : ℕ) → b.present q ≡ true → is_external t q ≡ true) → HasNumbers t b h
+pub needed_numbers : (t : Shape) → IsTree t → (b : Bridge) (h : Held) → HoldsNeeded t b h → ((q : ℕ) → b.present q ≡ true → is_external t q ≡ true) → IsReady t b (numbers_in h)
 needed_numbers t valid b h needed external =
     record {
       external = external;
@@ -59,7 +59,7 @@ some_of (Some n) e = (n, refl)
 is_some_of : (o : Option ℕ) → (n : ℕ) × (o ≡ Some n) → is_some o ≡ true
 is_some_of o e = ap is_some e.1
 
-pub numbers_kept : (t : Shape) (b : Bridge) (h g : Held) → Keeps h g → HasNumbers t b h → HasNumbers t b g
+pub numbers_kept : (t : Shape) (b : Bridge) (h g : Held) → Keeps h g → IsReady t b (numbers_in h) → IsReady t b (numbers_in g)
 numbers_kept t b h g keeps has =
     record {
       external = has.external;

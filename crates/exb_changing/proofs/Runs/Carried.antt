@@ -6,15 +6,16 @@ use Rattle.exb_model.specs.Configuration.{Bridge}
 use Rattle.exb_plans.specs.Laying.{IsLaid}
 use Rattle.exb_plans.proofs.Carrying.{group_words, channel_words}
 use Rattle.exb_csp.specs.AllTables.{tables_at}
-use Rattle.exb_plans.specs.Asks.{is_listed}
-use Rattle.exb_plans.specs.Held.{Held}
+use Rattle.exb_model.specs.Lists.{is_listed}
+use Rattle.exb_model.specs.Carriage.{Carries}
+use Rattle.exb_plans.specs.Held.{Held, numbers_in}
 use Rattle.exb_plans.proofs.Owning.{IsGroupOf, group_found}
 use Rattle.exb_plans.proofs.Giving.{IsChannelOf, channel_found}
 use Rattle.exb_changing.proofs.Runs.Members.{set_lies}
-use Rattle.exb_changing.specs.Runs.Midway.{IsLaidFor, CarriesFor, CarriesMidway}
+use Rattle.exb_changing.specs.Runs.Midway.{IsLaidFor, CarriesMidway}
 use Rattle.exb_changing.proofs.Runs.LaidMidway.{laid_midway}
 
-carries_for : (t : Shape) → IsTree t → (b : Bridge) (h : Held) (u : Tables) → IsLaidFor t b h u → CarriesFor t b h u
+carries_for : (t : Shape) → IsTree t → (b : Bridge) (h : Held) (u : Tables) → IsLaidFor t b h u → Carries t u b (numbers_in h)
 carries_for t valid b h u laid =
     record {
       own = laid.own;

@@ -16,7 +16,8 @@ use Rattle.exb_csp.specs.declared.ask_at.AskAt.{AskAt}
 use Rattle.exb_plans.specs.declared.step.Step.{Step}
 use Rattle.exb_plans.specs.declared.step.Step.TheVariants.{Lay, Clear}
 use Rattle.exb_plans.specs.Held.{Held}
-use Rattle.exb_plans.specs.Asks.{is_listed, message, in_messages, pieces, asks_with, ask, channel_rows, channel_ask, channel_asks, create_asks, delete_asks}
+use Rattle.exb_model.specs.Lists.{is_listed}
+use Rattle.exb_plans.specs.Asks.{message, in_messages, pieces, asks_with, ask, channel_rows, channel_ask, channel_asks, create_asks, delete_asks}
 use Rattle.exb_changing.specs.Deciding.{channel_of}
 use Rattle.exb_plans.proofs.Bools.{and_false}
 use Rattle.exb_changing.specs.Runs.Laid.{has_port, by_extender, channel_pair, group_pair, laid_by}

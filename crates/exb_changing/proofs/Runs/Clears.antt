@@ -10,7 +10,8 @@ use Rattle.exb_csp.specs.Execute.{ExtenderTables, is_ecid, is_named, clear_code,
 use Rattle.exb_csp.proofs.Executing.{or_false, and_true}
 use Rattle.exb_csp.specs.AllTables.{port_of, executes_at, RunsAt}
 use Rattle.exb_plans.specs.declared.step.Step.TheVariants.{Clear}
-use Rattle.exb_plans.specs.Asks.{ask, unregister, numbers_of, is_listed, message, pieces, in_messages, asks_with}
+use Rattle.exb_model.specs.Lists.{is_listed}
+use Rattle.exb_plans.specs.Asks.{ask, unregister, numbers_of, message, pieces, in_messages, asks_with}
 use Rattle.exb_plans.proofs.Each.{Each, list_any-map}
 use Rattle.exb_plans.proofs.Bools.{and_false}
 use Rattle.exb_changing.specs.Runs.Laid.{has_port, by_extender}

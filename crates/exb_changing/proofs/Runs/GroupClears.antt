@@ -15,7 +15,8 @@ use Rattle.exb_csp.specs.AllTables.{port_of, RunsAt}
 use Rattle.exb_plans.specs.declared.step.Step.TheVariants.{Clear}
 use Rattle.exb_plans.specs.Held.{Held, Group, group_used, or_zero, free_where}
 use Rattle.exb_plans.specs.Between.{is_gone, group_at, gone_groups}
-use Rattle.exb_plans.specs.Asks.{is_listed, rows_at, group_asks}
+use Rattle.exb_model.specs.Lists.{is_listed}
+use Rattle.exb_plans.specs.Asks.{rows_at, group_asks}
 use Rattle.exb_changing.proofs.Released.{channel_by}
 use Rattle.exb_plans.proofs.GoneGroups.{IsGoneAt, gone_found, gone_there}
 use Rattle.exb_changing.specs.Runs.Laid.{is_shown, channel_pair, group_pair, laid_by, laid}

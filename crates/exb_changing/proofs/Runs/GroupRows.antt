@@ -12,7 +12,8 @@ use Rattle.exb_csp.proofs.Executing.{or_false, or_assoc, mask_empty}
 use Rattle.exb_csp.specs.AllTables.{port_of, RunsAt}
 use Rattle.exb_plans.specs.declared.step.Step.TheVariants.{Lay}
 use Rattle.exb_plans.specs.Held.{Held, Group, group_used, or_zero, give, give_all}
-use Rattle.exb_plans.specs.Asks.{is_listed, rows_at, group_asks}
+use Rattle.exb_model.specs.Lists.{is_listed}
+use Rattle.exb_plans.specs.Asks.{rows_at, group_asks}
 use Rattle.exb_plans.proofs.Each.{Each}
 use Rattle.exb_plans.proofs.Claiming.{given_here, given_else}
 use Rattle.exb_changing.specs.Deciding.{channel_of}

@@ -10,8 +10,9 @@ use Rattle.exb_model.specs.Refusals.{is_empty_set, sets_at}
 use Rattle.exb_plans.specs.Laying.{is_port_under, SendsOn, IsLaid}
 use Rattle.exb_csp.specs.Execute.{ExtenderTables}
 use Rattle.exb_csp.specs.AllTables.{tables_at}
-use Rattle.exb_plans.specs.Asks.{is_listed}
-use Rattle.exb_plans.specs.Held.{Held, or_zero, needs_channel, channel_in, group_in, group_used}
+use Rattle.exb_model.specs.Lists.{is_listed}
+use Rattle.exb_model.specs.Numbers.{IsReady}
+use Rattle.exb_plans.specs.Held.{Held, or_zero, needs_channel, channel_in, group_in, group_used, numbers_in}
 use Rattle.exb_plans.proofs.Owning.{IsGroupOf, group_found}
 use Rattle.exb_plans.proofs.Giving.{IsChannelOf, channel_found}
 use Rattle.exb_plans.proofs.Trunks.{under_extended, under_trunk, home_low, home_cascade, extended_external}
@@ -27,7 +28,7 @@ use Rattle.exb_changing.specs.Deciding.{channel_of, bridge_after, release}
 use Rattle.exb_changing.specs.Runs.Growing.{AreWithin, AllAdd, AllClear, Keeps}
 use Rattle.exb_changing.specs.Runs.Standing.{opened_by, RunsLeft, InPhase, IsBefore, IsSince, AreKinds, StandsBy}
 use Rattle.exb_changing.proofs.Runs.Growing.{runs_add, runs_clear}
-use Rattle.exb_changing.specs.Runs.Planned.{HasNumbers, IsExact, planning}
+use Rattle.exb_changing.specs.Runs.Planned.{IsExact, planning}
 use Rattle.exb_changing.specs.Runs.Midway.{IsLaidFor, LaidMidway}
 use Rattle.exb_changing.proofs.Runs.Both.{set_cascade, needed_numbers, released_kept}
 
@@ -110,7 +111,7 @@ module _ (t : Shape) (valid : IsTree t) (opened : ℕ → Bool) (b : Bridge) (h 
 
 -- ---- in the middle of a change
 -- what is held first, and what is held with more numbers
-module _ (t : Shape) (valid : IsTree t) (b : Bridge) (first more : Held) (has : HasNumbers t b first) (keeps : Keeps first more)
+module _ (t : Shape) (valid : IsTree t) (b : Bridge) (first more : Held) (has : IsReady t b (numbers_in first)) (keeps : Keeps first more)
     (one_channel : (k c d p : ℕ) → k < 64 → is_cascade t k ≡ true → more.port k c ≡ Some p → more.port k d ≡ Some p → c ≡ d)
     (one_group : (k g m : ℕ) → k < 64 → is_cascade t k ≡ true → group_used more k g ≡ true → more.set k g ≡ more.set k m → g ≡ m) where
   some_of : (o : Option ℕ) → is_some o ≡ true → (n : ℕ) × (o ≡ Some n)

@@ -14,7 +14,7 @@ use Rattle.exb_plans.specs.Laying.{IsLaid, IsFree, SendsOn, is_port_under}
 use Rattle.exb_plans.proofs.Ways.{from_test, from_under, from_cascade}
 use Rattle.exb_csp.specs.AllTables.{tables_at, port_of}
 use Rattle.exb_plans.specs.Held.{Held, group_used, needs_channel}
-use Rattle.exb_plans.specs.Asks.{is_listed}
+use Rattle.exb_model.specs.Lists.{is_listed}
 use Rattle.exb_plans.proofs.Trunks.{port_extender, under_extended}
 use Rattle.exb_plans.proofs.Owning.{owns_from}
 use Rattle.exb_changing.specs.Deciding.{channel_of}

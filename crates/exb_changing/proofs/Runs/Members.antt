@@ -8,7 +8,7 @@ use Rattle.exb_model.specs.Tree.{Shape, is_under}
 use Rattle.exb_model.specs.Configuration.{Bridge}
 use Rattle.exb_model.specs.Refusals.{Source, sources, part, without_isolated, is_empty_set, sets_at, is_kind}
 use Rattle.exb_plans.specs.Sets.{PortsAt, parts_of, parts_below, is_same_set, with_set_at, sets_of}
-use Rattle.exb_plans.specs.Asks.{is_listed}
+use Rattle.exb_model.specs.Lists.{is_listed}
 use Rattle.exb_plans.specs.Between.{has_set}
 use Rattle.exb_plans.proofs.Each.{Each, each_append, each_flat, each_range}
 use Rattle.exb_plans.proofs.Claiming.{set_is}

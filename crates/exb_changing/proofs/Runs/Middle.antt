@@ -1,6 +1,8 @@
 -- The configuration in force has its numbers at every moment.
 use Rattle.std.proofs.Common.{◌≡◌, ℕ, Option, Some, None, refl, sym, ◌∙◌, ap, subst, eq-eqb}
 use Rattle.exb_model.specs.Configuration.{Bridge}
+use Rattle.exb_model.specs.Numbers.{IsReady}
+use Rattle.exb_plans.specs.Held.{numbers_in}
 use Rattle.exb_csp.specs.declared.message.Response.{Response}
 use Rattle.exb_session.specs.declared.asker.Taken.{Taken}
 use Rattle.exb_session.specs.Asking.{AskerState}
@@ -10,7 +12,7 @@ use Rattle.exb_changing.specs.declared.job.Phase.{Phase}
 use Rattle.exb_changing.specs.declared.job.Phase.TheVariants.{Preparing, Cleaning}
 use Rattle.exb_changing.specs.Machine.{Work}
 use Rattle.exb_changing.specs.Runs.Standing.{waited_for, IsBefore, StandsBy, Works}
-use Rattle.exb_changing.specs.Runs.Planned.{HasNumbers, planning, ReadyMidway, AnswersAreTaken, HeldAreNumbers}
+use Rattle.exb_changing.specs.Runs.Planned.{planning, ReadyMidway, AnswersAreTaken, HeldAreNumbers}
 use Rattle.exb_changing.proofs.Runs.Taking.{takes}
 use Rattle.exb_changing.proofs.Runs.Both.{needed_numbers}
 use Rattle.exb_plans.proofs.Options.{some_is}
@@ -18,13 +20,13 @@ use Rattle.exb_plans.proofs.Options.{some_is}
 pub ready_midway : ReadyMidway
 ready_midway t y valid stands = by_work y.state.work stands.stands
   where
-    by_work : (o : Option Work) → StandsBy (planning t) o y.state y.state.queue y.tables y.answer → HasNumbers t y.state.bridge y.state.held
+    by_work : (o : Option Work) → StandsBy (planning t) o y.state y.state.queue y.tables y.answer → IsReady t y.state.bridge (numbers_in y.state.held)
     by_work None h = needed_numbers t valid y.state.bridge y.state.held ((h.0).exact).needed ((h.0).exact).external
     by_work (Some w) h = by_phase w.phase h.bridge
       where
-        by_phase : (f : Phase) → IsBefore f w.job h.old y.state.bridge → HasNumbers t y.state.bridge y.state.held
-        by_phase Preparing e = subst (λ (b : Bridge). HasNumbers t b y.state.held) (sym e) (h.during).before
-        by_phase Cleaning e = subst (λ (b : Bridge). HasNumbers t b y.state.held) (sym e) (h.during).after
+        by_phase : (f : Phase) → IsBefore f w.job h.old y.state.bridge → IsReady t y.state.bridge (numbers_in y.state.held)
+        by_phase Preparing e = subst (λ (b : Bridge). IsReady t b (numbers_in y.state.held)) (sym e) (h.during).before
+        by_phase Cleaning e = subst (λ (b : Bridge). IsReady t b (numbers_in y.state.held)) (sym e) (h.during).after
 
 pub answers_are_taken : AnswersAreTaken
 answers_are_taken t y w response stands e f =

@@ -14,8 +14,9 @@ use Rattle.exb_csp.specs.AllTables.{port_of}
 use Rattle.exb_plans.specs.declared.row.Row.{Row}
 use Rattle.exb_plans.specs.declared.step.Step.{Step}
 use Rattle.exb_plans.specs.declared.step.Step.TheVariants.{Lay, Clear}
-use Rattle.exb_plans.specs.Asks.{ask, is_listed, message, rows_at, asks_with, in_messages, pieces, group_asks, channel_rows, channel_ask, channel_asks, create_asks, delete_asks}
-use Rattle.exb_plans.specs.Between.{goes_up, goes_down, is_gone, fresh_sets, gone_groups}
+use Rattle.exb_model.specs.Lists.{is_listed}
+use Rattle.exb_plans.specs.Asks.{ask, message, rows_at, asks_with, in_messages, pieces, group_asks, channel_rows, channel_ask, channel_asks, create_asks, delete_asks}
+use Rattle.exb_plans.specs.Between.{goes_up, goes_down, fresh_sets, gone_groups}
 use Rattle.exb_plans.specs.Held.{Held, Group, HoldsNeeded, group_used, group_for, give, numbered}
 use Rattle.exb_plans.specs.Plans.{new_channel, own_channel, with_up, up_asks, down_asks, fresh_groups, prepare_of, cleanup_of}
 use Rattle.exb_plans.specs.Rows.{row_of, rows_of}

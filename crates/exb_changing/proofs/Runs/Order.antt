@@ -6,7 +6,7 @@ use Rattle.exb_model.specs.Tree.{Shape, HangsOn, on, depth, hangs_at_depth, leve
 use Rattle.exb_model.proofs.TreeLoops.{by_depth_is}
 use Rattle.exb_model.proofs.TreeOrder.{by_depth-hangs, place_of}
 use Rattle.exb_csp.proofs.Executing.{or_false}
-use Rattle.exb_plans.specs.Asks.{is_listed}
+use Rattle.exb_model.specs.Lists.{is_listed}
 use Rattle.exb_changing.proofs.Runs.Tables.{AreDistinct}
 
 -- nothing of the second is in the first

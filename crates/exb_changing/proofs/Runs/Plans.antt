@@ -9,8 +9,9 @@ use Rattle.exb_model.specs.Setup.{Limits, NamesExternal}
 use Rattle.exb_model.specs.Configuration.{Bridge, after}
 use Rattle.exb_plans.specs.Sets.{PortsAt}
 use Rattle.exb_model.specs.Refusals.{is_empty_set}
+use Rattle.exb_model.specs.Numbers.{IsReady}
 use Rattle.exb_plans.specs.declared.change.Change.{Change}
-use Rattle.exb_plans.specs.Held.{Held, HoldsNeeded, group_in, group_used}
+use Rattle.exb_plans.specs.Held.{Held, HoldsNeeded, group_in, group_used, numbers_in}
 use Rattle.exb_plans.specs.Between.{goes_up, refusal_between, fresh_sets}
 use Rattle.exb_plans.specs.Plans.{claimed, freed, fresh_groups, with_up, new_channel, change_of, cleanup_of}
 use Rattle.exb_plans.specs.Laws.{IsStep}
@@ -36,7 +37,7 @@ use Rattle.exb_changing.specs.Runs.Growing.{AllAdd, AllClear, Keeps}
 use Rattle.exb_changing.proofs.Runs.Opened.{opening_goes, prepare_goes, cleanup_goes, change_few, opening_few, none_few}
 use Rattle.exb_changing.proofs.Runs.Adding.{prepares_add, cleanups_clear, openings_add}
 use Rattle.exb_changing.specs.Runs.Standing.{AreFew, opens, IsPlanned as IsSound, Plans}
-use Rattle.exb_changing.specs.Runs.Planned.{IsSetting, HasNumbers, IsExact, HasBoth, FitsJob, planning, PlannedStepsStand, PlannedRunsStand}
+use Rattle.exb_changing.specs.Runs.Planned.{IsSetting, IsExact, HasBoth, FitsJob, planning, PlannedStepsStand, PlannedRunsStand}
 use Rattle.exb_changing.proofs.Runs.Steps.{steps_stand, runs_stand}
 use Rattle.exb_changing.proofs.Runs.Both.{needed_numbers, numbers_kept, released_kept, claimed_kept, claimed_owns, all_kept}
 use Rattle.exb_plans.proofs.Options.{some_is}
@@ -192,7 +193,7 @@ module _ (t : Shape) (l : Limits) (setting : IsSetting t l) where
 
   opening_both : (opened : ℕ → Bool) (b : Bridge) (h : Held) → HoldsNeeded t b h → ((q : ℕ) → b.present q ≡ true → is_external t q ≡ true) → AreOpened t opened b → HasBoth t opened b b h
   opening_both opened b h needed external order =
-      let numbers : HasNumbers t b h = needed_numbers t setting.tree b h needed external in
+      let numbers : IsReady t b (numbers_in h) = needed_numbers t setting.tree b h needed external in
       let laid_out : IsLaidOut t opened b h = rest_is_laid_out t b h opened setting.tree needed order in
       record {
         before = numbers;

@@ -6,7 +6,7 @@ use Rattle.std.proofs.lemmas.Bool.{cases_Bool, cases_eq, ne_eqb, eqb-true, or_ca
 use mathlib.Core.Path.{fun_ext}
 use Rattle.exb_model.specs.Tree.{Shape, IsTree, HangsOn, device, on, depth, is_extender, is_external, is_extended, is_port, by_depth, externals_of}
 use Rattle.exb_model.proofs.TreeOrder.{by_depth-sorted, by_depth-hangs, less_deep, place_of}
-use Rattle.exb_plans.specs.Asks.{is_listed}
+use Rattle.exb_model.specs.Lists.{is_listed}
 use Rattle.exb_plans.proofs.Trunks.{extended_extender, port_extender}
 use Rattle.exb_changing.proofs.Runs.Tables.{AreDistinct}
 use Rattle.exb_changing.proofs.Runs.Order.{distinct_by_depth}

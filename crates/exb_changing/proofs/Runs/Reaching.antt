@@ -8,7 +8,7 @@ use Rattle.exb_model.proofs.TreeWays.{covers-true}
 use Rattle.exb_plans.specs.Sets.{PortsAt}
 use Rattle.exb_plans.proofs.Ways.{from_under}
 use Rattle.exb_plans.specs.Held.{Held, group_for, give, numbered, needs_channel}
-use Rattle.exb_plans.specs.Asks.{is_listed}
+use Rattle.exb_model.specs.Lists.{is_listed}
 use Rattle.exb_plans.proofs.Each.{Each}
 use Rattle.exb_plans.proofs.Claiming.{AreLow}
 use Rattle.exb_plans.proofs.Trunks.{port_extender, under_extended}

@@ -9,7 +9,7 @@ use Rattle.exb_csp.specs.Execute.{ExtenderTables, code_of, done}
 use Rattle.exb_csp.proofs.Executing.{executed_done}
 use Rattle.exb_csp.specs.AllTables.{port_of, executes_at, RunsAt}
 use Rattle.exb_csp.specs.declared.ask_at.AskAt.{AskAt}
-use Rattle.exb_plans.specs.Asks.{is_listed}
+use Rattle.exb_model.specs.Lists.{is_listed}
 use Rattle.exb_changing.specs.Runs.Laid.{has_port, by_extender}
 
 -- ---- ports

@@ -1,15 +1,14 @@
 -- What the plans of changes are to the machine.
-use Rattle.std.specs.Prelude.{◌≡◌, ℕ, ◌<◌, ◌≤◌, Bool, true, false, bytes_eq, List, Some, IsSome}
-use Rattle.std.specs.List.{list_any}
+use Rattle.std.specs.Prelude.{◌≡◌, ℕ, ◌<◌, ◌≤◌, Bool, true, false, List, Some}
 use Rattle.exb_model.specs.declared.command.Command.{Command}
-use Rattle.exb_model.specs.Tree.{Shape, IsTree, device, on, is_cascade, is_extender, is_external, is_extended, is_under}
+use Rattle.exb_model.specs.Tree.{Shape, IsTree, device, on, is_cascade, is_extender, is_external, is_extended}
 use Rattle.exb_model.specs.Setup.{Limits, NamesExternal}
 use Rattle.exb_model.specs.Configuration.{Bridge}
-use Rattle.exb_model.specs.Refusals.{sets_at}
+use Rattle.exb_model.specs.Numbers.{IsReady, IsNumbering}
 use Rattle.exb_csp.specs.declared.message.Response.{Response}
 use Rattle.exb_session.specs.declared.asker.Taken.TheVariants as taken
 use Rattle.exb_session.specs.Asking.{took}
-use Rattle.exb_plans.specs.Held.{Held, HoldsNeeded, channel_in, group_in, group_used}
+use Rattle.exb_plans.specs.Held.{Held, HoldsNeeded, group_used, numbers_in}
 use Rattle.exb_changing.specs.Runs.Laid.{laid}
 use Rattle.exb_changing.specs.Runs.Requests.{AreOpened, IsLaidOut}
 use Rattle.exb_changing.specs.declared.job.Job.{Job}
@@ -27,21 +26,6 @@ pub record IsSetting (t : Shape) (l : Limits) : Type 0 where
   pub groups : l.groups ≤ 12288
 
 -- ---- numbers
--- Every present port is an external port of the tree. In the space of each bridge port k the sets of the
--- configuration have groups, and the present ports in U(k) channels: what the relay needs. There may be more.
-pub record HasNumbers (t : Shape) (b : Bridge) (h : Held) : Type 0 where
-  pub external : (q : ℕ) → b.present q ≡ true → is_external t q ≡ true
-  pub groups : (k : ℕ) (set : List ℕ) → k < 64 → list_any (bytes_eq set) (sets_at t k b) ≡ true → IsSome (group_in h k set)
-  pub channels : (k q : ℕ) → is_under t k q ≡ true → b.present q ≡ true → IsSome (channel_in h k q)
-
--- Channels are 1 to 4094 and no two ports have one in the same space; groups are 4,096 to 16,383.
-pub record AreNumbers (h : Held) : Type 0 where
-  pub some : (k q c : ℕ) → channel_in h k q ≡ Some c → 0 < c
-  pub small : (k q c : ℕ) → channel_in h k q ≡ Some c → c < 4095
-  pub alone : (k q r c : ℕ) → channel_in h k q ≡ Some c → channel_in h k r ≡ Some c → q ≡ r
-  pub high : (k g : ℕ) (set : List ℕ) → group_in h k set ≡ Some g → 4096 ≤ g
-  pub fits : (k g : ℕ) (set : List ℕ) → group_in h k set ≡ Some g → g < 16384
-
 -- At rest just what the configuration needs is held, and ports are present just at opened extenders.
 pub record IsExact (t : Shape) (opened : ℕ → Bool) (b : Bridge) (h : Held) : Type 0 where
   pub needed : HoldsNeeded t b h
@@ -52,8 +36,8 @@ pub record IsExact (t : Shape) (opened : ℕ → Bool) (b : Bridge) (h : Held) :
 -- In the middle of a change both configurations have their numbers, and what is claimed would be laid out for both. No
 -- port has two channels in a space, and no set two groups.
 pub record HasBoth (t : Shape) (opened : ℕ → Bool) (old new : Bridge) (h : Held) : Type 0 where
-  pub before : HasNumbers t old h
-  pub after : HasNumbers t new h
+  pub before : IsReady t old (numbers_in h)
+  pub after : IsReady t new (numbers_in h)
   pub laid_before : IsLaidOut t opened old h
   pub laid_after : IsLaidOut t opened new h
   pub one_channel : (k c d p : ℕ) → k < 64 → is_cascade t k ≡ true → h.port k c ≡ Some p → h.port k d ≡ Some p → c ≡ d
@@ -99,7 +83,7 @@ PlannedRunsStand =
 
 -- At every moment, also in the middle of a change, the configuration in force has its numbers.
 abbrev pub ReadyMidway : Type 0
-ReadyMidway = (t : Shape) (y : System) → IsTree t → Stands (planning t) y → HasNumbers t y.state.bridge y.state.held
+ReadyMidway = (t : Shape) (y : System) → IsTree t → Stands (planning t) y → IsReady t y.state.bridge (numbers_in y.state.held)
 
 -- The answer to the outstanding request is taken as that, and its code is 0.
 abbrev pub AnswersAreTaken : Type 0
@@ -110,4 +94,4 @@ AnswersAreTaken =
 
 -- The numbers that are found are numbers of their kinds.
 abbrev pub HeldAreNumbers : Type 0
-HeldAreNumbers = (h : Held) → AreNumbers h
+HeldAreNumbers = (h : Held) → IsNumbering (numbers_in h)

@@ -6,7 +6,7 @@ use Rattle.exb_model.specs.Configuration.{Bridge}
 use Rattle.exb_csp.specs.Plain.{powered_on}
 use Rattle.exb_plans.specs.Laying.{IsLaid, IsFree}
 use Rattle.exb_csp.specs.AllTables.{tables_at, RunsAt}
-use Rattle.exb_plans.specs.Asks.{is_listed}
+use Rattle.exb_model.specs.Lists.{is_listed}
 use Rattle.exb_plans.specs.Held.{Held, HoldsNeeded, needs_channel, group_used}
 use Rattle.exb_plans.specs.Between.{goes_up}
 use Rattle.exb_plans.specs.Plans.{prepare_of, cleanup_of, claimed, freed}

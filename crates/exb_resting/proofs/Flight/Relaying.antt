@@ -25,7 +25,7 @@ use Rattle.exb_learn.proofs.Bridges.{looks_learned}
 use Rattle.exb_link.specs.declared.word.Word.{Word}
 use Rattle.exb_link.specs.Words.{is_control}
 use Rattle.exb_relay.specs.declared.send.SendTo.{SendTo}
-use Rattle.exb_relay.specs.Numbers.{Numbers}
+use Rattle.exb_model.specs.Numbers.{Numbers}
 use Rattle.exb_relay.specs.Laws.{IsAt, IsSent, SendsAreWords, SendsLeaveAsFlat}
 use Rattle.exb_config.specs.Pvids.{HasPvids}
 use Rattle.exb_relay.specs.Sends.{sends_of}
@@ -34,7 +34,7 @@ use Rattle.exb_changing.specs.Runs.Planned.{IsSetting}
 use Rattle.exb_machine.specs.Worlds.{World, Down, Left, with_table}
 use Rattle.exb_machine.specs.Effects.{Effect, only, then_do, each}
 use Rattle.exb_machine.specs.Extending.{hung_on, stamp_of}
-use Rattle.exb_machine.specs.Controls.{numbers_in}
+use Rattle.exb_plans.specs.Held.{numbers_in}
 use Rattle.exb_machine.specs.Relaying.{puts_word, sent_by, sends_in, sends_all, comes}
 use Rattle.exb_machine.specs.Runs.Simulation.{system_of}
 use Rattle.exb_machine.proofs.Frames.{tagged_to_control, egress_to_control, egress_long, control_refused, relayed_long}

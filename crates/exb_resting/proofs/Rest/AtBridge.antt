@@ -18,11 +18,11 @@ use Rattle.exb_link.specs.Words.{is_control}
 use Rattle.exb_learn.specs.Calls.{look_in}
 use Rattle.exb_relay.specs.declared.send.SendTo.{SendTo}
 use Rattle.exb_relay.specs.Sends.{sends_of}
-use Rattle.exb_plans.specs.Held.{Held}
+use Rattle.exb_plans.specs.Held.{Held, numbers_in}
 use Rattle.exb_machine.specs.Worlds.{World, with_table}
 use Rattle.exb_machine.specs.Effects.{only, each}
-use Rattle.exb_machine.specs.Controls.{taught, numbers_in}
-use Rattle.exb_machine.specs.Extending.{hung_on, port_number, takes_from_below}
+use Rattle.exb_machine.specs.Controls.{taught}
+use Rattle.exb_machine.specs.Extending.{hung_on}
 use Rattle.exb_machine.specs.Relaying.{puts_word, sent_by, sends_in, sends_all, sends_for, comes, arrival_by, comes_from}
 use Rattle.exb_machine.specs.Runs.Sessions.{Each}
 use Rattle.exb_machine.proofs.Frames.{tagged_to_control, stripped_to_control, egress_to_control, egress_long, relayed_long}

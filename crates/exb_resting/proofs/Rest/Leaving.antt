@@ -50,7 +50,8 @@ use Rattle.exb_changing.specs.Deciding.{decide}
 use Rattle.exb_changing.specs.Machine.{Moved, answered, ordered, beats}
 use Rattle.exb_changing.proofs.Runs.Middle.{ready_midway, held_are_numbers}
 use Rattle.exb_machine.specs.Allowing.{Can}
-use Rattle.exb_machine.specs.Controls.{channel_at_trunk, forgotten_all, taught, numbers_in, announced}
+use Rattle.exb_plans.specs.Held.{numbers_in}
+use Rattle.exb_machine.specs.Controls.{channel_at_trunk, forgotten_all, taught, announced}
 use Rattle.exb_machine.specs.Effects.{Effect, only, then_do, each}
 use Rattle.exb_machine.specs.Extending.{hung_below, hung_on, port_number, sent_at, sent_to, sends, does, reacts, takes_from_above, takes_from_below, stamp_of, ignored, does_or_ignores, arrives_at}
 use Rattle.exb_machine.specs.Hearing.{bridge_request, bridge_acknowledgement, puts_tagged, to_extender, asks, moves, stops, hears_message, hears_fresh, hears_request, hears_pdu, hears_frame, hears, sends_again, beats_near, beats_control}

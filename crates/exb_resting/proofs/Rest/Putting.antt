@@ -39,14 +39,14 @@ use Rattle.exb_link.specs.Words.{is_control}
 use Rattle.exb_learn.specs.Calls.{look_in}
 use Rattle.exb_relay.specs.declared.send.SendTo.{SendTo}
 use Rattle.exb_relay.specs.Sends.{sends_of}
-use Rattle.exb_plans.specs.Held.{Held, channel_in}
+use Rattle.exb_plans.specs.Held.{Held, channel_in, numbers_in}
 use Rattle.exb_plans.proofs.Giving.{IsChannelOf, channel_found}
 use Rattle.exb_changing.specs.declared.asked.Asked.{Asked}
 use Rattle.exb_changing.specs.Deciding.{decide}
 use Rattle.exb_changing.specs.Machine.{State, Moved, answered}
 use Rattle.exb_machine.specs.Worlds.{World, with_near, with_table, with_control, control_word}
 use Rattle.exb_machine.specs.Effects.{Effect, each}
-use Rattle.exb_machine.specs.Controls.{announced, channel_at_trunk, taught, numbers_in, forgotten_all}
+use Rattle.exb_machine.specs.Controls.{announced, channel_at_trunk, taught, forgotten_all}
 use Rattle.exb_machine.specs.Extending.{hung_on}
 use Rattle.exb_machine.specs.Hearing.{bridge_request, bridge_acknowledgement, puts_tagged, to_extender, asks, moves, stops, hears_message, hears_fresh, hears_request, hears_pdu, hears_frame, hears}
 use Rattle.exb_machine.specs.Relaying.{puts_word, sent_by, sends_in, sends_all, comes, arrival_by, comes_from, holder_by, hung_at, hears_from, takes_control, bridge_takes}
@@ -57,7 +57,7 @@ use Rattle.exb_machine.proofs.Trees.{hung_is, extender_there, above_there, trunk
 use Rattle.exb_resting.specs.Rest.Ends.{Message as Note}
 use Rattle.exb_resting.specs.Rest.Left.{IsDownNote}
 use Rattle.exb_resting.specs.Rest.Placed.{PlacedOn, WordPlaced, ReadsDown, ReadsUp}
-use Rattle.exb_resting.specs.Rest.Streams.{message_note, note_of}
+use Rattle.exb_resting.specs.Rest.Streams.{message_note}
 use Rattle.exb_resting.proofs.Rest.Decoding.{above_trunk, note_acknowledgement, note_request}
 use Rattle.exb_resting.proofs.Rest.Grows.{Grows, none_grows, same_links, grows_then, down_grows}
 use Rattle.exb_resting.proofs.Rest.Turns.{to_extender_ends}
