@@ -1,7 +1,7 @@
 -- A world that stands goes on standing, whatever is said to have been given, told and to have left: that it is kept after something
 -- says all of the world that a step needs.
 use Rattle.std.proofs.Common.{◌≡◌, ℕ, zero, suc, ◌+◌, ◌<◌, ◌≤◌, ◌==◌, ◌&&◌, ◌++◌, cond, nat_lt, nat_le, Bool, true, false, List, [], ◌∷◌, length, reverse, Option, Some, None, refl, sym, ◌∙◌, ap, subst, arith, length-append, add-zero}
-use Rattle.std.specs.Prelude.{IfSome, filter_map, map}
+use Rattle.std.specs.Prelude.{IsSomeAnd, filter_map}
 use Rattle.std.specs.List.{range_with_len}
 use Rattle.std.proofs.lemmas.Bool.{eq-eqb, ltb-true, leb-true}
 use Rattle.std.proofs.lemmas.List.{append-nil, append_assoc, append_cancel_left}
@@ -22,7 +22,7 @@ use Rattle.exb_model.specs.LegalHistory.{EachEvent, number_of, IsDecided, IsEnte
 use Rattle.exb_model.specs.Lists.{numbered}
 use Rattle.exb_model.specs.Refusals.{refusal}
 use Rattle.exb_model.specs.Setup.{Limits}
-use Rattle.exb_model.specs.Tree.{Shape, is_external, opening_ports}
+use Rattle.exb_model.specs.Tree.{Shape, is_external}
 use Rattle.exb_frame.specs.TagValues.{TagRoundTrip}
 use Rattle.exb_learn.specs.Calls.{Tick, Table, look_in}
 use Rattle.exb_learn.specs.Calls.{after_call as after_one}
@@ -140,7 +140,7 @@ module _ (t : Shape) (i : Basis) (g : List Given) where
       let step = times_step p n (event.Ignored p n) h in
       let one = ignored_once p n in
       let a = numbered_once (arrivals_at p g) n (omega (arith, most, step, one)) in
-      (a.0, a.1, subst (λ (o : Option Arrival). IfSome o (λ x. is_relayed (bridge_after (basis_with i g) h) p x.bytes ≡ false)) a.1 k)
+      (a.0, a.1, subst (λ (o : Option Arrival). IsSomeAnd o (λ x. is_relayed (bridge_after (basis_with i g) h) p x.bytes ≡ false)) a.1 k)
   surely_one h (event.Tick seconds) of few k = tt
   surely_one h (event.Commit n) of few k = tt
   surely_one h (event.Refuse n x) of few k = tt
@@ -162,11 +162,11 @@ module _ (t : Shape) (i : Basis) (g : List Given) where
 module _ (t : Shape) (l : Limits) (i : Basis) (cs : List Command) where
   decided_longer : (h : History) (e : Event) → HasCommand i e → bridge_after (longer i cs) h ≡ bridge_after i h → IsDecided t l i h e → IsDecided t l (longer i cs) h e
   decided_longer h (event.Commit n) has same k =
-      subst (λ (b : Bridge). IfSome (command_of (longer i cs) n) (λ c. refusal t l b c ≡ None)) (sym same)
-      (subst (λ (o : Option Command). IfSome o (λ c. refusal t l (bridge_after i h) c ≡ None)) (sym (command_stays i cs n has.0 has.1)) k)
+      subst (λ (b : Bridge). IsSomeAnd (command_of (longer i cs) n) (λ c. refusal t l b c ≡ None)) (sym same)
+      (subst (λ (o : Option Command). IsSomeAnd o (λ c. refusal t l (bridge_after i h) c ≡ None)) (sym (command_stays i cs n has.0 has.1)) k)
   decided_longer h (event.Refuse n x) has same k =
-      subst (λ (b : Bridge). IfSome (command_of (longer i cs) n) (λ c. refusal t l b c ≡ Some x)) (sym same)
-      (subst (λ (o : Option Command). IfSome o (λ c. refusal t l (bridge_after i h) c ≡ Some x)) (sym (command_stays i cs n has.0 has.1)) k)
+      subst (λ (b : Bridge). IsSomeAnd (command_of (longer i cs) n) (λ c. refusal t l b c ≡ Some x)) (sym same)
+      (subst (λ (o : Option Command). IsSomeAnd o (λ c. refusal t l (bridge_after i h) c ≡ Some x)) (sym (command_stays i cs n has.0 has.1)) k)
   decided_longer h (event.Relay p n moment f) has same k = tt
   decided_longer h (event.Ignored p n) has same k = tt
   decided_longer h (event.Tick seconds) has same k = tt
