@@ -64,3 +64,7 @@ pub kept_made : (given made : Made) (a n m : Network) (failed : Bool) (r : Resul
 kept_made given made a n m failed r is here k can bytes vid ok fails memory =
     kept_step (step_of made) n m failed r k
     (subst (λ (x : Made). Can (tree_of n) (world_of n) (step_of x)) is (subst (λ (b : Network). Can (tree_of b) (world_of b) (step_of given)) (sym here) can)) bytes vid ok fails memory
+
+-- memory ran out
+pub kept_failed : (n : Network) → n.failed ≡ true → IsKept n true
+kept_failed n failed = record { flag = failed; reached = λ e. absurd (false≢true (sym e ∙ failed)) }

@@ -1,5 +1,5 @@
 //! The segments of a seeded run.
-ghost use Rattle.std.specs.Prelude.{⊤, ◌≡◌, ◌≢◌, ◌++◌, ◌∷◌, [], ◌+◌, ◌*◌, ◌<◌, ◌≤◌, ◌^◌, ℕ, List, true, OnOk, length, drop, slice_index_or};
+ghost use Rattle.std.specs.Prelude.{⊤, ◌≡◌, ◌≢◌, ◌↔◌, ◌++◌, ◌∷◌, [], ◌+◌, ◌*◌, ◌<◌, ◌≤◌, ◌^◌, ℕ, List, true, OnErr, OnOk, length, drop, slice_index_or};
 ghost use Rattle.exb_model.specs.Input.{Seeded};
 ghost use Rattle.exb_machine.specs.Allowing.{IsSettled};
 ghost use Rattle.exb_network.specs.Networks.{world_of, tree_of, IsSame};
@@ -290,8 +290,28 @@ fn give_drawn(
     give_rest(world, &mut rest, rng, seconds, commands, arrivals)
 }
 
+/// Gives a segment so, settles and marks.
+fn play_drawn(
+    world: &mut World,
+    rng: &mut Lcg64Xsh32,
+    seconds: u32,
+    commands: &[Timed],
+    arrivals: &[Arrival],
+) -> Result<(), WorldFault>
+    requires can { CanAll (network_of world.old) (gives seconds commands.now arrivals.now) }
+    requires few { left world.old.fate + letters_in commands.now < 2 ^ 57 }
+    ensures settled { OnOk result (IsSettled (tree_of (network_of world.new)) (world_of (network_of world.new))) }
+    ensures plays { OnOk result (PlaysOn Seeded seconds commands.now arrivals.now (network_of world.old) (network_of world.new)) }
+    ensures same { OnOk result (IsSame (network_of world.old) (network_of world.new)) }
+    ensures fate { left world.new.fate ≤ left world.old.fate + letters_in commands.now }
+{
+    give_drawn(world, rng, seconds, commands, arrivals)?;
+    end(world)
+}
+
 /// Plays a segment of a seeded run: one draw after another says what comes next, of the segment, of the words on the links, or a beat;
-/// what is left after 64 draws for each command and each arrival and 64 more is given in order. Then all is settled and marked.
+/// what is left after 64 draws for each command and each arrival and 64 more is given in order. Then all is settled and marked. A
+/// world in which memory runs out has failed.
 pub fn seeded(
     world: &mut World,
     rng: &mut Lcg64Xsh32,
@@ -304,9 +324,18 @@ pub fn seeded(
     ensures settled { OnOk result (IsSettled (tree_of (network_of world.new)) (world_of (network_of world.new))) }
     ensures plays { OnOk result (PlaysOn Seeded seconds commands.now arrivals.now (network_of world.old) (network_of world.new)) }
     ensures same { OnOk result (IsSame (network_of world.old) (network_of world.new)) }
-    ensures failed { result ≡ Err WorldFault.Failed → (network_of world.old).failed ≡ true }
+    ensures failed { (result ≡ Err WorldFault.Failed) ↔ ((network_of world.old).failed ≡ true) }
+    ensures memory { OnErr result ((network_of world.new).failed ≡ true) }
     ensures fate { left world.new.fate ≤ left world.old.fate + letters_in commands.now }
 {
-    give_drawn(world, rng, seconds, commands, arrivals)?;
-    end(world)
+    if world.motion.has_failed() {
+        return Err(WorldFault::Failed);
+    }
+    match play_drawn(world, rng, seconds, commands, arrivals) {
+        Ok(()) => Ok(()),
+        Err(_) => {
+            world.motion.fail();
+            Err(WorldFault::Memory)
+        }
+    }
 }

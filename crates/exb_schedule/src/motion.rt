@@ -133,6 +133,24 @@ impl Motion {
         !self.failed && self.network.settled()
     }
 
+    /// Whether memory ran out.
+    pub fn has_failed(&self) -> bool
+        ensures { result ≡ self.now.failed }
+    {
+        self.failed
+    }
+
+    /// Marks that memory ran out: no later step is made.
+    pub fn fail(&mut self)
+        ensures failed { self.new.failed ≡ true }
+        ensures world { world_of self.new ≡ world_of self.old }
+        ensures site { self.new.site ≡ self.old.site }
+        ensures log { self.new.log ≡ self.old.log }
+    {
+        self.network.fail();
+        self.failed = true;
+    }
+
     /// That a run of a valid setup comes to this network, as a fact for whoever calls this. It does nothing.
     pub fn is_reached(&self)
         ensures { IsReached self.now }

@@ -146,7 +146,25 @@ fn give_all(
     let_arrive(&mut world.motion, arrivals)
 }
 
-/// Plays a segment of the eager run: it is given in order, all is settled and marked.
+/// Gives a segment in order, settles and marks.
+fn play_in_order(
+    world: &mut World,
+    seconds: u32,
+    commands: &[Timed],
+    arrivals: &[Arrival],
+) -> Result<(), WorldFault>
+    requires can { CanAll (network_of world.old) (gives seconds commands.now arrivals.now) }
+    requires few { left world.old.fate + letters_in commands.now < 2 ^ 57 }
+    ensures settled { OnOk result (IsSettled (tree_of (network_of world.new)) (world_of (network_of world.new))) }
+    ensures plays { OnOk result (PlaysOn Eager seconds commands.now arrivals.now (network_of world.old) (network_of world.new)) }
+    ensures same { OnOk result (IsSame (network_of world.old) (network_of world.new)) }
+    ensures fate { left world.new.fate ≤ left world.old.fate + letters_in commands.now }
+{
+    give_all(world, seconds, commands, arrivals)?;
+    end(world)
+}
+
+/// Plays a segment of the eager run: it is given in order, all is settled and marked. A world in which memory runs out has failed.
 pub fn eager(
     world: &mut World,
     seconds: u32,
@@ -158,9 +176,18 @@ pub fn eager(
     ensures settled { OnOk result (IsSettled (tree_of (network_of world.new)) (world_of (network_of world.new))) }
     ensures plays { OnOk result (PlaysOn Eager seconds commands.now arrivals.now (network_of world.old) (network_of world.new)) }
     ensures same { OnOk result (IsSame (network_of world.old) (network_of world.new)) }
-    ensures failed { result ≡ Err WorldFault.Failed → (network_of world.old).failed ≡ true }
+    ensures failed { (result ≡ Err WorldFault.Failed) ↔ ((network_of world.old).failed ≡ true) }
+    ensures memory { OnErr result ((network_of world.new).failed ≡ true) }
     ensures fate { left world.new.fate ≤ left world.old.fate + letters_in commands.now }
 {
-    give_all(world, seconds, commands, arrivals)?;
-    end(world)
+    if world.motion.has_failed() {
+        return Err(WorldFault::Failed);
+    }
+    match play_in_order(world, seconds, commands, arrivals) {
+        Ok(()) => Ok(()),
+        Err(_) => {
+            world.motion.fail();
+            Err(WorldFault::Memory)
+        }
+    }
 }

@@ -4,7 +4,7 @@ use Rattle.exb_schedule.specs.Worlds.{network_of}
 use Rattle.exb_schedule.proofs.Drawing.{drawn_last}
 use Rattle.exb_schedule.proofs.Giving.{on_ok_any}
 use Rattle.exb_schedule.proofs.Segments.{played_more}
-use Rattle.exb_schedule.proofs.drawn.seeded.Goals as goal
+use Rattle.exb_schedule.proofs.drawn.play_drawn.Goals as goal
 
 pub returns-clause-plays : goal.returns-clause-plays
 returns-clause-plays g c =

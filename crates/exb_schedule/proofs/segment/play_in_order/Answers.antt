@@ -3,7 +3,7 @@ use Rattle.exb_schedule.specs.Playing.{gives}
 use Rattle.exb_schedule.specs.Worlds.{network_of}
 use Rattle.exb_schedule.proofs.Giving.{on_ok_any}
 use Rattle.exb_schedule.proofs.Segments.{in_order, played_more}
-use Rattle.exb_schedule.proofs.segment.eager.Goals as goal
+use Rattle.exb_schedule.proofs.segment.play_in_order.Goals as goal
 
 pub returns-clause-plays : goal.returns-clause-plays
 returns-clause-plays g c =
