@@ -29,7 +29,9 @@ use Rattle.exb_control.specs.Controls.{Parts, state_of, work_from, work_at, anno
 use Rattle.exb_control.specs.Boxes.{IsQuiet, IsMoved}
 use Rattle.exb_control.specs.Steps.{Heard, askers_of, Reached, reached, reached_by, put, noted, ask_at, after_beat, messages_at_beat}
 use Rattle.exb_control.specs.Soundness.{IsSteady, to_come}
+use Rattle.exb_control.specs.Spelled.{Repeats, Spells}
 use Rattle.exb_control.specs.Insides.{parts_of, IsKept}
+use Rattle.exb_control.proofs.Messages.{repeats_put, repeats_beaten}
 use Rattle.exb_control.proofs.Steps.{drop-nil}
 
 pub when_ok : {T E P : Type 0} (r : Result T E) → is_err r ≡ false → OnOk r P → P
@@ -105,6 +107,13 @@ beats_as stage place s askers events asks asks' t work is told =
     by_stage (Prepared j x) = beats_from j x Preparing (drop place x.prepare) s events asks t
     by_stage (InForce j x) = beats_from j x Cleaning (drop place x.cleanup) s events asks t
 
+repeats_beat : (q : Option AskAt) (askers : ℕ → AskerState) → ((n : ℕ) → Repeats (askers n)) → (n : ℕ) → Repeats (after_beat q askers n)
+repeats_beat None askers all n = all n
+repeats_beat (Some a) askers all n = repeats_put a.extender (beaten (askers a.extender)).0 askers (repeats_beaten (askers a.extender) (all a.extender)) all n
+
+spells_beat : (t : Shape) (o : Option Work) (q : Option AskAt) (askers : ℕ → AskerState) → Spells t o askers → Spells t o (after_beat q askers)
+spells_beat t o q askers k = record { known = k.known; work = k.work; askers = repeats_beat q askers k.askers }
+
 pub kept_beat : (core core' : Core) (queue : List Job) (heard : Heard) (given : ℕ) (failed : Bool) → core' ≡ record core { sessions = core'.sessions } →
     askers_of core'.sessions ≡ after_beat (ask_at core.fabric.stage core.place) (askers_of core.sessions) → IsKept core queue heard given failed → IsKept core' queue heard given failed
 kept_beat core core' queue heard given failed rest askers kept =
@@ -117,6 +126,7 @@ kept_beat core core' queue heard given failed rest askers kept =
             fit = sound.fit;
             asks = sound.asks;
             steady = rw askers (steady_beat (to_come queue given) _ (ask_at core.fabric.stage core.place) (askers_of core.sessions) sound.steady);
+            spells = rw askers (spells_beat core.fabric.shape _ (ask_at core.fabric.stage core.place) (askers_of core.sessions) sound.spells);
           };
     })
 

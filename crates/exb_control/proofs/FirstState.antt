@@ -1,5 +1,5 @@
 -- The control as it begins.
-use Rattle.std.proofs.Common.{◌≡◌, ◌≤◌, false, List, length, refl, ap, sym, ◌∙◌, arith}
+use Rattle.std.proofs.Common.{◌≡◌, ◌≤◌, false, None, List, length, refl, ap, sym, ◌∙◌, arith}
 use Rattle.exb_model.specs.declared.setup.Setup.{Setup}
 use Rattle.exb_model.specs.Setup.{shape_of, limits_of, start_of}
 use Rattle.exb_session.specs.Asking.{begun}
@@ -11,8 +11,10 @@ use Rattle.exb_control.specs.declared.working.Core.{Core}
 use Rattle.exb_control.specs.Controls.{state_of, first_of}
 use Rattle.exb_control.specs.Steps.{Heard, heard_of, askers_of}
 use Rattle.exb_control.specs.Soundness.{MayAsk, to_come}
+use Rattle.exb_control.specs.Spelled.{Spells}
 use Rattle.exb_control.specs.Insides.{parts_of, IsKept}
 use Rattle.exb_changing.proofs.FirstJobs.{few_first, fit_first}
+use Rattle.exb_session.proofs.AskerLaws.{stays_sound}
 
 module _ (s : Setup) (core : Core) (queue : List Job) (heard : Heard) (shape : core.fabric.shape ≡ shape_of s) (rest : core.fabric.stage ≡ AtRest)
     (jobs : queue ≡ first_jobs (shape_of s)) (askers : askers_of core.sessions ≡ λ n. begun) where
@@ -25,6 +27,9 @@ module _ (s : Setup) (core : Core) (queue : List Job) (heard : Heard) (shape : c
       let few : length queue ≤ 4160 = rw jobs (few_first (shape_of s)) in
       rw askers (record { idle = λ n. refl; room = λ n. omega arith })
 
+  spells_first : Spells core.fabric.shape None (askers_of core.sessions)
+  spells_first = rw askers (record { known = tt; work = tt; askers = λ n. record { sound = stays_sound.begins; spelled = tt } })
+
   pub begins_kept : heard.ports ≡ (shape_of s).ports → IsKept core queue heard 0 false
   begins_kept ports =
       record {
@@ -33,5 +38,6 @@ module _ (s : Setup) (core : Core) (queue : List Job) (heard : Heard) (shape : c
           fit = rw (shape, jobs) (fit_first (shape_of s));
           asks = λ _. rest;
           steady = rw rest may_begin;
+          spells = rw rest spells_first;
         };
       }

@@ -21,3 +21,5 @@ pub mod Calls
 pub mod FirstState
 pub mod Counts
 pub mod TrunkChannels
+pub mod Requests
+pub mod Messages

@@ -4,6 +4,7 @@ pub mod Queues
 pub mod Controls
 pub mod Boxes
 pub mod Steps
+pub mod Spelled
 pub mod Soundness
 pub mod Insides
 pub mod Arrivals

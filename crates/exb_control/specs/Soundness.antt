@@ -11,6 +11,7 @@ use Rattle.exb_changing.specs.Fitting.{AreFit}
 use Rattle.exb_changing.specs.Machine.{Work}
 use Rattle.exb_control.specs.declared.working.Core.{Core}
 use Rattle.exb_control.specs.Controls.{work_at}
+use Rattle.exb_control.specs.Spelled.{Spells}
 use Rattle.exb_control.specs.Steps.{askers_of}
 
 -- ---- requests
@@ -68,3 +69,4 @@ pub record IsSound (c : Core) (queue : List Job) (given : ℕ) : Type 0 where
   pub fit : AreFit c.fabric.shape queue
   pub asks : AsksOrRests c
   pub steady : IsSteady (to_come queue given) (work_at c.fabric.stage c.place) (askers_of c.sessions)
+  pub spells : Spells c.fabric.shape (work_at c.fabric.stage c.place) (askers_of c.sessions)

@@ -1,5 +1,6 @@
 //! The control, and its calls.
 ghost use Rattle.std.specs.Prelude.{◌≡◌, ℕ, ◌+◌, ◌-◌, ◌<◌, ◌≤◌, ◌^◌, ◌↔◌, [], true, false, IfOk, OnOk, OnErr, is_err};
+ghost use Rattle.std.specs.List.{All};
 ghost use Rattle.exb_model.specs.Setup.{IsValid, NamesExternal, shape_of, limits_of};
 ghost use Rattle.exb_model.specs.Tree.{is_extender, is_external, is_cascade};
 ghost use Rattle.exb_session.specs.Asking.{took};
@@ -69,6 +70,7 @@ impl Control {
     ghost use Rattle.exb_control.specs.Fabrics.{IsFabric, held_in};
     ghost use Rattle.exb_changing.specs.Machine.{ordered, answered, beats};
     ghost use Rattle.exb_control.specs.Boxes.{IsMoved, IsStill, HasCome, HasTicked};
+    ghost use Rattle.exb_control.specs.Spelled.{CanBeSpelled};
     ghost use Rattle.exb_control.specs.Controls.{state_of, decide_of, first_of, is_settled, announced, channel_at_trunk};
 
     /// The control of a setup: nothing was heard, given or learned yet.
@@ -105,6 +107,7 @@ impl Control {
         requires few { self.old.given < 65536 }
         requires names { NamesExternal self.old.fabric.shape command.now }
         ensures ok { OnOk result (IsMoved (ordered (decide_of self.old.fabric) command.now (state_of self.old)) self.old self.new out.new) }
+        ensures spelled { OnOk result (All (CanBeSpelled self.old.fabric.shape) out.new.asks) }
         ensures failed { (result ≡ Err ControlFault.Failed) ↔ (self.old.failed ≡ true) }
         ensures memory { OnErr result (self.new.failed ≡ true) }
         ensures still { self.old.failed ≡ true → IsStill self.old self.new out.new }
@@ -142,6 +145,7 @@ impl Control {
     ) -> Result<(), ControlFault>
         requires { is_extender self.old.fabric.shape extender ≡ true }
         ensures ok { OnOk result (IsMoved (announced (decide_of self.old.fabric) self.old.fabric.shape extender announce.now (state_of self.old)) self.old self.new out.new) }
+        ensures spelled { OnOk result (All (CanBeSpelled self.old.fabric.shape) out.new.asks) }
         ensures failed { (result ≡ Err ControlFault.Failed) ↔ (self.old.failed ≡ true) }
         ensures memory { OnErr result (self.new.failed ≡ true) }
         ensures still { self.old.failed ≡ true → IsStill self.old self.new out.new }
@@ -180,6 +184,7 @@ impl Control {
     ) -> Result<Taken, ControlFault>
         requires { is_extender self.old.fabric.shape extender ≡ true }
         ensures ok { OnOk result (IsMoved (answered (decide_of self.old.fabric) extender message.now (state_of self.old)) self.old self.new out.new) }
+        ensures spelled { OnOk result (All (CanBeSpelled self.old.fabric.shape) out.new.asks) }
         ensures taken { IfOk result (λ taken. taken ≡ (took ((state_of self.old).askers extender) message.now).1) }
         ensures failed { (result ≡ Err ControlFault.Failed) ↔ (self.old.failed ≡ true) }
         ensures memory { OnErr result (self.new.failed ≡ true) }
@@ -278,6 +283,7 @@ impl Control {
     /// A beat: the outstanding request goes out again at each sixteenth beat without its answer.
     pub fn beat(&mut self, out: &mut Outbox) -> Result<(), ControlFault>
         ensures ok { OnOk result (IsMoved (beats (state_of self.old)) self.old self.new out.new) }
+        ensures spelled { OnOk result (All (CanBeSpelled self.old.fabric.shape) out.new.asks) }
         ensures failed { (result ≡ Err ControlFault.Failed) ↔ (self.old.failed ≡ true) }
         ensures memory { OnErr result (self.new.failed ≡ true) }
         ensures still { self.old.failed ≡ true → IsStill self.old self.new out.new }

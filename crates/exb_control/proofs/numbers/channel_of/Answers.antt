@@ -1,4 +1,4 @@
-use Rattle.std.proofs.Common.{◌≡◌, ℕ, ◌+◌, ◌/◌, ◌&&◌, true, false, nat_lt, List, slice_index, refl, sym, ap, ◌∙◌}
+use Rattle.std.proofs.Common.{◌≡◌, ℕ, ◌+◌, ◌&&◌, true, false, nat_lt, List, slice_index, refl, sym, ap, ◌∙◌}
 use Rattle.exb_model.specs.Tree.{Shape, is_extender, trunk}
 use Rattle.exb_control.specs.Fabrics.{held_in}
 use Rattle.exb_control.proofs.TrunkChannels.{trunk_space, channel_at, none_at}

@@ -6,8 +6,10 @@ use Rattle.exb_control.specs.Boxes.{IsMoved}
 use Rattle.exb_control.specs.Controls.{Parts, state_of, decide_of}
 use Rattle.exb_changing.specs.Fitting.{AreFit}
 use Rattle.exb_control.specs.Soundness.{to_come}
+use Rattle.exb_control.specs.Steps.{Reached}
 use Rattle.exb_control.specs.Insides.{parts_of}
 use Rattle.exb_control.proofs.Calls.{moved, steady_at}
+use Rattle.exb_control.proofs.Messages.{Spelled, answered_spelled, spells_on, asks_on}
 use Rattle.exb_control.proofs.Known.{extender_low}
 use Rattle.exb_control.proofs.control.Control.answered.Goals as goal
 
@@ -24,12 +26,18 @@ invariant_of-self c =
     let k = 2 ^ 21 * (65536 - w.given) in
     let before : to_come w.queue w.given ≡ 2 ^ 21 * length w.queue + k = omega arith in
     let after : 2 ^ 21 * length c.take-done.new.queue + k ≡ to_come c.take-done.new.queue w.given = omega arith in
+    let t = w.core.fabric.shape in
+    let s = state_of (parts_of w.core w.queue w.heard w.given w.failed) in
+    let led = made.reached (record { queue = w.queue; heard = w.heard.heard; given = w.given }) refl refl in
     record {
       ports = c.self.invariant.ports ∙ ap (λ t. t.ports) (sym made.shape);
       sound = λ _. record {
         fit = subst (λ t. AreFit t c.take-done.new.queue) (sym made.shape) made.fit;
         asks = made.rests;
         steady = steady_at (2 ^ 21 * length c.take-done.new.queue + k) _ _ _ after (made.steady k (steady_at (to_come w.queue w.given) _ _ _ before sound.steady));
+        spells =
+            spells_on t _ (answered (decide_of w.core.fabric) c.args.extender c.args.message.now s) (state_of (parts_of c.take-done.new.core c.take-done.new.queue w.heard w.given w.failed)) made.shape (ap (λ (r : Reached). r.state) led)
+            (answered_spelled t w.core.fabric.limits s sound.fit sound.spells c.args.extender c.args.message.now);
       };
     }
 
@@ -44,3 +52,11 @@ returns-in-Ok-clause-ok c =
     c.empty.ensures.events c.empty.ensures.asks
     (made.reached (record { queue = w.queue; heard = w.heard.heard; given = w.given }) refl refl)
     made.shape made.limits refl (record { sends = c.empty.ensures.quiet.sends; ingress = c.empty.ensures.quiet.ingress }))
+
+pub returns-in-Ok-clause-spelled : goal.returns-in-Ok-clause-spelled
+returns-in-Ok-clause-spelled c =
+    let w = c.self.inside in
+    let sound = c.self.invariant.sound c.if-self.false in
+    asks_on _ _ _ (returns-in-Ok-clause-ok c).asks
+    (subst (λ (p : Parts). Spelled p.fabric.shape (answered (decide_of p.fabric) c.args.extender c.args.message.now (state_of p))) c.self.view_is
+    (answered_spelled w.core.fabric.shape w.core.fabric.limits (state_of (parts_of w.core w.queue w.heard w.given w.failed)) sound.fit sound.spells c.args.extender c.args.message.now))

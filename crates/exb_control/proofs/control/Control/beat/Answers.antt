@@ -6,6 +6,7 @@ use Rattle.exb_control.specs.Boxes.{IsMoved}
 use Rattle.exb_control.specs.Controls.{Parts, state_of}
 use Rattle.exb_control.specs.Insides.{parts_of}
 use Rattle.exb_control.proofs.Calls.{when_ok, moved, kept_beat, beat_moves}
+use Rattle.exb_control.proofs.Messages.{Spelled, beats_spelled, asks_on}
 use Rattle.exb_control.proofs.control.Control.beat.Goals as goal
 
 pub invariant_of-self-else-is_err : goal.invariant_of-self-else-is_err
@@ -26,3 +27,11 @@ returns-clause-ok c =
     (beat_moves w.core c.beat.new.core w.queue w.heard w.given w.failed c.empty.new.self.events c.empty.new.self.asks c.beat.new.asks made.rest made.sessions (when_ok _ fine made.asks))
     (ap (λ (x : Core). x.fabric.shape) made.rest) (ap (λ (x : Core). x.fabric.limits) made.rest) refl
     (record { sends = c.empty.ensures.quiet.sends; ingress = c.empty.ensures.quiet.ingress }))
+
+pub returns-clause-spelled : goal.returns-clause-spelled
+returns-clause-spelled c =
+    let w = c.self.inside in
+    let sound = c.self.invariant.sound c.if-self.false in
+    asks_on _ _ _ (returns-clause-ok c).asks
+    (subst (λ (p : Parts). Spelled p.fabric.shape (beats (state_of p))) c.self.view_is
+    (beats_spelled w.core.fabric.shape w.core.fabric.limits (state_of (parts_of w.core w.queue w.heard w.given w.failed)) sound.fit sound.spells))

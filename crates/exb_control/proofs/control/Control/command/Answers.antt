@@ -1,13 +1,16 @@
 use Rattle.std.proofs.Common.{◌≡◌, ◌+◌, ◌-◌, ◌*◌, ◌^◌, ◌<◌, [], ◌∷◌, ◌++◌, length, refl, sym, ap, subst, ◌∙◌, arith}
 use Rattle.exb_changing.specs.declared.job.Job.TheVariants as job
 use Rattle.exb_changing.specs.Machine.{ordered}
+use Rattle.exb_model.specs.Setup.{NamesExternal}
 use Rattle.exb_control.specs.declared.outbox.Outbox.{Outbox}
 use Rattle.exb_control.specs.Boxes.{IsMoved}
 use Rattle.exb_control.specs.Controls.{Parts, state_of, decide_of}
 use Rattle.exb_changing.specs.Fitting.{AreFit}
 use Rattle.exb_control.specs.Soundness.{to_come}
+use Rattle.exb_control.specs.Steps.{Reached}
 use Rattle.exb_control.specs.Insides.{parts_of}
 use Rattle.exb_control.proofs.Calls.{when_ok, moved, steady_at}
+use Rattle.exb_control.proofs.Messages.{Spelled, ordered_spelled, spells_on, asks_on}
 use Rattle.exb_control.proofs.control.Control.command.Goals as goal
 
 pub invariant_of-self-else-is_err : goal.invariant_of-self-else-is_err
@@ -21,12 +24,19 @@ invariant_of-self-else-is_err c =
     let few : w.given < 65536 = rw (← c.self.view_is) at c.requires.few in
     let before : to_come w.queue w.given ≡ 2 ^ 21 * (n + 1) + k = omega arith in
     let after : 2 ^ 21 * length c.give-done.new.queue + k ≡ to_come c.give-done.new.queue (w.given + 1) = omega arith in
+    let t = w.core.fabric.shape in
+    let s = state_of (parts_of w.core w.queue w.heard w.given w.failed) in
+    let names = subst (λ (p : Parts). NamesExternal p.fabric.shape c.args.command.now) (sym c.self.view_is) c.requires.names in
+    let led = when_ok _ fine made.reached (record { queue = w.queue ++ job.Ordered (w.given + 1) c.args.command.now ∷ []; heard = w.heard.heard; given = w.given + 1 }) refl refl in
     record {
       ports = c.self.invariant.ports ∙ ap (λ t. t.ports) (sym made.shape);
       sound = λ _. record {
         fit = subst (λ t. AreFit t c.give-done.new.queue) (sym made.shape) (when_ok _ fine made.fit);
         asks = when_ok _ fine made.rests;
         steady = steady_at (2 ^ 21 * length c.give-done.new.queue + k) _ _ _ after (when_ok _ fine made.steady k (steady_at (to_come w.queue w.given) _ _ _ before sound.steady));
+        spells =
+            spells_on t _ (ordered (decide_of w.core.fabric) c.args.command.now s) (state_of (parts_of c.give-done.new.core c.give-done.new.queue w.heard (w.given + 1) w.failed)) made.shape (ap (λ (r : Reached). r.state) led)
+            (ordered_spelled t w.core.fabric.limits s sound.fit sound.spells c.args.command.now names);
       };
     }
 
@@ -42,3 +52,12 @@ returns-clause-ok c =
     c.empty.ensures.events c.empty.ensures.asks
     (when_ok _ fine made.reached (record { queue = w.queue ++ job.Ordered (w.given + 1) c.args.command.now ∷ []; heard = w.heard.heard; given = w.given + 1 }) refl refl)
     made.shape made.limits refl (record { sends = c.empty.ensures.quiet.sends; ingress = c.empty.ensures.quiet.ingress }))
+
+pub returns-clause-spelled : goal.returns-clause-spelled
+returns-clause-spelled c =
+    let w = c.self.inside in
+    let sound = c.self.invariant.sound c.if-self.false in
+    let names = subst (λ (p : Parts). NamesExternal p.fabric.shape c.args.command.now) (sym c.self.view_is) c.requires.names in
+    asks_on _ _ _ (returns-clause-ok c).asks
+    (subst (λ (p : Parts). Spelled p.fabric.shape (ordered (decide_of p.fabric) c.args.command.now (state_of p))) c.self.view_is
+    (ordered_spelled w.core.fabric.shape w.core.fabric.limits (state_of (parts_of w.core w.queue w.heard w.given w.failed)) sound.fit sound.spells c.args.command.now names))

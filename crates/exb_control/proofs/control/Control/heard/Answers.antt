@@ -6,8 +6,10 @@ use Rattle.exb_control.specs.Boxes.{IsMoved}
 use Rattle.exb_control.specs.Controls.{Parts, state_of, decide_of, announced}
 use Rattle.exb_changing.specs.Fitting.{AreFit}
 use Rattle.exb_control.specs.Soundness.{to_come}
+use Rattle.exb_control.specs.Steps.{Reached}
 use Rattle.exb_control.specs.Insides.{parts_of}
 use Rattle.exb_control.proofs.Calls.{when_ok, moved, steady_at, heard_it, ignored}
+use Rattle.exb_control.proofs.Messages.{Spelled, announced_spelled, spells_on, asks_on, none_asked}
 use Rattle.exb_control.proofs.Known.{extender_low}
 use Rattle.exb_control.proofs.control.Control.heard.Goals as goal
 
@@ -30,12 +32,21 @@ invariant_of-self-else-is_err c =
     let k = 2 ^ 21 * (65536 - w.given) in
     let before : to_come w.queue w.given ≡ 2 ^ 21 * length w.queue + k = omega arith in
     let after : 2 ^ 21 * length c.wake-done.new.queue + k ≡ to_come c.wake-done.new.queue w.given = omega arith in
+    let t = w.core.fabric.shape in
+    let s = state_of (parts_of w.core w.queue w.heard w.given w.failed) in
+    let led =
+    when_ok _ fine made.reached (record { queue = w.queue; heard = c.note.new.self.heard; given = w.given }) refl refl
+    ∙ heard_it (decide_of w.core.fabric) t w.heard.ports c.args.extender c.args.announce.now s _ c.empty.new.self.events c.empty.new.self.asks (table_of w.core.learned)
+    c.self.invariant.ports (sym c.is_of.ensures ∙ c.if-not-is_of.false) c.note.ensures.heard in
     record {
       ports = c.note.ensures.ports ∙ c.self.invariant.ports ∙ ap (λ t. t.ports) (sym made.shape);
       sound = λ _. record {
         fit = subst (λ t. AreFit t c.wake-done.new.queue) (sym made.shape) (when_ok _ fine made.fit);
         asks = when_ok _ fine made.rests;
         steady = steady_at (2 ^ 21 * length c.wake-done.new.queue + k) _ _ _ after (when_ok _ fine made.steady k (steady_at (to_come w.queue w.given) _ _ _ before sound.steady));
+        spells =
+            spells_on t _ (announced (decide_of w.core.fabric) t c.args.extender c.args.announce.now s) (state_of (parts_of c.wake-done.new.core c.wake-done.new.queue c.note.new.self w.given w.failed)) made.shape (ap (λ (r : Reached). r.state) led)
+            (announced_spelled t w.core.fabric.limits s sound.fit sound.spells c.args.extender c.args.announce.now);
       };
     }
 
@@ -64,3 +75,14 @@ returns-then-not-is_of-clause-ok c =
     subst (λ (p : Parts). IsMoved (announced (decide_of p.fabric) p.fabric.shape c.args.extender c.args.announce.now (state_of p)) p p out) c.self.view_is
     (ignored (decide_of w.core.fabric) w.core.fabric.shape w.heard.ports c.args.extender c.args.announce.now old out c.self.invariant.ports (sym c.is_of.ensures ∙ c.if-not-is_of.true)
     c.empty.ensures.events c.empty.ensures.asks c.empty.ensures.quiet)
+
+pub returns-clause-spelled : goal.returns-clause-spelled
+returns-clause-spelled c =
+    let w = c.self.inside in
+    let sound = c.self.invariant.sound c.if-self.false in
+    asks_on _ _ _ (returns-clause-ok c).asks
+    (subst (λ (p : Parts). Spelled p.fabric.shape (announced (decide_of p.fabric) p.fabric.shape c.args.extender c.args.announce.now (state_of p))) c.self.view_is
+    (announced_spelled w.core.fabric.shape w.core.fabric.limits (state_of (parts_of w.core w.queue w.heard w.given w.failed)) sound.fit sound.spells c.args.extender c.args.announce.now))
+
+pub returns-then-not-is_of-clause-spelled : goal.returns-then-not-is_of-clause-spelled
+returns-then-not-is_of-clause-spelled c = none_asked _ _ c.empty.ensures.asks
