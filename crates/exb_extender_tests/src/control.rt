@@ -1,8 +1,9 @@
 //! Announcements, acknowledgements and answers.
 use crate::drive::{Step, judge};
 use crate::fixture::Fixture;
-use crate::hex::{bytes_of, text_of};
+use crate::words::bytes_of;
 use exb_extender::{Extender, Sends, Side};
+use exb_hostile::hex::text_of;
 use std::alloc::Global;
 use std::process::Abort;
 

@@ -10,8 +10,9 @@
 //! A step is told as the frames of the extender's own that went up, first and second, from their type on; and as the sides to
 //! which the frame went: `2 stripped` without its E-TAG, `3` as it is, `up`, `up by 1` with an E-TAG of that channel.
 use crate::fixture::Fixture;
-use crate::hex::{bytes_of, number, text_of};
+use crate::words::{bytes_of, number};
 use exb_extender::{Entry, Form, Out, Side};
+use exb_hostile::hex::text_of;
 use std::alloc::{AllocError, Global};
 use std::process::Abort;
 

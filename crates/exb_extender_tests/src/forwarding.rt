@@ -2,8 +2,9 @@
 //! and the cascade port 3 of channel 3. The group 0x1000 goes to all three, and channel 9 to the cascade port.
 use crate::drive::{Step, judge};
 use crate::fixture::Fixture;
-use crate::hex::{bytes_of, text_of};
+use crate::words::bytes_of;
 use exb_frame::etag::{ETag, tag_into};
+use exb_hostile::hex::text_of;
 use exb_model::buffers::FrameBuf;
 
 /// Lays the tables.

@@ -5,9 +5,10 @@ mod cases;
 use crate::drive::{Step, frame_step, judge, sent_text};
 use crate::fixture::Fixture;
 use crate::forwarding::{LAID, UNCHANNELLED};
-use crate::hex::{bytes_of, text_of};
-use crate::turned::{BITS, turn, verdict_at, verdict_of_bit};
+use crate::words::bytes_of;
 use cases::{CONTROL, FROM_BELOW, FROM_STATIONS, WORDS};
+use exb_hostile::hex::text_of;
+use exb_hostile::turned::{BITS, turn, verdict_at, verdict_of_bit};
 use std::alloc::{AllocError, Global};
 use std::process::Abort;
 
@@ -218,7 +219,7 @@ fn judge_longer(rt: &impl Abort, alloc: Global, case: &Case) {
     let one_more: usize = frame.len().wrapping_add(1);
     for length in [one_more, 9216, 9217, 9224, 9225, 9232, 65535] {
         frame.resize(length, 0).expect(rt, "memory");
-        let verdict = verdict_at(rt, case.longer, length);
+        let verdict = verdict_at(case.longer, length).expect(rt, "a table");
         judge_in(rt, alloc, case, frame.as_slice(), verdict);
     }
 }
@@ -229,10 +230,11 @@ fn judge_case(rt: &impl Abort, alloc: Global, case: &Case) {
     judge_in(rt, alloc, case, frame.as_slice(), Some("same"));
     for place in 0..frame.len() {
         let front = frame.get(..place).unwrap_or(&[]);
-        judge_in(rt, alloc, case, front, verdict_at(rt, case.cut, place));
+        let verdict = verdict_at(case.cut, place).expect(rt, "a table");
+        judge_in(rt, alloc, case, front, verdict);
         for bit in BITS {
             turn(&mut frame, place, bit);
-            let verdict = verdict_of_bit(rt, case.turned, place, bit);
+            let verdict = verdict_of_bit(case.turned, place, bit).expect(rt, "a table");
             judge_in(rt, alloc, case, frame.as_slice(), verdict);
             turn(&mut frame, place, bit);
         }

@@ -11,8 +11,6 @@ mod fixture;
 #[cfg(test)]
 mod forwarding;
 #[cfg(test)]
-mod hex;
-#[cfg(test)]
 mod hostile;
 #[cfg(test)]
-mod turned;
+mod words;

@@ -1,5 +1,6 @@
 //! Announcements: what the bytes of a frame say, or their first fault.
-use crate::hex::{bytes_of, text_of};
+use crate::words::bytes_of;
+use exb_hostile::hex::text_of;
 use exb_lldp::{Announce, read, write};
 use exb_model::address::Mac;
 use exb_model::buffers::ControlBuf;

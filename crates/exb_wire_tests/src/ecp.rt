@@ -1,6 +1,7 @@
 //! ECP: what the bytes of a frame say, and what is sent again and handed up.
-use crate::hex::{bytes_of, number, text_of};
+use crate::words::{bytes_of, number};
 use exb_ecp::{Beat, Ecp, Pdu, read, write};
+use exb_hostile::hex::text_of;
 use exb_model::address::Mac;
 use exb_model::buffers::ControlBuf;
 use std::alloc::{AllocError, Global};

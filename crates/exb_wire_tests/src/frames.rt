@@ -3,10 +3,11 @@ ghost use Rattle.std.specs.Prelude.{◌≡◌, true};
 ghost use Rattle.exb_model.specs.Frames.{kind_of};
 ghost use Rattle.exb_frame.specs.Egress.{can_leave};
 
-use crate::hex::{bytes_of, text_of};
+use crate::words::bytes_of;
 use exb_frame::classify::classify;
 use exb_frame::egress::egress_into;
 use exb_frame::etag::{ETag, Full, strip_into, tag_into};
+use exb_hostile::hex::text_of;
 use exb_model::buffers::FrameBuf;
 use exb_model::frame_kind::Seen;
 use exb_model::vlan::{Kind, Vid};

@@ -4,13 +4,13 @@
 mod cases;
 
 use crate::frames::may_leave;
-use crate::hex::bytes_of;
-use crate::turned::{BITS, is_front, turn, unseen, verdict_of_bit, verdict_of_cut};
+use crate::words::bytes_of;
 use cases::{ANNOUNCEMENTS, E_TAGS, ECP, FRAMES, MESSAGES};
 use exb_ecp::Pdu;
 use exb_frame::classify::classify;
 use exb_frame::egress::egress_into;
 use exb_frame::etag::ETag;
+use exb_hostile::turned::{BITS, turn, verdict_at, verdict_of_bit};
 use exb_model::address::Mac;
 use exb_model::buffers::{ControlBuf, FrameBuf};
 use exb_model::frame_kind::Seen;
@@ -31,9 +31,9 @@ enum Format {
 /// A good spelling and what is read of it, by places from 0.
 struct Case {
     good: &'static str,
-    /// What is read where it is cut before a place: `PLACE VERDICT`, up to the next entry's place. It isn't cut where there is none.
+    /// What is read where it is cut before a place: `PLACE VERDICT|`, up to the next entry's place. It isn't cut where there is none.
     cut: &'static str,
-    /// What is read with a bit turned: `FIRST-LAST.BITS VERDICT`; the first entry that has the place and the bit counts. No bit is
+    /// What is read with a bit turned: `FIRST-LAST.BITS VERDICT|`; the first entry that has the place and the bit counts. No bit is
     /// turned that none has.
     turned: &'static str,
     /// What is read with a byte more at its end.
@@ -192,6 +192,28 @@ fn told(
     }
 }
 
+// For each of so many bytes the bits whose verdict is `unseen`.
+fn unseen(rt: &impl Abort, alloc: Global, text: &str, bytes: usize) -> Vec<u8> {
+    let mut unseen = Vec::new(alloc);
+    for place in 0..bytes {
+        let mut mask = 0u8;
+        for bit in BITS {
+            if verdict_of_bit(text, place, bit).expect(rt, "a table") == Some("unseen") {
+                mask |= bit;
+            }
+        }
+        unseen.push(mask).expect(rt, "memory");
+    }
+    unseen
+}
+
+// Whether these bytes are a front of those, but for bits that aren't looked at.
+fn is_front(front: &[u8], bytes: &[u8], unseen: &[u8]) -> bool {
+    let unseen = unseen.iter().chain([0u8; 1].iter());
+    let mut pairs = front.iter().zip(bytes.iter()).zip(unseen);
+    front.len() <= bytes.len() && pairs.all(|((a, b), mask)| (a ^ b) & !mask == 0)
+}
+
 /// A format, what was read and written again, and for each byte of the good spelling the bits that aren't looked at.
 #[derive(Drop)]
 struct Bench {
@@ -235,11 +257,11 @@ fn judge(rt: &impl Abort, alloc: Global, format: Format, case: &Case) {
     bench.judge(rt, bytes.as_slice(), "ok");
     for place in 0..bytes.len() {
         let front = bytes.get(..place).unwrap_or(&[]);
-        if let Some(verdict) = verdict_of_cut(rt, case.cut, place) {
+        if let Some(verdict) = verdict_at(case.cut, place).expect(rt, "a table") {
             bench.judge(rt, front, verdict);
         }
         for bit in BITS {
-            if let Some(verdict) = verdict_of_bit(rt, case.turned, place, bit) {
+            if let Some(verdict) = verdict_of_bit(case.turned, place, bit).expect(rt, "a table") {
                 turn(&mut bytes, place, bit);
                 bench.judge(rt, bytes.as_slice(), verdict);
                 turn(&mut bytes, place, bit);

@@ -10,8 +10,6 @@ mod ecp;
 #[cfg(test)]
 mod frames;
 #[cfg(test)]
-mod hex;
-#[cfg(test)]
 mod hostile;
 #[cfg(test)]
 mod links;
@@ -22,4 +20,4 @@ mod sessions;
 #[cfg(test)]
 mod tables;
 #[cfg(test)]
-mod turned;
+mod words;

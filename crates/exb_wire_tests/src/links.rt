@@ -1,5 +1,5 @@
 //! Links as a caller sees them. Each word has a number; control words begin with their destination.
-use crate::hex::number;
+use crate::words::number;
 use exb_link::{Link, Word};
 use exb_model::bytes::Bytes;
 use std::alloc::{AllocError, Global};

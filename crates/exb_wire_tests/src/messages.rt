@@ -1,5 +1,5 @@
 //! Messages of the control protocol: what bytes say, or their first fault. What is read is written again as it was.
-use crate::hex::bytes_of;
+use crate::words::bytes_of;
 use exb_csp::{Body, Message, Request, Response, read, write};
 use exb_model::buffers::ControlBuf;
 use std::alloc::{AllocError, Global};

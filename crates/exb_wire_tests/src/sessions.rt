@@ -1,5 +1,5 @@
 //! Sessions: what an asker takes as its answer and when a request is due again, and what an answerer executes.
-use crate::hex::{bytes_of, number};
+use crate::words::{bytes_of, number};
 use exb_csp::{Message, Request, RequestKind, Response, read};
 use exb_session::{Answerer, Asker, Due};
 use std::alloc::{AllocError, Global};

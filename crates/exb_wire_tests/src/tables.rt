@@ -1,6 +1,6 @@
 //! Requests that an extender of two ports executes, one after another, and which of three pairs it has then: port 1 with
 //! channel 1, and ports 1 and 2 with the group 0x1000.
-use crate::hex::bytes_of;
+use crate::words::bytes_of;
 use exb_csp::plain::PlainTables;
 use exb_csp::{Body, read};
 use std::alloc::Global;
