@@ -105,6 +105,14 @@ fn add_words(rt: &impl Abort, world: &World, link: u8, way: Way, choices: &mut V
     }
 }
 
+// The words of both directions of an extender, if it is one.
+fn add_link(rt: &impl Abort, world: &World, link: u8, choices: &mut Vec<Choice>) {
+    if world.tree().is_extender(link) {
+        add_words(rt, world, link, Way::Up, choices);
+        add_words(rt, world, link, Way::Down, choices);
+    }
+}
+
 // All that may be drawn, in order.
 fn choices(
     rt: &impl Abort,
@@ -122,10 +130,7 @@ fn choices(
     }
     add_records(rt, events, rest, &mut choices);
     for link in 1..65u8 {
-        if world.tree().is_extender(link) {
-            add_words(rt, world, link, Way::Up, &mut choices);
-            add_words(rt, world, link, Way::Down, &mut choices);
-        }
+        add_link(rt, world, link, &mut choices);
     }
     choices.push(Choice::Beat).expect(rt, "memory");
     choices

@@ -2,7 +2,7 @@
 use crate::drawn::{happen, play_drawn};
 use crate::steps::{Rounds, arm, rest, tick};
 use exb_fate::Fate;
-use exb_flat_run::merge::{Capture, Coming, merge};
+use exb_flat_run::merge::{Capture, Coming, Merged, merge};
 use exb_flat_run::texts::journal_text;
 use exb_model::port::PortId;
 use exb_model::setup::Timed;
@@ -33,9 +33,8 @@ fn second_of(event: &Coming) -> u64 {
     }
 }
 
-// How many of these are in the second of the first.
-fn within_second(events: &[Coming], first: &Coming) -> usize {
-    let second = second_of(first);
+// How many of these are in a second, before the first that isn't.
+fn within_second(events: &[Coming], second: u64) -> usize {
     let mut count = 0usize;
     for event in events {
         if second_of(event) != second {
@@ -46,19 +45,62 @@ fn within_second(events: &[Coming], first: &Coming) -> usize {
     count
 }
 
+// The port whose capture is played.
+fn source() -> PortId {
+    PortId::at(1, 0)
+}
+
+// The commands and the records of the capture, in the order in which they come.
+fn merged(rt: &impl Abort, alloc: Global, commands: &[Timed], file: &[u8]) -> Merged {
+    let port = source();
+    assert!(rt; commands.len() < 1000);
+    merge(alloc, commands, &[Capture { port, file }]).expect(rt, "memory")
+}
+
+// The generator of a seed.
+fn generator(seed: Option<u64>) -> Option<Lcg64Xsh32> {
+    match seed {
+        Some(seed) => Some(Lcg64Xsh32::seed_from_u64(seed)),
+        None => None,
+    }
+}
+
+// Seconds pass, and these events happen in their order.
+fn play_eager(
+    rt: &impl Abort,
+    world: &mut World,
+    commands: &[Timed],
+    seconds: u32,
+    events: &[Coming],
+) {
+    tick(rt, world, seconds);
+    for event in events {
+        happen(rt, world, commands, event);
+    }
+}
+
 impl Played {
-    // A world with this fate, after its opening.
-    fn open(rt: &impl Abort, alloc: Global, text: &str, fate: Box<dyn Fate>) -> Played {
+    // A world with this fate, before its first step.
+    fn begun(rt: &impl Abort, alloc: Global, text: &str, fate: Box<dyn Fate>) -> Played {
         let topology = read(alloc, text.as_bytes()).expect(rt, "a topology");
-        let mut rounds = Vec::new(alloc);
-        let mut world = World::new(alloc, &topology.setup, fate, false).expect(rt, "memory");
-        arm(rt, &mut world, topology.fate.as_slice());
-        rounds.push(rest(rt, &mut world)).expect(rt, "memory");
+        let world = World::new(alloc, &topology.setup, fate, false).expect(rt, "memory");
         Played {
             topology,
             world,
-            rounds,
+            rounds: Vec::new(alloc),
         }
+    }
+
+    // All settles.
+    fn rest(&mut self, rt: &impl Abort) {
+        let rounds = rest(rt, &mut self.world);
+        self.rounds.push(rounds).expect(rt, "memory");
+    }
+
+    // Arms the fate for the opening, and opens.
+    fn open(&mut self, rt: &impl Abort) {
+        arm(rt, &mut self.world, self.topology.fate.as_slice());
+        self.rest(rt);
     }
 
     // A segment: all its events in an order that is drawn, where there is a generator, else one event.
@@ -73,15 +115,29 @@ impl Played {
         let commands: &[Timed] = self.topology.commands.as_slice();
         match rng {
             Some(rng) => play_drawn(rt, alloc, &mut self.world, rng, commands, seconds, events),
-            None => {
-                tick(rt, &mut self.world, seconds);
-                for event in events {
-                    happen(rt, &mut self.world, commands, event);
-                }
-            }
+            None => play_eager(rt, &mut self.world, commands, seconds, events),
         }
-        let rounds = rest(rt, &mut self.world);
-        self.rounds.push(rounds).expect(rt, "memory");
+        self.rest(rt);
+    }
+
+    // The segment at the front of these events, where the one before was in this second; how many events it has.
+    fn next_segment(
+        &mut self,
+        rt: &impl Abort,
+        alloc: Global,
+        rng: &mut Option<Lcg64Xsh32>,
+        last: u64,
+        events: &[Coming],
+        second: u64,
+    ) -> usize {
+        let count = match rng {
+            Some(_) => within_second(events, second),
+            None => 1,
+        };
+        let segment = events.get(..count).expect(rt, "a segment");
+        let seconds = u32::try_from(second.saturating_sub(last)).expect(rt, "seconds");
+        self.segment(rt, alloc, rng, seconds, segment);
+        count
     }
 
     // All events, segment after segment.
@@ -92,21 +148,15 @@ impl Played {
         rng: &mut Option<Lcg64Xsh32>,
         events: &[Coming],
     ) {
-        let mut rest = events;
+        let mut done = 0usize;
         let mut last = None;
         for _segment in 0..events.len() {
+            let rest = events.get(done..).unwrap_or(&[]);
             if let Some(first) = rest.first() {
                 let second = second_of(first);
-                let count = match rng {
-                    Some(_) => within_second(rest, first),
-                    None => 1,
-                };
-                assert!(rt; count <= rest.len());
-                let (segment, behind) = rest.split_at(count);
-                let seconds = second.saturating_sub(last.unwrap_or(second));
-                let seconds = u32::try_from(seconds).expect(rt, "seconds");
-                self.segment(rt, alloc, rng, seconds, segment);
-                rest = behind;
+                let before = last.unwrap_or(second);
+                let count = self.next_segment(rt, alloc, rng, before, rest, second);
+                done = done.saturating_add(count);
                 last = Some(second);
             }
         }
@@ -122,19 +172,11 @@ impl Played {
         seed: Option<u64>,
         fate: Box<dyn Fate>,
     ) -> Played {
-        let port = PortId::at(1, 0);
-        let mut played = Played::open(rt, alloc, text, fate);
-        assert!(rt; played.topology.commands.as_slice().len() < 1000);
-        let merged = merge(
-            alloc,
-            played.topology.commands.as_slice(),
-            &[Capture { port, file }],
-        );
-        let merged = merged.expect(rt, "memory");
-        let mut rng = match seed {
-            Some(seed) => Some(Lcg64Xsh32::seed_from_u64(seed)),
-            None => None,
-        };
+        let mut rng = generator(seed);
+        let mut played = Played::begun(rt, alloc, text, fate);
+        let commands = played.topology.commands.as_slice();
+        let merged = merged(rt, alloc, commands, file);
+        played.open(rt);
         played.segments(rt, alloc, &mut rng, merged.comings.as_slice());
         played
     }

@@ -93,6 +93,19 @@ fn chain(rt: &impl Abort, alloc: Global, levels: u8) -> String {
     text
 }
 
+// A run over this fate writes what was played.
+fn expect_run(
+    rt: &impl Abort,
+    alloc: Global,
+    topology: &str,
+    file: &[u8],
+    fate: Box<dyn Fate>,
+    played: &Played,
+) {
+    let shelf = files_of(rt, alloc, topology, file, "", fate);
+    expect_played(rt, alloc, &shelf, played);
+}
+
 // Over a fate of this kind a driver, each settling of which keeps its bound, and a run come to what an undisturbed run writes.
 fn expect_undisturbed(
     rt: &impl Abort,
@@ -102,14 +115,12 @@ fn expect_undisturbed(
     kind: Kind,
     budget: u64,
 ) {
-    let quiet = files_of(rt, alloc, topology, file, "", quiet(rt, alloc));
     let fate = fate_of(rt, alloc, kind, budget);
     let played = Played::new(rt, alloc, topology, file, None, fate);
-    let fate = fate_of(rt, alloc, kind, budget);
-    let disturbed = files_of(rt, alloc, topology, file, "", fate);
     assert!(rt; played.world.fate_left() < budget);
-    expect_played(rt, alloc, &quiet, &played);
-    expect_played(rt, alloc, &disturbed, &played);
+    let fate = fate_of(rt, alloc, kind, budget);
+    expect_run(rt, alloc, topology, file, fate, &played);
+    expect_run(rt, alloc, topology, file, quiet(rt, alloc), &played);
 }
 
 // The same over a chain of so many levels.
@@ -176,18 +187,16 @@ fn five_hundred_verdicts_change_nothing(rt: HostRuntime) {
     expect_chain(&rt, rt.alloc(), 1, &[500, 500, 3, 200]);
 }
 
+// The same where an answer is lost, and more is drawn from this number.
+fn expect_lost_answer(rt: &impl Abort, alloc: Global, number: u64) {
+    let file = bytes_of(rt, alloc, FRAMES);
+    let kind = Kind::Drawn(number);
+    expect_undisturbed(rt, alloc, LOST_ANSWER, file.as_slice(), kind, 200);
+}
+
 #[test]
 fn a_lost_answer_is_waited_for_whatever_else_is_drawn(rt: HostRuntime) {
-    let alloc = rt.alloc();
-    let file = bytes_of(&rt, alloc, FRAMES);
     for number in 1..17u64 {
-        expect_undisturbed(
-            &rt,
-            alloc,
-            LOST_ANSWER,
-            file.as_slice(),
-            Kind::Drawn(number),
-            200,
-        );
+        expect_lost_answer(&rt, rt.alloc(), number);
     }
 }

@@ -4,8 +4,9 @@ use crate::files::{expect_played, files_of};
 use crate::hex::bytes_of;
 use crate::played::Played;
 use exb_fate::{BudgetFate, Fate, ScriptFate};
-use exb_flat::flat::flat;
+use exb_flat::flat::{Sent, flat};
 use exb_flat_run::site::{Site, site_of};
+use exb_model::list::List;
 use exb_model::port::PortId;
 use exb_shelf::MemShelf;
 use exb_text::trace_file_name;
@@ -30,6 +31,9 @@ const RETAGGED: &str =
     "bridge = { ports = 1 }\nextender = [{ number = 1, on = 'b1', ports = 2 }]\nvlan = [{ vid = 10, tagged = ['x1.1-2'] }]\n\
      command = [{ at = 0, op = 'member', vid = 10, port = 'x1.2', kind = 'untagged' }]\ncaptures = { 'x1.1' = 'a.pcap' }\n";
 
+/// Each of them.
+const TOPOLOGIES: [&str; 3] = [TWO_PORTS, TWO_LEVELS, RETAGGED];
+
 /// A broadcast frame at 100 s.
 const ONE_FRAME: &str =
     "D4C3B2A1 02000400 8x00 FFFF0000 01000000 64000000 4x00 3C000000 3C000000 FFFFFFFFFFFF 020000000001 0800 46x00";
@@ -50,17 +54,29 @@ fn drawn(rt: &impl Abort, alloc: Global, number: u64) -> Box<dyn Fate> {
     Box::new(alloc, BudgetFate::new(rng, 200)).expect(rt, "memory")
 }
 
+// A run with these options over this fate writes what was played.
+fn expect_run(
+    rt: &impl Abort,
+    alloc: Global,
+    file: &[u8],
+    options: &str,
+    fate: Box<dyn Fate>,
+    played: &Played,
+) {
+    let shelf = files_of(rt, alloc, RETAGGED, file, options, fate);
+    expect_played(rt, alloc, &shelf, played);
+}
+
 // The run of a seed, with a trace and without, writes what the driver plays.
 fn expect_seed(rt: &impl Abort, alloc: Global, file: &[u8], seed: u64) {
     let fate = scripted(rt, alloc);
     let played = Played::new(rt, alloc, RETAGGED, file, Some(seed), fate);
     let bare = format!(in alloc; "--seed={seed}").expect(rt, "memory");
     let traced = format!(in alloc; "--seed {seed} --trace").expect(rt, "memory");
-    for options in [bare.as_str(), traced.as_str()] {
-        let fate = scripted(rt, alloc);
-        let shelf = files_of(rt, alloc, RETAGGED, file, options, fate);
-        expect_played(rt, alloc, &shelf, &played);
-    }
+    let fate = scripted(rt, alloc);
+    expect_run(rt, alloc, file, bare.as_str(), fate, &played);
+    let fate = scripted(rt, alloc);
+    expect_run(rt, alloc, file, traced.as_str(), fate, &played);
 }
 
 #[test]
@@ -72,10 +88,26 @@ fn seeds_1_to_64_play_the_drawn_order(rt: HostRuntime) {
     }
 }
 
-// What left a port is what the one flat bridge sends there over what was told.
-fn expect_flat(rt: &impl Abort, alloc: Global, site: &Site, played: &Played, port: PortId) {
-    let sent = flat(alloc, &site.basis, played.world.events(), port).expect(rt, "memory");
-    let mut wanted = sent.as_slice().iter();
+// The plain bridge beside what was played.
+fn site(rt: &impl Abort, alloc: Global, played: &Played) -> Site {
+    let commands = played.topology.commands.as_slice();
+    site_of(alloc, &played.topology.setup, commands).expect(rt, "memory")
+}
+
+// What a plain bridge sends out of a port over what was told.
+fn sent_over(
+    rt: &impl Abort,
+    alloc: Global,
+    site: &Site,
+    played: &Played,
+    port: PortId,
+) -> List<Sent> {
+    flat(alloc, &site.basis, played.world.events(), port).expect(rt, "memory")
+}
+
+// What left a port is this.
+fn expect_left(rt: &impl Abort, played: &Played, port: PortId, sent: &[Sent]) {
+    let mut wanted = sent.iter();
     for left in played.world.left() {
         if left.port == port {
             let sent = wanted.next().expect(rt, "no frame too many");
@@ -86,23 +118,38 @@ fn expect_flat(rt: &impl Abort, alloc: Global, site: &Site, played: &Played, por
     assert!(rt; wanted.next().is_none());
 }
 
+// A port of the one extender, which has two.
+fn port_at(place: u8) -> PortId {
+    PortId::at(1, place % 2)
+}
+
+// What left each port is what the plain bridge sends there over what was told.
+fn expect_flat(rt: &impl Abort, alloc: Global, played: &Played) {
+    let site = site(rt, alloc, played);
+    for place in 0..2u8 {
+        let port = port_at(place);
+        let sent = sent_over(rt, alloc, &site, played, port);
+        expect_left(rt, played, port, sent.as_slice());
+    }
+}
+
+// The run of a seed over verdicts that are drawn from it writes what the driver plays, and what the plain bridge sends.
+fn expect_disturbed(rt: &impl Abort, alloc: Global, file: &[u8], seed: u64) {
+    let fate = drawn(rt, alloc, seed);
+    let played = Played::new(rt, alloc, RETAGGED, file, Some(seed), fate);
+    assert!(rt; played.world.fate_left() < 200);
+    let options = format!(in alloc; "--seed={seed}").expect(rt, "memory");
+    let fate = drawn(rt, alloc, seed);
+    expect_run(rt, alloc, file, options.as_str(), fate, &played);
+    expect_flat(rt, alloc, &played);
+}
+
 #[test]
 fn disturbed_seeds_write_what_one_bridge_sends_over_their_journal(rt: HostRuntime) {
     let alloc = rt.alloc();
     let file = bytes_of(&rt, alloc, TWO_FRAMES);
-    let file = file.as_slice();
     for seed in 1..17u64 {
-        let fate = drawn(&rt, alloc, seed);
-        let played = Played::new(&rt, alloc, RETAGGED, file, Some(seed), fate);
-        assert!(rt; played.world.fate_left() < 200);
-        let options = format!(in alloc; "--seed={seed}").expect(&rt, "memory");
-        let fate = drawn(&rt, alloc, seed);
-        let shelf = files_of(&rt, alloc, RETAGGED, file, options.as_str(), fate);
-        expect_played(&rt, alloc, &shelf, &played);
-        let commands = played.topology.commands.as_slice();
-        let site = site_of(alloc, &played.topology.setup, commands).expect(&rt, "memory");
-        expect_flat(&rt, alloc, &site, &played, PortId::at(1, 0));
-        expect_flat(&rt, alloc, &site, &played, PortId::at(1, 1));
+        expect_disturbed(&rt, alloc, file.as_slice(), seed);
     }
 }
 
@@ -135,21 +182,30 @@ fn control_in(trace: &str) -> u64 {
     count
 }
 
+// How many such lines the trace on a shelf has.
+fn control_on(rt: &impl Abort, alloc: Global, shelf: &MemShelf) -> u64 {
+    let name = trace_file_name(alloc, "out-").expect(rt, "memory");
+    let trace = shelf.file(name.as_str()).expect(rt, "a trace");
+    control_in(str::from_utf8(trace).expect(rt, "text"))
+}
+
+// A run with these options asks its fate as often, with a trace and without, as its trace has such lines.
+fn expect_asked(rt: &impl Abort, alloc: Global, topology: &str, file: &[u8], options: &str) {
+    let traced = format!(in alloc; "{options}--trace").expect(rt, "memory");
+    let (bare, _) = asked_by(rt, alloc, topology, file, options);
+    let (asked, shelf) = asked_by(rt, alloc, topology, file, traced.as_str());
+    let lines = control_on(rt, alloc, &shelf);
+    assert!(rt; lines > 10);
+    assert_eq!(rt; asked, lines);
+    assert_eq!(rt; bare, asked);
+}
+
 #[test]
 fn a_fate_is_asked_once_for_each_control_frame(rt: HostRuntime) {
     let alloc = rt.alloc();
     let file = bytes_of(&rt, alloc, ONE_FRAME);
-    for topology in [TWO_PORTS, TWO_LEVELS, RETAGGED] {
-        for seed in ["", "--seed=3 "] {
-            let traced = format!(in alloc; "{seed}--trace").expect(&rt, "memory");
-            let (bare, _) = asked_by(&rt, alloc, topology, file.as_slice(), seed);
-            let (asked, shelf) = asked_by(&rt, alloc, topology, file.as_slice(), traced.as_str());
-            let name = trace_file_name(alloc, "out-").expect(&rt, "memory");
-            let trace = shelf.file(name.as_str()).expect(&rt, "a trace");
-            let lines = control_in(str::from_utf8(trace).expect(&rt, "text"));
-            assert!(rt; lines > 10);
-            assert_eq!(rt; asked, lines);
-            assert_eq!(rt; bare, asked);
-        }
+    for topology in &TOPOLOGIES {
+        expect_asked(&rt, alloc, topology, file.as_slice(), "");
+        expect_asked(&rt, alloc, topology, file.as_slice(), "--seed=3 ");
     }
 }

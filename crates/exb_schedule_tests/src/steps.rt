@@ -117,17 +117,24 @@ pub(crate) struct Rounds {
     pub(crate) bound: u64,
 }
 
-/// All settles and is marked: in at most 64 rounds for each verdict that isn't Pass, each planned exchange, and one more.
-pub(crate) fn rest(rt: &impl Abort, world: &mut World) -> Rounds {
-    let left = world.fate_left();
-    assert!(rt; left < MANY);
+// How many rounds a settling may take: 64 for each verdict that isn't Pass, each planned exchange, and one more.
+fn bound_of(rt: &impl Abort, world: &World) -> u64 {
     let planned = world.planned().expect(rt, "memory");
-    let bound = left
-        .saturating_add(planned)
-        .saturating_add(1)
-        .saturating_mul(64);
+    let all = world.fate_left().saturating_add(planned);
+    all.saturating_add(1).saturating_mul(64)
+}
+
+// All settles; how many rounds that took.
+fn settled(rt: &impl Abort, world: &mut World) -> u64 {
+    assert!(rt; world.fate_left() < MANY);
+    settle(world).expect(rt, "memory")
+}
+
+/// All settles within its bound, and is marked.
+pub(crate) fn rest(rt: &impl Abort, world: &mut World) -> Rounds {
+    let bound = bound_of(rt, world);
     let before = world.beats();
-    let made = settle(world).expect(rt, "memory");
+    let made = settled(rt, world);
     assert_eq!(rt; world.beats().saturating_sub(before), made);
     assert!(rt; made <= bound);
     mark(rt, world);

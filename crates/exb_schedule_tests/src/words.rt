@@ -17,7 +17,7 @@ use exb_link::Counts;
 use exb_model::bytes::Bytes;
 use exb_model::event::Event;
 use exb_model::port::PortId;
-use exb_schedule::{Way, World};
+use exb_schedule::{Left, Way, World};
 use exb_text::{PortName, write_line, write_trace_line};
 use exb_topology::{Topology, read};
 use std::alloc::Global;
@@ -103,26 +103,37 @@ fn free(rt: &impl Abort, world: &mut World, link: u8, way: Way) {
     }
 }
 
-// A round in which each control word is delivered twice, or one in which free control words alone are delivered.
-fn round(rt: &impl Abort, world: &mut World, order: &[u8], twice: bool) {
+// Once through a direction: each control word is delivered twice, or free control words alone are delivered.
+fn once(rt: &impl Abort, world: &mut World, link: u8, way: Way, twice: bool) {
+    if twice {
+        doubled(rt, world, link, way);
+    } else {
+        free(rt, world, link, way);
+    }
+}
+
+// Once through each direction upward, the deepest first.
+fn upward(rt: &impl Abort, world: &mut World, order: &[u8], twice: bool) {
     for link in order.iter().rev() {
-        if twice {
-            doubled(rt, world, *link, Way::Up);
-        } else {
-            free(rt, world, *link, Way::Up);
-        }
+        once(rt, world, *link, Way::Up, twice);
     }
+}
+
+// Once through each direction downward.
+fn downward(rt: &impl Abort, world: &mut World, order: &[u8], twice: bool) {
     for link in order {
-        if twice {
-            doubled(rt, world, *link, Way::Down);
-        } else {
-            free(rt, world, *link, Way::Down);
-        }
+        once(rt, world, *link, Way::Down, twice);
     }
+}
+
+// Such a round.
+fn round(rt: &impl Abort, world: &mut World, order: &[u8], twice: bool) {
+    upward(rt, world, order, twice);
+    downward(rt, world, order, twice);
     beat(rt, world);
 }
 
-// Whether all that is waited for came: that a command is decided, or that all is settled.
+// Whether what is waited for came: that a command is decided, or that all is settled.
 fn is_over(world: &World, twice: bool) -> bool {
     if twice {
         return world.settled();
@@ -162,14 +173,23 @@ fn single(rt: &impl Abort, world: &mut World, verb: &str, words: &mut SplitWhite
     }
 }
 
-// The events and what has left, as text.
-fn told(rt: &impl Abort, alloc: Global, world: &World, log: &mut String) {
+// The events, as text.
+fn told(rt: &impl Abort, world: &World, log: &mut String) {
     for event in world.events() {
         write_line(log, event).expect(rt, "memory");
     }
+}
+
+// A frame that has left, as text.
+fn frame(rt: &impl Abort, alloc: Global, left: &Left) -> String {
+    let bytes = text_of(alloc, left.bytes.as_slice()).expect(rt, "memory");
+    format!(in alloc; "{} {bytes}\n", PortName(left.port)).expect(rt, "memory")
+}
+
+// What has left, as text.
+fn sent(rt: &impl Abort, alloc: Global, world: &World, log: &mut String) {
     for left in world.left() {
-        let bytes = text_of(alloc, left.bytes.as_slice()).expect(rt, "memory");
-        let text = format!(in alloc; "{} {bytes}\n", PortName(left.port)).expect(rt, "memory");
+        let text = frame(rt, alloc, left);
         log.push_str(text.as_str()).expect(rt, "memory");
     }
 }
@@ -253,7 +273,8 @@ impl Driver {
     ) -> bool {
         match verb {
             "tell" => {
-                told(rt, alloc, &self.world, &mut self.log);
+                told(rt, &self.world, &mut self.log);
+                sent(rt, alloc, &self.world, &mut self.log);
                 self.world.clear();
             }
             "trace" => traced(rt, alloc, &self.world, &mut self.log),
@@ -307,13 +328,18 @@ impl Driver {
 /// A topology, steps, and what must be told.
 pub(crate) type Case = (&'static str, &'static str, &'static str);
 
+// Asserts that the steps tell this.
+fn expect_told(rt: &impl Abort, alloc: Global, topology: &str, steps: &str, wanted: &str) {
+    let mut driver = Driver::new(rt, alloc, topology);
+    for step in steps.split(';') {
+        driver.step(rt, alloc, step);
+    }
+    assert_eq!(rt; driver.log.as_str(), wanted, "of {topology} {steps}");
+}
+
 /// Asserts that each case tells what it must.
 pub(crate) fn judge(rt: &impl Abort, alloc: Global, cases: &[Case]) {
     for (topology, steps, wanted) in cases {
-        let mut driver = Driver::new(rt, alloc, topology);
-        for step in steps.split(';') {
-            driver.step(rt, alloc, step);
-        }
-        assert_eq!(rt; driver.log.as_str(), *wanted, "of {topology} {steps}");
+        expect_told(rt, alloc, topology, steps, wanted);
     }
 }
