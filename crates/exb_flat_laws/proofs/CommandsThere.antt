@@ -1,11 +1,10 @@
 -- The commands of each segment are there.
-use Rattle.std.proofs.Common.{◌≡◌, ℕ, zero, suc, ◌+◌, ◌<◌, ◌≤◌, Bool, true, false, cond, List, [], ◌∷◌, ◌++◌, length, map, refl, sym, subst, arith}
-use Rattle.std.specs.Prelude.{is_some, nat_lt, filter_map, flat_map, slice_get}
+use Rattle.std.proofs.Common.{◌≡◌, ℕ, zero, suc, ◌+◌, ◌<◌, ◌≤◌, true, List, [], ◌∷◌, ◌++◌, length, map, refl, sym, subst, arith}
+use Rattle.std.specs.Prelude.{is_some, filter_map, flat_map, slice_get}
 use Rattle.std.specs.List.{AllByRecursion}
 use Rattle.std.proofs.lemmas.List.{length-map}
 use Rattle.exb_model.specs.declared.command.Command.{Command}
-use Rattle.exb_model.specs.History.{Basis}
-use Rattle.exb_model.specs.Input.{Input, Given, Arrival, Coming, Ordered, Captured, Segment, Mode, basis_of, moment_of, all_arrivals, start_second, commands_from, all_comings, put_in_order, by_moment, merge, number_in, segments}
+use Rattle.exb_model.specs.Input.{Input, Given, Arrival, Coming, Ordered, Captured, Segment, Mode, basis_of, all_arrivals, start_second, commands_from, all_comings, by_moment, merge, number_in, segments}
 use Rattle.exb_flat_laws.proofs.EachEvents.{IsThere}
 use Rattle.exb_flat_laws.proofs.Comings.{segments-commands, each_sorted}
 
