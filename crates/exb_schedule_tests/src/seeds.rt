@@ -118,16 +118,17 @@ fn expect_left(rt: &impl Abort, played: &Played, port: PortId, sent: &[Sent]) {
     assert!(rt; wanted.next().is_none());
 }
 
-// A port of the one extender, which has two.
-fn port_at(place: u8) -> PortId {
-    PortId::at(1, place % 2)
+// A port of the one extender.
+fn port_at(rt: &impl Abort, place: u8) -> PortId {
+    assert!(rt; place < 64);
+    PortId::at(1, place)
 }
 
 // What left each port is what the plain bridge sends there over what was told.
 fn expect_flat(rt: &impl Abort, alloc: Global, played: &Played) {
     let site = site(rt, alloc, played);
     for place in 0..2u8 {
-        let port = port_at(place);
+        let port = port_at(rt, place);
         let sent = sent_over(rt, alloc, &site, played, port);
         expect_left(rt, played, port, sent.as_slice());
     }
