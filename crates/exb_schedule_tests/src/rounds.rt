@@ -158,8 +158,23 @@ fn one_level_comes_to_rest_over_drawn_verdicts(rt: HostRuntime) {
 }
 
 #[test]
-fn eight_levels_come_to_rest(rt: HostRuntime) {
-    expect_chain(&rt, rt.alloc(), 8, &[10_000; 4]);
+fn eight_levels_come_to_rest_over_late_frames(rt: HostRuntime) {
+    expect_kind(&rt, rt.alloc(), 8, Kind::Only(Verdict::Later), 10_000);
+}
+
+#[test]
+fn eight_levels_come_to_rest_over_doubled_frames(rt: HostRuntime) {
+    expect_kind(&rt, rt.alloc(), 8, Kind::Only(Verdict::Twice), 10_000);
+}
+
+#[test]
+fn eight_levels_come_to_rest_over_lost_frames(rt: HostRuntime) {
+    expect_kind(&rt, rt.alloc(), 8, Kind::Only(Verdict::Lose), 10_000);
+}
+
+#[test]
+fn eight_levels_come_to_rest_over_drawn_verdicts(rt: HostRuntime) {
+    expect_kind(&rt, rt.alloc(), 8, Kind::Drawn(1), 10_000);
 }
 
 #[test]
@@ -194,9 +209,19 @@ fn expect_lost_answer(rt: &impl Abort, alloc: Global, number: u64) {
     expect_undisturbed(rt, alloc, LOST_ANSWER, file.as_slice(), kind, 200);
 }
 
-#[test]
-fn a_lost_answer_is_waited_for_whatever_else_is_drawn(rt: HostRuntime) {
-    for number in 1..17u64 {
-        expect_lost_answer(&rt, rt.alloc(), number);
+// The same with eight numbers from this one on.
+fn expect_lost_answers(rt: &impl Abort, alloc: Global, first: u64) {
+    for number in first..first.saturating_add(8) {
+        expect_lost_answer(rt, alloc, number);
     }
+}
+
+#[test]
+fn a_lost_answer_is_waited_for_beside_drawn_fates_1_to_8(rt: HostRuntime) {
+    expect_lost_answers(&rt, rt.alloc(), 1);
+}
+
+#[test]
+fn a_lost_answer_is_waited_for_beside_drawn_fates_9_to_16(rt: HostRuntime) {
+    expect_lost_answers(&rt, rt.alloc(), 9);
 }
