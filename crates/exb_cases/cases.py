@@ -22,6 +22,7 @@ import examples
 import fates
 import generated
 import seeds
+import stepped
 import trees
 import words
 from frames import *
@@ -286,6 +287,7 @@ def agree_with_tables():
 
 def main():
     print(f"{agree_with_tables()} cases of exb_flat_tests come to the same")
+    print(f"{stepped.agree()} cases of exb_schedule_tests come to the same")
     cases = Cases()
     for part in (examples.play, frames, vlans, files, *trees.PARTS, *changes.PARTS, *generated.PARTS, *fates.PARTS, *seeds.PARTS,
                  *words.PARTS, faults):

@@ -1,0 +1,227 @@
+//! Fates that disturb as much as their budget lets them: settling keeps its bound, and what is written is what an undisturbed run writes.
+use crate::fates::StubbornFate;
+use crate::files::{expect_played, files_of};
+use crate::hex::bytes_of;
+use crate::played::Played;
+use exb_fate::{BudgetFate, Fate, ScriptFate};
+use exb_model::setup::Verdict;
+use rand_core::SeedableRng;
+use rand_pcg::Lcg64Xsh32;
+use std::alloc::Global;
+use std::process::Abort;
+
+/// A member is retagged between two frames, and the first answer of that change is lost three times.
+const LOST_ANSWER: &str =
+    "bridge = { ports = 1 }\nextender = [{ number = 1, on = 'b1', ports = 2 }]\nvlan = [{ vid = 10, tagged = ['x1.1-2'] }]\n\
+     command = [{ at = 1, op = 'member', vid = 10, port = 'x1.2', kind = 'untagged', fate = 'PPLLL' }]\n\
+     captures = { 'x1.1' = 'a.pcap' }\n";
+
+/// Frames of VLAN 10 at 100 s, 102 s and 104 s.
+const FRAMES: &str = "D4C3B2A1 02000400 8x00 FFFF0000 01000000 \
+     64000000 4x00 40000000 40000000 FFFFFFFFFFFF 020000000001 8100000A 0800 46x00 \
+     66000000 4x00 40000000 40000000 FFFFFFFFFFFF 020000000001 8100000A 0800 46x00 \
+     68000000 4x00 40000000 40000000 FFFFFFFFFFFF 020000000001 8100000A 0800 46x00";
+
+/// What disturbs a run: one verdict again and again, or verdicts that are drawn from a number.
+#[derive(Clone, Copy)]
+enum Kind {
+    Only(Verdict),
+    Drawn(u64),
+}
+
+/// Each verdict alone, and verdicts that are drawn.
+const KINDS: [Kind; 4] = [
+    Kind::Only(Verdict::Later),
+    Kind::Only(Verdict::Twice),
+    Kind::Only(Verdict::Lose),
+    Kind::Drawn(1),
+];
+
+// The fate of a kind, with this budget.
+fn fate_of(rt: &impl Abort, alloc: Global, kind: Kind, budget: u64) -> Box<dyn Fate> {
+    assert!(rt; budget < 1_000_000_000);
+    match kind {
+        Kind::Only(verdict) => {
+            Box::new(alloc, StubbornFate::new(verdict, budget)).expect(rt, "memory")
+        }
+        Kind::Drawn(number) => {
+            let rng = Lcg64Xsh32::seed_from_u64(number);
+            Box::new(alloc, BudgetFate::new(rng, budget)).expect(rt, "memory")
+        }
+    }
+}
+
+// A fate that disturbs nothing of its own.
+fn quiet(rt: &impl Abort, alloc: Global) -> Box<dyn Fate> {
+    Box::new(alloc, ScriptFate::new(alloc)).expect(rt, "memory")
+}
+
+// Puts the extender below this number behind a topology: on the last port of the one above, or on the bridge.
+fn put_extender(rt: &impl Abort, alloc: Global, text: &mut String, above: u8) {
+    let number = above.saturating_add(1);
+    let on = if above == 0 {
+        format!(in alloc; "b1")
+    } else {
+        format!(in alloc; "x{above}.2")
+    };
+    let on = on.expect(rt, "memory");
+    let table = format!(in alloc; "[[extender]]\nnumber = {number}\nports = 2\non = \"{on}\"\n");
+    text.push_str(table.expect(rt, "memory").as_str())
+        .expect(rt, "memory");
+}
+
+// What stands behind the extenders: the VLAN, the commands and the capture.
+fn end_of_chain(rt: &impl Abort, alloc: Global, levels: u8) -> String {
+    let text = format!(in alloc;
+        "[[vlan]]\nvid = 10\ntagged = [\"x1.1\", \"x{levels}.2\"]\nuntagged = [\"b2\"]\n\
+         [[command]]\nat = 1\nop = \"member\"\nvid = 10\nport = \"x{levels}.2\"\nkind = \"untagged\"\n\
+         [[command]]\nat = 3\nop = \"down\"\nport = \"x{levels}.2\"\n\
+         [[command]]\nat = 5\nop = \"up\"\nport = \"x{levels}.2\"\n\
+         [captures]\n\"x1.1\" = \"a.pcap\"\n"
+    );
+    text.expect(rt, "memory")
+}
+
+// A chain of extenders, each on the last port of the one before. The last port of all is retagged, goes down and comes up again.
+fn chain(rt: &impl Abort, alloc: Global, levels: u8) -> String {
+    let mut text = String::from_str(alloc, "[bridge]\nports = 2\n").expect(rt, "memory");
+    for above in 0..levels {
+        put_extender(rt, alloc, &mut text, above);
+    }
+    text.push_str(end_of_chain(rt, alloc, levels).as_str())
+        .expect(rt, "memory");
+    text
+}
+
+// A run over this fate writes what was played.
+fn expect_run(
+    rt: &impl Abort,
+    alloc: Global,
+    topology: &str,
+    file: &[u8],
+    fate: Box<dyn Fate>,
+    played: &Played,
+) {
+    let shelf = files_of(rt, alloc, topology, file, "", fate);
+    expect_played(rt, alloc, &shelf, played);
+}
+
+// Over a fate of this kind a driver, each settling of which keeps its bound, and a run come to what an undisturbed run writes.
+fn expect_undisturbed(
+    rt: &impl Abort,
+    alloc: Global,
+    topology: &str,
+    file: &[u8],
+    kind: Kind,
+    budget: u64,
+) {
+    let fate = fate_of(rt, alloc, kind, budget);
+    let played = Played::new(rt, alloc, topology, file, None, fate);
+    assert!(rt; played.world.fate_left() < budget);
+    let fate = fate_of(rt, alloc, kind, budget);
+    expect_run(rt, alloc, topology, file, fate, &played);
+    expect_run(rt, alloc, topology, file, quiet(rt, alloc), &played);
+}
+
+// The same over a chain of so many levels.
+fn expect_kind(rt: &impl Abort, alloc: Global, levels: u8, kind: Kind, budget: u64) {
+    let text = chain(rt, alloc, levels);
+    let file = bytes_of(rt, alloc, FRAMES);
+    expect_undisturbed(rt, alloc, text.as_str(), file.as_slice(), kind, budget);
+}
+
+// The same with each kind, and a budget for each.
+fn expect_chain(rt: &impl Abort, alloc: Global, levels: u8, budgets: &[u64; 4]) {
+    for (kind, budget) in KINDS.iter().zip(budgets) {
+        expect_kind(rt, alloc, levels, *kind, *budget);
+    }
+}
+
+#[test]
+fn one_level_comes_to_rest_over_late_frames(rt: HostRuntime) {
+    expect_kind(&rt, rt.alloc(), 1, Kind::Only(Verdict::Later), 100_000);
+}
+
+#[test]
+fn one_level_comes_to_rest_over_doubled_frames(rt: HostRuntime) {
+    expect_kind(&rt, rt.alloc(), 1, Kind::Only(Verdict::Twice), 100_000);
+}
+
+#[test]
+fn one_level_comes_to_rest_over_lost_frames(rt: HostRuntime) {
+    expect_kind(&rt, rt.alloc(), 1, Kind::Only(Verdict::Lose), 100_000);
+}
+
+#[test]
+fn one_level_comes_to_rest_over_drawn_verdicts(rt: HostRuntime) {
+    expect_kind(&rt, rt.alloc(), 1, Kind::Drawn(1), 100_000);
+}
+
+#[test]
+fn eight_levels_come_to_rest_over_late_frames(rt: HostRuntime) {
+    expect_kind(&rt, rt.alloc(), 8, Kind::Only(Verdict::Later), 10_000);
+}
+
+#[test]
+fn eight_levels_come_to_rest_over_doubled_frames(rt: HostRuntime) {
+    expect_kind(&rt, rt.alloc(), 8, Kind::Only(Verdict::Twice), 10_000);
+}
+
+#[test]
+fn eight_levels_come_to_rest_over_lost_frames(rt: HostRuntime) {
+    expect_kind(&rt, rt.alloc(), 8, Kind::Only(Verdict::Lose), 10_000);
+}
+
+#[test]
+fn eight_levels_come_to_rest_over_drawn_verdicts(rt: HostRuntime) {
+    expect_kind(&rt, rt.alloc(), 8, Kind::Drawn(1), 10_000);
+}
+
+#[test]
+fn sixty_four_levels_come_to_rest_over_late_frames(rt: HostRuntime) {
+    expect_kind(&rt, rt.alloc(), 64, Kind::Only(Verdict::Later), 1_000);
+}
+
+#[test]
+fn sixty_four_levels_come_to_rest_over_doubled_frames(rt: HostRuntime) {
+    expect_kind(&rt, rt.alloc(), 64, Kind::Only(Verdict::Twice), 1_000);
+}
+
+#[test]
+fn sixty_four_levels_come_to_rest_over_lost_frames(rt: HostRuntime) {
+    expect_kind(&rt, rt.alloc(), 64, Kind::Only(Verdict::Lose), 1_000);
+}
+
+#[test]
+fn sixty_four_levels_come_to_rest_over_drawn_verdicts(rt: HostRuntime) {
+    expect_kind(&rt, rt.alloc(), 64, Kind::Drawn(1), 1_000);
+}
+
+#[test]
+fn five_hundred_verdicts_change_nothing(rt: HostRuntime) {
+    expect_chain(&rt, rt.alloc(), 1, &[500, 500, 3, 200]);
+}
+
+// The same where an answer is lost, and more is drawn from this number.
+fn expect_lost_answer(rt: &impl Abort, alloc: Global, number: u64) {
+    let file = bytes_of(rt, alloc, FRAMES);
+    let kind = Kind::Drawn(number);
+    expect_undisturbed(rt, alloc, LOST_ANSWER, file.as_slice(), kind, 200);
+}
+
+// The same with eight numbers from this one on.
+fn expect_lost_answers(rt: &impl Abort, alloc: Global, first: u64) {
+    for number in first..first.saturating_add(8) {
+        expect_lost_answer(rt, alloc, number);
+    }
+}
+
+#[test]
+fn a_lost_answer_is_waited_for_beside_drawn_fates_1_to_8(rt: HostRuntime) {
+    expect_lost_answers(&rt, rt.alloc(), 1);
+}
+
+#[test]
+fn a_lost_answer_is_waited_for_beside_drawn_fates_9_to_16(rt: HostRuntime) {
+    expect_lost_answers(&rt, rt.alloc(), 9);
+}
