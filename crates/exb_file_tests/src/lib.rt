@@ -9,7 +9,13 @@ mod captures;
 #[cfg(test)]
 mod failures;
 #[cfg(test)]
+mod heavy;
+#[cfg(test)]
+mod play;
+#[cfg(test)]
 mod shelves;
+#[cfg(test)]
+mod sweep;
 #[cfg(test)]
 mod texts;
 #[cfg(test)]

@@ -25,7 +25,7 @@ fn put_word(rt: &impl Abort, bytes: &mut Vec<u8>, word: &str) {
 }
 
 /// The bytes of a text of hexadecimal digits in words of whole bytes; `3x00` is the byte 0 three times.
-pub(super) fn bytes_of(rt: &impl Abort, alloc: Global, text: &str) -> Vec<u8> {
+pub(crate) fn bytes_of(rt: &impl Abort, alloc: Global, text: &str) -> Vec<u8> {
     let mut bytes = Vec::new(alloc);
     for word in text.split_whitespace() {
         let (times, word) = word.split_once('x').unwrap_or(("1", word));

@@ -14,8 +14,8 @@ fn text_at<'a>(rt: &impl Abort, file: &'a [u8], places: &str) -> &'a str {
     std::str::from_utf8(bytes).expect(rt, "a text")
 }
 
-// A verdict with the text that stands in the file in the place of `{FIRST-LAST}`.
-fn filled(rt: &impl Abort, alloc: Global, file: &[u8], verdict: &str) -> String {
+/// A verdict with the text that stands in the file in the place of `{FIRST-LAST}`.
+pub(super) fn filled(rt: &impl Abort, alloc: Global, file: &[u8], verdict: &str) -> String {
     let verdict = match verdict.split_once('{') {
         Some((before, rest)) => {
             let (places, after) = rest.split_once('}').expect(rt, "places");
