@@ -40,6 +40,19 @@ fn put_all(rt: &impl Abort, shelf: &mut FaultyShelf, names: &[&str], text: &str)
     }
 }
 
+// Puts captures there, each in hexadecimal behind its name.
+fn put_captures(
+    rt: &impl Abort,
+    alloc: Global,
+    shelf: &mut FaultyShelf,
+    captures: &[(&str, &str)],
+) {
+    for (name, capture) in captures {
+        let capture = bytes_of(rt, alloc, capture);
+        shelf.put(name, capture.as_slice()).expect(rt, "memory");
+    }
+}
+
 // A shelf with the files of a run, and what was there before it.
 fn shelf_of(rt: &impl Abort, alloc: Global, site: Site<'_>, how: Disturbance) -> FaultyShelf {
     let mut shelf = FaultyShelf::new(alloc, how);
@@ -48,10 +61,7 @@ fn shelf_of(rt: &impl Abort, alloc: Global, site: Site<'_>, how: Disturbance) ->
     if !site.before.is_empty() {
         put_all(rt, &mut shelf, site.run.outputs, site.before);
     }
-    for (name, capture) in site.run.captures {
-        let capture = bytes_of(rt, alloc, capture);
-        shelf.put(name, capture.as_slice()).expect(rt, "memory");
-    }
+    put_captures(rt, alloc, &mut shelf, site.run.captures);
     shelf
 }
 
