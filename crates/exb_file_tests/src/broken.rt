@@ -2,8 +2,6 @@
 //! fault.
 mod captures;
 mod cases;
-pub(crate) mod hex;
 mod texts;
 mod topologies;
-mod turned;
 mod words;

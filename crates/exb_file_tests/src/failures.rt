@@ -1,5 +1,5 @@
 //! A run over a shelf or a sink in memory that fails at one call, with each option. Each file then holds a front of its text.
-use crate::broken::hex::bytes_of;
+use crate::hostile::bytes_of;
 use crate::play::{play, words_of};
 use exb_shelf::{MemShelf, MemSink};
 use std::alloc::Global;

@@ -11,6 +11,8 @@ mod failures;
 #[cfg(test)]
 mod heavy;
 #[cfg(test)]
+mod hostile;
+#[cfg(test)]
 mod play;
 #[cfg(test)]
 mod shelves;

@@ -4,7 +4,7 @@
 //! all is whole.
 mod runs;
 
-use crate::broken::hex::bytes_of;
+use crate::hostile::bytes_of;
 use crate::play::{play, words_of};
 use exb_faulty::{Asked, Call, Disturbance, FaultyShelf, FaultySink};
 use runs::{BARE, LOSSY, Run, TREE};

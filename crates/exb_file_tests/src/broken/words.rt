@@ -1,6 +1,7 @@
 //! Words of the command line, cut before each byte, with each bit turned, and at their limits.
 use super::topologies::filled;
-use super::turned::{BITS, turn, verdict_at, verdict_of_bit};
+use crate::hostile::{verdict_at, verdict_of_bit};
+use exb_hostile::turned::{BITS, turn};
 use exb_words::{Asked, accept};
 use std::alloc::{AllocError, Global};
 use std::process::Abort;
