@@ -5,6 +5,7 @@ use Rattle.std.specs.List.{AllByRecursion, range_with_len}
 use Rattle.std.proofs.lemmas.Bool.{cases_Bool, ltb-true}
 use Rattle.exb_model.specs.Input.{Given, Arrival, Coming, Ordered, Captured, moment_of, all_arrivals, start_second, commands_from, put_in_order, by_moment, merge, number_in, segments}
 use Rattle.exb_model.specs.LegalHistory.{number_of}
+use Rattle.exb_model.proofs.LegalPlays.{all_commands}
 use Rattle.exb_flat_laws.specs.Playing.{CommandsInFileOrder}
 use Rattle.exb_flat_laws.proofs.Comings.{segments-commands, each-append, each_sorted}
 use Rattle.exb_flat_laws.proofs.Playing.{of_legal, no_number, commands_played, next}
@@ -68,5 +69,5 @@ sorted_commands start n (c ∷ cs) xs k =
 pub commands_in_file_order : CommandsInFileOrder
 unfolding merge
 commands_in_file_order m i h timely legal =
-    of_legal number_of m i h legal refl no_number ∙ commands_played (segments m i) legal.plays legal.commands_in_order ∙ segments-commands m i
+    of_legal number_of m i h legal refl no_number ∙ commands_played (segments m i) legal.plays (all_commands (segments m i) legal.plays legal.each_played) ∙ segments-commands m i
     ∙ sorted_commands (start_second i) 1 i.commands (all_arrivals i) timely

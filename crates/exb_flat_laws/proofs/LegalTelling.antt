@@ -19,6 +19,7 @@ use Rattle.exb_model.specs.Input.{Input, Given, Record, Arrival, Coming, Capture
 use Rattle.exb_model.specs.EagerHistory.{opening, refusal_of}
 use Rattle.exb_model.specs.LegalHistory.{EachEvent, Legal, IsOfSegment, IsDecided, IsRelayOf, PlaysArrivals, PlaysTick, number_of, place_of, tick_of, settled_each}
 use Rattle.exb_model.specs.Texts.{journal_text}
+use Rattle.exb_model.proofs.LegalPlays.{all_of_segments, all_ticks, all_arrivals as all_arrivals_played}
 use Rattle.exb_flat_laws.specs.Playing.{records_at, all_records, all_numbers}
 use Rattle.exb_flat_laws.specs.Telling.{IsWord, IsPort, IsRecordOf, IsWritten, JournalTellsLegal, SmallIsWritten}
 use Rattle.exb_flat_laws.proofs.PortOrder.{reverse-then}
@@ -292,7 +293,8 @@ module _ (i : Input) (w : IsWritten i) where
       let Q : Event → Type 0 = λ e. IfSome (place_of e) IsPlaceOf in
       let D : History → Event → Type 0 = IsDecided (tree_of i) (bounds_of i) (basis_of i) in
       all_known (tree_of i) (bounds_of i) i w o es
-      (plays_of i (segments m i) legal.plays (segments_soon m i w) (segments-numbered m i) (recursion_from_All (All IsOfSegment) legal.plays legal.of_segments) legal.ticks legal.arrivals_once)
+      (plays_of i (segments m i) legal.plays (segments_soon m i w) (segments-numbered m i) (recursion_from_All (All IsOfSegment) legal.plays (all_of_segments (segments m i) legal.plays legal.each_played))
+      (all_ticks (segments m i) legal.plays legal.each_played) (all_arrivals_played (segments m i) legal.plays legal.each_played))
       (of_last N (reverse o) es (subst (AllByRecursion N) is (each_given (IsNumberOf i) number_of (reverse h) numbers)))
       (of_last Q (reverse o) es (subst (AllByRecursion Q) is (each_given IsPlaceOf place_of (reverse h) places)))
       (after D o es (subst (EachEvent D) legal.segments_in_order legal.refused_exactly)).1

@@ -6,6 +6,7 @@ pub mod PlayRules
 pub mod EachEvents
 pub mod PortOrder
 pub mod Comings
+pub mod CommandsThere
 pub mod AtOnce
 pub mod Playing
 pub mod FileOrder

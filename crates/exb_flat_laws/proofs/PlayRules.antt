@@ -121,9 +121,9 @@ of_segment_arrival : (r : Bool) (a : Arrival) → Unit {0} → IsOfSegment (ente
 of_segment_arrival true a u = tt
 of_segment_arrival false a u = tt
 
-each_unit : (arrived : List Arrival) → AllByRecursion (λ a. Unit {0}) arrived
+each_unit : {X : Type 0} (xs : List X) → AllByRecursion (λ x. Unit {0}) xs
 each_unit [] = tt
-each_unit (a ∷ rest) = (tt, each_unit rest)
+each_unit (x ∷ xs) = (tt, each_unit xs)
 
 relay_command : (arrivals : List Arrival) (n : ℕ) (r : Option Cause) → IsRelayOf arrivals (decided n r)
 relay_command arrivals n None = tt
@@ -186,3 +186,7 @@ module _ (t : Shape) (l : Limits) (b : Basis) where
 pub each-unit : (ss : List Segment) → AllByRecursion (λ s. AllByRecursion (λ a. Unit {0}) s.arrivals) ss
 each-unit [] = tt
 each-unit (s ∷ ss) = (each_unit s.arrivals, each-unit ss)
+
+pub each-ordered : (ss : List Segment) → AllByRecursion (λ s. AllByRecursion (λ n. Unit {0}) s.commands) ss
+each-ordered [] = tt
+each-ordered (s ∷ ss) = (each_unit s.commands, each-ordered ss)

@@ -19,6 +19,7 @@ use Rattle.exb_model.specs.Refusals.{refusal}
 use Rattle.exb_model.specs.Input.{Input, Given, Record, Arrival, Coming, Captured, Segment, Mode, basis_of, tree_of, bounds_of, moment_of, arrivals_from, arrivals_at, all_arrivals, start_second, commands_from, all_comings, put_in_order, by_moment, merge, number_in, arrival_in, segments}
 use Rattle.exb_model.specs.EagerHistory.{up_event, risen, with_ups, opening}
 use Rattle.exb_model.specs.LegalHistory.{Legal, PlaysCommands, PlaysArrivals, number_of, place_of, settled_each}
+use Rattle.exb_model.proofs.LegalPlays.{all_arrivals as all_arrivals_played, all_commands}
 use Rattle.exb_flat_laws.specs.Playing.{records_at, all_records, all_numbers, LegalPlaysInput}
 use Rattle.exb_flat_laws.proofs.PortOrder.{reverse-then}
 use Rattle.exb_flat_laws.proofs.Comings.{segments-arrivals, segments-commands, arrivals-coming}
@@ -158,7 +159,7 @@ legal_plays_input m i h legal = record {
       let Q : List (ℕ × ℕ) → Type 0 = IsPermutation (filter_map place_of (reverse h)) in
       let P : List (ℕ × ℕ) → Type 0 = λ ps. IsPermutation ps (map place (flat_map (λ s. s.arrivals) (segments m i))) in
       let played : IsPermutation (filter_map place_of (reverse h)) (map place (flat_map (λ s. s.arrivals) (segments m i))) =
-      subst P (sym (of_legal place_of m i h legal refl no_place)) (arrivals_played (segments m i) legal.plays legal.arrivals_once) in
+      subst P (sym (of_legal place_of m i h legal refl no_place)) (arrivals_played (segments m i) legal.plays (all_arrivals_played (segments m i) legal.plays legal.each_played)) in
       let merged : IsPermutation (filter_map place_of (reverse h)) (map place (filter_map arrival_in (merge i))) = subst Q (ap (map place) (segments-arrivals m i)) played in
       let coming : IsPermutation (filter_map place_of (reverse h)) (map place (filter_map arrival_in (all_comings i))) =
       IsPermutation-trans (filter_map place_of (reverse h)) (map place (filter_map arrival_in (merge i))) (map place (filter_map arrival_in (all_comings i))) merged
@@ -167,6 +168,6 @@ legal_plays_input m i h legal = record {
   commands =
       let Q : List ℕ → Type 0 = λ ns. IsPermutation ns (all_numbers i) in
       let is : filter_map number_of (reverse h) ≡ filter_map number_in (merge i) =
-      of_legal number_of m i h legal refl no_number ∙ commands_played (segments m i) legal.plays legal.commands_in_order ∙ segments-commands m i in
+      of_legal number_of m i h legal refl no_number ∙ commands_played (segments m i) legal.plays (all_commands (segments m i) legal.plays legal.each_played) ∙ segments-commands m i in
       subst Q (sym is) (subst (IsPermutation (filter_map number_in (merge i))) (numbers_coming i) (sorted_keeps number_in (all_comings i)));
 }

@@ -1,13 +1,13 @@
 -- The arrivals of a port in what is merged of an input: they keep the order of its capture.
-use Rattle.std.proofs.Common.{◌≡◌, ℕ, suc, zero, ◌+◌, ◌<◌, ◌≤◌, Bool, true, false, cond, ◌==◌, eq-eqb, List, [], ◌∷◌, ◌++◌, length, length-append, map, filter, refl, sym, ap, subst, ◌∙◌, append_assoc, arith, inl, inr}
-use Rattle.std.specs.Prelude.{Option, Some, None, nat_lt, filter_map, flat_map, max, slice_get}
+use Rattle.std.proofs.Common.{◌≡◌, ℕ, suc, zero, ◌+◌, ◌<◌, ◌≤◌, Bool, true, false, cond, ◌==◌, eq-eqb, List, [], ◌∷◌, ◌++◌, length, length-append, map, refl, sym, ap, subst, ◌∙◌, append_assoc, arith, inl, inr}
+use Rattle.std.specs.Prelude.{Some, nat_lt, filter_map, flat_map, max, slice_get}
 use Rattle.std.specs.List.{AllByRecursion, range_with_len}
 use Rattle.std.proofs.lemmas.List.{append-nil}
 use Rattle.std.proofs.lemmas.List.Elements.{filter-append}
 use Rattle.std.proofs.lemmas.Bool.{cases_eq, ne_eqb, ltb-true}
 use Rattle.exb_model.specs.Ports.{below, all_ports}
 use Rattle.exb_model.specs.Lists.{numbered}
-use Rattle.exb_model.specs.Input.{Input, Given, Record, Arrival, Coming, Ordered, Captured, Segment, Group, Eager, moment_of, arrivals_from, arrivals_at, all_arrivals, start_second, commands_from, all_comings, put_in_order, by_moment, merge, alone, arrival_in, second_of, segments_since, segments_in, groups_in, segments}
+use Rattle.exb_model.specs.Input.{Input, Given, Record, Arrival, Coming, Ordered, Captured, Segment, Eager, moment_of, arrivals_from, arrivals_at, all_arrivals, start_second, commands_from, all_comings, put_in_order, by_moment, merge, alone, arrival_in, second_of, segments_since, segments_in, groups_in, segments}
 use Rattle.exb_model.specs.LegalHistory.{Rise}
 use Rattle.exb_flat_run.proofs.PortOrder.{at_port}
 use Rattle.exb_flat_run.proofs.EachEvents.{IsNumbered}

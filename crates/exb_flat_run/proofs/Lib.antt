@@ -12,3 +12,4 @@ mod PlayRules
 mod EachEvents
 mod PortOrder
 mod InMerge
+mod CommandsThere

@@ -1,19 +1,18 @@
 -- What comes, as it is collected.
-use Rattle.std.proofs.Common.{◌≡◌, ℕ, zero, suc, ◌+◌, ◌-◌, ◌*◌, ◌/◌, ◌^◌, ◌<◌, ◌≤◌, Bool, true, false, cond, ◌==◌, get_or, List, [], ◌∷◌, ◌++◌, length, map, filter, take, drop, refl, sym, ap, subst, ◌∙◌, append_assoc, arith}
-use Rattle.std.specs.Prelude.{Option, Some, None, Result, Ok, Err, IfOk, IsOk, find, is_ok, nat_lt, min, flat_map, All}
-use Rattle.std.specs.List.{AllByRecursion}
+use Rattle.std.proofs.Common.{◌≡◌, ℕ, zero, suc, ◌+◌, ◌-◌, ◌*◌, ◌/◌, ◌^◌, ◌<◌, ◌≤◌, Bool, true, false, cond, ◌==◌, get_or, List, [], ◌∷◌, ◌++◌, length, map, filter, take, drop, refl, sym, ap, subst, ◌∙◌, arith}
+use Rattle.std.specs.Prelude.{Option, Some, None, Result, Ok, Err, IfOk, find, is_ok, nat_lt, min, flat_map, All}
 use Rattle.std.proofs.lemmas.List.{append-nil, map-append, length-map, length-take-le, take_more}
-use Rattle.std.proofs.lemmas.List.Elements.{All-nil, All-cons, All-head, All-tail, All-append, All-weaker}
+use Rattle.std.proofs.lemmas.List.Elements.{All-nil, All-cons, All-head, All-tail, All-weaker}
 use Rattle.std.proofs.lemmas.Bool.{lt-ltb, le-ltb, ltb-true, ltb-false}
 use Rattle.exb_model.specs.Ports.{below, all_ports}
 use Rattle.exb_model.specs.Input.{Input, Given, given_by, Record, Arrival, Coming, Ordered, Captured, moment_of, second_of, least_or, start_second, arrivals_at, all_arrivals, commands_from, put_in_order, by_moment, merge}
 use Rattle.exb_model.specs.declared.setup.Timed.{Timed}
 use Rattle.exb_merge.specs.Streams.{Stream, stream_of, stream_at, arrivals_of, to_come}
 use Rattle.exb_pcap.specs.declared.reader.PcapFault.{PcapFault}
-use Rattle.exb_pcap.specs.Captures.{pcap_records, all_records, whole}
+use Rattle.exb_pcap.specs.Captures.{pcap_records, records_or_none}
 use Rattle.exb_flat_run.specs.declared.merge.Capture.{Capture}
-use Rattle.exb_flat_run.specs.Inputs.{records_or_none, records_in, records_of}
-use Rattle.exb_flat_run.specs.Merging.{is_good, has_capture, stream_for, stream_if, first_second, put_all, ComesAfter, CanBeKept, FitsComing, IsRecord}
+use Rattle.exb_flat_run.specs.Inputs.{records_in, records_of}
+use Rattle.exb_flat_run.specs.Merging.{is_good, has_capture, stream_for, stream_if, first_second, put_all, ComesAfter, FitsComing, IsRecord}
 use Rattle.exb_flat_run.proofs.Ranges.{filter_below-more, below-none}
 
 -- ---- the captures at their first records

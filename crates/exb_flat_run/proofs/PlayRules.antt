@@ -1,5 +1,5 @@
 -- What the events of an eager segment are to the segment.
-use Rattle.std.proofs.Common.{◌≡◌, ℕ, Bool, true, false, cond, ◌==◌, List, [], ◌∷◌, ◌++◌, map, refl, sym, ap, subst, ◌∙◌}
+use Rattle.std.proofs.Common.{◌≡◌, ℕ, Bool, true, false, cond, ◌==◌, List, [], ◌∷◌, ◌++◌, map, refl, ap, subst, ◌∙◌}
 use Rattle.std.specs.Prelude.{Option, Some, None, filter_map, All, Contains, IsPermutation}
 use Rattle.std.specs.List.{AllByRecursion, cons_option}
 use Rattle.std.proofs.lemmas.List.{append-nil}
@@ -121,9 +121,9 @@ of_segment_arrival : (r : Bool) (a : Arrival) → Unit {0} → IsOfSegment (ente
 of_segment_arrival true a u = tt
 of_segment_arrival false a u = tt
 
-each_unit : (arrived : List Arrival) → AllByRecursion (λ a. Unit {0}) arrived
+each_unit : {X : Type 0} (xs : List X) → AllByRecursion (λ x. Unit {0}) xs
 each_unit [] = tt
-each_unit (a ∷ rest) = (tt, each_unit rest)
+each_unit (x ∷ xs) = (tt, each_unit xs)
 
 relay_command : (arrivals : List Arrival) (n : ℕ) (r : Option Cause) → IsRelayOf arrivals (decided n r)
 relay_command arrivals n None = tt
@@ -186,3 +186,7 @@ module _ (t : Shape) (l : Limits) (b : Basis) where
 pub each-unit : (ss : List Segment) → AllByRecursion (λ s. AllByRecursion (λ a. Unit {0}) s.arrivals) ss
 each-unit [] = tt
 each-unit (s ∷ ss) = (each_unit s.arrivals, each-unit ss)
+
+pub each-ordered : (ss : List Segment) → AllByRecursion (λ s. AllByRecursion (λ n. Unit {0}) s.commands) ss
+each-ordered [] = tt
+each-ordered (s ∷ ss) = (each_unit s.commands, each-ordered ss)

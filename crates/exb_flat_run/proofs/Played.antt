@@ -1,6 +1,6 @@
 -- What the eager run of an input is for the plain program.
-use Rattle.std.proofs.Common.{◌≡◌, ℕ, zero, suc, ◌+◌, ◌*◌, ◌<◌, ◌≤◌, Bool, true, false, cond, List, [], ◌∷◌, ◌++◌, length, map, take, drop, refl, sym, ap, subst, ◌∙◌, arith, length-append}
-use Rattle.std.specs.Prelude.{◌^◌, Option, Some, None, nat_lt, filter_map, flat_map, All}
+use Rattle.std.proofs.Common.{◌≡◌, ℕ, ◌+◌, ◌*◌, ◌<◌, ◌≤◌, Bool, true, false, List, [], ◌∷◌, ◌++◌, length, map, take, refl, sym, ap, subst, ◌∙◌, arith, length-append}
+use Rattle.std.specs.Prelude.{◌^◌, Option, Some, None, filter_map, All}
 use Rattle.std.specs.List.{AllByRecursion}
 use Rattle.std.proofs.Common.{inl, inr, ◌⊎◌}
 use Rattle.std.proofs.lemmas.Bool.{cases_lt, lt-ltb, le-ltb}
@@ -16,26 +16,25 @@ use Rattle.exb_model.specs.declared.event.Cause.{Cause}
 use Rattle.exb_model.specs.declared.command.Command.TheVariants as command
 use Rattle.exb_model.specs.declared.setup.Setup.{Setup}
 use Rattle.exb_model.specs.declared.setup.Timed.{Timed}
-use Rattle.exb_model.specs.Frames.{kind_of, is_reserved, number_at, kind_of_tag, body_after, egress}
+use Rattle.exb_model.specs.Frames.{kind_of, body_after, egress}
 use Rattle.exb_model.specs.Tree.{Shape}
 use Rattle.exb_model.specs.Setup.{Limits, start_of}
 use Rattle.exb_model.specs.Configuration.{Bridge}
 use Rattle.exb_model.specs.History.{Basis, History, bridge_after, command_of}
 use Rattle.exb_model.specs.Learning.{passes, passes_as, learned}
 use Rattle.exb_model.specs.Targets.{target}
-use Rattle.exb_model.specs.FlatBridge.{Sent, flat, sent_as, sent_by}
+use Rattle.exb_model.specs.FlatBridge.{flat, sent_as, sent_by}
 use Rattle.exb_model.specs.Refusals.{refusal}
-use Rattle.exb_model.specs.Input.{Input, Arrival, Coming, Ordered, Captured, Segment, Eager, given_by, basis_of as basis_for, tree_of, bounds_of as bounds_for, arrival_in, merge, segments}
+use Rattle.exb_model.specs.Input.{Input, Arrival, Coming, Ordered, Captured, Eager, given_by, basis_of as basis_for, tree_of, bounds_of as bounds_for, arrival_in, merge, segments, segments_after}
 use Rattle.exb_model.specs.EagerHistory.{eager, eagerly, opening, decided, risen, refusal_of, is_relayed}
 use Rattle.exb_model.specs.LegalHistory.{EachEvent}
 use Rattle.exb_pcap.specs.Written.{CanBeWritten}
 use Rattle.exb_flat_run.specs.declared.merge.Capture.{Capture}
 use Rattle.exb_flat_run.specs.declared.site.Site.{Site}
-use Rattle.exb_flat_run.specs.Sites.{IsSiteOf, basis_of, bounds_of}
+use Rattle.exb_flat_run.specs.Sites.{IsSiteOf, basis_of}
 use Rattle.exb_flat_run.specs.Inputs.{input_of}
-use Rattle.exb_flat_run.specs.Turns.{segments_after}
 use Rattle.exb_flat_run.specs.Merging.{CanBeKept, FitsComing}
-use Rattle.exb_flat_run.proofs.PlayRules.{entered}
+use Rattle.exb_flat_run.proofs.PlayRules.{entered, each-ordered}
 use Rattle.exb_flat_run.proofs.EachEvents.{HoldsEagerly, each-opening, each-eagerly}
 use Rattle.exb_flat_run.proofs.InMerge.{segments-arrivals, of_segments}
 
@@ -45,13 +44,13 @@ all-of_map f P (x ∷ xs) all = All-cons (λ y. P (f y)) x xs (All-head P (f x) 
 
 -- ---- the history
 pub eager-is : (i : Input) (t : Shape) (l : Limits) (b : Basis) (xs : List Coming) → t ≡ tree_of i → l ≡ bounds_for i → b ≡ basis_for i → xs ≡ merge i →
-    eagerly t l b (opening t l b) (segments_after None xs) ≡ eager i
+    eagerly t l b (opening t l b) (segments_after Eager None xs) ≡ eager i
 unfolding eager segments
 eager-is i t l b xs tree bounds basis comings =
-    ap (λ u. eagerly u l b (opening u l b) (segments_after None xs)) tree
-    ∙ ap (λ m. eagerly (tree_of i) m b (opening (tree_of i) m b) (segments_after None xs)) bounds
-    ∙ ap (λ c. eagerly (tree_of i) (bounds_for i) c (opening (tree_of i) (bounds_for i) c) (segments_after None xs)) basis
-    ∙ ap (λ ys. eagerly (tree_of i) (bounds_for i) (basis_for i) (opening (tree_of i) (bounds_for i) (basis_for i)) (segments_after None ys)) comings
+    ap (λ u. eagerly u l b (opening u l b) (segments_after Eager None xs)) tree
+    ∙ ap (λ m. eagerly (tree_of i) m b (opening (tree_of i) m b) (segments_after Eager None xs)) bounds
+    ∙ ap (λ c. eagerly (tree_of i) (bounds_for i) c (opening (tree_of i) (bounds_for i) c) (segments_after Eager None xs)) basis
+    ∙ ap (λ ys. eagerly (tree_of i) (bounds_for i) (basis_for i) (opening (tree_of i) (bounds_for i) (basis_for i)) (segments_after Eager None ys)) comings
 
 same-commands : (cs : List Timed) → map (λ c. c.command) cs ≡ map (λ c. c.command) (map given_by cs)
 same-commands [] = refl
@@ -79,12 +78,12 @@ entered-fits : (h : History) (a : Arrival) → CanBeKept a → (r : Bool) → Re
 entered-fits h a kept true = kept.moment
 entered-fits h a kept false = tt
 
-fits : (t : Shape) (l : Limits) (b : Basis) → HoldsEagerly RelayFits CanBeKept t l b
+fits : (t : Shape) (l : Limits) (b : Basis) → HoldsEagerly RelayFits (λ n. Unit {0}) CanBeKept t l b
 fits t l b = record {
   settled = λ h. tt;
   up = λ h p. risen-fits h p (refusal t l (bridge_after b h) (command.Up p));
   tick = λ h seconds. tt;
-  command = λ h n. decided-fits h n (refusal_of t l (bridge_after b h) (command_of b n));
+  command = λ h n u. decided-fits h n (refusal_of t l (bridge_after b h) (command_of b n));
   arrival = λ h a kept. entered-fits h a kept (is_relayed (bridge_after b h) a.port a.bytes);
 }
 
@@ -96,9 +95,9 @@ kept-arrivals (Captured a ∷ xs) all = (All-head FitsComing (Captured a) xs all
 relays-fit : (i : Input) → All FitsComing (merge i) → EachEvent RelayFits (eager i)
 unfolding eager
 relays-fit i all =
-    each-eagerly RelayFits CanBeKept (tree_of i) (bounds_for i) (basis_for i) (fits (tree_of i) (bounds_for i) (basis_for i)) (opening (tree_of i) (bounds_for i) (basis_for i)) (segments Eager i)
+    each-eagerly RelayFits (λ n. Unit {0}) CanBeKept (tree_of i) (bounds_for i) (basis_for i) (fits (tree_of i) (bounds_for i) (basis_for i)) (opening (tree_of i) (bounds_for i) (basis_for i)) (segments Eager i) (each-ordered (segments Eager i))
     (of_segments CanBeKept (segments Eager i) (subst (AllByRecursion CanBeKept) (sym (segments-arrivals i)) (kept-arrivals (merge i) all)))
-    (each-opening RelayFits CanBeKept (tree_of i) (bounds_for i) (basis_for i) (fits (tree_of i) (bounds_for i) (basis_for i)))
+    (each-opening RelayFits (λ n. Unit {0}) CanBeKept (tree_of i) (bounds_for i) (basis_for i) (fits (tree_of i) (bounds_for i) (basis_for i)))
 
 -- a frame that passes is no longer than 9,216 bytes
 long-kind : (f : List ℕ) → 9216 < length f → kind_of f ≡ seen.Long

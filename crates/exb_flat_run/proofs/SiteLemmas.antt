@@ -1,5 +1,5 @@
 -- The configuration to start with.
-use Rattle.std.proofs.Common.{◌≡◌, ℕ, ◌&&◌, List, fold, sym, ap, ◌∙◌}
+use Rattle.std.proofs.Common.{◌≡◌, ℕ, ◌&&◌, List, ap, ◌∙◌}
 use Rattle.std.specs.Prelude.{nat_lt}
 use Rattle.exb_model.specs.declared.command.Command.{Command}
 use Rattle.exb_model.specs.declared.port_set.PortSet.{PortSet}
@@ -7,7 +7,7 @@ use Rattle.exb_model.specs.declared.setup.Setup.{Setup}
 use Rattle.exb_model.specs.Ports.{port_in}
 use Rattle.exb_model.specs.Tree.{Shape, is_external}
 use Rattle.exb_model.specs.Setup.{shape_of, start_of}
-use Rattle.exb_model.specs.Configuration.{after, empty_bridge}
+use Rattle.exb_model.specs.Configuration.{empty_bridge}
 use Rattle.exb_flat.specs.Histories.{after_all}
 
 pub start-is : (s : Setup) (t : Shape) (present : PortSet) (start : List Command) → t ≡ shape_of s → ((q : ℕ) → port_in present q ≡ (nat_lt q 64 && is_external t q)) →

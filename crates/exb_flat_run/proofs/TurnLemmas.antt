@@ -7,10 +7,10 @@ use Rattle.exb_model.specs.declared.event.Event.TheVariants as event
 use Rattle.exb_model.specs.Tree.{Shape}
 use Rattle.exb_model.specs.Setup.{Limits}
 use Rattle.exb_model.specs.History.{Basis, History, ◌then◌, bridge_after}
-use Rattle.exb_model.specs.Input.{Coming, Ordered, Captured, Segment, alone, segment_of, segments_in, segments_since, second_of, moment_of}
-use Rattle.exb_model.specs.EagerHistory.{up_event, with_ups, with_tick, eager_segment, eagerly}
+use Rattle.exb_model.specs.Input.{Coming, Ordered, Captured, Eager, alone, seconds_after, segments_after, segment_of, segments_since, second_of, moment_of}
+use Rattle.exb_model.specs.EagerHistory.{up_event, with_ups, with_tick, eager_segment}
 use Rattle.exb_flat_run.proofs.Plays.{then-append}
-use Rattle.exb_flat_run.specs.Turns.{told, with_coming, seconds_after, segments_after}
+use Rattle.exb_flat_run.specs.Turns.{told, with_coming}
 
 pub told_push : (events : List Event) (e : Event) → told (events ++ e ∷ []) ≡ e ∷ told events
 told_push events e = then-append [] events (e ∷ [])
@@ -22,11 +22,11 @@ sub-self : (n : ℕ) → n - n ≡ 0
 sub-self n = omega arith
 
 pub segments_more : (last : Option ℕ) (x : Coming) (xs : List Coming) →
-    segments_after last (x ∷ xs) ≡ segment_of (seconds_after last (second_of (moment_of x))) (x ∷ []) ∷ segments_after (Some (second_of (moment_of x))) xs
+    segments_after Eager last (x ∷ xs) ≡ segment_of (seconds_after last (second_of (moment_of x))) (x ∷ []) ∷ segments_after Eager (Some (second_of (moment_of x))) xs
 segments_more None x xs = ap (λ s. segment_of s (x ∷ []) ∷ segments_since (second_of (moment_of x)) (map alone xs)) (sub-self (second_of (moment_of x)))
 segments_more (Some last) x xs = refl
 
-pub segments_none : (last : Option ℕ) → segments_after last [] ≡ []
+pub segments_none : (last : Option ℕ) → segments_after Eager last [] ≡ []
 segments_none None = refl
 segments_none (Some last) = refl
 

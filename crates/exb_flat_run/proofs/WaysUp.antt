@@ -1,8 +1,8 @@
 -- The ways up from a port, step by step.
-use Rattle.std.proofs.Common.{◌≡◌, ℕ, zero, suc, ◌+◌, ◌/◌, ◌<◌, ◌≤◌, Bool, true, false, List, [], ◌∷◌, length, refl, sym, ap, ◌∙◌, arith}
+use Rattle.std.proofs.Common.{◌≡◌, ℕ, zero, suc, ◌+◌, ◌/◌, ◌<◌, ◌≤◌, List, [], ◌∷◌, length, refl, ap, ◌∙◌, arith}
 use Rattle.std.specs.Prelude.{slice_index}
 use Rattle.std.proofs.lemmas.Bool.{lt-ltb, le-ltb}
-use Rattle.exb_model.specs.Tree.{up, top, device}
+use Rattle.exb_model.specs.Tree.{up, top}
 
 module _ (on : List ℕ) where
   pub top-low : (d p : ℕ) → p < 64 → top on d p ≡ p

@@ -1,19 +1,13 @@
 -- The input that a setup, its commands and the captures of ports make.
-use Rattle.std.specs.Prelude.{ℕ, ◌≡◌, ◌==◌, ◌<◌, ◌≤◌, ◌*◌, ◌^◌, List, [], ◌∷◌, length, map, Option, Some, None, Result, Ok, Err, find}
+use Rattle.std.specs.Prelude.{ℕ, ◌≡◌, ◌==◌, ◌<◌, ◌≤◌, ◌*◌, ◌^◌, List, [], ◌∷◌, length, map, Option, Some, None, find}
 use Rattle.exb_model.specs.declared.setup.Setup.{Setup}
 use Rattle.exb_model.specs.declared.setup.Timed.{Timed}
 use Rattle.exb_model.specs.Input.{Input, Record, Arrival, Coming as Comes, Ordered, Captured, given_by}
-use Rattle.exb_pcap.specs.declared.reader.PcapFault.{PcapFault}
-use Rattle.exb_pcap.specs.Captures.{pcap_records}
+use Rattle.exb_pcap.specs.Captures.{pcap_records, records_or_none}
 use Rattle.exb_flat_run.specs.declared.merge.Capture.{Capture}
 use Rattle.exb_flat_run.specs.declared.merge.Arrival.{Arrival as Arrived}
 use Rattle.exb_flat_run.specs.declared.merge.Coming.{Coming}
 use Rattle.exb_flat_run.specs.declared.merge.Coming.TheVariants as coming
-
--- the records of a capture, and none where it is not one of the grammar
-abbrev pub records_or_none : Result (List Record) PcapFault → List Record
-records_or_none (Ok records) = records
-records_or_none (Err fault) = []
 
 abbrev pub records_in : Option Capture → List Record
 records_in None = []

@@ -2,12 +2,12 @@
 ghost use Rattle.std.specs.Prelude.{◌≡◌, ◌≤◌, ◌<◌, ◌+◌, ◌∷◌, ◌++◌, [], ℕ, ◌^◌, None, All, IfOk, IfSome, OnOk, map};
 ghost use Rattle.exb_model.specs.History.{bridge_after, command_of};
 ghost use Rattle.exb_model.specs.Refusals.{refusal};
-ghost use Rattle.exb_model.specs.Input.{second_of, moment_of, segment_of};
+ghost use Rattle.exb_model.specs.Input.{Eager, second_of, moment_of, segment_of, seconds_after, segments_after};
 ghost use Rattle.exb_model.specs.EagerHistory.{is_relayed_kind, is_relayed, risen, decided, arrival_event, command_event, up_event, refusal_of, opening, with_tick, eager_segment, eagerly};
 ghost use Rattle.exb_flat.specs.Configs.{bridge_of};
 ghost use Rattle.exb_flat_run.specs.Sites.{basis_of, bounds_of};
 ghost use Rattle.exb_flat_run.specs.Inputs.{arrival_of, coming_of};
-ghost use Rattle.exb_flat_run.specs.Turns.{told, with_coming, seconds_after, segments_after};
+ghost use Rattle.exb_flat_run.specs.Turns.{told, with_coming};
 ghost use Rattle.exb_flat_run.specs.Merging.{IsAfter};
 
 use crate::merge::{Arrival, Coming};
@@ -252,7 +252,7 @@ pub fn eager(
 ) -> Result<Vec<Event>, NoMemory>
     requires { All (IsAfter start) comings.now }
     ensures { IfOk result (λ events. told events.items
-        ≡ eagerly site.now.layout (bounds_of site.now) (basis_of site.now) (opening site.now.layout (bounds_of site.now) (basis_of site.now)) (segments_after None (map coming_of comings.now))) }
+        ≡ eagerly site.now.layout (bounds_of site.now) (basis_of site.now) (opening site.now.layout (bounds_of site.now) (basis_of site.now)) (segments_after Eager None (map coming_of comings.now))) }
 {
     let mut events = opening(alloc, site)?;
     let mut last: Option<u64> = None;

@@ -265,6 +265,16 @@ impl World {
         self.log.lines.as_slice()
     }
 
+    /// Marks that memory ran out in the middle of a work: no later step is made.
+    pub fn fail(&mut self)
+        ensures failed { self.new.failed ≡ true }
+        ensures world { world_of self.new ≡ world_of self.old }
+        ensures site { self.new.site ≡ self.old.site }
+        ensures log { self.new.log ≡ self.old.log }
+    {
+        self.failed = true;
+    }
+
     /// Forgets what happened, and changes nothing else.
     pub fn clear(&mut self)
         ensures world { world_of self.new ≡ world_of self.old }

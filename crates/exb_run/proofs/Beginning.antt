@@ -8,22 +8,22 @@ use Rattle.std.proofs.lemmas.List.{length-map}
 use Rattle.exb_model.specs.declared.setup.Setup.{Setup}
 use Rattle.exb_model.specs.declared.setup.Timed.{Timed}
 use Rattle.exb_model.specs.declared.setup.Verdict.{Verdict}
-use Rattle.exb_model.specs.Input.{Input, Mode, Record, Given, arrival_in, given_by, merge}
+use Rattle.exb_model.specs.Input.{Input, Mode, Record, Given, arrival_in, given_by, merge, segments_after}
 use Rattle.exb_model.specs.Ports.{below, all_ports}
 use Rattle.exb_model.specs.Setup.{IsValid, NamesExternal, shape_of}
 use Rattle.exb_model.specs.Tree.{Shape, IsTree, is_external}
 use Rattle.exb_merge.specs.Agendas.{ToPlay, begun, still_to_come}
 use Rattle.exb_merge.specs.Streams.{Stream, stream_of, stream_at, to_come}
 use Rattle.exb_resting.specs.Motion.Playing.{IsTimely}
-use Rattle.exb_pcap.specs.Captures.{pcap_records}
+use Rattle.exb_pcap.specs.Captures.{pcap_records, records_or_none}
 use Rattle.exb_schedule.specs.Playing.{letters_in}
 use Rattle.exb_shelf.specs.Files.{Files}
 use Rattle.exb_tables.specs.declared.rows.Named.{Named}
 use Rattle.exb_topology.specs.declared.topology.Topology.{Topology}
 use Rattle.exb_topology.specs.Sound.{IsSound}
 use Rattle.exb_run.specs.declared.captures.Capture.{Capture}
-use Rattle.exb_run.specs.Inputs.{Taken, bytes_at, captures_of, input_of, is_named, records_at, records_or_none}
-use Rattle.exb_run.specs.Playing.{CanBegin, IsDueAfter, IsScript, segments_after}
+use Rattle.exb_run.specs.Inputs.{Taken, bytes_at, captures_of, input_of, is_named, records_at}
+use Rattle.exb_run.specs.Playing.{CanBegin, IsDueAfter, IsScript}
 use Rattle.exb_run.specs.Reading.{AreRead, contents, input_with, records_in, stream_in}
 use Rattle.exb_run.proofs.Counting.{passing}
 use Rattle.exb_run.proofs.Places.{external_low}

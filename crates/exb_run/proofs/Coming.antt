@@ -5,10 +5,10 @@ use mathlib.Core.List.{map-append}
 use Rattle.std.proofs.lemmas.List.{take_more}
 use Rattle.std.proofs.lemmas.List.Sums.{sum_by_push}
 use Rattle.exb_model.specs.Input.{Record}
+use Rattle.exb_pcap.specs.Captures.{records_or_none}
 use Rattle.exb_merge.specs.Streams.{Stream, stream_of}
 use Rattle.exb_pcap.specs.declared.reader.PcapFault.{PcapFault}
 use Rattle.exb_run.specs.declared.captures.Capture.{Capture}
-use Rattle.exb_run.specs.Inputs.{records_or_none}
 use Rattle.exb_run.specs.Reading.{stream_in}
 
 -- a capture that is added

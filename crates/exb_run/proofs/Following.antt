@@ -11,7 +11,7 @@ use Rattle.exb_model.specs.declared.event.Event.{Event}
 use Rattle.exb_model.specs.declared.setup.Timed.{Timed}
 use Rattle.exb_model.specs.declared.command.Command.{Command}
 use Rattle.exb_model.specs.History.{command_of}
-use Rattle.exb_model.specs.Input.{Input, Record, Arrival, Segment, Coming, Mode, basis_of, tree_of, arrivals_from, arrivals_at, arrival_in, given_by, merge, segment_of}
+use Rattle.exb_model.specs.Input.{Input, Record, Arrival, Segment, Coming, Mode, basis_of, tree_of, arrivals_from, arrivals_at, arrival_in, given_by, merge, segment_of, seconds_after, segments_after}
 use Rattle.exb_model.specs.Setup.{Limits, NamesExternal}
 use Rattle.exb_model.specs.Traces.{TraceLine}
 use Rattle.exb_model.specs.Tree.{Shape, is_external}
@@ -24,7 +24,7 @@ use Rattle.exb_network.specs.Networks.{Network, world_of, bounds_of as limits_in
 use Rattle.exb_resting.specs.Rest.Playing.{RunsAreUnderWay, arrivals_in}
 use Rattle.exb_schedule.specs.declared.segment.Arrival.{Arrival as Given}
 use Rattle.exb_schedule.specs.Playing.{CanAll, CanFrom, HasPlayed, IsSegment, arrive, arrived, gives, letters_in, orders, tick}
-use Rattle.exb_run.specs.Playing.{IsDueAfter, IsGathered, CanBeKept, CanFollow, came_by, second_by, seconds_after, segments_after}
+use Rattle.exb_run.specs.Playing.{IsDueAfter, IsGathered, CanBeKept, CanFollow, came_by, second_by}
 use Rattle.exb_run.proofs.Counters.{arrive_next, order_next, order_given, tick_next, tick_given}
 use Rattle.exb_run.proofs.Segmenting.{segments_after-next}
 use Rattle.exb_run.proofs.Taking.{HasTaken, IsFit, arrivals-append, arrivals-few, arrivals-fit, group-is, has-taken, take-front, takes-commands, takes-order, takes-start}

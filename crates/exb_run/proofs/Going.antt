@@ -3,7 +3,7 @@ use Rattle.std.proofs.Common.{◌≡◌, ◌==◌, ℕ, ◌+◌, ◌-◌, ◌≤
 use Rattle.std.specs.Prelude.{None, Some, filter_map}
 use Rattle.exb_model.specs.declared.setup.Setup.{Setup}
 use Rattle.exb_model.specs.declared.setup.Timed.{Timed}
-use Rattle.exb_model.specs.Input.{Input, Arrival, Segment, Mode, arrival_in, arrivals_at, merge, segment_of, segments}
+use Rattle.exb_model.specs.Input.{Input, Arrival, Segment, Mode, arrival_in, arrivals_at, merge, segment_of, segments, segments_after}
 use Rattle.exb_model.specs.Setup.{shape_of}
 use Rattle.exb_model.specs.Texts.{Counts, with_left}
 use Rattle.exb_model.specs.Traces.{trace_text}
@@ -18,7 +18,7 @@ use Rattle.exb_shelf.specs.Files.{Files}
 use Rattle.exb_text.specs.Tallies.{nothing_counted}
 use Rattle.exb_run.specs.declared.outputs.Outputs.{Outputs}
 use Rattle.exb_run.specs.Plans.{Planned, port_count}
-use Rattle.exb_run.specs.Playing.{Run, CanBegin, CanBePlayed, CanGoOn, IsCutOff, IsGathered, IsOpened, IsPlaying, IsTold, came_by, second_by, segments_after, text_so_far}
+use Rattle.exb_run.specs.Playing.{Run, CanBegin, CanBePlayed, CanGoOn, IsCutOff, IsGathered, IsOpened, IsPlaying, IsTold, came_by, second_by, text_so_far}
 use Rattle.exb_run.specs.Writing.{HasTexts, first_text, lines_of, pieces_of, with_left_frames, with_more}
 use Rattle.exb_run.proofs.Counting.{count_events}
 use Rattle.exb_run.proofs.Following.{can-play, commands-are, due-next, fewer, follows, is-segment, letters-are, taken}

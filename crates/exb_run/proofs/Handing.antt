@@ -19,7 +19,7 @@ use Rattle.exb_model.specs.Setup.{IsValid, NamesExternal, shape_of}
 use Rattle.exb_model.specs.Texts.{summary}
 use Rattle.exb_model.specs.Tree.{Shape, IsTree, external_ports, is_external}
 use Rattle.exb_pcap.specs.declared.reader.PcapFault.{PcapFault}
-use Rattle.exb_pcap.specs.Captures.{pcap_records}
+use Rattle.exb_pcap.specs.Captures.{pcap_records, records_or_none}
 use Rattle.exb_shelf.specs.Files.{Files}
 use Rattle.exb_topology.specs.declared.topology.Topology.{Topology}
 use Rattle.exb_topology.specs.Sound.{IsSound}
@@ -27,7 +27,7 @@ use Rattle.exb_run.specs.declared.captures.Capture.{Capture}
 use Rattle.exb_run.specs.declared.fault.Fault.{Fault}
 use Rattle.exb_run.specs.declared.fault.Fault.TheVariants.{Memory}
 use Rattle.exb_run.specs.Answers.{eager_summary}
-use Rattle.exb_run.specs.Inputs.{Taken, is_named, records_or_none}
+use Rattle.exb_run.specs.Inputs.{Taken, is_named}
 use Rattle.exb_run.specs.Outputs.{HasPlayed}
 use Rattle.exb_run.specs.Plans.{Planned}
 use Rattle.exb_run.specs.Playing.{IsScript}

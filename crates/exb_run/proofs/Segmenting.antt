@@ -3,9 +3,8 @@ use Rattle.std.proofs.Common.{◌≡◌, ◌≢◌, ℕ, Bool, true, false, ◌=
 use Rattle.std.specs.Prelude.{Option, Some, None, if◌then◌else◌}
 use Rattle.std.specs.List.{AllByRecursion}
 use Rattle.std.proofs.lemmas.Bool.{eqb-true, ne_eqb}
-use Rattle.exb_model.specs.Input.{Input, Coming, Group, Mode, Eager, Seeded, alone, groups_in, joined, merge, moment_of, second_of, segment_of, segments, segments_in, segments_since}
+use Rattle.exb_model.specs.Input.{Input, Coming, Group, Mode, Eager, Seeded, alone, groups_in, joined, merge, moment_of, second_of, segment_of, segments, segments_in, segments_since, seconds_after, segments_after}
 use Rattle.exb_merge.specs.Agendas.{begins_in}
-use Rattle.exb_run.specs.Playing.{seconds_after, segments_after}
 
 -- the second of what comes
 abbrev second_at : Coming → ℕ

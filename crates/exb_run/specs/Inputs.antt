@@ -1,8 +1,7 @@
 -- What a run is given: its topology, the captures that this names, and the input that they make.
-use Rattle.std.specs.Prelude.{ℕ, Bool, ◌==◌, if◌then◌else◌, List, [], ◌∷◌, Option, Some, None, Result, Ok, Err, map, filter, is_some}
+use Rattle.std.specs.Prelude.{ℕ, Bool, ◌==◌, if◌then◌else◌, List, [], ◌∷◌, Option, Some, None, map, filter, is_some}
 use Rattle.exb_model.specs.Input.{Input, Record, given_by}
-use Rattle.exb_pcap.specs.declared.reader.PcapFault.{PcapFault}
-use Rattle.exb_pcap.specs.Captures.{pcap_records}
+use Rattle.exb_pcap.specs.Captures.{pcap_records, records_or_none}
 use Rattle.exb_shelf.specs.Files.{Files, bytes_of}
 use Rattle.exb_tables.specs.declared.rows.Named.{Named}
 use Rattle.exb_topology.specs.declared.topology.Topology.{Topology}
@@ -27,11 +26,6 @@ abbrev pub bytes_at : List Named → Files → ℕ → List ℕ
 bytes_at names file q = bytes_named file (name_of names q)
 
 -- ---- the input
--- the records of a capture, and none where it is not one of the grammar
-abbrev pub records_or_none : Result (List Record) PcapFault → List Record
-records_or_none (Ok records) = records
-records_or_none (Err fault) = []
-
 -- the records of the capture of port q, and none where it has no capture
 abbrev pub records_at : List Named → Files → ℕ → List Record
 records_at names file q = if is_named names q then records_or_none (pcap_records (bytes_at names file q)) else []

@@ -1,12 +1,12 @@
 -- A run under way: what was told and has left so far, what is written and counted of it, and what is still to come.
-use Rattle.std.specs.Prelude.{◌≡◌, ◌≤◌, ◌<◌, ◌+◌, ◌-◌, ◌*◌, ◌^◌, ◌==◌, ℕ, false, List, [], ◌∷◌, ◌++◌, Option, Some, None, IfSome, nat_lt, if◌then◌else◌, length, map, filter_map, flat_map, fold, sum_by, All, AllPairs}
+use Rattle.std.specs.Prelude.{◌≡◌, ◌≤◌, ◌<◌, ◌+◌, ◌*◌, ◌^◌, ◌==◌, ℕ, false, List, [], ◌∷◌, ◌++◌, Option, None, IfSome, nat_lt, if◌then◌else◌, length, map, filter_map, flat_map, fold, sum_by, All, AllPairs}
 use Rattle.std.specs.List.{AllByRecursion}
 use Rattle.exb_model.specs.declared.event.Event.{Event}
 use Rattle.exb_model.specs.declared.setup.Setup.{Setup}
 use Rattle.exb_model.specs.declared.setup.Timed.{Timed}
 use Rattle.exb_model.specs.declared.setup.Verdict.{Verdict}
 use Rattle.exb_model.specs.History.{◌then◌, command_of}
-use Rattle.exb_model.specs.Input.{Input, Segment, Coming, Mode, Eager, Seeded, basis_of, tree_of, arrival_in, given_by, groups_in, merge, moment_of, second_of, segments, segments_in, segments_since}
+use Rattle.exb_model.specs.Input.{Input, Segment, Coming, Mode, Eager, Seeded, basis_of, tree_of, arrival_in, given_by, merge, moment_of, second_of, segments, segments_after, seconds_after}
 use Rattle.exb_model.specs.Setup.{NamesExternal}
 use Rattle.exb_model.specs.Texts.{Counts, counted, with_left, capture_text, journal_text}
 use Rattle.exb_model.specs.Traces.{TraceLine, trace_text}
@@ -84,16 +84,6 @@ pub record IsCutOff (m : Mode) (r : Run) (plan : Planned) (now : Files) : Type 0
   pub cut : AreCut plan r.before now (text_so_far plan told gone lines)
 
 -- ---- what comes
--- the seconds of a segment, by the second of the one before it, if there is one
-abbrev pub seconds_after : Option ℕ → ℕ → ℕ
-seconds_after None second = 0
-seconds_after (Some last) second = second - last
-
--- the segments of what is still to come
-abbrev pub segments_after : Mode → Option ℕ → List Coming → List Segment
-segments_after m None coming = segments_in (groups_in m coming)
-segments_after m (Some last) coming = segments_since last (groups_in m coming)
-
 -- the arrivals of some segments can be written in a capture
 abbrev pub CanBeKept : List Segment → Type 0
 CanBeKept so_far = AllByRecursion (λ a. a.moment < 2 ^ 32 * 1_000_000_000) (arrivals_in so_far)

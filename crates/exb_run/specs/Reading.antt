@@ -7,13 +7,13 @@ use Rattle.exb_model.specs.Input.{Input, Record, given_by}
 use Rattle.exb_model.specs.Ports.{all_ports}
 use Rattle.exb_model.specs.Tree.{Shape, is_external}
 use Rattle.exb_merge.specs.Streams.{Stream, stream_of}
-use Rattle.exb_pcap.specs.Captures.{pcap_records}
+use Rattle.exb_pcap.specs.Captures.{pcap_records, records_or_none}
 use Rattle.exb_tables.specs.declared.rows.Named.{Named}
 use Rattle.exb_keys.specs.declared.faults.TopoFault.TheVariants as topology
 use Rattle.exb_run.specs.declared.captures.Capture.{Capture}
 use Rattle.exb_run.specs.declared.fault.Fault.{Fault}
 use Rattle.exb_run.specs.declared.fault.Fault.TheVariants.{Usage, Missing, Topology as BadTopology, Capture as Faulty, Read, Write, Memory}
-use Rattle.exb_run.specs.Inputs.{Taken, is_named, records_or_none}
+use Rattle.exb_run.specs.Inputs.{Taken, is_named}
 
 -- the captures that were read, by port
 abbrev pub contents : List Capture → List Taken

@@ -1,7 +1,7 @@
 //! A run under way: the world, what is written of it, and what is counted.
 ghost use Rattle.std.specs.Prelude.{◌≡◌, ◌≤◌, ◌<◌, ◌+◌, ◌^◌, ◌++◌, ◌∷◌, [], ℕ, List, length, drop, All, fold, IsOk, IfOk, OnOk, OnErr, IfErr, None, Some, string_bytes};
 ghost use Rattle.exb_model.specs.declared.event.Event.{Event};
-ghost use Rattle.exb_model.specs.Input.{Input, Mode, Eager, Segment, segments};
+ghost use Rattle.exb_model.specs.Input.{Input, Mode, Eager, Segment, segments, seconds_after};
 ghost use Rattle.exb_model.specs.Setup.{IsValid, shape_of};
 ghost use Rattle.exb_model.specs.Texts.{counted, with_left, summary_line};
 ghost use Rattle.exb_model.specs.Traces.{TraceLine, trace_text};
@@ -15,7 +15,7 @@ ghost use Rattle.exb_schedule.specs.Worlds.{network_of, fate_in};
 ghost use Rattle.exb_shelf.specs.Files.{Files, Filled};
 ghost use Rattle.exb_text.specs.Tallies.{counts_of, nothing_counted, FitsTally};
 ghost use Rattle.exb_run.specs.Plans.{output_count, port_count};
-ghost use Rattle.exb_run.specs.Playing.{Run, CanBegin, CanBePlayed, CanGoOn, IsCutOff, IsOpened, IsPlaying, IsTold, mode_of, second_by, seconds_after};
+ghost use Rattle.exb_run.specs.Playing.{Run, CanBegin, CanBePlayed, CanGoOn, IsCutOff, IsOpened, IsPlaying, IsTold, mode_of, second_by};
 ghost use Rattle.exb_run.specs.Outputs.{AreCutEagerly, HasPlayed, output_name};
 ghost use Rattle.exb_run.specs.Shelving.{CountsFaults, IsOfWriting, OnlyMakes, OnlyWrites};
 ghost use Rattle.exb_run.specs.Writing.{AreCut, HasTexts, IsReady, pieces_of, lines_of, with_more, with_left_frames, CanBeWritten};

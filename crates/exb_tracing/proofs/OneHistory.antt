@@ -14,6 +14,7 @@ use Rattle.exb_model.specs.Lists.{Pairwise}
 use Rattle.exb_model.specs.Refusals.{refusal}
 use Rattle.exb_model.specs.Setup.{Limits}
 use Rattle.exb_model.specs.Tree.{Shape, opening_ports}
+use Rattle.exb_model.proofs.LegalPlays.{all_arrivals}
 use Rattle.exb_machine.specs.Runs.Sessions.{Each}
 use Rattle.exb_machine.proofs.Words.{each_append}
 use Rattle.exb_flight.specs.Items as items
@@ -66,7 +67,7 @@ module _ (i : Input) where
   found m h legal =
       subst (Each (IsFound (arrivals_at i))) (sym legal.segments_in_order)
       (each_then (IsFound (arrivals_at i)) (opening (tree_of i) (bounds_of i) (basis_of i)) (settled_each legal.plays)
-      (tt, found_ups (tree_of i) (bounds_of i) (basis_of i) [] (opening_ports (tree_of i)) tt) (found_plays (segments m i) legal.plays legal.arrivals_once (segments_numbered m i)))
+      (tt, found_ups (tree_of i) (bounds_of i) (basis_of i) [] (opening_ports (tree_of i)) tt) (found_plays (segments m i) legal.plays (all_arrivals (segments m i) legal.plays legal.each_played) (segments_numbered m i)))
 
   recorded : (h : History) → Each IsOfNumbers h → Each (IsFound (arrivals_at i)) h → Each (IsRecorded (arrivals_at i)) h
   recorded [] k j = tt

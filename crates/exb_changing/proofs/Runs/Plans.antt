@@ -9,7 +9,7 @@ use Rattle.exb_model.specs.Setup.{Limits, NamesExternal}
 use Rattle.exb_model.specs.Configuration.{Bridge, after}
 use Rattle.exb_plans.specs.Sets.{PortsAt}
 use Rattle.exb_model.specs.Refusals.{is_empty_set}
-use Rattle.exb_model.specs.Numbers.{IsReady}
+use Rattle.exb_model.specs.Numbers.{IsReady as NumbersAreReady}
 use Rattle.exb_plans.specs.declared.change.Change.{Change}
 use Rattle.exb_plans.specs.Held.{Held, HoldsNeeded, group_in, group_used, numbers_in}
 use Rattle.exb_plans.specs.Between.{goes_up, refusal_between, fresh_sets}
@@ -193,7 +193,7 @@ module _ (t : Shape) (l : Limits) (setting : IsSetting t l) where
 
   opening_both : (opened : ℕ → Bool) (b : Bridge) (h : Held) → HoldsNeeded t b h → ((q : ℕ) → b.present q ≡ true → is_external t q ≡ true) → AreOpened t opened b → HasBoth t opened b b h
   opening_both opened b h needed external order =
-      let numbers : IsReady t b (numbers_in h) = needed_numbers t setting.tree b h needed external in
+      let numbers : NumbersAreReady t b (numbers_in h) = needed_numbers t setting.tree b h needed external in
       let laid_out : IsLaidOut t opened b h = rest_is_laid_out t b h opened setting.tree needed order in
       record {
         before = numbers;

@@ -1,6 +1,6 @@
 -- What the journal tells of jobs stands where refusals say, and each job is decided once.
 use Rattle.std.proofs.Common.{◌≡◌, ℕ, ◌++◌, List, [], ◌∷◌, Option, Some, None, refl, sym, ◌∙◌, ap, subst}
-use Rattle.std.specs.Prelude.{IfSome}
+use Rattle.std.specs.Prelude.{IsSomeAnd}
 use Rattle.exb_model.specs.declared.command.Command.{Command}
 use Rattle.exb_model.specs.declared.command.Command.TheVariants as command
 use Rattle.exb_model.specs.declared.event.Cause.{Cause}
@@ -123,7 +123,7 @@ module _ (t : Shape) (l : Limits) (i : Basis) where
       (let r : bridge_after i (event.Commit n ∷ h) ≡ after c b = commits is in
       record {
         just = record {
-          decided = subst (λ (o : Option Command). IfSome o (λ d. refusal t l (bridge_after i h) d ≡ None)) (sym of) (ap (λ (k : Bridge). refusal t l k c) is ∙ cause);
+          decided = subst (λ (o : Option Command). IsSomeAnd o (λ d. refusal t l (bridge_after i h) d ≡ None)) (sym of) (ap (λ (k : Bridge). refusal t l k c) is ∙ cause);
           risen = tt;
           has = (c, of);
         };
@@ -140,7 +140,7 @@ module _ (t : Shape) (l : Limits) (i : Basis) where
       (let r : bridge_after i (event.Refuse n x ∷ h) ≡ b = stays is in
       record {
         just = record {
-          decided = subst (λ (o : Option Command). IfSome o (λ d. refusal t l (bridge_after i h) d ≡ Some x)) (sym of) (ap (λ (k : Bridge). refusal t l k c) is ∙ cause);
+          decided = subst (λ (o : Option Command). IsSomeAnd o (λ d. refusal t l (bridge_after i h) d ≡ Some x)) (sym of) (ap (λ (k : Bridge). refusal t l k c) is ∙ cause);
           risen = tt;
           has = (c, of);
         };

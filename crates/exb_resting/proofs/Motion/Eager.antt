@@ -1,6 +1,6 @@
 -- A legal history of the eager mode in which the seconds of each segment pass first is the eager history.
 use Rattle.std.proofs.Common.{◌≡◌, ◌⊎◌, ℕ, suc, ◌-◌, ◌==◌, ◌++◌, Bool, true, false, cond, List, [], ◌∷◌, map, Option, Some, None, refl, ap, sym, ◌∙◌, subst, arith, inl, inr}
-use Rattle.std.specs.Prelude.{is_some, filter_map, IfSome, All, IsPermutation}
+use Rattle.std.specs.Prelude.{filter_map, IsSomeAnd, All, IsPermutation}
 use Rattle.std.proofs.lemmas.Bool.{false≢true}
 use Rattle.std.proofs.lemmas.List.Elements.{All-cons, All-nil, All-contains, filter_map-append}
 use Rattle.std.proofs.lemmas.List.Sorted.{length_permutation, All-permutation}
@@ -12,7 +12,7 @@ use Rattle.exb_model.specs.Configuration.{Bridge}
 use Rattle.exb_model.specs.EagerHistory.{is_relayed, arrival_event, decided, refusal_of, command_event, with_tick, with_commands, with_arrivals, eager_segment, eagerly}
 use Rattle.exb_model.specs.History.{Basis, History, ◌then◌, command_of, bridge_after}
 use Rattle.exb_model.specs.Input.{Input, Arrival, Coming, Ordered, Captured, Segment, Eager, second_of, moment_of, groups_in, segment_of, segments_since, segments_in, segments, merge}
-use Rattle.exb_model.specs.LegalHistory.{EachEvent, IsOfSegment, settled_each, number_of, place_of, tick_of, PlaysCommands, PlaysArrivals, PlaysTick, IsDecided, IsEntered, IsRelayOf}
+use Rattle.exb_model.specs.LegalHistory.{EachEvent, IsOfSegment, settled_each, number_of, place_of, tick_of, Plays, IsDecided, IsEntered, IsRelayOf}
 use Rattle.exb_model.specs.Lists.{numbered, Pairwise}
 use Rattle.exb_model.specs.Refusals.{refusal}
 use Rattle.exb_model.specs.Setup.{Limits}
@@ -124,43 +124,41 @@ later : (e : Event) (es : List Event) → All IsOfSegment (e ∷ es) → All IsO
 later e es of j d x = of (suc j) d (omega (arith, x))
 
 module _ (t : Shape) (l : Limits) (b : Basis) (arrivals : ℕ → List Arrival) where
-  by_refusal : (k : Bridge) (o : Option Command) (x : Option Cause) → IfSome o (λ c. refusal t l k c ≡ x) → is_some o ≡ true → refusal_of t l k o ≡ x
-  by_refusal k None x z e = absurd (false≢true e)
-  by_refusal k (Some c) x z e = z
+  by_refusal : (k : Bridge) (o : Option Command) (x : Option Cause) → IsSomeAnd o (λ c. refusal t l k c ≡ x) → refusal_of t l k o ≡ x
+  by_refusal k None x z = absurd z
+  by_refusal k (Some c) x z = z
 
   -- what happens of a command alone
-  only_command : (es : List Event) (h : History) (n : ℕ) → is_some (command_of b n) ≡ true → filter_map number_of es ≡ n ∷ [] → filter_map place_of es ≡ [] → filter_map tick_of es ≡ [] → All IsOfSegment es → EachEvent (IsDecided t l b) (h then es) →
+  only_command : (es : List Event) (h : History) (n : ℕ) → filter_map number_of es ≡ n ∷ [] → filter_map place_of es ≡ [] → filter_map tick_of es ≡ [] → All IsOfSegment es → EachEvent (IsDecided t l b) (h then es) →
       es ≡ command_event t l b (bridge_after b h) n ∷ []
-  only_command [] h n some numbers places ticks of d = absurd (cons_nil (sym numbers))
-  only_command (event.Relay p k m f ∷ es) h n some numbers places ticks of d = absurd (cons_nil places)
-  only_command (event.Ignored p k ∷ es) h n some numbers places ticks of d = absurd (cons_nil places)
-  only_command (event.Tick seconds ∷ es) h n some numbers places ticks of d = absurd (cons_nil ticks)
-  only_command (event.Up p ∷ es) h n some numbers places ticks of d = absurd (of 0 event.Settled (omega arith))
-  only_command (event.NoUp p x ∷ es) h n some numbers places ticks of d = absurd (of 0 event.Settled (omega arith))
-  only_command (event.Settled ∷ es) h n some numbers places ticks of d = absurd (of 0 event.Settled (omega arith))
-  only_command (event.Commit k ∷ es) h n some numbers places ticks of d =
+  only_command [] h n numbers places ticks of d = absurd (cons_nil (sym numbers))
+  only_command (event.Relay p k m f ∷ es) h n numbers places ticks of d = absurd (cons_nil places)
+  only_command (event.Ignored p k ∷ es) h n numbers places ticks of d = absurd (cons_nil places)
+  only_command (event.Tick seconds ∷ es) h n numbers places ticks of d = absurd (cons_nil ticks)
+  only_command (event.Up p ∷ es) h n numbers places ticks of d = absurd (of 0 event.Settled (omega arith))
+  only_command (event.NoUp p x ∷ es) h n numbers places ticks of d = absurd (of 0 event.Settled (omega arith))
+  only_command (event.Settled ∷ es) h n numbers places ticks of d = absurd (of 0 event.Settled (omega arith))
+  only_command (event.Commit k ∷ es) h n numbers places ticks of d =
       let none = nothing_more es (tails numbers) places ticks (later (event.Commit k) es of) in
-      let here : IfSome (command_of b k) (λ c. refusal t l (bridge_after b h) c ≡ None) = (each_before (IsDecided t l b) es (event.Commit k ∷ h) d).1 in
-      let known : is_some (command_of b k) ≡ true = subst (λ (m : ℕ). is_some (command_of b m) ≡ true) (sym (heads numbers)) some in
+      let here : IsSomeAnd (command_of b k) (λ c. refusal t l (bridge_after b h) c ≡ None) = (each_before (IsDecided t l b) es (event.Commit k ∷ h) d).1 in
       ap (λ (zs : List Event). event.Commit k ∷ zs) none
-      ∙ (ap (λ (o : Option Cause). decided k o ∷ []) (sym (by_refusal (bridge_after b h) (command_of b k) None here known)) ∙ ap (λ (m : ℕ). command_event t l b (bridge_after b h) m ∷ []) (heads numbers))
-  only_command (event.Refuse k x ∷ es) h n some numbers places ticks of d =
+      ∙ (ap (λ (o : Option Cause). decided k o ∷ []) (sym (by_refusal (bridge_after b h) (command_of b k) None here)) ∙ ap (λ (m : ℕ). command_event t l b (bridge_after b h) m ∷ []) (heads numbers))
+  only_command (event.Refuse k x ∷ es) h n numbers places ticks of d =
       let none = nothing_more es (tails numbers) places ticks (later (event.Refuse k x) es of) in
-      let here : IfSome (command_of b k) (λ c. refusal t l (bridge_after b h) c ≡ Some x) = (each_before (IsDecided t l b) es (event.Refuse k x ∷ h) d).1 in
-      let known : is_some (command_of b k) ≡ true = subst (λ (m : ℕ). is_some (command_of b m) ≡ true) (sym (heads numbers)) some in
+      let here : IsSomeAnd (command_of b k) (λ c. refusal t l (bridge_after b h) c ≡ Some x) = (each_before (IsDecided t l b) es (event.Refuse k x ∷ h) d).1 in
       ap (λ (zs : List Event). event.Refuse k x ∷ zs) none
-      ∙ (ap (λ (o : Option Cause). decided k o ∷ []) (sym (by_refusal (bridge_after b h) (command_of b k) (Some x) here known)) ∙ ap (λ (m : ℕ). command_event t l b (bridge_after b h) m ∷ []) (heads numbers))
+      ∙ (ap (λ (o : Option Cause). decided k o ∷ []) (sym (by_refusal (bridge_after b h) (command_of b k) (Some x) here)) ∙ ap (λ (m : ℕ). command_event t l b (bridge_after b h) m ∷ []) (heads numbers))
 
   -- what happens of an arrival alone
   relay_is : (h : History) (a y : Arrival) → y ≡ a → is_relayed (bridge_after b h) y.port y.bytes ≡ true → event.Relay y.port y.index y.moment y.bytes ≡ arrival_event (bridge_after b h) a
   relay_is h a y same relayed =
       sym (ap (λ (c : Bool). cond c (event.Relay y.port y.index y.moment y.bytes) (event.Ignored y.port y.index)) relayed) ∙ ap (arrival_event (bridge_after b h)) same
 
-  ignored_is : (h : History) (a : Arrival) (p n : ℕ) → p ≡ a.port → n ≡ a.index → numbered (arrivals a.port) a.index ≡ Some a → IfSome (numbered (arrivals p) n) (λ x. is_relayed (bridge_after b h) p x.bytes ≡ false) →
+  ignored_is : (h : History) (a : Arrival) (p n : ℕ) → p ≡ a.port → n ≡ a.index → numbered (arrivals a.port) a.index ≡ Some a → IsSomeAnd (numbered (arrivals p) n) (λ x. is_relayed (bridge_after b h) p x.bytes ≡ false) →
       event.Ignored p n ≡ arrival_event (bridge_after b h) a
   ignored_is h a p n port index found not =
       let there : numbered (arrivals p) n ≡ Some a = ap (λ (q : ℕ). numbered (arrivals q) n) port ∙ (ap (numbered (arrivals a.port)) index ∙ found) in
-      let no : is_relayed (bridge_after b h) p a.bytes ≡ false = subst (λ (o : Option Arrival). IfSome o (λ x. is_relayed (bridge_after b h) p x.bytes ≡ false)) there not in
+      let no : is_relayed (bridge_after b h) p a.bytes ≡ false = subst (λ (o : Option Arrival). IsSomeAnd o (λ x. is_relayed (bridge_after b h) p x.bytes ≡ false)) there not in
       ap (λ (q : ℕ). event.Ignored q n) port
       ∙ (ap (λ (m : ℕ). event.Ignored a.port m) index
       ∙ sym (ap (λ (c : Bool). cond c (event.Relay a.port a.index a.moment a.bytes) (event.Ignored a.port a.index)) (ap (λ (q : ℕ). is_relayed (bridge_after b h) q a.bytes) (sym port) ∙ no)))
@@ -182,7 +180,7 @@ module _ (t : Shape) (l : Limits) (b : Basis) (arrivals : ℕ → List Arrival) 
       ap (λ (zs : List Event). event.Relay p n m f ∷ zs) none ∙ ap (λ (e : Event). e ∷ []) (relay_is h a y same here)
   only_arrival (event.Ignored p n ∷ es) h a found numbers places ticks of relays d =
       let none = nothing_more es numbers (tails places) ticks (later (event.Ignored p n) es of) in
-      let here : IfSome (numbered (arrivals p) n) (λ x. is_relayed (bridge_after b h) p x.bytes ≡ false) = (each_before (IsEntered b arrivals) es (event.Ignored p n ∷ h) d).1 in
+      let here : IsSomeAnd (numbered (arrivals p) n) (λ x. is_relayed (bridge_after b h) p x.bytes ≡ false) = (each_before (IsEntered b arrivals) es (event.Ignored p n ∷ h) d).1 in
       let place : (p, n) ≡ (a.port, a.index) = heads places in
       ap (λ (zs : List Event). event.Ignored p n ∷ zs) none
       ∙ ap (λ (e : Event). e ∷ []) (ignored_is h a p n (ap (λ (z : ℕ × ℕ). z.0) place) (ap (λ (z : ℕ × ℕ). z.1) place) found here)
@@ -190,13 +188,9 @@ module _ (t : Shape) (l : Limits) (b : Basis) (arrivals : ℕ → List Arrival) 
   -- ---- one segment
   -- what is legal of it
   record IsLegalPart (s : Segment) (es : List Event) : Type 0 where
-    of_segment : All IsOfSegment es
-    commands : PlaysCommands s es
-    came : PlaysArrivals s es
-    tick : PlaysTick s es
+    plays : Plays s es
     first : TellsFirst s es
     single : IsSingle s
-    known : Each (λ (n : ℕ). is_some (command_of b n) ≡ true) s.commands
     found : Each (λ (a : Arrival). numbered (arrivals a.port) a.index ≡ Some a) s.arrivals
 
   segment_is : (s : Segment) (es : List Event) (h : History) → IsLegalPart s es → EachEvent (IsDecided t l b) (h then es) → EachEvent (IsEntered b arrivals) (h then es) → (h then (es ++ event.Settled ∷ [])) ≡ eager_segment t l b h s
@@ -212,7 +206,7 @@ module _ (t : Shape) (l : Limits) (b : Basis) (arrivals : ℕ → List Arrival) 
       ticks : filter_map tick_of k.first.rest ≡ []
       ticks =
           front_same (cond (s.seconds == 0) [] (s.seconds ∷ [])) (filter_map tick_of k.first.rest)
-          (ap (λ (zs : List ℕ). zs ++ filter_map tick_of k.first.rest) (sym (tick_told s.seconds)) ∙ (sym (filter_map-append tick_of (tick_in s.seconds) k.first.rest) ∙ (ap (filter_map tick_of) (sym k.first.is) ∙ k.tick)))
+          (ap (λ (zs : List ℕ). zs ++ filter_map tick_of k.first.rest) (sym (tick_told s.seconds)) ∙ (sym (filter_map-append tick_of (tick_in s.seconds) k.first.rest) ∙ (ap (filter_map tick_of) (sym k.first.is) ∙ k.plays.tick)))
 
       numbers : filter_map number_of k.first.rest ≡ filter_map number_of es
       numbers = ap (λ (zs : List ℕ). zs ++ filter_map number_of k.first.rest) (sym (no_numbers s.seconds)) ∙ (sym (filter_map-append number_of (tick_in s.seconds) k.first.rest) ∙ ap (filter_map number_of) (sym k.first.is))
@@ -221,7 +215,7 @@ module _ (t : Shape) (l : Limits) (b : Basis) (arrivals : ℕ → List Arrival) 
       places = ap (λ (zs : List (ℕ × ℕ)). zs ++ filter_map place_of k.first.rest) (sym (no_places s.seconds)) ∙ (sym (filter_map-append place_of (tick_in s.seconds) k.first.rest) ∙ ap (filter_map place_of) (sym k.first.is))
 
       of : All IsOfSegment k.first.rest
-      of = all_behind IsOfSegment (tick_in s.seconds) k.first.rest (subst (All IsOfSegment) k.first.is k.of_segment)
+      of = all_behind IsOfSegment (tick_in s.seconds) k.first.rest (subst (All IsOfSegment) k.first.is k.plays.of_segment)
 
       decides : EachEvent (IsDecided t l b) ((h then tick_in s.seconds) then k.first.rest)
       decides = subst (EachEvent (IsDecided t l b)) (ap (λ (zs : List Event). h then zs) k.first.is ∙ then_both h (tick_in s.seconds) k.first.rest) d
@@ -231,37 +225,32 @@ module _ (t : Shape) (l : Limits) (b : Basis) (arrivals : ℕ → List Arrival) 
 
       by_single : IsSingle s → ((h then tick_in s.seconds) then k.first.rest) ≡ with_arrivals b (with_commands t l b (with_tick s.seconds h) s.commands) s.arrivals
       by_single (inl (n, one, none)) =
-          let some : is_some (command_of b n) ≡ true = (subst (Each (λ (m : ℕ). is_some (command_of b m) ≡ true)) one k.known).0 in
-          let nowhere : filter_map place_of es ≡ [] = none_permuted (filter_map place_of es) (subst (λ (zs : List Arrival). IsPermutation (filter_map place_of es) (map (λ a. (a.port, a.index)) zs)) none k.came.once) in
-          let is = only_command k.first.rest (h then tick_in s.seconds) n some (numbers ∙ (k.commands ∙ one)) (places ∙ nowhere) ticks of decides in
+          let nowhere : filter_map place_of es ≡ [] = none_permuted (filter_map place_of es) (subst (λ (zs : List Arrival). IsPermutation (filter_map place_of es) (map (λ a. (a.port, a.index)) zs)) none k.plays.arrivals.once) in
+          let is = only_command k.first.rest (h then tick_in s.seconds) n (numbers ∙ (k.plays.commands ∙ one)) (places ∙ nowhere) ticks of decides in
           ap (λ (zs : List Event). (h then tick_in s.seconds) then zs) is
           ∙ (ap (λ (z : History). command_event t l b (bridge_after b z) n ∷ z) (with_tick_is s.seconds h)
           ∙ sym (ap (λ (ns : List ℕ). with_arrivals b (with_commands t l b (with_tick s.seconds h) ns) s.arrivals) one ∙ ap (with_arrivals b (command_event t l b (bridge_after b (with_tick s.seconds h)) n ∷ with_tick s.seconds h)) none))
       by_single (inr (a, none, one)) =
           let found : numbered (arrivals a.port) a.index ≡ Some a = (subst (Each (λ (x : Arrival). numbered (arrivals x.port) x.index ≡ Some x)) one k.found).0 in
-          let there : filter_map place_of es ≡ (a.port, a.index) ∷ [] = one_permuted (filter_map place_of es) (a.port, a.index) (subst (λ (zs : List Arrival). IsPermutation (filter_map place_of es) (map (λ a. (a.port, a.index)) zs)) one k.came.once) in
-          let relays : All (IsRelayOf (a ∷ [])) k.first.rest = all_behind (IsRelayOf (a ∷ [])) (tick_in s.seconds) k.first.rest (subst (All (IsRelayOf (a ∷ []))) k.first.is (subst (λ (zs : List Arrival). All (IsRelayOf zs) es) one k.came.relays)) in
-          let is = only_arrival k.first.rest (h then tick_in s.seconds) a found (numbers ∙ (k.commands ∙ none)) (places ∙ there) ticks of relays enters in
+          let there : filter_map place_of es ≡ (a.port, a.index) ∷ [] = one_permuted (filter_map place_of es) (a.port, a.index) (subst (λ (zs : List Arrival). IsPermutation (filter_map place_of es) (map (λ a. (a.port, a.index)) zs)) one k.plays.arrivals.once) in
+          let relays : All (IsRelayOf (a ∷ [])) k.first.rest = all_behind (IsRelayOf (a ∷ [])) (tick_in s.seconds) k.first.rest (subst (All (IsRelayOf (a ∷ []))) k.first.is (subst (λ (zs : List Arrival). All (IsRelayOf zs) es) one k.plays.arrivals.relays)) in
+          let is = only_arrival k.first.rest (h then tick_in s.seconds) a found (numbers ∙ (k.plays.commands ∙ none)) (places ∙ there) ticks of relays enters in
           ap (λ (zs : List Event). (h then tick_in s.seconds) then zs) is
           ∙ (ap (λ (z : History). arrival_event (bridge_after b z) a ∷ z) (with_tick_is s.seconds h)
           ∙ sym (ap (λ (ns : List ℕ). with_arrivals b (with_commands t l b (with_tick s.seconds h) ns) s.arrivals) none ∙ ap (with_arrivals b (with_tick s.seconds h)) one))
 
   -- ---- all segments
   pub record AreLegalParts (ss : List Segment) (plays : List (List Event)) : Type 0 where
-    pub of_segments : All (All IsOfSegment) plays
-    pub commands : Pairwise PlaysCommands ss plays
-    pub came : Pairwise PlaysArrivals ss plays
-    pub ticks : Pairwise PlaysTick ss plays
+    pub each_played : Pairwise Plays ss plays
     pub firsts : Pairwise TellsFirst ss plays
     pub singles : Each IsSingle ss
-    pub known : Each (λ (s : Segment). Each (λ (n : ℕ). is_some (command_of b n) ≡ true) s.commands) ss
     pub found : Each (λ (s : Segment). Each (λ (a : Arrival). numbered (arrivals a.port) a.index ≡ Some a) s.arrivals) ss
 
   pub eager_is : (ss : List Segment) (plays : List (List Event)) (h : History) → AreLegalParts ss plays → EachEvent (IsDecided t l b) (h then settled_each plays) → EachEvent (IsEntered b arrivals) (h then settled_each plays) →
       (h then settled_each plays) ≡ eagerly t l b h ss
   eager_is [] [] h k d e = refl
-  eager_is [] (es ∷ plays) h k d e = absurd k.commands
-  eager_is (s ∷ ss) [] h k d e = absurd k.commands
+  eager_is [] (es ∷ plays) h k d e = absurd k.each_played
+  eager_is (s ∷ ss) [] h k d e = absurd k.each_played
   eager_is (s ∷ ss) (es ∷ plays) h k d e =
       let whole : (h then settled_each (es ∷ plays)) ≡ ((h then (es ++ event.Settled ∷ [])) then settled_each plays) = then_both h (es ++ event.Settled ∷ []) (settled_each plays) in
       let d1 = subst (EachEvent (IsDecided t l b)) whole d in
@@ -269,24 +258,16 @@ module _ (t : Shape) (l : Limits) (b : Basis) (arrivals : ℕ → List Arrival) 
       let d2 : EachEvent (IsDecided t l b) (h then es) = (subst (EachEvent (IsDecided t l b)) (then_both h es (event.Settled ∷ [])) (each_before (IsDecided t l b) (settled_each plays) (h then (es ++ event.Settled ∷ [])) d1)).0 in
       let e2 : EachEvent (IsEntered b arrivals) (h then es) = (subst (EachEvent (IsEntered b arrivals)) (then_both h es (event.Settled ∷ [])) (each_before (IsEntered b arrivals) (settled_each plays) (h then (es ++ event.Settled ∷ [])) e1)).0 in
       let part : IsLegalPart s es = record {
-        of_segment = k.of_segments 0 es (omega arith);
-        commands = k.commands.0;
-        came = k.came.0;
-        tick = k.ticks.0;
+        plays = k.each_played.0;
         first = k.firsts.0;
         single = k.singles.0;
-        known = k.known.0;
         found = k.found.0;
       } in
       let one = segment_is s es h part d2 e2 in
       let rest : AreLegalParts ss plays = record {
-        of_segments = λ j x z. k.of_segments (suc j) x (omega (arith, z));
-        commands = k.commands.1;
-        came = k.came.1;
-        ticks = k.ticks.1;
+        each_played = k.each_played.1;
         firsts = k.firsts.1;
         singles = k.singles.1;
-        known = k.known.1;
         found = k.found.1;
       } in
       whole

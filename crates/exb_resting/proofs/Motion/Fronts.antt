@@ -35,7 +35,7 @@ use Rattle.exb_resting.proofs.Motion.Histories.{HasCommands, longer, decided_sta
 use Rattle.exb_resting.proofs.Motion.InFile.{IsNumberedIn, segments_numbered, in_file_order}
 use Rattle.exb_resting.proofs.Motion.Keeping.{kept_commands}
 use Rattle.exb_resting.proofs.Motion.Numbers.{Front, HasCommand, GoOn, go_on, as_many, front_range, all_commands}
-use Rattle.exb_resting.proofs.Motion.Playing.{IsLegal, legal, mapped, known_all}
+use Rattle.exb_resting.proofs.Motion.Playing.{IsLegal, legal, mapped}
 use Rattle.exb_resting.proofs.Motion.Setups.{setups_may_start}
 use Rattle.exb_resting.proofs.Motion.Standing.{begins_kept, runs_kept}
 
@@ -179,13 +179,9 @@ module _ (round : TagRoundTrip) (words : SendsAreWords) (leave : SendsLeaveAsFla
       in_order
       ∙ eager_is (tree_of i) (bounds_of i) (basis_in i) (arrivals_in i) ss is_legal.plays (opening (tree_of i) (bounds_of i) (basis_in i))
       (record {
-        of_segments = is_legal.of_segments;
-        commands = is_legal.commands_in_order;
-        came = is_legal.arrivals_once;
-        ticks = is_legal.ticks;
+        each_played = is_legal.each_played;
         firsts = is_legal.firsts seconds_first;
         singles = singles i ss rest timely front;
-        known = known_all (basis_in i) 1 ss (goes i ss rest timely front);
         found = found i ss rest timely front;
       })
       (subst (EachEvent (IsDecided (tree_of i) (bounds_of i) (basis_in i))) in_order refused) (subst (EachEvent (IsEntered (basis_in i) (arrivals_in i))) in_order relayed)

@@ -1,5 +1,5 @@
 -- More commands change nothing of what was so far: a history reads the same where each command that it names was given.
-use Rattle.std.specs.Prelude.{IfSome, slice_get}
+use Rattle.std.specs.Prelude.{IsSomeAnd, slice_get}
 use Rattle.std.proofs.Common.{◌≡◌, ℕ, zero, suc, ◌==◌, ◌++◌, false, List, [], ◌∷◌, Option, Some, None, refl, sym, ◌∙◌, ap, subst, inl, inr}
 use Rattle.std.proofs.lemmas.Bool.{cases_Bool}
 use mathlib.Core.Path.{fun_ext}
@@ -119,11 +119,11 @@ module _ (i : Basis) (cs : List Command) where
   -- ---- what is refused, relayed and opened
   decided_step : (t : Shape) (l : Limits) (h : History) (e : Event) → HasCommand i e → bridge_after (longer i cs) h ≡ bridge_after i h → IsDecided t l i h e → IsDecided t l (longer i cs) h e
   decided_step t l h (event.Commit n) has same k =
-      subst (λ (o : Option Command). IfSome o (λ c. refusal t l (bridge_after (longer i cs) h) c ≡ None)) (sym (command_stays n has.0 has.1))
-      (subst (λ (b : Bridge). IfSome (command_of i n) (λ c. refusal t l b c ≡ None)) (sym same) k)
+      subst (λ (o : Option Command). IsSomeAnd o (λ c. refusal t l (bridge_after (longer i cs) h) c ≡ None)) (sym (command_stays n has.0 has.1))
+      (subst (λ (b : Bridge). IsSomeAnd (command_of i n) (λ c. refusal t l b c ≡ None)) (sym same) k)
   decided_step t l h (event.Refuse n x) has same k =
-      subst (λ (o : Option Command). IfSome o (λ c. refusal t l (bridge_after (longer i cs) h) c ≡ Some x)) (sym (command_stays n has.0 has.1))
-      (subst (λ (b : Bridge). IfSome (command_of i n) (λ c. refusal t l b c ≡ Some x)) (sym same) k)
+      subst (λ (o : Option Command). IsSomeAnd o (λ c. refusal t l (bridge_after (longer i cs) h) c ≡ Some x)) (sym (command_stays n has.0 has.1))
+      (subst (λ (b : Bridge). IsSomeAnd (command_of i n) (λ c. refusal t l b c ≡ Some x)) (sym same) k)
   decided_step t l h (event.Relay p n m f) has same k = tt
   decided_step t l h (event.Ignored p n) has same k = tt
   decided_step t l h (event.Tick seconds) has same k = tt
@@ -137,7 +137,7 @@ module _ (i : Basis) (cs : List Command) where
 
   entered_step : (arrivals : ℕ → List Arrival) (h : History) (e : Event) → bridge_after (longer i cs) h ≡ bridge_after i h → IsEntered i arrivals h e → IsEntered (longer i cs) arrivals h e
   entered_step arrivals h (event.Relay p n m f) same k = ap (λ (b : Bridge). is_relayed b p f) same ∙ k
-  entered_step arrivals h (event.Ignored p n) same k = subst (λ (b : Bridge). IfSome (numbered (arrivals p) n) (λ a. is_relayed b p a.bytes ≡ false)) (sym same) k
+  entered_step arrivals h (event.Ignored p n) same k = subst (λ (b : Bridge). IsSomeAnd (numbered (arrivals p) n) (λ a. is_relayed b p a.bytes ≡ false)) (sym same) k
   entered_step arrivals h (event.Tick seconds) same k = tt
   entered_step arrivals h (event.Commit n) same k = tt
   entered_step arrivals h (event.Refuse n x) same k = tt

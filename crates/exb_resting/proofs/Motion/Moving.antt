@@ -1,9 +1,8 @@
 -- A world that stands goes on standing, whatever is said to have been given, told and to have left: that it is kept after something
 -- says all of the world that a step needs.
-use Rattle.std.proofs.Common.{◌≡◌, ℕ, zero, suc, ◌+◌, ◌<◌, ◌≤◌, ◌==◌, ◌&&◌, ◌++◌, cond, nat_lt, nat_le, Bool, true, false, List, [], ◌∷◌, length, reverse, Option, Some, None, refl, sym, ◌∙◌, ap, subst, arith, length-append, add-zero}
-use Rattle.std.specs.Prelude.{IfSome, filter_map, map}
+use Rattle.std.proofs.Common.{◌≡◌, ℕ, ◌+◌, ◌<◌, ◌≤◌, ◌==◌, ◌&&◌, ◌++◌, true, false, List, [], ◌∷◌, length, reverse, Option, Some, None, refl, sym, ◌∙◌, ap, subst, length-append, add-zero}
+use Rattle.std.specs.Prelude.{IsSomeAnd, filter_map}
 use Rattle.std.specs.List.{range_with_len}
-use Rattle.std.proofs.lemmas.Bool.{eq-eqb, ltb-true, leb-true}
 use Rattle.std.proofs.lemmas.List.{append-nil, append_assoc, append_cancel_left}
 use Rattle.std.proofs.lemmas.List.Elements.{filter_map-append}
 use mathlib.Core.Path.{fun_ext}
@@ -22,7 +21,7 @@ use Rattle.exb_model.specs.LegalHistory.{EachEvent, number_of, IsDecided, IsEnte
 use Rattle.exb_model.specs.Lists.{numbered}
 use Rattle.exb_model.specs.Refusals.{refusal}
 use Rattle.exb_model.specs.Setup.{Limits}
-use Rattle.exb_model.specs.Tree.{Shape, is_external, opening_ports}
+use Rattle.exb_model.specs.Tree.{Shape, is_external}
 use Rattle.exb_frame.specs.TagValues.{TagRoundTrip}
 use Rattle.exb_learn.specs.Calls.{Tick, Table, look_in}
 use Rattle.exb_learn.specs.Calls.{after_call as after_one}
@@ -43,20 +42,18 @@ use Rattle.exb_machine.proofs.Journal.{follows_telling}
 use Rattle.exb_machine.proofs.Runs.{steps_stay_sound}
 use Rattle.exb_flight.specs.Facts.{IsOf, AreOf}
 use Rattle.exb_flight.specs.Items.{Each}
-use Rattle.exb_flight.specs.Naming.{told_by as named_by, told_at, times, once_to, firsts, indices}
-use Rattle.exb_flight.proofs.NamingLists.{times_append, firsts_append, numbered_last, each_front, each_back, each_join}
+use Rattle.exb_flight.proofs.NamingLists.{numbered_last, each_front, each_back, each_join}
 use Rattle.exb_resting.specs.Flight.Promises.{owed_at}
 use Rattle.exb_resting.specs.Flight.Showing.{left_at}
 use Rattle.exb_resting.proofs.Flight.Relaying.{left_append}
 use Rattle.exb_resting.proofs.Flight.Standing.{stood_promises}
 use Rattle.exb_resting.specs.Motion.Given.{Given, given_by, arrivals_at, commands_of, basis_with}
-use Rattle.exb_resting.specs.Motion.Stands.{waiting_at, command_number, automatic_port, up_port, IsOfArrival, NamesGiven, AreDecided, IsRisen, IsRightly, Stands}
+use Rattle.exb_resting.specs.Motion.Stands.{command_number, automatic_port, up_port, AreDecided, IsRisen, IsRightly, Stands}
 use Rattle.exb_resting.specs.Motion.Kept.{MayStart, MayDo, IsSurely, Kept, StandsGoOn}
 use Rattle.exb_resting.proofs.Motion.Deciding.{IsJust, AreJust, journal_just}
 use Rattle.exb_resting.proofs.Motion.Histories.{HasCommand, HasCommands, longer, command_stays, bridge_stays, table_stays, flat_stays}
 use Rattle.exb_resting.proofs.Motion.Jobs.{reverse_then, numbers_of_jobs, ups_of_jobs, told_numbers, told_ups, after_numbers, after_ups, all_of}
 use Rattle.exb_resting.proofs.Motion.Keeping.{commands_append, basis_more, all_longer, range_more, ordered_given, IsMet, IsRenewed, step_renewed, step_kept}
-use Rattle.exb_resting.proofs.Motion.Naming.{told_step}
 use Rattle.exb_resting.proofs.Motion.Standing.{rightly, kept_stands}
 
 -- ---- each command that a history names was given
@@ -95,78 +92,34 @@ module _ (i : Basis) where
       (history_given h (each_front WasGiven before last both), event_given e (each_back WasGiven before last both))
 
 -- ---- each Ignored is of an arrival that was given
-numbered_low : {X : Type 0} (xs : List X) (n : ℕ) → 0 < n → n ≤ length xs → (x : X) × (numbered xs n ≡ Some x)
-numbered_low xs zero some low = absurd (omega (arith, some))
-numbered_low [] (suc n) some low = absurd (omega (arith, low))
-numbered_low (x ∷ xs) (suc zero) some low = (x, refl)
-numbered_low (x ∷ xs) (suc (suc n)) some low = numbered_low xs (suc n) (omega arith) (omega (arith, low))
+module _ (i : Basis) (arrivals : ℕ → List Arrival) where
+  some_there : {X : Type 0} (P : X → Type 0) (o : Option X) → IsSomeAnd o P → (x : X) × (o ≡ Some x) × P x
+  some_there P None k = absurd k
+  some_there P (Some x) k = (x, refl, k)
 
-numbered_once : {X : Type 0} (xs : List X) (n : ℕ) → 1 ≤ once_to (length xs) n → (x : X) × (numbered xs n ≡ Some x)
-numbered_once xs n once =
-    let both = by_tests (nat_lt 0 n) (nat_le n (length xs)) once in
-    numbered_low xs n (lt_of n both.0) (le_of n (length xs) both.1)
-  where
-    by_tests : (a b : Bool) → 1 ≤ cond {A = ℕ} (a && b) 1 0 → (a ≡ true) × (b ≡ true)
-    by_tests true true k = (refl, refl)
-    by_tests true false k = absurd (omega (arith, k))
-    by_tests false b k = absurd (omega (arith, k))
+  surely_one : (h : History) (e : Event) → IsEntered i arrivals h e → IsSurely i arrivals h e
+  surely_one h (event.Relay p n moment f) k = k
+  surely_one h (event.Ignored p n) k = some_there (λ (a : Arrival). is_relayed (bridge_after i h) p a.bytes ≡ false) (numbered (arrivals p) n) k
+  surely_one h (event.Tick seconds) k = tt
+  surely_one h (event.Commit n) k = tt
+  surely_one h (event.Refuse n x) k = tt
+  surely_one h (event.Up p) k = tt
+  surely_one h (event.NoUp p x) k = tt
+  surely_one h event.Settled k = tt
 
-    lt_of : (n : ℕ) → nat_lt 0 n ≡ true → 0 < n
-    lt_of n e = ltb-true 0 n e
-
-    le_of : (n m : ℕ) → nat_le n m ≡ true → n ≤ m
-    le_of n m e = leb-true n m e
-
-module _ (t : Shape) (i : Basis) (g : List Given) where
-  -- no arrival is named more often than it was given
-  abbrev AreFew : History → Type 0
-  AreFew h = (p n : ℕ) → is_external t p ≡ true → times n (firsts (told_at p h)) ≤ once_to (length (arrivals_at p g)) n
-
-  times_step : (p n : ℕ) (e : Event) (h : History) → times n (firsts (told_at p (e ∷ h))) ≡ times n (firsts (told_at p h)) + times n (firsts (named_by p e))
-  times_step p n e h =
-      ap (λ (xs : List (ℕ × Bool)). times n (firsts xs)) (told_step p h e)
-      ∙ (ap (times n) (firsts_append (told_at p h) (named_by p e)) ∙ times_append n (firsts (told_at p h)) (firsts (named_by p e)))
-
-  few_before : (e : Event) (h : History) → AreFew (e ∷ h) → AreFew h
-  few_before e h few p n ext = let k = few p n ext in let s = times_step p n e h in omega (arith, k, s)
-
-  ignored_once : (p n : ℕ) → times n (firsts (named_by p (event.Ignored p n))) ≡ 1
-  ignored_once p n = ap (λ (b : Bool). times n (firsts (cond b ((n, false) ∷ []) []))) (eq-eqb p p refl) ∙ ap (λ (b : Bool). cond {A = ℕ} b 1 0 + 0) (eq-eqb n n refl)
-
-  surely_one : (h : History) (e : Event) → IsOfArrival t g e → AreFew (e ∷ h) → IsEntered (basis_with i g) (λ p. arrivals_at p g) h e → IsSurely (basis_with i g) (λ p. arrivals_at p g) h e
-  surely_one h (event.Relay p n moment f) of few k = k
-  surely_one h (event.Ignored p n) of few k =
-      let most = few p n of in
-      let step = times_step p n (event.Ignored p n) h in
-      let one = ignored_once p n in
-      let a = numbered_once (arrivals_at p g) n (omega (arith, most, step, one)) in
-      (a.0, a.1, subst (λ (o : Option Arrival). IfSome o (λ x. is_relayed (bridge_after (basis_with i g) h) p x.bytes ≡ false)) a.1 k)
-  surely_one h (event.Tick seconds) of few k = tt
-  surely_one h (event.Commit n) of few k = tt
-  surely_one h (event.Refuse n x) of few k = tt
-  surely_one h (event.Up p) of few k = tt
-  surely_one h (event.NoUp p x) of few k = tt
-  surely_one h event.Settled of few k = tt
-
-  surely_all : (h : History) → Each (IsOfArrival t g) h → AreFew h → EachEvent (IsEntered (basis_with i g) (λ p. arrivals_at p g)) h → EachEvent (IsSurely (basis_with i g) (λ p. arrivals_at p g)) h
-  surely_all [] of few k = tt
-  surely_all (e ∷ h) of few k = (surely_all h of.1 (few_before e h few) k.0, surely_one h e of.0 few k.1)
-
-  names_few : (w : World) (h : History) → NamesGiven t w g h → AreFew h
-  names_few w h names p n ext =
-      let once = (names.ports p ext).once n in
-      let parts = times_append n (firsts (told_at p h)) (indices (waiting_at t w p)) in
-      omega (arith, once, parts)
+  surely_all : (h : History) → EachEvent (IsEntered i arrivals) h → EachEvent (IsSurely i arrivals) h
+  surely_all [] k = tt
+  surely_all (e ∷ h) k = (surely_all h k.0, surely_one h e k.1)
 
 -- ---- with more commands an event stands as it did
 module _ (t : Shape) (l : Limits) (i : Basis) (cs : List Command) where
   decided_longer : (h : History) (e : Event) → HasCommand i e → bridge_after (longer i cs) h ≡ bridge_after i h → IsDecided t l i h e → IsDecided t l (longer i cs) h e
   decided_longer h (event.Commit n) has same k =
-      subst (λ (b : Bridge). IfSome (command_of (longer i cs) n) (λ c. refusal t l b c ≡ None)) (sym same)
-      (subst (λ (o : Option Command). IfSome o (λ c. refusal t l (bridge_after i h) c ≡ None)) (sym (command_stays i cs n has.0 has.1)) k)
+      subst (λ (b : Bridge). IsSomeAnd (command_of (longer i cs) n) (λ c. refusal t l b c ≡ None)) (sym same)
+      (subst (λ (o : Option Command). IsSomeAnd o (λ c. refusal t l (bridge_after i h) c ≡ None)) (sym (command_stays i cs n has.0 has.1)) k)
   decided_longer h (event.Refuse n x) has same k =
-      subst (λ (b : Bridge). IfSome (command_of (longer i cs) n) (λ c. refusal t l b c ≡ Some x)) (sym same)
-      (subst (λ (o : Option Command). IfSome o (λ c. refusal t l (bridge_after i h) c ≡ Some x)) (sym (command_stays i cs n has.0 has.1)) k)
+      subst (λ (b : Bridge). IsSomeAnd (command_of (longer i cs) n) (λ c. refusal t l b c ≡ Some x)) (sym same)
+      (subst (λ (o : Option Command). IsSomeAnd o (λ c. refusal t l (bridge_after i h) c ≡ Some x)) (sym (command_stays i cs n has.0 has.1)) k)
   decided_longer h (event.Relay p n moment f) has same k = tt
   decided_longer h (event.Ignored p n) has same k = tt
   decided_longer h (event.Tick seconds) has same k = tt
@@ -314,7 +267,7 @@ module _ (t : Shape) (l : Limits) (w : World) (i : Basis) (g : List Given) (h : 
       record {
         follows = s.follows;
         names = s.names;
-        entered = surely_all t i g h s.names.events (names_few t i g w h s.names) (entered_in h s.rightly);
+        entered = surely_all (basis_with i g) (λ p. arrivals_at p g) h (entered_in h s.rightly);
         bridge = sym s.force.bridge;
         commands = its_commands;
       }

@@ -1,6 +1,6 @@
 -- A run that plays an input tells a history that the input allows.
 use Rattle.std.proofs.Common.{◌≡◌, ℕ, suc, ◌+◌, ◌==◌, ◌++◌, Bool, true, false, cond, List, [], ◌∷◌, length, map, reverse, Some, refl, ap, sym, ◌∙◌, subst, arith, inl, inr, append_assoc, length-append}
-use Rattle.std.specs.Prelude.{MatchBool, is_some, filter_map, flat_map, All, IsPermutation}
+use Rattle.std.specs.Prelude.{MatchBool, filter_map, flat_map, All, IsPermutation}
 use Rattle.std.specs.List.{range_with_len}
 use Rattle.std.proofs.lemmas.Bool.{cases_Bool}
 use Rattle.std.proofs.lemmas.List.{append-nil}
@@ -9,11 +9,11 @@ use Rattle.std.proofs.lemmas.List.Sorted.{IsPermutation-trans, IsPermutation-map
 use Rattle.exb_model.specs.declared.command.Command.{Command}
 use Rattle.exb_model.specs.declared.event.Event.{Event}
 use Rattle.exb_model.specs.declared.event.Event.TheVariants as event
-use Rattle.exb_model.specs.EagerHistory.{with_ups, opening, eagerly, eager}
+use Rattle.exb_model.specs.EagerHistory.{with_ups, opening}
 use Rattle.exb_model.specs.History.{Basis, History, ◌then◌, command_of}
-use Rattle.exb_model.specs.Input.{Input, Arrival, Segment, Mode, Eager, tree_of, bounds_of, segments}
+use Rattle.exb_model.specs.Input.{Input, Arrival, Segment, Mode, tree_of, bounds_of, segments}
 use Rattle.exb_model.specs.Input.{Given as TimedCommand, basis_of as basis_in, arrivals_at as arrivals_in}
-use Rattle.exb_model.specs.LegalHistory.{EachEvent, Rise, relays_and_late, IsOfSegment, settled_each, number_of, place_of, of_port, PlaysCommands, IsDecided, PlaysArrivals, IsInOrder, IsEntered, PlaysTick, Legal}
+use Rattle.exb_model.specs.LegalHistory.{EachEvent, Rise, relays_and_late, IsOfSegment, settled_each, number_of, place_of, of_port, Plays as PlaysSegment, IsDecided, IsInOrder, IsEntered, Legal}
 use Rattle.exb_model.specs.Lists.{numbered, Pairwise}
 use Rattle.exb_model.specs.Setup.{Limits, IsValid, start_of}
 use Rattle.exb_model.specs.Tree.{Shape, is_external, is_extended, opening_ports}
@@ -35,9 +35,9 @@ use Rattle.exb_resting.specs.Motion.Given.{Given, Came, Told, given_by, arrivals
 use Rattle.exb_resting.specs.Motion.Stands.{up_port, IsOfArrival, IsRightly, IsRisen, Stands}
 use Rattle.exb_resting.specs.Motion.Kept.{MayStart, HasVid, MayDoAll, given_in, Kept, basis_of}
 use Rattle.exb_resting.specs.Motion.Marks.{IsOrderly, IsPlayed}
-use Rattle.exb_resting.specs.Motion.Playing.{seconds_by, seconds_in, IsUnmarked, Plays, nothing_given, marked_each, PlayAll, IsTimely, RunsPlayLegally, IsEager, RunsPlayEagerly, SettlingPlays}
+use Rattle.exb_resting.specs.Motion.Playing.{seconds_by, seconds_in, IsUnmarked, Plays, nothing_given, marked_each, PlayAll, IsTimely, RunsPlayLegally, IsEager, SettlingPlays}
 use Rattle.exb_resting.specs.Motion.Going.{MayGoAll}
-use Rattle.exb_resting.proofs.Motion.Eager.{IsSingle, eager_singles, TellsFirst, eager_is}
+use Rattle.exb_resting.proofs.Motion.Eager.{TellsFirst}
 use Rattle.exb_resting.proofs.Motion.Going.{runs_go_on}
 use Rattle.exb_resting.proofs.Motion.InFile.{IsNumberedIn, segments_numbered, in_file_order}
 use Rattle.exb_resting.proofs.Motion.Jobs.{reverse_then}
@@ -103,14 +103,8 @@ module _ (t : Shape) (l : Limits) where
 
 module _ (round : TagRoundTrip) (words : SendsAreWords) (leave : SendsLeaveAsFlat) (law : StepsTell) (t : Shape) (l : Limits) (i : Basis) (start : MayStart t l i) (b : Basis) (P : Arrival → Type 0) where
   -- ---- one segment
-  record IsPart (s : Segment) (es : List Event) : Type 0 where
-    of_segment : All IsOfSegment es
-    commands : PlaysCommands s es
-    arrivals : PlaysArrivals s es
-    tick : PlaysTick s es
-
   part : (w : World) (g : List Given) (h : History) (left : List Left) → Kept t l i w g h left → IsSettled t w → (s : Segment) (xs : List Step) → MayDoAll t l w xs → Plays t l b s w xs →
-      s.commands ≡ range_with_len (length (commands_of g) + 1) (length s.commands) → Each (HasCommand b) s.commands → IsPart s (run t l xs w).events
+      s.commands ≡ range_with_len (length (commands_of g) + 1) (length s.commands) → Each (HasCommand b) s.commands → PlaysSegment s (run t l xs w).events
   part w g h left k settled s xs may plays in_order valid =
       let es : List Event = (run t l xs w).events in
       let played : IsPlayed t g (given_in xs) es = segments_are_played round words leave law t l i start w g h left k settled xs may plays.settled in
@@ -131,10 +125,7 @@ module _ (round : TagRoundTrip) (words : SendsAreWords) (leave : SendsLeaveAsFla
   record AreParts (ss : List Segment) (xss : List (List Step)) (es : List Event) (given : List Given) : Type 0 where
     plays : List (List Event)
     is : es ≡ settled_each plays
-    of_segments : All (All IsOfSegment) plays
-    commands : Pairwise PlaysCommands ss plays
-    arrivals : Pairwise PlaysArrivals ss plays
-    ticks : Pairwise PlaysTick ss plays
+    each_played : Pairwise PlaysSegment ss plays
     told : commands_of given ≡ filter_map (command_of b) (flat_map (λ (s : Segment). s.commands) ss)
     came : Each P (arrivals_of given)
     firsts : Pairwise IsEager ss xss → Pairwise TellsFirst ss plays
@@ -156,7 +147,7 @@ module _ (round : TagRoundTrip) (words : SendsAreWords) (leave : SendsLeaveAsFla
       PlayAll t l b w ss xss → GoOn b (length (commands_of g) + 1) ss → Each (λ (s : Segment). Each P s.arrivals) ss →
       AreParts ss xss (run t l (marked_each xss) w).events (given_in (marked_each xss)) × IsSettled t (run t l (marked_each xss) w).world
   unfolding run
-  parts [] [] w g h left k settled may plays goes all = (record { plays = []; is = refl; of_segments = All-nil (All IsOfSegment); commands = tt; arrivals = tt; ticks = tt; told = refl; came = tt; firsts = λ z. tt }, settled)
+  parts [] [] w g h left k settled may plays goes all = (record { plays = []; is = refl; each_played = tt; told = refl; came = tt; firsts = λ z. tt }, settled)
   parts [] (xs ∷ xss) w g h left k settled may plays goes all = absurd plays
   parts (s ∷ ss) [] w g h left k settled may plays goes all = absurd plays
   parts (s ∷ ss) (xs ∷ xss) w g h left k settled may plays goes all =
@@ -166,7 +157,7 @@ module _ (round : TagRoundTrip) (words : SendsAreWords) (leave : SendsLeaveAsFla
       let first = may_split t l xs (Mark ∷ []) w m.0 in
       let on : GoesOn s xs w g = goes_on s xs w g plays.0 goes.1 in
       let next = runs_kept round words leave law t l i start ys w g h left k m.0 in
-      let one : IsPart s (run t l xs w).events = part w g h left k settled s xs first.0 plays.0 goes.0 goes.1 in
+      let one : PlaysSegment s (run t l xs w).events = part w g h left k settled s xs first.0 plays.0 goes.0 goes.1 in
       let rest = parts ss xss v (g ++ given_in ys) (h then (run t l ys w).events) (left ++ (run t l ys w).left) next on.settled m.1 plays.1 (subst (λ (n : ℕ). GoOn b n ss) (sym on.next) goes.2) all.1 in
       let r : AreParts ss xss (run t l (marked_each xss) v).events (given_in (marked_each xss)) = rest.0 in
       let e = run_then t l ys (marked_each xss) w in
@@ -175,10 +166,7 @@ module _ (round : TagRoundTrip) (words : SendsAreWords) (leave : SendsLeaveAsFla
         record {
           plays = (run t l xs w).events ∷ r.plays;
           is = ap (λ (z : Stepped). z.events) e ∙ (ap (λ (zs : List Event). zs ++ (run t l (marked_each xss) v).events) (marked t l xs w).events ∙ ap (λ (zs : List Event). ((run t l xs w).events ++ event.Settled ∷ []) ++ zs) r.is);
-          of_segments = All-cons (All IsOfSegment) (run t l xs w).events r.plays one.of_segment r.of_segments;
-          commands = (one.commands, r.commands);
-          arrivals = (one.arrivals, r.arrivals);
-          ticks = (one.tick, r.ticks);
+          each_played = (one, r.each_played);
           told = ap commands_of given
               ∙ (commands_append (given_in xs) (given_in (marked_each xss))
               ∙ (ap (λ (cs : List Command). cs ++ commands_of (given_in (marked_each xss))) plays.0.gives.commands
@@ -231,13 +219,10 @@ module _ (round : TagRoundTrip) (words : SendsAreWords) (leave : SendsLeaveAsFla
   pub record IsLegal (ss : List Segment) (xss : List (List Step)) (h : History) (given : List Given) : Type 0 where
     pub plays : List (List Event)
     pub segments_in_order : h ≡ (opening t l (basis_with i given) then settled_each plays)
-    pub of_segments : All (All IsOfSegment) plays
-    pub commands_in_order : Pairwise PlaysCommands ss plays
+    pub each_played : Pairwise PlaysSegment ss plays
     pub refused_exactly : EachEvent (IsDecided t l (basis_with i given)) h
-    pub arrivals_once : Pairwise PlaysArrivals ss plays
     pub ports_in_order : (p : ℕ) → IsInOrder t (reverse h) p
     pub relayed_exactly : (arrivals : ℕ → List Arrival) → Each (λ (a : Arrival). numbered (arrivals a.port) a.index ≡ Some a) (arrivals_of given) → EachEvent (IsEntered (basis_with i given) arrivals) h
-    pub ticks : Pairwise PlaysTick ss plays
     pub told : commands_of given ≡ filter_map (command_of b) (flat_map (λ (s : Segment). s.commands) ss)
     pub came : Each P (arrivals_of given)
     pub firsts : Pairwise IsEager ss xss → Pairwise TellsFirst ss plays
@@ -277,10 +262,8 @@ module _ (round : TagRoundTrip) (words : SendsAreWords) (leave : SendsLeaveAsFla
       record {
         plays = r.plays;
         segments_in_order = whole ∙ ap (λ (z : History). z then settled_each r.plays) (open_is.risen (basis_with i g) risen_first);
-        of_segments = r.of_segments;
-        commands_in_order = r.commands;
+        each_played = r.each_played;
         refused_exactly = o.refused;
-        arrivals_once = r.arrivals;
         ports_in_order = λ p.
             elim (cases_Bool (is_external t p)) [
               | inl ext ↦ o.ordered p ext
@@ -290,7 +273,6 @@ module _ (round : TagRoundTrip) (words : SendsAreWords) (leave : SendsLeaveAsFla
                   silent p (of_port p (reverse h)) none
             ];
         relayed_exactly = λ arrivals found. entered_among (basis_with i g) g arrivals s.follows.indexed found h end.entered;
-        ticks = r.ticks;
         told = ap commands_of given ∙ (commands_append (given_in os) (given_in (marked_each xss)) ∙ (ap (λ (cs : List Command). cs ++ commands_of (given_in (marked_each xss))) open_is.commands ∙ r.told));
         came = subst (Each P) (sym (ap arrivals_of given ∙ (arrivals_both (given_in os) (given_in (marked_each xss)) ∙ ap (λ (zs : List Arrival). zs ++ arrivals_of (given_in (marked_each xss))) open_is.arrivals))) r.came;
         firsts = r.firsts;
@@ -308,14 +290,6 @@ module _ (round : TagRoundTrip) (words : SendsAreWords) (leave : SendsLeaveAsFla
 pub mapped : (cs : List TimedCommand) → length (map (λ (c : TimedCommand). c.command) cs) ≡ length cs
 mapped [] = refl
 mapped (c ∷ cs) = ap suc (mapped cs)
-
-known_in : (b : Basis) (ns : List ℕ) → Each (HasCommand b) ns → Each (λ (n : ℕ). is_some (command_of b n) ≡ true) ns
-known_in b [] k = tt
-known_in b (n ∷ ns) k = (ap is_some k.0.1, known_in b ns k.1)
-
-pub known_all : (b : Basis) (c : ℕ) (ss : List Segment) → GoOn b c ss → Each (λ (s : Segment). Each (λ (n : ℕ). is_some (command_of b n) ≡ true) s.commands) ss
-known_all b c [] k = tt
-known_all b c (s ∷ ss) k = (known_in b s.commands k.1, known_all b (c + length s.commands) ss k.2)
 
 module _ (round : TagRoundTrip) (words : SendsAreWords) (leave : SendsLeaveAsFlat) (law : StepsTell) (stay : StepsStayWritten) (m : Mode) (i : Input) (os : List Step) (xss : List (List Step)) (valid : IsValid i.setup) (vids : All HasVid i.setup.start) (timely : IsTimely i)
     (may : MayGoAll (tree_of i) (bounds_of i) (first_world (tree_of i) (bounds_of i) (start_of i.setup) i.setup.ageing) (marked_each (os ∷ xss)))
@@ -349,13 +323,10 @@ module _ (round : TagRoundTrip) (words : SendsAreWords) (leave : SendsLeaveAsFla
       record {
         plays = whole.plays;
         segments_in_order = whole.segments_in_order ∙ ap (λ (a : Basis). opening (tree_of i) (bounds_of i) a then settled_each whole.plays) same;
-        of_segments = whole.of_segments;
-        commands_in_order = whole.commands_in_order;
+        each_played = whole.each_played;
         refused_exactly = subst (λ (a : Basis). EachEvent (IsDecided (tree_of i) (bounds_of i) a) h) same whole.refused_exactly;
-        arrivals_once = whole.arrivals_once;
         ports_in_order = whole.ports_in_order;
         relayed_exactly = subst (λ (a : Basis). EachEvent (IsEntered a (arrivals_in i)) h) same (whole.relayed_exactly (arrivals_in i) whole.came);
-        ticks = whole.ticks;
       }
 
 pub runs_play_legally : TagRoundTrip → SendsAreWords → SendsLeaveAsFlat → StepsTell → StepsStayWritten → RunsPlayLegally

@@ -35,7 +35,7 @@ use Rattle.exb_machine.proofs.Ignoring.{extenders_ignore}
 use Rattle.exb_machine.proofs.Steps.{home}
 use Rattle.exb_machine.proofs.Telling.{steps_tell_by_kind}
 use Rattle.exb_machine.proofs.Words.{each_filter, each_get}
-use Rattle.exb_flight.specs.Items.{Word as Datum, Item, Data, Each, words_of, data_of}
+use Rattle.exb_flight.specs.Items.{Word as Datum, Item, Data, Each, words_of}
 use Rattle.exb_flight.specs.Items as items
 use Rattle.exb_flight.specs.Flight.{add, change}
 use Rattle.exb_flight.specs.Facts.{CleanUp}

@@ -1,6 +1,6 @@
 -- The world stands as it begins, and over every list of steps.
 use Rattle.std.proofs.Common.{◌≡◌, ℕ, zero, suc, ◌&&◌, ◌++◌, cond, nat_lt, Bool, true, false, List, [], ◌∷◌, Option, refl, sym, ◌∙◌, ap, subst, arith, inl, inr}
-use Rattle.std.specs.Prelude.{IfSome}
+use Rattle.std.specs.Prelude.{IsSomeAnd}
 use Rattle.std.proofs.lemmas.Bool.{cases_lt, lt-leb}
 use Rattle.std.proofs.lemmas.List.{append-nil, append_assoc}
 use Rattle.exb_model.specs.declared.event.Event.{Event}
@@ -36,7 +36,7 @@ use Rattle.exb_resting.proofs.Motion.Naming.{named_low, named_deep}
 module _ (t : Shape) (l : Limits) (i : Basis) (arrivals : ℕ → List Arrival) where
   entered_of : (h : History) (e : Event) → IsSurely i arrivals h e → IsEntered i arrivals h e
   entered_of h (event.Relay p n moment f) k = k
-  entered_of h (event.Ignored p n) k = subst (λ (o : Option Arrival). IfSome o (λ a. is_relayed (bridge_after i h) p a.bytes ≡ false)) (sym k.1) k.2
+  entered_of h (event.Ignored p n) k = subst (λ (o : Option Arrival). IsSomeAnd o (λ a. is_relayed (bridge_after i h) p a.bytes ≡ false)) (sym k.1) k.2
   entered_of h (event.Tick seconds) k = tt
   entered_of h (event.Commit n) k = tt
   entered_of h (event.Refuse n x) k = tt

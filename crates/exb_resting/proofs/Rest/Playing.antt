@@ -9,6 +9,7 @@ use Rattle.exb_model.specs.History.{Basis, History, ◌then◌, command_of}
 use Rattle.exb_model.specs.Input.{Input, Segment, Mode, Eager, tree_of, bounds_of, segments}
 use Rattle.exb_model.specs.Input.{basis_of as basis_in}
 use Rattle.exb_model.specs.LegalHistory.{Legal, number_of, settled_each}
+use Rattle.exb_model.proofs.LegalPlays.{all_commands}
 use Rattle.exb_model.specs.Setup.{Limits}
 use Rattle.exb_model.specs.Tree.{Shape, is_external}
 use Rattle.exb_frame.specs.TagValues.{TagRoundTrip}
@@ -123,7 +124,7 @@ module _ (round : TagRoundTrip) (words : SendsAreWords) (leave : SendsLeaveAsFla
         let parts : filter_map number_of (reverse h) ≡ filter_map number_of (settled_each legal.plays) =
         ap (λ (z : History). filter_map number_of (reverse z)) legal.segments_in_order
         ∙ (numbers_then (opening t l b) (settled_each legal.plays) ∙ ap (λ (ns : List ℕ). ns ++ filter_map number_of (settled_each legal.plays)) (opening_none t l b)) in
-        sym (numbers_played ss legal.plays legal.commands_in_order) ∙ (sym parts ∙ o.commands)
+        sym (numbers_played ss legal.plays (all_commands ss legal.plays legal.each_played)) ∙ (sym parts ∙ o.commands)
 
     pub runs_write_legally : RunsWriteLegally
     runs_write_legally m i done timely k = record { journal = told_legally m i done timely k; captures = left_as_flat m i (segments m i) done k (numbers_told m i done timely k) }

@@ -6,9 +6,11 @@ use Rattle.exb_model.specs.Setup.{Limits}
 use Rattle.exb_model.specs.Input.{Input, Segment, Eager, basis_of, tree_of, bounds_of, arrivals_at, segments}
 use Rattle.exb_model.specs.EagerHistory.{eager, opening, eagerly}
 use Rattle.exb_model.specs.LegalHistory.{EachEvent, IsDecided, IsEntered, Rise, PlaysCommands, PlaysArrivals, PlaysTick, settled_each}
+use Rattle.exb_model.proofs.LegalPlays.{all_played}
 use Rattle.exb_flat_run.proofs.Plays.{plays, segments-then}
-use Rattle.exb_flat_run.proofs.PlayRules.{plays-pairwise, plays-of_segments, play-commands, play-arrivals, play-tick, each-unit}
-use Rattle.exb_flat_run.proofs.EachEvents.{each-opening, each-eagerly, decides, enters, IsNumbered}
+use Rattle.exb_flat_run.proofs.PlayRules.{plays-pairwise, plays-of_segments, play-commands, play-arrivals, play-tick, each-unit, each-ordered}
+use Rattle.exb_flat_run.proofs.EachEvents.{each-opening, each-eagerly, decides, enters, IsThere, IsNumbered}
+use Rattle.exb_flat_run.proofs.CommandsThere.{segments-there}
 use Rattle.exb_flat_run.proofs.PortOrder.{indices, indices-eager, in_order, at_port}
 use Rattle.exb_flat_run.proofs.InMerge.{segments-arrivals, segments-numbered, merged-rise}
 use Rattle.exb_flat_run.proofs.laws.eager_is_legal.Goals as goal
@@ -25,14 +27,13 @@ returns c i =
     record {
       plays = plays t l b h ss;
       segments_in_order = is;
-      of_segments = plays-of_segments t l b h ss;
-      commands_in_order = plays-pairwise t l b PlaysCommands (play-commands t l b) h ss;
-      refused_exactly = each-eagerly (IsDecided t l b) (λ a. Unit {0}) t l b (decides t l b) h ss (each-unit ss) (each-opening (IsDecided t l b) (λ a. Unit {0}) t l b (decides t l b));
-      arrivals_once = plays-pairwise t l b PlaysArrivals (play-arrivals t l b) h ss;
+      each_played = all_played ss (plays t l b h ss) (plays-of_segments t l b h ss) (plays-pairwise t l b PlaysCommands (play-commands t l b) h ss)
+          (plays-pairwise t l b PlaysArrivals (play-arrivals t l b) h ss) (plays-pairwise t l b PlaysTick (play-tick t l b) h ss);
+      refused_exactly = each-eagerly (IsDecided t l b) (IsThere b) (λ a. Unit {0}) t l b (decides t l b) h ss (segments-there i) (each-unit ss)
+          (each-opening (IsDecided t l b) (IsThere b) (λ a. Unit {0}) t l b (decides t l b));
       ports_in_order = λ p. in_order t (reverse (eagerly t l b h ss)) p
           (let P : List ℕ → Type 0 = Rise 0 in
           subst P (sym (ap (λ g. indices p (reverse g)) is ∙ indices-eager p t l b ss ∙ ap (λ arrived. map (λ a. a.index) (at_port p arrived)) (segments-arrivals i))) (merged-rise i p));
-      relayed_exactly = each-eagerly (IsEntered b (arrivals_at i)) (IsNumbered (arrivals_at i)) t l b (enters (arrivals_at i) t l b) h ss (segments-numbered i)
-          (each-opening (IsEntered b (arrivals_at i)) (IsNumbered (arrivals_at i)) t l b (enters (arrivals_at i) t l b));
-      ticks = plays-pairwise t l b PlaysTick (play-tick t l b) h ss;
+      relayed_exactly = each-eagerly (IsEntered b (arrivals_at i)) (λ n. Unit {0}) (IsNumbered (arrivals_at i)) t l b (enters (arrivals_at i) t l b) h ss (each-ordered ss) (segments-numbered i)
+          (each-opening (IsEntered b (arrivals_at i)) (λ n. Unit {0}) (IsNumbered (arrivals_at i)) t l b (enters (arrivals_at i) t l b));
     }

@@ -1,9 +1,8 @@
 use Rattle.std.proofs.Common.{rules, ◌<◌, ◌++◌, ◌∷◌, [], List, length, map, take, ap, sym, subst, ◌∙◌, arith}
 use Rattle.std.specs.Prelude.{IsOk}
 use Rattle.exb_merge.specs.Streams.{Stream, stream_of}
-use Rattle.exb_pcap.specs.Captures.{pcap_records}
+use Rattle.exb_pcap.specs.Captures.{pcap_records, records_or_none}
 use Rattle.exb_run.specs.declared.captures.Capture.{Capture}
-use Rattle.exb_run.specs.Inputs.{records_or_none}
 use Rattle.exb_run.specs.Reading.{stream_in}
 use Rattle.exb_run.proofs.Coming.{added, streams_more, size_more}
 use Rattle.exb_run.proofs.Telling.{when_ok}

@@ -2,12 +2,12 @@ use Rattle.std.proofs.Common.{◌<◌, ◌^◌, ◌++◌, ℕ, List, Some, drop,
 use Rattle.std.proofs.lemmas.List.{append-nil}
 use Rattle.std.proofs.lemmas.Result.{err_from_is_err_and}
 use Rattle.exb_model.specs.declared.setup.Timed.{Timed}
-use Rattle.exb_model.specs.Input.{Coming, Segment, second_of, moment_of}
+use Rattle.exb_model.specs.Input.{Coming, Segment, second_of, moment_of, seconds_after, segments_after}
 use Rattle.exb_merge.specs.Agendas.{coming_of}
 use Rattle.exb_schedule.specs.Playing.{letters_in}
 use Rattle.exb_schedule.specs.Worlds.{network_of}
 use Rattle.exb_text.specs.Tallies.{counts_of}
-use Rattle.exb_run.specs.Playing.{IsPlaying, IsTold, mode_of, seconds_after, segments_after}
+use Rattle.exb_run.specs.Playing.{IsPlaying, IsTold, mode_of}
 use Rattle.exb_run.proofs.Following.{seconds-low}
 use Rattle.exb_run.proofs.Segmenting.{segments_after-end}
 use Rattle.exb_run.proofs.ShelvingLemmas.{writes_then, fewer_then}
