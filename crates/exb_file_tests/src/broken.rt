@@ -1,7 +1,7 @@
-//! Captures and topologies that are cut, have a bit turned, go on, or stand at a limit: what is read of each, or its first fault.
+//! Captures, topologies and words that are cut, have a bit turned, go on, or stand at a limit: what is read of each, or its first
+//! fault.
 mod captures;
 mod cases;
-mod hex;
 mod texts;
 mod topologies;
-mod turned;
+mod words;

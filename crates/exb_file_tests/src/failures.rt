@@ -1,49 +1,59 @@
-//! Runs over a shelf or a sink that fails. Each file then holds a front of its text.
-use exb_fate::{Fate, ScriptFate};
-use exb_run::run;
+//! A run over a shelf or a sink in memory that fails at one call, with each option. Each file then holds a front of its text.
+use crate::hostile::bytes_of;
+use crate::play::{play, words_of};
 use exb_shelf::{MemShelf, MemSink};
-use std::alloc::{AllocError, Global};
-use std::test::Fail;
+use std::alloc::Global;
+use std::process::Abort;
 
 /// One extender with two ports, and a capture for the first.
 const TWO_PORTS: &str =
     "[bridge]\nports = 1\n[[extender]]\nnumber = 1\non = \"b1\"\nports = 2\n[captures]\n\"x1.1\" = \"a.pcap\"\n";
 
-/// A capture of one broadcast frame of 14 bytes.
-const CAPTURE: [u8; 54] = [
-    0xD4, 0xC3, 0xB2, 0xA1, 2, 0, 4, 0, 0, 0, 0, 0, 0, 0, 0, 0, 0xFF, 0xFF, 0, 0, 1, 0, 0, 0, //
-    100, 0, 0, 0, 0, 0, 0, 0, 14, 0, 0, 0, 14, 0, 0, 0, //
-    0xFF, 0xFF, 0xFF, 0xFF, 0xFF, 0xFF, 2, 0, 0, 0, 0, 1, 8, 0,
+/// A capture of one broadcast frame of 60 bytes.
+const CAPTURE: &str =
+    "D4C3B2A1 0200 0400 8x00 FFFF0000 01000000 64000000 00000000 3C000000 3C000000 \
+    FFFFFFFFFFFF 020000000001 0800 46x00";
+
+/// The words of each run.
+const WORDS: [&str; 4] = [
+    "run t.toml",
+    "run t.toml --trace",
+    "run t.toml --seed 5",
+    "run t.toml --seed 5 --trace",
 ];
 
 /// The outputs of two ports.
-const OUTPUTS: [&str; 3] = ["out-x1.1.pcap", "out-x1.2.pcap", "out-journal.txt"];
-
-/// The words of a command line.
-fn words(alloc: Global) -> Result<Vec<String>, AllocError> {
-    let mut words = Vec::new(alloc);
-    words.push(String::from_str(alloc, "run")?)?;
-    words.push(String::from_str(alloc, "t.toml")?)?;
-    Ok(words)
-}
+const OUTPUTS: [&str; 4] = [
+    "out-x1.1.pcap",
+    "out-x1.2.pcap",
+    "out-journal.txt",
+    "out-trace.txt",
+];
 
 /// A shelf with the topology and the capture, whose call `failing` fails (none does where it is 0).
-fn shelf_of(alloc: Global, failing: u64) -> Result<MemShelf, Fail> {
-    let mut shelf = MemShelf::new(alloc, &[failing])?;
-    shelf.put("t.toml", TWO_PORTS.as_bytes())?;
-    shelf.put("a.pcap", &CAPTURE)?;
-    Ok(shelf)
+fn shelf_of(rt: &impl Abort, alloc: Global, failing: u64) -> MemShelf {
+    let mut shelf = MemShelf::new(alloc, &[failing]).expect(rt, "memory");
+    let capture = bytes_of(rt, alloc, CAPTURE);
+    shelf
+        .put("t.toml", TWO_PORTS.as_bytes())
+        .expect(rt, "memory");
+    shelf.put("a.pcap", capture.as_slice()).expect(rt, "memory");
+    shelf
 }
 
-/// Plays the words over a fate that does as it is armed to.
-fn play(
+/// The same, whose call `failing` fails, after the words were played over it and a sink, whose call `mute` fails; and the status.
+fn played(
+    rt: &impl Abort,
     alloc: Global,
-    words: &[String],
-    shelf: &mut MemShelf,
-    out: &mut MemSink,
-) -> Result<u8, Fail> {
-    let fate: Box<dyn Fate> = Box::new(alloc, ScriptFate::new(alloc))?;
-    Ok(run(alloc, words, shelf, out, fate))
+    told: &str,
+    failing: u64,
+    mute: u64,
+) -> (MemShelf, MemSink, u8) {
+    let words = words_of(alloc, told).expect(rt, "memory");
+    let mut shelf = shelf_of(rt, alloc, failing);
+    let mut out = MemSink::new(alloc, &[mute]).expect(rt, "memory");
+    let status = play(alloc, &words, &mut shelf, &mut out).expect(rt, "memory");
+    (shelf, out, status)
 }
 
 /// Whether the file isn't there, or holds a front of what it holds on the other shelf.
@@ -55,52 +65,57 @@ fn is_front(shelf: &MemShelf, whole: &MemShelf, name: &str) -> bool {
     }
 }
 
-#[test]
-fn whichever_call_of_the_shelf_fails_each_file_holds_a_front_of_its_text(
-    rt: HostRuntime,
-) -> Result<(), Fail> {
-    let alloc = rt.alloc();
-    let words = words(alloc)?;
-    let mut whole = shelf_of(alloc, 0)?;
-    let mut out = MemSink::new(alloc, &[])?;
-    assert_eq!(rt; play(alloc, &words, &mut whole, &mut out)?, 0);
-    let mut read_failed = false;
-    let mut write_failed = false;
+/// Asserts that each output is a front of what it is on the other shelf.
+fn judge_fronts(rt: &impl Abort, shelf: &MemShelf, whole: &MemShelf) {
+    for name in OUTPUTS {
+        assert!(rt; is_front(shelf, whole, name), "{name}");
+    }
+}
+
+/// Asserts what comes of the words where each call of the shelf fails in turn, up to the first number that is no call.
+fn judge_words(rt: &impl Abort, alloc: Global, told: &str) {
+    let (whole, _out, status) = played(rt, alloc, told, 0, 0);
+    assert_eq!(rt; status, 0);
+    let mut reads = 0u32;
+    let mut writes = 0u32;
     for failing in 1..64u64 {
-        let mut shelf = shelf_of(alloc, failing)?;
-        let mut out = MemSink::new(alloc, &[])?;
-        match play(alloc, &words, &mut shelf, &mut out)? {
-            0 => {
-                assert!(rt; failing > 10 && read_failed && write_failed);
-                return Ok(());
-            }
-            6 => read_failed = true,
-            status => {
-                assert_eq!(rt; status, 7);
-                write_failed = true;
-            }
-        }
-        for name in OUTPUTS {
-            assert!(rt; is_front(&shelf, &whole, name));
+        let (shelf, _out, status) = played(rt, alloc, told, failing, 0);
+        judge_fronts(rt, &shelf, &whole);
+        match status {
+            0 => break,
+            6 => reads = reads.saturating_add(1),
+            7 => writes = writes.saturating_add(1),
+            _ => panic!(rt; "status {status}"),
         }
     }
-    assert!(rt; false);
-    Ok(())
+    // Two files are read, each by three calls and more; three or four are made and written.
+    assert!(rt; reads >= 6, "{reads} calls that read");
+    assert!(rt; writes == 6 || writes == 8, "{writes} calls that write");
 }
 
 #[test]
-fn where_the_summary_fails_captures_and_journal_are_whole(rt: HostRuntime) -> Result<(), Fail> {
-    let alloc = rt.alloc();
-    let words = words(alloc)?;
-    let mut whole = shelf_of(alloc, 0)?;
-    let mut out = MemSink::new(alloc, &[])?;
-    assert_eq!(rt; play(alloc, &words, &mut whole, &mut out)?, 0);
-    let mut shelf = shelf_of(alloc, 0)?;
-    let mut failing = MemSink::new(alloc, &[1])?;
-    assert_eq!(rt; play(alloc, &words, &mut shelf, &mut failing)?, 7);
-    assert!(rt; failing.text().is_empty());
-    for name in OUTPUTS {
-        assert!(rt; shelf.file(name).is_some() && shelf.file(name) == whole.file(name));
+fn whichever_call_of_the_shelf_fails_each_file_holds_a_front_of_its_text(rt: HostRuntime) {
+    for told in WORDS {
+        judge_words(&rt, rt.alloc(), told);
     }
-    Ok(())
+}
+
+/// Asserts that each output is the same on both shelves.
+fn judge_whole(rt: &impl Abort, shelf: &MemShelf, whole: &MemShelf) {
+    for name in OUTPUTS {
+        assert!(rt; shelf.file(name) == whole.file(name), "{name}");
+    }
+    assert!(rt; shelf.file("out-journal.txt").is_some());
+}
+
+#[test]
+fn where_the_summary_fails_all_files_are_whole(rt: HostRuntime) {
+    let alloc = rt.alloc();
+    for told in WORDS {
+        let (whole, _out, _status) = played(&rt, alloc, told, 0, 0);
+        let (shelf, out, status) = played(&rt, alloc, told, 0, 1);
+        assert_eq!(rt; status, 7);
+        assert!(rt; out.text().is_empty());
+        judge_whole(&rt, &shelf, &whole);
+    }
 }

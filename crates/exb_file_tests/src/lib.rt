@@ -9,7 +9,15 @@ mod captures;
 #[cfg(test)]
 mod failures;
 #[cfg(test)]
+mod heavy;
+#[cfg(test)]
+mod hostile;
+#[cfg(test)]
+mod play;
+#[cfg(test)]
 mod shelves;
+#[cfg(test)]
+mod sweep;
 #[cfg(test)]
 mod texts;
 #[cfg(test)]

@@ -2,8 +2,8 @@
 use super::cases::{
     CAPTURES, HEADERS, MICROSECOND_HEAD, MICROSECONDS, NANOSECOND_HEAD, NANOSECONDS,
 };
-use super::hex::bytes_of;
-use super::turned::{BITS, turn, verdict_at, verdict_of_bit};
+use crate::hostile::{bytes_of, verdict_at, verdict_of_bit};
+use exb_hostile::turned::{BITS, turn};
 use exb_pcap::{Next, PieceReader, Reader};
 use std::alloc::{AllocError, Global};
 use std::process::Abort;

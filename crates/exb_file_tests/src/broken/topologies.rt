@@ -1,21 +1,25 @@
 //! Topology files.
-use super::hex::bytes_of;
 use super::texts::{BYTES, NUMBERS, SHORT, SHORT_TURNED, STRINGS, TEXTS, WHOLE, WHOLE_CUT};
-use super::turned::{BITS, place_of, turn, verdict_at, verdict_of_bit};
+use crate::hostile::{bytes_of, verdict_at, verdict_of_bit};
 use crate::topologies::{judge, verdict};
+use exb_hostile::turned::{BITS, turn};
 use std::alloc::Global;
 use std::process::Abort;
 
 // The text from `FIRST` to `LAST` in the file, by `FIRST-LAST`.
 fn text_at<'a>(rt: &impl Abort, file: &'a [u8], places: &str) -> &'a str {
     let (first, last) = places.split_once('-').expect(rt, "two places");
-    let end = place_of(rt, last).saturating_add(1);
-    let bytes = file.get(place_of(rt, first)..end).expect(rt, "bytes");
+    let first = first.parse::<usize>().expect(rt, "a place");
+    let end = last
+        .parse::<usize>()
+        .expect(rt, "a place")
+        .saturating_add(1);
+    let bytes = file.get(first..end).expect(rt, "bytes");
     std::str::from_utf8(bytes).expect(rt, "a text")
 }
 
-// A verdict with the text that stands in the file in the place of `{FIRST-LAST}`.
-fn filled(rt: &impl Abort, alloc: Global, file: &[u8], verdict: &str) -> String {
+/// A verdict with the text that stands in the file in the place of `{FIRST-LAST}`.
+pub(super) fn filled(rt: &impl Abort, alloc: Global, file: &[u8], verdict: &str) -> String {
     let verdict = match verdict.split_once('{') {
         Some((before, rest)) => {
             let (places, after) = rest.split_once('}').expect(rt, "places");

@@ -1,0 +1,100 @@
+//! Three whole runs, by their files.
+
+/// A run: its words, its topology `t.toml`, its captures in hexadecimal, the files that it makes, in their order, and its summary.
+pub(super) struct Run {
+    pub(super) words: &'static str,
+    pub(super) topology: &'static str,
+    pub(super) captures: &'static [(&'static str, &'static str)],
+    pub(super) outputs: &'static [&'static str],
+    pub(super) summary: &'static str,
+}
+
+/// A bridge alone: a broadcast, and an answer to its source.
+pub(super) const BARE: Run = Run {
+    words: "run t.toml",
+    topology: "bridge.ports = 3\n[captures]\nb1 = 'a.pcap'\nb2 = 'b.pcap'\n",
+    captures: &[
+        (
+            "a.pcap",
+            "D4C3B2A1 0200 0400 8x00 FFFF0000 01000000 64000000 00000000 0E000000 0E000000 \
+             FFFFFFFFFFFF 020000000001 0800",
+        ),
+        (
+            "b.pcap",
+            "D4C3B2A1 0200 0400 8x00 FFFF0000 01000000 65000000 00000000 0E000000 0E000000 \
+             020000000001 020000000002 0800",
+        ),
+    ],
+    outputs: &[
+        "out-b1.pcap",
+        "out-b2.pcap",
+        "out-b3.pcap",
+        "out-journal.txt",
+    ],
+    summary: "arrivals 2 relayed 2 ignored 0 left 3 commits 0 refusals 0\n",
+};
+
+/// What comes to two ports of a tree: two frames of two VLANs, an answer and a broadcast.
+const IN_A_TREE: &[(&str, &str)] = &[
+    (
+        "a.pcap",
+        "D4C3B2A1 0200 0400 8x00 FFFF0000 01000000 64000000 00000000 0E000000 0E000000 \
+         FFFFFFFFFFFF 020000000001 0800 65000000 00000000 12000000 12000000 \
+         FFFFFFFFFFFF 020000000001 8100 0002 0800",
+    ),
+    (
+        "b.pcap",
+        "D4C3B2A1 0200 0400 8x00 FFFF0000 01000000 64000000 00000000 0E000000 0E000000 \
+         020000000001 020000000002 0800 66000000 00000000 0E000000 0E000000 \
+         FFFFFFFFFFFF 020000000002 0800",
+    ),
+];
+
+/// An extender below another: a port goes down, VLANs come, and then groups don't suffice for the port to go up again.
+pub(super) const TREE: Run = Run {
+    words: "run t.toml",
+    topology: "bridge = {ports = 2, groups = 4}\n\
+        extender = [{number = 1, on = 'b1', ports = 3}, {number = 2, on = 'x1.3', ports = 2}]\n\
+        command = [\n\
+        {at = 1, op = 'down', port = 'x2.2'},\n\
+        {at = 1, op = 'vlan', vid = 2, tagged = ['x1.1', 'x2.1']},\n\
+        {at = 1, op = 'vlan', vid = 3, tagged = ['x1.2', 'x2.1', 'b2'], untagged = ['x1.1']},\n\
+        {at = 2, op = 'up', port = 'x2.2'},\n\
+        ]\n\
+        captures = {'x1.1' = 'a.pcap', 'b2' = 'b.pcap'}\n",
+    captures: IN_A_TREE,
+    outputs: &[
+        "out-b2.pcap",
+        "out-x1.1.pcap",
+        "out-x1.2.pcap",
+        "out-x2.1.pcap",
+        "out-x2.2.pcap",
+        "out-journal.txt",
+    ],
+    summary: "arrivals 4 relayed 4 ignored 0 left 12 commits 3 refusals 1\n",
+};
+
+/// The same with control frames that are lost, late or come twice, in a drawn order and with a trace.
+pub(super) const LOSSY: Run = Run {
+    words: "run t.toml --trace --seed 5",
+    topology: "bridge = {ports = 2, groups = 4}\n\
+        links = {fate = 'PLTDPPLTDPPLTDPPLTDP'}\n\
+        extender = [{number = 1, on = 'b1', ports = 3}, {number = 2, on = 'x1.3', ports = 2}]\n\
+        command = [\n\
+        {at = 0, op = 'down', port = 'x2.2', fate = 'LDTLDT'},\n\
+        {at = 1, op = 'vlan', vid = 2, tagged = ['x1.1', 'x2.1'], fate = 'PPLLL'},\n\
+        {at = 1, op = 'up', port = 'x2.2', fate = 'TTTDDD'},\n\
+        ]\n\
+        captures = {'x1.1' = 'a.pcap', 'b2' = 'b.pcap'}\n",
+    captures: IN_A_TREE,
+    outputs: &[
+        "out-b2.pcap",
+        "out-x1.1.pcap",
+        "out-x1.2.pcap",
+        "out-x2.1.pcap",
+        "out-x2.2.pcap",
+        "out-journal.txt",
+        "out-trace.txt",
+    ],
+    summary: "arrivals 4 relayed 4 ignored 0 left 9 commits 3 refusals 0\n",
+};
