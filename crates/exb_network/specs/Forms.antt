@@ -1,12 +1,11 @@
 -- What an extender sends, in a form that it can be given and to a side that there is.
-use Rattle.std.specs.Prelude.{◌≡◌, ℕ, ◌<◌, ◌≤◌, List, [], ◌∷◌, Option, IfSome, ⊤}
+use Rattle.std.specs.Prelude.{◌≡◌, ℕ, ◌<◌, ◌≤◌, List, [], ◌∷◌, ⊤}
 use Rattle.exb_extender.specs.declared.sends.Side.{Side}
 use Rattle.exb_extender.specs.declared.sends.Side.TheVariants as side
 use Rattle.exb_extender.specs.declared.sends.Out.{Out}
-use Rattle.exb_extender.specs.declared.sends.Form.{Form}
 use Rattle.exb_extender.specs.declared.sends.Form.TheVariants.{AsIs}
 use Rattle.exb_extender.specs.declared.sends.Sends.{Sends}
-use Rattle.exb_extender.specs.Sending.{CanBeGiven, bytes_in}
+use Rattle.exb_extender.specs.Sending.{CanBeGiven}
 
 -- the number of a port is 1 to 64
 abbrev pub IsSide : Side → Type 0
@@ -22,7 +21,3 @@ pub record GoesOn (x : Sends) (side : Side) : Type 0 where
   pub frames : x.frames.items ≡ record { to = side; form = AsIs } ∷ []
   pub first : x.first.items ≡ []
   pub second : x.second.items ≡ []
-
--- these are the bytes of the frame in the form that was made last, if any was
-abbrev pub IsMade : List ℕ → Option Form → List ℕ → Type 0
-IsMade f made bytes = IfSome made (λ form. bytes ≡ bytes_in f form)

@@ -17,6 +17,7 @@ use crate::forms::{channel_tag, put_tagged};
 use crate::log::{Log, add_events, note_out};
 use crate::sending::hung_on;
 use crate::site::{Buffers, Core, Room, Site};
+use crate::store::Store;
 use exb_changing::Asked;
 use exb_ecp::Pdu;
 use exb_link::Word;
@@ -74,19 +75,26 @@ fn put(
     site: &Site,
     place: u8,
     below: u8,
-    frame: &[u8],
+    frame: Bytes,
     core: &mut Core,
     log: &mut Log,
 ) -> Result<(), NoMemory>
     requires at { IsAt site.now core.old }
     requires place { place < 64 }
     requires known { below < 65 }
-    ensures { OnOk result (Does (puts place below frame.now (world_in core.old)) site.now core.new log.old log.new) }
+    ensures { OnOk result (Does (puts place below frame (world_in core.old)) site.now core.new log.old log.new) }
 {
     let _ = site;
-    note_out(alloc, log.tracing, 0, place + 1, frame, &mut log.outs)?;
+    note_out(
+        alloc,
+        log.tracing,
+        0,
+        place + 1,
+        frame.as_slice(),
+        &mut log.outs,
+    )?;
     let word = Word {
-        bytes: Bytes::from_slice(alloc, frame)?,
+        bytes: frame,
         stamp: None,
     };
     core.down.push(below, word)
@@ -99,7 +107,7 @@ fn put_deeper(
     site: &Site,
     extender: u8,
     frame: &[u8],
-    into: &mut Vec<u8>,
+    store: &mut Store,
     core: &mut Core,
     log: &mut Log,
 ) -> Result<(), NoMemory>
@@ -119,8 +127,17 @@ fn put_deeper(
     let Some(channel) = core.control.of(site.on(extender)) else {
         return Ok(());
     };
-    put_tagged(frame, &channel_tag(channel), into)?;
-    put(alloc, site, place, below, into.as_slice(), core, log)
+    let mut buffer = store.buffer(alloc);
+    put_tagged(frame, &channel_tag(channel), &mut buffer)?;
+    put(
+        alloc,
+        site,
+        place,
+        below,
+        Bytes::from_vec(buffer),
+        core,
+        log,
+    )
 }
 
 /// A control frame goes to an extender.
@@ -129,7 +146,7 @@ pub(crate) fn send_to_extender(
     site: &Site,
     extender: u8,
     frame: &[u8],
-    into: &mut Vec<u8>,
+    store: &mut Store,
     core: &mut Core,
     log: &mut Log,
 ) -> Result<(), NoMemory>
@@ -141,9 +158,10 @@ pub(crate) fn send_to_extender(
     has_low_number(site, extender);
     let port = site.on(extender);
     if port.device() == 0 {
-        put(alloc, site, port.place(), extender, frame, core, log)
+        let bytes = store.copy(alloc, frame)?;
+        put(alloc, site, port.place(), extender, bytes, core, log)
     } else {
-        put_deeper(alloc, site, extender, frame, into, core, log)
+        put_deeper(alloc, site, extender, frame, store, core, log)
     }
 }
 
@@ -171,7 +189,7 @@ fn ask(
         site,
         asked.extender,
         frame,
-        &mut buffers.word,
+        &mut buffers.store,
         core,
         log,
     )

@@ -50,7 +50,7 @@ fn beat_near(
     let end = core.near.with(number);
     spell_request(end.sequence(), payload_of(end), &mut buffers.control);
     let frame = buffers.control.as_slice();
-    send_to_extender(alloc, site, number, frame, &mut buffers.word, core, log)
+    send_to_extender(alloc, site, number, frame, &mut buffers.store, core, log)
 }
 
 /// The same for a number that may be no extender's; then nothing is done.

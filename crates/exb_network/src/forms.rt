@@ -1,5 +1,5 @@
 //! The bytes of a frame with or without an E-TAG, of any length.
-ghost use Rattle.std.specs.Prelude.{◌≡◌, ◌≤◌, ◌++◌, OnOk, length};
+ghost use Rattle.std.specs.Prelude.{◌≡◌, ◌≤◌, ◌++◌, [], OnOk, length};
 ghost use Rattle.exb_model.specs.ETags.{TagFits, tagged, stripped};
 ghost use Rattle.exb_frame.specs.TagValues.{tag_of};
 ghost use Rattle.exb_extender.specs.Forwarding.{channel_tag};
@@ -17,13 +17,22 @@ fn put(bytes: &[u8], into: &mut Vec<u8>) -> Result<(), NoMemory>
     Ok(())
 }
 
+/// Empties a buffer, and makes room for so many bytes.
+fn begin(size: usize, into: &mut Vec<u8>) -> Result<(), NoMemory>
+    ensures { into.new.items ≡ [] }
+{
+    into.clear();
+    into.reserve(size)?;
+    Ok(())
+}
+
 /// A frame with an E-TAG put in at byte 12, in place of what was in `into`.
 pub(crate) fn put_tagged(frame: &[u8], tag: &ETag, into: &mut Vec<u8>) -> Result<(), NoMemory>
     requires long { 12 ≤ length frame.now }
     requires fits { TagFits (tag_of tag.now) }
     ensures { OnOk result (into.new.items ≡ tagged frame.now (tag_of tag.now)) }
 {
-    into.clear();
+    begin(frame.len().saturating_add(8), into)?;
     put(&frame[..12], into)?;
     put(&tag.write(), into)?;
     put(&frame[12..], into)
@@ -34,7 +43,7 @@ pub(crate) fn put_stripped(frame: &[u8], into: &mut Vec<u8>) -> Result<(), NoMem
     requires { 20 ≤ length frame.now }
     ensures { OnOk result (into.new.items ≡ stripped frame.now) }
 {
-    into.clear();
+    begin(frame.len(), into)?;
     put(&frame[..12], into)?;
     put(&frame[20..], into)
 }

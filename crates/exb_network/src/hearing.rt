@@ -105,7 +105,7 @@ fn hear_request(
         site,
         number,
         frame,
-        &mut room.buffers.word,
+        &mut room.buffers.store,
         core,
         log,
     )?;

@@ -23,6 +23,7 @@ mod sending;
 mod site;
 pub mod step;
 mod stepping;
+mod store;
 mod taking;
 mod telling;
 pub mod world;

@@ -3,6 +3,7 @@ ghost use Rattle.std.specs.Prelude.{◌≡◌, ◌++◌, ◌∷◌, [], OnOk, If
 ghost use Rattle.exb_model.specs.Traces.{Out};
 ghost use Rattle.exb_network.specs.Worlds.{if_tracing};
 
+use crate::store::Store;
 use exb_model::bytes::Bytes;
 use exb_model::event::Event;
 use exb_model::list::List;
@@ -53,6 +54,29 @@ impl Log {
             outs: Vec::new(alloc),
         }
     }
+
+    /// Forgets what happened. Its lists keep their memory, and the store keeps that of the frames that left.
+    pub(crate) fn clear(&mut self, store: &mut Store)
+        ensures events { self.new.events ≡ [] }
+        ensures passed { self.new.passed ≡ [] }
+        ensures left { self.new.left ≡ [] }
+        ensures lines { self.new.lines ≡ [] }
+        ensures tracing { self.new.tracing ≡ self.old.tracing }
+    {
+        self.events.clear();
+        self.passed.clear();
+        self.lines.clear();
+        keep_all(&mut self.left, store);
+    }
+}
+
+/// Forgets frames that left, and keeps their buffers.
+fn keep_all(left: &mut List<Left>, store: &mut Store)
+    ensures { left.new ≡ [] }
+{
+    while let Some(frame) = left.pop() {
+        store.keep(frame.bytes);
+    }
 }
 
 /// A copy of an event.
@@ -100,7 +124,7 @@ fn copy_events(alloc: Global, events: &[Event], to: &mut List<Event>) -> Result<
     Ok(())
 }
 
-/// Puts events behind others. Where there were none these are moved, and not copied.
+/// Puts events behind others. Where there were none these are moved, and not copied; and so is the last one.
 pub(crate) fn add_events(
     alloc: Global,
     events: &mut List<Event>,
@@ -108,11 +132,15 @@ pub(crate) fn add_events(
 ) -> Result<(), NoMemory>
     ensures { OnOk result (to.new ≡ to.old ++ events.old) }
 {
-    if !to.as_slice().is_empty() {
-        return copy_events(alloc, events.as_slice(), to);
+    if to.as_slice().is_empty() {
+        mem::swap(events, to);
+        return Ok(());
     }
-    mem::swap(events, to);
-    Ok(())
+    let Some(last) = events.pop() else {
+        return Ok(());
+    };
+    copy_events(alloc, events.as_slice(), to)?;
+    to.push(last)
 }
 
 /// A frame goes out by a side of a device: 0 is upstream, else a port's number. Where no trace is kept nothing is copied.

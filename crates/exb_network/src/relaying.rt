@@ -48,18 +48,25 @@ fn leave(
     alloc: Global,
     bridge_port: u8,
     moment: u64,
-    frame: &[u8],
+    frame: Bytes,
     log: &mut Log,
 ) -> Result<(), NoMemory>
     requires from1 { 1 ≤ bridge_port }
     requires to64 { bridge_port ≤ 64 }
-    ensures { OnOk result (HasLeft (record { port = bridge_port - 1; moment = moment; bytes = frame.now }) (Out 0 bridge_port frame.now) log.old log.new) }
+    ensures { OnOk result (HasLeft (record { port = bridge_port - 1; moment = moment; bytes = frame }) (Out 0 bridge_port frame) log.old log.new) }
 {
-    note_out(alloc, log.tracing, 0, bridge_port, frame, &mut log.outs)?;
+    note_out(
+        alloc,
+        log.tracing,
+        0,
+        bridge_port,
+        frame.as_slice(),
+        &mut log.outs,
+    )?;
     log.left.push(Left {
         port: PortId::at(0, bridge_port - 1),
         moment,
-        bytes: Bytes::from_slice(alloc, frame)?,
+        bytes: frame,
     })
 }
 
@@ -68,7 +75,7 @@ fn put_word(
     alloc: Global,
     site: &Site,
     bridge_port: u8,
-    frame: &[u8],
+    frame: Bytes,
     stamp: Stamp,
     core: &mut Core,
     log: &mut Log,
@@ -76,16 +83,23 @@ fn put_word(
     requires at { IsAt site.now core.old }
     requires from1 { 1 ≤ bridge_port }
     requires to64 { bridge_port ≤ 64 }
-    ensures { OnOk result (Does (puts_word bridge_port (hung_on site.now.tree (bridge_port - 1)) (record { bytes = frame.now; stamp = Some stamp }) (world_in core.old)) site.now core.new log.old log.new) }
+    ensures { OnOk result (Does (puts_word bridge_port (hung_on site.now.tree (bridge_port - 1)) (record { bytes = frame; stamp = Some stamp }) (world_in core.old)) site.now core.new log.old log.new) }
 {
     let tree = site.tree();
     tree.is_tree();
     let Some(below) = hung_on(tree, PortId::at(0, bridge_port - 1)) else {
         return Ok(());
     };
-    note_out(alloc, log.tracing, 0, bridge_port, frame, &mut log.outs)?;
+    note_out(
+        alloc,
+        log.tracing,
+        0,
+        bridge_port,
+        frame.as_slice(),
+        &mut log.outs,
+    )?;
     let word = Word {
-        bytes: Bytes::from_slice(alloc, frame)?,
+        bytes: frame,
         stamp: Some(stamp),
     };
     core.down.push(below, word)
@@ -116,25 +130,17 @@ fn send(
         &mut buffers.frame,
     );
     match &send.tag {
-        None => leave(
-            alloc,
-            send.bridge_port,
-            passed.arrived.moment,
-            buffers.frame.as_slice(),
-            log,
-        ),
+        None => {
+            let moment = passed.arrived.moment;
+            let bytes = buffers.store.copy(alloc, buffers.frame.as_slice())?;
+            leave(alloc, send.bridge_port, moment, bytes, log)
+        }
         Some(tag) => {
             let stamp = passed.arrived.stamp();
-            put_tagged(buffers.frame.as_slice(), tag, &mut buffers.word)?;
-            put_word(
-                alloc,
-                site,
-                send.bridge_port,
-                buffers.word.as_slice(),
-                stamp,
-                core,
-                log,
-            )
+            let mut buffer = buffers.store.buffer(alloc);
+            put_tagged(buffers.frame.as_slice(), tag, &mut buffer)?;
+            let bytes = Bytes::from_vec(buffer);
+            put_word(alloc, site, send.bridge_port, bytes, stamp, core, log)
         }
     }
 }

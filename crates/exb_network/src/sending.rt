@@ -2,16 +2,17 @@
 ghost use Rattle.std.specs.Prelude.{◌≡◌, ◌<◌, ◌≤◌, IfSome, OnOk, map};
 ghost use Rattle.std.specs.List.{All};
 ghost use Rattle.exb_csp.specs.AllTables.{port_of};
-ghost use Rattle.exb_extender.specs.Sending.{bytes_in, out_sent, own_sent, sent_by, CanBeGiven};
+ghost use Rattle.exb_extender.specs.Sending.{out_sent, own_sent, sent_by};
 ghost use Rattle.exb_machine.specs.Effects.{each};
 ghost use Rattle.exb_machine.specs.Extending.{hung_on, sent_at, sent_to, sends};
 ghost use Rattle.exb_machine.specs.Worlds.{moment_of};
-ghost use Rattle.exb_network.specs.Forms.{IsSide, CanGo, GoesOn, IsMade};
+ghost use Rattle.exb_network.specs.Forms.{IsSide, CanGo, GoesOn};
 ghost use Rattle.exb_network.specs.Worlds.{world_in, IsAt, Does};
 
 use crate::forms::put_form;
 use crate::log::{Left, Log, note_out};
 use crate::site::{Core, Site};
+use crate::store::Store;
 use exb_extender::{Form, Out, Sends, Side};
 use exb_link::{Stamp, Word};
 use exb_model::bytes::Bytes;
@@ -127,26 +128,6 @@ fn send_to(
     }
 }
 
-/// The frame in a form; where the last one was in that form too, it is there already.
-fn prepare(
-    frame: &[u8],
-    form: &Form,
-    made: &mut Option<Form>,
-    into: &mut Vec<u8>,
-) -> Result<(), NoMemory>
-    requires can { CanBeGiven frame.now form.now }
-    requires made { IsMade frame.now made.old into.old.items }
-    ensures bytes { OnOk result (into.new.items ≡ bytes_in frame.now form.now) }
-    ensures made { OnOk result (IsMade frame.now made.new into.new.items) }
-{
-    if *made == Some(*form) {
-        return Ok(());
-    }
-    put_form(frame, form, into)?;
-    *made = Some(*form);
-    Ok(())
-}
-
 /// A frame that an extender took goes out in a form.
 fn send_frame(
     alloc: Global,
@@ -155,21 +136,19 @@ fn send_frame(
     frame: &[u8],
     stamp: &Option<Stamp>,
     out: &Out,
-    made: &mut Option<Form>,
-    into: &mut Vec<u8>,
+    store: &mut Store,
     core: &mut Core,
     log: &mut Log,
 ) -> Result<(), NoMemory>
     requires at { IsAt site.now core.old }
     requires number { number < 65 }
     requires can { CanGo frame.now out.now }
-    requires made { IsMade frame.now made.old into.old.items }
-    ensures does { OnOk result (Does (sends site.now.tree number stamp.now (out_sent frame.now out.now) (world_in core.old)) site.now core.new log.old log.new) }
-    ensures made { OnOk result (IsMade frame.now made.new into.new.items) }
+    ensures { OnOk result (Does (sends site.now.tree number stamp.now (out_sent frame.now out.now) (world_in core.old)) site.now core.new log.old log.new) }
 {
-    prepare(frame, &out.form, made, into)?;
+    let mut buffer = store.buffer(alloc);
+    put_form(frame, &out.form, &mut buffer)?;
     let word = Word {
-        bytes: Bytes::from_slice(alloc, into.as_slice())?,
+        bytes: Bytes::from_vec(buffer),
         stamp: *stamp,
     };
     send_to(alloc, site, number, out.to, word, core, log)
@@ -183,7 +162,7 @@ fn send_frames(
     frame: &[u8],
     stamp: &Option<Stamp>,
     outs: &[Out],
-    into: &mut Vec<u8>,
+    store: &mut Store,
     core: &mut Core,
     log: &mut Log,
 ) -> Result<(), NoMemory>
@@ -192,11 +171,8 @@ fn send_frames(
     requires can { All (CanGo frame.now) outs.now }
     ensures { OnOk result (Does (each (sends site.now.tree number stamp.now) (map (out_sent frame.now) outs.now) (world_in core.old)) site.now core.new log.old log.new) }
 {
-    let mut made = None;
     for out in outs {
-        send_frame(
-            alloc, site, number, frame, stamp, out, &mut made, into, core, log,
-        )?;
+        send_frame(alloc, site, number, frame, stamp, out, store, core, log)?;
     }
     Ok(())
 }
@@ -208,6 +184,7 @@ fn send_own(
     number: u8,
     stamp: &Option<Stamp>,
     frame: &[u8],
+    store: &mut Store,
     core: &mut Core,
     log: &mut Log,
 ) -> Result<(), NoMemory>
@@ -219,7 +196,7 @@ fn send_own(
         return Ok(());
     }
     let word = Word {
-        bytes: Bytes::from_slice(alloc, frame)?,
+        bytes: store.copy(alloc, frame)?,
         stamp: *stamp,
     };
     send_to(alloc, site, number, Side::Up, word, core, log)
@@ -233,7 +210,7 @@ pub(crate) fn send_all(
     frame: &[u8],
     stamp: &Option<Stamp>,
     reaction: &Sends,
-    into: &mut Vec<u8>,
+    store: &mut Store,
     core: &mut Core,
     log: &mut Log,
 ) -> Result<(), NoMemory>
@@ -243,13 +220,14 @@ pub(crate) fn send_all(
     ensures { OnOk result (Does (each (sends site.now.tree number stamp.now) (sent_by frame.now reaction.now) (world_in core.old)) site.now core.new log.old log.new) }
 {
     let outs = reaction.frames.as_slice();
-    send_frames(alloc, site, number, frame, stamp, outs, into, core, log)?;
+    send_frames(alloc, site, number, frame, stamp, outs, store, core, log)?;
     send_own(
         alloc,
         site,
         number,
         stamp,
         reaction.first.as_slice(),
+        store,
         core,
         log,
     )?;
@@ -259,6 +237,7 @@ pub(crate) fn send_all(
         number,
         stamp,
         reaction.second.as_slice(),
+        store,
         core,
         log,
     )
@@ -282,14 +261,15 @@ fn only_side(reaction: &Sends) -> Option<Side>
     }
 }
 
-/// All that an extender sends where this word came goes out. A word that goes on as it is, and nowhere else, is not copied.
+/// All that an extender sends where this word came goes out. A word that goes on as it is, and nowhere else, is not copied;
+/// of another one the buffer is kept.
 pub(crate) fn send_on(
     alloc: Global,
     site: &Site,
     number: u8,
     word: Word,
     reaction: &Sends,
-    into: &mut Vec<u8>,
+    store: &mut Store,
     core: &mut Core,
     log: &mut Log,
 ) -> Result<(), NoMemory>
@@ -309,10 +289,12 @@ pub(crate) fn send_on(
                 frame,
                 &word.stamp,
                 reaction,
-                into,
+                store,
                 core,
                 log,
-            )
+            )?;
+            store.keep(word.bytes);
+            Ok(())
         }
     }
 }

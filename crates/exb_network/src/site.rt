@@ -12,6 +12,7 @@ use crate::extenders::Extenders;
 use crate::indices::Indices;
 use crate::links::Direction;
 use crate::orders::{all_extenders, deepest_first};
+use crate::store::Store;
 use exb_control::{Control, Outbox};
 use exb_extender::Sends;
 use exb_model::buffers::{ControlBuf, FrameBuf};
@@ -184,8 +185,8 @@ pub(crate) struct Buffers {
     pub(crate) control: ControlBuf,
     /// A frame as it leaves the bridge.
     pub(crate) frame: FrameBuf,
-    /// A frame as it goes onto a link.
-    pub(crate) word: Vec<u8>,
+    /// Buffers of words that are gone, for those that are to come.
+    pub(crate) store: Store,
 }
 
 /// What calls give; each call replaces it.
@@ -207,7 +208,7 @@ impl Room {
                 message: ControlBuf::new(),
                 control: ControlBuf::new(),
                 frame: FrameBuf::new(),
-                word: Vec::new(alloc),
+                store: Store::new(alloc),
             },
         }
     }

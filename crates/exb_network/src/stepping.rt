@@ -57,7 +57,9 @@ fn take_up(
             room,
             core,
             log,
-        )
+        )?;
+        room.buffers.store.keep(word.bytes);
+        Ok(())
     } else {
         take_from_below(alloc, site, port, word, room, core, log)
     }

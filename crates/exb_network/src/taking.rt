@@ -41,7 +41,7 @@ pub(crate) fn take_from_above(
         number,
         word,
         sends,
-        &mut room.buffers.word,
+        &mut room.buffers.store,
         core,
         log,
     )
@@ -80,7 +80,7 @@ pub(crate) fn take_from_below(
         number,
         word,
         sends,
-        &mut room.buffers.word,
+        &mut room.buffers.store,
         core,
         log,
     )
@@ -133,7 +133,7 @@ pub(crate) fn arrive_at(
                 arrived.bytes,
                 &stamp,
                 sends,
-                &mut room.buffers.word,
+                &mut room.buffers.store,
                 core,
                 log,
             )
@@ -164,7 +164,7 @@ pub(crate) fn beat(
         &[],
         &None,
         sends,
-        &mut room.buffers.word,
+        &mut room.buffers.store,
         core,
         log,
     )

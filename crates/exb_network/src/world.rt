@@ -281,7 +281,7 @@ impl World {
         ensures same { IsSame self.old self.new }
         ensures quiet { IsQuiet self.new }
     {
-        self.log = Log::new(self.alloc, self.log.tracing);
+        self.log.clear(&mut self.room.buffers.store);
     }
 }
 

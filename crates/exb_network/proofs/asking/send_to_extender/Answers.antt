@@ -1,4 +1,4 @@
-use Rattle.std.proofs.Common.{◌≡◌, ℕ, ◌/◌, arith, subst}
+use Rattle.std.proofs.Common.{◌≡◌, ℕ, ◌/◌, List, arith, subst}
 use Rattle.std.proofs.lemmas.Result.{on_ok_weaker}
 use Rattle.exb_model.specs.Tree.{on}
 use Rattle.exb_machine.specs.Hearing.{puts}
@@ -6,8 +6,8 @@ use Rattle.exb_network.specs.Worlds.{world_in, Does}
 use Rattle.exb_network.proofs.ToExtenders.{near_by}
 use Rattle.exb_network.proofs.asking.send_to_extender.Goals as goal
 
-pub returns-then-device-eq0 : goal.returns-then-device-eq0
-returns-then-device-eq0 c =
+pub returns-in_ok-bytes : goal.returns-in_ok-bytes
+returns-in_ok-bytes c =
     let t = c.args.site.now.tree in
     let n = c.args.extender in
     let port = c.on-port.ensures in
@@ -18,4 +18,5 @@ returns-then-device-eq0 c =
     let here : c.place.result ≡ on t n = omega (arith, port, device, is, place) in
     on_ok_weaker c.put.result (λ done.
     near_by t c.args.site.now c.args.core.now c.put.new.core n c.args.frame.now c.args.log.now c.put.new.log low
-    (subst (λ (k : ℕ). Does (puts k n c.args.frame.now (world_in c.args.core.now)) c.args.site.now c.put.new.core c.args.log.now c.put.new.log) here done)) c.put.ensures
+    (subst (λ (k : ℕ). Does (puts k n c.args.frame.now (world_in c.args.core.now)) c.args.site.now c.put.new.core c.args.log.now c.put.new.log) here
+    (subst (λ (x : List ℕ). Does (puts c.place.result n x (world_in c.args.core.now)) c.args.site.now c.put.new.core c.args.log.now c.put.new.log) c.in_ok-bytes.ensures done))) c.put.ensures

@@ -4,7 +4,6 @@ use Rattle.exb_machine.specs.Effects.{each}
 use Rattle.exb_machine.specs.Extending.{sends}
 use Rattle.exb_network.specs.Leading.{Leads}
 use Rattle.exb_network.specs.Worlds.{world_in, IsAt}
-use Rattle.exb_network.specs.Forms.{IsMade}
 use Rattle.exb_network.proofs.sending.send_frames.Given as goal
 
 -- what is left to be sent leads from here to the whole
@@ -13,5 +12,4 @@ invariant-loop-out l = record {
   leads : Leads (each (sends l.site.tree l.number l.stamp) (map (out_sent l.frame) l.outs) (world_in l.initial.core))
       (each (sends l.site.tree l.number l.stamp) (map (out_sent l.frame) (drop l.out-index l.outs)) (world_in l.core)) l.initial.log l.log;
   at : IsAt l.site l.core;
-  made : IsMade l.frame l.made l.into.items;
 }
