@@ -114,7 +114,7 @@ impl Control {
         ensures shape { self.new.fabric.shape ≡ self.old.fabric.shape }
         ensures limits { self.new.fabric.limits ≡ self.old.fabric.limits }
     {
-        out.empty(self.alloc);
+        out.empty();
         if self.failed {
             return Err(ControlFault::Failed);
         }
@@ -152,7 +152,7 @@ impl Control {
         ensures shape { self.new.fabric.shape ≡ self.old.fabric.shape }
         ensures limits { self.new.fabric.limits ≡ self.old.fabric.limits }
     {
-        out.empty(self.alloc);
+        out.empty();
         if self.failed {
             return Err(ControlFault::Failed);
         }
@@ -192,7 +192,7 @@ impl Control {
         ensures shape { self.new.fabric.shape ≡ self.old.fabric.shape }
         ensures limits { self.new.fabric.limits ≡ self.old.fabric.limits }
     {
-        out.empty(self.alloc);
+        out.empty();
         if self.failed {
             return Err(ControlFault::Failed);
         }
@@ -233,7 +233,7 @@ impl Control {
         ensures shape { self.new.fabric.shape ≡ self.old.fabric.shape }
         ensures limits { self.new.fabric.limits ≡ self.old.fabric.limits }
     {
-        out.empty(self.alloc);
+        out.empty();
         if self.failed {
             return Err(ControlFault::Failed);
         }
@@ -268,7 +268,7 @@ impl Control {
         ensures shape { self.new.fabric.shape ≡ self.old.fabric.shape }
         ensures limits { self.new.fabric.limits ≡ self.old.fabric.limits }
     {
-        out.empty(self.alloc);
+        out.empty();
         if self.failed {
             return Err(ControlFault::Failed);
         }
@@ -290,7 +290,7 @@ impl Control {
         ensures shape { self.new.fabric.shape ≡ self.old.fabric.shape }
         ensures limits { self.new.fabric.limits ≡ self.old.fabric.limits }
     {
-        out.empty(self.alloc);
+        out.empty();
         if self.failed {
             return Err(ControlFault::Failed);
         }
