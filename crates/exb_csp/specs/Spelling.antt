@@ -98,4 +98,3 @@ FitsBody (body.Answer answer) = ⊤
 pub record Fits (m : Message) : Type 0 where
   pub serial : m.serial < 2 ^ 64
   pub content : FitsBody m.body
-
