@@ -8,6 +8,7 @@ use exb_flat::flat::{Sent, flat};
 use exb_flat_run::site::{Site, site_of};
 use exb_model::list::List;
 use exb_model::port::PortId;
+use exb_schedule::Left;
 use exb_shelf::MemShelf;
 use exb_text::trace_file_name;
 use rand_core::SeedableRng;
@@ -124,17 +125,23 @@ fn sent_over(
     flat(alloc, &site.basis, played.world.events(), port).expect(rt, "memory")
 }
 
+// A frame that left is this one.
+fn expect_same(rt: &impl Abort, left: &Left, sent: Option<&Sent>) {
+    let sent = sent.expect(rt, "no frame too many");
+    assert!(rt; sent.moment == left.moment);
+    assert!(rt; sent.bytes.as_slice() == left.bytes.as_slice());
+}
+
 // What left a port is this.
 fn expect_left(rt: &impl Abort, played: &Played, port: PortId, sent: &[Sent]) {
-    let mut wanted = sent.iter();
+    let mut place = 0usize;
     for left in played.world.left() {
         if left.port == port {
-            let sent = wanted.next().expect(rt, "no frame too many");
-            assert!(rt; sent.moment == left.moment);
-            assert!(rt; sent.bytes.as_slice() == left.bytes.as_slice());
+            expect_same(rt, left, sent.get(place));
+            place = place.saturating_add(1);
         }
     }
-    assert!(rt; wanted.next().is_none());
+    assert_eq!(rt; place, sent.len());
 }
 
 // A port of the one extender.
