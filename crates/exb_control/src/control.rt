@@ -111,7 +111,7 @@ impl Control {
         ensures shape { self.new.fabric.shape ≡ self.old.fabric.shape }
         ensures limits { self.new.fabric.limits ≡ self.old.fabric.limits }
     {
-        out.empty(self.alloc);
+        out.empty();
         if self.failed {
             return Err(ControlFault::Failed);
         }
@@ -148,7 +148,7 @@ impl Control {
         ensures shape { self.new.fabric.shape ≡ self.old.fabric.shape }
         ensures limits { self.new.fabric.limits ≡ self.old.fabric.limits }
     {
-        out.empty(self.alloc);
+        out.empty();
         if self.failed {
             return Err(ControlFault::Failed);
         }
@@ -187,7 +187,7 @@ impl Control {
         ensures shape { self.new.fabric.shape ≡ self.old.fabric.shape }
         ensures limits { self.new.fabric.limits ≡ self.old.fabric.limits }
     {
-        out.empty(self.alloc);
+        out.empty();
         if self.failed {
             return Err(ControlFault::Failed);
         }
@@ -228,7 +228,7 @@ impl Control {
         ensures shape { self.new.fabric.shape ≡ self.old.fabric.shape }
         ensures limits { self.new.fabric.limits ≡ self.old.fabric.limits }
     {
-        out.empty(self.alloc);
+        out.empty();
         if self.failed {
             return Err(ControlFault::Failed);
         }
@@ -263,7 +263,7 @@ impl Control {
         ensures shape { self.new.fabric.shape ≡ self.old.fabric.shape }
         ensures limits { self.new.fabric.limits ≡ self.old.fabric.limits }
     {
-        out.empty(self.alloc);
+        out.empty();
         if self.failed {
             return Err(ControlFault::Failed);
         }
@@ -284,7 +284,7 @@ impl Control {
         ensures shape { self.new.fabric.shape ≡ self.old.fabric.shape }
         ensures limits { self.new.fabric.limits ≡ self.old.fabric.limits }
     {
-        out.empty(self.alloc);
+        out.empty();
         if self.failed {
             return Err(ControlFault::Failed);
         }

@@ -36,13 +36,13 @@ impl Outbox {
     }
 
     /// Takes out what the call before gave.
-    pub(crate) fn empty(&mut self, alloc: Global)
+    pub(crate) fn empty(&mut self)
         ensures events { self.new.events ≡ [] }
         ensures asks { self.new.asks ≡ [] }
         ensures quiet { IsQuiet self.new }
     {
-        self.events = List::new(alloc);
-        self.asks = List::new(alloc);
+        self.events.clear();
+        self.asks.clear();
         self.sends.clear();
         self.ingress = Ingress::Dropped;
     }
