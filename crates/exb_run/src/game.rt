@@ -21,7 +21,7 @@ ghost use Rattle.exb_run.specs.Shelving.{CountsFaults, IsOfWriting, OnlyMakes, O
 ghost use Rattle.exb_run.specs.Writing.{AreCut, HasTexts, IsReady, pieces_of, lines_of, with_more, with_left_frames, CanBeWritten};
 
 use crate::fault::Fault;
-use crate::gather::{NANOSECONDS, gather};
+use crate::gather::{Gathered, NANOSECONDS, gather};
 use crate::outputs::{Outputs, create_all};
 use crate::plan::Plan;
 use crate::script::{Schedule, Script};
@@ -227,6 +227,7 @@ impl Game {
         from: usize,
         first: &Due<'_>,
         agenda: &mut Agenda<'_>,
+        gathered: &mut Gathered,
     ) -> Result<(), Fault>
         requires ready { IsReady plan.now (S.ids shelf.old) self.old.outputs }
         requires playing { (run : Run) × CanGoOn S.tells (mode_of schedule) run plan.now (S.file shelf.old) (network_of self.old.world) (counts_of self.old.tally) self.old.outputs seconds from first.now agenda.old }
@@ -246,18 +247,12 @@ impl Game {
     {
         merge_keeps_order();
         runs_are_under_way();
-        let Ok(arrivals) = gather(alloc, schedule, first, agenda) else {
+        let Ok(()) = gather(alloc, schedule, first, agenda, gathered) else {
             return Err(Fault::Memory);
         };
         let commands = agenda.taken_since(from);
-        self.turn(
-            shelf,
-            plan,
-            schedule,
-            seconds,
-            commands,
-            arrivals.as_slice(),
-        )
+        let arrivals = gathered.arrivals.as_slice();
+        self.turn(shelf, plan, schedule, seconds, commands, arrivals)
     }
 
     /// Plays all that comes, one segment after another.
@@ -287,10 +282,21 @@ impl Game {
         runs_are_few();
         let mut last: Option<u64> = None;
         let mut taken = agenda.taken();
+        let mut gathered = Gathered::new(alloc);
         'events: while let Some(first) = agenda.next() {
             let second = first.moment() / NANOSECONDS;
             let seconds = seconds_since(last, second);
-            self.go_on(alloc, shelf, plan, schedule, seconds, taken, &first, agenda)?;
+            self.go_on(
+                alloc,
+                shelf,
+                plan,
+                schedule,
+                seconds,
+                taken,
+                &first,
+                agenda,
+                &mut gathered,
+            )?;
             taken = agenda.taken();
             last = Some(second);
         }

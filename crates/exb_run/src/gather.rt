@@ -11,17 +11,54 @@ use exb_model::bytes::Bytes;
 use exb_model::memory::NoMemory;
 use exb_schedule::Arrival;
 use std::alloc::Global;
+use std::mem;
 
 /// A second in nanoseconds.
 pub(crate) const NANOSECONDS: u64 = 1_000_000_000;
 
+/// What comes in one segment, and the buffer of an arrival that is gone, for the next one.
+#[derive(Drop)]
+pub(crate) struct Gathered {
+    pub(crate) arrivals: Vec<Arrival>,
+    spare: Vec<u8>,
+}
+
+impl Gathered {
+    /// Nothing has come yet.
+    pub(crate) fn new(alloc: Global) -> Gathered {
+        Gathered {
+            arrivals: Vec::new(alloc),
+            spare: Vec::new(alloc),
+        }
+    }
+
+    /// Forgets what came, and keeps a buffer of it.
+    fn clear(&mut self)
+        ensures { self.new.arrivals.items ≡ [] }
+    {
+        while let Some(arrival) = self.arrivals.pop() {
+            self.spare = arrival.bytes.into_vec();
+        }
+    }
+}
+
+/// A copy of bytes, in the buffer that is kept.
+fn copy(alloc: Global, bytes: &[u8], spare: &mut Vec<u8>) -> Result<Bytes, NoMemory>
+    ensures { IfOk result (λ made. made ≡ bytes.now) }
+{
+    let mut buffer = mem::replace(spare, Vec::new(alloc));
+    buffer.clear();
+    buffer.extend_from_slice(bytes)?;
+    Ok(Bytes::from_vec(buffer))
+}
+
 /// Puts the arrival of what comes behind others, with its bytes copied; a command has none.
-fn put_arrival(alloc: Global, arrivals: &mut Vec<Arrival>, due: &Due<'_>) -> Result<(), NoMemory>
-    ensures { OnOk result (map arrived arrivals.new.items ≡ map arrived arrivals.old.items ++ filter_map arrival_in (coming_of due.now ∷ [])) }
+fn put_arrival(alloc: Global, gathered: &mut Gathered, due: &Due<'_>) -> Result<(), NoMemory>
+    ensures { OnOk result (map arrived gathered.new.arrivals.items ≡ map arrived gathered.old.arrivals.items ++ filter_map arrival_in (coming_of due.now ∷ [])) }
 {
     if let Due::Record(record) = due {
-        let bytes = Bytes::from_slice(alloc, record.bytes)?;
-        arrivals.push(Arrival {
+        let bytes = copy(alloc, record.bytes, &mut gathered.spare)?;
+        gathered.arrivals.push(Arrival {
             port: record.port,
             index: record.index,
             moment: record.moment,
@@ -35,36 +72,36 @@ fn put_arrival(alloc: Global, arrivals: &mut Vec<Arrival>, due: &Due<'_>) -> Res
 fn gather_second(
     alloc: Global,
     second: u64,
-    arrivals: &mut Vec<Arrival>,
+    gathered: &mut Gathered,
     agenda: &mut Agenda<'_>,
 ) -> Result<(), NoMemory>
-    ensures gathered { OnOk result (HasGathered second agenda.old arrivals.old.items agenda.new arrivals.new.items) }
+    ensures gathered { OnOk result (HasGathered second agenda.old gathered.old.arrivals.items agenda.new gathered.new.arrivals.items) }
     ensures whole { OnOk result (begins_in second (still_to_come agenda.new) ≡ false) }
 {
     'second: while let Some(due) = agenda.next_within(second) {
-        put_arrival(alloc, arrivals, &due)?;
+        put_arrival(alloc, gathered, &due)?;
     }
     Ok(())
 }
 
 /// With what comes first, takes all that is played with it: nothing in an eager run, and in a seeded one all of the same second.
-/// Answers the arrivals.
+/// Its arrivals stand in the place of those gathered before.
 pub(crate) fn gather(
     alloc: Global,
     schedule: Schedule,
     first: &Due<'_>,
     agenda: &mut Agenda<'_>,
-) -> Result<Vec<Arrival>, NoMemory>
-    ensures { IfOk result (λ arrivals. IsGathered (mode_of schedule) first.now agenda.old arrivals.items agenda.new) }
+    gathered: &mut Gathered,
+) -> Result<(), NoMemory>
+    ensures { OnOk result (IsGathered (mode_of schedule) first.now agenda.old gathered.new.arrivals.items agenda.new) }
 {
-    let mut arrivals = Vec::new(alloc);
-    put_arrival(alloc, &mut arrivals, first)?;
+    gathered.clear();
+    put_arrival(alloc, gathered, first)?;
     match schedule {
-        Schedule::Eager => Ok(arrivals),
+        Schedule::Eager => Ok(()),
         Schedule::Seeded { .. } => {
             let second = first.moment() / NANOSECONDS;
-            gather_second(alloc, second, &mut arrivals, agenda)?;
-            Ok(arrivals)
+            gather_second(alloc, second, gathered, agenda)
         }
     }
 }
