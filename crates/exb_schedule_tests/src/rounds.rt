@@ -159,42 +159,42 @@ fn one_level_comes_to_rest_over_drawn_verdicts(rt: HostRuntime) {
 
 #[test]
 fn eight_levels_come_to_rest_over_late_frames(rt: HostRuntime) {
-    expect_kind(&rt, rt.alloc(), 8, Kind::Only(Verdict::Later), 10_000);
+    expect_kind(&rt, rt.alloc(), 8, Kind::Only(Verdict::Later), 100_000);
 }
 
 #[test]
 fn eight_levels_come_to_rest_over_doubled_frames(rt: HostRuntime) {
-    expect_kind(&rt, rt.alloc(), 8, Kind::Only(Verdict::Twice), 10_000);
+    expect_kind(&rt, rt.alloc(), 8, Kind::Only(Verdict::Twice), 100_000);
 }
 
 #[test]
 fn eight_levels_come_to_rest_over_lost_frames(rt: HostRuntime) {
-    expect_kind(&rt, rt.alloc(), 8, Kind::Only(Verdict::Lose), 10_000);
+    expect_kind(&rt, rt.alloc(), 8, Kind::Only(Verdict::Lose), 100_000);
 }
 
 #[test]
 fn eight_levels_come_to_rest_over_drawn_verdicts(rt: HostRuntime) {
-    expect_kind(&rt, rt.alloc(), 8, Kind::Drawn(1), 10_000);
+    expect_kind(&rt, rt.alloc(), 8, Kind::Drawn(1), 100_000);
 }
 
 #[test]
 fn sixty_four_levels_come_to_rest_over_late_frames(rt: HostRuntime) {
-    expect_kind(&rt, rt.alloc(), 64, Kind::Only(Verdict::Later), 1_000);
+    expect_kind(&rt, rt.alloc(), 64, Kind::Only(Verdict::Later), 100_000);
 }
 
 #[test]
 fn sixty_four_levels_come_to_rest_over_doubled_frames(rt: HostRuntime) {
-    expect_kind(&rt, rt.alloc(), 64, Kind::Only(Verdict::Twice), 1_000);
+    expect_kind(&rt, rt.alloc(), 64, Kind::Only(Verdict::Twice), 100_000);
 }
 
 #[test]
 fn sixty_four_levels_come_to_rest_over_lost_frames(rt: HostRuntime) {
-    expect_kind(&rt, rt.alloc(), 64, Kind::Only(Verdict::Lose), 1_000);
+    expect_kind(&rt, rt.alloc(), 64, Kind::Only(Verdict::Lose), 100_000);
 }
 
 #[test]
 fn sixty_four_levels_come_to_rest_over_drawn_verdicts(rt: HostRuntime) {
-    expect_kind(&rt, rt.alloc(), 64, Kind::Drawn(1), 1_000);
+    expect_kind(&rt, rt.alloc(), 64, Kind::Drawn(1), 100_000);
 }
 
 #[test]
