@@ -1,6 +1,6 @@
 -- What is given of a capture that is read again.
 use Rattle.std.proofs.Common.{◌≡◌, ◌<◌, ◌≤◌, ◌+◌, ◌-◌, ◌*◌, ◌^◌, ℕ, Bool, true, false, List, [], ◌∷◌, ◌++◌, length, take, drop, Option, Some, None, Result, Ok, Err, refl, ap, sym, subst, inl, inr, ◌∙◌, arith, length-append, length-drop, append_assoc}
-use Rattle.std.specs.Prelude.{◌⊎◌, ◌≢◌, min, max, nat_lt}
+use Rattle.std.specs.Prelude.{◌⊎◌, ◌≢◌, min, max, nat_lt, IsErrOf}
 use Rattle.std.proofs.lemmas.Bool.{cases_lt, ltb-true}
 use Rattle.std.proofs.lemmas.List.{take-append-drop, append_cancel_left}
 use Rattle.exb_model.specs.Input.{Record}
@@ -138,7 +138,7 @@ early_comes told bytes x time at first is early e =
     let place : 24 ≡ at = cc in
     ComesEarly x first (subst (λ n. comes_early told.first n ≡ true) (sym is) early) (sym place)
 
-pub fault_is : {X : Type 0} (fault : ReplayFault) (at : ℕ) → Err {X} fault ≡ Err (Changed at) → fault ≡ Changed at
+pub fault_is : {X : Type 0} (fault : ReplayFault) (at : ℕ) → IsErrOf {T = X} {E = ReplayFault} (Err fault) (Changed at) → fault ≡ Changed at
 fault_is fault at e = cc
 
 -- ---- what comes next of a file that was checked

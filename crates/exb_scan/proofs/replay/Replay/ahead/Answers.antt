@@ -1,4 +1,4 @@
-use Rattle.std.proofs.Common.{List, sym, subst, ◌∙◌}
+use Rattle.std.proofs.Common.{ℕ, List, sym, subst, ◌∙◌}
 use Rattle.exb_shelf.specs.Files.{bytes_of}
 use Rattle.exb_scan.specs.Reading.{HasRead}
 use Rattle.exb_scan.specs.Replaying.{Disagrees}

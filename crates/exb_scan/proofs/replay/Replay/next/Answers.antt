@@ -1,8 +1,8 @@
-use Rattle.std.proofs.Common.{ℕ, Option, subst, ◌∙◌}
+use Rattle.std.proofs.Common.{ℕ, Option, Err, ap, subst, ◌∙◌}
 use Rattle.std.specs.Prelude.{IfSome}
 use Rattle.exb_shelf.specs.Files.{bytes_of}
 use Rattle.exb_scan.specs.Replaying.{ComesAt}
-use Rattle.exb_scan.proofs.Replaying.{next_replayed, never_replayed}
+use Rattle.exb_scan.proofs.Replaying.{fault_is, next_replayed, never_replayed}
 use Rattle.exb_scan.proofs.replay.Replay.next.Goals as goal
 
 pub returns-in-Ok-clause-order : goal.returns-in-Ok-clause-order
@@ -22,4 +22,4 @@ returns-in-Err-clause-never g c = λ tells at e left k.
     let S = g.S.Shelf in
     let r = c.args.self.now in
     let bytes = bytes_of (S.file c.args.shelf.now (S.ids c.args.shelf.now r.file.id).name) in
-    never_replayed bytes left r at k (c.in-Err.ensures.changed tells at e k.given k.has)
+    never_replayed bytes left r at k (c.in-Err.ensures.changed tells at (ap Err (fault_is c.in-Err.fault at e)) k.given k.has)
