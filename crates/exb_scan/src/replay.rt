@@ -126,7 +126,7 @@ impl Replay {
         requires room { told.bytes + 1 < 2 ^ 64 }
         ensures told { IfOk result (λ replay. (replay.told ≡ told) × (replay.least ≡ 0)) }
         ensures kept { IfOk result IsKept }
-        ensures begun { IfOk result (λ replay. replay.file.got ≡ 0) }
+        ensures begun { IfOk result (λ replay. IsBegun (told.bytes + 1) replay.file) }
         ensures given { S.tells → IfOk result (HasGiven (bytes_of (S.file shelf.old name.now)) []) }
         ensures there { S.tells → OnOk result (IsSome (S.file shelf.old name.now)) }
         ensures changed { (at : ℕ) → IsErrOf result (ReplayFault.Changed at) → (at ≡ 0)
