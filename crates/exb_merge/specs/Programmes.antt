@@ -45,6 +45,11 @@ IsOf old (next.Command number moment) new =
     (number ≡ old.taken + 1) × (old.taken < length old.commands.now) × (new.taken ≡ old.taken + 1) × (standings new.captures ≡ standings old.captures)
 IsOf old (next.Record c) new = HasCome (standings old.captures) c (standings new.captures) × (new.taken ≡ old.taken)
 
+-- how many bytes of a capture it takes at least
+abbrev pub size_of : Next → ℕ
+size_of (next.Command number moment) = 0
+size_of (next.Record c) = 16
+
 -- Whatever the files hold: this came, less than 2^32 seconds after the start, and nothing that is left comes before it.
 pub record IsComing (old : Programme) (d : Next) (new : Programme) : Type 0 where
   pub is : IsOf old d new
@@ -55,6 +60,7 @@ pub record IsComing (old : Programme) (d : Next) (new : Programme) : Type 0 wher
   pub start : new.start ≡ old.start
   pub commands : new.commands.now ≡ old.commands.now
   pub ids : ids_in new.captures ≡ ids_in old.captures
+  pub size : size_of d + left_in new.captures ≤ left_in old.captures
   pub left : left_of new < left_of old
 
 -- Where the files are told and are those that were checked: it is the first of what was still to come of them, and the rest is left.
