@@ -1,8 +1,7 @@
 -- The captures of some ports that are read again, each looked at as far as its next record.
-use Rattle.std.specs.Prelude.{⊤, ⊥, ◌≡◌, ◌≢◌, ◌<◌, ◌≤◌, ◌+◌, ◌*◌, ◌^◌, ◌==◌, suc, if◌then◌else◌, true, ℕ, List, [], ◌∷◌, ◌⊎◌, length, map, max, sum_by, Option, Some, None, IfSome}
+use Rattle.std.specs.Prelude.{⊤, ⊥, ◌≡◌, ◌≢◌, ◌<◌, ◌≤◌, ◌+◌, ◌*◌, ◌^◌, ◌==◌, suc, if◌then◌else◌, true, ℕ, List, [], ◌∷◌, ◌⊎◌, length, map, sum_by, Option, Some, None, IfSome}
 use Rattle.std.specs.List.{AllByRecursion}
-use Rattle.exb_model.specs.Input.{Record, Coming, Captured, second_of}
-use Rattle.exb_pcap.specs.Pieces.{Answer, Found, More, End, Faulty, asked}
+use Rattle.exb_model.specs.Input.{Captured, second_of}
 use Rattle.exb_shelf.specs.Files.{Files, bytes_of}
 use Rattle.exb_shelf.specs.Shelf.{Id, IsReadingOf}
 use Rattle.exb_scan.specs.Reading.{IsAt, left_to_read}
@@ -15,37 +14,28 @@ use Rattle.exb_merge.specs.Streams.{Stream, to_come}
 use Rattle.exb_merge.specs.Turns.{IsInTurn}
 
 -- ---- what comes next of one capture
--- the moment of the record that comes next
-abbrev pub moment_in : Answer → ℕ → Option ℕ
-moment_in (Found x) least = Some (max least x.time)
-moment_in More least = None
-moment_in End least = None
-moment_in (Faulty fault) least = None
-
-abbrev pub next_of : Again → Option ℕ
-next_of s = moment_in (asked s.replay.file.ended s.replay.file.reader).answer s.replay.least
-
 -- the next record alone, without its bytes, as a stream: its turn is the capture's turn
 abbrev pub seen_at : Option ℕ → Again → Stream
 seen_at None s = record { port = s.port; index = s.index; least = 0; records = [] }
 seen_at (Some m) s = record { port = s.port; index = s.index; least = m; records = record { time = m; bytes = [] } ∷ [] }
 
 abbrev pub seen : Again → Stream
-seen s = seen_at (next_of s) s
+seen s = seen_at s.next s
 
--- The capture was opened and looked at: what comes next of it is known, and its numbers are no more than its bytes.
+-- The capture was opened and looked at: the moment of its next record is kept, where it has one, and its numbers are no more than its
+-- bytes.
 pub record IsOpened (ids : ℕ → Id) (s : Again) : Type 0 where
   pub at : IsAt (ids s.replay.file.id) s.replay.file.got
   pub kept : IsKept s.replay
   pub small : s.replay.told.bytes + 2 < 2 ^ 63
   pub first : 1 ≤ s.index
   pub numbers : s.index + left_to_read s.replay.file ≤ s.replay.told.bytes + 2
-  pub comes : (m : ℕ) → next_of s ≡ Some m → ComesAt m s.replay
+  pub comes : IfSome s.next (λ m. ComesAt m s.replay)
 
--- no two of them read through one id
+-- no two of them are of one port or read through one id
 abbrev pub Apart : List Again → Type 0
 Apart [] = ⊤
-Apart (s ∷ rest) = AllByRecursion (λ t. t.replay.file.id ≢ s.replay.file.id) rest × Apart rest
+Apart (s ∷ rest) = AllByRecursion (λ t. (t.port ≢ s.port) × (t.replay.file.id ≢ s.replay.file.id)) rest × Apart rest
 
 -- all were opened and looked at, and each that isn't at its end has its turn
 pub record AreOpened (ids : ℕ → Id) (r : Replays) : Type 0 where
@@ -110,16 +100,16 @@ AreToldSince second r = AllByRecursion (λ (s : Again). IfSome s.replay.told.fir
 
 -- no capture has a next record before this moment
 abbrev pub NoneIsBefore : ℕ → Replays → Type 0
-NoneIsBefore m r = AllByRecursion (λ (s : Again). IfSome (next_of s) (λ k. m ≤ k)) r.sources.items
+NoneIsBefore m r = AllByRecursion (λ (s : Again). IfSome s.next (λ k. m ≤ k)) r.sources.items
 
 -- one capture has a next record at this moment
 abbrev pub HasNext : ℕ → List Again → Type 0
 HasNext m [] = ⊥
-HasNext m (s ∷ rest) = (next_of s ≡ Some m) ⊎ HasNext m rest
+HasNext m (s ∷ rest) = (s.next ≡ Some m) ⊎ HasNext m rest
 
 -- the moment of one capture's next record, before which none of another comes; or no capture has one
 abbrev pub IsEarliest : Option ℕ → Replays → Type 0
-IsEarliest None r = AllByRecursion (λ (s : Again). next_of s ≡ None) r.sources.items
+IsEarliest None r = AllByRecursion (λ (s : Again). s.next ≡ None) r.sources.items
 IsEarliest (Some m) r = HasNext m r.sources.items × NoneIsBefore m r
 
 -- ---- what is told
@@ -129,6 +119,7 @@ pub record IsReplayOf (files : Files) (ids : ℕ → Id) (s : Again) (stream : S
   pub index : stream.index ≡ s.index
   pub least : stream.least ≡ s.replay.least
   pub left : IsReplaying (bytes_of (files (ids s.replay.file.id).name)) stream.records s.replay
+  pub over : s.next ≡ None → stream.records ≡ []
 
 -- so of all
 abbrev pub AreReplays : Files → (ℕ → Id) → List Again → List Stream → Type 0

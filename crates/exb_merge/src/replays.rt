@@ -1,5 +1,5 @@
 //! The captures of some ports that were checked, as they are read again and played.
-ghost use Rattle.std.specs.Prelude.{◌≡◌, ◌≢◌, ◌+◌, ◌*◌, ◌^◌, ◌<◌, ◌≤◌, ◌⊎◌, [], ◌∷◌, ◌++◌, ℕ, List, Some, None, length, IfOk, OnOk, IsErrOf, IfSome, IfNone};
+ghost use Rattle.std.specs.Prelude.{◌≡◌, ◌≢◌, ◌+◌, ◌*◌, ◌^◌, ◌<◌, ◌≤◌, [], ◌∷◌, ◌++◌, ℕ, List, Some, None, length, IfOk, OnOk, IsErrOf, IfSome, IfNone};
 ghost use Rattle.exb_model.specs.Input.{Record, second_of};
 ghost use Rattle.exb_pcap.specs.Captures.{pcap_records};
 ghost use Rattle.exb_shelf.specs.Files.{SameFiles, bytes_of};
@@ -8,7 +8,7 @@ ghost use Rattle.exb_pcap.specs.Pieces.{Found, asked};
 ghost use Rattle.exb_scan.specs.Reading.{left_to_read};
 ghost use Rattle.exb_scan.specs.Replaying.{ComesAt, HasGiven, IsKept, IsSameReplay, IsSince};
 ghost use Rattle.exb_scan.specs.Scans.{scanned_of};
-ghost use Rattle.exb_merge.specs.Replays.{AreOpened, AreReplays, AreToldSince, ComesFirst, HasCome, IsEarliest, NoneIsBefore, ReadsOn, ids_in, left_in, standings};
+ghost use Rattle.exb_merge.specs.Replays.{AreOpened, AreReplays, AreToldSince, ComesFirst, HasCome, HasPort, IsEarliest, NoneIsBefore, ReadsOn, ids_in, left_in, standings};
 ghost use Rattle.exb_merge.specs.Streams.{Stream, stream_of};
 
 use crate::captures::{Turn, put_turn};
@@ -41,6 +41,8 @@ pub(crate) struct Again {
     port: PortId,
     /// The number of the next record.
     index: u64,
+    /// The moment of the next record, if there is one.
+    next: Option<u64>,
     replay: Replay,
 }
 
@@ -110,6 +112,7 @@ impl Replays {
         told: Scanned,
     ) -> Result<(), ReplayFault>
         requires opened { AreOpened (S.ids shelf.old) self.old }
+        requires port { HasPort port (standings self.old) → ⊥ }
         requires piece { 0 < length piece.old }
         requires room { told.bytes + 2 < 2 ^ 63 }
         ensures piece { length piece.new ≡ length piece.old }
@@ -136,17 +139,18 @@ impl Replays {
             return Err(ReplayFault::Memory);
         }
         let mut replay = Replay::open(alloc, shelf, name, told)?;
-        let moment = replay.ahead(alloc, shelf, piece)?;
+        let next = replay.ahead(alloc, shelf, piece)?;
         let place = self.sources.len();
         let source = Again {
             port,
             index: 1,
+            next,
             replay,
         };
         if self.sources.push(source).is_err() {
             return Err(ReplayFault::Memory);
         }
-        put_turn(&mut self.turns, moment, place);
+        put_turn(&mut self.turns, next, place);
         Ok(())
     }
 
@@ -208,6 +212,7 @@ impl Replays {
             Err(_) => return Err(ReplayFault::Memory),
         };
         let next = source.replay.ahead(alloc, shelf, piece)?;
+        source.next = next;
         put_turn(&mut self.turns, next, place);
         Ok(Some(came))
     }
