@@ -9,7 +9,7 @@ use Rattle.exb_model.specs.declared.rules.StaticAt.{StaticAt}
 use Rattle.exb_model.specs.Ports.{all_ports}
 use Rattle.exb_model.specs.Configuration.{kind_in, default_rule}
 use Rattle.exb_config.specs.declared.members.Members.{Members}
-use Rattle.exb_config.specs.declared.static_entries.Destination.{Destination}
+use Rattle.exb_model.specs.declared.station.Station.{Station}
 
 -- ---- members
 -- a VLAN with these members has one
@@ -34,8 +34,8 @@ abbrev pub rule_of : List PortRule → ℕ → PortRule
 rule_of rules q = slice_index_or rules q default_rule
 
 -- ---- static entries
-abbrev pub static_of : Destination × PortSet → StaticAt
+abbrev pub static_of : Station × PortSet → StaticAt
 static_of e = record { vid = e.0.vid; address = e.0.address; ports = e.1 }
 
-abbrev pub statics_of : List (Destination × PortSet) → List StaticAt
+abbrev pub statics_of : List (Station × PortSet) → List StaticAt
 statics_of es = map static_of es

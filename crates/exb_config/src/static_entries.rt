@@ -7,39 +7,16 @@ use exb_model::address::Mac;
 use exb_model::memory::NoMemory;
 use exb_model::port_set::PortSet;
 use exb_model::rules::StaticAt;
+use exb_model::station::Station;
 use exb_model::vlan::Vid;
 use indexmap::IndexMap;
 use std::alloc::Global;
-use std::hash::{Hash, Hasher};
 use std::marker::Model;
-
-/// What an entry is for: an address in a VLAN.
-#[derive(Clone, Copy, Debug, PartialEq, Eq)]
-pub struct Destination {
-    pub vid: Vid,
-    pub address: Mac,
-}
-
-impl Hash for Destination {
-    ghost use Rattle.std.specs.Prelude.{◌++◌};
-    ghost use Rattle.std.proofs.Common.{rules};
-    ghost use Rattle.std.specs.Hash as fed;
-    ghost use Rattle.std.specs.Cmp.Rules.{comparing, hashing};
-
-    ghost hash_input = { λ d. fed.u16 d.vid ++ fed.slice fed.u8 d.address.0 };
-
-    ghost respects_eq = { Prim.search (hashing, rules) };
-
-    fn hash<H: Hasher>(&self, state: &mut H) {
-        self.vid.number().hash(state);
-        self.address.0.hash(state);
-    }
-}
 
 /// The ports of each static entry, found by what the entry is for.
 #[derive(Drop)]
 pub struct StaticEntries {
-    entries: IndexMap<Destination, PortSet>,
+    entries: IndexMap<Station, PortSet>,
 }
 
 impl Model for StaticEntries {
@@ -76,7 +53,7 @@ impl StaticEntries {
     pub fn find(&self, vid: Vid, address: Mac) -> Option<PortSet>
         ensures { result ≡ option_map (λ e. e.ports) (static_for self.now vid address.0) }
     {
-        self.entries.get(&Destination { vid, address }).copied()
+        self.entries.get(&Station { vid, address }).copied()
     }
 
     /// The entry at a place, counted from 0.
@@ -96,7 +73,7 @@ impl StaticEntries {
         ensures ok { OnOk result (self.new ≡ put_static entry self.old) }
         ensures err { OnErr result (self.new ≡ self.old) }
     {
-        let destination = Destination {
+        let destination = Station {
             vid: entry.vid,
             address: entry.address,
         };
@@ -108,7 +85,7 @@ impl StaticEntries {
     pub fn remove(&mut self, vid: Vid, address: Mac)
         ensures { self.new ≡ filter (λ e. not (is_for vid address.0 e)) self.old }
     {
-        let destination = Destination { vid, address };
+        let destination = Station { vid, address };
         if let Some(place) = self.entries.get_index_of(&destination) {
             self.entries.shift_remove_index(place);
         }

@@ -32,13 +32,15 @@ impl Model for PlainTables {
     ghost invariant = { λ t. IsPlain t.own.items t.cascade.items t.words.items };
 }
 
-fn is_channel(ecid: u16) -> bool
+/// Whether the number is that of an E-channel to one port, 1 to 4,094.
+pub fn is_channel(ecid: u16) -> bool
     ensures { result ≡ is_channel ecid }
 {
     ecid > 0 && ecid < 4095
 }
 
-fn is_ecid(ecid: u16) -> bool
+/// Whether the number is that of an E-channel to one port, or that of a group, 4,096 to 16,383.
+pub fn is_ecid(ecid: u16) -> bool
     ensures { result ≡ is_ecid ecid }
 {
     is_channel(ecid) || (ecid >= 0x1000 && ecid < 0x4000)

@@ -7,6 +7,7 @@ ghost use Rattle.exb_csp.specs.Execute.{is_channel, is_ecid, in_mask, some_port,
 ghost use Rattle.exb_csp.specs.Plain.{AddsRows, ClearsRows, ClearsPair, powered_on};
 ghost use Rattle.exb_extender.specs.Kept.{IsKept};
 
+use exb_csp::plain::{is_channel, is_ecid};
 use exb_csp::{GroupRow, Request, Response};
 use exb_members::MemberSets;
 use exb_model::memory::NoMemory;
@@ -24,18 +25,6 @@ pub(crate) struct Tables {
     /// The ports of each E-CID.
     rows: MemberSets,
     pub ghost kept: { IsKept count own cascade },
-}
-
-fn is_channel(ecid: u16) -> bool
-    ensures { result ≡ is_channel ecid }
-{
-    ecid > 0 && ecid < 4095
-}
-
-fn is_ecid(ecid: u16) -> bool
-    ensures { result ≡ is_ecid ecid }
-{
-    is_channel(ecid) || (ecid >= 0x1000 && ecid < 0x4000)
 }
 
 // Whether a mask has the bit of a port.

@@ -7,7 +7,7 @@ use Rattle.std.proofs.lemmas.Bool.{true≢false, false_from_ne_true, eqb-true, a
 use Rattle.std.proofs.lemmas.Slice.Eq.{bytes_eq-Decides}
 use Rattle.std.proofs.lemmas.List.Recursion.{is_position_or_len}
 use Rattle.indexmap.specs.IndexMap.{insert_entry, set_value_at}
-use Rattle.exb_learn.specs.declared.entries.Station.{Station}
+use Rattle.exb_model.specs.declared.station.Station.{Station}
 use Rattle.exb_learn.specs.declared.entries.Place.{Place}
 use Rattle.exb_learn.specs.Stations.{same, Changes, IsUntil}
 use Rattle.exb_learn.proofs.Laid.{some_is}

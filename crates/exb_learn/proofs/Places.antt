@@ -4,7 +4,7 @@ use Rattle.std.specs.Prelude.{Option, Some, None, is_some, bytes_eq}
 use Rattle.std.specs.List.{list_any, IsDistinct, AllByRecursion}
 use Rattle.std.specs.Map.{keys_of, lookup}
 use Rattle.exb_model.specs.Learning.{kept_unless}
-use Rattle.exb_learn.specs.declared.entries.Station.{Station}
+use Rattle.exb_model.specs.declared.station.Station.{Station}
 use Rattle.exb_learn.specs.declared.entries.Place.{Place}
 use Rattle.exb_learn.specs.Stations.{same, is_live, is_elsewhere, kept_if, Keeps, Changes}
 use Rattle.exb_learn.specs.Calls.{See, Tick, Forget, after_call, if_live, port_of}

@@ -6,7 +6,7 @@ use Rattle.std.specs.Map.{keys_of}
 use Rattle.std.proofs.lemmas.Bool.{eqb-true}
 use Rattle.std.proofs.lemmas.Option.{slice_get_within}
 use Rattle.indexmap.specs.IndexMap.{insert_entry, set_value_at}
-use Rattle.exb_learn.specs.declared.entries.Station.{Station}
+use Rattle.exb_model.specs.declared.station.Station.{Station}
 use Rattle.exb_learn.specs.declared.entries.Place.{Place}
 use Rattle.exb_learn.specs.Links.{Links, RingTable, links_of, room_of, taken, placed, removed, itself, first_of, moved_if, IsNow, IsLaid}
 use Rattle.exb_learn.specs.Stations.{same, is_elsewhere, AllPass, IsUntil}

@@ -2,7 +2,7 @@
 use Rattle.std.specs.Prelude.{ℕ, List, Option, Some, None}
 use Rattle.std.specs.Map.{lookup}
 use Rattle.exb_model.specs.Learning.{Look}
-use Rattle.exb_learn.specs.declared.entries.Station.{Station}
+use Rattle.exb_model.specs.declared.station.Station.{Station}
 use Rattle.exb_learn.specs.declared.entries.Place.{Place}
 use Rattle.exb_learn.specs.Stations.{same}
 use Rattle.exb_learn.specs.Calls.{Table, look_in}

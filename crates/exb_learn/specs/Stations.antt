@@ -1,7 +1,7 @@
 -- When stations are the same, and which places are live.
 use Rattle.std.specs.Prelude.{◌≡◌, ◌≤◌, ℕ, suc, ◌-◌, Bool, true, ◌==◌, nat_lt, not, ◌&&◌, if◌then◌else◌, List, length, Option, Some, None, bytes_eq}
 use Rattle.std.specs.Map.{lookup}
-use Rattle.exb_learn.specs.declared.entries.Station.{Station}
+use Rattle.exb_model.specs.declared.station.Station.{Station}
 use Rattle.exb_learn.specs.declared.entries.Place.{Place}
 
 -- one VLAN and one address

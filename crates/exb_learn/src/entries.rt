@@ -5,34 +5,9 @@ ghost use Rattle.std.specs.Map.{keys_of, lookup};
 ghost use Rattle.indexmap.specs.IndexMap.{insert_entry, spare, IsUnique};
 ghost use Rattle.exb_learn.specs.Stations.{same, is_live};
 
-use exb_model::address::Mac;
 use exb_model::port::PortId;
-use exb_model::vlan::Vid;
+use exb_model::station::Station;
 use indexmap::IndexMap;
-use std::hash::{Hash, Hasher};
-
-/// An address in a VLAN.
-#[derive(Clone, Copy, Debug, PartialEq, Eq)]
-pub struct Station {
-    pub vid: Vid,
-    pub address: Mac,
-}
-
-impl Hash for Station {
-    ghost use Rattle.std.specs.Prelude.{◌++◌};
-    ghost use Rattle.std.proofs.Common.{rules};
-    ghost use Rattle.std.specs.Hash as fed;
-    ghost use Rattle.std.specs.Cmp.Rules.{comparing, hashing};
-
-    ghost hash_input = { λ d. fed.u16 d.vid ++ fed.slice fed.u8 d.address.0 };
-
-    ghost respects_eq = { Prim.search (hashing, rules) };
-
-    fn hash<H: Hasher>(&self, state: &mut H) {
-        self.vid.number().hash(state);
-        self.address.0.hash(state);
-    }
-}
 
 /// Where a station was seen last, and when.
 #[derive(Clone, Copy, Debug, PartialEq, Eq)]

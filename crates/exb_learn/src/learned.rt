@@ -5,12 +5,13 @@ ghost use Rattle.exb_learn.specs.Entries.{table_of, look_of};
 ghost use Rattle.exb_learn.specs.Calls.{See, Tick, Forget, empty_table, after_call};
 ghost use Rattle.exb_learn.specs.Counts.{HasLive};
 
-use crate::entries::{Place, Station};
+use crate::entries::Place;
 use crate::forgetting::{forget_dead, forget_port};
 use crate::store::Store;
 use exb_model::address::Mac;
 use exb_model::memory::NoMemory;
 use exb_model::port::PortId;
+use exb_model::station::Station;
 use exb_model::vlan::Vid;
 use std::alloc::Global;
 use std::marker::Model;

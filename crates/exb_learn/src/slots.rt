@@ -2,7 +2,7 @@
 ghost use Rattle.std.specs.Prelude.{◌≡◌, ◌<◌, ℕ, List, [], slice_get, Some, OnOk, IfSome, IfNone};
 ghost use Rattle.std.specs.List.{swap_remove};
 ghost use Rattle.indexmap.specs.IndexMap.{insert_entry};
-ghost use Rattle.exb_learn.specs.declared.entries.Station.{Station};
+ghost use Rattle.exb_model.specs.declared.station.Station.{Station};
 ghost use Rattle.exb_learn.specs.declared.entries.Place.{Place};
 ghost use Rattle.exb_learn.specs.Links.{links_of, room_of, moved_if, removed, IsNow};
 ghost use Rattle.exb_learn.specs.Stations.{same, is_elsewhere, AllPass};

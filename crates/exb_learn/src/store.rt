@@ -5,10 +5,11 @@ ghost use Rattle.std.specs.Map.{keys_of, lookup};
 ghost use Rattle.exb_learn.specs.Stations.{same, is_elsewhere, AllPass, Changes, IsTaken, IsUntil};
 ghost use Rattle.exb_learn.specs.Stored.{IsOldest, IsSeenAt};
 
-use crate::entries::{Place, Station, put_place};
+use crate::entries::{Place, put_place};
 use crate::slots::Slots;
 use exb_model::memory::NoMemory;
 use exb_model::port::PortId;
+use exb_model::station::Station;
 use indexmap::IndexMap;
 use std::alloc::Global;
 use std::marker::Model;

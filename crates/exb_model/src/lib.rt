@@ -17,6 +17,7 @@ pub mod port_set;
 pub mod role;
 pub mod rules;
 pub mod setup;
+pub mod station;
 pub mod text;
 pub mod trace;
 pub mod tree;

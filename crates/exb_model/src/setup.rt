@@ -67,7 +67,7 @@ fn are_in_range(extenders: &[ExtenderSetup]) -> bool
 }
 
 /// Whether one of these extenders has that number.
-fn has_number(extenders: &[ExtenderSetup], number: u8) -> bool
+pub fn has_number(extenders: &[ExtenderSetup], number: u8) -> bool
     ensures { result ≡ list_any (λ e. e.number == number) extenders.now }
 {
     for extender in extenders {

@@ -11,7 +11,7 @@ ghost use Rattle.exb_topology.specs.Trees.{ports_of, has_port, hung, rooted, tre
 use crate::checks::refuse;
 use exb_keys::faults::{KeyFault, TopoFault};
 use exb_keys::place::Place as At;
-use exb_model::setup::{ExtenderSetup, Place, Setup};
+use exb_model::setup::{ExtenderSetup, Place, Setup, has_number};
 use std::alloc::Global;
 
 /// The port at a place.
@@ -22,18 +22,6 @@ fn port_at(place: Place) -> u16
         Place::Bridge { port } => (port as u16).saturating_sub(1),
         Place::Extender { number, port } => 64 * number as u16 + (port as u16).saturating_sub(1),
     }
-}
-
-/// Whether one of these extenders has that number.
-fn has_number(extenders: &[ExtenderSetup], number: u8) -> bool
-    ensures { result ≡ list_any (λ f. f.number == number) extenders.now }
-{
-    for extender in extenders {
-        if extender.number == number {
-            return true;
-        }
-    }
-    false
 }
 
 /// Whether one of these extenders hangs on that port.
