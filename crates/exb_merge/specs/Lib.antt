@@ -4,3 +4,5 @@ pub mod Sources
 pub mod Turns
 pub mod Agendas
 pub mod Kept
+pub mod Programmes
+pub mod Replays

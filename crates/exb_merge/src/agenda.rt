@@ -64,7 +64,7 @@ impl<'a> Model for Agenda<'a> {
 }
 
 /// Whether a command comes before a record, by their moments.
-fn comes_first(command: Option<u64>, captured: Option<u64>) -> bool
+pub(crate) fn comes_first(command: Option<u64>, captured: Option<u64>) -> bool
     ensures { result ≡ comes_first command captured }
 {
     match (command, captured) {
@@ -75,7 +75,7 @@ fn comes_first(command: Option<u64>, captured: Option<u64>) -> bool
 }
 
 /// Whether a moment is of this second.
-fn is_of(moment: Option<u64>, second: u64) -> bool
+pub(crate) fn is_of(moment: Option<u64>, second: u64) -> bool
     ensures { result ≡ is_of moment second }
 {
     match moment {
@@ -85,7 +85,7 @@ fn is_of(moment: Option<u64>, second: u64) -> bool
 }
 
 /// The moment that is so many seconds after the start.
-fn moment_after(start: u64, at: u32) -> u64
+pub(crate) fn moment_after(start: u64, at: u32) -> u64
     requires { start < 2 ^ 32 }
     ensures value { result ≡ (start + at) * 1000000000 }
     ensures before { result < (start + 2 ^ 32) * 1000000000 }

@@ -17,7 +17,7 @@ use std::marker::Model;
 
 /// A turn: the moment of a capture's next record, and the place of the capture. The earliest is the
 /// greatest, and at the same moment that of the first capture.
-type Turn = Reverse<(u64, usize)>;
+pub(crate) type Turn = Reverse<(u64, usize)>;
 
 /// The captures of some ports as they are played. Its value is the list of the captures, each at its
 /// next record; what is still to come of them is `to_come`.
@@ -89,7 +89,7 @@ impl<'a> Captures<'a> {
 }
 
 // Gives the capture at a place its turn, if it has a next record. There is room for it.
-fn put_turn(turns: &mut BinaryHeap<Turn>, moment: Option<u64>, place: usize)
+pub(crate) fn put_turn(turns: &mut BinaryHeap<Turn>, moment: Option<u64>, place: usize)
     requires { heap_len turns.old < heap_capacity turns.old }
     ensures same { SameMembers (heap_items turns.new) (turn_at place moment ++ heap_items turns.old) }
     ensures ordered { IsHeap by_turn (heap_items turns.old) → IsHeap by_turn (heap_items turns.new) }

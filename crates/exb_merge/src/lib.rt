@@ -7,8 +7,12 @@
 mod agenda;
 mod captures;
 pub mod laws;
+mod programme;
+mod replays;
 mod source;
 
 pub use agenda::{Agenda, Due};
 pub use captures::Captures;
+pub use programme::{Next, Programme};
+pub use replays::{Came, Replays};
 pub use source::Coming;

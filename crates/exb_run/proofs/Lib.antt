@@ -26,3 +26,4 @@ pub mod Reporting
 pub mod Handing
 pub mod ShelvingLemmas
 pub mod OpenLemmas
+pub mod OtherRecords

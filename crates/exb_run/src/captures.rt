@@ -119,7 +119,7 @@ fn read_capture<S: Shelf>(
 }
 
 /// The port of a number.
-fn port_of(number: u16) -> PortId
+pub(crate) fn port_of(number: u16) -> PortId
     requires { number < 4160 }
     ensures { result ≡ number }
 {
@@ -127,7 +127,7 @@ fn port_of(number: u16) -> PortId
 }
 
 /// The name of the file with the capture of a port, if it has one.
-fn name_of(names: &[Named], port: PortId) -> Option<&str>
+pub(crate) fn name_of(names: &[Named], port: PortId) -> Option<&str>
     ensures found { IfSome result (λ name. name_of names.now port ≡ Some name.now) }
     ensures none { IfNone result (name_of names.now port ≡ None) }
 {

@@ -5,6 +5,7 @@
 
 mod captures;
 mod check;
+mod checked;
 mod fault;
 mod game;
 mod gather;

@@ -1,4 +1,6 @@
 pub mod Counting
 pub mod Going
 pub mod Looking
+pub mod OneAnswer
+pub mod Replaying
 pub mod Telling

@@ -60,6 +60,15 @@ abbrev pub IsScan : ℕ → Option (List ℕ) → Result Scanned ScanFault → T
 IsScan limit (Some bytes) result = IsScanOf limit bytes result
 IsScan limit None result = (result ≡ Err Missing) ⊎ (result ≡ Err Read) ⊎ (result ≡ Err Memory)
 
+-- an answer that says something of the file, and not that the shelf failed or memory ran out
+abbrev pub IsOfFile : Result Scanned ScanFault → Type 0
+IsOfFile (Ok s) = ⊤
+IsOfFile (Err (Fault fault)) = ⊤
+IsOfFile (Err (Large most)) = ⊤
+IsOfFile (Err Missing) = ⊤
+IsOfFile (Err Read) = ⊥
+IsOfFile (Err Memory) = ⊥
+
 -- of a file of these bytes some records were taken, and this was told of them
 pub record HasCounted (bytes : List ℕ) (f : CaptureFile) (s : Scanned) : Type 0 where
   pub taken : List Record

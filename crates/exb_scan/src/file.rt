@@ -249,8 +249,9 @@ impl CaptureFile {
         ensures sound { IsSound self.new }
         ensures same { IsSameFile self.old self.new }
         ensures got { self.new.got ≡ self.old.got }
-        ensures left { left_to_read self.new < left_to_read self.old }
+        ensures left { left_to_read self.new + 16 ≤ left_to_read self.old }
         ensures bytes { (x : Record) → (asked self.old.ended self.old.reader).answer ≡ Found x → IfOk result (λ bytes. bytes ≡ x.bytes) }
+        ensures short { IfOk result (λ bytes. length bytes ≤ 262_144) }
         ensures read { (bytes : List ℕ) (xs : List Record) (x : Record) → (asked self.old.ended self.old.reader).answer ≡ Found x
             → HasRead bytes xs self.old → HasRead bytes (xs ++ x ∷ []) self.new }
     {

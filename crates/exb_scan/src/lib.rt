@@ -6,6 +6,9 @@
 
 mod checking;
 mod file;
+pub mod laws;
+mod replay;
 
 pub use checking::{ScanFault, Scanned, scan};
 pub use file::{CaptureFile, Halt};
+pub use replay::{Replay, ReplayFault, Replayed};

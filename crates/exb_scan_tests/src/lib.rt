@@ -3,4 +3,6 @@
 #![tactic(auto)]
 
 #[cfg(test)]
+mod replays;
+#[cfg(test)]
 mod scans;

@@ -15,7 +15,7 @@ const FRAMES: [(u64, u32); 4] = [
 ];
 
 /// At most so many bytes are read at once.
-const CUTS: [usize; 5] = [1, 3, 16, 24, 65_536];
+pub(crate) const CUTS: [usize; 5] = [1, 3, 16, 24, 65_536];
 
 /// Bytes that stand at a place in the capture, and the length to which it is cut.
 const CHANGED: [(usize, [u8; 4], usize); 16] = [
@@ -59,7 +59,7 @@ fn put_bytes(rt: &impl Abort, file: &mut Vec<u8>, count: u32) {
 }
 
 // A capture of the first so many frames.
-fn capture(rt: &impl Abort, alloc: Global, count: usize) -> Vec<u8> {
+pub(crate) fn capture(rt: &impl Abort, alloc: Global, count: usize) -> Vec<u8> {
     let mut file = Vec::new(alloc);
     file.extend_from_slice(&header_text()).expect(rt, "memory");
     for (moment, length) in FRAMES.iter().copied().take(count) {
@@ -72,7 +72,13 @@ fn capture(rt: &impl Abort, alloc: Global, count: usize) -> Vec<u8> {
 }
 
 // The capture of the first three with four other bytes at a place, and cut to a length.
-fn changed(rt: &impl Abort, alloc: Global, at: usize, bytes: [u8; 4], length: usize) -> Vec<u8> {
+pub(crate) fn changed(
+    rt: &impl Abort,
+    alloc: Global,
+    at: usize,
+    bytes: [u8; 4],
+    length: usize,
+) -> Vec<u8> {
     let whole = capture(rt, alloc, 3);
     let behind = at.saturating_add(4);
     let mut file = Vec::new(alloc);

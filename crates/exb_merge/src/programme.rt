@@ -1,0 +1,201 @@
+//! Commands, and the records of captures that are read again, in the order in which they are played.
+ghost use Rattle.std.specs.Prelude.{◌≡◌, ◌≢◌, ◌+◌, ◌-◌, ◌*◌, ◌^◌, ◌<◌, ◌≤◌, ℕ, List, [], ◌∷◌, false, length, take, drop, AllPairs, IfOk, OnOk, IfSome, IfNone, IsErrOf};
+ghost use Rattle.exb_model.specs.Input.{moment_of, second_of};
+ghost use Rattle.exb_shelf.specs.Files.{SameFiles};
+ghost use Rattle.exb_shelf.specs.Shelf.{Id, Rose, NoFewer};
+ghost use Rattle.exb_merge.specs.Agendas.{begins_in, commands_left, first_moment, still_to_come};
+ghost use Rattle.exb_merge.specs.Programmes.{IsComing, IsFrom, IsProgramme, IsTakenOf, left_of, played_with, what};
+ghost use Rattle.exb_merge.specs.Replays.{AreOpened, AreReplays, AreToldSince, IsEarliest, NoneIsBefore, ReadsOn, ids_in};
+ghost use Rattle.exb_merge.specs.Streams.{Stream, to_come};
+
+use crate::agenda::{comes_first, is_of, moment_after};
+use crate::replays::{Came, Replays};
+use exb_model::setup::Timed;
+use exb_scan::ReplayFault;
+use exb_shelf::Shelf;
+use std::alloc::Global;
+
+/// What comes next.
+#[derive(Debug, Drop)]
+pub enum Next {
+    /// A command of the topology, with its number, from 1, and its moment in nanoseconds.
+    Command { number: u32, moment: u64 },
+    /// A record of a capture.
+    Record(Came),
+}
+
+impl Next {
+    /// Its moment in nanoseconds.
+    pub fn moment(&self) -> u64
+        ensures { result ≡ moment_of (what self.now) }
+    {
+        match self {
+            Next::Command { moment, .. } => *moment,
+            Next::Record(came) => came.moment,
+        }
+    }
+}
+
+/// What is still to be played: the commands of a topology, and captures that are read again.
+#[derive(Drop)]
+pub struct Programme<'a> {
+    /// The least whole second of any first record that was told, or 0.
+    start: u64,
+    commands: &'a [Timed],
+    /// How many of the commands were taken.
+    taken: usize,
+    captures: Replays,
+}
+
+impl<'a> Programme<'a> {
+    /// The commands of a topology, in the order of its file, from a start, and captures at their first
+    /// records, none of which was told before it.
+    pub fn new(captures: Replays, commands: &'a [Timed], start: u64) -> Programme<'a>
+        requires start { start < 2 ^ 32 }
+        requires since { AreToldSince start captures }
+        requires few { length commands.now ≤ 65536 }
+        requires rising { AllPairs (λ c d. c.at ≤ d.at) commands.now }
+        ensures start { result.start ≡ start }
+        ensures commands { result.commands.now ≡ commands.now }
+        ensures taken { result.taken ≡ 0 }
+        ensures captures { result.captures ≡ captures }
+        ensures opened { (ids : ℕ → Id) → AreOpened ids captures → IsProgramme ids result }
+    {
+        Programme {
+            start,
+            commands,
+            taken: 0,
+            captures,
+        }
+    }
+
+    /// The moment of the next command, if there is one.
+    fn command_moment(&self) -> Option<u64>
+        requires start { self.now.start < 2 ^ 32 }
+        ensures { result ≡ first_moment (commands_left (played_with [] self.now)) }
+    {
+        match self.commands.get(self.taken) {
+            Some(command) => Some(moment_after(self.start, command.at)),
+            None => None,
+        }
+    }
+
+    /// The moment of what comes next, if anything does. Nothing is read for it.
+    fn next_moment(&self) -> Option<u64>
+        requires programme { (ids : ℕ → Id) × IsProgramme ids self.now }
+        ensures told { (streams : List Stream) → IsEarliest (first_moment (to_come streams)) self.now.captures
+            → result ≡ first_moment (still_to_come (played_with streams self.now)) }
+    {
+        let command = self.command_moment();
+        let captured = self.captures.moment();
+        if comes_first(command, captured) {
+            command
+        } else {
+            captured
+        }
+    }
+
+    /// Takes the next command, which comes first.
+    fn take_command(&mut self) -> Next
+        requires programme { (ids : ℕ → Id) × IsProgramme ids self.old }
+        requires left { self.old.taken < length self.old.commands.now }
+        requires first { IfSome (first_moment (commands_left (played_with [] self.old))) (λ m. NoneIsBefore m self.old.captures) }
+        ensures programme { (ids : ℕ → Id) → IsProgramme ids self.old → IsProgramme ids self.new }
+        ensures captures { self.new.captures ≡ self.old.captures }
+        ensures coming { IsComing self.old result self.new }
+        ensures order { (streams : List Stream) → IfSome (first_moment (to_come streams)) (λ k. IfSome (first_moment (commands_left (played_with [] self.old))) (λ m. m ≤ k))
+            → still_to_come (played_with streams self.old) ≡ what result ∷ still_to_come (played_with streams self.new) }
+    {
+        let commands = self.commands;
+        let command = &commands[self.taken];
+        self.taken += 1;
+        Next::Command {
+            number: self.taken as u32,
+            moment: moment_after(self.start, command.at),
+        }
+    }
+
+    /// How many of the commands were taken.
+    pub fn taken(&self) -> usize
+        ensures { result ≡ self.now.taken }
+    {
+        self.taken
+    }
+
+    /// The commands that were taken since so many of them were.
+    pub fn taken_since(&self, from: usize) -> &'a [Timed]
+        requires from { from ≤ self.now.taken }
+        requires within { self.now.taken ≤ length self.now.commands.now }
+        ensures { result.now ≡ take (self.now.taken - from) (drop from self.now.commands.now) }
+    {
+        &self.commands[from..self.taken]
+    }
+
+    /// Takes what comes next; None exactly where nothing is left. `piece` has room for what is read at once.
+    pub fn next<S: Shelf>(
+        &mut self,
+        alloc: Global,
+        shelf: &mut S,
+        piece: &mut [u8],
+    ) -> Result<Option<Next>, ReplayFault>
+        requires programme { IsProgramme (S.ids shelf.old) self.old }
+        requires piece { 0 < length piece.old }
+        ensures piece { length piece.new ≡ length piece.old }
+        ensures programme { OnOk result (IsProgramme (S.ids shelf.new) self.new) }
+        ensures coming { IfOk result (λ next. IfSome next (λ d. IsComing self.old d self.new)) }
+        ensures end { IfOk result (λ next. IfNone next ((self.old.taken ≡ length self.old.commands.now) × IsEarliest None self.old.captures)) }
+
+        ensures order { S.tells → IfOk result (λ next. IfSome next (λ d. IsTakenOf (S.file shelf.old) (S.file shelf.new) (S.ids shelf.old) (S.ids shelf.new) self.old d self.new)) }
+        ensures nothing { S.tells → IfOk result (λ next. IfNone next ((streams : List Stream) → AreReplays (S.file shelf.old) (S.ids shelf.old) self.old.captures.sources.items streams
+            → still_to_come (played_with streams self.old) ≡ [])) }
+        ensures never { S.tells → (at : ℕ) → IsErrOf result (ReplayFault.Changed at) → (streams : List Stream)
+            → AreReplays (S.file shelf.old) (S.ids shelf.old) self.old.captures.sources.items streams → ⊥ }
+
+        ensures reads { ReadsOn (ids_in self.old.captures) (S.ids shelf.old) (S.ids shelf.new) }
+        ensures files { SameFiles (S.file shelf.old) (S.file shelf.new) }
+        ensures faults { NoFewer (S.faults shelf.old) (S.faults shelf.new) }
+        ensures failed { IsErrOf result ReplayFault.Read → Rose (S.faults shelf.old).reads (S.faults shelf.new).reads }
+    {
+        if comes_first(self.command_moment(), self.captures.moment()) {
+            return Ok(Some(self.take_command()));
+        }
+        match self.captures.next(alloc, shelf, piece)? {
+            Some(came) => Ok(Some(Next::Record(came))),
+            None => Ok(None),
+        }
+    }
+
+    /// Takes what comes next, where it is of this second; else it changes nothing.
+    pub fn next_within<S: Shelf>(
+        &mut self,
+        alloc: Global,
+        shelf: &mut S,
+        piece: &mut [u8],
+        second: u64,
+    ) -> Result<Option<Next>, ReplayFault>
+        requires programme { IsProgramme (S.ids shelf.old) self.old }
+        requires piece { 0 < length piece.old }
+        ensures piece { length piece.new ≡ length piece.old }
+        ensures programme { OnOk result (IsProgramme (S.ids shelf.new) self.new) }
+        ensures coming { IfOk result (λ next. IfSome next (λ d. IsComing self.old d self.new)) }
+        ensures within { IfOk result (λ next. IfSome next (λ d. second_of (moment_of (what d)) ≡ second)) }
+        ensures same { IfOk result (λ next. IfNone next (self.new ≡ self.old)) }
+
+        ensures order { S.tells → IfOk result (λ next. IfSome next (λ d. IsTakenOf (S.file shelf.old) (S.file shelf.new) (S.ids shelf.old) (S.ids shelf.new) self.old d self.new)) }
+        ensures other { S.tells → IfOk result (λ next. IfNone next ((streams : List Stream) → AreReplays (S.file shelf.old) (S.ids shelf.old) self.old.captures.sources.items streams
+            → begins_in second (still_to_come (played_with streams self.old)) ≡ false)) }
+        ensures never { S.tells → (at : ℕ) → IsErrOf result (ReplayFault.Changed at) → (streams : List Stream)
+            → AreReplays (S.file shelf.old) (S.ids shelf.old) self.old.captures.sources.items streams → ⊥ }
+
+        ensures reads { ReadsOn (ids_in self.old.captures) (S.ids shelf.old) (S.ids shelf.new) }
+        ensures files { SameFiles (S.file shelf.old) (S.file shelf.new) }
+        ensures faults { NoFewer (S.faults shelf.old) (S.faults shelf.new) }
+        ensures failed { IsErrOf result ReplayFault.Read → Rose (S.faults shelf.old).reads (S.faults shelf.new).reads }
+    {
+        if is_of(self.next_moment(), second) {
+            self.next(alloc, shelf, piece)
+        } else {
+            Ok(None)
+        }
+    }
+}

@@ -1,0 +1,90 @@
+//! Checking the captures.
+ghost use Rattle.std.specs.Prelude.{◌≡◌, ◌<◌, ◌≤◌, ◌⊎◌, ℕ, IfOk, OnOk, IfErr};
+ghost use Rattle.exb_shelf.specs.Files.{SameFiles};
+ghost use Rattle.exb_shelf.specs.Shelf.{IsReadingOf, Opens};
+ghost use Rattle.exb_run.specs.Checks.{AreAllGood, AreChecked, FirstFault, HasFault, IsGood, most_bytes};
+ghost use Rattle.exb_run.specs.Opening.{ReadsCapture};
+ghost use Rattle.exb_run.specs.Reading.{IsOfCapture};
+ghost use Rattle.exb_run.specs.Shelving.{CountsFaults};
+
+use crate::captures::{missing, name_of, port_of};
+use crate::fault::{Fault, Flaw};
+use exb_model::port::PortId;
+use exb_scan::{ScanFault, Scanned, scan};
+use exb_shelf::Shelf;
+use exb_tables::Named;
+use std::alloc::Global;
+
+/// The most bytes of one capture.
+const LIMIT: u64 = 1_099_511_627_776;
+
+/// How many ports there can be.
+const PORTS: u16 = 4160;
+
+/// The capture of a port that was checked, and what was told of it.
+#[derive(Clone, Copy)]
+pub(crate) struct Checked {
+    pub(crate) port: PortId,
+    pub(crate) told: Scanned,
+}
+
+/// Checks the capture of a port.
+fn check_capture<S: Shelf>(
+    alloc: Global,
+    shelf: &mut S,
+    port: PortId,
+    name: &str,
+) -> Result<Checked, Fault>
+    requires port { port < 4160 }
+    ensures port { IfOk result (λ checked. checked.port ≡ port) }
+    ensures small { IfOk result (λ checked. checked.told.bytes ≤ most_bytes) }
+    ensures good { S.tells → IfOk result (λ checked. IsGood (S.file shelf.old name.now) checked.told) }
+    ensures flaw { S.tells → IfErr result (λ fault. HasFault port name.now (S.file shelf.old name.now) fault ⊎ (fault ≡ Fault.Read) ⊎ (fault ≡ Fault.Memory)) }
+    ensures causes { IfErr result IsOfCapture }
+    ensures opened { Opens (IsReadingOf name.now) (S.ids shelf.old) (S.ids shelf.new) }
+    ensures files { SameFiles (S.file shelf.old) (S.file shelf.new) }
+    ensures faults { CountsFaults result (S.faults shelf.old) (S.faults shelf.new) }
+{
+    match scan(alloc, shelf, name, LIMIT) {
+        Ok(told) => Ok(Checked { port, told }),
+        Err(ScanFault::Missing) => Err(missing(alloc, name)),
+        Err(ScanFault::Read) => Err(Fault::Read),
+        Err(ScanFault::Memory) => Err(Fault::Memory),
+        Err(ScanFault::Fault { fault }) => {
+            let flaw = Flaw::Broken { fault };
+            Err(Fault::Capture { port, flaw })
+        }
+        Err(ScanFault::Large { limit }) => {
+            let flaw = Flaw::Large { limit };
+            Err(Fault::Capture { port, flaw })
+        }
+    }
+}
+
+/// Checks the captures that are named, in port order, up to the first that has a fault.
+pub(crate) fn check_captures<S: Shelf>(
+    alloc: Global,
+    shelf: &mut S,
+    names: &[Named],
+) -> Result<Vec<Checked>, Fault>
+    ensures checked { IfOk result (λ checked. AreChecked S.tells names.now (S.file shelf.old) checked.items) }
+    ensures good { S.tells → OnOk result (AreAllGood names.now (S.file shelf.old)) }
+    ensures flaw { S.tells → IfErr result (λ fault. ((p : ℕ) × FirstFault names.now (S.file shelf.old) p fault) ⊎ (fault ≡ Fault.Read) ⊎ (fault ≡ Fault.Memory)) }
+    ensures causes { IfErr result IsOfCapture }
+    ensures opened { Opens (ReadsCapture names.now) (S.ids shelf.old) (S.ids shelf.new) }
+    ensures files { SameFiles (S.file shelf.old) (S.file shelf.new) }
+    ensures faults { CountsFaults result (S.faults shelf.old) (S.faults shelf.new) }
+{
+    let mut checked = Vec::new(alloc);
+    'checking: for number in 0..PORTS {
+        let port = port_of(number);
+        let Some(name) = name_of(names, port) else {
+            continue;
+        };
+        let one = check_capture(alloc, shelf, port, name)?;
+        if checked.push(one).is_err() {
+            return Err(Fault::Memory);
+        }
+    }
+    Ok(checked)
+}

@@ -1,0 +1,12 @@
+use Rattle.std.proofs.Common.{◌<◌, length}
+use Rattle.exb_faulty.specs.Faulty.{ids_of}
+use Rattle.exb_scan.specs.Reading.{IsAt}
+use Rattle.exb_scan.specs.Replaying.{IsKept}
+use Rattle.exb_scan_tests.proofs.replays.play_on.Given as goal
+
+abbrev pub invariant-records : goal.invariant-records
+invariant-records l = record {
+  at : IsAt (ids_of l.shelf l.replay.file.id) l.replay.file.got;
+  kept : IsKept l.replay;
+  piece : 0 < length l.piece;
+}
