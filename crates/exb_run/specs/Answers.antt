@@ -12,6 +12,8 @@ use Rattle.exb_keys.specs.declared.faults.TopoFault.{TopoFault}
 use Rattle.exb_keys.specs.declared.faults.TopoFault.TheVariants as topology
 use Rattle.exb_keys.specs.Faults.{Refusal, not_toml, large, at}
 use Rattle.exb_made.specs.Made.{made}
+use Rattle.exb_merge.specs.declared.replays.CaptureFault.{CaptureFault}
+use Rattle.exb_merge.specs.declared.replays.CaptureFault.TheVariants as capture
 use Rattle.exb_needs.specs.Lines.{lines_of}
 use Rattle.exb_needs.specs.Needed.{needs_of}
 use Rattle.exb_pcap.specs.declared.reader.PcapFault.{PcapFault}
@@ -26,7 +28,7 @@ use Rattle.exb_words.specs.Words.{Ask, Run, Check, Make, words_of}
 use Rattle.exb_run.specs.declared.fault.Flaw.{Flaw}
 use Rattle.exb_run.specs.declared.fault.Flaw.TheVariants.{Large, Broken}
 use Rattle.exb_run.specs.declared.fault.Fault.{Fault}
-use Rattle.exb_run.specs.declared.fault.Fault.TheVariants.{Usage, Missing, Topology as BadTopology, Capture, Read, Write, Memory}
+use Rattle.exb_run.specs.declared.fault.Fault.TheVariants.{Usage, Missing, Topology as BadTopology, Capture, Changed, Read, Write, Memory}
 use Rattle.exb_run.specs.Inputs.{input_of}
 use Rattle.exb_run.specs.Outputs.{AreFrontsOf, IsPlayed, OnlyOutputs}
 use Rattle.exb_run.specs.Flaws.{AreGood, FirstFlaw}
@@ -110,6 +112,12 @@ abbrev pub fault_of : ShelfFault → Fault
 fault_of shelf.Failed = Write
 fault_of shelf.Memory = Memory
 
+-- a failure to read captures again
+abbrev pub fault_again : CaptureFault → Fault
+fault_again capture.Memory = Memory
+fault_again capture.Read = Read
+fault_again (capture.Changed p at) = Changed p at
+
 -- a fault of reading a topology, of which want of memory is none of the file's
 abbrev pub fault_by : TopoFault → Fault
 fault_by topology.Memory = Memory
@@ -157,6 +165,7 @@ IsFailure (Some (Make number)) fault = fault ≡ Memory
 -- where it speaks of a port, this is one; and want of memory is no fault of a topology
 abbrev pub CanBe : Fault → Type 0
 CanBe (Capture p flaw) = p < 4160
+CanBe (Changed p at) = p < 4160
 CanBe (BadTopology topology.Memory) = ⊥
 CanBe _ = ⊤
 
@@ -207,6 +216,7 @@ fault_line Usage = usage
 fault_line (Missing name) = codes "exbr: missing " ++ name ++ codes "\n"
 fault_line (BadTopology fault) = codes "exbr: topology: " ++ topology_text fault ++ codes "\n"
 fault_line (Capture p flaw) = capture_line p (flaw_text flaw)
+fault_line (Changed p at) = capture_line p (codes "Changed at " ++ decimal at)
 fault_line Read = codes "exbr: read fault\n"
 fault_line Write = codes "exbr: write fault\n"
 fault_line Memory = codes "exbr: out of memory\n"
@@ -225,6 +235,7 @@ fault_status (Capture p flaw) = 4
 fault_status (Missing name) = 5
 fault_status Read = 6
 fault_status Write = 7
+fault_status (Changed p at) = 10
 
 abbrev pub status_of : Result (String Global) Fault → ℕ
 status_of (Ok line) = 0
@@ -233,7 +244,7 @@ status_of (Err fault) = fault_status fault
 -- the statuses that can come
 abbrev pub IsStatus : Option Ask → ℕ → Type 0
 IsStatus None n = IsTrue (n == 1 || n == 2 || n == 7)
-IsStatus (Some (Run name trace seed)) n = IsTrue (n == 0 || n == 1 || n == 3 || n == 4 || n == 5 || n == 6 || n == 7)
+IsStatus (Some (Run name trace seed)) n = IsTrue (n == 0 || n == 1 || n == 3 || n == 4 || n == 5 || n == 6 || n == 7 || n == 10)
 IsStatus (Some (Check name)) n = IsTrue (n == 0 || n == 1 || n == 3 || n == 5 || n == 6 || n == 7)
 IsStatus (Some (Make number)) n = IsTrue (n == 0 || n == 1 || n == 7)
 
@@ -263,6 +274,7 @@ pub record SaysBy (status : ℕ) (failed fails : ℕ) (old new : List ℕ) : Typ
   pub five : status ≡ 5 → (line : List ℕ) × IsFaultLine 5 line × (new ≡ old ++ line)
   pub six : status ≡ 6 → new ≡ old ++ codes "exbr: read fault\n"
   pub seven : status ≡ 7 → ¬ Rose failed fails → new ≡ old ++ codes "exbr: write fault\n"
+  pub ten : status ≡ 10 → (line : List ℕ) × IsFaultLine 10 line × (new ≡ old ++ line)
 
 -- this ended what was asked for: its first fault, a fault that the shelf counted, or want of memory
 abbrev pub IsCause : Option Ask → Files → Faults → Faults → Fault → Type 0

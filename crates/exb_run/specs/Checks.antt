@@ -1,8 +1,8 @@
 -- What checking tells of the captures of a run, and what can be wrong with them.
-use Rattle.std.specs.Prelude.{⊤, ⊥, ◌≡◌, ◌<◌, ◌≤◌, ℕ, List, [], ◌∷◌, All, filter, filter_map, map, option_map, Option, Some, None, Result, Ok, Err}
+use Rattle.std.specs.Prelude.{⊤, ⊥, ◌≡◌, ◌≢◌, ◌<◌, ◌≤◌, ℕ, true, List, [], ◌∷◌, All, filter, filter_map, map, option_map, Option, Some, None, Result, Ok, Err}
 use Rattle.exb_model.specs.Input.{least_or, second_of}
 use Rattle.exb_model.specs.Ports.{all_ports}
-use Rattle.exb_model.specs.Tree.{Shape, is_external}
+use Rattle.exb_model.specs.Tree.{is_external}
 use Rattle.exb_scan.specs.declared.checking.Scanned.{Scanned}
 use Rattle.exb_scan.specs.declared.checking.ScanFault.{ScanFault}
 use Rattle.exb_scan.specs.declared.checking.ScanFault.TheVariants as scan
@@ -14,6 +14,8 @@ use Rattle.exb_run.specs.declared.fault.Flaw.TheVariants.{Large, Broken}
 use Rattle.exb_run.specs.declared.fault.Fault.{Fault}
 use Rattle.exb_run.specs.declared.fault.Fault.TheVariants.{Missing, Capture, Read, Memory}
 use Rattle.exb_run.specs.Inputs.{is_named, name_of}
+use Rattle.exb_run.specs.Outputs.{output_name}
+use Rattle.exb_run.specs.Plans.{Planned, output_count}
 
 -- the most bytes of one capture
 abbrev pub most_bytes : ℕ
@@ -77,3 +79,11 @@ pub record AreChecked (tells : Type 0) (names : List Named) (file : Files) (chec
 -- moments of a port never fall.
 abbrev pub start_told : List Checked → ℕ
 start_told checked = least_or 0 (filter_map (λ (c : Checked). option_map second_of c.told.first) checked)
+
+-- ---- captures that can be played
+-- The captures of some external ports that were checked: no output of the plan has the name of one of them, so they stay as they are while
+-- the outputs are written.
+pub record CanBeRead (tells : Type 0) (plan : Planned) (names : List Named) (file : Files) (checked : List Checked) : Type 0 where
+  pub checked : AreChecked tells names file checked
+  pub external : (q : ℕ) → is_named names q ≡ true → is_external plan.tree q ≡ true
+  pub apart : (q : ℕ) (name : List ℕ) → name_of names q ≡ Some name → (j : ℕ) → j < output_count plan → name ≢ output_name plan j

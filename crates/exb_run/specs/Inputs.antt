@@ -1,5 +1,7 @@
 -- What a run is given: its topology, the captures that this names, and the input that they make.
 use Rattle.std.specs.Prelude.{ℕ, Bool, ◌==◌, if◌then◌else◌, List, [], ◌∷◌, Option, Some, None, map, filter, is_some}
+use Rattle.exb_model.specs.declared.setup.Setup.{Setup}
+use Rattle.exb_model.specs.declared.setup.Timed.{Timed}
 use Rattle.exb_model.specs.Input.{Input, Record, given_by}
 use Rattle.exb_pcap.specs.Captures.{pcap_records, records_or_none}
 use Rattle.exb_shelf.specs.Files.{Files, bytes_of}
@@ -30,9 +32,13 @@ bytes_at names file q = bytes_named file (name_of names q)
 abbrev pub records_at : List Named → Files → ℕ → List Record
 records_at names file q = if is_named names q then records_or_none (pcap_records (bytes_at names file q)) else []
 
+-- the input of a setup, of commands and of the captures that are named
+abbrev pub input_from : Setup → List Timed → List Named → Files → Input
+input_from setup commands names file = record { setup = setup; commands = map given_by commands; records = records_at names file }
+
 -- the input of a topology and of the captures that it names
 abbrev pub input_of : Topology → Files → Input
-input_of t file = record { setup = t.setup; commands = map given_by t.commands; records = records_at t.captures file }
+input_of t file = input_from t.setup t.commands t.captures file
 
 -- ---- captures that were read
 -- a port and the bytes of its capture

@@ -1,11 +1,13 @@
 -- What calls that read and write say of the shelf: what it counted, what has changed, and what was opened.
-use Rattle.std.specs.Prelude.{◌≡◌, ◌<◌, ◌⊎◌, ℕ, List, Result, Err, IsErrOf}
+use Rattle.std.specs.Prelude.{⊤, ⊥, ◌≡◌, ◌<◌, ◌⊎◌, ℕ, List, Result, Err, IsErrOf}
 use Rattle.exb_shelf.specs.Files.{Files}
 use Rattle.exb_shelf.specs.Shelf.{Id, Faults, Rose, NoFewer, Opens, writing}
 use Rattle.exb_run.specs.declared.fault.Fault.{Fault}
-use Rattle.exb_run.specs.declared.fault.Fault.TheVariants.{Missing, Read, Write, Memory}
+use Rattle.exb_run.specs.declared.fault.Fault.TheVariants.{Changed, Missing, Read, Write, Memory}
 use Rattle.exb_run.specs.Plans.{Planned, output_count}
 use Rattle.exb_run.specs.Outputs.{output_name, OnlyPlanned}
+use Rattle.exb_tables.specs.declared.rows.Named.{Named}
+use Rattle.exb_run.specs.Opening.{ReadsCapture}
 
 -- no count has fallen, and a fault of the shelf came only where its count rose
 pub record CountsFaults {X : Type 0} (result : Result X Fault) (old new : Faults) : Type 0 where
@@ -17,6 +19,19 @@ pub record CountsFaults {X : Type 0} (result : Result X Fault) (old new : Faults
 -- a fault that can come while outputs are made and written
 abbrev pub IsOfWriting : Fault → Type 0
 IsOfWriting fault = (fault ≡ Write) ⊎ (fault ≡ Memory)
+
+-- a fault that can come while captures that were checked are read again and played
+abbrev pub IsOfPlay : Fault → Type 0
+IsOfPlay (Changed p at) = p < 4160
+IsOfPlay Read = ⊤
+IsOfPlay Write = ⊤
+IsOfPlay Memory = ⊤
+IsOfPlay _ = ⊥
+
+-- a capture is another one than the one that was checked
+abbrev pub IsChange : Fault → Type 0
+IsChange (Changed p at) = ⊤
+IsChange _ = ⊥
 
 -- an id to write an output of a plan
 pub record WritesPlanned (plan : Planned) (i : Id) : Type 0 where
@@ -33,3 +48,12 @@ pub record OnlyWrites (tells : Type 0) (plan : Planned) (old new : Files) (given
 pub record OnlyMakes (tells : Type 0) (plan : Planned) (old new : Files) (given ids : ℕ → Id) : Type 0 where
   pub others : tells → OnlyPlanned plan old new
   pub opened : Opens (WritesPlanned plan) given ids
+
+-- an id to read the capture of a port that is named, or to write an output of a plan
+abbrev pub IsOfRun : List Named → Planned → Id → Type 0
+IsOfRun names plan i = ReadsCapture names i ⊎ WritesPlanned plan i
+
+-- no file but the outputs of a plan has changed; captures that are named may have been opened, and outputs of the plan made
+pub record OnlyPlays (tells : Type 0) (names : List Named) (plan : Planned) (old new : Files) (given ids : ℕ → Id) : Type 0 where
+  pub others : tells → OnlyPlanned plan old new
+  pub opened : Opens (IsOfRun names plan) given ids

@@ -1,9 +1,10 @@
 //! What can end a run before its end.
 ghost use Rattle.std.specs.Prelude.{◌≡◌};
 ghost use Rattle.exb_run.specs.declared.fault.Fault.TheVariants.{Memory};
-ghost use Rattle.exb_run.specs.Answers.{fault_of};
+ghost use Rattle.exb_run.specs.Answers.{fault_again, fault_of};
 
 use exb_keys::faults::TopoFault;
+use exb_merge::CaptureFault;
 use exb_model::memory::NoMemory;
 use exb_model::port::PortId;
 use exb_model::text::Text;
@@ -14,7 +15,7 @@ use exb_shelf::ShelfFault;
 /// What is wrong with a capture that is there.
 #[derive(Clone, Copy, Debug, PartialEq, Eq)]
 pub(crate) enum Flaw {
-    /// It, or all captures up to it, have more bytes than this limit.
+    /// It has more bytes than this limit.
     Large { limit: u64 },
     /// It is no classic capture of Ethernet frames.
     Broken { fault: PcapFault },
@@ -31,6 +32,8 @@ pub(crate) enum Fault {
     Topology { fault: TopoFault },
     /// The capture of this port can't be taken.
     Capture { port: PortId, flaw: Flaw },
+    /// The capture of this port is another one than the one that was checked, as this byte shows.
+    Changed { port: PortId, at: u64 },
     /// A file could not be read.
     Read,
     /// A file could not be made or written.
@@ -63,6 +66,19 @@ impl From<ShelfFault> for Fault {
         match failure {
             ShelfFault::Failed => Fault::Write,
             ShelfFault::Memory => Fault::Memory,
+        }
+    }
+}
+
+/// Why captures that were checked can't be read on.
+impl From<CaptureFault> for Fault {
+    ghost from_gives = { λ failure fault. fault ≡ fault_again failure };
+
+    fn from(failure: CaptureFault) -> Self {
+        match failure {
+            CaptureFault::Memory => Fault::Memory,
+            CaptureFault::Read => Fault::Read,
+            CaptureFault::Changed { port, at } => Fault::Changed { port, at },
         }
     }
 }
