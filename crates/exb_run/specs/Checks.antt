@@ -1,7 +1,9 @@
 -- What checking tells of the captures of a run, and what can be wrong with them.
-use Rattle.std.specs.Prelude.{⊤, ⊥, ◌≡◌, ◌≢◌, ◌<◌, ◌≤◌, ℕ, true, List, [], ◌∷◌, All, filter, filter_map, map, option_map, Option, Some, None, Result, Ok, Err}
+use Rattle.std.specs.Prelude.{⊤, ⊥, ◌≡◌, ◌≢◌, ◌<◌, ◌≤◌, ◌*◌, ◌^◌, ℕ, true, List, [], ◌∷◌, All, filter, filter_map, map, min, option_map, Option, Some, None, IfSome, Result, Ok, Err}
 use Rattle.exb_model.specs.Input.{least_or, second_of}
 use Rattle.exb_model.specs.Ports.{all_ports}
+use Rattle.exb_merge.specs.Replays.{Standing}
+use Rattle.exb_merge.specs.Streams.{Stream, stream_of}
 use Rattle.exb_model.specs.Tree.{is_external}
 use Rattle.exb_scan.specs.declared.checking.Scanned.{Scanned}
 use Rattle.exb_scan.specs.declared.checking.ScanFault.{ScanFault}
@@ -13,7 +15,7 @@ use Rattle.exb_run.specs.declared.checked.Checked.{Checked}
 use Rattle.exb_run.specs.declared.fault.Flaw.TheVariants.{Large, Broken}
 use Rattle.exb_run.specs.declared.fault.Fault.{Fault}
 use Rattle.exb_run.specs.declared.fault.Fault.TheVariants.{Missing, Capture, Read, Memory}
-use Rattle.exb_run.specs.Inputs.{is_named, name_of}
+use Rattle.exb_run.specs.Inputs.{is_named, name_of, records_at}
 use Rattle.exb_run.specs.Outputs.{output_name}
 use Rattle.exb_run.specs.Plans.{Planned, output_count}
 
@@ -73,6 +75,7 @@ IsToldOf names file c = (name : List ℕ) × (name_of names c.port ≡ Some name
 pub record AreChecked (tells : Type 0) (names : List Named) (file : Files) (checked : List Checked) : Type 0 where
   pub ports : map (λ c. c.port) checked ≡ filter (is_named names) all_ports
   pub small : All (λ c. c.told.bytes ≤ most_bytes) checked
+  pub in_time : All (λ c. IfSome c.told.first (λ first. first < 2 ^ 32 * 1_000_000_000)) checked
   pub told : tells → All (IsToldOf names file) checked
 
 -- The second from which commands count: the least whole second of the first record of any capture, or 0. It is that of the input, since the
@@ -80,7 +83,21 @@ pub record AreChecked (tells : Type 0) (names : List Named) (file : Files) (chec
 abbrev pub start_told : List Checked → ℕ
 start_told checked = least_or 0 (filter_map (λ (c : Checked). option_map second_of c.told.first) checked)
 
+-- the least second so far, with that of one capture more
+abbrev pub earlier : Option ℕ → Option ℕ → Option ℕ
+earlier None told = option_map second_of told
+earlier (Some least) None = Some least
+earlier (Some least) (Some first) = Some (min least (second_of first))
+
 -- ---- captures that can be played
+-- where the capture of a port stands before it is read again
+abbrev pub first_standing : Checked → Standing
+first_standing c = record { port = c.port; index = 1; least = 0 }
+
+-- what is still to come of it then
+abbrev pub stream_told : List Named → Files → Checked → Stream
+stream_told names file c = stream_of c.port (records_at names file c.port)
+
 -- The captures of some external ports that were checked: no output of the plan has the name of one of them, so they stay as they are while
 -- the outputs are written.
 pub record CanBeRead (tells : Type 0) (plan : Planned) (names : List Named) (file : Files) (checked : List Checked) : Type 0 where

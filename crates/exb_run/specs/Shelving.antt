@@ -1,6 +1,7 @@
 -- What calls that read and write say of the shelf: what it counted, what has changed, and what was opened.
 use Rattle.std.specs.Prelude.{⊤, ⊥, ◌≡◌, ◌<◌, ◌⊎◌, ℕ, List, Result, Err, IsErrOf}
-use Rattle.exb_shelf.specs.Files.{Files}
+use Rattle.exb_merge.specs.Replays.{ReadsOn}
+use Rattle.exb_shelf.specs.Files.{Files, SameFiles}
 use Rattle.exb_shelf.specs.Shelf.{Id, Faults, Rose, NoFewer, Opens, writing}
 use Rattle.exb_run.specs.declared.fault.Fault.{Fault}
 use Rattle.exb_run.specs.declared.fault.Fault.TheVariants.{Changed, Missing, Read, Write, Memory}
@@ -39,10 +40,20 @@ pub record WritesPlanned (plan : Planned) (i : Id) : Type 0 where
   pub within : at < output_count plan
   pub writes : i ≡ writing (output_name plan at)
 
+-- no file has changed, and only through these ids was read
+pub record OnlyReads (mine : List ℕ) (old new : Files) (given ids : ℕ → Id) : Type 0 where
+  pub files : SameFiles old new
+  pub reads : ReadsOn mine given ids
+
 -- no file but the outputs of a plan has changed, and none was opened
 pub record OnlyWrites (tells : Type 0) (plan : Planned) (old new : Files) (given ids : ℕ → Id) : Type 0 where
   pub others : tells → OnlyPlanned plan old new
   pub kept : (j : ℕ) → ids j ≡ given j
+
+-- the same, where through these ids was read
+pub record OnlyGoesOn (tells : Type 0) (plan : Planned) (mine : List ℕ) (old new : Files) (given ids : ℕ → Id) : Type 0 where
+  pub others : tells → OnlyPlanned plan old new
+  pub reads : ReadsOn mine given ids
 
 -- the same, where outputs of the plan may have been made
 pub record OnlyMakes (tells : Type 0) (plan : Planned) (old new : Files) (given ids : ℕ → Id) : Type 0 where

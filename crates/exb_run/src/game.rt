@@ -1,12 +1,12 @@
 //! A run under way: the world, what is written of it, and what is counted.
-ghost use Rattle.std.specs.Prelude.{◌≡◌, ◌≤◌, ◌<◌, ◌+◌, ◌^◌, ◌++◌, ◌∷◌, [], ℕ, List, length, drop, All, fold, IsOk, IfOk, OnOk, OnErr, IfErr, None, Some, string_bytes};
+ghost use Rattle.std.specs.Prelude.{⊥, ◌≡◌, ◌≤◌, ◌<◌, ◌+◌, ◌^◌, ◌++◌, ◌∷◌, [], ℕ, List, length, drop, All, fold, IsOk, IfOk, OnOk, OnErr, IfErr, None, Some, string_bytes};
 ghost use Rattle.exb_model.specs.declared.event.Event.{Event};
 ghost use Rattle.exb_model.specs.Input.{Input, Mode, Eager, Segment, segments, seconds_after};
 ghost use Rattle.exb_model.specs.Setup.{IsValid, shape_of};
 ghost use Rattle.exb_model.specs.Texts.{counted, with_left, summary_line};
 ghost use Rattle.exb_model.specs.Traces.{TraceLine, trace_text};
 ghost use Rattle.exb_machine.specs.Worlds.{Left as Leaving};
-ghost use Rattle.exb_merge.specs.Agendas.{still_to_come};
+ghost use Rattle.exb_merge.specs.Replays.{ids_in};
 ghost use Rattle.exb_resting.specs.Motion.Playing.{IsTimely};
 ghost use Rattle.exb_network.specs.Networks.{world_of, IsQuiet, IsSame};
 ghost use Rattle.exb_network.specs.Worlds.{all_left};
@@ -15,19 +15,18 @@ ghost use Rattle.exb_schedule.specs.Worlds.{network_of, fate_in};
 ghost use Rattle.exb_shelf.specs.Files.{Files, Filled};
 ghost use Rattle.exb_text.specs.Tallies.{counts_of, nothing_counted, FitsTally};
 ghost use Rattle.exb_run.specs.Plans.{output_count, port_count};
-ghost use Rattle.exb_run.specs.Playing.{Run, CanBegin, CanBePlayed, CanGoOn, IsCutOff, IsOpened, IsPlaying, IsTold, mode_of, second_by};
+ghost use Rattle.exb_run.specs.Playing.{Run, IsCutOff, IsTold, mode_of};
+ghost use Rattle.exb_run.specs.UnderWay.{CanBegin, CanBePlayed, CanFeed, CanGoOn, IsOpened, IsPlaying};
 ghost use Rattle.exb_run.specs.Outputs.{AreCutEagerly, HasPlayed, output_name};
-ghost use Rattle.exb_run.specs.Shelving.{CountsFaults, IsOfWriting, OnlyMakes, OnlyWrites};
+ghost use Rattle.exb_run.specs.Shelving.{CountsFaults, IsChange, IsOfPlay, IsOfWriting, OnlyGoesOn, OnlyWrites};
 ghost use Rattle.exb_run.specs.Writing.{AreCut, HasTexts, IsReady, pieces_of, lines_of, with_more, with_left_frames, CanBeWritten};
 
 use crate::fault::Fault;
-use crate::gather::{Gathered, NANOSECONDS, gather};
-use crate::outputs::{Outputs, create_all};
+use crate::feed::Feed;
+use crate::outputs::Outputs;
 use crate::plan::Plan;
 use crate::script::{Schedule, Script};
 use exb_fate::Fate;
-use exb_merge::laws::merge_keeps_order;
-use exb_merge::{Agenda, Due};
 use exb_model::event::Event;
 use exb_model::setup::Timed;
 use exb_resting::laws::rest::{
@@ -215,43 +214,35 @@ impl Game {
         self.note(shelf, plan)
     }
 
-    /// Plays what comes first, `seconds` after what came before it and with all that is played with it. So many commands were
-    /// taken `from` the agenda before it.
+    /// Plays what was gathered, `seconds` after what came before it. So many commands were taken `from` the programme before it.
     fn go_on<S: Shelf>(
         &mut self,
-        alloc: Global,
         shelf: &mut S,
         plan: &Plan,
         schedule: Schedule,
         seconds: u32,
         from: usize,
-        first: &Due<'_>,
-        agenda: &mut Agenda<'_>,
-        gathered: &mut Gathered,
+        feed: &Feed<'_>,
     ) -> Result<(), Fault>
         requires ready { IsReady plan.now (S.ids shelf.old) self.old.outputs }
-        requires playing { (run : Run) × CanGoOn S.tells (mode_of schedule) run plan.now (S.file shelf.old) (network_of self.old.world) (counts_of self.old.tally) self.old.outputs seconds from first.now agenda.old }
-        requires budget { left (fate_in self.old.world) + letters_in (drop from agenda.old.commands) < 2 ^ 57 }
+        requires feed { CanFeed (S.ids shelf.old) feed.now }
+        requires playing { (run : Run) × ((second : ℕ) × CanGoOn S.tells (mode_of schedule) run plan.now (S.file shelf.old) (S.ids shelf.old) (network_of self.old.world) (counts_of self.old.tally) self.old.outputs seconds from second feed.now) }
+        requires budget { left (fate_in self.old.world) + letters_in (drop from feed.now.programme.commands.now) < 2 ^ 57 }
         ensures ready { IsReady plan.now (S.ids shelf.new) self.new.outputs }
-        ensures told { OnOk result ((run : Run)
-            → CanGoOn S.tells (mode_of schedule) run plan.now (S.file shelf.old) (network_of self.old.world) (counts_of self.old.tally) self.old.outputs seconds from first.now agenda.old
-            → IsPlaying S.tells (mode_of schedule) run plan.now (S.file shelf.new) (network_of self.new.world) (counts_of self.new.tally) self.new.outputs (Some (second_by first.now)) agenda.new) }
-        ensures cut { S.tells → OnErr result ((run : Run)
-            → CanGoOn S.tells (mode_of schedule) run plan.now (S.file shelf.old) (network_of self.old.world) (counts_of self.old.tally) self.old.outputs seconds from first.now agenda.old
+        ensures told { OnOk result ((run : Run) (second : ℕ)
+            → CanGoOn S.tells (mode_of schedule) run plan.now (S.file shelf.old) (S.ids shelf.old) (network_of self.old.world) (counts_of self.old.tally) self.old.outputs seconds from second feed.now
+            → IsPlaying S.tells (mode_of schedule) run plan.now (S.file shelf.new) (S.ids shelf.new) (network_of self.new.world) (counts_of self.new.tally) self.new.outputs (Some second) feed.now.programme) }
+        ensures cut { S.tells → OnErr result ((run : Run) (second : ℕ)
+            → CanGoOn S.tells (mode_of schedule) run plan.now (S.file shelf.old) (S.ids shelf.old) (network_of self.old.world) (counts_of self.old.tally) self.old.outputs seconds from second feed.now
             → IsCutOff (mode_of schedule) run plan.now (S.file shelf.new)) }
-        ensures budget { OnOk result (left (fate_in self.new.world) + letters_in (drop agenda.new.taken agenda.new.commands) < 2 ^ 57) }
-        ensures fewer { OnOk result (length (still_to_come agenda.new) ≤ length (still_to_come agenda.old)) }
+        ensures budget { OnOk result (left (fate_in self.new.world) + letters_in (drop feed.now.programme.taken feed.now.programme.commands.now) < 2 ^ 57) }
         ensures only { OnlyWrites S.tells plan.now (S.file shelf.old) (S.file shelf.new) (S.ids shelf.old) (S.ids shelf.new) }
         ensures causes { IfErr result IsOfWriting }
         ensures faults { CountsFaults result (S.faults shelf.old) (S.faults shelf.new) }
     {
-        merge_keeps_order();
         runs_are_under_way();
-        let Ok(()) = gather(alloc, schedule, first, agenda, gathered) else {
-            return Err(Fault::Memory);
-        };
-        let commands = agenda.taken_since(from);
-        let arrivals = gathered.arrivals.as_slice();
+        let commands = feed.programme.taken_since(from);
+        let arrivals = feed.gathered.as_slice();
         self.turn(shelf, plan, schedule, seconds, commands, arrivals)
     }
 
@@ -262,42 +253,33 @@ impl Game {
         shelf: &mut S,
         plan: &Plan,
         schedule: Schedule,
-        agenda: &mut Agenda<'_>,
+        feed: &mut Feed<'_>,
     ) -> Result<(), Fault>
         requires ready { IsReady plan.now (S.ids shelf.old) self.old.outputs }
-        requires playing { (run : Run) × IsPlaying S.tells (mode_of schedule) run plan.now (S.file shelf.old) (network_of self.old.world) (counts_of self.old.tally) self.old.outputs None agenda.old }
-        requires budget { left (fate_in self.old.world) + letters_in (drop agenda.old.taken agenda.old.commands) < 2 ^ 57 }
-        ensures ready { IsReady plan.now (S.ids shelf.new) self.new.outputs }
+        requires feed { CanFeed (S.ids shelf.old) feed.old }
+        requires playing { (run : Run) × IsPlaying S.tells (mode_of schedule) run plan.now (S.file shelf.old) (S.ids shelf.old) (network_of self.old.world) (counts_of self.old.tally) self.old.outputs None feed.old.programme }
+        requires budget { left (fate_in self.old.world) + letters_in (drop feed.old.programme.taken feed.old.programme.commands.now) < 2 ^ 57 }
+        ensures ready { OnOk result (IsReady plan.now (S.ids shelf.new) self.new.outputs) }
         ensures few { OnOk result (self.new.tally.relayed + self.new.tally.ignored < 2 ^ 64) }
-        ensures told { OnOk result ((run : Run)
-            → IsPlaying S.tells (mode_of schedule) run plan.now (S.file shelf.old) (network_of self.old.world) (counts_of self.old.tally) self.old.outputs None agenda.old
+        ensures told { S.tells → OnOk result ((run : Run)
+            → IsPlaying S.tells (mode_of schedule) run plan.now (S.file shelf.old) (S.ids shelf.old) (network_of self.old.world) (counts_of self.old.tally) self.old.outputs None feed.old.programme
             → IsTold S.tells (mode_of schedule) run plan.now (S.file shelf.new) (network_of self.new.world) (counts_of self.new.tally) self.new.outputs (segments (mode_of schedule) run.input)) }
         ensures cut { S.tells → OnErr result ((run : Run)
-            → IsPlaying S.tells (mode_of schedule) run plan.now (S.file shelf.old) (network_of self.old.world) (counts_of self.old.tally) self.old.outputs None agenda.old
+            → IsPlaying S.tells (mode_of schedule) run plan.now (S.file shelf.old) (S.ids shelf.old) (network_of self.old.world) (counts_of self.old.tally) self.old.outputs None feed.old.programme
             → IsCutOff (mode_of schedule) run plan.now (S.file shelf.new)) }
-        ensures only { OnlyWrites S.tells plan.now (S.file shelf.old) (S.file shelf.new) (S.ids shelf.old) (S.ids shelf.new) }
-        ensures causes { IfErr result IsOfWriting }
+        ensures never { S.tells → IfErr result (λ fault. IsChange fault → (run : Run)
+            → IsPlaying S.tells (mode_of schedule) run plan.now (S.file shelf.old) (S.ids shelf.old) (network_of self.old.world) (counts_of self.old.tally) self.old.outputs None feed.old.programme → ⊥) }
+        ensures only { OnlyGoesOn S.tells plan.now (ids_in feed.old.programme.captures) (S.file shelf.old) (S.file shelf.new) (S.ids shelf.old) (S.ids shelf.new) }
+        ensures causes { IfErr result IsOfPlay }
         ensures faults { CountsFaults result (S.faults shelf.old) (S.faults shelf.new) }
     {
         runs_are_few();
         let mut last: Option<u64> = None;
-        let mut taken = agenda.taken();
-        let mut gathered = Gathered::new(alloc);
-        'events: while let Some(first) = agenda.next() {
-            let second = first.moment() / NANOSECONDS;
+        let mut taken = feed.programme.taken();
+        'events: while let Some(second) = feed.gather(alloc, shelf, schedule)? {
             let seconds = seconds_since(last, second);
-            self.go_on(
-                alloc,
-                shelf,
-                plan,
-                schedule,
-                seconds,
-                taken,
-                &first,
-                agenda,
-                &mut gathered,
-            )?;
-            taken = agenda.taken();
+            self.go_on(shelf, plan, schedule, seconds, taken, feed)?;
+            taken = feed.programme.taken();
             last = Some(second);
         }
         Ok(())
@@ -327,19 +309,22 @@ impl Game {
         shelf: &mut S,
         plan: &Plan,
         schedule: Schedule,
-        agenda: &mut Agenda<'_>,
+        feed: &mut Feed<'_>,
     ) -> Result<String, Fault>
         requires ready { IsReady plan.now (S.ids shelf.old) self.old.outputs }
-        requires playing { (run : Run) × IsPlaying S.tells (mode_of schedule) run plan.now (S.file shelf.old) (network_of self.old.world) (counts_of self.old.tally) self.old.outputs None agenda.old }
-        requires budget { left (fate_in self.old.world) + letters_in (drop agenda.old.taken agenda.old.commands) < 2 ^ 57 }
+        requires feed { CanFeed (S.ids shelf.old) feed.old }
+        requires playing { (run : Run) × IsPlaying S.tells (mode_of schedule) run plan.now (S.file shelf.old) (S.ids shelf.old) (network_of self.old.world) (counts_of self.old.tally) self.old.outputs None feed.old.programme }
+        requires budget { left (fate_in self.old.world) + letters_in (drop feed.old.programme.taken feed.old.programme.commands.now) < 2 ^ 57 }
         ensures done { S.tells → IfOk result (λ line. (run : Run) → IsTimely run.input
-            → IsPlaying S.tells (mode_of schedule) run plan.now (S.file shelf.old) (network_of self.old.world) (counts_of self.old.tally) self.old.outputs None agenda.old
+            → IsPlaying S.tells (mode_of schedule) run plan.now (S.file shelf.old) (S.ids shelf.old) (network_of self.old.world) (counts_of self.old.tally) self.old.outputs None feed.old.programme
             → HasPlayed (mode_of schedule) run.input plan.now run.before (S.file shelf.new) (string_bytes line)) }
         ensures cut { S.tells → OnErr result ((run : Run)
-            → IsPlaying S.tells (mode_of schedule) run plan.now (S.file shelf.old) (network_of self.old.world) (counts_of self.old.tally) self.old.outputs None agenda.old
+            → IsPlaying S.tells (mode_of schedule) run plan.now (S.file shelf.old) (S.ids shelf.old) (network_of self.old.world) (counts_of self.old.tally) self.old.outputs None feed.old.programme
             → IsCutOff (mode_of schedule) run plan.now (S.file shelf.new)) }
-        ensures only { OnlyWrites S.tells plan.now (S.file shelf.old) (S.file shelf.new) (S.ids shelf.old) (S.ids shelf.new) }
-        ensures causes { IfErr result IsOfWriting }
+        ensures never { S.tells → IfErr result (λ fault. IsChange fault → (run : Run)
+            → IsPlaying S.tells (mode_of schedule) run plan.now (S.file shelf.old) (S.ids shelf.old) (network_of self.old.world) (counts_of self.old.tally) self.old.outputs None feed.old.programme → ⊥) }
+        ensures only { OnlyGoesOn S.tells plan.now (ids_in feed.old.programme.captures) (S.file shelf.old) (S.file shelf.new) (S.ids shelf.old) (S.ids shelf.new) }
+        ensures causes { IfErr result IsOfPlay }
         ensures faults { CountsFaults result (S.faults shelf.old) (S.faults shelf.new) }
     {
         runs_are_under_way();
@@ -347,7 +332,7 @@ impl Game {
         runs_write_eagerly();
         runs_tell_legally();
         plan.is_tree();
-        self.play_all(alloc, shelf, plan, schedule, agenda)?;
+        self.play_all(alloc, shelf, plan, schedule, feed)?;
         self.end(alloc, shelf, plan)
     }
 
@@ -358,30 +343,33 @@ impl Game {
         shelf: &mut S,
         plan: &Plan,
         schedule: Schedule,
-        agenda: &mut Agenda<'_>,
+        feed: &mut Feed<'_>,
     ) -> Result<String, Fault>
         requires ready { IsReady plan.now (S.ids shelf.old) self.old.outputs }
-        requires opened { (run : Run) × IsOpened S.tells (mode_of schedule) run plan.now (S.file shelf.old) (network_of self.old.world) (counts_of self.old.tally) self.old.outputs agenda.old }
-        requires budget { left (fate_in self.old.world) + letters_in (drop agenda.old.taken agenda.old.commands) < 2 ^ 57 }
+        requires feed { CanFeed (S.ids shelf.old) feed.old }
+        requires opened { (run : Run) × IsOpened S.tells (mode_of schedule) run plan.now (S.file shelf.old) (S.ids shelf.old) (network_of self.old.world) (counts_of self.old.tally) self.old.outputs feed.old.programme }
+        requires budget { left (fate_in self.old.world) + letters_in (drop feed.old.programme.taken feed.old.programme.commands.now) < 2 ^ 57 }
         ensures done { S.tells → IfOk result (λ line. (run : Run)
-            → IsOpened S.tells (mode_of schedule) run plan.now (S.file shelf.old) (network_of self.old.world) (counts_of self.old.tally) self.old.outputs agenda.old
+            → IsOpened S.tells (mode_of schedule) run plan.now (S.file shelf.old) (S.ids shelf.old) (network_of self.old.world) (counts_of self.old.tally) self.old.outputs feed.old.programme
             → HasPlayed (mode_of schedule) run.input plan.now run.before (S.file shelf.new) (string_bytes line)) }
         ensures cut { S.tells → OnErr result ((run : Run)
-            → IsOpened S.tells (mode_of schedule) run plan.now (S.file shelf.old) (network_of self.old.world) (counts_of self.old.tally) self.old.outputs agenda.old
+            → IsOpened S.tells (mode_of schedule) run plan.now (S.file shelf.old) (S.ids shelf.old) (network_of self.old.world) (counts_of self.old.tally) self.old.outputs feed.old.programme
             → IsCutOff (mode_of schedule) run plan.now (S.file shelf.new)) }
-        ensures only { OnlyWrites S.tells plan.now (S.file shelf.old) (S.file shelf.new) (S.ids shelf.old) (S.ids shelf.new) }
-        ensures causes { IfErr result IsOfWriting }
+        ensures never { S.tells → IfErr result (λ fault. IsChange fault → (run : Run)
+            → IsOpened S.tells (mode_of schedule) run plan.now (S.file shelf.old) (S.ids shelf.old) (network_of self.old.world) (counts_of self.old.tally) self.old.outputs feed.old.programme → ⊥) }
+        ensures only { OnlyGoesOn S.tells plan.now (ids_in feed.old.programme.captures) (S.file shelf.old) (S.file shelf.new) (S.ids shelf.old) (S.ids shelf.new) }
+        ensures causes { IfErr result IsOfPlay }
         ensures faults { CountsFaults result (S.faults shelf.old) (S.faults shelf.new) }
     {
         runs_are_under_way();
         runs_are_few();
         plan.is_tree();
         self.note(shelf, plan)?;
-        self.play_on(alloc, shelf, plan, schedule, agenda)
+        self.play_on(alloc, shelf, plan, schedule, feed)
     }
 }
 
-/// Plays an agenda in a world that is opened, and answers the summary line.
+/// Plays what a feed has in a world that is opened, and answers the summary line.
 fn play_world<S: Shelf>(
     alloc: Global,
     shelf: &mut S,
@@ -389,19 +377,22 @@ fn play_world<S: Shelf>(
     schedule: Schedule,
     world: World,
     outputs: Outputs,
-    agenda: &mut Agenda<'_>,
+    feed: &mut Feed<'_>,
 ) -> Result<String, Fault>
     requires ready { IsReady plan.now (S.ids shelf.old) outputs }
-    requires opened { (run : Run) × IsOpened S.tells (mode_of schedule) run plan.now (S.file shelf.old) (network_of world) nothing_counted outputs agenda.old }
-    requires budget { left (fate_in world) + letters_in (drop agenda.old.taken agenda.old.commands) < 2 ^ 57 }
+    requires feed { CanFeed (S.ids shelf.old) feed.old }
+    requires opened { (run : Run) × IsOpened S.tells (mode_of schedule) run plan.now (S.file shelf.old) (S.ids shelf.old) (network_of world) nothing_counted outputs feed.old.programme }
+    requires budget { left (fate_in world) + letters_in (drop feed.old.programme.taken feed.old.programme.commands.now) < 2 ^ 57 }
     ensures done { S.tells → IfOk result (λ line. (run : Run)
-        → IsOpened S.tells (mode_of schedule) run plan.now (S.file shelf.old) (network_of world) nothing_counted outputs agenda.old
+        → IsOpened S.tells (mode_of schedule) run plan.now (S.file shelf.old) (S.ids shelf.old) (network_of world) nothing_counted outputs feed.old.programme
         → HasPlayed (mode_of schedule) run.input plan.now run.before (S.file shelf.new) (string_bytes line)) }
     ensures cut { S.tells → OnErr result ((run : Run)
-        → IsOpened S.tells (mode_of schedule) run plan.now (S.file shelf.old) (network_of world) nothing_counted outputs agenda.old
+        → IsOpened S.tells (mode_of schedule) run plan.now (S.file shelf.old) (S.ids shelf.old) (network_of world) nothing_counted outputs feed.old.programme
         → IsCutOff (mode_of schedule) run plan.now (S.file shelf.new)) }
-    ensures only { OnlyWrites S.tells plan.now (S.file shelf.old) (S.file shelf.new) (S.ids shelf.old) (S.ids shelf.new) }
-    ensures causes { IfErr result IsOfWriting }
+    ensures never { S.tells → IfErr result (λ fault. IsChange fault → (run : Run)
+        → IsOpened S.tells (mode_of schedule) run plan.now (S.file shelf.old) (S.ids shelf.old) (network_of world) nothing_counted outputs feed.old.programme → ⊥) }
+    ensures only { OnlyGoesOn S.tells plan.now (ids_in feed.old.programme.captures) (S.file shelf.old) (S.file shelf.new) (S.ids shelf.old) (S.ids shelf.new) }
+    ensures causes { IfErr result IsOfPlay }
     ensures faults { CountsFaults result (S.faults shelf.old) (S.faults shelf.new) }
 {
     let mut game = Game {
@@ -414,35 +405,41 @@ fn play_world<S: Shelf>(
             text: Vec::new(alloc),
         },
     };
-    game.play_opened(alloc, shelf, plan, schedule, agenda)
+    game.play_opened(alloc, shelf, plan, schedule, feed)
 }
 
-/// Makes the outputs, opens the world of a script's setup, plays an agenda from there, and answers the summary line.
-pub(crate) fn play_agenda<S: Shelf>(
+/// Opens the world of a script's setup, plays what a feed has from there into outputs that were made, and answers the summary line.
+pub(crate) fn play_feed<S: Shelf>(
     alloc: Global,
     shelf: &mut S,
     plan: &Plan,
     script: &Script<'_>,
     schedule: Schedule,
     fate: Box<dyn Fate>,
-    agenda: &mut Agenda<'_>,
+    outputs: Outputs,
+    feed: &mut Feed<'_>,
 ) -> Result<String, Fault>
     requires valid { IsValid script.now.setup.now }
     requires tree { plan.now.tree ≡ shape_of script.now.setup.now }
-    requires begins { (run : Run) × CanBegin S.tells (mode_of schedule) run script.now.setup.now (S.file shelf.old) agenda.old }
-    requires budget { left fate + length script.now.fate.now + letters_in (drop agenda.old.taken agenda.old.commands) < 2 ^ 57 }
-    ensures done { S.tells → IfOk result (λ line. (run : Run) → CanBegin S.tells (mode_of schedule) run script.now.setup.now (S.file shelf.old) agenda.old
-        → HasPlayed (mode_of schedule) run.input plan.now (S.file shelf.old) (S.file shelf.new) (string_bytes line)) }
-    ensures fronts { S.tells → mode_of schedule ≡ Eager → (run : Run) → CanBegin S.tells (mode_of schedule) run script.now.setup.now (S.file shelf.old) agenda.old
-        → AreCutEagerly run.input plan.now (S.file shelf.old) (S.file shelf.new) }
-    ensures only { OnlyMakes S.tells plan.now (S.file shelf.old) (S.file shelf.new) (S.ids shelf.old) (S.ids shelf.new) }
-    ensures causes { IfErr result IsOfWriting }
+    requires ready { IsReady plan.now (S.ids shelf.old) outputs }
+    requires feed { CanFeed (S.ids shelf.old) feed.old }
+    requires begins { (run : Run) × CanBegin S.tells (mode_of schedule) run script.now.setup.now plan.now (S.file shelf.old) (S.ids shelf.old) outputs feed.old.programme }
+    requires budget { left fate + length script.now.fate.now + letters_in (drop feed.old.programme.taken feed.old.programme.commands.now) < 2 ^ 57 }
+    ensures done { S.tells → IfOk result (λ line. (run : Run)
+        → CanBegin S.tells (mode_of schedule) run script.now.setup.now plan.now (S.file shelf.old) (S.ids shelf.old) outputs feed.old.programme
+        → HasPlayed (mode_of schedule) run.input plan.now run.before (S.file shelf.new) (string_bytes line)) }
+    ensures fronts { S.tells → mode_of schedule ≡ Eager → (run : Run)
+        → CanBegin S.tells (mode_of schedule) run script.now.setup.now plan.now (S.file shelf.old) (S.ids shelf.old) outputs feed.old.programme
+        → AreCutEagerly run.input plan.now run.before (S.file shelf.new) }
+    ensures never { S.tells → IfErr result (λ fault. IsChange fault → (run : Run)
+        → CanBegin S.tells (mode_of schedule) run script.now.setup.now plan.now (S.file shelf.old) (S.ids shelf.old) outputs feed.old.programme → ⊥) }
+    ensures only { OnlyGoesOn S.tells plan.now (ids_in feed.old.programme.captures) (S.file shelf.old) (S.file shelf.new) (S.ids shelf.old) (S.ids shelf.new) }
+    ensures causes { IfErr result IsOfPlay }
     ensures faults { CountsFaults result (S.faults shelf.old) (S.faults shelf.new) }
 {
     runs_write_fronts();
-    let outputs = create_all(alloc, shelf, plan)?;
     let Ok(world) = open(alloc, script.setup, fate, script.fate, plan.traced()) else {
         return Err(Fault::Memory);
     };
-    play_world(alloc, shelf, plan, schedule, world, outputs, agenda)
+    play_world(alloc, shelf, plan, schedule, world, outputs, feed)
 }

@@ -8,7 +8,7 @@ mod check;
 mod checked;
 mod fault;
 mod game;
-mod gather;
+mod feed;
 mod making;
 mod outputs;
 mod plan;

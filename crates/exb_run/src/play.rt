@@ -1,24 +1,140 @@
 //! Playing a script and captures that were checked: the opening, then each segment in its turn.
-ghost use Rattle.std.specs.Prelude.{⊥, ◌≡◌, ◌<◌, ◌^◌, IfOk, IfErr, string_bytes};
+ghost use Rattle.std.specs.Prelude.{⊥, ◌≡◌, ◌≤◌, ◌<◌, ◌+◌, ◌*◌, ◌^◌, [], length, map, sum_by, IfOk, OnOk, IfErr, IfSome, All, string_bytes};
+ghost use Rattle.std.specs.List.{AllByRecursion};
 ghost use Rattle.exb_model.specs.Input.{Eager};
 ghost use Rattle.exb_model.specs.Setup.{IsValid, shape_of};
-ghost use Rattle.exb_run.specs.Checks.{CanBeRead};
+ghost use Rattle.exb_merge.specs.Replays.{AreOpened, AreReplays, AreToldSince, ids_in, left_in, standings};
+ghost use Rattle.exb_run.specs.Checks.{AreChecked, CanBeRead, earlier, first_standing, start_told, stream_told};
 ghost use Rattle.exb_run.specs.Inputs.{input_from};
+ghost use Rattle.exb_run.specs.Opening.{ReadsCapture};
 ghost use Rattle.exb_run.specs.Outputs.{AreCutEagerly, HasPlayed};
 ghost use Rattle.exb_run.specs.Playing.{IsScript, mode_of};
 ghost use Rattle.exb_run.specs.Shelving.{CountsFaults, IsChange, IsOfPlay, OnlyPlays};
+ghost use Rattle.exb_run.specs.Writing.{HasTexts, IsReady, first_text, pieces_of};
+ghost use Rattle.exb_shelf.specs.Files.{Files, SameFiles};
+ghost use Rattle.exb_shelf.specs.Shelf.{Opens};
 
-use crate::checked::Checked;
+use crate::checked::{Checked, name_of};
 use crate::fault::Fault;
+use crate::feed::Feed;
+use crate::game::play_feed;
+use crate::outputs::{Outputs, create_all};
 use crate::plan::Plan;
 use crate::script::{Schedule, Script};
 use exb_fate::Fate;
-use exb_shelf::Shelf;
+use exb_merge::laws::{merge_of_all, start_is_least};
+use exb_merge::{Programme, Replays};
+use exb_shelf::{PIECE, Shelf};
 use exb_tables::Named;
-use std::alloc::Global;
+use std::alloc::{AllocError, Global};
 
-/// Plays a script and the captures that are named, of which this was told, and answers the summary line. Each capture is read again in
-/// pieces.
+/// A second in nanoseconds.
+const NANOSECONDS: u64 = 1_000_000_000;
+
+/// The second of the first record of a capture, and the least of those before it.
+fn earlier(least: Option<u64>, told: Option<u64>) -> Option<u64>
+    ensures { result ≡ earlier least told }
+{
+    match (least, told) {
+        (None, None) => None,
+        (Some(least), None) => Some(least),
+        (None, Some(first)) => Some(first / NANOSECONDS),
+        (Some(least), Some(first)) => Some(least.min(first / NANOSECONDS)),
+    }
+}
+
+/// The second from which commands count: the least whole second of any first record that was told, or 0.
+fn start_of(checked: &[Checked]) -> u64
+    ensures { result ≡ start_told checked.now }
+{
+    let mut least = None;
+    for one in checked {
+        least = earlier(least, one.told.first);
+    }
+    least.unwrap_or(0)
+}
+
+/// Opens the captures again that are named, in port order, and looks at each as far as its first record.
+fn open_all<S: Shelf>(
+    alloc: Global,
+    shelf: &mut S,
+    piece: &mut [u8],
+    names: &[Named],
+    checked: &[Checked],
+) -> Result<Replays, Fault>
+    requires piece { 0 < length piece.old }
+    requires checked { AreChecked S.tells names.now (S.file shelf.old) checked.now }
+    ensures piece { length piece.new ≡ length piece.old }
+    ensures opened { IfOk result (AreOpened (S.ids shelf.new)) }
+    ensures named { IfOk result (λ captures. AllByRecursion (λ k. ReadsCapture names.now (S.ids shelf.new k)) (ids_in captures)) }
+    ensures standings { IfOk result (λ captures. standings captures ≡ map first_standing checked.now) }
+    ensures left { IfOk result (λ captures. left_in captures ≤ sum_by (λ c. c.told.bytes + 1) checked.now) }
+    ensures since { IfOk result (AreToldSince (start_told checked.now)) }
+    ensures streams { S.tells → IfOk result (λ captures. AreReplays (S.file shelf.new) (S.ids shelf.new) captures.sources.items (map (stream_told names.now (S.file shelf.old)) checked.now)) }
+    ensures never { S.tells → IfErr result (λ fault. IsChange fault → ⊥) }
+    ensures opens { Opens (ReadsCapture names.now) (S.ids shelf.old) (S.ids shelf.new) }
+    ensures files { SameFiles (S.file shelf.old) (S.file shelf.new) }
+    ensures causes { IfErr result IsOfPlay }
+    ensures faults { CountsFaults result (S.faults shelf.old) (S.faults shelf.new) }
+{
+    let mut captures = Replays::new(alloc);
+    'opening: for one in checked {
+        let name = name_of(names, one.port).unwrap();
+        captures.add(alloc, shelf, piece, one.port, name, one.told)?;
+    }
+    Ok(captures)
+}
+
+/// Room for what is read at once.
+fn room(alloc: Global, size: usize) -> Result<Vec<u8>, AllocError>
+    ensures { IfOk result (λ piece. length piece.items ≡ size) }
+{
+    vec![in alloc; 0u8; size]
+}
+
+/// Plays a script and the captures that are named, of which this was told, into outputs that were made, and answers the summary line.
+fn play_into<S: Shelf>(
+    alloc: Global,
+    shelf: &mut S,
+    plan: &Plan,
+    script: &Script<'_>,
+    names: &[Named],
+    checked: &[Checked],
+    schedule: Schedule,
+    fate: Box<dyn Fate>,
+    outputs: Outputs,
+) -> Result<String, Fault>
+    requires valid { IsValid script.now.setup.now }
+    requires tree { plan.now.tree ≡ shape_of script.now.setup.now }
+    requires script { IsScript (shape_of script.now.setup.now) script.now.commands.now script.now.fate.now }
+    requires captures { CanBeRead S.tells plan.now names.now (S.file shelf.old) checked.now }
+    requires fate { left fate < 2 ^ 56 }
+    requires ready { IsReady plan.now (S.ids shelf.old) outputs }
+    ensures done { S.tells → IfOk result (λ line. (before : Files) → HasTexts plan.now (pieces_of outputs) before (S.file shelf.old) (first_text plan.now)
+        → HasPlayed (mode_of schedule) (input_from script.now.setup.now script.now.commands.now names.now (S.file shelf.old)) plan.now before (S.file shelf.new) (string_bytes line)) }
+    ensures fronts { S.tells → mode_of schedule ≡ Eager → (before : Files) → HasTexts plan.now (pieces_of outputs) before (S.file shelf.old) (first_text plan.now)
+        → AreCutEagerly (input_from script.now.setup.now script.now.commands.now names.now (S.file shelf.old)) plan.now before (S.file shelf.new) }
+    ensures never { S.tells → IfErr result (λ fault. IsChange fault → ⊥) }
+    ensures only { OnlyPlays S.tells names.now plan.now (S.file shelf.old) (S.file shelf.new) (S.ids shelf.old) (S.ids shelf.new) }
+    ensures causes { IfErr result IsOfPlay }
+    ensures faults { CountsFaults result (S.faults shelf.old) (S.faults shelf.new) }
+{
+    merge_of_all();
+    start_is_least();
+    let mut piece = room(alloc, PIECE)?;
+    let captures = open_all(alloc, shelf, piece.as_mut_slice(), names, checked)?;
+    let mut feed = Feed {
+        programme: Programme::new(captures, script.commands, start_of(checked)),
+        piece,
+        gathered: Vec::new(alloc),
+    };
+    play_feed(
+        alloc, shelf, plan, script, schedule, fate, outputs, &mut feed,
+    )
+}
+
+/// Plays a script and the captures that are named, of which this was told, and answers the summary line. The outputs are made first;
+/// then each capture is read again in pieces.
 pub(crate) fn play<S: Shelf>(
     alloc: Global,
     shelf: &mut S,
@@ -41,5 +157,8 @@ pub(crate) fn play<S: Shelf>(
     ensures causes { IfErr result IsOfPlay }
     ensures faults { CountsFaults result (S.faults shelf.old) (S.faults shelf.new) }
 {
-    Err(Fault::Memory)
+    let outputs = create_all(alloc, shelf, plan)?;
+    play_into(
+        alloc, shelf, plan, script, names, checked, schedule, fate, outputs,
+    )
 }

@@ -1,0 +1,117 @@
+-- What stays of captures that are read again, while others are read and outputs are written.
+use Rattle.std.proofs.Common.{◌≡◌, ◌≢◌, ℕ, ◌<◌, ◌≤◌, ◌+◌, ◌-◌, true, false, List, [], ◌∷◌, ◌++◌, length, map, slice_index, refl, ap, sym, subst, ◌∙◌, arith}
+use mathlib.Core.Path.{fun_ext}
+use Rattle.std.specs.Prelude.{Option}
+use Rattle.std.specs.List.{AllByRecursion}
+use Rattle.exb_model.specs.Input.{Input, Record, Segment, Mode}
+use Rattle.exb_merge.specs.declared.programme.Programme.{Programme}
+use Rattle.exb_merge.specs.declared.replays.Again.{Again}
+use Rattle.exb_merge.specs.Replays.{AreReplays, IsOpened, IsReplayOf, ReadsOn, ids_in}
+use Rattle.exb_merge.specs.Streams.{Stream}
+use Rattle.exb_scan.specs.Reading.{IsAt}
+use Rattle.exb_scan.specs.Replaying.{IsReplaying}
+use Rattle.exb_shelf.specs.Files.{Files, SameFiles, bytes_of}
+use Rattle.exb_shelf.specs.Shelf.{Id, IsReadingOf, writing}
+use Rattle.exb_run.specs.declared.outputs.Outputs.{Outputs}
+use Rattle.exb_run.specs.Outputs.{OnlyPlanned, output_name}
+use Rattle.exb_run.specs.Plans.{Planned, output_count}
+use Rattle.exb_run.specs.Shelving.{OnlyGoesOn, OnlyReads, OnlyWrites}
+use Rattle.exb_run.specs.UnderWay.{AreApart, LeadsOn}
+use Rattle.exb_run.specs.Writing.{IsReady}
+
+-- ---- captures while outputs are written
+-- a capture stays as it is, where no output has its name
+unwritten : (plan : Planned) (file files : Files) (name : List ℕ) → OnlyPlanned plan file files → ((j : ℕ) → j < output_count plan → name ≢ output_name plan j) → files name ≡ file name
+unwritten plan file files name only apart = only name apart
+
+replays-written : (plan : Planned) (file files : Files) (ids : ℕ → Id) (ss : List Again) (xs : List Stream) → AreApart plan ids (map (λ (s : Again). s.replay.file.id) ss) → OnlyPlanned plan file files →
+    AreReplays file ids ss xs → AreReplays files ids ss xs
+replays-written plan file files ids [] [] apart only are = tt
+replays-written plan file files ids [] (x ∷ xs) apart only are = absurd are
+replays-written plan file files ids (s ∷ ss) [] apart only are = absurd are
+replays-written plan file files ids (s ∷ ss) (x ∷ xs) apart only are =
+    let (name, reads, none) = apart.0 in
+    let one : IsReplayOf file ids s x = are.0 in
+    let named : (ids s.replay.file.id).name ≡ name = reads.named in
+    let same : bytes_of (files (ids s.replay.file.id).name) ≡ bytes_of (file (ids s.replay.file.id).name) =
+    ap bytes_of (unwritten plan file files (ids s.replay.file.id).name only (λ j low is. none j low (sym named ∙ is))) in (
+      record {
+        port = one.port;
+        index = one.index;
+        least = one.least;
+        left = subst (λ (bytes : List ℕ). IsReplaying bytes x.records s.replay) (sym same) one.left;
+        over = one.over;
+      },
+      replays-written plan file files ids ss xs apart.1 only are.1,
+    )
+
+pub leads-written : (m : Mode) (i : Input) (so_far : List Segment) (last : Option ℕ) (plan : Planned) (file files : Files) (ids : ℕ → Id) (p : Programme) → AreApart plan ids (ids_in p.captures) →
+    OnlyPlanned plan file files → LeadsOn m i so_far last file ids p → LeadsOn m i so_far last files ids p
+leads-written m i so_far last plan file files ids p apart only led = record {
+  streams = led.streams;
+  replays = replays-written plan file files ids p.captures.sources.items led.streams apart only led.replays;
+  rest = led.rest;
+}
+
+-- ---- outputs while captures are read
+-- what is written isn't read
+differ : (given : ℕ → Id) (k : ℕ) (name : List ℕ) (ss : List Again) → given k ≡ writing name → AllByRecursion (λ (s : Again). IsAt (given s.replay.file.id) s.replay.file.got) ss →
+    AllByRecursion (λ j. k ≢ j) (map (λ (s : Again). s.replay.file.id) ss)
+differ given k name [] is all = tt
+differ given k name (s ∷ ss) is all = (
+  λ same. (let reads : true ≡ false = sym all.0.reads ∙ ap (λ (j : ℕ). (given j).reads) (sym same) ∙ ap (λ (x : Id). x.reads) is in cc),
+  differ given k name ss is all.1,
+)
+
+opened-at : (given : ℕ → Id) (ss : List Again) → AllByRecursion (IsOpened given) ss → AllByRecursion (λ (s : Again). IsAt (given s.replay.file.id) s.replay.file.got) ss
+opened-at given [] all = tt
+opened-at given (s ∷ ss) all = (all.0.at, opened-at given ss all.1)
+
+pub ready-read : (plan : Planned) (given ids : ℕ → Id) (o : Outputs) (ss : List Again) → IsReady plan given o → AllByRecursion (IsOpened given) ss →
+    ReadsOn (map (λ (s : Again). s.replay.file.id) ss) given ids → IsReady plan ids o
+ready-read plan given ids o ss ready opened reads = record {
+  ids = ready.ids;
+  pieces = ready.pieces;
+  named = λ j low.
+      reads.others (slice_index o.ids.items j) (differ given (slice_index o.ids.items j) (output_name plan j) ss (ready.named j low) (opened-at given ss opened))
+      ∙ ready.named j low;
+}
+
+-- captures are still read through the same ids
+pub apart-read : (plan : Planned) (given ids : ℕ → Id) (mine all : List ℕ) → ReadsOn all given ids → AreApart plan given mine → AreApart plan ids mine
+apart-read plan given ids [] all reads apart = tt
+apart-read plan given ids (k ∷ mine) all reads apart =
+    let (name, is, none) = apart.0 in
+    ((name, reads.same k name is, none), apart-read plan given ids mine all reads apart.1)
+
+-- the same ids
+pub ids-same : (given ids : ℕ → Id) → ((j : ℕ) → ids j ≡ given j) → ids ≡ given
+ids-same given ids same = fun_ext λ j. same j
+
+-- ---- one after the other
+pub reads-then : (mine : List ℕ) (a b c : ℕ → Id) → ReadsOn mine a b → ReadsOn mine b c → ReadsOn mine a c
+reads-then mine a b c one two = record { others = λ j apart. two.others j apart ∙ one.others j apart; same = λ j name is. two.same j name (one.same j name is) }
+
+pub reads-none : (mine : List ℕ) (a b : ℕ → Id) → ((j : ℕ) → b j ≡ a j) → ReadsOn mine a b
+reads-none mine a b same = record { others = λ j apart. same j; same = λ j name is. subst (IsReadingOf name) (sym (same j)) is }
+
+pub only-reads-none : (mine : List ℕ) (f : Files) (a : ℕ → Id) → OnlyReads mine f f a a
+only-reads-none mine f a = record { files = λ n. refl; reads = reads-none mine a a (λ j. refl) }
+
+pub only-reads-then : (mine : List ℕ) (f g h : Files) (a b c : ℕ → Id) → OnlyReads mine f g a b → OnlyReads mine g h b c → OnlyReads mine f h a c
+only-reads-then mine f g h a b c one two = record { files = λ n. two.files n ∙ one.files n; reads = reads-then mine a b c one.reads two.reads }
+
+-- read, written, or both
+pub goes-none : (tells : Type 0) (plan : Planned) (mine : List ℕ) (f : Files) (a : ℕ → Id) → OnlyGoesOn tells plan mine f f a a
+goes-none tells plan mine f a = record { others = λ t m away. refl; reads = reads-none mine a a (λ j. refl) }
+
+pub goes-reading : (tells : Type 0) (plan : Planned) (mine : List ℕ) (f g h : Files) (a b c : ℕ → Id) → OnlyGoesOn tells plan mine f g a b → OnlyReads mine g h b c → OnlyGoesOn tells plan mine f h a c
+goes-reading tells plan mine f g h a b c one two = record { others = λ t m away. two.files m ∙ one.others t m away; reads = reads-then mine a b c one.reads two.reads }
+
+pub goes-writing : (tells : Type 0) (plan : Planned) (mine : List ℕ) (f g h : Files) (a b c : ℕ → Id) → OnlyGoesOn tells plan mine f g a b → OnlyWrites tells plan g h b c → OnlyGoesOn tells plan mine f h a c
+goes-writing tells plan mine f g h a b c one two =
+    record { others = λ t m away. two.others t m away ∙ one.others t m away; reads = reads-then mine a b c one.reads (reads-none mine b c two.kept) }
+
+pub goes-then : (tells : Type 0) (plan : Planned) (mine : List ℕ) (f g h : Files) (a b c : ℕ → Id) → OnlyGoesOn tells plan mine f g a b → OnlyGoesOn tells plan mine g h b c → OnlyGoesOn tells plan mine f h a c
+goes-then tells plan mine f g h a b c one two =
+    record { others = λ t m away. two.others t m away ∙ one.others t m away; reads = reads-then mine a b c one.reads two.reads }
