@@ -16,7 +16,7 @@ pub mod Filling
 pub mod OutputLemmas
 pub mod Cutting
 pub mod CuttingOff
-pub mod FlawLemmas
+pub mod FaultLemmas
 pub mod Refusing
 pub mod Asking
 pub mod Stopping

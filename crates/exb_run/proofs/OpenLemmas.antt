@@ -1,6 +1,6 @@
 -- Which files are opened.
-use Rattle.std.proofs.Common.{◌≡◌, ◌≢◌, ◌<◌, inl, inr, Bool, ℕ, List, Option, Some, Ok, Err, refl, sym, subst, ◌∙◌, arith}
-use Rattle.std.specs.Prelude.{IfErr, OnErr}
+use Rattle.std.proofs.Common.{◌≡◌, ◌≢◌, ◌<◌, ◌⊎◌, inl, inr, Bool, ℕ, List, Option, Some, Ok, Err, refl, sym, subst, ◌∙◌, arith}
+use Rattle.std.specs.Prelude.{IfErr}
 use Rattle.exb_model.specs.Setup.{shape_of}
 use Rattle.exb_model.specs.Tree.{Shape}
 use Rattle.exb_shelf.specs.Files.{Files}
@@ -9,11 +9,11 @@ use Rattle.exb_shelf.proofs.IdLemmas.{opens_none, opens_weaker, opens_then}
 use Rattle.exb_topology.specs.declared.topology.Topology.{Topology}
 use Rattle.exb_words.specs.Words.{Ask, Run, Check}
 use Rattle.exb_run.specs.declared.fault.Fault.{Fault}
-use Rattle.exb_run.specs.declared.fault.Fault.TheVariants.{Usage, Missing, Topology as BadTopology, Capture, Read, Write, Memory}
+use Rattle.exb_run.specs.declared.fault.Fault.TheVariants.{Usage, Missing, Topology as BadTopology, Capture, Changed, Read, Write, Memory}
 use Rattle.exb_run.specs.Plans.{Planned, output_count, port_at}
 use Rattle.exb_run.specs.Outputs.{output_name}
-use Rattle.exb_run.specs.Shelving.{IsOfWriting, WritesPlanned}
-use Rattle.exb_run.specs.Flaws.{AreGood}
+use Rattle.exb_run.specs.Checks.{AreAllGood}
+use Rattle.exb_run.specs.Shelving.{IsOfPlay, IsOfRun, WritesPlanned}
 use Rattle.exb_run.specs.Answers.{HoldsTopology, status_of}
 use Rattle.exb_run.specs.Reading.{IsOfCapture, IsOfPlaying}
 use Rattle.exb_run.specs.Opening.{IsOutput, ReadsCapture, WritesOutput, IsOpenedFor, OpensBy}
@@ -28,14 +28,24 @@ capture_plays Usage is = absurd is
 capture_plays (Missing name) is = tt
 capture_plays (BadTopology fault) is = absurd is
 capture_plays (Capture p flaw) is = is
+capture_plays (Changed p at) is = absurd is
 capture_plays Read is = tt
 capture_plays Write is = absurd is
 capture_plays Memory is = tt
 
-pub writing_plays : (o : Outcome) → IfErr o IsOfWriting → IfErr o IsOfPlaying
-writing_plays (Ok line) is = tt
-writing_plays (Err x) (inl write) = subst IsOfPlaying (sym write) tt
-writing_plays (Err x) (inr memory) = subst IsOfPlaying (sym memory) tt
+play_plays : (x : Fault) → IsOfPlay x → IsOfPlaying x
+play_plays Usage is = absurd is
+play_plays (Missing name) is = absurd is
+play_plays (BadTopology fault) is = absurd is
+play_plays (Capture p flaw) is = absurd is
+play_plays (Changed p at) is = is
+play_plays Read is = tt
+play_plays Write is = tt
+play_plays Memory is = tt
+
+pub played_plays : (o : Outcome) → IfErr o IsOfPlay → IfErr o IsOfPlaying
+played_plays (Ok line) is = tt
+played_plays (Err x) is = play_plays x is
 
 -- the topology is not at fault
 not_three : (o : Outcome) → IfErr o IsOfPlaying → status_of o ≢ 3
@@ -44,6 +54,7 @@ not_three (Err Usage) is = absurd is
 not_three (Err (Missing name)) is = λ e. omega arith
 not_three (Err (BadTopology fault)) is = absurd is
 not_three (Err (Capture p flaw)) is = λ e. omega arith
+not_three (Err (Changed p at)) is = λ e. omega arith
 not_three (Err Read) is = λ e. omega arith
 not_three (Err Write) is = λ e. omega arith
 not_three (Err Memory) is = λ e. omega arith
@@ -70,13 +81,16 @@ planned_is_output plan traced t same prefix tree i w = record {
   writes = w.writes;
 }
 
--- captures are opened, and then outputs
+-- captures are opened, and then these again and outputs
 pub opened_for : (plan : Planned) (traced : Bool) (t : Topology) (f : Files) (a b c : ℕ → Id) → plan.traced ≡ traced → plan.prefix ≡ t.prefix → plan.tree ≡ shape_of t.setup
-    → AreGood t.captures f → Opens (ReadsCapture t.captures) a b → Opens (WritesPlanned plan) b c → Opens (IsOpenedFor traced t f) a c
-opened_for plan traced t f a b c same prefix tree good read made =
+    → AreAllGood t.captures f → Opens (ReadsCapture t.captures) a b → Opens (IsOfRun t.captures plan) b c → Opens (IsOpenedFor traced t f) a c
+opened_for plan traced t f a b c same prefix tree good read played =
     opens_then (IsOpenedFor traced t f) a b c
     (opens_weaker (ReadsCapture t.captures) (IsOpenedFor traced t f) a b (λ i reads. inl reads) read)
-    (opens_weaker (WritesPlanned plan) (IsOpenedFor traced t f) b c (λ i writes. inr (good, planned_is_output plan traced t same prefix tree i writes)) made)
+    (opens_weaker (IsOfRun t.captures plan) (IsOpenedFor traced t f) b c (λ i opened. elim opened [
+      | inl reads ↦ inl reads
+      | inr writes ↦ inr (good, planned_is_output plan traced t same prefix tree i writes)
+    ]) played)
 
 -- ---- by the status
 -- nothing is opened
@@ -86,8 +100,8 @@ opens_by_none tells a f status ids not_check = record {
   made = λ number e j. refl;
   topology = λ e. opens_none _ ids;
   checked = λ name e. absurd (not_check name e);
-  reads = λ n0 n1 n7. opens_none _ ids;
-  wanted = λ t n0 n1 n7. opens_none _ ids;
+  reads = λ n0 n1 n6 n7 n10. opens_none _ ids;
+  wanted = λ t n0 n1 n6 n7 n10. opens_none _ ids;
   only = λ t. opens_none _ ids;
 }
 
@@ -99,8 +113,8 @@ module _ (tells : Type 0) (f : Files) (name : List ℕ) (a b : ℕ → Id) (read
     made = λ number e. absurd (cc);
     topology = λ e. read;
     checked = λ n e. read;
-    reads = λ n0 n1 n7. opens_weaker _ _ a b (λ i r. record { given = r.given; reads = r.reads }) read;
-    wanted = λ t n0 n1 n7. opens_weaker _ _ a b (λ i r. inl r) read;
+    reads = λ n0 n1 n6 n7 n10. opens_weaker _ _ a b (λ i r. record { given = r.given; reads = r.reads }) read;
+    wanted = λ t n0 n1 n6 n7 n10. opens_weaker _ _ a b (λ i r. inl r) read;
     only = λ t. opens_weaker _ _ a b (λ i r. inl (inl r)) read;
   }
 
@@ -112,14 +126,14 @@ module _ (tells : Type 0) (f : Files) (name : List ℕ) (a b : ℕ → Id) (read
       made = λ number e. absurd (cc);
       topology = λ e. read;
       checked = λ n e. absurd (cc);
-      reads = λ n0 n1 n7. opens_weaker _ _ a b (λ i r. record { given = r.given; reads = r.reads }) read;
-      wanted = λ t n0 n1 n7. opens_weaker _ _ a b (λ i r. inl r) read;
+      reads = λ n0 n1 n6 n7 n10. opens_weaker _ _ a b (λ i r. record { given = r.given; reads = r.reads }) read;
+      wanted = λ t n0 n1 n6 n7 n10. opens_weaker _ _ a b (λ i r. inl r) read;
       only = λ t. opens_weaker _ _ a b (λ i r. inl (inl r)) read;
     }
 
     -- the topology, its captures, and its outputs
     pub opens_by_run : (o : Outcome) (t : Topology) (g : Files) (c : ℕ → Id) → (tells → HoldsTopology name f t) → g ≡ f → IfErr o IsOfPlaying
-        → (o ≢ Err Write → o ≢ Err Memory → OnErr o (Opens (ReadsCapture t.captures) b c))
+        → IfErr o (λ x. IsOfPlay x ⊎ Opens (ReadsCapture t.captures) b c)
         → (tells → Opens (IsOpenedFor trace t g) b c)
         → OpensBy tells (status_of o) (Some (Run name trace seed)) f a c
     opens_by_run o t g c holds same causes early played = record {
@@ -127,23 +141,23 @@ module _ (tells : Type 0) (f : Files) (name : List ℕ) (a b : ℕ → Id) (read
       made = λ number e. absurd (cc);
       topology = λ e. absurd (not_three o causes e);
       checked = λ n e. absurd (cc);
-      reads = λ n0 n1 n7.
+      reads = λ n0 n1 n6 n7 n10.
           early_end o _
           (opens_on o IsReading (ReadsCapture t.captures) a b c (opens_weaker _ _ a b (λ i r. record { given = r.given; reads = r.reads }) read)
           (λ i r. record { given = r.reads.given; reads = r.reads.reads }) early)
-          n0 n1 n7;
-      wanted = λ told n0 n1 n7.
+          n0 n1 n6 n7 n10;
+      wanted = λ told n0 n1 n6 n7 n10.
           early_end o _
           (opens_on o _ (ReadsCapture t.captures) a b c (opens_weaker _ _ a b (λ i r. inl r) read)
           (λ i r. inr (record { topology = t; holds = holds told; capture = r })) early)
-          n0 n1 n7;
+          n0 n1 n6 n7 n10;
       only = λ told.
           opens_then _ a b c (opens_weaker _ _ a b (λ i r. inl (inl r)) read)
           (opens_weaker _ _ b c (λ i opened. elim opened [
             | inl r ↦ inl (inr (record { topology = t; holds = holds told; capture = r }))
             | inr made ↦ inr (record {
               topology = t;
-              ready = record { holds = holds told; good = subst (λ (k : Files). AreGood t.captures k) same made.0 };
+              ready = record { holds = holds told; good = subst (λ (k : Files). AreAllGood t.captures k) same made.0 };
               output = made.1;
             })
           ]) (played told));
@@ -157,7 +171,7 @@ opens_by_status tells asked f status o a b is opens = record {
   made = opens.made;
   topology = λ e. opens.topology (sym (is (λ x. omega arith) (λ x. omega arith)) ∙ e);
   checked = opens.checked;
-  reads = λ n0 n1 n7. let same = is n1 n7 in opens.reads (λ e. n0 (same ∙ e)) (λ e. n1 (same ∙ e)) (λ e. n7 (same ∙ e));
-  wanted = λ t n0 n1 n7. let same = is n1 n7 in opens.wanted t (λ e. n0 (same ∙ e)) (λ e. n1 (same ∙ e)) (λ e. n7 (same ∙ e));
+  reads = λ n0 n1 n6 n7 n10. let same = is n1 n7 in opens.reads (λ e. n0 (same ∙ e)) (λ e. n1 (same ∙ e)) (λ e. n6 (same ∙ e)) (λ e. n7 (same ∙ e)) (λ e. n10 (same ∙ e));
+  wanted = λ t n0 n1 n6 n7 n10. let same = is n1 n7 in opens.wanted t (λ e. n0 (same ∙ e)) (λ e. n1 (same ∙ e)) (λ e. n6 (same ∙ e)) (λ e. n7 (same ∙ e)) (λ e. n10 (same ∙ e));
   only = opens.only;
 }

@@ -1,6 +1,6 @@
 -- What is printed of what was done, and with which status.
 use Rattle.std.proofs.Common.{◌≡◌, ◌≢◌, ◌<◌, ◌++◌, ◌⊎◌, inl, inr, Bool, ℕ, List, Option, Some, None, Ok, Err, ap, sym, ◌∙◌, refl, subst, arith}
-use Rattle.std.specs.Prelude.{IfOk, IfErr, OnErr, IsErrOf, string_bytes, codes}
+use Rattle.std.specs.Prelude.{IfOk, IfErr, IsErrOf, string_bytes, codes}
 use Rattle.std.proofs.lemmas.Bool.{false≢true, cases_eq}
 use Rattle.exb_keys.specs.declared.faults.TopoFault.TheVariants as topology
 use Rattle.exb_keys.specs.Faults.{Refusal, not_toml, large, at}
@@ -10,13 +10,14 @@ use Rattle.exb_shelf.proofs.IdLemmas.{opens_weaker, opens_then}
 use Rattle.exb_tables.specs.declared.rows.Named.{Named}
 use Rattle.exb_words.specs.Words.{Ask, Run, Check, Make}
 use Rattle.exb_run.specs.declared.fault.Fault.{Fault}
-use Rattle.exb_run.specs.declared.fault.Fault.TheVariants.{Usage, Missing, Topology as BadTopology, Capture, Read, Write, Memory}
+use Rattle.exb_run.specs.declared.fault.Fault.TheVariants.{Usage, Missing, Topology as BadTopology, Capture, Changed, Read, Write, Memory}
 use Rattle.exb_run.specs.Inputs.{name_of}
-use Rattle.exb_run.specs.Flaws.{FirstFlaw, flaw_of_bytes, flaw_of, flaw_named, flaw_at, size_below}
+use Rattle.exb_run.specs.Checks.{FirstFault}
 use Rattle.exb_run.specs.Reading.{IsOfTopology, IsOfPlaying}
+use Rattle.exb_run.specs.Shelving.{IsOfPlay}
 use Rattle.exb_run.specs.Answers.{CanBe, IsCause, IsDone, IsFailure, IsFaultLine, IsOfInput, IsRefused, IsRun, IsStatus, IsText, Stops, StopsWith, fault_line, fault_status, line_of, refused_by, status_of, usage}
 use Rattle.exb_run.specs.Outcomes.{CanCome}
-use Rattle.exb_run.proofs.FlawLemmas.{in_bytes}
+use Rattle.exb_run.proofs.FaultLemmas.{fault_of_named}
 use Rattle.exb_run.proofs.Running.{Outcome}
 use Rattle.exb_run.proofs.Stopping.{failure_is}
 
@@ -29,6 +30,7 @@ topology_can_be (BadTopology topology.NotToml) is = tt
 topology_can_be (BadTopology topology.Large) is = tt
 topology_can_be (BadTopology (topology.At fault key)) is = tt
 topology_can_be (Capture p flaw) is = absurd is
+topology_can_be (Changed p at) is = absurd is
 topology_can_be Read is = tt
 topology_can_be Write is = absurd is
 topology_can_be Memory is = tt
@@ -38,6 +40,7 @@ playing_can_be Usage is = tt
 playing_can_be (Missing name) is = tt
 playing_can_be (BadTopology fault) is = absurd is
 playing_can_be (Capture p flaw) is = is
+playing_can_be (Changed p at) is = is
 playing_can_be Read is = tt
 playing_can_be Write is = tt
 playing_can_be Memory is = tt
@@ -83,6 +86,7 @@ is_usage (Err Usage) e = refl
 is_usage (Err (Missing name)) e = absurd (omega arith)
 is_usage (Err (BadTopology fault)) e = absurd (omega arith)
 is_usage (Err (Capture p x)) e = absurd (omega arith)
+is_usage (Err (Changed p at)) e = absurd (omega arith)
 is_usage (Err Read) e = absurd (omega arith)
 is_usage (Err Write) e = absurd (omega arith)
 is_usage (Err Memory) e = absurd (omega arith)
@@ -93,6 +97,7 @@ is_read (Err Usage) e = absurd (omega arith)
 is_read (Err (Missing name)) e = absurd (omega arith)
 is_read (Err (BadTopology fault)) e = absurd (omega arith)
 is_read (Err (Capture p x)) e = absurd (omega arith)
+is_read (Err (Changed p at)) e = absurd (omega arith)
 is_read (Err Read) e = refl
 is_read (Err Write) e = absurd (omega arith)
 is_read (Err Memory) e = absurd (omega arith)
@@ -104,6 +109,7 @@ write_or_not (Err Usage) = inr (λ e. omega arith)
 write_or_not (Err (Missing name)) = inr (λ e. omega arith)
 write_or_not (Err (BadTopology fault)) = inr (λ e. omega arith)
 write_or_not (Err (Capture p x)) = inr (λ e. omega arith)
+write_or_not (Err (Changed p at)) = inr (λ e. omega arith)
 write_or_not (Err Read) = inr (λ e. omega arith)
 write_or_not (Err Write) = inl refl
 write_or_not (Err Memory) = inr (λ e. omega arith)
@@ -119,6 +125,7 @@ is_missing (Err Usage) e = absurd (omega arith)
 is_missing (Err (Missing name)) e = (name, refl)
 is_missing (Err (BadTopology fault)) e = absurd (omega arith)
 is_missing (Err (Capture p x)) e = absurd (omega arith)
+is_missing (Err (Changed p at)) e = absurd (omega arith)
 is_missing (Err Read) e = absurd (omega arith)
 is_missing (Err Write) e = absurd (omega arith)
 is_missing (Err Memory) e = absurd (omega arith)
@@ -129,6 +136,7 @@ topology_status name Usage is = absurd is
 topology_status name (Missing n) is = refl
 topology_status name (BadTopology fault) is = refl
 topology_status name (Capture p flaw) is = absurd is
+topology_status name (Changed p at) is = absurd is
 topology_status name Read is = refl
 topology_status name Write is = absurd is
 topology_status name Memory is = refl
@@ -139,6 +147,7 @@ run_status name trace seed Usage (inr is) = absurd is
 run_status name trace seed (Missing n) is = refl
 run_status name trace seed (BadTopology fault) is = refl
 run_status name trace seed (Capture p flaw) is = refl
+run_status name trace seed (Changed p at) is = refl
 run_status name trace seed Read is = refl
 run_status name trace seed Write is = refl
 run_status name trace seed Memory is = refl
@@ -180,24 +189,15 @@ module _ (s : ℕ) (two : s ≢ 2) (three : s ≢ 3) (four : s ≢ 4) (five : s 
   refusal_status large e = three (sym e)
   refusal_status (at fault key) e = three (sym e)
 
-  bytes_status : (p : ℕ) (bytes : List ℕ) (before : ℕ) (x : Fault) → flaw_of_bytes p bytes before ≡ Some x → fault_status x ≢ s
-  bytes_status p bytes before x e = let is = in_bytes p bytes before x e in λ h. four (sym h ∙ ap fault_status is.1)
-
-  file_status : (p : ℕ) (name : List ℕ) (o : Option (List ℕ)) (before : ℕ) (x : Fault) → flaw_of p name o before ≡ Some x → fault_status x ≢ s
-  file_status p name None before x e = let is : x ≡ Missing name = cc in λ h. five (sym h ∙ ap fault_status is)
-  file_status p name (Some bytes) before x e = bytes_status p bytes before x e
-
-  named_status : (p : ℕ) (o : Option (List ℕ)) (file : Files) (before : ℕ) (x : Fault) → flaw_named p o file before ≡ Some x → fault_status x ≢ s
-  named_status p None file before x e = absurd (cc)
-  named_status p (Some name) file before x e = file_status p name (file name) before x e
-
   refused_status : (name : List ℕ) (o : Option (List ℕ)) (x : Fault) → IsRefused name o x → fault_status x ≢ s
   refused_status name None x is h = five (sym h ∙ ap fault_status is)
   refused_status name (Some bytes) x (r, refused, is) h = refusal_status r (sym (ap fault_status is) ∙ h)
 
-  first_status : (names : List Named) (file : Files) (p : ℕ) (x : Fault) → FirstFlaw names file p x → fault_status x ≢ s
-  unfolding flaw_at
-  first_status names file p x first = named_status p (name_of names p) file (size_below names file p) x first.here
+  first_status : (names : List Named) (file : Files) (p : ℕ) (x : Fault) → FirstFault names file p x → fault_status x ≢ s
+  first_status names file p x first h = elim (fault_of_named p (name_of names p) file x first.here) [
+    | inl missing ↦ five (sym h ∙ ap fault_status missing.1)
+    | inr flaw ↦ four (sym h ∙ ap fault_status flaw.1)
+  ]
 
   pub stop_status : (a : Option Ask) (f : Files) (x : Fault) → Stops a f x → fault_status x ≢ s
   stop_status None f x is h = two (sym h ∙ ap fault_status is)
@@ -211,6 +211,9 @@ stop_not_seven = stop_status 7 (λ e. omega arith) (λ e. omega arith) (λ e. om
 
 pub stop_not_six : (a : Option Ask) (f : Files) (x : Fault) → Stops a f x → fault_status x ≢ 6
 stop_not_six = stop_status 6 (λ e. omega arith) (λ e. omega arith) (λ e. omega arith) (λ e. omega arith)
+
+pub stop_not_ten : (a : Option Ask) (f : Files) (x : Fault) → Stops a f x → fault_status x ≢ 10
+stop_not_ten = stop_status 10 (λ e. omega arith) (λ e. omega arith) (λ e. omega arith) (λ e. omega arith)
 
 pub stop_not_one : (a : Option Ask) (f : Files) (x : Fault) → Stops a f x → fault_status x ≢ 1
 stop_not_one = stop_status 1 (λ e. omega arith) (λ e. omega arith) (λ e. omega arith) (λ e. omega arith)
@@ -234,6 +237,12 @@ stops_with o a f s cause is more n6 n7 =
         ]
       ]
     ]
+
+-- so none has status 10
+pub not_ten : (o : Outcome) (a : Option Ask) (f : Files) → IfErr o (λ y. Stops a f y ⊎ IsFailure a y) → status_of o ≢ 10
+not_ten o a f cause ten =
+    let found = stops_with o a f 10 cause ten (omega arith) (λ e. omega arith) (λ e. omega arith) in
+    stop_not_ten a f found.0 found.1 found.2
 
 -- the statuses of faults of what is asked for
 pub record OfInput (n : ℕ) : Type 0 where
@@ -289,6 +298,7 @@ no_zero Usage e = omega arith
 no_zero (Missing name) e = omega arith
 no_zero (BadTopology fault) e = omega arith
 no_zero (Capture p flaw) e = omega arith
+no_zero (Changed p at) e = omega arith
 no_zero Read e = omega arith
 no_zero Write e = omega arith
 no_zero Memory e = omega arith
@@ -303,16 +313,27 @@ pub text_by : (o : Outcome) (text : List ℕ) → IfOk o (λ t. string_bytes t �
 text_by (Ok t) text is zero = is
 text_by (Err x) text is zero = absurd (no_zero x zero)
 
--- an early end is none of a write or of memory
-pub early_end : (o : Outcome) (P : Type 0) → (o ≢ Err Write → o ≢ Err Memory → OnErr o P) → status_of o ≢ 0 → status_of o ≢ 1 → status_of o ≢ 7 → P
-early_end (Ok line) P early n0 n1 n7 = absurd (n0 refl)
-early_end (Err x) P early n0 n1 n7 = early (λ e. n7 (ap status_of e)) (λ e. n1 (ap status_of e))
+-- an early end has none of the statuses of faults that come while a topology is played
+late_status : (x : Fault) → IsOfPlay x → fault_status x ≢ 1 → fault_status x ≢ 6 → fault_status x ≢ 7 → fault_status x ≢ 10 → ⊥
+late_status Usage is n1 n6 n7 n10 = is
+late_status (Missing name) is n1 n6 n7 n10 = is
+late_status (BadTopology fault) is n1 n6 n7 n10 = is
+late_status (Capture p flaw) is n1 n6 n7 n10 = is
+late_status (Changed p at) is n1 n6 n7 n10 = n10 refl
+late_status Read is n1 n6 n7 n10 = n6 refl
+late_status Write is n1 n6 n7 n10 = n7 refl
+late_status Memory is n1 n6 n7 n10 = n1 refl
+
+pub early_end : (o : Outcome) (P : Type 0) → IfErr o (λ x. IsOfPlay x ⊎ P) → status_of o ≢ 0 → status_of o ≢ 1 → status_of o ≢ 6 → status_of o ≢ 7 → status_of o ≢ 10 → P
+early_end (Ok line) P early n0 n1 n6 n7 n10 = absurd (n0 refl)
+early_end (Err x) P (inl late) n0 n1 n6 n7 n10 = absurd (late_status x late n1 n6 n7 n10)
+early_end (Err x) P (inr early) n0 n1 n6 n7 n10 = early
 
 -- what is opened first, and then by a run that ends early
-pub opens_on : (o : Outcome) (P Q : Id → Type 0) (a b d : ℕ → Id) → Opens P a b → ((i : Id) → Q i → P i) → (o ≢ Err Write → o ≢ Err Memory → OnErr o (Opens Q b d))
-    → o ≢ Err Write → o ≢ Err Memory → OnErr o (Opens P a d)
-opens_on (Ok line) P Q a b d first so later nw nm = tt
-opens_on (Err x) P Q a b d first so later nw nm = opens_then P a b d first (opens_weaker Q P b d so (later nw nm))
+pub opens_on : (o : Outcome) (P Q : Id → Type 0) (a b d : ℕ → Id) → Opens P a b → ((i : Id) → Q i → P i) → IfErr o (λ x. IsOfPlay x ⊎ Opens Q b d) → IfErr o (λ x. IsOfPlay x ⊎ Opens P a d)
+opens_on (Ok line) P Q a b d first so later = tt
+opens_on (Err x) P Q a b d first so (inl late) = inl late
+opens_on (Err x) P Q a b d first so (inr later) = inr (opens_then P a b d first (opens_weaker Q P b d so later))
 
 -- ---- completeness
 pub made_is : (o : Outcome) (number : ℕ) → IfErr o (CanCome (Some (Make number))) → (status_of o ≡ 0) ⊎ (status_of o ≡ 1)

@@ -1,6 +1,6 @@
 -- The parts of what is asked for make the whole.
-use Rattle.std.proofs.Common.{◌≡◌, ◌≢◌, ◌⊎◌, inl, inr, Bool, ℕ, List, Option, Some, None, Ok, Err, ap, sym, refl, subst}
-use Rattle.std.specs.Prelude.{IfOk, IfErr, OnErr, IsErrOf, string_bytes}
+use Rattle.std.proofs.Common.{◌≡◌, ◌⊎◌, inl, inr, Bool, ℕ, List, Option, Some, None, Ok, Err, ap, sym, refl, subst}
+use Rattle.std.specs.Prelude.{IfOk, IfErr, IsErrOf, string_bytes}
 use Rattle.exb_made.specs.Made.{made}
 use Rattle.exb_model.specs.Input.{Eager}
 use Rattle.exb_model.specs.Setup.{shape_of, limits_of}
@@ -14,8 +14,9 @@ use Rattle.exb_run.specs.declared.fault.Fault.{Fault}
 use Rattle.exb_run.specs.declared.fault.Fault.TheVariants.{Usage, Read, Write, Memory}
 use Rattle.exb_run.specs.Inputs.{input_of}
 use Rattle.exb_run.specs.Outputs.{AreFrontsOf, IsPlayed, OnlyOutputs}
-use Rattle.exb_run.specs.Flaws.{AreGood, FirstFlaw}
+use Rattle.exb_run.specs.Checks.{AreAllGood, FirstFault}
 use Rattle.exb_run.specs.Reading.{IsOfTopology, IsOfPlaying}
+use Rattle.exb_run.specs.Shelving.{IsOfPlay}
 use Rattle.exb_run.specs.Answers.{AreFronts, HoldsTopology, IsDone, IsFailure, IsRefused, OnlyAsked, Stops, eager_summary, mode_for}
 use Rattle.exb_run.specs.Outcomes.{CameOut}
 use Rattle.exb_run.proofs.Asking.{holds_once, shape_same, prefix_same}
@@ -30,7 +31,7 @@ came_unaccepted tells f = record {
   cause = λ t. inl refl;
   stops = λ t fault is. inl (ap Err (sym is));
   can_come = refl;
-  early = λ nw nm n. refl;
+  early = inr (λ n. refl);
   read_only = λ other n. refl;
   stopped = λ t fault is n. refl;
   others = λ t n. refl;
@@ -66,7 +67,7 @@ module _ (tells : Type 0) (name : List ℕ) (f g : Files) (x : Fault) (is : tell
       | inr faulty ↦ absurd (held_not name f faulty.topology x faulty.holds refused)
     ]);
     can_come = inl causes;
-    early = λ nw nm. same;
+    early = inr same;
     read_only = λ other. same;
     stopped = λ t fault stops. same;
     others = λ t u holds m captures journal trace_file. same m;
@@ -83,7 +84,7 @@ module _ (tells : Type 0) (name : List ℕ) (f g : Files) (x : Fault) (is : tell
     ];
     stops = λ t fault stops. ends fault (is t) (λ refused. refused_once name (f name) x fault refused stops);
     can_come = causes;
-    early = λ nw nm. same;
+    early = inr same;
     read_only = λ other. same;
     stopped = λ t fault stops. same;
     others = λ t. same;
@@ -99,7 +100,7 @@ came_checked tells name f g t (Ok lines) holds same says memory = record {
   cause = λ told. tt;
   stops = λ told fault stops. absurd (held_not name f t fault (holds told) stops);
   can_come = tt;
-  early = λ nw nm. tt;
+  early = tt;
   read_only = λ other. same;
   stopped = λ told fault stops. same;
   others = λ told. same;
@@ -111,7 +112,7 @@ came_checked tells name f g t (Err x) holds same says memory = record {
   cause = λ told. inr (inr memory);
   stops = λ told fault stops. absurd (held_not name f t fault (holds told) stops);
   can_come = subst IsOfTopology (sym memory) tt;
-  early = λ nw nm. same;
+  early = inr same;
   read_only = λ other. same;
   stopped = λ told fault stops. same;
   others = λ told. same;
@@ -127,7 +128,7 @@ came_made tells number f (Ok line) says memory = record {
   cause = λ told. tt;
   stops = λ told fault stops. absurd stops;
   can_come = tt;
-  early = λ nw nm. tt;
+  early = tt;
   read_only = λ other n. refl;
   stopped = λ told fault stops n. refl;
   others = λ told n. refl;
@@ -139,7 +140,7 @@ came_made tells number f (Err x) says memory = record {
   cause = λ told. inr memory;
   stops = λ told fault stops. absurd stops;
   can_come = memory;
-  early = λ nw nm n. refl;
+  early = inr (λ n. refl);
   read_only = λ other n. refl;
   stopped = λ told fault stops n. refl;
   others = λ told n. refl;
@@ -149,23 +150,23 @@ came_made tells number f (Err x) says memory = record {
 -- ---- the topology is played
 -- what comes of it, over the files before and after
 pub record PlaysOut (tells : Type 0) (trace : Bool) (seed : Option ℕ) (t : Topology) (o : Outcome) (old new : Files) : Type 0 where
-  pub good : tells → IfOk o (λ line. AreGood t.captures old)
+  pub good : tells → IfOk o (λ line. AreAllGood t.captures old)
   pub done : tells → IfOk o (λ line. IsPlayed (mode_for seed) trace (input_of t old) t.prefix old new (string_bytes line))
-  pub cause : tells → IfErr o (λ x. ((p : ℕ) × FirstFlaw t.captures old p x) ⊎ (x ≡ Read) ⊎ (x ≡ Write) ⊎ (x ≡ Memory))
-  pub stops : tells → (p : ℕ) (x : Fault) → FirstFlaw t.captures old p x → IsErrOf o x ⊎ IsErrOf o Read ⊎ IsErrOf o Memory
+  pub cause : tells → IfErr o (λ x. ((p : ℕ) × FirstFault t.captures old p x) ⊎ (x ≡ Read) ⊎ (x ≡ Write) ⊎ (x ≡ Memory))
+  pub stops : tells → (p : ℕ) (x : Fault) → FirstFault t.captures old p x → IsErrOf o x ⊎ IsErrOf o Read ⊎ IsErrOf o Memory
   pub causes : IfErr o IsOfPlaying
-  pub early : o ≢ Err Write → o ≢ Err Memory → OnErr o (SameFiles old new)
-  pub stopped : tells → (p : ℕ) (x : Fault) → FirstFlaw t.captures old p x → SameFiles old new
+  pub early : IfErr o (λ x. IsOfPlay x ⊎ SameFiles old new)
+  pub stopped : tells → (p : ℕ) (x : Fault) → FirstFault t.captures old p x → SameFiles old new
   pub others : tells → OnlyOutputs trace (shape_of t.setup) t.prefix old new
   pub fronts : tells → mode_for seed ≡ Eager → AreFrontsOf (input_of t old) t.prefix old new
 
 module _ (tells : Type 0) (name : List ℕ) (trace : Bool) (seed : Option ℕ) (t : Topology) (f h : Files) (holds : tells → HoldsTopology name f t) where
-  done-by : (o : Outcome) → IfOk o (λ line. AreGood t.captures f) → IfOk o (λ line. IsPlayed (mode_for seed) trace (input_of t f) t.prefix f h (string_bytes line)) → HoldsTopology name f t
+  done-by : (o : Outcome) → IfOk o (λ line. AreAllGood t.captures f) → IfOk o (λ line. IsPlayed (mode_for seed) trace (input_of t f) t.prefix f h (string_bytes line)) → HoldsTopology name f t
       → IfOk o (λ line. IsDone (Some (Run name trace seed)) f h (string_bytes line))
   done-by (Ok line) good played held = record { topology = t; ready = record { holds = held; good = good }; played = played }
   done-by (Err x) good played held = tt
 
-  cause-by : (o : Outcome) → IfErr o (λ x. ((p : ℕ) × FirstFlaw t.captures f p x) ⊎ (x ≡ Read) ⊎ (x ≡ Write) ⊎ (x ≡ Memory)) → HoldsTopology name f t
+  cause-by : (o : Outcome) → IfErr o (λ x. ((p : ℕ) × FirstFault t.captures f p x) ⊎ (x ≡ Read) ⊎ (x ≡ Write) ⊎ (x ≡ Memory)) → HoldsTopology name f t
       → IfErr o (λ x. Stops (Some (Run name trace seed)) f x ⊎ IsFailure (Some (Run name trace seed)) x)
   cause-by (Ok line) cause held = tt
   cause-by (Err x) (inl (p, first)) held = inl (inr (record { topology = t; holds = held; port = p; first = first }))
@@ -176,7 +177,7 @@ module _ (tells : Type 0) (name : List ℕ) (trace : Bool) (seed : Option ℕ) (
   comes (Err x) is = inr is
 
   -- the captures are at fault, since the topology isn't
-  first-by : (x : Fault) → HoldsTopology name f t → Stops (Some (Run name trace seed)) f x → (p : ℕ) × FirstFlaw t.captures f p x
+  first-by : (x : Fault) → HoldsTopology name f t → Stops (Some (Run name trace seed)) f x → (p : ℕ) × FirstFault t.captures f p x
   first-by x held (inl refused) = absurd (held_not name f t x held refused)
   first-by x held (inr faulty) = first_of name f t x held faulty
 

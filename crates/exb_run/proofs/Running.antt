@@ -1,7 +1,7 @@
 -- A topology that is run: what its plan writes is what is told of its external ports.
-use Rattle.std.proofs.Common.{◌≡◌, ◌≢◌, ◌+◌, ◌<◌, ◌==◌, ◌⊎◌, inl, inr, ℕ, Bool, true, false, List, [], ◌∷◌, Some, Result, Ok, Err, suc, All, refl, ap, sym, subst, ◌∙◌, arith, eq-eqb}
+use Rattle.std.proofs.Common.{◌≡◌, ◌+◌, ◌<◌, ◌==◌, inl, inr, ℕ, Bool, true, false, List, [], ◌∷◌, Some, Result, Ok, Err, suc, All, refl, ap, sym, subst, ◌∙◌, arith, eq-eqb}
 use mathlib.Core.Path.{fun_ext}
-use Rattle.std.specs.Prelude.{is_some, if◌then◌else◌, String, IfOk, IfErr, OnErr}
+use Rattle.std.specs.Prelude.{is_some, if◌then◌else◌, String, IfOk}
 use Rattle.std.specs.declared.alloc.Global.{Global}
 use Rattle.std.proofs.lemmas.Bool.{lt-ltb, le-ltb, eqb-true, ne_eqb}
 use Rattle.exb_model.specs.EagerHistory.{eager}
@@ -15,7 +15,6 @@ use Rattle.exb_shelf.specs.Files.{Files, SameFiles}
 use Rattle.exb_text.specs.Names.{capture_name, journal_name, trace_name}
 use Rattle.exb_tables.specs.declared.rows.Named.{Named}
 use Rattle.exb_run.specs.declared.fault.Fault.{Fault}
-use Rattle.exb_run.specs.declared.fault.Fault.TheVariants.{Write, Memory}
 use Rattle.exb_run.specs.Plans.{Planned, port_count, port_at, place_in}
 use Rattle.exb_run.specs.Inputs.{is_named, name_of}
 use Rattle.exb_run.specs.Outputs.{AreCutEagerly, AreFrontsOf, IsCut, OnlyOutputs, OnlyPlanned, IsPlayed, HasPlayed, output_name, output_text}
@@ -101,6 +100,18 @@ module _ (i : Input) (plan : Planned) (prefix : List ℕ) (same : plan.prefix �
         (cut (port_count plan) (omega arith)));
   }
 
+-- the name of a capture is one of which this is told of all
+pub name_by : (P : List ℕ → Type 0) (names : List Named) (q : ℕ) (name : List ℕ) → All (λ x. P x.name) names → name_of names q ≡ Some name → P name
+name_by P [] q name all is = absurd (cc)
+name_by P (x ∷ xs) q name all is = by_port (name_by P xs q name (λ k d low. all (suc k) d (omega arith))) (x.port == q) is
+  where
+    by_port : (name_of xs q ≡ Some name → P name) → (b : Bool) → (if b then Some x.name else name_of xs q) ≡ Some name → P name
+    by_port rest true is' = subst P (own is') (all 0 x (omega arith))
+      where
+        own : Some x.name ≡ Some name → x.name ≡ name
+        own e = cc
+    by_port rest false is' = rest is'
+
 -- a capture that is named has a port of which this is told of all
 pub named_by : (test : ℕ → Bool) (names : List Named) (q : ℕ) → All (λ x. test x.port ≡ true) names → is_named names q ≡ true → test q ≡ true
 named_by test [] q all is = absurd (cc)
@@ -113,12 +124,6 @@ named_by test (x ∷ xs) q all is = by_port (named_by test xs q (λ k d low. all
 -- ---- how a run of a topology ends
 abbrev pub Outcome : Type 0
 Outcome = Result (String Global) Fault
-
--- a failure alone
-pub early_by : (o : Outcome) (P : Type 0) → IfErr o (λ x. (x ≡ Write) ⊎ (x ≡ Memory)) → o ≢ Err Write → o ≢ Err Memory → OnErr o P
-early_by (Ok line) P cause nw nm = tt
-early_by (Err x) P (inl w) nw nm = absurd (nw (ap Err w))
-early_by (Err x) P (inr m) nw nm = absurd (nm (ap Err m))
 
 pub if_ok_map : {P Q : String Global → Type 0} (o : Outcome) → ((line : String Global) → P line → Q line) → IfOk o P → IfOk o Q
 if_ok_map (Ok line) f p = f line p

@@ -7,10 +7,10 @@ use Rattle.exb_topology.specs.Topologies.{topology_of}
 use Rattle.exb_words.specs.Words.{Ask, Run, Check, Make}
 use Rattle.exb_run.specs.declared.fault.Fault.{Fault}
 use Rattle.exb_run.specs.declared.fault.Fault.TheVariants.{Read, Write, Memory}
-use Rattle.exb_run.specs.Flaws.{FirstFlaw}
+use Rattle.exb_run.specs.Checks.{FirstFault}
 use Rattle.exb_run.specs.Answers.{HoldsTopology, CanBeDone, CaptureFaulty, IsFailure, IsRefused, Stops, refused_by}
 use Rattle.exb_run.proofs.Asking.{err_once, ok_or_err, holds_once, captures_same}
-use Rattle.exb_run.proofs.FlawLemmas.{first_none}
+use Rattle.exb_run.proofs.FaultLemmas.{first_none}
 
 -- a topology file is refused for one cause
 pub refused_once : (name : List ℕ) (o : Option (List ℕ)) (x y : Fault) → IsRefused name o x → IsRefused name o y → x ≡ y
@@ -25,10 +25,10 @@ held_not name file t x holds is = by_bytes (subst (λ (o : Option (List ℕ)). I
     by_bytes (refusal, refused, is') = ok_or_err _ _ _ holds.read refused
 
 -- a capture that stops a run is one of the topology that was read
-pub first_of : (name : List ℕ) (file : Files) (t : Topology) (x : Fault) → HoldsTopology name file t → CaptureFaulty name file x → (p : ℕ) × FirstFlaw t.captures file p x
+pub first_of : (name : List ℕ) (file : Files) (t : Topology) (x : Fault) → HoldsTopology name file t → CaptureFaulty name file x → (p : ℕ) × FirstFault t.captures file p x
 first_of name file t x holds faulty = (
   faulty.port,
-  subst (λ (names : List Named). FirstFlaw names file faulty.port x) (captures_same faulty.topology t (holds_once name file faulty.topology t faulty.holds holds)) faulty.first,
+  subst (λ (names : List Named). FirstFault names file faulty.port x) (captures_same faulty.topology t (holds_once name file faulty.topology t faulty.holds holds)) faulty.first,
 )
 
 -- nothing stops what can be done

@@ -31,7 +31,7 @@ use Rattle.exb_run.specs.declared.fault.Fault.{Fault}
 use Rattle.exb_run.specs.declared.fault.Fault.TheVariants.{Usage, Missing, Topology as BadTopology, Capture, Changed, Read, Write, Memory}
 use Rattle.exb_run.specs.Inputs.{input_of}
 use Rattle.exb_run.specs.Outputs.{AreFrontsOf, IsPlayed, OnlyOutputs}
-use Rattle.exb_run.specs.Flaws.{AreGood, FirstFlaw}
+use Rattle.exb_run.specs.Checks.{AreAllGood, FirstFault}
 
 -- ---- what is asked for
 -- what words ask for, where they are accepted
@@ -47,7 +47,7 @@ pub record HoldsTopology (name : List ℕ) (file : Files) (t : Topology) : Type 
 -- and each capture that it names can be played
 pub record IsReady (name : List ℕ) (file : Files) (t : Topology) : Type 0 where
   pub holds : HoldsTopology name file t
-  pub good : AreGood t.captures file
+  pub good : AreAllGood t.captures file
 
 -- what is asked for can be done
 abbrev pub CanBeDone : Option Ask → Files → Type 0
@@ -145,7 +145,7 @@ pub record CaptureFaulty (name : List ℕ) (file : Files) (fault : Fault) : Type
   pub topology : Topology
   pub holds : HoldsTopology name file topology
   pub port : ℕ
-  pub first : FirstFlaw topology.captures file port fault
+  pub first : FirstFault topology.captures file port fault
 
 -- this stops what is asked for, the first in the order in which things are looked at: the words, the topology, and where it
 -- is played its captures

@@ -1,5 +1,5 @@
 -- What a run is given: its topology, the captures that this names, and the input that they make.
-use Rattle.std.specs.Prelude.{ℕ, Bool, ◌==◌, if◌then◌else◌, List, [], ◌∷◌, Option, Some, None, map, filter, is_some}
+use Rattle.std.specs.Prelude.{ℕ, Bool, ◌==◌, if◌then◌else◌, List, [], ◌∷◌, Option, Some, None, map, is_some}
 use Rattle.exb_model.specs.declared.setup.Setup.{Setup}
 use Rattle.exb_model.specs.declared.setup.Timed.{Timed}
 use Rattle.exb_model.specs.Input.{Input, Record, given_by}
@@ -39,12 +39,3 @@ input_from setup commands names file = record { setup = setup; commands = map gi
 -- the input of a topology and of the captures that it names
 abbrev pub input_of : Topology → Files → Input
 input_of t file = input_from t.setup t.commands t.captures file
-
--- ---- captures that were read
--- a port and the bytes of its capture
-abbrev pub Taken : Type 0
-Taken = ℕ × List ℕ
-
--- the captures of those of some ports that have one
-abbrev pub captures_of : List Named → Files → List ℕ → List Taken
-captures_of names file ports = map (λ q. (q, bytes_at names file q)) (filter (is_named names) ports)

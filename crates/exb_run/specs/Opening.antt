@@ -9,7 +9,7 @@ use Rattle.exb_tables.specs.declared.rows.Named.{Named}
 use Rattle.exb_topology.specs.declared.topology.Topology.{Topology}
 use Rattle.exb_words.specs.Words.{Ask, Run, Check, Make}
 use Rattle.exb_run.specs.Inputs.{name_of}
-use Rattle.exb_run.specs.Flaws.{AreGood}
+use Rattle.exb_run.specs.Checks.{AreAllGood}
 use Rattle.exb_run.specs.Answers.{HoldsTopology, IsReady}
 
 -- an id to read the capture of a port that is named
@@ -55,7 +55,7 @@ pub record WritesOutput (traced : Bool) (t : Topology) (i : Id) : Type 0 where
 
 -- the files that a run of a topology may open: its captures, and where these are good, its outputs
 abbrev pub IsOpenedFor : Bool → Topology → Files → Id → Type 0
-IsOpenedFor traced t file i = ReadsCapture t.captures i ⊎ (AreGood t.captures file × WritesOutput traced t i)
+IsOpenedFor traced t file i = ReadsCapture t.captures i ⊎ (AreAllGood t.captures file × WritesOutput traced t i)
 
 -- an id to write an output of the topology in the file of this name, where that and its captures can be played
 pub record MakesOutputOf (name : List ℕ) (traced : Bool) (file : Files) (i : Id) : Type 0 where
@@ -69,13 +69,13 @@ MakesOutput (Some (Run name trace seed)) file i = MakesOutputOf name trace file 
 MakesOutput _ file i = ⊥
 
 -- Which files are opened: none where the words are not accepted or an input is made, the topology alone where it is refused or
--- checked, and files to be written at statuses 0, 1 and 7 alone. Where files are told, none is read but the topology and its
+-- checked, and files to be written at statuses 0, 1, 6, 7 and 10 alone. Where files are told, none is read but the topology and its
 -- captures, and none is made but its outputs.
 pub record OpensBy (tells : Type 0) (status : ℕ) (a : Option Ask) (file : Files) (given ids : ℕ → Id) : Type 0 where
   pub nothing : a ≡ None → (j : ℕ) → ids j ≡ given j
   pub made : (number : ℕ) → a ≡ Some (Make number) → (j : ℕ) → ids j ≡ given j
   pub topology : status ≡ 3 → Opens (ReadsTopology a) given ids
   pub checked : (name : List ℕ) → a ≡ Some (Check name) → Opens (ReadsTopology a) given ids
-  pub reads : status ≢ 0 → status ≢ 1 → status ≢ 7 → Opens IsReading given ids
-  pub wanted : tells → status ≢ 0 → status ≢ 1 → status ≢ 7 → Opens (IsWanted a file) given ids
+  pub reads : status ≢ 0 → status ≢ 1 → status ≢ 6 → status ≢ 7 → status ≢ 10 → Opens IsReading given ids
+  pub wanted : tells → status ≢ 0 → status ≢ 1 → status ≢ 6 → status ≢ 7 → status ≢ 10 → Opens (IsWanted a file) given ids
   pub only : tells → Opens (λ i. IsWanted a file i ⊎ MakesOutput a file i) given ids

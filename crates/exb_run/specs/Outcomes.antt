@@ -1,12 +1,13 @@
 -- What comes of all that is done but printing.
-use Rattle.std.specs.Prelude.{◌≡◌, ◌≢◌, ◌⊎◌, Option, Some, None, Result, Err, IfOk, IfErr, OnErr, IsErrOf, String, string_bytes}
+use Rattle.std.specs.Prelude.{◌≡◌, ◌⊎◌, Option, Some, None, Result, IfOk, IfErr, IsErrOf, String, string_bytes}
 use Rattle.std.specs.declared.alloc.Global.{Global}
 use Rattle.exb_shelf.specs.Files.{Files, SameFiles}
 use Rattle.exb_words.specs.Words.{Ask, Run, Check, Make}
 use Rattle.exb_run.specs.declared.fault.Fault.{Fault}
-use Rattle.exb_run.specs.declared.fault.Fault.TheVariants.{Usage, Read, Write, Memory}
+use Rattle.exb_run.specs.declared.fault.Fault.TheVariants.{Usage, Read, Memory}
 use Rattle.exb_run.specs.Answers.{AreFronts, IsDone, IsFailure, IsRun, OnlyAsked, Stops}
 use Rattle.exb_run.specs.Reading.{IsOfTopology, IsOfPlaying}
+use Rattle.exb_run.specs.Shelving.{IsOfPlay}
 
 -- a fault that can come where this is asked for
 abbrev pub CanCome : Option Ask → Fault → Type 0
@@ -22,7 +23,7 @@ pub record CameOut (tells : Type 0) (a : Option Ask) (o : Result (String Global)
   pub cause : tells → IfErr o (λ fault. Stops a old fault ⊎ IsFailure a fault)
   pub stops : tells → (fault : Fault) → Stops a old fault → IsErrOf o fault ⊎ IsErrOf o Read ⊎ IsErrOf o Memory
   pub can_come : IfErr o (CanCome a)
-  pub early : o ≢ Err Write → o ≢ Err Memory → OnErr o (SameFiles old new)
+  pub early : IfErr o (λ fault. IsOfPlay fault ⊎ SameFiles old new)
   pub read_only : ¬ IsRun a → SameFiles old new
   pub stopped : tells → (fault : Fault) → Stops a old fault → SameFiles old new
   pub others : tells → OnlyAsked a old new

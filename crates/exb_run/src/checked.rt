@@ -1,15 +1,16 @@
 //! Checking the captures.
-ghost use Rattle.std.specs.Prelude.{◌≡◌, ◌<◌, ◌≤◌, ◌⊎◌, ℕ, IfOk, OnOk, IfErr};
+ghost use Rattle.std.specs.Prelude.{◌≡◌, ◌<◌, ◌≤◌, ◌*◌, ◌^◌, ◌⊎◌, ℕ, None, Some, IfOk, OnOk, IfErr, IfSome, IfNone};
 ghost use Rattle.exb_shelf.specs.Files.{SameFiles};
 ghost use Rattle.exb_shelf.specs.Shelf.{IsReadingOf, Opens};
 ghost use Rattle.exb_run.specs.Checks.{AreAllGood, AreChecked, FirstFault, HasFault, IsGood, most_bytes};
+ghost use Rattle.exb_run.specs.Inputs.{name_of};
 ghost use Rattle.exb_run.specs.Opening.{ReadsCapture};
 ghost use Rattle.exb_run.specs.Reading.{IsOfCapture};
 ghost use Rattle.exb_run.specs.Shelving.{CountsFaults};
 
-use crate::captures::{missing, name_of, port_of};
 use crate::fault::{Fault, Flaw};
 use exb_model::port::PortId;
+use exb_model::text::Text;
 use exb_scan::{ScanFault, Scanned, scan};
 use exb_shelf::Shelf;
 use exb_tables::Named;
@@ -28,6 +29,37 @@ pub(crate) struct Checked {
     pub(crate) told: Scanned,
 }
 
+/// The port of a number.
+fn port_of(number: u16) -> PortId
+    requires { number < 4160 }
+    ensures { result ≡ number }
+{
+    PortId::new(number).unwrap()
+}
+
+/// The name of the file with the capture of a port, if it has one.
+pub(crate) fn name_of(names: &[Named], port: PortId) -> Option<&str>
+    ensures found { IfSome result (λ name. name_of names.now port ≡ Some name.now) }
+    ensures none { IfNone result (name_of names.now port ≡ None) }
+{
+    'looking: for named in names {
+        if named.port == port {
+            return Some(named.name.as_str());
+        }
+    }
+    None
+}
+
+/// The fault of a file of this name that is not there.
+pub(crate) fn missing(alloc: Global, name: &str) -> Fault
+    ensures { (result ≡ Fault.Missing name.now) ⊎ (result ≡ Fault.Memory) }
+{
+    match Text::from_str(alloc, name) {
+        Ok(name) => Fault::Missing { name },
+        Err(_) => Fault::Memory,
+    }
+}
+
 /// Checks the capture of a port.
 fn check_capture<S: Shelf>(
     alloc: Global,
@@ -38,6 +70,7 @@ fn check_capture<S: Shelf>(
     requires port { port < 4160 }
     ensures port { IfOk result (λ checked. checked.port ≡ port) }
     ensures small { IfOk result (λ checked. checked.told.bytes ≤ most_bytes) }
+    ensures in_time { IfOk result (λ checked. IfSome checked.told.first (λ first. first < 2 ^ 32 * 1_000_000_000)) }
     ensures good { S.tells → IfOk result (λ checked. IsGood (S.file shelf.old name.now) checked.told) }
     ensures flaw { S.tells → IfErr result (λ fault. HasFault port name.now (S.file shelf.old name.now) fault ⊎ (fault ≡ Fault.Read) ⊎ (fault ≡ Fault.Memory)) }
     ensures causes { IfErr result IsOfCapture }

@@ -3,7 +3,6 @@
 //! and extenders through `exb_schedule` alone, and files through `exb_shelf`'s traits.
 #![tactic(auto)]
 
-mod captures;
 mod check;
 mod checked;
 mod fault;

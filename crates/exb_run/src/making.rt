@@ -1,33 +1,58 @@
 //! Playing an input that is made from a number.
-ghost use Rattle.std.specs.Prelude.{◌≡◌, ◌<◌, ◌^◌, map, IfOk, IfErr, string_bytes};
+ghost use Rattle.std.specs.Prelude.{◌≡◌, ◌<◌, ◌^◌, IfOk, IfErr, OnOk, string_bytes};
 ghost use Rattle.exb_made.specs.Made.{made};
+ghost use Rattle.exb_shelf.specs.Memory.{scratch_files};
 ghost use Rattle.exb_run.specs.Answers.{eager_summary};
-ghost use Rattle.exb_run.specs.Reading.{taken_of};
+ghost use Rattle.exb_run.specs.Scratch.{KeepsFirst, KeepsMore};
 
-use crate::captures::Capture;
+use crate::checked::check_captures;
 use crate::fault::Fault;
 use crate::plan::Plan;
 use crate::play::play;
 use crate::script::{Schedule, Script};
 use exb_fate::Fate;
 use exb_made::laws::arrives_at_externals;
-use exb_made::make;
+use exb_made::{Capture, make};
 use exb_model::memory::NoMemory;
+use exb_model::text::Text;
 use exb_shelf::ScratchShelf;
+use exb_tables::Named;
 use std::alloc::Global;
 
-/// Captures that were made, as those that are read.
-fn taken(alloc: Global, made: Vec<exb_made::Capture>) -> Result<Vec<Capture>, NoMemory>
-    ensures { IfOk result (λ captures. captures.items ≡ map taken_of made.items) }
+/// What the names of all files begin with that are written: none is the name of a capture that was made.
+const PREFIX: &str = "out/";
+
+/// Puts a capture on a shelf, and names it behind others.
+fn put_one(
+    alloc: Global,
+    shelf: &mut ScratchShelf,
+    capture: &Capture,
+    names: &mut Vec<Named>,
+) -> Result<(), NoMemory>
+    ensures { OnOk result (KeepsMore capture.now names.old.items names.new.items (scratch_files shelf.old) (scratch_files shelf.new)) }
 {
-    let mut captures = Vec::new(alloc);
-    for capture in made {
-        captures.push(Capture {
-            port: capture.port,
-            file: capture.file,
-        })?;
+    let port = capture.port;
+    let number = port.number();
+    let name = format!(in alloc; "in/{number}")?;
+    shelf.put(name.as_str(), capture.file.as_slice())?;
+    let name = Text::from_str(alloc, name.as_str())?;
+    names.push(Named { port, name })?;
+    Ok(())
+}
+
+/// Puts captures on a shelf, and names them.
+fn put_all(
+    alloc: Global,
+    shelf: &mut ScratchShelf,
+    captures: &[Capture],
+) -> Result<Vec<Named>, NoMemory>
+    ensures { IfOk result (λ names. KeepsFirst captures.now captures.now names.items (scratch_files shelf.new)) }
+{
+    let mut names = Vec::new(alloc);
+    'putting: for capture in captures {
+        put_one(alloc, shelf, capture, &mut names)?;
     }
-    Ok(captures)
+    Ok(names)
 }
 
 /// Plays the input of a number on files in memory, and answers the summary line.
@@ -38,20 +63,22 @@ pub(crate) fn make_input(alloc: Global, number: u64, fate: Box<dyn Fate>) -> Res
 {
     arrives_at_externals();
     let input = make(alloc, number)?;
-    let captures = taken(alloc, input.captures)?;
-    let plan = Plan::new(alloc, &input.setup, "", false)?;
+    let mut shelf = ScratchShelf::new(alloc);
+    let names = put_all(alloc, &mut shelf, input.captures.as_slice())?;
+    let checked = check_captures(alloc, &mut shelf, names.as_slice())?;
+    let plan = Plan::new(alloc, &input.setup, PREFIX, false)?;
     let script = Script {
         setup: &input.setup,
         commands: input.commands.as_slice(),
         fate: &[],
     };
-    let mut shelf = ScratchShelf::new(alloc);
     play(
         alloc,
         &mut shelf,
         &plan,
         &script,
-        captures.as_slice(),
+        names.as_slice(),
+        checked.as_slice(),
         Schedule::Eager,
         fate,
     )

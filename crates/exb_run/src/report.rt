@@ -99,6 +99,10 @@ fn fault_line(alloc: Global, fault: &Fault) -> Result<String, AllocError>
             let text = flaw_text(alloc, *flaw)?;
             capture_line(alloc, *port, text.as_str())
         }
+        Fault::Changed { port, at } => {
+            let text = format!(in alloc; "Changed at {at}")?;
+            capture_line(alloc, *port, text.as_str())
+        }
         Fault::Usage => String::from_str(alloc, USAGE),
         Fault::Read => format!(in alloc; "exbr: read fault\n"),
         Fault::Write => format!(in alloc; "exbr: write fault\n"),
@@ -152,6 +156,7 @@ fn fault_status(fault: &Fault) -> u8
         Fault::Missing { .. } => 5,
         Fault::Read => 6,
         Fault::Write => 7,
+        Fault::Changed { .. } => 10,
     }
 }
 

@@ -1,5 +1,5 @@
 //! The top call.
-ghost use Rattle.std.specs.Prelude.{◌≡◌, ◌≢◌, ◌<◌, ◌++◌, ◌⊎◌, ◌^◌, ℕ, List, Some, None, Ok, Err, codes, string_bytes, IfOk, IfErr, OnErr, IsErrOf};
+ghost use Rattle.std.specs.Prelude.{◌≡◌, ◌≢◌, ◌<◌, ◌++◌, ◌⊎◌, ◌^◌, ℕ, List, Some, None, string_bytes, IfOk, IfErr, IsErrOf};
 ghost use Rattle.exb_made.specs.Made.{made};
 ghost use Rattle.exb_model.specs.Input.{Eager};
 ghost use Rattle.exb_model.specs.Setup.{IsValid, shape_of};
@@ -10,16 +10,16 @@ ghost use Rattle.exb_words.specs.Words.{Run, Make};
 ghost use Rattle.exb_run.specs.declared.fault.Fault.{Fault};
 ghost use Rattle.exb_run.specs.Inputs.{input_of};
 ghost use Rattle.exb_run.specs.Outputs.{AreFrontsOf, IsPlayed, OnlyOutputs};
-ghost use Rattle.exb_run.specs.Flaws.{AreGood, FirstFlaw};
+ghost use Rattle.exb_run.specs.Checks.{AreAllGood, FirstFault};
 ghost use Rattle.exb_run.specs.Opening.{ReadsCapture, IsOpenedFor, OpensBy};
-ghost use Rattle.exb_run.specs.Shelving.{CountsFaults};
+ghost use Rattle.exb_run.specs.Shelving.{CountsFaults, IsOfPlay};
 ghost use Rattle.exb_run.specs.Reading.{IsOfPlaying};
 ghost use Rattle.exb_run.specs.Answers.{asked, mode_for, AreFronts, eager_summary, IsDone, IsRun, CanBeDone, OnlyAsked, Stops, StopsWith, fault_status, status_of, fault_line, IsText, IsOfInput, RoseBy, SaysBy, IsStatus};
 ghost use Rattle.exb_run.specs.Outcomes.{CameOut};
 ghost use Rattle.exb_run.specs.Playing.{mode_of};
 
-use crate::captures::read_captures;
 use crate::check::check_topology;
+use crate::checked::check_captures;
 use crate::fault::Fault;
 use crate::making::make_input;
 use crate::plan::Plan;
@@ -43,7 +43,7 @@ fn schedule_of(seed: Option<u64>) -> Schedule
     }
 }
 
-/// Reads and checks the captures of a topology, plays them, and answers the summary line.
+/// Checks the captures of a topology, plays them, and answers the summary line.
 fn play_topology<S: Shelf>(
     alloc: Global,
     shelf: &mut S,
@@ -55,7 +55,7 @@ fn play_topology<S: Shelf>(
     requires valid { IsValid topology.now.setup }
     requires sound { IsSound topology.now }
     requires fate { left fate < 2 ^ 56 }
-    ensures good { S.tells → IfOk result (λ line. AreGood topology.now.captures (S.file shelf.old)) }
+    ensures good { S.tells → IfOk result (λ line. AreAllGood topology.now.captures (S.file shelf.old)) }
     ensures done { S.tells → IfOk result (λ line.
         IsPlayed (mode_for seed) trace (input_of topology.now (S.file shelf.old)) topology.now.prefix
         (S.file shelf.old) (S.file shelf.new) (string_bytes line)) }
@@ -64,22 +64,21 @@ fn play_topology<S: Shelf>(
 
     // Each fault has its cause.
     ensures cause { S.tells → IfErr result (λ fault.
-        ((p : ℕ) × FirstFlaw topology.now.captures (S.file shelf.old) p fault) ⊎ (fault ≡ Fault.Read) ⊎ (fault ≡ Fault.Write) ⊎ (fault ≡ Fault.Memory)) }
-    ensures stops { S.tells → (p : ℕ) (fault : Fault) → FirstFlaw topology.now.captures (S.file shelf.old) p fault
+        ((p : ℕ) × FirstFault topology.now.captures (S.file shelf.old) p fault) ⊎ (fault ≡ Fault.Read) ⊎ (fault ≡ Fault.Write) ⊎ (fault ≡ Fault.Memory)) }
+    ensures stops { S.tells → (p : ℕ) (fault : Fault) → FirstFault topology.now.captures (S.file shelf.old) p fault
         → IsErrOf result fault ⊎ IsErrOf result Fault.Read ⊎ IsErrOf result Fault.Memory }
     ensures causes { IfErr result IsOfPlaying }
 
     // What stays, and what is opened.
-    ensures early { result ≢ Err Fault.Write → result ≢ Err Fault.Memory → OnErr result (SameFiles (S.file shelf.old) (S.file shelf.new)) }
-    ensures stopped { S.tells → (p : ℕ) (fault : Fault) → FirstFlaw topology.now.captures (S.file shelf.old) p fault
+    ensures early { IfErr result (λ fault. IsOfPlay fault ⊎ SameFiles (S.file shelf.old) (S.file shelf.new)) }
+    ensures stopped { S.tells → (p : ℕ) (fault : Fault) → FirstFault topology.now.captures (S.file shelf.old) p fault
         → SameFiles (S.file shelf.old) (S.file shelf.new) }
     ensures others { S.tells → OnlyOutputs trace (shape_of topology.now.setup) topology.now.prefix (S.file shelf.old) (S.file shelf.new) }
-    ensures opened { result ≢ Err Fault.Write → result ≢ Err Fault.Memory
-        → OnErr result (Opens (ReadsCapture topology.now.captures) (S.ids shelf.old) (S.ids shelf.new)) }
+    ensures opened { IfErr result (λ fault. IsOfPlay fault ⊎ Opens (ReadsCapture topology.now.captures) (S.ids shelf.old) (S.ids shelf.new)) }
     ensures played { S.tells → Opens (IsOpenedFor trace topology.now (S.file shelf.old)) (S.ids shelf.old) (S.ids shelf.new) }
     ensures faults { CountsFaults result (S.faults shelf.old) (S.faults shelf.new) }
 {
-    let captures = read_captures(alloc, shelf, topology.captures.as_slice())?;
+    let checked = check_captures(alloc, shelf, topology.captures.as_slice())?;
     let plan = Plan::new(alloc, &topology.setup, topology.prefix.as_str(), trace)?;
     let script = Script {
         setup: &topology.setup,
@@ -92,7 +91,8 @@ fn play_topology<S: Shelf>(
         shelf,
         &plan,
         &script,
-        captures.as_slice(),
+        topology.captures.as_slice(),
+        checked.as_slice(),
         schedule,
         fate,
     )
@@ -162,7 +162,7 @@ pub fn run<S: Shelf, O: Sink>(
     ensures makes { (number : ℕ) → asked words.now ≡ Some (Make number) → O.tells → result ≡ 0
         → O.text out.new ≡ O.text out.old ++ eager_summary (made number) }
     // 2: exactly where the words are not accepted. 3, 4 and 5: exactly by the first fault of the topology and of
-    // the captures that it names. 5, 6 and 7: only where a count of faults rose.
+    // the captures that it names. 5, 6 and 7: only where a count of faults rose. 10: never where the files are told.
     ensures two { result ≡ 2 → asked words.now ≡ None }
     ensures usage { asked words.now ≡ None → result ≢ 1 → result ≢ 7 → result ≡ 2 }
     ensures usage_seven { asked words.now ≡ None → result ≡ 7 → Rose (O.faults out.old) (O.faults out.new) }
@@ -171,6 +171,7 @@ pub fn run<S: Shelf, O: Sink>(
         → result ≢ 1 → result ≢ 6 → result ≢ 7 → result ≡ fault_status fault }
     ensures stops_seven { S.tells → (fault : Fault) → Stops (asked words.now) (S.file shelf.old) fault
         → result ≡ 7 → Rose (O.faults out.old) (O.faults out.new) }
+    ensures ten_never { S.tells → result ≢ 10 }
     ensures rose { RoseBy (asked words.now) result (S.faults shelf.old) (S.faults shelf.new) (O.faults out.old) (O.faults out.new) }
     ensures status { IsStatus (asked words.now) result }
     // What is printed: the text of the status and nothing else, and a front of one text where printing ended early.
@@ -181,7 +182,7 @@ pub fn run<S: Shelf, O: Sink>(
         → (text : List ℕ) × IsText (asked words.now) (S.file shelf.old) (S.file shelf.new) (S.faults shelf.old) (S.faults shelf.new) text
         × AppendsFront (O.text out.old) (O.text out.new) text }
     // What stays, what was written where it ended early, and which files are opened.
-    ensures early { result ≢ 0 → result ≢ 1 → result ≢ 7 → SameFiles (S.file shelf.old) (S.file shelf.new) }
+    ensures early { result ≢ 0 → result ≢ 1 → result ≢ 6 → result ≢ 7 → result ≢ 10 → SameFiles (S.file shelf.old) (S.file shelf.new) }
     ensures read_only { ¬ IsRun (asked words.now) → SameFiles (S.file shelf.old) (S.file shelf.new) }
     ensures stopped { S.tells → (fault : Fault) → Stops (asked words.now) (S.file shelf.old) fault → SameFiles (S.file shelf.old) (S.file shelf.new) }
     ensures others { S.tells → OnlyAsked (asked words.now) (S.file shelf.old) (S.file shelf.new) }

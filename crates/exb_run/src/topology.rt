@@ -9,7 +9,7 @@ ghost use Rattle.exb_run.specs.Answers.{HoldsTopology, IsRefusal, IsRefused, fau
 ghost use Rattle.exb_run.specs.Reading.{IsOfTopology};
 ghost use Rattle.exb_run.specs.Shelving.{CountsFaults};
 
-use crate::captures::missing;
+use crate::checked::missing;
 use crate::fault::Fault;
 use crate::weight::is_heavy;
 use exb_keys::faults::TopoFault;

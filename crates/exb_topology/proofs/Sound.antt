@@ -1,17 +1,22 @@
 -- A topology that a file gives is sound, by the definition alone.
-use Rattle.std.proofs.Common.{◌≡◌, ℕ, zero, suc, ◌+◌, ◌<◌, ◌≤◌, Bool, true, false, List, [], ◌∷◌, ◌++◌, length, get_or, All, map, Result, Ok, Err, refl, sym, ap, subst, ◌∙◌, arith}
+use Rattle.std.proofs.Common.{◌≡◌, ◌≢◌, ℕ, zero, suc, ◌+◌, ◌<◌, ◌≤◌, Bool, true, false, List, [], ◌∷◌, ◌++◌, length, get_or, take, All, map, Result, Ok, Err, refl, sym, ap, subst, ◌∙◌, arith}
 use Rattle.std.specs.Prelude.{codes, IfOk}
-use Rattle.std.specs.List.{sum_by}
-use Rattle.std.proofs.lemmas.Bool.{not-false}
-use Rattle.std.proofs.lemmas.List.{length-map}
+use Rattle.std.specs.List.{list_any, sum_by}
+use Rattle.std.specs.Str.{bytes_eq}
+use Rattle.std.proofs.lemmas.Bool.{not-false, false≢true, false_from_ne_true}
+use Rattle.std.proofs.lemmas.Bool.Decides.{not_from_Decides}
+use Rattle.std.proofs.lemmas.List.{length-map, length-append, get_or-map, get_or_append_left, get_or-append-add}
+use Rattle.std.proofs.lemmas.List.Folds.{list_any_at}
+use Rattle.std.proofs.lemmas.Slice.Eq.{bytes_eq-Decides}
 use Rattle.exb_model.specs.declared.command.Command.{Command}
 use Rattle.exb_model.specs.declared.command.Command.TheVariants as command
 use Rattle.exb_model.specs.declared.setup.ExtenderSetup.{ExtenderSetup}
 use Rattle.exb_model.specs.declared.setup.Setup.{Setup}
 use Rattle.exb_model.specs.declared.setup.Timed.{Timed}
 use Rattle.exb_model.specs.declared.setup.Verdict.{Verdict}
-use Rattle.exb_model.specs.Tree.{Shape, is_external}
+use Rattle.exb_model.specs.Tree.{Shape, is_external, external_ports}
 use Rattle.exb_model.specs.Setup.{NamesExternal, shape_of}
+use Rattle.exb_text.specs.Names.{capture_name, journal_name, trace_name}
 use Rattle.exb_keys.specs.declared.faults.KeyFault.TheVariants as fault
 use Rattle.exb_keys.specs.declared.faults.TopoFault.{TopoFault}
 use Rattle.exb_keys.specs.Faults.{Refusal, ◌>>=◌, GivesSeen, in_element}
@@ -29,7 +34,7 @@ use Rattle.exb_topology.specs.Trees.{tree_ok}
 use Rattle.exb_topology.specs.Checks.{ports_ok, port_ok, words_ok, port_table_ok, vlans_ok, static_ok, action_ok, command_ok, capture_ok, capture_key, file_ok, output_names}
 use Rattle.exb_topology.specs.Seen.{Seen, set_vlan, put_member, take_member, set_pvid, set_accept, set_filter, set_isolated, put_static, take_static, go_up, go_down, seen, TimedSeen, timed_view}
 use Rattle.exb_topology.specs.Topologies.{TopologySeen, topology_view, topology_of, topology_seen, resolved, bare, deed, command_seen}
-use Rattle.exb_topology.specs.Sound.{IsSound, ReadIsSound}
+use Rattle.exb_topology.specs.Sound.{IsApart, IsSound, ReadIsSound}
 use Rattle.exb_topology.proofs.Checking.{ok_at, both_ok, refuse_ok}
 use Rattle.exb_topology.proofs.Starting.{AreOut, listed_out, Each, each_from}
 
@@ -45,6 +50,35 @@ shape_alone s = refl
 
 port_passed : (t : Shape) (key : List ℕ) (p : ℕ) → port_ok t key p ≡ Ok tt → is_external t p ≡ true
 port_passed t key p ok = not-false (is_external t p) (refuse_ok _ fault.UnknownPort key ok)
+
+-- ---- names of files
+
+-- where no element passes, each one is refused
+none_pass : {X : Type 0} (test : X → Bool) (xs : List X) → list_any test xs ≡ false → (k : ℕ) (d : X) → k < length xs → test (get_or xs k d) ≡ false
+none_pass test xs none k d low = false_from_ne_true (test (get_or xs k d)) (λ is. false≢true (sym none ∙ list_any_at test xs k d low is))
+
+differ : (name other : List ℕ) → bytes_eq name other ≡ false → name ≢ other
+differ name other = not_from_Decides (bytes_eq name other) (bytes_eq-Decides name other)
+
+apart_from : (t : Shape) (prefix name : List ℕ) → list_any (λ o. bytes_eq name o) (output_names prefix t) ≡ false → IsApart t prefix name
+unfolding trace_name
+apart_from t prefix name none =
+    let captures : List (List ℕ) = map (capture_name prefix) (external_ports t) in
+    let all : length (output_names prefix t) ≡ length (external_ports t) + 3 = length-append captures _ ∙ ap (λ n. n + 3) (length-map (external_ports t) (capture_name prefix)) in
+    let others : (k : ℕ) → k < 3 → bytes_eq name (get_or (output_names prefix t) (length captures + k) []) ≡ false = λ k low. none_pass (bytes_eq name) (output_names prefix t) none (length captures + k) [] (omega (arith, low, all, length-map (external_ports t) (capture_name prefix))) in
+    record {
+      captures = λ k d low.
+        differ name (capture_name prefix (get_or (external_ports t) k d)) (subst (λ o. bytes_eq name o ≡ false)
+        (get_or_append_left captures _ [] k (omega (arith, low, length-map (external_ports t) (capture_name prefix))) ∙ get_or-map (capture_name prefix) (external_ports t) k d [] low)
+        (none_pass (bytes_eq name) (output_names prefix t) none k [] (omega (arith, low, all))));
+      journal = differ name (journal_name prefix) (subst (λ o. bytes_eq name o ≡ false) (get_or-append-add captures _ 0 []) (others 0 (omega arith)));
+      trace = differ name (trace_name prefix) (subst (λ o. bytes_eq name o ≡ false) (get_or-append-add captures _ 1 []) (others 1 (omega arith)));
+    }
+
+files_apart : (t : Shape) (prefix : List ℕ) (all : List Named) → each_ok (file_ok (output_names prefix t)) all 0 all ≡ Ok tt → All (λ x. IsApart t prefix x.name) all
+files_apart t prefix all ok k d low =
+    let passed : file_ok (output_names prefix t) (take k all) k (get_or all k d) ≡ Ok tt = ok_at (file_ok (output_names prefix t)) all ok k d low in
+    apart_from t prefix (get_or all k d).name (refuse_ok _ fault.Repeat (capture_key (get_or all k d).port) passed)
 
 captures_out : (t : Shape) (all : List Named) → each_ok (capture_ok t) all 0 all ≡ Ok tt → All (λ x. is_external t x.port ≡ true) all
 captures_out t all ok k d low = port_passed t (capture_key (get_or all k d).port) (get_or all k d).port (ok_at (capture_ok t) all ok k d low)
@@ -117,6 +151,7 @@ timed_follow t letters cs tables e h =
 -- what of a topology its view decides
 record HasPorts (tables : Tables) (shape : Shape) : Type 0 where
   captures : All (λ x. is_external shape x.port ≡ true) tables.captures
+  apart : All (λ x. IsApart shape tables.bridge.out x.name) tables.captures
   commands : Each (λ c. NamesOut shape (deed shape c.action)) tables.commands
 
 ports_out : (t : Shape) (file : Tables) → ports_ok t file ≡ Ok tt → HasPorts file t
@@ -132,11 +167,11 @@ ports_out t file ok =
     let three = both_ok (each_ok (static_ok t) file.statics 0 file.statics) commands two.1 in
     let four = both_ok (each_ok (command_ok t) file.commands 0 file.commands) captures three.1 in
     let five = both_ok (each_ok (capture_ok t) file.captures 0 file.captures) files four.1 in
-    record { captures = captures_out t file.captures five.0; commands = actions_out t file.commands four.0 }
+    record { captures = captures_out t file.captures five.0; apart = files_apart t file.bridge.out file.captures five.1; commands = actions_out t file.commands four.0 }
 
 sound_by : (t : Topology) (file : Tables) (shape : Shape) → shape ≡ shape_of t.setup → HasPorts file shape → AreCounted file
-    → file.captures ≡ t.captures → map (command_seen shape) file.commands ≡ map timed_view t.commands → file.fate ≡ t.fate → IsSound t
-sound_by t file shape same ports counted captures commands fate =
+    → file.captures ≡ t.captures → map (command_seen shape) file.commands ≡ map timed_view t.commands → file.fate ≡ t.fate → file.bridge.out ≡ t.prefix → IsSound t
+sound_by t file shape same ports counted captures commands fate prefix =
     let Seconds : Timed → ℕ = λ c. c.at in
     let Letters : Timed → List Verdict = λ c. c.fate in
     let low : length t.fate ≤ 60000 = subst (λ (vs : List Verdict). length vs ≤ 60000) fate counted.links in
@@ -145,6 +180,10 @@ sound_by t file shape same ports counted captures commands fate =
     let long : length file.commands ≡ length t.commands = sym (length-map file.commands (command_seen shape)) ∙ ap length commands ∙ length-map t.commands timed_view in
     record {
       captures = subst (λ (s : Shape). All (λ x. is_external s x.port ≡ true) t.captures) same (subst (λ (xs : List Named). All (λ x. is_external shape x.port ≡ true) xs) captures ports.captures);
+      apart =
+        subst (λ (s : Shape). All (λ x. IsApart s t.prefix x.name) t.captures) same
+        (subst (λ (p : List ℕ). All (λ x. IsApart shape p x.name) t.captures) prefix
+        (subst (λ (xs : List Named). All (λ x. IsApart shape file.bridge.out x.name) xs) captures ports.apart));
       commands = subst (λ (s : Shape). All (λ c. NamesExternal s c.command) t.commands) same (commands_out shape t.commands file.commands commands ports.commands);
       few_commands = subst (λ (n : ℕ). n ≤ 65536) long counted.few;
       rising = rising Seconds Letters 0 (length t.fate) t.commands follow;
@@ -163,7 +202,7 @@ resolved_sound t file counted e =
     sound_by t file shape
     (shape_alone (bare file) ∙ ap (λ (v : TopologySeen). shape_of (tree_alone v.ports v.extenders)) same ∙ sym (shape_alone t.setup))
     (ports_out shape file two.first) counted
-    (ap (λ (v : TopologySeen). v.captures) same) (ap (λ (v : TopologySeen). v.commands) same) (ap (λ (v : TopologySeen). v.fate) same)
+    (ap (λ (v : TopologySeen). v.captures) same) (ap (λ (v : TopologySeen). v.commands) same) (ap (λ (v : TopologySeen). v.fate) same) (ap (λ (v : TopologySeen). v.prefix) same)
   where
     ok_is : (x y : TopologySeen) → ◌≡◌ {A = Result TopologySeen Refusal} (Ok x) (Ok y) → x ≡ y
     ok_is x y e' = cc

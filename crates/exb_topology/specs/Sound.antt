@@ -1,14 +1,22 @@
 -- What holds of every topology that is read.
-use Rattle.std.specs.Prelude.{◌≡◌, ℕ, ◌+◌, ◌≤◌, true, List, length, sum_by, All, AllPairs, Ok}
-use Rattle.exb_model.specs.Tree.{is_external}
+use Rattle.std.specs.Prelude.{◌≡◌, ◌≢◌, ℕ, ◌+◌, ◌≤◌, true, List, length, sum_by, All, AllPairs, Ok}
+use Rattle.exb_model.specs.Tree.{Shape, is_external, external_ports}
 use Rattle.exb_model.specs.Setup.{shape_of, NamesExternal}
+use Rattle.exb_text.specs.Names.{capture_name, journal_name, trace_name}
 use Rattle.exb_topology.specs.declared.topology.Topology.{Topology}
 use Rattle.exb_topology.specs.Topologies.{topology_view, topology_of}
 
--- Captures and commands name external ports, there are at most 65,536 commands, whose seconds never fall,
--- and all letters of fates together are at most 60,000.
+-- no file that runs of a tree write under a prefix has this name
+pub record IsApart (tree : Shape) (prefix name : List ℕ) : Type 0 where
+  pub captures : All (λ q. name ≢ capture_name prefix q) (external_ports tree)
+  pub journal : name ≢ journal_name prefix
+  pub trace : name ≢ trace_name prefix
+
+-- Captures and commands name external ports, no capture has the name of an output, there are at most 65,536 commands, whose seconds
+-- never fall, and all letters of fates together are at most 60,000.
 pub record IsSound (t : Topology) : Type 0 where
   pub captures : All (λ capture. is_external (shape_of t.setup) capture.port ≡ true) t.captures
+  pub apart : All (λ capture. IsApart (shape_of t.setup) t.prefix capture.name) t.captures
   pub commands : All (λ c. NamesExternal (shape_of t.setup) c.command) t.commands
   pub few_commands : length t.commands ≤ 65536
   pub rising : AllPairs (λ a b. a.at ≤ b.at) t.commands

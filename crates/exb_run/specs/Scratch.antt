@@ -1,0 +1,41 @@
+-- The captures of an input that is made, as they are kept in memory while it is played.
+use Rattle.std.specs.Prelude.{◌≡◌, ◌<◌, ◌≤◌, ◌++◌, ◌∷◌, [], ℕ, List, Option, Some, Ok, All, codes, decimal, length, map}
+use Rattle.exb_made.specs.declared.captures.Capture.{Capture}
+use Rattle.exb_model.specs.Input.{Record}
+use Rattle.exb_pcap.specs.Captures.{pcap_records}
+use Rattle.exb_shelf.specs.Files.{Files}
+use Rattle.exb_tables.specs.declared.rows.Named.{Named}
+use Rattle.exb_run.specs.Checks.{most_bytes}
+use Rattle.exb_run.specs.Inputs.{name_of}
+
+-- the name of the file with the capture of port p
+abbrev pub name_made : ℕ → List ℕ
+name_made p = codes "in/" ++ decimal p
+
+-- a capture is read as the records of its port, and is not too large
+pub record IsReadAs (records : ℕ → List Record) (c : Capture) : Type 0 where
+  pub read : pcap_records c.file.items ≡ Ok (records c.port)
+  pub small : length c.file.items ≤ most_bytes
+
+-- the same of a file, which has the name of the capture of port q
+pub record IsKept (records : ℕ → List Record) (q : ℕ) (name : List ℕ) (file : Option (List ℕ)) : Type 0 where
+  pub port : q < 4160
+  pub own : name ≡ name_made q
+  pub bytes : List ℕ
+  pub there : file ≡ Some bytes
+  pub read : pcap_records bytes ≡ Ok (records q)
+  pub small : length bytes ≤ most_bytes
+
+-- the same of all captures that are named
+abbrev pub AreKept : (ℕ → List Record) → List Named → Files → Type 0
+AreKept records names file = (q : ℕ) (name : List ℕ) → name_of names q ≡ Some name → IsKept records q name (file name)
+
+-- one capture more is kept
+pub record KeepsMore (c : Capture) (names more : List Named) (old new : Files) : Type 0 where
+  pub ports : map (λ n. n.port) more ≡ map (λ n. n.port) names ++ c.port ∷ []
+  pub kept : (records : ℕ → List Record) → AreKept records names old → IsReadAs records c → AreKept records more new
+
+-- of these captures the first ones are kept
+pub record KeepsFirst (captures firsts : List Capture) (names : List Named) (file : Files) : Type 0 where
+  pub ports : map (λ n. n.port) names ≡ map (λ c. c.port) firsts
+  pub kept : (records : ℕ → List Record) → All (IsReadAs records) captures → AreKept records names file
