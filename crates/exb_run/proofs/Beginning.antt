@@ -129,16 +129,16 @@ first-moment names file c t =
     by_records [] = refl
     by_records (r ∷ rs) = ap Some (none-before r.time)
 
--- one more in front, if there is one
-abbrev more : Option ℕ → List ℕ → List ℕ
-more None xs = xs
-more (Some x) xs = x ∷ xs
-
 abbrev second_first : Stream → Option ℕ
 second_first s = option_map second_of (next_moment (arrivals_of s))
 
 abbrev second_told : Checked → Option ℕ
 second_told c = option_map second_of c.told.first
+
+-- one more in front, if there is one
+abbrev more : Option ℕ → List ℕ → List ℕ
+more None xs = xs
+more (Some x) xs = x ∷ xs
 
 filter_first : {X Y : Type 0} (f : X → Option ℕ) (g : Y → Option ℕ) (h : Y → X) (ys : List Y) → AllByRecursion (λ y. f (h y) ≡ g y) ys → filter_map f (map h ys) ≡ filter_map g ys
 filter_first f g h [] all = refl
