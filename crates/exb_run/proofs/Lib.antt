@@ -24,6 +24,7 @@ pub mod Running
 pub mod RunLemmas
 pub mod Reporting
 pub mod Handing
+pub mod Scratching
 pub mod ShelvingLemmas
 pub mod OpenLemmas
 pub mod OtherRecords

@@ -116,7 +116,7 @@ fault_of shelf.Memory = Memory
 abbrev pub fault_again : CaptureFault → Fault
 fault_again capture.Memory = Memory
 fault_again capture.Read = Read
-fault_again (capture.Changed p at) = Changed p at
+fault_again (capture.Changed p byte) = Changed p byte
 
 -- a fault of reading a topology, of which want of memory is none of the file's
 abbrev pub fault_by : TopoFault → Fault
@@ -165,7 +165,7 @@ IsFailure (Some (Make number)) fault = fault ≡ Memory
 -- where it speaks of a port, this is one; and want of memory is no fault of a topology
 abbrev pub CanBe : Fault → Type 0
 CanBe (Capture p flaw) = p < 4160
-CanBe (Changed p at) = p < 4160
+CanBe (Changed p byte) = p < 4160
 CanBe (BadTopology topology.Memory) = ⊥
 CanBe _ = ⊤
 
@@ -216,7 +216,7 @@ fault_line Usage = usage
 fault_line (Missing name) = codes "exbr: missing " ++ name ++ codes "\n"
 fault_line (BadTopology fault) = codes "exbr: topology: " ++ topology_text fault ++ codes "\n"
 fault_line (Capture p flaw) = capture_line p (flaw_text flaw)
-fault_line (Changed p at) = capture_line p (codes "Changed at " ++ decimal at)
+fault_line (Changed p byte) = capture_line p (codes "Changed at " ++ decimal byte)
 fault_line Read = codes "exbr: read fault\n"
 fault_line Write = codes "exbr: write fault\n"
 fault_line Memory = codes "exbr: out of memory\n"
@@ -235,7 +235,7 @@ fault_status (Capture p flaw) = 4
 fault_status (Missing name) = 5
 fault_status Read = 6
 fault_status Write = 7
-fault_status (Changed p at) = 10
+fault_status (Changed p byte) = 10
 
 abbrev pub status_of : Result (String Global) Fault → ℕ
 status_of (Ok line) = 0

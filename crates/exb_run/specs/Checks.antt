@@ -1,5 +1,5 @@
 -- What checking tells of the captures of a run, and what can be wrong with them.
-use Rattle.std.specs.Prelude.{⊤, ⊥, ◌≡◌, ◌≢◌, ◌<◌, ◌≤◌, ◌*◌, ◌^◌, ℕ, true, List, [], ◌∷◌, All, filter, filter_map, map, min, option_map, Option, Some, None, IfSome, Result, Ok, Err}
+use Rattle.std.specs.Prelude.{⊤, ◌≡◌, ◌≢◌, ◌<◌, ◌≤◌, ◌*◌, ◌^◌, ℕ, true, List, [], ◌∷◌, All, filter, filter_map, map, min, option_map, Option, Some, None, IfSome, Result, Ok, Err}
 use Rattle.exb_model.specs.Input.{least_or, second_of}
 use Rattle.exb_model.specs.Ports.{all_ports}
 use Rattle.exb_merge.specs.Replays.{Standing}
@@ -100,7 +100,7 @@ stream_told names file c = stream_of c.port (records_at names file c.port)
 
 -- The captures of some external ports that were checked: no output of the plan has the name of one of them, so they stay as they are while
 -- the outputs are written.
-pub record CanBeRead (tells : Type 0) (plan : Planned) (names : List Named) (file : Files) (checked : List Checked) : Type 0 where
-  pub checked : AreChecked tells names file checked
+pub record CanBeRead (tells : Type 0) (plan : Planned) (names : List Named) (file : Files) (captures : List Checked) : Type 0 where
+  pub checked : AreChecked tells names file captures
   pub external : (q : ℕ) → is_named names q ≡ true → is_external plan.tree q ≡ true
   pub apart : (q : ℕ) (name : List ℕ) → name_of names q ≡ Some name → (j : ℕ) → j < output_count plan → name ≢ output_name plan j

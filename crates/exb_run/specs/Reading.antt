@@ -1,5 +1,5 @@
 -- Which faults can come while the topology is read, while captures are checked, and while they are played.
-use Rattle.std.specs.Prelude.{⊤, ⊥, ◌<◌}
+use Rattle.std.specs.Prelude.{⊤, ◌<◌}
 use Rattle.exb_keys.specs.declared.faults.TopoFault.TheVariants as topology
 use Rattle.exb_run.specs.declared.fault.Fault.{Fault}
 use Rattle.exb_run.specs.declared.fault.Fault.TheVariants.{Usage, Missing, Topology as BadTopology, Capture, Changed, Read, Write, Memory}
@@ -26,5 +26,5 @@ abbrev pub IsOfPlaying : Fault → Type 0
 IsOfPlaying Usage = ⊥
 IsOfPlaying (BadTopology fault) = ⊥
 IsOfPlaying (Capture p flaw) = p < 4160
-IsOfPlaying (Changed p at) = p < 4160
+IsOfPlaying (Changed p byte) = p < 4160
 IsOfPlaying _ = ⊤

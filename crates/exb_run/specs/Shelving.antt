@@ -1,5 +1,5 @@
 -- What calls that read and write say of the shelf: what it counted, what has changed, and what was opened.
-use Rattle.std.specs.Prelude.{⊤, ⊥, ◌≡◌, ◌<◌, ◌⊎◌, ℕ, List, Result, Err, IsErrOf}
+use Rattle.std.specs.Prelude.{⊤, ◌≡◌, ◌<◌, ◌⊎◌, ℕ, List, Result, Err, IsErrOf}
 use Rattle.exb_merge.specs.Replays.{ReadsOn}
 use Rattle.exb_shelf.specs.Files.{Files, SameFiles}
 use Rattle.exb_shelf.specs.Shelf.{Id, Faults, Rose, NoFewer, Opens, writing}
