@@ -1,37 +1,47 @@
--- Before anything was played: the captures that were read, and the agenda of them.
-use Rattle.std.proofs.Common.{◌≡◌, ℕ, zero, suc, ◌+◌, ◌^◌, ◌<◌, ◌≤◌, ◌==◌, ◌||◌, Bool, true, false, cond, List, [], ◌∷◌, length, map, filter, drop, All, AllPairs, get_or, refl, ap, sym, subst, ◌∙◌, arith, inl, inr, eq-eqb}
+-- What a run begins with: the captures that were checked at their first records, and the commands.
+use Rattle.std.proofs.Common.{◌≡◌, ◌≢◌, ℕ, zero, suc, ◌+◌, ◌*◌, ◌^◌, ◌<◌, ◌≤◌, ◌==◌, Bool, true, false, cond, List, [], ◌∷◌, ◌++◌, length, inl, inr, map, filter, All, get_or, sum_by, drop, max, min, refl, ap, sym, subst, ◌∙◌, arith, inl, inr, eq-eqb}
 use mathlib.Core.Path.{fun_ext}
-use Rattle.std.specs.Prelude.{None, filter_map, if◌then◌else◌, sum_by}
-use Rattle.std.specs.List.{AllByRecursion, list_any, range_with_len}
-use Rattle.std.proofs.lemmas.Bool.{cases_Bool, cases_eq, eqb-true, ne_eqb}
-use Rattle.std.proofs.lemmas.List.{length-map}
+use Rattle.std.specs.Prelude.{Option, Some, None, IfSome, if◌then◌else◌, filter_map, option_map, AllPairs, Ok, Err, is_some}
+use Rattle.std.specs.List.{AllByRecursion, range_with_len}
+use Rattle.std.specs.Option.{unwrap_or}
+use Rattle.std.proofs.lemmas.Bool.{cases_Bool, cases_lt}
+use Rattle.std.proofs.lemmas.List.{append-nil, length-map, take_more}
+use Rattle.std.proofs.lemmas.List.Sums.{sum_by-cons}
 use Rattle.exb_model.specs.declared.setup.Setup.{Setup}
 use Rattle.exb_model.specs.declared.setup.Timed.{Timed}
 use Rattle.exb_model.specs.declared.setup.Verdict.{Verdict}
-use Rattle.exb_model.specs.Input.{Input, Mode, Record, Given, arrival_in, given_by, merge, segments_after}
-use Rattle.exb_model.specs.Ports.{below, all_ports}
-use Rattle.exb_model.specs.Setup.{IsValid, NamesExternal, shape_of}
-use Rattle.exb_model.specs.Tree.{Shape, IsTree, is_external}
-use Rattle.exb_merge.specs.Agendas.{ToPlay, begun, still_to_come}
-use Rattle.exb_merge.specs.Streams.{Stream, stream_of, stream_at, to_come}
-use Rattle.exb_resting.specs.Motion.Playing.{IsTimely}
+use Rattle.exb_model.specs.Input.{Input, Given, Record, Coming, Mode, arrivals_from, given_by, least_or, merge, second_of, segments_after}
+use Rattle.exb_model.specs.Ports.{all_ports, below}
+use Rattle.exb_model.specs.Setup.{NamesExternal, shape_of}
+use Rattle.exb_model.specs.Tree.{Shape, is_external}
+use Rattle.exb_merge.specs.Agendas.{ToPlay, begun, first_second, still_to_come}
+use Rattle.exb_merge.specs.declared.programme.Programme.{Programme}
+use Rattle.exb_merge.specs.Programmes.{played_with}
+use Rattle.exb_merge.specs.Replays.{AreReplays, HasPort, Standing, ids_in, left_in, number_of, standings}
+use Rattle.exb_merge.specs.Streams.{Stream, arrivals_of, next_moment, stream_at, stream_of, to_come}
 use Rattle.exb_pcap.specs.Captures.{pcap_records, records_or_none}
+use Rattle.exb_resting.specs.Motion.Playing.{IsTimely}
+use Rattle.exb_scan.specs.declared.checking.Scanned.{Scanned}
+use Rattle.exb_scan.specs.Scans.{first_time, scanned_of}
 use Rattle.exb_schedule.specs.Playing.{letters_in}
-use Rattle.exb_shelf.specs.Files.{Files}
+use Rattle.exb_shelf.specs.Files.{Files, bytes_of}
+use Rattle.exb_shelf.specs.Shelf.{Id}
 use Rattle.exb_tables.specs.declared.rows.Named.{Named}
-use Rattle.exb_topology.specs.declared.topology.Topology.{Topology}
-use Rattle.exb_topology.specs.Sound.{IsSound}
-use Rattle.exb_run.specs.declared.captures.Capture.{Capture}
-use Rattle.exb_run.specs.Inputs.{Taken, bytes_at, captures_of, input_of, is_named, records_at}
-use Rattle.exb_run.specs.Playing.{CanBegin, IsDueAfter, IsScript}
-use Rattle.exb_run.specs.Reading.{AreRead, contents, input_with, records_in, stream_in}
+use Rattle.exb_run.specs.declared.checked.Checked.{Checked}
+use Rattle.exb_run.specs.declared.outputs.Outputs.{Outputs}
+use Rattle.exb_run.specs.Checks.{CanBeRead, IsGood, IsToldOf, earlier, first_standing, most_bytes, start_told, stream_told}
+use Rattle.exb_run.specs.Inputs.{bytes_at, bytes_named, input_from, is_named, name_of, records_at}
+use Rattle.exb_run.specs.Opening.{ReadsCapture}
+use Rattle.exb_run.specs.Outputs.{OnlyPlanned, output_name}
+use Rattle.exb_run.specs.Plans.{Planned, output_count}
+use Rattle.exb_run.specs.Playing.{IsScript, Run}
+use Rattle.exb_run.specs.UnderWay.{AreApart, CanBegin}
+use Rattle.exb_run.specs.Writing.{HasTexts, first_text, pieces_of}
 use Rattle.exb_run.proofs.Counting.{passing}
-use Rattle.exb_run.proofs.Places.{external_low}
-use Rattle.exb_run.proofs.Running.{named_by}
 use Rattle.exb_run.proofs.Segmenting.{segments-begin}
 
 -- ---- ports in order
-abbrev Apart : List ℕ → Type 0
+abbrev pub Apart : List ℕ → Type 0
 Apart [] = Unit {0}
 Apart (p ∷ ps) = AllByRecursion (λ q. p < q) ps × Apart ps
 
@@ -52,128 +62,137 @@ apart-range test a (suc n) = by_test (test a) (apart-range test (a + 1) n)
     by_test true rest = (above-range test a (a + 1) n (omega arith), rest)
     by_test false rest = rest
 
-apart-ports : (test : ℕ → Bool) → Apart (filter test all_ports)
+pub apart-ports : (test : ℕ → Bool) → Apart (filter test all_ports)
 unfolding below
 apart-ports test = apart-range test 0 4160
 
--- ---- the captures at their first records
-others-same : (c : Capture) (cs : List Capture) (ps : List ℕ) → AllByRecursion (λ q. c.port < q) ps → map (λ q. stream_of q (records_in (c ∷ cs) q)) ps ≡ map (λ q. stream_of q (records_in cs q)) ps
-others-same c cs [] all = refl
-others-same c cs (p ∷ ps) all =
-    ap (λ (ss : List Stream). stream_of p (records_in (c ∷ cs) p) ∷ ss) (others-same c cs ps all.1)
-    ∙ ap (λ (rs : List Record). stream_of p rs ∷ map (λ q. stream_of q (records_in cs q)) ps) (other (c.port == p) (ne_eqb c.port p (λ e. let low = all.0 in omega (arith, low, e))))
+few-range : (test : ℕ → Bool) (a n : ℕ) → length (filter test (range_with_len a n)) ≤ n
+few-range test a zero = omega arith
+few-range test a (suc n) = by_test (test a) (few-range test (a + 1) n)
   where
-    other : (b : Bool) → b ≡ false → (if b then records_or_none (pcap_records c.file.items) else records_in cs p) ≡ records_in cs p
-    other true e = absurd (cc)
-    other false e = refl
+    by_test : (b : Bool) → length (filter test (range_with_len (a + 1) n)) ≤ n → length (cond b (a ∷ filter test (range_with_len (a + 1) n)) (filter test (range_with_len (a + 1) n))) ≤ suc n
+    by_test true rest = omega (arith, rest)
+    by_test false rest = omega (arith, rest)
 
-streams-at : (cs : List Capture) → Apart (map (λ c. c.port) cs) → map (λ q. stream_of q (records_in cs q)) (map (λ c. c.port) cs) ≡ map stream_in cs
-streams-at [] apart = refl
-streams-at (c ∷ cs) apart =
-    ap (λ (ss : List Stream). stream_of c.port (records_in (c ∷ cs) c.port) ∷ ss) (others-same c cs (map (λ x. x.port) cs) apart.0 ∙ streams-at cs apart.1)
-    ∙ ap (λ (rs : List Record). stream_of c.port rs ∷ map stream_in cs) (own (c.port == c.port) (eq-eqb c.port c.port refl))
-  where
-    own : (b : Bool) → b ≡ true → (if b then records_or_none (pcap_records c.file.items) else records_in cs c.port) ≡ records_or_none (pcap_records c.file.items)
-    own true e = refl
-    own false e = absurd (cc)
-
-pub streams-are : (setup : Setup) (commands : List Timed) (t : Shape) (cs : List Capture) (are : AreRead t cs) →
-    map stream_in cs ≡ map (stream_at (input_with setup commands cs)) (filter are.chosen all_ports)
-streams-are setup commands t cs are =
-    sym (streams-at cs (subst Apart (sym are.ports) (apart-ports are.chosen)))
-    ∙ ap (map (λ q. stream_of q (records_in cs q))) are.ports
-
--- a port without a capture has no record
-none-read : (test : ℕ → Bool) (cs : List Capture) (q : ℕ) → AllByRecursion (λ p. test p ≡ true) (map (λ c. c.port) cs) → test q ≡ false → records_in cs q ≡ []
-none-read test [] q all isnt = refl
-none-read test (c ∷ cs) q all isnt = by_port (c.port == q) refl (none-read test cs q all.1 isnt)
-  where
-    by_port : (b : Bool) → (c.port == q) ≡ b → records_in cs q ≡ [] → (if b then records_or_none (pcap_records c.file.items) else records_in cs q) ≡ []
-    by_port true e rest = absurd (let same : true ≡ false = sym all.0 ∙ (ap test (eqb-true c.port q e) ∙ isnt) in cc)
-    by_port false e rest = rest
-
-pub none-elsewhere : (t : Shape) (cs : List Capture) (are : AreRead t cs) → (q : ℕ) → are.chosen q ≡ false → records_in cs q ≡ []
-none-elsewhere t cs are q isnt =
-    let P : List ℕ → Type 0 = AllByRecursion (λ p. are.chosen p ≡ true) in
-    none-read are.chosen cs q (subst P (sym are.ports) (passing are.chosen all_ports)) isnt
-
--- only external ports have records
-pub external-alone : (t : Shape) (cs : List Capture) → AreRead t cs → (q : ℕ) → is_external t q ≡ false → records_in cs q ≡ []
-external-alone t cs are q isnt =
-    elim (cases_Bool (are.chosen q)) [
-      | inl named ↦ absurd (let same : true ≡ false = sym (are.external q named) ∙ isnt in cc)
-      | inr not_named ↦ none-elsewhere t cs are q not_named
-    ]
-
--- ---- the input is that of the files
-abbrev records_by : List Taken → ℕ → List Record
-records_by [] q = []
-records_by (x ∷ xs) q = if x.0 == q then records_or_none (pcap_records x.1) else records_by xs q
-
-by-content : (cs : List Capture) (q : ℕ) → records_in cs q ≡ records_by (contents cs) q
-by-content [] q = refl
-by-content (c ∷ cs) q = ap (λ (rs : List Record). if c.port == q then records_or_none (pcap_records c.file.items) else rs) (by-content cs q)
-
-in-range : (a n q : ℕ) → a ≤ q → q < a + n → list_any (λ p. p == q) (range_with_len a n) ≡ true
-in-range a zero q low high = absurd (omega (arith, low, high))
-in-range a (suc n) q low high =
-    elim (cases_eq a q) [
-      | inl same ↦ rw (eq-eqb a q same) refl
-      | inr other ↦ rw (ne_eqb a q other) (in-range (a + 1) n q (omega (arith, low, other)) (omega (arith, high)))
-    ]
-
-in-all : (q : ℕ) → q < 4160 → list_any (λ p. p == q) all_ports ≡ true
+few-ports : (test : ℕ → Bool) → length (filter test all_ports) ≤ 4160
 unfolding below
-in-all q low = in-range 0 4160 q (omega arith) (omega (arith, low))
+few-ports test = few-range test 0 4160
 
-module _ (names : List Named) (file : Files) (q : ℕ) where
-  abbrev taken-at : ℕ → Taken
-  taken-at p = (p, bytes_at names file p)
+-- ---- the captures at their first records
+abbrev ports_in : List Checked → List ℕ
+ports_in cs = map (λ c. c.port) cs
 
-  here-more : (p : ℕ) (fs : List ℕ) (any named same : Bool) → is_named names p ≡ named → (p == q) ≡ same → is_named names q ≡ true → (same || any) ≡ true →
-      (any ≡ true → records_by (map taken-at fs) q ≡ records_or_none (pcap_records (bytes_at names file q))) →
-      records_by (map taken-at (cond named (p ∷ fs) fs)) q ≡ records_or_none (pcap_records (bytes_at names file q))
-  here-more p fs any true true is at has found rest =
-      ap (λ (b : Bool). if b then records_or_none (pcap_records (bytes_at names file p)) else records_by (map taken-at fs) q) at
-      ∙ ap (λ (r : ℕ). records_or_none (pcap_records (bytes_at names file r))) (eqb-true p q at)
-  here-more p fs any true false is at has found rest =
-      ap (λ (b : Bool). if b then records_or_none (pcap_records (bytes_at names file p)) else records_by (map taken-at fs) q) at ∙ rest found
-  here-more p fs any false true is at has found rest = absurd (let e : true ≡ false = sym has ∙ (ap (is_named names) (sym (eqb-true p q at)) ∙ is) in cc)
-  here-more p fs any false false is at has found rest = rest found
+told-streams : (i : Input) (names : List Named) (file : Files) (cs : List Checked) → i.records ≡ records_at names file → map (stream_told names file) cs ≡ map (stream_at i) (ports_in cs)
+told-streams i names file [] same = refl
+told-streams i names file (c ∷ cs) same =
+    ap (λ (ss : List Stream). stream_told names file c ∷ ss) (told-streams i names file cs same)
+    ∙ ap (λ (r : ℕ → List Record). stream_of c.port (r c.port) ∷ map (stream_at i) (ports_in cs)) (sym same)
 
-  here : (ps : List ℕ) → is_named names q ≡ true → list_any (λ p. p == q) ps ≡ true → records_by (captures_of names file ps) q ≡ records_or_none (pcap_records (bytes_at names file q))
-  here [] named has = absurd (cc)
-  here (p ∷ ps) named has = here-more p (filter (is_named names) ps) (list_any (λ x. x == q) ps) (is_named names p) (p == q) refl refl named has (here ps named)
+none-elsewhere : (names : List Named) (file : Files) (q : ℕ) → is_named names q ≡ false → records_at names file q ≡ []
+none-elsewhere names file q isnt = ap (λ (b : Bool). if b then records_or_none (pcap_records (bytes_at names file q)) else []) isnt
 
-  nowhere-more : (p : ℕ) (fs : List ℕ) (named same : Bool) → is_named names p ≡ named → (p == q) ≡ same → is_named names q ≡ false → records_by (map taken-at fs) q ≡ [] →
-      records_by (map taken-at (cond named (p ∷ fs) fs)) q ≡ []
-  nowhere-more p fs true true is at isnt rest = absurd (let e : true ≡ false = sym is ∙ (ap (is_named names) (eqb-true p q at) ∙ isnt) in cc)
-  nowhere-more p fs true false is at isnt rest =
-      ap (λ (b : Bool). if b then records_or_none (pcap_records (bytes_at names file p)) else records_by (map taken-at fs) q) at ∙ rest
-  nowhere-more p fs false same is at isnt rest = rest
+-- ---- what was told of one capture
+record IsTold (names : List Named) (file : Files) (c : Checked) : Type 0 where
+  bytes : List ℕ
+  records : List Record
+  told : c.told ≡ scanned_of bytes records
+  are : records_at names file c.port ≡ records
 
-  nowhere : (ps : List ℕ) → is_named names q ≡ false → records_by (captures_of names file ps) q ≡ []
-  nowhere [] isnt = refl
-  nowhere (p ∷ ps) isnt = nowhere-more p (filter (is_named names) ps) (is_named names p) (p == q) refl refl isnt (nowhere ps isnt)
+told-by : (names : List Named) (file : Files) (c : Checked) → IsToldOf names file c → IsTold names file c
+told-by names file c (name, named, good) = by_file (file name) refl good
+  where
+    at-file : (bytes : List ℕ) (records : List Record) → file name ≡ Some bytes → pcap_records bytes ≡ Ok records → records_at names file c.port ≡ records
+    at-file bytes records at read =
+        ap (λ (o : Option (List ℕ)). if is_some o then records_or_none (pcap_records (bytes_named file o)) else []) named
+        ∙ ap (λ (o : Option (List ℕ)). records_or_none (pcap_records (bytes_of o))) at ∙ ap records_or_none read
 
-  -- the records that were read are those of the file
-  records-same : (t : Shape) (cs : List Capture) → IsTree t → All (λ x. is_external t x.port ≡ true) names → contents cs ≡ captures_of names file all_ports →
-      records_in cs q ≡ records_at names file q
-  records-same t cs tree external read =
-      by-content cs q ∙ ap (λ (xs : List Taken). records_by xs q) read
-      ∙ elim (cases_Bool (is_named names q)) [
-        | inl named ↦
-            here all_ports named (in-all q (external_low t q tree (named_by (is_external t) names q external named)))
-            ∙ sym (ap (λ (b : Bool). if b then records_or_none (pcap_records (bytes_at names file q)) else []) named)
-        | inr isnt ↦ nowhere all_ports isnt ∙ sym (ap (λ (b : Bool). if b then records_or_none (pcap_records (bytes_at names file q)) else []) isnt)
-      ]
+    by_file : (o : Option (List ℕ)) → file name ≡ o → IsGood o c.told → IsTold names file c
+    by_file None at (inl isnt) = absurd (cc)
+    by_file None at (inr (inl isnt)) = absurd (cc)
+    by_file None at (inr (inr isnt)) = absurd (cc)
+    by_file (Some bytes) at is = record { bytes = bytes; records = is.records; told = is.tells; are = at-file bytes is.records at is.read }
 
-pub input-same : (t : Topology) (file : Files) (cs : List Capture) → IsValid t.setup → IsSound t → contents cs ≡ captures_of t.captures file all_ports → input_with t.setup t.commands cs ≡ input_of t file
-input-same t file cs valid sound read =
-    ap (λ (records : ℕ → List Record). record { setup = t.setup; commands = map given_by t.commands; records = records })
-    (fun_ext λ q. records-same t.captures file q (shape_of t.setup) cs valid.tree sound.captures read)
+all-told : (names : List Named) (file : Files) (cs : List Checked) → All (IsToldOf names file) cs → AllByRecursion (IsTold names file) cs
+all-told names file [] all = tt
+all-told names file (c ∷ cs) all = (told-by names file c (all 0 c (omega arith)), all-told names file cs (λ k d low. all (suc k) d (omega (arith, low))))
 
--- ---- the agenda before anything is taken
+-- ---- the start
+-- the first moment of its stream is the time that was told
+first-moment : (names : List Named) (file : Files) (c : Checked) → IsTold names file c → next_moment (arrivals_of (stream_told names file c)) ≡ c.told.first
+first-moment names file c t =
+    ap (λ (rs : List Record). next_moment (arrivals_from c.port 1 0 rs)) t.are ∙ by_records t.records ∙ sym (ap (λ (s : Scanned). s.first) t.told)
+  where
+    none-before : (n : ℕ) → max 0 n ≡ n
+    none-before n = omega arith
+
+    by_records : (rs : List Record) → next_moment (arrivals_from c.port 1 0 rs) ≡ first_time rs
+    by_records [] = refl
+    by_records (r ∷ rs) = ap Some (none-before r.time)
+
+-- one more in front, if there is one
+abbrev more : Option ℕ → List ℕ → List ℕ
+more None xs = xs
+more (Some x) xs = x ∷ xs
+
+abbrev second_first : Stream → Option ℕ
+second_first s = option_map second_of (next_moment (arrivals_of s))
+
+abbrev second_told : Checked → Option ℕ
+second_told c = option_map second_of c.told.first
+
+filter_first : {X Y : Type 0} (f : X → Option ℕ) (g : Y → Option ℕ) (h : Y → X) (ys : List Y) → AllByRecursion (λ y. f (h y) ≡ g y) ys → filter_map f (map h ys) ≡ filter_map g ys
+filter_first f g h [] all = refl
+filter_first f g h (y ∷ ys) all = by_first (f (h y)) (g y) all.0 (filter_first f g h ys all.1)
+  where
+    by_first : (a b : Option ℕ) → a ≡ b → filter_map f (map h ys) ≡ filter_map g ys → more a (filter_map f (map h ys)) ≡ more b (filter_map g ys)
+    by_first a b same rest = ap (λ (o : Option ℕ). more o (filter_map f (map h ys))) same ∙ ap (more b) rest
+
+firsts-are : (names : List Named) (file : Files) (cs : List Checked) → AllByRecursion (IsTold names file) cs → filter_map second_first (map (stream_told names file) cs) ≡ filter_map second_told cs
+firsts-are names file cs all = filter_first second_first second_told (stream_told names file) cs (all-first cs all)
+  where
+    all-first : (ds : List Checked) → AllByRecursion (IsTold names file) ds → AllByRecursion (λ d. second_first (stream_told names file d) ≡ second_told d) ds
+    all-first [] told = tt
+    all-first (d ∷ ds) told = (ap (option_map second_of) (first-moment names file d told.0), all-first ds told.1)
+
+abbrev pub StartIsLeast : Type 0
+StartIsLeast = (streams : List Stream) → first_second (to_come streams) ≡ least_or 0 (filter_map (λ s. option_map second_of (next_moment (arrivals_of s))) streams)
+
+-- what was told of the start is the start of the streams
+start-is : (names : List Named) (file : Files) (cs : List Checked) → StartIsLeast → AllByRecursion (IsTold names file) cs → first_second (to_come (map (stream_told names file) cs)) ≡ start_told cs
+start-is names file cs law all = law (map (stream_told names file) cs) ∙ ap (least_or 0) (firsts-are names file cs all)
+
+-- ---- where the captures stand
+numbers-one : (cs : List Checked) (q : ℕ) → number_of (map first_standing cs) q ≡ 1
+numbers-one [] q = refl
+numbers-one (c ∷ cs) q = by_port (c.port == q) (numbers-one cs q)
+  where
+    by_port : (b : Bool) → number_of (map first_standing cs) q ≡ 1 → (if b then 1 else number_of (map first_standing cs) q) ≡ 1
+    by_port true rest = refl
+    by_port false rest = rest
+
+has-named : (P : ℕ → Type 0) (cs : List Checked) (q : ℕ) → AllByRecursion P (ports_in cs) → HasPort q (map first_standing cs) → P q
+has-named P [] q all has = absurd has
+has-named P (c ∷ cs) q all (inl same) = subst P same all.0
+has-named P (c ∷ cs) q all (inr later) = has-named P cs q all.1 later
+
+-- ---- how much is to be read
+few-bytes : (cs : List Checked) → All (λ c. c.told.bytes ≤ most_bytes) cs → sum_by (λ c. c.told.bytes + 1) cs ≤ (most_bytes + 1) * length cs
+few-bytes [] all = omega arith
+few-bytes (c ∷ cs) all =
+    let own = all 0 c (omega arith) in
+    let rest = few-bytes cs (λ k d low. all (suc k) d (omega (arith, low))) in
+    let whole = sum_by-cons (λ (x : Checked). x.told.bytes + 1) c cs in
+    omega (arith, own, rest, whole)
+
+low-bytes : (names : List Named) (cs : List Checked) → All (λ c. c.told.bytes ≤ most_bytes) cs → ports_in cs ≡ filter (is_named names) all_ports → sum_by (λ c. c.told.bytes + 1) cs ≤ 2 ^ 53
+low-bytes names cs all ports =
+    let most = few-bytes cs all in
+    let few = few-ports (is_named names) in
+    let size = ap (λ (ps : List ℕ). length ps) ports in
+    let same = length-map cs (λ (c : Checked). c.port) in
+    omega (arith, most, few, size, same)
+
+-- ---- commands
 at-map : (cs : List Timed) (k : ℕ) (d : Given) (c : Timed) → k < length cs → (get_or (map given_by cs) k d).at ≡ (get_or cs k c).at
 at-map [] k d c low = absurd (omega (arith, low))
 at-map (x ∷ cs) zero d c low = refl
@@ -188,57 +207,168 @@ rising-given (c ∷ cs) rising i j d low within =
     let own = rising i j c low (omega (arith, within, size)) in
     omega (arith, one, other, own)
 
-pub timely : (setup : Setup) (commands : List Timed) (t : Shape) (fate : List Verdict) (cs : List Capture) → IsScript t commands fate → IsTimely (input_with setup commands cs)
-timely setup commands t fate cs script = rising-given commands script.rising
+pub timely : (t : Shape) (commands : List Timed) (fate : List Verdict) (i : Input) → IsScript t commands fate → i.commands ≡ map given_by commands → IsTimely i
+timely t commands fate i script same = subst (λ (gs : List Given). AllPairs (λ (c d : Given). c.at ≤ d.at) gs) (sym same) (rising-given commands script.rising)
 
-pub due-begin : (m : Mode) (setup : Setup) (commands : List Timed) (fate : List Verdict) (cs : List Capture) (a : ToPlay) → IsScript (shape_of setup) commands fate → AreRead (shape_of setup) cs →
-    a ≡ begun (to_come (map stream_in cs)) commands → length (still_to_come a) ≤ 2 ^ 30 →
-    ((i : Input) (chosen : ℕ → Bool) (given : List Timed) → i.commands ≡ map given_by given → ((q : ℕ) → chosen q ≡ false → i.records q ≡ []) →
-    still_to_come (begun (to_come (map (stream_at i) (filter chosen all_ports))) given) ≡ merge i) → IsDueAfter m (input_with setup commands cs) [] None a
-due-begin m setup commands fate cs a script read is few law =
-    let i : Input = input_with setup commands cs in
-    let merged : still_to_come a ≡ merge i =
-    ap still_to_come (is ∙ ap (λ (ss : List Stream). begun (to_come ss) commands) (streams-are setup commands (shape_of setup) cs read))
-    ∙ law i read.chosen commands refl (none-elsewhere (shape_of setup) cs read) in
-    let same : a.commands ≡ commands = ap (λ (b : ToPlay). b.commands) is in
-    let none : a.taken ≡ 0 = ap (λ (b : ToPlay). b.taken) is in
-    record {
-      rest = segments-begin m i ∙ ap (segments_after m None) (sym merged);
-      came = ap (filter_map arrival_in) (sym merged);
-      given = ap (map given_by) (sym same);
-      names = (let P : List Timed → Type 0 = All (λ (c : Timed). NamesExternal (shape_of setup) c.command) in subst P (sym same) script.commands);
-      few_commands = (let size = ap (λ (xs : List Timed). length xs) same in let low = script.few_commands in omega (arith, size, low));
-      within = omega (arith, none);
-      external = external-alone (shape_of setup) cs read;
-      taken = sym none;
-      kept = tt;
-      clock = omega arith;
-      few = (let low = few in omega (arith, low));
-      few_arrivals = (let low = few in omega (arith, low));
-      since = tt;
-    }
+-- ---- ids
+-- captures that are named are none of the outputs
+apart-named : (plan : Planned) (names : List Named) (ids : ℕ → Id) (mine : List ℕ) → ((q : ℕ) (name : List ℕ) → name_of names q ≡ Some name → (j : ℕ) → j < output_count plan → name ≢ output_name plan j) →
+    AllByRecursion (λ k. ReadsCapture names (ids k)) mine → AreApart plan ids mine
+apart-named plan names ids [] apart all = tt
+apart-named plan names ids (k ∷ mine) apart all = ((all.0.name, all.0.reads, apart all.0.port all.0.name all.0.named), apart-named plan names ids mine apart all.1)
 
--- a run of what was read begins so
-pub can-begin : (tells : Type 0) (m : Mode) (setup : Setup) (given : List Timed) (fate : List Verdict) (cs : List Capture) (f : Files) (a : ToPlay) (sources : List Stream) →
-    IsScript (shape_of setup) given fate → AreRead (shape_of setup) cs →
-    a ≡ begun (to_come sources) given → length (still_to_come a) ≡ length (to_come sources) + length given → sources ≡ map stream_in cs →
-    length (to_come sources) ≤ sum_by (λ c. length c.file.items) cs →
-    ((i : Input) (chosen : ℕ → Bool) (commands : List Timed) → i.commands ≡ map given_by commands → ((q : ℕ) → chosen q ≡ false → i.records q ≡ []) →
-    still_to_come (begun (to_come (map (stream_at i) (filter chosen all_ports))) commands) ≡ merge i) →
-    CanBegin tells m (record { input = input_with setup given cs; before = f }) setup f a
-can-begin tells m setup given fate cs f a sources script read is size streams few law =
-    let short : length (still_to_come a) ≤ 2 ^ 30 = (let small = read.small in let most = script.few_commands in omega (arith, size, few, small, most)) in
+-- ---- the whole
+abbrev pub MergeOfAll : Type 0
+MergeOfAll =
+    (i : Input) (chosen : ℕ → Bool) (commands : List Timed) → i.commands ≡ map given_by commands → ((q : ℕ) → chosen q ≡ false → i.records q ≡ []) →
+    still_to_come (begun (to_come (map (stream_at i) (filter chosen all_ports))) commands) ≡ merge i
+
+-- the captures that were checked, at their first records, give all that comes
+merged : (setup : Setup) (commands : List Timed) (names : List Named) (file : Files) (cs : List Checked) (p : Programme) → MergeOfAll → StartIsLeast → AllByRecursion (IsTold names file) cs →
+    ports_in cs ≡ filter (is_named names) all_ports → p.start ≡ start_told cs → p.commands.now ≡ commands → p.taken ≡ 0 →
+    still_to_come (played_with (map (stream_told names file) cs) p) ≡ merge (input_from setup commands names file)
+merged setup commands names file cs p law least told ports start same none =
+    let i : Input = input_from setup commands names file in
+    let streams : List Stream = map (stream_told names file) cs in
+    let Of : ℕ → List Timed → ℕ → List Coming = λ s cs' k. still_to_come (record { start = s; commands = cs'; taken = k; records = to_come streams }) in
+    ap (λ s. Of s p.commands.now p.taken) (start ∙ sym (start-is names file cs least told))
+    ∙ ap (λ cs'. Of (first_second (to_come streams)) cs' p.taken) same ∙ ap (Of (first_second (to_come streams)) commands) none
+    ∙ ap (λ (ss : List Stream). still_to_come (begun (to_come ss) commands)) (told-streams i names file cs refl ∙ ap (map (stream_at i)) ports)
+    ∙ law i (is_named names) commands refl (λ q isnt. none-elsewhere names file q isnt)
+
+-- So a run of them begins.
+pub can-begin : (tells : Type 0) (m : Mode) (setup : Setup) (commands : List Timed) (fate : List Verdict) (plan : Planned) (names : List Named) (file now : Files) (cs : List Checked) (ids : ℕ → Id) (o : Outputs)
+    (before : Files) (p : Programme) → MergeOfAll → StartIsLeast → IsScript (shape_of setup) commands fate → plan.tree ≡ shape_of setup → CanBeRead tells plan names file cs →
+    p.start ≡ start_told cs → p.commands.now ≡ commands → p.taken ≡ 0 → standings p.captures ≡ map first_standing cs → left_in p.captures ≤ sum_by (λ c. c.told.bytes + 1) cs →
+    AllByRecursion (λ k. ReadsCapture names (ids k)) (ids_in p.captures) → (tells → AreReplays now ids p.captures.sources.items (map (stream_told names file) cs)) →
+    (tells → HasTexts plan (pieces_of o) before now (first_text plan)) →
+    CanBegin tells m (record { input = input_from setup commands names file; before = before }) setup plan now ids o p
+can-begin tells m setup commands fate plan names file now cs ids o before p law least script tree can start same none standing left named replays texts =
+    let i : Input = input_from setup commands names file in
+    let t : Shape = shape_of setup in
+    let ports : ports_in cs ≡ filter (is_named names) all_ports = can.checked.ports in
+    let passed : AllByRecursion (λ q. is_named names q ≡ true) (ports_in cs) = subst (AllByRecursion (λ q. is_named names q ≡ true)) (sym ports) (passing (is_named names) all_ports) in
     record {
       setup = refl;
-      before = λ told. refl;
-      timely = timely setup given (shape_of setup) fate cs script;
-      next = due-begin m setup given fate cs a script read (is ∙ ap (λ (ss : List Stream). begun (to_come ss) given) streams) short law;
+      texts = texts;
+      timely = timely t commands fate i script refl;
+      next = record {
+        given = ap (map given_by) (sym same);
+        names = (let P : List Timed → Type 0 = All (λ (c : Timed). NamesExternal t c.command) in subst P (sym same) script.commands);
+        external = λ q has.
+            ap (λ (s : Shape). is_external s q) (sym tree)
+            ∙ can.external q (has-named (λ r. is_named names r ≡ true) cs q passed (subst (HasPort q) standing has));
+        taken = sym none;
+        counted = λ q. sym (ap (λ (ss : List Standing). number_of ss q) standing ∙ numbers-one cs q);
+        kept = tt;
+        few_bytes = (let low = low-bytes names cs can.checked.small ports in omega (arith, left, low));
+        since = refl;
+      };
+      apart = apart-named plan names ids (ids_in p.captures) can.apart named;
+      leads = λ told. record {
+        streams = map (stream_told names file) cs;
+        replays = replays told;
+        rest =
+            segments-begin m i
+            ∙ ap (segments_after m None) (sym (merged setup commands names file cs p law least (all-told names file cs (can.checked.told told)) ports start same none));
+      };
     }
 
 -- the budget has room for all fates
-pub has-budget : (setup : Setup) (given : List Timed) (fate : List Verdict) (a : ToPlay) (sources : List Stream) (left : ℕ) → IsScript (shape_of setup) given fate →
-    a ≡ begun (to_come sources) given → left < 2 ^ 56 → left + length fate + letters_in (drop a.taken a.commands) < 2 ^ 57
-has-budget setup given fate a sources left script is low =
-    let all = ap (λ (b : ToPlay). letters_in (drop b.taken b.commands)) is in
+pub has-budget : (t : Shape) (given : List Timed) (fate : List Verdict) (p : Programme) (left : ℕ) → IsScript t given fate → p.commands.now ≡ given → p.taken ≡ 0 → left < 2 ^ 56 →
+    left + length fate + letters_in (drop p.taken p.commands.now) < 2 ^ 57
+has-budget t given fate p left script same none low =
+    let all = ap (λ k. letters_in (drop k p.commands.now)) none ∙ ap letters_in same in
     let few = script.few_letters in
     omega (arith, all, few, low)
+
+-- ---- while outputs are made
+-- captures stay as they are, so what was told of them stands
+pub can-read-on : (tells : Type 0) (plan : Planned) (names : List Named) (file files : Files) (cs : List Checked) → (tells → OnlyPlanned plan file files) → CanBeRead tells plan names file cs →
+    CanBeRead tells plan names files cs
+can-read-on tells plan names file files cs only can = record {
+  checked = record {
+    ports = can.checked.ports;
+    small = can.checked.small;
+    in_time = can.checked.in_time;
+    told = λ t k d low.
+        (let (name, named, good) = can.checked.told t k d low in
+        (name, named, subst (λ (o : Option (List ℕ)). IsGood o (get_or cs k d).told) (sym (only t name (λ j small is. can.apart (get_or cs k d).port name named j small is))) good));
+  };
+  external = can.external;
+  apart = can.apart;
+}
+
+pub input-stays : (setup : Setup) (commands : List Timed) (plan : Planned) (names : List Named) (file files : Files) (cs : List Checked) (tells : Type 0) → OnlyPlanned plan file files → CanBeRead tells plan names file cs →
+    input_from setup commands names files ≡ input_from setup commands names file
+input-stays setup commands plan names file files cs tells only can =
+    ap (λ (records : ℕ → List Record). record { setup = setup; commands = map given_by commands; records = records }) (fun_ext λ q. records-stay q (name_of names q) refl)
+  where
+    records-stay : (q : ℕ) (o : Option (List ℕ)) → name_of names q ≡ o → records_at names files q ≡ records_at names file q
+    records-stay q None named = none-elsewhere names files q (ap is_some named) ∙ sym (none-elsewhere names file q (ap is_some named))
+    records-stay q (Some name) named =
+        let same : files name ≡ file name = only name (λ j small is. can.apart q name named j small is) in
+        let At : Files → List Record = λ f. if is_named names q then records_or_none (pcap_records (bytes_named f (name_of names q))) else [] in
+        ap (λ (o : Option (List ℕ)). if is_some o then records_or_none (pcap_records (bytes_named files o)) else []) named
+        ∙ ap (λ (o : Option (List ℕ)). records_or_none (pcap_records (bytes_of o))) same
+        ∙ sym (ap (λ (o : Option (List ℕ)). if is_some o then records_or_none (pcap_records (bytes_named file o)) else []) named)
+
+-- ---- the least second that was told
+least-more : (d n : ℕ) (ns : List ℕ) (x : ℕ) → least_or d (n ∷ (ns ++ x ∷ [])) ≡ min (least_or d (n ∷ ns)) x
+least-more d n [] x = omega arith
+least-more d n (k ∷ ns) x = let rest = least-more n k ns x in omega (arith, rest)
+
+-- the least of what was told so far, if anything was
+abbrev pub IsLeastOf : List ℕ → Option ℕ → Type 0
+IsLeastOf [] o = o ≡ None
+IsLeastOf (n ∷ ns) o = o ≡ Some (least_or 0 (n ∷ ns))
+
+abbrev pub listed : Option ℕ → List ℕ
+listed None = []
+listed (Some x) = x ∷ []
+
+least-next : (xs : List ℕ) (o told : Option ℕ) → IsLeastOf xs o → IsLeastOf (xs ++ listed (option_map second_of told)) (earlier o told)
+least-next [] o None is = ap (λ (b : Option ℕ). earlier b None) is
+least-next [] o (Some first) is = ap (λ (b : Option ℕ). earlier b (Some first)) is ∙ ap Some (itself (second_of first))
+  where
+    itself : (n : ℕ) → n ≡ min n n
+    itself n = omega arith
+least-next (n ∷ ns) o None is = subst (λ (xs : List ℕ). IsLeastOf xs (earlier o None)) (sym (append-nil (n ∷ ns))) (ap (λ (b : Option ℕ). earlier b None) is)
+least-next (n ∷ ns) o (Some first) is = ap (λ (b : Option ℕ). earlier b (Some first)) is ∙ ap Some (sym (least-more 0 n ns (second_of first)))
+
+told-more : (cs : List Checked) (at : ℕ) (c : Checked) → at < length cs → c ≡ get_or cs at c → filter_map second_told (take (at + 1) cs) ≡ filter_map second_told (take at cs) ++ listed (second_told c)
+told-more cs at c low is = ap (filter_map second_told) (take_more cs at c low ∙ ap (λ (x : Checked). take at cs ++ x ∷ []) (sym is)) ∙ append-one (take at cs)
+  where
+    append-one : (xs : List Checked) → filter_map second_told (xs ++ c ∷ []) ≡ filter_map second_told xs ++ listed (second_told c)
+    append-one [] = one (second_told c)
+      where
+        one : (o : Option ℕ) → more o [] ≡ listed o
+        one None = refl
+        one (Some x) = refl
+    append-one (x ∷ xs) = by_told (second_told x) (append-one xs)
+      where
+        by_told : (o : Option ℕ) → filter_map second_told (xs ++ c ∷ []) ≡ filter_map second_told xs ++ listed (second_told c) →
+            more o (filter_map second_told (xs ++ c ∷ [])) ≡ more o (filter_map second_told xs) ++ listed (second_told c)
+        by_told None rest = rest
+        by_told (Some y) rest = ap (λ (ys : List ℕ). y ∷ ys) rest
+
+-- the least of the captures so far
+abbrev pub IsLeastTold : List Checked → Option ℕ → Type 0
+IsLeastTold cs o = IsLeastOf (filter_map (λ (c : Checked). option_map second_of c.told.first) cs) o
+
+pub least-told : (cs : List Checked) (at : ℕ) (c : Checked) (o : Option ℕ) → at < length cs → c ≡ get_or cs at c → IsLeastTold (take at cs) o → IsLeastTold (take (at + 1) cs) (earlier o c.told.first)
+least-told cs at c o low is so_far =
+    subst (λ (xs : List ℕ). IsLeastOf xs (earlier o c.told.first)) (sym (told-more cs at c low is)) (least-next (filter_map second_told (take at cs)) o c.told.first so_far)
+
+pub least-end : (xs : List ℕ) (o : Option ℕ) → IsLeastOf xs o → unwrap_or o 0 ≡ least_or 0 xs
+least-end [] o is = ap (λ (b : Option ℕ). unwrap_or b 0) is
+least-end (n ∷ ns) o is = ap (λ (b : Option ℕ). unwrap_or b 0) is
+
+-- none of them is before it
+below-all : (m k : ℕ) (xs : List ℕ) → m ≤ k → AllByRecursion (λ x. k ≤ x) xs → AllByRecursion (λ x. m ≤ x) xs
+below-all m k [] low all = tt
+below-all m k (x ∷ xs) low all = (let own = all.0 in omega (arith, low, own), below-all m k xs low all.1)
+
+least-low : (d : ℕ) (xs : List ℕ) → AllByRecursion (λ x. least_or d xs ≤ x) xs
+least-low d [] = tt
+least-low d (n ∷ ns) = (omega arith, below-all (min n (least_or n ns)) (least_or n ns) ns (omega arith) (least-low n ns))

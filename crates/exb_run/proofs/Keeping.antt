@@ -115,3 +115,44 @@ goes-writing tells plan mine f g h a b c one two =
 pub goes-then : (tells : Type 0) (plan : Planned) (mine : List ℕ) (f g h : Files) (a b c : ℕ → Id) → OnlyGoesOn tells plan mine f g a b → OnlyGoesOn tells plan mine g h b c → OnlyGoesOn tells plan mine f h a c
 goes-then tells plan mine f g h a b c one two =
     record { others = λ t m away. two.others t m away ∙ one.others t m away; reads = reads-then mine a b c one.reads two.reads }
+
+-- ---- what is still to come of captures, by the names of their files
+names-read : (given ids : ℕ → Id) (all : List ℕ) (ss : List Again) → ReadsOn all given ids → AllByRecursion (λ (s : Again). IsAt (given s.replay.file.id) s.replay.file.got) ss →
+    AllByRecursion (λ (s : Again). (ids s.replay.file.id).name ≡ (given s.replay.file.id).name) ss
+names-read given ids all [] reads at = tt
+names-read given ids all (s ∷ ss) reads at =
+    let k : ℕ = s.replay.file.id in
+    ((reads.same k (given k).name (record { given = at.0.given; reads = at.0.reads; named = refl })).named, names-read given ids all ss reads at.1)
+
+replays-named : (file files : Files) (given ids : ℕ → Id) (ss : List Again) (xs : List Stream) → SameFiles file files → AllByRecursion (λ (s : Again). (ids s.replay.file.id).name ≡ (given s.replay.file.id).name) ss →
+    AreReplays file given ss xs → AreReplays files ids ss xs
+replays-named file files given ids [] [] same named are = tt
+replays-named file files given ids [] (x ∷ xs) same named are = absurd are
+replays-named file files given ids (s ∷ ss) [] same named are = absurd are
+replays-named file files given ids (s ∷ ss) (x ∷ xs) same named are =
+    let one : IsReplayOf file given s x = are.0 in
+    let bytes : bytes_of (files (ids s.replay.file.id).name) ≡ bytes_of (file (given s.replay.file.id).name) = ap bytes_of (ap files named.0 ∙ same (given s.replay.file.id).name) in (
+      record {
+        port = one.port;
+        index = one.index;
+        least = one.least;
+        left = subst (λ (b : List ℕ). IsReplaying b x.records s.replay) (sym bytes) one.left;
+        over = one.over;
+      },
+      replays-named file files given ids ss xs same named.1 are.1,
+    )
+
+names-back : (given ids : ℕ → Id) (ss : List Again) → AllByRecursion (λ (s : Again). (ids s.replay.file.id).name ≡ (given s.replay.file.id).name) ss →
+    AllByRecursion (λ (s : Again). (given s.replay.file.id).name ≡ (ids s.replay.file.id).name) ss
+names-back given ids [] named = tt
+names-back given ids (s ∷ ss) named = (sym named.0, names-back given ids ss named.1)
+
+-- after others were read, and before
+pub replays-read : (file files : Files) (given ids : ℕ → Id) (all : List ℕ) (ss : List Again) (xs : List Stream) → AllByRecursion (IsOpened given) ss → OnlyReads all file files given ids →
+    AreReplays file given ss xs → AreReplays files ids ss xs
+replays-read file files given ids all ss xs opened only = replays-named file files given ids ss xs only.files (names-read given ids all ss only.reads (opened-at given ss opened))
+
+pub replays-unread : (file files : Files) (given ids : ℕ → Id) (all : List ℕ) (ss : List Again) (xs : List Stream) → AllByRecursion (IsOpened given) ss → OnlyReads all file files given ids →
+    AreReplays files ids ss xs → AreReplays file given ss xs
+replays-unread file files given ids all ss xs opened only =
+    replays-named files file ids given ss xs (λ n. sym (only.files n)) (names-back given ids ss (names-read given ids all ss only.reads (opened-at given ss opened)))

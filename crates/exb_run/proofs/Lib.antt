@@ -3,6 +3,7 @@ pub mod Counting
 pub mod Segmenting
 pub mod Taking
 pub mod Gathering
+pub mod Keeping
 pub mod Counters
 pub mod Following
 pub mod Going
@@ -10,7 +11,6 @@ pub mod Tallying
 pub mod Places
 pub mod Telling
 pub mod Ending
-pub mod Coming
 pub mod Beginning
 pub mod Filling
 pub mod OutputLemmas
@@ -27,4 +27,3 @@ pub mod Handing
 pub mod Scratching
 pub mod ShelvingLemmas
 pub mod OpenLemmas
-pub mod OtherRecords

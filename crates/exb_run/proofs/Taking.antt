@@ -101,10 +101,10 @@ from-earlier m k p low from = record {
     by_first (Some j) is = omega (arith, low, is)
 
 second-low : (m s : ℕ) → second_of m ≡ s → s * 1_000_000_000 ≤ m
-second-low m s is = ?
+second-low m s is = omega (arith, is)
 
 second-high : (m l : ℕ) → l * 1_000_000_000 ≤ m → l ≤ second_of m
-second-high m l low = ?
+second-high m l low = omega (arith, low)
 
 -- nothing that is left comes before the second of what was taken
 pub comes-from : (a b : Programme) (d : Next) (ds : List Next) (second : ℕ) → ComeAll a (d ∷ ds) b → second_by d ≡ second → AllByRecursion (λ x. second_by x ≡ second) ds →

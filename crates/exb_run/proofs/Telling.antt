@@ -1,6 +1,6 @@
 -- What a run has told and what has left, one segment more.
 use Rattle.std.proofs.Common.{◌≡◌, ℕ, zero, suc, ◌+◌, ◌*◌, ◌^◌, ◌<◌, ◌≤◌, ◌==◌, Bool, true, false, List, [], ◌∷◌, ◌++◌, length, All, get_or, nat_lt, refl, ap, sym, subst, ◌∙◌, arith, inl, inr, eq-eqb, length-append}
-use Rattle.std.specs.Prelude.{Result, Ok, Err, is_err, OnOk, if◌then◌else◌, slice_index_or}
+use Rattle.std.specs.Prelude.{Result, Ok, Err, is_err, IfOk, OnOk, if◌then◌else◌, slice_index_or}
 use Rattle.std.specs.List.{AllByRecursion}
 use Rattle.std.proofs.lemmas.Bool.{ne_eqb, lt-ltb, le-ltb}
 use Rattle.std.proofs.lemmas.Grind.{flat_map-append}
@@ -26,7 +26,8 @@ use Rattle.exb_resting.specs.Flight.Showing.{left_at}
 use Rattle.exb_text.specs.Tallies.{FitsTally, nothing_counted}
 use Rattle.exb_run.specs.Outputs.{output_name}
 use Rattle.exb_run.specs.Plans.{Planned, output_count, port_count, port_at}
-use Rattle.exb_run.specs.Playing.{CanBeKept, CanFollow, counts_so_far, text_so_far}
+use Rattle.exb_run.specs.Playing.{CanBeKept, counts_so_far, text_so_far}
+use Rattle.exb_run.specs.UnderWay.{CanFollow}
 use Rattle.exb_run.specs.Writing.{HasTexts, Holds, CanBeWritten, first_text, lines_of, with_more, with_left_frames}
 use Rattle.exb_run.proofs.Counting.{count_events, count_events-left}
 use Rattle.exb_run.proofs.Filling.{weaker}
@@ -42,6 +43,10 @@ when_ok (Err d) e p = cc
 pub on_ok_by : {T E Q : Type 0} (r : Result T E) → (((P : Type 0) → OnOk r P → P) → Q) → OnOk r Q
 on_ok_by (Ok v) f = f (λ P p. p)
 on_ok_by (Err e) f = tt
+
+pub if_ok_both : {T E Q : Type 0} {P R : T → Type 0} (r : Result T E) → ((v : T) → P v → Q → R v) → IfOk r P → OnOk r Q → IfOk r R
+if_ok_both (Ok v) f p q = f v p q
+if_ok_both (Err e) f p q = tt
 
 -- the same texts
 pub same_texts : (plan : Planned) (pieces : List (List ℕ)) (old new : Files) (text text' : ℕ → List ℕ) → ((j : ℕ) → j < output_count plan → text j ≡ text' j) →
@@ -185,7 +190,7 @@ counts-fit m i so_far n told gone lines law follows p =
     }
 
 -- arrivals together
-pub arrivals-low : (m : Mode) (i : Input) (so_far : List Segment) (n : Network) (told : List Event) (gone : List Leaving) (lines : List TraceLine) → RunsAreFew → length (arrivals_in so_far) ≤ 2 ^ 30 →
+pub arrivals-low : (m : Mode) (i : Input) (so_far : List Segment) (n : Network) (told : List Event) (gone : List Leaving) (lines : List TraceLine) → RunsAreFew → length (arrivals_in so_far) ≤ 2 ^ 49 →
     HasPlayed m i so_far n told gone lines → (counts_so_far told gone).relayed + (counts_so_far told gone).ignored < 2 ^ 64
 arrivals-low m i so_far n told gone lines law low p =
     let few = law m i so_far p.done p.plays in
