@@ -30,7 +30,7 @@ use Rattle.exb_run.specs.declared.checked.Checked.{Checked}
 use Rattle.exb_run.specs.declared.fault.Fault.{Fault}
 use Rattle.exb_run.specs.declared.fault.Fault.TheVariants.{Usage, Missing, Topology as BadTopology, Capture as Faulty, Changed, Read, Write, Memory}
 use Rattle.exb_run.specs.Answers.{eager_summary}
-use Rattle.exb_run.specs.Checks.{AreAllGood, AreChecked, CanBeRead, FirstFault, IsGoodNamed, most_bytes}
+use Rattle.exb_run.specs.Checks.{AreAllGood, AreChecked, CanBeRead, FirstFault, IsGood, IsGoodNamed, most_bytes}
 use Rattle.exb_run.specs.Inputs.{bytes_named, input_from, is_named, name_of, records_at}
 use Rattle.exb_run.specs.Outputs.{HasPlayed, output_name}
 use Rattle.exb_run.specs.Plans.{Planned, output_count, port_at}
@@ -215,11 +215,9 @@ module _ (number : ℕ) (setup : Setup) (cs : List Capture) (names : List Named)
   good_by None q kept' = tt
   good_by (Some name) q kept' =
       let own = kept' name refl in
-      (
-        scanned_of own.bytes ((made number).records q),
-        subst (λ (o : Option (List ℕ)). IsGoodNamed (Some name) (λ n. o)) (sym own.there)
-        (scanned_of own.bytes ((made number).records q), record { small = own.small; records = (made number).records q; read = own.read; tells = refl }).1,
-      )
+      let told = scanned_of own.bytes ((made number).records q) in
+      let good : IsGood (Some own.bytes) told = record { small = own.small; records = (made number).records q; read = own.read; tells = refl } in
+      (told, subst (λ (o : Option (List ℕ)). IsGood o told) (sym own.there) good)
 
   pub all_good : AreAllGood names file
   all_good q low = good_by (name_of names q) q (kept q)
@@ -247,13 +245,16 @@ module _ (number : ℕ) (setup : Setup) (cs : List Capture) (names : List Named)
   unfolding capture_name journal_name trace_name
   apart_from plan q name prefix own j (inl inside) e =
       let same : name_made q ≡ capture_name (codes "out/") (port_at plan j) = sym own ∙ e ∙ name_of_capture plan j inside ∙ ap (λ (p : List ℕ). capture_name p (port_at plan j)) prefix in
-      cc
+      let byte : 105 ≡ 111 = ap (λ (bs : List ℕ). get_or bs 0 0) same in
+      omega (arith, byte)
   apart_from plan q name prefix own j (inr (inl at)) e =
       let same : name_made q ≡ journal_name (codes "out/") = sym own ∙ e ∙ name_of_journal plan j at ∙ ap journal_name prefix in
-      cc
+      let byte : 105 ≡ 111 = ap (λ (bs : List ℕ). get_or bs 0 0) same in
+      omega (arith, byte)
   apart_from plan q name prefix own j (inr (inr last)) e =
       let same : name_made q ≡ trace_name (codes "out/") = sym own ∙ e ∙ name_of_trace plan j last.1 ∙ ap trace_name prefix in
-      cc
+      let byte : 105 ≡ 111 = ap (λ (bs : List ℕ). get_or bs 0 0) same in
+      omega (arith, byte)
 
   pub made_captures : (plan : Planned) (captures : List Checked) → plan.tree ≡ shape_of setup → plan.prefix ≡ codes "out/" → AreChecked ⊤ names file captures → CanBeRead ⊤ plan names file captures
   made_captures plan captures tree prefix checked = record {
