@@ -24,5 +24,6 @@ pub mod Running
 pub mod RunLemmas
 pub mod Reporting
 pub mod Handing
+pub mod Scratching
 pub mod ShelvingLemmas
 pub mod OpenLemmas

@@ -68,9 +68,9 @@ apart_from t prefix name none =
     let others : (k : ℕ) → k < 3 → bytes_eq name (get_or (output_names prefix t) (length captures + k) []) ≡ false = λ k low. none_pass (bytes_eq name) (output_names prefix t) none (length captures + k) [] (omega (arith, low, all, length-map (external_ports t) (capture_name prefix))) in
     record {
       captures = λ k d low.
-        differ name (capture_name prefix (get_or (external_ports t) k d)) (subst (λ o. bytes_eq name o ≡ false)
-        (get_or_append_left captures _ [] k (omega (arith, low, length-map (external_ports t) (capture_name prefix))) ∙ get_or-map (capture_name prefix) (external_ports t) k d [] low)
-        (none_pass (bytes_eq name) (output_names prefix t) none k [] (omega (arith, low, all))));
+          differ name (capture_name prefix (get_or (external_ports t) k d)) (subst (λ o. bytes_eq name o ≡ false)
+          (get_or_append_left captures _ [] k (omega (arith, low, length-map (external_ports t) (capture_name prefix))) ∙ get_or-map (capture_name prefix) (external_ports t) k d [] low)
+          (none_pass (bytes_eq name) (output_names prefix t) none k [] (omega (arith, low, all))));
       journal = differ name (journal_name prefix) (subst (λ o. bytes_eq name o ≡ false) (get_or-append-add captures _ 0 []) (others 0 (omega arith)));
       trace = differ name (trace_name prefix) (subst (λ o. bytes_eq name o ≡ false) (get_or-append-add captures _ 1 []) (others 1 (omega arith)));
     }
@@ -181,9 +181,9 @@ sound_by t file shape same ports counted captures commands fate prefix =
     record {
       captures = subst (λ (s : Shape). All (λ x. is_external s x.port ≡ true) t.captures) same (subst (λ (xs : List Named). All (λ x. is_external shape x.port ≡ true) xs) captures ports.captures);
       apart =
-        subst (λ (s : Shape). All (λ x. IsApart s t.prefix x.name) t.captures) same
-        (subst (λ (p : List ℕ). All (λ x. IsApart shape p x.name) t.captures) prefix
-        (subst (λ (xs : List Named). All (λ x. IsApart shape file.bridge.out x.name) xs) captures ports.apart));
+          subst (λ (s : Shape). All (λ x. IsApart s t.prefix x.name) t.captures) same
+          (subst (λ (p : List ℕ). All (λ x. IsApart shape p x.name) t.captures) prefix
+          (subst (λ (xs : List Named). All (λ x. IsApart shape file.bridge.out x.name) xs) captures ports.apart));
       commands = subst (λ (s : Shape). All (λ c. NamesExternal s c.command) t.commands) same (commands_out shape t.commands file.commands commands ports.commands);
       few_commands = subst (λ (n : ℕ). n ≤ 65536) long counted.few;
       rising = rising Seconds Letters 0 (length t.fate) t.commands follow;
