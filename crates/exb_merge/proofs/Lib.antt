@@ -7,3 +7,4 @@ pub mod Merged
 pub mod Among
 pub mod Starting
 pub mod PortOrder
+pub mod Programming

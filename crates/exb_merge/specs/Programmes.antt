@@ -1,5 +1,5 @@
 -- What is still to be played where captures are read again: the commands of a topology among the records.
-use Rattle.std.specs.Prelude.{◌≡◌, ◌+◌, ◌-◌, ◌*◌, ◌<◌, ◌≤◌, ◌^◌, ℕ, List, [], ◌∷◌, length, AllPairs, Option, Some, None, IfSome}
+use Rattle.std.specs.Prelude.{◌≡◌, ◌+◌, ◌-◌, ◌*◌, ◌<◌, ◌≤◌, ◌^◌, if◌then◌else◌, ℕ, List, [], ◌∷◌, length, AllPairs, Option, Some, None, IfSome}
 use Rattle.exb_model.specs.declared.setup.Timed.{Timed}
 use Rattle.exb_model.specs.Input.{Coming, Captured, Ordered, moment_of, second_of}
 use Rattle.exb_shelf.specs.Files.{Files}
@@ -7,9 +7,9 @@ use Rattle.exb_shelf.specs.Shelf.{Id}
 use Rattle.exb_merge.specs.declared.programme.Next.{Next}
 use Rattle.exb_merge.specs.declared.programme.Next.TheVariants as next
 use Rattle.exb_merge.specs.declared.programme.Programme.{Programme}
-use Rattle.exb_merge.specs.Agendas.{ToPlay, commands_left, first_moment, still_to_come}
+use Rattle.exb_merge.specs.Agendas.{ToPlay, comes_first, commands_left, first_moment, still_to_come}
 use Rattle.exb_merge.specs.Arrivals.{arrival_with}
-use Rattle.exb_merge.specs.Replays.{AreOpened, AreReplays, AreToldSince, HasCome, NoneIsBefore, ids_in, left_in, standings}
+use Rattle.exb_merge.specs.Replays.{AreOpened, AreReplays, AreToldSince, HasCome, IsEarliest, NoneIsBefore, ids_in, left_in, standings}
 use Rattle.exb_merge.specs.Streams.{Stream, to_come}
 
 -- what is still to be played where this is still to come of the captures
@@ -34,6 +34,19 @@ pub record IsProgramme (ids : ℕ → Id) (p : Programme) : Type 0 where
 pub record IsFrom (moment : ℕ) (p : Programme) : Type 0 where
   pub commands : IfSome (first_moment (commands_left (played_with [] p))) (λ k. moment ≤ k)
   pub captures : NoneIsBefore moment p.captures
+
+-- the moment of a command or of a record: of the record where it comes first
+abbrev pub sooner : Option ℕ → Option ℕ → Option ℕ
+sooner command captured = if comes_first command captured then command else captured
+
+-- the moment of what comes next, if anything does, whatever the files hold
+abbrev pub IsSoonest : Option ℕ → Programme → Type 0
+IsSoonest moment p = (captured : Option ℕ) × IsEarliest captured p.captures × (moment ≡ sooner (first_moment (commands_left (played_with [] p))) captured)
+
+-- its moment, if anything came
+abbrev pub moment_in : Option Next → Option ℕ
+moment_in None = None
+moment_in (Some d) = Some (moment_of (what d))
 
 -- how much is left: a bound on how often more can come
 abbrev pub left_of : Programme → ℕ

@@ -1,5 +1,5 @@
 -- The captures of some ports that are read again, each looked at as far as its next record.
-use Rattle.std.specs.Prelude.{⊤, ⊥, ◌≡◌, ◌≢◌, ◌<◌, ◌≤◌, ◌+◌, ◌*◌, ◌^◌, ◌==◌, suc, if◌then◌else◌, true, ℕ, List, [], ◌∷◌, ◌⊎◌, length, map, sum_by, Option, Some, None, IfSome}
+use Rattle.std.specs.Prelude.{⊤, ◌≡◌, ◌≢◌, ◌<◌, ◌≤◌, ◌+◌, ◌*◌, ◌^◌, ◌==◌, suc, if◌then◌else◌, true, ℕ, List, [], ◌∷◌, ◌⊎◌, length, map, sum_by, Option, Some, None, IfSome}
 use Rattle.std.specs.List.{AllByRecursion}
 use Rattle.exb_model.specs.Input.{Captured, second_of}
 use Rattle.exb_shelf.specs.Files.{Files, bytes_of}
@@ -7,11 +7,21 @@ use Rattle.exb_shelf.specs.Shelf.{Id, IsReadingOf}
 use Rattle.exb_scan.specs.Reading.{IsAt, left_to_read}
 use Rattle.exb_scan.specs.Replaying.{IsKept, ComesAt, IsReplaying}
 use Rattle.exb_merge.specs.declared.replays.Again.{Again}
+use Rattle.exb_scan.specs.declared.replay.ReplayFault.{ReplayFault}
+use Rattle.exb_scan.specs.declared.replay.ReplayFault.TheVariants as replay
+use Rattle.exb_merge.specs.declared.replays.CaptureFault.{CaptureFault}
+use Rattle.exb_merge.specs.declared.replays.CaptureFault.TheVariants.{Memory, Read, Changed}
 use Rattle.exb_merge.specs.declared.replays.Came.{Came}
 use Rattle.exb_merge.specs.declared.replays.Replays.{Replays}
 use Rattle.exb_merge.specs.Arrivals.{arrival_with}
 use Rattle.exb_merge.specs.Streams.{Stream, to_come}
 use Rattle.exb_merge.specs.Turns.{IsInTurn}
+
+-- why captures aren't read on, where that of this port isn't
+abbrev pub fault_at : ℕ → ReplayFault → CaptureFault
+fault_at p replay.Memory = Memory
+fault_at p replay.Read = Read
+fault_at p (replay.Changed at) = Changed p at
 
 -- ---- what comes next of one capture
 -- the next record alone, without its bytes, as a stream: its turn is the capture's turn

@@ -14,5 +14,5 @@ mod source;
 pub use agenda::{Agenda, Due};
 pub use captures::Captures;
 pub use programme::{Next, Programme};
-pub use replays::{Came, Replays};
+pub use replays::{Came, CaptureFault, Replays};
 pub use source::Coming;

@@ -1,17 +1,16 @@
 //! Commands, and the records of captures that are read again, in the order in which they are played.
-ghost use Rattle.std.specs.Prelude.{◌≡◌, ◌≢◌, ◌+◌, ◌-◌, ◌*◌, ◌^◌, ◌<◌, ◌≤◌, ℕ, List, [], ◌∷◌, false, length, take, drop, AllPairs, IfOk, OnOk, IfSome, IfNone, IsErrOf};
+ghost use Rattle.std.specs.Prelude.{◌≡◌, ◌≢◌, ◌+◌, ◌-◌, ◌*◌, ◌^◌, ◌<◌, ◌≤◌, ℕ, List, [], ◌∷◌, true, false, Some, None, length, take, drop, AllPairs, IfOk, OnOk, IfSome, IfNone, IsErrOf};
 ghost use Rattle.exb_model.specs.Input.{moment_of, second_of};
 ghost use Rattle.exb_shelf.specs.Files.{SameFiles};
 ghost use Rattle.exb_shelf.specs.Shelf.{Id, Rose, NoFewer};
-ghost use Rattle.exb_merge.specs.Agendas.{begins_in, commands_left, first_moment, still_to_come};
-ghost use Rattle.exb_merge.specs.Programmes.{IsComing, IsFrom, IsProgramme, IsTakenOf, left_of, played_with, what};
+ghost use Rattle.exb_merge.specs.Agendas.{begins_in, comes_first, commands_left, first_moment, still_to_come};
+ghost use Rattle.exb_merge.specs.Programmes.{IsComing, IsProgramme, IsSoonest, IsTakenOf, moment_in, played_with, what};
 ghost use Rattle.exb_merge.specs.Replays.{AreOpened, AreReplays, AreToldSince, IsEarliest, NoneIsBefore, ReadsOn, ids_in};
 ghost use Rattle.exb_merge.specs.Streams.{Stream, to_come};
 
 use crate::agenda::{comes_first, is_of, moment_after};
-use crate::replays::{Came, Replays};
+use crate::replays::{Came, CaptureFault, Replays};
 use exb_model::setup::Timed;
-use exb_scan::ReplayFault;
 use exb_shelf::Shelf;
 use std::alloc::Global;
 
@@ -83,8 +82,7 @@ impl<'a> Programme<'a> {
     /// The moment of what comes next, if anything does. Nothing is read for it.
     fn next_moment(&self) -> Option<u64>
         requires programme { (ids : ℕ → Id) × IsProgramme ids self.now }
-        ensures told { (streams : List Stream) → IsEarliest (first_moment (to_come streams)) self.now.captures
-            → result ≡ first_moment (still_to_come (played_with streams self.now)) }
+        ensures { IsSoonest result self.now }
     {
         let command = self.command_moment();
         let captured = self.captures.moment();
@@ -103,7 +101,8 @@ impl<'a> Programme<'a> {
         ensures programme { (ids : ℕ → Id) → IsProgramme ids self.old → IsProgramme ids self.new }
         ensures captures { self.new.captures ≡ self.old.captures }
         ensures coming { IsComing self.old result self.new }
-        ensures order { (streams : List Stream) → IfSome (first_moment (to_come streams)) (λ k. IfSome (first_moment (commands_left (played_with [] self.old))) (λ m. m ≤ k))
+        ensures moment { first_moment (commands_left (played_with [] self.old)) ≡ Some (moment_of (what result)) }
+        ensures order { (streams : List Stream) → comes_first (first_moment (commands_left (played_with [] self.old))) (first_moment (to_come streams)) ≡ true
             → still_to_come (played_with streams self.old) ≡ what result ∷ still_to_come (played_with streams self.new) }
     {
         let commands = self.commands;
@@ -137,24 +136,25 @@ impl<'a> Programme<'a> {
         alloc: Global,
         shelf: &mut S,
         piece: &mut [u8],
-    ) -> Result<Option<Next>, ReplayFault>
+    ) -> Result<Option<Next>, CaptureFault>
         requires programme { IsProgramme (S.ids shelf.old) self.old }
         requires piece { 0 < length piece.old }
         ensures piece { length piece.new ≡ length piece.old }
         ensures programme { OnOk result (IsProgramme (S.ids shelf.new) self.new) }
         ensures coming { IfOk result (λ next. IfSome next (λ d. IsComing self.old d self.new)) }
+        ensures soonest { IfOk result (λ next. IsSoonest (moment_in next) self.old) }
         ensures end { IfOk result (λ next. IfNone next ((self.old.taken ≡ length self.old.commands.now) × IsEarliest None self.old.captures)) }
 
         ensures order { S.tells → IfOk result (λ next. IfSome next (λ d. IsTakenOf (S.file shelf.old) (S.file shelf.new) (S.ids shelf.old) (S.ids shelf.new) self.old d self.new)) }
         ensures nothing { S.tells → IfOk result (λ next. IfNone next ((streams : List Stream) → AreReplays (S.file shelf.old) (S.ids shelf.old) self.old.captures.sources.items streams
             → still_to_come (played_with streams self.old) ≡ [])) }
-        ensures never { S.tells → (at : ℕ) → IsErrOf result (ReplayFault.Changed at) → (streams : List Stream)
+        ensures never { S.tells → (p at : ℕ) → IsErrOf result (CaptureFault.Changed p at) → (streams : List Stream)
             → AreReplays (S.file shelf.old) (S.ids shelf.old) self.old.captures.sources.items streams → ⊥ }
 
         ensures reads { ReadsOn (ids_in self.old.captures) (S.ids shelf.old) (S.ids shelf.new) }
         ensures files { SameFiles (S.file shelf.old) (S.file shelf.new) }
         ensures faults { NoFewer (S.faults shelf.old) (S.faults shelf.new) }
-        ensures failed { IsErrOf result ReplayFault.Read → Rose (S.faults shelf.old).reads (S.faults shelf.new).reads }
+        ensures failed { IsErrOf result CaptureFault.Read → Rose (S.faults shelf.old).reads (S.faults shelf.new).reads }
     {
         if comes_first(self.command_moment(), self.captures.moment()) {
             return Ok(Some(self.take_command()));
@@ -172,7 +172,7 @@ impl<'a> Programme<'a> {
         shelf: &mut S,
         piece: &mut [u8],
         second: u64,
-    ) -> Result<Option<Next>, ReplayFault>
+    ) -> Result<Option<Next>, CaptureFault>
         requires programme { IsProgramme (S.ids shelf.old) self.old }
         requires piece { 0 < length piece.old }
         ensures piece { length piece.new ≡ length piece.old }
@@ -184,13 +184,13 @@ impl<'a> Programme<'a> {
         ensures order { S.tells → IfOk result (λ next. IfSome next (λ d. IsTakenOf (S.file shelf.old) (S.file shelf.new) (S.ids shelf.old) (S.ids shelf.new) self.old d self.new)) }
         ensures other { S.tells → IfOk result (λ next. IfNone next ((streams : List Stream) → AreReplays (S.file shelf.old) (S.ids shelf.old) self.old.captures.sources.items streams
             → begins_in second (still_to_come (played_with streams self.old)) ≡ false)) }
-        ensures never { S.tells → (at : ℕ) → IsErrOf result (ReplayFault.Changed at) → (streams : List Stream)
+        ensures never { S.tells → (p at : ℕ) → IsErrOf result (CaptureFault.Changed p at) → (streams : List Stream)
             → AreReplays (S.file shelf.old) (S.ids shelf.old) self.old.captures.sources.items streams → ⊥ }
 
         ensures reads { ReadsOn (ids_in self.old.captures) (S.ids shelf.old) (S.ids shelf.new) }
         ensures files { SameFiles (S.file shelf.old) (S.file shelf.new) }
         ensures faults { NoFewer (S.faults shelf.old) (S.faults shelf.new) }
-        ensures failed { IsErrOf result ReplayFault.Read → Rose (S.faults shelf.old).reads (S.faults shelf.new).reads }
+        ensures failed { IsErrOf result CaptureFault.Read → Rose (S.faults shelf.old).reads (S.faults shelf.new).reads }
     {
         if is_of(self.next_moment(), second) {
             self.next(alloc, shelf, piece)

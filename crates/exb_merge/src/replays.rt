@@ -1,5 +1,5 @@
 //! The captures of some ports that were checked, as they are read again and played.
-ghost use Rattle.std.specs.Prelude.{◌≡◌, ◌≢◌, ◌+◌, ◌*◌, ◌^◌, ◌<◌, ◌≤◌, [], ◌∷◌, ◌++◌, ℕ, List, Some, None, length, IfOk, OnOk, IsErrOf, IfSome, IfNone};
+ghost use Rattle.std.specs.Prelude.{false, ◌≡◌, ◌≢◌, ◌+◌, ◌*◌, ◌^◌, ◌<◌, ◌≤◌, [], ◌∷◌, ◌++◌, ℕ, List, Some, None, length, IfOk, OnOk, IsErrOf, IfSome, IfNone};
 ghost use Rattle.exb_model.specs.Input.{Record, second_of};
 ghost use Rattle.exb_pcap.specs.Captures.{pcap_records};
 ghost use Rattle.exb_shelf.specs.Files.{SameFiles, bytes_of};
@@ -8,7 +8,7 @@ ghost use Rattle.exb_pcap.specs.Pieces.{Found, asked};
 ghost use Rattle.exb_scan.specs.Reading.{left_to_read};
 ghost use Rattle.exb_scan.specs.Replaying.{ComesAt, HasGiven, IsKept, IsSameReplay, IsSince};
 ghost use Rattle.exb_scan.specs.Scans.{scanned_of};
-ghost use Rattle.exb_merge.specs.Replays.{AreOpened, AreReplays, AreToldSince, ComesFirst, HasCome, HasPort, IsEarliest, NoneIsBefore, ReadsOn, ids_in, left_in, standings};
+ghost use Rattle.exb_merge.specs.Replays.{fault_at, AreOpened, AreReplays, AreToldSince, ComesFirst, HasCome, HasPort, IsEarliest, NoneIsBefore, ReadsOn, ids_in, left_in, standings};
 ghost use Rattle.exb_merge.specs.Streams.{Stream, stream_of};
 
 use crate::captures::{Turn, put_turn};
@@ -20,6 +20,28 @@ use exb_shelf::Shelf;
 use std::alloc::Global;
 use std::cmp::Reverse;
 use std::collections::BinaryHeap;
+
+/// Why the captures can't be read on.
+#[derive(Clone, Copy, Debug, PartialEq, Eq)]
+pub enum CaptureFault {
+    /// Memory ran out.
+    Memory,
+    /// The shelf failed.
+    Read,
+    /// The capture of this port is another one than the one that was checked, as this byte shows.
+    Changed { port: PortId, at: u64 },
+}
+
+/// Why the captures can't be read on, where that of a port can't.
+fn fault_at(port: PortId, fault: ReplayFault) -> CaptureFault
+    ensures { result ≡ fault_at port fault }
+{
+    match fault {
+        ReplayFault::Memory => CaptureFault::Memory,
+        ReplayFault::Read => CaptureFault::Read,
+        ReplayFault::Changed { at } => CaptureFault::Changed { port, at },
+    }
+}
 
 /// A record that came, with its bytes.
 #[derive(Debug, Drop)]
@@ -110,7 +132,7 @@ impl Replays {
         port: PortId,
         name: &str,
         told: Scanned,
-    ) -> Result<(), ReplayFault>
+    ) -> Result<(), CaptureFault>
         requires opened { AreOpened (S.ids shelf.old) self.old }
         requires port { HasPort port (standings self.old) → ⊥ }
         requires piece { 0 < length piece.old }
@@ -125,7 +147,7 @@ impl Replays {
             → S.file shelf.old name.now ≡ Some bytes → pcap_records bytes ≡ Ok records → told ≡ scanned_of bytes records
             → AreReplays (S.file shelf.old) (S.ids shelf.old) self.old.sources.items streams
             → AreReplays (S.file shelf.new) (S.ids shelf.new) self.new.sources.items (streams ++ stream_of port records ∷ [])) }
-        ensures never { S.tells → (at : ℕ) → IsErrOf result (ReplayFault.Changed at) → (bytes : List ℕ) (records : List Record)
+        ensures never { S.tells → (p at : ℕ) → IsErrOf result (CaptureFault.Changed p at) → (bytes : List ℕ) (records : List Record)
             → S.file shelf.old name.now ≡ Some bytes → pcap_records bytes ≡ Ok records → told ≡ scanned_of bytes records → ⊥ }
 
         // What is opened, and what stays.
@@ -133,13 +155,19 @@ impl Replays {
         ensures opens { Opens (IsReadingOf name.now) (S.ids shelf.old) (S.ids shelf.new) }
         ensures files { SameFiles (S.file shelf.old) (S.file shelf.new) }
         ensures faults { NoFewer (S.faults shelf.old) (S.faults shelf.new) }
-        ensures failed { IsErrOf result ReplayFault.Read → Rose (S.faults shelf.old).reads (S.faults shelf.new).reads }
+        ensures failed { IsErrOf result CaptureFault.Read → Rose (S.faults shelf.old).reads (S.faults shelf.new).reads }
     {
         if self.turns.reserve(1).is_err() {
-            return Err(ReplayFault::Memory);
+            return Err(CaptureFault::Memory);
         }
-        let mut replay = Replay::open(alloc, shelf, name, told)?;
-        let next = replay.ahead(alloc, shelf, piece)?;
+        let mut replay = match Replay::open(alloc, shelf, name, told) {
+            Ok(replay) => replay,
+            Err(fault) => return Err(fault_at(port, fault)),
+        };
+        let next = match replay.ahead(alloc, shelf, piece) {
+            Ok(next) => next,
+            Err(fault) => return Err(fault_at(port, fault)),
+        };
         let place = self.sources.len();
         let source = Again {
             port,
@@ -148,7 +176,7 @@ impl Replays {
             replay,
         };
         if self.sources.push(source).is_err() {
-            return Err(ReplayFault::Memory);
+            return Err(CaptureFault::Memory);
         }
         put_turn(&mut self.turns, next, place);
         Ok(())
@@ -175,7 +203,7 @@ impl Replays {
         alloc: Global,
         shelf: &mut S,
         piece: &mut [u8],
-    ) -> Result<Option<Came>, ReplayFault>
+    ) -> Result<Option<Came>, CaptureFault>
         requires opened { AreOpened (S.ids shelf.old) self.old }
         requires piece { 0 < length piece.old }
         ensures piece { length piece.new ≡ length piece.old }
@@ -194,14 +222,14 @@ impl Replays {
         // Where the files are told.
         ensures order { S.tells → IfOk result (λ next. (streams : List Stream) → AreReplays (S.file shelf.old) (S.ids shelf.old) self.old.sources.items streams
             → ComesFirst streams next (λ rest. AreReplays (S.file shelf.new) (S.ids shelf.new) self.new.sources.items rest)) }
-        ensures never { S.tells → (at : ℕ) → IsErrOf result (ReplayFault.Changed at) → (streams : List Stream)
+        ensures never { S.tells → (p at : ℕ) → IsErrOf result (CaptureFault.Changed p at) → (streams : List Stream)
             → AreReplays (S.file shelf.old) (S.ids shelf.old) self.old.sources.items streams → ⊥ }
 
         ensures ids { OnOk result (ids_in self.new ≡ ids_in self.old) }
         ensures reads { ReadsOn (ids_in self.old) (S.ids shelf.old) (S.ids shelf.new) }
         ensures files { SameFiles (S.file shelf.old) (S.file shelf.new) }
         ensures faults { NoFewer (S.faults shelf.old) (S.faults shelf.new) }
-        ensures failed { IsErrOf result ReplayFault.Read → Rose (S.faults shelf.old).reads (S.faults shelf.new).reads }
+        ensures failed { IsErrOf result CaptureFault.Read → Rose (S.faults shelf.old).reads (S.faults shelf.new).reads }
     {
         let Some(Reverse((moment, place))) = self.turns.pop() else {
             return Ok(None);
@@ -209,9 +237,12 @@ impl Replays {
         let source = &mut self.sources[place];
         let came = match source.take(alloc, moment) {
             Ok(came) => came,
-            Err(_) => return Err(ReplayFault::Memory),
+            Err(_) => return Err(CaptureFault::Memory),
         };
-        let next = source.replay.ahead(alloc, shelf, piece)?;
+        let next = match source.replay.ahead(alloc, shelf, piece) {
+            Ok(next) => next,
+            Err(fault) => return Err(fault_at(source.port, fault)),
+        };
         source.next = next;
         put_turn(&mut self.turns, next, place);
         Ok(Some(came))
