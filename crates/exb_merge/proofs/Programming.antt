@@ -1,10 +1,10 @@
 -- What comes next of a programme.
-use Rattle.std.proofs.Common.{◌≡◌, ℕ, suc, ◌+◌, ◌*◌, ◌^◌, ◌<◌, ◌≤◌, Bool, true, false, cond, List, [], ◌∷◌, ◌++◌, length, get_or, map, max, refl, ap, sym, subst, ◌∙◌, arith, inl, inr}
+use Rattle.std.proofs.Common.{◌≡◌, ℕ, suc, ◌+◌, ◌*◌, ◌^◌, ◌<◌, ◌≤◌, Bool, true, false, cond, List, [], ◌∷◌, ◌++◌, length, drop, get_or, map, max, refl, ap, sym, subst, ◌∙◌, arith, inl, inr, length-drop}
 use Rattle.std.specs.Prelude.{◌⊎◌, nat_lt, flat_map, Option, Some, None, Result, Ok, Err, IfOk, IfSome, IfNone}
 use Rattle.std.specs.List.{AllByRecursion}
 use Rattle.std.proofs.lemmas.Bool.{leb-true, ltb-false, eqb-true}
 use Rattle.exb_model.specs.declared.setup.Timed.{Timed}
-use Rattle.exb_model.specs.Input.{Record, Arrival, Coming, Captured, Ordered, arrivals_from, moment_of, second_of, put_in_order, by_moment}
+use Rattle.exb_model.specs.Input.{Record, Arrival, Coming, Captured, Ordered, arrivals_from, commands_from, given_by, moment_of, second_of, put_in_order, by_moment}
 use Rattle.exb_pcap.specs.Pieces.{asked}
 use Rattle.exb_scan.specs.declared.replay.Replay.{Replay}
 use Rattle.exb_scan.specs.declared.replay.Replayed.{Replayed}
@@ -19,6 +19,7 @@ use Rattle.exb_merge.specs.declared.programme.Next.TheVariants as next
 use Rattle.exb_merge.specs.declared.programme.Programme.{Programme}
 use Rattle.exb_merge.specs.declared.replays.Again.{Again}
 use Rattle.exb_merge.specs.declared.replays.Came.{Came}
+use Rattle.exb_merge.specs.declared.replays.CaptureFault.{CaptureFault}
 use Rattle.exb_merge.specs.declared.replays.Replays.{Replays}
 use Rattle.exb_merge.specs.Agendas.{ToPlay, begins_in, comes_first, commands_left, first_moment, is_of, still_to_come}
 use Rattle.exb_merge.specs.Programmes.{IsComing, IsFrom, IsProgramme, IsSoonest, left_of, moment_in, played_with, sooner, what}
@@ -264,3 +265,53 @@ record_coming ids p new c command captured b all left e test other come first ri
 
 pub record_kept : (ids now : ℕ → Id) (p : Programme) (new : Replays) → IsProgramme ids p → AreOpened now new → AreToldSince p.start new → IsProgramme now (record p { captures = new })
 record_kept ids now p new all opened since = record { opened = opened; start = all.start; since = since; taken = all.taken; few = all.few; rising = all.rising }
+
+-- ---- what is left behind it
+-- which comes first, where the files are told
+pub first_told : (files : Files) (ids : ℕ → Id) (p : Programme) (xs : List Stream) (command captured : Option ℕ) (b v : Bool) → IsProgramme ids p → AreReplays files ids p.captures.sources.items xs →
+    command ≡ first_moment (commands_left (played_with [] p)) → IsEarliest captured p.captures → b ≡ comes_first command captured → b ≡ v →
+    comes_first (first_moment (commands_left (played_with xs p))) (first_moment (to_come xs)) ≡ v
+first_told files ids p xs command captured b v all t left e test is =
+    ap (λ o. comes_first o (first_moment (to_come xs))) (sym left)
+    ∙ ap (comes_first command) (sym (earliest_told files ids p.captures xs captured all.opened t e)) ∙ sym test ∙ is
+
+-- nothing was read
+pub told_still : (files : Files) (ids : ℕ → Id) (old new : Replays) (xs : List Stream) → new ≡ old → AreReplays files ids old.sources.items xs → AreReplays files ids new.sources.items xs
+told_still files ids old new xs same t = subst (λ (r : Replays). AreReplays files ids r.sources.items xs) (sym same) t
+
+-- all commands were taken where neither comes
+none_left_over : (p : Programme) → p.taken ≤ length p.commands.now → first_moment (commands_left (played_with [] p)) ≡ None → p.taken ≡ length p.commands.now
+none_left_over p within none = by_left (drop p.taken p.commands.now) refl
+  where
+    by_left : (cs : List Timed) → drop p.taken p.commands.now ≡ cs → p.taken ≡ length p.commands.now
+    by_left [] e = let size = length-drop p.taken p.commands.now in let empty = ap (λ (ds : List Timed). length ds) e in omega (arith, size, empty, within)
+    by_left (c ∷ cs) e =
+        let some : first_moment (commands_from p.start (p.taken + 1) (map given_by (c ∷ cs))) ≡ None =
+        ap (λ (ds : List Timed). first_moment (commands_from p.start (p.taken + 1) (map given_by ds))) (sym e) ∙ none in
+        absurd (cc)
+
+no_command : (o : Option ℕ) → comes_first o None ≡ false → o ≡ None
+no_command None h = refl
+no_command (Some k) h = absurd (cc)
+
+pub all_taken : (ids : ℕ → Id) (p : Programme) (command captured : Option ℕ) (b : Bool) → IsProgramme ids p → command ≡ first_moment (commands_left (played_with [] p)) →
+    IsEarliest captured p.captures → b ≡ comes_first command captured → b ≡ false → IsEarliest None p.captures → p.taken ≡ length p.commands.now
+all_taken ids p command captured b all left e test other end =
+    let one = one_earliest p.captures captured None e end in
+    none_left_over p all.taken (sym left ∙ no_command command (ap (comes_first command) (sym one) ∙ sym test ∙ other))
+
+-- ---- what is of a second
+pub within_second : (p : Programme) (m : Option ℕ) (r : Result (Option Next) CaptureFault) (second : ℕ) (b : Bool) → IsSoonest m p → b ≡ is_of m second → b ≡ true →
+    IfOk r (λ next. IsSoonest (moment_in next) p) → IfOk r (λ next. IfSome next (λ d. second_of (moment_of (what d)) ≡ second))
+within_second p m (Err fault) second b s test is t = tt
+within_second p m (Ok None) second b s test is t = tt
+within_second p m (Ok (Some d)) second b s test is t =
+    eqb-true (second_of (moment_of (what d))) second (ap (λ o. is_of o second) (sym (one_soonest p m (Some (moment_of (what d))) s t)) ∙ sym test ∙ is)
+
+-- something comes
+pub some_within : {Q : Type 0} (p : Programme) (m : Option ℕ) (r : Result (Option Next) CaptureFault) (second : ℕ) (b : Bool) → IsSoonest m p → b ≡ is_of m second → b ≡ true →
+    IfOk r (λ next. IsSoonest (moment_in next) p) → IfOk r (λ next. IfNone next Q)
+some_within p m (Err fault) second b s test is t = tt
+some_within p m (Ok (Some d)) second b s test is t = tt
+some_within p m (Ok None) second b s test is t =
+    absurd (let no : false ≡ true = ap (λ o. is_of o second) (sym (one_soonest p m None s t)) ∙ sym test ∙ is in cc)

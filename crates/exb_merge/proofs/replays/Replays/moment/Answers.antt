@@ -1,7 +1,0 @@
-use Rattle.exb_merge.proofs.replays.Replays.moment.Goals as goal
-
-pub returns-in-Some : goal.returns-in-Some
-returns-in-Some c = ?
-
-pub returns-in-None : goal.returns-in-None
-returns-in-None c = ?
