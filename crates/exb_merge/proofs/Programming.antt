@@ -1,18 +1,11 @@
 -- What comes next of a programme.
-use Rattle.std.proofs.Common.{◌≡◌, ℕ, suc, ◌+◌, ◌*◌, ◌^◌, ◌<◌, ◌≤◌, Bool, true, false, cond, List, [], ◌∷◌, ◌++◌, length, drop, get_or, map, max, refl, ap, sym, subst, ◌∙◌, arith, inl, inr, length-drop}
+use Rattle.std.proofs.Common.{◌≡◌, ℕ, suc, ◌+◌, ◌*◌, ◌^◌, ◌<◌, ◌≤◌, Bool, true, false, cond, List, [], ◌∷◌, ◌++◌, length, drop, get_or, map, refl, ap, sym, subst, ◌∙◌, arith, inl, inr, length-drop}
 use Rattle.std.specs.Prelude.{◌⊎◌, nat_lt, flat_map, Option, Some, None, Result, Ok, Err, IfOk, IfSome, IfNone}
 use Rattle.std.specs.List.{AllByRecursion}
 use Rattle.std.proofs.lemmas.Bool.{leb-true, ltb-false, eqb-true}
 use Rattle.exb_model.specs.declared.setup.Timed.{Timed}
-use Rattle.exb_model.specs.Input.{Record, Arrival, Coming, Captured, Ordered, arrivals_from, commands_from, given_by, moment_of, second_of, put_in_order, by_moment}
-use Rattle.exb_pcap.specs.Pieces.{asked}
-use Rattle.exb_scan.specs.declared.replay.Replay.{Replay}
-use Rattle.exb_scan.specs.declared.replay.Replayed.{Replayed}
-use Rattle.exb_scan.specs.Reading.{IsSound}
-use Rattle.exb_scan.specs.Replaying.{ComesAt, HasGiven, IsReplaying}
-use Rattle.exb_scan.proofs.Going.{taken_read}
-use Rattle.exb_scan.proofs.Replaying.{next_replayed}
-use Rattle.exb_shelf.specs.Files.{Files, bytes_of}
+use Rattle.exb_model.specs.Input.{Arrival, Coming, Captured, commands_from, given_by, moment_of, second_of, put_in_order, by_moment}
+use Rattle.exb_shelf.specs.Files.{Files}
 use Rattle.exb_shelf.specs.Shelf.{Id}
 use Rattle.exb_merge.specs.declared.programme.Next.{Next}
 use Rattle.exb_merge.specs.declared.programme.Next.TheVariants as next
@@ -23,11 +16,12 @@ use Rattle.exb_merge.specs.declared.replays.CaptureFault.{CaptureFault}
 use Rattle.exb_merge.specs.declared.replays.Replays.{Replays}
 use Rattle.exb_merge.specs.Agendas.{ToPlay, begins_in, comes_first, commands_left, first_moment, is_of, still_to_come}
 use Rattle.exb_merge.specs.Programmes.{IsComing, IsFrom, IsProgramme, IsSoonest, left_of, moment_in, played_with, sooner, what}
-use Rattle.exb_merge.specs.Replays.{AreOpened, AreReplays, AreToldSince, HasCome, HasNext, IsEarliest, IsOpened, IsReplayOf, NoneIsBefore, ids_in, left_in, standings}
+use Rattle.exb_merge.specs.Replays.{AreOpened, AreReplays, AreToldSince, HasCome, HasNext, IsEarliest, IsOpened, NoneIsBefore, ids_in, left_in, standings}
 use Rattle.exb_merge.specs.Streams.{Stream, arrivals_of, next_moment, to_come}
 use Rattle.exb_merge.proofs.Among.{Rising, command-next, record-next, none-left, moment-command, moment-record, left-is, later, not-first, second-after, second-below, second-within}
 use Rattle.exb_merge.proofs.Arriving.{NoneArrives, none_arrives-append, none_arrives-map, none_arrives-next, to_come-none}
 use Rattle.exb_merge.proofs.InOrder.{NoneBefore, none_before-by_moment, put-first}
+use Rattle.exb_merge.proofs.Told.{next_told}
 
 -- ---- the earliest of captures
 at_next : (o : Option ℕ) (m k : ℕ) → o ≡ Some m → IfSome o (λ j. k ≤ j) → k ≤ m
@@ -70,26 +64,6 @@ none_before_command r m None e first = none_from m r.sources.items e
 none_before_command r m (Some k) e first = weaker_from m k r.sources.items (leb-true m k first) e.1
 
 -- ---- the first of what is still to come of captures
--- the first record of what is left comes next
-told_moment : (bytes : List ℕ) (left : List Record) (r : Replay) (m : ℕ) → IsSound r.file → ComesAt m r → IsReplaying bytes left r →
-    (x : Record) × (rest : List Record) × (left ≡ x ∷ rest) × (m ≡ max r.least x.time)
-told_moment bytes left r m sound c k =
-    let next : Replay = record r { file = record r.file { reader = (asked r.file.ended r.file.reader).left }; fresh = false } in
-    let given : Replayed = record { moment = m; bytes = c.next.bytes } in
-    let has : HasGiven bytes (k.given ++ c.next ∷ []) next = record { read = taken_read bytes k.given c.next r.file sound c.found k.has.read; fresh = λ e. absurd (cc) } in
-    let first = next_replayed bytes left r r next m given k c sound k.has has refl refl refl refl in
-    (first.0, first.1, first.2, first.3)
-
-next_told : (files : Files) (ids : ℕ → Id) (s : Again) (x : Stream) → IsOpened ids s → IsReplayOf files ids s x → next_moment (arrivals_of x) ≡ s.next
-next_told files ids s x o t = by_next s.next refl o.comes
-  where
-    by_next : (n : Option ℕ) → s.next ≡ n → IfSome n (λ m. ComesAt m s.replay) → next_moment (arrivals_of x) ≡ n
-    by_next None e h = ap (λ rs. next_moment (arrivals_from x.port x.index x.least rs)) (t.over e)
-    by_next (Some m) e h =
-        let first = told_moment (bytes_of (files (ids s.replay.file.id).name)) x.records s.replay m o.kept.sound h t.left in
-        ap (λ rs. next_moment (arrivals_from x.port x.index x.least rs)) first.2
-        ∙ ap Some (ap (λ n. max n first.0.time) t.least ∙ sym first.3)
-
 -- one has this moment
 abbrev HasMoment : ℕ → List Coming → Type 0
 HasMoment m [] = ⊥
