@@ -283,9 +283,9 @@ within_second p m (Ok (Some d)) second b s test is t =
     eqb-true (second_of (moment_of (what d))) second (ap (λ o. is_of o second) (sym (one_soonest p m (Some (moment_of (what d))) s t)) ∙ sym test ∙ is)
 
 -- something comes
-pub some_within : {Q : Type 0} (p : Programme) (m : Option ℕ) (r : Result (Option Next) CaptureFault) (second : ℕ) (b : Bool) → IsSoonest m p → b ≡ is_of m second → b ≡ true →
+pub some_within : (Q : Type 0) (p : Programme) (m : Option ℕ) (r : Result (Option Next) CaptureFault) (second : ℕ) (b : Bool) → IsSoonest m p → b ≡ is_of m second → b ≡ true →
     IfOk r (λ next. IsSoonest (moment_in next) p) → IfOk r (λ next. IfNone next Q)
-some_within p m (Err fault) second b s test is t = tt
-some_within p m (Ok (Some d)) second b s test is t = tt
-some_within p m (Ok None) second b s test is t =
+some_within Q p m (Err fault) second b s test is t = tt
+some_within Q p m (Ok (Some d)) second b s test is t = tt
+some_within Q p m (Ok None) second b s test is t =
     absurd (let no : false ≡ true = ap (λ o. is_of o second) (sym (one_soonest p m None s t)) ∙ sym test ∙ is in cc)

@@ -9,11 +9,11 @@ returns-then-is_of-clause-within g c =
 
 pub returns-then-is_of-clause-same : goal.returns-then-is_of-clause-same
 returns-then-is_of-clause-same g c =
-    some_within c.args.self.now c.next_moment.result c.next.result c.args.second c.is_of.result c.next_moment.ensures c.is_of.ensures c.if-is_of.true c.next.ensures.soonest
+    some_within _ c.args.self.now c.next_moment.result c.next.result c.args.second c.is_of.result c.next_moment.ensures c.is_of.ensures c.if-is_of.true c.next.ensures.soonest
 
 pub returns-then-is_of-clause-other : goal.returns-then-is_of-clause-other
 returns-then-is_of-clause-other g c = λ tells.
-    some_within c.args.self.now c.next_moment.result c.next.result c.args.second c.is_of.result c.next_moment.ensures c.is_of.ensures c.if-is_of.true c.next.ensures.soonest
+    some_within _ c.args.self.now c.next_moment.result c.next.result c.args.second c.is_of.result c.next_moment.ensures c.is_of.ensures c.if-is_of.true c.next.ensures.soonest
 
 pub returns-else-is_of-clause-other : goal.returns-else-is_of-clause-other
 returns-else-is_of-clause-other g c = λ tells streams told.
