@@ -1,5 +1,5 @@
 -- What comes next of a programme.
-use Rattle.std.proofs.Common.{◌≡◌, ℕ, suc, ◌+◌, ◌*◌, ◌^◌, ◌<◌, ◌≤◌, Bool, true, false, cond, List, [], ◌∷◌, ◌++◌, length, drop, get_or, map, refl, ap, sym, subst, ◌∙◌, arith, inl, inr, length-drop}
+use Rattle.std.proofs.Common.{◌≡◌, ℕ, ◌+◌, ◌*◌, ◌^◌, ◌<◌, ◌≤◌, Bool, true, false, cond, List, [], ◌∷◌, ◌++◌, length, drop, get_or, map, refl, ap, sym, subst, ◌∙◌, arith, inl, inr, length-drop}
 use Rattle.std.specs.Prelude.{◌⊎◌, nat_lt, flat_map, Option, Some, None, Result, Ok, Err, IfOk, IfSome, IfNone}
 use Rattle.std.specs.List.{AllByRecursion}
 use Rattle.std.proofs.lemmas.Bool.{leb-true, ltb-false, eqb-true}
@@ -14,11 +14,11 @@ use Rattle.exb_merge.specs.declared.replays.Again.{Again}
 use Rattle.exb_merge.specs.declared.replays.Came.{Came}
 use Rattle.exb_merge.specs.declared.replays.CaptureFault.{CaptureFault}
 use Rattle.exb_merge.specs.declared.replays.Replays.{Replays}
-use Rattle.exb_merge.specs.Agendas.{ToPlay, begins_in, comes_first, commands_left, first_moment, is_of, still_to_come}
-use Rattle.exb_merge.specs.Programmes.{IsComing, IsFrom, IsProgramme, IsSoonest, left_of, moment_in, played_with, sooner, what}
+use Rattle.exb_merge.specs.Agendas.{ToPlay, comes_first, commands_left, first_moment, is_of, still_to_come}
+use Rattle.exb_merge.specs.Programmes.{IsComing, IsProgramme, IsSoonest, left_of, moment_in, played_with, sooner, what}
 use Rattle.exb_merge.specs.Replays.{AreOpened, AreReplays, AreToldSince, HasCome, HasNext, IsEarliest, IsOpened, NoneIsBefore, ids_in, left_in, standings}
 use Rattle.exb_merge.specs.Streams.{Stream, arrivals_of, next_moment, to_come}
-use Rattle.exb_merge.proofs.Among.{Rising, command-next, record-next, none-left, moment-command, moment-record, left-is, later, not-first, second-after, second-below, second-within}
+use Rattle.exb_merge.proofs.Among.{Rising, moment-command, moment-record, left-is, later, not-first, second-after, second-below, second-within}
 use Rattle.exb_merge.proofs.Arriving.{NoneArrives, none_arrives-append, none_arrives-map, none_arrives-next, to_come-none}
 use Rattle.exb_merge.proofs.InOrder.{NoneBefore, none_before-by_moment, put-first}
 use Rattle.exb_merge.proofs.Told.{next_told}

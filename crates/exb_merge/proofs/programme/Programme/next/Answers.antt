@@ -14,7 +14,7 @@ returns-then-comes_first-clause-order g c = λ tells streams told.
     let ids = S.ids c.args.shelf.now in
     let p = c.args.self.now in
     let first = first_told files ids p streams c.command_moment.result c.moment.result c.comes_first.result true c.requires.programme told c.command_moment.ensures c.moment.ensures c.comes_first.ensures
-        c.if-comes_first.true in
+    c.if-comes_first.true in
     (streams, c.take_command.ensures.order streams first, told_still files ids p.captures c.take_command.new.self.captures streams c.take_command.ensures.captures told))
 
 pub returns-in-Some-clause-programme : goal.returns-in-Some-clause-programme
@@ -49,7 +49,7 @@ returns-in-Some-clause-order g c = λ tells streams told.
     let first_of = c.in_ok-came.ensures.order tells streams told in
     let first = rw c.in-Some.is at first_of in
     let behind = first_told (S.file c.args.shelf.now) (S.ids c.args.shelf.now) p streams c.command_moment.result c.moment.result c.comes_first.result false c.requires.programme told
-        c.command_moment.ensures c.moment.ensures c.comes_first.ensures c.if-comes_first.false in
+    c.command_moment.ensures c.moment.ensures c.comes_first.ensures c.if-comes_first.false in
     (first.0, record-next (played_with streams p) (Captured (arrival_with c.in-Some.came)) (to_come first.0) c.requires.programme.rising first.1 behind, first.2))
 
 pub returns-in-None-clause-programme : goal.returns-in-None-clause-programme
@@ -67,9 +67,11 @@ pub returns-in-None-clause-end : goal.returns-in-None-clause-end
 returns-in-None-clause-end g c =
     let S = g.S.Shelf in
     let p = c.args.self.now in
-    let end = rw c.in-None.is at c.in_ok-came.ensures.end in
-    (all_taken (S.ids c.args.shelf.now) p c.command_moment.result c.moment.result c.comes_first.result c.requires.programme c.command_moment.ensures c.moment.ensures c.comes_first.ensures
-      c.if-comes_first.false end, end)
+    let end = rw c.in-None.is at c.in_ok-came.ensures.end in (
+      all_taken (S.ids c.args.shelf.now) p c.command_moment.result c.moment.result c.comes_first.result c.requires.programme c.command_moment.ensures c.moment.ensures c.comes_first.ensures
+          c.if-comes_first.false end,
+      end,
+    )
 
 pub returns-in-None-clause-nothing : goal.returns-in-None-clause-nothing
 returns-in-None-clause-nothing g c = λ tells streams told.
@@ -78,5 +80,5 @@ returns-in-None-clause-nothing g c = λ tells streams told.
     let first_of = c.in_ok-came.ensures.order tells streams told in
     let none = rw c.in-None.is at first_of in
     let behind = first_told (S.file c.args.shelf.now) (S.ids c.args.shelf.now) p streams c.command_moment.result c.moment.result c.comes_first.result false c.requires.programme told
-        c.command_moment.ensures c.moment.ensures c.comes_first.ensures c.if-comes_first.false in
+    c.command_moment.ensures c.moment.ensures c.comes_first.ensures c.if-comes_first.false in
     none-left (played_with streams p) none behind)
