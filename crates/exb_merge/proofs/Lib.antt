@@ -7,6 +7,7 @@ pub mod Merged
 pub mod Among
 pub mod Starting
 pub mod PortOrder
+pub mod Programming
 pub mod Places
 pub mod Standing
 pub mod Seen
