@@ -36,8 +36,3 @@ pub fn merge_keeps_order()
     ensures ports { (i : Input) (p : ℕ) → p < 4160 → filter (λ a. a.port == p) (filter_map arrival_in (merge i)) ≡ arrivals_at i p }
     ensures others { (i : Input) (p : ℕ) → 4160 ≤ p → filter (λ a. a.port == p) (filter_map arrival_in (merge i)) ≡ [] }
 {}
-
-/// What comes first of some captures comes in the least second of their first records; 0 where there is none.
-pub fn start_is_least()
-    ensures { (streams : List Stream) → first_second (to_come streams) ≡ least_or 0 (filter_map (λ s. option_map second_of (next_moment (arrivals_of s))) streams) }
-{}
