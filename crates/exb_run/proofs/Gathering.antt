@@ -4,16 +4,17 @@ use Rattle.std.specs.Prelude.{filter_map}
 use Rattle.std.specs.List.{AllByRecursion}
 use mathlib.Core.List.{map-append}
 use Rattle.std.proofs.lemmas.List.{append-nil}
-use Rattle.exb_model.specs.Input.{Arrival as Arrived, Coming, arrival_in}
+use Rattle.exb_model.specs.Input.{Arrival as Arrived, Coming, Mode, Eager, Seeded, arrival_in}
 use Rattle.exb_merge.specs.Agendas.{still_to_come}
 use Rattle.exb_merge.specs.declared.programme.Next.{Next}
 use Rattle.exb_merge.specs.declared.programme.Programme.{Programme}
 use Rattle.exb_merge.specs.Programmes.{IsComing, IsTakenOf, played_with, what}
+use Rattle.exb_schedule.specs.declared.segment.Arrival.{Arrival}
 use Rattle.exb_schedule.specs.Playing.{arrived}
 use Rattle.exb_shelf.specs.Files.{Files}
 use Rattle.exb_shelf.specs.Shelf.{Id}
 use Rattle.exb_run.specs.declared.feed.Feed.{Feed}
-use Rattle.exb_run.specs.UnderWay.{ComeAll, HasTaken, HasTakenSecond, IsTaken, TakesAllOf, second_by}
+use Rattle.exb_run.specs.UnderWay.{ComeAll, HasTaken, HasTakenSecond, IsGathered, IsTaken, NoMoreIn, TakesAllOf, second_by}
 use Rattle.exb_run.proofs.Taking.{arrivals-append, arrivals_by, came_by}
 
 all-more : (second : ℕ) (ds : List Next) (d : Next) → AllByRecursion (λ x. second_by x ≡ second) ds → second_by d ≡ second → AllByRecursion (λ x. second_by x ≡ second) (ds ++ d ∷ [])
@@ -80,4 +81,40 @@ gathers-same tells second file mid files given mids ids a b c so_far same gather
     arrivals_are = ap (map arrived) gathered ∙ so_far.has.arrivals_are;
   };
   within = so_far.within;
+}
+
+-- ---- one segment
+-- what came first, alone
+pub gathers-alone : (tells : Type 0) (m : Mode) (file files : Files) (given ids : ℕ → Id) (second : ℕ) (a b : Feed) (d : Next) → IsTaken tells file files given ids a d b → a.gathered.items ≡ [] →
+    second_by d ≡ second → (m ≡ Seeded → ⊥) → IsGathered tells m file files given ids second a.programme b
+gathers-alone tells m file files given ids second a b d one none is eager = record {
+  first = d;
+  more = [];
+  comes = (b.programme, one.coming, refl);
+  takes = one.takes;
+  arrivals_are = one.arrivals_are ∙ ap (λ (xs : List Arrival). map arrived xs ++ filter_map arrival_in (what d ∷ [])) none;
+  is_first = is;
+  alone = λ e. refl;
+  within = tt;
+  whole = λ t seeded. absurd (eager seeded);
+}
+
+-- what came first, and all of the same second behind it
+pub gathers-all : (tells : Type 0) (m : Mode) (file mid files : Files) (given mids ids : ℕ → Id) (second : ℕ) (a b c : Feed) (d : Next) → IsTaken tells file mid given mids a d b → a.gathered.items ≡ [] →
+    second_by d ≡ second → HasTakenSecond tells second mid files mids ids b c → (tells → NoMoreIn second files ids c.programme) → (m ≡ Eager → ⊥) → IsGathered tells m file files given ids second a.programme c
+gathers-all tells m file mid files given mids ids second a b c d one none is behind whole seeded = record {
+  first = d;
+  more = behind.ds;
+  comes = (b.programme, one.coming, behind.has.comes);
+  takes = λ t streams replays.
+      (let (rest, order, left) = one.takes t streams replays in
+      let (last, next, others) = behind.has.takes t rest left in
+      (last, order ∙ ap (λ (xs : List Coming). what d ∷ xs) next, others));
+  arrivals_are =
+      behind.has.arrivals_are ∙ ap (λ (xs : List Arrived). xs ++ arrivals_by behind.ds) (one.arrivals_are ∙ ap (λ (xs : List Arrival). map arrived xs ++ filter_map arrival_in (what d ∷ [])) none)
+      ∙ sym (arrivals-append (what d ∷ []) (came_by behind.ds));
+  is_first = is;
+  alone = λ eager. absurd (seeded eager);
+  within = behind.within;
+  whole = λ t e. whole t;
 }

@@ -1,16 +1,16 @@
 -- A run that goes on by what was gathered.
 use Rattle.std.proofs.Common.{◌≡◌, ℕ, ◌+◌, ◌-◌, ◌≤◌, ◌<◌, List, ◌∷◌, [], ◌++◌, drop, take, length, refl, ap, sym, subst, ◌∙◌, arith, append_assoc}
-use Rattle.std.specs.Prelude.{None, Some}
+use Rattle.std.specs.Prelude.{Option, None, Some}
 use Rattle.exb_model.specs.declared.setup.Setup.{Setup}
 use Rattle.exb_model.specs.declared.setup.Timed.{Timed}
-use Rattle.exb_model.specs.Input.{Input, Segment, Mode, segment_of, segments, segments_after}
+use Rattle.exb_model.specs.Input.{Input, Segment, Mode, segment_of, seconds_after, segments, segments_after}
 use Rattle.exb_model.specs.Setup.{shape_of}
 use Rattle.exb_model.specs.Texts.{Counts, with_left}
 use Rattle.exb_model.specs.Traces.{trace_text}
 use Rattle.exb_merge.specs.Agendas.{still_to_come}
 use Rattle.exb_merge.specs.declared.programme.Programme.{Programme}
 use Rattle.exb_merge.specs.Programmes.{IsProgramme, played_with}
-use Rattle.exb_merge.specs.Replays.{ids_in}
+use Rattle.exb_merge.specs.Replays.{ReadsOn, ids_in}
 use Rattle.exb_network.specs.Networks.{Network, world_of, IsQuiet, IsSame}
 use Rattle.exb_network.specs.Worlds.{all_left}
 use Rattle.exb_resting.specs.Rest.Playing.{RunsAreUnderWay}
@@ -24,12 +24,12 @@ use Rattle.exb_run.specs.declared.outputs.Outputs.{Outputs}
 use Rattle.exb_run.specs.Outputs.{OnlyPlanned}
 use Rattle.exb_run.specs.Plans.{Planned, port_count}
 use Rattle.exb_run.specs.Playing.{Run, IsCutOff, IsTold, text_so_far}
-use Rattle.exb_run.specs.UnderWay.{CanBegin, CanBePlayed, CanGoOn, IsOpened, IsPlaying, LeadsOn}
+use Rattle.exb_run.specs.UnderWay.{AreApart, CanBegin, CanBePlayed, CanGoOn, IsGathered, IsOpened, IsPlaying, LeadsOn}
 use Rattle.exb_run.specs.Writing.{HasTexts, first_text, lines_of, pieces_of, with_left_frames, with_more}
 use Rattle.exb_run.proofs.Counting.{count_events}
 use Rattle.exb_run.proofs.Following.{can-play, commands-are, follows, going-on, is-segment, leading-on, letters-are, taken}
-use Rattle.exb_run.proofs.Keeping.{leads-written}
-use Rattle.exb_run.proofs.Taking.{HasCommands, came_by}
+use Rattle.exb_run.proofs.Keeping.{apart-read, leads-written}
+use Rattle.exb_run.proofs.Taking.{HasCommands, came_by, comes-ids}
 use Rattle.exb_run.proofs.Telling.{cleared-played, counts-more, same_texts, text-first, text-more}
 
 module _ (tells : Type 0) (m : Mode) (r : Run) (plan : Planned) (now : Files) (ids : ℕ → Id) (net : Network) (c : Counts) (o : Outputs) (seconds from second : ℕ) (f : Feed)
@@ -150,4 +150,21 @@ begins-opened tells m r s plan now ids n o p b tree plays tracing = record {
   next = b.next;
   apart = b.apart;
   leads = b.leads;
+}
+
+-- what was gathered behind a run can be played
+pub can-go-on : (tells : Type 0) (m : Mode) (r : Run) (plan : Planned) (now : Files) (given ids : ℕ → Id) (net : Network) (c : Counts) (o : Outputs) (last : Option ℕ) (old : Programme) (seconds from second : ℕ) (f : Feed) →
+    IsPlaying tells m r plan now given net c o last old → IsGathered tells m now now given ids second old f → ReadsOn (ids_in old.captures) given ids → from ≡ old.taken → seconds ≡ seconds_after last second →
+    CanGoOn tells m r plan now ids net c o seconds from second f
+can-go-on tells m r plan now given ids net c o last old seconds from second f playing got reads from_is seconds_are = record {
+  last = last;
+  old = old;
+  given = given;
+  playing = playing;
+  got = got;
+  apart =
+      subst (AreApart plan ids) (sym (comes-ids old f.programme (got.first ∷ got.more) got.comes))
+      (apart-read plan given ids (ids_in old.captures) (ids_in old.captures) reads playing.apart);
+  from_is = from_is;
+  seconds_are = seconds_are;
 }

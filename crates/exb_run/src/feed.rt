@@ -140,9 +140,12 @@ impl Feed<'_> {
         let Some(second) = self.take_first(alloc, shelf)? else {
             return Ok(None);
         };
-        if let Schedule::Seeded { .. } = schedule {
-            self.take_second(alloc, shelf, second)?;
+        match schedule {
+            Schedule::Eager => Ok(Some(second)),
+            Schedule::Seeded { .. } => {
+                self.take_second(alloc, shelf, second)?;
+                Ok(Some(second))
+            }
         }
-        Ok(Some(second))
     }
 }

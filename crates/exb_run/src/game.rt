@@ -1,5 +1,5 @@
 //! A run under way: the world, what is written of it, and what is counted.
-ghost use Rattle.std.specs.Prelude.{⊥, ◌≡◌, ◌≤◌, ◌<◌, ◌+◌, ◌^◌, ◌++◌, ◌∷◌, [], ℕ, List, length, drop, All, fold, IsOk, IfOk, OnOk, OnErr, IfErr, None, Some, string_bytes};
+ghost use Rattle.std.specs.Prelude.{◌≡◌, ◌≤◌, ◌<◌, ◌+◌, ◌^◌, ◌++◌, ◌∷◌, [], ℕ, List, length, drop, All, fold, IsOk, IfOk, OnOk, OnErr, IfErr, None, Some, string_bytes};
 ghost use Rattle.exb_model.specs.declared.event.Event.{Event};
 ghost use Rattle.exb_model.specs.Input.{Input, Mode, Eager, Segment, segments, seconds_after};
 ghost use Rattle.exb_model.specs.Setup.{IsValid, shape_of};

@@ -1,5 +1,5 @@
 //! Playing a script and captures that were checked: the opening, then each segment in its turn.
-ghost use Rattle.std.specs.Prelude.{⊥, ◌≡◌, ◌≤◌, ◌<◌, ◌+◌, ◌*◌, ◌^◌, [], length, map, sum_by, IfOk, OnOk, IfErr, IfSome, All, string_bytes};
+ghost use Rattle.std.specs.Prelude.{◌≡◌, ◌≤◌, ◌<◌, ◌+◌, ◌*◌, ◌^◌, [], length, map, sum_by, IfOk, OnOk, IfErr, IfSome, All, string_bytes};
 ghost use Rattle.std.specs.List.{AllByRecursion};
 ghost use Rattle.exb_model.specs.Input.{Eager};
 ghost use Rattle.exb_model.specs.Setup.{IsValid, shape_of};

@@ -9,8 +9,8 @@ use Rattle.exb_run.specs.UnderWay.{NoMoreIn}
 use Rattle.exb_run.proofs.Keeping.{replays-unread}
 use Rattle.exb_run.proofs.feed.Feed.take_within.Goals as goal
 
-pub returns-in_None-clause-end : goal.returns-in_None-clause-end
-returns-in_None-clause-end g c t is streams replays =
+pub returns-in-None-clause-end : goal.returns-in-None-clause-end
+returns-in-None-clause-end g c t is streams replays =
     let S = g.S.Shelf in
     let p = c.args.self.now.programme in
     let q = c.next_within.new.self in

@@ -1,11 +1,13 @@
-use Rattle.std.proofs.Common.{◌≡◌, ◌<◌, ◌+◌, ◌^◌, None, drop, length}
-use Rattle.exb_merge.specs.Agendas.{still_to_come}
+use Rattle.std.proofs.Common.{◌≡◌, ◌<◌, ◌+◌, ◌^◌, None, drop}
+use Rattle.exb_merge.specs.Programmes.{left_of}
+use Rattle.exb_merge.specs.Replays.{ids_in}
 use Rattle.exb_schedule.specs.Playing.{letters_in}
 use Rattle.exb_schedule.specs.Worlds.{network_of}
 use Rattle.exb_shelf.specs.Shelf.{NoFewer}
 use Rattle.exb_text.specs.Tallies.{counts_of}
-use Rattle.exb_run.specs.Playing.{Run, IsPlaying, mode_of}
-use Rattle.exb_run.specs.Shelving.{OnlyWrites}
+use Rattle.exb_run.specs.Playing.{Run, mode_of}
+use Rattle.exb_run.specs.Shelving.{OnlyGoesOn}
+use Rattle.exb_run.specs.UnderWay.{CanFeed, IsPlaying}
 use Rattle.exb_run.specs.Writing.{IsReady}
 use Rattle.exb_run.proofs.game.Game.play_all.Given as goal
 
@@ -15,13 +17,15 @@ invariant-events g l =
     let m = mode_of l.schedule in
     record {
       ready : IsReady l.plan (S.ids l.shelf) l.self.outputs;
-      goes_on : (run : Run) → IsPlaying S.tells m run l.plan (S.file l.fn.shelf) (network_of l.fn.self.world) (counts_of l.fn.self.tally) l.fn.self.outputs None l.fn.agenda →
-          IsPlaying S.tells m run l.plan (S.file l.shelf) (network_of l.self.world) (counts_of l.self.tally) l.self.outputs l.last l.agenda;
-      taken : l.taken ≡ l.agenda.taken;
-      budget : (goal.Fate-dyn g (l.self.world.fate.vtable, l.self.world.fate.value)).left l.self.world.fate.value + letters_in (drop l.agenda.taken l.agenda.commands) < 2 ^ 57;
-      only : OnlyWrites S.tells l.plan (S.file l.fn.shelf) (S.file l.shelf) (S.ids l.fn.shelf) (S.ids l.shelf);
+      feed : CanFeed (S.ids l.shelf) l.feed;
+      goes_on : (run : Run) → IsPlaying S.tells m run l.plan (S.file l.fn.shelf) (S.ids l.fn.shelf) (network_of l.fn.self.world) (counts_of l.fn.self.tally) l.fn.self.outputs None l.fn.feed.programme →
+          IsPlaying S.tells m run l.plan (S.file l.shelf) (S.ids l.shelf) (network_of l.self.world) (counts_of l.self.tally) l.self.outputs l.last l.feed.programme;
+      taken : l.taken ≡ l.feed.programme.taken;
+      budget : (goal.Fate-dyn g (l.self.world.fate.vtable, l.self.world.fate.value)).left l.self.world.fate.value + letters_in (drop l.feed.programme.taken l.feed.programme.commands.now) < 2 ^ 57;
+      same : ids_in l.feed.programme.captures ≡ ids_in l.fn.feed.programme.captures;
+      only : OnlyGoesOn S.tells l.plan (ids_in l.fn.feed.programme.captures) (S.file l.fn.shelf) (S.file l.shelf) (S.ids l.fn.shelf) (S.ids l.shelf);
       faults : NoFewer (S.faults l.fn.shelf) (S.faults l.shelf);
     }
 
 abbrev pub decreases-events : goal.decreases-events
-decreases-events g l = length (still_to_come l.agenda)
+decreases-events g l = left_of l.feed.programme
