@@ -89,7 +89,7 @@ left-is a c low is =
     next : suc (a.taken + 1) ≡ a.taken + 1 + 1
     next = omega arith
 
-later : (a : ToPlay) (c : Timed) → Rising a.commands → a.taken < length a.commands → c ≡ get_or a.commands a.taken c →
+pub later : (a : ToPlay) (c : Timed) → Rising a.commands → a.taken < length a.commands → c ≡ get_or a.commands a.taken c →
     NoneBefore ((a.start + c.at) * 1000000000) (commands_left (record a { taken = a.taken + 1 }))
 later a c rising low is =
     let all : Rising (c ∷ drop (a.taken + 1) a.commands) =
@@ -106,7 +106,7 @@ command-next a c rising low is first =
     ∙ command-first (Ordered ((a.start + c.at) * 1000000000) (a.taken + 1)) (commands_left (record a { taken = a.taken + 1 })) a.records (later a c rising low is)
     (ap (λ (xs : List Coming). comes_first (first_moment xs) (first_moment a.records)) (sym left) ∙ first)
 
-not-first : (k m : ℕ) → nat_le k m ≡ false → m < k
+pub not-first : (k m : ℕ) → nat_le k m ≡ false → m < k
 not-first k m h =
     elim (leb_tells k m) [
       | inl low ↦ absurd (let e : true ≡ false = sym low.0 ∙ h in cc)

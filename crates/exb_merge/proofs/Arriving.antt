@@ -16,7 +16,7 @@ pub none_arrives-append : (m : ℕ) (xs ys : List Arrival) → NoneArrives m xs 
 none_arrives-append m [] ys left right = right
 none_arrives-append m (x ∷ xs) ys left right = (left.0, none_arrives-append m xs ys left.1 right)
 
-none_arrives-map : (m : ℕ) (xs : List Arrival) → NoneArrives m xs → NoneBefore m (map Captured xs)
+pub none_arrives-map : (m : ℕ) (xs : List Arrival) → NoneArrives m xs → NoneBefore m (map Captured xs)
 none_arrives-map m [] all = tt
 none_arrives-map m (x ∷ xs) all = (all.0, none_arrives-map m xs all.1)
 

@@ -17,11 +17,11 @@ none_before-put m x (y ∷ ys) h all = by_test (none_before-put m x ys h all.1) 
     by_test rest true = (all.0, rest)
     by_test rest false = (h, all)
 
-none_before-by_moment : (m : ℕ) (xs : List Coming) → NoneBefore m xs → NoneBefore m (by_moment xs)
+pub none_before-by_moment : (m : ℕ) (xs : List Coming) → NoneBefore m xs → NoneBefore m (by_moment xs)
 none_before-by_moment m [] all = tt
 none_before-by_moment m (x ∷ xs) all = none_before-put m x (by_moment xs) all.0 (none_before-by_moment m xs all.1)
 
-put-first : (x : Coming) (ys : List Coming) → NoneBefore (moment_of x) ys → put_in_order x ys ≡ x ∷ ys
+pub put-first : (x : Coming) (ys : List Coming) → NoneBefore (moment_of x) ys → put_in_order x ys ≡ x ∷ ys
 put-first x [] all = refl
 put-first x (y ∷ ys) all = rw (le-ltb (moment_of y) (moment_of x) all.0) refl
 

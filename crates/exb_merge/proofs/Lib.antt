@@ -7,3 +7,11 @@ pub mod Merged
 pub mod Among
 pub mod Starting
 pub mod PortOrder
+pub mod Programming
+pub mod Places
+pub mod Standing
+pub mod Seen
+pub mod Told
+pub mod Moving
+pub mod Adding
+pub mod Playing

@@ -24,7 +24,7 @@ NotBefore m place t = is_lt (by_turn (turn m place) t) ≡ false
 abbrev pub NoTurnBefore : ℕ → ℕ → List Turn → Type 0
 NoTurnBefore m place = AllByRecursion (NotBefore m place)
 
-not_before-moment : (m place k n : ℕ) → is_lt (ordering_then (nat_cmp k m) (nat_cmp n place)) ≡ false → m ≤ k
+pub not_before-moment : (m place k n : ℕ) → is_lt (ordering_then (nat_cmp k m) (nat_cmp n place)) ≡ false → m ≤ k
 not_before-moment m place k n h = grind (arith, nat_tests)
 
 not_before-later : (m place k n : ℕ) → is_lt (ordering_then (nat_cmp k m) (nat_cmp n place)) ≡ false → n < place → m < k
@@ -75,7 +75,7 @@ pub record HasTurn (streams : List Stream) (n m place : ℕ) : Type 0 where
   pub moment : next_moment (arrivals_of one) ≡ Some m
 
 -- whether it is that turn
-abbrev is_turn : ℕ → ℕ → Turn → Bool
+abbrev pub is_turn : ℕ → ℕ → Turn → Bool
 is_turn m place t = t.0.0 == m && t.0.1 == place
 
 found_turn : (m place n : ℕ) (streams : List Stream) → 0 < sum_by (passes (is_turn m place)) (turns_from n streams) → HasTurn streams n m place
@@ -109,14 +109,24 @@ turn_of streams turns rest m place same popped =
     found_turn m place 0 streams
     (omega (arith, same (passes (is_turn m place)), sum_by_popped (passes (is_turn m place)) (turn m place) turns rest popped, mine))
 
+-- and so is the one that it would give
+pub turn_there : (streams : List Stream) (turns : List Turn) (m place : ℕ) → SameMembers turns (turns_from 0 streams) → 0 < sum_by (passes (is_turn m place)) turns → HasTurn streams 0 m place
+turn_there streams turns m place same some = found_turn m place 0 streams (omega (arith, some, same (passes (is_turn m place))))
+
+-- it stands first
+pub turn_first : (m place : ℕ) (turns : List Turn) → 0 < sum_by (passes (is_turn m place)) (turn m place ∷ turns)
+turn_first m place turns =
+    let mine : passes (is_turn m place) (turn m place) ≡ 1 = grind (arith, nat_tests) in
+    omega (arith, mine, sum_by-cons (passes (is_turn m place)) (turn m place) turns)
+
 pub place-in : (streams : List Stream) (m place : ℕ) → HasTurn streams 0 m place → place < length streams
 place-in streams m place h = omega (arith, h.at, ap length h.split, length-append h.before (h.one ∷ h.after))
 
-at-split : (before : List Stream) (s : Stream) (after : List Stream) (d : Stream) → get_or (before ++ s ∷ after) (length before) d ≡ s
+pub at-split : (before : List Stream) (s : Stream) (after : List Stream) (d : Stream) → get_or (before ++ s ∷ after) (length before) d ≡ s
 at-split [] s after d = refl
 at-split (b ∷ before) s after d = at-split before s after d
 
-set-split : (before : List Stream) (s s' : Stream) (after : List Stream) → set (before ++ s ∷ after) (length before) s' ≡ before ++ s' ∷ after
+pub set-split : (before : List Stream) (s s' : Stream) (after : List Stream) → set (before ++ s ∷ after) (length before) s' ≡ before ++ s' ∷ after
 set-split [] s s' after = refl
 set-split (b ∷ before) s s' after = ap (λ ss. b ∷ ss) (set-split before s s' after)
 

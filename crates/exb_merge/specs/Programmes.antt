@@ -1,6 +1,5 @@
 -- What is still to be played where captures are read again: the commands of a topology among the records.
-use Rattle.std.specs.Prelude.{◌≡◌, ◌+◌, ◌-◌, ◌*◌, ◌<◌, ◌≤◌, ◌^◌, if◌then◌else◌, ℕ, List, [], ◌∷◌, length, AllPairs, Option, Some, None, IfSome}
-use Rattle.exb_model.specs.declared.setup.Timed.{Timed}
+use Rattle.std.specs.Prelude.{◌≡◌, ◌+◌, ◌-◌, ◌<◌, ◌≤◌, ◌^◌, if◌then◌else◌, ℕ, List, [], ◌∷◌, length, AllPairs, Option, Some, None, IfSome}
 use Rattle.exb_model.specs.Input.{Coming, Captured, Ordered, moment_of, second_of}
 use Rattle.exb_shelf.specs.Files.{Files}
 use Rattle.exb_shelf.specs.Shelf.{Id}

@@ -1,5 +1,5 @@
 -- The captures of some ports that are read again, each looked at as far as its next record.
-use Rattle.std.specs.Prelude.{⊤, ◌≡◌, ◌≢◌, ◌<◌, ◌≤◌, ◌+◌, ◌*◌, ◌^◌, ◌==◌, suc, if◌then◌else◌, true, ℕ, List, [], ◌∷◌, ◌⊎◌, length, map, sum_by, Option, Some, None, IfSome}
+use Rattle.std.specs.Prelude.{⊤, ◌≡◌, ◌≢◌, ◌<◌, ◌≤◌, ◌+◌, ◌*◌, ◌^◌, ◌==◌, suc, if◌then◌else◌, ℕ, List, [], ◌∷◌, ◌⊎◌, length, map, sum_by, Option, Some, None, IfSome}
 use Rattle.std.specs.List.{AllByRecursion}
 use Rattle.exb_model.specs.Input.{Captured, second_of}
 use Rattle.exb_shelf.specs.Files.{Files, bytes_of}

@@ -1,5 +1,5 @@
 //! Commands, and the records of captures that are read again, in the order in which they are played.
-ghost use Rattle.std.specs.Prelude.{◌≡◌, ◌≢◌, ◌+◌, ◌-◌, ◌*◌, ◌^◌, ◌<◌, ◌≤◌, ℕ, List, [], ◌∷◌, true, false, Some, None, length, take, drop, AllPairs, IfOk, OnOk, IfSome, IfNone, IsErrOf};
+ghost use Rattle.std.specs.Prelude.{◌≡◌, ◌-◌, ◌^◌, ◌<◌, ◌≤◌, ℕ, List, [], ◌∷◌, true, false, Some, None, length, take, drop, AllPairs, IfOk, OnOk, IfSome, IfNone, IsErrOf};
 ghost use Rattle.exb_model.specs.Input.{moment_of, second_of};
 ghost use Rattle.exb_shelf.specs.Files.{SameFiles};
 ghost use Rattle.exb_shelf.specs.Shelf.{Id, Rose, NoFewer};

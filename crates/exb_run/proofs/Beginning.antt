@@ -1,9 +1,8 @@
 -- What a run begins with: the captures that were checked at their first records, and the commands.
-use Rattle.std.proofs.Common.{◌≡◌, ◌≢◌, ℕ, zero, suc, ◌+◌, ◌*◌, ◌^◌, ◌<◌, ◌≤◌, ◌==◌, Bool, true, false, cond, List, [], ◌∷◌, ◌++◌, length, inl, inr, map, filter, All, get_or, sum_by, drop, max, min, refl, ap, sym, subst, ◌∙◌, arith, inl, inr, eq-eqb}
+use Rattle.std.proofs.Common.{◌≡◌, ◌≢◌, ℕ, zero, suc, ◌+◌, ◌*◌, ◌^◌, ◌<◌, ◌≤◌, ◌==◌, Bool, true, false, cond, List, [], ◌∷◌, ◌++◌, length, inl, inr, map, filter, All, get_or, sum_by, drop, take, max, min, refl, ap, sym, subst, ◌∙◌, arith, inl, inr, eq-eqb}
 use mathlib.Core.Path.{fun_ext}
-use Rattle.std.specs.Prelude.{Option, Some, None, IfSome, if◌then◌else◌, filter_map, option_map, AllPairs, Ok, Err, is_some}
+use Rattle.std.specs.Prelude.{Option, Some, None, IfSome, if◌then◌else◌, filter_map, option_map, unwrap_or, AllPairs, Ok, Err, is_some}
 use Rattle.std.specs.List.{AllByRecursion, range_with_len}
-use Rattle.std.specs.Option.{unwrap_or}
 use Rattle.std.proofs.lemmas.Bool.{cases_Bool, cases_lt}
 use Rattle.std.proofs.lemmas.List.{append-nil, length-map, take_more}
 use Rattle.std.proofs.lemmas.List.Sums.{sum_by-cons}
@@ -129,16 +128,16 @@ first-moment names file c t =
     by_records [] = refl
     by_records (r ∷ rs) = ap Some (none-before r.time)
 
--- one more in front, if there is one
-abbrev more : Option ℕ → List ℕ → List ℕ
-more None xs = xs
-more (Some x) xs = x ∷ xs
-
 abbrev second_first : Stream → Option ℕ
 second_first s = option_map second_of (next_moment (arrivals_of s))
 
 abbrev second_told : Checked → Option ℕ
 second_told c = option_map second_of c.told.first
+
+-- one more in front, if there is one
+abbrev more : Option ℕ → List ℕ → List ℕ
+more None xs = xs
+more (Some x) xs = x ∷ xs
 
 filter_first : {X Y : Type 0} (f : X → Option ℕ) (g : Y → Option ℕ) (h : Y → X) (ys : List Y) → AllByRecursion (λ y. f (h y) ≡ g y) ys → filter_map f (map h ys) ≡ filter_map g ys
 filter_first f g h [] all = refl

@@ -217,7 +217,7 @@ module _ (m : Mode) (i : Input) (so_far : List Segment) (last : Option ℕ) (a :
   since-seconds = by_last last now.since are
     where
       one : IsComing a got.first got.comes.0
-      one = got.comes.1.0
+      one = let (n, is, rest) = got.comes in is
 
       begins : a.start ≤ second
       begins = (let from = one.from in let own = got.is_first in omega (arith, from, own))

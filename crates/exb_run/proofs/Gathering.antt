@@ -63,17 +63,20 @@ gathers-more tells second file mid files given mids ids a b c d so_far one is = 
 }
 
 -- no more
+takes-none-more : (file mid files : Files) (given mids ids : ℕ → Id) (a b : Programme) (ds : List Next) → TakesAllOf file mid given mids a ds b → TakesAllOf mid files mids ids b [] b →
+    TakesAllOf file files given ids a ds b
+takes-none-more file mid files given mids ids a b ds all none streams replays =
+    let (rest, order, left) = all streams replays in
+    let (last, next, behind) = none rest left in
+    (last, order ∙ ap (λ (xs : List Coming). map what ds ++ xs) next, behind)
+
 pub gathers-same : (tells : Type 0) (second : ℕ) (file mid files : Files) (given mids ids : ℕ → Id) (a b c : Feed) → HasTakenSecond tells second file mid given mids a b →
     c.programme ≡ b.programme → c.gathered.items ≡ b.gathered.items → (tells → TakesAllOf mid files mids ids b.programme [] b.programme) → HasTakenSecond tells second file files given ids a c
 gathers-same tells second file mid files given mids ids a b c so_far same gathered none = record {
   ds = so_far.ds;
   has = record {
     comes = subst (ComeAll a.programme so_far.ds) (sym same) so_far.has.comes;
-    takes = λ t streams replays.
-        subst (λ (p : Programme). (rest : _) × (still_to_come (played_with streams a.programme) ≡ map what so_far.ds ++ still_to_come (played_with rest p)) × _) (sym same)
-        (let (rest, order, left) = so_far.has.takes t streams replays in
-        let (last, next, behind) = none t rest left in
-        (last, order ∙ ap (λ (xs : List Coming). map what so_far.ds ++ xs) next, behind));
+    takes = λ t. subst (TakesAllOf file files given ids a.programme so_far.ds) (sym same) (takes-none-more file mid files given mids ids a.programme b.programme so_far.ds (so_far.has.takes t) (none t));
     arrivals_are = ap (map arrived) gathered ∙ so_far.has.arrivals_are;
   };
   within = so_far.within;

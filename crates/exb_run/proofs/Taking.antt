@@ -195,41 +195,42 @@ at_port p came = filter (λ a. a.port == p) came
 
 number-own : (p m : ℕ) (ss : List Standing) → HasPort p ss → number_of (gone_on p m ss) p ≡ suc (number_of ss p)
 number-own p m [] has = absurd has
-number-own p m (s ∷ ss) has = by_test (s.port == p) refl has
+number-own p m (s ∷ ss) has = by_test (s.port == p) refl (number-own p m ss) has
   where
     after : Standing
     after = record { port = s.port; index = suc s.index; least = m }
 
-    by_test : (b : Bool) → (s.port == p) ≡ b → HasPort p (s ∷ ss) → number_of (if s.port == p then after ∷ ss else s ∷ gone_on p m ss) p ≡ suc (if s.port == p then s.index else number_of ss p)
-    by_test true e h = rw e (rw e refl)
-    by_test false e (inl same) = absurd (let differ : true ≡ false = sym (eq-eqb s.port p same) ∙ e in cc)
-    by_test false e (inr later) = rw e (rw e (number-own p m ss later))
+    by_test : (b : Bool) → (s.port == p) ≡ b → (HasPort p ss → number_of (gone_on p m ss) p ≡ suc (number_of ss p)) → HasPort p (s ∷ ss) →
+        number_of (if s.port == p then after ∷ ss else s ∷ gone_on p m ss) p ≡ suc (if s.port == p then s.index else number_of ss p)
+    by_test true e rest h = rw e (rw e refl)
+    by_test false e rest (inl same) = absurd (let differ : true ≡ false = sym (eq-eqb s.port p same) ∙ e in cc)
+    by_test false e rest (inr later) = rw e (rw e (rest later))
 
 number-other : (p m q : ℕ) (ss : List Standing) → p ≢ q → number_of (gone_on p m ss) q ≡ number_of ss q
 number-other p m q [] differ = refl
-number-other p m q (s ∷ ss) differ = by_test (s.port == p) refl
+number-other p m q (s ∷ ss) differ = by_test (s.port == p) refl (number-other p m q ss differ)
   where
     after : Standing
     after = record { port = s.port; index = suc s.index; least = m }
 
-    by_test : (b : Bool) → (s.port == p) ≡ b → number_of (if b then after ∷ ss else s ∷ gone_on p m ss) q ≡ (if s.port == q then s.index else number_of ss q)
-    by_test true e =
+    by_test : (b : Bool) → (s.port == p) ≡ b → number_of (gone_on p m ss) q ≡ number_of ss q → number_of (if b then after ∷ ss else s ∷ gone_on p m ss) q ≡ (if s.port == q then s.index else number_of ss q)
+    by_test true e rest =
         let other : (s.port == q) ≡ false = ne_eqb s.port q (λ same. differ (sym (eqb-true s.port p e) ∙ same)) in
         ap (λ (b : Bool). if b then suc s.index else number_of ss q) other ∙ sym (ap (λ (b : Bool). if b then s.index else number_of ss q) other)
-    by_test false e = ap (λ (n : ℕ). if s.port == q then s.index else n) (number-other p m q ss differ)
+    by_test false e rest = ap (λ (n : ℕ). if s.port == q then s.index else n) rest
 
 has-before : (p m q : ℕ) (ss : List Standing) → HasPort q (gone_on p m ss) → HasPort q ss
 has-before p m q [] has = absurd has
-has-before p m q (s ∷ ss) has = by_test (s.port == p) has
+has-before p m q (s ∷ ss) has = by_test (s.port == p) (has-before p m q ss) has
   where
     after : Standing
     after = record { port = s.port; index = suc s.index; least = m }
 
-    by_test : (b : Bool) → HasPort q (if b then after ∷ ss else s ∷ gone_on p m ss) → HasPort q (s ∷ ss)
-    by_test true (inl same) = inl same
-    by_test true (inr later) = inr later
-    by_test false (inl same) = inl same
-    by_test false (inr later) = inr (has-before p m q ss later)
+    by_test : (b : Bool) → (HasPort q (gone_on p m ss) → HasPort q ss) → HasPort q (if b then after ∷ ss else s ∷ gone_on p m ss) → HasPort q (s ∷ ss)
+    by_test true rest (inl same) = inl same
+    by_test true rest (inr later) = inr later
+    by_test false rest (inl same) = inl same
+    by_test false rest (inr later) = inr (rest later)
 
 -- one arrival more
 pub at-more : (q : ℕ) (before : List Arrival) (a : Arrival) (own : Bool) → (a.port == q) ≡ own → length (at_port q (before ++ a ∷ [])) ≡ length (at_port q before) + (if own then 1 else 0)
@@ -290,7 +291,7 @@ goes-behind i before a b [] is counted external = record {
   external = subst (AreExternal i) is external;
 }
 goes-behind i before a b (next.Command number moment ∷ ds) (n, one, rest) counted external =
-    let same : standings n.captures ≡ standings a.captures = one.is.1.1.1 in
+    let (numbered, within, more, same) = one.is in
     goes-behind i before n b ds rest (λ q. counted q ∙ ap (λ (ss : List Standing). number_of ss q) (sym same)) (λ q has. external q (subst (HasPort q) same has))
 goes-behind i before a b (next.Record c ∷ ds) (n, one, rest) counted external =
     let come = one.is.0 in

@@ -1,5 +1,5 @@
 //! What comes in one segment: one event, or all of one second.
-ghost use Rattle.std.specs.Prelude.{◌≡◌, ◌++◌, ◌∷◌, [], ◌×◌, map, length, IfOk, OnOk, IfErr, IfSome, IfNone};
+ghost use Rattle.std.specs.Prelude.{◌≡◌, ◌++◌, ◌∷◌, [], true, false, map, length, IfOk, OnOk, IfErr, IfSome, IfNone};
 ghost use Rattle.exb_model.specs.Input.{Captured, Eager};
 ghost use Rattle.exb_merge.specs.Arrivals.{arrival_with};
 ghost use Rattle.exb_merge.specs.declared.programme.Next.{Next as Coming};

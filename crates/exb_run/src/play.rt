@@ -121,7 +121,9 @@ fn play_into<S: Shelf>(
 {
     merge_of_all();
     start_is_least();
-    let mut piece = room(alloc, PIECE)?;
+    let Ok(mut piece) = room(alloc, PIECE) else {
+        return Err(Fault::Memory);
+    };
     let captures = open_all(alloc, shelf, piece.as_mut_slice(), names, checked)?;
     let mut feed = Feed {
         programme: Programme::new(captures, script.commands, start_of(checked)),

@@ -1,6 +1,6 @@
 -- What is told of the records that were taken.
-use Rattle.std.proofs.Common.{◌≡◌, ◌+◌, ◌-◌, ◌^◌, ℕ, List, [], ◌∷◌, ◌++◌, length, Some, None, refl, ap, sym, ◌∙◌, arith, length-append}
-use Rattle.std.specs.Prelude.{min}
+use Rattle.std.proofs.Common.{◌≡◌, ◌<◌, ◌+◌, ◌-◌, ◌*◌, ◌^◌, ℕ, Option, List, [], ◌∷◌, ◌++◌, length, Some, None, refl, ap, sym, ◌∙◌, arith, length-append}
+use Rattle.std.specs.Prelude.{min, IfSome}
 use Rattle.exb_model.specs.Input.{Record}
 use Rattle.exb_pcap.specs.Pieces.{Found, asked}
 use Rattle.exb_scan.specs.declared.checking.Scanned.{Scanned}
@@ -14,6 +14,11 @@ none_counted bytes f h = record { taken = []; read = h; records = refl; first = 
 first_on : (xs : List Record) (x : Record) (m : ℕ) → x.time ≡ m → or_this (first_time xs) m ≡ first_time (xs ++ x ∷ [])
 first_on [] x m e = ap Some (sym e)
 first_on (y ∷ ys) x m e = refl
+
+-- the time of the first one is within the same limit
+pub first_in_time : (first : Option ℕ) (m : ℕ) → IfSome first (λ k. k < 2 ^ 32 * 1_000_000_000) → m < 2 ^ 32 * 1_000_000_000 → IfSome (or_this first m) (λ k. k < 2 ^ 32 * 1_000_000_000)
+first_in_time None m had low = low
+first_in_time (Some k) m had low = had
 
 pub one_counted : (bytes : List ℕ) (f g : CaptureFile) (s t : Scanned) (m : ℕ) → HasCounted bytes f s → ComesNext m f
     → ((xs : List Record) (x : Record) → (asked f.ended f.reader).answer ≡ Found x → HasRead bytes xs f → HasRead bytes (xs ++ x ∷ []) g) → IsSound g

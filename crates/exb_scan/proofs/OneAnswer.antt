@@ -1,7 +1,6 @@
 -- What is answered of a file is one.
 use Rattle.std.proofs.Common.{◌≡◌, ℕ, List, Option, Some, None, Result, Ok, Err, ap, sym, subst, inl, inr, ◌∙◌, arith}
 use Rattle.std.specs.Prelude.{◌⊎◌}
-use Rattle.exb_model.specs.Input.{Record}
 use Rattle.exb_scan.specs.declared.checking.Scanned.{Scanned}
 use Rattle.exb_scan.specs.declared.checking.ScanFault.{ScanFault}
 use Rattle.exb_scan.specs.declared.checking.ScanFault.TheVariants.{Memory, Missing, Read, Fault, Large}

@@ -1,5 +1,5 @@
 -- What is given of a capture that is read again.
-use Rattle.std.proofs.Common.{◌≡◌, ◌<◌, ◌≤◌, ◌+◌, ◌-◌, ◌*◌, ◌^◌, ℕ, Bool, true, false, List, [], ◌∷◌, ◌++◌, length, take, drop, Option, Some, None, Result, Ok, Err, refl, ap, sym, subst, inl, inr, ◌∙◌, arith, length-append, length-drop, append_assoc}
+use Rattle.std.proofs.Common.{◌≡◌, ◌<◌, ◌≤◌, ◌+◌, ℕ, true, List, [], ◌∷◌, ◌++◌, length, drop, Option, Some, None, Result, Ok, Err, refl, ap, sym, subst, inl, inr, ◌∙◌, arith, length-append, length-drop, append_assoc}
 use Rattle.std.specs.Prelude.{◌⊎◌, ◌≢◌, min, max, nat_lt, IsErrOf}
 use Rattle.std.proofs.lemmas.Bool.{cases_lt, ltb-true}
 use Rattle.std.proofs.lemmas.List.{take-append-drop, append_cancel_left}
@@ -18,11 +18,11 @@ use Rattle.exb_scan.specs.declared.file.Halt.TheVariants as halt
 use Rattle.exb_scan.specs.declared.replay.Replay.{Replay}
 use Rattle.exb_scan.specs.declared.replay.Replayed.{Replayed}
 use Rattle.exb_scan.specs.declared.replay.ReplayFault.{ReplayFault}
-use Rattle.exb_scan.specs.declared.replay.ReplayFault.TheVariants.{Memory, Read, Changed}
+use Rattle.exb_scan.specs.declared.replay.ReplayFault.TheVariants.{Changed}
 use Rattle.exb_scan.specs.Reading.{IsSound, HasRead, IsWhole, HaltsBy, after}
 use Rattle.exb_scan.specs.Replaying.{place_of, comes_early, unread, BeginsWith, Disagrees, Breaks, Ends, GoesOn, ComesEarly, ComesAt, HasGiven, IsPlayed, IsReplaying, IsFirstOf}
 use Rattle.exb_scan.specs.Scans.{first_time, scanned_of}
-use Rattle.exb_scan.proofs.Going.{taken_sound, taken_read}
+use Rattle.exb_scan.proofs.Going.{taken_read}
 
 nil_of : {X : Type 0} (xs : List X) → length xs ≡ 0 → xs ≡ []
 nil_of [] e = refl

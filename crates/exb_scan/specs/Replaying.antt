@@ -1,7 +1,7 @@
 -- A capture that was checked and is read again.
-use Rattle.std.specs.Prelude.{⊤, ◌≡◌, ◌<◌, ◌≤◌, ◌+◌, ◌*◌, ◌^◌, ◌⊎◌, ℕ, nat_lt, Bool, true, false, List, [], ◌∷◌, ◌++◌, length, max, Option, Some, None, Ok, Err}
+use Rattle.std.specs.Prelude.{◌≡◌, ◌<◌, ◌≤◌, ◌+◌, ◌*◌, ◌^◌, ℕ, nat_lt, Bool, true, false, List, [], ◌∷◌, ◌++◌, length, max, Option, Some, None, Ok, Err}
 use Rattle.exb_model.specs.Input.{Record}
-use Rattle.exb_pcap.specs.Captures.{Capture, capture_of, pcap_records}
+use Rattle.exb_pcap.specs.Captures.{capture_of, pcap_records}
 use Rattle.exb_pcap.specs.Pieces.{Found, asked, read_of}
 use Rattle.exb_pcap.specs.declared.reader.PcapFault.{PcapFault}
 use Rattle.exb_pcap.specs.declared.reader.PcapFault.TheVariants.{NotPcap, Version, LinkType, Cut, Length, Time}

@@ -1,5 +1,5 @@
 //! Checking a capture from front to end.
-ghost use Rattle.std.specs.Prelude.{◌≡◌, ◌≤◌, ◌<◌, ◌+◌, ◌-◌, ◌^◌, [], min, length, IfOk, IfErr, IsErrOf};
+ghost use Rattle.std.specs.Prelude.{◌≡◌, ◌≤◌, ◌<◌, ◌+◌, ◌-◌, ◌*◌, ◌^◌, [], min, length, IfOk, IfErr, IsErrOf, IfSome};
 ghost use Rattle.exb_shelf.specs.Files.{SameFiles, bytes_of};
 ghost use Rattle.exb_shelf.specs.Shelf.{IsReadingOf, Opens, Rose, NoFewer};
 ghost use Rattle.exb_scan.specs.Reading.{IsAt, IsSound, HasRead, HaltsBy, MovesOn};
@@ -95,6 +95,7 @@ fn scan_on<S: Shelf>(
     ensures halts { S.tells → IfErr result (λ halt. HasRead (bytes_of (S.file shelf.old (S.ids shelf.old file.old.id).name)) [] file.old
         → HaltsBy (bytes_of (S.file shelf.old (S.ids shelf.old file.old.id).name)) file.old.limit halt) }
     ensures bytes { IfOk result (λ scanned. scanned.bytes ≤ file.old.limit) }
+    ensures first { IfOk result (λ scanned. IfSome scanned.first (λ first. first < 2 ^ 32 * 1_000_000_000)) }
     ensures moves { MovesOn file.old.id (S.ids shelf.old) (S.ids shelf.new) }
     ensures files { SameFiles (S.file shelf.old) (S.file shelf.new) }
     ensures faults { NoFewer (S.faults shelf.old) (S.faults shelf.new) }
@@ -126,6 +127,7 @@ pub fn scan<S: Shelf>(
 ) -> Result<Scanned, ScanFault>
     ensures says { S.tells → IsScan limit (S.file shelf.old name.now) result }
     ensures bytes { IfOk result (λ scanned. scanned.bytes ≤ limit) }
+    ensures first { IfOk result (λ scanned. IfSome scanned.first (λ first. first < 2 ^ 32 * 1_000_000_000)) }
 
     // What is opened, and what stays.
     ensures opened { Opens (IsReadingOf name.now) (S.ids shelf.old) (S.ids shelf.new) }

@@ -1,10 +1,10 @@
-use Rattle.std.proofs.Common.{ℕ, List, Option, sym, subst, ◌∙◌}
+use Rattle.std.proofs.Common.{◌<◌, ◌*◌, ◌^◌, ℕ, List, Option, sym, subst, ◌∙◌}
 use Rattle.std.specs.Prelude.{IfSome, IfNone}
 use Rattle.std.proofs.lemmas.Result.{err_from_is_err_and}
 use Rattle.exb_model.specs.Input.{Record}
 use Rattle.exb_shelf.specs.Files.{bytes_of}
 use Rattle.exb_scan.specs.Reading.{IsAt, IsWhole, HasRead, HaltsBy, ComesNext}
-use Rattle.exb_scan.proofs.Counting.{one_counted, all_counted}
+use Rattle.exb_scan.proofs.Counting.{one_counted, all_counted, first_in_time}
 use Rattle.exb_scan.proofs.Looking.{kept_bytes, moves_then, fewer_then}
 use Rattle.exb_scan.proofs.checking.scan_on.Goals as goal
 
@@ -57,6 +57,9 @@ records-preserved g c =
           })
           (subst (λ (o : Option ℕ). IfSome o (λ m. ComesNext m seen)) c.in-Some.is found.found)
           (λ xs x. c.pass.ensures.read bytes xs x) c.pass.ensures.sound c.with-scanned.ensures.records c.with-scanned.ensures.first;
+      first =
+          subst (λ (o : Option ℕ). IfSome o (λ k. k < 2 ^ 32 * 1_000_000_000)) (sym c.with-scanned.ensures.first)
+          (first_in_time c.records.scanned.first c.in-Some.moment inv.first (subst (λ (o : Option ℕ). IfSome o (λ k. k < 2 ^ 32 * 1_000_000_000)) c.in-Some.is found.moment));
       moves = moves_then c.args.file.now.id f.id (S.ids c.args.shelf.now) (S.ids c.records.shelf) (S.ids c.ahead.new.shelf) inv.moves c.ahead.ensures.moves inv.same.id;
       files = λ n. c.ahead.ensures.files n ∙ inv.files n;
       faults = fewer_then (S.faults c.args.shelf.now) (S.faults c.records.shelf) (S.faults c.ahead.new.shelf) inv.faults c.ahead.ensures.faults;

@@ -1,4 +1,5 @@
-use Rattle.std.proofs.Common.{◌≡◌, [], length}
+use Rattle.std.proofs.Common.{◌≡◌, ◌<◌, ◌*◌, ◌^◌, [], length}
+use Rattle.std.specs.Prelude.{IfSome}
 use Rattle.exb_shelf.specs.Files.{SameFiles, bytes_of}
 use Rattle.exb_shelf.specs.Shelf.{NoFewer}
 use Rattle.exb_scan.specs.Reading.{IsAt, IsSameFile, IsSound, HasRead, MovesOn, left_to_read}
@@ -15,6 +16,7 @@ invariant-records g l =
       sound : IsSound l.file;
       same : IsSameFile l.fn.file l.file;
       counted : S.tells → HasRead bytes [] l.fn.file → HasCounted bytes l.file l.scanned;
+      first : IfSome l.scanned.first (λ k. k < 2 ^ 32 * 1_000_000_000);
       moves : MovesOn l.fn.file.id (S.ids l.fn.shelf) (S.ids l.shelf);
       files : SameFiles (S.file l.fn.shelf) (S.file l.shelf);
       faults : NoFewer (S.faults l.fn.shelf) (S.faults l.shelf);

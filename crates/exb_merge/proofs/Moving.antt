@@ -1,0 +1,130 @@
+-- Captures that are read again, while one is opened or read on a shelf.
+use Rattle.std.proofs.Common.{◌≡◌, ℕ, suc, ◌+◌, ◌^◌, ◌<◌, ◌≤◌, true, false, List, ◌∷◌, ◌++◌, map, refl, sym, ap, subst, inl, inr, ◌∙◌, arith}
+use Rattle.std.specs.Prelude.{◌≢◌, ◌⊎◌, Option, Some, None, Err, IfSome, IsErrOf}
+use Rattle.std.specs.List.{AllByRecursion}
+use Rattle.std.proofs.lemmas.Bool.{cases_eq, cases_lt}
+use Rattle.exb_shelf.specs.Files.{Files, SameFiles}
+use Rattle.exb_shelf.specs.Shelf.{Id, IsReadingOf, Opens, Rose, reading}
+use Rattle.exb_scan.specs.declared.replay.Replay.{Replay}
+use Rattle.exb_scan.specs.declared.replay.ReplayFault.{ReplayFault}
+use Rattle.exb_scan.specs.declared.replay.ReplayFault.TheVariants as replay
+use Rattle.exb_scan.specs.Reading.{IsAt, MovesOn, left_to_read}
+use Rattle.exb_scan.specs.Replaying.{ComesAt, IsKept, IsSameReplay}
+use Rattle.exb_merge.specs.declared.replays.Again.{Again}
+use Rattle.exb_merge.specs.declared.replays.CaptureFault.{CaptureFault}
+use Rattle.exb_merge.specs.declared.replays.CaptureFault.TheVariants.{Read, Changed}
+use Rattle.exb_merge.specs.Replays.{Apart, IsOpened, ReadsOn, fault_at, standing_of, HasPort}
+use Rattle.exb_merge.proofs.Places.{all_join, all_on, all_with}
+use Rattle.exb_merge.proofs.Members.{all-left, all-right}
+use Rattle.exb_merge.proofs.Standing.{AreApart, apart_before, apart_after, id_of, is_mine, ports_apart}
+use Rattle.exb_merge.proofs.Told.{Stays}
+
+-- ---- faults
+pub changed_at : (port p at : ℕ) (fault : ReplayFault) → fault_at port fault ≡ Changed p at → fault ≡ replay.Changed at
+changed_at port p at replay.Memory e = absurd (cc)
+changed_at port p at replay.Read e = absurd (cc)
+changed_at port p at (replay.Changed n) e = let same : n ≡ at = cc in ap replay.Changed same
+
+pub read_is : (port : ℕ) (fault : ReplayFault) → fault_at port fault ≡ Read → fault ≡ replay.Read
+read_is port replay.Memory e = absurd (cc)
+read_is port replay.Read e = refl
+read_is port (replay.Changed n) e = absurd (cc)
+
+pub rose_later : (old mid new : ℕ) → old ≤ mid → mid ≤ new → Rose mid new → Rose old new
+rose_later old mid new low high rose small = by_size (cases_lt (mid + 1) (2 ^ 64))
+  where
+    by_size : (mid + 1 < 2 ^ 64) ⊎ (2 ^ 64 ≤ mid + 1) → old < new
+    by_size (inl t) = omega (arith, low, rose t)
+    by_size (inr t) = omega (arith, low, high, small, t)
+
+-- ---- one id has moved
+stays_opened : (given ids : ℕ → Id) (s : Again) → Stays given ids s → IsOpened given s → IsOpened ids s
+stays_opened given ids s stay o =
+    record { at = subst (λ (i : Id). IsAt i s.replay.file.got) (sym stay) o.at; kept = o.kept; small = o.small; first = o.first; numbers = o.numbers; comes = o.comes }
+
+pub all_opened : (given ids : ℕ → Id) (ss : List Again) → AllByRecursion (Stays given ids) ss → AllByRecursion (IsOpened given) ss → AllByRecursion (IsOpened ids) ss
+all_opened given ids ss stay each = all_with (Stays given ids) (IsOpened given) (IsOpened ids) ss (λ s st o. stays_opened given ids s st o) stay each
+
+stay_apart : (given ids : ℕ → Id) (s : Again) (ss : List Again) → MovesOn s.replay.file.id given ids → AllByRecursion (AreApart s) ss → AllByRecursion (Stays given ids) ss
+stay_apart given ids s ss moves apart = all_on (AreApart s) (Stays given ids) ss (λ t a. moves.others t.replay.file.id a.1) apart
+
+pub stay_before : (given ids : ℕ → Id) (front back : List Again) (s : Again) → MovesOn s.replay.file.id given ids → Apart (front ++ s ∷ back) → AllByRecursion (Stays given ids) front
+stay_before given ids front back s moves apart = stay_apart given ids s front moves (apart_before front back s apart)
+
+pub stay_after : (given ids : ℕ → Id) (front back : List Again) (s : Again) → MovesOn s.replay.file.id given ids → Apart (front ++ s ∷ back) → AllByRecursion (Stays given ids) back
+stay_after given ids front back s moves apart = stay_apart given ids s back moves (apart_after front back s apart)
+
+-- all are as they were opened, but for the one that was read
+pub opened_put : (given ids : ℕ → Id) (front back : List Again) (s s' : Again) → MovesOn s.replay.file.id given ids → Apart (front ++ s ∷ back) → IsOpened ids s' →
+    AllByRecursion (IsOpened given) (front ++ s ∷ back) → AllByRecursion (IsOpened ids) (front ++ s' ∷ back)
+opened_put given ids front back s s' moves apart own each =
+    all_join (IsOpened ids) front (s' ∷ back)
+    (all_opened given ids front (stay_before given ids front back s moves apart) (all-left (IsOpened given) front (s ∷ back) each))
+    (own, all_opened given ids back (stay_after given ids front back s moves apart) ((all-right (IsOpened given) front (s ∷ back) each).1))
+
+pub reads_on : (given ids : ℕ → Id) (front back : List Again) (s : Again) → MovesOn s.replay.file.id given ids → ReadsOn (map id_of (front ++ s ∷ back)) given ids
+reads_on given ids front back s moves = record {
+  others = λ j mine. moves.others j (is_mine front back s j mine);
+  same = λ j name reads. by_id j name reads (cases_eq j s.replay.file.id);
+}
+  where
+    by_id : (j : ℕ) (name : List ℕ) → IsReadingOf name (given j) → (j ≡ s.replay.file.id) ⊎ (j ≡ s.replay.file.id → ⊥) → IsReadingOf name (ids j)
+    by_id j name reads (inl e) = subst (λ k. IsReadingOf name (ids k)) (sym e) (moves.same name (subst (λ k. IsReadingOf name (given k)) e reads))
+    by_id j name reads (inr other) = subst (λ (i : Id). IsReadingOf name i) (sym (moves.others j other)) reads
+
+pub reads_none : (mine : List ℕ) (given : ℕ → Id) → ReadsOn mine given given
+reads_none mine given = record { others = λ j other. refl; same = λ j name reads. reads }
+
+-- the capture that was read, as it is kept
+pub opened_next : (ids given : ℕ → Id) (s : Again) (port : ℕ) (taken looked : Replay) (index : ℕ) (next : Option ℕ) → IsOpened given s → index ≡ suc s.index → IsSameReplay s.replay taken → IsSameReplay taken looked →
+    IsKept looked → IsAt (ids looked.file.id) looked.file.got → left_to_read taken.file + 16 ≤ left_to_read s.replay.file → left_to_read looked.file ≤ left_to_read taken.file →
+    IfSome next (λ m. ComesAt m looked) → IsOpened ids (record { port = port; index = index; next = next; replay = looked })
+opened_next ids given s port taken looked index next o is first second kept at takes looks comes =
+    let told : looked.told.bytes ≡ s.replay.told.bytes = ap (λ t. t.bytes) (second.told ∙ first.told) in
+    record {
+      at = at;
+      kept = kept;
+      small = omega (arith, o.small, told);
+      first = omega (arith, is);
+      numbers = omega (arith, is, o.numbers, told, takes, looks);
+      comes = comes;
+    }
+
+-- what it has next isn't before the moment of the record that was taken
+pub rises_next : (next : Option ℕ) (m : ℕ) (looked : Replay) → looked.least ≡ m → IfSome next (λ k. ComesAt k looked) → IfSome next (λ k. m ≤ k)
+rises_next None m looked least comes = tt
+rises_next (Some k) m looked least comes = omega (arith, least, comes.is)
+
+-- ---- one is opened
+not_new : (given : ℕ → Id) (id : ℕ) (s : Again) → (given id).given ≡ false → IsOpened given s → id ≢ s.replay.file.id
+not_new given id s fresh o e = let no : true ≡ false = sym o.at.given ∙ ap (λ k. (given k).given) (sym e) ∙ fresh in cc
+
+pub new_apart : (given : ℕ → Id) (s : Again) (ss : List Again) → (given s.replay.file.id).given ≡ false → (HasPort s.port (map standing_of ss) → ⊥) → AllByRecursion (IsOpened given) ss →
+    AllByRecursion (λ t. AreApart t s) ss
+new_apart given s ss fresh port each =
+    all_with (λ (t : Again). s.port ≢ t.port) (IsOpened given) (λ t. AreApart t s) ss (λ t other o. (other, not_new given s.replay.file.id t fresh o)) (ports_apart ss s.port port) each
+
+pub stay_opened : (P : Id → Type 0) (given mid ids : ℕ → Id) (id : ℕ) (ss : List Again) → (given id).given ≡ false → Opens P given mid → MovesOn id mid ids → AllByRecursion (IsOpened given) ss →
+    AllByRecursion (Stays given ids) ss
+stay_opened P given mid ids id ss fresh opens moves each =
+    all_on (IsOpened given) (Stays given ids) ss
+    (λ s o. moves.others s.replay.file.id (λ e. not_new given id s fresh o (sym e)) ∙ opens.kept s.replay.file.id o.at.given) each
+
+pub opens_on : (name : List ℕ) (given mid ids : ℕ → Id) (id : ℕ) → (given id).given ≡ false → mid id ≡ reading name 0 → Opens (IsReadingOf name) given mid → MovesOn id mid ids → Opens (IsReadingOf name) given ids
+opens_on name given mid ids id fresh is opens moves = record {
+  fresh = λ j not_given now. by_id j not_given now (cases_eq j id);
+  kept = λ j was. moves.others j (λ e. let no : true ≡ false = sym was ∙ ap (λ k. (given k).given) e ∙ fresh in cc) ∙ opens.kept j was;
+}
+  where
+    by_id : (j : ℕ) → (given j).given ≡ false → (ids j).given ≡ true → (j ≡ id) ⊎ (j ≡ id → ⊥) → IsReadingOf name (ids j)
+    by_id j not_given now (inl e) =
+        subst (λ k. IsReadingOf name (ids k)) (sym e)
+        (moves.same name (record { given = ap (λ (i : Id). i.given) is; reads = ap (λ (i : Id). i.reads) is; named = ap (λ (i : Id). i.name) is }))
+    by_id j not_given now (inr other) =
+        subst (λ (i : Id). IsReadingOf name i) (sym (moves.others j other)) (opens.fresh j not_given (ap (λ (i : Id). i.given) (sym (moves.others j other)) ∙ now))
+
+pub files_then : (a b c : Files) → SameFiles a b → SameFiles b c → SameFiles a c
+files_then a b c p q n = q n ∙ p n
+
+pub own_fault : {X : Type 0} (f k : CaptureFault) → IsErrOf {T = X} (Err f) k → f ≡ k
+own_fault f k e = cc

@@ -1,0 +1,64 @@
+use Rattle.std.proofs.Common.{◌≡◌, [], ◌∷◌, ◌++◌, map, Err, sym, ap, subst, ◌∙◌, arith}
+use Rattle.std.specs.List.{AllByRecursion}
+use Rattle.exb_shelf.specs.Files.{bytes_of}
+use Rattle.exb_scan.proofs.Replaying.{never_replayed}
+use Rattle.exb_merge.specs.declared.replays.Again.{Again}
+use Rattle.exb_merge.specs.declared.replays.CaptureFault.TheVariants.{Changed}
+use Rattle.exb_merge.specs.Replays.{Apart, AreReplays, IsOpened, seen}
+use Rattle.exb_merge.specs.Streams.{stream_of}
+use Rattle.exb_merge.specs.Turns.{IsInTurn}
+use Rattle.exb_merge.proofs.Adding.{apart_new, each_more, in_turn_more, one_more, opened_first, replay_first, replays_more, when_ok}
+use Rattle.exb_merge.proofs.Moving.{changed_at, own_fault}
+use Rattle.exb_merge.proofs.Told.{replaying_opened}
+use Rattle.exb_merge.proofs.replays.Replays.add.Goals as goal
+
+pub returns-in-Err-ahead-clause-never : goal.returns-in-Err-ahead-clause-never
+returns-in-Err-ahead-clause-never g c = λ tells p at e bytes records there whole told.
+    let S = g.S.Shelf in
+    let opened = c.in-Ok.replay in
+    let file = S.file c.open.new.shelf in
+    let ids = S.ids c.open.new.shelf in
+    let k = replaying_opened (S.file c.args.shelf.now) file ids c.args.name.now bytes records c.args.told opened there whole told c.open.ensures.files c.in-Ok.ensures.id c.in-Ok.ensures.told.0
+    (c.in-Ok.ensures.given tells) in
+    let fault = changed_at c.args.port p at c.in-Err-ahead.fault (sym c.fault_at-in-Err-ahead.ensures ∙ own_fault c.fault_at-in-Err-ahead.result (Changed p at) e) in
+    never_replayed (bytes_of (file (ids opened.file.id).name)) records opened at k (c.in-Err-ahead.ensures.changed tells at (ap Err fault) k.given k.has)
+
+pub returns-clause-opened : goal.returns-clause-opened
+returns-clause-opened g c =
+    let S = g.S.Shelf in
+    let given = S.ids c.args.shelf.now in
+    let r = c.args.self.now in
+    let xs = r.sources.items in
+    let opened = c.in-Ok.replay in
+    let looked = c.ahead.new.self in
+    let s : Again = one_more c.args.port c.args.told opened looked c.in-Ok-ahead.next c.in-Ok.ensures.told.0 c.in-Ok.ensures.begun c.ahead.ensures.same in
+    let ids = S.ids c.ahead.new.shelf in
+    let items : c.push.new.self.items ≡ xs ++ s ∷ [] = when_ok c.push.result c.push.new.self.items (xs ++ s ∷ []) xs (sym c.is_err-2.ensures.value ∙ c.if-is_err-2.false) c.push.ensures.items in
+    let own = opened_first c.args.port c.args.told opened looked c.in-Ok-ahead.next c.in-Ok.ensures.told.0 c.in-Ok.ensures.begun c.ahead.ensures.same ids c.requires.room c.ahead.ensures.kept
+    c.in-Ok-ahead.ensures.at c.in-Ok-ahead.ensures.left c.in-Ok-ahead.ensures.found in
+    record {
+      each = subst (AllByRecursion (IsOpened ids)) (sym items)
+          (each_more given (S.ids c.open.new.shelf) ids xs s c.args.name.now opened.file.id c.in-Ok.ensures.new c.open.ensures.opened c.ahead.ensures.moves c.requires.opened.each own);
+      apart = subst Apart (sym items) (apart_new given xs s opened.file.id c.ahead.ensures.same.file.id c.in-Ok.ensures.new c.requires.port c.requires.opened.each c.requires.opened.apart);
+      turns = subst (λ ys. IsInTurn (map seen ys) c.put_turn.new.turns) (sym items)
+          (in_turn_more xs s c.len-place.result r.turns c.reserve.new.self c.put_turn.new.turns (omega arith) c.requires.opened.turns c.reserve.ensures.items c.put_turn.ensures.same c.put_turn.ensures.ordered
+          c.put_turn.ensures.room);
+    }
+
+pub returns-clause-streams : goal.returns-clause-streams
+returns-clause-streams g c = λ tells bytes records streams there whole told t.
+    let S = g.S.Shelf in
+    let given = S.ids c.args.shelf.now in
+    let r = c.args.self.now in
+    let xs = r.sources.items in
+    let opened = c.in-Ok.replay in
+    let looked = c.ahead.new.self in
+    let s : Again = one_more c.args.port c.args.told opened looked c.in-Ok-ahead.next c.in-Ok.ensures.told.0 c.in-Ok.ensures.begun c.ahead.ensures.same in
+    let ids = S.ids c.ahead.new.shelf in
+    let items : c.push.new.self.items ≡ xs ++ s ∷ [] = when_ok c.push.result c.push.new.self.items (xs ++ s ∷ []) xs (sym c.is_err-2.ensures.value ∙ c.if-is_err-2.false) c.push.ensures.items in
+    let own = replay_first c.args.port c.args.told opened looked c.in-Ok-ahead.next c.in-Ok.ensures.told.0 c.in-Ok.ensures.begun c.ahead.ensures.same (S.file c.args.shelf.now) (S.file c.open.new.shelf)
+    (S.file c.ahead.new.shelf) given (S.ids c.open.new.shelf) ids c.args.name.now c.open.ensures.files c.ahead.ensures.files c.ahead.ensures.moves c.in-Ok.ensures.id c.ahead.ensures.before
+    c.in-Ok.ensures.told.1 bytes records there whole told (c.in-Ok.ensures.given tells) (c.in-Ok-ahead.ensures.given tells) (c.in-Ok-ahead.ensures.end tells) in
+    let all = replays_more given (S.ids c.open.new.shelf) ids xs s c.args.name.now opened.file.id c.in-Ok.ensures.new c.open.ensures.opened c.ahead.ensures.moves c.requires.opened.each
+    (S.file c.args.shelf.now) (S.file c.open.new.shelf) (S.file c.ahead.new.shelf) streams (stream_of c.args.port records) c.open.ensures.files c.ahead.ensures.files own t in
+    subst (λ ss. AreReplays (S.file c.ahead.new.shelf) ids ss (streams ++ stream_of c.args.port records ∷ [])) (sym items) all
