@@ -1,6 +1,6 @@
 -- Faults of captures: a capture has one or none, and one is the first in port order.
-use Rattle.std.proofs.Common.{◌≡◌, ◌<◌, ◌+◌, ◌++◌, ◌==◌, ◌⊎◌, inl, inr, ℕ, zero, suc, Bool, true, false, List, [], ◌∷◌, Option, Some, None, Result, Ok, Err, length, ap, sym, ◌∙◌, refl, arith, subst, add-one, drop, get_or}
-use Rattle.std.specs.Prelude.{is_some, slice_index_or, All}
+use Rattle.std.proofs.Common.{◌≡◌, ◌<◌, ◌+◌, ◌++◌, ◌==◌, ◌⊎◌, inl, inr, ℕ, zero, suc, true, false, List, [], ◌∷◌, Option, Some, None, Result, Ok, Err, length, ap, sym, ◌∙◌, refl, arith, subst, add-one, drop, get_or}
+use Rattle.std.specs.Prelude.{slice_index_or, All}
 use Rattle.std.proofs.Math.Seq.{drop-cons, drop-length}
 use Rattle.std.proofs.lemmas.Bool.{cases_lt}
 use Rattle.std.proofs.lemmas.List.Elements.{All-append}
@@ -9,14 +9,14 @@ use Rattle.exb_scan.specs.declared.checking.ScanFault.{ScanFault}
 use Rattle.exb_scan.specs.declared.checking.ScanFault.TheVariants as scan
 use Rattle.exb_scan.specs.Scans.{IsOfFile}
 use Rattle.exb_scan.proofs.OneAnswer.{one_of_all}
-use Rattle.exb_shelf.specs.Files.{Files, SameFiles}
+use Rattle.exb_shelf.specs.Files.{Files}
 use Rattle.exb_tables.specs.declared.rows.Named.{Named}
 use Rattle.exb_run.specs.declared.fault.Flaw.{Flaw}
 use Rattle.exb_run.specs.declared.fault.Flaw.TheVariants.{Large, Broken}
 use Rattle.exb_run.specs.declared.fault.Fault.{Fault}
 use Rattle.exb_run.specs.declared.fault.Fault.TheVariants.{Missing, Capture}
 use Rattle.exb_run.specs.Checks.{AreAllGood, FirstFault, HasFault, HasFaultNamed, IsGood, IsGoodNamed, fault_in, most_bytes}
-use Rattle.exb_run.specs.Inputs.{name_of, is_named}
+use Rattle.exb_run.specs.Inputs.{name_of}
 use Rattle.exb_run.proofs.Asking.{some_once, none_or_some}
 
 -- ---- one capture

@@ -32,7 +32,7 @@ takes-more file mid files given mids ids a b c ds d all one streams replays =
     let (last, next, behind) = one rest left in (
       last,
       order ∙ ap (λ (xs : List Coming). map what ds ++ xs) next ∙ sym (append_assoc (map what ds) (what d ∷ []) (still_to_come (played_with last c)))
-      ∙ ap (λ (xs : List Coming). xs ++ still_to_come (played_with last c)) (sym (map-append what ds (d ∷ []))),
+          ∙ ap (λ (xs : List Coming). xs ++ still_to_come (played_with last c)) (sym (map-append what ds (d ∷ []))),
       behind,
     )
 

@@ -1,6 +1,6 @@
 -- What is handed to a run: the captures and commands of a topology, and the commands of an input that is made.
-use Rattle.std.proofs.Common.{◌≡◌, ◌≢◌, ◌+◌, ◌<◌, ◌≤◌, ℕ, List, [], ◌∷◌, Some, map, length, All, refl, ap, sym, subst, ◌∙◌, arith, inl, inr}
-use Rattle.std.specs.Prelude.{sum_by, AllPairs, slice_index}
+use Rattle.std.proofs.Common.{◌≡◌, ◌≢◌, ◌+◌, ◌≤◌, ℕ, List, [], ◌∷◌, length, All, refl, ap, sym, subst, ◌∙◌, arith, inl, inr}
+use Rattle.std.specs.Prelude.{sum_by, AllPairs}
 use Rattle.std.proofs.lemmas.List.Elements.{All-head, All-tail}
 use Rattle.std.proofs.lemmas.List.Sums.{sum_by-cons}
 use Rattle.exb_made.specs.Made.{made}
@@ -9,17 +9,14 @@ use Rattle.exb_model.specs.declared.setup.Timed.{Timed}
 use Rattle.exb_model.specs.declared.setup.Verdict.{Verdict}
 use Rattle.exb_model.specs.Input.{tree_of}
 use Rattle.exb_model.specs.Setup.{NamesExternal, shape_of}
-use Rattle.exb_model.specs.Tree.{Shape, external_ports, is_external}
+use Rattle.exb_model.specs.Tree.{Shape, is_external}
 use Rattle.exb_shelf.specs.Files.{Files}
-use Rattle.exb_tables.specs.declared.rows.Named.{Named}
-use Rattle.exb_text.specs.Names.{capture_name, journal_name, trace_name}
 use Rattle.exb_topology.specs.declared.topology.Topology.{Topology}
 use Rattle.exb_topology.specs.Sound.{IsApart, IsSound}
 use Rattle.exb_run.specs.declared.checked.Checked.{Checked}
 use Rattle.exb_run.specs.Checks.{AreChecked, CanBeRead}
-use Rattle.exb_run.specs.Inputs.{is_named, name_of}
 use Rattle.exb_run.specs.Outputs.{output_name}
-use Rattle.exb_run.specs.Plans.{Planned, output_count, port_at, port_count}
+use Rattle.exb_run.specs.Plans.{Planned}
 use Rattle.exb_run.specs.Playing.{IsScript}
 use Rattle.exb_run.proofs.OutputLemmas.{IsPlace, place_is, name_of_capture, name_of_journal, name_of_trace}
 use Rattle.exb_run.proofs.Running.{name_by, named_by}

@@ -33,7 +33,7 @@ use Rattle.exb_run.specs.Answers.{eager_summary}
 use Rattle.exb_run.specs.Checks.{AreAllGood, AreChecked, CanBeRead, FirstFault, IsGood, IsGoodNamed, most_bytes}
 use Rattle.exb_run.specs.Inputs.{bytes_named, input_from, is_named, name_of, records_at}
 use Rattle.exb_run.specs.Outputs.{HasPlayed, output_name}
-use Rattle.exb_run.specs.Plans.{Planned, output_count, port_at}
+use Rattle.exb_run.specs.Plans.{Planned, port_at}
 use Rattle.exb_run.specs.Scratch.{AreKept, IsKept, IsReadAs, KeepsFirst, KeepsMore, name_made}
 use Rattle.exb_run.specs.Shelving.{CountsFaults, IsChange, IsOfPlay}
 use Rattle.exb_run.proofs.FaultLemmas.{first_none}

@@ -1,5 +1,5 @@
 -- What checking tells of the captures of a run, and what can be wrong with them.
-use Rattle.std.specs.Prelude.{⊤, ◌≡◌, ◌≢◌, ◌<◌, ◌≤◌, ◌*◌, ◌^◌, ℕ, true, List, [], ◌∷◌, All, filter, filter_map, map, min, option_map, Option, Some, None, IfSome, Result, Ok, Err}
+use Rattle.std.specs.Prelude.{⊤, ◌≡◌, ◌≢◌, ◌<◌, ◌≤◌, ◌*◌, ◌^◌, ℕ, true, List, All, filter, filter_map, map, min, option_map, Option, Some, None, IfSome, Result, Ok, Err}
 use Rattle.exb_model.specs.Input.{least_or, second_of}
 use Rattle.exb_model.specs.Ports.{all_ports}
 use Rattle.exb_merge.specs.Replays.{Standing}

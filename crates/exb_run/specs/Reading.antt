@@ -2,7 +2,7 @@
 use Rattle.std.specs.Prelude.{⊤, ◌<◌}
 use Rattle.exb_keys.specs.declared.faults.TopoFault.TheVariants as topology
 use Rattle.exb_run.specs.declared.fault.Fault.{Fault}
-use Rattle.exb_run.specs.declared.fault.Fault.TheVariants.{Usage, Missing, Topology as BadTopology, Capture, Changed, Read, Write, Memory}
+use Rattle.exb_run.specs.declared.fault.Fault.TheVariants.{Usage, Missing, Topology as BadTopology, Capture, Changed, Read, Memory}
 
 -- a fault that can come while captures are checked
 abbrev pub IsOfCapture : Fault → Type 0

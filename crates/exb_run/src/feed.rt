@@ -60,7 +60,10 @@ impl Feed<'_> {
         ensures causes { IfErr result IsOfPlay }
         ensures faults { CountsFaults result (S.faults shelf.old) (S.faults shelf.new) }
     {
-        match self.programme.next(alloc, shelf, self.piece.as_mut_slice())? {
+        match self
+            .programme
+            .next(alloc, shelf, self.piece.as_mut_slice())?
+        {
             Some(Next::Record(came)) => {
                 let second = came.moment / NANOSECONDS;
                 put(&mut self.gathered, came)?;

@@ -6,8 +6,8 @@
 mod check;
 mod checked;
 mod fault;
-mod game;
 mod feed;
+mod game;
 mod making;
 mod outputs;
 mod plan;

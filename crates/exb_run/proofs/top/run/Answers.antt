@@ -4,7 +4,7 @@ use Rattle.exb_words.specs.Words.{Ask}
 use Rattle.exb_run.specs.Answers.{asked, status_of, line_of}
 use Rattle.exb_run.specs.Outcomes.{CanCome}
 use Rattle.exb_run.proofs.OpenLemmas.{opens_by_status}
-use Rattle.exb_run.proofs.Reporting.{can_be, cause_of, done_by, early_end, fault_says, front_by, is_missing, is_read, is_usage, made_is, none_by_usage, of_input, read_line, run_by_write, status_cases, status_is, stop_not_one, stop_not_seven, stop_not_six, stops_with, text_by, usage_line, write_line, write_or_not}
+use Rattle.exb_run.proofs.Reporting.{can_be, cause_of, done_by, early_end, fault_says, front_by, is_missing, is_read, is_usage, made_is, none_by_usage, not_ten, of_input, read_line, run_by_write, status_cases, status_is, stop_not_one, stop_not_seven, stop_not_six, stops_with, text_by, usage_line, write_line, write_or_not}
 use Rattle.exb_run.proofs.Running.{Outcome}
 use Rattle.exb_run.proofs.Stopping.{can_not, failure_is}
 use Rattle.exb_run.proofs.top.run.Goals as goal
@@ -45,6 +45,12 @@ pub returns-clause-first : goal.returns-clause-first
 returns-clause-first g c = λ t h.
     let is = of_input c.report.result h in
     stops_with c.work-outcome.result (asked c.args.words.now) (g.S.Shelf.file c.args.shelf.now) c.report.result (c.work-outcome.ensures.came.cause t) (sym (c.report.ensures.status is.one is.seven)) is.late is.six is.seven
+
+pub returns-clause-ten_never : goal.returns-clause-ten_never
+returns-clause-ten_never g c = λ t e.
+    let o = c.work-outcome.result in
+    let is : c.report.result ≡ status_of o = c.report.ensures.status (λ h. omega arith) (λ h. omega arith) in
+    not_ten o (asked c.args.words.now) (g.S.Shelf.file c.args.shelf.now) (c.work-outcome.ensures.came.cause t) (sym is ∙ e)
 
 pub returns-clause-rose : goal.returns-clause-rose
 returns-clause-rose g c =
@@ -124,6 +130,10 @@ returns-clause-says g c = λ t. record {
         | inl is ↦ c.report.ensures.whole_seven t e no_sink ∙ ap (λ (xs : List ℕ). g.O.Sink.text c.args.out.now ++ xs) (write_line c.work-outcome.result is)
         | inr other ↦ absurd (no_sink (c.report.ensures.seven e other))
       ];
+  ten = λ e.
+      let n1 : c.report.result ≢ 1 = λ h. omega arith in
+      let n7 : c.report.result ≢ 7 = λ h. omega arith in
+      fault_says c.work-outcome.result 10 _ _ (sym (c.report.ensures.status n1 n7) ∙ e) (omega arith) (can_be (asked c.args.words.now) c.work-outcome.result c.work-outcome.ensures.came.can_come) (c.report.ensures.whole t n1 n7);
 }
 
 pub returns-clause-front : goal.returns-clause-front
@@ -133,9 +143,9 @@ returns-clause-front g c = λ t o.
 
 -- ---- what stays, and what is opened
 pub returns-clause-early : goal.returns-clause-early
-returns-clause-early g c = λ n0 n1 n7.
+returns-clause-early g c = λ n0 n1 n6 n7 n10.
     let is : c.report.result ≡ status_of c.work-outcome.result = c.report.ensures.status n1 n7 in
-    early_end c.work-outcome.result _ c.work-outcome.ensures.came.early (λ e. n0 (is ∙ e)) (λ e. n1 (is ∙ e)) (λ e. n7 (is ∙ e))
+    early_end c.work-outcome.result _ c.work-outcome.ensures.came.early (λ e. n0 (is ∙ e)) (λ e. n1 (is ∙ e)) (λ e. n6 (is ∙ e)) (λ e. n7 (is ∙ e)) (λ e. n10 (is ∙ e))
 
 pub returns-clause-opens : goal.returns-clause-opens
 returns-clause-opens g c = opens_by_status _ (asked c.args.words.now) (g.S.Shelf.file c.args.shelf.now) c.report.result c.work-outcome.result _ _ c.report.ensures.status c.work-outcome.ensures.opens
