@@ -1,8 +1,9 @@
 -- What a shelf and a sink hold whose calls are disturbed.
-use Rattle.std.specs.Prelude.{ℕ, List}
+use Rattle.std.specs.Prelude.{ℕ, List, None}
 use Rattle.exb_shelf.specs.Files.{Files}
 use Rattle.exb_shelf.specs.Shelf.{Id, Faults}
-use Rattle.exb_shelf.specs.Memory.{scratch_files, scratch_ids}
+use Rattle.exb_shelf.specs.Memory.{scratch_faults, scratch_files, scratch_ids}
+use Rattle.exb_faulty.specs.declared.changing.ChangingShelf.{ChangingShelf}
 use Rattle.exb_faulty.specs.declared.shelf.FaultyShelf.{FaultyShelf}
 use Rattle.exb_faulty.specs.declared.sink.FaultySink.{FaultySink}
 
@@ -15,6 +16,16 @@ ids_of s = scratch_ids s.kept
 
 abbrev pub faults_of : FaultyShelf → Faults
 faults_of s = record { missing = s.kept.missing; reads = s.reads; writes = s.writes }
+
+-- ---- files of which one changes, and none is told
+abbrev pub untold : ChangingShelf → Files
+untold s = λ n. None
+
+abbrev pub changing_ids : ChangingShelf → ℕ → Id
+changing_ids s = scratch_ids s.kept
+
+abbrev pub changing_faults : ChangingShelf → Faults
+changing_faults s = scratch_faults s.kept
 
 -- ---- a sink
 abbrev pub printed : FaultySink → List ℕ

@@ -1,12 +1,14 @@
 //! Files and a sink in memory of which calls are disturbed: a call fails, wants memory, or moves fewer bytes than it could. Both
-//! keep a list of their calls. That they keep all that [`exb_shelf::Shelf`] and [`exb_shelf::Sink`] ask for is proved, so whatever
+//! keep a list of their calls. And files of which one is another one when it is opened again. That they keep all that [`exb_shelf::Shelf`] and [`exb_shelf::Sink`] ask for is proved, so whatever
 //! they do a shelf and a sink may do. It stands on `exb_shelf`, and tests alone stand on it.
 #![tactic(auto)]
 
+mod changing;
 mod disturbance;
 mod shelf;
 mod sink;
 
+pub use changing::ChangingShelf;
 pub use disturbance::{Asked, Call, Disturbance};
 pub use shelf::FaultyShelf;
 pub use sink::FaultySink;

@@ -15,6 +15,7 @@ use Rattle.exb_model.specs.Setup.{NamesExternal, shape_of}
 use Rattle.exb_model.specs.Tree.{Shape, is_external}
 use Rattle.exb_merge.specs.Agendas.{ToPlay, begun, first_second, still_to_come}
 use Rattle.exb_merge.specs.declared.programme.Programme.{Programme}
+use Rattle.exb_merge.specs.declared.replays.Replays.{Replays}
 use Rattle.exb_merge.specs.Programmes.{played_with}
 use Rattle.exb_merge.specs.Replays.{AreReplays, HasPort, Standing, ids_in, left_in, number_of, standings}
 use Rattle.exb_merge.specs.Streams.{Stream, arrivals_of, next_moment, stream_at, stream_of, to_come}
@@ -273,6 +274,21 @@ can-begin tells m setup commands fate plan names file now cs ids o before p law 
       };
     }
 
+-- the same, where the programme was made of captures that were opened
+pub can-begin-of : (tells : Type 0) (m : Mode) (setup : Setup) (commands : List Timed) (fate : List Verdict) (plan : Planned) (names : List Named) (file now : Files) (cs : List Checked) (ids : ℕ → Id) (o : Outputs)
+    (before : Files) (p : Programme) (captures : Replays) → MergeOfAll → StartIsLeast → IsScript (shape_of setup) commands fate → plan.tree ≡ shape_of setup → CanBeRead tells plan names file cs →
+    p.start ≡ start_told cs → p.commands.now ≡ commands → p.taken ≡ 0 → p.captures ≡ captures → standings captures ≡ map first_standing cs → left_in captures ≤ sum_by (λ c. c.told.bytes + 1) cs →
+    AllByRecursion (λ k. ReadsCapture names (ids k)) (ids_in captures) → (tells → AreReplays now ids captures.sources.items (map (stream_told names file) cs)) →
+    (tells → HasTexts plan (pieces_of o) before now (first_text plan)) →
+    CanBegin tells m (record { input = input_from setup commands names file; before = before }) setup plan now ids o p
+can-begin-of tells m setup commands fate plan names file now cs ids o before p captures law least script tree can start same none are standing left named replays texts =
+    can-begin tells m setup commands fate plan names file now cs ids o before p law least script tree can start same none
+    (ap standings are ∙ standing)
+    (let size = ap left_in are in omega (arith, size, left))
+    (subst (λ (r : Replays). AllByRecursion (λ k. ReadsCapture names (ids k)) (ids_in r)) (sym are) named)
+    (λ t. subst (λ (r : Replays). AreReplays now ids r.sources.items (map (stream_told names file) cs)) (sym are) (replays t))
+    texts
+
 -- the budget has room for all fates
 pub has-budget : (t : Shape) (given : List Timed) (fate : List Verdict) (p : Programme) (left : ℕ) → IsScript t given fate → p.commands.now ≡ given → p.taken ≡ 0 → left < 2 ^ 56 →
     left + length fate + letters_in (drop p.taken p.commands.now) < 2 ^ 57
@@ -371,3 +387,73 @@ below-all m k (x ∷ xs) low all = (let own = all.0 in omega (arith, low, own), 
 least-low : (d : ℕ) (xs : List ℕ) → AllByRecursion (λ x. least_or d xs ≤ x) xs
 least-low d [] = tt
 least-low d (n ∷ ns) = (omega arith, below-all (min n (least_or n ns)) (least_or n ns) ns (omega arith) (least-low n ns))
+
+told-since-all : (m : ℕ) (cs : List Checked) → AllByRecursion (λ x. m ≤ x) (filter_map second_told cs) → AllByRecursion (λ (c : Checked). IfSome c.told.first (λ first. m ≤ second_of first)) cs
+told-since-all m [] all = tt
+told-since-all m (c ∷ cs) all = by_told c.told.first (told-since-all m cs) all
+  where
+    by_told : (o : Option ℕ) → (AllByRecursion (λ x. m ≤ x) (filter_map second_told cs) → AllByRecursion (λ (d : Checked). IfSome d.told.first (λ first. m ≤ second_of first)) cs) →
+        AllByRecursion (λ x. m ≤ x) (more (option_map second_of o) (filter_map second_told cs)) →
+        IfSome o (λ first. m ≤ second_of first) × AllByRecursion (λ (d : Checked). IfSome d.told.first (λ first. m ≤ second_of first)) cs
+    by_told None later rest = (tt, later rest)
+    by_told (Some first) later rest = (rest.0, later rest.1)
+
+all-got : {X : Type 0} (P : X → Type 0) (xs : List X) (k : ℕ) (d : X) → k < length xs → AllByRecursion P xs → P (get_or xs k d)
+all-got P [] k d low all = absurd (omega (arith, low))
+all-got P (x ∷ xs) zero d low all = all.0
+all-got P (x ∷ xs) (suc k) d low all = all-got P xs k d (omega (arith, low)) all.1
+
+-- the start isn't behind the first record of any
+pub told-since : (cs : List Checked) (at : ℕ) (c : Checked) → at < length cs → c ≡ get_or cs at c → IfSome c.told.first (λ first. start_told cs ≤ second_of first)
+told-since cs at c low is =
+    subst (λ (d : Checked). IfSome d.told.first (λ first. start_told cs ≤ second_of first)) (sym is)
+    (all-got (λ (d : Checked). IfSome d.told.first (λ first. start_told cs ≤ second_of first)) cs at c low (told-since-all (start_told cs) cs (least-low 0 (filter_map second_told cs))))
+
+-- the start is below 2^32 seconds
+start-low : (xs : List ℕ) (d : ℕ) → d < 2 ^ 32 → AllByRecursion (λ x. x < 2 ^ 32) xs → least_or d xs < 2 ^ 32
+start-low [] d low all = low
+start-low (x ∷ xs) d low all = (let own = all.0 in omega (arith, own))
+
+seconds-low : (cs : List Checked) → All (λ c. IfSome c.told.first (λ first. first < 2 ^ 32 * 1_000_000_000)) cs → AllByRecursion (λ x. x < 2 ^ 32) (filter_map second_told cs)
+seconds-low [] all = tt
+seconds-low (c ∷ cs) all = by_told c.told.first (all 0 c (omega arith)) (seconds-low cs (λ k d low. all (suc k) d (omega (arith, low))))
+  where
+    by_told : (o : Option ℕ) → IfSome o (λ first. first < 2 ^ 32 * 1_000_000_000) → AllByRecursion (λ x. x < 2 ^ 32) (filter_map second_told cs) →
+        AllByRecursion (λ x. x < 2 ^ 32) (more (option_map second_of o) (filter_map second_told cs))
+    by_told None is rest = rest
+    by_told (Some first) is rest = (omega (arith, is), rest)
+
+pub start-fits : (cs : List Checked) → All (λ c. IfSome c.told.first (λ first. first < 2 ^ 32 * 1_000_000_000)) cs → start_told cs < 2 ^ 32
+start-fits cs all = start-low (filter_map second_told cs) 0 (omega arith) (seconds-low cs all)
+
+-- ---- what was told of the file of this name
+pub record ToldNamed (names : List Named) (file : Files) (c : Checked) (name : List ℕ) : Type 0 where
+  pub bytes : List ℕ
+  pub records : List Record
+  pub there : file name ≡ Some bytes
+  pub read : pcap_records bytes ≡ Ok records
+  pub told : c.told ≡ scanned_of bytes records
+  pub are : records_at names file c.port ≡ records
+
+pub told-named : (names : List Named) (file : Files) (c : Checked) (name : List ℕ) → IsToldOf names file c → name_of names c.port ≡ Some name → ToldNamed names file c name
+told-named names file c name (other, found, good) named = by_file (file other) refl good
+  where
+    same : Some other ≡ Some name → other ≡ name
+    same e = cc
+
+    by_file : (o : Option (List ℕ)) → file other ≡ o → IsGood o c.told → ToldNamed names file c name
+    by_file None at (inl isnt) = absurd (cc)
+    by_file None at (inr (inl isnt)) = absurd (cc)
+    by_file None at (inr (inr isnt)) = absurd (cc)
+    by_file (Some bytes) at is =
+        let there : file name ≡ Some bytes = ap file (sym (same (sym found ∙ named))) ∙ at in
+        record {
+          bytes = bytes;
+          records = is.records;
+          there = there;
+          read = is.read;
+          told = is.tells;
+          are =
+              ap (λ (o : Option (List ℕ)). if is_some o then records_or_none (pcap_records (bytes_named file o)) else []) named
+              ∙ ap (λ (o : Option (List ℕ)). records_or_none (pcap_records (bytes_of o))) there ∙ ap records_or_none is.read;
+        }

@@ -234,7 +234,7 @@ module _ (m : Mode) (i : Input) (so_far : List Segment) (last : Option ℕ) (a :
           let later : l ≤ second = (let more = comes-later a got.comes.0 got.first l one from in let own = got.is_first in omega (arith, more, own)) in
           (omega (arith, is), omega (arith, is, later, before), low)
 
-  short : seconds < 2 ^ 32
+  pub short : seconds < 2 ^ 32
   short = let (one, two, three) = since-seconds in omega (arith, two, three)
 
   -- the programme goes on

@@ -1,34 +1,39 @@
 -- A run that goes on by what was gathered.
-use Rattle.std.proofs.Common.{◌≡◌, ℕ, ◌+◌, ◌-◌, ◌≤◌, ◌<◌, List, ◌∷◌, [], ◌++◌, drop, take, length, refl, ap, sym, subst, ◌∙◌, arith, append_assoc}
+use Rattle.std.proofs.Common.{◌≡◌, ℕ, ◌+◌, ◌-◌, ◌≤◌, ◌<◌, ◌^◌, List, ◌∷◌, [], ◌++◌, drop, take, length, refl, ap, sym, subst, ◌∙◌, arith, append_assoc}
+use mathlib.Core.Path.{fun_ext}
 use Rattle.std.specs.Prelude.{Option, None, Some}
+use Rattle.std.proofs.lemmas.List.{append-nil}
 use Rattle.exb_model.specs.declared.setup.Setup.{Setup}
 use Rattle.exb_model.specs.declared.setup.Timed.{Timed}
-use Rattle.exb_model.specs.Input.{Input, Segment, Mode, segment_of, seconds_after, segments, segments_after}
+use Rattle.exb_model.specs.Input.{Input, Coming, Segment, Mode, segment_of, seconds_after, segments, segments_after}
 use Rattle.exb_model.specs.Setup.{shape_of}
 use Rattle.exb_model.specs.Texts.{Counts, with_left}
 use Rattle.exb_model.specs.Traces.{trace_text}
 use Rattle.exb_merge.specs.Agendas.{still_to_come}
 use Rattle.exb_merge.specs.declared.programme.Programme.{Programme}
 use Rattle.exb_merge.specs.Programmes.{IsProgramme, played_with}
-use Rattle.exb_merge.specs.Replays.{ReadsOn, ids_in}
+use Rattle.exb_merge.specs.Replays.{ids_in}
 use Rattle.exb_network.specs.Networks.{Network, world_of, IsQuiet, IsSame}
 use Rattle.exb_network.specs.Worlds.{all_left}
 use Rattle.exb_resting.specs.Rest.Playing.{RunsAreUnderWay}
 use Rattle.exb_schedule.specs.declared.segment.Arrival.{Arrival}
 use Rattle.exb_schedule.specs.Playing.{HasPlayed, IsSegment, letters_in}
-use Rattle.exb_shelf.specs.Files.{Files}
+use Rattle.exb_shelf.specs.Files.{Files, SameFiles}
 use Rattle.exb_shelf.specs.Shelf.{Id}
 use Rattle.exb_text.specs.Tallies.{nothing_counted}
 use Rattle.exb_run.specs.declared.feed.Feed.{Feed}
 use Rattle.exb_run.specs.declared.outputs.Outputs.{Outputs}
 use Rattle.exb_run.specs.Outputs.{OnlyPlanned}
 use Rattle.exb_run.specs.Plans.{Planned, port_count}
+use Rattle.exb_run.specs.Shelving.{OnlyReads}
 use Rattle.exb_run.specs.Playing.{Run, IsCutOff, IsTold, text_so_far}
-use Rattle.exb_run.specs.UnderWay.{AreApart, CanBegin, CanBePlayed, CanGoOn, IsGathered, IsOpened, IsPlaying, LeadsOn}
+use Rattle.exb_run.specs.UnderWay.{AreApart, CanBegin, CanBePlayed, CanGoOn, IsGathered, IsOpened, IsPlaying, LeadsOn, NothingIsLeft}
 use Rattle.exb_run.specs.Writing.{HasTexts, first_text, lines_of, pieces_of, with_left_frames, with_more}
 use Rattle.exb_run.proofs.Counting.{count_events}
-use Rattle.exb_run.proofs.Following.{can-play, commands-are, follows, going-on, is-segment, leading-on, letters-are, taken}
-use Rattle.exb_run.proofs.Keeping.{apart-read, leads-written}
+use Rattle.exb_run.proofs.CuttingOff.{cut_before}
+use Rattle.exb_run.proofs.Following.{can-play, commands-are, follows, going-on, is-segment, leading-on, letters-are, short, taken}
+use Rattle.exb_run.proofs.Keeping.{apart-read, ids-same, leads-written}
+use Rattle.exb_run.proofs.Segmenting.{segments_after-end}
 use Rattle.exb_run.proofs.Taking.{HasCommands, came_by, comes-ids}
 use Rattle.exb_run.proofs.Telling.{cleared-played, counts-more, same_texts, text-first, text-more}
 
@@ -105,17 +110,18 @@ module _ (tells : Type 0) (m : Mode) (r : Run) (plan : Planned) (now : Files) (i
 
 -- A run that is opened goes on once what the opening told is written and counted.
 pub opened-playing : (tells : Type 0) (m : Mode) (r : Run) (plan : Planned) (now : Files) (ids : ℕ → Id) (n : Network) (c : Counts) (o : Outputs) (p : Programme) → IsOpened tells m r plan now ids n c o p
-    → (now' : Files) (v : Network) (c' : Counts) (o' : Outputs) → world_of v ≡ world_of n → IsSame n v → IsQuiet v
+    → (now' : Files) (ids' : ℕ → Id) (v : Network) (c' : Counts) (o' : Outputs) → world_of v ≡ world_of n → IsSame n v → IsQuiet v
     → c' ≡ with_left (length n.log.left) (count_events c n.log.events)
     → (tells → (orig : Files) (text : ℕ → List ℕ) → HasTexts plan (pieces_of o) orig now text
     → HasTexts plan (pieces_of o') orig now' (with_more (with_left_frames plan (with_more text (port_count plan) (lines_of n.log.events)) n.log.left) (port_count plan + 1) (trace_text n.log.lines)))
-    → (tells → OnlyPlanned plan now now')
-    → IsPlaying tells m r plan now' ids v c' o' None p
-opened-playing tells m r plan now ids n c o p is now' v c' o' world same quiet counts texts only =
+    → (tells → OnlyPlanned plan now now') → ((j : ℕ) → ids' j ≡ ids j)
+    → IsPlaying tells m r plan now' ids' v c' o' None p
+opened-playing tells m r plan now ids n c o p is now' ids' v c' o' world same quiet counts texts only kept =
     let told = n.log.events in
     let left = n.log.left in
     let lines = n.log.lines in
-    record {
+    subst (λ (i : ℕ → Id). IsPlaying tells m r plan now' i v c' o' None p) (sym (ids-same ids ids' kept))
+    (record {
       so_far = [];
       is = record {
         tree = is.tree;
@@ -134,7 +140,7 @@ opened-playing tells m r plan now ids n c o p is now' v c' o' world same quiet c
       next = is.next;
       apart = is.apart;
       leads = λ t. leads-written m r.input [] None plan now now' ids p is.apart (only t) (is.leads t);
-    }
+    })
 
 -- So a world is opened for a run that can begin.
 pub begins-opened : (tells : Type 0) (m : Mode) (r : Run) (s : Setup) (plan : Planned) (now : Files) (ids : ℕ → Id) (n : Network) (o : Outputs) (p : Programme) → CanBegin tells m r s plan now ids o p
@@ -153,18 +159,45 @@ begins-opened tells m r s plan now ids n o p b tree plays tracing = record {
 }
 
 -- what was gathered behind a run can be played
-pub can-go-on : (tells : Type 0) (m : Mode) (r : Run) (plan : Planned) (now : Files) (given ids : ℕ → Id) (net : Network) (c : Counts) (o : Outputs) (last : Option ℕ) (old : Programme) (seconds from second : ℕ) (f : Feed) →
-    IsPlaying tells m r plan now given net c o last old → IsGathered tells m now now given ids second old f → ReadsOn (ids_in old.captures) given ids → from ≡ old.taken → seconds ≡ seconds_after last second →
+pub can-go-on : (tells : Type 0) (m : Mode) (r : Run) (plan : Planned) (file now : Files) (given ids : ℕ → Id) (net : Network) (c : Counts) (o : Outputs) (last : Option ℕ) (old : Programme) (seconds from second : ℕ) (f : Feed) →
+    IsPlaying tells m r plan file given net c o last old → IsGathered tells m file now given ids second old f → OnlyReads (ids_in old.captures) file now given ids → from ≡ old.taken → seconds ≡ seconds_after last second →
     CanGoOn tells m r plan now ids net c o seconds from second f
-can-go-on tells m r plan now given ids net c o last old seconds from second f playing got reads from_is seconds_are = record {
-  last = last;
-  old = old;
-  given = given;
-  playing = playing;
-  got = got;
-  apart =
-      subst (AreApart plan ids) (sym (comes-ids old f.programme (got.first ∷ got.more) got.comes))
-      (apart-read plan given ids (ids_in old.captures) (ids_in old.captures) reads playing.apart);
-  from_is = from_is;
-  seconds_are = seconds_are;
-}
+can-go-on tells m r plan file now given ids net c o last old seconds from second f playing got only from_is seconds_are =
+    let same : now ≡ file = fun_ext λ n. only.files n in
+    record {
+      last = last;
+      old = old;
+      given = given;
+      playing = subst (λ (x : Files). IsPlaying tells m r plan x given net c o last old) (sym same) playing;
+      got = subst (λ (x : Files). IsGathered tells m x now given ids second old f) (sym same) got;
+      apart =
+          subst (AreApart plan ids) (sym (comes-ids old f.programme (got.first ∷ got.more) got.comes))
+          (apart-read plan given ids (ids_in old.captures) (ids_in old.captures) only.reads playing.apart);
+      from_is = from_is;
+      seconds_are = seconds_are;
+    }
+
+-- before what comes next was read, it was cut off
+pub cut-reading : (tells : Type 0) (m : Mode) (r : Run) (plan : Planned) (file now : Files) (given : ℕ → Id) (net : Network) (c : Counts) (o : Outputs) (last : Option ℕ) (old : Programme) → tells →
+    IsPlaying tells m r plan file given net c o last old → SameFiles file now → IsCutOff m r plan now
+cut-reading tells m r plan file now given net c o last old t playing files =
+    let same : now ≡ file = fun_ext λ n. files n in
+    subst (IsCutOff m r plan) (sym same) (cut_before tells m r plan file net c o playing.so_far _ t playing.is (playing.leads t).rest)
+
+-- nothing is left, so all was played
+pub all-played : (tells : Type 0) (m : Mode) (r : Run) (plan : Planned) (file now : Files) (given : ℕ → Id) (net : Network) (c : Counts) (o : Outputs) (last : Option ℕ) (old : Programme) → tells →
+    IsPlaying tells m r plan file given net c o last old → NothingIsLeft file given old → SameFiles file now → IsTold tells m r plan now net c o (segments m r.input)
+all-played tells m r plan file now given net c o last old t playing none files =
+    let same : now ≡ file = fun_ext λ n. files n in
+    let led = playing.leads t in
+    subst (λ (x : Files). IsTold tells m r plan x net c o (segments m r.input)) (sym same)
+    (subst (λ (ss : List Segment). IsTold tells m r plan file net c o ss)
+    (sym (led.rest ∙ ap (λ (xs : List Coming). playing.so_far ++ segments_after m last xs) (none led.streams led.replays) ∙ ap (λ (ss : List Segment). playing.so_far ++ ss) (segments_after-end m last)
+    ∙ append-nil playing.so_far))
+    playing.is)
+
+-- the seconds that pass before what was gathered fit 32 bits
+pub seconds-fit : (tells : Type 0) (m : Mode) (r : Run) (plan : Planned) (file now : Files) (given ids : ℕ → Id) (net : Network) (c : Counts) (o : Outputs) (last : Option ℕ) (old : Programme) (second : ℕ) (f : Feed) →
+    IsPlaying tells m r plan file given net c o last old → IsGathered tells m file now given ids second old f → IsProgramme ids f.programme → seconds_after last second < 2 ^ 32
+seconds-fit tells m r plan file now given ids net c o last old second f playing got fine =
+    short m r.input playing.so_far last old tells file now given ids second f (seconds_after last second) playing.next got fine refl

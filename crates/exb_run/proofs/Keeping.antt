@@ -11,12 +11,13 @@ use Rattle.exb_merge.specs.Streams.{Stream}
 use Rattle.exb_scan.specs.Reading.{IsAt}
 use Rattle.exb_scan.specs.Replaying.{IsReplaying}
 use Rattle.exb_shelf.specs.Files.{Files, SameFiles, bytes_of}
-use Rattle.exb_shelf.specs.Shelf.{Id, IsReadingOf, writing}
+use Rattle.exb_shelf.specs.Shelf.{Id, IsReadingOf, Opens, writing}
 use Rattle.exb_run.specs.declared.outputs.Outputs.{Outputs}
 use Rattle.exb_run.specs.Outputs.{OnlyPlanned, output_name}
 use Rattle.exb_run.specs.Plans.{Planned, output_count}
 use Rattle.exb_run.specs.Shelving.{OnlyGoesOn, OnlyReads, OnlyWrites}
-use Rattle.exb_run.specs.UnderWay.{AreApart, LeadsOn}
+use Rattle.exb_run.specs.declared.feed.Feed.{Feed}
+use Rattle.exb_run.specs.UnderWay.{AreApart, CanFeed, LeadsOn}
 use Rattle.exb_run.specs.Writing.{IsReady}
 
 -- ---- captures while outputs are written
@@ -156,3 +157,15 @@ pub replays-unread : (file files : Files) (given ids : ℕ → Id) (all : List �
     AreReplays files ids ss xs → AreReplays file given ss xs
 replays-unread file files given ids all ss xs opened only =
     replays-named files file ids given ss xs (λ n. sym (only.files n)) (names-back given ids ss (names-read given ids all ss only.reads (opened-at given ss opened)))
+
+-- a feed while outputs are written
+pub feed-written : (given ids : ℕ → Id) (f : Feed) → ((j : ℕ) → ids j ≡ given j) → CanFeed given f → CanFeed ids f
+feed-written given ids f same can = subst (λ (i : ℕ → Id). CanFeed i f) (sym (ids-same given ids same)) can
+
+-- outputs while captures are opened
+pub ready-opened : (P : Id → Type 0) (plan : Planned) (given ids : ℕ → Id) (o : Outputs) → IsReady plan given o → Opens P given ids → IsReady plan ids o
+ready-opened P plan given ids o ready opens = record {
+  ids = ready.ids;
+  pieces = ready.pieces;
+  named = λ j low. opens.kept (slice_index o.ids.items j) (ap (λ (i : Id). i.given) (ready.named j low)) ∙ ready.named j low;
+}

@@ -12,6 +12,7 @@ pub mod Places
 pub mod Telling
 pub mod Ending
 pub mod Beginning
+pub mod Reopening
 pub mod Filling
 pub mod OutputLemmas
 pub mod Cutting

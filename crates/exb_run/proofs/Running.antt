@@ -1,7 +1,7 @@
 -- A topology that is run: what its plan writes is what is told of its external ports.
 use Rattle.std.proofs.Common.{◌≡◌, ◌+◌, ◌<◌, ◌==◌, inl, inr, ℕ, Bool, true, false, List, [], ◌∷◌, Some, Result, Ok, Err, suc, All, refl, ap, sym, subst, ◌∙◌, arith, eq-eqb}
 use mathlib.Core.Path.{fun_ext}
-use Rattle.std.specs.Prelude.{is_some, if◌then◌else◌, String, IfOk}
+use Rattle.std.specs.Prelude.{is_some, if◌then◌else◌, String, IfOk, IfErr}
 use Rattle.std.specs.declared.alloc.Global.{Global}
 use Rattle.std.proofs.lemmas.Bool.{lt-ltb, le-ltb, eqb-true, ne_eqb}
 use Rattle.exb_model.specs.EagerHistory.{eager}
@@ -128,3 +128,7 @@ Outcome = Result (String Global) Fault
 pub if_ok_map : {P Q : String Global → Type 0} (o : Outcome) → ((line : String Global) → P line → Q line) → IfOk o P → IfOk o Q
 if_ok_map (Ok line) f p = f line p
 if_ok_map (Err x) f p = tt
+
+pub if_err_map : {P Q : Fault → Type 0} (o : Outcome) → ((x : Fault) → P x → Q x) → IfErr o P → IfErr o Q
+if_err_map (Ok line) f p = tt
+if_err_map (Err x) f p = f x p

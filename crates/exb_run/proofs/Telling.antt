@@ -1,6 +1,6 @@
 -- What a run has told and what has left, one segment more.
 use Rattle.std.proofs.Common.{◌≡◌, ℕ, zero, suc, ◌+◌, ◌*◌, ◌^◌, ◌<◌, ◌≤◌, ◌==◌, Bool, true, false, List, [], ◌∷◌, ◌++◌, length, All, get_or, nat_lt, refl, ap, sym, subst, ◌∙◌, arith, inl, inr, eq-eqb, length-append}
-use Rattle.std.specs.Prelude.{Option, Some, Result, Ok, Err, is_err, IfOk, IfSome, OnOk, if◌then◌else◌, slice_index_or}
+use Rattle.std.specs.Prelude.{Option, Some, None, Result, Ok, Err, is_err, IfOk, IfSome, IfNone, OnOk, if◌then◌else◌, slice_index_or}
 use Rattle.std.specs.List.{AllByRecursion}
 use Rattle.std.proofs.lemmas.Bool.{ne_eqb, lt-ltb, le-ltb}
 use Rattle.std.proofs.lemmas.Grind.{flat_map-append}
@@ -49,8 +49,12 @@ if_ok_both (Ok v) f p q = f v p q
 if_ok_both (Err e) f p q = tt
 
 -- what holds of what is there
-pub some_at : {X : Type 0} {P : X → Type 0} (o : Option X) (x : X) → o ≡ Some x → IfSome o P → P x
-some_at {P = P} o x is p = subst (λ b. IfSome b P) is p
+pub some_at : {X : Type 0} (P : X → Type 0) (o : Option X) (x : X) → o ≡ Some x → IfSome o P → P x
+some_at P o x is p = subst (λ b. IfSome b P) is p
+
+pub none_at : {X Q : Type 0} (o : Option X) → o ≡ None → IfNone o Q → Q
+none_at None is q = q
+none_at (Some x) is q = absurd (cc)
 
 -- the same texts
 pub same_texts : (plan : Planned) (pieces : List (List ℕ)) (old new : Files) (text text' : ℕ → List ℕ) → ((j : ℕ) → j < output_count plan → text j ≡ text' j) →

@@ -1,11 +1,12 @@
 //! Playing a script and captures that were checked: the opening, then each segment in its turn.
-ghost use Rattle.std.specs.Prelude.{◌≡◌, ◌≤◌, ◌<◌, ◌+◌, ◌*◌, ◌^◌, [], length, map, sum_by, IfOk, OnOk, IfErr, IfSome, All, string_bytes};
+ghost use Rattle.std.specs.Prelude.{◌≡◌, ◌≤◌, ◌<◌, ◌+◌, ◌^◌, ◌++◌, ◌∷◌, [], ℕ, List, true, false, length, map, sum_by, IfOk, OnOk, IfErr, IfSome, string_bytes};
 ghost use Rattle.std.specs.List.{AllByRecursion};
-ghost use Rattle.exb_model.specs.Input.{Eager};
+ghost use Rattle.exb_model.specs.Input.{Eager, second_of};
 ghost use Rattle.exb_model.specs.Setup.{IsValid, shape_of};
-ghost use Rattle.exb_merge.specs.Replays.{AreOpened, AreReplays, AreToldSince, ids_in, left_in, standings};
-ghost use Rattle.exb_run.specs.Checks.{AreChecked, CanBeRead, earlier, first_standing, start_told, stream_told};
-ghost use Rattle.exb_run.specs.Inputs.{input_from};
+ghost use Rattle.exb_merge.specs.Replays.{AreOpened, AreReplays, AreToldSince, HasPort, ids_in, left_in, standings};
+ghost use Rattle.exb_merge.specs.Streams.{Stream};
+ghost use Rattle.exb_run.specs.Checks.{AreChecked, CanBeRead, IsToldOf, earlier, first_standing, most_bytes, start_told, stream_told};
+ghost use Rattle.exb_run.specs.Inputs.{input_from, is_named};
 ghost use Rattle.exb_run.specs.Opening.{ReadsCapture};
 ghost use Rattle.exb_run.specs.Outputs.{AreCutEagerly, HasPlayed};
 ghost use Rattle.exb_run.specs.Playing.{IsScript, mode_of};
@@ -54,6 +55,40 @@ fn start_of(checked: &[Checked]) -> u64
     least.unwrap_or(0)
 }
 
+/// Opens the capture again of which this was told, puts it behind those so far, and looks as far as its first record.
+fn open_one<S: Shelf>(
+    alloc: Global,
+    shelf: &mut S,
+    piece: &mut [u8],
+    names: &[Named],
+    one: &Checked,
+    captures: &mut Replays,
+) -> Result<(), Fault>
+    requires piece { 0 < length piece.old }
+    requires opened { AreOpened (S.ids shelf.old) captures.old }
+    requires named { is_named names.now one.now.port ≡ true }
+    requires port { HasPort one.now.port (standings captures.old) → ⊥ }
+    requires small { one.now.told.bytes ≤ most_bytes }
+    ensures piece { length piece.new ≡ length piece.old }
+    ensures opened { OnOk result (AreOpened (S.ids shelf.new) captures.new) }
+    ensures named { OnOk result (AllByRecursion (λ k. ReadsCapture names.now (S.ids shelf.old k)) (ids_in captures.old) → AllByRecursion (λ k. ReadsCapture names.now (S.ids shelf.new k)) (ids_in captures.new)) }
+    ensures standings { OnOk result (standings captures.new ≡ standings captures.old ++ first_standing one.now ∷ []) }
+    ensures left { OnOk result (left_in captures.new ≤ left_in captures.old + (one.now.told.bytes + 1)) }
+    ensures since { OnOk result ((second : ℕ) → IfSome one.now.told.first (λ first. second ≤ second_of first) → AreToldSince second captures.old → AreToldSince second captures.new) }
+    ensures streams { S.tells → OnOk result (IsToldOf names.now (S.file shelf.old) one.now → (streams : List Stream) → AreReplays (S.file shelf.old) (S.ids shelf.old) captures.old.sources.items streams
+        → AreReplays (S.file shelf.new) (S.ids shelf.new) captures.new.sources.items (streams ++ stream_told names.now (S.file shelf.old) one.now ∷ [])) }
+    ensures never { S.tells → IfErr result (λ fault. IsChange fault → IsToldOf names.now (S.file shelf.old) one.now → ⊥) }
+    ensures id { OnOk result ((id : ℕ) × (ids_in captures.new ≡ ids_in captures.old ++ id ∷ []) × ((S.ids shelf.old id).given ≡ false)) }
+    ensures opens { Opens (ReadsCapture names.now) (S.ids shelf.old) (S.ids shelf.new) }
+    ensures files { SameFiles (S.file shelf.old) (S.file shelf.new) }
+    ensures causes { IfErr result IsOfPlay }
+    ensures faults { CountsFaults result (S.faults shelf.old) (S.faults shelf.new) }
+{
+    let name = name_of(names, one.port).unwrap();
+    captures.add(alloc, shelf, piece, one.port, name, one.told)?;
+    Ok(())
+}
+
 /// Opens the captures again that are named, in port order, and looks at each as far as its first record.
 fn open_all<S: Shelf>(
     alloc: Global,
@@ -67,6 +102,7 @@ fn open_all<S: Shelf>(
     ensures piece { length piece.new ≡ length piece.old }
     ensures opened { IfOk result (AreOpened (S.ids shelf.new)) }
     ensures named { IfOk result (λ captures. AllByRecursion (λ k. ReadsCapture names.now (S.ids shelf.new k)) (ids_in captures)) }
+    ensures fresh { IfOk result (λ captures. AllByRecursion (λ k. (S.ids shelf.old k).given ≡ false) (ids_in captures)) }
     ensures standings { IfOk result (λ captures. standings captures ≡ map first_standing checked.now) }
     ensures left { IfOk result (λ captures. left_in captures ≤ sum_by (λ c. c.told.bytes + 1) checked.now) }
     ensures since { IfOk result (AreToldSince (start_told checked.now)) }
@@ -79,8 +115,7 @@ fn open_all<S: Shelf>(
 {
     let mut captures = Replays::new(alloc);
     'opening: for one in checked {
-        let name = name_of(names, one.port).unwrap();
-        captures.add(alloc, shelf, piece, one.port, name, one.told)?;
+        open_one(alloc, shelf, piece, names, one, &mut captures)?;
     }
     Ok(captures)
 }
@@ -110,6 +145,7 @@ fn play_into<S: Shelf>(
     requires captures { CanBeRead S.tells plan.now names.now (S.file shelf.old) checked.now }
     requires fate { left fate < 2 ^ 56 }
     requires ready { IsReady plan.now (S.ids shelf.old) outputs }
+    requires texts { (before : Files) × (S.tells → HasTexts plan.now (pieces_of outputs) before (S.file shelf.old) (first_text plan.now)) }
     ensures done { S.tells → IfOk result (λ line. (before : Files) → HasTexts plan.now (pieces_of outputs) before (S.file shelf.old) (first_text plan.now)
         → HasPlayed (mode_of schedule) (input_from script.now.setup.now script.now.commands.now names.now (S.file shelf.old)) plan.now before (S.file shelf.new) (string_bytes line)) }
     ensures fronts { S.tells → mode_of schedule ≡ Eager → (before : Files) → HasTexts plan.now (pieces_of outputs) before (S.file shelf.old) (first_text plan.now)
@@ -125,8 +161,10 @@ fn play_into<S: Shelf>(
         return Err(Fault::Memory);
     };
     let captures = open_all(alloc, shelf, piece.as_mut_slice(), names, checked)?;
+    let start = start_of(checked);
+    let programme = Programme::new(captures, script.commands, start);
     let mut feed = Feed {
-        programme: Programme::new(captures, script.commands, start_of(checked)),
+        programme,
         piece,
         gathered: Vec::new(alloc),
     };

@@ -1,5 +1,6 @@
-//! Inputs that no run takes: files past the limits of their sizes, and a folder in the place of a file.
+//! Inputs that no run takes: files past the limits of their sizes, captures that change, and a folder in the place of a file.
 use exb_fate::{Fate, ScriptFate};
+use exb_faulty::ChangingShelf;
 use exb_run::run;
 use exb_shelf::{FileShelf, MemShelf, MemSink, Shelf};
 use std::alloc::Global;
@@ -57,17 +58,84 @@ fn expect_refused(
     Ok(())
 }
 
-#[test]
-fn a_capture_of_67108864_bytes_is_looked_into(rt: HostRuntime) -> Result<(), Fail> {
-    let capture = zeros(rt.alloc(), 67_108_864)?;
-    let line = "exbr: capture x1.1: NotPcap at 0\n";
-    expect_refused(&rt, rt.alloc(), ONE.as_bytes(), capture.as_slice(), 4, line)
+/// A capture of one frame of 60 bytes: 100 bytes in all.
+fn one_frame(alloc: Global) -> Result<Vec<u8>, Fail> {
+    let mut capture = vec![in alloc; 0u8; 100]?;
+    capture[..4].copy_from_slice(&[0xD4, 0xC3, 0xB2, 0xA1]);
+    capture[4] = 2;
+    capture[6] = 4;
+    capture[20] = 1;
+    capture[24] = 100;
+    capture[32] = 60;
+    capture[36] = 60;
+    Ok(capture)
+}
+
+/// A run of a capture that is this one when it is read again ends with status 10 and that line.
+fn expect_changed(rt: &impl Abort, alloc: Global, again: &[u8], line: &str) -> Result<(), Fail> {
+    let mut shelf = ChangingShelf::new(alloc, "zeros.pcap", again)?;
+    shelf.put("t.toml", ONE.as_bytes())?;
+    shelf.put("zeros.pcap", one_frame(alloc)?.as_slice())?;
+    let mut out = MemSink::new(alloc, &[])?;
+    assert_eq!(rt;
+        play(alloc, &words(alloc, "t.toml")?, &mut shelf, &mut out)?,
+        10
+    );
+    assert!(rt; out.text() == line.as_bytes());
+    assert!(rt; shelf.file("out-journal.txt").is_some());
+    Ok(())
 }
 
 #[test]
-fn a_capture_with_a_byte_more_is_too_large(rt: HostRuntime) -> Result<(), Fail> {
+fn a_capture_that_ends_sooner_has_changed(rt: HostRuntime) -> Result<(), Fail> {
+    let capture = one_frame(rt.alloc())?;
+    let cut = &capture.as_slice()[..99];
+    expect_changed(&rt, rt.alloc(), cut, "exbr: capture x1.1: Changed at 24\n")
+}
+
+#[test]
+fn a_capture_that_goes_on_has_changed(rt: HostRuntime) -> Result<(), Fail> {
+    let mut capture = one_frame(rt.alloc())?;
+    capture.push(0)?;
+    let longer = capture.as_slice();
+    expect_changed(
+        &rt,
+        rt.alloc(),
+        longer,
+        "exbr: capture x1.1: Changed at 100\n",
+    )
+}
+
+#[test]
+fn a_capture_of_another_kind_has_changed(rt: HostRuntime) -> Result<(), Fail> {
+    let mut capture = one_frame(rt.alloc())?;
+    capture[20] = 105;
+    let other = capture.as_slice();
+    expect_changed(
+        &rt,
+        rt.alloc(),
+        other,
+        "exbr: capture x1.1: Changed at 20\n",
+    )
+}
+
+#[test]
+fn a_capture_that_begins_sooner_has_changed(rt: HostRuntime) -> Result<(), Fail> {
+    let mut capture = one_frame(rt.alloc())?;
+    capture[24] = 99;
+    let sooner = capture.as_slice();
+    expect_changed(
+        &rt,
+        rt.alloc(),
+        sooner,
+        "exbr: capture x1.1: Changed at 24\n",
+    )
+}
+
+#[test]
+fn a_large_capture_is_looked_into(rt: HostRuntime) -> Result<(), Fail> {
     let capture = zeros(rt.alloc(), 67_108_865)?;
-    let line = "exbr: capture x1.1: Large 67108864\n";
+    let line = "exbr: capture x1.1: NotPcap at 0\n";
     expect_refused(&rt, rt.alloc(), ONE.as_bytes(), capture.as_slice(), 4, line)
 }
 

@@ -13,7 +13,7 @@ returns-in_err-take_second-in-Seeded-clause-reads g c =
     let S = g.S.Shelf in
     let mid = c.take_first.new.shelf in
     let end = c.take_second.new.shelf in
-    let (d, one, is) = some_at c.in_ok-second.field-0 c.in-Some.second c.in-Some.is c.in_ok-second.ensures.taken in
+    let (d, one, is) = some_at _ c.in_ok-second.field-0 c.in-Some.second c.in-Some.is c.in_ok-second.ensures.taken in
     only-reads-then (ids_in c.args.self.now.programme.captures) _ _ _ _ _ _ c.take_first.ensures.reads
     (subst (λ (mine : List ℕ). OnlyReads mine (S.file mid) (S.file end) (S.ids mid) (S.ids end)) one.coming.ids c.take_second.ensures.reads)
 
@@ -22,7 +22,7 @@ returns-in_ok-take_second-in-Seeded-clause-reads g c =
     let S = g.S.Shelf in
     let mid = c.take_first.new.shelf in
     let end = c.take_second.new.shelf in
-    let (d, one, is) = some_at c.in_ok-second.field-0 c.in-Some.second c.in-Some.is c.in_ok-second.ensures.taken in
+    let (d, one, is) = some_at _ c.in_ok-second.field-0 c.in-Some.second c.in-Some.is c.in_ok-second.ensures.taken in
     only-reads-then (ids_in c.args.self.now.programme.captures) _ _ _ _ _ _ c.take_first.ensures.reads
     (subst (λ (mine : List ℕ). OnlyReads mine (S.file mid) (S.file end) (S.ids mid) (S.ids end)) one.coming.ids c.take_second.ensures.reads)
 
@@ -30,7 +30,7 @@ pub returns-in-Eager-clause-gathered : goal.returns-in-Eager-clause-gathered
 returns-in-Eager-clause-gathered g c =
     let S = g.S.Shelf in
     let end = c.take_first.new.shelf in
-    let (d, one, is) = some_at c.in_ok-second.field-0 c.in-Some.second c.in-Some.is c.in_ok-second.ensures.taken in
+    let (d, one, is) = some_at _ c.in_ok-second.field-0 c.in-Some.second c.in-Some.is c.in_ok-second.ensures.taken in
     gathers-alone S.tells (mode_of c.args.schedule) (S.file c.args.shelf.now) (S.file end) (S.ids c.args.shelf.now) (S.ids end) c.in-Some.second _ c.take_first.new.self d one c.clear.ensures.items is
     (λ seeded. let differ : Eager ≡ Seeded = sym (ap mode_of c.in-Eager.is) ∙ seeded in cc)
 
@@ -39,7 +39,7 @@ returns-in_ok-take_second-in-Seeded-clause-gathered g c =
     let S = g.S.Shelf in
     let mid = c.take_first.new.shelf in
     let end = c.take_second.new.shelf in
-    let (d, one, is) = some_at c.in_ok-second.field-0 c.in-Some.second c.in-Some.is c.in_ok-second.ensures.taken in
+    let (d, one, is) = some_at _ c.in_ok-second.field-0 c.in-Some.second c.in-Some.is c.in_ok-second.ensures.taken in
     gathers-all S.tells (mode_of c.args.schedule) (S.file c.args.shelf.now) (S.file mid) (S.file end) (S.ids c.args.shelf.now) (S.ids mid) (S.ids end) c.in-Some.second _ c.take_first.new.self c.take_second.new.self d one
     c.clear.ensures.items is c.in_ok-take_second-in-Seeded.ensures.taken c.in_ok-take_second-in-Seeded.ensures.end
     (λ eager. let differ : Seeded ≡ Eager = sym (ap mode_of c.in-Seeded.is) ∙ eager in cc)

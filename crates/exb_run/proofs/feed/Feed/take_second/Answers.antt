@@ -36,7 +36,9 @@ returns-clause-taken g c =
     let (programme, gathered) = c.in_ok-take_within.ensures.same c.if-branch.false in
     gathers-same S.tells c.args.second (S.file c.args.shelf.now) (S.file c.second.shelf) (S.file c.take_within.new.shelf) (S.ids c.args.shelf.now) (S.ids c.second.shelf) (S.ids c.take_within.new.shelf)
     c.args.self.now c.second.self c.take_within.new.self inv.so_far programme gathered
-    (λ t streams replays.
-    (streams, refl,
-    replays-read (S.file c.second.shelf) (S.file c.take_within.new.shelf) (S.ids c.second.shelf) (S.ids c.take_within.new.shelf) (ids_in c.second.self.programme.captures) c.second.self.programme.captures.sources.items
-    streams inv.feed.programme.opened.each c.take_within.ensures.reads replays))
+    (λ t streams replays. (
+      streams,
+      refl,
+      replays-read (S.file c.second.shelf) (S.file c.take_within.new.shelf) (S.ids c.second.shelf) (S.ids c.take_within.new.shelf) (ids_in c.second.self.programme.captures) c.second.self.programme.captures.sources.items
+          streams inv.feed.programme.opened.each c.take_within.ensures.reads replays,
+    ))

@@ -1,5 +1,5 @@
 use Rattle.std.proofs.Common.{◌≡◌, ◌∙◌, [], ap}
-use Rattle.std.proofs.lemmas.Result.{on_err_weaker}
+use Rattle.std.proofs.lemmas.Result.{err_from_is_err_and, on_err_weaker}
 use Rattle.exb_model.specs.History.{◌then◌}
 use Rattle.exb_model.specs.Texts.{summary_line}
 use Rattle.exb_schedule.specs.Worlds.{network_of}
@@ -7,10 +7,10 @@ use Rattle.exb_text.specs.Tallies.{counts_of}
 use Rattle.exb_run.specs.Outputs.{output_name, output_text}
 use Rattle.exb_run.specs.Plans.{output_count}
 use Rattle.exb_run.specs.Playing.{mode_of, text_so_far}
-use Rattle.exb_run.proofs.Coming.{if_ok_both}
 use Rattle.exb_run.proofs.Ending.{counts-end, eagerly, legal, texts-whole, trace}
 use Rattle.exb_run.proofs.Filling.{weaker}
-use Rattle.exb_run.proofs.ShelvingLemmas.{writes_then}
+use Rattle.exb_run.proofs.Telling.{if_ok_both}
+use Rattle.exb_run.proofs.Keeping.{goes-writing}
 use Rattle.exb_run.proofs.CuttingOff.{cut_at_end}
 use Rattle.exb_run.proofs.game.Game.play_on.Goals as goal
 
@@ -22,7 +22,7 @@ returns-clause-done g c tells =
     let n = network_of c.play_all.new.self.world in
     if_ok_both c.end.result (λ line says texts run timely start.
     let i = run.input in
-    let t = c.in_ok-play_all.ensures.told run start in
+    let t = c.in_ok-play_all.ensures.told tells run start in
     let way = c.runs_are_under_way.ensures in
     let law = c.runs_write_legally.ensures in
     record {
@@ -38,12 +38,17 @@ returns-clause-done g c tells =
     }) c.end.ensures.line (c.end.ensures.texts tells)
 
 pub returns-clause-only : goal.returns-clause-only
-returns-clause-only g c = writes_then _ _ _ _ _ _ _ _ c.in_ok-play_all.ensures.only c.end.ensures.only
+returns-clause-only g c = goes-writing g.S.Shelf.tells c.args.plan.now _ _ _ _ _ _ _ c.in_ok-play_all.ensures.only c.end.ensures.only
 
 pub returns-clause-cut : goal.returns-clause-cut
 returns-clause-cut g c = λ t. on_err_weaker c.end.result
     (λ cut run start.
     let S = g.S.Shelf in
     cut_at_end S.tells (mode_of c.args.schedule) run c.args.plan.now (S.file c.play_all.new.shelf) (S.file c.end.new.shelf) (network_of c.play_all.new.self.world) (counts_of c.play_all.new.self.tally) c.play_all.new.self.outputs t
-    (c.in_ok-play_all.ensures.told run start) cut)
+    (c.in_ok-play_all.ensures.told t run start) cut)
     (c.end.ensures.cut t)
+
+pub returns-in_err-play_all-clause-never : goal.returns-in_err-play_all-clause-never
+returns-in_err-play_all-clause-never g c t =
+    let e = err_from_is_err_and c.from_residual.result c.from_residual.ensures.1 in
+    rw (e.1, e.2) (c.in_err-play_all.ensures.never t)

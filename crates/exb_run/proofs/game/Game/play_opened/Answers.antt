@@ -3,12 +3,14 @@ use Rattle.std.proofs.lemmas.Result.{err_from_is_err_and, on_err_weaker}
 use Rattle.exb_model.specs.Input.{segments}
 use Rattle.exb_schedule.specs.Worlds.{network_of}
 use Rattle.exb_text.specs.Tallies.{counts_of}
-use Rattle.exb_run.specs.Playing.{CanFollow, mode_of, text_so_far}
+use Rattle.exb_run.specs.Playing.{mode_of, text_so_far}
+use Rattle.exb_run.specs.UnderWay.{CanFollow}
 use Rattle.exb_run.specs.Writing.{first_text, pieces_of}
 use Rattle.exb_run.proofs.CuttingOff.{cut_amid}
 use Rattle.exb_run.proofs.Going.{opened-playing}
-use Rattle.exb_run.proofs.Running.{if_ok_map}
-use Rattle.exb_run.proofs.ShelvingLemmas.{writes_then, counts_after}
+use Rattle.exb_run.proofs.Keeping.{feed-written, goes-none, goes-then, goes-writing}
+use Rattle.exb_run.proofs.Running.{if_err_map, if_ok_map}
+use Rattle.exb_run.proofs.ShelvingLemmas.{counts_after}
 use Rattle.exb_run.proofs.Telling.{same_texts, text-first, frames-fit, tally-fits}
 use Rattle.exb_run.proofs.game.Game.play_opened.Goals as goal
 
@@ -27,14 +29,18 @@ note-requires-clause-fits g c =
     let follows : CanFollow i [] = record { kept = tt; few_arrivals = omega arith; few_commands = omega arith } in
     tally-fits (mode_of c.args.schedule) i [] n [] n.log.events [] n.log.left n.log.lines _ c.runs_are_few.ensures follows is.played is.counted
 
+pub play_on-requires-clause-feed : goal.play_on-requires-clause-feed
+play_on-requires-clause-feed g c = feed-written (g.S.Shelf.ids c.args.shelf.now) (g.S.Shelf.ids c.note.new.shelf) c.args.feed.now c.note.ensures.only.kept c.requires.feed
+
 pub play_on-requires-clause-playing : goal.play_on-requires-clause-playing
 play_on-requires-clause-playing g c =
     let S = g.S.Shelf in
     let note = c.in_ok-note.ensures in
     let run = c.requires.opened.0 in (
       run,
-      opened-playing S.tells (mode_of c.args.schedule) run c.args.plan.now (S.file c.args.shelf.now) (network_of c.args.self.now.world) (counts_of c.args.self.now.tally) c.args.self.now.outputs c.args.agenda.now c.requires.opened.1
-          (S.file c.note.new.shelf) (network_of c.note.new.self.world) (counts_of c.note.new.self.tally) c.note.new.self.outputs note.world note.same note.quiet note.counts note.texts,
+      opened-playing S.tells (mode_of c.args.schedule) run c.args.plan.now (S.file c.args.shelf.now) (S.ids c.args.shelf.now) (network_of c.args.self.now.world) (counts_of c.args.self.now.tally) c.args.self.now.outputs c.args.feed.now.programme c.requires.opened.1
+          (S.file c.note.new.shelf) (S.ids c.note.new.shelf) (network_of c.note.new.self.world) (counts_of c.note.new.self.tally) c.note.new.self.outputs note.world note.same note.quiet note.counts note.texts
+          note.only.others note.only.kept,
     )
 
 pub returns-clause-done : goal.returns-clause-done
@@ -43,8 +49,9 @@ returns-clause-done g c tells = if_ok_map c.play_on.result
     let S = g.S.Shelf in
     let note = c.in_ok-note.ensures in
     played run is.timely
-    (opened-playing S.tells (mode_of c.args.schedule) run c.args.plan.now (S.file c.args.shelf.now) (network_of c.args.self.now.world) (counts_of c.args.self.now.tally) c.args.self.now.outputs c.args.agenda.now is
-    (S.file c.note.new.shelf) (network_of c.note.new.self.world) (counts_of c.note.new.self.tally) c.note.new.self.outputs note.world note.same note.quiet note.counts note.texts))
+    (opened-playing S.tells (mode_of c.args.schedule) run c.args.plan.now (S.file c.args.shelf.now) (S.ids c.args.shelf.now) (network_of c.args.self.now.world) (counts_of c.args.self.now.tally) c.args.self.now.outputs c.args.feed.now.programme is
+    (S.file c.note.new.shelf) (S.ids c.note.new.shelf) (network_of c.note.new.self.world) (counts_of c.note.new.self.tally) c.note.new.self.outputs note.world note.same note.quiet note.counts note.texts
+    note.only.others note.only.kept))
     (c.play_on.ensures.done tells)
 
 pub returns-in_err-note-clause-cut : goal.returns-in_err-note-clause-cut
@@ -66,12 +73,26 @@ returns-clause-cut g c = λ t. on_err_weaker c.play_on.result
     let S = g.S.Shelf in
     let note = c.in_ok-note.ensures in
     cut run
-    (opened-playing S.tells (mode_of c.args.schedule) run c.args.plan.now (S.file c.args.shelf.now) (network_of c.args.self.now.world) (counts_of c.args.self.now.tally) c.args.self.now.outputs c.args.agenda.now is
-    (S.file c.note.new.shelf) (network_of c.note.new.self.world) (counts_of c.note.new.self.tally) c.note.new.self.outputs note.world note.same note.quiet note.counts note.texts))
+    (opened-playing S.tells (mode_of c.args.schedule) run c.args.plan.now (S.file c.args.shelf.now) (S.ids c.args.shelf.now) (network_of c.args.self.now.world) (counts_of c.args.self.now.tally) c.args.self.now.outputs c.args.feed.now.programme is
+    (S.file c.note.new.shelf) (S.ids c.note.new.shelf) (network_of c.note.new.self.world) (counts_of c.note.new.self.tally) c.note.new.self.outputs note.world note.same note.quiet note.counts note.texts
+    note.only.others note.only.kept))
     (c.play_on.ensures.cut t)
 
+pub returns-clause-never : goal.returns-clause-never
+returns-clause-never g c tells = if_err_map c.play_on.result
+    (λ fault never change run is.
+    let S = g.S.Shelf in
+    let note = c.in_ok-note.ensures in
+    never change run
+    (opened-playing S.tells (mode_of c.args.schedule) run c.args.plan.now (S.file c.args.shelf.now) (S.ids c.args.shelf.now) (network_of c.args.self.now.world) (counts_of c.args.self.now.tally) c.args.self.now.outputs c.args.feed.now.programme is
+    (S.file c.note.new.shelf) (S.ids c.note.new.shelf) (network_of c.note.new.self.world) (counts_of c.note.new.self.tally) c.note.new.self.outputs note.world note.same note.quiet note.counts note.texts
+    note.only.others note.only.kept))
+    (c.play_on.ensures.never tells)
+
 pub returns-clause-only : goal.returns-clause-only
-returns-clause-only g c = writes_then _ _ _ _ _ _ _ _ c.in_ok-note.ensures.only c.play_on.ensures.only
+returns-clause-only g c =
+    let S = g.S.Shelf in
+    goes-then S.tells c.args.plan.now _ _ _ _ _ _ _ (goes-writing S.tells c.args.plan.now _ _ _ _ _ _ _ (goes-none S.tells c.args.plan.now _ (S.file c.args.shelf.now) (S.ids c.args.shelf.now)) c.in_ok-note.ensures.only) c.play_on.ensures.only
 
 pub returns-clause-faults : goal.returns-clause-faults
 returns-clause-faults g c = counts_after c.play_on.result _ _ _ c.in_ok-note.ensures.faults.none_fell c.play_on.ensures.faults

@@ -1,0 +1,52 @@
+use Rattle.std.proofs.Common.{◌≡◌, ◌<◌, ◌+◌, ◌≤◌, ◌++◌, ◌∷◌, [], List, length, map, take, ap, sym, subst, ◌∙◌, arith}
+use Rattle.exb_merge.specs.Replays.{AreReplays, HasPort, ids_in}
+use Rattle.exb_merge.specs.Streams.{Stream}
+use Rattle.exb_shelf.specs.Files.{Files}
+use Rattle.exb_shelf.proofs.IdLemmas.{opens_then}
+use Rattle.exb_run.specs.Checks.{IsToldOf, first_standing, start_told, stream_told}
+use Rattle.exb_run.specs.Opening.{ReadsCapture}
+use Rattle.exb_run.proofs.Beginning.{told-since}
+use Rattle.exb_run.proofs.Reopening.{bytes-more, fresh-more, opened-so, port-named, port-new, standings-more, stream-told-same, streams-more}
+use Rattle.exb_run.proofs.Running.{files_same}
+use Rattle.exb_run.proofs.ShelvingLemmas.{fewer_then}
+use Rattle.exb_run.proofs.play.open_all.Goals as goal
+
+pub open_one-requires-clause-named : goal.open_one-requires-clause-named
+open_one-requires-clause-named g c = port-named c.args.names.now c.args.checked.now c.opening.one-index c.one-item.result c.opening-test.true c.one-item.is c.requires.checked.ports
+
+pub open_one-requires-clause-port : goal.open_one-requires-clause-port
+open_one-requires-clause-port g c = λ has.
+    port-new c.args.names.now c.args.checked.now c.opening.one-index c.one-item.result c.opening-test.true c.one-item.is c.requires.checked.ports
+    (subst (HasPort c.one-item.result.port) c.opening.invariant.standing has)
+
+pub opening-preserved : goal.opening-preserved
+opening-preserved g c =
+    let S = g.S.Shelf in
+    let inv = c.opening.invariant in
+    let names = c.args.names.now in
+    let cs = c.args.checked.now in
+    let at = c.opening.one-index in
+    let one = c.one-item.result in
+    let low = c.opening-test.true in
+    let is = c.one-item.is in
+    let ok = c.in_ok-open_one.ensures in
+    let file = S.file c.args.shelf.now in
+    record {
+      piece = c.open_one.ensures.piece ∙ inv.piece;
+      opened = ok.opened;
+      named = ok.named inv.named;
+      fresh = fresh-more (S.ids c.args.shelf.now) (S.ids c.opening.shelf) (ids_in c.opening.captures) (ids_in c.open_one.new.captures) ok.id.0 ok.id.1 (opened-so (ReadsCapture names) (S.ids c.args.shelf.now) (S.ids c.opening.shelf) inv.opens) ok.id.2 inv.fresh;
+      standing = ok.standings ∙ ap (λ xs. xs ++ first_standing one ∷ []) inv.standing ∙ standings-more cs at one low is;
+      left = (let most = ok.left in let was = inv.left in let more = bytes-more cs at one low is in omega (arith, most, was, more));
+      since = ok.since (start_told cs) (told-since cs at one low is) inv.since;
+      streams = λ t.
+          (let told : IsToldOf names file one = subst (IsToldOf names file) (sym is) (c.requires.checked.told t at one low) in
+          let own : IsToldOf names (S.file c.opening.shelf) one = stream-told-same names file (S.file c.opening.shelf) one inv.files told in
+          let same : stream_told names (S.file c.opening.shelf) one ≡ stream_told names file one = ap (λ (f : Files). stream_told names f one) (files_same file (S.file c.opening.shelf) inv.files) in
+          subst (λ (xs : List Stream). AreReplays (S.file c.open_one.new.shelf) (S.ids c.open_one.new.shelf) c.open_one.new.captures.sources.items xs)
+          (ap (λ (x : Stream). map (stream_told names file) (take at cs) ++ x ∷ []) same ∙ streams-more names file cs at one low is)
+          (ok.streams t own (map (stream_told names file) (take at cs)) (inv.streams t)));
+      opens = opens_then (ReadsCapture names) _ _ _ inv.opens c.open_one.ensures.opens;
+      files = λ n. c.open_one.ensures.files n ∙ inv.files n;
+      faults = fewer_then _ _ _ inv.faults c.open_one.ensures.faults.none_fell;
+    }

@@ -1,0 +1,58 @@
+use Rattle.std.proofs.Common.{◌≡◌, inl, inr, sym, subst, ◌∙◌}
+use Rattle.std.specs.Prelude.{string_bytes}
+use Rattle.exb_model.specs.Input.{Input}
+use Rattle.exb_shelf.proofs.IdLemmas.{opens_then, opens_weaker}
+use Rattle.exb_run.specs.Outputs.{AreCutEagerly, HasPlayed}
+use Rattle.exb_run.specs.Playing.{mode_of}
+use Rattle.exb_run.proofs.Beginning.{can-read-on, input-stays}
+use Rattle.exb_run.proofs.CuttingOff.{made_eagerly}
+use Rattle.exb_run.proofs.Running.{if_ok_map}
+use Rattle.exb_run.proofs.ShelvingLemmas.{counts_after}
+use Rattle.exb_run.proofs.play.play.Goals as goal
+
+pub play_into-requires-clause-captures : goal.play_into-requires-clause-captures
+play_into-requires-clause-captures g c =
+    let S = g.S.Shelf in
+    can-read-on S.tells c.args.plan.now c.args.names.now (S.file c.args.shelf.now) (S.file c.create_all.new.shelf) c.args.checked.now c.create_all.ensures.only.others c.requires.captures
+
+pub play_into-requires-clause-texts : goal.play_into-requires-clause-texts
+play_into-requires-clause-texts g c = (g.S.Shelf.file c.args.shelf.now, c.in_ok-outputs.ensures.texts)
+
+pub returns-clause-done : goal.returns-clause-done
+returns-clause-done g c tells =
+    let S = g.S.Shelf in
+    let s = c.args.script.now in
+    let same = input-stays s.setup.now s.commands.now c.args.plan.now c.args.names.now (S.file c.args.shelf.now) (S.file c.create_all.new.shelf) c.args.checked.now S.tells (c.create_all.ensures.only.others tells) c.requires.captures in
+    if_ok_map c.play_into.result
+    (λ line played.
+    subst (λ (i : Input). HasPlayed (mode_of c.args.schedule) i c.args.plan.now (S.file c.args.shelf.now) (S.file c.play_into.new.shelf) (string_bytes line)) same
+    (played (S.file c.args.shelf.now) (c.in_ok-outputs.ensures.texts tells)))
+    (c.play_into.ensures.done tells)
+
+pub returns-clause-fronts : goal.returns-clause-fronts
+returns-clause-fronts g c tells eager =
+    let S = g.S.Shelf in
+    let s = c.args.script.now in
+    let same = input-stays s.setup.now s.commands.now c.args.plan.now c.args.names.now (S.file c.args.shelf.now) (S.file c.create_all.new.shelf) c.args.checked.now S.tells (c.create_all.ensures.only.others tells) c.requires.captures in
+    subst (λ (i : Input). AreCutEagerly i c.args.plan.now (S.file c.args.shelf.now) (S.file c.play_into.new.shelf)) same
+    (c.play_into.ensures.fronts tells eager (S.file c.args.shelf.now) (c.in_ok-outputs.ensures.texts tells))
+
+pub returns-in_err-outputs-clause-fronts : goal.returns-in_err-outputs-clause-fronts
+returns-in_err-outputs-clause-fronts g c tells eager = made_eagerly _ c.args.plan.now _ _ (c.in_err-outputs.ensures.cut tells)
+
+pub returns-clause-only : goal.returns-clause-only
+returns-clause-only g c =
+    let made = c.create_all.ensures.only in
+    let played = c.play_into.ensures.only in
+    record {
+      others = λ t m away. played.others t m away ∙ made.others t m away;
+      opened = opens_then _ _ _ _ (opens_weaker _ _ _ _ (λ i writes. inr writes) made.opened) played.opened;
+    }
+
+pub returns-in_err-outputs-clause-only : goal.returns-in_err-outputs-clause-only
+returns-in_err-outputs-clause-only g c =
+    let made = c.create_all.ensures.only in
+    record { others = made.others; opened = opens_weaker _ _ _ _ (λ i writes. inr writes) made.opened }
+
+pub returns-clause-faults : goal.returns-clause-faults
+returns-clause-faults g c = counts_after c.play_into.result _ _ _ c.create_all.ensures.faults.none_fell c.play_into.ensures.faults

@@ -1,0 +1,124 @@
+use Rattle.std.proofs.Common.{◌≡◌, ◌<◌, ◌^◌, ℕ, false, List, length, refl, ap, sym, subst, inl, ◌∙◌, arith}
+use Rattle.std.specs.List.{AllByRecursion}
+use Rattle.exb_merge.specs.Replays.{ids_in}
+use Rattle.exb_shelf.proofs.IdLemmas.{opens_none, opens_weaker}
+use Rattle.exb_shelf.specs.Files.{Files}
+use Rattle.exb_run.specs.Inputs.{input_from}
+use Rattle.exb_run.specs.Opening.{ReadsCapture}
+use Rattle.exb_run.specs.Playing.{Run, mode_of}
+use Rattle.exb_run.specs.Writing.{HasTexts, first_text, pieces_of}
+use Rattle.exb_run.proofs.Beginning.{can-begin-of, has-budget, start-fits}
+use Rattle.exb_run.proofs.CuttingOff.{begun_eagerly}
+use Rattle.exb_run.proofs.Keeping.{ready-opened}
+use Rattle.exb_run.proofs.Reopening.{plays-opened}
+use Rattle.exb_run.proofs.Running.{files_same, if_err_map, if_ok_map}
+use Rattle.exb_run.proofs.ShelvingLemmas.{counts_after}
+use Rattle.exb_run.proofs.play.play_into.Goals as goal
+
+pub new-programme-requires-clause-start : goal.new-programme-requires-clause-start
+new-programme-requires-clause-start g c = subst (λ (n : ℕ). n < 2 ^ 32) (sym c.start_of-start.ensures) (start-fits c.args.checked.now c.requires.captures.checked.in_time)
+
+pub play_feed-requires-clause-ready : goal.play_feed-requires-clause-ready
+play_feed-requires-clause-ready g c = ready-opened _ c.args.plan.now (g.S.Shelf.ids c.args.shelf.now) (g.S.Shelf.ids c.open_all.new.shelf) c.args.outputs c.requires.ready c.open_all.ensures.opens
+
+pub play_feed-requires-clause-feed : goal.play_feed-requires-clause-feed
+play_feed-requires-clause-feed g c = record {
+  programme = c.new-programme.ensures.opened (g.S.Shelf.ids c.open_all.new.shelf) c.in_ok-captures.ensures.opened;
+  piece =
+      (let same = c.open_all.ensures.piece in
+      let value = ap (λ (xs : List ℕ). length xs) c.as_mut_slice.ensures.value in
+      let size = c.in-Ok.ensures in
+      omega (arith, same, value, size));
+}
+
+pub play_feed-requires-clause-begins : goal.play_feed-requires-clause-begins
+play_feed-requires-clause-begins g c =
+    let S = g.S.Shelf in
+    let s = c.args.script.now in
+    let run : Run = record { input = input_from s.setup.now s.commands.now c.args.names.now (S.file c.args.shelf.now); before = c.requires.texts.0 } in (
+      run,
+      can-begin-of S.tells (mode_of c.args.schedule) s.setup.now s.commands.now s.fate.now c.args.plan.now c.args.names.now (S.file c.args.shelf.now) (S.file c.open_all.new.shelf) c.args.checked.now (S.ids c.open_all.new.shelf)
+          c.args.outputs run.before c.new-programme.result c.in_ok-captures.captures c.merge_of_all.ensures c.start_is_least.ensures c.requires.script c.requires.tree c.requires.captures
+          (c.new-programme.ensures.start ∙ c.start_of-start.ensures) c.new-programme.ensures.commands c.new-programme.ensures.taken c.new-programme.ensures.captures c.in_ok-captures.ensures.standings c.in_ok-captures.ensures.left
+          c.in_ok-captures.ensures.named c.in_ok-captures.ensures.streams
+          (λ t. subst (λ (f : Files). HasTexts c.args.plan.now (pieces_of c.args.outputs) run.before f (first_text c.args.plan.now)) (sym (files_same (S.file c.args.shelf.now) (S.file c.open_all.new.shelf) c.open_all.ensures.files)) (c.requires.texts.1 t)),
+    )
+
+pub play_feed-requires-clause-budget : goal.play_feed-requires-clause-budget
+play_feed-requires-clause-budget g c =
+    let s = c.args.script.now in
+    has-budget _ s.commands.now s.fate.now c.new-programme.result _ c.requires.script c.new-programme.ensures.commands c.new-programme.ensures.taken c.requires.fate
+
+pub returns-clause-done : goal.returns-clause-done
+returns-clause-done g c tells =
+    let S = g.S.Shelf in
+    let s = c.args.script.now in
+    if_ok_map c.play_feed.result
+    (λ line played before held.
+    let run : Run = record { input = input_from s.setup.now s.commands.now c.args.names.now (S.file c.args.shelf.now); before = before } in
+    played run (can-begin-of S.tells (mode_of c.args.schedule) s.setup.now s.commands.now s.fate.now c.args.plan.now c.args.names.now (S.file c.args.shelf.now) (S.file c.open_all.new.shelf) c.args.checked.now (S.ids c.open_all.new.shelf)
+    c.args.outputs before c.new-programme.result c.in_ok-captures.captures c.merge_of_all.ensures c.start_is_least.ensures c.requires.script c.requires.tree c.requires.captures
+    (c.new-programme.ensures.start ∙ c.start_of-start.ensures) c.new-programme.ensures.commands c.new-programme.ensures.taken c.new-programme.ensures.captures c.in_ok-captures.ensures.standings c.in_ok-captures.ensures.left
+    c.in_ok-captures.ensures.named c.in_ok-captures.ensures.streams
+    (λ t. subst (λ (f : Files). HasTexts c.args.plan.now (pieces_of c.args.outputs) before f (first_text c.args.plan.now)) (sym (files_same (S.file c.args.shelf.now) (S.file c.open_all.new.shelf) c.open_all.ensures.files)) held)))
+    (c.play_feed.ensures.done tells)
+
+pub returns-clause-never : goal.returns-clause-never
+returns-clause-never g c tells =
+    let S = g.S.Shelf in
+    let s = c.args.script.now in
+    if_err_map c.play_feed.result
+    (λ fault never change.
+    let run : Run = record { input = input_from s.setup.now s.commands.now c.args.names.now (S.file c.args.shelf.now); before = c.requires.texts.0 } in
+    never change run (can-begin-of S.tells (mode_of c.args.schedule) s.setup.now s.commands.now s.fate.now c.args.plan.now c.args.names.now (S.file c.args.shelf.now) (S.file c.open_all.new.shelf) c.args.checked.now (S.ids c.open_all.new.shelf)
+    c.args.outputs run.before c.new-programme.result c.in_ok-captures.captures c.merge_of_all.ensures c.start_is_least.ensures c.requires.script c.requires.tree c.requires.captures
+    (c.new-programme.ensures.start ∙ c.start_of-start.ensures) c.new-programme.ensures.commands c.new-programme.ensures.taken c.new-programme.ensures.captures c.in_ok-captures.ensures.standings c.in_ok-captures.ensures.left
+    c.in_ok-captures.ensures.named c.in_ok-captures.ensures.streams
+    (λ t. subst (λ (f : Files). HasTexts c.args.plan.now (pieces_of c.args.outputs) run.before f (first_text c.args.plan.now)) (sym (files_same (S.file c.args.shelf.now) (S.file c.open_all.new.shelf) c.open_all.ensures.files)) (c.requires.texts.1 t))))
+    (c.play_feed.ensures.never tells)
+
+pub returns-clause-fronts : goal.returns-clause-fronts
+returns-clause-fronts g c tells eager before held =
+    let S = g.S.Shelf in
+    let s = c.args.script.now in
+    let run : Run = record { input = input_from s.setup.now s.commands.now c.args.names.now (S.file c.args.shelf.now); before = before } in
+    c.play_feed.ensures.fronts tells eager run
+    (can-begin-of S.tells (mode_of c.args.schedule) s.setup.now s.commands.now s.fate.now c.args.plan.now c.args.names.now (S.file c.args.shelf.now) (S.file c.open_all.new.shelf) c.args.checked.now (S.ids c.open_all.new.shelf)
+    c.args.outputs before c.new-programme.result c.in_ok-captures.captures c.merge_of_all.ensures c.start_is_least.ensures c.requires.script c.requires.tree c.requires.captures
+    (c.new-programme.ensures.start ∙ c.start_of-start.ensures) c.new-programme.ensures.commands c.new-programme.ensures.taken c.new-programme.ensures.captures c.in_ok-captures.ensures.standings c.in_ok-captures.ensures.left
+    c.in_ok-captures.ensures.named c.in_ok-captures.ensures.streams
+    (λ t. subst (λ (f : Files). HasTexts c.args.plan.now (pieces_of c.args.outputs) before f (first_text c.args.plan.now)) (sym (files_same (S.file c.args.shelf.now) (S.file c.open_all.new.shelf) c.open_all.ensures.files)) held))
+
+pub returns-in_default-clause-fronts : goal.returns-in_default-clause-fronts
+returns-in_default-clause-fronts g c tells eager before held = begun_eagerly _ c.args.plan.now before _ (pieces_of c.args.outputs) held
+
+pub returns-in_err-captures-clause-fronts : goal.returns-in_err-captures-clause-fronts
+returns-in_err-captures-clause-fronts g c tells eager before held =
+    let S = g.S.Shelf in
+    begun_eagerly _ c.args.plan.now before _ (pieces_of c.args.outputs)
+    (subst (λ (f : Files). HasTexts c.args.plan.now (pieces_of c.args.outputs) before f (first_text c.args.plan.now)) (sym (files_same (S.file c.args.shelf.now) (S.file c.open_all.new.shelf) c.open_all.ensures.files)) held)
+
+pub returns-clause-only : goal.returns-clause-only
+returns-clause-only g c =
+    let S = g.S.Shelf in
+    let only = c.play_feed.ensures.only in
+    record {
+      others = λ t m away. only.others t m away ∙ c.open_all.ensures.files m;
+      opened =
+          plays-opened c.args.names.now c.args.plan.now (S.ids c.args.shelf.now) (S.ids c.open_all.new.shelf) (S.ids c.play_feed.new.shelf) (ids_in c.new-programme.result.captures) c.open_all.ensures.opens
+          (subst (λ r. AllByRecursion (λ k. (S.ids c.args.shelf.now k).given ≡ false) (ids_in r)) (sym c.new-programme.ensures.captures) c.in_ok-captures.ensures.fresh)
+          (subst (λ r. AllByRecursion (λ k. ReadsCapture c.args.names.now (S.ids c.open_all.new.shelf k)) (ids_in r)) (sym c.new-programme.ensures.captures) c.in_ok-captures.ensures.named)
+          only.reads;
+    }
+
+pub returns-in_err-captures-clause-only : goal.returns-in_err-captures-clause-only
+returns-in_err-captures-clause-only g c = record {
+  others = λ t m away. c.open_all.ensures.files m;
+  opened = opens_weaker _ _ _ _ (λ i reads. inl reads) c.open_all.ensures.opens;
+}
+
+pub returns-in_default-clause-only : goal.returns-in_default-clause-only
+returns-in_default-clause-only g c = record { others = λ t m away. refl; opened = opens_none _ _ }
+
+pub returns-clause-faults : goal.returns-clause-faults
+returns-clause-faults g c = counts_after c.play_feed.result _ _ _ c.open_all.ensures.faults.none_fell c.play_feed.ensures.faults
