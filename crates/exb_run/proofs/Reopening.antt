@@ -1,13 +1,15 @@
 -- Captures that are opened again, one after another.
 use Rattle.std.proofs.Common.{◌≡◌, ◌≢◌, ℕ, zero, suc, ◌+◌, ◌*◌, ◌<◌, ◌≤◌, Bool, true, false, List, [], ◌∷◌, ◌++◌, length, map, filter, All, get_or, sum_by, take, refl, ap, sym, subst, ◌∙◌, arith, inl, inr}
 use mathlib.Core.Path.{fun_ext}
-use Rattle.std.specs.Prelude.{Some}
+use Rattle.std.specs.Prelude.{Some, IfSome}
 use Rattle.std.specs.List.{AllByRecursion}
 use Rattle.std.proofs.lemmas.List.{map-append, take_more}
 use Rattle.std.proofs.lemmas.List.Sums.{sum_by_push}
+use Rattle.exb_model.specs.Input.{second_of}
 use Rattle.exb_model.specs.Ports.{all_ports}
 use Rattle.exb_merge.specs.declared.replays.Again.{Again}
-use Rattle.exb_merge.specs.Replays.{HasPort, IsOpened, ReadsOn}
+use Rattle.exb_merge.specs.declared.replays.Replays.{Replays}
+use Rattle.exb_merge.specs.Replays.{AreToldSince, HasPort, IsOpened, ReadsOn}
 use Rattle.exb_shelf.specs.Files.{Files, SameFiles}
 use Rattle.exb_shelf.specs.Shelf.{Id, IsReadingOf, Opens}
 use Rattle.exb_tables.specs.declared.rows.Named.{Named}
@@ -144,3 +146,7 @@ plays-opened names plan a b c mine opens fresh named reads = record {
     by_given j was now false is =
         let same : c j ≡ b j = reads.others j (none-of b j mine is (reads-given names b mine named)) in
         absurd (let both : true ≡ false = sym now ∙ ap (λ (i : Id). i.given) same ∙ is in cc)
+
+-- of no capture
+pub since-none : (second : ℕ) (r : Replays) → r.sources.items ≡ [] → AreToldSince second r
+since-none second r none = subst (λ (ss : List Again). AllByRecursion (λ (s : Again). IfSome s.replay.told.first (λ first. second ≤ second_of first)) ss) (sym none) tt

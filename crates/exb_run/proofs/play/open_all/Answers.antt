@@ -1,12 +1,16 @@
-use Rattle.std.proofs.Common.{◌≡◌, ◌<◌, ◌+◌, ◌≤◌, ◌++◌, ◌∷◌, [], List, length, map, take, ap, sym, subst, ◌∙◌, arith}
-use Rattle.exb_merge.specs.Replays.{AreReplays, HasPort, ids_in}
+use Rattle.std.proofs.Common.{rules, ◌≡◌, ◌<◌, ◌+◌, ◌≤◌, ◌++◌, ◌∷◌, [], false, List, length, map, take, sum_by, refl, ap, sym, subst, ◌∙◌, arith}
+use Rattle.std.specs.List.{AllByRecursion}
+use Rattle.std.proofs.lemmas.Result.{err_from_is_err_and}
+use Rattle.exb_merge.specs.declared.replays.Again.{Again}
+use Rattle.exb_merge.specs.Replays.{AreReplays, HasPort, ids_in, left_in, standing_of}
+use Rattle.exb_scan.specs.Reading.{left_to_read}
 use Rattle.exb_merge.specs.Streams.{Stream}
 use Rattle.exb_shelf.specs.Files.{Files}
-use Rattle.exb_shelf.proofs.IdLemmas.{opens_then}
+use Rattle.exb_shelf.proofs.IdLemmas.{opens_none, opens_then}
 use Rattle.exb_run.specs.Checks.{IsToldOf, first_standing, start_told, stream_told}
 use Rattle.exb_run.specs.Opening.{ReadsCapture}
 use Rattle.exb_run.proofs.Beginning.{told-since}
-use Rattle.exb_run.proofs.Reopening.{bytes-more, fresh-more, opened-so, port-named, port-new, standings-more, stream-told-same, streams-more}
+use Rattle.exb_run.proofs.Reopening.{bytes-more, fresh-more, opened-so, port-named, port-new, since-none, standings-more, stream-told-same, streams-more}
 use Rattle.exb_run.proofs.Running.{files_same}
 use Rattle.exb_run.proofs.ShelvingLemmas.{fewer_then}
 use Rattle.exb_run.proofs.play.open_all.Goals as goal
@@ -18,6 +22,40 @@ pub open_one-requires-clause-port : goal.open_one-requires-clause-port
 open_one-requires-clause-port g c = λ has.
     port-new c.args.names.now c.args.checked.now c.opening.one-index c.one-item.result c.opening-test.true c.one-item.is c.requires.checked.ports
     (subst (HasPort c.one-item.result.port) c.opening.invariant.standing has)
+
+pub opening-init : goal.opening-init
+opening-init g c =
+    let S = g.S.Shelf in
+    let none = c.new-captures.ensures.none in
+    let named : AllByRecursion (λ k. ReadsCapture c.args.names.now (S.ids c.args.shelf.now k)) (ids_in c.new-captures.result) =
+    subst (λ (ss : List Again). AllByRecursion (λ k. ReadsCapture c.args.names.now (S.ids c.args.shelf.now k)) (map (λ (s : Again). s.replay.file.id) ss)) (sym none) tt in
+    let fresh : AllByRecursion (λ k. (S.ids c.args.shelf.now k).given ≡ false) (ids_in c.new-captures.result) =
+    subst (λ (ss : List Again). AllByRecursion (λ k. (S.ids c.args.shelf.now k).given ≡ false) (map (λ (s : Again). s.replay.file.id) ss)) (sym none) tt in
+    let size : left_in c.new-captures.result ≡ 0 = ap (λ (ss : List Again). sum_by (λ (s : Again). left_to_read s.replay.file) ss) none in
+    record {
+      piece = refl;
+      opened = c.new-captures.ensures.opened (S.ids c.args.shelf.now);
+      named = named;
+      fresh = fresh;
+      standing = ap (map standing_of) none;
+      left = omega (arith, size);
+      since = since-none (start_told c.args.checked.now) c.new-captures.result none;
+      streams = λ t. subst (λ (ss : List Again). AreReplays (S.file c.args.shelf.now) (S.ids c.args.shelf.now) ss []) (sym none) tt;
+      opens = opens_none _ _;
+      files = λ n. refl;
+      faults = search rules;
+    }
+
+pub returns-in_err-open_one-clause-never : goal.returns-in_err-open_one-clause-never
+returns-in_err-open_one-clause-never g c t =
+    let S = g.S.Shelf in
+    let e = err_from_is_err_and c.from_residual.result c.from_residual.ensures.1 in
+    let names = c.args.names.now in
+    let file = S.file c.args.shelf.now in
+    let one = c.one-item.result in
+    let told : IsToldOf names file one = subst (IsToldOf names file) (sym c.one-item.is) (c.requires.checked.told t c.opening.one-index one c.opening-test.true) in
+    let own : IsToldOf names (S.file c.opening.shelf) one = stream-told-same names file (S.file c.opening.shelf) one c.opening.invariant.files told in
+    rw (e.1, e.2) (λ change. c.in_err-open_one.ensures.never t change own)
 
 pub opening-preserved : goal.opening-preserved
 opening-preserved g c =

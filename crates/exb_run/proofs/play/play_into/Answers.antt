@@ -1,5 +1,6 @@
 use Rattle.std.proofs.Common.{◌≡◌, ◌<◌, ◌^◌, ℕ, false, List, length, refl, ap, sym, subst, inl, ◌∙◌, arith}
 use Rattle.std.specs.List.{AllByRecursion}
+use Rattle.std.specs.Vec.{with_items}
 use Rattle.exb_merge.specs.Replays.{ids_in}
 use Rattle.exb_shelf.proofs.IdLemmas.{opens_none, opens_weaker}
 use Rattle.exb_shelf.specs.Files.{Files}
@@ -25,10 +26,10 @@ pub play_feed-requires-clause-feed : goal.play_feed-requires-clause-feed
 play_feed-requires-clause-feed g c = record {
   programme = c.new-programme.ensures.opened (g.S.Shelf.ids c.open_all.new.shelf) c.in_ok-captures.ensures.opened;
   piece =
-      (let same = c.open_all.ensures.piece in
-      let value = ap (λ (xs : List ℕ). length xs) c.as_mut_slice.ensures.value in
+      (let kept = (with_items c.in-Ok.piece c.open_all.new.piece).ok.0 in
+      let own = c.in-Ok.piece.ok.0 in
       let size = c.in-Ok.ensures in
-      omega (arith, same, value, size));
+      omega (arith, kept, own, size));
 }
 
 pub play_feed-requires-clause-begins : goal.play_feed-requires-clause-begins
