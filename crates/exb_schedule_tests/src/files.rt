@@ -1,12 +1,16 @@
 //! Whole runs over files in memory.
-use crate::played::Played;
-use exb_fate::Fate;
+use exb_fate::{Fate, ScriptFate};
 use exb_model::port::PortId;
 use exb_run::run;
 use exb_shelf::{MemShelf, MemSink};
 use exb_text::{capture_file_name, journal_file_name};
 use std::alloc::Global;
 use std::process::Abort;
+
+/// A fate that does as it is armed to.
+pub(crate) fn scripted(rt: &impl Abort, alloc: Global) -> Box<dyn Fate> {
+    Box::new(alloc, ScriptFate::new(alloc)).expect(rt, "memory")
+}
 
 // The words of a run.
 fn words(rt: &impl Abort, alloc: Global, options: &str) -> Vec<String> {
@@ -16,6 +20,24 @@ fn words(rt: &impl Abort, alloc: Global, options: &str) -> Vec<String> {
         words.push(word).expect(rt, "memory");
     }
     words
+}
+
+// Puts a file on a shelf.
+fn put(rt: &impl Abort, shelf: &mut MemShelf, name: &str, bytes: &[u8]) {
+    shelf.put(name, bytes).expect(rt, "memory");
+}
+
+// A shelf with a topology and the capture of x1.1.
+fn shelf_of(rt: &impl Abort, alloc: Global, topology: &str, capture: &[u8]) -> MemShelf {
+    let mut shelf = MemShelf::new(alloc, &[]).expect(rt, "memory");
+    put(rt, &mut shelf, "t.toml", topology.as_bytes());
+    put(rt, &mut shelf, "a.pcap", capture);
+    shelf
+}
+
+// A sink that nothing disturbs.
+fn sink(rt: &impl Abort, alloc: Global) -> MemSink {
+    MemSink::new(alloc, &[]).expect(rt, "memory")
 }
 
 // Plays the words over this fate, and answers the status.
@@ -41,42 +63,35 @@ pub(crate) fn files_of(
     fate: Box<dyn Fate>,
 ) -> MemShelf {
     let words = words(rt, alloc, options);
-    let mut shelf = MemShelf::new(alloc, &[]).expect(rt, "memory");
-    shelf
-        .put("t.toml", topology.as_bytes())
-        .expect(rt, "memory");
-    shelf.put("a.pcap", capture).expect(rt, "memory");
-    let mut out = MemSink::new(alloc, &[]).expect(rt, "memory");
+    let mut shelf = shelf_of(rt, alloc, topology, capture);
+    let mut out = sink(rt, alloc);
     assert_eq!(rt; play(rt, alloc, &words, &mut shelf, &mut out, fate), 0);
     shelf
 }
 
-/// The journal on a shelf.
-pub(crate) fn journal_on<'a>(rt: &impl Abort, alloc: Global, shelf: &'a MemShelf) -> &'a [u8] {
-    let name = journal_file_name(alloc, "out-").expect(rt, "memory");
-    shelf.file(name.as_str()).expect(rt, "a journal")
+// A file is the same on both shelves, or on neither.
+fn expect_file(rt: &impl Abort, name: &str, shelf: &MemShelf, other: &MemShelf) {
+    assert!(rt; shelf.file(name) == other.file(name), "{name}");
 }
 
-/// The capture of a port on a shelf.
-pub(crate) fn capture_on<'a>(
-    rt: &impl Abort,
-    alloc: Global,
-    shelf: &'a MemShelf,
-    port: PortId,
-) -> &'a [u8] {
+// The capture of the port with this number is the same on both shelves, or on neither.
+fn expect_capture(rt: &impl Abort, alloc: Global, number: u16, shelf: &MemShelf, other: &MemShelf) {
+    let port = PortId::new(number).expect(rt, "a port");
     let name = capture_file_name(alloc, "out-", port).expect(rt, "memory");
-    shelf.file(name.as_str()).expect(rt, "a capture")
+    expect_file(rt, name.as_str(), shelf, other);
 }
 
-/// The files on a shelf are those of what was played: the journal, and the capture of each external port.
-pub(crate) fn expect_played(rt: &impl Abort, alloc: Global, shelf: &MemShelf, played: &Played) {
-    let journal = played.journal(rt, alloc);
-    assert!(rt; journal_on(rt, alloc, shelf) == journal.as_bytes());
+// The journal is the same on both shelves, and there.
+fn expect_journal(rt: &impl Abort, alloc: Global, shelf: &MemShelf, other: &MemShelf) {
+    let name = journal_file_name(alloc, "out-").expect(rt, "memory");
+    assert!(rt; shelf.file(name.as_str()).is_some());
+    expect_file(rt, name.as_str(), shelf, other);
+}
+
+/// Journal and captures are the same on both shelves.
+pub(crate) fn expect_same(rt: &impl Abort, alloc: Global, shelf: &MemShelf, other: &MemShelf) {
+    expect_journal(rt, alloc, shelf, other);
     for number in 0..4160u16 {
-        let port = PortId::new(number).expect(rt, "a port");
-        if played.world.tree().is_external(port) {
-            let capture = played.capture(rt, alloc, port);
-            assert!(rt; capture_on(rt, alloc, shelf, port) == capture.as_slice());
-        }
+        expect_capture(rt, alloc, number, shelf, other);
     }
 }

@@ -1,19 +1,15 @@
-//! Tests of schedules: a world that words move by single steps, the drawn order of a second played by the public calls alone, what
-//! fates are asked, and how many rounds settling takes, beside whole runs over files in memory. Nothing stands on this crate.
+//! Tests of schedules: a world that words move by single steps, and whole runs over files in memory, with fates that count how
+//! often they are asked or disturb as much as they may. Nothing stands on this crate.
 #![tactic(auto)]
 
 #[cfg(test)]
-mod drawn;
+mod disturbed;
 #[cfg(test)]
 mod fates;
 #[cfg(test)]
 mod files;
 #[cfg(test)]
 mod hex;
-#[cfg(test)]
-mod played;
-#[cfg(test)]
-mod rounds;
 #[cfg(test)]
 mod seeds;
 #[cfg(test)]

@@ -1,14 +1,8 @@
-//! Seeded runs beside a driver that plays the drawn order by the public calls of a world, and what fates are asked.
+//! Seeded runs over fates that disturb them, and how often a run asks its fate.
 use crate::fates::CountingFate;
-use crate::files::{expect_played, files_of};
+use crate::files::{expect_same, files_of};
 use crate::hex::bytes_of;
-use crate::played::Played;
-use exb_fate::{BudgetFate, Fate, ScriptFate};
-use exb_flat::flat::{Sent, flat};
-use exb_flat_run::site::{Site, site_of};
-use exb_model::list::List;
-use exb_model::port::PortId;
-use exb_schedule::Left;
+use exb_fate::{BudgetFate, Fate};
 use exb_shelf::MemShelf;
 use exb_text::trace_file_name;
 use rand_core::SeedableRng;
@@ -44,140 +38,38 @@ const TWO_FRAMES: &str = "D4C3B2A1 02000400 8x00 FFFF0000 01000000 \
      64000000 4x00 40000000 40000000 FFFFFFFFFFFF 020000000001 8100000A 0800 46x00 \
      64000000 4x00 40000000 40000000 FFFFFFFFFFFF 020000000001 8100000A 0800 46x00";
 
-// A fate that does as it is armed to.
-fn scripted(rt: &impl Abort, alloc: Global) -> Box<dyn Fate> {
-    Box::new(alloc, ScriptFate::new(alloc)).expect(rt, "memory")
-}
-
 // A fate that is drawn from this number, with at most 200 verdicts that disturb.
 fn drawn(rt: &impl Abort, alloc: Global, number: u64) -> Box<dyn Fate> {
     let rng = Lcg64Xsh32::seed_from_u64(number);
     Box::new(alloc, BudgetFate::new(rng, 200)).expect(rt, "memory")
 }
 
-// A run with these options over this fate writes what was played.
-fn expect_run(
-    rt: &impl Abort,
-    alloc: Global,
-    file: &[u8],
-    options: &str,
-    fate: Box<dyn Fate>,
-    played: &Played,
-) {
-    let shelf = files_of(rt, alloc, RETAGGED, file, options, fate);
-    expect_played(rt, alloc, &shelf, played);
+// The files of the run of a seed over verdicts that are drawn from it.
+fn files_of_seed(rt: &impl Abort, alloc: Global, file: &[u8], seed: u64, more: &str) -> MemShelf {
+    let options = format!(in alloc; "--seed={seed}{more}").expect(rt, "memory");
+    let fate = drawn(rt, alloc, seed);
+    files_of(rt, alloc, RETAGGED, file, options.as_str(), fate)
 }
 
-// The run of a seed, with a trace and without, writes what the driver plays.
+// Such a run writes the same with a trace and without.
 fn expect_seed(rt: &impl Abort, alloc: Global, file: &[u8], seed: u64) {
-    let fate = scripted(rt, alloc);
-    let played = Played::new(rt, alloc, RETAGGED, file, Some(seed), fate);
-    let bare = format!(in alloc; "--seed={seed}").expect(rt, "memory");
-    let traced = format!(in alloc; "--seed {seed} --trace").expect(rt, "memory");
-    let fate = scripted(rt, alloc);
-    expect_run(rt, alloc, file, bare.as_str(), fate, &played);
-    let fate = scripted(rt, alloc);
-    expect_run(rt, alloc, file, traced.as_str(), fate, &played);
-}
-
-// The same of sixteen seeds from this one on.
-fn expect_seeds(rt: &impl Abort, alloc: Global, first: u64) {
-    let file = bytes_of(rt, alloc, TWO_FRAMES);
-    for seed in first..first.saturating_add(16) {
-        expect_seed(rt, alloc, file.as_slice(), seed);
-    }
+    let bare = files_of_seed(rt, alloc, file, seed, "");
+    let traced = files_of_seed(rt, alloc, file, seed, " --trace");
+    expect_same(rt, alloc, &bare, &traced);
 }
 
 #[test]
-fn seeds_1_to_16_play_the_drawn_order(rt: HostRuntime) {
-    expect_seeds(&rt, rt.alloc(), 1);
-}
-
-#[test]
-fn seeds_17_to_32_play_the_drawn_order(rt: HostRuntime) {
-    expect_seeds(&rt, rt.alloc(), 17);
-}
-
-#[test]
-fn seeds_33_to_48_play_the_drawn_order(rt: HostRuntime) {
-    expect_seeds(&rt, rt.alloc(), 33);
-}
-
-#[test]
-fn seeds_49_to_64_play_the_drawn_order(rt: HostRuntime) {
-    expect_seeds(&rt, rt.alloc(), 49);
-}
-
-// The plain bridge beside what was played.
-fn site(rt: &impl Abort, alloc: Global, played: &Played) -> Site {
-    let commands = played.topology.commands.as_slice();
-    site_of(alloc, &played.topology.setup, commands).expect(rt, "memory")
-}
-
-// What a plain bridge sends out of a port over what was told.
-fn sent_over(
-    rt: &impl Abort,
-    alloc: Global,
-    site: &Site,
-    played: &Played,
-    port: PortId,
-) -> List<Sent> {
-    flat(alloc, &site.basis, played.world.events(), port).expect(rt, "memory")
-}
-
-// A frame that left is this one.
-fn expect_same(rt: &impl Abort, left: &Left, sent: Option<&Sent>) {
-    let sent = sent.expect(rt, "no frame too many");
-    assert!(rt; sent.moment == left.moment);
-    assert!(rt; sent.bytes.as_slice() == left.bytes.as_slice());
-}
-
-// What left a port is this.
-fn expect_left(rt: &impl Abort, played: &Played, port: PortId, sent: &[Sent]) {
-    let mut place = 0usize;
-    for left in played.world.left() {
-        if left.port == port {
-            expect_same(rt, left, sent.get(place));
-            place = place.saturating_add(1);
-        }
-    }
-    assert_eq!(rt; place, sent.len());
-}
-
-// A port of the one extender.
-fn port_at(rt: &impl Abort, place: u8) -> PortId {
-    assert!(rt; place < 64);
-    PortId::at(1, place)
-}
-
-// What left each port is what the plain bridge sends there over what was told.
-fn expect_flat(rt: &impl Abort, alloc: Global, played: &Played) {
-    let site = site(rt, alloc, played);
-    for place in 0..2u8 {
-        let port = port_at(rt, place);
-        let sent = sent_over(rt, alloc, &site, played, port);
-        expect_left(rt, played, port, sent.as_slice());
-    }
-}
-
-// The run of a seed over verdicts that are drawn from it writes what the driver plays, and what the plain bridge sends.
-fn expect_disturbed(rt: &impl Abort, alloc: Global, file: &[u8], seed: u64) {
-    let fate = drawn(rt, alloc, seed);
-    let played = Played::new(rt, alloc, RETAGGED, file, Some(seed), fate);
-    assert!(rt; played.world.fate_left() < 200);
-    let options = format!(in alloc; "--seed={seed}").expect(rt, "memory");
-    let fate = drawn(rt, alloc, seed);
-    expect_run(rt, alloc, file, options.as_str(), fate, &played);
-    expect_flat(rt, alloc, &played);
-}
-
-#[test]
-fn disturbed_seeds_write_what_one_bridge_sends_over_their_journal(rt: HostRuntime) {
-    let alloc = rt.alloc();
-    let file = bytes_of(&rt, alloc, TWO_FRAMES);
+fn disturbed_seeds_write_the_same_with_a_trace(rt: HostRuntime) {
+    let file = bytes_of(&rt, rt.alloc(), TWO_FRAMES);
     for seed in 1..17u64 {
-        expect_disturbed(&rt, alloc, file.as_slice(), seed);
+        expect_seed(&rt, rt.alloc(), file.as_slice(), seed);
     }
+}
+
+// A fate that counts in this cell how often it is asked.
+fn counting(rt: &impl Abort, alloc: Global, asked: &Rc<Cell<u64>>) -> Box<dyn Fate> {
+    let fate = CountingFate::new(asked.clone().expect(rt, "memory"));
+    Box::new(alloc, fate).expect(rt, "memory")
 }
 
 // How often a run asks its fate, and its files.
@@ -189,20 +81,22 @@ fn asked_by(
     options: &str,
 ) -> (u64, MemShelf) {
     let asked = Rc::new(alloc, Cell::new(0u64)).expect(rt, "memory");
-    let fate = CountingFate::new(asked.clone().expect(rt, "memory"));
-    let fate: Box<dyn Fate> = Box::new(alloc, fate).expect(rt, "memory");
+    let fate = counting(rt, alloc, &asked);
     let shelf = files_of(rt, alloc, topology, file, options, fate);
     (asked.get(), shelf)
 }
 
-// How many lines of a trace are those of a control frame that a device takes in.
+// Whether a line of a trace is that of a control frame that a device takes in.
+fn is_control_in(line: &str) -> bool {
+    let bytes = line.split(' ').last().unwrap_or("");
+    line.starts_with("in ") && bytes.starts_with("0180c200000e")
+}
+
+// How many lines of a trace are such.
 fn control_in(trace: &str) -> u64 {
     let mut count = 0u64;
     for line in trace.lines() {
-        let mut words = line.split(' ');
-        let is_in = words.next() == Some("in");
-        let bytes = words.last().unwrap_or("");
-        if is_in && bytes.starts_with("0180c200000e") {
+        if is_control_in(line) {
             count = count.saturating_add(1);
         }
     }

@@ -1,6 +1,6 @@
 //! Single steps of a world, each asked of it before it is made.
-use exb_flat_run::merge::Arrival;
-use exb_model::setup::{Timed, Verdict};
+use exb_model::port::PortId;
+use exb_model::setup::Timed;
 use exb_schedule::{Step, Way, World, settle};
 use std::process::Abort;
 
@@ -47,20 +47,21 @@ pub(crate) fn beat(rt: &impl Abort, world: &mut World) {
     world.step(Step::Beat).expect(rt, "memory");
 }
 
-/// Seconds pass, if there are any.
+/// Seconds pass.
 pub(crate) fn tick(rt: &impl Abort, world: &mut World, seconds: u32) {
-    if seconds > 0 {
-        assert!(rt; world.can(&Step::Tick { seconds }));
-        world.step(Step::Tick { seconds }).expect(rt, "memory");
-    }
+    assert!(rt; world.can(&Step::Tick { seconds }));
+    world.step(Step::Tick { seconds }).expect(rt, "memory");
 }
 
 /// A record arrives.
-pub(crate) fn arrive(rt: &impl Abort, world: &mut World, arrival: &Arrival) {
-    let port = arrival.port;
-    let index = arrival.index;
-    let moment = arrival.moment;
-    let bytes = arrival.bytes.as_slice();
+pub(crate) fn arrive(
+    rt: &impl Abort,
+    world: &mut World,
+    port: PortId,
+    index: u64,
+    moment: u64,
+    bytes: &[u8],
+) {
     assert!(rt;
         world.can(&Step::Arrive {
             port,
@@ -79,8 +80,9 @@ pub(crate) fn arrive(rt: &impl Abort, world: &mut World, arrival: &Arrival) {
         .expect(rt, "memory");
 }
 
-/// The fate is armed.
-pub(crate) fn arm(rt: &impl Abort, world: &mut World, plan: &[Verdict]) {
+// The fate is armed for a command.
+fn arm(rt: &impl Abort, world: &mut World, timed: &Timed) {
+    let plan = timed.fate.as_slice();
     assert!(rt; world.fate_left() < MANY);
     assert!(rt; plan.len() < 100_000);
     world.arm(plan).expect(rt, "memory");
@@ -88,7 +90,7 @@ pub(crate) fn arm(rt: &impl Abort, world: &mut World, plan: &[Verdict]) {
 
 /// A command is given, for which the fate is armed just before.
 pub(crate) fn give(rt: &impl Abort, world: &mut World, timed: &Timed) {
-    arm(rt, world, timed.fate.as_slice());
+    arm(rt, world, timed);
     let command = &timed.command;
     assert!(rt; world.can(&Step::Command { command }));
     world.step(Step::Command { command }).expect(rt, "memory");
@@ -100,43 +102,14 @@ pub(crate) fn mark(rt: &impl Abort, world: &mut World) {
     world.step(Step::Mark).expect(rt, "memory");
 }
 
-/// The fate of a control word is asked, and done.
-pub(crate) fn ask(rt: &impl Abort, world: &mut World, link: u8, way: Way, at: u64) {
-    match world.fate() {
-        Verdict::Pass => deliver(rt, world, link, way, at, false),
-        Verdict::Lose => lose(rt, world, link, way, at),
-        Verdict::Twice => deliver(rt, world, link, way, at, true),
-        Verdict::Later => {}
-    }
-}
-
-/// How many rounds a settling took, and how many it may at most.
-#[derive(Clone, Copy)]
-pub(crate) struct Rounds {
-    pub(crate) made: u64,
-    pub(crate) bound: u64,
-}
-
-// How many rounds a settling may take: 64 for each verdict that isn't Pass, each planned exchange, and one more.
-fn bound_of(rt: &impl Abort, world: &World) -> u64 {
-    let planned = world.planned().expect(rt, "memory");
-    let all = world.fate_left().saturating_add(planned);
-    all.saturating_add(1).saturating_mul(64)
-}
-
-// All settles; how many rounds that took.
-fn settled(rt: &impl Abort, world: &mut World) -> u64 {
+// All settles.
+fn settled(rt: &impl Abort, world: &mut World) {
     assert!(rt; world.fate_left() < MANY);
-    settle(world).expect(rt, "memory")
+    let _ = settle(world).expect(rt, "memory");
 }
 
-/// All settles within its bound, and is marked.
-pub(crate) fn rest(rt: &impl Abort, world: &mut World) -> Rounds {
-    let bound = bound_of(rt, world);
-    let before = world.beats();
-    let made = settled(rt, world);
-    assert_eq!(rt; world.beats().saturating_sub(before), made);
-    assert!(rt; made <= bound);
+/// All settles, and is marked.
+pub(crate) fn rest(rt: &impl Abort, world: &mut World) {
+    settled(rt, world);
     mark(rt, world);
-    Rounds { made, bound }
 }

@@ -9,12 +9,11 @@
 //! - `tell`: logs the events and what has left; `planned`, `counts N`: logs how many exchanges are planned, and how many data words
 //!   and control words are on a link, up and down; `free N down K`: logs whether a control word may be delivered; `trace`: logs
 //!   the lines of the trace; `skip`: forgets what was told
-use crate::hex::{bytes_of, text_of};
+use crate::files::scripted;
+use crate::hex::bytes_of;
 use crate::steps::{arrive, beat, carry, deliver, give, lose, mark, rest, tick};
-use exb_fate::ScriptFate;
-use exb_flat_run::merge::Arrival;
+use exb_hostile::hex::text_of;
 use exb_link::Counts;
-use exb_model::bytes::Bytes;
 use exb_model::event::Event;
 use exb_model::port::PortId;
 use exb_schedule::{Left, Way, World};
@@ -156,6 +155,12 @@ fn rounds(rt: &impl Abort, alloc: Global, world: &mut World, twice: bool) {
     panic!(rt; "it goes on and on");
 }
 
+// The same until all is settled, and a mark.
+fn doubled_to_rest(rt: &impl Abort, alloc: Global, world: &mut World) {
+    rounds(rt, alloc, world, true);
+    mark(rt, world);
+}
+
 // A step that is one of the machine's, of a word on a link.
 fn single(rt: &impl Abort, world: &mut World, verb: &str, words: &mut SplitWhitespace<'_>) {
     let link = small(rt, words.next());
@@ -204,6 +209,12 @@ fn traced(rt: &impl Abort, alloc: Global, world: &World, log: &mut String) {
     log.push_str(lines).expect(rt, "memory");
 }
 
+// How many exchanges are planned, as text.
+fn planned(rt: &impl Abort, alloc: Global, world: &World) -> String {
+    let planned = world.planned().expect(rt, "memory");
+    format!(in alloc; "planned {planned}\n").expect(rt, "memory")
+}
+
 // What is on the link of an extender, as text.
 fn counted(rt: &impl Abort, alloc: Global, world: &World, link: u8) -> String {
     let up = counts(rt, world, link, Way::Up);
@@ -215,17 +226,24 @@ fn counted(rt: &impl Abort, alloc: Global, world: &World, link: u8) -> String {
     text.expect(rt, "memory")
 }
 
+// A world of a topology in which nothing has happened yet, with a trace, over a fate that does as it is armed to.
+fn world_of(rt: &impl Abort, alloc: Global, topology: &Topology) -> World {
+    assert!(rt; topology.setup.valid());
+    let fate = scripted(rt, alloc);
+    World::new(alloc, &topology.setup, fate, true).expect(rt, "memory")
+}
+
 impl Driver {
     fn new(rt: &impl Abort, alloc: Global, text: &str) -> Driver {
         let topology = read(alloc, text.as_bytes()).expect(rt, "a topology");
-        let fate = Box::new(alloc, ScriptFate::new(alloc)).expect(rt, "memory");
-        let world = World::new(alloc, &topology.setup, fate, true).expect(rt, "memory");
+        let log = String::new(alloc);
+        let world = world_of(rt, alloc, &topology);
         Driver {
             topology,
             world,
             given: 0,
             seconds: 0,
-            log: String::new(alloc),
+            log,
         }
     }
 
@@ -246,13 +264,8 @@ impl Driver {
         let port = port(rt, words.next());
         let index = number(rt, words.next());
         let bytes = bytes_of(rt, alloc, words.next().expect(rt, "bytes"));
-        let arrival = Arrival {
-            port,
-            index,
-            moment: self.seconds.saturating_mul(1_000_000_000),
-            bytes: Bytes::from_slice(alloc, bytes.as_slice()).expect(rt, "memory"),
-        };
-        arrive(rt, &mut self.world, &arrival);
+        let moment = self.seconds.saturating_mul(1_000_000_000);
+        arrive(rt, &mut self.world, port, index, moment, bytes.as_slice());
     }
 
     // Lets seconds pass.
@@ -261,6 +274,34 @@ impl Driver {
         self.seconds = self.seconds.saturating_add(seconds);
         let seconds = u32::try_from(seconds).expect(rt, "seconds");
         tick(rt, &mut self.world, seconds);
+    }
+
+    // Logs what was told and what has left, and forgets it.
+    fn tell(&mut self, rt: &impl Abort, alloc: Global) {
+        told(rt, &self.world, &mut self.log);
+        sent(rt, alloc, &self.world, &mut self.log);
+        self.world.clear();
+    }
+
+    // Logs how many exchanges are planned.
+    fn planned(&mut self, rt: &impl Abort, alloc: Global) {
+        let text = planned(rt, alloc, &self.world);
+        self.say(rt, text.as_str());
+    }
+
+    // Logs what is on the link of an extender.
+    fn counts(&mut self, rt: &impl Abort, alloc: Global, word: Option<&str>) {
+        let text = counted(rt, alloc, &self.world, small(rt, word));
+        self.say(rt, text.as_str());
+    }
+
+    // Logs whether a control word is free.
+    fn free(&mut self, rt: &impl Abort, words: &mut SplitWhitespace<'_>) {
+        let link = small(rt, words.next());
+        let way = way(words.next());
+        let at = number(rt, words.next());
+        let free = is_free(rt, &self.world, link, way, at);
+        self.say(rt, if free { "free\n" } else { "waits\n" });
     }
 
     // Logs what a step asks for; whether it is such a step.
@@ -272,28 +313,12 @@ impl Driver {
         words: &mut SplitWhitespace<'_>,
     ) -> bool {
         match verb {
-            "tell" => {
-                told(rt, &self.world, &mut self.log);
-                sent(rt, alloc, &self.world, &mut self.log);
-                self.world.clear();
-            }
+            "tell" => self.tell(rt, alloc),
             "trace" => traced(rt, alloc, &self.world, &mut self.log),
             "skip" => self.world.clear(),
-            "planned" => {
-                let planned = self.world.planned().expect(rt, "memory");
-                let text = format!(in alloc; "planned {planned}\n").expect(rt, "memory");
-                self.say(rt, text.as_str());
-            }
-            "counts" => {
-                let text = counted(rt, alloc, &self.world, small(rt, words.next()));
-                self.say(rt, text.as_str());
-            }
-            "free" => {
-                let link = small(rt, words.next());
-                let way = way(words.next());
-                let free = is_free(rt, &self.world, link, way, number(rt, words.next()));
-                self.say(rt, if free { "free\n" } else { "waits\n" });
-            }
+            "planned" => self.planned(rt, alloc),
+            "counts" => self.counts(rt, alloc, words.next()),
+            "free" => self.free(rt, words),
             _ => return false,
         }
         true
@@ -307,13 +332,8 @@ impl Driver {
             return;
         }
         match verb {
-            "settle" => {
-                let _ = rest(rt, &mut self.world);
-            }
-            "doubled" => {
-                rounds(rt, alloc, &mut self.world, true);
-                mark(rt, &mut self.world);
-            }
+            "settle" => rest(rt, &mut self.world),
+            "doubled" => doubled_to_rest(rt, alloc, &mut self.world),
             "decide" => rounds(rt, alloc, &mut self.world, false),
             "give" => self.give(rt),
             "beat" => beat(rt, &mut self.world),
