@@ -1,6 +1,6 @@
 //! A run over a shelf or a sink in memory that fails at one call, with each option. Each file then holds a front of its text.
 use crate::hostile::bytes_of;
-use crate::play::{play, words_of};
+use exb_played::play;
 use exb_shelf::{MemShelf, MemSink};
 use std::alloc::Global;
 use std::process::Abort;
@@ -49,10 +49,9 @@ fn played(
     failing: u64,
     mute: u64,
 ) -> (MemShelf, MemSink, u8) {
-    let words = words_of(alloc, told).expect(rt, "memory");
     let mut shelf = shelf_of(rt, alloc, failing);
     let mut out = MemSink::new(alloc, &[mute]).expect(rt, "memory");
-    let status = play(alloc, &words, &mut shelf, &mut out).expect(rt, "memory");
+    let status = play(alloc, told, &mut shelf, &mut out).expect(rt, "memory");
     (shelf, out, status)
 }
 

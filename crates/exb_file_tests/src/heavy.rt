@@ -1,6 +1,6 @@
 //! Topologies that could take more memory once read than there is to be for them: they end with status 1, and those beside them,
 //! whose dots and braces stand in strings and comments, don't.
-use crate::play::{play, words_of};
+use exb_played::play;
 use exb_shelf::{MemShelf, MemSink};
 use std::alloc::Global;
 use std::process::Abort;
@@ -73,17 +73,21 @@ fn file_of(rt: &impl Abort, alloc: Global, many: Many) -> String {
     file
 }
 
-// Asserts what a check of each file ends with, and prints.
+// Asserts what a check of a file ends with, and prints.
+fn expect_check(rt: &impl Abort, alloc: Global, many: Many, status: u8, line: &str) {
+    let file = file_of(rt, alloc, many);
+    let mut shelf = MemShelf::new(alloc, &[]).expect(rt, "memory");
+    let mut out = MemSink::new(alloc, &[]).expect(rt, "memory");
+    shelf.put("t.toml", file.as_bytes()).expect(rt, "memory");
+    let ended = play(alloc, "check t.toml", &mut shelf, &mut out).expect(rt, "memory");
+    assert_eq!(rt; ended, status, "{many:?}");
+    assert!(rt; out.text() == line.as_bytes(), "{many:?}");
+}
+
+// The same of each file.
 fn judge(rt: &impl Abort, alloc: Global, files: &[Many], status: u8, line: &str) {
     for many in files {
-        let file = file_of(rt, alloc, *many);
-        let words = words_of(alloc, "check t.toml").expect(rt, "memory");
-        let mut shelf = MemShelf::new(alloc, &[]).expect(rt, "memory");
-        let mut out = MemSink::new(alloc, &[]).expect(rt, "memory");
-        shelf.put("t.toml", file.as_bytes()).expect(rt, "memory");
-        let ended = play(alloc, &words, &mut shelf, &mut out).expect(rt, "memory");
-        assert_eq!(rt; ended, status, "{many:?}");
-        assert!(rt; out.text() == line.as_bytes(), "{many:?}");
+        expect_check(rt, alloc, *many, status, line);
     }
 }
 

@@ -13,8 +13,6 @@ mod heavy;
 #[cfg(test)]
 mod hostile;
 #[cfg(test)]
-mod play;
-#[cfg(test)]
 mod shelves;
 #[cfg(test)]
 mod sweep;

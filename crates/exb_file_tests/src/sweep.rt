@@ -5,8 +5,8 @@
 mod runs;
 
 use crate::hostile::bytes_of;
-use crate::play::{play, words_of};
 use exb_faulty::{Asked, Call, Disturbance, FaultyShelf, FaultySink};
+use exb_played::play;
 use runs::{BARE, LOSSY, Run, TREE};
 use std::alloc::Global;
 use std::process::Abort;
@@ -73,10 +73,9 @@ fn play_site(
     of_shelf: Disturbance,
     of_sink: Disturbance,
 ) -> Played {
-    let words = words_of(alloc, site.run.words).expect(rt, "memory");
     let mut shelf = shelf_of(rt, alloc, site, of_shelf);
     let mut out = FaultySink::new(alloc, of_sink);
-    let status = play(alloc, &words, &mut shelf, &mut out).expect(rt, "memory");
+    let status = play(alloc, site.run.words, &mut shelf, &mut out).expect(rt, "memory");
     Played { shelf, out, status }
 }
 

@@ -1,6 +1,7 @@
 //! Whole runs over files in memory.
 use exb_fate::{Fate, ScriptFate};
 use exb_model::port::PortId;
+use exb_played::words_of;
 use exb_run::run;
 use exb_shelf::{MemShelf, MemSink};
 use exb_text::{capture_file_name, journal_file_name};
@@ -10,16 +11,6 @@ use std::process::Abort;
 /// A fate that does as it is armed to.
 pub(crate) fn scripted(rt: &impl Abort, alloc: Global) -> Box<dyn Fate> {
     Box::new(alloc, ScriptFate::new(alloc)).expect(rt, "memory")
-}
-
-// The words of a run.
-fn words(rt: &impl Abort, alloc: Global, options: &str) -> Vec<String> {
-    let mut words = Vec::new(alloc);
-    for word in "run t.toml".split(' ').chain(options.split_whitespace()) {
-        let word = String::from_str(alloc, word).expect(rt, "memory");
-        words.push(word).expect(rt, "memory");
-    }
-    words
 }
 
 // Puts a file on a shelf.
@@ -62,7 +53,8 @@ pub(crate) fn files_of(
     options: &str,
     fate: Box<dyn Fate>,
 ) -> MemShelf {
-    let words = words(rt, alloc, options);
+    let text = format!(in alloc; "run t.toml {options}").expect(rt, "memory");
+    let words = words_of(alloc, text.as_str()).expect(rt, "memory");
     let mut shelf = shelf_of(rt, alloc, topology, capture);
     let mut out = sink(rt, alloc);
     assert_eq!(rt; play(rt, alloc, &words, &mut shelf, &mut out, fate), 0);

@@ -1,40 +1,38 @@
 //! Inputs that no run takes: files past the limits of their sizes, and a folder in the place of a file.
-use exb_fate::{Fate, ScriptFate};
-use exb_run::run;
-use exb_shelf::{FileShelf, MemShelf, MemSink, Shelf};
+use exb_played::play;
+use exb_shelf::{FileShelf, MemShelf, MemSink};
 use std::alloc::Global;
 use std::process::Abort;
-use std::test::Fail;
 
 /// One extender with one port, which has a capture.
 const ONE: &str =
     "bridge = { ports = 1 }\nextender = [{ number = 1, on = \"b1\", ports = 1 }]\ncaptures = { \"x1.1\" = \"zeros.pcap\" }\n";
 
-/// The words of a run.
-fn words(alloc: Global, topology: &str) -> Result<Vec<String>, Fail> {
-    let mut words = Vec::new(alloc);
-    words.push(String::from_str(alloc, "run")?)?;
-    words.push(String::from_str(alloc, topology)?)?;
-    Ok(words)
+// So many zeros.
+fn zeros(rt: &impl Abort, alloc: Global, bytes: usize) -> Vec<u8> {
+    vec![in alloc; 0u8; bytes].expect(rt, "memory")
 }
 
-/// Plays the words over a fate that does as it is armed to.
-fn play<S: Shelf>(
-    alloc: Global,
-    words: &[String],
-    shelf: &mut S,
-    out: &mut MemSink,
-) -> Result<u8, Fail> {
-    let fate: Box<dyn Fate> = Box::new(alloc, ScriptFate::new(alloc))?;
-    Ok(run(alloc, words, shelf, out, fate))
+// A shelf with a topology and a capture.
+fn shelf_of(rt: &impl Abort, alloc: Global, topology: &[u8], capture: &[u8]) -> MemShelf {
+    let mut shelf = MemShelf::new(alloc, &[]).expect(rt, "memory");
+    shelf.put("t.toml", topology).expect(rt, "memory");
+    shelf.put("zeros.pcap", capture).expect(rt, "memory");
+    shelf
 }
 
-/// So many zeros.
-fn zeros(alloc: Global, bytes: usize) -> Result<Vec<u8>, Fail> {
-    Ok(vec![in alloc; 0u8; bytes]?)
+// A sink that nothing disturbs.
+fn sink(rt: &impl Abort, alloc: Global) -> MemSink {
+    MemSink::new(alloc, &[]).expect(rt, "memory")
 }
 
-/// A run of a topology and a capture ends with that status and line, and makes no file.
+// Nothing was made on a shelf.
+fn expect_bare(rt: &impl Abort, shelf: &MemShelf) {
+    assert!(rt; shelf.file("out-x1.1.pcap").is_none());
+    assert!(rt; shelf.file("out-journal.txt").is_none());
+}
+
+// A run of a topology and a capture ends with that status and line, and makes no file.
 fn expect_refused(
     rt: &impl Abort,
     alloc: Global,
@@ -42,48 +40,42 @@ fn expect_refused(
     capture: &[u8],
     status: u8,
     line: &str,
-) -> Result<(), Fail> {
-    let mut shelf = MemShelf::new(alloc, &[])?;
-    shelf.put("t.toml", topology)?;
-    shelf.put("zeros.pcap", capture)?;
-    let mut out = MemSink::new(alloc, &[])?;
-    assert_eq!(rt;
-        play(alloc, &words(alloc, "t.toml")?, &mut shelf, &mut out)?,
-        status
-    );
+) {
+    let mut shelf = shelf_of(rt, alloc, topology, capture);
+    let mut out = sink(rt, alloc);
+    let ended = play(alloc, "run t.toml", &mut shelf, &mut out).expect(rt, "memory");
+    assert_eq!(rt; ended, status);
     assert!(rt; out.text() == line.as_bytes());
-    assert!(rt; shelf.file("out-x1.1.pcap").is_none());
-    assert!(rt; shelf.file("out-journal.txt").is_none());
-    Ok(())
+    expect_bare(rt, &shelf);
 }
 
 #[test]
-fn a_capture_of_67108864_bytes_is_looked_into(rt: HostRuntime) -> Result<(), Fail> {
-    let capture = zeros(rt.alloc(), 67_108_864)?;
+fn a_capture_of_67108864_bytes_is_looked_into(rt: HostRuntime) {
+    let capture = zeros(&rt, rt.alloc(), 67_108_864);
     let line = "exbr: capture x1.1: NotPcap at 0\n";
-    expect_refused(&rt, rt.alloc(), ONE.as_bytes(), capture.as_slice(), 4, line)
+    expect_refused(&rt, rt.alloc(), ONE.as_bytes(), capture.as_slice(), 4, line);
 }
 
 #[test]
-fn a_capture_with_a_byte_more_is_too_large(rt: HostRuntime) -> Result<(), Fail> {
-    let capture = zeros(rt.alloc(), 67_108_865)?;
+fn a_capture_with_a_byte_more_is_too_large(rt: HostRuntime) {
+    let capture = zeros(&rt, rt.alloc(), 67_108_865);
     let line = "exbr: capture x1.1: Large 67108864\n";
-    expect_refused(&rt, rt.alloc(), ONE.as_bytes(), capture.as_slice(), 4, line)
+    expect_refused(&rt, rt.alloc(), ONE.as_bytes(), capture.as_slice(), 4, line);
 }
 
 #[test]
-fn a_topology_has_at_most_16777216_bytes(rt: HostRuntime) -> Result<(), Fail> {
-    let topology = zeros(rt.alloc(), 16_777_217)?;
+fn a_topology_has_at_most_16777216_bytes(rt: HostRuntime) {
+    let topology = zeros(&rt, rt.alloc(), 16_777_217);
     let line = "exbr: topology: Large\n";
-    expect_refused(&rt, rt.alloc(), topology.as_slice(), &[], 3, line)
+    expect_refused(&rt, rt.alloc(), topology.as_slice(), &[], 3, line);
 }
 
 #[test]
-fn a_folder_can_be_opened_and_not_read(rt: HostRuntime) -> Result<(), Fail> {
-    let words = words(rt.alloc(), ".")?;
-    let mut shelf = FileShelf::new(rt.alloc(), rt);
-    let mut out = MemSink::new(rt.alloc(), &[])?;
-    assert_eq!(rt; play(rt.alloc(), &words, &mut shelf, &mut out)?, 6);
+fn a_folder_can_be_opened_and_not_read(rt: HostRuntime) {
+    let alloc = rt.alloc();
+    let mut out = sink(&rt, alloc);
+    let mut shelf = FileShelf::new(alloc, rt);
+    let ended = play(alloc, "run .", &mut shelf, &mut out);
+    assert!(rt; matches!(ended, Ok(6)));
     assert!(rt; out.text() == b"exbr: read fault\n".as_slice());
-    Ok(())
 }
