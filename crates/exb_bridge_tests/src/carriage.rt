@@ -1,7 +1,7 @@
 //! Words through whole trees of extenders, by tables that are laid by hand.
-ghost use Rattle.std.specs.Prelude.{◌<◌, ◌≤◌};
-
+use crate::setups::setup;
 use exb_carriage::{PlainTables, carried, emits};
+use exb_hostile::hex;
 use exb_model::list::List;
 use exb_model::memory::NoMemory;
 use exb_model::port::PortId;
@@ -9,7 +9,7 @@ use exb_model::port_set::PortSet;
 use exb_model::setup::{ExtenderSetup, Place, Setup};
 use exb_model::tree::Tree;
 use exb_plan::rows;
-use std::alloc::Global;
+use std::alloc::{AllocError, Global};
 use std::process::Abort;
 
 /// The first group of a space.
@@ -17,98 +17,80 @@ const GROUP: u16 = 0x1000;
 
 // No extender, and empty tables.
 fn empty_tables(alloc: Global) -> Result<PlainTables, NoMemory> {
-    let mut tables = PlainTables {
-        on: Vec::new(alloc),
-        channels: Vec::new(alloc),
-        cascades: Vec::new(alloc),
-        ecids: Vec::new(alloc),
-    };
-    tables.on.resize(65, 0)?;
-    tables.channels.resize(4160, 0)?;
-    tables.cascades.resize(4160, false)?;
+    let mut ecids = Vec::new(alloc);
     for _port in 0..4160u16 {
-        tables.ecids.push(List::new(alloc))?;
+        ecids.push(List::new(alloc))?;
     }
-    Ok(tables)
+    Ok(PlainTables {
+        on: vec![in alloc; 0; 65]?,
+        channels: vec![in alloc; 0; 4160]?,
+        cascades: vec![in alloc; false; 4160]?,
+        ecids,
+    })
 }
 
-// Hangs an extender on a port.
-fn hang(tables: &mut PlainTables, extender: u8, on: PortId) {
-    if let Some(at) = tables.on.as_mut_slice().get_mut(extender as usize) {
-        *at = on.number();
+// The number of a port: of the bridge where the extender is 0.
+fn number_of(extender: u8, port: u8) -> u16 {
+    let first = u16::from(extender).saturating_mul(64);
+    first.saturating_add(u16::from(port.saturating_sub(1)))
+}
+
+// Such a port.
+fn port(rt: &impl Abort, extender: u8, port: u8) -> PortId {
+    PortId::new(number_of(extender, port)).expect(rt, "a port")
+}
+
+// The port on which an extender hangs.
+fn on(place: Place) -> u16 {
+    match place {
+        Place::Bridge { port } => number_of(0, port),
+        Place::Extender { number, port } => number_of(number, port),
+    }
+}
+
+// Hangs an extender where it is.
+fn hang(tables: &mut PlainTables, extender: &ExtenderSetup) {
+    let number = usize::from(extender.number);
+    if let Some(at) = tables.on.as_mut_slice().get_mut(number) {
+        *at = on(extender.on);
     }
 }
 
 // Gives a port a channel and a kind.
-fn create(tables: &mut PlainTables, port: PortId, channel: u16, cascade: bool) {
-    let number = port.number() as usize;
-    if let Some(own) = tables.channels.as_mut_slice().get_mut(number) {
+fn create(tables: &mut PlainTables, port: u16, channel: u16, cascade: bool) {
+    let port = usize::from(port);
+    if let Some(own) = tables.channels.as_mut_slice().get_mut(port) {
         *own = channel;
     }
-    if let Some(kind) = tables.cascades.as_mut_slice().get_mut(number) {
+    if let Some(kind) = tables.cascades.as_mut_slice().get_mut(port) {
         *kind = cascade;
     }
 }
 
-// Gives the E-CID a pair with each port of an extender in the mask, whose bit k - 1 is port k.
-fn register(tables: &mut PlainTables, extender: u8, ecid: u16, mask: u64) -> Result<(), NoMemory> {
-    for place in 0..64u16 {
-        if mask >> place & 1 == 1 {
-            add(tables, 64 * extender as u16 + place, ecid)?;
-        }
-    }
-    Ok(())
-}
-
 // Gives the E-CID a pair with a port.
 fn add(tables: &mut PlainTables, port: u16, ecid: u16) -> Result<(), NoMemory> {
-    match tables.ecids.as_mut_slice().get_mut(port as usize) {
+    match tables.ecids.as_mut_slice().get_mut(usize::from(port)) {
         Some(ecids) => ecids.push(ecid),
         None => Ok(()),
     }
 }
 
-// Port `port` of extender `number`.
-fn port(number: u8, port: u8) -> PortId
-    requires number { number < 65 }
-    requires first { 1 ≤ port }
-    requires last { port ≤ 64 }
-{
-    PortId::new(64 * number as u16 + (port as u16 - 1)).unwrap()
-}
-
-// A frame of 60 bytes with an E-TAG.
-fn word(ingress: u8, ecid: u16) -> [u8; 60] {
-    let mut frame = [7u8; 60];
-    let tag = [
-        0x89,
-        0x3F,
-        0,
-        ingress,
-        (ecid / 256) as u8,
-        (ecid % 256) as u8,
-        0,
-        0,
-    ];
-    frame[12..20].copy_from_slice(&tag);
-    frame
-}
-
-// An extender with 64 ports on port `port` of extender `above` or, where that is 0, of the bridge.
-fn extender(number: u8, above: u8, port: u8) -> ExtenderSetup {
-    let on = if above == 0 {
-        Place::Bridge { port }
-    } else {
-        Place::Extender {
-            number: above,
-            port,
+// Gives the E-CID a pair with each port of an extender in the mask, whose bit k - 1 is port k.
+fn register(tables: &mut PlainTables, extender: u8, ecid: u16, mask: u64) -> Result<(), NoMemory> {
+    let mut left = mask;
+    for port in 1..65u8 {
+        if left % 2 == 1 {
+            add(tables, number_of(extender, port), ecid)?;
         }
-    };
-    ExtenderSetup {
-        number,
-        ports: 64,
-        on,
+        left /= 2;
     }
+    Ok(())
+}
+
+// A frame of 60 bytes with an E-TAG whose last byte is the extension.
+fn word(rt: &impl Abort, alloc: Global, ingress: u8, ecid: u16, extension: u8) -> Vec<u8> {
+    let text = format!(in alloc; "12x07 893F00{ingress:02X} {ecid:04X}00{extension:02X} 40x07");
+    hex::bytes_of(alloc, text.expect(rt, "memory").as_str()).expect(rt, "bytes")
 }
 
 /// A tree and the tables of its extenders.
@@ -119,116 +101,144 @@ struct Fixture {
     tables: PlainTables,
 }
 
-// These extenders below a bridge with 64 ports, with empty tables.
-fn below_bridge(rt: &impl Abort, alloc: Global, extenders: List<ExtenderSetup>) -> Fixture {
+// The tables of a setup in which each extender hangs where it is, and nothing else is set.
+fn tables_of(rt: &impl Abort, alloc: Global, setup: &Setup) -> PlainTables {
     let mut tables = empty_tables(alloc).expect(rt, "memory");
-    for extender in extenders.as_slice() {
-        let on = match extender.on {
-            Place::Bridge { port } => PortId::new(port.saturating_sub(1) as u16),
-            Place::Extender { number, port } => {
-                PortId::new(64 * number as u16 + port.saturating_sub(1) as u16)
-            }
-        };
-        hang(&mut tables, extender.number, on.expect(rt, "a port"));
+    for extender in setup.extenders.as_slice() {
+        hang(&mut tables, extender);
     }
-    let setup = Setup {
-        ports: 64,
-        extenders,
-        channels: 4094,
-        groups: 12288,
-        ageing: 300,
-        start: List::new(alloc),
-    };
+    tables
+}
+
+// The tree of a setup.
+fn tree_of(rt: &impl Abort, alloc: Global, setup: &Setup) -> Tree {
     assert!(rt; setup.valid());
-    Fixture {
-        alloc,
-        tree: Tree::new(alloc, &setup).expect(rt, "memory"),
-        tables,
-    }
+    Tree::new(alloc, setup).expect(rt, "memory")
 }
 
 impl Fixture {
-    // Lays the rows of a set under a group.
-    fn lay(&mut self, rt: &impl Abort, set: &PortSet, group: u16) {
-        let rows = rows(self.alloc, &self.tree, set).expect(rt, "memory");
-        for row in rows.as_slice() {
-            register(&mut self.tables, row.extender, group, row.mask).expect(rt, "memory");
+    // These extenders, in the words of a setup, below a bridge with 64 ports, with empty tables.
+    fn new(rt: &impl Abort, alloc: Global, extenders: &str) -> Fixture {
+        let text = format!(in alloc; "64 4094 12288 300{extenders}").expect(rt, "memory");
+        let setup = setup(rt, alloc, text.as_str());
+        let tables = tables_of(rt, alloc, &setup);
+        let tree = tree_of(rt, alloc, &setup);
+        Fixture {
+            alloc,
+            tree,
+            tables,
         }
     }
 
-    // How many bytes leave at a port when a frame enters an extender from upstream; 0 where none leaves.
-    fn bytes_at(&self, rt: &impl Abort, extender: u16, frame: &[u8], port: PortId) -> usize {
-        let left = carried(self.alloc, &self.tables, extender, frame, port.number());
+    // Gives a port a channel and a kind.
+    fn create(&mut self, extender: u8, port: u8, channel: u16, cascade: bool) {
+        create(
+            &mut self.tables,
+            number_of(extender, port),
+            channel,
+            cascade,
+        );
+    }
+
+    // Lays the rows of a set under the group.
+    fn lay(&mut self, rt: &impl Abort, set: &PortSet) {
+        let rows = rows(self.alloc, &self.tree, set).expect(rt, "memory");
+        for row in rows.as_slice() {
+            register(&mut self.tables, row.extender, GROUP, row.mask).expect(rt, "memory");
+        }
+    }
+
+    // How many bytes leave at a port when a word of the group enters an extender from upstream; 0 where none leaves.
+    fn bytes_at(&self, rt: &impl Abort, extender: u16, ingress: u8, port: u16) -> usize {
+        let frame = word(rt, self.alloc, ingress, GROUP, 0);
+        let left = carried(self.alloc, &self.tables, extender, frame.as_slice(), port);
         match left.expect(rt, "memory") {
             Some(bytes) => bytes.as_slice().len(),
             None => 0,
         }
     }
+
+    // Whether a word of channel 1 with this last byte of its E-TAG leaves x1.1.
+    fn leaves_with(&self, rt: &impl Abort, extension: u8) -> bool {
+        let frame = word(rt, self.alloc, 0, 1, extension);
+        let left = emits(self.alloc, &self.tables, number_of(1, 1), frame.as_slice());
+        left.expect(rt, "memory").is_some()
+    }
 }
 
-// 64 extenders in a chain, each on the last port of the one before it. Cascade ports have the channels 1
-// to 63, the first port of the first and of the last extender 64 and 65, and both are the set of a group.
-fn chain(rt: &impl Abort, alloc: Global) -> Fixture {
-    let mut extenders = List::new(alloc);
-    extenders.push(extender(1, 0, 1)).expect(rt, "memory");
-    for above in 1..64u8 {
-        extenders
-            .push(extender(above + 1, above, 64))
-            .expect(rt, "memory");
-    }
-    let mut fixture = below_bridge(rt, alloc, extenders);
-    for number in 1..64u8 {
-        create(&mut fixture.tables, port(number, 64), number as u16, true);
-    }
-    create(&mut fixture.tables, port(1, 1), 64, false);
-    create(&mut fixture.tables, port(64, 1), 65, false);
+// The set of these ports.
+fn set_of(rt: &impl Abort, ports: &[(u8, u8)]) -> PortSet {
     let mut set = PortSet::empty();
-    set.insert(port(1, 1));
-    set.insert(port(64, 1));
-    fixture.lay(rt, &set, GROUP);
+    for (extender, at) in ports {
+        set.insert(port(rt, *extender, *at));
+    }
+    set
+}
+
+// 64 extenders of 64 ports in a chain, each on the last port of the one before it, in the words of a setup.
+fn chained(alloc: Global) -> Result<String, AllocError> {
+    let mut text = String::from_str(alloc, " 1 64 0 1")?;
+    for above in 1..64u32 {
+        let next = above.saturating_add(1);
+        text.push_str(format!(in alloc; " {next} 64 {above} 64")?.as_str())?;
+    }
+    Ok(text)
+}
+
+// 64 extenders of 64 ports below one bridge port, 63 of them on the ports of the first.
+fn hung_on_one(alloc: Global) -> Result<String, AllocError> {
+    let mut text = String::from_str(alloc, " 1 64 0 1")?;
+    for port in 1..64u32 {
+        let next = port.saturating_add(1);
+        text.push_str(format!(in alloc; " {next} 64 1 {port}")?.as_str())?;
+    }
+    Ok(text)
+}
+
+// A chain of 64. Cascade ports have the channels 1 to 63, the first port of the first and of the last extender 64 and 65, and both
+// are the set of a group.
+fn chain(rt: &impl Abort, alloc: Global) -> Fixture {
+    let text = chained(alloc).expect(rt, "memory");
+    let mut fixture = Fixture::new(rt, alloc, text.as_str());
+    for number in 1..64u8 {
+        fixture.create(number, 64, u16::from(number), true);
+    }
+    fixture.create(1, 1, 64, false);
+    fixture.create(64, 1, 65, false);
+    fixture.lay(rt, &set_of(rt, &[(1, 1), (64, 1)]));
     fixture
 }
 
-// 64 extenders below one bridge port, 63 of them on the ports of the first. All their external ports have
-// channels and are the set of a group.
+// 64 below one port of the bridge. All their external ports have channels and are the set of a group.
 fn broom(rt: &impl Abort, alloc: Global) -> Fixture {
-    let mut extenders = List::new(alloc);
-    extenders.push(extender(1, 0, 1)).expect(rt, "memory");
-    for port in 1..64u8 {
-        extenders
-            .push(extender(port + 1, 1, port))
-            .expect(rt, "memory");
-    }
-    let mut fixture = below_bridge(rt, alloc, extenders);
-    let mut set = PortSet::empty();
+    let text = hung_on_one(alloc).expect(rt, "memory");
+    let mut fixture = Fixture::new(rt, alloc, text.as_str());
     for number in 64..4160u16 {
-        let port = PortId::new(number).unwrap();
-        create(&mut fixture.tables, port, number - 63, number < 127);
-        if number >= 127 {
-            set.insert(port);
-        }
+        create(
+            &mut fixture.tables,
+            number,
+            number.saturating_sub(63),
+            number < 127,
+        );
     }
-    fixture.lay(rt, &set, GROUP);
+    let set = fixture
+        .tree
+        .external_ports()
+        .except(&fixture.tree.local_ports());
+    fixture.lay(rt, &set);
     fixture
 }
 
 // An extender on b1 with one port in use and one on b2 with two. In each space the first port has channel
 // 1, and the ports are the set of the first group.
 fn two_spaces(rt: &impl Abort, alloc: Global) -> Fixture {
-    let mut extenders = List::new(alloc);
-    extenders.push(extender(1, 0, 1)).expect(rt, "memory");
-    extenders.push(extender(2, 0, 2)).expect(rt, "memory");
-    let mut fixture = below_bridge(rt, alloc, extenders);
-    create(&mut fixture.tables, port(1, 1), 1, false);
-    create(&mut fixture.tables, port(2, 1), 1, false);
-    create(&mut fixture.tables, port(2, 2), 2, false);
-    let mut first = PortSet::empty();
-    first.insert(port(1, 1));
-    fixture.lay(rt, &first, GROUP);
-    let mut second = PortSet::empty();
-    second.insert(port(2, 1));
-    second.insert(port(2, 2));
-    fixture.lay(rt, &second, GROUP);
+    let mut fixture = Fixture::new(rt, alloc, " 1 64 0 1 2 64 0 2");
+    fixture.create(1, 1, 1, false);
+    fixture.create(2, 1, 1, false);
+    fixture.create(2, 2, 2, false);
+    fixture.lay(rt, &set_of(rt, &[(1, 1)]));
+    fixture.lay(rt, &set_of(rt, &[(2, 1), (2, 2)]));
+    register(&mut fixture.tables, 1, 1, 1).expect(rt, "memory");
     fixture
 }
 
@@ -236,10 +246,8 @@ fn two_spaces(rt: &impl Abort, alloc: Global) -> Fixture {
 fn leaving(rt: &impl Abort, fixture: &Fixture, first: u16, but: u16) -> u64 {
     let mut leaving = 0u64;
     for number in first..4160 {
-        if let Some(port) = PortId::new(number) {
-            if number % 64 != but && fixture.bytes_at(rt, 1, &word(0, GROUP), port) == 52 {
-                leaving = leaving.saturating_add(1);
-            }
+        if number % 64 != but && fixture.bytes_at(rt, 1, 0, number) == 52 {
+            leaving = leaving.saturating_add(1);
         }
     }
     leaving
@@ -271,33 +279,30 @@ const SPACES: [Word; 6] = [
 // Asserts that each word leaves with so many bytes.
 fn judge(rt: &impl Abort, fixture: &Fixture, words: &[Word]) {
     for (extender, ingress, (number, at), wanted) in words {
-        assert!(rt; *number < 65 && *at > 0 && *at < 65);
-        let bytes = fixture.bytes_at(rt, *extender, &word(*ingress, GROUP), port(*number, *at));
+        let bytes = fixture.bytes_at(rt, *extender, *ingress, number_of(*number, *at));
         assert_eq!(rt; bytes, *wanted, "at x{number}.{at} from {ingress}");
     }
 }
 
-// Whether a word of channel 1 with this last byte of its E-TAG leaves x1.1.
-fn leaves_with(rt: &impl Abort, fixture: &mut Fixture, extension: u8) -> bool {
-    register(&mut fixture.tables, 1, 1, 1).expect(rt, "memory");
-    let mut frame = word(0, 1);
-    frame[19] = extension;
-    let at = port(1, 1).number();
-    let left = emits(fixture.alloc, &fixture.tables, at, &frame);
-    left.expect(rt, "memory").is_some()
+#[test]
+fn words_go_down_a_chain(rt: HostRuntime) {
+    let chain = chain(&rt, rt.alloc());
+    judge(&rt, &chain, &CHAIN);
+    // At no port that is not in the set.
+    assert_eq!(rt; leaving(&rt, &chain, 64, 63), 2);
 }
 
 #[test]
-fn words_leave_where_they_must(rt: HostRuntime) {
-    let alloc = rt.alloc();
-    let chain = chain(&rt, alloc);
-    judge(&rt, &chain, &CHAIN);
-    // At no port of the chain that is not in the set; at all 4,033 external ports below one port of the bridge.
-    assert_eq!(rt; leaving(&rt, &chain, 64, 63), 2);
-    assert_eq!(rt; leaving(&rt, &broom(&rt, alloc), 127, 64), 4033);
-    let mut spaces = two_spaces(&rt, alloc);
+fn a_word_leaves_at_all_external_ports_below_one_port_of_the_bridge(rt: HostRuntime) {
+    let broom = broom(&rt, rt.alloc());
+    assert_eq!(rt; leaving(&rt, &broom, 127, 64), 4033);
+}
+
+#[test]
+fn one_number_means_another_set_below_each_port_of_the_bridge(rt: HostRuntime) {
+    let spaces = two_spaces(&rt, rt.alloc());
     judge(&rt, &spaces, &SPACES);
     // A word with an extension byte that isn't 0 is dropped.
-    assert!(rt; leaves_with(&rt, &mut spaces, 0));
-    assert!(rt; !leaves_with(&rt, &mut spaces, 1));
+    assert!(rt; spaces.leaves_with(&rt, 0));
+    assert!(rt; !spaces.leaves_with(&rt, 1));
 }

@@ -15,6 +15,7 @@ ghost use Rattle.exb_model.specs.Setup.{AreExternal, NamesExternal};
 use crate::site::{byte, number, port, small, topology_of};
 use exb_control::{Control, Ingress, Outbox, SendTo};
 use exb_csp::{Body, Message, Request, Response};
+use exb_hostile::hex;
 use exb_lldp::Announce;
 use exb_model::address::Mac;
 use exb_model::command::Command;
@@ -152,6 +153,104 @@ struct Due {
     response: Response,
 }
 
+/// The control of a topology, to which nothing has happened.
+pub(crate) fn control_of(rt: &impl Abort, alloc: Global, topology: &Topology) -> Control {
+    assert!(rt; topology.setup.valid());
+    Control::new(alloc, &topology.setup).expect(rt, "memory for a control")
+}
+
+// An extender of so many ports is heard.
+fn hear(rt: &impl Abort, control: &mut Control, out: &mut Outbox, extender: u8, ports: u8) {
+    assert!(rt; control.tree().is_extender(extender));
+    let announce = Announce {
+        chassis: Mac([0x02, 0x45, 0x42, 0x01, 0x00, extender]),
+        ports,
+    };
+    let heard = control.heard(extender, &announce, out);
+    assert!(rt; heard.is_ok());
+}
+
+// A command is given.
+fn give(rt: &impl Abort, control: &mut Control, out: &mut Outbox, command: &Command) {
+    assert!(rt; control.given() < 65536);
+    assert!(rt; names_external(control.tree(), command));
+    let given = control.command(command, out);
+    assert!(rt; given.is_ok());
+}
+
+// An answer comes.
+fn answer(rt: &impl Abort, control: &mut Control, out: &mut Outbox, due: Due) {
+    assert!(rt; control.tree().is_extender(due.extender));
+    let message = Message {
+        serial: due.serial,
+        body: Body::Answer(due.response),
+    };
+    let taken = control.answered(due.extender, &message, out);
+    assert!(rt; taken.is_ok());
+}
+
+// A beat passes.
+fn beat(rt: &impl Abort, control: &mut Control, out: &mut Outbox) {
+    let beaten = control.beat(out);
+    assert!(rt; beaten.is_ok());
+}
+
+// A frame comes at a port.
+fn come(rt: &impl Abort, control: &mut Control, out: &mut Outbox, port: PortId, frame: &[u8]) {
+    assert!(rt; control.tree().is_external(port));
+    let come = control.frame(port, 1, 5, frame, out);
+    assert!(rt; come.is_ok());
+}
+
+// The port of a channel below a port of the bridge.
+fn port_at(rt: &impl Abort, control: &Control, bridge_port: u8, channel: u16) -> Option<PortId> {
+    assert!(rt; bridge_port > 0 && bridge_port < 65);
+    assert!(rt; is_cascade(control.tree(), bridge_port));
+    control.port(bridge_port, channel)
+}
+
+// Logs the events that the last call gave.
+fn note_events(rt: &impl Abort, alloc: Global, out: &Outbox, log: &mut String) {
+    for event in out.events.as_slice() {
+        let text = event_text(alloc, event).expect(rt, "memory");
+        log.push_str(text.as_str()).expect(rt, "memory");
+    }
+}
+
+// Logs a request that goes out.
+fn note_ask(rt: &impl Abort, alloc: Global, extender: u8, request: &Request, log: &mut String) {
+    let words = request_text(alloc, request).expect(rt, "memory");
+    let text = format!(in alloc; "x{extender} {words}; ").expect(rt, "memory");
+    log.push_str(text.as_str()).expect(rt, "memory");
+}
+
+// Logs the requests that the last call gave, and says how the last one is to be answered.
+fn note_asks(rt: &impl Abort, alloc: Global, out: &Outbox, log: &mut String) -> Option<Due> {
+    let mut due = None;
+    for asked in out.asks.as_slice() {
+        if let Body::Ask(request) = &asked.message.body {
+            note_ask(rt, alloc, asked.extender, request, log);
+            due = Some(Due {
+                extender: asked.extender,
+                serial: asked.message.serial,
+                response: done(request),
+            });
+        }
+    }
+    due
+}
+
+// Logs what became of the frame of the last call.
+fn note_sends(rt: &impl Abort, alloc: Global, out: &Outbox, log: &mut String) {
+    if let Ingress::Dropped = out.ingress {
+        log.push_str("dropped; ").expect(rt, "memory");
+    }
+    for send in out.sends.as_slice() {
+        let text = send_text(alloc, send).expect(rt, "memory");
+        log.push_str(text.as_str()).expect(rt, "memory");
+    }
+}
+
 /// The control of a topology, and the log.
 #[derive(Drop)]
 struct Drive {
@@ -166,15 +265,17 @@ struct Drive {
 
 impl Drive {
     fn new(rt: &impl Abort, alloc: Global, topology: Topology) -> Drive {
-        assert!(rt; topology.setup.valid());
+        let out = Outbox::new(alloc);
+        let log = String::new(alloc);
+        let control = control_of(rt, alloc, &topology);
         Drive {
             alloc,
-            control: Control::new(alloc, &topology.setup).expect(rt, "memory for a control"),
             topology,
-            out: Outbox::new(alloc),
+            control,
+            out,
             given: 0,
             due: None,
-            log: String::new(alloc),
+            log,
         }
     }
 
@@ -188,35 +289,15 @@ impl Drive {
 
     // Notes what the last call gave.
     fn note(&mut self, rt: &impl Abort) {
-        for event in self.out.events.as_slice() {
-            let text = event_text(self.alloc, event).expect(rt, "memory");
-            self.log.push_str(text.as_str()).expect(rt, "memory");
-        }
-        for asked in self.out.asks.as_slice() {
-            if let Body::Ask(request) = &asked.message.body {
-                let extender = asked.extender;
-                let request_words = request_text(self.alloc, request).expect(rt, "memory");
-                let text = format!(in self.alloc; "x{extender} {request_words}; ");
-                let text = text.expect(rt, "memory");
-                self.log.push_str(text.as_str()).expect(rt, "memory");
-                self.due = Some(Due {
-                    extender,
-                    serial: asked.message.serial,
-                    response: done(request),
-                });
-            }
+        note_events(rt, self.alloc, &self.out, &mut self.log);
+        if let Some(due) = note_asks(rt, self.alloc, &self.out, &mut self.log) {
+            self.due = Some(due);
         }
     }
 
     // Hears an extender of so many ports.
     fn hear(&mut self, rt: &impl Abort, extender: u8, ports: u8) {
-        assert!(rt; self.control.tree().is_extender(extender));
-        let announce = Announce {
-            chassis: Mac([0x02, 0x45, 0x42, 0x01, 0x00, extender]),
-            ports,
-        };
-        let heard = self.control.heard(extender, &announce, &mut self.out);
-        assert!(rt; heard.is_ok());
+        hear(rt, &mut self.control, &mut self.out, extender, ports);
         self.note(rt);
     }
 
@@ -225,10 +306,7 @@ impl Drive {
         let timed = self.topology.commands.as_slice().get(self.given);
         let command = timed.expect(rt, "a command").command;
         self.given = self.given.saturating_add(1);
-        assert!(rt; self.control.given() < 65536);
-        assert!(rt; names_external(self.control.tree(), &command));
-        let given = self.control.command(&command, &mut self.out);
-        assert!(rt; given.is_ok());
+        give(rt, &mut self.control, &mut self.out, &command);
         self.note(rt);
     }
 
@@ -238,13 +316,7 @@ impl Drive {
             return false;
         };
         self.due = None;
-        assert!(rt; self.control.tree().is_extender(due.extender));
-        let message = Message {
-            serial: due.serial,
-            body: Body::Answer(due.response),
-        };
-        let taken = self.control.answered(due.extender, &message, &mut self.out);
-        assert!(rt; taken.is_ok());
+        answer(rt, &mut self.control, &mut self.out, due);
         self.note(rt);
         true
     }
@@ -262,32 +334,21 @@ impl Drive {
     // Beats pass.
     fn beat(&mut self, rt: &impl Abort, beats: u32) {
         for _beat in 0..beats {
-            let beaten = self.control.beat(&mut self.out);
-            assert!(rt; beaten.is_ok());
+            beat(rt, &mut self.control, &mut self.out);
             self.note(rt);
         }
     }
 
     // A frame comes at a port; what is sent is logged.
     fn come(&mut self, rt: &impl Abort, port: PortId, frame: &[u8]) {
-        assert!(rt; self.control.tree().is_external(port));
-        let come = self.control.frame(port, 1, 5, frame, &mut self.out);
-        assert!(rt; come.is_ok());
+        come(rt, &mut self.control, &mut self.out, port, frame);
         self.note(rt);
-        if let Ingress::Dropped = self.out.ingress {
-            self.log.push_str("dropped; ").expect(rt, "memory");
-        }
-        for send in self.out.sends.as_slice() {
-            let text = send_text(self.alloc, send).expect(rt, "memory");
-            self.log.push_str(text.as_str()).expect(rt, "memory");
-        }
+        note_sends(rt, self.alloc, &self.out, &mut self.log);
     }
 
     // Logs the port of a channel.
     fn port_of(&mut self, rt: &impl Abort, bridge_port: u8, channel: u16) {
-        assert!(rt; bridge_port > 0 && bridge_port < 65);
-        assert!(rt; is_cascade(self.control.tree(), bridge_port));
-        let text = match self.control.port(bridge_port, channel) {
+        let text = match port_at(rt, &self.control, bridge_port, channel) {
             Some(port) => format!(in self.alloc; "{}; ", PortName(port)),
             None => format!(in self.alloc; "none; "),
         };
@@ -327,7 +388,7 @@ impl Drive {
             "beat" => self.beat(rt, number(rt, words.next())),
             "frame" => {
                 let port = port(rt, words.next());
-                let frame = bytes_of(rt, self.alloc, words.next().expect(rt, "bytes"));
+                let frame = frame_of(rt, self.alloc, words.next().expect(rt, "bytes"));
                 self.come(rt, port, frame.as_slice())
             }
             "port" => {
@@ -340,24 +401,9 @@ impl Drive {
     }
 }
 
-// The value of a hexadecimal digit.
-fn digit(rt: &impl Abort, byte: u8) -> u8 {
-    match byte {
-        b'0'..=b'9' => byte - b'0',
-        b'A'..=b'F' => byte - b'A' + 10,
-        _ => panic!(rt; "no hexadecimal digit"),
-    }
-}
-
 // The bytes of a text of hexadecimal digits, and zeros behind them up to 60 bytes.
-fn bytes_of(rt: &impl Abort, alloc: Global, text: &str) -> Vec<u8> {
-    let mut bytes = Vec::new(alloc);
-    for pair in text.as_bytes().chunks_exact(2) {
-        if let [high, low] = pair {
-            let byte = (digit(rt, *high) % 16) << 4 | digit(rt, *low);
-            bytes.push(byte).expect(rt, "memory");
-        }
-    }
+fn frame_of(rt: &impl Abort, alloc: Global, text: &str) -> Vec<u8> {
+    let mut bytes = hex::bytes_of(alloc, text).expect(rt, "bytes as hexadecimal digits");
     let zeros = 60usize.saturating_sub(bytes.len());
     for _zero in 0..zeros {
         bytes.push(0).expect(rt, "memory");
@@ -368,17 +414,19 @@ fn bytes_of(rt: &impl Abort, alloc: Global, text: &str) -> Vec<u8> {
 /// A case: the topology, the steps, and the log that they must leave.
 pub(crate) type Case = (&'static str, &'static str, &'static str);
 
+// Asserts that the steps leave this log.
+fn expect_log(rt: &impl Abort, alloc: Global, topology: &str, steps: &str, wanted: &str) {
+    let mut drive = Drive::new(rt, alloc, topology_of(rt, alloc, topology));
+    for step in steps.split(';') {
+        drive.step(rt, step);
+    }
+    let log = drive.log.as_str().trim_end();
+    assert_eq!(rt; log, wanted, "of {topology} {steps}");
+}
+
 /// Asserts that each case leaves its log.
 pub(crate) fn judge(rt: &impl Abort, alloc: Global, cases: &[Case]) {
     for (topology, steps, wanted) in cases {
-        let mut drive = Drive::new(rt, alloc, topology_of(rt, alloc, topology));
-        for step in steps.split(';') {
-            drive.step(rt, step);
-        }
-        assert_eq!(rt;
-            drive.log.as_str().trim_end(),
-            *wanted,
-            "of {topology} {steps}"
-        );
+        expect_log(rt, alloc, topology, steps, wanted);
     }
 }

@@ -1,7 +1,7 @@
 //! Frames that a control relays: what it tells, and what it sends at each port of the bridge.
-use crate::drive::{Case, judge};
+use crate::drive::{Case, control_of, judge};
 use crate::site::topology_of;
-use exb_control::{Control, Outbox};
+use exb_control::Outbox;
 use exb_model::event::Event;
 
 /// Extender 1 with three ports on b1, and b2, all in VLAN 1.
@@ -106,8 +106,7 @@ fn each_frame_is_sent_as_it_must(rt: HostRuntime) {
 fn the_clock_goes_on(rt: HostRuntime) {
     let alloc = rt.alloc();
     let topology = topology_of(&rt, alloc, FOUR);
-    assert!(rt; topology.setup.valid());
-    let mut control = Control::new(alloc, &topology.setup).expect(&rt, "memory for a control");
+    let mut control = control_of(&rt, alloc, &topology);
     let mut out = Outbox::new(alloc);
     control.tick(5, &mut out).expect(&rt, "memory");
     assert!(rt; matches!(out.events.as_slice(), [Event::Tick { seconds: 5 }]));

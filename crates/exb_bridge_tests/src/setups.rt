@@ -21,8 +21,8 @@ fn extender(rt: &impl Abort, words: [Option<&str>; 4]) -> ExtenderSetup {
     }
 }
 
-// The setup of these words.
-fn setup(rt: &impl Abort, alloc: Global, text: &str) -> Setup {
+/// The setup of these words.
+pub(crate) fn setup(rt: &impl Abort, alloc: Global, text: &str) -> Setup {
     let mut words = text.split_whitespace();
     let mut setup = Setup {
         ports: byte(rt, words.next()),
@@ -32,7 +32,7 @@ fn setup(rt: &impl Abort, alloc: Global, text: &str) -> Setup {
         ageing: number(rt, words.next()),
         start: List::new(alloc),
     };
-    for _extender in 0..8u32 {
+    for _extender in 0..64u32 {
         let word = words.next();
         if word.is_some() {
             let one = extender(rt, [word, words.next(), words.next(), words.next()]);
