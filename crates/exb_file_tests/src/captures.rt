@@ -1,5 +1,6 @@
 //! Captures: the records that are read of them, or the first fault, at once and in pieces.
-use exb_pcap::{Next, PieceReader, Reader, header_text, record_text};
+use crate::reading::{front_text, pieces_text, whole_text};
+use exb_pcap::{header_text, record_text};
 use std::alloc::{AllocError, Global};
 use std::process::Abort;
 
@@ -18,29 +19,6 @@ const BIG_ENDIAN: [u8; 42] = [
     0, 0, 0, 0x64, 0, 0, 0x03, 0xE7, 0, 0, 0, 2, 0, 0, 0, 0x40, //
     0xAA, 0xBB,
 ];
-
-// Moment and length of each record, and the fault where one comes.
-fn records_text(alloc: Global, file: &[u8]) -> Result<String, AllocError> {
-    let mut reader = match Reader::new(file) {
-        Ok(reader) => reader,
-        Err(fault) => return format!(in alloc; "{fault:?}"),
-    };
-    let mut text = String::new(alloc);
-    for _record in 0..9u32 {
-        match reader.next() {
-            Ok(Some(record)) => {
-                let one = format!(in alloc; "{} {}; ", record.moment, record.bytes.len())?;
-                text.push_str(one.as_str())?
-            }
-            Ok(None) => return Ok(text),
-            Err(fault) => {
-                text.push_str(format!(in alloc; "{fault:?}")?.as_str())?;
-                return Ok(text);
-            }
-        }
-    }
-    Ok(text)
-}
 
 /// Four bytes that stand at a place in the broadcast's capture, the length to which it is cut, and what is read.
 const CHANGED: [(usize, [u8; 4], usize, &str); 11] = [
@@ -72,23 +50,30 @@ fn changed(rt: &impl Abort, alloc: Global, at: usize, bytes: [u8; 4], length: us
     file
 }
 
+// Asserts what is read of a file, at once and in pieces of each length.
+fn judge(rt: &impl Abort, alloc: Global, file: &[u8], wanted: &str) {
+    let text = whole_text(rt, alloc, file);
+    assert_eq!(rt; text.as_str().trim_end(), wanted);
+    for size in 1..file.len().saturating_add(2) {
+        let text = pieces_text(rt, alloc, file, size);
+        assert_eq!(rt; text.as_str().trim_end(), wanted, "in pieces of {size}");
+    }
+}
+
 #[test]
-fn records_are_read_up_to_the_first_fault(rt: HostRuntime) -> Result<(), AllocError> {
+fn records_are_read_up_to_the_first_fault(rt: HostRuntime) {
     let alloc = rt.alloc();
     for (at, bytes, length, wanted) in CHANGED {
         let file = changed(&rt, alloc, at, bytes, length);
-        let text = records_text(alloc, file.as_slice())?;
-        assert_eq!(rt;
-            text.as_str().trim_end(),
-            wanted,
-            "{bytes:?} at {at}, cut to {length}"
-        );
+        judge(&rt, alloc, file.as_slice(), wanted);
     }
-    let text = records_text(alloc, &BIG_ENDIAN)?;
-    assert_eq!(rt; text.as_str(), "100000000999 2; ");
+    judge(&rt, alloc, &BIG_ENDIAN, "100000000999 2;");
+}
+
+#[test]
+fn heads_are_written_as_they_must(rt: HostRuntime) {
     assert!(rt; header_text().as_slice() == &BROADCAST[..24]);
     assert!(rt; record_text(100_000_000_000, 60).as_slice() == &BROADCAST[24..40]);
-    Ok(())
 }
 
 /// Four bytes at a place and a length as above, and what is answered before it is told that this is the end.
@@ -109,98 +94,18 @@ const FRONTS: [(usize, [u8; 4], usize, &str); 14] = [
     (0, [0xD4, 0xC3, 0xB2, 0xA1], 100, "100000000000 60; More"),
 ];
 
-// Puts what is answered behind the text, up to More, the end or a fault; true where it is More.
-fn answers_text(
-    alloc: Global,
-    reader: &mut PieceReader,
-    ended: bool,
-    text: &mut String,
-) -> Result<bool, AllocError> {
-    for _answer in 0..9u32 {
-        match reader.next(ended) {
-            Ok(Next::Record { moment, bytes }) => {
-                let one = format!(in alloc; "{moment} {}; ", bytes.len())?;
-                text.push_str(one.as_str())?
-            }
-            Ok(Next::More) => return Ok(true),
-            Ok(Next::End) => return Ok(false),
-            Err(fault) => {
-                text.push_str(format!(in alloc; "{fault:?}")?.as_str())?;
-                return Ok(false);
-            }
-        }
-    }
-    Ok(false)
-}
-
-// What is answered of a file that is fed in these pieces, where it is asked behind each.
-fn pieces_text(rt: &impl Abort, alloc: Global, pieces: &[&[u8]]) -> Result<String, AllocError> {
-    let mut reader = PieceReader::new(alloc).expect(rt, "memory");
-    let mut text = String::new(alloc);
-    for piece in pieces {
-        assert!(rt; reader.feed(piece) as usize == piece.len(), "room");
-        if !answers_text(alloc, &mut reader, false, &mut text)? {
-            return Ok(text);
-        }
-    }
-    let open = answers_text(alloc, &mut reader, true, &mut text)?;
-    assert!(rt; !open, "an answer at the end");
-    Ok(text)
-}
-
-// The same of a file that is cut at each place in turn, and into single bytes.
-fn judge_pieces(
-    rt: &impl Abort,
-    alloc: Global,
-    file: &[u8],
-    wanted: &str,
-) -> Result<(), AllocError> {
-    for cut in 0..file.len() {
-        let (front, rest) = file.split_at_checked(cut).expect(rt, "a place in the file");
-        let text = pieces_text(rt, alloc, &[front, rest])?;
-        assert_eq!(rt; text.as_str(), wanted, "in pieces at {cut}");
-    }
-    let mut bytes: Vec<&[u8]> = Vec::new(alloc);
-    for byte in file.chunks(1) {
-        bytes.push(byte)?;
-    }
-    let text = pieces_text(rt, alloc, bytes.as_slice())?;
-    assert_eq!(rt; text.as_str(), wanted, "in single bytes");
-    Ok(())
-}
-
 #[test]
-fn a_file_in_pieces_is_read_as_the_whole(rt: HostRuntime) -> Result<(), AllocError> {
-    let alloc = rt.alloc();
-    for (at, bytes, length, _wanted) in CHANGED {
-        let file = changed(&rt, alloc, at, bytes, length);
-        let whole = records_text(alloc, file.as_slice())?;
-        judge_pieces(&rt, alloc, file.as_slice(), whole.as_str())?;
-    }
-    let whole = records_text(alloc, &BIG_ENDIAN)?;
-    judge_pieces(&rt, alloc, &BIG_ENDIAN, whole.as_str())
-}
-
-#[test]
-fn what_stands_whatever_follows_is_answered_before_the_end(
-    rt: HostRuntime,
-) -> Result<(), AllocError> {
+fn what_stands_whatever_follows_is_answered_before_the_end(rt: HostRuntime) {
     let alloc = rt.alloc();
     for (at, bytes, length, wanted) in FRONTS {
         let front = changed(&rt, alloc, at, bytes, length);
-        let mut reader = PieceReader::new(alloc).expect(&rt, "memory");
-        reader.feed(front.as_slice());
-        let mut text = String::new(alloc);
-        if answers_text(alloc, &mut reader, false, &mut text)? {
-            text.push_str("More")?;
-        }
+        let text = front_text(&rt, alloc, front.as_slice());
         assert_eq!(rt;
             text.as_str(),
             wanted,
             "{bytes:?} at {at}, the first {length}"
         );
     }
-    Ok(())
 }
 
 // A capture of five frames of 100,000 bytes: more than the reader's buffer.
@@ -216,17 +121,12 @@ fn long_capture(alloc: Global) -> Result<Vec<u8>, AllocError> {
 }
 
 #[test]
-fn a_long_file_is_read_through_a_short_buffer(rt: HostRuntime) -> Result<(), AllocError> {
+fn a_long_file_is_read_through_a_short_buffer(rt: HostRuntime) {
     let alloc = rt.alloc();
-    let file = long_capture(alloc)?;
-    let whole = records_text(alloc, file.as_slice())?;
+    let file = long_capture(alloc).expect(&rt, "memory");
+    let whole = whole_text(&rt, alloc, file.as_slice());
     for size in [1_000usize, 65_536, 99_999, 162_144] {
-        let mut pieces: Vec<&[u8]> = Vec::new(alloc);
-        for piece in file.chunks(size) {
-            pieces.push(piece)?;
-        }
-        let text = pieces_text(&rt, alloc, pieces.as_slice())?;
+        let text = pieces_text(&rt, alloc, file.as_slice(), size);
         assert_eq!(rt; text.as_str(), whole.as_str(), "in pieces of {size}");
     }
-    Ok(())
 }

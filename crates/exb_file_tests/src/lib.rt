@@ -1,4 +1,4 @@
-//! Tests of files: captures, texts, topologies, shelves, and runs whose files fail. The topologies are texts behind a driver;
+//! Tests of files: captures, texts, topologies, and runs whose files fail. The topologies are texts behind a driver;
 //! files that are cut or broken are tables of their own; whole runs are the cases of `exb_cases`. Nothing stands on this crate.
 #![tactic(auto)]
 
@@ -13,7 +13,7 @@ mod heavy;
 #[cfg(test)]
 mod hostile;
 #[cfg(test)]
-mod shelves;
+mod reading;
 #[cfg(test)]
 mod sweep;
 #[cfg(test)]
