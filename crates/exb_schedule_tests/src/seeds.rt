@@ -38,32 +38,52 @@ const TWO_FRAMES: &str = "D4C3B2A1 02000400 8x00 FFFF0000 01000000 \
      64000000 4x00 40000000 40000000 FFFFFFFFFFFF 020000000001 8100000A 0800 46x00 \
      64000000 4x00 40000000 40000000 FFFFFFFFFFFF 020000000001 8100000A 0800 46x00";
 
-// A fate that is drawn from this number, with at most 200 verdicts that disturb.
-fn drawn(rt: &impl Abort, alloc: Global, number: u64) -> Box<dyn Fate> {
+// A fate that is drawn from this number, with at most so many verdicts that disturb.
+fn drawn(rt: &impl Abort, alloc: Global, number: u64, budget: u64) -> Box<dyn Fate> {
+    assert!(rt; budget < 1_000_000);
     let rng = Lcg64Xsh32::seed_from_u64(number);
-    Box::new(alloc, BudgetFate::new(rng, 200)).expect(rt, "memory")
+    Box::new(alloc, BudgetFate::new(rng, budget)).expect(rt, "memory")
 }
 
-// The files of the run of a seed over verdicts that are drawn from it.
-fn files_of_seed(rt: &impl Abort, alloc: Global, file: &[u8], seed: u64, more: &str) -> MemShelf {
-    let options = format!(in alloc; "--seed={seed}{more}").expect(rt, "memory");
-    let fate = drawn(rt, alloc, seed);
-    files_of(rt, alloc, RETAGGED, file, options.as_str(), fate)
+// The files of a seed's run with these options, over at most so many verdicts that are drawn from the seed.
+fn files_of_seed(
+    rt: &impl Abort,
+    alloc: Global,
+    file: &[u8],
+    options: &str,
+    seed: u64,
+    budget: u64,
+) -> MemShelf {
+    let fate = drawn(rt, alloc, seed, budget);
+    files_of(rt, alloc, RETAGGED, file, options, fate)
 }
 
 // Such a run writes the same with a trace and without.
-fn expect_seed(rt: &impl Abort, alloc: Global, file: &[u8], seed: u64) {
-    let bare = files_of_seed(rt, alloc, file, seed, "");
-    let traced = files_of_seed(rt, alloc, file, seed, " --trace");
+fn expect_seed(rt: &impl Abort, alloc: Global, file: &[u8], seed: u64, budget: u64) {
+    let bare = format!(in alloc; "--seed={seed}").expect(rt, "memory");
+    let traced = format!(in alloc; "--seed {seed} --trace").expect(rt, "memory");
+    let bare = files_of_seed(rt, alloc, file, bare.as_str(), seed, budget);
+    let traced = files_of_seed(rt, alloc, file, traced.as_str(), seed, budget);
     expect_same(rt, alloc, &bare, &traced);
+}
+
+// The same of so many seeds, from 1 on.
+fn expect_seeds(rt: &impl Abort, alloc: Global, seeds: u64, budget: u64) {
+    let file = bytes_of(rt, alloc, TWO_FRAMES);
+    for before in 0..seeds {
+        let seed = before.saturating_add(1);
+        expect_seed(rt, alloc, file.as_slice(), seed, budget);
+    }
+}
+
+#[test]
+fn seeds_write_the_same_with_a_trace(rt: HostRuntime) {
+    expect_seeds(&rt, rt.alloc(), 64, 0);
 }
 
 #[test]
 fn disturbed_seeds_write_the_same_with_a_trace(rt: HostRuntime) {
-    let file = bytes_of(&rt, rt.alloc(), TWO_FRAMES);
-    for seed in 1..17u64 {
-        expect_seed(&rt, rt.alloc(), file.as_slice(), seed);
-    }
+    expect_seeds(&rt, rt.alloc(), 16, 200);
 }
 
 // A fate that counts in this cell how often it is asked.
