@@ -11,6 +11,24 @@ use std::test::Fail;
 const ONE: &str =
     "bridge = { ports = 1 }\nextender = [{ number = 1, on = \"b1\", ports = 1 }]\ncaptures = { \"x1.1\" = \"zeros.pcap\" }\n";
 
+/// A capture up to its first frame: classic, of Ethernet, and that frame has 60 bytes and came at 100 s.
+const HEAD: [u8; 40] = [
+    0xD4, 0xC3, 0xB2, 0xA1, 2, 0, 4, 0, 0, 0, 0, 0, 0, 0, 0, 0, 0, 0, 4, 0, 1, 0, 0, 0, 100, 0, 0,
+    0, 0, 0, 0, 0, 60, 0, 0, 0, 60, 0, 0, 0,
+];
+
+/// The same of frames of IEEE 802.11.
+const OTHER_KIND: [u8; 40] = [
+    0xD4, 0xC3, 0xB2, 0xA1, 2, 0, 4, 0, 0, 0, 0, 0, 0, 0, 0, 0, 0, 0, 4, 0, 105, 0, 0, 0, 100, 0,
+    0, 0, 0, 0, 0, 0, 60, 0, 0, 0, 60, 0, 0, 0,
+];
+
+/// The same, where the frame came at 99 s.
+const SOONER: [u8; 40] = [
+    0xD4, 0xC3, 0xB2, 0xA1, 2, 0, 4, 0, 0, 0, 0, 0, 0, 0, 0, 0, 0, 0, 4, 0, 1, 0, 0, 0, 99, 0, 0,
+    0, 0, 0, 0, 0, 60, 0, 0, 0, 60, 0, 0, 0,
+];
+
 /// The words of a run.
 fn words(alloc: Global, topology: &str) -> Result<Vec<String>, Fail> {
     let mut words = Vec::new(alloc);
@@ -58,24 +76,26 @@ fn expect_refused(
     Ok(())
 }
 
-/// A capture of one frame of 60 bytes: 100 bytes in all.
-fn one_frame(alloc: Global) -> Result<Vec<u8>, Fail> {
-    let mut capture = vec![in alloc; 0u8; 100]?;
-    capture[..4].copy_from_slice(&[0xD4, 0xC3, 0xB2, 0xA1]);
-    capture[4] = 2;
-    capture[6] = 4;
-    capture[20] = 1;
-    capture[24] = 100;
-    capture[32] = 60;
-    capture[36] = 60;
+/// A capture of these bytes, behind which stand so many zeros.
+fn capture_of(alloc: Global, head: &[u8], zeros_behind: usize) -> Result<Vec<u8>, Fail> {
+    let mut capture = head.to_vec(alloc)?;
+    capture.extend_from_slice(zeros(alloc, zeros_behind)?.as_slice())?;
     Ok(capture)
 }
 
-/// A run of a capture that is this one when it is read again ends with status 10 and that line.
-fn expect_changed(rt: &impl Abort, alloc: Global, again: &[u8], line: &str) -> Result<(), Fail> {
-    let mut shelf = ChangingShelf::new(alloc, "zeros.pcap", again)?;
+/// A run of a capture of one frame of 60 bytes, in the place of which another one stands when it is read again, ends with status 10 and
+/// that line.
+fn expect_changed(
+    rt: &impl Abort,
+    alloc: Global,
+    head: &[u8],
+    zeros_behind: usize,
+    line: &str,
+) -> Result<(), Fail> {
+    let again = capture_of(alloc, head, zeros_behind)?;
+    let mut shelf = ChangingShelf::new(alloc, "zeros.pcap", again.as_slice())?;
     shelf.put("t.toml", ONE.as_bytes())?;
-    shelf.put("zeros.pcap", one_frame(alloc)?.as_slice())?;
+    shelf.put("zeros.pcap", capture_of(alloc, &HEAD, 60)?.as_slice())?;
     let mut out = MemSink::new(alloc, &[])?;
     assert_eq!(rt;
         play(alloc, &words(alloc, "t.toml")?, &mut shelf, &mut out)?,
@@ -88,48 +108,26 @@ fn expect_changed(rt: &impl Abort, alloc: Global, again: &[u8], line: &str) -> R
 
 #[test]
 fn a_capture_that_ends_sooner_has_changed(rt: HostRuntime) -> Result<(), Fail> {
-    let capture = one_frame(rt.alloc())?;
-    let cut = &capture.as_slice()[..99];
-    expect_changed(&rt, rt.alloc(), cut, "exbr: capture x1.1: Changed at 24\n")
+    let line = "exbr: capture x1.1: Changed at 24\n";
+    expect_changed(&rt, rt.alloc(), &HEAD, 59, line)
 }
 
 #[test]
 fn a_capture_that_goes_on_has_changed(rt: HostRuntime) -> Result<(), Fail> {
-    let mut capture = one_frame(rt.alloc())?;
-    capture.push(0)?;
-    let longer = capture.as_slice();
-    expect_changed(
-        &rt,
-        rt.alloc(),
-        longer,
-        "exbr: capture x1.1: Changed at 100\n",
-    )
+    let line = "exbr: capture x1.1: Changed at 100\n";
+    expect_changed(&rt, rt.alloc(), &HEAD, 61, line)
 }
 
 #[test]
 fn a_capture_of_another_kind_has_changed(rt: HostRuntime) -> Result<(), Fail> {
-    let mut capture = one_frame(rt.alloc())?;
-    capture[20] = 105;
-    let other = capture.as_slice();
-    expect_changed(
-        &rt,
-        rt.alloc(),
-        other,
-        "exbr: capture x1.1: Changed at 20\n",
-    )
+    let line = "exbr: capture x1.1: Changed at 20\n";
+    expect_changed(&rt, rt.alloc(), &OTHER_KIND, 60, line)
 }
 
 #[test]
 fn a_capture_that_begins_sooner_has_changed(rt: HostRuntime) -> Result<(), Fail> {
-    let mut capture = one_frame(rt.alloc())?;
-    capture[24] = 99;
-    let sooner = capture.as_slice();
-    expect_changed(
-        &rt,
-        rt.alloc(),
-        sooner,
-        "exbr: capture x1.1: Changed at 24\n",
-    )
+    let line = "exbr: capture x1.1: Changed at 24\n";
+    expect_changed(&rt, rt.alloc(), &SOONER, 60, line)
 }
 
 #[test]
