@@ -1,17 +1,13 @@
 -- Commands among the records of captures.
 use Rattle.std.proofs.Common.{◌≡◌, ℕ, suc, ◌+◌, ◌*◌, ◌^◌, ◌<◌, ◌≤◌, Bool, true, false, cond, List, [], ◌∷◌, length, drop, get_or, map, refl, ap, sym, subst, ◌∙◌, arith, AllPairs, length-drop, inl, inr}
-use Rattle.std.specs.Prelude.{nat_lt, nat_le, Option, Some, None, IfSome, IfNone}
+use Rattle.std.specs.Prelude.{nat_lt, nat_le, Some, None}
 use Rattle.std.specs.List.{AllByRecursion}
 use Rattle.std.proofs.lemmas.List.{drop_more, get_or-drop}
-use Rattle.std.proofs.lemmas.Bool.{lt-ltb, le-ltb, leb-true, eqb-true}
+use Rattle.std.proofs.lemmas.Bool.{lt-ltb, le-ltb, leb-true}
 use Rattle.std.proofs.lemmas.Bool.Decides.{leb_tells}
 use Rattle.exb_model.specs.declared.setup.Timed.{Timed}
-use Rattle.exb_model.specs.Input.{Coming, Ordered, Captured, given_by, moment_of, second_of, put_in_order, commands_from}
-use Rattle.exb_merge.specs.declared.source.Coming.{Coming as Read}
-use Rattle.exb_merge.specs.declared.agenda.Due.{Due}
-use Rattle.exb_merge.specs.Agendas.{ToPlay, IsNext, IsReadable, with_commands, commands_left, still_to_come, first_moment, comes_first, begins_in}
-use Rattle.exb_merge.specs.Arrivals.{arrival_of}
-use Rattle.exb_merge.specs.Kept.{records_left}
+use Rattle.exb_model.specs.Input.{Coming, Ordered, given_by, moment_of, second_of, put_in_order, commands_from}
+use Rattle.exb_merge.specs.Agendas.{ToPlay, with_commands, commands_left, still_to_come, first_moment, comes_first}
 use Rattle.exb_merge.proofs.InOrder.{NoneBefore}
 
 -- the first isn't before this moment
@@ -166,13 +162,6 @@ moment-record a rising first = by_records a.records refl
     by_records [] e = ap first_moment e ∙ sym (ap first_moment (none-left a e first))
     by_records (r ∷ rest) e = ap first_moment e ∙ sym (ap first_moment (record-next a r rest rising e first))
 
--- nothing is left where nothing begins
-pub none-begins : (second : ℕ) (xs : List Coming) → begins_in second xs ≡ true → xs ≡ [] → ⊥
-none-begins second xs begins none = let same : false ≡ true = sym (ap (begins_in second) none) ∙ begins in cc
-
-pub within-is : (second : ℕ) (xs ys : List Coming) (x : Coming) → begins_in second xs ≡ true → xs ≡ x ∷ ys → second_of (moment_of x) ≡ second
-within-is second xs ys x begins is = eqb-true (second_of (moment_of x)) second (sym (ap (begins_in second) is) ∙ begins)
-
 -- ---- seconds
 pub second-after : (start second : ℕ) → second_of ((start + second) * 1000000000) ≡ start + second
 second-after start second = omega arith
@@ -180,22 +169,5 @@ second-after start second = omega arith
 pub second-below : (m : ℕ) → m < 2 ^ 32 * 1_000_000_000 → second_of m < 2 ^ 32
 second-below m h = omega (arith, h)
 
--- ---- the records that are left
-pub readable-one : (first : Option Read) (r : Read) → first ≡ Some r → IfSome first IsReadable → IsReadable r
-readable-one first r is all = let P : Option Read → Type 0 = λ o. IfSome o IsReadable in subst P is all
-
-pub records-left : (first : Option Read) (old new : List Coming) → IfSome first (λ r. old ≡ Captured (arrival_of r) ∷ new) → IfNone first (old ≡ []) → records_left first new ≡ old
-records-left (Some r) old new found end = sym found
-records-left None old new found end = sym end
-
 pub second-within : (start m : ℕ) → m < (start + 2 ^ 32) * 1000000000 → second_of m < start + 2 ^ 32
 second-within start m h = omega (arith, h)
-
-pub since-one : (start : ℕ) (xs : List Coming) (x : Coming) (rest : List Coming) → xs ≡ x ∷ rest → AllByRecursion (λ y. start ≤ second_of (moment_of y)) xs → start ≤ second_of (moment_of x)
-since-one start xs x rest is all =
-    let P : List Coming → Type 0 = AllByRecursion (λ y. start ≤ second_of (moment_of y)) in
-    let both = subst P is all in
-    both.0
-
-pub next-seen : (old now : ToPlay) (d : Due) (new : ToPlay) → old ≡ now → IsNext old d new → IsNext now d new
-next-seen old now d new is next = subst (λ (a : ToPlay). IsNext a d new) is next

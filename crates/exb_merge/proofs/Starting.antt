@@ -1,59 +1,15 @@
 -- The start, and all that comes of an input.
-use Rattle.std.proofs.Common.{◌≡◌, ℕ, suc, ◌+◌, ◌*◌, ◌^◌, ◌<◌, ◌≤◌, Bool, true, false, cond, List, [], ◌∷◌, ◌++◌, length, map, min, refl, ap, sym, ◌∙◌, arith}
-use Rattle.std.specs.Prelude.{nat_lt, Option, Some, None, IfSome, IfNone, flat_map, filter_map}
+use Rattle.std.proofs.Common.{◌≡◌, ℕ, ◌<◌, ◌≤◌, Bool, true, false, cond, List, [], ◌∷◌, ◌++◌, map, min, refl, ap, sym, ◌∙◌, arith}
+use Rattle.std.specs.Prelude.{nat_lt, Some, flat_map, filter_map}
 use Rattle.std.specs.List.{AllByRecursion, cons_option}
 use Rattle.std.specs.Option.{option_map}
-use Rattle.std.proofs.lemmas.List.{length-map, map-append}
+use Rattle.std.proofs.lemmas.List.{map-append}
 use Rattle.std.proofs.lemmas.Bool.{ltb-true, ltb-false}
 use Rattle.exb_model.specs.declared.setup.Timed.{Timed}
 use Rattle.exb_model.specs.Input.{Input, Given, Arrival, Coming, Captured, given_by, moment_of, second_of, least_or, start_second, all_arrivals, put_in_order, by_moment, commands_from, merge}
-use Rattle.exb_merge.specs.declared.source.Coming.{Coming as Read}
-use Rattle.exb_merge.specs.Agendas.{IsReadable, with_commands, still_to_come, first_second, second_in, begun}
-use Rattle.exb_merge.specs.Arrivals.{arrival_of}
+use Rattle.exb_merge.specs.Agendas.{with_commands, still_to_come, first_second, begun}
 use Rattle.exb_merge.specs.Streams.{Stream, arrivals_of, next_moment, to_come}
 use Rattle.exb_merge.proofs.Arriving.{NoneArrives, none_arrives-next}
-use Rattle.exb_merge.proofs.InOrder.{NoneBefore, none_before-put, length-put}
-
--- ---- what comes is in order
-abbrev InOrder : List Coming → Type 0
-InOrder [] = Unit {0}
-InOrder (x ∷ xs) = NoneBefore (moment_of x) xs × InOrder xs
-
-none_before-weaker : (m k : ℕ) (xs : List Coming) → m ≤ k → NoneBefore k xs → NoneBefore m xs
-none_before-weaker m k [] low all = tt
-none_before-weaker m k (x ∷ xs) low all = (omega (arith, low, all.0), none_before-weaker m k xs low all.1)
-
-in_order-put : (x : Coming) (ys : List Coming) → InOrder ys → InOrder (put_in_order x ys)
-in_order-put x [] all = (tt, tt)
-in_order-put x (y ∷ ys) all = by_test (in_order-put x ys all.1) (nat_lt (moment_of y) (moment_of x)) refl
-  where
-    by_test : InOrder (put_in_order x ys) → (b : Bool) → nat_lt (moment_of y) (moment_of x) ≡ b → InOrder (cond b (y ∷ put_in_order x ys) (x ∷ y ∷ ys))
-    by_test rest true e =
-        let low : moment_of y < moment_of x = ltb-true (moment_of y) (moment_of x) e in
-        (none_before-put (moment_of y) x ys (omega (arith, low)) all.0, rest)
-    by_test rest false e =
-        let low : moment_of x ≤ moment_of y = ltb-false (moment_of y) (moment_of x) e in
-        ((low, none_before-weaker (moment_of x) (moment_of y) ys low all.0), all)
-
-in_order-by_moment : (xs : List Coming) → InOrder (by_moment xs)
-in_order-by_moment [] = tt
-in_order-by_moment (x ∷ xs) = in_order-put x (by_moment xs) (in_order-by_moment xs)
-
-in_order-to_come : (streams : List Stream) → InOrder (to_come streams)
-unfolding to_come
-in_order-to_come streams = in_order-by_moment (map Captured (flat_map arrivals_of streams))
-
-seconds-since : (m : ℕ) (xs : List Coming) → NoneBefore m xs → AllByRecursion (λ x. second_of m ≤ second_of (moment_of x)) xs
-seconds-since m [] all = tt
-seconds-since m (x ∷ xs) all = (omega (arith, all.0), seconds-since m xs all.1)
-
--- no record comes before the second of the first
-pub since-first : (xs : List Coming) → InOrder xs → AllByRecursion (λ x. first_second xs ≤ second_of (moment_of x)) xs
-since-first [] all = tt
-since-first (x ∷ xs) all = (omega arith, seconds-since (moment_of x) xs all.0)
-
-pub to_come-since : (streams : List Stream) → AllByRecursion (λ x. first_second (to_come streams) ≤ second_of (moment_of x)) (to_come streams)
-to_come-since streams = since-first (to_come streams) (in_order-to_come streams)
 
 -- ---- the start
 -- the second of the first, or another
@@ -138,33 +94,3 @@ begun-merges i commands records given all =
     ∙ ap (λ (gs : List Given). with_commands (commands_from (first_second (by_moment (map Captured (all_arrivals i)))) 1 gs) (by_moment (map Captured (all_arrivals i)))) (sym given)
     ∙ ap (λ k. with_commands (commands_from k 1 i.commands) (by_moment (map Captured (all_arrivals i)))) (start-is i)
     ∙ with_commands-by_moment (commands_from (start_second i) 1 i.commands) (map Captured (all_arrivals i))
-
--- ---- how many there are
-length-with : (cs xs : List Coming) → length (with_commands cs xs) ≡ length xs + length cs
-length-with [] xs = omega arith
-length-with (c ∷ cs) xs = let one = length-put c (with_commands cs xs) in let rest = length-with cs xs in omega (arith, one, rest)
-
-length-commands : (start n : ℕ) (gs : List Given) → length (commands_from start n gs) ≡ length gs
-length-commands start n [] = refl
-length-commands start n (g ∷ gs) = ap suc (length-commands start (suc n) gs)
-
-pub length-begun : (records : List Coming) (commands : List Timed) → length (still_to_come (begun records commands)) ≡ length records + length commands
-unfolding still_to_come
-length-begun records commands =
-    let all = length-with (commands_from (first_second records) 1 (map given_by commands)) records in
-    let given = length-commands (first_second records) 1 (map given_by commands) in
-    let size = length-map commands given_by in
-    omega (arith, all, given, size)
-
-pub second-is : (first : Option Read) (old new : List Coming) → IfSome first (λ r. old ≡ Captured (arrival_of r) ∷ new) → IfNone first (old ≡ []) → second_in first ≡ first_second old
-second-is (Some r) old new found end = ap first_second (sym found)
-second-is None old new found end = ap first_second (sym end)
-
-pub second-low : (first : Option Read) → IfSome first (λ r. r.moment < 2 ^ 32 * 1_000_000_000) → second_in first < 2 ^ 32
-second-low (Some r) h = omega (arith, h)
-second-low None h = omega arith
-
-pub readable : (first : Option Read) → IfSome first (λ r. (1 ≤ r.index) × (r.index < 2 ^ 63)) → IfSome first (λ r. r.moment < 2 ^ 32 * 1_000_000_000) →
-    IfSome first (λ r. length r.bytes.now ≤ 262_144) → IfSome first IsReadable
-readable (Some r) index moment bytes = record { first = index.0; numbers = index.1; moment = moment; bytes = bytes }
-readable None index moment bytes = tt

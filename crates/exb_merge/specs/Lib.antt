@@ -3,6 +3,5 @@ pub mod Arrivals
 pub mod Sources
 pub mod Turns
 pub mod Agendas
-pub mod Kept
 pub mod Programmes
 pub mod Replays

@@ -4,14 +4,13 @@
 //! commands and captures of an input give what is merged of it. It stands on `exb_model` and `exb_pcap`.
 #![tactic(auto)]
 
-mod agenda;
 mod captures;
 pub mod laws;
+mod moments;
 mod programme;
 mod replays;
 mod source;
 
-pub use agenda::{Agenda, Due};
 pub use captures::Captures;
 pub use programme::{Next, Programme};
 pub use replays::{Came, CaptureFault, Replays};

@@ -8,7 +8,7 @@ ghost use Rattle.exb_merge.specs.Programmes.{IsComing, IsProgramme, IsSoonest, I
 ghost use Rattle.exb_merge.specs.Replays.{AreOpened, AreReplays, AreToldSince, IsEarliest, NoneIsBefore, ReadsOn, ids_in};
 ghost use Rattle.exb_merge.specs.Streams.{Stream, to_come};
 
-use crate::agenda::{comes_first, is_of, moment_after};
+use crate::moments::{comes_first, is_of, moment_after};
 use crate::replays::{Came, CaptureFault, Replays};
 use exb_model::setup::Timed;
 use exb_shelf::Shelf;
