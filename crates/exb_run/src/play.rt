@@ -25,9 +25,9 @@ use crate::script::{Schedule, Script};
 use exb_fate::Fate;
 use exb_merge::laws::{merge_of_all, start_is_least};
 use exb_merge::{Programme, Replays};
-use exb_shelf::{PIECE, Shelf};
+use exb_shelf::{PIECE, Shelf, room};
 use exb_tables::Named;
-use std::alloc::{AllocError, Global};
+use std::alloc::Global;
 
 /// A second in nanoseconds.
 const NANOSECONDS: u64 = 1_000_000_000;
@@ -118,13 +118,6 @@ fn open_all<S: Shelf>(
         open_one(alloc, shelf, piece, names, one, &mut captures)?;
     }
     Ok(captures)
-}
-
-/// Room for what is read at once.
-fn room(alloc: Global, size: usize) -> Result<Vec<u8>, AllocError>
-    ensures { IfOk result (λ piece. length piece.items ≡ size) }
-{
-    vec![in alloc; 0u8; size]
 }
 
 /// Plays a script and the captures that are named, of which this was told, into outputs that were made, and answers the summary line.

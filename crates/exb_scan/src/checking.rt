@@ -7,8 +7,8 @@ ghost use Rattle.exb_scan.specs.Scans.{IsScan, IsScanned, or_this, refused, unop
 
 use crate::file::{CaptureFile, Halt};
 use exb_pcap::PcapFault;
-use exb_shelf::{OpenFault, PIECE, Shelf};
-use std::alloc::{AllocError, Global};
+use exb_shelf::{OpenFault, PIECE, Shelf, room};
+use std::alloc::Global;
 
 /// What is told of a capture without a fault.
 #[derive(Clone, Copy, Debug, PartialEq, Eq)]
@@ -57,13 +57,6 @@ fn refused(halt: Halt, limit: u64) -> ScanFault
         Halt::Broken { fault } => ScanFault::Fault { fault },
         Halt::Large => ScanFault::Large { limit },
     }
-}
-
-/// Room for what is read at once.
-fn room(alloc: Global, size: usize) -> Result<Vec<u8>, AllocError>
-    ensures { IfOk result (λ piece. length piece.items ≡ size) }
-{
-    vec![in alloc; 0u8; size]
 }
 
 impl Scanned {

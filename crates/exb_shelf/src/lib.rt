@@ -13,6 +13,6 @@ mod shelf;
 
 pub use files::{FileShelf, OutSink};
 pub use memory::{MemShelf, MemSink};
-pub use pieces::{PIECE, ReadFault, print_text, read_file, write_text};
+pub use pieces::{PIECE, ReadFault, print_text, read_file, room, write_text};
 pub use scratch::ScratchShelf;
 pub use shelf::{OpenFault, Shelf, ShelfFault, Sink};

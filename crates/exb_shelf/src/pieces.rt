@@ -46,8 +46,8 @@ impl From<ShelfFault> for ReadFault {
     }
 }
 
-// A buffer of this many bytes.
-fn room(alloc: Global, size: usize) -> Result<Vec<u8>, AllocError>
+/// Room for so many bytes that are read at once.
+pub fn room(alloc: Global, size: usize) -> Result<Vec<u8>, AllocError>
     ensures { IfOk result (λ piece. length piece.items ≡ size) }
 {
     vec![in alloc; 0u8; size]
