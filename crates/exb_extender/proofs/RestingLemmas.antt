@@ -51,6 +51,21 @@ rests_rested n s =
       | inr e ↦ ap rests (awake_is n s e)
     ]
 
+-- its tables and its end of the transport are as before
+pub same_tables : (n : ℕ) (s : ExtenderState) → (rested n s).tables ≡ s.tables
+same_tables n s =
+    elim (cases_Bool (rests s)) [
+      | inl e ↦ ap (λ (t : ExtenderState). t.tables) (rested_is s e n)
+      | inr e ↦ ap (λ (t : ExtenderState). t.tables) (awake_is n s e)
+    ]
+
+pub same_end : (n : ℕ) (s : ExtenderState) → (rested n s).ecp ≡ s.ecp
+same_end n s =
+    elim (cases_Bool (rests s)) [
+      | inl e ↦ ap (λ (t : ExtenderState). t.ecp) (rested_is s e n)
+      | inr e ↦ ap (λ (t : ExtenderState). t.ecp) (awake_is n s e)
+    ]
+
 -- ---- the count
 next_of : (b : ℕ) → b < 16 → next_count b ≡ (b + 1) % 16
 next_of b low =

@@ -12,6 +12,7 @@ pub mod ToExtenders
 pub mod Hearings
 pub mod Again
 pub mod Loops
+pub mod Resting
 pub mod Beats
 pub mod Kept
 pub mod Lines
