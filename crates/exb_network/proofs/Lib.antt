@@ -21,8 +21,8 @@ pub mod Cores
 pub mod Reacting
 pub mod Sendings
 pub mod Bits
-pub mod Noted
 pub mod Idling
 pub mod Deepest
 pub mod Turning
+pub mod Placing
 pub mod Beginnings

@@ -1,7 +1,10 @@
-use Rattle.std.proofs.Common.{◌≡◌, ℕ, ◌<◌, ◌≤◌, [], Some, slice_get}
-use Rattle.exb_network.specs.Directions.{words_of}
+use Rattle.std.proofs.Common.{◌-◌, ◌≤◌}
+use Rattle.exb_network.proofs.Turning.{IsSoFar}
 use Rattle.exb_network.proofs.busy.first_busy.Given as goal
 
--- those so far have no word
-abbrev pub invariant-loop-place : goal.invariant-loop-place
-invariant-loop-place l = (k n : ℕ) → l.from ≤ k → k < l.place → slice_get l.order k ≡ Some n → words_of l.links n ≡ []
+-- the first place of the links so far
+abbrev pub invariant-links : goal.invariant-links
+invariant-links l = (l.number ≤ 65) × IsSoFar l.order l.links l.from l.number l.first
+
+abbrev pub decreases-links : goal.decreases-links
+decreases-links l = 65 - l.number
