@@ -1,5 +1,6 @@
 //! Which direction of a link has its turn next.
-ghost use Rattle.std.specs.Prelude.{◌≡◌, ℕ, ◌≤◌, [], IfNone, IfSome, Some, length, slice_get};
+ghost use Rattle.std.specs.Prelude.{◌≡◌, ℕ, ◌<◌, ◌≤◌, [], IfNone, IfSome, Some, length, slice_get};
+ghost use Rattle.std.specs.List.{All};
 ghost use Rattle.exb_machine.specs.Stepping.{words_on};
 ghost use Rattle.exb_network.specs.Directions.{words_of};
 ghost use Rattle.exb_network.specs.Steps.{way_of};
@@ -46,7 +47,7 @@ fn turn_at(order: &[u8], place: u8) -> Option<Turn>
 
 /// The first of these links, from a place on, that has a word. Only links that have one are looked at: of each its place
 /// in the order is known.
-fn first_busy(
+fn first_among(
     order: &[u8],
     places: &[u8; DEVICES as usize],
     links: &Direction,
@@ -64,6 +65,41 @@ fn first_busy(
         number = link + 1;
     }
     turn_at(order, first)
+}
+
+/// The turn of the link at a place in the order, if that has a word.
+fn turn_here(order: &[u8], links: &Direction, place: u8) -> Option<Turn>
+    requires low { All (λ n. n < 65) order.now }
+    requires few { length order.now ≤ 64 }
+    ensures { IfSome result (IsFirst order.now links.now place) }
+{
+    if place >= order.len() as u8 {
+        return None;
+    }
+    let link = order[place as usize];
+    if !links.has_word(link) {
+        return None;
+    }
+    Some(Turn { place, link })
+}
+
+/// The first of these links, from a place on, that has a word. Where many have one it is mostly that at the place itself.
+fn first_busy(
+    order: &[u8],
+    places: &[u8; DEVICES as usize],
+    links: &Direction,
+    from: u8,
+) -> Option<Turn>
+    requires low { All (λ n. n < 65) order.now }
+    requires few { length order.now ≤ 64 }
+    requires places { ArePlaces order.now places.now }
+    ensures found { IfSome result (IsFirst order.now links.now from) }
+    ensures none { IfNone result ((k n : ℕ) → from ≤ k → slice_get order.now k ≡ Some n → words_of links.now n ≡ []) }
+{
+    match turn_here(order, links, from) {
+        Some(turn) => Some(turn),
+        None => first_among(order, places, links, from),
+    }
 }
 
 /// The first direction of a way, from a place on, that has a word.

@@ -102,6 +102,14 @@ impl Direction {
         &self.links[extender as usize]
     }
 
+    /// Whether a word is on the link of an extender.
+    pub(crate) fn has_word(&self, extender: u8) -> bool
+        requires { extender < 65 }
+        ensures { (result ≡ false) ↔ (words_of self.now extender ≡ []) }
+    {
+        (self.busy >> extender) & 1 == 1
+    }
+
     /// The first link, by extender from a number on, that has a word.
     pub(crate) fn next_busy(&self, from: u8) -> Option<u8>
         requires { from < 128 }

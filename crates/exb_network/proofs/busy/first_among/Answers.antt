@@ -1,7 +1,7 @@
 use Rattle.std.proofs.Common.{arith}
 use Rattle.std.proofs.lemmas.Option.{IfSome_then}
 use Rattle.exb_network.proofs.Turning.{none_so_far, one_more, first_is, if_none, none_is}
-use Rattle.exb_network.proofs.busy.first_busy.Goals as goal
+use Rattle.exb_network.proofs.busy.first_among.Goals as goal
 
 pub links-init : goal.links-init
 links-init c = (omega arith, none_so_far c.args.order.now c.args.links.now c.args.from)

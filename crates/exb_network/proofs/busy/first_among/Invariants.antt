@@ -1,6 +1,6 @@
 use Rattle.std.proofs.Common.{◌-◌, ◌≤◌}
 use Rattle.exb_network.proofs.Turning.{IsSoFar}
-use Rattle.exb_network.proofs.busy.first_busy.Given as goal
+use Rattle.exb_network.proofs.busy.first_among.Given as goal
 
 -- the first place of the links so far
 abbrev pub invariant-links : goal.invariant-links
