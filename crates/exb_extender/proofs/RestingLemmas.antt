@@ -1,10 +1,10 @@
 -- What beats do to an extender that rests.
-use Rattle.std.proofs.Common.{◌≡◌, ℕ, ◌+◌, ◌-◌, ◌%◌, ◌<◌, ◌==◌, ◌&&◌, Bool, true, false, not, List, [], ◌∷◌, ◌++◌, refl, ap, sym, ◌∙◌, arith, inl, inr, eq-eqb}
-use Rattle.std.specs.Prelude.{if◌then◌else◌, is_none, Option, Some, None}
+use Rattle.std.proofs.Common.{◌≡◌, ℕ, ◌+◌, ◌-◌, ◌%◌, ◌<◌, true, false, List, [], refl, ap, sym, ◌∙◌, arith, inl, inr}
+use Rattle.std.specs.Prelude.{is_none, Option, Some, None}
 use Rattle.std.proofs.lemmas.Bool.{cases_eq, cases_Bool, ne_eqb, and_parts, false≢true}
-use Rattle.exb_ecp.specs.Machine.{State, Sending, aged, beaten, beat_of}
+use Rattle.exb_ecp.specs.Machine.{State, Sending, aged, beaten}
 use Rattle.exb_extender.specs.Forwarding.{Sent}
-use Rattle.exb_extender.specs.Machine.{ExtenderState, announces, sends_again, next_count, beats}
+use Rattle.exb_extender.specs.Machine.{ExtenderState, next_count, beats}
 use Rattle.exb_extender.specs.Resting.{rests, rested}
 use Rattle.exb_extender.specs.Laws.{RestsThroughBeats}
 

@@ -1,8 +1,8 @@
 -- A beat at all extenders: it may pass at those that rest at once, before it passes at the others by number.
-use Rattle.std.proofs.Common.{◌≡◌, ◌≢◌, ℕ, zero, suc, ◌+◌, ◌<◌, ◌≤◌, ◌==◌, ◌&&◌, Bool, true, false, not, List, [], ◌∷◌, None, refl, ap, sym, subst, ◌∙◌, arith, inl, inr, eq-eqb, nat_lt}
+use Rattle.std.proofs.Common.{◌≡◌, ◌≢◌, ℕ, zero, suc, ◌+◌, ◌<◌, ◌≤◌, ◌&&◌, Bool, true, false, not, List, [], ◌∷◌, None, refl, ap, sym, ◌∙◌, arith, inl, inr, eq-eqb, nat_lt}
 use Rattle.std.specs.Prelude.{if◌then◌else◌, Option, Some}
 use Rattle.std.specs.List.{range_with_len}
-use Rattle.std.proofs.lemmas.Bool.{cases_eq, cases_lt, cases_Bool, ne_eqb, lt-ltb, le-ltb, ltb-true, and_parts, false≢true}
+use Rattle.std.proofs.lemmas.Bool.{cases_eq, cases_lt, cases_Bool, ne_eqb, lt-ltb, le-ltb, ltb-true, and_parts}
 use mathlib.Core.Path.{fun_ext}
 use Rattle.exb_model.specs.Tree.{Shape, IsTree, is_extender}
 use Rattle.exb_model.proofs.TreeHung.{extender-low}
