@@ -6,3 +6,4 @@ pub mod AllLemmas
 pub mod CodeLemmas
 pub mod KeepsLemmas
 pub mod OwnFrames
+pub mod RestingLemmas

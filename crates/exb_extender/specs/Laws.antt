@@ -1,5 +1,5 @@
 -- The laws of this crate.
-use Rattle.std.specs.Prelude.{◌≡◌, ◌≢◌, ◌↔◌, ◌⊎◌, ℕ, ◌<◌, ◌≤◌, ◌||◌, ◌++◌, Bool, true, List, ◌∷◌, length, All}
+use Rattle.std.specs.Prelude.{◌≡◌, ◌≢◌, ◌↔◌, ◌⊎◌, ℕ, ◌<◌, ◌≤◌, ◌++◌, Bool, true, List, [], ◌∷◌, length, All}
 use Rattle.exb_model.specs.ExtenderForwarding.{emits}
 use Rattle.exb_csp.specs.declared.group_rows.GroupRow.{GroupRow}
 use Rattle.exb_csp.specs.declared.message.Request.TheVariants.{PortCreate, PortDelete, Register, Unregister, RegisterMany}
@@ -8,6 +8,7 @@ use Rattle.exb_model.specs.Frames.{IsBytes}
 use Rattle.exb_csp.specs.AllTables.{tables_at, port_of}
 use Rattle.exb_extender.specs.declared.sends.Side.TheVariants.{Up}
 use Rattle.exb_extender.specs.Forwarding.{Sent, is_bare_control, forwarding_of}
+use Rattle.exb_extender.specs.Resting.{rests, rested}
 use Rattle.exb_extender.specs.Machine.{hears, beats, ExtenderState, Input, Arrives, Beats, react, IsSameDevice, IsExtender, at_power_on}
 
 -- What an extender sends at a port of a frame from upstream is what the tables of all extenders say of that port.
@@ -84,6 +85,11 @@ pub record StaysExtender : Type 0 where
   pub begins : (number ports : ℕ) → 1 ≤ number → number ≤ 64 → 1 ≤ ports → ports ≤ 64 → IsExtender (at_power_on number ports)
   pub keeps : (i : Input) (s : ExtenderState) → IsInput i → IsExtender s → IsExtender (react i s).0
   pub device : (i : Input) (s : ExtenderState) → IsSameDevice s (react i s).0
+
+-- At an extender that rests a beat is counted and nothing is sent, and it goes on resting.
+pub record RestsThroughBeats : Type 0 where
+  pub beat : (s : ExtenderState) → rests s ≡ true → s.beats < 16 → beats s ≡ (rested 1 s, [])
+  pub goes_on : (n : ℕ) (s : ExtenderState) → rests (rested n s) ≡ rests s
 
 -- ---- the extender's own frames
 

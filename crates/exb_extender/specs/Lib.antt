@@ -7,4 +7,5 @@ pub mod Machine
 pub mod Fields
 pub mod ControlState
 pub mod Control
+pub mod Resting
 pub mod Laws

@@ -8,6 +8,7 @@ ghost use Rattle.exb_extender.specs.ControlState.{IsInOrder};
 ghost use Rattle.exb_csp.specs.Reading.{read_message};
 ghost use Rattle.exb_extender.specs.Machine.{address_of, acknowledgement_frame, request_frame, announcement_frame, is_open, next_count, answers, beats, sends_again, takes_request, takes_message, hears_request, hears_pdu, hears};
 ghost use Rattle.exb_extender.specs.Forwarding.{up};
+ghost use Rattle.exb_extender.specs.Resting.{rests, rested};
 ghost use Rattle.exb_extender.specs.Sending.{IsNothing, own_sent};
 
 use crate::sends::Sends;
@@ -195,6 +196,23 @@ impl Control {
         ensures sound { IsInOrder self.now.number self.now.session self.now.ecp self.now.beats }
     {
         self.ecp.idle()
+    }
+
+    /// Whether it was opened, and nothing is sent.
+    pub(crate) fn rests(&self) -> bool
+        ensures { (t : ExtenderTables) → result ≡ rests (state_with t self.now) }
+    {
+        self.opened && self.ecp.idle()
+    }
+
+    /// So many beats pass where it rests; else it stays as it is.
+    pub(crate) fn pass(&mut self, beats: u8)
+        requires { beats ≤ 16 }
+        ensures { (t : ExtenderTables) → state_with t self.new ≡ rested beats (state_with t self.old) }
+    {
+        if self.rests() {
+            self.beats = (self.beats + beats) % 16;
+        }
     }
 
     // Executes the next request, answers the last one again, and ignores any other.

@@ -74,6 +74,7 @@ fn take_down(tables: &mut Tables, control: &mut Control, frame: &[u8], sends: &m
 impl Extender {
     ghost use Rattle.exb_extender.specs.Fields.{state_of};
     ghost use Rattle.exb_extender.specs.Machine.{at_power_on, react, Arrives, Beats, IsPort, CanTake, IsSameDevice, IsExtender};
+    ghost use Rattle.exb_extender.specs.Resting.{rests, rested};
 
     /// Extender `number` at power-on: each port is external and without a channel. This call alone takes
     /// memory.
@@ -139,6 +140,22 @@ impl Extender {
         ensures sound { IsExtender (state_of self.now) }
     {
         self.control.idle()
+    }
+
+    /// Whether it rests: it was opened, and sends nothing that waits for an acknowledgement. A beat then changes
+    /// its count alone.
+    pub fn rests(&self) -> bool
+        ensures { result ≡ rests (state_of self.now) }
+    {
+        self.control.rests()
+    }
+
+    /// So many beats pass at once where it rests; else it stays as it is. After sixteen the count is as before.
+    pub fn pass(&mut self, beats: u8)
+        requires { beats ≤ 16 }
+        ensures { state_of self.new ≡ rested beats (state_of self.old) }
+    {
+        self.control.pass(beats);
     }
 
     /// Whether a port is a cascade port.

@@ -1,5 +1,5 @@
 //! Laws of the machine, and of the tables of all extenders.
-ghost use Rattle.exb_extender.specs.Laws.{EmitsOfAll, CodesExactly, ManyCodes, StaysExtender, SendsControl};
+ghost use Rattle.exb_extender.specs.Laws.{EmitsOfAll, CodesExactly, ManyCodes, StaysExtender, RestsThroughBeats, SendsControl};
 
 /// What an extender sends at a port of a frame from upstream is what the tables of all extenders say of that
 /// port.
@@ -22,6 +22,12 @@ pub fn many_codes()
 /// What holds of an extender at power-on holds after each reaction, and its number and its ports stay.
 pub fn stays_extender()
     ensures { StaysExtender }
+{}
+
+/// Of an extender that was opened and sends nothing a beat changes the count alone; nothing is sent, and it goes on
+/// resting.
+pub fn rests_through_beats()
+    ensures { RestsThroughBeats }
 {}
 
 /// What an extender sends of its own, announcements, acknowledgements and answers, are control frames

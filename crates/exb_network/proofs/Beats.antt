@@ -1,9 +1,15 @@
 -- The parts of a beat, one after another.
-use Rattle.std.proofs.Common.{◌≡◌, ℕ, ◌+◌, ◌-◌, ◌^◌, ◌<◌, ◌≤◌, Bool, true, false, min, List, drop, None, refl, arith, sym, ap, subst, ◌∙◌}
+use Rattle.std.proofs.Common.{◌≡◌, ℕ, ◌+◌, ◌-◌, ◌^◌, ◌<◌, ◌≤◌, ◌&&◌, Bool, true, false, not, min, List, drop, None, inl, inr, refl, arith, sym, ap, subst, ◌∙◌}
 use Rattle.exb_model.specs.Setup.{Limits}
-use Rattle.std.specs.Prelude.{if◌then◌else◌}
-use Rattle.exb_model.specs.Tree.{Shape, is_extender}
-use Rattle.exb_extender.specs.Machine.{Beats}
+use Rattle.std.specs.Prelude.{if◌then◌else◌, Option, Some, slice_get, slice_index}
+use Rattle.std.specs.Int.{bit_at}
+use Rattle.std.proofs.lemmas.Bool.{and_parts, cases_Bool, false_from_ne_true, false≢true}
+use mathlib.Core.Path.{fun_ext}
+use Rattle.exb_model.specs.Tree.{Shape, IsTree, is_extender}
+use Rattle.exb_extender.specs.Fields.{Fields}
+use Rattle.exb_extender.specs.Machine.{ExtenderState, Beats}
+use Rattle.exb_extender.specs.Resting.{rests}
+use Rattle.exb_extender.proofs.RestingLemmas.{beat_counts, rests_rested}
 use Rattle.exb_machine.specs.Effects.{Effect, only, then_do, each}
 use Rattle.exb_machine.specs.Extending.{reacts}
 use Rattle.exb_machine.specs.Hearing.{beats_control, beats_near}
@@ -12,6 +18,7 @@ use Rattle.exb_machine.specs.Worlds.{World, next_beat}
 use Rattle.exb_machine.specs.Runs.Asks.{AsksWell}
 use Rattle.exb_network.specs.declared.log.Log.{Log}
 use Rattle.exb_network.specs.declared.site.Core.{Core}
+use Rattle.exb_network.specs.Devices.{Devices, state_at, far_of, has_extender, if_rests, is_there}
 use Rattle.exb_network.specs.Ends.{near_of}
 use Rattle.exb_network.specs.Leading.{Leads}
 use Rattle.exb_network.specs.Sites.{Site}
@@ -19,6 +26,8 @@ use Rattle.exb_network.specs.Worlds.{world_in, IsAt, Does}
 use Rattle.exb_network.proofs.Doing.{leads_first, does_then}
 use Rattle.exb_network.proofs.Loops.{numbers_lead, numbers_told, numbers_skip}
 use Rattle.exb_network.proofs.Again.{all_near_control, idle_near}
+use Rattle.exb_network.proofs.Idling.{mark}
+use Rattle.exb_network.proofs.Resting.{beats_at, wakes_at, resting_in, rested_world, rest_first}
 
 -- what is asked still can go after the bridge's ends have had their beat
 pub near_asks : (t : Shape) (l : Limits) (ns : List ℕ) (s : Site) (c d : Core) (old new : Log) → Does (each (if_there t (beats_near t)) ns (world_in c)) s d old new → AsksWell t l (world_in c).control →
@@ -81,36 +90,107 @@ near_skip t s w n m c old log some up few quiet left =
 pub near_last : (t : Shape) (s : Site) (w : World) (n : ℕ) (c : Core) (old log : Log) → 65 ≤ n → NearLeft t s w old n c log → Does (each (if_there t (beats_near t)) all_extenders w) s c old log
 near_last t s w n c old log all left = numbers_told (if_there t (beats_near t)) (each (if_there t (beats_near t)) all_extenders w) n s c old log all left.rest left.here
 
--- of the extenders themselves
-abbrev beats_at : Shape → ℕ → World → Effect
-beats_at t = if_there t (λ n. reacts t n None Beats)
-
+-- Of the extenders themselves: the beat has passed at those that rest in a world, and passes at the others.
 pub record FarLeft (t : Shape) (s : Site) (w : World) (old : Log) (n : ℕ) (c : Core) (log : Log) : Type 0 where
-  pub rest : Leads (each (beats_at t) all_extenders w) (each (beats_at t) (drop (n - 1) all_extenders) (world_in c)) old log
+  pub rest : Leads (each (wakes_at t (resting_in w)) all_extenders (rested_world w)) (each (wakes_at t (resting_in w)) (drop (n - 1) all_extenders) (world_in c)) old log
   pub here : IsAt s c
 
-pub far_first : (t : Shape) (s : Site) (c : Core) (log : Log) → IsAt s c → FarLeft t s (world_in c) log 1 c log
-far_first t s c log at = record { rest = leads_first (each (beats_at t) all_extenders (world_in c)) log; here = at }
+pub far_first : (t : Shape) (s : Site) (c : Core) (far : Devices) (log : Log) → ((n : ℕ) → far_of far n ≡ if_rests (far_of c.far n)) → IsAt s (record c { far = far }) →
+    FarLeft t s (world_in c) log 1 (record c { far = far }) log
+far_first t s c far log is at =
+    let same : world_in (record c { far = far }) ≡ rested_world (world_in c) = ap (λ (f : ℕ → ExtenderState). record (world_in c) { far = f }) (fun_ext (λ n. is n)) in
+    let whole = each (wakes_at t (resting_in (world_in c))) all_extenders (rested_world (world_in c)) in
+    record {
+      rest = subst (λ (w : World). Leads whole (each (wakes_at t (resting_in (world_in c))) all_extenders w) log log) (sym same) (leads_first whole log);
+      here = at;
+    }
 
-pub far_next : (t : Shape) (s : Site) (w : World) (n : ℕ) (c d : Core) (old told new : Log) → 0 < n → n < 65 → FarLeft t s w old n c told → Does (beats_at t n (world_in c)) s d told new → FarLeft t s w old (n + 1) d new
-far_next t s w n c d old told new some few left does =
-    record { rest = numbers_lead (beats_at t) (each (beats_at t) all_extenders w) n s c d old told new some few left.rest does; here = does.at }
+-- one that doesn't rest has its beat
+pub far_next : (t : Shape) (s : Site) (w : World) (n : ℕ) (c d : Core) (old told new : Log) → 0 < n → n < 65 → resting_in w n ≡ false → is_extender t n ≡ true → FarLeft t s w old n c told →
+    Does (reacts t n None Beats (world_in c)) s d told new → FarLeft t s w old (n + 1) d new
+far_next t s w n c d old told new some few awake there left does =
+    let done : Does (wakes_at t (resting_in w) n (world_in c)) s d told new = rw (awake, there) does in
+    record {
+      rest = numbers_lead (wakes_at t (resting_in w)) (each (wakes_at t (resting_in w)) all_extenders (rested_world w)) n s c d old told new some few left.rest done;
+      here = does.at;
+    }
 
--- where there is no extender nothing is done
-pub far_skip : (t : Shape) (s : Site) (w : World) (n m : ℕ) (c : Core) (old log : Log) → 0 < n → n ≤ m → m ≤ 65 → ((k : ℕ) → n ≤ k → k < m → is_extender t k ≡ false) → FarLeft t s w old n c log →
-    FarLeft t s w old m c log
+-- at one that rests, and where there is no extender, nothing is done
+pub far_skip : (t : Shape) (s : Site) (w : World) (n m : ℕ) (c : Core) (old log : Log) → 0 < n → n ≤ m → m ≤ 65 → ((k : ℕ) → n ≤ k → k < m → (is_extender t k && not (resting_in w k)) ≡ false) →
+    FarLeft t s w old n c log → FarLeft t s w old m c log
 far_skip t s w n m c old log some up few none left =
     let e : n + (m - n) ≡ m = omega arith in
     let on : FarLeft t s w old (n + (m - n)) c log =
     record {
-      rest = numbers_skip (beats_at t) (each (beats_at t) all_extenders w) (m - n) n s c old log some (omega arith) left.here
-          (λ k from before. nothing k (none k from (omega (arith, before)))) left.rest;
+      rest = numbers_skip (wakes_at t (resting_in w)) (each (wakes_at t (resting_in w)) all_extenders (rested_world w)) (m - n) n s c old log some (omega arith) left.here
+          (λ k from before. nothing k (resting_in w k) (is_extender t k) (none k from (omega (arith, before)))) left.rest;
       here = left.here;
     } in
     subst (λ (k : ℕ). FarLeft t s w old k c log) e on
   where
-    nothing : (k : ℕ) → is_extender t k ≡ false → beats_at t k (world_in c) ≡ only (world_in c)
-    nothing k e = rw e refl
+    nothing : (k : ℕ) (rest there : Bool) → (there && not rest) ≡ false →
+        (if rest then only (world_in c) else (if there then reacts t k None Beats (world_in c) else only (world_in c))) ≡ only (world_in c)
+    nothing k true there e = refl
+    nothing k false false e = refl
+    nothing k false true e = absurd (false≢true (sym e))
 
-pub far_last : (t : Shape) (s : Site) (w : World) (n : ℕ) (c : Core) (old log : Log) → 65 ≤ n → FarLeft t s w old n c log → Does (each (beats_at t) all_extenders w) s c old log
-far_last t s w n c old log all left = numbers_told (beats_at t) (each (beats_at t) all_extenders w) n s c old log all left.rest left.here
+pub far_last : (t : Shape) (s : Site) (w : World) (n : ℕ) (c : Core) (old log : Log) → 65 ≤ n → IsTree t → ((k : ℕ) → resting_in w k ≡ true → is_extender t k ≡ true) → FarLeft t s w old n c log →
+    Does (each (beats_at t) all_extenders w) s c old log
+far_last t s w n c old log all tree there left =
+    subst (λ (e : Effect). Does e s c old log) (rest_first t w tree there)
+    (numbers_told (wakes_at t (resting_in w)) (each (wakes_at t (resting_in w)) all_extenders (rested_world w)) n s c old log all left.rest left.here)
+
+-- ---- those that rest, and those that wait
+-- all that rest are extenders
+pub resting_there : (s : Site) (c : Core) → IsAt s c → (k : ℕ) → resting_in (world_in c) k ≡ true → is_extender s.tree k ≡ true
+resting_there s c at k rest = at.only k (by_get (slice_get c.far.extenders k) (sym (rests_rested c.far.passed _) ∙ rest))
+  where
+    by_get : (x : Option (Option Fields)) → rests (state_at x k (slice_index c.far.ports k)) ≡ true → is_there x ≡ true
+    by_get (Some (Some f)) e = refl
+    by_get (Some None) e = absurd (false≢true e)
+    by_get None e = absurd (false≢true e)
+
+-- a beat that passed at those that rest wakes none of them
+still_rests : (s : ExtenderState) → rests (if_rests s) ≡ rests s
+still_rests s =
+    elim (cases_Bool (rests s)) [
+      | inl e ↦ rw e (ap rests (beat_counts s e) ∙ e)
+      | inr e ↦ rw e e
+    ]
+
+-- after it, those whose bits are set are the extenders that don't rest
+pub waiting_bit : (s : Site) (c : Core) (far : Devices) (waiting : ℕ) → IsAt s (record c { far = far }) → ((n : ℕ) → far_of far n ≡ if_rests (far_of c.far n)) →
+    ((n : ℕ) → bit_at waiting n ≡ (if has_extender far n && not (rests (far_of far n)) then 1 else 0)) →
+    (k : ℕ) → bit_at waiting k ≡ (if is_extender s.tree k && not (resting_in (world_in c) k) then 1 else 0)
+waiting_bit s c far waiting at is bits k =
+    let rest : rests (far_of far k) ≡ resting_in (world_in c) k = ap rests (is k) ∙ still_rests (far_of c.far k) in
+    bits k ∙ ap (λ (b : Bool). if has_extender far k && not b then 1 else 0) rest ∙ ap (λ (b : Bool). if b && not (resting_in (world_in c) k) then 1 else 0) there
+  where
+    there : has_extender far k ≡ is_extender s.tree k
+    there =
+        elim (cases_Bool (has_extender far k)) [
+          | inl e ↦ e ∙ sym (at.only k e)
+          | inr e ↦ e ∙ sym (false_from_ne_true _ (λ yes. false≢true (sym e ∙ at.there k yes)))
+        ]
+
+pub waits : (b : Bool) → mark b ≡ 1 → b ≡ true
+waits true e = refl
+waits false e = let f : 0 ≡ 1 = e in absurd (omega (arith, f))
+
+pub waits_not : (b : Bool) → mark b ≡ 0 → b ≡ false
+waits_not false e = refl
+waits_not true e = let f : 1 ≡ 0 = e in absurd (omega (arith, f))
+
+-- of one whose bit is set
+pub record Waits (t : Shape) (w : World) (n : ℕ) : Type 0 where
+  pub there : is_extender t n ≡ true
+  pub awake : resting_in w n ≡ false
+
+pub who_waits : (t : Shape) (w : World) (n : ℕ) → (is_extender t n && not (resting_in w n)) ≡ true → Waits t w n
+who_waits t w n e =
+    let both = and_parts (is_extender t n) (not (resting_in w n)) e in
+    record { there = both.0; awake = turned (resting_in w n) both.1 }
+  where
+    turned : (b : Bool) → not b ≡ true → b ≡ false
+    turned false e = refl
+    turned true e = absurd (false≢true e)

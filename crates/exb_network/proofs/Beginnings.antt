@@ -43,12 +43,13 @@ unfolding powered_on
 ports_on n ports = refl
 
 pub begins_at : (x : Setup) (c : Core) → c.control.fabric.shape ≡ shape_of x → c.control.fabric.limits ≡ limits_of x → c.control.failed ≡ false → far_of c.far ≡ first_far (shape_of x) →
-    ((n : ℕ) → is_extender (shape_of x) n ≡ true → has_extender c.far n ≡ true) → (s : Site) → s.tree ≡ shape_of x → limits_in s ≡ limits_of x → IsAt s c
-begins_at x c shape limits awake far there s tree l =
+    ((n : ℕ) → is_extender (shape_of x) n ≡ true → has_extender c.far n ≡ true) → ((n : ℕ) → has_extender c.far n ≡ true → is_extender (shape_of x) n ≡ true) → (s : Site) → s.tree ≡ shape_of x → limits_in s ≡ limits_of x → IsAt s c
+begins_at x c shape limits awake far there only s tree l =
     record {
       shape = shape ∙ sym tree;
       limits = limits ∙ sym l;
       awake = awake;
       there = λ n is. there n (ap (λ (t : Shape). is_extender t n) (sym tree) ∙ is);
+      only = λ n is. ap (λ (t : Shape). is_extender t n) tree ∙ only n is;
       ports = λ n is. ap (λ (f : ℕ → ExtenderState). (f n).tables.ports) far ∙ ports_on n (slice_index (shape_of x).ports n) ∙ ap (λ (t : Shape). slice_index t.ports n) (sym tree);
     }

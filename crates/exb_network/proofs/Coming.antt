@@ -144,6 +144,7 @@ module _ (s : Site) (c : Core) (p : Parts) (rest : p ≡ record c.control { lear
         limits = ap (λ (q : Parts). q.fabric.limits) rest ∙ at.limits;
         awake = ap (λ (q : Parts). q.failed) rest ∙ at.awake;
         there = at.there;
+        only = at.only;
         ports = at.ports;
       }
 

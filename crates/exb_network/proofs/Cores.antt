@@ -33,16 +33,16 @@ module _ (c : Core) (n : ℕ) where
 -- ---- the site
 module _ (s : Site) (c : Core) (is : IsAt s c) where
   pub near_at : (es : List Ecp) → IsAt s (record c { near = es })
-  near_at es = record { shape = is.shape; limits = is.limits; awake = is.awake; there = is.there; ports = is.ports }
+  near_at es = record { shape = is.shape; limits = is.limits; awake = is.awake; there = is.there; only = is.only; ports = is.ports }
 
   pub down_at : (d : List (List Word)) → IsAt s (record c { down = d })
-  down_at d = record { shape = is.shape; limits = is.limits; awake = is.awake; there = is.there; ports = is.ports }
+  down_at d = record { shape = is.shape; limits = is.limits; awake = is.awake; there = is.there; only = is.only; ports = is.ports }
 
   pub up_at : (d : List (List Word)) → IsAt s (record c { up = d })
-  up_at d = record { shape = is.shape; limits = is.limits; awake = is.awake; there = is.there; ports = is.ports }
+  up_at d = record { shape = is.shape; limits = is.limits; awake = is.awake; there = is.there; only = is.only; ports = is.ports }
 
   pub next_at : (xs : List ℕ) → IsAt s (record c { next = xs })
-  next_at xs = record { shape = is.shape; limits = is.limits; awake = is.awake; there = is.there; ports = is.ports }
+  next_at xs = record { shape = is.shape; limits = is.limits; awake = is.awake; there = is.there; only = is.only; ports = is.ports }
 
   pub far_at : (d : Devices) → AreSame c.far d → IsAt s (record c { far = d })
   far_at d same =
@@ -51,6 +51,7 @@ module _ (s : Site) (c : Core) (is : IsAt s c) where
         limits = is.limits;
         awake = is.awake;
         there = λ n h. same.there n ∙ is.there n h;
+        only = λ n h. is.only n (sym (same.there n) ∙ h);
         ports = λ n h. same.ports n ∙ is.ports n h;
       }
 

@@ -1,5 +1,5 @@
 -- How the world changes when the control of a network makes a step.
-use Rattle.std.proofs.Common.{◌≡◌, ℕ, List, [], ◌∷◌, refl, ap, ◌∙◌}
+use Rattle.std.proofs.Common.{◌≡◌, ℕ, List, [], ◌∷◌, refl, ap, sym, ◌∙◌}
 use Rattle.exb_learn.specs.Calls.{Table, Forget, after_call}
 use Rattle.exb_learn.specs.Entries.{table_of}
 use Rattle.exb_changing.specs.Machine.{State, Moved}
@@ -23,6 +23,7 @@ at_moved s c d m out moved far at =
       limits = moved.limits ∙ at.limits;
       awake = moved.failed ∙ at.awake;
       there = λ n e. ap (λ (x : Devices). has_extender x n) far ∙ at.there n e;
+      only = λ n e. at.only n (sym (ap (λ (x : Devices). has_extender x n) far) ∙ e);
       ports = λ n e. ap (λ (x : Devices). (far_of x n).tables.ports) far ∙ at.ports n e;
     }
 

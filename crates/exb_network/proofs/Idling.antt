@@ -6,7 +6,7 @@ use Rattle.exb_model.specs.Tree.{Shape, IsTree, is_extender}
 use Rattle.exb_model.proofs.TreeHung.{extender-low}
 use Rattle.exb_network.specs.Sites.{AreExtenders}
 
-abbrev mark : Bool → ℕ
+abbrev pub mark : Bool → ℕ
 mark b = if b then 1 else 0
 
 pub in_all : (t : Shape) (all n : ℕ) → AreExtenders t all → is_extender t n ≡ true → bit_at all n ≡ 1

@@ -12,6 +12,7 @@ pub mod ToExtenders
 pub mod Hearings
 pub mod Again
 pub mod Loops
+pub mod Resting
 pub mod Beats
 pub mod Kept
 pub mod Lines
@@ -20,8 +21,8 @@ pub mod Cores
 pub mod Reacting
 pub mod Sendings
 pub mod Bits
-pub mod Noted
 pub mod Idling
 pub mod Deepest
 pub mod Turning
+pub mod Placing
 pub mod Beginnings

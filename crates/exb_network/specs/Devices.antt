@@ -1,15 +1,18 @@
 -- The extenders of a network as the world has them: the state of each, by its number.
-use Rattle.std.specs.Prelude.{◌≡◌, ◌↔◌, ℕ, ◌==◌, ◌||◌, Bool, true, false, List, Option, Some, None, length, slice_get, slice_index}
+use Rattle.std.specs.Prelude.{◌≡◌, ◌↔◌, ℕ, ◌==◌, ◌||◌, ◌<◌, Bool, true, false, if◌then◌else◌, List, Option, Some, None, length, slice_get, slice_index}
 use Rattle.std.specs.Int.{bit_at}
 use Rattle.exb_model.specs.Tree.{Shape}
 use Rattle.exb_ecp.specs.Machine.{Sending}
 use Rattle.exb_extender.specs.Fields.{Fields, state_of}
-use Rattle.exb_extender.specs.Machine.{ExtenderState, at_power_on}
+use Rattle.exb_extender.specs.Machine.{ExtenderState, at_power_on, beats}
+use Rattle.exb_extender.specs.Resting.{rests, rested}
 
--- by device, how many ports it has, and the extender, where it is one
+-- By device, how many ports it has, and the extender, where it is one. And how many beats, modulo 16, have passed at those
+-- that rest and aren't counted in them yet.
 pub record Devices : Type 0 where
   pub ports : List ℕ
   pub extenders : List (Option Fields)
+  pub passed : ℕ
 
 -- where there is none, what is there is as at power-on
 abbrev pub state_at : Option (Option Fields) → ℕ → ℕ → ExtenderState
@@ -18,7 +21,11 @@ state_at (Some None) n ports = at_power_on n ports
 state_at None n ports = at_power_on n ports
 
 abbrev pub far_of : Devices → ℕ → ExtenderState
-far_of d n = state_at (slice_get d.extenders n) n (slice_index d.ports n)
+far_of d n = rested d.passed (state_at (slice_get d.extenders n) n (slice_index d.ports n))
+
+-- after a beat, if it rests
+abbrev pub if_rests : ExtenderState → ExtenderState
+if_rests s = if rests s then (beats s).0 else s
 
 -- all as they begin
 abbrev pub first_far : Shape → ℕ → ExtenderState
@@ -49,7 +56,16 @@ sent_at (Some (Some f)) = f.ecp.sending
 sent_at (Some None) = None
 sent_at None = None
 
--- there is a place for each device, and exactly those that send something are noted by their bits
-pub record AreNoted (extenders : List (Option Fields)) (sending : ℕ) : Type 0 where
+-- 1 where there is one that doesn't rest
+abbrev pub waits_at : Option (Option Fields) → ℕ
+waits_at (Some (Some f)) = if rests (state_of f) then 0 else 1
+waits_at (Some None) = 0
+waits_at None = 0
+
+-- There is a place for each device. Exactly those that send something are noted by their bits, and exactly those that don't
+-- rest; and beats are counted modulo 16.
+pub record AreNoted (extenders : List (Option Fields)) (sending waiting passed : ℕ) : Type 0 where
   pub few : length extenders ≡ 65
   pub noted : (n : ℕ) → (bit_at sending n ≡ 0) ↔ (sent_at (slice_get extenders n) ≡ None)
+  pub waits : (n : ℕ) → bit_at waiting n ≡ waits_at (slice_get extenders n)
+  pub low : passed < 16

@@ -1,5 +1,5 @@
 -- One direction of all links.
-use Rattle.std.specs.Prelude.{◌≡◌, ◌↔◌, ℕ, List, [], length, slice_index_or}
+use Rattle.std.specs.Prelude.{◌≡◌, ◌≢◌, ◌↔◌, ℕ, ◌<◌, ◌≤◌, List, [], length, slice_index_or}
 use Rattle.std.specs.Int.{bit_at}
 use Rattle.exb_link.specs.declared.word.Word.{Word}
 
@@ -11,3 +11,10 @@ words_of links n = slice_index_or links n []
 pub record IsNoted (links : List (List Word)) (busy : ℕ) : Type 0 where
   pub sized : length links ≡ 65
   pub noted : (n : ℕ) → (bit_at busy n ≡ 0) ↔ (words_of links n ≡ [])
+
+-- the link of extender n is the first, from a number on, that has a word
+pub record IsNextBusy (links : List (List Word)) (from n : ℕ) : Type 0 where
+  pub low : n < 65
+  pub start : from ≤ n
+  pub busy : words_of links n ≢ []
+  pub before : (k : ℕ) → from ≤ k → k < n → words_of links k ≡ []

@@ -1,7 +1,7 @@
 -- What never changes in a network.
-use Rattle.std.specs.Prelude.{◌≡◌, ℕ, if◌then◌else◌, List}
+use Rattle.std.specs.Prelude.{◌≡◌, ℕ, ◌<◌, if◌then◌else◌, List, Some, slice_get, slice_index}
 use Rattle.std.specs.Int.{bit_at}
-use Rattle.exb_model.specs.Tree.{Shape, is_extender}
+use Rattle.exb_model.specs.Tree.{Shape, by_depth, is_extender}
 use Rattle.exb_model.specs.Setup.{Limits}
 use Rattle.exb_machine.specs.Settling.{deepest_first}
 
@@ -18,8 +18,20 @@ limits_in s = record { channels = s.channels; groups = s.groups }
 abbrev pub AreExtenders : Shape → ℕ → Type 0
 AreExtenders t bits = (n : ℕ) → bit_at bits n ≡ (if is_extender t n then 1 else 0)
 
--- The tables beside a tree: the port on which each extender hangs, the extenders from the deepest, and their set.
-pub record HasTables (t : Shape) (on deepest : List ℕ) (extenders : ℕ) : Type 0 where
+-- by extender its place in an order, and 64 where it isn't in it
+pub record ArePlaces (order places : List ℕ) : Type 0 where
+  pub back : (n : ℕ) → n < 65 → slice_index places n < 64 → slice_get order (slice_index places n) ≡ Some n
+  pub forth : (k n : ℕ) → slice_get order k ≡ Some n → slice_index places n ≡ k
+
+-- none stands twice in an order
+abbrev pub StandsOnce : List ℕ → Type 0
+StandsOnce order = (j k n : ℕ) → slice_get order j ≡ Some n → slice_get order k ≡ Some n → j ≡ k
+
+-- The tables beside a tree: the port on which each extender hangs, the extenders from the deepest, their set, and by
+-- extender its place among those from the deepest and among those by depth.
+pub record HasTables (t : Shape) (on deepest : List ℕ) (extenders : ℕ) (up down : List ℕ) : Type 0 where
   pub places : on ≡ t.on
   pub upwards : deepest ≡ deepest_first t 64
   pub all : AreExtenders t extenders
+  pub up_places : ArePlaces (deepest_first t 64) up
+  pub down_places : ArePlaces (by_depth t) down

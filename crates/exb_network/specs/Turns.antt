@@ -1,5 +1,5 @@
 -- The order in which a round goes through the directions of one way, and which of them has its turn.
-use Rattle.std.specs.Prelude.{◌≡◌, ◌≢◌, ℕ, ◌<◌, ◌≤◌, true, List, [], Some, slice_get}
+use Rattle.std.specs.Prelude.{◌≡◌, ◌≢◌, ◌⊎◌, ℕ, ◌<◌, ◌≤◌, true, List, [], Some, slice_get}
 use Rattle.exb_model.specs.Tree.{Shape, by_depth, is_extender}
 use Rattle.exb_link.specs.declared.word.Word.{Word}
 use Rattle.exb_machine.specs.Settling.{deepest_first}
@@ -31,3 +31,9 @@ pub record IsFirst (order : List ℕ) (links : List (List Word)) (first : ℕ) (
   pub at : slice_get order turn.place ≡ Some turn.link
   pub busy : words_of links turn.link ≢ []
   pub before : (k n : ℕ) → first ≤ k → k < turn.place → slice_get order k ≡ Some n → words_of links n ≡ []
+
+-- the earlier of two places, of which the second counts only where it isn't before `from`
+pub record IsEarlier (first place from result : ℕ) : Type 0 where
+  pub one : (result ≡ first) ⊎ ((result ≡ place) × (from ≤ place))
+  pub least : result ≤ first
+  pub below : from ≤ place → result ≤ place

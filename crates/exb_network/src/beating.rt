@@ -108,25 +108,7 @@ fn beat_control(
     follow(alloc, site, room, core, log)
 }
 
-/// The beat passes at an extender, where there is one of that number.
-fn beat_far_any(
-    alloc: Global,
-    site: &Site,
-    number: u8,
-    room: &mut Room,
-    core: &mut Core,
-    log: &mut Log,
-) -> Result<(), NoMemory>
-    requires at { IsAt site.now core.old }
-    ensures { OnOk result (Does (if_there site.now.tree (λ n. reacts site.now.tree n None Beats) number (world_in core.old)) site.now core.new log.old log.new) }
-{
-    if !site.tree().is_extender(number) {
-        return Ok(());
-    }
-    taking::beat(alloc, site, number, room, core, log)
-}
-
-/// The beat passes at all extenders, by number.
+/// The beat passes at all extenders: first at those that rest, which send nothing, then at the others by number.
 fn beat_all_far(
     alloc: Global,
     site: &Site,
@@ -138,10 +120,11 @@ fn beat_all_far(
     ensures { OnOk result (Does (each (if_there site.now.tree (λ n. reacts site.now.tree n None Beats)) all_extenders (world_in core.old)) site.now core.new log.old log.new) }
 {
     site.tree().is_tree();
-    let all = site.extenders();
+    core.far.beat_resting();
+    let waiting = core.far.waiting();
     let mut from = 1u8;
-    'numbers: while let Some(number) = first_in(all, from) {
-        beat_far_any(alloc, site, number, room, core, log)?;
+    'numbers: while let Some(number) = first_in(waiting, from) {
+        taking::beat(alloc, site, number, room, core, log)?;
         from = number + 1;
     }
     Ok(())

@@ -4,12 +4,14 @@ ghost use Rattle.std.specs.List.{All};
 ghost use Rattle.exb_machine.specs.Stepping.{words_on};
 ghost use Rattle.exb_network.specs.Directions.{words_of};
 ghost use Rattle.exb_network.specs.Steps.{way_of};
-ghost use Rattle.exb_network.specs.Turns.{order_of, IsFirst, IsTurn};
+ghost use Rattle.exb_network.specs.Sites.{ArePlaces};
+ghost use Rattle.exb_network.specs.Turns.{order_of, IsEarlier, IsFirst, IsTurn};
 ghost use Rattle.exb_network.specs.Worlds.{world_in};
 
 use crate::links::Direction;
 use crate::site::{Core, Site};
 use crate::step::Way;
+use exb_model::port::DEVICES;
 
 /// A direction that has a word: its place in the order in which a round goes through the directions of one way, and its
 /// extender.
@@ -19,23 +21,85 @@ pub struct Turn {
     pub link: u8,
 }
 
-/// The first of these links, from a place on, that has a word.
-fn first_busy(order: &[u8], links: &Direction, from: u8) -> Option<Turn>
-    requires low { All (λ n. n < 65) order.now }
+/// The earlier of two places, where the second isn't before `from`; else the first.
+fn earlier(first: u8, place: u8, from: u8) -> u8
+    ensures { IsEarlier first place from result }
+{
+    if place < from || first < place {
+        first
+    } else {
+        place
+    }
+}
+
+/// The turn at a place in the order, if there is one.
+fn turn_at(order: &[u8], place: u8) -> Option<Turn>
+    requires { length order.now ≤ 64 }
+    ensures found { IfSome result (λ turn. (turn.place ≡ place) × (slice_get order.now place ≡ Some turn.link)) }
+    ensures none { IfNone result (length order.now ≤ place) }
+{
+    if place >= order.len() as u8 {
+        return None;
+    }
+    let link = order[place as usize];
+    Some(Turn { place, link })
+}
+
+/// The first of these links, from a place on, that has a word. Only links that have one are looked at: of each its place
+/// in the order is known.
+fn first_among(
+    order: &[u8],
+    places: &[u8; DEVICES as usize],
+    links: &Direction,
+    from: u8,
+) -> Option<Turn>
     requires few { length order.now ≤ 64 }
+    requires places { ArePlaces order.now places.now }
     ensures found { IfSome result (IsFirst order.now links.now from) }
     ensures none { IfNone result ((k n : ℕ) → from ≤ k → slice_get order.now k ≡ Some n → words_of links.now n ≡ []) }
 {
-    if links.is_empty() {
+    let mut first = 64u8;
+    let mut number = 0u8;
+    'links: while let Some(link) = links.next_busy(number) {
+        first = earlier(first, places[link as usize], from);
+        number = link + 1;
+    }
+    turn_at(order, first)
+}
+
+/// The turn of the link at a place in the order, if that has a word.
+fn turn_here(order: &[u8], links: &Direction, place: u8) -> Option<Turn>
+    requires low { All (λ n. n < 65) order.now }
+    requires few { length order.now ≤ 64 }
+    ensures { IfSome result (IsFirst order.now links.now place) }
+{
+    if place >= order.len() as u8 {
         return None;
     }
-    for place in from..order.len() as u8 {
-        let link = order[place as usize];
-        if links.has_word(link) {
-            return Some(Turn { place, link });
-        }
+    let link = order[place as usize];
+    if !links.has_word(link) {
+        return None;
     }
-    None
+    Some(Turn { place, link })
+}
+
+/// The first of these links, from a place on, that has a word. Where many have one it is mostly that at the place itself.
+fn first_busy(
+    order: &[u8],
+    places: &[u8; DEVICES as usize],
+    links: &Direction,
+    from: u8,
+) -> Option<Turn>
+    requires low { All (λ n. n < 65) order.now }
+    requires few { length order.now ≤ 64 }
+    requires places { ArePlaces order.now places.now }
+    ensures found { IfSome result (IsFirst order.now links.now from) }
+    ensures none { IfNone result ((k n : ℕ) → from ≤ k → slice_get order.now k ≡ Some n → words_of links.now n ≡ []) }
+{
+    match turn_here(order, links, from) {
+        Some(turn) => Some(turn),
+        None => first_among(order, places, links, from),
+    }
 }
 
 /// The first direction of a way, from a place on, that has a word.
@@ -45,7 +109,7 @@ pub(crate) fn next_busy(site: &Site, core: &Core, way: Way, from: u8) -> Option<
 {
     site.tree().is_tree();
     match way {
-        Way::Up => first_busy(site.upwards(), &core.up, from),
-        Way::Down => first_busy(site.downwards(), &core.down, from),
+        Way::Up => first_busy(site.upwards(), site.upward_places(), &core.up, from),
+        Way::Down => first_busy(site.downwards(), site.downward_places(), &core.down, from),
     }
 }

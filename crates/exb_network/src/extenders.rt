@@ -1,5 +1,5 @@
 //! The extenders of a network.
-ghost use Rattle.std.specs.Prelude.{◌≡◌, ◌↔◌, ℕ, ◌≤◌, ◌<◌, true, false, IfOk, IsTrue, None, [], slice_index};
+ghost use Rattle.std.specs.Prelude.{◌≡◌, ◌↔◌, ◌&&◌, ℕ, ◌≤◌, ◌<◌, true, false, not, if◌then◌else◌, IfOk, IsTrue, None, [], slice_index};
 ghost use Rattle.std.specs.Int.{bit_at};
 ghost use Rattle.std.specs.List.{All};
 ghost use Rattle.exb_model.specs.Setup.{IsValid, shape_of};
@@ -7,10 +7,11 @@ ghost use Rattle.exb_model.specs.Tree.{is_extender};
 ghost use Rattle.exb_extender.specs.Fields.{state_of};
 ghost use Rattle.exb_extender.specs.Forwarding.{is_ignored};
 ghost use Rattle.exb_extender.specs.Machine.{Arrives, Beats, CanTake, IsPort, react};
+ghost use Rattle.exb_extender.specs.Resting.{rests, rested};
 ghost use Rattle.exb_extender.specs.Sending.{sent_by};
 ghost use Rattle.exb_network.specs.Forms.{CanGo};
 ghost use Rattle.exb_machine.specs.Worlds.{at};
-ghost use Rattle.exb_network.specs.Devices.{far_of, first_far, has_extender, IsPoweredOn, AreSame};
+ghost use Rattle.exb_network.specs.Devices.{far_of, first_far, has_extender, if_rests, IsPoweredOn, AreSame};
 
 use crate::numbers::{meet, with_bit};
 use exb_extender::{Entry, Extender, Sends, Side};
@@ -28,6 +29,11 @@ pub(crate) struct Extenders {
     extenders: Vec<Option<Extender>>,
     /// Bit n is set where extender n sends something that waits for an acknowledgement.
     sending: u128,
+    /// Bit n is set where extender n is there and doesn't rest.
+    waiting: u128,
+    /// How many beats, modulo 16, have passed at all that rest. They aren't counted in these yet: so a beat costs nothing
+    /// at an extender that rests.
+    passed: u8,
 }
 
 impl Model for Extenders {
@@ -35,9 +41,9 @@ impl Model for Extenders {
 
     ghost Value = { Devices };
 
-    ghost view = { λ d. record { ports = d.ports; extenders = d.extenders.items } };
+    ghost view = { λ d. record { ports = d.ports; extenders = d.extenders.items; passed = d.passed } };
 
-    ghost invariant = { λ d. AreNoted d.extenders.items d.sending };
+    ghost invariant = { λ d. AreNoted d.extenders.items d.sending d.waiting d.passed };
 }
 
 /// How many ports each device of a setup has.
@@ -73,22 +79,38 @@ fn has_few_ports(extender: &Extender)
     let _ = extender.idle();
 }
 
+/// The beats that passed go out of the count again, where it rests.
+fn put_back(extender: &mut Extender, passed: u8)
+    requires { passed < 16 }
+    ensures { rested passed (state_of extender.new) ≡ state_of extender.old }
+{
+    // Its clause has that the count is below 16.
+    let _ = extender.idle();
+    extender.pass(16 - passed);
+}
+
 impl Extenders {
     /// All extenders of a setup, at power-on.
     pub(crate) fn new(alloc: Global, setup: &Setup) -> Result<Extenders, NoMemory>
         requires { IsValid setup.now }
         ensures far { IfOk result (λ made. far_of made ≡ first_far (shape_of setup.now)) }
         ensures there { IfOk result (λ made. (n : ℕ) → is_extender (shape_of setup.now) n ≡ true → has_extender made n ≡ true) }
+        ensures only { IfOk result (λ made. (n : ℕ) → has_extender made n ≡ true → is_extender (shape_of setup.now) n ≡ true) }
     {
         let ports = port_counts(setup);
         let mut extenders = Vec::new(alloc);
+        let mut waiting = 0u128;
         for number in 0..DEVICES {
-            extenders.push(at_power_on(alloc, number, ports[number as usize])?)?;
+            let extender = at_power_on(alloc, number, ports[number as usize])?;
+            waiting = with_bit(waiting, number, extender.is_some());
+            extenders.push(extender)?;
         }
         Ok(Extenders {
             ports,
             extenders,
             sending: 0,
+            waiting,
+            passed: 0,
         })
     }
 
@@ -102,10 +124,14 @@ impl Extenders {
         ensures same { AreSame self.old self.new }
     {
         if let Some(extender) = &mut self.extenders[number as usize] {
+            extender.pass(self.passed);
             has_few_ports(extender);
             extender.take(from, frame, sends);
+            put_back(extender, self.passed);
             let busy = !extender.idle();
+            let wakes = !extender.rests();
             self.sending = with_bit(self.sending, number, busy);
+            self.waiting = with_bit(self.waiting, number, wakes);
         }
     }
 
@@ -137,10 +163,29 @@ impl Extenders {
         ensures same { AreSame self.old self.new }
     {
         if let Some(extender) = &mut self.extenders[number as usize] {
+            extender.pass(self.passed);
             extender.beat(sends);
+            put_back(extender, self.passed);
             let busy = !extender.idle();
+            let wakes = !extender.rests();
             self.sending = with_bit(self.sending, number, busy);
+            self.waiting = with_bit(self.waiting, number, wakes);
         }
+    }
+
+    /// A beat passes at all extenders that rest.
+    pub(crate) fn beat_resting(&mut self)
+        ensures state { (n : ℕ) → far_of self.new n ≡ if_rests (far_of self.old n) }
+        ensures same { AreSame self.old self.new }
+    {
+        self.passed = (self.passed + 1) % 16;
+    }
+
+    /// The extenders that don't rest, each a bit of its number.
+    pub(crate) fn waiting(&self) -> u128
+        ensures { (n : ℕ) → bit_at result n ≡ (if has_extender self.now n && not (rests (far_of self.now n)) then 1 else 0) }
+    {
+        self.waiting
     }
 
     /// Whether a port of an extender is a cascade port.

@@ -1,12 +1,12 @@
 //! The links of a network: two directions for each extender.
-ghost use Rattle.std.specs.Prelude.{◌≡◌, ◌↔◌, ℕ, ◌<◌, ◌++◌, ◌∷◌, [], false, IfOk, IsTrue, OnOk, filter, slice_get};
+ghost use Rattle.std.specs.Prelude.{◌≡◌, ◌↔◌, ℕ, ◌<◌, ◌≤◌, ◌++◌, ◌∷◌, [], false, IfNone, IfOk, IfSome, OnOk, filter, slice_get};
 ghost use Rattle.std.specs.Int.{bit_at};
 ghost use Rattle.std.specs.Option.{option_copied};
 ghost use Rattle.exb_link.specs.Words.{is_control, is_data, without_data, without_control};
 ghost use Rattle.exb_machine.specs.Worlds.{at};
-ghost use Rattle.exb_network.specs.Directions.{words_of};
+ghost use Rattle.exb_network.specs.Directions.{words_of, IsNextBusy};
 
-use crate::numbers::{meet, with_bit};
+use crate::numbers::{first_in, meet, with_bit};
 use exb_link::{Link, Word};
 use exb_model::memory::NoMemory;
 use exb_model::port::DEVICES;
@@ -110,11 +110,13 @@ impl Direction {
         (self.busy >> extender) & 1 == 1
     }
 
-    /// Whether nothing is on any link.
-    pub(crate) fn is_empty(&self) -> bool
-        ensures { IsTrue result ↔ ((n : ℕ) → words_of self.now n ≡ []) }
+    /// The first link, by extender from a number on, that has a word.
+    pub(crate) fn next_busy(&self, from: u8) -> Option<u8>
+        requires { from < 128 }
+        ensures found { IfSome result (IsNextBusy self.now from) }
+        ensures none { IfNone result ((n : ℕ) → from ≤ n → words_of self.now n ≡ []) }
     {
-        self.busy == 0
+        first_in(self.busy, from)
     }
 
     /// Whether links of these extenders, each a bit of its number, have a word.

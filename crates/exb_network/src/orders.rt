@@ -1,8 +1,9 @@
-//! The extenders of a tree: from the deepest, and as a set.
+//! The extenders of a tree: from the deepest, as a set, and their places in an order.
 ghost use Rattle.std.specs.Prelude.{◌≡◌, ℕ, ◌+◌, ◌<◌, ◌≤◌, IfOk, length};
-ghost use Rattle.exb_model.specs.Tree.{hangs_at_depth, path};
+ghost use Rattle.std.specs.List.{All};
+ghost use Rattle.exb_model.specs.Tree.{by_depth, hangs_at_depth, path};
 ghost use Rattle.exb_machine.specs.Settling.{deepest_first};
-ghost use Rattle.exb_network.specs.Sites.{AreExtenders};
+ghost use Rattle.exb_network.specs.Sites.{AreExtenders, ArePlaces, StandsOnce};
 
 use crate::numbers::with_bit;
 use exb_model::memory::NoMemory;
@@ -67,4 +68,36 @@ pub(crate) fn all_extenders(tree: &Tree) -> u128
         extenders = with_bit(extenders, number, tree.is_extender(number));
     }
     extenders
+}
+
+/// By extender its place in an order, and 64 where it isn't in it.
+fn places_in(order: &[u8]) -> [u8; DEVICES as usize]
+    requires low { All (λ n. n < 65) order.now }
+    requires few { length order.now ≤ 64 }
+    requires once { StandsOnce order.now }
+    ensures { ArePlaces order.now result }
+{
+    let mut places = [64u8; DEVICES as usize];
+    for place in 0..order.len() as u8 {
+        let number = order[place as usize];
+        places[number as usize] = place;
+    }
+    places
+}
+
+/// The places of the extenders from the deepest, which are given in that order.
+pub(crate) fn upward_places(tree: &Tree, order: &[u8]) -> [u8; DEVICES as usize]
+    requires { order.now ≡ deepest_first tree.now 64 }
+    ensures { ArePlaces (deepest_first tree.now 64) result }
+{
+    tree.is_tree();
+    places_in(order)
+}
+
+/// The places of the extenders by depth.
+pub(crate) fn downward_places(tree: &Tree) -> [u8; DEVICES as usize]
+    ensures { ArePlaces (by_depth tree.now) result }
+{
+    tree.is_tree();
+    places_in(tree.order())
 }

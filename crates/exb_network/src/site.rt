@@ -4,14 +4,14 @@ ghost use Rattle.exb_model.specs.Setup.{IsPlace, IsValid, port_at, shape_of, sta
 ghost use Rattle.exb_model.specs.Tree.{by_depth, is_extender, on};
 ghost use Rattle.exb_machine.specs.Settling.{deepest_first};
 ghost use Rattle.exb_machine.specs.Worlds.{first_world};
-ghost use Rattle.exb_network.specs.Sites.{limits_in, AreExtenders};
+ghost use Rattle.exb_network.specs.Sites.{limits_in, AreExtenders, ArePlaces};
 ghost use Rattle.exb_network.specs.Worlds.{world_in, IsAt};
 
 use crate::ends::Ends;
 use crate::extenders::Extenders;
 use crate::indices::Indices;
 use crate::links::Direction;
-use crate::orders::{all_extenders, deepest_first};
+use crate::orders::{all_extenders, deepest_first, downward_places, upward_places};
 use crate::store::Store;
 use exb_control::{Control, Outbox};
 use exb_extender::Sends;
@@ -35,6 +35,9 @@ pub(crate) struct Site {
     upwards: Vec<u8>,
     /// The extenders, each a bit of its number.
     extenders: u128,
+    /// By extender its place among those from the deepest, and among those by depth; 64 where there is none.
+    upward_places: [u8; DEVICES as usize],
+    downward_places: [u8; DEVICES as usize],
 }
 
 impl Model for Site {
@@ -44,7 +47,7 @@ impl Model for Site {
 
     ghost view = { λ s. record { tree = s.tree; channels = s.channels; groups = s.groups } };
 
-    ghost invariant = { λ s. HasTables s.tree s.on s.upwards.items s.extenders };
+    ghost invariant = { λ s. HasTables s.tree s.on s.upwards.items s.extenders s.upward_places s.downward_places };
 }
 
 /// The port at a place of a setup.
@@ -82,6 +85,8 @@ impl Site {
         let on = places(setup);
         let upwards = deepest_first(alloc, &tree, &on)?;
         let extenders = all_extenders(&tree);
+        let upward_places = upward_places(&tree, upwards.as_slice());
+        let downward_places = downward_places(&tree);
         Ok(Site {
             tree,
             channels: setup.channels,
@@ -89,6 +94,8 @@ impl Site {
             on,
             upwards,
             extenders,
+            upward_places,
+            downward_places,
         })
     }
 
@@ -122,6 +129,20 @@ impl Site {
         ensures { result.now ≡ deepest_first self.now.tree 64 }
     {
         self.upwards.as_slice()
+    }
+
+    /// By extender its place among those from the deepest.
+    pub(crate) fn upward_places(&self) -> &[u8; DEVICES as usize]
+        ensures { ArePlaces (deepest_first self.now.tree 64) result.now }
+    {
+        &self.upward_places
+    }
+
+    /// By extender its place among those by depth.
+    pub(crate) fn downward_places(&self) -> &[u8; DEVICES as usize]
+        ensures { ArePlaces (by_depth self.now.tree) result.now }
+    {
+        &self.downward_places
     }
 
     /// The extenders, each a bit of its number.

@@ -1,40 +1,66 @@
-use Rattle.std.proofs.Common.{arith}
+use Rattle.std.proofs.Common.{arith, subst, sym, ◌∙◌}
+use Rattle.exb_model.specs.Tree.{IsTree}
 use Rattle.exb_network.specs.Worlds.{world_in}
-use Rattle.exb_network.proofs.Beats.{far_first, far_last, far_next, far_skip}
-use Rattle.exb_network.proofs.Idling.{low_in, none_in}
+use Rattle.exb_model.proofs.TreeHung.{extender-low}
+use Rattle.exb_network.proofs.Beats.{far_first, far_last, far_next, far_skip, resting_there, waiting_bit, waits, waits_not, who_waits}
+use Rattle.exb_network.proofs.Cores.{far_at}
 use Rattle.exb_network.proofs.beating.beat_all_far.Goals as goal
 
 pub numbers-init : goal.numbers-init
-numbers-init c = (omega arith, omega arith, far_first c.args.site.now.tree c.args.site.now c.args.core.now c.args.log.now c.requires.at)
+numbers-init c =
+    let s = c.args.site.now in
+    let core = c.args.core.now in
+    let far = c.beat_resting.new.self in
+    (omega arith, omega arith, far_first s.tree s core far c.args.log.now c.beat_resting.ensures.state (far_at s core c.requires.at far c.beat_resting.ensures.same))
+
+pub beat-requires-clause-extender : goal.beat-requires-clause-extender
+beat-requires-clause-extender c =
+    let s = c.args.site.now in
+    let core = c.args.core.now in
+    let far = c.beat_resting.new.self in
+    let n = c.in-Some.number in
+    let bit = waiting_bit s core far c.waiting-waiting.result (far_at s core c.requires.at far c.beat_resting.ensures.same) c.beat_resting.ensures.state c.waiting-waiting.ensures n in
+    (who_waits s.tree (world_in core) n (waits _ (sym bit ∙ c.in-Some.ensures.found.here))).there
 
 pub numbers-smaller : goal.numbers-smaller
 numbers-smaller c =
-    let low = low_in c.args.site.now.tree c.extenders-all.result c.in-Some.number c.tree.ensures c.is_tree.ensures c.extenders-all.ensures c.in-Some.ensures.found.here in
+    let s = c.args.site.now in
+    let core = c.args.core.now in
+    let n = c.in-Some.number in
+    let bit = waiting_bit s core c.beat_resting.new.self c.waiting-waiting.result (far_at s core c.requires.at c.beat_resting.new.self c.beat_resting.ensures.same) c.beat_resting.ensures.state c.waiting-waiting.ensures n in
+    let one = who_waits s.tree (world_in core) n (waits _ (sym bit ∙ c.in-Some.ensures.found.here)) in
+    let low = extender-low s.tree (subst IsTree c.tree.ensures c.is_tree.ensures) n one.there in
     let start = c.in-Some.ensures.found.start in
     omega (arith, low, start)
 
 pub numbers-preserved : goal.numbers-preserved
 numbers-preserved c =
     let s = c.args.site.now in
+    let core = c.args.core.now in
+    let w = world_in core in
+    let far = c.beat_resting.new.self in
     let n = c.in-Some.number in
-    let w = world_in c.args.core.now in
     let inv = c.numbers.invariant in
-    let all = c.extenders-all.result in
     let found = c.in-Some.ensures.found in
-    let low = low_in s.tree all n c.tree.ensures c.is_tree.ensures c.extenders-all.ensures found.here in
+    let bit = waiting_bit s core far c.waiting-waiting.result (far_at s core c.requires.at far c.beat_resting.ensures.same) c.beat_resting.ensures.state c.waiting-waiting.ensures in
+    let one = who_waits s.tree w n (waits _ (sym (bit n) ∙ found.here)) in
+    let low = extender-low s.tree (subst IsTree c.tree.ensures c.is_tree.ensures) n one.there in
     let start = found.start in (
       omega arith,
       omega (arith, low),
-      far_next s.tree s w n c.numbers.core c.beat_far_any.new.core c.args.log.now c.numbers.log c.beat_far_any.new.log (omega (arith, start, inv.0)) low
+      far_next s.tree s w n c.numbers.core c.beat.new.core c.args.log.now c.numbers.log c.beat.new.log (omega (arith, start, inv.0)) low one.awake one.there
           (far_skip s.tree s w c.numbers.from n c.numbers.core c.args.log.now c.numbers.log inv.0 start (omega (arith, low))
-          (λ k from before. none_in s.tree all k c.extenders-all.ensures (found.before k from before)) inv.2) c.in_ok-beat_far_any.ensures,
+          (λ k from before. waits_not _ (sym (bit k) ∙ found.before k from before)) inv.2) c.in_ok-beat.ensures,
     )
 
 pub returns : goal.returns
 returns c =
     let s = c.args.site.now in
-    let w = world_in c.args.core.now in
+    let core = c.args.core.now in
+    let w = world_in core in
+    let far = c.beat_resting.new.self in
     let inv = c.numbers.invariant in
-    far_last s.tree s w 65 c.numbers.core c.args.log.now c.numbers.log (omega arith)
+    let bit = waiting_bit s core far c.waiting-waiting.result (far_at s core c.requires.at far c.beat_resting.ensures.same) c.beat_resting.ensures.state c.waiting-waiting.ensures in
+    far_last s.tree s w 65 c.numbers.core c.args.log.now c.numbers.log (omega arith) (subst IsTree c.tree.ensures c.is_tree.ensures) (resting_there s core c.requires.at)
     (far_skip s.tree s w c.numbers.from 65 c.numbers.core c.args.log.now c.numbers.log inv.0 inv.1 (omega arith)
-    (λ k start before. none_in s.tree c.extenders-all.result k c.extenders-all.ensures (c.in_default.ensures.none k start)) inv.2)
+    (λ k start before. waits_not _ (sym (bit k) ∙ c.in_default.ensures.none k start)) inv.2)

@@ -16,6 +16,9 @@ first_busy-requires-clause-low c =
 pub first_busy-requires-clause-few : goal.first_busy-requires-clause-few
 first_busy-requires-clause-few c = rw c.upwards.ensures (few_first c.args.site.now.tree)
 
+pub first_busy-requires-clause-places : goal.first_busy-requires-clause-places
+first_busy-requires-clause-places c = rw c.upwards.ensures c.upward_places.ensures
+
 pub first_busy-requires-in-Down-clause-low : goal.first_busy-requires-in-Down-clause-low
 first_busy-requires-in-Down-clause-low c =
     let t = c.args.site.now.tree in
@@ -24,6 +27,9 @@ first_busy-requires-in-Down-clause-low c =
 
 pub first_busy-requires-in-Down-clause-few : goal.first_busy-requires-in-Down-clause-few
 first_busy-requires-in-Down-clause-few c = rw c.downwards.ensures (few_by_depth c.args.site.now.tree)
+
+pub first_busy-requires-in-Down-clause-places : goal.first_busy-requires-in-Down-clause-places
+first_busy-requires-in-Down-clause-places c = rw c.downwards.ensures c.downward_places.ensures
 
 pub returns-in-Up-clause-found : goal.returns-in-Up-clause-found
 returns-in-Up-clause-found c =

@@ -13,4 +13,4 @@ pub returns-clause-at : goal.returns-clause-at
 returns-clause-at c =
     let made : Core =
     record { control = c.in_ok-control.control; near = c.in_ok-near.near; far = c.in_ok-far.far; down = c.in_ok-down.down; up = c.in_ok-up.up; next = c.in_ok-next.next; beats = 0 } in
-    begins_at c.args.setup.now made c.in_ok-control.ensures.shape c.in_ok-control.ensures.limits c.in_ok-control.ensures.failed c.in_ok-far.ensures.far c.in_ok-far.ensures.there
+    begins_at c.args.setup.now made c.in_ok-control.ensures.shape c.in_ok-control.ensures.limits c.in_ok-control.ensures.failed c.in_ok-far.ensures.far c.in_ok-far.ensures.there c.in_ok-far.ensures.only
