@@ -1,6 +1,6 @@
 /* The learned table in C, the baseline of bench/learned.py: a plain open-addressing hash table, as that of bench/flat.c.
  *
- *     learned spread|alike COUNT TIMES      as the program exb_learn_bench
+ *     learned spread|alike COUNT TIMES      as the program exb_bench
  */
 #include <stdint.h>
 #include <stdio.h>

@@ -3,7 +3,7 @@
 seen and another one looked up, with 10 to 1,000,000 addresses, by chance and with addresses that are alike. Then, measured in
 the program itself, a tick in which none dies, and forgetting a port with ten addresses, beside 10 and 1,000,000 others.
 
-    bench/learned.py      (the program is the crate exb_learn_bench, which is built where that is needed)
+    bench/learned.py      (the program is the crate exb_bench, which is built where that is needed)
 """
 import os
 import shutil
@@ -20,9 +20,9 @@ FORGETS = 20_000
 
 def built():
     """The program, proved and built where that is needed."""
-    folder = os.path.join(TOP, "crates", "exb_learn_bench")
+    folder = os.path.join(TOP, "crates", "exb_bench")
     subprocess.run(["rt", "run", "--", "spread", "10", "1"], cwd=folder, stdout=subprocess.DEVNULL, check=True)
-    return os.path.join(folder, "out", "exb_learn_bench")
+    return os.path.join(folder, "out", "exb_bench")
 
 
 def seconds(program, what, count, times):

@@ -1,10 +1,7 @@
-//! Words through whole trees of extenders, by tables that are laid by hand.
-ghost use Rattle.std.specs.Prelude.{◌<◌, ◌≤◌};
-
+//! Words through whole trees of extenders, by tables that are laid by hand. Ports are named by their numbers: x1.1 is 64.
+use crate::site::{broom, chain, port, ports, topology_of, tree_of};
 use exb_carriage::{PlainTables, carried, emits};
 use exb_model::list::List;
-use exb_model::memory::NoMemory;
-use exb_model::port::PortId;
 use exb_model::port_set::PortSet;
 use exb_model::setup::{ExtenderSetup, Place, Setup};
 use exb_model::tree::Tree;
@@ -15,100 +12,77 @@ use std::process::Abort;
 /// The first group of a space.
 const GROUP: u16 = 0x1000;
 
-// No extender, and empty tables.
-fn empty_tables(alloc: Global) -> Result<PlainTables, NoMemory> {
-    let mut tables = PlainTables {
-        on: Vec::new(alloc),
-        channels: Vec::new(alloc),
-        cascades: Vec::new(alloc),
-        ecids: Vec::new(alloc),
-    };
-    tables.on.resize(65, 0)?;
-    tables.channels.resize(4160, 0)?;
-    tables.cascades.resize(4160, false)?;
+// Empty lists of E-CIDs for all ports.
+fn no_ecids(rt: &impl Abort, alloc: Global) -> Vec<List<u16>> {
+    let mut ecids = Vec::new(alloc);
     for _port in 0..4160u16 {
-        tables.ecids.push(List::new(alloc))?;
+        let pushed = ecids.push(List::new(alloc));
+        assert!(rt; pushed.is_ok());
     }
-    Ok(tables)
+    ecids
 }
 
-// Hangs an extender on a port.
-fn hang(tables: &mut PlainTables, extender: u8, on: PortId) {
-    if let Some(at) = tables.on.as_mut_slice().get_mut(extender as usize) {
-        *at = on.number();
+// No extender, and empty tables.
+fn empty_tables(rt: &impl Abort, alloc: Global) -> PlainTables {
+    PlainTables {
+        on: vec![in alloc; 0; 65].expect(rt, "memory"),
+        channels: vec![in alloc; 0; 4160].expect(rt, "memory"),
+        cascades: vec![in alloc; false; 4160].expect(rt, "memory"),
+        ecids: no_ecids(rt, alloc),
+    }
+}
+
+// The port on which an extender hangs.
+fn place(on: Place) -> u16 {
+    match on {
+        Place::Bridge { port } => u16::from(port.saturating_sub(1)),
+        Place::Extender { number, port } => {
+            64 * u16::from(number) + u16::from(port.saturating_sub(1))
+        }
+    }
+}
+
+// Hangs an extender where it is.
+fn hang(tables: &mut PlainTables, extender: &ExtenderSetup) {
+    let number = usize::from(extender.number);
+    if let Some(on) = tables.on.as_mut_slice().get_mut(number) {
+        *on = place(extender.on);
     }
 }
 
 // Gives a port a channel and a kind.
-fn create(tables: &mut PlainTables, port: PortId, channel: u16, cascade: bool) {
-    let number = port.number() as usize;
-    if let Some(own) = tables.channels.as_mut_slice().get_mut(number) {
+fn create(tables: &mut PlainTables, port: u16, channel: u16, cascade: bool) {
+    let port = usize::from(port);
+    if let Some(own) = tables.channels.as_mut_slice().get_mut(port) {
         *own = channel;
     }
-    if let Some(kind) = tables.cascades.as_mut_slice().get_mut(number) {
+    if let Some(kind) = tables.cascades.as_mut_slice().get_mut(port) {
         *kind = cascade;
     }
 }
 
+// Gives the E-CID a pair with a port.
+fn add(rt: &impl Abort, tables: &mut PlainTables, port: u16, ecid: u16) {
+    if let Some(ecids) = tables.ecids.as_mut_slice().get_mut(usize::from(port)) {
+        ecids.push(ecid).expect(rt, "memory");
+    }
+}
+
 // Gives the E-CID a pair with each port of an extender in the mask, whose bit k - 1 is port k.
-fn register(tables: &mut PlainTables, extender: u8, ecid: u16, mask: u64) -> Result<(), NoMemory> {
+fn register(rt: &impl Abort, tables: &mut PlainTables, extender: u8, ecid: u16, mask: u64) {
     for place in 0..64u16 {
         if mask >> place & 1 == 1 {
-            add(tables, 64 * extender as u16 + place, ecid)?;
+            add(rt, tables, 64 * u16::from(extender) + place, ecid);
         }
     }
-    Ok(())
 }
 
-// Gives the E-CID a pair with a port.
-fn add(tables: &mut PlainTables, port: u16, ecid: u16) -> Result<(), NoMemory> {
-    match tables.ecids.as_mut_slice().get_mut(port as usize) {
-        Some(ecids) => ecids.push(ecid),
-        None => Ok(()),
-    }
-}
-
-// Port `port` of extender `number`.
-fn port(number: u8, port: u8) -> PortId
-    requires number { number < 65 }
-    requires first { 1 ≤ port }
-    requires last { port ≤ 64 }
-{
-    PortId::new(64 * number as u16 + (port as u16 - 1)).unwrap()
-}
-
-// A frame of 60 bytes with an E-TAG.
-fn word(ingress: u8, ecid: u16) -> [u8; 60] {
+// A frame of 60 bytes with an E-TAG whose last byte is the extension.
+fn word(ingress: u8, ecid: u16, extension: u8) -> [u8; 60] {
+    let [high, low] = ecid.to_be_bytes();
     let mut frame = [7u8; 60];
-    let tag = [
-        0x89,
-        0x3F,
-        0,
-        ingress,
-        (ecid / 256) as u8,
-        (ecid % 256) as u8,
-        0,
-        0,
-    ];
-    frame[12..20].copy_from_slice(&tag);
+    frame[12..20].copy_from_slice(&[0x89, 0x3F, 0, ingress, high, low, 0, extension]);
     frame
-}
-
-// An extender with 64 ports on port `port` of extender `above` or, where that is 0, of the bridge.
-fn extender(number: u8, above: u8, port: u8) -> ExtenderSetup {
-    let on = if above == 0 {
-        Place::Bridge { port }
-    } else {
-        Place::Extender {
-            number: above,
-            port,
-        }
-    };
-    ExtenderSetup {
-        number,
-        ports: 64,
-        on,
-    }
 }
 
 /// A tree and the tables of its extenders.
@@ -119,185 +93,162 @@ struct Fixture {
     tables: PlainTables,
 }
 
-// These extenders below a bridge with 64 ports, with empty tables.
-fn below_bridge(rt: &impl Abort, alloc: Global, extenders: List<ExtenderSetup>) -> Fixture {
-    let mut tables = empty_tables(alloc).expect(rt, "memory");
-    for extender in extenders.as_slice() {
-        let on = match extender.on {
-            Place::Bridge { port } => PortId::new(port.saturating_sub(1) as u16),
-            Place::Extender { number, port } => {
-                PortId::new(64 * number as u16 + port.saturating_sub(1) as u16)
-            }
-        };
-        hang(&mut tables, extender.number, on.expect(rt, "a port"));
+// The extenders of a setup, with no channels and no rows.
+fn fixture_of(rt: &impl Abort, alloc: Global, setup: &Setup) -> Fixture {
+    let mut tables = empty_tables(rt, alloc);
+    for extender in setup.extenders.as_slice() {
+        hang(&mut tables, extender);
     }
-    let setup = Setup {
-        ports: 64,
-        extenders,
-        channels: 4094,
-        groups: 12288,
-        ageing: 300,
-        start: List::new(alloc),
-    };
-    assert!(rt; setup.valid());
     Fixture {
         alloc,
-        tree: Tree::new(alloc, &setup).expect(rt, "memory"),
+        tree: tree_of(rt, alloc, setup),
         tables,
     }
 }
 
+// The same of a topology.
+fn read_fixture(rt: &impl Abort, alloc: Global, file: &str) -> Fixture {
+    let topology = topology_of(rt, alloc, file);
+    fixture_of(rt, alloc, &topology.setup)
+}
+
 impl Fixture {
-    // Lays the rows of a set under a group.
-    fn lay(&mut self, rt: &impl Abort, set: &PortSet, group: u16) {
+    // Gives a port a channel, and the kind that it has in the tree.
+    fn create(&mut self, rt: &impl Abort, number: u16, channel: u16) {
+        let cascade = self.tree.is_cascade(port(rt, number));
+        create(&mut self.tables, number, channel, cascade);
+    }
+
+    // Lays the rows of a set under the group.
+    fn lay(&mut self, rt: &impl Abort, set: &PortSet) {
         let rows = rows(self.alloc, &self.tree, set).expect(rt, "memory");
         for row in rows.as_slice() {
-            register(&mut self.tables, row.extender, group, row.mask).expect(rt, "memory");
+            register(rt, &mut self.tables, row.extender, GROUP, row.mask);
         }
     }
 
-    // How many bytes leave at a port when a frame enters an extender from upstream; 0 where none leaves.
-    fn bytes_at(&self, rt: &impl Abort, extender: u16, frame: &[u8], port: PortId) -> usize {
-        let left = carried(self.alloc, &self.tables, extender, frame, port.number());
+    // How many bytes leave at a port when a word of the group enters an extender from upstream; 0 where none leaves.
+    fn bytes_at(&self, rt: &impl Abort, extender: u16, ingress: u8, port: u16) -> usize {
+        let frame = word(ingress, GROUP, 0);
+        let left = carried(self.alloc, &self.tables, extender, &frame, port);
         match left.expect(rt, "memory") {
             Some(bytes) => bytes.as_slice().len(),
             None => 0,
         }
     }
-}
 
-// 64 extenders in a chain, each on the last port of the one before it. Cascade ports have the channels 1
-// to 63, the first port of the first and of the last extender 64 and 65, and both are the set of a group.
-fn chain(rt: &impl Abort, alloc: Global) -> Fixture {
-    let mut extenders = List::new(alloc);
-    extenders.push(extender(1, 0, 1)).expect(rt, "memory");
-    for above in 1..64u8 {
-        extenders
-            .push(extender(above + 1, above, 64))
-            .expect(rt, "memory");
-    }
-    let mut fixture = below_bridge(rt, alloc, extenders);
-    for number in 1..64u8 {
-        create(&mut fixture.tables, port(number, 64), number as u16, true);
-    }
-    create(&mut fixture.tables, port(1, 1), 64, false);
-    create(&mut fixture.tables, port(64, 1), 65, false);
-    let mut set = PortSet::empty();
-    set.insert(port(1, 1));
-    set.insert(port(64, 1));
-    fixture.lay(rt, &set, GROUP);
-    fixture
-}
-
-// 64 extenders below one bridge port, 63 of them on the ports of the first. All their external ports have
-// channels and are the set of a group.
-fn broom(rt: &impl Abort, alloc: Global) -> Fixture {
-    let mut extenders = List::new(alloc);
-    extenders.push(extender(1, 0, 1)).expect(rt, "memory");
-    for port in 1..64u8 {
-        extenders
-            .push(extender(port + 1, 1, port))
-            .expect(rt, "memory");
-    }
-    let mut fixture = below_bridge(rt, alloc, extenders);
-    let mut set = PortSet::empty();
-    for number in 64..4160u16 {
-        let port = PortId::new(number).unwrap();
-        create(&mut fixture.tables, port, number - 63, number < 127);
-        if number >= 127 {
-            set.insert(port);
-        }
-    }
-    fixture.lay(rt, &set, GROUP);
-    fixture
-}
-
-// An extender on b1 with one port in use and one on b2 with two. In each space the first port has channel
-// 1, and the ports are the set of the first group.
-fn two_spaces(rt: &impl Abort, alloc: Global) -> Fixture {
-    let mut extenders = List::new(alloc);
-    extenders.push(extender(1, 0, 1)).expect(rt, "memory");
-    extenders.push(extender(2, 0, 2)).expect(rt, "memory");
-    let mut fixture = below_bridge(rt, alloc, extenders);
-    create(&mut fixture.tables, port(1, 1), 1, false);
-    create(&mut fixture.tables, port(2, 1), 1, false);
-    create(&mut fixture.tables, port(2, 2), 2, false);
-    let mut first = PortSet::empty();
-    first.insert(port(1, 1));
-    fixture.lay(rt, &first, GROUP);
-    let mut second = PortSet::empty();
-    second.insert(port(2, 1));
-    second.insert(port(2, 2));
-    fixture.lay(rt, &second, GROUP);
-    fixture
-}
-
-// At how many ports of these numbers that are of an extender and no cascade ports of a chain the frame leaves.
-fn leaving(rt: &impl Abort, fixture: &Fixture, first: u16, but: u16) -> u64 {
-    let mut leaving = 0u64;
-    for number in first..4160 {
-        if let Some(port) = PortId::new(number) {
-            if number % 64 != but && fixture.bytes_at(rt, 1, &word(0, GROUP), port) == 52 {
+    // At how many ports from this number on a word that enters x1 leaves, but for those at that place of their device.
+    fn leaving(&self, rt: &impl Abort, first: u16, but: u16) -> u64 {
+        let mut leaving = 0u64;
+        for number in first..4160 {
+            if number % 64 != but && self.bytes_at(rt, 1, 0, number) == 52 {
                 leaving = leaving.saturating_add(1);
             }
         }
+        leaving
     }
-    leaving
+
+    // Whether a word of channel 1 with this last byte of its E-TAG leaves x1.1.
+    fn leaves_with(&self, rt: &impl Abort, extension: u8) -> bool {
+        let left = emits(self.alloc, &self.tables, 64, &word(0, 1, extension));
+        left.expect(rt, "memory").is_some()
+    }
 }
 
 // The extender that a word enters, its ingress number, the port at which it leaves, and how many bytes leave there.
-type Word = (u16, u8, (u8, u8), usize);
+type Word = (u16, u8, u16, usize);
 
 /// Down a chain of 64 to both ends, and not back to the source.
-const CHAIN: [Word; 5] = [
-    (1, 0, (64, 1), 52),
-    (1, 0, (1, 1), 52),
-    (1, 64, (64, 1), 52),
-    (1, 64, (1, 1), 0),
-    (1, 65, (64, 1), 0),
+const CHAIN: &[Word] = &[
+    (1, 0, 4096, 52),
+    (1, 0, 64, 52),
+    (1, 64, 4096, 52),
+    (1, 64, 64, 0),
+    (1, 65, 4096, 0),
 ];
 
 /// One number means another set below each port of the bridge. An ingress number of another space would leave a port out:
 /// a frame of x1.1, whose channel is 1 as that of x2.1, must come to b2 with 0.
-const SPACES: [Word; 6] = [
-    (1, 0, (1, 1), 52),
-    (1, 0, (2, 1), 0),
-    (2, 0, (1, 1), 0),
-    (2, 0, (2, 2), 52),
-    (2, 1, (2, 1), 0),
-    (2, 0, (2, 1), 52),
+const SPACES: &[Word] = &[
+    (1, 0, 64, 52),
+    (1, 0, 128, 0),
+    (2, 0, 64, 0),
+    (2, 0, 129, 52),
+    (2, 1, 128, 0),
+    (2, 0, 128, 52),
 ];
 
 // Asserts that each word leaves with so many bytes.
 fn judge(rt: &impl Abort, fixture: &Fixture, words: &[Word]) {
-    for (extender, ingress, (number, at), wanted) in words {
-        assert!(rt; *number < 65 && *at > 0 && *at < 65);
-        let bytes = fixture.bytes_at(rt, *extender, &word(*ingress, GROUP), port(*number, *at));
-        assert_eq!(rt; bytes, *wanted, "at x{number}.{at} from {ingress}");
+    for (extender, ingress, port, wanted) in words {
+        let bytes = fixture.bytes_at(rt, *extender, *ingress, *port);
+        assert!(rt; bytes == *wanted, "{bytes} bytes at {port} from {ingress}");
     }
 }
 
-// Whether a word of channel 1 with this last byte of its E-TAG leaves x1.1.
-fn leaves_with(rt: &impl Abort, fixture: &mut Fixture, extension: u8) -> bool {
-    register(&mut fixture.tables, 1, 1, 1).expect(rt, "memory");
-    let mut frame = word(0, 1);
-    frame[19] = extension;
-    let at = port(1, 1).number();
-    let left = emits(fixture.alloc, &fixture.tables, at, &frame);
-    left.expect(rt, "memory").is_some()
+// Cascade ports have the channels 1 to 63, the first port of the first and of the last extender 64 and 65, and both are the set
+// of a group.
+fn lay_chain(rt: &impl Abort, chain: &mut Fixture) {
+    for number in 1..64u16 {
+        chain.create(rt, 64 * number + 63, number);
+    }
+    chain.create(rt, 64, 64);
+    chain.create(rt, 4096, 65);
+    chain.lay(rt, &ports(rt, &[64, 4096]));
 }
 
 #[test]
-fn words_leave_where_they_must(rt: HostRuntime) {
-    let alloc = rt.alloc();
-    let chain = chain(&rt, alloc);
-    judge(&rt, &chain, &CHAIN);
-    // At no port of the chain that is not in the set; at all 4,033 external ports below one port of the bridge.
-    assert_eq!(rt; leaving(&rt, &chain, 64, 63), 2);
-    assert_eq!(rt; leaving(&rt, &broom(&rt, alloc), 127, 64), 4033);
-    let mut spaces = two_spaces(&rt, alloc);
-    judge(&rt, &spaces, &SPACES);
-    // A word with an extension byte that isn't 0 is dropped.
-    assert!(rt; leaves_with(&rt, &mut spaces, 0));
-    assert!(rt; !leaves_with(&rt, &mut spaces, 1));
+fn words_go_down_a_chain(rt: HostRuntime) {
+    let file = chain(&rt, rt.alloc(), 64);
+    let mut chain = read_fixture(&rt, rt.alloc(), file.as_str());
+    lay_chain(&rt, &mut chain);
+    judge(&rt, &chain, CHAIN);
+    // At no port that is not in the set.
+    assert_eq!(rt; chain.leaving(&rt, 64, 63), 2);
+}
+
+// All ports of extenders have channels, and the external ones are the set of a group.
+fn lay_broom(rt: &impl Abort, broom: &mut Fixture) {
+    for number in 64..4160u16 {
+        broom.create(rt, number, number - 63);
+    }
+    let set = broom.tree.extended_ports();
+    broom.lay(rt, &set);
+}
+
+#[test]
+fn words_leave_at_all_external_ports_below_one_port_of_the_bridge(rt: HostRuntime) {
+    let file = broom(&rt, rt.alloc());
+    let mut broom = read_fixture(&rt, rt.alloc(), file.as_str());
+    lay_broom(&rt, &mut broom);
+    assert_eq!(rt; broom.leaving(&rt, 127, 64), 4033);
+}
+
+/// An extender on b1 and one on b2.
+const TWO: &str =
+    "bridge = {ports = 2}\nextender = [{number = 1, on = 'b1', ports = 64}, {number = 2, on = 'b2', ports = 64}]\n";
+
+// One port is in use below b1, and two below b2. In each space the first has channel 1, and the ports are the set of the group.
+fn lay_two(rt: &impl Abort, two: &mut Fixture) {
+    two.create(rt, 64, 1);
+    two.create(rt, 128, 1);
+    two.create(rt, 129, 2);
+    two.lay(rt, &ports(rt, &[64]));
+    two.lay(rt, &ports(rt, &[128, 129]));
+}
+
+#[test]
+fn one_number_means_another_set_below_each_port_of_the_bridge(rt: HostRuntime) {
+    let mut two = read_fixture(&rt, rt.alloc(), TWO);
+    lay_two(&rt, &mut two);
+    judge(&rt, &two, SPACES);
+}
+
+#[test]
+fn a_word_with_an_extension_that_is_not_0_is_dropped(rt: HostRuntime) {
+    let mut two = read_fixture(&rt, rt.alloc(), TWO);
+    lay_two(&rt, &mut two);
+    register(&rt, &mut two.tables, 1, 1, 1);
+    assert!(rt; two.leaves_with(&rt, 0));
+    assert!(rt; !two.leaves_with(&rt, 1));
 }

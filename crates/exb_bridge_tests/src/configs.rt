@@ -1,123 +1,165 @@
 //! Each command is seen in the look-ups, as an IEEE 802.1Q bridge is configured. Of the bridge b1 alone is present at first;
 //! extender 1 has three ports.
-use crate::site::{names, topology_of};
+use crate::site::{
+    command, expect_log, port, ports, put, put_names, put_word, start, topology_with,
+};
 use exb_config::Config;
 use exb_model::port::PortId;
 use exb_model::port_set::PortSet;
+use exb_model::rules::StaticAt;
 use exb_model::vlan::{Kind, Vid};
 use exb_text::PortName;
 use exb_topology::Topology;
-use std::alloc::{AllocError, Global};
+use std::alloc::Global;
 use std::process::Abort;
 
 /// Behind this stand the tables of a case.
 const HEAD: &str = "bridge = {ports = 2}\nextender = [{number = 1, on = 'b2', ports = 3}]\n";
 
 // The numbers of b1 and of the extender's ports.
-const PORTS: [u16; 4] = [0, 64, 65, 66];
-
-// All these ports.
-fn all() -> PortSet {
-    let mut ports = PortSet::empty();
-    for number in PORTS {
-        if let Some(port) = PortId::new(number) {
-            ports.insert(port);
-        }
-    }
-    ports
-}
+const PORTS: &[u16] = &[0, 64, 65, 66];
 
 // Those that are present.
-fn present(config: &Config) -> PortSet {
-    let mut ports = PortSet::empty();
+fn present(rt: &impl Abort, config: &Config) -> PortSet {
+    let mut present = PortSet::empty();
     for number in PORTS {
-        if let Some(port) = PortId::new(number) {
-            if config.present(port) {
-                ports.insert(port);
+        let port = port(rt, *number);
+        if config.present(port) {
+            present.insert(port);
+        }
+    }
+    present
+}
+
+// The present members of a VLAN, of one kind.
+fn put_part(
+    rt: &impl Abort,
+    alloc: Global,
+    log: &mut String,
+    config: &Config,
+    vid: Vid,
+    kind: Kind,
+) {
+    let part = config.part(vid, &ports(rt, PORTS), kind);
+    put_names(rt, alloc, log, &part);
+}
+
+// The present members of a VLAN, and what b1 is in it.
+fn put_vlan(rt: &impl Abort, alloc: Global, log: &mut String, config: &Config, vid: Vid) {
+    put(rt, log, format!(in alloc; "vlan {} tagged", vid.number()));
+    put_part(rt, alloc, log, config, vid, Kind::Tagged);
+    put_word(rt, log, " untagged");
+    put_part(rt, alloc, log, config, vid, Kind::Untagged);
+    let of_b1 = config.member(vid, PortId::default());
+    put(rt, log, format!(in alloc; " b1 {of_b1:?}; "));
+}
+
+// The VLANs below 12 that have members.
+fn put_vlans(rt: &impl Abort, alloc: Global, log: &mut String, config: &Config) {
+    for number in 1..12u16 {
+        if let Some(vid) = Vid::new(number) {
+            if config.known(vid) {
+                put_vlan(rt, alloc, log, config, vid);
             }
         }
     }
-    ports
 }
 
-// The present members of a VLAN that has members, and what b1 is in it.
-fn vlan_text(alloc: Global, config: &Config, vid: Vid) -> Result<String, AllocError> {
-    if !config.known(vid) {
-        return Ok(String::new(alloc));
-    }
-    let tagged = names(alloc, &config.part(vid, &all(), Kind::Tagged))?;
-    let untagged = names(alloc, &config.part(vid, &all(), Kind::Untagged))?;
-    let of_b1 = config.member(vid, PortId::default());
-    format!(in alloc;
-        "vlan {} tagged{tagged} untagged{untagged} b1 {of_b1:?}; ",
-        vid.number()
-    )
-}
-
-// The rule of x1.1.
-fn rule_text(alloc: Global, config: &Config) -> Result<String, AllocError> {
-    let port = PortId::new(64).unwrap_or_default();
+// The rule of a port.
+fn put_rule(rt: &impl Abort, alloc: Global, log: &mut String, config: &Config, port: PortId) {
     let rule = config.rule(port);
-    format!(in alloc;
-        "{} {} {:?} {} {}; ",
-        PortName(port),
-        rule.pvid.number(),
-        rule.accept,
-        rule.filter,
-        rule.isolated
-    )
+    put(
+        rt,
+        log,
+        format!(in alloc;
+            "{} {} {:?} {} {}; ",
+            PortName(port),
+            rule.pvid.number(),
+            rule.accept,
+            rule.filter,
+            rule.isolated
+        ),
+    );
 }
 
-// The static entries in order, each also as it is found.
-fn statics_text(alloc: Global, config: &Config) -> Result<String, AllocError> {
-    let mut text = String::new(alloc);
+// Ports behind a word.
+fn put_ports(rt: &impl Abort, alloc: Global, log: &mut String, word: &str, ports: &PortSet) {
+    put_word(rt, log, word);
+    put_names(rt, alloc, log, ports);
+    put_word(rt, log, "; ");
+}
+
+// A static entry, with the ports that are found for it.
+fn put_static(rt: &impl Abort, alloc: Global, log: &mut String, config: &Config, entry: &StaticAt) {
+    let [.., last] = entry.address.0;
+    put(
+        rt,
+        log,
+        format!(in alloc; "static {} {last}", entry.vid.number()),
+    );
+    let found = config.entry(entry.vid, entry.address);
+    put_ports(rt, alloc, log, "", &found.unwrap_or(PortSet::empty()));
+}
+
+// The static entries in order.
+fn put_statics(rt: &impl Abort, alloc: Global, log: &mut String, config: &Config) {
     for at in 0..10u64 {
         if let Some(entry) = config.static_at(at) {
-            let found = config.entry(entry.vid, entry.address);
-            let ports = names(alloc, &found.unwrap_or(PortSet::empty()))?;
-            let [.., last] = entry.address.0;
-            let one = format!(in alloc; "static {} {last}{ports}; ", entry.vid.number())?;
-            text.push_str(one.as_str())?;
+            put_static(rt, alloc, log, config, &entry);
         }
     }
-    Ok(text)
 }
 
 // What a configuration says.
-fn config_text(alloc: Global, config: &Config) -> Result<String, AllocError> {
-    let ports = names(alloc, &present(config))?;
-    let mut text = format!(in alloc; "present{ports}; ")?;
-    for number in 1..12u16 {
-        if let Some(vid) = Vid::new(number) {
-            text.push_str(vlan_text(alloc, config, vid)?.as_str())?;
-        }
-    }
-    text.push_str(rule_text(alloc, config)?.as_str())?;
-    let isolated = names(alloc, &config.isolated())?;
-    text.push_str(format!(in alloc; "isolated{isolated}; ")?.as_str())?;
-    text.push_str(statics_text(alloc, config)?.as_str())?;
-    Ok(text)
+fn text_of(rt: &impl Abort, alloc: Global, config: &Config) -> String {
+    let mut log = String::new(alloc);
+    put_ports(rt, alloc, &mut log, "present", &present(rt, config));
+    put_vlans(rt, alloc, &mut log, config);
+    put_rule(rt, alloc, &mut log, config, port(rt, 64));
+    put_ports(rt, alloc, &mut log, "isolated", &config.isolated());
+    put_statics(rt, alloc, &mut log, config);
+    log
 }
 
-// The configuration of a topology after its commands. A copy that is made before them stays as it was.
-fn configured(rt: &impl Abort, alloc: Global, topology: &Topology) -> String {
-    let mut b1 = PortSet::empty();
-    b1.insert(PortId::default());
-    let mut config = Config::new(alloc, &b1).expect(rt, "memory");
-    for command in topology.setup.start.as_slice() {
-        config.apply(command).expect(rt, "memory");
-    }
+// Asserts what a configuration says.
+fn expect_text(rt: &impl Abort, alloc: Global, config: &Config, wanted: &str, of: &str) {
+    let text = text_of(rt, alloc, config);
+    expect_log(rt, text.as_str(), wanted, of);
+}
+
+// The configuration in which b1 alone is present, after what the start sets.
+fn started(rt: &impl Abort, alloc: Global, topology: &Topology) -> Config {
+    let mut config = Config::new(alloc, &ports(rt, &[0])).expect(rt, "memory");
+    start(rt, &mut config, topology);
+    config
+}
+
+// Asserts that a copy that is made before the commands stays as it was.
+fn expect_copy(rt: &impl Abort, alloc: Global, topology: &Topology, of: &str) {
+    let mut config = started(rt, alloc, topology);
+    let before = text_of(rt, alloc, &config);
     let copy = config.copy().expect(rt, "memory");
-    let before = config_text(alloc, &config).expect(rt, "memory");
-    for timed in topology.commands.as_slice() {
-        config.apply(&timed.command).expect(rt, "memory");
-    }
-    let copied = config_text(alloc, &copy).expect(rt, "memory");
-    assert_eq!(rt; copied.as_str(), before.as_str());
-    config_text(alloc, &config).expect(rt, "memory")
+    command(rt, &mut config, topology);
+    expect_text(rt, alloc, &copy, before.as_str().trim_end(), of);
 }
 
-const CASES: [(&str, &str); 9] = [
+// Asserts what the configuration of a topology says after its commands.
+fn expect_config(rt: &impl Abort, alloc: Global, topology: &Topology, wanted: &str, of: &str) {
+    let mut config = started(rt, alloc, topology);
+    command(rt, &mut config, topology);
+    expect_text(rt, alloc, &config, wanted, of);
+}
+
+// Asserts what the configuration of each case says.
+fn judge(rt: &impl Abort, alloc: Global, cases: &[(&str, &str)]) {
+    for (tail, wanted) in cases {
+        let topology = topology_with(rt, alloc, HEAD, tail);
+        expect_copy(rt, alloc, &topology, tail);
+        expect_config(rt, alloc, &topology, wanted, tail);
+    }
+}
+
+const CASES: &[(&str, &str)] = &[
     (
         "vlan = []\n",
         "present b1; x1.1 1 All false false; isolated;",
@@ -165,12 +207,6 @@ const CASES: [(&str, &str); 9] = [
 ];
 
 #[test]
-fn each_command_is_seen_in_the_configuration(rt: HostRuntime) -> Result<(), AllocError> {
-    let alloc = rt.alloc();
-    for (tail, wanted) in CASES {
-        let file = format!(in alloc; "{HEAD}{tail}")?;
-        let text = configured(&rt, alloc, &topology_of(&rt, alloc, file.as_str()));
-        assert_eq!(rt; text.as_str().trim_end(), wanted, "of {tail}");
-    }
-    Ok(())
+fn each_command_is_seen_in_the_configuration(rt: HostRuntime) {
+    judge(&rt, rt.alloc(), CASES);
 }

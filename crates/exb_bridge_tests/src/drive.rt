@@ -12,19 +12,21 @@
 ghost use Rattle.std.specs.Prelude.{◌≡◌, ℕ, true};
 ghost use Rattle.exb_model.specs.Setup.{AreExternal, NamesExternal};
 
-use crate::site::{byte, number, port, small, topology_of};
-use exb_control::{Control, Ingress, Outbox, SendTo};
+use crate::asked::Told;
+use crate::site::{byte, expect_log, number, port, put, put_word, small, topology_of};
+use exb_control::{Asked, Control, Ingress, Outbox, SendTo};
 use exb_csp::{Body, Message, Request, Response};
+use exb_hostile::hex;
 use exb_lldp::Announce;
 use exb_model::address::Mac;
 use exb_model::command::Command;
-use exb_model::event::{Cause, Event};
+use exb_model::event::Event;
 use exb_model::port::PortId;
 use exb_model::port_set::PortSet;
+use exb_model::setup::{Setup, Timed};
 use exb_model::tree::Tree;
 use exb_plan::groups::is_cascade;
-use exb_text::PortName;
-use exb_topology::Topology;
+use exb_text::{EventLine, PortName};
 use std::alloc::{AllocError, Global};
 use std::process::Abort;
 
@@ -45,16 +47,144 @@ fn names_external(tree: &Tree, command: &Command) -> bool
             untagged,
             ..
         } => are_external(tree, tagged) && are_external(tree, untagged),
-        Command::Member { port, .. } => tree.is_external(*port),
-        Command::Unmember { port, .. } => tree.is_external(*port),
-        Command::Pvid { port, .. } => tree.is_external(*port),
-        Command::Accept { port, .. } => tree.is_external(*port),
-        Command::Filter { port, .. } => tree.is_external(*port),
-        Command::Isolate { port, .. } => tree.is_external(*port),
         Command::Static { ports, .. } => are_external(tree, ports),
         Command::Unstatic { .. } => true,
-        Command::Up { port } => tree.is_external(*port),
-        Command::Down { port } => tree.is_external(*port),
+        Command::Member { port, .. }
+        | Command::Unmember { port, .. }
+        | Command::Pvid { port, .. }
+        | Command::Accept { port, .. }
+        | Command::Filter { port, .. }
+        | Command::Isolate { port, .. }
+        | Command::Up { port }
+        | Command::Down { port } => tree.is_external(*port),
+    }
+}
+
+// The two words of a step behind its verb.
+fn pair<'a>(rt: &impl Abort, words: &'a str) -> (&'a str, &'a str) {
+    words.split_once(' ').expect(rt, "two words")
+}
+
+// An extender of so many ports is heard.
+fn hear(rt: &impl Abort, control: &mut Control, out: &mut Outbox, extender: u8, ports: u8) {
+    assert!(rt; control.tree().is_extender(extender));
+    let chassis = Mac([0x02, 0x45, 0x42, 0x01, 0x00, extender]);
+    let heard = control.heard(extender, &Announce { chassis, ports }, out);
+    assert!(rt; heard.is_ok());
+}
+
+// A command is given.
+fn give(rt: &impl Abort, control: &mut Control, out: &mut Outbox, command: &Command) {
+    assert!(rt; control.given() < 65536);
+    assert!(rt; names_external(control.tree(), command));
+    let given = control.command(command, out);
+    assert!(rt; given.is_ok());
+}
+
+/// The answer to the request that went out last.
+#[derive(Clone, Copy)]
+struct Due {
+    extender: u8,
+    serial: u64,
+    response: Response,
+}
+
+// An answer comes.
+fn answer(rt: &impl Abort, control: &mut Control, out: &mut Outbox, due: Due) {
+    assert!(rt; control.tree().is_extender(due.extender));
+    let message = Message {
+        serial: due.serial,
+        body: Body::Answer(due.response),
+    };
+    let taken = control.answered(due.extender, &message, out);
+    assert!(rt; taken.is_ok());
+}
+
+// A beat passes.
+fn beat(rt: &impl Abort, control: &mut Control, out: &mut Outbox) {
+    let beaten = control.beat(out);
+    assert!(rt; beaten.is_ok());
+}
+
+// A frame comes at a port.
+fn come(rt: &impl Abort, control: &mut Control, out: &mut Outbox, port: PortId, frame: &[u8]) {
+    assert!(rt; control.tree().is_external(port));
+    let come = control.frame(port, 1, 5, frame, out);
+    assert!(rt; come.is_ok());
+}
+
+// The port of a channel below a port of the bridge.
+fn holder(rt: &impl Abort, control: &Control, bridge_port: u8, channel: u16) -> Option<PortId> {
+    assert!(rt; bridge_port > 0 && bridge_port < 65);
+    assert!(rt; is_cascade(control.tree(), bridge_port));
+    control.port(bridge_port, channel)
+}
+
+// The name of the port of a channel.
+fn holder_text(
+    rt: &impl Abort,
+    alloc: Global,
+    control: &Control,
+    words: &str,
+) -> Result<String, AllocError> {
+    let (bridge_port, channel) = pair(rt, words);
+    match holder(rt, control, byte(rt, bridge_port), small(rt, channel)) {
+        Some(port) => format!(in alloc; "{}; ", PortName(port)),
+        None => format!(in alloc; "none; "),
+    }
+}
+
+// The channel of a port.
+fn channel_text(
+    rt: &impl Abort,
+    alloc: Global,
+    control: &Control,
+    word: &str,
+) -> Result<String, AllocError> {
+    let channel = control.of(port(rt, small(rt, word)));
+    format!(in alloc; "{channel:?}; ")
+}
+
+// How many exchanges are planned.
+fn planned_text(rt: &impl Abort, alloc: Global, control: &Control) -> Result<String, AllocError> {
+    let planned = control.planned().expect(rt, "memory for the plans");
+    format!(in alloc; "planned {planned}; ")
+}
+
+// Whether all is settled.
+fn settled_text(alloc: Global, control: &Control) -> Result<String, AllocError> {
+    format!(in alloc; "settled {}; ", control.settled())
+}
+
+// Logs events.
+fn note_events(rt: &impl Abort, alloc: Global, log: &mut String, events: &[Event]) {
+    for event in events {
+        put(rt, log, format!(in alloc; "{}; ", EventLine(event)));
+    }
+}
+
+// Logs what is sent for a frame: the port, `ingress/E-CID` where it has an E-TAG, and how it is to leave.
+fn note_send(rt: &impl Abort, alloc: Global, log: &mut String, send: &SendTo) {
+    put(rt, log, format!(in alloc; "b{} ", send.bridge_port));
+    if let Some(tag) = &send.tag {
+        put(rt, log, format!(in alloc; "{}/{} ", tag.ingress, tag.ecid));
+    }
+    put(rt, log, format!(in alloc; "{:?}; ", send.kind));
+}
+
+// Logs what became of a frame.
+fn note_sends(
+    rt: &impl Abort,
+    alloc: Global,
+    log: &mut String,
+    ingress: &Ingress,
+    sends: &[SendTo],
+) {
+    if let Ingress::Dropped = ingress {
+        put_word(rt, log, "dropped; ");
+    }
+    for send in sends {
+        note_send(rt, alloc, log, send);
     }
 }
 
@@ -71,164 +201,102 @@ fn done(request: &Request) -> Response {
     }
 }
 
-// A request in words: E-CIDs and masks as numbers.
-fn request_text(alloc: Global, request: &Request) -> Result<String, AllocError> {
-    match request {
-        Request::Open => format!(in alloc; "open"),
-        Request::PortCreate {
-            port,
-            cascade,
-            channel,
-        } => format!(in alloc;
-            "create {port} {channel}{}",
-            if *cascade { " cascade" } else { "" }
-        ),
-        Request::PortDelete { port } => format!(in alloc; "delete {port}"),
-        Request::Register { ecid, mask } => format!(in alloc; "lay {ecid}={mask}"),
-        Request::Unregister { ecid } => format!(in alloc; "clear {ecid}"),
-        Request::RegisterMany { rows } => {
-            let mut text = String::from_str(alloc, "lay")?;
-            for row in rows.as_slice() {
-                text.push_str(format!(in alloc; " {}={}", row.ecid, row.mask)?.as_str())?;
-            }
-            Ok(text)
-        }
-        Request::UnregisterMany { ecids } => {
-            let mut text = String::from_str(alloc, "clear")?;
-            for ecid in ecids.as_slice() {
-                text.push_str(format!(in alloc; " {ecid}")?.as_str())?;
-            }
-            Ok(text)
-        }
-    }
-}
-
-// Why numbers run out.
-fn cause_text(alloc: Global, cause: &Cause) -> Result<String, AllocError> {
-    match cause {
-        Cause::Channels { needed, limit } => format!(in alloc; "channels {needed} {limit}"),
-        Cause::Groups { needed, limit } => format!(in alloc; "groups {needed} {limit}"),
-    }
-}
-
-// An event in words.
-fn event_text(alloc: Global, event: &Event) -> Result<String, AllocError> {
-    match event {
-        Event::Up { port } => format!(in alloc; "up {}; ", PortName(*port)),
-        Event::NoUp { port, cause } => {
-            let cause = cause_text(alloc, cause)?;
-            format!(in alloc; "noup {} {cause}; ", PortName(*port))
-        }
-        Event::Commit { number } => format!(in alloc; "commit {number}; "),
-        Event::Refuse { number, cause } => {
-            let cause = cause_text(alloc, cause)?;
-            format!(in alloc; "refuse {number} {cause}; ")
-        }
-        Event::Relay { port, .. } => format!(in alloc; "relay {}; ", PortName(*port)),
-        Event::Ignored { port, .. } => format!(in alloc; "ignore {}; ", PortName(*port)),
-        Event::Tick { seconds } => format!(in alloc; "tick {seconds}; "),
-        Event::Settled => format!(in alloc; "settled; "),
-    }
-}
-
-// A frame that the bridge sends: the port, `ingress/E-CID` where it has an E-TAG, and how it is to leave.
-fn send_text(alloc: Global, send: &SendTo) -> Result<String, AllocError> {
-    match &send.tag {
-        Some(tag) => {
-            format!(in alloc;
-                "b{} {}/{} {:?}; ",
-                send.bridge_port, tag.ingress, tag.ecid, send.kind
-            )
-        }
-        None => format!(in alloc; "b{} {:?}; ", send.bridge_port, send.kind),
-    }
-}
-
-/// The answer to the request that went out last.
-#[derive(Clone, Copy)]
-struct Due {
+// Logs a request of an extender; the answer to it.
+fn note_request(
+    rt: &impl Abort,
+    alloc: Global,
+    log: &mut String,
     extender: u8,
-    serial: u64,
-    response: Response,
+    request: &Request,
+) -> Response {
+    put(
+        rt,
+        log,
+        format!(in alloc; "x{extender} {}; ", Told(request)),
+    );
+    done(request)
 }
 
-/// The control of a topology, and the log.
+// Logs what is asked; the answer to it.
+fn note_ask(rt: &impl Abort, alloc: Global, log: &mut String, asked: &Asked) -> Option<Due> {
+    match &asked.message.body {
+        Body::Ask(request) => Some(Due {
+            extender: asked.extender,
+            serial: asked.message.serial,
+            response: note_request(rt, alloc, log, asked.extender, request),
+        }),
+        Body::Answer(_) => None,
+    }
+}
+
+// Logs all that is asked; the answer to the last of it.
+fn note_asks(rt: &impl Abort, alloc: Global, log: &mut String, asks: &[Asked]) -> Option<Due> {
+    let mut due = None;
+    for asked in asks {
+        due = note_ask(rt, alloc, log, asked);
+    }
+    due
+}
+
+// The bytes of a text of hexadecimal digits, and zeros behind them up to 60 bytes.
+fn frame_of(rt: &impl Abort, alloc: Global, text: &str) -> Vec<u8> {
+    let mut bytes = hex::bytes_of(alloc, text).expect(rt, "bytes as hexadecimal digits");
+    let zeros = 60usize.saturating_sub(bytes.len());
+    for _zero in 0..zeros {
+        bytes.push(0).expect(rt, "memory");
+    }
+    bytes
+}
+
+/// A control, what its last call gave, and the log.
 #[derive(Drop)]
 struct Drive {
     alloc: Global,
-    topology: Topology,
     control: Control,
     out: Outbox,
-    given: usize,
     due: Option<Due>,
     log: String,
 }
 
+// The control of a setup, to which nothing has happened.
+fn control_of(rt: &impl Abort, alloc: Global, setup: &Setup) -> Control {
+    assert!(rt; setup.valid());
+    Control::new(alloc, setup).expect(rt, "memory for a control")
+}
+
 impl Drive {
-    fn new(rt: &impl Abort, alloc: Global, topology: Topology) -> Drive {
-        assert!(rt; topology.setup.valid());
+    fn new(rt: &impl Abort, alloc: Global, setup: &Setup) -> Drive {
         Drive {
             alloc,
-            control: Control::new(alloc, &topology.setup).expect(rt, "memory for a control"),
-            topology,
             out: Outbox::new(alloc),
-            given: 0,
             due: None,
             log: String::new(alloc),
-        }
-    }
-
-    // Logs a text.
-    fn say(&mut self, rt: &impl Abort, text: &Result<String, AllocError>) {
-        match text {
-            Ok(text) => self.log.push_str(text.as_str()).expect(rt, "memory"),
-            Err(_) => panic!(rt; "memory"),
+            control: control_of(rt, alloc, setup),
         }
     }
 
     // Notes what the last call gave.
     fn note(&mut self, rt: &impl Abort) {
-        for event in self.out.events.as_slice() {
-            let text = event_text(self.alloc, event).expect(rt, "memory");
-            self.log.push_str(text.as_str()).expect(rt, "memory");
-        }
-        for asked in self.out.asks.as_slice() {
-            if let Body::Ask(request) = &asked.message.body {
-                let extender = asked.extender;
-                let request_words = request_text(self.alloc, request).expect(rt, "memory");
-                let text = format!(in self.alloc; "x{extender} {request_words}; ");
-                let text = text.expect(rt, "memory");
-                self.log.push_str(text.as_str()).expect(rt, "memory");
-                self.due = Some(Due {
-                    extender,
-                    serial: asked.message.serial,
-                    response: done(request),
-                });
-            }
+        note_events(rt, self.alloc, &mut self.log, self.out.events.as_slice());
+        let due = note_asks(rt, self.alloc, &mut self.log, self.out.asks.as_slice());
+        if due.is_some() {
+            self.due = due;
         }
     }
 
     // Hears an extender of so many ports.
-    fn hear(&mut self, rt: &impl Abort, extender: u8, ports: u8) {
-        assert!(rt; self.control.tree().is_extender(extender));
-        let announce = Announce {
-            chassis: Mac([0x02, 0x45, 0x42, 0x01, 0x00, extender]),
-            ports,
-        };
-        let heard = self.control.heard(extender, &announce, &mut self.out);
-        assert!(rt; heard.is_ok());
+    fn hear(&mut self, rt: &impl Abort, words: &str) {
+        let (extender, ports) = pair(rt, words);
+        let (extender, ports) = (byte(rt, extender), byte(rt, ports));
+        hear(rt, &mut self.control, &mut self.out, extender, ports);
         self.note(rt);
     }
 
-    // Gives the next command of the topology.
-    fn give(&mut self, rt: &impl Abort) {
-        let timed = self.topology.commands.as_slice().get(self.given);
-        let command = timed.expect(rt, "a command").command;
-        self.given = self.given.saturating_add(1);
-        assert!(rt; self.control.given() < 65536);
-        assert!(rt; names_external(self.control.tree(), &command));
-        let given = self.control.command(&command, &mut self.out);
-        assert!(rt; given.is_ok());
+    // Gives the next of these commands.
+    fn give(&mut self, rt: &impl Abort, commands: &[Timed]) {
+        let next = commands.get(self.control.given() as usize);
+        let command = &next.expect(rt, "a command").command;
+        give(rt, &mut self.control, &mut self.out, command);
         self.note(rt);
     }
 
@@ -238,13 +306,7 @@ impl Drive {
             return false;
         };
         self.due = None;
-        assert!(rt; self.control.tree().is_extender(due.extender));
-        let message = Message {
-            serial: due.serial,
-            body: Body::Answer(due.response),
-        };
-        let taken = self.control.answered(due.extender, &message, &mut self.out);
-        assert!(rt; taken.is_ok());
+        answer(rt, &mut self.control, &mut self.out, due);
         self.note(rt);
         true
     }
@@ -262,123 +324,74 @@ impl Drive {
     // Beats pass.
     fn beat(&mut self, rt: &impl Abort, beats: u32) {
         for _beat in 0..beats {
-            let beaten = self.control.beat(&mut self.out);
-            assert!(rt; beaten.is_ok());
+            beat(rt, &mut self.control, &mut self.out);
             self.note(rt);
         }
     }
 
     // A frame comes at a port; what is sent is logged.
-    fn come(&mut self, rt: &impl Abort, port: PortId, frame: &[u8]) {
-        assert!(rt; self.control.tree().is_external(port));
-        let come = self.control.frame(port, 1, 5, frame, &mut self.out);
-        assert!(rt; come.is_ok());
+    fn come(&mut self, rt: &impl Abort, words: &str) {
+        let (at, bytes) = pair(rt, words);
+        let frame = frame_of(rt, self.alloc, bytes);
+        let at = port(rt, small(rt, at));
+        come(rt, &mut self.control, &mut self.out, at, frame.as_slice());
         self.note(rt);
-        if let Ingress::Dropped = self.out.ingress {
-            self.log.push_str("dropped; ").expect(rt, "memory");
-        }
-        for send in self.out.sends.as_slice() {
-            let text = send_text(self.alloc, send).expect(rt, "memory");
-            self.log.push_str(text.as_str()).expect(rt, "memory");
-        }
+        let sends = self.out.sends.as_slice();
+        note_sends(rt, self.alloc, &mut self.log, &self.out.ingress, sends);
     }
 
-    // Logs the port of a channel.
-    fn port_of(&mut self, rt: &impl Abort, bridge_port: u8, channel: u16) {
-        assert!(rt; bridge_port > 0 && bridge_port < 65);
-        assert!(rt; is_cascade(self.control.tree(), bridge_port));
-        let text = match self.control.port(bridge_port, channel) {
-            Some(port) => format!(in self.alloc; "{}; ", PortName(port)),
-            None => format!(in self.alloc; "none; "),
-        };
-        self.say(rt, &text);
-    }
-
-    // Logs what a step asks for.
-    fn tell(&mut self, rt: &impl Abort, word: &str, of: Option<&str>) {
-        let text = match word {
-            "planned" => {
-                let planned = self.control.planned().expect(rt, "memory for the plans");
-                format!(in self.alloc; "planned {planned}; ")
-            }
-            "settled" => format!(in self.alloc; "settled {}; ", self.control.settled()),
-            "of" => format!(in self.alloc; "{:?}; ", self.control.of(port(rt, of))),
+    // What a step asks for.
+    fn told(&self, rt: &impl Abort, verb: &str, words: &str) -> Result<String, AllocError> {
+        match verb {
+            "planned" => planned_text(rt, self.alloc, &self.control),
+            "settled" => settled_text(self.alloc, &self.control),
+            "port" => holder_text(rt, self.alloc, &self.control, words),
+            "of" => channel_text(rt, self.alloc, &self.control, words),
             "mark" => format!(in self.alloc; "| "),
-            _ => panic!(rt; "no such step: {word}"),
-        };
-        self.say(rt, &text);
+            _ => panic!(rt; "no such step: {verb}"),
+        }
     }
 
     // Does a step.
-    fn step(&mut self, rt: &impl Abort, step: &str) {
-        let mut words = step.split_whitespace();
-        let word = words.next().expect(rt, "a step");
-        match word {
-            "hear" => {
-                let extender = byte(rt, words.next());
-                self.hear(rt, extender, byte(rt, words.next()))
-            }
-            "give" => self.give(rt),
-            "answer" => {
-                let waits = self.answer(rt);
-                assert!(rt; waits)
-            }
+    fn step(&mut self, rt: &impl Abort, commands: &[Timed], verb: &str, words: &str) {
+        match verb {
+            "hear" => self.hear(rt, words),
+            "give" => self.give(rt, commands),
+            "answer" => assert!(rt; self.answer(rt)),
             "answers" => self.answers(rt),
-            "beat" => self.beat(rt, number(rt, words.next())),
-            "frame" => {
-                let port = port(rt, words.next());
-                let frame = bytes_of(rt, self.alloc, words.next().expect(rt, "bytes"));
-                self.come(rt, port, frame.as_slice())
-            }
-            "port" => {
-                let bridge_port = byte(rt, words.next());
-                self.port_of(rt, bridge_port, small(rt, words.next()))
-            }
+            "beat" => self.beat(rt, number(rt, words)),
+            "frame" => self.come(rt, words),
             "skip" => self.log.clear(),
-            _ => self.tell(rt, word, words.next()),
+            _ => {
+                let text = self.told(rt, verb, words);
+                put(rt, &mut self.log, text)
+            }
         }
     }
-}
 
-// The value of a hexadecimal digit.
-fn digit(rt: &impl Abort, byte: u8) -> u8 {
-    match byte {
-        b'0'..=b'9' => byte - b'0',
-        b'A'..=b'F' => byte - b'A' + 10,
-        _ => panic!(rt; "no hexadecimal digit"),
-    }
-}
-
-// The bytes of a text of hexadecimal digits, and zeros behind them up to 60 bytes.
-fn bytes_of(rt: &impl Abort, alloc: Global, text: &str) -> Vec<u8> {
-    let mut bytes = Vec::new(alloc);
-    for pair in text.as_bytes().chunks_exact(2) {
-        if let [high, low] = pair {
-            let byte = (digit(rt, *high) % 16) << 4 | digit(rt, *low);
-            bytes.push(byte).expect(rt, "memory");
+    // Does the steps of a text.
+    fn play(&mut self, rt: &impl Abort, commands: &[Timed], steps: &str) {
+        for step in steps.split(';') {
+            let (verb, words) = step.split_once(' ').unwrap_or((step, ""));
+            self.step(rt, commands, verb, words);
         }
     }
-    let zeros = 60usize.saturating_sub(bytes.len());
-    for _zero in 0..zeros {
-        bytes.push(0).expect(rt, "memory");
-    }
-    bytes
 }
 
 /// A case: the topology, the steps, and the log that they must leave.
 pub(crate) type Case = (&'static str, &'static str, &'static str);
 
+// Asserts that the steps leave this log.
+fn expect(rt: &impl Abort, alloc: Global, topology: &str, steps: &str, wanted: &str) {
+    let topology = topology_of(rt, alloc, topology);
+    let mut drive = Drive::new(rt, alloc, &topology.setup);
+    drive.play(rt, topology.commands.as_slice(), steps);
+    expect_log(rt, drive.log.as_str(), wanted, steps);
+}
+
 /// Asserts that each case leaves its log.
 pub(crate) fn judge(rt: &impl Abort, alloc: Global, cases: &[Case]) {
     for (topology, steps, wanted) in cases {
-        let mut drive = Drive::new(rt, alloc, topology_of(rt, alloc, topology));
-        for step in steps.split(';') {
-            drive.step(rt, step);
-        }
-        assert_eq!(rt;
-            drive.log.as_str().trim_end(),
-            *wanted,
-            "of {topology} {steps}"
-        );
+        expect(rt, alloc, topology, steps, wanted);
     }
 }

@@ -1,83 +1,90 @@
 //! The sets of a topology whose external ports are all present but those of its `down` commands, and their rows. A set is told
 //! as its port of the bridge, its ports, and `xN=MASK` for each row; of more than eight only how many they are.
-use crate::site::{names, topology_of};
+use crate::site::{
+    broom, chain, command, expect_log, put, put_names, put_word, start, topology_of, topology_with,
+    tree_of,
+};
 use exb_config::Config;
-use exb_model::port::PortId;
 use exb_model::port_set::PortSet;
 use exb_model::tree::Tree;
 use exb_plan::{rows, sets};
 use exb_plans::{Row, SetAt};
 use exb_topology::Topology;
-use std::alloc::{AllocError, Global};
+use std::alloc::Global;
 use std::process::Abort;
 
 // How many ports a set has.
 fn count(set: &PortSet) -> u32 {
     let mut count = 0u32;
-    for number in 0..4160u16 {
-        if let Some(port) = PortId::new(number) {
-            if set.contains(port) {
-                count = count.saturating_add(1);
-            }
-        }
+    for device in 0..65u8 {
+        count = count.saturating_add(set.mask(device).count_ones());
     }
     count
 }
 
-// The rows of a set.
-fn rows_text(alloc: Global, rows: &[Row]) -> Result<String, AllocError> {
+// The ports of a set, or how many they are.
+fn put_ports(rt: &impl Abort, alloc: Global, log: &mut String, set: &PortSet) {
+    match count(set) {
+        0..=8 => put_names(rt, alloc, log, set),
+        many => put(rt, log, format!(in alloc; " {many} ports")),
+    }
+}
+
+// The rows of a set, or how many they are.
+fn put_rows(rt: &impl Abort, alloc: Global, log: &mut String, rows: &[Row]) {
     if rows.len() > 8 {
-        return format!(in alloc; "{} rows", rows.len());
+        return put(rt, log, format!(in alloc; " {} rows", rows.len()));
     }
-    let mut text = String::new(alloc);
     for row in rows {
-        text.push_str(format!(in alloc; "x{}={} ", row.extender, row.mask)?.as_str())?;
+        put(
+            rt,
+            log,
+            format!(in alloc; " x{}={}", row.extender, row.mask),
+        );
     }
-    Ok(text)
 }
 
 // A set and its rows.
-fn set_text(rt: &impl Abort, alloc: Global, tree: &Tree, at: &SetAt) -> String {
-    let ports = match count(&at.set) {
-        0..=8 => names(alloc, &at.set),
-        many => format!(in alloc; " {many} ports"),
-    };
+fn put_set(rt: &impl Abort, alloc: Global, log: &mut String, tree: &Tree, at: &SetAt) {
+    put(rt, log, format!(in alloc; "b{}", at.bridge_port));
+    put_ports(rt, alloc, log, &at.set);
+    put_word(rt, log, ":");
     let rows = rows(alloc, tree, &at.set).expect(rt, "memory");
-    let rows = rows_text(alloc, rows.as_slice()).expect(rt, "memory");
-    let ports = ports.expect(rt, "memory");
-    let text = format!(in alloc;
-        "b{}{ports}: {}; ",
-        at.bridge_port,
-        rows.as_str().trim_end()
-    );
-    text.expect(rt, "memory")
+    put_rows(rt, alloc, log, rows.as_slice());
+    put_word(rt, log, "; ");
 }
 
-// The sets of a topology.
-fn sets_text(rt: &impl Abort, alloc: Global, topology: &Topology) -> String {
-    assert!(rt; topology.setup.valid());
-    let tree = Tree::new(alloc, &topology.setup).expect(rt, "memory");
-    let mut config = Config::new(alloc, &tree.external_ports()).expect(rt, "memory");
-    for command in topology.setup.start.as_slice() {
-        config.apply(command).expect(rt, "memory");
-    }
-    for timed in topology.commands.as_slice() {
-        config.apply(&timed.command).expect(rt, "memory");
-    }
-    let mut text = String::new(alloc);
-    let sets = sets(alloc, &tree, &config).expect(rt, "memory");
+// The sets of a configuration.
+fn sets_text(rt: &impl Abort, alloc: Global, tree: &Tree, config: &Config) -> String {
+    let mut log = String::new(alloc);
+    let sets = sets(alloc, tree, config).expect(rt, "memory");
     for at in sets.as_slice() {
-        let set = set_text(rt, alloc, &tree, at);
-        text.push_str(set.as_str()).expect(rt, "memory");
+        put_set(rt, alloc, &mut log, tree, at);
     }
-    text
+    log
+}
+
+// The configuration of a topology after its commands, in which all external ports are present at first.
+fn config_of(rt: &impl Abort, alloc: Global, tree: &Tree, topology: &Topology) -> Config {
+    let mut config = Config::new(alloc, &tree.external_ports()).expect(rt, "memory");
+    start(rt, &mut config, topology);
+    command(rt, &mut config, topology);
+    config
+}
+
+// Asserts that a topology has these sets.
+fn expect_sets(rt: &impl Abort, alloc: Global, topology: &Topology, wanted: &str, of: &str) {
+    let tree = tree_of(rt, alloc, &topology.setup);
+    let config = config_of(rt, alloc, &tree, topology);
+    let text = sets_text(rt, alloc, &tree, &config);
+    expect_log(rt, text.as_str(), wanted, of);
 }
 
 /// Extender 3 on b1, extender 1 on its second port, and extender 2 on b2.
 const CROOKED: &str =
     "bridge = {ports = 4}\nextender = [{number = 1, on = 'x3.2', ports = 2}, {number = 3, on = 'b1', ports = 2}, {number = 2, on = 'b2', ports = 2}]\n";
 
-const CASES: [(&str, &str); 7] = [
+const CASES: &[(&str, &str)] = &[
     // A part below each port of the bridge; rows by depth and then number; ports of the bridge itself are in none.
     (
         "vlan = [{vid = 1, untagged = ['x3.1', 'x1.2', 'x2.1', 'b3']}]\n",
@@ -107,52 +114,35 @@ const CASES: [(&str, &str); 7] = [
     ("vlan = []\n", ""),
 ];
 
-// 64 extenders, each on the one port of the one before it.
-fn chain(alloc: Global) -> Result<String, AllocError> {
-    let mut file = String::from_str(alloc, "bridge = {ports = 2}\nextender = [")?;
-    file.push_str("{number = 1, on = 'b1', ports = 1}")?;
-    for above in 1..64u32 {
-        let next = above + 1;
-        let one = format!(in alloc; ", {{number = {next}, on = 'x{above}.1', ports = 1}}")?;
-        file.push_str(one.as_str())?;
+// Asserts that each case has its sets.
+fn judge(rt: &impl Abort, alloc: Global, cases: &[(&str, &str)]) {
+    for (tail, wanted) in cases {
+        let topology = topology_with(rt, alloc, CROOKED, tail);
+        expect_sets(rt, alloc, &topology, wanted, tail);
     }
-    file.push_str("]\n")?;
-    Ok(file)
-}
-
-// 64 extenders of 64 ports, 63 of them on the ports of the first.
-fn broom(alloc: Global) -> Result<String, AllocError> {
-    let mut file = String::from_str(alloc, "bridge = {ports = 1}\nextender = [")?;
-    file.push_str("{number = 1, on = 'b1', ports = 64}")?;
-    for port in 1..64u32 {
-        let next = port + 1;
-        let one = format!(in alloc; ", {{number = {next}, on = 'x1.{port}', ports = 64}}")?;
-        file.push_str(one.as_str())?;
-    }
-    file.push_str("]\n")?;
-    Ok(file)
-}
-
-// Asserts that a topology has these sets.
-fn expect_sets(rt: &impl Abort, alloc: Global, file: &str, wanted: &str) {
-    let text = sets_text(rt, alloc, &topology_of(rt, alloc, file));
-    assert_eq!(rt; text.as_str().trim_end(), wanted, "of {file}");
 }
 
 #[test]
-fn each_topology_has_its_sets_and_rows(rt: HostRuntime) -> Result<(), AllocError> {
-    let alloc = rt.alloc();
-    for (tail, wanted) in CASES {
-        let file = format!(in alloc; "{CROOKED}{tail}")?;
-        expect_sets(&rt, alloc, file.as_str(), wanted);
-    }
-    // One port at the end of a chain has a row at each extender, and so have the 4,033 ports below one port of the bridge.
-    expect_sets(&rt, alloc, chain(alloc)?.as_str(), "b1 x64.1: 64 rows;");
+fn each_topology_has_its_sets_and_rows(rt: HostRuntime) {
+    judge(&rt, rt.alloc(), CASES);
+}
+
+#[test]
+fn one_port_at_the_end_of_a_chain_has_a_row_at_each_extender(rt: HostRuntime) {
+    let file = chain(&rt, rt.alloc(), 1);
+    let topology = topology_of(&rt, rt.alloc(), file.as_str());
+    expect_sets(&rt, rt.alloc(), &topology, "b1 x64.1: 64 rows;", "a chain");
+}
+
+#[test]
+fn all_ports_below_one_port_of_the_bridge_have_a_row_at_each_extender(rt: HostRuntime) {
+    let file = broom(&rt, rt.alloc());
+    let topology = topology_of(&rt, rt.alloc(), file.as_str());
     expect_sets(
         &rt,
-        alloc,
-        broom(alloc)?.as_str(),
+        rt.alloc(),
+        &topology,
         "b1 4033 ports: 64 rows;",
+        "a broom",
     );
-    Ok(())
 }
