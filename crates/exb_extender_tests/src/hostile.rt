@@ -71,12 +71,7 @@ fn fixture_in(rt: &impl Abort, alloc: Global, state: State) -> Fixture {
     let laid = LAID.get(..requests(state) as usize).unwrap_or(&LAID);
     lay(rt, alloc, &mut fixture, laid);
     if let State::Unchannelled = state {
-        lay(
-            rt,
-            alloc,
-            &mut fixture,
-            UNCHANNELLED.get(..1).unwrap_or(&[]),
-        );
+        lay(rt, alloc, &mut fixture, &[UNCHANNELLED[0]]);
     }
     fixture
 }
