@@ -1,9 +1,8 @@
 //! Announcements, acknowledgements and answers.
 use crate::drive::{Step, judge};
 use crate::fixture::Fixture;
-use crate::words::bytes_of;
+use crate::words::{bytes_of, put_bytes, same};
 use exb_extender::{Extender, Sends, Side};
-use exb_hostile::hex::text_of;
 use std::alloc::Global;
 use std::process::Abort;
 
@@ -116,48 +115,55 @@ const TWICE: [Step; 4] = [
     ("down 60 FFFFFFFFFFFF020000000001893F000010000000", ""),
 ];
 
+// Asserts that each step of a new extender is told as it must be.
+fn judge_new(rt: &impl Abort, alloc: Global, steps: &[Step]) {
+    judge(rt, alloc, &mut Fixture::new(rt, alloc), steps);
+}
+
 #[test]
 fn control_frames_are_answered_as_they_must(rt: HostRuntime) {
-    let alloc = rt.alloc();
-    for steps in [
-        ANNOUNCES.as_slice(),
-        ACKNOWLEDGED.as_slice(),
-        SERIALS.as_slice(),
-        OTHERS.as_slice(),
-        TWICE.as_slice(),
-    ] {
-        let mut fixture = Fixture::new(&rt, alloc);
-        judge(&rt, alloc, &mut fixture, steps);
-    }
+    judge_new(&rt, rt.alloc(), &ANNOUNCES);
+    judge_new(&rt, rt.alloc(), &ACKNOWLEDGED);
+    judge_new(&rt, rt.alloc(), &SERIALS);
+    judge_new(&rt, rt.alloc(), &OTHERS);
+    judge_new(&rt, rt.alloc(), &TWICE);
+}
+
+// Asserts the bytes of a frame of the extender's own.
+fn expect_own(rt: &impl Abort, alloc: Global, frame: &[u8], wanted: &str) {
+    let mut text = String::new(alloc);
+    put_bytes(rt, alloc, &mut text, frame);
+    same(rt, text.as_str(), wanted, "an extender of two ports");
 }
 
 // What the extender sent, whole.
 fn expect_sent(rt: &impl Abort, alloc: Global, sends: &Sends, first: &str, second: &str) {
-    let sent = text_of(alloc, sends.first.as_slice()).expect(rt, "memory");
-    assert_eq!(rt; sent.as_str(), first);
-    let sent = text_of(alloc, sends.second.as_slice()).expect(rt, "memory");
-    assert_eq!(rt; sent.as_str(), second);
+    expect_own(rt, alloc, sends.first.as_slice(), first);
+    expect_own(rt, alloc, sends.second.as_slice(), second);
     assert!(rt; sends.frames.is_empty());
+}
+
+// Asserts what comes of a beat, of a request, and of a beat.
+fn judge_beats(rt: &impl Abort, alloc: Global, extender: &mut Extender, sends: &mut Sends) {
+    let announcement =
+        "0180C200000E02454201000188CC020704024542010001040307757006020078FE0502454201020000";
+    extender.beat(sends);
+    expect_sent(rt, alloc, sends, announcement, "");
+    let request = bytes_of(
+        rt,
+        alloc,
+        "0180C200000E024542000000894010020001 0100000000000000010000",
+    );
+    let acknowledgement = "0180C200000E024542010001894014020001";
+    let answer = "0180C200000E02454201000189401002000181000000000000000100020002";
+    extender.take(Side::Up, request.as_slice(), sends);
+    expect_sent(rt, alloc, sends, acknowledgement, answer);
+    extender.beat(sends);
+    expect_sent(rt, alloc, sends, "", "");
 }
 
 #[test]
 fn an_extender_of_two_ports_announces_itself_then_acknowledges_and_answers(rt: HostRuntime) {
-    let alloc = rt.alloc();
-    let mut extender = Extender::new(alloc, 1, 2).expect(&rt, "an extender");
-    let mut sends = Sends::new();
-    extender.beat(&mut sends);
-    let announcement =
-        "0180C200000E02454201000188CC020704024542010001040307757006020078FE0502454201020000";
-    expect_sent(&rt, alloc, &sends, announcement, "");
-    let request = bytes_of(
-        &rt,
-        alloc,
-        "0180C200000E024542000000894010020001 0100000000000000010000",
-    );
-    extender.take(Side::Up, request.as_slice(), &mut sends);
-    let acknowledgement = "0180C200000E024542010001894014020001";
-    let answer = "0180C200000E02454201000189401002000181000000000000000100020002";
-    expect_sent(&rt, alloc, &sends, acknowledgement, answer);
-    extender.beat(&mut sends);
-    expect_sent(&rt, alloc, &sends, "", "");
+    let mut extender = Extender::new(rt.alloc(), 1, 2).expect(&rt, "an extender");
+    judge_beats(&rt, rt.alloc(), &mut extender, &mut Sends::new());
 }

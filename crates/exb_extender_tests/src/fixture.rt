@@ -89,13 +89,6 @@ impl Fixture {
         self.extender.beat(&mut self.sends);
     }
 
-    /// Twelve beats, after which nothing is sent again.
-    pub(crate) fn silence(&mut self) {
-        for _ in 0..12u32 {
-            self.beat();
-        }
-    }
-
     pub(crate) fn idle(&self) -> bool {
         self.extender.idle()
     }
@@ -110,11 +103,6 @@ impl Fixture {
 
     pub(crate) fn second(&self) -> &[u8] {
         self.sends.second.as_slice()
-    }
-
-    /// Whether a request with this payload was sent second.
-    pub(crate) fn answers(&self, payload: &[u8]) -> bool {
-        self.second().len() == 18 + payload.len() && self.second().ends_with(payload)
     }
 
     /// Whether nothing was sent.

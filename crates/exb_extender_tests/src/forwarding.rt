@@ -2,10 +2,11 @@
 //! and the cascade port 3 of channel 3. The group 0x1000 goes to all three, and channel 9 to the cascade port.
 use crate::drive::{Step, judge};
 use crate::fixture::Fixture;
-use crate::words::bytes_of;
+use crate::words::{bytes_of, put_bytes, same};
 use exb_frame::etag::{ETag, tag_into};
-use exb_hostile::hex::text_of;
 use exb_model::buffers::FrameBuf;
+use std::alloc::Global;
+use std::process::Abort;
 
 /// Lays the tables.
 pub(crate) const LAID: [Step; 5] = [
@@ -148,44 +149,58 @@ pub(crate) const UNCHANNELLED: [Step; 2] = [
     ("below 14 0180C200000E02454201000288CC", ""),
 ];
 
-#[test]
-fn frames_go_where_they_must(rt: HostRuntime) {
-    let alloc = rt.alloc();
-    for steps in [
-        DOWN.as_slice(),
-        BELOW.as_slice(),
-        ARRIVE.as_slice(),
-        UNCHANNELLED.as_slice(),
-    ] {
-        let mut fixture = Fixture::new(&rt, alloc);
-        judge(&rt, alloc, &mut fixture, &LAID);
-        judge(&rt, alloc, &mut fixture, steps);
-    }
+// An extender whose tables are laid.
+fn laid(rt: &impl Abort, alloc: Global) -> Fixture {
+    let mut fixture = Fixture::new(rt, alloc);
+    judge(rt, alloc, &mut fixture, &LAID);
+    fixture
 }
 
-/// A frame of a station with the type of an E-TAG.
+// Asserts that each step of an extender whose tables are laid is told as it must be.
+fn judge_laid(rt: &impl Abort, alloc: Global, steps: &[Step]) {
+    judge(rt, alloc, &mut laid(rt, alloc), steps);
+}
+
+#[test]
+fn frames_go_where_they_must(rt: HostRuntime) {
+    judge_laid(&rt, rt.alloc(), &DOWN);
+    judge_laid(&rt, rt.alloc(), &BELOW);
+    judge_laid(&rt, rt.alloc(), &ARRIVE);
+    judge_laid(&rt, rt.alloc(), &UNCHANNELLED);
+}
+
+/// A frame of a station with the type of an E-TAG, and the same with the E-TAG of the group.
 const STATIONS: &str = "FFFFFFFFFFFF020000000001893F000010000000";
+
+const TAGGED: &str = "FFFFFFFFFFFF020000000001893F000110000000893F000010000000";
+
+const TAG: ETag = ETag {
+    pcp: 0,
+    dei: false,
+    ingress: 1,
+    ecid: 0x1000,
+};
+
+// Puts the E-TAG into a frame, and asserts what comes of it.
+fn tag(rt: &impl Abort, alloc: Global, frame: &[u8], word: &mut FrameBuf) {
+    let mut text = String::new(alloc);
+    assert!(rt; frame.len() >= 12);
+    assert!(rt; tag_into(frame, &TAG, word).is_ok());
+    put_bytes(rt, alloc, &mut text, word.as_slice());
+    same(rt, text.as_str(), TAGGED, STATIONS);
+}
+
+// Asserts that a word goes to two ports.
+fn expect_two(rt: &impl Abort, fixture: &mut Fixture, word: &[u8]) {
+    fixture.down(word);
+    assert!(rt; fixture.outs().len() == 2);
+}
 
 #[test]
 fn an_e_tag_of_a_station_comes_out_as_it_was(rt: HostRuntime) {
     let alloc = rt.alloc();
-    let mut fixture = Fixture::new(&rt, alloc);
-    judge(&rt, alloc, &mut fixture, &LAID);
     let frame = bytes_of(&rt, alloc, STATIONS);
-    assert!(rt; frame.len() >= 12);
-    let tag = ETag {
-        pcp: 0,
-        dei: false,
-        ingress: 1,
-        ecid: 0x1000,
-    };
     let mut word = FrameBuf::new();
-    assert!(rt; tag_into(frame.as_slice(), &tag, &mut word).is_ok());
-    let text = text_of(alloc, word.as_slice()).expect(&rt, "memory");
-    assert_eq!(rt;
-        text.as_str(),
-        "FFFFFFFFFFFF020000000001893F000110000000893F000010000000"
-    );
-    fixture.down(word.as_slice());
-    assert_eq!(rt; fixture.outs().len(), 2);
+    tag(&rt, alloc, frame.as_slice(), &mut word);
+    expect_two(&rt, &mut laid(&rt, alloc), word.as_slice());
 }

@@ -2,18 +2,17 @@
 //! each stands in the tables. Whatever came, what isn't asked for stays as it was, and the next request is answered.
 mod cases;
 
-use crate::drive::{Step, frame_step, judge, sent_text};
+use crate::drive::{Step, frame_step, hear, judge, sent_text};
 use crate::fixture::Fixture;
 use crate::forwarding::{LAID, UNCHANNELLED};
-use crate::words::bytes_of;
+use crate::words::{bytes_of, put, put_bytes, same};
 use cases::{CONTROL, FROM_BELOW, FROM_STATIONS, WORDS};
-use exb_hostile::hex::text_of;
 use exb_hostile::turned::{BITS, turn, verdict_at, verdict_of_bit};
-use std::alloc::{AllocError, Global};
+use std::alloc::Global;
 use std::process::Abort;
 
 /// What the extender has executed.
-#[derive(Clone, Copy, Debug, PartialEq, Eq)]
+#[derive(Clone, Copy)]
 enum State {
     PowerOn,
     Opened,
@@ -61,10 +60,8 @@ fn requests(state: State) -> u8 {
 // The bridge's next requests come.
 fn lay(rt: &impl Abort, alloc: Global, fixture: &mut Fixture, steps: &[Step]) {
     for (words, _told) in steps {
-        let (_, payload) = words.split_once(' ').expect(rt, "bytes");
-        let payload = bytes_of(rt, alloc, payload);
-        assert!(rt; payload.len() <= 1024);
-        fixture.hear(payload.as_slice());
+        let (_hear, payload) = words.split_once(' ').expect(rt, "bytes");
+        hear(rt, alloc, fixture, payload, false);
     }
 }
 
@@ -73,7 +70,7 @@ fn fixture_in(rt: &impl Abort, alloc: Global, state: State) -> Fixture {
     let mut fixture = Fixture::new(rt, alloc);
     let laid = LAID.get(..requests(state) as usize).unwrap_or(&LAID);
     lay(rt, alloc, &mut fixture, laid);
-    if state == State::Unchannelled {
+    if let State::Unchannelled = state {
         lay(rt, alloc, &mut fixture, &[UNCHANNELLED[0]]);
     }
     fixture
@@ -108,95 +105,116 @@ fn sequence_of(state: State, verdict: &str) -> u16 {
     u16::from(answers).wrapping_add(1)
 }
 
-// The digits of bytes of a frame.
-fn digits(alloc: Global, frame: &[u8], from: usize, to: usize) -> Result<String, AllocError> {
-    text_of(alloc, frame.get(from..to).unwrap_or(&[]))
+// An acknowledgement of the frame.
+fn put_acknowledgement(rt: &impl Abort, alloc: Global, text: &mut String, frame: &[u8]) {
+    put(rt, text, "first 89401402");
+    put_bytes(rt, alloc, text, frame.get(16..18).unwrap_or(&[]));
+    put(rt, text, ";");
 }
 
-// An acknowledgement of the frame, and the answer.
-fn answer_text(
-    alloc: Global,
-    state: State,
-    frame: &[u8],
-    answer: &str,
-) -> Result<String, AllocError> {
-    let sequence = digits(alloc, frame, 16, 18)?;
-    let own = sequence_of(state, "");
-    format!(in alloc; "first 89401402{sequence}; second 89401002{own:04X}{answer};")
+// The header of the next answer.
+fn put_header(rt: &impl Abort, alloc: Global, text: &mut String, sequence: u16) {
+    put(rt, text, " second 89401002");
+    put_bytes(rt, alloc, text, &sequence.to_be_bytes());
 }
 
-// The answer to the frame's request, with these bytes behind type and serial.
-fn answer_to(alloc: Global, frame: &[u8], bytes: &str) -> Result<String, AllocError> {
+// An acknowledgement of the frame, and the header of the answer.
+fn put_head(rt: &impl Abort, alloc: Global, text: &mut String, state: State, frame: &[u8]) {
+    put_acknowledgement(rt, alloc, text, frame);
+    put_header(rt, alloc, text, sequence_of(state, ""));
+}
+
+// Type and serial of the answer to the frame's request.
+fn put_front(rt: &impl Abort, alloc: Global, text: &mut String, frame: &[u8]) {
     let kind = frame.get(18).copied().unwrap_or(0) | 0x80;
-    let serial = digits(alloc, frame, 19, 27)?;
-    format!(in alloc; "{kind:02X}{serial}{bytes}")
+    put_bytes(rt, alloc, text, &[kind]);
+    put_bytes(rt, alloc, text, frame.get(19..27).unwrap_or(&[]));
+}
+
+// The rest of an answer.
+fn put_rest(rt: &impl Abort, text: &mut String, bytes: &str) {
+    put(rt, text, bytes);
+    put(rt, text, ";");
 }
 
 // What a step has to tell by a verdict on a frame.
-fn wanted(alloc: Global, state: State, frame: &[u8], verdict: &str) -> Result<String, AllocError> {
+fn put_wanted(
+    rt: &impl Abort,
+    alloc: Global,
+    text: &mut String,
+    state: State,
+    frame: &[u8],
+    verdict: &str,
+) {
     let (word, bytes) = verdict.split_once(' ').unwrap_or((verdict, ""));
     match word {
-        "nothing" => Ok(String::new(alloc)),
-        "stops" => Ok(String::new(alloc)),
-        "ack" => {
-            let sequence = digits(alloc, frame, 16, 18)?;
-            format!(in alloc; "first 89401402{sequence};")
-        }
+        "nothing" | "stops" => {}
+        "ack" => put_acknowledgement(rt, alloc, text, frame),
         "answer" => {
-            let answer = answer_to(alloc, frame, bytes)?;
-            answer_text(alloc, state, frame, answer.as_str())
+            put_head(rt, alloc, text, state, frame);
+            put_front(rt, alloc, text, frame);
+            put_rest(rt, text, bytes);
         }
-        "again" => answer_text(alloc, state, frame, bytes),
-        _ => String::from_str(alloc, verdict),
+        "again" => {
+            put_head(rt, alloc, text, state, frame);
+            put_rest(rt, text, bytes);
+        }
+        _ => put(rt, text, verdict),
     }
 }
 
-// Asserts that the next request is answered: the E-CID 0x2000 has no rows.
+// The answer to the next request, which is not executed: the E-CID 0x2000 has no rows.
+fn next_answer(rt: &impl Abort, alloc: Global, sequence: u16, serial: u8) -> String {
+    let mut text = String::new(alloc);
+    put(rt, &mut text, "first 894014027777;");
+    put_header(rt, alloc, &mut text, sequence);
+    put(rt, &mut text, "8500000000000000");
+    put_bytes(rt, alloc, &mut text, &[serial]);
+    put(rt, &mut text, "000100;");
+    text
+}
+
+// Asserts that the next request is answered.
 fn judge_next(rt: &impl Abort, alloc: Global, fixture: &mut Fixture, state: State, verdict: &str) {
     let executed = requests(state).wrapping_add(u8::from(is_executed(verdict)));
     let serial: u8 = executed.wrapping_add(1);
-    let own = sequence_of(state, verdict);
-    fixture.control(
-        false,
-        0x7777,
-        &[5, 0, 0, 0, 0, 0, 0, 0, serial, 0, 2, 0x20, 0],
-    );
-    let told = sent_text(alloc, fixture).expect(rt, "memory");
-    let answer = format!(in alloc;
-        "first 894014027777; second 89401002{own:04X}85{serial:016X}000100;"
-    ).expect(rt, "memory");
-    assert_eq!(rt; told.as_str().trim_end(), answer.as_str());
+    let request = [5, 0, 0, 0, 0, 0, 0, 0, serial, 0, 2, 0x20, 0];
+    fixture.control(false, 0x7777, &request);
+    let told = sent_text(rt, alloc, fixture);
+    let answer = next_answer(rt, alloc, sequence_of(state, verdict), serial);
+    same(rt, told.as_str().trim_end(), answer.as_str(), verdict);
+}
+
+// Asserts that the tables are as they were.
+fn judge_tables(rt: &impl Abort, alloc: Global, fixture: &mut Fixture, state: State) {
+    judge(rt, alloc, fixture, &[word_in(state)]);
 }
 
 // Asserts what is as it was: what waits for an acknowledgement, the tables unless a request was done, and what was executed.
 fn judge_after(rt: &impl Abort, alloc: Global, fixture: &mut Fixture, state: State, verdict: &str) {
     let waits = is_answered(verdict) || requests(state) > 0;
     let idle = verdict == "stops" || !waits;
-    assert!(rt; fixture.idle() == idle, "{state:?} {verdict}");
+    assert!(rt; fixture.idle() == idle, "{verdict}");
     if verdict != "answer 000100" {
-        judge(rt, alloc, fixture, &[word_in(state)]);
+        judge_tables(rt, alloc, fixture, state);
     }
     judge_next(rt, alloc, fixture, state, verdict);
 }
 
-// Asserts what becomes of a frame, and what comes after it.
-fn judge_frame<'a>(
+// Asserts what becomes of a frame.
+fn judge_frame(
     rt: &impl Abort,
     alloc: Global,
-    state: State,
-    from: &'a str,
-    frame: &'a [u8],
-    verdict: &'a str,
+    fixture: &mut Fixture,
+    case: &Case,
+    frame: &[u8],
+    verdict: &str,
 ) {
-    let mut fixture = fixture_in(rt, alloc, state);
-    let wanted = wanted(alloc, state, frame, verdict).expect(rt, "memory");
-    let told = frame_step(rt, alloc, &mut fixture, from, frame).expect(rt, "memory");
-    assert_eq!(rt;
-        told.as_str().trim_end(),
-        wanted.as_str(),
-        "{state:?} {from} {frame:?}"
-    );
-    judge_after(rt, alloc, &mut fixture, state, verdict);
+    let mut wanted = String::new(alloc);
+    put_wanted(rt, alloc, &mut wanted, case.state, frame, verdict);
+    let told = frame_step(rt, alloc, fixture, case.from, frame);
+    let is_right = told.as_str().trim_end() == wanted.as_str();
+    assert!(rt; is_right, "of {frame:?}: {told}");
 }
 
 // The verdict, or that on the whole frame.
@@ -207,20 +225,48 @@ fn resolved<'a>(told: &'a str, verdict: &'a str) -> &'a str {
     }
 }
 
-// Asserts what becomes of a frame that comes in the case's state from its side.
+// Asserts what becomes of a frame that comes in the case's state from its side, and what comes after it.
 fn judge_in(rt: &impl Abort, alloc: Global, case: &Case, frame: &[u8], verdict: Option<&str>) {
     let verdict = resolved(case.told, verdict.expect(rt, "a verdict"));
-    judge_frame(rt, alloc, case.state, case.from, frame, verdict);
+    let mut fixture = fixture_in(rt, alloc, case.state);
+    judge_frame(rt, alloc, &mut fixture, case, frame, verdict);
+    judge_after(rt, alloc, &mut fixture, case.state, verdict);
+}
+
+/// Lengths up to which zeros are put behind a frame, after one more byte than it has.
+const LENGTHS: [usize; 6] = [9216, 9217, 9224, 9225, 9232, 65535];
+
+// Asserts what becomes of a frame with zeros behind it up to a length.
+fn judge_length(rt: &impl Abort, alloc: Global, case: &Case, frame: &mut Vec<u8>, length: usize) {
+    frame.resize(length, 0).expect(rt, "memory");
+    let verdict = verdict_at(case.longer, length).expect(rt, "a table");
+    judge_in(rt, alloc, case, frame.as_slice(), verdict);
 }
 
 // Asserts what becomes of a frame with zeros behind it.
 fn judge_longer(rt: &impl Abort, alloc: Global, case: &Case) {
     let mut frame = bytes_of(rt, alloc, case.frame);
     let one_more: usize = frame.len().wrapping_add(1);
-    for length in [one_more, 9216, 9217, 9224, 9225, 9232, 65535] {
-        frame.resize(length, 0).expect(rt, "memory");
-        let verdict = verdict_at(case.longer, length).expect(rt, "a table");
+    judge_length(rt, alloc, case, &mut frame, one_more);
+    for length in &LENGTHS {
+        judge_length(rt, alloc, case, &mut frame, *length);
+    }
+}
+
+// Asserts what becomes of a frame that is cut before a place.
+fn judge_cut(rt: &impl Abort, alloc: Global, case: &Case, frame: &[u8], place: usize) {
+    let front = frame.get(..place).unwrap_or(&[]);
+    let verdict = verdict_at(case.cut, place).expect(rt, "a table");
+    judge_in(rt, alloc, case, front, verdict);
+}
+
+// Asserts what becomes of a frame with each bit of a byte turned.
+fn judge_turned(rt: &impl Abort, alloc: Global, case: &Case, frame: &mut Vec<u8>, place: usize) {
+    for bit in &BITS {
+        turn(frame, place, *bit);
+        let verdict = verdict_of_bit(case.turned, place, *bit).expect(rt, "a table");
         judge_in(rt, alloc, case, frame.as_slice(), verdict);
+        turn(frame, place, *bit);
     }
 }
 
@@ -229,30 +275,23 @@ fn judge_case(rt: &impl Abort, alloc: Global, case: &Case) {
     let mut frame = bytes_of(rt, alloc, case.frame);
     judge_in(rt, alloc, case, frame.as_slice(), Some("same"));
     for place in 0..frame.len() {
-        let front = frame.get(..place).unwrap_or(&[]);
-        let verdict = verdict_at(case.cut, place).expect(rt, "a table");
-        judge_in(rt, alloc, case, front, verdict);
-        for bit in BITS {
-            turn(&mut frame, place, bit);
-            let verdict = verdict_of_bit(case.turned, place, bit).expect(rt, "a table");
-            judge_in(rt, alloc, case, frame.as_slice(), verdict);
-            turn(&mut frame, place, bit);
-        }
+        judge_cut(rt, alloc, case, frame.as_slice(), place);
+        judge_turned(rt, alloc, case, &mut frame, place);
+    }
+}
+
+// Asserts what becomes of frames.
+fn judge_all(rt: &impl Abort, alloc: Global, cases: &[Case]) {
+    for case in cases {
+        judge_case(rt, alloc, case);
+        judge_longer(rt, alloc, case);
     }
 }
 
 #[test]
 fn cut_and_turned_frames_are_met_as_they_must(rt: HostRuntime) {
-    let alloc = rt.alloc();
-    for cases in [
-        CONTROL.as_slice(),
-        WORDS.as_slice(),
-        FROM_BELOW.as_slice(),
-        FROM_STATIONS.as_slice(),
-    ] {
-        for case in cases {
-            judge_case(&rt, alloc, case);
-            judge_longer(&rt, alloc, case);
-        }
-    }
+    judge_all(&rt, rt.alloc(), &CONTROL);
+    judge_all(&rt, rt.alloc(), &WORDS);
+    judge_all(&rt, rt.alloc(), &FROM_BELOW);
+    judge_all(&rt, rt.alloc(), &FROM_STATIONS);
 }

@@ -1,37 +1,25 @@
 //! ECP: what the bytes of a frame say, and what is sent again and handed up.
-use crate::words::{bytes_of, number};
-use exb_ecp::{Beat, Ecp, Pdu, read, write};
-use exb_hostile::hex::text_of;
+use crate::formats::{Format, judge};
+use crate::words::{expect, expect_bytes, number};
+use exb_ecp::{Beat, Ecp, Pdu, write};
 use exb_model::address::Mac;
 use exb_model::buffers::ControlBuf;
-use std::alloc::{AllocError, Global};
+use std::alloc::Global;
 use std::process::Abort;
 
-/// The destination, the bridge's address, and the type.
-const HEAD: &str = "0180C200000E 024542000000 8940";
-
-// What the bytes behind the type say.
-fn told(rt: &impl Abort, alloc: Global, text: &str) -> Result<String, AllocError> {
-    let frame = bytes_of(rt, alloc, text);
-    match read(frame.as_slice()) {
-        Ok(pdu) => format!(in alloc;
-            "{} {} {} {}",
-            pdu.acknowledgement, pdu.subtype, pdu.sequence, pdu.payload_at
-        ),
-        Err(fault) => format!(in alloc; "{fault:?}"),
-    }
-}
-
-const FRAMES: [(&str, &str); 11] = [
-    ("0180C200000E 024542000000 8940 14020001", "true 2 1 18"),
+const FRAMES: &[(&str, &str)] = &[
+    (
+        "0180C200000E 024542000000 8940 14020001",
+        "Pdu { acknowledgement: true, subtype: 2, sequence: 1, payload_at: 18 }",
+    ),
     (
         "0180C200000E 024542000000 8940 10020102 0708",
-        "false 2 258 18",
+        "Pdu { acknowledgement: false, subtype: 2, sequence: 258, payload_at: 18 }",
     ),
     // Another subtype is read, and so is an acknowledgement with a payload.
     (
         "0180C200000E 024542000000 8940 17FF0001 05",
-        "true 1023 1 18",
+        "Pdu { acknowledgement: true, subtype: 1023, sequence: 1, payload_at: 18 }",
     ),
     ("0180C200000E 024542000000 8940 20020001", "Version"),
     ("0180C200000E 024542000000 8940 18020001", "Operation"),
@@ -45,8 +33,19 @@ const FRAMES: [(&str, &str); 11] = [
     ("0180C200000E 024542000000 88CC 14020001", "NotEcp"),
 ];
 
-// The frame of a request or an acknowledgement with a payload of two bytes.
-fn written(alloc: Global, acknowledgement: bool, sequence: u16) -> Result<String, AllocError> {
+#[test]
+fn frames_are_read(rt: HostRuntime) {
+    judge(&rt, rt.alloc(), Format::Ecp, FRAMES);
+}
+
+// Asserts the bytes of a request or an acknowledgement with a payload of two bytes.
+fn expect_written(
+    rt: &impl Abort,
+    alloc: Global,
+    acknowledgement: bool,
+    sequence: u16,
+    wanted: &str,
+) {
     let pdu = Pdu {
         acknowledgement,
         subtype: 2,
@@ -55,47 +54,40 @@ fn written(alloc: Global, acknowledgement: bool, sequence: u16) -> Result<String
     };
     let mut out = ControlBuf::new();
     write(Mac([0x02, 0x45, 0x42, 0, 0, 0]), &pdu, &[7, 8], &mut out);
-    text_of(alloc, out.as_slice())
+    expect_bytes(rt, alloc, out.as_slice(), wanted);
 }
 
 #[test]
-fn frames_are_read_and_written(rt: HostRuntime) -> Result<(), AllocError> {
-    let alloc = rt.alloc();
-    for (text, wanted) in FRAMES {
-        let given = told(&rt, alloc, text)?;
-        assert_eq!(rt; given.as_str(), wanted, "of {text}");
-    }
-    let head = text_of(alloc, bytes_of(&rt, alloc, HEAD).as_slice())?;
+fn frames_are_written(rt: HostRuntime) {
+    let request = "0180C200000E 024542000000 8940 10020102 0708";
+    expect_written(&rt, rt.alloc(), false, 258, request);
     // An acknowledgement has no payload.
-    let request = format!(in alloc; "{head}100201020708")?;
-    let acknowledgement = format!(in alloc; "{head}14020001")?;
-    assert_eq!(rt; written(alloc, false, 258)?.as_str(), request.as_str());
-    assert_eq!(rt; written(alloc, true, 1)?.as_str(), acknowledgement.as_str());
-    Ok(())
+    let acknowledgement = "0180C200000E 024542000000 8940 14020001";
+    expect_written(&rt, rt.alloc(), true, 1, acknowledgement);
 }
 
-// So many beats: those at which it is sent again, and that at which it is given up.
-fn beats(alloc: Global, ecp: &mut Ecp, beats: u16) -> Result<String, AllocError> {
-    let mut text = String::new(alloc);
+// Of so many beats the first at which something is due, and what.
+fn due(ecp: &mut Ecp, beats: u16) -> Option<(u16, Beat)> {
     for beat in 0..beats {
-        match ecp.beat() {
-            Beat::Nothing => {}
-            due => {
-                let number = beat.saturating_add(1);
-                text.push_str(format!(in alloc; "{number} {due:?} ")?.as_str())?
-            }
+        let due = ecp.beat();
+        if due != Beat::Nothing {
+            return Some((beat.saturating_add(1), due));
         }
     }
-    Ok(text)
+    None
 }
 
-// Submits two bytes: the sequence and what is to be sent.
-fn submitted(rt: &impl Abort, alloc: Global, ecp: &mut Ecp) -> Result<String, AllocError> {
+// Submits two bytes, and asserts the sequence, told twice, and what is to be sent.
+fn submit(rt: &impl Abort, alloc: Global, ecp: &mut Ecp, wanted: &str) {
     assert!(rt; ecp.idle());
     let sequence = ecp.submit(&[7, 8]);
-    assert_eq!(rt; ecp.sequence(), sequence);
-    let payload = text_of(alloc, ecp.payload())?;
-    format!(in alloc; "{sequence} {payload}")
+    expect(
+        rt,
+        alloc,
+        &(sequence, ecp.sequence(), ecp.payload()),
+        wanted,
+        "submit",
+    );
 }
 
 // Submits and stops so often: the last sequence.
@@ -108,41 +100,50 @@ fn many(ecp: &mut Ecp, times: u16) -> u16 {
     ecp.sequence()
 }
 
-// Does a step: `submit`, `beat N`, `acked N`, `stop`, `many N`, `received N`.
-fn step(rt: &impl Abort, alloc: Global, ecp: &mut Ecp, step: &str) -> Result<String, AllocError> {
-    let mut words = step.split_whitespace();
-    let word = words.next().expect(rt, "a step");
+// Whether nothing is sent after an acknowledgement.
+fn acked(ecp: &mut Ecp, sequence: u16) -> bool {
+    ecp.acked(sequence);
+    ecp.idle()
+}
+
+// Whether nothing is sent after a stop, and how many bytes.
+fn stop(ecp: &mut Ecp) -> (bool, usize) {
+    ecp.stop();
+    (ecp.idle(), ecp.payload().len())
+}
+
+// Does a step, and asserts how it is told: `submit`, `beat N`, `acked N`, `stop`, `many N`, `received N`.
+fn step(rt: &impl Abort, alloc: Global, ecp: &mut Ecp, step: &str, wanted: &str) {
+    let (word, behind) = step.split_once(' ').unwrap_or((step, "0"));
+    let number = number(rt, behind);
     match word {
-        "submit" => submitted(rt, alloc, ecp),
-        "beat" => beats(alloc, ecp, number(rt, words.next())),
-        "acked" => {
-            ecp.acked(number(rt, words.next()));
-            format!(in alloc; "idle {}", ecp.idle())
-        }
-        "many" => format!(in alloc; "{}", many(ecp, number(rt, words.next()))),
-        "received" => format!(in alloc; "{}", ecp.received(number(rt, words.next()))),
-        _ => {
-            ecp.stop();
-            format!(in alloc; "idle {} {}", ecp.idle(), ecp.payload().len())
-        }
+        "submit" => submit(rt, alloc, ecp, wanted),
+        "beat" => expect(rt, alloc, &due(ecp, number), wanted, step),
+        "acked" => expect(rt, alloc, &acked(ecp, number), wanted, step),
+        "many" => expect(rt, alloc, &many(ecp, number), wanted, step),
+        "received" => expect(rt, alloc, &ecp.received(number), wanted, step),
+        _ => expect(rt, alloc, &stop(ecp), wanted, step),
     }
 }
 
-const STEPS: [(&str, &str); 15] = [
-    ("submit", "1 0708"),
-    ("beat 11", "3 SendAgain 6 SendAgain 9 SendAgain"),
-    ("beat 1", "1 GaveUp"),
-    ("beat 30", ""),
-    ("submit", "2 0708"),
+const STEPS: &[(&str, &str)] = &[
+    ("submit", "(1, 1, [7, 8])"),
+    ("beat 11", "Some((3, SendAgain))"),
+    ("beat 8", "Some((3, SendAgain))"),
+    ("beat 5", "Some((3, SendAgain))"),
+    ("beat 2", "None"),
+    ("beat 1", "Some((1, GaveUp))"),
+    ("beat 30", "None"),
+    ("submit", "(2, 2, [7, 8])"),
     // The acknowledgement of its sequence alone ends it.
-    ("acked 1", "idle false"),
-    ("acked 2", "idle true"),
-    ("beat 30", ""),
-    ("submit", "3 0708"),
-    ("stop", "idle true 0"),
+    ("acked 1", "false"),
+    ("acked 2", "true"),
+    ("beat 30", "None"),
+    ("submit", "(3, 3, [7, 8])"),
+    ("stop", "(true, 0)"),
     // Sequence 0 comes after 65535.
     ("many 65532", "65535"),
-    ("submit", "0 0708"),
+    ("submit", "(0, 0, [7, 8])"),
     // A request is handed up unless its sequence is that of the last one.
     ("received 1", "true"),
     ("received 1", "false"),
@@ -150,12 +151,9 @@ const STEPS: [(&str, &str); 15] = [
 ];
 
 #[test]
-fn what_is_submitted_is_sent_until_it_is_acknowledged(rt: HostRuntime) -> Result<(), AllocError> {
-    let alloc = rt.alloc();
+fn what_is_submitted_is_sent_until_it_is_acknowledged(rt: HostRuntime) {
     let mut ecp = Ecp::new();
     for (words, wanted) in STEPS {
-        let told = step(&rt, alloc, &mut ecp, words)?;
-        assert_eq!(rt; told.as_str().trim_end(), wanted, "of {words}");
+        step(&rt, rt.alloc(), &mut ecp, words, wanted);
     }
-    Ok(())
 }

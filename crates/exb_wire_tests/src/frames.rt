@@ -3,133 +3,117 @@ ghost use Rattle.std.specs.Prelude.{◌≡◌, true};
 ghost use Rattle.exb_model.specs.Frames.{kind_of};
 ghost use Rattle.exb_frame.specs.Egress.{can_leave};
 
-use crate::words::bytes_of;
+use crate::formats::{Format, judge};
+use crate::words::{bytes_of, expect, expect_bytes};
 use exb_frame::classify::classify;
 use exb_frame::egress::egress_into;
-use exb_frame::etag::{ETag, Full, strip_into, tag_into};
-use exb_hostile::hex::text_of;
+use exb_frame::etag::{ETag, strip_into, tag_into};
 use exb_model::buffers::FrameBuf;
 use exb_model::frame_kind::Seen;
 use exb_model::vlan::{Kind, Vid};
-use std::alloc::{AllocError, Global};
+use std::alloc::Global;
 use std::process::Abort;
 
-// These bytes, and behind them zeros up to a length; or cut to it.
-fn frame_of(rt: &impl Abort, alloc: Global, text: &str, length: usize) -> Vec<u8> {
-    let mut frame = bytes_of(rt, alloc, text);
-    frame.resize(length, 0).expect(rt, "memory");
-    frame
-}
-
-// The kind of a frame in words.
-fn kind_text(alloc: Global, frame: &[u8]) -> Result<String, AllocError> {
-    match classify(frame) {
-        Seen::Priority { pcp, dei } => format!(in alloc; "priority {pcp} {dei}"),
-        Seen::Tagged { pcp, dei, vid } => format!(in alloc; "tagged {pcp} {dei} {}", vid.number()),
-        seen => format!(in alloc; "{seen:?}"),
-    }
-}
-
-const KINDS: [(&str, usize, &str); 13] = [
-    ("FF", 13, "Short"),
-    ("FF", 14, "Plain"),
-    ("FF", 9216, "Plain"),
-    ("FF", 9217, "Long"),
-    ("000000000000 000000000000 8100 0FFF", 64, "BadTag"),
+const KINDS: &[(&str, &str)] = &[
+    ("FF 12x00", "Short"),
+    ("FF 13x00", "Plain"),
+    ("FF 9215x00", "Plain"),
+    ("FF 9216x00", "Long"),
+    ("000000000000 000000000000 8100 0FFF 48x00", "BadTag"),
     (
-        "000000000000 000000000000 8100 0000",
-        64,
-        "priority 0 false",
+        "000000000000 000000000000 8100 0000 48x00",
+        "Priority { pcp: 0, dei: false }",
     ),
-    ("000000000000 000000000000 8100 B000", 64, "priority 5 true"),
     (
-        "000000000000 000000000000 8100 B00A",
-        64,
-        "tagged 5 true 10",
+        "000000000000 000000000000 8100 B000 48x00",
+        "Priority { pcp: 5, dei: true }",
     ),
-    ("000000000000 000000000000 8100 0001", 17, "BadTag"),
+    (
+        "000000000000 000000000000 8100 B00A 48x00",
+        "Tagged { pcp: 5, dei: true, vid: Vid { number: 10 } }",
+    ),
+    ("000000000000 000000000000 8100 0001 00", "BadTag"),
     // Reserved destinations, before the tag.
-    ("0180C2000000", 60, "Reserved"),
-    ("0180C200000E 000000000000 8100 0FFF", 60, "Reserved"),
-    ("0180C200000F", 60, "Reserved"),
-    ("0180C2000010", 60, "Plain"),
+    ("0180C2000000 54x00", "Reserved"),
+    ("0180C200000E 000000000000 8100 0FFF 44x00", "Reserved"),
+    ("0180C200000F 54x00", "Reserved"),
+    ("0180C2000010 54x00", "Plain"),
 ];
 
 #[test]
-fn frames_have_their_kinds(rt: HostRuntime) -> Result<(), AllocError> {
-    let alloc = rt.alloc();
-    for (text, length, wanted) in KINDS {
-        let frame = frame_of(&rt, alloc, text, length);
-        let kind = kind_text(alloc, frame.as_slice())?;
-        assert_eq!(rt; kind.as_str(), wanted, "of {text}, {length} bytes");
-    }
-    Ok(())
+fn frames_have_their_kinds(rt: HostRuntime) {
+    judge(&rt, rt.alloc(), Format::Frame, KINDS);
 }
 
-// The E-TAG of a frame in words.
-fn etag_text(alloc: Global, frame: &[u8]) -> Result<String, AllocError> {
-    match ETag::read(frame) {
-        Some(tag) => format!(in alloc; "{} {} {} {}", tag.pcp, tag.dei, tag.ingress, tag.ecid),
-        None => format!(in alloc; "none"),
-    }
-}
-
-const TAGS: [(&str, &str); 7] = [
+const TAGS: &[(&str, &str)] = &[
     (
         "000000000000 000000000000 893F 0000 0001 0000",
-        "0 false 0 1",
+        "Some(ETag { pcp: 0, dei: false, ingress: 0, ecid: 1 })",
     ),
     (
         "000000000000 000000000000 893F B003 1002 0000",
-        "5 true 3 4098",
+        "Some(ETag { pcp: 5, dei: true, ingress: 3, ecid: 4098 })",
     ),
     // Reserved bits of the E-CID are not looked at.
     (
         "000000000000 000000000000 893F 0FFF C001 0000",
-        "0 false 4095 1",
+        "Some(ETag { pcp: 0, dei: false, ingress: 4095, ecid: 1 })",
     ),
     // An extension byte that isn't 0, another type, and a frame that ends within the E-TAG.
-    ("000000000000 000000000000 893F 0000 0001 0001", "none"),
-    ("000000000000 000000000000 893F 0000 0001 0100", "none"),
-    ("000000000000 000000000000 8100 0000 0001 0000", "none"),
-    ("000000000000 000000000000 893F 0000 0001 00", "none"),
+    ("000000000000 000000000000 893F 0000 0001 0001", "None"),
+    ("000000000000 000000000000 893F 0000 0001 0100", "None"),
+    ("000000000000 000000000000 8100 0000 0001 0000", "None"),
+    ("000000000000 000000000000 893F 0000 0001 00", "None"),
 ];
 
 #[test]
-fn e_tags_are_put_in_and_taken_out(rt: HostRuntime) -> Result<(), AllocError> {
+fn e_tags_are_read(rt: HostRuntime) {
+    judge(&rt, rt.alloc(), Format::ETag, TAGS);
+}
+
+const TAG: ETag = ETag {
+    pcp: 5,
+    dei: true,
+    ingress: 3,
+    ecid: 0x1002,
+};
+
+// Puts the E-TAG into a frame, and asserts how that is told with the length of what came of it.
+fn tag(rt: &impl Abort, alloc: Global, text: &str, out: &mut FrameBuf, wanted: &str) {
+    let frame = bytes_of(rt, alloc, text);
+    assert!(rt; frame.len() >= 12);
+    let is_made = tag_into(frame.as_slice(), &TAG, out).is_ok();
+    expect(rt, alloc, &(is_made, out.len()), wanted, text);
+}
+
+// Takes the E-TAG out of a frame in the same way.
+fn strip(rt: &impl Abort, alloc: Global, text: &str, out: &mut FrameBuf, wanted: &str) {
+    let frame = bytes_of(rt, alloc, text);
+    assert!(rt; frame.len() >= 20);
+    let is_made = strip_into(frame.as_slice(), out).is_ok();
+    expect(rt, alloc, &(is_made, out.len()), wanted, text);
+}
+
+#[test]
+fn e_tags_are_put_in_and_taken_out(rt: HostRuntime) {
     let alloc = rt.alloc();
-    for (text, wanted) in TAGS {
-        let tag = etag_text(alloc, bytes_of(&rt, alloc, text).as_slice())?;
-        assert_eq!(rt; tag.as_str(), wanted, "of {text}");
-    }
-    let tag = ETag {
-        pcp: 5,
-        dei: true,
-        ingress: 3,
-        ecid: 0x1002,
-    };
-    let written = text_of(alloc, &tag.write())?;
-    assert_eq!(rt; written.as_str(), "893FB00310020000");
-    let frame = [7u8; 60];
-    let mut tagged = FrameBuf::new();
-    assert!(rt; tag_into(&frame, &tag, &mut tagged).is_ok());
-    assert_eq!(rt; tagged.len(), 68);
-    assert_eq!(rt; ETag::read(tagged.as_slice()), Some(tag));
-    let mut bare = FrameBuf::new();
-    assert!(rt; strip_into(tagged.as_slice(), &mut bare).is_ok());
-    assert_eq!(rt; bare.as_slice(), frame.as_slice());
-    Ok(())
+    let tagged = "12x07 893FB00310020000 48x07";
+    let mut out = FrameBuf::new();
+    tag(&rt, alloc, "60x07", &mut out, "(true, 68)");
+    expect_bytes(&rt, alloc, out.as_slice(), tagged);
+    strip(&rt, alloc, tagged, &mut out, "(true, 60)");
+    expect_bytes(&rt, alloc, out.as_slice(), "60x07");
+    expect_bytes(&rt, alloc, &TAG.write(), "893FB00310020000");
 }
 
 #[test]
 fn nothing_longer_than_the_buffer_is_made(rt: HostRuntime) {
-    let tag = ETag::default();
+    let alloc = rt.alloc();
     let mut out = FrameBuf::new();
-    assert!(rt; tag_into(&[0u8; 9224], &tag, &mut out).is_ok());
-    assert_eq!(rt; tag_into(&[0u8; 9225], &tag, &mut out), Err(Full));
-    assert!(rt; out.is_empty());
-    assert!(rt; strip_into(&[0u8; 9240], &mut out).is_ok());
-    assert_eq!(rt; strip_into(&[0u8; 9241], &mut out), Err(Full));
+    tag(&rt, alloc, "9224x00", &mut out, "(true, 9232)");
+    tag(&rt, alloc, "9225x00", &mut out, "(false, 0)");
+    strip(&rt, alloc, "9240x00", &mut out, "(true, 9232)");
+    strip(&rt, alloc, "9241x00", &mut out, "(false, 0)");
 }
 
 /// Whether a frame is one that leaves a port.
@@ -142,80 +126,69 @@ pub(crate) fn may_leave(frame: &[u8]) -> bool
     )
 }
 
-// The length and the first bytes, from the type on, with which a frame leaves with PCP 3 in VLAN 7.
-fn left_text(alloc: Global, frame: &[u8], kind: Kind, dei: bool) -> Result<String, AllocError> {
+// Asserts with which bytes a frame leaves with PCP 3 in VLAN 7.
+fn leave(rt: &impl Abort, alloc: Global, frame: &[u8], kind: Kind, dei: bool, wanted: &str) {
+    let vid = Vid::new(7).expect(rt, "a VLAN");
     let mut out = FrameBuf::new();
-    if !may_leave(frame) {
-        return format!(in alloc; "nothing");
+    if may_leave(frame) {
+        egress_into(frame, kind, 3, dei, vid, &mut out);
     }
-    let vid = Vid::new(7).unwrap_or(Vid::default());
-    egress_into(frame, kind, 3, dei, vid, &mut out);
-    let front = text_of(alloc, out.as_slice().get(12..18).unwrap_or(&[]))?;
-    format!(in alloc; "{} {front}", out.len())
+    expect_bytes(rt, alloc, out.as_slice(), wanted);
 }
 
-const LEFT: [(&str, usize, Kind, bool, &str); 8] = [
+/// A frame, the kind of the port, DEI, and the bytes with which it leaves: none where it leaves nowhere.
+const LEFT: &[(&str, Kind, bool, &str)] = &[
     (
-        "111111111111 222222222222 0800 0102",
-        60,
+        "111111111111 222222222222 0800 0102 44x00",
         Kind::Tagged,
         true,
-        "64 810070070800",
+        "111111111111 222222222222 8100 7007 0800 0102 44x00",
     ),
     (
-        "111111111111 222222222222 0800 0102",
-        60,
+        "111111111111 222222222222 0800 0102 44x00",
         Kind::Untagged,
         true,
-        "60 080001020000",
+        "111111111111 222222222222 0800 0102 44x00",
     ),
     // A tag is taken out, or another is put in its place.
     (
-        "111111111111 222222222222 8100 6005 0800 0102",
-        60,
+        "111111111111 222222222222 8100 6005 0800 0102 40x00",
         Kind::Untagged,
         false,
-        "56 080001020000",
+        "111111111111 222222222222 0800 0102 40x00",
     ),
     (
-        "111111111111 222222222222 8100 6005 0800 0102",
-        60,
+        "111111111111 222222222222 8100 6005 0800 0102 40x00",
         Kind::Tagged,
         false,
-        "60 810060070800",
+        "111111111111 222222222222 8100 6007 0800 0102 40x00",
     ),
     (
-        "111111111111 222222222222 8100 E000 0800 0102",
-        60,
+        "111111111111 222222222222 8100 E000 0800 0102 40x00",
         Kind::Tagged,
         true,
-        "60 810070070800",
+        "111111111111 222222222222 8100 7007 0800 0102 40x00",
     ),
     // The longest frame grows by its tag. A bad tag and a reserved destination leave nowhere.
     (
-        "111111111111 222222222222 0800",
-        9216,
+        "111111111111 222222222222 0800 9202x00",
         Kind::Tagged,
         false,
-        "9220 810060070800",
+        "111111111111 222222222222 8100 6007 0800 9202x00",
     ),
     (
-        "111111111111 222222222222 8100 0FFF",
-        60,
+        "111111111111 222222222222 8100 0FFF 44x00",
         Kind::Tagged,
         false,
-        "nothing",
+        "",
     ),
-    ("0180C200000E", 60, Kind::Untagged, false, "nothing"),
+    ("0180C200000E 54x00", Kind::Untagged, false, ""),
 ];
 
 #[test]
-fn frames_leave_with_a_vlan_tag_or_without(rt: HostRuntime) -> Result<(), AllocError> {
-    let alloc = rt.alloc();
-    for (text, length, kind, dei, wanted) in LEFT {
-        let frame = frame_of(&rt, alloc, text, length);
-        let left = left_text(alloc, frame.as_slice(), kind, dei)?;
-        assert_eq!(rt; left.as_str(), wanted, "of {text}");
+fn frames_leave_with_a_vlan_tag_or_without(rt: HostRuntime) {
+    for (text, kind, dei, wanted) in LEFT {
+        let frame = bytes_of(&rt, rt.alloc(), text);
+        leave(&rt, rt.alloc(), frame.as_slice(), *kind, *dei, wanted);
     }
-    Ok(())
 }

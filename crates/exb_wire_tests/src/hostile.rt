@@ -3,30 +3,23 @@
 //! the value is that of the good spelling.
 mod cases;
 
+use crate::formats::Format;
 use crate::frames::may_leave;
-use crate::words::bytes_of;
+use crate::words::{bytes_of, told};
 use cases::{ANNOUNCEMENTS, E_TAGS, ECP, FRAMES, MESSAGES};
 use exb_ecp::Pdu;
 use exb_frame::classify::classify;
 use exb_frame::egress::egress_into;
 use exb_frame::etag::ETag;
 use exb_hostile::turned::{BITS, turn, verdict_at, verdict_of_bit};
+use exb_lldp::Announce;
 use exb_model::address::Mac;
 use exb_model::buffers::{ControlBuf, FrameBuf};
 use exb_model::frame_kind::Seen;
 use exb_model::vlan::{Kind, Vid};
-use std::alloc::{AllocError, Global};
+use std::alloc::Global;
+use std::fmt::Debug;
 use std::process::Abort;
-
-/// What the bytes are read as.
-#[derive(Clone, Copy, Debug, PartialEq, Eq)]
-enum Format {
-    Announcement,
-    Ecp,
-    Message,
-    ETag,
-    Frame,
-}
 
 /// A good spelling and what is read of it, by places from 0.
 struct Case {
@@ -48,89 +41,89 @@ fn source_of(frame: &[u8]) -> Mac {
     }
 }
 
-// The fault, or `ok` for what is written again.
-fn announcement(
-    rt: &impl Abort,
-    alloc: Global,
-    frame: &[u8],
-    again: &mut Vec<u8>,
-) -> Result<String, AllocError> {
-    match exb_lldp::read(frame) {
-        Ok(announce) => {
-            let mut out = ControlBuf::new();
-            assert!(rt; announce.ports >= 1);
-            assert!(rt; announce.ports <= 64);
-            exb_lldp::write(&announce, &mut out);
-            again.extend_from_slice(out.as_slice())?;
-            format!(in alloc; "ok")
-        }
-        Err(fault) => format!(in alloc; "{fault:?}"),
+// The verdict on what is written again.
+fn ok(rt: &impl Abort, alloc: Global) -> String {
+    String::from_str(alloc, "ok").expect(rt, "memory")
+}
+
+// The fault, or `ok`.
+fn verdict<T, E: Debug>(rt: &impl Abort, alloc: Global, read: &Result<T, E>) -> String {
+    match read {
+        Ok(_) => ok(rt, alloc),
+        Err(fault) => told(rt, alloc, fault),
     }
 }
 
+// Puts bytes behind those that are written again.
+fn put(rt: &impl Abort, again: &mut Vec<u8>, bytes: &[u8]) {
+    again.extend_from_slice(bytes).expect(rt, "memory");
+}
+
+fn write_announcement(rt: &impl Abort, announce: &Announce, again: &mut Vec<u8>) {
+    let mut out = ControlBuf::new();
+    assert!(rt; announce.ports >= 1);
+    assert!(rt; announce.ports <= 64);
+    exb_lldp::write(announce, &mut out);
+    put(rt, again, out.as_slice());
+}
+
+fn announcement(rt: &impl Abort, alloc: Global, frame: &[u8], again: &mut Vec<u8>) -> String {
+    let read = exb_lldp::read(frame);
+    if let Ok(announce) = &read {
+        write_announcement(rt, announce, again);
+    }
+    verdict(rt, alloc, &read)
+}
+
 // A payload that comes with an acknowledgement is ignored: it is put behind what is written.
-fn write_pdu(
-    rt: &impl Abort,
-    pdu: &Pdu,
-    frame: &[u8],
-    again: &mut Vec<u8>,
-) -> Result<(), AllocError> {
+fn write_pdu(rt: &impl Abort, pdu: &Pdu, frame: &[u8], again: &mut Vec<u8>) {
     let payload = frame.get(18..).unwrap_or(&[]);
     let mut out = ControlBuf::new();
     assert!(rt; pdu.subtype < 1024);
     assert!(rt; pdu.payload_at == 18);
     assert!(rt; payload.len() <= 1024);
     exb_ecp::write(source_of(frame), pdu, payload, &mut out);
-    again.extend_from_slice(out.as_slice())?;
+    put(rt, again, out.as_slice());
     if pdu.acknowledgement {
-        again.extend_from_slice(payload)?;
-    }
-    Ok(())
-}
-
-fn ecp(
-    rt: &impl Abort,
-    alloc: Global,
-    frame: &[u8],
-    again: &mut Vec<u8>,
-) -> Result<String, AllocError> {
-    match exb_ecp::read(frame) {
-        Ok(pdu) => {
-            write_pdu(rt, &pdu, frame, again)?;
-            format!(in alloc; "ok")
-        }
-        Err(fault) => format!(in alloc; "{fault:?}"),
+        put(rt, again, payload);
     }
 }
 
-fn message(alloc: Global, bytes: &[u8], again: &mut Vec<u8>) -> Result<String, AllocError> {
-    match exb_csp::read(bytes) {
-        Ok(message) => {
-            let mut out = ControlBuf::new();
-            exb_csp::write(&message, &mut out);
-            again.extend_from_slice(out.as_slice())?;
-            format!(in alloc; "ok")
-        }
-        Err(fault) => format!(in alloc; "{fault:?}"),
+fn ecp(rt: &impl Abort, alloc: Global, frame: &[u8], again: &mut Vec<u8>) -> String {
+    let read = exb_ecp::read(frame);
+    if let Ok(pdu) = &read {
+        write_pdu(rt, pdu, frame, again);
     }
+    verdict(rt, alloc, &read)
 }
 
-fn etag(
-    rt: &impl Abort,
-    alloc: Global,
-    frame: &[u8],
-    again: &mut Vec<u8>,
-) -> Result<String, AllocError> {
-    let Some(tag) = ETag::read(frame) else {
-        return format!(in alloc; "none");
-    };
+fn message(rt: &impl Abort, alloc: Global, bytes: &[u8], again: &mut Vec<u8>) -> String {
+    let read = exb_csp::read(bytes);
+    if let Ok(message) = &read {
+        let mut out = ControlBuf::new();
+        exb_csp::write(message, &mut out);
+        put(rt, again, out.as_slice());
+    }
+    verdict(rt, alloc, &read)
+}
+
+fn write_tag(rt: &impl Abort, tag: &ETag, frame: &[u8], again: &mut Vec<u8>) {
     assert!(rt; tag.pcp < 8);
     assert!(rt; tag.ingress < 4096);
     assert!(rt; tag.ecid < 16384);
-    again.extend_from_slice(frame.get(..12).unwrap_or(&[]))?;
-    again.extend_from_slice(&tag.write())?;
-    again.extend_from_slice(frame.get(20..).unwrap_or(&[]))?;
-    format!(in alloc; "ok")
+    put(rt, again, frame.get(..12).unwrap_or(&[]));
+    put(rt, again, &tag.write());
+    put(rt, again, frame.get(20..).unwrap_or(&[]));
+}
+
+fn etag(rt: &impl Abort, alloc: Global, frame: &[u8], again: &mut Vec<u8>) -> String {
+    match ETag::read(frame) {
+        Some(tag) => {
+            write_tag(rt, &tag, frame, again);
+            ok(rt, alloc)
+        }
+        None => String::from_str(alloc, "none").expect(rt, "memory"),
+    }
 }
 
 // The frame as it leaves.
@@ -143,78 +136,81 @@ fn left(rt: &impl Abort, frame: &[u8], kind: Kind, pcp: u8, dei: bool, vid: Vid)
     out
 }
 
-// A frame leaves by its own VLAN tag as it came. The tag without a VLAN is taken out, and put in again.
-fn frame(
-    rt: &impl Abort,
-    alloc: Global,
-    frame: &[u8],
-    again: &mut Vec<u8>,
-) -> Result<String, AllocError> {
-    match classify(frame) {
-        Seen::Plain => {
-            let out = left(rt, frame, Kind::Untagged, 0, false, Vid::default());
-            again.extend_from_slice(out.as_slice())?;
-        }
-        Seen::Tagged { pcp, dei, vid } => {
-            let out = left(rt, frame, Kind::Tagged, pcp, dei, vid);
-            again.extend_from_slice(out.as_slice())?;
-        }
-        Seen::Priority { pcp, dei } => {
-            let out = left(rt, frame, Kind::Untagged, 0, false, Vid::default());
-            let (addresses, body) = out.as_slice().split_at_checked(12).expect(rt, "addresses");
-            let high: u8 = pcp
-                .wrapping_mul(32)
-                .wrapping_add(16u8.wrapping_mul(u8::from(dei)));
-            again.extend_from_slice(addresses)?;
-            again.extend_from_slice(&[0x81, 0, high, 0])?;
-            again.extend_from_slice(body)?;
-        }
-        seen => return format!(in alloc; "{seen:?}"),
-    }
-    format!(in alloc; "ok")
+// A frame leaves without its priority tag, which is put in again.
+fn write_priority(rt: &impl Abort, frame: &[u8], pcp: u8, dei: bool, again: &mut Vec<u8>) {
+    let out = left(rt, frame, Kind::Untagged, 0, false, Vid::default());
+    let (addresses, body) = out.as_slice().split_at_checked(12).expect(rt, "addresses");
+    let high: u8 = pcp
+        .wrapping_mul(32)
+        .wrapping_add(16u8.wrapping_mul(u8::from(dei)));
+    put(rt, again, addresses);
+    put(rt, again, &[0x81, 0, high, 0]);
+    put(rt, again, body);
 }
 
-// The fault of these bytes, or `ok`; and then what is written again.
-fn told(
+fn write_frame(
     rt: &impl Abort,
-    alloc: Global,
-    format: Format,
-    bytes: &[u8],
+    frame: &[u8],
+    kind: Kind,
+    pcp: u8,
+    dei: bool,
+    vid: Vid,
     again: &mut Vec<u8>,
-) -> Result<String, AllocError> {
-    again.clear();
-    match format {
-        Format::Announcement => announcement(rt, alloc, bytes, again),
-        Format::Ecp => ecp(rt, alloc, bytes, again),
-        Format::Message => message(alloc, bytes, again),
-        Format::ETag => etag(rt, alloc, bytes, again),
-        Format::Frame => frame(rt, alloc, bytes, again),
+) {
+    let out = left(rt, frame, kind, pcp, dei, vid);
+    put(rt, again, out.as_slice());
+}
+
+// A frame leaves by its own VLAN tag as it came.
+fn frame(rt: &impl Abort, alloc: Global, frame: &[u8], again: &mut Vec<u8>) -> String {
+    match classify(frame) {
+        Seen::Plain => write_frame(rt, frame, Kind::Untagged, 0, false, Vid::default(), again),
+        Seen::Tagged { pcp, dei, vid } => {
+            write_frame(rt, frame, Kind::Tagged, pcp, dei, vid, again)
+        }
+        Seen::Priority { pcp, dei } => write_priority(rt, frame, pcp, dei, again),
+        seen => return told(rt, alloc, &seen),
     }
+    ok(rt, alloc)
+}
+
+// The bits of a byte whose verdict is `unseen`.
+fn unseen_at(rt: &impl Abort, text: &str, place: usize) -> u8 {
+    let mut mask = 0u8;
+    for bit in &BITS {
+        if verdict_of_bit(text, place, *bit).expect(rt, "a table") == Some("unseen") {
+            mask |= bit;
+        }
+    }
+    mask
 }
 
 // For each of so many bytes the bits whose verdict is `unseen`.
 fn unseen(rt: &impl Abort, alloc: Global, text: &str, bytes: usize) -> Vec<u8> {
     let mut unseen = Vec::new(alloc);
     for place in 0..bytes {
-        let mut mask = 0u8;
-        for bit in BITS {
-            if verdict_of_bit(text, place, bit).expect(rt, "a table") == Some("unseen") {
-                mask |= bit;
-            }
-        }
-        unseen.push(mask).expect(rt, "memory");
+        unseen.push(unseen_at(rt, text, place)).expect(rt, "memory");
     }
     unseen
 }
 
-// Whether these bytes are a front of those, but for bits that aren't looked at.
-fn is_front(front: &[u8], bytes: &[u8], unseen: &[u8]) -> bool {
-    let unseen = unseen.iter().chain([0u8; 1].iter());
-    let mut pairs = front.iter().zip(bytes.iter()).zip(unseen);
-    front.len() <= bytes.len() && pairs.all(|((a, b), mask)| (a ^ b) & !mask == 0)
+// The byte at a place, or 0.
+fn byte_at(bytes: &[u8], place: usize) -> u8 {
+    bytes.get(place).copied().unwrap_or(0)
 }
 
-/// A format, what was read and written again, and for each byte of the good spelling the bits that aren't looked at.
+// Whether bytes are those, but for bits that aren't looked at.
+fn is_like(bytes: &[u8], those: &[u8], unseen: &[u8]) -> bool {
+    for place in 0..bytes.len() {
+        let bits = byte_at(bytes, place) ^ byte_at(those, place);
+        if bits & !byte_at(unseen, place) != 0 {
+            return false;
+        }
+    }
+    bytes.len() == those.len()
+}
+
+/// A format, what was written again, and for each byte of the good spelling the bits that aren't looked at.
 #[derive(Drop)]
 struct Bench {
     alloc: Global,
@@ -225,65 +221,98 @@ struct Bench {
 }
 
 impl Bench {
-    // Whether what was written again is these bytes, but for bits that aren't looked at.
-    fn is_again(&self, bytes: &[u8]) -> bool {
-        self.again.len() == bytes.len() && is_front(&self.again, bytes, &self.unseen)
+    fn new(rt: &impl Abort, alloc: Global, format: Format, case: &Case) -> Bench {
+        let good = bytes_of(rt, alloc, case.good);
+        let unseen = unseen(rt, alloc, case.turned, good.len());
+        Bench {
+            alloc,
+            format,
+            good,
+            unseen,
+            again: Vec::new(alloc),
+        }
+    }
+
+    // The fault of these bytes, or `ok`; and then what is written again.
+    fn read(&mut self, rt: &impl Abort, bytes: &[u8]) -> String {
+        let again = &mut self.again;
+        again.clear();
+        match self.format {
+            Format::Announcement => announcement(rt, self.alloc, bytes, again),
+            Format::Ecp => ecp(rt, self.alloc, bytes, again),
+            Format::Message => message(rt, self.alloc, bytes, again),
+            Format::ETag => etag(rt, self.alloc, bytes, again),
+            Format::Frame => frame(rt, self.alloc, bytes, again),
+        }
+    }
+
+    // Whether a verdict is that which is wanted, and where it is `ok`, these bytes were written again.
+    fn is_right(&self, verdict: &str, wanted: &str, bytes: &[u8]) -> bool {
+        verdict == wanted && (wanted != "ok" || is_like(&self.again, bytes, &self.unseen))
     }
 
     // Asserts that these bytes are read as this verdict says.
     fn judge(&mut self, rt: &impl Abort, bytes: &[u8], wanted: &str) {
-        let format = self.format;
-        let read = told(rt, self.alloc, format, bytes, &mut self.again).expect(rt, "memory");
-        let (verdict, written) = match wanted {
-            "unseen" => ("ok", self.good.as_slice()),
-            _ => (wanted, bytes),
+        let verdict = self.read(rt, bytes);
+        let is_right = match wanted {
+            "unseen" => self.is_right(verdict.as_str(), "ok", &self.good),
+            _ => self.is_right(verdict.as_str(), wanted, bytes),
         };
-        assert_eq!(rt; read.as_str(), verdict, "{format:?} {bytes:?}");
-        let is_written = verdict != "ok" || self.is_again(written);
-        assert!(rt; is_written, "{format:?} {bytes:?}");
+        assert!(rt; is_right, "{verdict} of {bytes:?}");
+    }
+
+    // Asserts what is read of bytes that are cut before a place.
+    fn judge_cut(&mut self, rt: &impl Abort, case: &Case, bytes: &[u8], place: usize) {
+        let front = bytes.get(..place).unwrap_or(&[]);
+        if let Some(verdict) = verdict_at(case.cut, place).expect(rt, "a table") {
+            self.judge(rt, front, verdict);
+        }
+    }
+
+    // Asserts what is read of bytes with a bit turned.
+    fn judge_bit(
+        &mut self,
+        rt: &impl Abort,
+        case: &Case,
+        bytes: &mut Vec<u8>,
+        place: usize,
+        bit: u8,
+    ) {
+        if let Some(verdict) = verdict_of_bit(case.turned, place, bit).expect(rt, "a table") {
+            turn(bytes, place, bit);
+            self.judge(rt, bytes.as_slice(), verdict);
+            turn(bytes, place, bit);
+        }
+    }
+
+    // Asserts what is read of bytes, of their fronts, of them with each bit turned, and with a byte more.
+    fn judge_all(&mut self, rt: &impl Abort, case: &Case, bytes: &mut Vec<u8>) {
+        self.judge(rt, bytes.as_slice(), "ok");
+        for place in 0..bytes.len() {
+            self.judge_cut(rt, case, bytes.as_slice(), place);
+            for bit in &BITS {
+                self.judge_bit(rt, case, bytes, place, *bit);
+            }
+        }
+        bytes.push(0).expect(rt, "memory");
+        self.judge(rt, bytes.as_slice(), case.longer);
     }
 }
 
-// Asserts what is read of a good spelling, of its fronts, of it with each bit turned, and with a byte more.
-fn judge(rt: &impl Abort, alloc: Global, format: Format, case: &Case) {
-    let mut bytes = bytes_of(rt, alloc, case.good);
-    let mut bench = Bench {
-        alloc,
-        format,
-        good: bytes_of(rt, alloc, case.good),
-        unseen: unseen(rt, alloc, case.turned, bytes.len()),
-        again: Vec::new(alloc),
-    };
-    bench.judge(rt, bytes.as_slice(), "ok");
-    for place in 0..bytes.len() {
-        let front = bytes.get(..place).unwrap_or(&[]);
-        if let Some(verdict) = verdict_at(case.cut, place).expect(rt, "a table") {
-            bench.judge(rt, front, verdict);
-        }
-        for bit in BITS {
-            if let Some(verdict) = verdict_of_bit(case.turned, place, bit).expect(rt, "a table") {
-                turn(&mut bytes, place, bit);
-                bench.judge(rt, bytes.as_slice(), verdict);
-                turn(&mut bytes, place, bit);
-            }
-        }
+// Asserts what is read of good spellings, of their fronts, of them with each bit turned, and with a byte more.
+fn judge(rt: &impl Abort, alloc: Global, format: Format, cases: &[Case]) {
+    for case in cases {
+        let mut bytes = bytes_of(rt, alloc, case.good);
+        Bench::new(rt, alloc, format, case).judge_all(rt, case, &mut bytes);
     }
-    bytes.push(0).expect(rt, "memory");
-    bench.judge(rt, bytes.as_slice(), case.longer);
 }
 
 #[test]
 fn cuts_and_turned_bits_are_read_as_they_must(rt: HostRuntime) {
     let alloc = rt.alloc();
-    for (format, cases) in [
-        (Format::Announcement, ANNOUNCEMENTS.as_slice()),
-        (Format::Ecp, ECP.as_slice()),
-        (Format::Message, MESSAGES.as_slice()),
-        (Format::ETag, E_TAGS.as_slice()),
-        (Format::Frame, FRAMES.as_slice()),
-    ] {
-        for case in cases {
-            judge(&rt, alloc, format, case);
-        }
-    }
+    judge(&rt, alloc, Format::Announcement, &ANNOUNCEMENTS);
+    judge(&rt, alloc, Format::Ecp, &ECP);
+    judge(&rt, alloc, Format::Message, &MESSAGES);
+    judge(&rt, alloc, Format::ETag, &E_TAGS);
+    judge(&rt, alloc, Format::Frame, &FRAMES);
 }

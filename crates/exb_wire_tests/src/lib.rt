@@ -8,6 +8,8 @@ mod announcements;
 #[cfg(test)]
 mod ecp;
 #[cfg(test)]
+mod formats;
+#[cfg(test)]
 mod frames;
 #[cfg(test)]
 mod hostile;

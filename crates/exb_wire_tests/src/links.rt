@@ -1,15 +1,13 @@
 //! Links as a caller sees them. Each word has a number; control words begin with their destination.
-use crate::words::number;
+use crate::words::{expect, number};
 use exb_link::{Link, Word};
 use exb_model::bytes::Bytes;
-use std::alloc::{AllocError, Global};
+use std::alloc::Global;
 use std::process::Abort;
 
-// The word of a number.
-fn word(rt: &impl Abort, alloc: Global, is_control: bool, number: u16) -> Word {
-    let [_, last] = number.to_be_bytes();
-    let end = if is_control { 0x0E } else { 0x0F };
-    let bytes = [0x01, 0x80, 0xC2, 0x00, 0x00, end, last];
+// A word whose destination ends with a byte, and which ends with its number.
+fn word(rt: &impl Abort, alloc: Global, destination: u8, number: u8) -> Word {
+    let bytes = [0x01, 0x80, 0xC2, 0x00, 0x00, destination, number];
     Word {
         bytes: Bytes::from_slice(alloc, &bytes).expect(rt, "memory"),
         stamp: None,
@@ -24,39 +22,63 @@ fn number_of(word: Option<&Word>) -> u8 {
     }
 }
 
-// Does a step: `control N` and `data N` send, `free AT`, `first`, `at AT`, `take`, `take_control AT`, `counts`.
-fn step(rt: &impl Abort, alloc: Global, link: &mut Link, step: &str) -> Result<String, AllocError> {
-    let mut words = step.split_whitespace();
-    let word_of_step = words.next().expect(rt, "a step");
-    match word_of_step {
-        "control" | "data" => {
-            let is_control = word_of_step == "control";
-            let pushed = link.push(word(rt, alloc, is_control, number(rt, words.next())));
-            format!(in alloc; "{}", pushed.is_ok())
-        }
-        "free" => format!(in alloc; "{}", link.free_at(number(rt, words.next()) as u64)),
-        "at" => {
-            let at = number(rt, words.next()) as u64;
-            format!(in alloc; "{}", number_of(link.control_at(at)))
-        }
-        "first" => format!(in alloc; "{}", number_of(link.first_data())),
-        "take" => {
-            let taken = link.take_data();
-            format!(in alloc; "{}", number_of(taken.as_ref()))
-        }
-        "take_control" => {
-            let taken = link.take_control(number(rt, words.next()) as u64);
-            format!(in alloc; "{}", number_of(taken.as_ref()))
-        }
-        _ => {
-            let counts = link.counts();
-            format!(in alloc; "{} {} {}", counts.frames, counts.control, link.is_empty())
-        }
+// Sends a word. Whether there was memory for it.
+fn send(rt: &impl Abort, alloc: Global, link: &mut Link, destination: u8, number: u8) -> bool {
+    link.push(word(rt, alloc, destination, number)).is_ok()
+}
+
+// Takes a control word out: its number.
+fn pick(link: &mut Link, at: u64) -> u8 {
+    number_of(link.take_control(at).as_ref())
+}
+
+// Takes the first data word out: its number.
+fn take(link: &mut Link) -> u8 {
+    number_of(link.take_data().as_ref())
+}
+
+// How many data words and control words there are, and whether there is none.
+fn counts(link: &Link) -> (u64, u64, bool) {
+    let counts = link.counts();
+    (counts.frames, counts.control, link.is_empty())
+}
+
+// Does a step, and asserts how it is told: `control N` and `data N` send, `free AT`, `first`, `at AT`, `take`, `pick AT`, `counts`.
+fn step(rt: &impl Abort, alloc: Global, link: &mut Link, step: &str, wanted: &str) {
+    let (verb, behind) = step.split_once(' ').unwrap_or((step, "0"));
+    let [_, number] = number(rt, behind).to_be_bytes();
+    match verb {
+        "control" => expect(
+            rt,
+            alloc,
+            &send(rt, alloc, link, 0x0E, number),
+            wanted,
+            step,
+        ),
+        "data" => expect(
+            rt,
+            alloc,
+            &send(rt, alloc, link, 0x0F, number),
+            wanted,
+            step,
+        ),
+        "free" => expect(rt, alloc, &link.free_at(number as u64), wanted, step),
+        "at" => expect(
+            rt,
+            alloc,
+            &number_of(link.control_at(number as u64)),
+            wanted,
+            step,
+        ),
+        "first" => expect(rt, alloc, &number_of(link.first_data()), wanted, step),
+        "take" => expect(rt, alloc, &take(link), wanted, step),
+        "pick" => expect(rt, alloc, &pick(link, number as u64), wanted, step),
+        _ => expect(rt, alloc, &counts(link), wanted, step),
     }
 }
 
-const STEPS: [(&str, &str); 24] = [
-    ("counts", "0 0 true"),
+const STEPS: &[(&str, &str)] = &[
+    ("counts", "(0, 0, true)"),
     ("control 1", "true"),
     ("control 2", "true"),
     ("data 3", "true"),
@@ -70,12 +92,12 @@ const STEPS: [(&str, &str); 24] = [
     ("free 2", "true"),
     ("free 3", "false"),
     // Taking one word leaves every other.
-    ("take_control 2", "4"),
-    ("take_control 0", "1"),
+    ("pick 2", "4"),
+    ("pick 0", "1"),
     ("at 0", "2"),
     ("at 1", "0"),
-    ("take_control 1", "0"),
-    ("counts", "1 1 false"),
+    ("pick 1", "0"),
+    ("counts", "(1, 1, false)"),
     ("control 6", "true"),
     ("free 0", "true"),
     ("free 1", "false"),
@@ -85,12 +107,9 @@ const STEPS: [(&str, &str); 24] = [
 ];
 
 #[test]
-fn control_waits_for_data_and_data_for_nothing(rt: HostRuntime) -> Result<(), AllocError> {
-    let alloc = rt.alloc();
-    let mut link = Link::new(alloc);
+fn control_waits_for_data_and_data_for_nothing(rt: HostRuntime) {
+    let mut link = Link::new(rt.alloc());
     for (words, wanted) in STEPS {
-        let told = step(&rt, alloc, &mut link, words)?;
-        assert_eq!(rt; told.as_str(), wanted, "of {words}");
+        step(&rt, rt.alloc(), &mut link, words, wanted);
     }
-    Ok(())
 }

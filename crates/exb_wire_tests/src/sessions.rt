@@ -1,23 +1,20 @@
 //! Sessions: what an asker takes as its answer and when a request is due again, and what an answerer executes.
-use crate::words::{bytes_of, number};
-use exb_csp::{Message, Request, RequestKind, Response, read};
-use exb_session::{Answerer, Asker, Due};
-use std::alloc::{AllocError, Global};
+use crate::words::{bytes_of, expect, number};
+use exb_csp::{Request, RequestKind, Response, read};
+use exb_session::{Answerer, Asker, Taken};
+use std::alloc::Global;
 use std::process::Abort;
-use std::test::Fail;
 
-// The message of these bytes.
-fn message(rt: &impl Abort, alloc: Global, text: Option<&str>) -> Message {
-    let bytes = bytes_of(rt, alloc, text.expect(rt, "bytes"));
-    read(bytes.as_slice()).expect(rt, "a message")
-}
-
-// The request for the creation of a port.
-fn create() -> Request {
-    Request::PortCreate {
-        port: 1,
-        cascade: false,
-        channel: 1,
+// The request of a word.
+fn request(word: &str) -> Request {
+    match word {
+        "open" => Request::Open,
+        "clear" => Request::Unregister { ecid: 1 },
+        _ => Request::PortCreate {
+            port: 1,
+            cascade: false,
+            channel: 1,
+        },
     }
 }
 
@@ -31,40 +28,38 @@ fn due(asker: &mut Asker, beats: u16) -> u16 {
     0
 }
 
-// Does a step: `open`, `clear` and `create` ask, `take BYTES`, `beat N`, `again`.
-fn step(
-    rt: &impl Abort,
-    alloc: Global,
-    asker: &mut Asker,
-    step: &str,
-) -> Result<String, AllocError> {
-    let mut words = step.split_whitespace();
-    let word = words.next().expect(rt, "a step");
+// Takes the message of these bytes.
+fn take(rt: &impl Abort, alloc: Global, asker: &mut Asker, text: &str) -> Taken {
+    let bytes = bytes_of(rt, alloc, text);
+    let message = read(bytes.as_slice()).expect(rt, "a message");
+    asker.take(&message)
+}
+
+// Asks: the serial of the message.
+fn ask(rt: &impl Abort, asker: &mut Asker, request: Request) -> u64 {
+    assert!(rt; !asker.waiting());
+    assert!(rt; asker.serial() < 1000);
+    asker.ask(request).serial
+}
+
+// The serial of the message that is waited for.
+fn again(rt: &impl Abort, asker: &Asker) -> u64 {
+    assert!(rt; asker.waiting());
+    asker.again().serial
+}
+
+// Does a step, and asserts how it is told: `open`, `clear` and `create` ask, `take BYTES`, `beat N`, `again`.
+fn step(rt: &impl Abort, alloc: Global, asker: &mut Asker, step: &str, wanted: &str) {
+    let (word, behind) = step.split_once(' ').unwrap_or((step, ""));
     match word {
-        "take" => {
-            let message = message(rt, alloc, words.next());
-            let taken = asker.take(&message);
-            format!(in alloc; "{taken:?}")
-        }
-        "beat" => format!(in alloc; "{}", due(asker, number(rt, words.next()))),
-        "again" => {
-            assert!(rt; asker.waiting());
-            format!(in alloc; "{}", asker.again().serial)
-        }
-        _ => {
-            assert!(rt; !asker.waiting());
-            assert!(rt; asker.serial() < 1000);
-            let request = match word {
-                "open" => Request::Open,
-                "clear" => Request::Unregister { ecid: 1 },
-                _ => create(),
-            };
-            format!(in alloc; "{}", asker.ask(request).serial)
-        }
+        "take" => expect(rt, alloc, &take(rt, alloc, asker, behind), wanted, step),
+        "beat" => expect(rt, alloc, &due(asker, number(rt, behind)), wanted, step),
+        "again" => expect(rt, alloc, &again(rt, asker), wanted, step),
+        _ => expect(rt, alloc, &ask(rt, asker, request(word)), wanted, step),
     }
 }
 
-const STEPS: [(&str, &str); 17] = [
+const STEPS: &[(&str, &str)] = &[
     ("open", "1"),
     (
         "take 81000000000000000100020002",
@@ -98,40 +93,54 @@ const STEPS: [(&str, &str); 17] = [
 ];
 
 #[test]
-fn an_asker_takes_the_answer_of_its_request_alone(rt: HostRuntime) -> Result<(), AllocError> {
-    let alloc = rt.alloc();
+fn an_asker_takes_the_answer_of_its_request_alone(rt: HostRuntime) {
     let mut asker = Asker::new();
     for (words, wanted) in STEPS {
-        let told = step(&rt, alloc, &mut asker, words)?;
-        assert_eq!(rt; told.as_str(), wanted, "of {words}");
+        step(&rt, rt.alloc(), &mut asker, words, wanted);
     }
-    Ok(())
 }
 
+const DONE: Response = Response {
+    to: RequestKind::Open,
+    code: 0,
+    ports: 2,
+};
+
 #[test]
-fn each_request_is_executed_once(rt: HostRuntime) -> Result<(), Fail> {
-    let done = Response {
-        to: RequestKind::Open,
-        code: 0,
-        ports: 2,
-    };
+fn each_request_is_executed_once(rt: HostRuntime) {
+    let alloc = rt.alloc();
     let mut answerer = Answerer::new();
-    assert!(rt; answerer.stored().is_none());
-    let first = answerer.take(1, Request::Open);
-    assert!(rt; matches!(first, Due::Execute(Request::Open)));
-    answerer.store(done);
-    let second = answerer.take(2, Request::Open);
-    assert!(rt; matches!(second, Due::Execute(_)));
-    answerer.store(done);
-    assert!(rt; matches!(answerer.take(2, Request::Open), Due::Again));
-    assert!(rt; matches!(answerer.take(4, Request::Open), Due::Ignore));
-    let third = answerer.take(3, Request::Open);
-    assert!(rt; matches!(third, Due::Execute(_)));
-    assert!(rt; answerer.stored().is_none());
-    answerer.store(done);
-    let stored = answerer.stored().ok_or("an answer is stored")?;
-    assert_eq!(rt; stored.serial, 3);
-    assert!(rt; matches!(answerer.take(1, Request::Open), Due::Ignore));
-    assert!(rt; matches!(answerer.take(0, Request::Open), Due::Ignore));
-    Ok(())
+    expect(&rt, alloc, &answerer.stored(), "None", "0");
+    expect(
+        &rt,
+        alloc,
+        &answerer.take(1, Request::Open),
+        "Execute(Open)",
+        "1",
+    );
+    answerer.store(DONE);
+    expect(
+        &rt,
+        alloc,
+        &answerer.take(2, Request::Open),
+        "Execute(Open)",
+        "2",
+    );
+    answerer.store(DONE);
+    expect(&rt, alloc, &answerer.take(2, Request::Open), "Again", "2");
+    expect(&rt, alloc, &answerer.take(4, Request::Open), "Ignore", "4");
+    expect(
+        &rt,
+        alloc,
+        &answerer.take(3, Request::Open),
+        "Execute(Open)",
+        "3",
+    );
+    expect(&rt, alloc, &answerer.stored(), "None", "3");
+    answerer.store(DONE);
+    let stored =
+        "Some(Message { serial: 3, body: Answer(Response { to: Open, code: 0, ports: 2 }) })";
+    expect(&rt, alloc, &answerer.stored(), stored, "3");
+    expect(&rt, alloc, &answerer.take(1, Request::Open), "Ignore", "1");
+    expect(&rt, alloc, &answerer.take(0, Request::Open), "Ignore", "0");
 }

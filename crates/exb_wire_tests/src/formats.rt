@@ -1,0 +1,36 @@
+//! What bytes are read as.
+use crate::messages::read_and_write;
+use crate::words::{bytes_of, expect, expect_read};
+use exb_frame::classify::classify;
+use exb_frame::etag::ETag;
+use std::alloc::Global;
+use std::process::Abort;
+
+/// What bytes are read as.
+#[derive(Clone, Copy)]
+pub(crate) enum Format {
+    Announcement,
+    Ecp,
+    Message,
+    ETag,
+    Frame,
+}
+
+// Asserts what bytes say, or their first fault.
+fn expect_in(rt: &impl Abort, alloc: Global, format: Format, bytes: &[u8], wanted: &str, of: &str) {
+    match format {
+        Format::Announcement => expect_read(rt, alloc, &exb_lldp::read(bytes), wanted, of),
+        Format::Ecp => expect_read(rt, alloc, &exb_ecp::read(bytes), wanted, of),
+        Format::Message => expect_read(rt, alloc, &read_and_write(rt, bytes), wanted, of),
+        Format::ETag => expect(rt, alloc, &ETag::read(bytes), wanted, of),
+        Format::Frame => expect(rt, alloc, &classify(bytes), wanted, of),
+    }
+}
+
+/// Asserts what the bytes of each case say, or their first fault.
+pub(crate) fn judge(rt: &impl Abort, alloc: Global, format: Format, cases: &[(&str, &str)]) {
+    for (text, wanted) in cases {
+        let bytes = bytes_of(rt, alloc, text);
+        expect_in(rt, alloc, format, bytes.as_slice(), wanted, text);
+    }
+}
