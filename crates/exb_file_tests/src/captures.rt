@@ -1,6 +1,8 @@
 //! Captures: the records that are read of them, or the first fault, at once and in pieces.
-use exb_pcap::{Next, PieceReader, Reader, header_text, record_text};
-use std::alloc::{AllocError, Global};
+use crate::compare::{holds, same, same_at};
+use crate::reading::{front_text, pieces_text, whole_text};
+use exb_pcap::{header_text, record_text};
+use std::alloc::Global;
 use std::process::Abort;
 
 /// One broadcast frame at 100 s: a header of 24 bytes, 16 bytes before the frame, and its 60 bytes.
@@ -19,214 +21,163 @@ const BIG_ENDIAN: [u8; 42] = [
     0xAA, 0xBB,
 ];
 
-// Moment and length of each record, and the fault where one comes.
-fn records_text(alloc: Global, file: &[u8]) -> Result<String, AllocError> {
-    let mut reader = match Reader::new(file) {
-        Ok(reader) => reader,
-        Err(fault) => return format!(in alloc; "{fault:?}"),
-    };
-    let mut text = String::new(alloc);
-    for _record in 0..9u32 {
-        match reader.next() {
-            Ok(Some(record)) => {
-                let one = format!(in alloc; "{} {}; ", record.moment, record.bytes.len())?;
-                text.push_str(one.as_str())?
-            }
-            Ok(None) => return Ok(text),
-            Err(fault) => {
-                text.push_str(format!(in alloc; "{fault:?}")?.as_str())?;
-                return Ok(text);
-            }
-        }
-    }
-    Ok(text)
-}
+/// Four bytes that stand at a place in the broadcast's capture, and the length to which it is cut.
+type Change = (usize, [u8; 4], usize);
 
-/// Four bytes that stand at a place in the broadcast's capture, the length to which it is cut, and what is read.
-const CHANGED: [(usize, [u8; 4], usize, &str); 11] = [
-    (0, [0xD4, 0xC3, 0xB2, 0xA1], 100, "100000000000 60;"),
-    (0, [0xD4, 0xC3, 0xB2, 0xA1], 24, ""),
-    (0, [0xD4, 0xC3, 0xB2, 0xA1], 3, "NotPcap"),
-    (0, [0x0A, 0x0D, 0x0D, 0x0A], 100, "NotPcap"),
-    (0, [0xD4, 0xC3, 0xB2, 0xA1], 23, "Cut(0)"),
-    (4, [2, 0, 3, 0], 100, "Version"),
-    (20, [105, 0, 0, 0], 100, "LinkType"),
-    (0, [0xD4, 0xC3, 0xB2, 0xA1], 39, "Cut(24)"),
-    (28, [0x40, 0x42, 0x0F, 0], 100, "Time(28)"),
-    (32, [0xFF; 4], 100, "Length(32)"),
-    (0, [0xD4, 0xC3, 0xB2, 0xA1], 99, "Cut(24)"),
+/// The first four bytes of the capture: nothing changes where they stand there.
+const MAGIC: [u8; 4] = [0xD4, 0xC3, 0xB2, 0xA1];
+
+/// A change, and what is read.
+const CHANGED: [(Change, &str); 11] = [
+    ((0, MAGIC, 100), "100000000000 60;"),
+    ((0, MAGIC, 24), ""),
+    ((0, MAGIC, 3), "NotPcap"),
+    ((0, [0x0A, 0x0D, 0x0D, 0x0A], 100), "NotPcap"),
+    ((0, MAGIC, 23), "Cut(0)"),
+    ((4, [2, 0, 3, 0], 100), "Version"),
+    ((20, [105, 0, 0, 0], 100), "LinkType"),
+    ((0, MAGIC, 39), "Cut(24)"),
+    ((28, [0x40, 0x42, 0x0F, 0], 100), "Time(28)"),
+    ((32, [0xFF; 4], 100), "Length(32)"),
+    ((0, MAGIC, 99), "Cut(24)"),
 ];
 
-// The broadcast's capture with four other bytes at a place, and cut to a length.
-fn changed(rt: &impl Abort, alloc: Global, at: usize, bytes: [u8; 4], length: usize) -> Vec<u8> {
-    let behind = at.saturating_add(4);
-    let mut file = Vec::new(alloc);
-    let front = BROADCAST.iter().take(at);
-    for byte in front
-        .chain(bytes.iter())
-        .chain(BROADCAST.iter().skip(behind))
-    {
-        file.push(*byte).expect(rt, "memory");
+// The broadcast's capture with a change.
+fn changed(rt: &impl Abort, alloc: Global, change: &Change) -> Vec<u8> {
+    let (at, four, length) = change;
+    let mut file = Vec::from_slice(alloc, &BROADCAST).expect(rt, "memory");
+    for (offset, byte) in four.iter().enumerate() {
+        put_byte(rt, &mut file, at.saturating_add(offset), *byte);
     }
-    file.truncate(length);
+    file.truncate(*length);
+    file
+}
+
+// Puts a byte in the place of another.
+fn put_byte(rt: &impl Abort, file: &mut Vec<u8>, at: usize, byte: u8) {
+    *file.get_mut(at).expect(rt, "a place in the file") = byte;
+}
+
+// Asserts what is read of a file.
+fn judge(rt: &impl Abort, alloc: Global, file: &[u8], wanted: &str) {
+    let text = whole_text(rt, alloc, file);
+    same(rt, text.as_str().trim_end(), wanted, "the whole file");
+}
+
+// The same of a changed capture.
+fn judge_change(rt: &impl Abort, alloc: Global, change: &Change, wanted: &str) {
+    let file = changed(rt, alloc, change);
+    judge(rt, alloc, file.as_slice(), wanted);
+}
+
+#[test]
+fn records_are_read_up_to_the_first_fault(rt: HostRuntime) {
+    for (change, wanted) in &CHANGED {
+        judge_change(&rt, rt.alloc(), change, wanted);
+    }
+    judge(&rt, rt.alloc(), &BIG_ENDIAN, "100000000999 2;");
+}
+
+#[test]
+fn heads_are_written_as_they_must(rt: HostRuntime) {
+    let head = record_text(100_000_000_000, 60);
+    holds(
+        &rt,
+        BROADCAST.starts_with(&header_text()),
+        "the file's head",
+    );
+    holds(&rt, BROADCAST[24..].starts_with(&head), "the record's head");
+}
+
+/// A change, and what is answered before it is told that this is the end.
+const FRONTS: [(Change, &str); 14] = [
+    ((0, MAGIC, 0), "More"),
+    ((0, [0xD4, 0xC3, 0xB2, 0], 3), "More"),
+    ((0, [0xD4, 0xC3, 0xB2, 0], 4), "NotPcap"),
+    ((0, [0, 0, 0, 0], 1), "NotPcap"),
+    ((0, [0xA1, 0xB2, 0x3C, 0x4D], 4), "More"),
+    ((4, [2, 0, 3, 0], 23), "More"),
+    ((4, [2, 0, 3, 0], 24), "Version"),
+    ((20, [105, 0, 0, 0], 24), "LinkType"),
+    ((28, [0x40, 0x42, 0x0F, 0], 39), "More"),
+    ((28, [0x40, 0x42, 0x0F, 0], 40), "Time(28)"),
+    ((32, [0xFF; 4], 39), "More"),
+    ((32, [0xFF; 4], 40), "Length(32)"),
+    ((0, MAGIC, 99), "More"),
+    ((0, MAGIC, 100), "100000000000 60; More"),
+];
+
+// Asserts what is answered of a file in two pieces.
+fn judge_cut(rt: &impl Abort, alloc: Global, file: &[u8], cut: usize, wanted: &str) {
+    let (front, rest) = file.split_at_checked(cut).expect(rt, "a place in the file");
+    let text = pieces_text(rt, alloc, file, &[front, rest]);
+    same_at(rt, text.as_str(), wanted, "pieces cut", cut);
+}
+
+// Asserts what is answered of a file in pieces of so many bytes.
+fn judge_chunks(rt: &impl Abort, alloc: Global, file: &[u8], size: usize, wanted: &str) {
+    let mut pieces: Vec<&[u8]> = Vec::new(alloc);
+    for piece in file.chunks(size) {
+        pieces.push(piece).expect(rt, "memory");
+    }
+    let text = pieces_text(rt, alloc, file, pieces.as_slice());
+    same_at(rt, text.as_str(), wanted, "pieces cut", size);
+}
+
+// Asserts that of a file that is cut at each place in turn, and into single bytes, is read what is read of the whole.
+fn judge_pieces(rt: &impl Abort, alloc: Global, file: &[u8]) {
+    let whole = whole_text(rt, alloc, file);
+    for cut in 0..file.len() {
+        judge_cut(rt, alloc, file, cut, whole.as_str());
+    }
+    judge_chunks(rt, alloc, file, 1, whole.as_str());
+}
+
+#[test]
+fn a_file_in_pieces_is_read_as_the_whole(rt: HostRuntime) {
+    for (change, _wanted) in &CHANGED {
+        let file = changed(&rt, rt.alloc(), change);
+        judge_pieces(&rt, rt.alloc(), file.as_slice());
+    }
+    judge_pieces(&rt, rt.alloc(), &BIG_ENDIAN);
+}
+
+// Asserts what is answered of the front of a changed capture.
+fn judge_front(rt: &impl Abort, alloc: Global, change: &Change, wanted: &str) {
+    let front = changed(rt, alloc, change);
+    let text = front_text(rt, alloc, front.as_slice());
+    same_at(rt, text.as_str(), wanted, "a front cut", change.2);
+}
+
+#[test]
+fn what_stands_whatever_follows_is_answered_before_the_end(rt: HostRuntime) {
+    for (change, wanted) in &FRONTS {
+        judge_front(&rt, rt.alloc(), change, wanted);
+    }
+}
+
+// Puts a record with a frame of 100,000 bytes behind what a file holds.
+fn put_long(rt: &impl Abort, file: &mut Vec<u8>, second: u8) {
+    let head = record_text(u64::from(second) * 1_000_000_000, 100_000);
+    file.extend_from_slice(&head).expect(rt, "memory");
+    let length = file.len().saturating_add(100_000);
+    file.resize(length, second).expect(rt, "memory");
+}
+
+// A capture of five such frames: more than the reader's buffer.
+fn long_capture(rt: &impl Abort, alloc: Global) -> Vec<u8> {
+    let mut file = Vec::from_slice(alloc, &header_text()).expect(rt, "memory");
+    for second in 0..5u8 {
+        put_long(rt, &mut file, second);
+    }
     file
 }
 
 #[test]
-fn records_are_read_up_to_the_first_fault(rt: HostRuntime) -> Result<(), AllocError> {
-    let alloc = rt.alloc();
-    for (at, bytes, length, wanted) in CHANGED {
-        let file = changed(&rt, alloc, at, bytes, length);
-        let text = records_text(alloc, file.as_slice())?;
-        assert_eq!(rt;
-            text.as_str().trim_end(),
-            wanted,
-            "{bytes:?} at {at}, cut to {length}"
-        );
+fn a_long_file_is_read_through_a_short_buffer(rt: HostRuntime) {
+    let file = long_capture(&rt, rt.alloc());
+    let whole = whole_text(&rt, rt.alloc(), file.as_slice());
+    for size in &[1_000, 65_536, 99_999, 162_144] {
+        judge_chunks(&rt, rt.alloc(), file.as_slice(), *size, whole.as_str());
     }
-    let text = records_text(alloc, &BIG_ENDIAN)?;
-    assert_eq!(rt; text.as_str(), "100000000999 2; ");
-    assert!(rt; header_text().as_slice() == &BROADCAST[..24]);
-    assert!(rt; record_text(100_000_000_000, 60).as_slice() == &BROADCAST[24..40]);
-    Ok(())
-}
-
-/// Four bytes at a place and a length as above, and what is answered before it is told that this is the end.
-const FRONTS: [(usize, [u8; 4], usize, &str); 14] = [
-    (0, [0xD4, 0xC3, 0xB2, 0xA1], 0, "More"),
-    (0, [0xD4, 0xC3, 0xB2, 0], 3, "More"),
-    (0, [0xD4, 0xC3, 0xB2, 0], 4, "NotPcap"),
-    (0, [0, 0, 0, 0], 1, "NotPcap"),
-    (0, [0xA1, 0xB2, 0x3C, 0x4D], 4, "More"),
-    (4, [2, 0, 3, 0], 23, "More"),
-    (4, [2, 0, 3, 0], 24, "Version"),
-    (20, [105, 0, 0, 0], 24, "LinkType"),
-    (28, [0x40, 0x42, 0x0F, 0], 39, "More"),
-    (28, [0x40, 0x42, 0x0F, 0], 40, "Time(28)"),
-    (32, [0xFF; 4], 39, "More"),
-    (32, [0xFF; 4], 40, "Length(32)"),
-    (0, [0xD4, 0xC3, 0xB2, 0xA1], 99, "More"),
-    (0, [0xD4, 0xC3, 0xB2, 0xA1], 100, "100000000000 60; More"),
-];
-
-// Puts what is answered behind the text, up to More, the end or a fault; true where it is More.
-fn answers_text(
-    alloc: Global,
-    reader: &mut PieceReader,
-    ended: bool,
-    text: &mut String,
-) -> Result<bool, AllocError> {
-    for _answer in 0..9u32 {
-        match reader.next(ended) {
-            Ok(Next::Record { moment, bytes }) => {
-                let one = format!(in alloc; "{moment} {}; ", bytes.len())?;
-                text.push_str(one.as_str())?
-            }
-            Ok(Next::More) => return Ok(true),
-            Ok(Next::End) => return Ok(false),
-            Err(fault) => {
-                text.push_str(format!(in alloc; "{fault:?}")?.as_str())?;
-                return Ok(false);
-            }
-        }
-    }
-    Ok(false)
-}
-
-// What is answered of a file that is fed in these pieces, where it is asked behind each.
-fn pieces_text(rt: &impl Abort, alloc: Global, pieces: &[&[u8]]) -> Result<String, AllocError> {
-    let mut reader = PieceReader::new(alloc).expect(rt, "memory");
-    let mut text = String::new(alloc);
-    for piece in pieces {
-        assert!(rt; reader.feed(piece) as usize == piece.len(), "room");
-        if !answers_text(alloc, &mut reader, false, &mut text)? {
-            return Ok(text);
-        }
-    }
-    let open = answers_text(alloc, &mut reader, true, &mut text)?;
-    assert!(rt; !open, "an answer at the end");
-    Ok(text)
-}
-
-// The same of a file that is cut at each place in turn, and into single bytes.
-fn judge_pieces(
-    rt: &impl Abort,
-    alloc: Global,
-    file: &[u8],
-    wanted: &str,
-) -> Result<(), AllocError> {
-    for cut in 0..file.len() {
-        let (front, rest) = file.split_at_checked(cut).expect(rt, "a place in the file");
-        let text = pieces_text(rt, alloc, &[front, rest])?;
-        assert_eq!(rt; text.as_str(), wanted, "in pieces at {cut}");
-    }
-    let mut bytes: Vec<&[u8]> = Vec::new(alloc);
-    for byte in file.chunks(1) {
-        bytes.push(byte)?;
-    }
-    let text = pieces_text(rt, alloc, bytes.as_slice())?;
-    assert_eq!(rt; text.as_str(), wanted, "in single bytes");
-    Ok(())
-}
-
-#[test]
-fn a_file_in_pieces_is_read_as_the_whole(rt: HostRuntime) -> Result<(), AllocError> {
-    let alloc = rt.alloc();
-    for (at, bytes, length, _wanted) in CHANGED {
-        let file = changed(&rt, alloc, at, bytes, length);
-        let whole = records_text(alloc, file.as_slice())?;
-        judge_pieces(&rt, alloc, file.as_slice(), whole.as_str())?;
-    }
-    let whole = records_text(alloc, &BIG_ENDIAN)?;
-    judge_pieces(&rt, alloc, &BIG_ENDIAN, whole.as_str())
-}
-
-#[test]
-fn what_stands_whatever_follows_is_answered_before_the_end(
-    rt: HostRuntime,
-) -> Result<(), AllocError> {
-    let alloc = rt.alloc();
-    for (at, bytes, length, wanted) in FRONTS {
-        let front = changed(&rt, alloc, at, bytes, length);
-        let mut reader = PieceReader::new(alloc).expect(&rt, "memory");
-        reader.feed(front.as_slice());
-        let mut text = String::new(alloc);
-        if answers_text(alloc, &mut reader, false, &mut text)? {
-            text.push_str("More")?;
-        }
-        assert_eq!(rt;
-            text.as_str(),
-            wanted,
-            "{bytes:?} at {at}, the first {length}"
-        );
-    }
-    Ok(())
-}
-
-// A capture of five frames of 100,000 bytes: more than the reader's buffer.
-fn long_capture(alloc: Global) -> Result<Vec<u8>, AllocError> {
-    let mut file = Vec::new(alloc);
-    file.extend_from_slice(&header_text())?;
-    for second in 0..5u64 {
-        file.extend_from_slice(&record_text(second * 1_000_000_000, 100_000))?;
-        let frame = vec![in alloc; second as u8; 100_000]?;
-        file.extend_from_slice(frame.as_slice())?;
-    }
-    Ok(file)
-}
-
-#[test]
-fn a_long_file_is_read_through_a_short_buffer(rt: HostRuntime) -> Result<(), AllocError> {
-    let alloc = rt.alloc();
-    let file = long_capture(alloc)?;
-    let whole = records_text(alloc, file.as_slice())?;
-    for size in [1_000usize, 65_536, 99_999, 162_144] {
-        let mut pieces: Vec<&[u8]> = Vec::new(alloc);
-        for piece in file.chunks(size) {
-            pieces.push(piece)?;
-        }
-        let text = pieces_text(&rt, alloc, pieces.as_slice())?;
-        assert_eq!(rt; text.as_str(), whole.as_str(), "in pieces of {size}");
-    }
-    Ok(())
 }

@@ -1,6 +1,7 @@
 //! A run over a shelf or a sink in memory that fails at one call, with each option. Each file then holds a front of its text.
+use crate::compare::{holds, same_status};
 use crate::hostile::bytes_of;
-use crate::play::{play, words_of};
+use crate::play::play;
 use exb_shelf::{MemShelf, MemSink};
 use std::alloc::Global;
 use std::process::Abort;
@@ -41,19 +42,20 @@ fn shelf_of(rt: &impl Abort, alloc: Global, failing: u64) -> MemShelf {
     shelf
 }
 
-/// The same, whose call `failing` fails, after the words were played over it and a sink, whose call `mute` fails; and the status.
-fn played(
-    rt: &impl Abort,
-    alloc: Global,
-    told: &str,
-    failing: u64,
-    mute: u64,
-) -> (MemShelf, MemSink, u8) {
-    let words = words_of(alloc, told).expect(rt, "memory");
+/// What came of a run.
+#[derive(Drop)]
+struct Played {
+    shelf: MemShelf,
+    out: MemSink,
+    status: u8,
+}
+
+/// Plays the words over such a shelf and a sink, whose call `mute` fails.
+fn run_of(rt: &impl Abort, alloc: Global, told: &str, failing: u64, mute: u64) -> Played {
     let mut shelf = shelf_of(rt, alloc, failing);
     let mut out = MemSink::new(alloc, &[mute]).expect(rt, "memory");
-    let status = play(alloc, &words, &mut shelf, &mut out).expect(rt, "memory");
-    (shelf, out, status)
+    let status = play(rt, alloc, told, &mut shelf, &mut out);
+    Played { shelf, out, status }
 }
 
 /// Whether the file isn't there, or holds a front of what it holds on the other shelf.
@@ -67,55 +69,76 @@ fn is_front(shelf: &MemShelf, whole: &MemShelf, name: &str) -> bool {
 
 /// Asserts that each output is a front of what it is on the other shelf.
 fn judge_fronts(rt: &impl Abort, shelf: &MemShelf, whole: &MemShelf) {
-    for name in OUTPUTS {
-        assert!(rt; is_front(shelf, whole, name), "{name}");
+    for name in &OUTPUTS {
+        holds(rt, is_front(shelf, whole, name), name);
     }
 }
 
-/// Asserts what comes of the words where each call of the shelf fails in turn, up to the first number that is no call.
-fn judge_words(rt: &impl Abort, alloc: Global, told: &str) {
-    let (whole, _out, status) = played(rt, alloc, told, 0, 0);
-    assert_eq!(rt; status, 0);
+/// The status where a call of the shelf fails. Asserts that each output is a front then.
+fn failing_status(
+    rt: &impl Abort,
+    alloc: Global,
+    told: &str,
+    failing: u64,
+    whole: &MemShelf,
+) -> u8 {
+    let played = run_of(rt, alloc, told, failing, 0);
+    judge_fronts(rt, &played.shelf, whole);
+    played.status
+}
+
+/// How many calls read and how many write, where each fails in turn, up to the first number that is no call.
+fn failing_calls(rt: &impl Abort, alloc: Global, told: &str, whole: &MemShelf) -> (u32, u32) {
     let mut reads = 0u32;
     let mut writes = 0u32;
     for failing in 1..64u64 {
-        let (shelf, _out, status) = played(rt, alloc, told, failing, 0);
-        judge_fronts(rt, &shelf, &whole);
-        match status {
+        match failing_status(rt, alloc, told, failing, whole) {
             0 => break,
             6 => reads = reads.saturating_add(1),
             7 => writes = writes.saturating_add(1),
-            _ => panic!(rt; "status {status}"),
+            _ => panic!(rt; "another status"),
         }
     }
+    (reads, writes)
+}
+
+/// Asserts what comes of the words where each call of the shelf fails in turn.
+fn judge_words(rt: &impl Abort, alloc: Global, told: &str) {
+    let whole = run_of(rt, alloc, told, 0, 0);
+    same_status(rt, whole.status, 0, told);
+    let (reads, writes) = failing_calls(rt, alloc, told, &whole.shelf);
     // Two files are read, each by three calls and more; three or four are made and written.
-    assert!(rt; reads >= 6, "{reads} calls that read");
-    assert!(rt; writes == 6 || writes == 8, "{writes} calls that write");
+    holds(rt, reads >= 6, "calls that read");
+    holds(rt, writes == 6 || writes == 8, "calls that write");
 }
 
 #[test]
 fn whichever_call_of_the_shelf_fails_each_file_holds_a_front_of_its_text(rt: HostRuntime) {
-    for told in WORDS {
+    for told in &WORDS {
         judge_words(&rt, rt.alloc(), told);
     }
 }
 
 /// Asserts that each output is the same on both shelves.
 fn judge_whole(rt: &impl Abort, shelf: &MemShelf, whole: &MemShelf) {
-    for name in OUTPUTS {
-        assert!(rt; shelf.file(name) == whole.file(name), "{name}");
+    for name in &OUTPUTS {
+        holds(rt, shelf.file(name) == whole.file(name), name);
     }
-    assert!(rt; shelf.file("out-journal.txt").is_some());
+    holds(rt, shelf.file("out-journal.txt").is_some(), "the journal");
+}
+
+/// Asserts what comes of the words where the summary fails.
+fn judge_mute(rt: &impl Abort, alloc: Global, told: &str) {
+    let whole = run_of(rt, alloc, told, 0, 0);
+    let played = run_of(rt, alloc, told, 0, 1);
+    same_status(rt, played.status, 7, told);
+    holds(rt, played.out.text().is_empty(), "what is printed");
+    judge_whole(rt, &played.shelf, &whole.shelf);
 }
 
 #[test]
 fn where_the_summary_fails_all_files_are_whole(rt: HostRuntime) {
-    let alloc = rt.alloc();
-    for told in WORDS {
-        let (whole, _out, _status) = played(&rt, alloc, told, 0, 0);
-        let (shelf, out, status) = played(&rt, alloc, told, 0, 1);
-        assert_eq!(rt; status, 7);
-        assert!(rt; out.text().is_empty());
-        judge_whole(&rt, &shelf, &whole);
+    for told in &WORDS {
+        judge_mute(&rt, rt.alloc(), told);
     }
 }

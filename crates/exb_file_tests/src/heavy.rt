@@ -1,6 +1,7 @@
 //! Topologies that could take more memory once read than there is to be for them: they end with status 1, and those beside them,
 //! whose dots and braces stand in strings and comments, don't.
-use crate::play::{play, words_of};
+use crate::compare::{holds, same_status};
+use crate::play::play;
 use exb_shelf::{MemShelf, MemSink};
 use std::alloc::Global;
 use std::process::Abort;
@@ -63,32 +64,46 @@ const LIGHT: [Many; 6] = [
 ];
 
 // A file with a text that stands in it many times.
-fn file_of(rt: &impl Abort, alloc: Global, many: Many) -> String {
+fn file_of(rt: &impl Abort, alloc: Global, many: &Many) -> String {
     let (front, text, times, back) = many;
     let mut file = String::from_str(alloc, front).expect(rt, "memory");
-    for _time in 0..times {
+    for _time in 0..*times {
         file.push_str(text).expect(rt, "memory");
     }
     file.push_str(back).expect(rt, "memory");
     file
 }
 
-// Asserts what a check of each file ends with, and prints.
+// A shelf with the file.
+fn shelf_of(rt: &impl Abort, alloc: Global, many: &Many) -> MemShelf {
+    let file = file_of(rt, alloc, many);
+    let mut shelf = MemShelf::new(alloc, &[]).expect(rt, "memory");
+    shelf.put("t.toml", file.as_bytes()).expect(rt, "memory");
+    shelf
+}
+
+// Asserts what a check of a file ends with, and prints.
+fn judge_check(rt: &impl Abort, alloc: Global, many: &Many, status: u8, line: &str) {
+    let mut shelf = shelf_of(rt, alloc, many);
+    let mut out = MemSink::new(alloc, &[]).expect(rt, "memory");
+    let ended = play(rt, alloc, "check t.toml", &mut shelf, &mut out);
+    same_status(rt, ended, status, many.0);
+    holds(rt, out.text() == line.as_bytes(), many.0);
+}
+
+// The same of each file.
 fn judge(rt: &impl Abort, alloc: Global, files: &[Many], status: u8, line: &str) {
     for many in files {
-        let file = file_of(rt, alloc, *many);
-        let words = words_of(alloc, "check t.toml").expect(rt, "memory");
-        let mut shelf = MemShelf::new(alloc, &[]).expect(rt, "memory");
-        let mut out = MemSink::new(alloc, &[]).expect(rt, "memory");
-        shelf.put("t.toml", file.as_bytes()).expect(rt, "memory");
-        let ended = play(alloc, &words, &mut shelf, &mut out).expect(rt, "memory");
-        assert_eq!(rt; ended, status, "{many:?}");
-        assert!(rt; out.text() == line.as_bytes(), "{many:?}");
+        judge_check(rt, alloc, many, status, line);
     }
 }
 
 #[test]
 fn files_that_could_take_too_much_memory_are_not_read(rt: HostRuntime) {
     judge(&rt, rt.alloc(), &HEAVY, 1, MEMORY);
+}
+
+#[test]
+fn files_that_are_as_long_and_light_are_read(rt: HostRuntime) {
     judge(&rt, rt.alloc(), &LIGHT, 0, CHECKED);
 }

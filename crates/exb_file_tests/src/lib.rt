@@ -7,6 +7,8 @@ mod broken;
 #[cfg(test)]
 mod captures;
 #[cfg(test)]
+mod compare;
+#[cfg(test)]
 mod failures;
 #[cfg(test)]
 mod heavy;
@@ -14,6 +16,8 @@ mod heavy;
 mod hostile;
 #[cfg(test)]
 mod play;
+#[cfg(test)]
+mod reading;
 #[cfg(test)]
 mod shelves;
 #[cfg(test)]

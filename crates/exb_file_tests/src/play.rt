@@ -2,24 +2,28 @@
 use exb_fate::{Fate, ScriptFate};
 use exb_run::run;
 use exb_shelf::{Shelf, Sink};
-use std::alloc::{AllocError, Global};
+use std::alloc::Global;
+use std::process::Abort;
 
-/// Plays the words, and answers the status.
-pub(crate) fn play<S: Shelf, O: Sink>(
-    alloc: Global,
-    words: &[String],
-    shelf: &mut S,
-    out: &mut O,
-) -> Result<u8, AllocError> {
-    let fate: Box<dyn Fate> = Box::new(alloc, ScriptFate::new(alloc))?;
-    Ok(run(alloc, words, shelf, out, fate))
-}
-
-/// The words of a text.
-pub(crate) fn words_of(alloc: Global, text: &str) -> Result<Vec<String>, AllocError> {
+// The words of a text.
+fn words_of(rt: &impl Abort, alloc: Global, text: &str) -> Vec<String> {
     let mut words = Vec::new(alloc);
     for word in text.split_whitespace() {
-        words.push(String::from_str(alloc, word)?)?;
+        let word = String::from_str(alloc, word).expect(rt, "memory");
+        words.push(word).expect(rt, "memory");
     }
-    Ok(words)
+    words
+}
+
+/// Plays the words of a text, and answers the status.
+pub(crate) fn play<S: Shelf, O: Sink>(
+    rt: &impl Abort,
+    alloc: Global,
+    text: &str,
+    shelf: &mut S,
+    out: &mut O,
+) -> u8 {
+    let words = words_of(rt, alloc, text);
+    let fate: Box<dyn Fate> = Box::new(alloc, ScriptFate::new(alloc)).expect(rt, "memory");
+    run(alloc, words.as_slice(), shelf, out, fate)
 }

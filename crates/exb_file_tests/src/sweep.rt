@@ -4,8 +4,9 @@
 //! all is whole.
 mod runs;
 
+use crate::compare::{holds, same_status};
 use crate::hostile::bytes_of;
-use crate::play::{play, words_of};
+use crate::play::play;
 use exb_faulty::{Asked, Call, Disturbance, FaultyShelf, FaultySink};
 use runs::{BARE, LOSSY, Run, TREE};
 use std::alloc::Global;
@@ -40,7 +41,13 @@ fn put_all(rt: &impl Abort, shelf: &mut FaultyShelf, names: &[&str], text: &str)
     }
 }
 
-// Puts captures there, each in hexadecimal behind its name.
+// Puts a capture there in hexadecimal.
+fn put_capture(rt: &impl Abort, alloc: Global, shelf: &mut FaultyShelf, name: &str, capture: &str) {
+    let capture = bytes_of(rt, alloc, capture);
+    shelf.put(name, capture.as_slice()).expect(rt, "memory");
+}
+
+// Puts captures there, each behind its name.
 fn put_captures(
     rt: &impl Abort,
     alloc: Global,
@@ -48,8 +55,7 @@ fn put_captures(
     captures: &[(&str, &str)],
 ) {
     for (name, capture) in captures {
-        let capture = bytes_of(rt, alloc, capture);
-        shelf.put(name, capture.as_slice()).expect(rt, "memory");
+        put_capture(rt, alloc, shelf, name, capture);
     }
 }
 
@@ -73,10 +79,9 @@ fn play_site(
     of_shelf: Disturbance,
     of_sink: Disturbance,
 ) -> Played {
-    let words = words_of(alloc, site.run.words).expect(rt, "memory");
     let mut shelf = shelf_of(rt, alloc, site, of_shelf);
     let mut out = FaultySink::new(alloc, of_sink);
-    let status = play(alloc, &words, &mut shelf, &mut out).expect(rt, "memory");
+    let status = play(rt, alloc, site.run.words, &mut shelf, &mut out);
     Played { shelf, out, status }
 }
 
@@ -114,8 +119,9 @@ impl<'a> Bench<'a> {
             first: shelf_of(rt, alloc, site, Disturbance::Quiet),
             whole: play_site(rt, alloc, site, Disturbance::Quiet, Disturbance::Quiet),
         };
-        assert_eq!(rt; bench.whole.status, 0);
-        assert!(rt; bench.whole.out.text() == run.summary.as_bytes());
+        same_status(rt, bench.whole.status, 0, run.words);
+        let printed = bench.whole.out.text() == run.summary.as_bytes();
+        holds(rt, printed, "the summary");
         bench.judge_others(rt, &bench.whole);
         bench
     }
@@ -133,13 +139,16 @@ impl<'a> Bench<'a> {
         }
     }
 
+    // Whether an output is what it is where nothing is disturbed.
+    fn is_whole(&self, played: &Played, name: &str) -> bool {
+        played.shelf.file(name) == self.whole.shelf.file(name)
+    }
+
     // Asserts that each output is a front of its text, and whole where it has to be.
     fn judge_outputs(&self, rt: &impl Abort, played: &Played, whole: bool) {
         for name in self.site.run.outputs {
-            let name: &str = *name;
-            assert!(rt; self.is_front(played, name), "{name}");
-            let same = played.shelf.file(name) == self.whole.shelf.file(name);
-            assert!(rt; same || !whole, "{name} is whole");
+            holds(rt, self.is_front(played, name), name);
+            holds(rt, !whole || self.is_whole(played, name), name);
         }
     }
 
@@ -158,14 +167,23 @@ impl<'a> Bench<'a> {
     // Asserts that no output was made twice, and that all that the shelf took is still there.
     fn judge_taken(&self, rt: &impl Abort, played: &Played) {
         let calls = played.shelf.calls();
-        assert!(rt; made(calls, Asked::Create) <= self.site.run.outputs.len());
-        assert_eq!(rt; self.held(played), moved(calls, Asked::Append));
+        let outputs = self.site.run.outputs.len();
+        holds(
+            rt,
+            made(calls, Asked::Create) <= outputs,
+            "outputs that are made",
+        );
+        holds(
+            rt,
+            self.held(played) == moved(calls, Asked::Append),
+            "what the shelf took",
+        );
     }
 
     // Asserts that a file is as it was.
     fn judge_kept(&self, rt: &impl Abort, played: &Played, name: &str) {
         let file = played.shelf.file(name);
-        assert!(rt; file.is_some() && file == self.first.file(name), "{name}");
+        holds(rt, file.is_some() && file == self.first.file(name), name);
     }
 
     // Asserts that each capture that is read is as it was.
@@ -177,7 +195,7 @@ impl<'a> Bench<'a> {
 
     // Asserts that each file that is no output is as it was.
     fn judge_others(&self, rt: &impl Abort, played: &Played) {
-        for name in OTHERS {
+        for name in &OTHERS {
             self.judge_kept(rt, played, name);
         }
         self.judge_kept(rt, played, "t.toml");
@@ -193,15 +211,11 @@ impl<'a> Bench<'a> {
         wanted: (u8, &str),
     ) {
         let played = play_site(rt, self.alloc, self.site, of_shelf, of_sink);
+        let name = name_of(rt, self.alloc, of_shelf, of_sink);
         let (status, line) = wanted;
-        assert_eq!(rt; played.status, status, "{of_shelf:?} {of_sink:?}");
-        let text = played.out.text();
-        let printed = if is_loud(of_sink) {
-            line.as_bytes().starts_with(text) && text.len() < line.len()
-        } else {
-            text == line.as_bytes()
-        };
-        assert!(rt; printed, "{of_shelf:?} {of_sink:?}");
+        same_status(rt, played.status, status, name.as_str());
+        let printed = is_printed(played.out.text(), line.as_bytes(), of_sink);
+        holds(rt, printed, name.as_str());
         self.judge_outputs(rt, &played, of_shelf == Disturbance::Quiet || status == 0);
         self.judge_taken(rt, &played);
         self.judge_others(rt, &played);
@@ -281,14 +295,19 @@ impl<'a> Bench<'a> {
         }
     }
 
+    // All calls move at most so many bytes.
+    fn judge_slow(&self, rt: &impl Abort, bytes: usize) {
+        let how = Disturbance::Slow { bytes };
+        self.judge(rt, how, how, (0, self.site.run.summary));
+    }
+
     // Has each call fail, and all of them move few bytes.
     fn fail(&self, rt: &impl Abort) {
         self.stop_calls(rt, self.whole.shelf.calls());
         self.stop_calls(rt, self.whole.out.calls());
         self.sweep_lines(rt);
-        for bytes in [1, 7, 100] {
-            let how = Disturbance::Slow { bytes };
-            self.judge(rt, how, how, (0, self.site.run.summary));
+        for bytes in &[1, 7, 100] {
+            self.judge_slow(rt, *bytes);
         }
     }
 
@@ -301,6 +320,20 @@ impl<'a> Bench<'a> {
                 self.judge_call(rt, call.asked, Disturbance::Stops { at, bytes: 1 });
             }
         }
+    }
+}
+
+// Names the disturbances of a run.
+fn name_of(rt: &impl Abort, alloc: Global, of_shelf: Disturbance, of_sink: Disturbance) -> String {
+    format!(in alloc; "{of_shelf:?} {of_sink:?}").expect(rt, "memory")
+}
+
+// Whether this is what a sink with this disturbance prints of a line.
+fn is_printed(text: &[u8], line: &[u8], of_sink: Disturbance) -> bool {
+    if is_loud(of_sink) {
+        line.starts_with(text) && text.len() < line.len()
+    } else {
+        text == line
     }
 }
 
@@ -328,24 +361,44 @@ fn moved(calls: &[Call], asked: Asked) -> usize {
     moved
 }
 
-// Asserts that all calls were made that a run can make: each kind, as many files as there are, and one line.
-fn judge_calls(rt: &impl Abort, bench: &Bench<'_>) {
+// Asserts that a run reads more files than its captures, and each by more than one call.
+fn judge_reads(rt: &impl Abort, bench: &Bench<'_>) {
+    let calls = bench.whole.shelf.calls();
+    let opened = made(calls, Asked::Open);
+    holds(
+        rt,
+        opened > bench.site.run.captures.len(),
+        "files that are opened",
+    );
+    holds(rt, made(calls, Asked::Read) > opened, "calls that read");
+}
+
+// Asserts that each output is made and written by one call, and one line printed.
+fn judge_writes(rt: &impl Abort, bench: &Bench<'_>) {
     let calls = bench.whole.shelf.calls();
     let outputs = bench.site.run.outputs.len();
-    assert!(rt; made(calls, Asked::Open) > bench.site.run.captures.len());
-    assert!(rt; made(calls, Asked::Read) > made(calls, Asked::Open));
-    assert_eq!(rt; made(calls, Asked::Create), outputs);
-    assert_eq!(rt; made(calls, Asked::Append), outputs);
-    assert_eq!(rt; bench.whole.out.calls().len(), 1);
+    holds(
+        rt,
+        made(calls, Asked::Create) == outputs,
+        "files that are made",
+    );
+    holds(
+        rt,
+        made(calls, Asked::Append) == outputs,
+        "calls that write",
+    );
+    holds(rt, bench.whole.out.calls().len() == 1, "lines");
 }
 
 // Has each call of a run fail or want memory, also where other texts are there under the names of its outputs.
 fn fail_run(rt: &impl Abort, alloc: Global, run: &Run) {
     let bench = Bench::new(rt, alloc, run, "");
-    judge_calls(rt, &bench);
+    judge_reads(rt, &bench);
+    judge_writes(rt, &bench);
     bench.fail(rt);
     let bench = Bench::new(rt, alloc, run, BEFORE);
-    judge_calls(rt, &bench);
+    judge_reads(rt, &bench);
+    judge_writes(rt, &bench);
     bench.stop(rt);
 }
 

@@ -1,11 +1,11 @@
 //! What is written of events, ports and files.
+use crate::compare::{holds, same};
 use exb_model::bytes::Bytes;
 use exb_model::event::{Cause, Event};
 use exb_model::port::PortId;
 use exb_text::{PortName, Tally, capture_file_name, journal_file_name, write_line};
 use std::alloc::Global;
 use std::process::Abort;
-use std::test::Fail;
 
 fn port(rt: &impl Abort, number: u16) -> PortId {
     PortId::new(number).expect(rt, "a port below 4160")
@@ -20,79 +20,96 @@ fn relay(rt: &impl Abort, alloc: Global) -> Event {
     }
 }
 
-// An event of each kind.
-fn events(rt: &impl Abort, alloc: Global) -> [Event; 8] {
-    let groups = Cause::Groups {
+// Puts the line of an event behind a journal.
+fn put(rt: &impl Abort, journal: &mut String, event: &Event) {
+    write_line(journal, event).expect(rt, "memory");
+}
+
+// Puts the lines of events at ports and of a second.
+fn put_arrivals(rt: &impl Abort, alloc: Global, journal: &mut String) {
+    put(rt, journal, &relay(rt, alloc));
+    let ignored = Event::Ignored {
+        port: port(rt, 4159),
+        index: u64::MAX,
+    };
+    put(rt, journal, &ignored);
+    put(rt, journal, &Event::Tick { seconds: 9 });
+}
+
+// Puts the lines of what comes of commands.
+fn put_commands(rt: &impl Abort, journal: &mut String) {
+    put(rt, journal, &Event::Commit { number: 1 });
+    let cause = Cause::Groups {
         needed: 3,
         limit: 2,
     };
-    let channels = Cause::Channels {
-        needed: 2,
-        limit: 1,
+    put(rt, journal, &Event::Refuse { number: 2, cause });
+}
+
+// Puts the lines of what comes of ports.
+fn put_ports(rt: &impl Abort, journal: &mut String) {
+    put(rt, journal, &Event::Up { port: port(rt, 64) });
+    let no_up = Event::NoUp {
+        port: port(rt, 65),
+        cause: Cause::Channels {
+            needed: 2,
+            limit: 1,
+        },
     };
-    [
-        relay(rt, alloc),
-        Event::Ignored {
-            port: port(rt, 4159),
-            index: u64::MAX,
-        },
-        Event::Tick { seconds: 9 },
-        Event::Commit { number: 1 },
-        Event::Refuse {
-            number: 2,
-            cause: groups,
-        },
-        Event::Up { port: port(rt, 64) },
-        Event::NoUp {
-            port: port(rt, 65),
-            cause: channels,
-        },
-        Event::Settled,
-    ]
+    put(rt, journal, &no_up);
+    put(rt, journal, &Event::Settled);
+}
+
+/// The lines of events of each kind.
+const LINES: &str =
+    "relay x1.1 1\nignore x64.64 18446744073709551615\ntick 9\ncommit 1\nrefuse 2 groups 3 2\n\
+    up x1.1\nnoup x1.2 channels 2 1\nsettled\n";
+
+#[test]
+fn each_event_has_its_line(rt: HostRuntime) {
+    let mut journal = String::new(rt.alloc());
+    put_arrivals(&rt, rt.alloc(), &mut journal);
+    put_commands(&rt, &mut journal);
+    put_ports(&rt, &mut journal);
+    same(&rt, journal.as_str(), LINES, "a journal");
 }
 
 #[test]
-fn each_event_has_its_line(rt: HostRuntime) -> Result<(), Fail> {
-    let alloc = rt.alloc();
-    let mut journal = String::new(alloc);
-    for event in &events(&rt, alloc) {
-        write_line(&mut journal, event).expect(&rt, "memory");
-    }
-    let want =
-        "relay x1.1 1\nignore x64.64 18446744073709551615\ntick 9\ncommit 1\nrefuse 2 groups 3 2\n\
-                up x1.1\nnoup x1.2 channels 2 1\nsettled\n";
-    assert_eq!(rt; journal.as_str(), want);
-    Ok(())
-}
-
-#[test]
-fn the_summary_of_one_relayed_frame(rt: HostRuntime) -> Result<(), Fail> {
-    let alloc = rt.alloc();
+fn the_summary_of_one_relayed_frame(rt: HostRuntime) {
     let mut tally = Tally::new();
-    tally.count(&relay(&rt, alloc));
+    tally.count(&relay(&rt, rt.alloc()));
     tally.add_left(7);
-    assert_eq!(rt;
-        tally.line(alloc)?.as_str(),
-        "arrivals 1 relayed 1 ignored 0 left 7 commits 0 refusals 0\n"
-    );
-    Ok(())
+    let line = tally.line(rt.alloc()).expect(&rt, "memory");
+    let wanted = "arrivals 1 relayed 1 ignored 0 left 7 commits 0 refusals 0\n";
+    same(&rt, line.as_str(), wanted, "a summary");
+}
+
+/// The first and the last port of the bridge and of the extenders, and the names of their files.
+const NAMES: [(u16, &str); 4] = [
+    (0, "out-b1.pcap"),
+    (63, "out-b64.pcap"),
+    (64, "out-x1.1.pcap"),
+    (4159, "out-x64.64.pcap"),
+];
+
+// Asserts the name of a port and of its file.
+fn judge_name(rt: &impl Abort, alloc: Global, number: u16, wanted: &str) {
+    let port = port(rt, number);
+    let file = capture_file_name(alloc, "out-", port).expect(rt, "memory");
+    same(rt, file.as_str(), wanted, "a capture");
+    let name = PortName(port).to_string(alloc).expect(rt, "memory");
+    holds(rt, wanted.contains(name.as_str()), wanted);
 }
 
 #[test]
-fn ports_are_counted_from_one_and_files_named_after_them(rt: HostRuntime) -> Result<(), Fail> {
-    let alloc = rt.alloc();
-    for (number, want) in [
-        (0, "out-b1.pcap"),
-        (63, "out-b64.pcap"),
-        (64, "out-x1.1.pcap"),
-        (4159, "out-x64.64.pcap"),
-    ] {
-        let port = port(&rt, number);
-        assert_eq!(rt; capture_file_name(alloc, "out-", port)?.as_str(), want);
-        let name = PortName(port).to_string(alloc)?;
-        assert!(rt; want.contains(name.as_str()));
+fn ports_are_counted_from_one_and_files_named_after_them(rt: HostRuntime) {
+    for (number, wanted) in &NAMES {
+        judge_name(&rt, rt.alloc(), *number, wanted);
     }
-    let journal = journal_file_name(alloc, "out-")?;
-    assert_eq!(rt; journal.as_str(), "out-journal.txt");
-    Ok(())
+}
+
+#[test]
+fn the_journal_has_a_name(rt: HostRuntime) {
+    let journal = journal_file_name(rt.alloc(), "out-").expect(&rt, "memory");
+    same(&rt, journal.as_str(), "out-journal.txt", "a journal");
 }

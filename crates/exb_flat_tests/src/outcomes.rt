@@ -1,5 +1,5 @@
 //! The cases: VLANs, learning, isolation, static entries, presence, and numbers that run out.
-use crate::drive::{Case, judge, summary};
+use crate::drive::{Case, judge, judge_summary};
 
 const FRAMES: [Case; 5] = [
     // Nothing arrives.
@@ -179,14 +179,14 @@ fn numbers_run_out_and_times_are_raised(rt: HostRuntime) {
     judge(&rt, rt.alloc(), &NUMBERS);
 }
 
+/// A port that is down, and frames at another and there.
+const COUNTED: Case = (
+    "bridge = {ports = 1}\nextender = [{number = 1, on = 'b1', ports = 3}]\ncommand = [{at = 0, op = 'down', port = 'x1.3'}]\n",
+    "64 100 60 FFFFFFFFFFFF0200000000010800;66 100 60 FFFFFFFFFFFF0200000000010800",
+    "arrivals 2 relayed 1 ignored 1 left 1 commits 1 refusals 0\n",
+);
+
 #[test]
 fn the_summary_counts_what_happened(rt: HostRuntime) {
-    let topology =
-        "bridge = {ports = 1}\nextender = [{number = 1, on = 'b1', ports = 3}]\ncommand = [{at = 0, op = 'down', port = 'x1.3'}]\n";
-    let frames = "64 100 60 FFFFFFFFFFFF0200000000010800;66 100 60 FFFFFFFFFFFF0200000000010800";
-    let line = summary(&rt, rt.alloc(), topology, frames);
-    assert_eq!(rt;
-        line.as_str(),
-        "arrivals 2 relayed 1 ignored 1 left 1 commits 1 refusals 0\n"
-    );
+    judge_summary(&rt, rt.alloc(), &COUNTED);
 }

@@ -2,7 +2,7 @@
 use exb_faulty::{Disturbance, FaultyShelf};
 use exb_pcap::{PcapFault, Reader, header_text, record_text};
 use exb_scan::{ScanFault, Scanned, scan};
-use std::alloc::{AllocError, Global};
+use std::alloc::Global;
 use std::process::Abort;
 
 /// The frames of a capture by their moments and lengths: one broadcast of 60 bytes at 100 s, and then an empty frame, one of a byte and
@@ -17,18 +17,23 @@ const FRAMES: [(u64, u32); 4] = [
 /// At most so many bytes are read at once.
 pub(crate) const CUTS: [usize; 5] = [1, 3, 16, 24, 65_536];
 
-/// Bytes that stand at a place in the capture, and the length to which it is cut.
-const CHANGED: [(usize, [u8; 4], usize); 16] = [
-    (0, [0xD4, 0xC3, 0xB2, 0xA1], 100),
-    (0, [0xD4, 0xC3, 0xB2, 0xA1], 0),
-    (0, [0xD4, 0xC3, 0xB2, 0xA1], 3),
-    (0, [0xD4, 0xC3, 0xB2, 0xA1], 23),
-    (0, [0xD4, 0xC3, 0xB2, 0xA1], 24),
-    (0, [0xD4, 0xC3, 0xB2, 0xA1], 39),
-    (0, [0xD4, 0xC3, 0xB2, 0xA1], 99),
-    (0, [0xD4, 0xC3, 0xB2, 0xA1], 116),
-    (0, [0xD4, 0xC3, 0xB2, 0xA1], 117),
-    (0, [0xD4, 0xC3, 0xB2, 0xA1], 133),
+/// Four bytes that stand at a place in the capture, and the length to which it is cut.
+pub(crate) type Change = (usize, [u8; 4], usize);
+
+/// The first four bytes of the capture: nothing changes where they stand there.
+pub(crate) const MAGIC: [u8; 4] = [0xD4, 0xC3, 0xB2, 0xA1];
+
+const CHANGED: [Change; 16] = [
+    (0, MAGIC, 100),
+    (0, MAGIC, 0),
+    (0, MAGIC, 3),
+    (0, MAGIC, 23),
+    (0, MAGIC, 24),
+    (0, MAGIC, 39),
+    (0, MAGIC, 99),
+    (0, MAGIC, 116),
+    (0, MAGIC, 117),
+    (0, MAGIC, 133),
     (0, [0x0A, 0x0D, 0x0D, 0x0A], 100),
     (4, [2, 0, 3, 0], 100),
     (20, [105, 0, 0, 0], 100),
@@ -51,9 +56,12 @@ const LIMITED: [(usize, u64, &str); 10] = [
     (99, 98, "Large { limit: 98 }"),
 ];
 
-// Puts so many bytes behind others.
-fn put_bytes(rt: &impl Abort, file: &mut Vec<u8>, count: u32) {
-    for _byte in 0..count {
+// Puts a record behind what a capture holds.
+fn put_record(rt: &impl Abort, file: &mut Vec<u8>, moment: u64, length: u32) {
+    assert!(rt; moment < 4_294_967_296_000_000_000);
+    file.extend_from_slice(&record_text(moment, length))
+        .expect(rt, "memory");
+    for _byte in 0..length {
         file.push(0xFF).expect(rt, "memory");
     }
 }
@@ -62,31 +70,25 @@ fn put_bytes(rt: &impl Abort, file: &mut Vec<u8>, count: u32) {
 pub(crate) fn capture(rt: &impl Abort, alloc: Global, count: usize) -> Vec<u8> {
     let mut file = Vec::new(alloc);
     file.extend_from_slice(&header_text()).expect(rt, "memory");
-    for (moment, length) in FRAMES.iter().copied().take(count) {
-        assert!(rt; moment < 4_294_967_296_000_000_000);
-        file.extend_from_slice(&record_text(moment, length))
-            .expect(rt, "memory");
-        put_bytes(rt, &mut file, length);
+    for (moment, length) in FRAMES.iter().take(count) {
+        put_record(rt, &mut file, *moment, *length);
     }
     file
 }
 
-// The capture of the first three with four other bytes at a place, and cut to a length.
-pub(crate) fn changed(
-    rt: &impl Abort,
-    alloc: Global,
-    at: usize,
-    bytes: [u8; 4],
-    length: usize,
-) -> Vec<u8> {
-    let whole = capture(rt, alloc, 3);
-    let behind = at.saturating_add(4);
-    let mut file = Vec::new(alloc);
-    let front = whole.iter().take(at);
-    for byte in front.chain(bytes.iter()).chain(whole.iter().skip(behind)) {
-        file.push(*byte).expect(rt, "memory");
+// Puts a byte in the place of another.
+fn put_byte(rt: &impl Abort, file: &mut Vec<u8>, at: usize, byte: u8) {
+    *file.get_mut(at).expect(rt, "a place in the file") = byte;
+}
+
+// The capture of the first three with a change.
+pub(crate) fn changed(rt: &impl Abort, alloc: Global, change: &Change) -> Vec<u8> {
+    let (at, four, length) = change;
+    let mut file = capture(rt, alloc, 3);
+    for (offset, byte) in four.iter().enumerate() {
+        put_byte(rt, &mut file, at.saturating_add(offset), *byte);
     }
-    file.truncate(length);
+    file.truncate(*length);
     file
 }
 
@@ -107,88 +109,150 @@ fn read(file: &[u8]) -> Result<(u64, Option<u64>), PcapFault> {
     Ok((records, first))
 }
 
-fn whole_text(alloc: Global, file: &[u8]) -> Result<String, AllocError> {
-    match read(file) {
-        Ok((records, first)) => format!(in alloc; "{} {} {:?}", file.len(), records, first),
-        Err(fault) => format!(in alloc; "{:?}", ScanFault::Fault { fault }),
-    }
-}
-
-fn told_text(alloc: Global, told: Result<Scanned, ScanFault>) -> Result<String, AllocError> {
-    match told {
-        Ok(scanned) => {
-            format!(in alloc; "{} {} {:?}", scanned.bytes, scanned.records, scanned.first)
-        }
+// What is told of a file.
+fn told_text(rt: &impl Abort, alloc: Global, told: Result<Scanned, ScanFault>) -> String {
+    let text = match told {
+        Ok(
+            Scanned {
+                bytes,
+                records,
+                first,
+            },
+        ) => format!(in alloc; "{bytes} {records} {first:?}"),
         Err(fault) => format!(in alloc; "{fault:?}"),
-    }
+    };
+    text.expect(rt, "memory")
 }
 
-// What a scan tells of a file, where at most so many bytes are read at once.
-fn scan_text(
+// What the whole reader reads of a file, as a scan tells it.
+fn whole_text(rt: &impl Abort, alloc: Global, file: &[u8]) -> String {
+    let told = match read(file) {
+        Ok((records, first)) => Ok(Scanned {
+            bytes: file.len() as u64,
+            records,
+            first,
+        }),
+        Err(fault) => Err(ScanFault::Fault { fault }),
+    };
+    told_text(rt, alloc, told)
+}
+
+// A shelf with this capture.
+pub(crate) fn shelf_with(
     rt: &impl Abort,
     alloc: Global,
     file: &[u8],
-    most: usize,
-    limit: u64,
-) -> Result<String, AllocError> {
-    let mut shelf = FaultyShelf::new(alloc, Disturbance::Slow { bytes: most });
+    how: Disturbance,
+) -> FaultyShelf {
+    let mut shelf = FaultyShelf::new(alloc, how);
     shelf.put("in.pcap", file).expect(rt, "memory");
-    told_text(alloc, scan(alloc, &mut shelf, "in.pcap", limit))
+    shelf
+}
+
+// What a scan tells of the capture on a shelf.
+fn shelf_text(rt: &impl Abort, alloc: Global, shelf: &mut FaultyShelf, limit: u64) -> String {
+    told_text(rt, alloc, scan(alloc, shelf, "in.pcap", limit))
+}
+
+// What a scan tells of a file, where at most so many bytes are read at once.
+fn scan_text(rt: &impl Abort, alloc: Global, file: &[u8], bytes: usize, limit: u64) -> String {
+    let mut shelf = shelf_with(rt, alloc, file, Disturbance::Slow { bytes });
+    shelf_text(rt, alloc, &mut shelf, limit)
+}
+
+/// Asserts that a text is as wanted, and says of what it is where it isn't.
+pub(crate) fn same(rt: &impl Abort, given: &str, wanted: &str, of: &str) {
+    assert_eq!(rt; given, wanted, "of {of}");
+}
+
+/// Names a change, and how many bytes are read at once.
+pub(crate) fn name_of(rt: &impl Abort, alloc: Global, change: &Change, most: usize) -> String {
+    format!(in alloc; "{change:?}, {most} at once").expect(rt, "memory")
+}
+
+// Asserts that a scan tells of a file that is changed so what the whole reader reads, where at most so many bytes are read at once.
+fn judge_cut(
+    rt: &impl Abort,
+    alloc: Global,
+    change: &Change,
+    file: &[u8],
+    most: usize,
+    whole: &str,
+) {
+    let told = scan_text(rt, alloc, file, most, 1_000_000);
+    let name = name_of(rt, alloc, change, most);
+    same(rt, told.as_str(), whole, name.as_str());
+}
+
+// The same however much is read at once.
+fn judge_change(rt: &impl Abort, alloc: Global, change: &Change) {
+    let file = changed(rt, alloc, change);
+    let whole = whole_text(rt, alloc, file.as_slice());
+    for most in &CUTS {
+        judge_cut(rt, alloc, change, file.as_slice(), *most, whole.as_str());
+    }
 }
 
 #[test]
-fn a_scan_tells_what_the_whole_reader_reads(rt: HostRuntime) -> Result<(), AllocError> {
-    let alloc = rt.alloc();
-    for (at, bytes, length) in CHANGED {
-        let file = changed(&rt, alloc, at, bytes, length);
-        let whole = whole_text(alloc, file.as_slice())?;
-        for most in CUTS {
-            let told = scan_text(&rt, alloc, file.as_slice(), most, 1_000_000)?;
-            assert_eq!(rt;
-                told.as_str(),
-                whole.as_str(),
-                "{bytes:?} at {at}, cut to {length}, {most} at once"
-            );
-        }
+fn a_scan_tells_what_the_whole_reader_reads(rt: HostRuntime) {
+    for change in &CHANGED {
+        judge_change(&rt, rt.alloc(), change);
     }
-    Ok(())
+}
+
+// Asserts what a scan tells of the whole capture, where at most so many bytes are read at once.
+fn judge_whole(rt: &impl Abort, alloc: Global, most: usize, wanted: &str) {
+    let file = capture(rt, alloc, 4);
+    let told = scan_text(rt, alloc, file.as_slice(), most, 1_000_000);
+    same(rt, told.as_str(), wanted, "the whole capture");
 }
 
 #[test]
-fn a_long_frame_is_read_in_pieces(rt: HostRuntime) -> Result<(), AllocError> {
-    let alloc = rt.alloc();
-    let file = capture(&rt, alloc, 4);
-    for most in [500, 65_536] {
-        let told = scan_text(&rt, alloc, file.as_slice(), most, 1_000_000)?;
-        assert_eq!(rt; told.as_str(), "70149 4 Some(100000000000)");
-    }
-    Ok(())
+fn a_long_frame_is_read_in_pieces(rt: HostRuntime) {
+    judge_whole(&rt, rt.alloc(), 500, "70149 4 Some(100000000000)");
+    judge_whole(&rt, rt.alloc(), 65_536, "70149 4 Some(100000000000)");
+}
+
+// Asserts what is told of a changed capture of which at most so many bytes may be read, seven at once.
+fn judge_limit(rt: &impl Abort, alloc: Global, change: &Change, limit: u64, wanted: &str) {
+    let file = changed(rt, alloc, change);
+    let told = scan_text(rt, alloc, file.as_slice(), 7, limit);
+    let name = name_of(rt, alloc, change, 7);
+    same(rt, told.as_str(), wanted, name.as_str());
 }
 
 #[test]
-fn a_scan_keeps_its_limit(rt: HostRuntime) -> Result<(), AllocError> {
-    let alloc = rt.alloc();
-    for (length, limit, wanted) in LIMITED {
-        let file = changed(&rt, alloc, 0, [0xD4, 0xC3, 0xB2, 0xA1], length);
-        let told = scan_text(&rt, alloc, file.as_slice(), 7, limit)?;
-        assert_eq!(rt;
-            told.as_str(),
-            wanted,
-            "{length} bytes of which {limit} may be read"
-        );
+fn a_scan_keeps_its_limit(rt: HostRuntime) {
+    for (length, limit, wanted) in &LIMITED {
+        judge_limit(&rt, rt.alloc(), &(0, MAGIC, *length), *limit, wanted);
     }
-    // A fault that stands whatever follows comes before the limit.
-    let late = changed(&rt, alloc, 28, [0x40, 0x42, 0x0F, 0], 100);
-    let told = scan_text(&rt, alloc, late.as_slice(), 7, 40)?;
-    assert_eq!(rt; told.as_str(), "Fault { fault: Time(28) }");
-    let told = scan_text(&rt, alloc, late.as_slice(), 7, 39)?;
-    assert_eq!(rt; told.as_str(), "Large { limit: 39 }");
-    let mut empty = FaultyShelf::new(alloc, Disturbance::Quiet);
-    let told = told_text(alloc, scan(alloc, &mut empty, "in.pcap", 100))?;
-    assert_eq!(rt; told.as_str(), "Missing");
-    let mut fails = FaultyShelf::new(alloc, Disturbance::Fails { at: 2 });
-    fails.put("in.pcap", late.as_slice()).expect(&rt, "memory");
-    let told = told_text(alloc, scan(alloc, &mut fails, "in.pcap", 100))?;
-    assert_eq!(rt; told.as_str(), "Read");
-    Ok(())
+}
+
+/// A time that is none, which is a fault whatever follows.
+const LATE: Change = (28, [0x40, 0x42, 0x0F, 0], 100);
+
+#[test]
+fn a_fault_that_stands_comes_before_the_limit(rt: HostRuntime) {
+    judge_limit(&rt, rt.alloc(), &LATE, 40, "Fault { fault: Time(28) }");
+    judge_limit(&rt, rt.alloc(), &LATE, 39, "Large { limit: 39 }");
+}
+
+#[test]
+fn a_capture_may_be_missing(rt: HostRuntime) {
+    let mut empty = FaultyShelf::new(rt.alloc(), Disturbance::Quiet);
+    let told = shelf_text(&rt, rt.alloc(), &mut empty, 100);
+    same(&rt, told.as_str(), "Missing", "a capture that is missing");
+}
+
+#[test]
+fn a_read_may_fail(rt: HostRuntime) {
+    let late = changed(&rt, rt.alloc(), &LATE);
+    let mut fails = shelf_with(
+        &rt,
+        rt.alloc(),
+        late.as_slice(),
+        Disturbance::Fails { at: 2 },
+    );
+    let told = shelf_text(&rt, rt.alloc(), &mut fails, 100);
+    same(&rt, told.as_str(), "Read", "a read that fails");
 }

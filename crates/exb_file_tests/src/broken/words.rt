@@ -1,9 +1,10 @@
 //! Words of the command line, cut before each byte, with each bit turned, and at their limits.
 use super::topologies::filled;
+use crate::compare::{holds, same};
 use crate::hostile::{verdict_at, verdict_of_bit};
 use exb_hostile::turned::{BITS, turn};
 use exb_words::{Asked, accept};
-use std::alloc::{AllocError, Global};
+use std::alloc::Global;
 use std::process::Abort;
 
 /// Words that are accepted, with a blank between each two, and what they ask for.
@@ -103,35 +104,69 @@ fn words_of(rt: &impl Abort, alloc: Global, text: &str) -> Vec<String> {
     words
 }
 
+// What a run asks for.
+fn run_text(
+    rt: &impl Abort,
+    alloc: Global,
+    topology: &str,
+    trace: bool,
+    seed: Option<u64>,
+) -> String {
+    let traced = if trace { " trace" } else { "" };
+    let told = match seed {
+        None => format!(in alloc; "run <{topology}>{traced}"),
+        Some(seed) => format!(in alloc; "run <{topology}>{traced} seed {seed}"),
+    };
+    told.expect(rt, "memory")
+}
+
 // What is asked for.
-fn told(alloc: Global, words: &[String]) -> Result<String, AllocError> {
-    match accept(words) {
-        None => String::from_str(alloc, "none"),
-        Some(Asked::Check { topology }) => format!(in alloc; "check <{topology}>"),
-        Some(Asked::Make { number }) => format!(in alloc; "make {number}"),
+fn asked_text(rt: &impl Abort, alloc: Global, asked: Option<Asked<'_>>) -> String {
+    match asked {
+        None => String::from_str(alloc, "none").expect(rt, "memory"),
+        Some(Asked::Check { topology }) => {
+            format!(in alloc; "check <{topology}>").expect(rt, "memory")
+        }
+        Some(Asked::Make { number }) => format!(in alloc; "make {number}").expect(rt, "memory"),
         Some(
             Asked::Run {
                 topology,
                 trace,
                 seed,
             },
-        ) => {
-            let traced = if trace { " trace" } else { "" };
-            match seed {
-                None => format!(in alloc; "run <{topology}>{traced}"),
-                Some(seed) => format!(in alloc; "run <{topology}>{traced} seed {seed}"),
-            }
-        }
+        ) => run_text(rt, alloc, topology, trace, seed),
     }
+}
+
+// What the words of a text ask for.
+fn told(rt: &impl Abort, alloc: Global, text: &str) -> String {
+    let words = words_of(rt, alloc, text);
+    asked_text(rt, alloc, accept(words.as_slice()))
 }
 
 // Asserts what the words of a text ask for. Nothing is asserted of bytes that are no text.
 fn judge(rt: &impl Abort, alloc: Global, bytes: &[u8], wanted: &str) {
     if let Ok(text) = std::str::from_utf8(bytes) {
-        let words = words_of(rt, alloc, text);
         let wanted = filled(rt, alloc, bytes, wanted);
-        let told = told(alloc, words.as_slice()).expect(rt, "memory");
-        assert_eq!(rt; told.as_str(), wanted.as_str(), "of {text}");
+        let told = told(rt, alloc, text);
+        same(rt, told.as_str(), wanted.as_str(), text);
+    }
+}
+
+// Asserts what the front of words asks for.
+fn judge_front(rt: &impl Abort, alloc: Global, case: &Case, place: usize) {
+    let front = case.words.as_bytes().get(..place).unwrap_or(&[]);
+    let wanted = verdict_at(rt, case.cut, place).expect(rt, "a verdict");
+    judge(rt, alloc, front, wanted);
+}
+
+// Asserts what words ask for with each bit of a byte turned.
+fn judge_byte(rt: &impl Abort, alloc: Global, case: &Case, bytes: &mut Vec<u8>, place: usize) {
+    for bit in &BITS {
+        let wanted = verdict_of_bit(rt, case.turned, place, *bit).expect(rt, "a verdict");
+        turn(bytes, place, *bit);
+        judge(rt, alloc, bytes.as_slice(), wanted);
+        turn(bytes, place, *bit);
     }
 }
 
@@ -139,50 +174,48 @@ fn judge(rt: &impl Abort, alloc: Global, bytes: &[u8], wanted: &str) {
 fn judge_case(rt: &impl Abort, alloc: Global, case: &Case) {
     let mut bytes = Vec::from_slice(alloc, case.words.as_bytes()).expect(rt, "memory");
     judge(rt, alloc, bytes.as_slice(), case.told);
-    for place in 0..bytes.len() {
-        let front = bytes.get(..place).unwrap_or(&[]);
-        let wanted = verdict_at(rt, case.cut, place).expect(rt, "a verdict");
-        judge(rt, alloc, front, wanted);
-        for bit in BITS {
-            let wanted = verdict_of_bit(rt, case.turned, place, bit).expect(rt, "a verdict");
-            turn(&mut bytes, place, bit);
-            judge(rt, alloc, bytes.as_slice(), wanted);
-            turn(&mut bytes, place, bit);
-        }
+    for place in 0..case.words.len() {
+        judge_front(rt, alloc, case, place);
+        judge_byte(rt, alloc, case, &mut bytes, place);
     }
 }
 
 #[test]
 fn cut_and_turned_words_ask_for_what_they_must(rt: HostRuntime) {
-    let alloc = rt.alloc();
     for case in &CASES {
-        judge_case(&rt, alloc, case);
+        judge_case(&rt, rt.alloc(), case);
     }
 }
 
 #[test]
 fn words_at_their_limits_ask_for_what_they_must(rt: HostRuntime) {
-    let alloc = rt.alloc();
-    for (words, wanted) in LIMITS {
-        judge(&rt, alloc, words.as_bytes(), wanted);
+    for (words, wanted) in &LIMITS {
+        judge(&rt, rt.alloc(), words.as_bytes(), wanted);
     }
 }
 
+// A text, and another many times behind it.
+fn repeated(rt: &impl Abort, alloc: Global, front: &str, text: &str, times: u32) -> String {
+    let mut whole = String::from_str(alloc, front).expect(rt, "memory");
+    for _time in 0..times {
+        whole.push_str(text).expect(rt, "memory");
+    }
+    whole
+}
+
 #[test]
-fn long_names_and_many_words_are_no_fault(rt: HostRuntime) -> Result<(), AllocError> {
-    let alloc = rt.alloc();
-    let mut text = String::from_str(alloc, "run ")?;
-    for _byte in 0..100_000u32 {
-        text.push_str("t")?;
-    }
-    let words = words_of(&rt, alloc, text.as_str());
-    let name = text.as_str().strip_prefix("run ").unwrap_or("");
-    let wanted = format!(in alloc; "run <{name}>")?;
-    assert!(rt; told(alloc, words.as_slice())?.as_str() == wanted.as_str());
-    for _word in 0..10_000u32 {
-        text.push_str(" t")?;
-    }
-    let words = words_of(&rt, alloc, text.as_str());
-    assert_eq!(rt; told(alloc, words.as_slice())?.as_str(), "none");
-    Ok(())
+fn a_long_name_is_no_fault(rt: HostRuntime) {
+    let text = repeated(&rt, rt.alloc(), "run ", "t", 100_000);
+    let wanted = repeated(&rt, rt.alloc(), "run <", "t", 100_000);
+    let told = told(&rt, rt.alloc(), text.as_str());
+    let name = told.as_str().strip_suffix(">");
+    holds(&rt, name == Some(wanted.as_str()), "a long name");
+}
+
+#[test]
+fn many_words_are_no_fault(rt: HostRuntime) {
+    let front = repeated(&rt, rt.alloc(), "run ", "t", 100_000);
+    let text = repeated(&rt, rt.alloc(), front.as_str(), " t", 10_000);
+    let told = told(&rt, rt.alloc(), text.as_str());
+    same(&rt, told.as_str(), "none", "many words");
 }

@@ -283,6 +283,21 @@ const GO: [(&str, &str); 5] = [
     ("port = 'b1'\n", "ok"),
 ];
 
+/// Each operation, and the keys of a command that asks for it.
+const OPERATIONS: [Table; 11] = [
+    ("vlan", &SET_VLAN),
+    ("member", &PUT_MEMBER),
+    ("unmember", &TAKE_MEMBER),
+    ("pvid", &SET_PVID),
+    ("accept", &SET_ACCEPT),
+    ("filter", &SET_FILTER),
+    ("isolate", &ISOLATE),
+    ("static", &PUT_STATIC),
+    ("unstatic", &TAKE_STATIC),
+    ("up", &GO),
+    ("down", &GO),
+];
+
 // Asserts that commands of an operation have these verdicts.
 fn judge_operation(rt: &impl Abort, alloc: Global, operation: &str, cases: &[(&str, &str)]) {
     let head = format!(in alloc;
@@ -294,21 +309,8 @@ fn judge_operation(rt: &impl Abort, alloc: Global, operation: &str, cases: &[(&s
 
 #[test]
 fn each_fault_of_commands(rt: HostRuntime) {
-    let alloc = rt.alloc();
-    judge(&rt, alloc, SITE, &ANY);
-    for (operation, cases) in [
-        ("vlan", SET_VLAN.as_slice()),
-        ("member", PUT_MEMBER.as_slice()),
-        ("unmember", TAKE_MEMBER.as_slice()),
-        ("pvid", SET_PVID.as_slice()),
-        ("accept", SET_ACCEPT.as_slice()),
-        ("filter", SET_FILTER.as_slice()),
-        ("isolate", ISOLATE.as_slice()),
-        ("static", PUT_STATIC.as_slice()),
-        ("unstatic", TAKE_STATIC.as_slice()),
-        ("up", GO.as_slice()),
-        ("down", GO.as_slice()),
-    ] {
-        judge_operation(&rt, alloc, operation, cases);
+    judge(&rt, rt.alloc(), SITE, &ANY);
+    for (operation, cases) in &OPERATIONS {
+        judge_operation(&rt, rt.alloc(), operation, cases);
     }
 }

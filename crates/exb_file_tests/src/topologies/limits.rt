@@ -2,39 +2,54 @@
 use super::*;
 
 // A text that many times.
-fn repeated(alloc: Global, text: &str, times: u32) -> Result<String, AllocError> {
+fn repeated(rt: &impl Abort, alloc: Global, text: &str, times: u32) -> String {
     let mut whole = String::new(alloc);
     for _ in 0..times {
-        whole.push_str(text)?;
+        whole.push_str(text).expect(rt, "memory");
     }
-    Ok(whole)
+    whole
 }
 
-// The verdict of a file of that many bytes that are no text.
-fn of_bytes(alloc: Global, bytes: usize) -> Result<String, AllocError> {
-    let file = vec![in alloc; 0xFF; bytes]?;
-    verdict(alloc, file.as_slice())
+/// How many bytes that are no text, and the verdict.
+const BYTES: [(usize, &str); 2] = [(16_777_216, "NotToml"), (16_777_217, "Large")];
+
+fn judge_bytes(rt: &impl Abort, alloc: Global, bytes: usize, wanted: &str) {
+    let file = vec![in alloc; 0xFF; bytes].expect(rt, "memory");
+    let given = verdict(rt, alloc, file.as_slice());
+    same(rt, given.as_str(), wanted, "bytes");
 }
 
-// The verdict of a file of that many commands without keys.
-fn of_commands(alloc: Global, commands: u32) -> Result<String, AllocError> {
-    let commands = repeated(alloc, "[[command]]\n", commands)?;
-    let file = format!(in alloc; "[bridge]\nports = 1\n{commands}")?;
-    verdict(alloc, file.as_bytes())
+#[test]
+fn files_have_a_limit(rt: HostRuntime) {
+    for (bytes, wanted) in &BYTES {
+        judge_bytes(&rt, rt.alloc(), *bytes, wanted);
+    }
 }
 
-// The verdict of a file whose links' fate has that many letters P and then this text, and whose command's fate is that.
-fn of_fates(alloc: Global, letters: u32, more: &str, later: &str) -> Result<String, AllocError> {
-    let letters = repeated(alloc, "P", letters)?;
-    let command = "command = [{at = 1, op = 'up', port = 'b1', fate";
-    let file = format!(in alloc;
-        "bridge = {{ports = 1}}\nlinks = {{fate = '{letters}{more}'}}\n{command} = '{later}'}}]\n"
-    )?;
-    verdict(alloc, file.as_bytes())
+/// How many commands without keys, and the verdict.
+const COMMANDS: [(u32, &str); 2] = [
+    (65_536, "Missing at command[0].op"),
+    (65_537, "Range at command"),
+];
+
+fn judge_commands(rt: &impl Abort, alloc: Global, commands: u32, wanted: &str) {
+    let commands = repeated(rt, alloc, "[[command]]\n", commands);
+    let file = format!(in alloc; "[bridge]\nports = 1\n{commands}").expect(rt, "memory");
+    let given = verdict(rt, alloc, file.as_bytes());
+    same(rt, given.as_str(), wanted, "commands");
 }
 
-// How many letters P, the letters behind them, those of a command, and the verdict.
-const FATES: [(u32, &str, &str, &str); 7] = [
+#[test]
+fn commands_have_a_limit(rt: HostRuntime) {
+    for (commands, wanted) in &COMMANDS {
+        judge_commands(&rt, rt.alloc(), *commands, wanted);
+    }
+}
+
+/// How many letters P the fate of the links has, the letters behind them, those of a command's fate, and the verdict.
+type Fates = (u32, &'static str, &'static str, &'static str);
+
+const FATES: [Fates; 7] = [
     (60_000, "", "", "ok"),
     (59_998, "", "LD", "ok"),
     (60_000, "P", "P", "Range at links.fate"),
@@ -44,22 +59,26 @@ const FATES: [(u32, &str, &str, &str); 7] = [
     (59_999, "", "PX", "Name at command[0].fate"),
 ];
 
+// A file whose links have a fate of letters P and of these, and whose command has this one.
+fn with_fates(rt: &impl Abort, alloc: Global, letters: u32, more: &str, later: &str) -> String {
+    let letters = repeated(rt, alloc, "P", letters);
+    let command = "command = [{at = 1, op = 'up', port = 'b1', fate";
+    let file = format!(in alloc;
+        "bridge = {{ports = 1}}\nlinks = {{fate = '{letters}{more}'}}\n{command} = '{later}'}}]\n"
+    );
+    file.expect(rt, "memory")
+}
+
+fn judge_fates(rt: &impl Abort, alloc: Global, fates: &Fates) {
+    let (letters, more, later, wanted) = fates;
+    let file = with_fates(rt, alloc, *letters, more, later);
+    let given = verdict(rt, alloc, file.as_bytes());
+    same(rt, given.as_str(), wanted, later);
+}
+
 #[test]
-fn files_commands_and_fates_have_limits(rt: HostRuntime) {
-    let alloc = rt.alloc();
-    for (bytes, wanted) in [(16_777_216, "NotToml"), (16_777_217, "Large")] {
-        let given = of_bytes(alloc, bytes).expect(&rt, "memory");
-        assert_eq!(rt; given.as_str(), wanted);
-    }
-    for (commands, wanted) in [
-        (65_536, "Missing at command[0].op"),
-        (65_537, "Range at command"),
-    ] {
-        let given = of_commands(alloc, commands).expect(&rt, "memory");
-        assert_eq!(rt; given.as_str(), wanted);
-    }
-    for (letters, more, later, wanted) in FATES {
-        let given = of_fates(alloc, letters, more, later).expect(&rt, "memory");
-        assert_eq!(rt; given.as_str(), wanted, "of {letters} {more} {later}");
+fn fates_have_a_limit(rt: HostRuntime) {
+    for fates in &FATES {
+        judge_fates(&rt, rt.alloc(), fates);
     }
 }

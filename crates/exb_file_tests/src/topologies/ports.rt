@@ -266,11 +266,14 @@ const EARLIER_TABLE: [(&str, &str); 5] = [
     ("captures={b9='a'}\n", "UnknownPort at captures.b9"),
 ];
 
+const TABLES: [Table; 4] = [
+    (SITE, &UNKNOWN),
+    (SITE, &REPEAT),
+    ("", &PREFIXED),
+    (SITE, &EARLIER_TABLE),
+];
+
 #[test]
 fn each_fault_of_words_for_ports(rt: HostRuntime) {
-    let alloc = rt.alloc();
-    judge(&rt, alloc, SITE, &UNKNOWN);
-    judge(&rt, alloc, SITE, &REPEAT);
-    judge(&rt, alloc, "", &PREFIXED);
-    judge(&rt, alloc, SITE, &EARLIER_TABLE);
+    judge_all(&rt, rt.alloc(), &TABLES);
 }

@@ -514,19 +514,25 @@ const EARLIER_TABLE: [(&str, &str); 9] = [
     ("captures={q=1}\nbridge={ports=1}\n", "Name at captures.q"),
 ];
 
+const TABLES: [Table; 9] = [
+    ("", &TOP),
+    ("[bridge]\n", &BRIDGE),
+    ("bridge = {ports = 1}\n", &LINKS),
+    (TWO_PORTS, &EXTENDER),
+    (TWO_PORTS, &PORT),
+    (TWO_PORTS, &VLAN),
+    (TWO_PORTS, &STATIC),
+    (TWO_PORTS, &CAPTURES),
+    ("", &EARLIER_TABLE),
+];
+
 #[test]
 fn each_fault_of_shape(rt: HostRuntime) {
-    let alloc = rt.alloc();
-    judge(&rt, alloc, "", &TOP);
-    judge(&rt, alloc, "[bridge]\n", &BRIDGE);
-    judge(&rt, alloc, "bridge = {ports = 1}\n", &LINKS);
-    judge(&rt, alloc, TWO_PORTS, &EXTENDER);
-    judge(&rt, alloc, TWO_PORTS, &PORT);
-    judge(&rt, alloc, TWO_PORTS, &VLAN);
-    judge(&rt, alloc, TWO_PORTS, &STATIC);
-    judge(&rt, alloc, TWO_PORTS, &CAPTURES);
-    judge(&rt, alloc, "", &EARLIER_TABLE);
-    // A file that is no text.
-    let given = verdict(alloc, b"a = \"\xff\"").expect(&rt, "memory");
-    assert_eq!(rt; given.as_str(), "NotToml");
+    judge_all(&rt, rt.alloc(), &TABLES);
+}
+
+#[test]
+fn a_file_that_is_no_text(rt: HostRuntime) {
+    let given = verdict(&rt, rt.alloc(), b"a = \"\xff\"");
+    same(&rt, given.as_str(), "NotToml", "a file that is no text");
 }

@@ -1,4 +1,5 @@
 //! What a good file says: defaults, words for ports, addresses, and the order of the start.
+use super::told::setup_text;
 use super::*;
 
 const WORDS: [(&str, &str); 17] = [
@@ -128,29 +129,6 @@ const COMMANDS: [(&str, &str); 12] = [
     ),
 ];
 
-/// All but start and commands of a file, in words.
-fn setup_text(alloc: Global, topology: &Topology) -> Result<String, AllocError> {
-    let setup = &topology.setup;
-    let fate = topology.fate.as_slice();
-    let mut text = format!(in alloc;
-        "{} {} {} {} {} {fate:?};",
-        setup.ports,
-        setup.channels,
-        setup.groups,
-        setup.ageing,
-        topology.prefix.as_str()
-    )?;
-    for extender in setup.extenders.as_slice() {
-        let one = format!(in alloc; " {extender:?};")?;
-        text.push_str(one.as_str())?;
-    }
-    for capture in topology.captures.as_slice() {
-        let one = format!(in alloc; " {} {};", PortName(capture.port), capture.name.as_str())?;
-        text.push_str(one.as_str())?;
-    }
-    Ok(text)
-}
-
 const SETUPS: [(&str, &str); 2] = [
     ("bridge.ports = 1\n", "1 4094 12288 300 out- [];"),
     (
@@ -159,17 +137,29 @@ const SETUPS: [(&str, &str); 2] = [
     ),
 ];
 
+// Asserts what a file says but for start and commands.
+fn judge_setup(rt: &impl Abort, alloc: Global, file: &str, wanted: &str) {
+    let topology = read(alloc, file.as_bytes()).expect(rt, "a topology");
+    let text = setup_text(rt, alloc, &topology);
+    same(rt, text.as_str(), wanted, file);
+}
+
 #[test]
-fn what_a_file_gives_is_read_and_what_it_leaves_out_has_its_default(rt: HostRuntime) {
-    let alloc = rt.alloc();
-    let head = format!(in alloc; "{SITE}[[vlan]]\nvid = 7\ntagged = ").expect(&rt, "memory");
-    tell(&rt, alloc, head.as_str(), "", &WORDS);
-    tell(&rt, alloc, SITE, "", &START);
-    let head = format!(in alloc; "{SITE}vlan = []\ncommand = [").expect(&rt, "memory");
-    tell(&rt, alloc, head.as_str(), "]\n", &COMMANDS);
-    for (file, wanted) in SETUPS {
-        let topology = read(alloc, file.as_bytes()).expect(&rt, "a topology");
-        let text = setup_text(alloc, &topology).expect(&rt, "memory");
-        assert_eq!(rt; text.as_str(), wanted, "of {file}");
+fn what_a_file_leaves_out_has_its_default(rt: HostRuntime) {
+    for (file, wanted) in &SETUPS {
+        judge_setup(&rt, rt.alloc(), file, wanted);
     }
+}
+
+// Asserts what files say that have this behind what is there of the site.
+fn tell_of_site(rt: &impl Abort, alloc: Global, head: &str, tail: &str, cases: &[(&str, &str)]) {
+    let head = format!(in alloc; "{SITE}{head}").expect(rt, "memory");
+    tell(rt, alloc, head.as_str(), tail, cases);
+}
+
+#[test]
+fn what_a_file_gives_is_read(rt: HostRuntime) {
+    tell_of_site(&rt, rt.alloc(), "[[vlan]]\nvid = 7\ntagged = ", "", &WORDS);
+    tell_of_site(&rt, rt.alloc(), "", "", &START);
+    tell_of_site(&rt, rt.alloc(), "vlan = []\ncommand = [", "]\n", &COMMANDS);
 }

@@ -115,40 +115,44 @@ const PASSES: [(&str, &str); 4] = [
     ("port=[{name='b9'}]\n", "UnknownPort at port[0].name"),
 ];
 
-// A chain of 64 extenders, each on port 1 of the one before it, where the bridge has that many channels.
-fn chain(alloc: Global, channels: u32) -> Result<String, AllocError> {
-    let mut file = format!(in alloc; "bridge = {{ports = 1, channels = {channels}}}\n")?;
-    file.push_str("[[extender]]\nnumber = 1\non = 'b1'\nports = 1\n")?;
-    for number in 2..65u32 {
-        let above = number - 1;
-        let next = format!(in alloc;
-            "[[extender]]\nnumber = {number}\non = 'x{above}.1'\nports = 1\n"
-        )?;
-        file.push_str(next.as_str())?;
-    }
-    Ok(file)
-}
+const TABLES: [Table; 2] = [
+    ("bridge = {ports = 2, channels = 1}\nextender = ", &TREE),
+    ("bridge = {ports = 2, channels = 1}\n", &PASSES),
+];
 
 #[test]
 fn each_fault_of_the_tree(rt: HostRuntime) {
-    let alloc = rt.alloc();
-    judge(
-        &rt,
-        alloc,
-        "bridge = {ports = 2, channels = 1}\nextender = ",
-        &TREE,
+    judge_all(&rt, rt.alloc(), &TABLES);
+}
+
+// Puts an extender behind what a file says, on port 1 of the one of the number before.
+fn put_extender(rt: &impl Abort, alloc: Global, file: &mut String, number: u32) {
+    let above = number.saturating_sub(1);
+    let next = format!(in alloc; "[[extender]]\nnumber = {number}\non = 'x{above}.1'\nports = 1\n");
+    file.push_str(next.expect(rt, "memory").as_str())
+        .expect(rt, "memory");
+}
+
+// A chain of 64 extenders, each on port 1 of the one before it, where the bridge has that many channels.
+fn chain(rt: &impl Abort, alloc: Global, channels: u32) -> String {
+    let file = format!(in alloc;
+        "bridge = {{ports = 1, channels = {channels}}}\n[[extender]]\nnumber = 1\non = 'b1'\nports = 1\n"
     );
-    judge(&rt, alloc, "bridge = {ports = 2, channels = 1}\n", &PASSES);
-    // A chain of 64 extenders needs 63 channels.
-    let enough = chain(alloc, 63).expect(&rt, "memory");
-    let few = chain(alloc, 62).expect(&rt, "memory");
-    judge(
-        &rt,
-        alloc,
-        "",
-        &[
-            (enough.as_str(), "ok"),
-            (few.as_str(), "FewChannels at bridge.channels"),
-        ],
-    );
+    let mut file = file.expect(rt, "memory");
+    for number in 2..65u32 {
+        put_extender(rt, alloc, &mut file, number);
+    }
+    file
+}
+
+// Asserts the verdict of a chain.
+fn judge_chain(rt: &impl Abort, alloc: Global, channels: u32, wanted: &str) {
+    let file = chain(rt, alloc, channels);
+    judge_file(rt, alloc, "", file.as_str(), wanted);
+}
+
+#[test]
+fn a_chain_of_64_extenders_needs_63_channels(rt: HostRuntime) {
+    judge_chain(&rt, rt.alloc(), 63, "ok");
+    judge_chain(&rt, rt.alloc(), 62, "FewChannels at bridge.channels");
 }

@@ -5,7 +5,7 @@ use Rattle.exb_scan.specs.Replaying.{IsKept}
 use Rattle.exb_scan_tests.proofs.replays.play_on.Given as goal
 
 abbrev pub invariant-records : goal.invariant-records
-invariant-records l = record {
+invariant-records g l = record {
   at : IsAt (ids_of l.shelf l.replay.file.id) l.replay.file.got;
   kept : IsKept l.replay;
   piece : 0 < length l.piece;
