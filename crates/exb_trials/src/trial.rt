@@ -14,13 +14,13 @@ const SPEAKING: usize = 10;
 
 /// A topology that can be played, and what arrives at its external ports.
 #[derive(Drop)]
-pub struct Trial {
+pub(crate) struct Trial {
     /// The topology file. It names for each port that speaks a capture `in-PORT.pcap`.
-    pub topology: String,
+    pub(crate) topology: String,
     /// The external ports that speak.
-    pub speaking: Vec<PortId>,
+    pub(crate) speaking: Vec<PortId>,
     /// The capture of each of these ports.
-    pub captures: Vec<Vec<u8>>,
+    pub(crate) captures: Vec<Vec<u8>>,
 }
 
 /// All of a few ports, and some of many.
@@ -53,7 +53,7 @@ fn captures_of(
 
 impl Trial {
     /// The trial of a number: any input over a tree of so many extenders.
-    pub fn new(alloc: Global, number: u64, extenders: u8) -> Result<Trial, NoMemory> {
+    pub(crate) fn new(alloc: Global, number: u64, extenders: u8) -> Result<Trial, NoMemory> {
         let mut rng = Lcg64Xsh32::seed_from_u64(number);
         let site = Site::draw(alloc, &mut rng, extenders)?;
         let speaking = speaking_of(alloc, &mut rng, site.ports.as_slice())?;
