@@ -123,7 +123,7 @@ fn control_on(rt: &impl Abort, alloc: Global, shelf: &MemShelf) -> u64 {
 }
 
 // What is counted of a run of one frame with these options.
-fn counted(rt: &impl Abort, alloc: Global, topology: &str, options: &str) -> Counted {
+fn count(rt: &impl Abort, alloc: Global, topology: &str, options: &str) -> Counted {
     let capture = bytes_of(rt, alloc, ONE_FRAME);
     let mut shelf = shelf_of(rt, alloc, topology, capture.as_slice());
     let asked = asked_by(rt, alloc, &mut shelf, options);
@@ -133,8 +133,8 @@ fn counted(rt: &impl Abort, alloc: Global, topology: &str, options: &str) -> Cou
 
 // A run asks its fate as often, with a trace and without, as its trace has such lines.
 fn expect_asked(rt: &impl Abort, alloc: Global, topology: &str, bare: &str, traced: &str) {
-    let bare = counted(rt, alloc, topology, bare);
-    let traced = counted(rt, alloc, topology, traced);
+    let bare = count(rt, alloc, topology, bare);
+    let traced = count(rt, alloc, topology, traced);
     assert!(rt; bare.asked == traced.asked);
     assert!(rt; traced.asked == traced.lines);
     assert!(rt; traced.lines > 10);

@@ -29,7 +29,7 @@ use std::str::SplitWhitespace;
 
 /// How many commands were given, how many seconds have passed, and what was told.
 #[derive(Drop)]
-struct Told {
+struct Progress {
     given: usize,
     seconds: u64,
     log: String,
@@ -247,9 +247,13 @@ fn tells(
 }
 
 // Gives the next command.
-fn give_next(rt: &impl Abort, world: &mut World, commands: &[Timed], told: &mut Told) {
-    give(rt, world, commands.get(told.given).expect(rt, "a command"));
-    told.given = told.given.saturating_add(1);
+fn give_next(rt: &impl Abort, world: &mut World, commands: &[Timed], progress: &mut Progress) {
+    give(
+        rt,
+        world,
+        commands.get(progress.given).expect(rt, "a command"),
+    );
+    progress.given = progress.given.saturating_add(1);
 }
 
 // The record that arrives in a second.
@@ -271,9 +275,9 @@ fn arrival(
 }
 
 // Lets seconds pass.
-fn pass(rt: &impl Abort, world: &mut World, told: &mut Told, word: Option<&str>) {
+fn pass(rt: &impl Abort, world: &mut World, progress: &mut Progress, word: Option<&str>) {
     let seconds = number(rt, word);
-    told.seconds = told.seconds.saturating_add(seconds);
+    progress.seconds = progress.seconds.saturating_add(seconds);
     tick(rt, world, u32::try_from(seconds).expect(rt, "seconds"));
 }
 
@@ -283,14 +287,14 @@ fn comes(
     alloc: Global,
     world: &mut World,
     commands: &[Timed],
-    told: &mut Told,
+    progress: &mut Progress,
     verb: &str,
     words: &mut SplitWhitespace<'_>,
 ) -> bool {
     match verb {
-        "give" => give_next(rt, world, commands, told),
-        "tick" => pass(rt, world, told, words.next()),
-        "arrive" => arrive(rt, world, &arrival(rt, alloc, told.seconds, words)),
+        "give" => give_next(rt, world, commands, progress),
+        "tick" => pass(rt, world, progress, words.next()),
+        "arrive" => arrive(rt, world, &arrival(rt, alloc, progress.seconds, words)),
         _ => return false,
     }
     true
@@ -338,14 +342,14 @@ fn make(
     alloc: Global,
     world: &mut World,
     commands: &[Timed],
-    told: &mut Told,
+    progress: &mut Progress,
     step: &str,
 ) {
     let mut words = step.split_whitespace();
     let verb = words.next().expect(rt, "a step");
     let is_made = moves(rt, alloc, world, verb)
-        || comes(rt, alloc, world, commands, told, verb, &mut words)
-        || tells(rt, alloc, world, &mut told.log, verb, &mut words);
+        || comes(rt, alloc, world, commands, progress, verb, &mut words)
+        || tells(rt, alloc, world, &mut progress.log, verb, &mut words);
     if !is_made {
         moves_word(rt, world, verb, &mut words);
     }
@@ -359,15 +363,15 @@ fn log_of(
     commands: &[Timed],
     steps: &str,
 ) -> String {
-    let mut told = Told {
+    let mut progress = Progress {
         given: 0,
         seconds: 0,
         log: String::new(alloc),
     };
     for step in steps.split(';') {
-        make(rt, alloc, world, commands, &mut told, step);
+        make(rt, alloc, world, commands, &mut progress, step);
     }
-    told.log
+    progress.log
 }
 
 /// A topology, steps, and what must be told.

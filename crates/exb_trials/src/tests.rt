@@ -97,7 +97,7 @@ fn expect_plain(rt: &impl Abort, alloc: Global, trial: &Trial) {
 
 /// The same of the trial of a number over a tree of so many extenders.
 fn expect_trial(rt: &impl Abort, alloc: Global, number: u64, extenders: u8) {
-    let trial = Trial::new(alloc, number, extenders).expect(rt, "memory");
+    let trial = Trial::new(rt, alloc, number, extenders);
     expect_plain(rt, alloc, &trial);
 }
 
