@@ -3,7 +3,8 @@ use crate::fates::{Disturbance, fate_of};
 use crate::files::{expect_capture, expect_journal, play_files, shelf_of};
 use crate::plain::expect_plain;
 use crate::played::play;
-use crate::steps::begun;
+use crate::steps::{begun, is_external};
+use exb_flat_run::outcome::PortText;
 use exb_flat_run::texts::journal_text;
 use exb_model::port::PortId;
 use exb_pcap::{header_text, record_text};
@@ -20,6 +21,13 @@ pub(crate) struct Case<'a> {
     pub(crate) capture: &'a [u8],
     pub(crate) seed: Option<u64>,
     pub(crate) disturbance: Disturbance,
+}
+
+/// What is written of a world that was played: the journal, and the capture of each external port.
+#[derive(Drop)]
+struct Written {
+    journal: String,
+    captures: Vec<PortText>,
 }
 
 // Puts the record of a frame behind a capture.
@@ -43,72 +51,39 @@ fn capture_of(rt: &impl Abort, alloc: Global, left: &[Left], port: PortId) -> Ve
     file
 }
 
-// The capture of the port with this number, if it is external, is that of what left it.
-fn expect_port(rt: &impl Abort, alloc: Global, shelf: &MemShelf, world: &World, number: u16) {
+// Puts the capture of the port with this number behind these, if the port is external.
+fn put_capture(
+    rt: &impl Abort,
+    alloc: Global,
+    world: &World,
+    number: u16,
+    captures: &mut Vec<PortText>,
+) {
     let port = PortId::new(number).expect(rt, "a port");
-    if world.tree().is_external(port) {
-        let capture = capture_of(rt, alloc, world.left(), port);
-        expect_capture(rt, alloc, shelf, port, capture.as_slice());
+    if is_external(world, port) {
+        let bytes = capture_of(rt, alloc, world.left(), port);
+        captures.push(PortText { port, bytes }).expect(rt, "memory");
     }
 }
 
-// The files on a shelf are those of what was played: the journal, and the capture of each external port.
-fn expect_files(rt: &impl Abort, alloc: Global, shelf: &MemShelf, world: &World) {
-    let journal = journal_text(alloc, world.events()).expect(rt, "memory");
-    expect_journal(rt, alloc, shelf, journal.as_str());
+// The captures of all external ports.
+fn captures_of(rt: &impl Abort, alloc: Global, world: &World) -> Vec<PortText> {
+    let mut captures = Vec::new(alloc);
     for number in 0..4160u16 {
-        expect_port(rt, alloc, shelf, world, number);
+        put_capture(rt, alloc, world, number, &mut captures);
     }
+    captures
 }
 
-// A run of a case with these options, over what disturbs it so, writes what was played.
-fn expect_run(
-    rt: &impl Abort,
-    alloc: Global,
-    case: &Case<'_>,
-    options: &str,
-    disturbance: Disturbance,
-    world: &World,
-) {
-    let mut shelf = shelf_of(rt, alloc, case.topology, case.capture);
-    let fate = fate_of(rt, alloc, disturbance);
-    play_files(rt, alloc, &mut shelf, options, fate);
-    expect_files(rt, alloc, &shelf, world);
-}
-
-// The runs of a seed, without a trace and with one, write what was played.
-fn expect_seeded(rt: &impl Abort, alloc: Global, case: &Case<'_>, seed: u64, world: &World) {
-    let bare = format!(in alloc; "--seed={seed}").expect(rt, "memory");
-    expect_run(rt, alloc, case, bare.as_str(), case.disturbance, world);
-    let traced = format!(in alloc; "--seed {seed} --trace").expect(rt, "memory");
-    expect_run(rt, alloc, case, traced.as_str(), case.disturbance, world);
-}
-
-// A run that is disturbed in the same way, and one that nothing disturbs, write what was played.
-fn expect_eager(rt: &impl Abort, alloc: Global, case: &Case<'_>, world: &World) {
-    expect_run(rt, alloc, case, "", case.disturbance, world);
-    expect_run(rt, alloc, case, "", Disturbance::Quiet, world);
-}
-
-// Runs write what was played; in a drawn order that is what the plain bridge sends over what was told.
-fn expect_runs(
-    rt: &impl Abort,
-    alloc: Global,
-    case: &Case<'_>,
-    topology: &Topology,
-    world: &World,
-) {
-    match case.seed {
-        Some(seed) => {
-            expect_seeded(rt, alloc, case, seed, world);
-            expect_plain(rt, alloc, topology, world);
-        }
-        None => expect_eager(rt, alloc, case, world),
-    }
+// What a world that was played writes.
+fn written_by(rt: &impl Abort, alloc: Global, world: &World) -> Written {
+    let journal = journal_text(alloc, world.events()).expect(rt, "memory");
+    let captures = captures_of(rt, alloc, world);
+    Written { journal, captures }
 }
 
 // Of a fate with a budget something was spent.
-fn expect_disturbed(rt: &impl Abort, disturbance: Disturbance, world: &World) {
+fn expect_spent(rt: &impl Abort, disturbance: Disturbance, world: &World) {
     match disturbance {
         Disturbance::Quiet => {}
         Disturbance::Only(_, budget) | Disturbance::Drawn(_, budget) => {
@@ -117,17 +92,78 @@ fn expect_disturbed(rt: &impl Abort, disturbance: Disturbance, world: &World) {
     }
 }
 
-// The same of a topology that was read.
-fn expect_over(rt: &impl Abort, alloc: Global, case: &Case<'_>, topology: &Topology) {
+// What is played in a drawn order is what the plain bridge sends over what was told.
+fn expect_flat(
+    rt: &impl Abort,
+    alloc: Global,
+    seed: Option<u64>,
+    topology: &Topology,
+    world: &World,
+) {
+    if seed.is_some() {
+        expect_plain(rt, alloc, topology, world);
+    }
+}
+
+// What a case over a topology writes.
+fn written_over(rt: &impl Abort, alloc: Global, case: &Case<'_>, topology: &Topology) -> Written {
     let fate = fate_of(rt, alloc, case.disturbance);
     let mut world = begun(rt, alloc, topology, fate, false);
     play(rt, alloc, &mut world, topology, case.capture, case.seed);
-    expect_disturbed(rt, case.disturbance, &world);
-    expect_runs(rt, alloc, case, topology, &world);
+    expect_spent(rt, case.disturbance, &world);
+    expect_flat(rt, alloc, case.seed, topology, &world);
+    written_by(rt, alloc, &world)
 }
 
-/// Plays a case, in which each settling keeps its bound, and what disturbs it spends of its budget; its runs write what was played.
-pub(crate) fn expect_case(rt: &impl Abort, alloc: Global, case: &Case<'_>) {
+// What a case writes.
+fn written_of(rt: &impl Abort, alloc: Global, case: &Case<'_>) -> Written {
     let topology = read(alloc, case.topology.as_bytes()).expect(rt, "a topology");
-    expect_over(rt, alloc, case, &topology);
+    written_over(rt, alloc, case, &topology)
+}
+
+// The files on a shelf are those.
+fn expect_files(rt: &impl Abort, alloc: Global, shelf: &MemShelf, wanted: &Written) {
+    expect_journal(rt, alloc, shelf, wanted.journal.as_str());
+    for capture in &wanted.captures {
+        expect_capture(rt, alloc, shelf, capture.port, capture.bytes.as_slice());
+    }
+}
+
+// A run of a case with these options, over what disturbs it so, writes this.
+fn expect_run(
+    rt: &impl Abort,
+    alloc: Global,
+    case: &Case<'_>,
+    options: &str,
+    disturbance: Disturbance,
+    wanted: &Written,
+) {
+    let mut shelf = shelf_of(rt, alloc, case.topology, case.capture);
+    let fate = fate_of(rt, alloc, disturbance);
+    play_files(rt, alloc, &mut shelf, options, fate);
+    expect_files(rt, alloc, &shelf, wanted);
+}
+
+// The runs of a seed, without a trace and with one, write this.
+fn expect_seeded(rt: &impl Abort, alloc: Global, case: &Case<'_>, seed: u64, wanted: &Written) {
+    let bare = format!(in alloc; "--seed={seed}").expect(rt, "memory");
+    expect_run(rt, alloc, case, bare.as_str(), case.disturbance, wanted);
+    let traced = format!(in alloc; "--seed {seed} --trace").expect(rt, "memory");
+    expect_run(rt, alloc, case, traced.as_str(), case.disturbance, wanted);
+}
+
+// A run that is disturbed in the same way, and one that nothing disturbs, write this.
+fn expect_eager(rt: &impl Abort, alloc: Global, case: &Case<'_>, wanted: &Written) {
+    expect_run(rt, alloc, case, "", case.disturbance, wanted);
+    expect_run(rt, alloc, case, "", Disturbance::Quiet, wanted);
+}
+
+/// Plays a case, in which each settling keeps its bound, and what disturbs it spends of its budget; its runs write what was played. In
+/// a drawn order that is what the plain bridge sends over what was told.
+pub(crate) fn expect_case(rt: &impl Abort, alloc: Global, case: &Case<'_>) {
+    let wanted = written_of(rt, alloc, case);
+    match case.seed {
+        Some(seed) => expect_seeded(rt, alloc, case, seed, &wanted),
+        None => expect_eager(rt, alloc, case, &wanted),
+    }
 }

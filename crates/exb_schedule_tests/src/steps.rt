@@ -3,6 +3,7 @@
 use exb_fate::Fate;
 use exb_flat_run::merge::Arrival;
 use exb_link::Counts;
+use exb_model::port::PortId;
 use exb_model::setup::{Timed, Verdict};
 use exb_schedule::{Step, Way, World, settle};
 use exb_topology::Topology;
@@ -27,6 +28,11 @@ pub(crate) fn begun(
 /// Whether there is an extender of this number.
 pub(crate) fn is_extender(world: &World, link: u8) -> bool {
     world.tree().is_extender(link)
+}
+
+/// Whether a port is external.
+pub(crate) fn is_external(world: &World, port: PortId) -> bool {
+    world.tree().is_external(port)
 }
 
 /// How many words are on a direction.
