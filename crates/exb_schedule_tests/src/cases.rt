@@ -105,14 +105,25 @@ fn expect_flat(
     }
 }
 
-// What a case over a topology writes.
+// Plays a case in a world that begins, and says what is written of it.
+fn play_case(
+    rt: &impl Abort,
+    alloc: Global,
+    case: &Case<'_>,
+    topology: &Topology,
+    world: &mut World,
+) -> Written {
+    play(rt, alloc, world, topology, case.capture, case.seed);
+    expect_spent(rt, case.disturbance, world);
+    expect_flat(rt, alloc, case.seed, topology, world);
+    written_by(rt, alloc, world)
+}
+
+// What a case over a topology writes. It does nothing else with a world, since whatever owns one proves all that goes with it.
 fn written_over(rt: &impl Abort, alloc: Global, case: &Case<'_>, topology: &Topology) -> Written {
     let fate = fate_of(rt, alloc, case.disturbance);
     let mut world = begun(rt, alloc, topology, fate, false);
-    play(rt, alloc, &mut world, topology, case.capture, case.seed);
-    expect_spent(rt, case.disturbance, &world);
-    expect_flat(rt, alloc, case.seed, topology, &world);
-    written_by(rt, alloc, &world)
+    play_case(rt, alloc, case, topology, &mut world)
 }
 
 // What a case writes.

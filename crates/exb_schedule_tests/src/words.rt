@@ -377,22 +377,22 @@ fn log_of(
 /// A topology, steps, and what must be told.
 pub(crate) type Case = (&'static str, &'static str, &'static str);
 
-// A log is what must be told.
-fn expect_log(rt: &impl Abort, log: &str, wanted: &str, steps: &str) {
-    assert!(rt; log == wanted, "{log}of {steps}");
+// What the steps over a topology tell.
+fn log_over(rt: &impl Abort, alloc: Global, topology: &Topology, steps: &str) -> String {
+    let mut world = begun(rt, alloc, topology, scripted(rt, alloc), true);
+    log_of(rt, alloc, &mut world, topology.commands.as_slice(), steps)
 }
 
-// Asserts that the steps over a topology tell this.
-fn expect_told(rt: &impl Abort, alloc: Global, topology: &Topology, steps: &str, wanted: &str) {
-    let mut world = begun(rt, alloc, topology, scripted(rt, alloc), true);
-    let log = log_of(rt, alloc, &mut world, topology.commands.as_slice(), steps);
-    expect_log(rt, log.as_str(), wanted, steps);
+// What the steps over the topology of a text tell.
+fn log_over_text(rt: &impl Abort, alloc: Global, topology: &str, steps: &str) -> String {
+    let topology = read(alloc, topology.as_bytes()).expect(rt, "a topology");
+    log_over(rt, alloc, &topology, steps)
 }
 
 // Asserts that a case tells what it must.
 fn expect_case(rt: &impl Abort, alloc: Global, topology: &str, steps: &str, wanted: &str) {
-    let topology = read(alloc, topology.as_bytes()).expect(rt, "a topology");
-    expect_told(rt, alloc, &topology, steps, wanted);
+    let log = log_over_text(rt, alloc, topology, steps);
+    assert!(rt; log.as_str() == wanted, "{log}of {steps}");
 }
 
 /// Asserts that each case tells what it must.
