@@ -1,11 +1,9 @@
 //! Inputs that no run takes: files past the limits of their sizes, captures that change, and a folder in the place of a file.
-use exb_fate::{Fate, ScriptFate};
+use crate::runs::{bare_shelf, expect_end, put};
 use exb_faulty::ChangingShelf;
-use exb_run::run;
-use exb_shelf::{FileShelf, MemShelf, MemSink, Shelf};
+use exb_shelf::{FileShelf, MemShelf};
 use std::alloc::Global;
 use std::process::Abort;
-use std::test::Fail;
 
 /// One extender with one port, which has a capture.
 const ONE: &str =
@@ -29,31 +27,40 @@ const SOONER: [u8; 40] = [
     0, 0, 0, 0, 0, 60, 0, 0, 0, 60, 0, 0, 0,
 ];
 
-/// The words of a run.
-fn words(alloc: Global, topology: &str) -> Result<Vec<String>, Fail> {
-    let mut words = Vec::new(alloc);
-    words.push(String::from_str(alloc, "run")?)?;
-    words.push(String::from_str(alloc, topology)?)?;
-    Ok(words)
+/// What stands in the place of a capture of one frame when it is read again: its head, how many zeros are behind it, and what is said.
+type Changed = (&'static [u8], usize, &'static str);
+
+/// One that ends sooner, one that goes on, one of another kind, and one that begins sooner.
+const CHANGED: [Changed; 4] = [
+    (&HEAD, 59, "exbr: capture x1.1: Changed at 24\n"),
+    (&HEAD, 61, "exbr: capture x1.1: Changed at 100\n"),
+    (&OTHER_KIND, 60, "exbr: capture x1.1: Changed at 20\n"),
+    (&SOONER, 60, "exbr: capture x1.1: Changed at 24\n"),
+];
+
+// So many zeros.
+fn zeros(rt: &impl Abort, alloc: Global, bytes: usize) -> Vec<u8> {
+    vec![in alloc; 0u8; bytes].expect(rt, "memory")
 }
 
-/// Plays the words over a fate that does as it is armed to.
-fn play<S: Shelf>(
-    alloc: Global,
-    words: &[String],
-    shelf: &mut S,
-    out: &mut MemSink,
-) -> Result<u8, Fail> {
-    let fate: Box<dyn Fate> = Box::new(alloc, ScriptFate::new(alloc))?;
-    Ok(run(alloc, words, shelf, out, fate))
+// A capture of these bytes, behind which stand so many zeros.
+fn capture_of(rt: &impl Abort, alloc: Global, head: &[u8], zeros_behind: usize) -> Vec<u8> {
+    let mut capture = head.to_vec(alloc).expect(rt, "memory");
+    capture
+        .extend_from_slice(zeros(rt, alloc, zeros_behind).as_slice())
+        .expect(rt, "memory");
+    capture
 }
 
-/// So many zeros.
-fn zeros(alloc: Global, bytes: usize) -> Result<Vec<u8>, Fail> {
-    Ok(vec![in alloc; 0u8; bytes]?)
+// A shelf with a topology and a capture.
+fn shelf_of(rt: &impl Abort, alloc: Global, topology: &[u8], capture: &[u8]) -> MemShelf {
+    let mut shelf = bare_shelf(rt, alloc);
+    put(rt, &mut shelf, "t.toml", topology);
+    put(rt, &mut shelf, "zeros.pcap", capture);
+    shelf
 }
 
-/// A run of a topology and a capture ends with that status and line, and makes no file.
+// A run of a topology and a capture ends with that status and line, and makes no file.
 fn expect_refused(
     rt: &impl Abort,
     alloc: Global,
@@ -61,95 +68,58 @@ fn expect_refused(
     capture: &[u8],
     status: u8,
     line: &str,
-) -> Result<(), Fail> {
-    let mut shelf = MemShelf::new(alloc, &[])?;
-    shelf.put("t.toml", topology)?;
-    shelf.put("zeros.pcap", capture)?;
-    let mut out = MemSink::new(alloc, &[])?;
-    assert_eq!(rt;
-        play(alloc, &words(alloc, "t.toml")?, &mut shelf, &mut out)?,
-        status
-    );
-    assert!(rt; out.text() == line.as_bytes());
+) {
+    let mut shelf = shelf_of(rt, alloc, topology, capture);
+    expect_end(rt, alloc, "t.toml", &mut shelf, status, line);
     assert!(rt; shelf.file("out-x1.1.pcap").is_none());
     assert!(rt; shelf.file("out-journal.txt").is_none());
-    Ok(())
 }
 
-/// A capture of these bytes, behind which stand so many zeros.
-fn capture_of(alloc: Global, head: &[u8], zeros_behind: usize) -> Result<Vec<u8>, Fail> {
-    let mut capture = head.to_vec(alloc)?;
-    capture.extend_from_slice(zeros(alloc, zeros_behind)?.as_slice())?;
-    Ok(capture)
+// Puts a file on a shelf.
+fn put_there(rt: &impl Abort, shelf: &mut ChangingShelf, name: &str, bytes: &[u8]) {
+    shelf.put(name, bytes).expect(rt, "memory");
 }
 
-/// A run of a capture of one frame of 60 bytes, in the place of which another one stands when it is read again, ends with status 10 and
-/// that line.
-fn expect_changed(
-    rt: &impl Abort,
-    alloc: Global,
-    head: &[u8],
-    zeros_behind: usize,
-    line: &str,
-) -> Result<(), Fail> {
-    let again = capture_of(alloc, head, zeros_behind)?;
-    let mut shelf = ChangingShelf::new(alloc, "zeros.pcap", again.as_slice())?;
-    shelf.put("t.toml", ONE.as_bytes())?;
-    shelf.put("zeros.pcap", capture_of(alloc, &HEAD, 60)?.as_slice())?;
-    let mut out = MemSink::new(alloc, &[])?;
-    assert_eq!(rt;
-        play(alloc, &words(alloc, "t.toml")?, &mut shelf, &mut out)?,
-        10
-    );
-    assert!(rt; out.text() == line.as_bytes());
+// A shelf with a topology and a capture of one frame of 60 bytes, in the place of which another one stands when it is read again.
+fn changing_shelf(rt: &impl Abort, alloc: Global, again: &[u8]) -> ChangingShelf {
+    let mut shelf = ChangingShelf::new(alloc, "zeros.pcap", again).expect(rt, "memory");
+    put_there(rt, &mut shelf, "t.toml", ONE.as_bytes());
+    let capture = capture_of(rt, alloc, &HEAD, 60);
+    put_there(rt, &mut shelf, "zeros.pcap", capture.as_slice());
+    shelf
+}
+
+// A run of a capture that changes so ends with status 10 and that line.
+fn expect_changed(rt: &impl Abort, alloc: Global, head: &[u8], zeros_behind: usize, line: &str) {
+    let again = capture_of(rt, alloc, head, zeros_behind);
+    let mut shelf = changing_shelf(rt, alloc, again.as_slice());
+    expect_end(rt, alloc, "t.toml", &mut shelf, 10, line);
     assert!(rt; shelf.file("out-journal.txt").is_some());
-    Ok(())
 }
 
 #[test]
-fn a_capture_that_ends_sooner_has_changed(rt: HostRuntime) -> Result<(), Fail> {
-    let line = "exbr: capture x1.1: Changed at 24\n";
-    expect_changed(&rt, rt.alloc(), &HEAD, 59, line)
+fn a_capture_that_changes_ends_its_run(rt: HostRuntime) {
+    for (head, zeros_behind, line) in &CHANGED {
+        expect_changed(&rt, rt.alloc(), head, *zeros_behind, line);
+    }
 }
 
 #[test]
-fn a_capture_that_goes_on_has_changed(rt: HostRuntime) -> Result<(), Fail> {
-    let line = "exbr: capture x1.1: Changed at 100\n";
-    expect_changed(&rt, rt.alloc(), &HEAD, 61, line)
-}
-
-#[test]
-fn a_capture_of_another_kind_has_changed(rt: HostRuntime) -> Result<(), Fail> {
-    let line = "exbr: capture x1.1: Changed at 20\n";
-    expect_changed(&rt, rt.alloc(), &OTHER_KIND, 60, line)
-}
-
-#[test]
-fn a_capture_that_begins_sooner_has_changed(rt: HostRuntime) -> Result<(), Fail> {
-    let line = "exbr: capture x1.1: Changed at 24\n";
-    expect_changed(&rt, rt.alloc(), &SOONER, 60, line)
-}
-
-#[test]
-fn a_large_capture_is_looked_into(rt: HostRuntime) -> Result<(), Fail> {
-    let capture = zeros(rt.alloc(), 67_108_865)?;
+fn a_large_capture_is_looked_into(rt: HostRuntime) {
+    let capture = zeros(&rt, rt.alloc(), 67_108_865);
     let line = "exbr: capture x1.1: NotPcap at 0\n";
-    expect_refused(&rt, rt.alloc(), ONE.as_bytes(), capture.as_slice(), 4, line)
+    expect_refused(&rt, rt.alloc(), ONE.as_bytes(), capture.as_slice(), 4, line);
 }
 
 #[test]
-fn a_topology_has_at_most_16777216_bytes(rt: HostRuntime) -> Result<(), Fail> {
-    let topology = zeros(rt.alloc(), 16_777_217)?;
+fn a_topology_has_at_most_16777216_bytes(rt: HostRuntime) {
+    let topology = zeros(&rt, rt.alloc(), 16_777_217);
     let line = "exbr: topology: Large\n";
-    expect_refused(&rt, rt.alloc(), topology.as_slice(), &[], 3, line)
+    expect_refused(&rt, rt.alloc(), topology.as_slice(), &[], 3, line);
 }
 
 #[test]
-fn a_folder_can_be_opened_and_not_read(rt: HostRuntime) -> Result<(), Fail> {
-    let words = words(rt.alloc(), ".")?;
+fn a_folder_can_be_opened_and_not_read(rt: HostRuntime) {
     let mut shelf = FileShelf::new(rt.alloc(), rt);
-    let mut out = MemSink::new(rt.alloc(), &[])?;
-    assert_eq!(rt; play(rt.alloc(), &words, &mut shelf, &mut out)?, 6);
-    assert!(rt; out.text() == b"exbr: read fault\n".as_slice());
-    Ok(())
+    expect_end(&rt, rt.alloc(), ".", &mut shelf, 6, "exbr: read fault\n");
 }

@@ -2,11 +2,11 @@
 ghost use Rattle.std.specs.Prelude.{◌≤◌, ◌<◌};
 
 use crate::draws::{draw, draw_byte, draw_vlan};
-use exb_model::memory::NoMemory;
 use exb_model::port::PortId;
 use exb_pcap::{header_text, record_text};
 use rand_pcg::Lcg64Xsh32;
 use std::alloc::Global;
+use std::process::Abort;
 
 /// A second in nanoseconds.
 const NANOSECONDS: u64 = 1_000_000_000;
@@ -38,92 +38,110 @@ fn source(rng: &mut Lcg64Xsh32, port: PortId) -> [u8; 6] {
     }
 }
 
-/// Puts a tag with that VLAN and any priority behind a frame.
-fn add_tag(rng: &mut Lcg64Xsh32, vlan: u16, frame: &mut Vec<u8>) -> Result<(), NoMemory> {
+/// Puts bytes behind a frame or a file.
+fn put(rt: &impl Abort, bytes: &mut Vec<u8>, more: &[u8]) {
+    bytes.extend_from_slice(more).expect(rt, "memory");
+}
+
+/// A tag with that VLAN and any priority.
+fn draw_tag(rng: &mut Lcg64Xsh32, vlan: u16) -> [u8; 4] {
     let [high, low] = vlan.to_be_bytes();
     let priority = draw_byte(rng, 16) << 4;
-    frame.extend_from_slice(&[0x81, 0x00, high | priority, low])?;
-    Ok(())
+    [0x81, 0x00, high | priority, low]
+}
+
+/// Puts a tag behind a frame.
+fn put_tag(rt: &impl Abort, rng: &mut Lcg64Xsh32, vlan: u16, frame: &mut Vec<u8>) {
+    let tag = draw_tag(rng, vlan);
+    put(rt, frame, &tag);
 }
 
 /// Puts what follows the addresses behind a frame, up to its type: no tag, one of a VLAN or of none, or one
 /// of a VLAN that there can't be.
-fn add_any_tag(rng: &mut Lcg64Xsh32, frame: &mut Vec<u8>) -> Result<(), NoMemory> {
+fn put_any_tag(rt: &impl Abort, rng: &mut Lcg64Xsh32, frame: &mut Vec<u8>) {
     match draw(rng, 8) {
-        0 => add_tag(rng, 0, frame),
-        1 => add_tag(rng, 4095, frame),
+        0 => put_tag(rt, rng, 0, frame),
+        1 => put_tag(rt, rng, 4095, frame),
         2 | 3 | 4 => {
             let vlan = draw_vlan(rng);
-            add_tag(rng, vlan, frame)
-        }
-        _ => Ok(()),
-    }
-}
-
-/// Puts a type behind a frame, of which one is that of the E-TAG, and some random bytes.
-fn add_body(rng: &mut Lcg64Xsh32, frame: &mut Vec<u8>) -> Result<(), NoMemory> {
-    match draw(rng, 3) {
-        0 => frame.extend_from_slice(&[0x08, 0x00])?,
-        1 => frame.extend_from_slice(&[0x86, 0xDD])?,
-        _ => frame.extend_from_slice(&[0x89, 0x3F])?,
-    }
-    for _byte in 0..draw(rng, 60) {
-        frame.push(draw_byte(rng, 255))?;
-    }
-    Ok(())
-}
-
-/// Cuts some frames to less than their head, and makes some as long as a frame may be or longer.
-fn change_length(rng: &mut Lcg64Xsh32, frame: &mut Vec<u8>) -> Result<(), NoMemory> {
-    match draw(rng, 40) {
-        0 | 1 | 2 => frame.truncate(draw(rng, 19) as usize),
-        3 => {
-            let length = LONGEST + draw(rng, 2) as usize;
-            for _zero in frame.len()..length {
-                frame.push(0)?;
-            }
+            put_tag(rt, rng, vlan, frame)
         }
         _ => {}
     }
-    Ok(())
+}
+
+/// A type, of which one is that of the E-TAG.
+fn draw_type(rng: &mut Lcg64Xsh32) -> [u8; 2] {
+    match draw(rng, 3) {
+        0 => [0x08, 0x00],
+        1 => [0x86, 0xDD],
+        _ => [0x89, 0x3F],
+    }
+}
+
+/// Puts some random bytes behind a frame.
+fn put_body(rt: &impl Abort, rng: &mut Lcg64Xsh32, frame: &mut Vec<u8>) {
+    for _byte in 0..draw(rng, 60) {
+        frame.push(draw_byte(rng, 255)).expect(rt, "memory");
+    }
+}
+
+/// Puts zeros behind a frame up to a length.
+fn lengthen(rt: &impl Abort, frame: &mut Vec<u8>, length: usize) {
+    for _zero in frame.len()..length {
+        frame.push(0).expect(rt, "memory");
+    }
+}
+
+/// Cuts some frames to less than their head, and makes some as long as a frame may be or longer.
+fn change_length(rt: &impl Abort, rng: &mut Lcg64Xsh32, frame: &mut Vec<u8>) {
+    match draw(rng, 40) {
+        0 | 1 | 2 => frame.truncate(draw(rng, 19) as usize),
+        3 => lengthen(rt, frame, LONGEST + draw(rng, 2) as usize),
+        _ => {}
+    }
 }
 
 /// A frame that arrives at a port.
-fn frame(alloc: Global, rng: &mut Lcg64Xsh32, port: PortId) -> Result<Vec<u8>, NoMemory> {
+fn frame(rt: &impl Abort, alloc: Global, rng: &mut Lcg64Xsh32, port: PortId) -> Vec<u8> {
     let mut frame = Vec::new(alloc);
-    frame.extend_from_slice(&destination(rng))?;
-    frame.extend_from_slice(&source(rng, port))?;
-    add_any_tag(rng, &mut frame)?;
-    add_body(rng, &mut frame)?;
-    change_length(rng, &mut frame)?;
-    Ok(frame)
+    put(rt, &mut frame, &destination(rng));
+    put(rt, &mut frame, &source(rng, port));
+    put_any_tag(rt, rng, &mut frame);
+    put(rt, &mut frame, &draw_type(rng));
+    put_body(rt, rng, &mut frame);
+    change_length(rt, rng, &mut frame);
+    frame
 }
 
 /// Puts the record of a frame behind a capture.
-fn add_record(moment: u64, frame: &[u8], file: &mut Vec<u8>) -> Result<(), NoMemory>
-    requires { moment < 1_000_000_000_000 }
-{
-    // (no frame of a trial is that long)
-    let Ok(length) = u32::try_from(frame.len()) else {
-        return Err(NoMemory);
-    };
-    file.extend_from_slice(&record_text(moment, length))?;
-    file.extend_from_slice(frame)?;
-    Ok(())
+fn put_record(rt: &impl Abort, moment: u64, frame: &[u8], file: &mut Vec<u8>) {
+    let length = u32::try_from(frame.len()).expect(rt, "a length");
+    assert!(rt; moment < 1_000_000_000_000);
+    put(rt, file, &record_text(moment, length));
+    put(rt, file, frame);
 }
 
-/// A capture of 0 to 4 frames at a port, within 35 seconds, at times that may fall.
+/// When the frame at a place comes: within 35 seconds, and maybe before the one in front of it.
+fn draw_moment(rng: &mut Lcg64Xsh32, place: u8) -> u64
+    requires { place < 5 }
+{
+    let second = 100 + 6 * u64::from(place) + u64::from(draw_byte(rng, 11));
+    second * NANOSECONDS + u64::from(draw(rng, 1_000_000_000))
+}
+
+/// A capture of 0 to 4 frames at a port.
 pub(crate) fn capture(
+    rt: &impl Abort,
     alloc: Global,
     rng: &mut Lcg64Xsh32,
     port: PortId,
-) -> Result<Vec<u8>, NoMemory> {
-    let mut file = header_text().to_vec(alloc)?;
+) -> Vec<u8> {
+    let mut file = Vec::from_slice(alloc, &header_text()).expect(rt, "memory");
     for place in 0..draw_byte(rng, 5) {
-        let second = 100 + 6 * u64::from(place) + u64::from(draw_byte(rng, 11));
-        let moment = second * NANOSECONDS + u64::from(draw(rng, 1_000_000_000));
-        let frame = frame(alloc, rng, port)?;
-        add_record(moment, frame.as_slice(), &mut file)?;
+        let moment = draw_moment(rng, place);
+        let frame = frame(rt, alloc, rng, port);
+        put_record(rt, moment, frame.as_slice(), &mut file);
     }
-    Ok(file)
+    file
 }

@@ -1,16 +1,14 @@
 //! Runs of generated inputs beside the plain bridge.
+use crate::runs::{bare_shelf, expect_end, put};
 use crate::trial::Trial;
-use exb_fate::{Fate, ScriptFate};
 use exb_flat_run::merge::Capture;
-use exb_flat_run::outcome::{Outcome, flat_outcome};
+use exb_flat_run::outcome::{Outcome, PortText, flat_outcome};
 use exb_model::port::PortId;
-use exb_run::run;
-use exb_shelf::{MemShelf, MemSink};
+use exb_shelf::MemShelf;
 use exb_text::{capture_file_name, journal_file_name};
-use exb_topology::read;
+use exb_topology::{Topology, read};
 use std::alloc::Global;
 use std::process::Abort;
-use std::test::Fail;
 
 /// The capture at a place. Behind the last it is an empty file, which has no frames.
 fn capture_at(trial: &Trial, at: usize) -> Capture<'_> {
@@ -25,12 +23,10 @@ fn capture_at(trial: &Trial, at: usize) -> Capture<'_> {
     Capture { port, file }
 }
 
-/// What the plain bridge makes of a trial, in which at most 16 ports speak.
-fn plain(rt: &impl Abort, alloc: Global, trial: &Trial) -> Result<Outcome, Fail> {
-    let topology = read(alloc, trial.topology.as_bytes())?;
+/// What the plain bridge makes of a trial of this topology, in which at most 16 ports speak.
+fn outcome_of(rt: &impl Abort, alloc: Global, topology: &Topology, trial: &Trial) -> Outcome {
     let commands = topology.commands.as_slice();
     assert!(rt; commands.len() < 100);
-    assert!(rt; trial.captures.len() <= 16);
     let captures = [
         capture_at(trial, 0),
         capture_at(trial, 1),
@@ -49,146 +45,135 @@ fn plain(rt: &impl Abort, alloc: Global, trial: &Trial) -> Result<Outcome, Fail>
         capture_at(trial, 14),
         capture_at(trial, 15),
     ];
-    Ok(flat_outcome(alloc, &topology.setup, commands, &captures)?)
+    flat_outcome(alloc, &topology.setup, commands, &captures).expect(rt, "memory")
 }
 
-/// A shelf with the topology and the captures of a trial.
-fn shelf_of(alloc: Global, trial: &Trial) -> Result<MemShelf, Fail> {
-    let mut shelf = MemShelf::new(alloc, &[])?;
-    shelf.put("trial.toml", trial.topology.as_bytes())?;
+/// What the plain bridge makes of a trial.
+fn plain(rt: &impl Abort, alloc: Global, trial: &Trial) -> Outcome {
+    let topology = read(alloc, trial.topology.as_bytes()).expect(rt, "a topology");
+    assert!(rt; trial.captures.len() <= 16);
+    outcome_of(rt, alloc, &topology, trial)
+}
+
+/// Puts the capture of a port on a shelf.
+fn put_capture(rt: &impl Abort, alloc: Global, shelf: &mut MemShelf, port: PortId, file: &[u8]) {
+    let name = capture_file_name(alloc, "in-", port).expect(rt, "memory");
+    put(rt, shelf, name.as_str(), file);
+}
+
+/// Puts the topology and the captures of a trial on a shelf.
+fn put_trial(rt: &impl Abort, alloc: Global, shelf: &mut MemShelf, trial: &Trial) {
+    put(rt, shelf, "trial.toml", trial.topology.as_bytes());
     for (port, file) in trial.speaking.iter().zip(&trial.captures) {
-        let name = capture_file_name(alloc, "in-", *port)?;
-        shelf.put(name.as_str(), file.as_slice())?;
+        put_capture(rt, alloc, shelf, *port, file.as_slice());
     }
-    Ok(shelf)
 }
 
-/// The words of a run.
-fn words(alloc: Global) -> Result<Vec<String>, Fail> {
-    let mut words = Vec::new(alloc);
-    words.push(String::from_str(alloc, "run")?)?;
-    words.push(String::from_str(alloc, "trial.toml")?)?;
-    Ok(words)
+/// The capture of a port on a shelf is this one.
+fn expect_capture(rt: &impl Abort, alloc: Global, shelf: &MemShelf, wanted: &PortText) {
+    let name = capture_file_name(alloc, "out-", wanted.port).expect(rt, "memory");
+    assert!(rt; shelf.file(name.as_str()) == Some(wanted.bytes.as_slice()));
 }
 
-/// Plays the words over a fate that does as it is armed to.
-fn play(
-    alloc: Global,
-    words: &[String],
-    shelf: &mut MemShelf,
-    out: &mut MemSink,
-) -> Result<u8, Fail> {
-    let fate: Box<dyn Fate> = Box::new(alloc, ScriptFate::new(alloc))?;
-    Ok(run(alloc, words, shelf, out, fate))
+/// The journal on a shelf is this one.
+fn expect_journal(rt: &impl Abort, alloc: Global, shelf: &MemShelf, wanted: &str) {
+    let name = journal_file_name(alloc, "out-").expect(rt, "memory");
+    assert!(rt; shelf.file(name.as_str()) == Some(wanted.as_bytes()));
 }
 
-/// Each file of the shelf, and the summary, are those of the plain bridge.
-fn expect_same(
-    rt: &impl Abort,
-    alloc: Global,
-    shelf: &MemShelf,
-    out: &MemSink,
-    want: &Outcome,
-) -> Result<(), Fail> {
-    for port in &want.captures {
-        let name = capture_file_name(alloc, "out-", port.port)?;
-        assert!(rt; shelf.file(name.as_str()) == Some(port.bytes.as_slice()));
+/// Each file of the shelf is that of the plain bridge.
+fn expect_files(rt: &impl Abort, alloc: Global, shelf: &MemShelf, wanted: &Outcome) {
+    for capture in &wanted.captures {
+        expect_capture(rt, alloc, shelf, capture);
     }
-    let journal = journal_file_name(alloc, "out-")?;
-    assert!(rt; shelf.file(journal.as_str()) == Some(want.journal.as_bytes()));
-    assert!(rt; out.text() == want.summary.as_bytes());
-    Ok(())
+    expect_journal(rt, alloc, shelf, wanted.journal.as_str());
 }
 
-/// A trial: its run writes and prints what the plain bridge does.
-fn expect_trial(rt: &impl Abort, alloc: Global, number: u64, extenders: u8) -> Result<(), Fail> {
-    let trial = Trial::new(alloc, number, extenders)?;
-    let mut shelf = shelf_of(alloc, &trial)?;
-    let mut out = MemSink::new(alloc, &[])?;
-    assert_eq!(rt; play(alloc, &words(alloc)?, &mut shelf, &mut out)?, 0);
-    let want = plain(rt, alloc, &trial)?;
-    expect_same(rt, alloc, &shelf, &out, &want)
+/// The run of a trial writes and prints this.
+fn expect_run(rt: &impl Abort, alloc: Global, trial: &Trial, wanted: &Outcome) {
+    let mut shelf = bare_shelf(rt, alloc);
+    put_trial(rt, alloc, &mut shelf, trial);
+    expect_end(
+        rt,
+        alloc,
+        "trial.toml",
+        &mut shelf,
+        0,
+        wanted.summary.as_str(),
+    );
+    expect_files(rt, alloc, &shelf, wanted);
+}
+
+/// The run of a trial writes and prints what the plain bridge does.
+fn expect_plain(rt: &impl Abort, alloc: Global, trial: &Trial) {
+    let wanted = plain(rt, alloc, trial);
+    expect_run(rt, alloc, trial, &wanted);
+}
+
+/// The same of the trial of a number over a tree of so many extenders.
+fn expect_trial(rt: &impl Abort, alloc: Global, number: u64, extenders: u8) {
+    let trial = Trial::new(rt, alloc, number, extenders);
+    expect_plain(rt, alloc, &trial);
 }
 
 /// Trials over trees of so many extenders, up to so many.
-fn expect_trials(
-    rt: &impl Abort,
-    alloc: Global,
-    first: u64,
-    fewest: u8,
-    most: u8,
-) -> Result<(), Fail> {
+fn expect_trials(rt: &impl Abort, alloc: Global, first: u64, fewest: u8, most: u8) {
     for extenders in fewest..most {
         expect_trial(
             rt,
             alloc,
             first.wrapping_add(u64::from(extenders)),
             extenders,
-        )?;
+        );
     }
-    Ok(())
 }
 
 #[test]
-fn runs_over_0_to_2_extenders_write_what_the_plain_bridge_sends(
-    rt: HostRuntime,
-) -> Result<(), Fail> {
-    expect_trials(&rt, rt.alloc(), 0, 0, 3)
+fn runs_over_0_to_2_extenders_write_what_the_plain_bridge_sends(rt: HostRuntime) {
+    expect_trials(&rt, rt.alloc(), 0, 0, 3);
 }
 
 #[test]
-fn runs_over_3_to_5_extenders_write_what_the_plain_bridge_sends(
-    rt: HostRuntime,
-) -> Result<(), Fail> {
-    expect_trials(&rt, rt.alloc(), 0, 3, 6)
+fn runs_over_3_to_5_extenders_write_what_the_plain_bridge_sends(rt: HostRuntime) {
+    expect_trials(&rt, rt.alloc(), 0, 3, 6);
 }
 
 #[test]
-fn other_runs_over_1_to_3_extenders_write_what_the_plain_bridge_sends(
-    rt: HostRuntime,
-) -> Result<(), Fail> {
-    expect_trials(&rt, rt.alloc(), 100, 1, 4)
+fn other_runs_over_1_to_3_extenders_write_what_the_plain_bridge_sends(rt: HostRuntime) {
+    expect_trials(&rt, rt.alloc(), 100, 1, 4);
 }
 
 #[test]
-fn other_runs_over_4_and_5_extenders_write_what_the_plain_bridge_sends(
-    rt: HostRuntime,
-) -> Result<(), Fail> {
-    expect_trials(&rt, rt.alloc(), 100, 4, 6)
+fn other_runs_over_4_and_5_extenders_write_what_the_plain_bridge_sends(rt: HostRuntime) {
+    expect_trials(&rt, rt.alloc(), 100, 4, 6);
 }
 
 #[test]
-fn runs_over_6_and_7_extenders_write_what_the_plain_bridge_sends(
-    rt: HostRuntime,
-) -> Result<(), Fail> {
-    expect_trials(&rt, rt.alloc(), 200, 6, 8)
+fn runs_over_6_and_7_extenders_write_what_the_plain_bridge_sends(rt: HostRuntime) {
+    expect_trials(&rt, rt.alloc(), 200, 6, 8);
 }
 
 #[test]
-fn runs_over_8_to_10_extenders_write_what_the_plain_bridge_sends(
-    rt: HostRuntime,
-) -> Result<(), Fail> {
-    expect_trials(&rt, rt.alloc(), 200, 8, 11)
+fn runs_over_8_to_10_extenders_write_what_the_plain_bridge_sends(rt: HostRuntime) {
+    expect_trials(&rt, rt.alloc(), 200, 8, 11);
 }
 
 #[test]
-fn runs_over_11_and_12_extenders_write_what_the_plain_bridge_sends(
-    rt: HostRuntime,
-) -> Result<(), Fail> {
-    expect_trials(&rt, rt.alloc(), 300, 11, 13)
+fn runs_over_11_and_12_extenders_write_what_the_plain_bridge_sends(rt: HostRuntime) {
+    expect_trials(&rt, rt.alloc(), 300, 11, 13);
 }
 
 #[test]
-fn a_run_over_13_extenders_writes_what_the_plain_bridge_sends(rt: HostRuntime) -> Result<(), Fail> {
-    expect_trials(&rt, rt.alloc(), 300, 13, 14)
+fn a_run_over_13_extenders_writes_what_the_plain_bridge_sends(rt: HostRuntime) {
+    expect_trials(&rt, rt.alloc(), 300, 13, 14);
 }
 
 #[test]
-fn a_run_over_30_extenders_writes_what_the_plain_bridge_sends(rt: HostRuntime) -> Result<(), Fail> {
-    expect_trial(&rt, rt.alloc(), 402, 30)
+fn a_run_over_30_extenders_writes_what_the_plain_bridge_sends(rt: HostRuntime) {
+    expect_trial(&rt, rt.alloc(), 402, 30);
 }
 
 #[test]
-fn a_run_over_64_extenders_writes_what_the_plain_bridge_sends(rt: HostRuntime) -> Result<(), Fail> {
-    expect_trial(&rt, rt.alloc(), 502, 64)
+fn a_run_over_64_extenders_writes_what_the_plain_bridge_sends(rt: HostRuntime) {
+    expect_trial(&rt, rt.alloc(), 502, 64);
 }
