@@ -1,5 +1,5 @@
 //! The order within a second, drawn by the public calls of a world and a generator alone.
-use crate::steps::{arrive, ask, beat, carry, give, tick};
+use crate::steps::{arrive, ask, beat, carry, counts, give, is_extender, is_free, tick};
 use exb_flat_run::merge::Coming;
 use exb_model::setup::Timed;
 use exb_schedule::{Way, World};
@@ -38,6 +38,11 @@ impl Rest {
     }
 }
 
+// Adds what may be drawn.
+fn add(rt: &impl Abort, choices: &mut Vec<Choice>, choice: Choice) {
+    choices.push(choice).expect(rt, "memory");
+}
+
 // The port at which an event is a record, and no port for a command.
 fn port_of(event: &Coming) -> u16 {
     match event {
@@ -70,17 +75,22 @@ fn next_record(events: &[Coming], happened: &[bool], from: u16) -> Option<usize>
     found
 }
 
+// The port behind that of a record.
+fn port_behind(events: &[Coming], at: usize) -> u16 {
+    match events.get(at) {
+        Some(event) => port_of(event).saturating_add(1),
+        None => NO_PORT,
+    }
+}
+
 // The next record of each port.
 fn add_records(rt: &impl Abort, events: &[Coming], rest: &Rest, choices: &mut Vec<Choice>) {
     let mut from = 0;
     for _port in 0..events.len() {
         match next_record(events, rest.happened.as_slice(), from) {
             Some(at) => {
-                choices.push(Choice::Event { at }).expect(rt, "memory");
-                from = match events.get(at) {
-                    Some(event) => port_of(event).saturating_add(1),
-                    None => NO_PORT,
-                };
+                add(rt, choices, Choice::Event { at });
+                from = port_behind(events, at);
             }
             None => return,
         }
@@ -89,28 +99,34 @@ fn add_records(rt: &impl Abort, events: &[Coming], rest: &Rest, choices: &mut Ve
 
 // The words of a direction: the first data word, and each control word that is free.
 fn add_words(rt: &impl Abort, world: &World, link: u8, way: Way, choices: &mut Vec<Choice>) {
-    assert!(rt; world.tree().is_extender(link));
-    let counts = world.counts(link, way);
+    let counts = counts(rt, world, link, way);
     if counts.frames > 0 {
-        choices
-            .push(Choice::Data { link, way })
-            .expect(rt, "memory");
+        add(rt, choices, Choice::Data { link, way });
     }
     for at in 0..counts.control {
-        if world.free_at(link, way, at) {
-            choices
-                .push(Choice::Control { link, way, at })
-                .expect(rt, "memory");
+        if is_free(rt, world, link, way, at) {
+            add(rt, choices, Choice::Control { link, way, at });
         }
     }
 }
 
 // The words of both directions of an extender, if it is one.
 fn add_link(rt: &impl Abort, world: &World, link: u8, choices: &mut Vec<Choice>) {
-    if world.tree().is_extender(link) {
+    if is_extender(world, link) {
         add_words(rt, world, link, Way::Up, choices);
         add_words(rt, world, link, Way::Down, choices);
     }
+}
+
+// The seconds, the next command and the next record of each port.
+fn add_events(rt: &impl Abort, events: &[Coming], rest: &Rest, choices: &mut Vec<Choice>) {
+    if rest.seconds > 0 {
+        add(rt, choices, Choice::Tick);
+    }
+    if let Some(at) = next_command(events, rest.happened.as_slice()) {
+        add(rt, choices, Choice::Event { at });
+    }
+    add_records(rt, events, rest, choices);
 }
 
 // All that may be drawn, in order.
@@ -122,17 +138,11 @@ fn choices(
     rest: &Rest,
 ) -> Vec<Choice> {
     let mut choices = Vec::new(alloc);
-    if rest.seconds > 0 {
-        choices.push(Choice::Tick).expect(rt, "memory");
-    }
-    if let Some(at) = next_command(events, rest.happened.as_slice()) {
-        choices.push(Choice::Event { at }).expect(rt, "memory");
-    }
-    add_records(rt, events, rest, &mut choices);
+    add_events(rt, events, rest, &mut choices);
     for link in 1..65u8 {
         add_link(rt, world, link, &mut choices);
     }
-    choices.push(Choice::Beat).expect(rt, "memory");
+    add(rt, &mut choices, Choice::Beat);
     choices
 }
 
@@ -162,24 +172,38 @@ fn happen_at(
     happen(rt, world, commands, events.get(at).expect(rt, "an event"));
 }
 
-// Draws once, and makes what is drawn.
+// Draws one of what may be drawn.
 fn draw(
     rt: &impl Abort,
     alloc: Global,
-    world: &mut World,
+    world: &World,
     rng: &mut Lcg64Xsh32,
-    commands: &[Timed],
     events: &[Coming],
-    rest: &mut Rest,
-) {
+    rest: &Rest,
+) -> Choice {
     let choices = choices(rt, alloc, world, events, rest);
     assert!(rt; choices.len() > 0);
     let drawn = rng.next_u32() as usize % choices.len();
-    match choices.get(drawn).copied().expect(rt, "a choice") {
-        Choice::Tick => {
-            tick(rt, world, rest.seconds);
-            rest.seconds = 0;
-        }
+    choices.get(drawn).copied().expect(rt, "a choice")
+}
+
+// The seconds that are still to pass do.
+fn tick_rest(rt: &impl Abort, world: &mut World, rest: &mut Rest) {
+    tick(rt, world, rest.seconds);
+    rest.seconds = 0;
+}
+
+// Makes what is drawn.
+fn make(
+    rt: &impl Abort,
+    world: &mut World,
+    commands: &[Timed],
+    events: &[Coming],
+    rest: &mut Rest,
+    choice: Choice,
+) {
+    match choice {
+        Choice::Tick => tick_rest(rt, world, rest),
         Choice::Event { at } => happen_at(rt, world, commands, events, rest, at),
         Choice::Data { link, way } => carry(rt, world, link, way),
         Choice::Control { link, way, at } => ask(rt, world, link, way, at),
@@ -215,9 +239,10 @@ pub(crate) fn play_drawn(
 ) {
     let mut rest = Rest::of(rt, alloc, seconds, events);
     for _draw in 0..events.len().saturating_add(1).saturating_mul(64) {
-        draw(rt, alloc, world, rng, commands, events, &mut rest);
+        let choice = draw(rt, alloc, world, rng, events, &rest);
+        make(rt, world, commands, events, &mut rest, choice);
     }
-    tick(rt, world, rest.seconds);
+    tick_rest(rt, world, &mut rest);
     finish(rt, world, commands, events, &rest, true);
     finish(rt, world, commands, events, &rest, false);
 }

@@ -1,5 +1,4 @@
 //! Whole runs over files in memory.
-use crate::played::Played;
 use exb_fate::Fate;
 use exb_model::port::PortId;
 use exb_run::run;
@@ -8,18 +7,38 @@ use exb_text::{capture_file_name, journal_file_name};
 use std::alloc::Global;
 use std::process::Abort;
 
-// The words of a run.
-fn words(rt: &impl Abort, alloc: Global, options: &str) -> Vec<String> {
+// Puts a word behind these.
+fn put_word(rt: &impl Abort, alloc: Global, words: &mut Vec<String>, word: &str) {
+    let word = String::from_str(alloc, word).expect(rt, "memory");
+    words.push(word).expect(rt, "memory");
+}
+
+// The words of a run with these options.
+fn words_of(rt: &impl Abort, alloc: Global, options: &str) -> Vec<String> {
     let mut words = Vec::new(alloc);
-    for word in "run t.toml".split(' ').chain(options.split_whitespace()) {
-        let word = String::from_str(alloc, word).expect(rt, "memory");
-        words.push(word).expect(rt, "memory");
+    put_word(rt, alloc, &mut words, "run");
+    put_word(rt, alloc, &mut words, "t.toml");
+    for word in options.split_whitespace() {
+        put_word(rt, alloc, &mut words, word);
     }
     words
 }
 
+// Puts a file on a shelf.
+fn put(rt: &impl Abort, shelf: &mut MemShelf, name: &str, bytes: &[u8]) {
+    shelf.put(name, bytes).expect(rt, "memory");
+}
+
+/// A shelf with a topology and the capture of x1.1.
+pub(crate) fn shelf_of(rt: &impl Abort, alloc: Global, topology: &str, capture: &[u8]) -> MemShelf {
+    let mut shelf = MemShelf::new(alloc, &[]).expect(rt, "memory");
+    put(rt, &mut shelf, "t.toml", topology.as_bytes());
+    put(rt, &mut shelf, "a.pcap", capture);
+    shelf
+}
+
 // Plays the words over this fate, and answers the status.
-fn play(
+fn status_of(
     rt: &impl Abort,
     alloc: Global,
     words: &[String],
@@ -31,52 +50,33 @@ fn play(
     run(alloc, words, shelf, out, fate)
 }
 
-/// The files of a run of a topology and the capture of x1.1 over this fate, with further words behind its name. It ends with 0.
-pub(crate) fn files_of(
+/// Plays what is on a shelf with these options over this fate. It ends with 0.
+pub(crate) fn play_files(
     rt: &impl Abort,
     alloc: Global,
-    topology: &str,
-    capture: &[u8],
+    shelf: &mut MemShelf,
     options: &str,
     fate: Box<dyn Fate>,
-) -> MemShelf {
-    let words = words(rt, alloc, options);
-    let mut shelf = MemShelf::new(alloc, &[]).expect(rt, "memory");
-    shelf
-        .put("t.toml", topology.as_bytes())
-        .expect(rt, "memory");
-    shelf.put("a.pcap", capture).expect(rt, "memory");
+) {
+    let words = words_of(rt, alloc, options);
     let mut out = MemSink::new(alloc, &[]).expect(rt, "memory");
-    assert_eq!(rt; play(rt, alloc, &words, &mut shelf, &mut out, fate), 0);
-    shelf
+    assert!(rt; status_of(rt, alloc, &words, shelf, &mut out, fate) == 0);
 }
 
-/// The journal on a shelf.
-pub(crate) fn journal_on<'a>(rt: &impl Abort, alloc: Global, shelf: &'a MemShelf) -> &'a [u8] {
+/// The journal on a shelf is this one.
+pub(crate) fn expect_journal(rt: &impl Abort, alloc: Global, shelf: &MemShelf, wanted: &str) {
     let name = journal_file_name(alloc, "out-").expect(rt, "memory");
-    shelf.file(name.as_str()).expect(rt, "a journal")
+    assert!(rt; shelf.file(name.as_str()) == Some(wanted.as_bytes()));
 }
 
-/// The capture of a port on a shelf.
-pub(crate) fn capture_on<'a>(
+/// The capture of a port on a shelf is this one.
+pub(crate) fn expect_capture(
     rt: &impl Abort,
     alloc: Global,
-    shelf: &'a MemShelf,
+    shelf: &MemShelf,
     port: PortId,
-) -> &'a [u8] {
+    wanted: &[u8],
+) {
     let name = capture_file_name(alloc, "out-", port).expect(rt, "memory");
-    shelf.file(name.as_str()).expect(rt, "a capture")
-}
-
-/// The files on a shelf are those of what was played: the journal, and the capture of each external port.
-pub(crate) fn expect_played(rt: &impl Abort, alloc: Global, shelf: &MemShelf, played: &Played) {
-    let journal = played.journal(rt, alloc);
-    assert!(rt; journal_on(rt, alloc, shelf) == journal.as_bytes());
-    for number in 0..4160u16 {
-        let port = PortId::new(number).expect(rt, "a port");
-        if played.world.tree().is_external(port) {
-            let capture = played.capture(rt, alloc, port);
-            assert!(rt; capture_on(rt, alloc, shelf, port) == capture.as_slice());
-        }
-    }
+    assert!(rt; shelf.file(name.as_str()) == Some(wanted));
 }

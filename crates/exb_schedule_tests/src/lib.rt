@@ -3,6 +3,8 @@
 #![tactic(auto)]
 
 #[cfg(test)]
+mod cases;
+#[cfg(test)]
 mod drawn;
 #[cfg(test)]
 mod fates;
@@ -10,6 +12,8 @@ mod fates;
 mod files;
 #[cfg(test)]
 mod hex;
+#[cfg(test)]
+mod plain;
 #[cfg(test)]
 mod played;
 #[cfg(test)]

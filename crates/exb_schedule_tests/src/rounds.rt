@@ -1,12 +1,8 @@
 //! Fates that disturb as much as their budget lets them: settling keeps its bound, and what is written is what an undisturbed run writes.
-use crate::fates::StubbornFate;
-use crate::files::{expect_played, files_of};
+use crate::cases::{Case, expect_case};
+use crate::fates::Disturbance;
 use crate::hex::bytes_of;
-use crate::played::Played;
-use exb_fate::{BudgetFate, Fate, ScriptFate};
 use exb_model::setup::Verdict;
-use rand_core::SeedableRng;
-use rand_pcg::Lcg64Xsh32;
 use std::alloc::Global;
 use std::process::Abort;
 
@@ -22,52 +18,45 @@ const FRAMES: &str = "D4C3B2A1 02000400 8x00 FFFF0000 01000000 \
      66000000 4x00 40000000 40000000 FFFFFFFFFFFF 020000000001 8100000A 0800 46x00 \
      68000000 4x00 40000000 40000000 FFFFFFFFFFFF 020000000001 8100000A 0800 46x00";
 
-/// What disturbs a run: one verdict again and again, or verdicts that are drawn from a number.
-#[derive(Clone, Copy)]
-enum Kind {
-    Only(Verdict),
-    Drawn(u64),
-}
+/// Each verdict alone, and verdicts that are drawn, more than a run over one level or eight asks for.
+const MANY: [Disturbance; 4] = [LATE, DOUBLED, LOST, DRAWN];
 
-/// Each verdict alone, and verdicts that are drawn.
-const KINDS: [Kind; 4] = [
-    Kind::Only(Verdict::Later),
-    Kind::Only(Verdict::Twice),
-    Kind::Only(Verdict::Lose),
-    Kind::Drawn(1),
+const LATE: Disturbance = Disturbance::Only(Verdict::Later, 100_000);
+
+const DOUBLED: Disturbance = Disturbance::Only(Verdict::Twice, 100_000);
+
+const LOST: Disturbance = Disturbance::Only(Verdict::Lose, 100_000);
+
+const DRAWN: Disturbance = Disturbance::Drawn(1, 100_000);
+
+/// The same, a few hundred at most.
+const FEW: [Disturbance; 4] = [
+    Disturbance::Only(Verdict::Later, 500),
+    Disturbance::Only(Verdict::Twice, 500),
+    Disturbance::Only(Verdict::Lose, 3),
+    Disturbance::Drawn(1, 200),
 ];
 
-// The fate of a kind, with this budget.
-fn fate_of(rt: &impl Abort, alloc: Global, kind: Kind, budget: u64) -> Box<dyn Fate> {
-    assert!(rt; budget < 1_000_000_000);
-    match kind {
-        Kind::Only(verdict) => {
-            Box::new(alloc, StubbornFate::new(verdict, budget)).expect(rt, "memory")
-        }
-        Kind::Drawn(number) => {
-            let rng = Lcg64Xsh32::seed_from_u64(number);
-            Box::new(alloc, BudgetFate::new(rng, budget)).expect(rt, "memory")
-        }
-    }
+// Puts this behind a text.
+fn put(rt: &impl Abort, text: &mut String, more: &str) {
+    text.push_str(more).expect(rt, "memory");
 }
 
-// A fate that disturbs nothing of its own.
-fn quiet(rt: &impl Abort, alloc: Global) -> Box<dyn Fate> {
-    Box::new(alloc, ScriptFate::new(alloc)).expect(rt, "memory")
+// The last port of the extender of this number, or the first of the bridge.
+fn port_below(rt: &impl Abort, alloc: Global, above: u8) -> String {
+    let port = match above {
+        0 => String::from_str(alloc, "b1"),
+        _ => format!(in alloc; "x{above}.2"),
+    };
+    port.expect(rt, "memory")
 }
 
 // Puts the extender below this number behind a topology: on the last port of the one above, or on the bridge.
 fn put_extender(rt: &impl Abort, alloc: Global, text: &mut String, above: u8) {
     let number = above.saturating_add(1);
-    let on = if above == 0 {
-        format!(in alloc; "b1")
-    } else {
-        format!(in alloc; "x{above}.2")
-    };
-    let on = on.expect(rt, "memory");
+    let on = port_below(rt, alloc, above);
     let table = format!(in alloc; "[[extender]]\nnumber = {number}\nports = 2\non = \"{on}\"\n");
-    text.push_str(table.expect(rt, "memory").as_str())
-        .expect(rt, "memory");
+    put(rt, text, table.expect(rt, "memory").as_str());
 }
 
 // What stands behind the extenders: the VLAN, the commands and the capture.
@@ -88,140 +77,78 @@ fn chain(rt: &impl Abort, alloc: Global, levels: u8) -> String {
     for above in 0..levels {
         put_extender(rt, alloc, &mut text, above);
     }
-    text.push_str(end_of_chain(rt, alloc, levels).as_str())
-        .expect(rt, "memory");
+    put(rt, &mut text, end_of_chain(rt, alloc, levels).as_str());
     text
 }
 
-// A run over this fate writes what was played.
-fn expect_run(
-    rt: &impl Abort,
-    alloc: Global,
-    topology: &str,
-    file: &[u8],
-    fate: Box<dyn Fate>,
-    played: &Played,
-) {
-    let shelf = files_of(rt, alloc, topology, file, "", fate);
-    expect_played(rt, alloc, &shelf, played);
-}
-
-// Over a fate of this kind a driver, each settling of which keeps its bound, and a run come to what an undisturbed run writes.
-fn expect_undisturbed(
-    rt: &impl Abort,
-    alloc: Global,
-    topology: &str,
-    file: &[u8],
-    kind: Kind,
-    budget: u64,
-) {
-    let fate = fate_of(rt, alloc, kind, budget);
-    let played = Played::new(rt, alloc, topology, file, None, fate);
-    assert!(rt; played.world.fate_left() < budget);
-    let fate = fate_of(rt, alloc, kind, budget);
-    expect_run(rt, alloc, topology, file, fate, &played);
-    expect_run(rt, alloc, topology, file, quiet(rt, alloc), &played);
+// A run of three frames that is disturbed so comes to rest, each time within its bound, and writes what an undisturbed run writes.
+fn expect_rest(rt: &impl Abort, alloc: Global, topology: &str, disturbance: Disturbance) {
+    let capture = bytes_of(rt, alloc, FRAMES);
+    let case = Case {
+        topology,
+        capture: capture.as_slice(),
+        seed: None,
+        disturbance,
+    };
+    expect_case(rt, alloc, &case);
 }
 
 // The same over a chain of so many levels.
-fn expect_kind(rt: &impl Abort, alloc: Global, levels: u8, kind: Kind, budget: u64) {
-    let text = chain(rt, alloc, levels);
-    let file = bytes_of(rt, alloc, FRAMES);
-    expect_undisturbed(rt, alloc, text.as_str(), file.as_slice(), kind, budget);
+fn expect_chain(rt: &impl Abort, alloc: Global, levels: u8, disturbance: Disturbance) {
+    let topology = chain(rt, alloc, levels);
+    expect_rest(rt, alloc, topology.as_str(), disturbance);
 }
 
-// The same with each kind, and a budget for each.
-fn expect_chain(rt: &impl Abort, alloc: Global, levels: u8, budgets: &[u64; 4]) {
-    for (kind, budget) in KINDS.iter().zip(budgets) {
-        expect_kind(rt, alloc, levels, *kind, *budget);
+// The same with each of these.
+fn expect_chains(rt: &impl Abort, alloc: Global, levels: u8, disturbances: &[Disturbance]) {
+    for disturbance in disturbances {
+        expect_chain(rt, alloc, levels, *disturbance);
     }
 }
 
 #[test]
-fn one_level_comes_to_rest_over_late_frames(rt: HostRuntime) {
-    expect_kind(&rt, rt.alloc(), 1, Kind::Only(Verdict::Later), 100_000);
+fn one_level_comes_to_rest_over_many_verdicts(rt: HostRuntime) {
+    expect_chains(&rt, rt.alloc(), 1, &MANY);
 }
 
 #[test]
-fn one_level_comes_to_rest_over_doubled_frames(rt: HostRuntime) {
-    expect_kind(&rt, rt.alloc(), 1, Kind::Only(Verdict::Twice), 100_000);
+fn one_level_comes_to_rest_over_a_few_hundred_verdicts(rt: HostRuntime) {
+    expect_chains(&rt, rt.alloc(), 1, &FEW);
 }
 
 #[test]
-fn one_level_comes_to_rest_over_lost_frames(rt: HostRuntime) {
-    expect_kind(&rt, rt.alloc(), 1, Kind::Only(Verdict::Lose), 100_000);
-}
-
-#[test]
-fn one_level_comes_to_rest_over_drawn_verdicts(rt: HostRuntime) {
-    expect_kind(&rt, rt.alloc(), 1, Kind::Drawn(1), 100_000);
-}
-
-#[test]
-fn eight_levels_come_to_rest_over_late_frames(rt: HostRuntime) {
-    expect_kind(&rt, rt.alloc(), 8, Kind::Only(Verdict::Later), 100_000);
-}
-
-#[test]
-fn eight_levels_come_to_rest_over_doubled_frames(rt: HostRuntime) {
-    expect_kind(&rt, rt.alloc(), 8, Kind::Only(Verdict::Twice), 100_000);
-}
-
-#[test]
-fn eight_levels_come_to_rest_over_lost_frames(rt: HostRuntime) {
-    expect_kind(&rt, rt.alloc(), 8, Kind::Only(Verdict::Lose), 100_000);
-}
-
-#[test]
-fn eight_levels_come_to_rest_over_drawn_verdicts(rt: HostRuntime) {
-    expect_kind(&rt, rt.alloc(), 8, Kind::Drawn(1), 100_000);
+fn eight_levels_come_to_rest_over_many_verdicts(rt: HostRuntime) {
+    expect_chains(&rt, rt.alloc(), 8, &MANY);
 }
 
 #[test]
 fn sixty_four_levels_come_to_rest_over_late_frames(rt: HostRuntime) {
-    expect_kind(&rt, rt.alloc(), 64, Kind::Only(Verdict::Later), 100_000);
+    expect_chain(&rt, rt.alloc(), 64, LATE);
 }
 
 #[test]
 fn sixty_four_levels_come_to_rest_over_doubled_frames(rt: HostRuntime) {
-    expect_kind(&rt, rt.alloc(), 64, Kind::Only(Verdict::Twice), 100_000);
+    expect_chain(&rt, rt.alloc(), 64, DOUBLED);
 }
 
 #[test]
 fn sixty_four_levels_come_to_rest_over_lost_frames(rt: HostRuntime) {
-    expect_kind(&rt, rt.alloc(), 64, Kind::Only(Verdict::Lose), 100_000);
+    expect_chain(&rt, rt.alloc(), 64, LOST);
 }
 
 #[test]
 fn sixty_four_levels_come_to_rest_over_drawn_verdicts(rt: HostRuntime) {
-    expect_kind(&rt, rt.alloc(), 64, Kind::Drawn(1), 100_000);
+    expect_chain(&rt, rt.alloc(), 64, DRAWN);
 }
 
 #[test]
-fn five_hundred_verdicts_change_nothing(rt: HostRuntime) {
-    expect_chain(&rt, rt.alloc(), 1, &[500, 500, 3, 200]);
-}
-
-// The same where an answer is lost, and more is drawn from this number.
-fn expect_lost_answer(rt: &impl Abort, alloc: Global, number: u64) {
-    let file = bytes_of(rt, alloc, FRAMES);
-    let kind = Kind::Drawn(number);
-    expect_undisturbed(rt, alloc, LOST_ANSWER, file.as_slice(), kind, 200);
-}
-
-// The same with eight numbers from this one on.
-fn expect_lost_answers(rt: &impl Abort, alloc: Global, first: u64) {
-    for number in first..first.saturating_add(8) {
-        expect_lost_answer(rt, alloc, number);
+fn a_lost_answer_is_waited_for_beside_drawn_fates(rt: HostRuntime) {
+    for number in 1..17u64 {
+        expect_rest(
+            &rt,
+            rt.alloc(),
+            LOST_ANSWER,
+            Disturbance::Drawn(number, 200),
+        );
     }
-}
-
-#[test]
-fn a_lost_answer_is_waited_for_beside_drawn_fates_1_to_8(rt: HostRuntime) {
-    expect_lost_answers(&rt, rt.alloc(), 1);
-}
-
-#[test]
-fn a_lost_answer_is_waited_for_beside_drawn_fates_9_to_16(rt: HostRuntime) {
-    expect_lost_answers(&rt, rt.alloc(), 9);
 }

@@ -1,11 +1,51 @@
-//! Single steps of a world, each asked of it before it is made.
+//! A world before its first step, what is on its links, and its single steps, each asked of it before it is made. They have no clauses, so that what
+//! stands above them is proved without any of a world's.
+use exb_fate::Fate;
 use exb_flat_run::merge::Arrival;
+use exb_link::Counts;
+use exb_model::port::PortId;
 use exb_model::setup::{Timed, Verdict};
 use exb_schedule::{Step, Way, World, settle};
+use exb_topology::Topology;
+use std::alloc::Global;
 use std::process::Abort;
 
 /// More verdicts than any fate of these tests may give.
 const MANY: u64 = 1_000_000_000;
+
+/// A world of a topology in which nothing has happened yet, with a trace or without.
+pub(crate) fn begun(
+    rt: &impl Abort,
+    alloc: Global,
+    topology: &Topology,
+    fate: Box<dyn Fate>,
+    trace: bool,
+) -> World {
+    assert!(rt; topology.setup.valid());
+    World::new(alloc, &topology.setup, fate, trace).expect(rt, "memory")
+}
+
+/// Whether there is an extender of this number.
+pub(crate) fn is_extender(world: &World, link: u8) -> bool {
+    world.tree().is_extender(link)
+}
+
+/// Whether a port is external.
+pub(crate) fn is_external(world: &World, port: PortId) -> bool {
+    world.tree().is_external(port)
+}
+
+/// How many words are on a direction.
+pub(crate) fn counts(rt: &impl Abort, world: &World, link: u8, way: Way) -> Counts {
+    assert!(rt; world.tree().is_extender(link));
+    world.counts(link, way)
+}
+
+/// Whether a control word of a direction is free.
+pub(crate) fn is_free(rt: &impl Abort, world: &World, link: u8, way: Way, at: u64) -> bool {
+    assert!(rt; world.tree().is_extender(link));
+    world.free_at(link, way, at)
+}
 
 /// The first data word of a direction is taken.
 pub(crate) fn carry(rt: &impl Abort, world: &mut World, link: u8, way: Way) {
@@ -47,11 +87,16 @@ pub(crate) fn beat(rt: &impl Abort, world: &mut World) {
     world.step(Step::Beat).expect(rt, "memory");
 }
 
+// Seconds pass.
+fn pass(rt: &impl Abort, world: &mut World, seconds: u32) {
+    assert!(rt; world.can(&Step::Tick { seconds }));
+    world.step(Step::Tick { seconds }).expect(rt, "memory");
+}
+
 /// Seconds pass, if there are any.
 pub(crate) fn tick(rt: &impl Abort, world: &mut World, seconds: u32) {
     if seconds > 0 {
-        assert!(rt; world.can(&Step::Tick { seconds }));
-        world.step(Step::Tick { seconds }).expect(rt, "memory");
+        pass(rt, world, seconds);
     }
 }
 
@@ -86,12 +131,17 @@ pub(crate) fn arm(rt: &impl Abort, world: &mut World, plan: &[Verdict]) {
     world.arm(plan).expect(rt, "memory");
 }
 
-/// A command is given, for which the fate is armed just before.
-pub(crate) fn give(rt: &impl Abort, world: &mut World, timed: &Timed) {
-    arm(rt, world, timed.fate.as_slice());
+// A command is given.
+fn command(rt: &impl Abort, world: &mut World, timed: &Timed) {
     let command = &timed.command;
     assert!(rt; world.can(&Step::Command { command }));
     world.step(Step::Command { command }).expect(rt, "memory");
+}
+
+/// A command is given, for which the fate is armed just before.
+pub(crate) fn give(rt: &impl Abort, world: &mut World, timed: &Timed) {
+    arm(rt, world, timed.fate.as_slice());
+    command(rt, world, timed);
 }
 
 /// What is settled is marked.
@@ -100,21 +150,19 @@ pub(crate) fn mark(rt: &impl Abort, world: &mut World) {
     world.step(Step::Mark).expect(rt, "memory");
 }
 
+// The fate of a control word.
+fn fate(world: &mut World) -> Verdict {
+    world.fate()
+}
+
 /// The fate of a control word is asked, and done.
 pub(crate) fn ask(rt: &impl Abort, world: &mut World, link: u8, way: Way, at: u64) {
-    match world.fate() {
+    match fate(world) {
         Verdict::Pass => deliver(rt, world, link, way, at, false),
         Verdict::Lose => lose(rt, world, link, way, at),
         Verdict::Twice => deliver(rt, world, link, way, at, true),
         Verdict::Later => {}
     }
-}
-
-/// How many rounds a settling took, and how many it may at most.
-#[derive(Clone, Copy)]
-pub(crate) struct Rounds {
-    pub(crate) made: u64,
-    pub(crate) bound: u64,
 }
 
 // How many rounds a settling may take: 64 for each verdict that isn't Pass, each planned exchange, and one more.
@@ -130,13 +178,22 @@ fn settled(rt: &impl Abort, world: &mut World) -> u64 {
     settle(world).expect(rt, "memory")
 }
 
-/// All settles within its bound, and is marked.
-pub(crate) fn rest(rt: &impl Abort, world: &mut World) -> Rounds {
+// How many beats there were.
+fn beats(world: &World) -> u64 {
+    world.beats()
+}
+
+// All settles within its bound, and in as many beats as it says.
+fn settle_in_bound(rt: &impl Abort, world: &mut World) {
     let bound = bound_of(rt, world);
-    let before = world.beats();
+    let before = beats(world);
     let made = settled(rt, world);
-    assert_eq!(rt; world.beats().saturating_sub(before), made);
     assert!(rt; made <= bound);
+    assert!(rt; beats(world).saturating_sub(before) == made);
+}
+
+/// All settles within its bound, and is marked.
+pub(crate) fn rest(rt: &impl Abort, world: &mut World) {
+    settle_in_bound(rt, world);
     mark(rt, world);
-    Rounds { made, bound }
 }

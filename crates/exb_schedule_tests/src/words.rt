@@ -9,14 +9,17 @@
 //! - `tell`: logs the events and what has left; `planned`, `counts N`: logs how many exchanges are planned, and how many data words
 //!   and control words are on a link, up and down; `free N down K`: logs whether a control word may be delivered; `trace`: logs
 //!   the lines of the trace; `skip`: forgets what was told
-use crate::hex::{bytes_of, text_of};
-use crate::steps::{arrive, beat, carry, deliver, give, lose, mark, rest, tick};
-use exb_fate::ScriptFate;
+use crate::fates::scripted;
+use crate::hex::bytes_of;
+use crate::steps::{
+    arrive, beat, begun, carry, counts, deliver, give, is_free, lose, mark, rest, tick,
+};
 use exb_flat_run::merge::Arrival;
-use exb_link::Counts;
+use exb_hostile::hex::text_of;
 use exb_model::bytes::Bytes;
 use exb_model::event::Event;
 use exb_model::port::PortId;
+use exb_model::setup::Timed;
 use exb_schedule::{Left, Way, World};
 use exb_text::{PortName, write_line, write_trace_line};
 use exb_topology::{Topology, read};
@@ -24,11 +27,9 @@ use std::alloc::Global;
 use std::process::Abort;
 use std::str::SplitWhitespace;
 
-/// A world, the commands of its topology, and what was told.
+/// How many commands were given, how many seconds have passed, and what was told.
 #[derive(Drop)]
-struct Driver {
-    topology: Topology,
-    world: World,
+struct Progress {
     given: usize,
     seconds: u64,
     log: String,
@@ -46,20 +47,27 @@ fn small(rt: &impl Abort, word: Option<&str>) -> u8 {
     word.parse::<u8>().expect(rt, "a number below 256")
 }
 
-// The port with a name, as `b1` or `x2.3`.
-fn port(rt: &impl Abort, word: Option<&str>) -> PortId {
-    let word = word.expect(rt, "a port");
-    let (device, place) = match word.strip_prefix("b") {
-        Some(place) => (0, small(rt, Some(place))),
-        None => {
-            let mut parts = word.strip_prefix("x").expect(rt, "b or x").split('.');
-            (small(rt, parts.next()), small(rt, parts.next()))
-        }
-    };
+// The port of a device, the places of which count from 1.
+fn port_at(rt: &impl Abort, device: u8, place: u8) -> PortId {
     assert!(rt; device < 65);
     assert!(rt; place >= 1);
     assert!(rt; place <= 64);
     PortId::at(device, place - 1)
+}
+
+// The port of an extender with a name without its x, as `2.3`.
+fn port_below(rt: &impl Abort, word: &str) -> PortId {
+    let (device, place) = word.split_once('.').expect(rt, "a point");
+    port_at(rt, small(rt, Some(device)), small(rt, Some(place)))
+}
+
+// The port with a name, as `b1` or `x2.3`.
+fn port(rt: &impl Abort, word: Option<&str>) -> PortId {
+    let word = word.expect(rt, "a port");
+    match word.strip_prefix("b") {
+        Some(place) => port_at(rt, 0, small(rt, Some(place))),
+        None => port_below(rt, word.strip_prefix("x").expect(rt, "b or x")),
+    }
 }
 
 fn way(word: Option<&str>) -> Way {
@@ -67,18 +75,6 @@ fn way(word: Option<&str>) -> Way {
         Some("up") => Way::Up,
         _ => Way::Down,
     }
-}
-
-// How many words are on a direction.
-fn counts(rt: &impl Abort, world: &World, link: u8, way: Way) -> Counts {
-    assert!(rt; world.tree().is_extender(link));
-    world.counts(link, way)
-}
-
-// Whether a control word of a direction is free.
-fn is_free(rt: &impl Abort, world: &World, link: u8, way: Way, at: u64) -> bool {
-    assert!(rt; world.tree().is_extender(link));
-    world.free_at(link, way, at)
 }
 
 // Goes through the words that stand in a direction, once, and delivers each control word twice.
@@ -156,23 +152,6 @@ fn rounds(rt: &impl Abort, alloc: Global, world: &mut World, twice: bool) {
     panic!(rt; "it goes on and on");
 }
 
-// A step that is one of the machine's, of a word on a link.
-fn single(rt: &impl Abort, world: &mut World, verb: &str, words: &mut SplitWhitespace<'_>) {
-    let link = small(rt, words.next());
-    let way = way(words.next());
-    if verb == "carry" {
-        carry(rt, world, link, way);
-        return;
-    }
-    let at = number(rt, words.next());
-    match verb {
-        "lose" => lose(rt, world, link, way, at),
-        "keep" => deliver(rt, world, link, way, at, true),
-        "control" => deliver(rt, world, link, way, at, false),
-        _ => panic!(rt; "no such step: {verb}"),
-    }
-}
-
 // The events, as text.
 fn told(rt: &impl Abort, world: &World, log: &mut String) {
     for event in world.events() {
@@ -215,131 +194,214 @@ fn counted(rt: &impl Abort, alloc: Global, world: &World, link: u8) -> String {
     text.expect(rt, "memory")
 }
 
-impl Driver {
-    fn new(rt: &impl Abort, alloc: Global, text: &str) -> Driver {
-        let topology = read(alloc, text.as_bytes()).expect(rt, "a topology");
-        let fate = Box::new(alloc, ScriptFate::new(alloc)).expect(rt, "memory");
-        let world = World::new(alloc, &topology.setup, fate, true).expect(rt, "memory");
-        Driver {
-            topology,
-            world,
-            given: 0,
-            seconds: 0,
-            log: String::new(alloc),
-        }
-    }
+// How many exchanges are planned, as text.
+fn planned(rt: &impl Abort, alloc: Global, world: &World) -> String {
+    let planned = world.planned().expect(rt, "memory");
+    format!(in alloc; "planned {planned}\n").expect(rt, "memory")
+}
 
-    // Logs a text.
-    fn say(&mut self, rt: &impl Abort, text: &str) {
-        self.log.push_str(text).expect(rt, "memory");
-    }
+// Logs what was told and what has left, and forgets it.
+fn tell(rt: &impl Abort, alloc: Global, world: &mut World, log: &mut String) {
+    told(rt, world, log);
+    sent(rt, alloc, world, log);
+    world.clear();
+}
 
-    // Gives the next command of the topology.
-    fn give(&mut self, rt: &impl Abort) {
-        let timed = self.topology.commands.as_slice().get(self.given);
-        give(rt, &mut self.world, timed.expect(rt, "a command"));
-        self.given = self.given.saturating_add(1);
-    }
+// Logs a text.
+fn say(rt: &impl Abort, log: &mut String, text: &str) {
+    log.push_str(text).expect(rt, "memory");
+}
 
-    // Lets a record arrive.
-    fn arrive(&mut self, rt: &impl Abort, alloc: Global, words: &mut SplitWhitespace<'_>) {
-        let port = port(rt, words.next());
-        let index = number(rt, words.next());
-        let bytes = bytes_of(rt, alloc, words.next().expect(rt, "bytes"));
-        let arrival = Arrival {
-            port,
-            index,
-            moment: self.seconds.saturating_mul(1_000_000_000),
-            bytes: Bytes::from_slice(alloc, bytes.as_slice()).expect(rt, "memory"),
-        };
-        arrive(rt, &mut self.world, &arrival);
-    }
+// Logs whether a control word is free.
+fn say_free(rt: &impl Abort, world: &World, log: &mut String, words: &mut SplitWhitespace<'_>) {
+    let link = small(rt, words.next());
+    let way = way(words.next());
+    let at = number(rt, words.next());
+    let free = is_free(rt, world, link, way, at);
+    say(rt, log, if free { "free\n" } else { "waits\n" });
+}
 
-    // Lets seconds pass.
-    fn tick(&mut self, rt: &impl Abort, word: Option<&str>) {
-        let seconds = number(rt, word);
-        self.seconds = self.seconds.saturating_add(seconds);
-        let seconds = u32::try_from(seconds).expect(rt, "seconds");
-        tick(rt, &mut self.world, seconds);
+// Logs what a step asks for, if it is such a step.
+fn tells(
+    rt: &impl Abort,
+    alloc: Global,
+    world: &mut World,
+    log: &mut String,
+    verb: &str,
+    words: &mut SplitWhitespace<'_>,
+) -> bool {
+    match verb {
+        "tell" => tell(rt, alloc, world, log),
+        "trace" => traced(rt, alloc, world, log),
+        "skip" => world.clear(),
+        "planned" => say(rt, log, planned(rt, alloc, world).as_str()),
+        "counts" => say(
+            rt,
+            log,
+            counted(rt, alloc, world, small(rt, words.next())).as_str(),
+        ),
+        "free" => say_free(rt, world, log, words),
+        _ => return false,
     }
+    true
+}
 
-    // Logs what a step asks for; whether it is such a step.
-    fn tells(
-        &mut self,
-        rt: &impl Abort,
-        alloc: Global,
-        verb: &str,
-        words: &mut SplitWhitespace<'_>,
-    ) -> bool {
-        match verb {
-            "tell" => {
-                told(rt, &self.world, &mut self.log);
-                sent(rt, alloc, &self.world, &mut self.log);
-                self.world.clear();
-            }
-            "trace" => traced(rt, alloc, &self.world, &mut self.log),
-            "skip" => self.world.clear(),
-            "planned" => {
-                let planned = self.world.planned().expect(rt, "memory");
-                let text = format!(in alloc; "planned {planned}\n").expect(rt, "memory");
-                self.say(rt, text.as_str());
-            }
-            "counts" => {
-                let text = counted(rt, alloc, &self.world, small(rt, words.next()));
-                self.say(rt, text.as_str());
-            }
-            "free" => {
-                let link = small(rt, words.next());
-                let way = way(words.next());
-                let free = is_free(rt, &self.world, link, way, number(rt, words.next()));
-                self.say(rt, if free { "free\n" } else { "waits\n" });
-            }
-            _ => return false,
-        }
-        true
-    }
+// Gives the next command.
+fn give_next(rt: &impl Abort, world: &mut World, commands: &[Timed], progress: &mut Progress) {
+    give(
+        rt,
+        world,
+        commands.get(progress.given).expect(rt, "a command"),
+    );
+    progress.given = progress.given.saturating_add(1);
+}
 
-    // Makes a step.
-    fn step(&mut self, rt: &impl Abort, alloc: Global, step: &str) {
-        let mut words = step.split_whitespace();
-        let verb = words.next().expect(rt, "a step");
-        if self.tells(rt, alloc, verb, &mut words) {
-            return;
-        }
-        match verb {
-            "settle" => {
-                let _ = rest(rt, &mut self.world);
-            }
-            "doubled" => {
-                rounds(rt, alloc, &mut self.world, true);
-                mark(rt, &mut self.world);
-            }
-            "decide" => rounds(rt, alloc, &mut self.world, false),
-            "give" => self.give(rt),
-            "beat" => beat(rt, &mut self.world),
-            "mark" => mark(rt, &mut self.world),
-            "tick" => self.tick(rt, words.next()),
-            "arrive" => self.arrive(rt, alloc, &mut words),
-            _ => single(rt, &mut self.world, verb, &mut words),
-        }
+// The record that arrives in a second.
+fn arrival(
+    rt: &impl Abort,
+    alloc: Global,
+    seconds: u64,
+    words: &mut SplitWhitespace<'_>,
+) -> Arrival {
+    let port = port(rt, words.next());
+    let index = number(rt, words.next());
+    let bytes = bytes_of(rt, alloc, words.next().expect(rt, "bytes"));
+    Arrival {
+        port,
+        index,
+        moment: seconds.saturating_mul(1_000_000_000),
+        bytes: Bytes::from_slice(alloc, bytes.as_slice()).expect(rt, "memory"),
     }
+}
+
+// Lets seconds pass.
+fn pass(rt: &impl Abort, world: &mut World, progress: &mut Progress, word: Option<&str>) {
+    let seconds = number(rt, word);
+    progress.seconds = progress.seconds.saturating_add(seconds);
+    tick(rt, world, u32::try_from(seconds).expect(rt, "seconds"));
+}
+
+// Lets what comes from outside come, if a step is that.
+fn comes(
+    rt: &impl Abort,
+    alloc: Global,
+    world: &mut World,
+    commands: &[Timed],
+    progress: &mut Progress,
+    verb: &str,
+    words: &mut SplitWhitespace<'_>,
+) -> bool {
+    match verb {
+        "give" => give_next(rt, world, commands, progress),
+        "tick" => pass(rt, world, progress, words.next()),
+        "arrive" => arrive(rt, world, &arrival(rt, alloc, progress.seconds, words)),
+        _ => return false,
+    }
+    true
+}
+
+// Rounds in which each control word is delivered twice, until all is settled, and a mark.
+fn doubled_to_rest(rt: &impl Abort, alloc: Global, world: &mut World) {
+    rounds(rt, alloc, world, true);
+    mark(rt, world);
+}
+
+// Moves the whole world, if a step does.
+fn moves(rt: &impl Abort, alloc: Global, world: &mut World, verb: &str) -> bool {
+    match verb {
+        "settle" => rest(rt, world),
+        "doubled" => doubled_to_rest(rt, alloc, world),
+        "decide" => rounds(rt, alloc, world, false),
+        "beat" => beat(rt, world),
+        "mark" => mark(rt, world),
+        _ => return false,
+    }
+    true
+}
+
+// Moves a word on a link.
+fn moves_word(rt: &impl Abort, world: &mut World, verb: &str, words: &mut SplitWhitespace<'_>) {
+    let link = small(rt, words.next());
+    let way = way(words.next());
+    if verb == "carry" {
+        carry(rt, world, link, way);
+        return;
+    }
+    let at = number(rt, words.next());
+    match verb {
+        "lose" => lose(rt, world, link, way, at),
+        "keep" => deliver(rt, world, link, way, at, true),
+        "control" => deliver(rt, world, link, way, at, false),
+        _ => panic!(rt; "no such step: {verb}"),
+    }
+}
+
+// Makes a step.
+fn make(
+    rt: &impl Abort,
+    alloc: Global,
+    world: &mut World,
+    commands: &[Timed],
+    progress: &mut Progress,
+    step: &str,
+) {
+    let mut words = step.split_whitespace();
+    let verb = words.next().expect(rt, "a step");
+    let is_made = moves(rt, alloc, world, verb)
+        || comes(rt, alloc, world, commands, progress, verb, &mut words)
+        || tells(rt, alloc, world, &mut progress.log, verb, &mut words);
+    if !is_made {
+        moves_word(rt, world, verb, &mut words);
+    }
+}
+
+// Makes the steps, and logs what they tell.
+fn log_of(
+    rt: &impl Abort,
+    alloc: Global,
+    world: &mut World,
+    commands: &[Timed],
+    steps: &str,
+) -> String {
+    let mut progress = Progress {
+        given: 0,
+        seconds: 0,
+        log: String::new(alloc),
+    };
+    for step in steps.split(';') {
+        make(rt, alloc, world, commands, &mut progress, step);
+    }
+    progress.log
 }
 
 /// A topology, steps, and what must be told.
 pub(crate) type Case = (&'static str, &'static str, &'static str);
 
-// Asserts that the steps tell this.
-fn expect_told(rt: &impl Abort, alloc: Global, topology: &str, steps: &str, wanted: &str) {
-    let mut driver = Driver::new(rt, alloc, topology);
-    for step in steps.split(';') {
-        driver.step(rt, alloc, step);
-    }
-    assert_eq!(rt; driver.log.as_str(), wanted, "of {topology} {steps}");
+// What the steps over a topology tell. A world is let go by `drop`, since all that goes with it is proved where it ends with a block.
+fn log_over(rt: &impl Abort, alloc: Global, topology: &Topology, steps: &str) -> String {
+    let mut world = begun(rt, alloc, topology, scripted(rt, alloc), true);
+    let log = log_of(rt, alloc, &mut world, topology.commands.as_slice(), steps);
+    drop(world);
+    log
+}
+
+// What the steps over the topology of a text tell.
+fn log_over_text(rt: &impl Abort, alloc: Global, topology: &str, steps: &str) -> String {
+    let topology = read(alloc, topology.as_bytes()).expect(rt, "a topology");
+    let log = log_over(rt, alloc, &topology, steps);
+    drop(topology);
+    log
+}
+
+// Asserts that a case tells what it must.
+fn expect_case(rt: &impl Abort, alloc: Global, topology: &str, steps: &str, wanted: &str) {
+    let log = log_over_text(rt, alloc, topology, steps);
+    assert!(rt; log.as_str() == wanted, "{log}of {steps}");
 }
 
 /// Asserts that each case tells what it must.
 pub(crate) fn judge(rt: &impl Abort, alloc: Global, cases: &[Case]) {
     for (topology, steps, wanted) in cases {
-        expect_told(rt, alloc, topology, steps, wanted);
+        expect_case(rt, alloc, topology, steps, wanted);
     }
 }
