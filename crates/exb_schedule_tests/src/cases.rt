@@ -119,17 +119,22 @@ fn play_case(
     written_by(rt, alloc, world)
 }
 
-// What a case over a topology writes. It does nothing else with a world, since whatever owns one proves all that goes with it.
+// What a case over a topology writes. It does nothing else with a world, and lets it go by `drop`: where a world ends with a block,
+// all that goes with it is proved there.
 fn written_over(rt: &impl Abort, alloc: Global, case: &Case<'_>, topology: &Topology) -> Written {
     let fate = fate_of(rt, alloc, case.disturbance);
     let mut world = begun(rt, alloc, topology, fate, false);
-    play_case(rt, alloc, case, topology, &mut world)
+    let written = play_case(rt, alloc, case, topology, &mut world);
+    drop(world);
+    written
 }
 
 // What a case writes.
 fn written_of(rt: &impl Abort, alloc: Global, case: &Case<'_>) -> Written {
     let topology = read(alloc, case.topology.as_bytes()).expect(rt, "a topology");
-    written_over(rt, alloc, case, &topology)
+    let written = written_over(rt, alloc, case, &topology);
+    drop(topology);
+    written
 }
 
 // The files on a shelf are those.

@@ -377,16 +377,20 @@ fn log_of(
 /// A topology, steps, and what must be told.
 pub(crate) type Case = (&'static str, &'static str, &'static str);
 
-// What the steps over a topology tell.
+// What the steps over a topology tell. A world is let go by `drop`, since all that goes with it is proved where it ends with a block.
 fn log_over(rt: &impl Abort, alloc: Global, topology: &Topology, steps: &str) -> String {
     let mut world = begun(rt, alloc, topology, scripted(rt, alloc), true);
-    log_of(rt, alloc, &mut world, topology.commands.as_slice(), steps)
+    let log = log_of(rt, alloc, &mut world, topology.commands.as_slice(), steps);
+    drop(world);
+    log
 }
 
 // What the steps over the topology of a text tell.
 fn log_over_text(rt: &impl Abort, alloc: Global, topology: &str, steps: &str) -> String {
     let topology = read(alloc, topology.as_bytes()).expect(rt, "a topology");
-    log_over(rt, alloc, &topology, steps)
+    let log = log_over(rt, alloc, &topology, steps);
+    drop(topology);
+    log
 }
 
 // Asserts that a case tells what it must.
