@@ -28,6 +28,7 @@ fn status_of<S: Shelf>(
     out: &mut MemSink,
 ) -> u8 {
     let fate: Box<dyn Fate> = Box::new(alloc, ScriptFate::new(alloc)).expect(rt, "memory");
+    assert!(rt; fate.left() < 1_000_000_000);
     run(alloc, words, shelf, out, fate)
 }
 
