@@ -116,6 +116,7 @@ fn judge_cut(rt: &impl Abort, alloc: Global, file: &[u8], cut: usize, wanted: &s
 
 // Asserts what is answered of a file in pieces of so many bytes.
 fn judge_chunks(rt: &impl Abort, alloc: Global, file: &[u8], size: usize, wanted: &str) {
+    assert!(rt; size > 0);
     let mut pieces: Vec<&[u8]> = Vec::new(alloc);
     for piece in file.chunks(size) {
         pieces.push(piece).expect(rt, "memory");

@@ -25,5 +25,6 @@ pub(crate) fn play<S: Shelf, O: Sink>(
 ) -> u8 {
     let words = words_of(rt, alloc, text);
     let fate: Box<dyn Fate> = Box::new(alloc, ScriptFate::new(alloc)).expect(rt, "memory");
+    assert!(rt; fate.left() < 1_000_000_000);
     run(alloc, words.as_slice(), shelf, out, fate)
 }
