@@ -4,11 +4,11 @@ use Rattle.std.specs.Prelude.{map, reverse}
 use Rattle.exb_model.specs.History.{Basis, History, ◌then◌}
 use Rattle.exb_model.specs.Tree.{Shape}
 use Rattle.exb_model.specs.Setup.{Limits}
-use Rattle.exb_model.specs.Input.{Segment, Seeded, basis_of, tree_of, bounds_of, arrivals_at, segments}
+use Rattle.exb_model.specs.Input.{Segment, Eager, Seeded, basis_of, tree_of, bounds_of, arrivals_at, segments}
 use Rattle.exb_model.specs.EagerHistory.{opening, eagerly, eager}
-use Rattle.exb_model.specs.LegalHistory.{IsDecided, IsEntered, Rise, PlaysCommands, PlaysArrivals, PlaysTick, settled_each}
+use Rattle.exb_model.specs.LegalHistory.{Legal, IsDecided, IsEntered, Rise, PlaysCommands, PlaysArrivals, PlaysTick, settled_each}
 use Rattle.exb_model.proofs.LegalPlays.{all_played}
-use Rattle.exb_flat_laws.specs.Playing.{played_at_once, PlayedAtOnceIsLegal, PlayedAtOnceIsEager, SeededIsPossible}
+use Rattle.exb_flat_laws.specs.Playing.{played_at_once, PlayedAtOnceIsLegal, PlayedAtOnceIsEager, EagerIsLegal, SeededIsPossible}
 use Rattle.exb_flat_laws.proofs.Plays.{plays, segments-then}
 use Rattle.exb_flat_laws.proofs.PlayRules.{plays-pairwise, plays-of_segments, play-commands, play-arrivals, play-tick, each-unit, each-ordered}
 use Rattle.exb_flat_laws.proofs.EachEvents.{each-opening, each-eagerly, decides, enters, IsThere, IsNumbered}
@@ -42,6 +42,9 @@ at_once_is_legal m i =
 pub at_once_is_eager : PlayedAtOnceIsEager
 unfolding played_at_once eager
 at_once_is_eager i = refl
+
+pub eager_is_legal : EagerIsLegal
+eager_is_legal i = subst (Legal Eager i) (at_once_is_eager i) (at_once_is_legal Eager i)
 
 pub seeded_is_possible : SeededIsPossible
 seeded_is_possible i = (played_at_once Seeded i, at_once_is_legal Seeded i)

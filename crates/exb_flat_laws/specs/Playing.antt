@@ -61,5 +61,9 @@ PlayedAtOnceIsLegal = (m : Mode) (i : Input) → Legal m i (played_at_once m i)
 abbrev pub PlayedAtOnceIsEager : Type 0
 PlayedAtOnceIsEager = (i : Input) → played_at_once Eager i ≡ eager i
 
+-- so that one is allowed
+abbrev pub EagerIsLegal : Type 0
+EagerIsLegal = (i : Input) → Legal Eager i (eager i)
+
 abbrev pub SeededIsPossible : Type 0
 SeededIsPossible = (i : Input) → (h : History) × Legal Seeded i h

@@ -1,5 +1,5 @@
 //! Laws of the histories that an input allows. Each speaks of every input, valid or not.
-ghost use Rattle.exb_flat_laws.specs.Playing.{LegalPlaysInput, CommandsInFileOrder, SummaryAddsUp, PlayedAtOnceIsLegal, PlayedAtOnceIsEager, SeededIsPossible};
+ghost use Rattle.exb_flat_laws.specs.Playing.{LegalPlaysInput, CommandsInFileOrder, SummaryAddsUp, PlayedAtOnceIsLegal, PlayedAtOnceIsEager, EagerIsLegal, SeededIsPossible};
 ghost use Rattle.exb_flat_laws.specs.Telling.{JournalTellsHistory, JournalTellsLegal, SmallIsWritten};
 
 /// A history that an input allows, in the eager mode or in a seeded one, relays or ignores each record of each
@@ -26,7 +26,12 @@ pub fn played_at_once_is_legal()
     ensures eager { PlayedAtOnceIsEager }
 {}
 
-/// So each input has a history that a seeded run may tell.
+/// So the history of the eager run is one of the histories that its input allows.
+pub fn eager_is_legal()
+    ensures { EagerIsLegal }
+{}
+
+/// And each input has a history that a seeded run may tell.
 pub fn seeded_is_possible()
     ensures { SeededIsPossible }
 {}

@@ -1,4 +1,3 @@
-mod Plays
 mod WaysUp
 pub mod Ranges
 pub mod TurnLemmas
@@ -8,8 +7,3 @@ pub mod Counts
 pub mod TextLemmas
 pub mod Played
 pub mod SetLists
-mod PlayRules
-mod EachEvents
-mod PortOrder
-mod InMerge
-mod CommandsThere

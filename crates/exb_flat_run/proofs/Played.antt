@@ -34,9 +34,9 @@ use Rattle.exb_flat_run.specs.declared.site.Site.{Site}
 use Rattle.exb_flat_run.specs.Sites.{IsSiteOf, basis_of}
 use Rattle.exb_flat_run.specs.Inputs.{input_of}
 use Rattle.exb_flat_run.specs.Merging.{CanBeKept, FitsComing}
-use Rattle.exb_flat_run.proofs.PlayRules.{entered, each-ordered}
-use Rattle.exb_flat_run.proofs.EachEvents.{HoldsEagerly, each-opening, each-eagerly}
-use Rattle.exb_flat_run.proofs.InMerge.{segments-arrivals, of_segments}
+use Rattle.exb_flat_laws.proofs.PlayRules.{entered, each-ordered}
+use Rattle.exb_flat_laws.proofs.EachEvents.{HoldsEagerly, each-opening, each-eagerly}
+use Rattle.exb_flat_laws.proofs.Comings.{segments-arrivals, of_segments}
 
 pub all-of_map : {X Y : Type 0} (f : X → Y) (P : Y → Type 0) (xs : List X) → All P (map f xs) → All (λ x. P (f x)) xs
 all-of_map f P [] all = All-nil (λ x. P (f x))
@@ -96,7 +96,7 @@ relays-fit : (i : Input) → All FitsComing (merge i) → EachEvent RelayFits (e
 unfolding eager
 relays-fit i all =
     each-eagerly RelayFits (λ n. Unit {0}) CanBeKept (tree_of i) (bounds_for i) (basis_for i) (fits (tree_of i) (bounds_for i) (basis_for i)) (opening (tree_of i) (bounds_for i) (basis_for i)) (segments Eager i) (each-ordered (segments Eager i))
-    (of_segments CanBeKept (segments Eager i) (subst (AllByRecursion CanBeKept) (sym (segments-arrivals i)) (kept-arrivals (merge i) all)))
+    (of_segments CanBeKept (segments Eager i) (subst (AllByRecursion CanBeKept) (sym (segments-arrivals Eager i)) (kept-arrivals (merge i) all)))
     (each-opening RelayFits (λ n. Unit {0}) CanBeKept (tree_of i) (bounds_for i) (basis_for i) (fits (tree_of i) (bounds_for i) (basis_for i)))
 
 -- a frame that passes is no longer than 9,216 bytes
