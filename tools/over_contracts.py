@@ -116,7 +116,7 @@ def write(crate):
         for folder, _, names in os.walk(f"{TOP}/crates/{crate}/{part}"):
             to = f"{FOLDER}/{crate}/{os.path.relpath(folder, f'{TOP}/crates/{crate}')}"
             for name in names:
-                if name not in PROOFS:
+                if part != "proofs" or name not in PROOFS:
                     os.makedirs(to, exist_ok=True)
                     with open(f"{folder}/{name}", encoding="utf-8") as file:
                         text = file.read()
