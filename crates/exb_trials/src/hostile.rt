@@ -70,7 +70,7 @@ fn expect_refused(
     line: &str,
 ) {
     let mut shelf = shelf_of(rt, alloc, topology, capture);
-    expect_end(rt, alloc, "t.toml", &mut shelf, status, line);
+    expect_end(rt, alloc, "run t.toml", &mut shelf, status, line);
     assert!(rt; shelf.file("out-x1.1.pcap").is_none());
     assert!(rt; shelf.file("out-journal.txt").is_none());
 }
@@ -93,7 +93,7 @@ fn changing_shelf(rt: &impl Abort, alloc: Global, again: &[u8]) -> ChangingShelf
 fn expect_changed(rt: &impl Abort, alloc: Global, head: &[u8], zeros_behind: usize, line: &str) {
     let again = capture_of(rt, alloc, head, zeros_behind);
     let mut shelf = changing_shelf(rt, alloc, again.as_slice());
-    expect_end(rt, alloc, "t.toml", &mut shelf, 10, line);
+    expect_end(rt, alloc, "run t.toml", &mut shelf, 10, line);
     assert!(rt; shelf.file("out-journal.txt").is_some());
 }
 
@@ -121,5 +121,12 @@ fn a_topology_has_at_most_16777216_bytes(rt: HostRuntime) {
 #[test]
 fn a_folder_can_be_opened_and_not_read(rt: HostRuntime) {
     let mut shelf = FileShelf::new(rt.alloc(), rt);
-    expect_end(&rt, rt.alloc(), ".", &mut shelf, 6, "exbr: read fault\n");
+    expect_end(
+        &rt,
+        rt.alloc(),
+        "run .",
+        &mut shelf,
+        6,
+        "exbr: read fault\n",
+    );
 }

@@ -96,7 +96,7 @@ fn expect_run(rt: &impl Abort, alloc: Global, trial: &Trial, wanted: &Outcome) {
     expect_end(
         rt,
         alloc,
-        "trial.toml",
+        "run trial.toml",
         &mut shelf,
         0,
         wanted.summary.as_str(),

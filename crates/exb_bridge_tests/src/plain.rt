@@ -1,6 +1,11 @@
+//! The plain bridge over small inputs whose outcome is known: what it writes of the eager run, and which frames leave each port, when
+//! and with which bytes.
+//!
 //! A topology as the text of its file, and the frames that arrive as words: port, second, length, and the first bytes as
 //! hexadecimal digits; zeros follow. Frames have a semicolon between them. Ports are told by their numbers: b2 is 1, and port
 //! k of extender 1 is 63 + k.
+mod outcomes;
+
 use exb_flat_run::merge::Capture;
 use exb_flat_run::outcome::{Outcome, flat_outcome};
 use exb_hostile::hex;

@@ -1,7 +1,7 @@
 //! A run over a shelf or a sink in memory that fails at one call, with each option. Each file then holds a front of its text.
 use crate::compare::{holds, same_status};
-use crate::hostile::bytes_of;
-use crate::play::play;
+use crate::hex::bytes_of;
+use crate::runs::play;
 use exb_shelf::{MemShelf, MemSink};
 use std::alloc::Global;
 use std::process::Abort;

@@ -5,8 +5,8 @@
 mod runs;
 
 use crate::compare::{holds, same_status};
-use crate::hostile::bytes_of;
-use crate::play::play;
+use crate::hex::bytes_of;
+use crate::runs::play;
 use exb_faulty::{Asked, Call, Disturbance, FaultyShelf, FaultySink};
 use runs::{BARE, LOSSY, Run, TREE};
 use std::alloc::Global;

@@ -4,7 +4,8 @@ ghost use Rattle.exb_faulty.specs.Faulty.{ids_of};
 ghost use Rattle.exb_scan.specs.Reading.{IsAt};
 ghost use Rattle.exb_scan.specs.Replaying.{IsKept};
 
-use crate::scans::{CUTS, Change, MAGIC, capture, changed, name_of, same, shelf_with};
+use crate::compare::same;
+use crate::scans::{CUTS, Change, MAGIC, capture, changed, name_of, shelf_with};
 use exb_faulty::{Disturbance, FaultyShelf};
 use exb_scan::{Replay, ReplayFault, Replayed, Scanned, scan};
 use std::alloc::Global;

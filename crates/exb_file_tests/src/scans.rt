@@ -1,4 +1,5 @@
 //! Captures that are checked, each on a shelf that reads at most so many bytes at once.
+use crate::compare::same;
 use exb_faulty::{Disturbance, FaultyShelf};
 use exb_pcap::{PcapFault, Reader, header_text, record_text};
 use exb_scan::{ScanFault, Scanned, scan};
@@ -158,11 +159,6 @@ fn shelf_text(rt: &impl Abort, alloc: Global, shelf: &mut FaultyShelf, limit: u6
 fn scan_text(rt: &impl Abort, alloc: Global, file: &[u8], bytes: usize, limit: u64) -> String {
     let mut shelf = shelf_with(rt, alloc, file, Disturbance::Slow { bytes });
     shelf_text(rt, alloc, &mut shelf, limit)
-}
-
-/// Asserts that a text is as wanted, and says of what it is where it isn't.
-pub(crate) fn same(rt: &impl Abort, given: &str, wanted: &str, of: &str) {
-    assert_eq!(rt; given, wanted, "of {of}");
 }
 
 /// Names a change, and how many bytes are read at once.

@@ -1,8 +1,7 @@
 //! Topologies that could take more memory once read than there is to be for them: they end with status 1, and those beside them,
 //! whose dots and braces stand in strings and comments, don't.
-use crate::compare::{holds, same_status};
-use crate::play::play;
-use exb_shelf::{MemShelf, MemSink};
+use crate::runs::{bare_shelf, expect_end, put};
+use exb_shelf::MemShelf;
 use std::alloc::Global;
 use std::process::Abort;
 
@@ -77,18 +76,15 @@ fn file_of(rt: &impl Abort, alloc: Global, many: &Many) -> String {
 // A shelf with the file.
 fn shelf_of(rt: &impl Abort, alloc: Global, many: &Many) -> MemShelf {
     let file = file_of(rt, alloc, many);
-    let mut shelf = MemShelf::new(alloc, &[]).expect(rt, "memory");
-    shelf.put("t.toml", file.as_bytes()).expect(rt, "memory");
+    let mut shelf = bare_shelf(rt, alloc);
+    put(rt, &mut shelf, "t.toml", file.as_bytes());
     shelf
 }
 
 // Asserts what a check of a file ends with, and prints.
 fn judge_check(rt: &impl Abort, alloc: Global, many: &Many, status: u8, line: &str) {
     let mut shelf = shelf_of(rt, alloc, many);
-    let mut out = MemSink::new(alloc, &[]).expect(rt, "memory");
-    let ended = play(rt, alloc, "check t.toml", &mut shelf, &mut out);
-    same_status(rt, ended, status, many.0);
-    holds(rt, out.text() == line.as_bytes(), many.0);
+    expect_end(rt, alloc, "check t.toml", &mut shelf, status, line);
 }
 
 // The same of each file.

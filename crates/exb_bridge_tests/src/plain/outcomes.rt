@@ -1,5 +1,5 @@
 //! The cases: VLANs, learning, isolation, static entries, presence, and numbers that run out.
-use crate::drive::{Case, judge, judge_summary};
+use super::{Case, judge, judge_summary};
 
 const FRAMES: [Case; 5] = [
     // Nothing arrives.
