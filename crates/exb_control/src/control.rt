@@ -83,9 +83,14 @@ impl Control {
         ensures failed { IfOk result (λ made. made.failed ≡ false) }
     {
         let mut queue = Queue::new(alloc);
-        let fabric = Fabric::new(alloc, setup)?;
-        first_jobs(fabric.tree(), &mut queue)?;
         let sessions = Sessions::new(alloc)?;
+        let fabric = Fabric::new(alloc, setup)?;
+        let begun = first_jobs(fabric.tree(), &mut queue);
+        if begun.is_err() {
+            // It is let go by a call: to prove what a block's end does with all that it holds takes far longer.
+            drop(fabric);
+            return Err(NoMemory);
+        }
         let core = Core {
             fabric,
             place: 0,

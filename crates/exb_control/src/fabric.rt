@@ -98,6 +98,17 @@ fn take_effect(stage: &Stage, config: &mut Config) -> Result<(), NoMemory>
     }
 }
 
+// A copy of the configuration, in which the change at work has taken effect.
+fn config_at_end(stage: &Stage, config: &Config) -> Result<Config, NoMemory>
+    requires { HasPvids (bridge_of config.now) }
+    ensures config { IfOk result (λ made. bridge_of made ≡ bridge_at_end stage.now (bridge_of config.now)) }
+    ensures pvids { IfOk result (λ made. HasPvids (bridge_of made)) }
+{
+    let mut made = config.copy()?;
+    take_effect(stage, &mut made)?;
+    Ok(made)
+}
+
 // Frees the numbers of the change at work, if there is one.
 fn free_numbers(stage: &Stage, tree: &Tree, spaces: &mut Spaces)
     requires { (l : Limits) × HasSpaces tree.now l spaces.old }
@@ -126,9 +137,9 @@ impl Fabric {
         ensures stage { IfOk result (λ made. made.stage ≡ Stage.AtRest) }
     {
         let tree = shared(alloc, Tree::new(alloc, setup)?)?;
-        let config = Config::first(alloc, &tree, setup)?;
-        let spaces = first_spaces(alloc, &tree, setup.channels, setup.groups)?;
         let uses = GroupUses::new(alloc, &tree, setup.groups)?;
+        let spaces = first_spaces(alloc, &tree, setup.channels, setup.groups)?;
+        let config = Config::first(alloc, &tree, setup)?;
         Ok(Fabric {
             alloc,
             tree,
@@ -237,7 +248,7 @@ impl Fabric {
         ensures held { IfOk result (λ made. held_in made ≡ held_at_end self.now.stage (held_in self.now)) }
     {
         let tree = self.tree.clone()?;
-        let mut config = self.config.copy()?;
+        let uses = self.uses.copy()?;
         let mut spaces = copy_spaces(
             self.alloc,
             &self.tree,
@@ -245,9 +256,8 @@ impl Fabric {
             self.channels,
             self.groups,
         )?;
-        let uses = self.uses.copy()?;
-        take_effect(&self.stage, &mut config)?;
         free_numbers(&self.stage, &self.tree, &mut spaces);
+        let config = config_at_end(&self.stage, &self.config)?;
         Ok(Fabric {
             alloc: self.alloc,
             tree,

@@ -76,7 +76,9 @@ fn waiting(fabric: &Fabric, queue: &Queue<Job>) -> Result<u64, NoMemory>
         return Ok(0);
     }
     let mut trial = fabric.copy_at_rest()?;
-    count_jobs(&mut trial, queue)
+    let count = count_jobs(&mut trial, queue);
+    drop(trial);
+    count
 }
 
 /// How many requests and announcements are still to come.

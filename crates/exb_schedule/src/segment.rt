@@ -94,7 +94,11 @@ pub fn open(
     let mut world = World::new(alloc, setup, fate, trace)?;
     match open_armed(&mut world, plan) {
         Ok(()) => Ok(world),
-        Err(_) => Err(NoMemory),
+        Err(_) => {
+            // What goes with a world is proved at each end of a block, and is long.
+            drop(world);
+            Err(NoMemory)
+        }
     }
 }
 

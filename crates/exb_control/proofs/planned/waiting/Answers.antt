@@ -21,7 +21,7 @@ returns-clause-count c =
     let trial = c.in_ok-trial.trial in
     let made = c.in_ok-trial.ensures in
     let q = c.args.queue.now in
-    IfOk-weaker c.count_jobs.result _ _ (λ count is. is
+    IfOk-weaker c.count_jobs-count.result _ _ (λ count is. is
     ∙ ap (λ (d : Decide). requests_in d (bridge_in trial) (held_in trial) q) (same_decide v trial made.shape made.limits)
     ∙ ap (λ (b : Bridge). requests_in (decide_of v) b (held_in trial) q) made.config
-    ∙ ap (λ (h : Held). requests_in (decide_of v) (bridge_at_end v.stage (bridge_in v)) h q) made.held) c.count_jobs.ensures.count
+    ∙ ap (λ (h : Held). requests_in (decide_of v) (bridge_at_end v.stage (bridge_in v)) h q) made.held) c.count_jobs-count.ensures.count

@@ -1,6 +1,6 @@
 use Rattle.std.proofs.Common.{◌≡◌, ◌∙◌, ℕ, List, ap, sym, subst}
 use Rattle.exb_model.specs.Tree.{Shape}
-use Rattle.exb_config.specs.Tables.{Tables, bridge_of}
+use Rattle.exb_config.specs.Tables.{bridge_of}
 use Rattle.exb_plan.proofs.WholePlans.{alike_has}
 use Rattle.exb_control.specs.declared.stage.Stage.TheVariants.{AtRest}
 use Rattle.exb_plan.specs.Spaces.{held_by}
@@ -19,14 +19,14 @@ invariant_of-result c =
     let copied = rw c.deref.ensures at c.in_ok-spaces.ensures.held in
     let held = rw c.deref-2.ensures at c.free_numbers.ensures.held in
     let is = c.self.invariant.fabric in
-    let effect = c.in_ok-take_effect.ensures.config ∙ ap (λ (x : Tables). bridge_at_end f.stage (bridge_of x)) c.in_ok-config.ensures in
+    let effect = c.in_ok-config.ensures.config in
     let kept = held ∙ ap (held_at_end f.stage) copied in
-    subst (λ (t : Shape). IsKept (fabric_of t f.limits.channels f.limits.groups c.take_effect.new.config c.free_numbers.new.spaces AtRest) c.in_ok-uses.uses) (sym same)
+    subst (λ (t : Shape). IsKept (fabric_of t f.limits.channels f.limits.groups c.in_ok-config.config c.free_numbers.new.spaces AtRest) c.in_ok-uses.uses) (sym same)
     (record {
       fabric =
-          ended f is c.take_effect.new.config c.take_effect.ensures.pvids effect
+          ended f is c.in_ok-config.config c.in_ok-config.ensures.pvids effect
           c.free_numbers.new.spaces (alike_has f.shape f.limits c.in_ok-spaces.spaces c.free_numbers.new.spaces c.free_numbers.ensures.alike has) kept;
       uses =
-          subst (λ (u : List (List ℕ)). AreUses f.shape f.limits (bridge_of c.take_effect.new.config) (in_spaces f.shape (held_by c.free_numbers.new.spaces)) u) (sym c.in_ok-uses.ensures)
-          (ended_uses f c.self.inside.uses c.self.invariant c.take_effect.new.config effect c.free_numbers.new.spaces kept);
+          subst (λ (u : List (List ℕ)). AreUses f.shape f.limits (bridge_of c.in_ok-config.config) (in_spaces f.shape (held_by c.free_numbers.new.spaces)) u) (sym c.in_ok-uses.ensures)
+          (ended_uses f c.self.inside.uses c.self.invariant c.in_ok-config.config effect c.free_numbers.new.spaces kept);
     })

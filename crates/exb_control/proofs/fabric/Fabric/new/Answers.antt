@@ -10,7 +10,7 @@ invariant_of-result c =
     let has = rw c.deref-2.ensures at c.in_ok-spaces.ensures.spaces in
     let first = rw c.deref-2.ensures at c.in_ok-spaces.ensures.first in
     let shape = c.in_ok-tree.ensures ∙ c.in_ok-new.ensures in
-    let rows = rw c.deref-3.ensures at c.in_ok-uses.ensures.rows in
+    let rows = rw c.deref.ensures at c.in_ok-uses.ensures.rows in
     record {
       fabric =
           new_fabric c.args.setup.now c.requires c.in_ok-tree.tree.value shape c.in_ok-config.config c.in_ok-spaces.spaces
