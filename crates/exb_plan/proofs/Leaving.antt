@@ -1,16 +1,41 @@
 -- The groups that lose their last use, one part after another.
-use Rattle.std.proofs.Common.{◌≡◌, ℕ, ◌-◌, ◌<◌, ◌==◌, ◌&&◌, cond, Bool, true, false, List, [], ◌∷◌, Some, None, refl, sym, ◌∙◌, ap, arith, eq-eqb}
+use Rattle.std.proofs.Common.{◌≡◌, ℕ, zero, suc, ◌+◌, ◌-◌, ◌<◌, ◌==◌, ◌&&◌, ◌||◌, ◌++◌, cond, Bool, true, false, List, [], ◌∷◌, Some, None, refl, sym, ◌∙◌, ap, arith, eq-eqb}
 use Rattle.std.specs.Prelude.{nat_lt}
-use Rattle.std.proofs.lemmas.Bool.{and_parts, and_from, eqb-true, false≢true, false_from_ne_true}
+use Rattle.std.proofs.lemmas.Bool.{lt-ltb, and_parts, and_from, eqb-true, false≢true, false_from_ne_true}
 use Rattle.exb_numbers.specs.Spaces.{Spaces, has_space}
 use Rattle.exb_plans.specs.Sets.{PortsAt}
 use Rattle.exb_plan.specs.Spaces.{held_by}
-use Rattle.exb_plans.specs.Held.{group_in}
+use Rattle.exb_plans.specs.Held.{Held, group_in}
 use Rattle.exb_plan.specs.Working.{IsPlaced}
 use Rattle.exb_plan.specs.Counted.{count_at}
 use Rattle.exb_plan.specs.Recount.{parts_at, AreOwn}
 use Rattle.exb_plan.specs.LostUses.{is_left}
-use Rattle.exb_plan.proofs.Recounting.{both_ways, one_at, none_at}
+use Rattle.exb_plan.proofs.Recounting.{both_ways, one_at, none_at, parts_more}
+
+-- ---- of one part more
+neither : (p q r : Bool) → (p && false || q && false) ≡ (r && false)
+neither true true true = refl
+neither true true false = refl
+neither true false true = refl
+neither true false false = refl
+neither false true true = refl
+neither false true false = refl
+neither false false true = refl
+neither false false false = refl
+
+some_more : (a b : ℕ) (z : Bool) → (nat_lt 0 a && z || nat_lt 0 b && z) ≡ (nat_lt 0 (b + a) && z)
+some_more a b false = neither (nat_lt 0 a) (nat_lt 0 b) (nat_lt 0 (b + a))
+some_more zero b true = ap (λ (n : ℕ). nat_lt 0 n && true) (let e : b ≡ b + 0 = omega arith in e)
+some_more (suc a) b true =
+    let one : nat_lt 0 (suc a) ≡ true = lt-ltb 0 (suc a) (omega arith) in
+    let all : nat_lt 0 (b + suc a) ≡ true = lt-ltb 0 (b + suc a) (omega arith) in
+    ap (λ (t : Bool). t && true || nat_lt 0 b && true) one ∙ sym (ap (λ (t : Bool). t && true) all)
+
+pub left_more : (h : Held) (uses : List (List ℕ)) (xs : List PortsAt) (s : PortsAt) (k g : ℕ) →
+    (is_left h uses (s ∷ []) k g || is_left h uses xs k g) ≡ is_left h uses (xs ++ s ∷ []) k g
+left_more h uses xs s k g =
+    some_more (parts_at h (s ∷ []) k g) (parts_at h xs k g) (count_at uses k g == 0)
+    ∙ ap (λ (n : ℕ). nat_lt 0 n && count_at uses k g == 0) (sym (parts_more h xs (s ∷ []) k g))
 
 some_cond : (b : Bool) → nat_lt 0 (cond b 1 0) ≡ true → b ≡ true
 some_cond true h = refl

@@ -108,6 +108,20 @@ fn put_statics(
     Err(NoMemory)
 }
 
+// Puts the parts of all VLANs, and then of all static entries.
+fn put_sources(
+    alloc: Global,
+    sets: &mut IndexSet<SetAt>,
+    branches: &Branches,
+    config: &Config,
+) -> Result<(), NoMemory>
+    ensures { (t : Shape) → AreBranches t (bridge_of config.now) branches.now → sets.old.keys ≡ [] →
+        OnOk result (map seen sets.new.keys ≡ sets_of t (bridge_of config.now)) }
+{
+    put_vlans(alloc, sets, branches, config)?;
+    put_statics(alloc, sets, branches, config)
+}
+
 /// The sets of a configuration that need a group, each once: by VLAN and then static entry, tagged before
 /// untagged, then by bridge port, and there the part before the part without its isolated ports.
 pub fn sets(alloc: Global, tree: &Tree, config: &Config) -> Result<Vec<SetAt>, NoMemory>
@@ -115,7 +129,6 @@ pub fn sets(alloc: Global, tree: &Tree, config: &Config) -> Result<Vec<SetAt>, N
 {
     let branches = Branches::new(tree, config);
     let mut sets = IndexSet::new(alloc);
-    put_vlans(alloc, &mut sets, &branches, config)?;
-    put_statics(alloc, &mut sets, &branches, config)?;
+    put_sources(alloc, &mut sets, &branches, config)?;
     Ok(Vec::from_slice(alloc, sets.as_slice())?)
 }

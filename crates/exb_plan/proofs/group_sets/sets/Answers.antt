@@ -1,18 +1,7 @@
-use Rattle.std.proofs.Common.{◌∙◌, ap, List, map, fold, true}
-use Rattle.std.specs.List.{flat_map}
-use Rattle.exb_model.specs.Refusals.{both_kinds, all_vids}
-use Rattle.exb_config.specs.Tables.{bridge_of}
-use Rattle.exb_plans.specs.declared.set_at.SetAt.{SetAt}
-use Rattle.exb_plans.specs.Sets.{seen, with_set_at, parts_below}
-use Rattle.exb_plan.proofs.SetFolds.{all_put}
+use Rattle.std.proofs.Common.{◌∙◌, ap, map}
+use Rattle.exb_plans.specs.Sets.{seen}
 use Rattle.exb_plan.proofs.group_sets.sets.Goals as goal
 
 pub returns : goal.returns
-returns c =
-    let t = c.args.tree.now in
-    let b = bridge_of c.args.config.now in
-    ap (map seen) c.in_ok-from_slice.ensures.items ∙ (ap (map seen) c.as_slice.ensures.keys
-    ∙ all_put t b (map seen c.put_vlans.new.sets.keys) (map seen c.put_statics.new.sets.keys)
-    (c.in_ok-put_vlans.ensures t c.new-branches.ensures
-    ∙ ap (λ (s : List SetAt). fold with_set_at (map seen s) (flat_map (parts_below t b) (flat_map (λ v. both_kinds v (λ q. true)) all_vids))) c.new-sets.ensures.empty)
-    (c.in_ok-put_statics.ensures t c.new-branches.ensures))
+returns c = ap (map seen) c.in_ok-from_slice.ensures.items
+    ∙ (ap (map seen) c.as_slice.ensures.keys ∙ c.in_ok-put_sources.ensures c.args.tree.now c.new-branches.ensures c.new-sets.ensures.empty)

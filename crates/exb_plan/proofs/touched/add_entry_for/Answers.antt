@@ -1,5 +1,4 @@
 use Rattle.std.proofs.Common.{◌∙◌, sym}
-use Rattle.exb_config.specs.Tables.{bridge_of}
 use Rattle.exb_plan.proofs.PartLists.{adds_none}
 use Rattle.exb_plan.proofs.touched.add_entry_for.Goals as goal
 

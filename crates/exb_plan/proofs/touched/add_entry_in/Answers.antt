@@ -2,7 +2,6 @@ use Rattle.std.proofs.Common.{◌∙◌, sym, [], filter}
 use Rattle.std.proofs.lemmas.Result.{on_ok_weaker}
 use Rattle.exb_model.specs.Ports.{port_in}
 use Rattle.exb_model.specs.Refusals.{both_kinds}
-use Rattle.exb_config.specs.Tables.{bridge_of}
 use Rattle.exb_plan.specs.TouchedSources.{is_of}
 use Rattle.exb_plan.proofs.PartLists.{adds_none, adds_same}
 use Rattle.exb_plan.proofs.Touching.{kinds_of, kinds_off}

@@ -1,7 +1,6 @@
 use Rattle.std.proofs.Common.{sym, true, filter}
 use Rattle.std.proofs.lemmas.Result.{on_ok_weaker}
 use Rattle.exb_model.specs.Refusals.{both_kinds}
-use Rattle.exb_config.specs.Tables.{bridge_of}
 use Rattle.exb_plan.specs.TouchedSources.{is_of, sources_of_vlans}
 use Rattle.exb_plan.proofs.PartLists.{all_among, adds_same}
 use Rattle.exb_plan.proofs.Touching.{one_vlan}
