@@ -9,8 +9,8 @@
 //! - `planned`, `settled`, `of P`, `port B C`: logs how many exchanges are planned, whether all is settled, the channel of a
 //!   port, and the port of a channel below port B of the bridge
 //! - `skip`: empties the log; `mark`: logs a bar
-ghost use Rattle.std.specs.Prelude.{◌≡◌, ℕ, true};
-ghost use Rattle.exb_model.specs.Setup.{AreExternal, NamesExternal};
+ghost use Rattle.std.specs.Prelude.{◌≡◌, true};
+ghost use Rattle.exb_model.specs.Setup.{NamesExternal};
 
 use crate::asked::Told;
 use crate::site::{byte, expect_log, number, port, put, put_word, small, topology_of};
@@ -22,7 +22,6 @@ use exb_model::address::Mac;
 use exb_model::command::Command;
 use exb_model::event::Event;
 use exb_model::port::PortId;
-use exb_model::port_set::PortSet;
 use exb_model::setup::{Setup, Timed};
 use exb_model::tree::Tree;
 use exb_plan::groups::is_cascade;
@@ -30,34 +29,11 @@ use exb_text::{EventLine, PortName};
 use std::alloc::{AllocError, Global};
 use std::process::Abort;
 
-// Whether each port of a set is an external port.
-fn are_external(tree: &Tree, set: &PortSet) -> bool
-    ensures { result ≡ true → AreExternal tree.now set.now }
-{
-    set.is_within(&tree.external_ports())
-}
-
 // Whether a command names external ports alone.
 fn names_external(tree: &Tree, command: &Command) -> bool
     ensures { result ≡ true → NamesExternal tree.now command.now }
 {
-    match command {
-        Command::Vlan {
-            tagged,
-            untagged,
-            ..
-        } => are_external(tree, tagged) && are_external(tree, untagged),
-        Command::Static { ports, .. } => are_external(tree, ports),
-        Command::Unstatic { .. } => true,
-        Command::Member { port, .. }
-        | Command::Unmember { port, .. }
-        | Command::Pvid { port, .. }
-        | Command::Accept { port, .. }
-        | Command::Filter { port, .. }
-        | Command::Isolate { port, .. }
-        | Command::Up { port }
-        | Command::Down { port } => tree.is_external(*port),
-    }
+    command.names_only(&tree.external_ports())
 }
 
 // The two words of a step behind its verb.

@@ -3,7 +3,7 @@ ghost use Rattle.std.specs.Prelude.{◌≡◌, ◌≢◌, ◌↔◌, ℕ, ◌==�
 ghost use Rattle.std.specs.List.{list_any};
 ghost use Rattle.exb_model.specs.Ports.{port_in};
 ghost use Rattle.exb_model.specs.Tree.{Shape, is_external};
-ghost use Rattle.exb_model.specs.Setup.{InRange, IsPlace, IsAgeing, IsStart, IsValid};
+ghost use Rattle.exb_model.specs.Setup.{InRange, IsPlace, IsAgeing, IsStart, NamesExternal, IsValid};
 
 use crate::command::Command;
 use crate::layout::Layout;
@@ -91,34 +91,36 @@ fn are_distinct(extenders: &[ExtenderSetup]) -> bool
 }
 
 impl Command {
+    /// Whether it names ports of this set alone.
+    pub fn names_only(&self, external: &PortSet) -> bool
+        ensures { (t : Shape) → ((q : ℕ) → port_in external.now q ≡ is_external t q) → (IsTrue result ↔ NamesExternal t self.now) }
+    {
+        match self {
+            Command::Vlan {
+                tagged,
+                untagged,
+                ..
+            } => tagged.is_within(external) && untagged.is_within(external),
+            Command::Static { ports, .. } => ports.is_within(external),
+            Command::Unstatic { .. } => true,
+            Command::Member { port, .. }
+            | Command::Unmember { port, .. }
+            | Command::Pvid { port, .. }
+            | Command::Accept { port, .. }
+            | Command::Filter { port, .. }
+            | Command::Isolate { port, .. }
+            | Command::Up { port }
+            | Command::Down { port } => external.contains(*port),
+        }
+    }
+
     /// Whether it may stand at the start: it names ports of this set alone, and makes none present or absent.
     fn is_start(&self, external: &PortSet) -> bool
         ensures { (t : Shape) → ((q : ℕ) → port_in external.now q ≡ is_external t q) → (IsTrue result ↔ IsStart t self.now) }
     {
         match self {
-            Command::Vlan {
-                vid: _,
-                tagged,
-                untagged,
-            } => tagged.is_within(external) && untagged.is_within(external),
-            Command::Member {
-                vid: _,
-                port,
-                kind: _,
-            } => external.contains(*port),
-            Command::Unmember { vid: _, port } => external.contains(*port),
-            Command::Pvid { port, vid: _ } => external.contains(*port),
-            Command::Accept { port, accept: _ } => external.contains(*port),
-            Command::Filter { port, on: _ } => external.contains(*port),
-            Command::Isolate { port, on: _ } => external.contains(*port),
-            Command::Static {
-                vid: _,
-                address: _,
-                ports,
-            } => ports.is_within(external),
-            Command::Unstatic { vid: _, address: _ } => true,
-            Command::Up { port: _ } => false,
-            Command::Down { port: _ } => false,
+            Command::Up { .. } | Command::Down { .. } => false,
+            _ => self.names_only(external),
         }
     }
 }

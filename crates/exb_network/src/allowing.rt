@@ -1,6 +1,6 @@
 //! Which steps may be made.
 ghost use Rattle.std.specs.Prelude.{◌≡◌, ◌↔◌, ◌+◌, ◌<◌, ◌≤◌, ◌^◌, IsTrue};
-ghost use Rattle.exb_model.specs.Setup.{AreExternal, NamesExternal};
+ghost use Rattle.exb_model.specs.Setup.{NamesExternal};
 ghost use Rattle.exb_machine.specs.Allowing.{Can, MayArrive};
 ghost use Rattle.exb_machine.specs.Worlds.{Carry, Lose, Order};
 ghost use Rattle.exb_network.specs.Networks.{step_of};
@@ -12,7 +12,6 @@ use crate::step::{Step, Way};
 use crate::world::{is_settled, link_of};
 use exb_model::command::Command;
 use exb_model::port::PortId;
-use exb_model::port_set::PortSet;
 use exb_model::tree::Tree;
 
 /// How many bytes a frame has at most.
@@ -21,34 +20,11 @@ const LONGEST: usize = 262_144;
 /// How many commands there are at most.
 const COMMANDS: u32 = 65_536;
 
-/// Whether each port of a set is an external port.
-fn are_external(tree: &Tree, ports: &PortSet) -> bool
-    ensures { IsTrue result ↔ AreExternal tree.now ports.now }
-{
-    ports.is_within(&tree.external_ports())
-}
-
 /// Whether a command names external ports alone.
 fn names_external(tree: &Tree, command: &Command) -> bool
     ensures { IsTrue result ↔ NamesExternal tree.now command.now }
 {
-    match command {
-        Command::Vlan {
-            tagged,
-            untagged,
-            ..
-        } => are_external(tree, tagged) && are_external(tree, untagged),
-        Command::Static { ports, .. } => are_external(tree, ports),
-        Command::Unstatic { .. } => true,
-        Command::Member { port, .. }
-        | Command::Unmember { port, .. }
-        | Command::Pvid { port, .. }
-        | Command::Accept { port, .. }
-        | Command::Filter { port, .. }
-        | Command::Isolate { port, .. }
-        | Command::Up { port }
-        | Command::Down { port } => tree.is_external(*port),
-    }
+    command.names_only(&tree.external_ports())
 }
 
 /// Whether a frame may arrive.

@@ -405,7 +405,9 @@ fn play_world<S: Shelf>(
             text: Vec::new(alloc),
         },
     };
-    game.play_opened(alloc, shelf, plan, schedule, feed)
+    let played = game.play_opened(alloc, shelf, plan, schedule, feed);
+    drop(game);
+    played
 }
 
 /// Opens the world of a script's setup, plays what a feed has from there into outputs that were made, and answers the summary line.

@@ -17,25 +17,25 @@ play_opened-requires-clause-opened g c =
 pub returns-clause-done : goal.returns-clause-done
 returns-clause-done g c tells =
     let S = g.S.Shelf in
-    if_ok_map c.play_opened.result
+    if_ok_map c.play_opened-played.result
     (λ line played run is.
     let P : Counts → Type 0 = λ x. IsOpened S.tells (mode_of c.args.schedule) run c.args.plan.now (S.file c.args.shelf.now) (S.ids c.args.shelf.now) (network_of c.args.world) x c.args.outputs c.args.feed.now.programme in
     played run (subst P (sym c.new.ensures) is))
-    (c.play_opened.ensures.done tells)
+    (c.play_opened-played.ensures.done tells)
 
 pub returns-clause-cut : goal.returns-clause-cut
-returns-clause-cut g c = λ t. on_err_weaker c.play_opened.result
+returns-clause-cut g c = λ t. on_err_weaker c.play_opened-played.result
     (λ cut run is.
     let S = g.S.Shelf in
     let P : Counts → Type 0 = λ x. IsOpened S.tells (mode_of c.args.schedule) run c.args.plan.now (S.file c.args.shelf.now) (S.ids c.args.shelf.now) (network_of c.args.world) x c.args.outputs c.args.feed.now.programme in
     cut run (subst P (sym c.new.ensures) is))
-    (c.play_opened.ensures.cut t)
+    (c.play_opened-played.ensures.cut t)
 
 pub returns-clause-never : goal.returns-clause-never
 returns-clause-never g c tells =
     let S = g.S.Shelf in
-    if_err_map c.play_opened.result
+    if_err_map c.play_opened-played.result
     (λ fault never change run is.
     let P : Counts → Type 0 = λ x. IsOpened S.tells (mode_of c.args.schedule) run c.args.plan.now (S.file c.args.shelf.now) (S.ids c.args.shelf.now) (network_of c.args.world) x c.args.outputs c.args.feed.now.programme in
     never change run (subst P (sym c.new.ensures) is))
-    (c.play_opened.ensures.never tells)
+    (c.play_opened-played.ensures.never tells)
