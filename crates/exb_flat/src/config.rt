@@ -387,25 +387,13 @@ impl Config {
                 vid,
                 tagged,
                 untagged,
-            } => self.set_vlan(vid, tagged, untagged),
-            Command::Member { vid, port, kind } => self.set_member(vid, port, kind),
-            Command::Unmember { vid, port } => self.unset_member(vid, port),
-            Command::Pvid { port, vid } => {
-                self.set_pvid(port, vid);
-                Ok(())
-            }
-            Command::Accept { port, accept } => {
-                self.set_accept(port, accept);
-                Ok(())
-            }
-            Command::Filter { port, on } => {
-                self.set_filter(port, on);
-                Ok(())
-            }
-            Command::Isolate { port, on } => {
-                self.set_isolated(port, on);
-                Ok(())
-            }
+            } => self.set_vlan(vid, tagged, untagged)?,
+            Command::Member { vid, port, kind } => self.set_member(vid, port, kind)?,
+            Command::Unmember { vid, port } => self.unset_member(vid, port)?,
+            Command::Pvid { port, vid } => self.set_pvid(port, vid),
+            Command::Accept { port, accept } => self.set_accept(port, accept),
+            Command::Filter { port, on } => self.set_filter(port, on),
+            Command::Isolate { port, on } => self.set_isolated(port, on),
             Command::Static {
                 vid,
                 address,
@@ -414,19 +402,11 @@ impl Config {
                 vid,
                 address,
                 ports,
-            }),
-            Command::Unstatic { vid, address } => {
-                self.unset_static(vid, address);
-                Ok(())
-            }
-            Command::Up { port } => {
-                self.set_up(port);
-                Ok(())
-            }
-            Command::Down { port } => {
-                self.set_down(port);
-                Ok(())
-            }
+            })?,
+            Command::Unstatic { vid, address } => self.unset_static(vid, address),
+            Command::Up { port } => self.set_up(port),
+            Command::Down { port } => self.set_down(port),
         }
+        Ok(())
     }
 }

@@ -73,14 +73,12 @@ fn turn_here(order: &[u8], links: &Direction, place: u8) -> Option<Turn>
     requires few { length order.now ≤ 64 }
     ensures { IfSome result (IsFirst order.now links.now place) }
 {
-    if place >= order.len() as u8 {
-        return None;
+    let turn = turn_at(order, place)?;
+    if links.has_word(turn.link) {
+        Some(turn)
+    } else {
+        None
     }
-    let link = order[place as usize];
-    if !links.has_word(link) {
-        return None;
-    }
-    Some(Turn { place, link })
 }
 
 /// The first of these links, from a place on, that has a word. Where many have one it is mostly that at the place itself.
