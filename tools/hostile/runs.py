@@ -1,5 +1,5 @@
 """Three whole runs, by their files: a bridge alone, a tree with commands, and a lossy tree in a drawn order with a trace. They are
-those of which the tests of `exb_file_tests` disturb each call."""
+those of which the tests of `exb_trials` disturb each call."""
 import struct
 
 BROADCAST, FIRST, SECOND = (bytes.fromhex(digits) for digits in ("ff" * 6, "020000000001", "020000000002"))
