@@ -141,6 +141,8 @@ fn expect_copy(rt: &impl Abort, alloc: Global, topology: &Topology, of: &str) {
     let copy = config.copy().expect(rt, "memory");
     command(rt, &mut config, topology);
     expect_text(rt, alloc, &copy, before.as_str().trim_end(), of);
+    drop(copy);
+    drop(config);
 }
 
 // Asserts what the configuration of a topology says after its commands.

@@ -109,7 +109,9 @@ fn each_frame_is_sent_as_it_must(rt: HostRuntime) {
 fn ticked(rt: &impl Abort, alloc: Global, setup: &Setup, out: &mut Outbox) {
     assert!(rt; setup.valid());
     let mut control = Control::new(alloc, setup).expect(rt, "memory for a control");
-    control.tick(5, out).expect(rt, "memory");
+    let ticked = control.tick(5, out);
+    drop(control);
+    assert!(rt; ticked.is_ok());
 }
 
 #[test]
