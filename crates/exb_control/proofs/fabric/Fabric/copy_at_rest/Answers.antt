@@ -4,7 +4,7 @@ use Rattle.exb_config.specs.Tables.{bridge_of}
 use Rattle.exb_plan.proofs.WholePlans.{alike_has}
 use Rattle.exb_control.specs.declared.stage.Stage.TheVariants.{AtRest}
 use Rattle.exb_plan.specs.Spaces.{held_by}
-use Rattle.exb_control.specs.Fabrics.{Fabric, fabric_of, bridge_at_end, held_at_end}
+use Rattle.exb_control.specs.Fabrics.{Fabric, fabric_of, held_at_end}
 use Rattle.exb_plans.specs.Held.{in_spaces}
 use Rattle.exb_control.specs.GroupUses.{AreUses, IsKept}
 use Rattle.exb_control.proofs.Kept.{ended}
