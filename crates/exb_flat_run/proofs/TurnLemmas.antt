@@ -6,7 +6,7 @@ use Rattle.exb_model.specs.declared.event.Event.{Event}
 use Rattle.exb_model.specs.declared.event.Event.TheVariants as event
 use Rattle.exb_model.specs.Tree.{Shape}
 use Rattle.exb_model.specs.Setup.{Limits}
-use Rattle.exb_model.specs.History.{Basis, History, ◌then◌, bridge_after}
+use Rattle.exb_model.specs.History.{Basis, History, bridge_after}
 use Rattle.exb_model.specs.Input.{Coming, Ordered, Captured, Eager, alone, seconds_after, segments_after, segment_of, segments_since, second_of, moment_of}
 use Rattle.exb_model.specs.EagerHistory.{up_event, with_ups, with_tick, eager_segment}
 use Rattle.exb_flat_laws.proofs.Plays.{then-append}

@@ -1,5 +1,5 @@
 -- What a summary counts, as counts over the events of a history.
-use Rattle.std.specs.Prelude.{ℕ, Bool, true, false, List, [], ◌∷◌, count_by, sum_by, length}
+use Rattle.std.specs.Prelude.{ℕ, Bool, true, false, [], ◌∷◌, sum_by, length}
 use Rattle.exb_model.specs.declared.event.Event.{Event}
 use Rattle.exb_model.specs.declared.event.Event.TheVariants as event
 use Rattle.exb_model.specs.Tree.{Shape, external_ports}

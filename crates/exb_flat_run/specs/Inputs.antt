@@ -1,5 +1,5 @@
 -- The input that a setup, its commands and the captures of ports make.
-use Rattle.std.specs.Prelude.{ℕ, ◌≡◌, ◌==◌, ◌<◌, ◌≤◌, ◌*◌, ◌^◌, List, [], ◌∷◌, length, map, Option, Some, None, find}
+use Rattle.std.specs.Prelude.{ℕ, ◌==◌, List, [], map, Option, Some, None, find}
 use Rattle.exb_model.specs.declared.setup.Setup.{Setup}
 use Rattle.exb_model.specs.declared.setup.Timed.{Timed}
 use Rattle.exb_model.specs.Input.{Input, Record, Arrival, Coming as Comes, Ordered, Captured, given_by}

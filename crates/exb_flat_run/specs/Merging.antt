@@ -1,5 +1,5 @@
 -- What comes, as it is collected: the records of captures, then the commands put among them.
-use Rattle.std.specs.Prelude.{◌≡◌, ℕ, ◌+◌, ◌*◌, ◌<◌, ◌≤◌, ◌^◌, Bool, false, List, [], ◌∷◌, length, map, Option, Some, None, find, is_ok, ◌==◌, if◌then◌else◌}
+use Rattle.std.specs.Prelude.{◌≡◌, ℕ, ◌+◌, ◌*◌, ◌<◌, ◌≤◌, ◌^◌, Bool, false, List, [], ◌∷◌, length, Option, Some, None, find, is_ok, ◌==◌, if◌then◌else◌}
 use Rattle.exb_model.specs.Input.{Arrival, Coming as Comes, Ordered, Captured, moment_of, second_of, put_in_order}
 use Rattle.exb_merge.specs.Streams.{Stream, stream_of}
 use Rattle.exb_pcap.specs.Captures.{pcap_records}

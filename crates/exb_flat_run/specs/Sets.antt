@@ -1,9 +1,8 @@
 -- The parts of sets among the present ports below a bridge port.
-use Rattle.std.specs.Prelude.{ℕ, Bool, true, ◌&&◌, List, [], ◌∷◌, ◌++◌, map, filter, flat_map, Vec}
+use Rattle.std.specs.Prelude.{ℕ, Bool, true, ◌&&◌, List, [], ◌∷◌, map, filter, flat_map, Vec}
 use Rattle.std.specs.declared.alloc.Global.{Global}
 use Rattle.exb_model.specs.declared.port.PortId.{PortId}
 use Rattle.exb_model.specs.declared.vlan.Kind.{Kind}
-use Rattle.exb_model.specs.declared.port_set.PortSet.{PortSet}
 use Rattle.exb_model.specs.declared.rules.StaticAt.{StaticAt}
 use Rattle.exb_model.specs.Ports.{port_in, all_ports}
 use Rattle.exb_model.specs.Tree.{Shape, is_under}

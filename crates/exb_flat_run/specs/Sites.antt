@@ -1,9 +1,7 @@
 -- What a setup and commands give the plain program, and histories in it.
-use Rattle.std.specs.Prelude.{ℕ, ◌≡◌, List, map}
-use Rattle.exb_model.specs.declared.command.Command.{Command}
+use Rattle.std.specs.Prelude.{◌≡◌, List, map}
 use Rattle.exb_model.specs.declared.setup.Setup.{Setup}
 use Rattle.exb_model.specs.declared.setup.Timed.{Timed}
-use Rattle.exb_model.specs.Tree.{Shape}
 use Rattle.exb_model.specs.Setup.{Limits as Numbers, shape_of, limits_of as limits_in, start_of}
 use Rattle.exb_model.specs.History.{Basis}
 use Rattle.exb_flat.specs.Histories.{basis_of as basis_in}

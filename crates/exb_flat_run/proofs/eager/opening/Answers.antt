@@ -1,7 +1,6 @@
-use Rattle.std.proofs.Common.{◌≡◌, ◌∷◌, [], take, sym, ap, ◌∙◌}
+use Rattle.std.proofs.Common.{◌∷◌, [], ap, ◌∙◌}
 use Rattle.exb_model.specs.declared.event.Event.TheVariants as event
-use Rattle.exb_model.specs.EagerHistory.{with_ups, up_event}
-use Rattle.exb_model.specs.History.{bridge_after}
+use Rattle.exb_model.specs.EagerHistory.{with_ups}
 use Rattle.exb_flat_run.specs.Sites.{basis_of, bounds_of}
 use Rattle.exb_flat_run.specs.Turns.{told}
 use Rattle.exb_flat_run.proofs.TurnLemmas.{ups_step, ups_all}

@@ -1,4 +1,4 @@
-use Rattle.std.proofs.Common.{◌≡◌, ◌+◌, ◌-◌, sym, ap, ◌∙◌, arith}
+use Rattle.std.proofs.Common.{◌+◌, ◌-◌, sym, ap, ◌∙◌, arith}
 use Rattle.exb_model.specs.Tree.{top}
 use Rattle.exb_flat_run.proofs.WaysUp.{top-low, top-none, top-more}
 use Rattle.exb_flat_run.proofs.layout.top.Goals as goal

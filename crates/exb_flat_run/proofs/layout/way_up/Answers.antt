@@ -1,4 +1,4 @@
-use Rattle.std.proofs.Common.{◌≡◌, ℕ, ◌+◌, ◌-◌, ◌/◌, length, sym, ap, ◌∙◌, arith}
+use Rattle.std.proofs.Common.{◌≡◌, ◌+◌, ◌-◌, ◌/◌, length, sym, ap, arith}
 use Rattle.std.specs.Prelude.{slice_index}
 use Rattle.exb_model.specs.Tree.{up}
 use Rattle.exb_flat_run.proofs.WaysUp.{up-low, up-none, up-more}

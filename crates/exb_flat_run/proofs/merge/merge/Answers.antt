@@ -1,7 +1,7 @@
-use Rattle.std.proofs.Common.{◌≡◌, ℕ, ◌<◌, map, sym, ap, subst, ◌∙◌, arith}
+use Rattle.std.proofs.Common.{◌≡◌, ℕ, map, sym, ap, subst, ◌∙◌, arith}
 use Rattle.std.specs.Prelude.{All}
 use Rattle.std.proofs.lemmas.List.Elements.{All-weaker}
-use Rattle.exb_model.specs.Input.{Coming as Comes, commands_from, given_by}
+use Rattle.exb_model.specs.Input.{commands_from, given_by}
 use Rattle.exb_flat_run.specs.Inputs.{coming_of}
 use Rattle.exb_flat_run.specs.Merging.{first_second, ComesAfter, FitsComing, IsRecord}
 use Rattle.exb_flat_run.proofs.MergeLemmas.{first-small, merged, each-put_all, fits-commands, fits-records}

@@ -1,7 +1,7 @@
-use Rattle.std.proofs.Common.{◌≡◌, ℕ, ◌<◌, ◌≤◌, ◌∷◌, ◌++◌, List, length, get_or, map, take, drop, sym, ap, subst, ◌∙◌, arith}
+use Rattle.std.proofs.Common.{◌≡◌, ℕ, ◌<◌, ◌∷◌, ◌++◌, length, map, take, drop, sym, ap, subst, arith}
 use Rattle.std.specs.Prelude.{All}
 use Rattle.std.proofs.lemmas.List.Elements.{All-more}
-use Rattle.exb_model.specs.Input.{Coming as Comes, moment_of, put_in_order}
+use Rattle.exb_model.specs.Input.{moment_of, put_in_order}
 use Rattle.exb_flat_run.specs.Inputs.{coming_of}
 use Rattle.exb_flat_run.proofs.MergeLemmas.{place-found, place-last}
 use Rattle.exb_flat_run.proofs.merge.place_for.Goals as goal

@@ -1,4 +1,4 @@
-use Rattle.std.proofs.Common.{◌≡◌, ◌<◌, take}
+use Rattle.std.proofs.Common.{◌<◌, take}
 use Rattle.std.specs.Prelude.{All}
 use Rattle.exb_model.specs.Input.{moment_of}
 use Rattle.exb_flat_run.specs.Inputs.{coming_of}

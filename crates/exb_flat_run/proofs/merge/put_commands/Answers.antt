@@ -1,7 +1,7 @@
-use Rattle.std.proofs.Common.{◌≡◌, ◌+◌, ◌-◌, ◌*◌, List, map, sym, ap, subst, ◌∙◌, arith}
+use Rattle.std.proofs.Common.{◌+◌, ◌-◌, ◌*◌, map, sym, ap, subst, ◌∙◌, arith}
 use Rattle.std.specs.Prelude.{All}
 use Rattle.exb_model.specs.declared.setup.Timed.{Timed}
-use Rattle.exb_model.specs.Input.{Coming as Comes, Ordered}
+use Rattle.exb_model.specs.Input.{Ordered}
 use Rattle.exb_flat_run.specs.Inputs.{coming_of}
 use Rattle.exb_flat_run.specs.Merging.{ComesAfter}
 use Rattle.exb_flat_run.proofs.MergeLemmas.{each-put, after-start, command-step}

@@ -1,4 +1,4 @@
-use Rattle.std.proofs.Common.{◌≡◌, map, ap, ◌∙◌}
+use Rattle.std.proofs.Common.{map, ap, ◌∙◌}
 use Rattle.exb_merge.specs.Streams.{to_come}
 use Rattle.exb_flat_run.specs.Inputs.{coming_of}
 use Rattle.exb_flat_run.proofs.MergeLemmas.{records-are, drained-after}

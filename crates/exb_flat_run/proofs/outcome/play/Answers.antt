@@ -1,6 +1,6 @@
-use Rattle.std.proofs.Common.{◌≡◌, List, refl, sym, ap, subst, map, ◌∙◌}
+use Rattle.std.proofs.Common.{List, refl, sym, ap, subst, map, ◌∙◌}
 use Rattle.std.specs.Prelude.{All}
-use Rattle.exb_model.specs.Input.{Input, Coming as Comes, merge}
+use Rattle.exb_model.specs.Input.{Input}
 use Rattle.exb_flat_run.specs.Inputs.{input_of, coming_of}
 use Rattle.exb_flat_run.specs.Sites.{basis_of, bounds_of}
 use Rattle.exb_flat_run.specs.Turns.{told}

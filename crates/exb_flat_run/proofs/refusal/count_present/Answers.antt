@@ -1,4 +1,4 @@
-use Rattle.std.proofs.Common.{◌≡◌, length, ◌∙◌, arith}
+use Rattle.std.proofs.Common.{arith}
 use Rattle.exb_flat.specs.Configs.{bridge_of}
 use Rattle.exb_flat_run.proofs.SetLists.{present-count, present-few}
 use Rattle.exb_flat_run.proofs.refusal.count_present.Goals as goal

@@ -1,4 +1,4 @@
-use Rattle.std.proofs.Common.{◌≡◌, length, fold, List, ap, sym, ◌∙◌, arith}
+use Rattle.std.proofs.Common.{fold, ap, ◌∙◌, arith}
 use Rattle.std.proofs.lemmas.List.{length-map}
 use Rattle.exb_model.specs.Refusals.{with_set}
 use Rattle.exb_flat.specs.Configs.{bridge_of}

@@ -1,4 +1,4 @@
-use Rattle.std.proofs.Common.{◌≡◌, ℕ, ◌<◌, ◌≤◌}
+use Rattle.std.proofs.Common.{ℕ, ◌<◌, ◌≤◌}
 use Rattle.exb_model.specs.Refusals.{groups_needed}
 use Rattle.exb_flat.specs.Configs.{bridge_of}
 use Rattle.exb_flat_run.proofs.refusal.groups_short.Given as goal

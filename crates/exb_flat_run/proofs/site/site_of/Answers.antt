@@ -1,4 +1,4 @@
-use Rattle.std.proofs.Common.{◌≡◌, refl, ◌∙◌}
+use Rattle.std.proofs.Common.{refl, ◌∙◌}
 use Rattle.exb_flat_run.proofs.SiteLemmas.{start-is}
 use Rattle.exb_flat_run.proofs.site.site_of.Goals as goal
 

@@ -1,4 +1,4 @@
-use Rattle.std.proofs.Common.{◌≡◌, sym, ap, ◌∙◌}
+use Rattle.std.proofs.Common.{◌∙◌}
 use Rattle.exb_flat_run.proofs.TextLemmas.{capture-none, capture-more}
 use Rattle.exb_flat_run.proofs.texts.capture_text.Goals as goal
 

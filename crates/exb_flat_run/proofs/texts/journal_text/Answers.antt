@@ -1,4 +1,4 @@
-use Rattle.std.proofs.Common.{◌≡◌, string_bytes, sym, ap, ◌∙◌}
+use Rattle.std.proofs.Common.{string_bytes, sym, ◌∙◌}
 use Rattle.exb_flat_run.proofs.TextLemmas.{journal-none, journal-more}
 use Rattle.exb_flat_run.proofs.texts.journal_text.Goals as goal
 

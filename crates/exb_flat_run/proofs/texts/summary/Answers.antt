@@ -1,4 +1,4 @@
-use Rattle.std.proofs.Common.{◌≡◌, ◌+◌, ◌≤◌, length, ap, ◌∙◌, arith}
+use Rattle.std.proofs.Common.{ap, ◌∙◌, arith}
 use Rattle.exb_flat_run.specs.Turns.{told}
 use Rattle.exb_flat_run.proofs.Counts.{none-left, few-arrivals}
 use Rattle.exb_flat_run.proofs.TextLemmas.{length-told}

@@ -1,5 +1,4 @@
-use Rattle.std.proofs.Common.{◌≡◌, ap, ◌∙◌, arith}
-use Rattle.exb_model.specs.Texts.{counted}
+use Rattle.std.proofs.Common.{◌∙◌, arith}
 use Rattle.exb_text.specs.Tallies.{counts_of}
 use Rattle.exb_flat_run.proofs.TextLemmas.{counted-none, counted-more, counted-fits}
 use Rattle.exb_flat_run.proofs.texts.tally_of.Goals as goal

@@ -1,4 +1,4 @@
-use Rattle.std.proofs.Common.{◌≡◌, ◌+◌, cond, count_by, refl, sym, ap, ◌∙◌, arith}
+use Rattle.std.proofs.Common.{◌≡◌, ◌+◌, count_by, refl, sym, ap, ◌∙◌, arith}
 use Rattle.exb_model.specs.Ports.{below}
 use Rattle.exb_model.specs.Tree.{is_cascade_under, cascades_under}
 use Rattle.exb_flat_run.proofs.Ranges.{count_below-more, count_below-most, below-none}

@@ -1,5 +1,4 @@
-use Rattle.std.proofs.Common.{◌≡◌, ℕ, arith, ◌==◌, ◌&&◌, Bool, true, false, refl, sym, ap, ◌∙◌}
-use Rattle.std.specs.Prelude.{◌||◌}
+use Rattle.std.proofs.Common.{ℕ, arith, ◌==◌, ◌&&◌, refl, sym, ap, ◌∙◌}
 use Rattle.exb_model.specs.Tree.{any_below, is_extender, is_cascade, on}
 use Rattle.exb_flat_run.proofs.Ranges.{any_below-more, or-true, or-false}
 use Rattle.exb_flat_run.proofs.layout.Layout.is_cascade.Goals as goal

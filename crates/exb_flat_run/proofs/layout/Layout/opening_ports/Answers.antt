@@ -1,4 +1,4 @@
-use Rattle.std.proofs.Common.{◌≡◌, ◌<◌, ◌∙◌}
+use Rattle.std.proofs.Common.{◌<◌, ◌∙◌}
 use Rattle.std.proofs.lemmas.List.Elements.{All-same}
 use Rattle.exb_model.specs.Tree.{by_depth}
 use Rattle.exb_flat_run.proofs.Ranges.{by_depth-few}

@@ -1,7 +1,7 @@
-use Rattle.std.proofs.Common.{◌≡◌, ◌+◌, ◌++◌, cond, refl, sym, ap, ◌∙◌, append_assoc}
+use Rattle.std.proofs.Common.{◌+◌, ◌++◌, cond, sym, ap, ◌∙◌, append_assoc}
 use Rattle.std.specs.Prelude.{◌∷◌, []}
 use Rattle.std.proofs.lemmas.List.{append-nil}
-use Rattle.exb_model.specs.Tree.{level, hangs_at_depth}
+use Rattle.exb_model.specs.Tree.{level}
 use Rattle.exb_flat_run.proofs.Ranges.{level-more, level-none}
 use Rattle.exb_flat_run.proofs.layout.Layout.put_level.Goals as goal
 
