@@ -87,7 +87,7 @@ impl Control {
         let fabric = Fabric::new(alloc, setup)?;
         let begun = first_jobs(fabric.tree(), &mut queue);
         if begun.is_err() {
-            // It is let go by a call: to prove what a block's end does with all that it holds takes far longer.
+            // By a call, since an early end is far longer to prove where it lets a fabric go.
             drop(fabric);
             return Err(NoMemory);
         }

@@ -77,6 +77,7 @@ fn waiting(fabric: &Fabric, queue: &Queue<Job>) -> Result<u64, NoMemory>
     }
     let mut trial = fabric.copy_at_rest()?;
     let count = count_jobs(&mut trial, queue);
+    // By a call, since a block's end is far longer to prove where it lets a fabric go.
     drop(trial);
     count
 }

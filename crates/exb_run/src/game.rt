@@ -406,6 +406,7 @@ fn play_world<S: Shelf>(
         },
     };
     let played = game.play_opened(alloc, shelf, plan, schedule, feed);
+    // By a call, since a block's end is far longer to prove where it lets a world go.
     drop(game);
     played
 }

@@ -95,7 +95,7 @@ pub fn open(
     match open_armed(&mut world, plan) {
         Ok(()) => Ok(world),
         Err(_) => {
-            // What goes with a world is proved at each end of a block, and is long.
+            // By a call, since a block's end is far longer to prove where it lets a world go.
             drop(world);
             Err(NoMemory)
         }

@@ -7,8 +7,8 @@ use Rattle.exb_run.specs.UnderWay.{IsOpened}
 use Rattle.exb_run.proofs.Running.{if_err_map, if_ok_map}
 use Rattle.exb_run.proofs.game.play_world.Goals as goal
 
-pub play_opened-requires-clause-opened : goal.play_opened-requires-clause-opened
-play_opened-requires-clause-opened g c =
+pub play_opened-played-requires-clause-opened : goal.play_opened-played-requires-clause-opened
+play_opened-played-requires-clause-opened g c =
     let S = g.S.Shelf in
     let run = c.requires.opened.0 in
     let P : Counts → Type 0 = λ x. IsOpened S.tells (mode_of c.args.schedule) run c.args.plan.now (S.file c.args.shelf.now) (S.ids c.args.shelf.now) (network_of c.args.world) x c.args.outputs c.args.feed.now.programme in
