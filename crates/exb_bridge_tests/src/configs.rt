@@ -141,6 +141,7 @@ fn expect_copy(rt: &impl Abort, alloc: Global, topology: &Topology, of: &str) {
     let copy = config.copy().expect(rt, "memory");
     command(rt, &mut config, topology);
     expect_text(rt, alloc, &copy, before.as_str().trim_end(), of);
+    // By calls, since a block's end is far longer to prove where it lets configurations go.
     drop(copy);
     drop(config);
 }

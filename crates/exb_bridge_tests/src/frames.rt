@@ -110,6 +110,7 @@ fn ticked(rt: &impl Abort, alloc: Global, setup: &Setup, out: &mut Outbox) {
     assert!(rt; setup.valid());
     let mut control = Control::new(alloc, setup).expect(rt, "memory for a control");
     let ticked = control.tick(5, out);
+    // By a call, since a block's end is far longer to prove where it lets a control go.
     drop(control);
     assert!(rt; ticked.is_ok());
 }
