@@ -8,3 +8,4 @@ pub mod Stamped
 pub mod Carried
 pub mod Asks
 pub mod Written
+pub mod Passed

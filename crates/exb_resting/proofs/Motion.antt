@@ -1,7 +1,7 @@
 -- That every step and every list of steps leaves a world standing.
 mod Quiet
 pub mod Rising
-mod Naming
+pub mod Naming
 pub mod Histories
 mod Deciding
 pub mod Jobs
@@ -11,13 +11,16 @@ pub mod Pairs
 pub mod Marks
 pub mod Telling
 pub mod Going
-mod Ticks
+pub mod Ticks
 pub mod InFile
 pub mod AllCame
-mod Opening
-mod Numbers
+pub mod Opening
+pub mod Numbers
 pub mod Playing
 mod Eager
 pub mod Fronts
 pub mod Setups
 pub mod Moving
+pub mod Onward
+pub mod Passed
+pub mod OneEvent

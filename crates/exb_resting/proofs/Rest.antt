@@ -90,3 +90,4 @@ pub mod Playing
 pub mod UnderWay
 -- how much was told and has left
 pub mod Counted
+pub mod Crossing

@@ -3,6 +3,7 @@ pub mod Given
 pub mod Stands
 pub mod Kept
 pub mod Marks
+pub mod Onward
 pub mod Events
 pub mod Going
 pub mod Playing

@@ -12,3 +12,4 @@ pub mod Placed
 pub mod Going
 pub mod Settles
 pub mod Playing
+pub mod Crossing

@@ -10,9 +10,9 @@ use Rattle.exb_model.specs.Traces.{TraceLine, trace_text}
 use Rattle.exb_model.specs.Tree.{Shape, is_external}
 use Rattle.exb_shelf.specs.Files.{Files, Filled}
 use Rattle.exb_text.specs.Names.{capture_name, journal_name, trace_name}
-use Rattle.exb_tracing.specs.LegalTrace.{LegalTrace}
-use Rattle.exb_tracing.specs.Runs.{frames_in, frames_out}
-use Rattle.exb_tracing.specs.Traced.{journal_of}
+use Rattle.exb_legal.specs.LegalTrace.{LegalTrace}
+use Rattle.exb_legal.specs.Inputs.{frames_in, frames_out}
+use Rattle.exb_legal.specs.Entries.{journal_of}
 use Rattle.exb_run.specs.Plans.{Planned, output_count, port_count, port_at}
 
 -- no file but those of the external ports, the journal and the trace has changed

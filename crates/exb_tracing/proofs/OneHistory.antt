@@ -15,13 +15,17 @@ use Rattle.exb_model.specs.Refusals.{refusal}
 use Rattle.exb_model.specs.Setup.{Limits}
 use Rattle.exb_model.specs.Tree.{Shape, opening_ports}
 use Rattle.exb_model.proofs.LegalPlays.{all_arrivals}
-use Rattle.exb_machine.specs.Runs.Sessions.{Each}
-use Rattle.exb_machine.proofs.Words.{each_append}
+use Rattle.exb_legal.specs.Reading.{Each}
 use Rattle.exb_flight.specs.Items as items
 use Rattle.exb_resting.proofs.Motion.InFile.{IsNumberedIn, segments_numbered}
-use Rattle.exb_tracing.specs.Entries.{history_in, IsFound, IsRecorded}
-use Rattle.exb_tracing.specs.TextLaws.{IsOfNumbers, InputsReadBack, InputsHaveOneHistory}
-use Rattle.exb_tracing.proofs.Entries.{journals_read_back}
+use Rattle.exb_legal.specs.Entries.{history_in, IsFound, IsRecorded}
+use Rattle.exb_legal.specs.TextLaws.{IsOfNumbers}
+use Rattle.exb_tracing.specs.TextLaws.{InputsReadBack, InputsHaveOneHistory}
+use Rattle.exb_legal.proofs.Entries.{journals_read_back}
+
+each_append : {A : Type 0} (P : A → Type 0) (xs ys : List A) → Each P xs → Each P ys → Each P (xs ++ ys)
+each_append P [] ys a b = b
+each_append P (x ∷ xs) ys a b = (a.0, each_append P xs ys a.1 b)
 
 -- ---- Relays are of arrivals of the input
 each_then : (P : Event → Type 0) (h : History) (es : List Event) → Each P h → Each P es → Each P (h then es)
@@ -63,7 +67,7 @@ module _ (i : Input) where
       each_append (IsFound (arrivals_at i)) (es ++ event.Settled ∷ []) (settled_each plays)
       (each_append (IsFound (arrivals_at i)) es (event.Settled ∷ []) (found_in s.arrivals (all_numbered s.arrivals all.0) es k.0.relays) (tt, tt)) (found_plays ss plays k.1 all.1)
 
-  found : (m : Mode) (h : History) → Legal m i h → Each (IsFound (arrivals_at i)) h
+  pub found : (m : Mode) (h : History) → Legal m i h → Each (IsFound (arrivals_at i)) h
   found m h legal =
       subst (Each (IsFound (arrivals_at i))) (sym legal.segments_in_order)
       (each_then (IsFound (arrivals_at i)) (opening (tree_of i) (bounds_of i) (basis_of i)) (settled_each legal.plays)

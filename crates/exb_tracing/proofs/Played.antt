@@ -26,15 +26,17 @@ use Rattle.exb_resting.specs.Rest.Playing.{begin_of}
 use Rattle.exb_resting.specs.Rest.Settles.{MayTakeAll}
 use Rattle.exb_resting.proofs.Rest.Playing.{start, settled, runs_write_legally}
 use Rattle.exb_resting.proofs.Rest.UnderWay.{all_given}
-use Rattle.exb_tracing.specs.Entering.{NamesRecord, Enters, IsStep, AreSteps}
+use Rattle.exb_legal.specs.Entering.{NamesRecord, Enters, IsStep, AreSteps}
 use Rattle.exb_tracing.specs.Laws.{given_in}
-use Rattle.exb_tracing.specs.LegalTrace.{LegalTrace}
+use Rattle.exb_legal.specs.LegalTrace.{LegalTrace}
 use Rattle.exb_model.specs.Traces.{TraceLine, In, Out, Journal}
 use Rattle.exb_machine.specs.Telling.{all_told}
 use Rattle.exb_model.specs.Traces as line
-use Rattle.exb_tracing.specs.Reading.{EachStep, until_next}
-use Rattle.exb_tracing.specs.Runs.{SetupsTellLegally, RunsTellLegally, frames_in, frames_out}
-use Rattle.exb_tracing.specs.Traced.{journal_of, captures_of, outputs_of}
+use Rattle.exb_legal.specs.Reading.{EachStep, until_next}
+use Rattle.exb_legal.specs.Inputs.{frames_in, frames_out}
+use Rattle.exb_tracing.specs.Runs.{SetupsTellLegally, RunsTellLegally}
+use Rattle.exb_legal.specs.Entries.{journal_of}
+use Rattle.exb_tracing.specs.Traced.{captures_of, outputs_of}
 
 -- ---- the same captures and outputs
 each_step : (P Q : TraceLine → List TraceLine → Type 0) (ls : List TraceLine) → ((l : TraceLine) (rest : List TraceLine) → P l rest → Q l rest) → EachStep P ls → EachStep Q ls
@@ -46,7 +48,8 @@ module _ (t : Shape) (captures files : ℕ → List (List ℕ)) (same : (p : ℕ
   names l frame k = record { port = k.port; index = k.index; is = ap (λ (fs : List (List ℕ)). numbered fs k.index) (sym (same k.port (only k.port k.index frame k.is))) ∙ k.is; text = k.text }
 
   enters : (l : TraceLine) (said : List (List ℕ)) → Enters t captures l said → Enters t files l said
-  enters (In n j f) said k = record { line = k.line; once = k.once; frame = k.frame; names = names k.line k.frame k.names; holds = k.holds }
+  unfolding names
+  enters (In n j f) said k = record { line = k.line; once = k.once; frame = k.frame; names = names k.line k.frame k.names; here = k.here; holds = k.holds }
   enters (Out n j f) said k = tt
   enters line.Beat said k = tt
   enters (Journal text) said k = tt

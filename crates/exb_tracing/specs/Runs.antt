@@ -1,9 +1,8 @@
 -- The traces of all runs of a valid setup, and of those that play an input.
-use Rattle.std.specs.Prelude.{ℕ, List, [], map, All}
+use Rattle.std.specs.Prelude.{List, [], All}
 use Rattle.exb_model.specs.declared.setup.Setup.{Setup}
-use Rattle.exb_model.specs.FlatBridge.{Sent, flat}
-use Rattle.exb_model.specs.History.{History, ◌then◌}
-use Rattle.exb_model.specs.Input.{Input, Record, Mode, basis_of, tree_of, segments}
+use Rattle.exb_model.specs.History.{◌then◌}
+use Rattle.exb_model.specs.Input.{Input, Mode, tree_of, segments}
 use Rattle.exb_model.specs.Setup.{IsValid, shape_of, limits_of}
 use Rattle.exb_machine.specs.Allowing.{IsSettled}
 use Rattle.exb_machine.specs.Settling.{run}
@@ -14,9 +13,11 @@ use Rattle.exb_resting.specs.Motion.Playing.{IsTimely}
 use Rattle.exb_resting.specs.Rest.Playing.{PlaysIn}
 use Rattle.exb_resting.specs.Rest.Settles.{MayTakeAll, beginning}
 use Rattle.exb_tracing.specs.Laws.{given_in}
-use Rattle.exb_tracing.specs.LegalTrace.{LegalTrace}
+use Rattle.exb_legal.specs.Inputs.{frames_in, frames_out}
+use Rattle.exb_legal.specs.LegalTrace.{LegalTrace}
 use Rattle.exb_machine.specs.Telling.{all_told}
-use Rattle.exb_tracing.specs.Traced.{Traced, journal_of, captures_of, outputs_of}
+use Rattle.exb_legal.specs.Entries.{journal_of}
+use Rattle.exb_tracing.specs.Traced.{Traced, captures_of, outputs_of}
 
 -- what these steps do, from the beginning of a setup
 abbrev pub done_by : Setup → List Step → Stepped
@@ -34,13 +35,6 @@ abbrev pub SetupsTellLegally : Type 0
 SetupsTellLegally = (s : Setup) (steps : List Step) → IsValid s → All HasVid s.start → MayTakeAll (shape_of s) (limits_of s) (beginning s) steps → TellsLegally s steps
 
 -- ---- runs that play an input
--- the frames of the capture of port p, and those that the one bridge sends at port q
-abbrev pub frames_in : Input → ℕ → List (List ℕ)
-frames_in i p = map (λ (r : Record). r.bytes) (i.records p)
-
-abbrev pub frames_out : Input → History → ℕ → List (List ℕ)
-frames_out i h q = map (λ (x : Sent). x.1) (flat (basis_of i) h q)
-
 -- Where all segments are played the trace is legal whole, of the history that was told, of the captures of the input and of what the
 -- one bridge sends over that history.
 abbrev pub RunsTellLegally : Type 0

@@ -1,48 +1,13 @@
--- The texts of a trace and of a journal are read back as what they were written of, so no two have one text.
-use Rattle.std.specs.Prelude.{◌≡◌, ℕ, List, Some}
-use Rattle.exb_model.specs.declared.event.Event.{Event}
+-- The text of a journal that an input allows, and that input, give the history; and its moments are those of the input.
+use Rattle.std.specs.Prelude.{◌≡◌, Some}
 use Rattle.exb_model.specs.History.{History}
-use Rattle.exb_model.specs.Input.{Input, Arrival, Mode, arrivals_at}
-use Rattle.exb_model.specs.LegalHistory.{Legal}
+use Rattle.exb_model.specs.Input.{Input, Mode, arrivals_at}
+use Rattle.exb_model.specs.LegalHistory.{EachEvent, Legal}
 use Rattle.exb_model.specs.Texts.{journal_text}
-use Rattle.exb_machine.specs.Runs.Sessions.{Each}
-use Rattle.exb_tracing.specs.Entries.{Entry, entry_of, entry_text, entry_in, history_in, IsWritable, IsRecorded}
-use Rattle.exb_model.specs.Traces.{TraceLine, trace_line, trace_text}
-use Rattle.exb_tracing.specs.LineTexts.{read_line, read_trace, IsSpelled}
-
--- ---- a trace
-abbrev pub LinesReadBack : Type 0
-LinesReadBack = (line : TraceLine) → IsSpelled line → read_line (trace_line line) ≡ Some line
-
-abbrev pub LinesDiffer : Type 0
-LinesDiffer = (x y : TraceLine) → IsSpelled x → IsSpelled y → trace_line x ≡ trace_line y → x ≡ y
-
--- And what is read as a line is its text: just the texts of lines are read.
-abbrev pub LinesAreWritten : Type 0
-LinesAreWritten = (text : List ℕ) (line : TraceLine) → read_line text ≡ Some line → trace_line line ≡ text
-
-abbrev pub TracesReadBack : Type 0
-TracesReadBack = (lines : List TraceLine) → Each IsSpelled lines → read_trace (trace_text lines) ≡ Some lines
-
--- ---- a journal
-abbrev pub EntriesReadBack : Type 0
-EntriesReadBack = (e : Entry) → IsWritable e → entry_in (entry_text e) ≡ Some e
-
-abbrev pub EntriesAreWritten : Type 0
-EntriesAreWritten = (text : List ℕ) (e : Entry) → entry_in text ≡ Some e → IsWritable e → entry_text e ≡ text
-
--- The text of a journal and the arrivals of each port give the history.
-abbrev pub JournalsReadBack : Type 0
-JournalsReadBack = (arrivals : ℕ → List Arrival) (h : History) → Each (IsRecorded arrivals) h → history_in arrivals (journal_text h) ≡ Some h
-
--- So it is one history.
-abbrev pub JournalsDiffer : Type 0
-JournalsDiffer = (arrivals : ℕ → List Arrival) (g h : History) → Each (IsRecorded arrivals) g → Each (IsRecorded arrivals) h → journal_text g ≡ journal_text h → g ≡ h
-
--- ---- a journal of an input
--- its ports are ports, and its numbers have 64 bits
-abbrev pub IsOfNumbers : Event → Type 0
-IsOfNumbers e = IsWritable (entry_of e)
+use Rattle.exb_legal.specs.Reading.{Each}
+use Rattle.exb_legal.specs.Entries.{history_in}
+use Rattle.exb_legal.specs.Inputs.{AreInTime, RelayFits}
+use Rattle.exb_legal.specs.TextLaws.{IsOfNumbers}
 
 -- The text of a history that an input allows, and that input, give the history.
 abbrev pub InputsReadBack : Type 0
@@ -50,3 +15,7 @@ InputsReadBack = (m : Mode) (i : Input) (h : History) → Legal m i h → Each I
 
 abbrev pub InputsHaveOneHistory : Type 0
 InputsHaveOneHistory = (m : Mode) (i : Input) (g h : History) → Legal m i g → Legal m i h → Each IsOfNumbers g → Each IsOfNumbers h → journal_text g ≡ journal_text h → g ≡ h
+
+-- The Relays of a history that an input allows have moments that a capture can hold, where the input's records have.
+abbrev pub LegalRelaysFit : Type 0
+LegalRelaysFit = (m : Mode) (i : Input) (h : History) → AreInTime i → Legal m i h → EachEvent RelayFits h

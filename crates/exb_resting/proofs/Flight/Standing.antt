@@ -40,7 +40,7 @@ use Rattle.exb_resting.specs.Flight.Promises.{owed_at, IsEven, IsClean, IsInForc
 use Rattle.exb_resting.proofs.Flight.Items.{thins_words, items_words}
 
 -- ---- nothing is owed over empty links
-owed_none_up : (t : Shape) → IsTree t → (u : Tables) (words : ℕ → List Datum) → ((n : ℕ) → IsLink t n → words n ≡ []) → (q d p : ℕ) → IsLink t (device p) → owed_up t u words q d p ≡ []
+pub owed_none_up : (t : Shape) → IsTree t → (u : Tables) (words : ℕ → List Datum) → ((n : ℕ) → IsLink t n → words n ≡ []) → (q d p : ℕ) → IsLink t (device p) → owed_up t u words q d p ≡ []
 unfolding owed_up
 owed_none_up t tree u words empty q zero p link = ap (λ (fs : List Datum). flat_map (λ f. stamped f (carried t u (device p) f.bytes q)) fs) (empty (device p) link)
 owed_none_up t tree u words empty q (suc d) p link =

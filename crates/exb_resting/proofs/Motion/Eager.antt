@@ -1,7 +1,6 @@
 -- A legal history of the eager mode in which the seconds of each segment pass first is the eager history.
 use Rattle.std.proofs.Common.{◌≡◌, ◌⊎◌, ℕ, suc, ◌-◌, ◌==◌, ◌++◌, Bool, true, false, cond, List, [], ◌∷◌, map, Option, Some, None, refl, ap, sym, ◌∙◌, subst, arith, inl, inr}
 use Rattle.std.specs.Prelude.{filter_map, IsSomeAnd, All, IsPermutation}
-use Rattle.std.proofs.lemmas.Bool.{false≢true}
 use Rattle.std.proofs.lemmas.List.Elements.{All-cons, All-nil, All-contains, filter_map-append}
 use Rattle.std.proofs.lemmas.List.Sorted.{length_permutation, All-permutation}
 use Rattle.exb_model.specs.declared.command.Command.{Command}
@@ -30,7 +29,7 @@ heads e = cc
 tails : {A : Type 0} {x y : A} {xs ys : List A} → x ∷ xs ≡ y ∷ ys → xs ≡ ys
 tails e = cc
 
-one_permuted : {A : Type 0} (xs : List A) (y : A) → IsPermutation xs (y ∷ []) → xs ≡ y ∷ []
+pub one_permuted : {A : Type 0} (xs : List A) (y : A) → IsPermutation xs (y ∷ []) → xs ≡ y ∷ []
 one_permuted {A} [] y k = absurd (let e = length_permutation [] (y ∷ []) k in omega (arith, e))
 one_permuted {A} (x ∷ []) y k =
     let all = All-permutation (λ (z : A). z ≡ x) (x ∷ []) (y ∷ []) k (All-cons (λ (z : A). z ≡ x) x [] refl (All-nil (λ (z : A). z ≡ x))) in
@@ -129,7 +128,7 @@ module _ (t : Shape) (l : Limits) (b : Basis) (arrivals : ℕ → List Arrival) 
   by_refusal k (Some c) x z = z
 
   -- what happens of a command alone
-  only_command : (es : List Event) (h : History) (n : ℕ) → filter_map number_of es ≡ n ∷ [] → filter_map place_of es ≡ [] → filter_map tick_of es ≡ [] → All IsOfSegment es → EachEvent (IsDecided t l b) (h then es) →
+  pub only_command : (es : List Event) (h : History) (n : ℕ) → filter_map number_of es ≡ n ∷ [] → filter_map place_of es ≡ [] → filter_map tick_of es ≡ [] → All IsOfSegment es → EachEvent (IsDecided t l b) (h then es) →
       es ≡ command_event t l b (bridge_after b h) n ∷ []
   only_command [] h n numbers places ticks of d = absurd (cons_nil (sym numbers))
   only_command (event.Relay p k m f ∷ es) h n numbers places ticks of d = absurd (cons_nil places)
@@ -163,7 +162,7 @@ module _ (t : Shape) (l : Limits) (b : Basis) (arrivals : ℕ → List Arrival) 
       ∙ (ap (λ (m : ℕ). event.Ignored a.port m) index
       ∙ sym (ap (λ (c : Bool). cond c (event.Relay a.port a.index a.moment a.bytes) (event.Ignored a.port a.index)) (ap (λ (q : ℕ). is_relayed (bridge_after b h) q a.bytes) (sym port) ∙ no)))
 
-  only_arrival : (es : List Event) (h : History) (a : Arrival) → numbered (arrivals a.port) a.index ≡ Some a → filter_map number_of es ≡ [] → filter_map place_of es ≡ (a.port, a.index) ∷ [] → filter_map tick_of es ≡ [] → All IsOfSegment es →
+  pub only_arrival : (es : List Event) (h : History) (a : Arrival) → numbered (arrivals a.port) a.index ≡ Some a → filter_map number_of es ≡ [] → filter_map place_of es ≡ (a.port, a.index) ∷ [] → filter_map tick_of es ≡ [] → All IsOfSegment es →
       All (IsRelayOf (a ∷ [])) es → EachEvent (IsEntered b arrivals) (h then es) → es ≡ arrival_event (bridge_after b h) a ∷ []
   only_arrival [] h a found numbers places ticks of relays d = absurd (cons_nil (sym places))
   only_arrival (event.Commit k ∷ es) h a found numbers places ticks of relays d = absurd (cons_nil numbers)

@@ -25,7 +25,7 @@ steps_go_on stay t l i start w g h left k written step may = (
 )
 
 module _ (round : TagRoundTrip) (words : SendsAreWords) (leave : SendsLeaveAsFlat) (law : StepsTell) (stay : StepsStayWritten) where
-  going : (t : Shape) (l : Limits) (i : Basis) → MayStart t l i → (steps : List Step) (w : World) (g : List Given) (h : History) (left : List Left) → Kept t l i w g h left → AreWritten w → MayGoAll t l w steps →
+  pub going : (t : Shape) (l : Limits) (i : Basis) → MayStart t l i → (steps : List Step) (w : World) (g : List Given) (h : History) (left : List Left) → Kept t l i w g h left → AreWritten w → MayGoAll t l w steps →
       MayDoAll t l w steps × AreWritten (run t l steps w).world
   unfolding run
   going t l i start [] w g h left k written may = (tt, written)

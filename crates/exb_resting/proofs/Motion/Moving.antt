@@ -1,6 +1,6 @@
 -- A world that stands goes on standing, whatever is said to have been given, told and to have left: that it is kept after something
 -- says all of the world that a step needs.
-use Rattle.std.proofs.Common.{◌≡◌, ℕ, ◌+◌, ◌<◌, ◌≤◌, ◌==◌, ◌&&◌, ◌++◌, true, false, List, [], ◌∷◌, length, reverse, Option, Some, None, refl, sym, ◌∙◌, ap, subst, length-append, add-zero}
+use Rattle.std.proofs.Common.{◌≡◌, ℕ, ◌+◌, ◌++◌, true, false, List, [], ◌∷◌, length, reverse, Option, Some, None, refl, sym, ◌∙◌, ap, subst, length-append, add-zero}
 use Rattle.std.specs.Prelude.{IsSomeAnd, filter_map}
 use Rattle.std.specs.List.{range_with_len}
 use Rattle.std.proofs.lemmas.List.{append-nil, append_assoc, append_cancel_left}
@@ -252,7 +252,7 @@ table_by a b ageing clock seen = λ x. record { ageing = ageing x; clock = clock
 
 -- ---- what a world that stands has, as a step goes on from it
 module _ (t : Shape) (l : Limits) (w : World) (i : Basis) (g : List Given) (h : History) (left : List Left) (s : Stands t l i w g h left) where
-  its_commands : HasCommands (basis_with i g) h
+  pub its_commands : HasCommands (basis_with i g) h
   its_commands =
       let told : List ℕ = filter_map number_of (reverse h) in
       let waiting : List ℕ = filter_map command_number (pending w.control) in

@@ -51,7 +51,7 @@ use Rattle.exb_resting.proofs.Motion.Standing.{begins_kept, kept_stands, runs_ke
 use Rattle.exb_resting.proofs.Motion.Ticks.{TellsTime, run_time}
 
 -- ---- lists
-all_of : {A : Type 0} (P : A → Type 0) (xs : List A) → Each P xs → All P xs
+pub all_of : {A : Type 0} (P : A → Type 0) (xs : List A) → Each P xs → All P xs
 all_of P [] k = All-nil P
 all_of P (x ∷ xs) k = All-cons P x xs k.0 (all_of P xs k.1)
 
@@ -68,7 +68,7 @@ arrivals_both [] more = refl
 arrivals_both (Came a ∷ g) more = ap (λ (xs : List Arrival). a ∷ xs) (arrivals_both g more)
 arrivals_both (Told c ∷ g) more = arrivals_both g more
 
-given_both : (xs ys : List Step) → given_in (xs ++ ys) ≡ given_in xs ++ given_in ys
+pub given_both : (xs ys : List Step) → given_in (xs ++ ys) ≡ given_in xs ++ given_in ys
 given_both [] ys = refl
 given_both (x ∷ xs) ys = ap (λ (g : List Given). given_by x ++ g) (given_both xs ys) ∙ sym (append_assoc (given_by x) (given_in xs) (given_in ys))
 
@@ -85,17 +85,17 @@ module _ (t : Shape) (l : Limits) where
       let k = told_first (s.seconds == 0) s.seconds e.rest w in
       record { rest = k.0; is = ap (λ (zs : List Step). (run t l zs w).events) e.is ∙ k.1 }
 
-  may_split : (xs ys : List Step) (w : World) → MayDoAll t l w (xs ++ ys) → MayDoAll t l w xs × MayDoAll t l (run t l xs w).world ys
+  pub may_split : (xs ys : List Step) (w : World) → MayDoAll t l w (xs ++ ys) → MayDoAll t l w xs × MayDoAll t l (run t l xs w).world ys
   unfolding run
   may_split [] ys w may = (tt, may)
   may_split (x ∷ xs) ys w may = (let r = may_split xs ys (stepped t l x w).world may.1 in ((may.0, r.0), r.1))
 
   -- what a mark after steps leaves
-  record IsMarked (xs : List Step) (w : World) : Type 0 where
-    world : (run t l (xs ++ Mark ∷ []) w).world ≡ (run t l xs w).world
-    events : (run t l (xs ++ Mark ∷ []) w).events ≡ (run t l xs w).events ++ event.Settled ∷ []
+  pub record IsMarked (xs : List Step) (w : World) : Type 0 where
+    pub world : (run t l (xs ++ Mark ∷ []) w).world ≡ (run t l xs w).world
+    pub events : (run t l (xs ++ Mark ∷ []) w).events ≡ (run t l xs w).events ++ event.Settled ∷ []
 
-  marked : (xs : List Step) (w : World) → IsMarked xs w
+  pub marked : (xs : List Step) (w : World) → IsMarked xs w
   unfolding run stepped
   marked xs w =
       let e = run_then t l xs (Mark ∷ []) w in
@@ -178,15 +178,15 @@ module _ (round : TagRoundTrip) (words : SendsAreWords) (leave : SendsLeaveAsFla
       )
 
   -- ---- the opening
-  record IsOpening (es : List Event) (given : List Given) : Type 0 where
-    commands : commands_of given ≡ []
-    arrivals : arrivals_of given ≡ []
-    risen : (a : Basis) → EachEvent (IsRisen t l a) ([] then es) → event.Settled ∷ ([] then es) ≡ opening t l a
+  pub record IsOpening (es : List Event) (given : List Given) : Type 0 where
+    pub commands : commands_of given ≡ []
+    pub arrivals : arrivals_of given ≡ []
+    pub risen : (a : Basis) → EachEvent (IsRisen t l a) ([] then es) → event.Settled ∷ ([] then es) ≡ opening t l a
 
   reversed : (es : List Event) → reverse ([] then es) ≡ es
   reversed es = reverse_then [] es
 
-  is_opening : (os : List Step) (w : World) → Kept t l i w [] [] [] → MayDoAll t l w os → Plays t l b nothing_given w os → IsOpening (run t l os w).events (given_in os)
+  pub is_opening : (os : List Step) (w : World) → Kept t l i w [] [] [] → MayDoAll t l w os → Plays t l b nothing_given w os → IsOpening (run t l os w).events (given_in os)
   is_opening os w k may plays =
       let es : List Event = (run t l os w).events in
       let g : List Given = given_in os in
@@ -211,7 +211,7 @@ module _ (round : TagRoundTrip) (words : SendsAreWords) (leave : SendsLeaveAsFla
       }
 
   -- ---- a whole run
-  each_risen : (a : Basis) (arrivals : ℕ → List Arrival) (h : History) → EachEvent (IsRightly t l a arrivals) h → EachEvent (IsRisen t l a) h
+  pub each_risen : (a : Basis) (arrivals : ℕ → List Arrival) (h : History) → EachEvent (IsRightly t l a arrivals) h → EachEvent (IsRisen t l a) h
   each_risen a arrivals [] k = tt
   each_risen a arrivals (e ∷ h) k = (each_risen a arrivals h k.0, k.1.risen)
 
@@ -334,7 +334,7 @@ runs_play_legally round words leave law stay m i [] valid vids timely may plays 
 runs_play_legally round words leave law stay m i (os ∷ xss) valid vids timely may plays = is_legal round words leave law stay m i os xss valid vids timely may plays
 
 -- ---- settling
-each_moves : (xs : List Step) → machine.Each IsMove xs → (seconds_in xs ≡ []) × (given_in xs ≡ []) × Each IsUnmarked xs
+pub each_moves : (xs : List Step) → machine.Each IsMove xs → (seconds_in xs ≡ []) × (given_in xs ≡ []) × Each IsUnmarked xs
 each_moves [] k = (refl, refl, tt)
 each_moves (Carry n way ∷ xs) k = (let r = each_moves xs k.1 in (r.0, r.1, (tt, r.2)))
 each_moves (Control n way j keep ∷ xs) k = (let r = each_moves xs k.1 in (r.0, r.1, (tt, r.2)))

@@ -19,6 +19,7 @@ use Rattle.exb_machine.specs.Allowing.{IsSettled}
 use Rattle.exb_machine.specs.Settling.{run}
 use Rattle.exb_machine.specs.Stepping.{Stepped}
 use Rattle.exb_machine.specs.Worlds.{Step, Mark}
+use Rattle.exb_machine.specs.Runs.Passed.{passed_over}
 use Rattle.exb_resting.specs.Flight.Showing.{left_at}
 use Rattle.exb_machine.specs.Runs.Written.{StepsStayWritten}
 use Rattle.exb_machine.proofs.Rounds.{run_then}
@@ -31,10 +32,11 @@ use Rattle.exb_resting.proofs.Motion.Going.{runs_go_on}
 use Rattle.exb_resting.proofs.Motion.Histories.{longer, flat_stays}
 use Rattle.exb_resting.proofs.Motion.Keeping.{kept_commands}
 use Rattle.exb_resting.proofs.Motion.Fronts.{eager_front, is_eager, numbered, runs_play_eagerly}
+use Rattle.exb_resting.proofs.Motion.Passed.{passed_stays, runs_tell_passed}
 use Rattle.exb_resting.proofs.Motion.Playing.{runs_play_legally}
 use Rattle.exb_resting.proofs.Motion.Setups.{setups_may_start}
-use Rattle.exb_resting.proofs.Motion.Standing.{begins_kept, runs_kept, settled_owes_nothing}
-use Rattle.exb_resting.specs.Rest.Playing.{begin_of, PlaysIn, RunsWriteLegally, RunsWriteEagerly, RunsWriteFronts}
+use Rattle.exb_resting.proofs.Motion.Standing.{begins_kept, kept_stands, runs_kept, settled_owes_nothing}
+use Rattle.exb_resting.specs.Rest.Playing.{begin_of, PlaysIn, RunsSayPassed, RunsWriteLegally, RunsWriteEagerly, RunsWriteFronts}
 use Rattle.exb_resting.proofs.Rest.PlaysGive.{marked_world, plays_settled, plays_commands, commands_numbered}
 use Rattle.exb_resting.proofs.Rest.Settles.{runs_stay_low}
 use Rattle.exb_resting.proofs.Rest.TellsNumbers.{numbers_then, opening_none, numbers_played, first_commands}
@@ -128,6 +130,26 @@ module _ (round : TagRoundTrip) (words : SendsAreWords) (leave : SendsLeaveAsFla
 
     pub runs_write_legally : RunsWriteLegally
     runs_write_legally m i done timely k = record { journal = told_legally m i done timely k; captures = left_as_flat m i (segments m i) done k (numbers_told m i done timely k) }
+
+    -- of each Relay it was said whether its frame passed
+    pub runs_say_passed : RunsSayPassed
+    runs_say_passed m i done timely k =
+        let t : Shape = tree_of i in
+        let l : Limits = bounds_of i in
+        let b : Basis = basis_in i in
+        let a : Basis = basis_of i.setup in
+        let steps : List Step = marked_each (k.first ∷ k.plays) in
+        let g : List Given = given_in steps in
+        let begun = start m i (segments m i) done k in
+        let first = begins_kept t l a begun in
+        let more = first_given m i (segments m i) done k (numbers_told m i done timely k) in
+        let longer_is : longer (basis_with a g) more.0 ≡ b = ap (λ (cs : List Command). record b { commands = cs }) (sym more.1) in
+        let said : done.passed ≡ passed_over (basis_with a g) [] done.events =
+        subst (λ (z : Stepped). z.passed ≡ passed_over (basis_with a g) [] z.events) (sym k.is)
+        (runs_tell_passed round words leave law t l a begun (begin_of i) [] [] [] first steps (may_all m i (segments m i) done k) a refl [] [] [] (kept_stands t l a begun (begin_of i) [] [] [] first)) in
+        said
+        ∙ (sym (passed_stays (basis_with a g) more.0 done.events [] (kept_commands t l a done.world g ([] then done.events) done.left (kept m i (segments m i) done k)))
+        ∙ ap (λ (c : Basis). passed_over c [] done.events) longer_is)
 
     -- the eager history
     pub runs_write_eagerly : RunsWriteEagerly

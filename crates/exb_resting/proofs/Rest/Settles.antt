@@ -148,12 +148,12 @@ module _ (round : TagRoundTrip) (words : SendsAreWords) (leave : SendsLeaveAsFla
         few = few;
       }
 
-  run_after : (steps : List Step) (w : World) → MayTakeAll t l w steps → IsRun t l i w → IsRun t l i (run t l steps w).world
+  pub run_after : (steps : List Step) (w : World) → MayTakeAll t l w steps → IsRun t l i w → IsRun t l i (run t l steps w).world
   unfolding run
   run_after [] w may k = k
   run_after (step ∷ steps) w may k = run_after steps (stepped t l step w).world may.1 (step_run step w may.0 k)
 
-  go_after : (steps : List Step) (w : World) → MayTakeAll t l w steps → IsRun t l i w → MayGoAll t l w steps
+  pub go_after : (steps : List Step) (w : World) → MayTakeAll t l w steps → IsRun t l i w → MayGoAll t l w steps
   go_after [] w may k = tt
   go_after (step ∷ steps) w may k = (goes step w may.0 k, go_after steps (stepped t l step w).world may.1 (step_run step w may.0 k))
 

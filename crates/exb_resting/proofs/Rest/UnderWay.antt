@@ -41,7 +41,7 @@ use Rattle.exb_resting.proofs.Rest.Settles.{IsRun, step_run, begins}
 module _ (round : TagRoundTrip) (words : SendsAreWords) (leave : SendsLeaveAsFlat) (law : StepsTell) (stay : StepsStayWritten) where
   -- ---- the clock, and where frames leave
   module _ (t : Shape) (l : Limits) (i : Basis) (start : MayStart t l i) where
-    run_passes : (steps : List Step) (w : World) → MayTakeAll t l w steps → IsRun t l i w → Passes t w (run t l steps w).world (seconds_in steps) (run t l steps w).left
+    pub run_passes : (steps : List Step) (w : World) → MayTakeAll t l w steps → IsRun t l i w → Passes t w (run t l steps w).world (seconds_in steps) (run t l steps w).left
     unfolding run
     run_passes [] w may k = record { clock = omega arith; outside = tt }
     run_passes (step ∷ steps) w may k =

@@ -13,6 +13,7 @@ use Rattle.exb_model.specs.Tree.{is_external}
 use Rattle.exb_machine.specs.Settling.{run}
 use Rattle.exb_machine.specs.Stepping.{Stepped}
 use Rattle.exb_machine.specs.Worlds.{World, Step, Left, first_world}
+use Rattle.exb_machine.specs.Runs.Passed.{passed_over}
 use Rattle.exb_resting.specs.Flight.Showing.{left_at}
 use Rattle.exb_resting.specs.Motion.Kept.{HasVid}
 use Rattle.exb_resting.specs.Motion.Playing.{IsEager, IsTimely, PlayAll, marked_each, nothing_given}
@@ -92,6 +93,10 @@ pub record HasWrittenIn (m : Mode) (i : Input) (done : Stepped) : Type 0 where
 
 abbrev pub RunsWriteLegally : Type 0
 RunsWriteLegally = (m : Mode) (i : Input) (done : Stepped) → IsTimely i → PlaysIn m i (segments m i) done → HasWrittenIn m i done
+
+-- Of each Relay it was said whether its frame passed, in the configuration before it.
+abbrev pub RunsSayPassed : Type 0
+RunsSayPassed = (m : Mode) (i : Input) (done : Stepped) → IsTimely i → PlaysIn m i (segments m i) done → done.passed ≡ passed_over (basis_of i) [] done.events
 
 -- In the eager mode it is the eager history.
 pub record HasWritten (i : Input) (done : Stepped) : Type 0 where

@@ -4,6 +4,7 @@ ghost use Rattle.exb_resting.specs.Motion.Events.{StepsTellSo};
 ghost use Rattle.exb_resting.specs.Motion.Going.{StepsGoOn, RunsGoOn, SetupsGoOn};
 ghost use Rattle.exb_resting.specs.Motion.Playing.{RunsPlayLegally, RunsPlayEagerly, SettlingPlays};
 ghost use Rattle.exb_resting.specs.Motion.Marks.{SettledIsOrderly, SegmentsArePlayed};
+ghost use Rattle.exb_resting.specs.Motion.Onward.{RunsLeaveStanding, RunsTellPassed, StandsOwesNothing, EventsAreTold, EventsGoAlone};
 
 use exb_changing::laws::steps_tell;
 use exb_frame::laws::tag_round_trip;
@@ -153,3 +154,49 @@ pub fn runs_play_eagerly()
 pub fn settling_plays()
     ensures { SettlingPlays }
 {}
+
+/// Any steps leave a world standing with what they give, tell and make leave, whatever was given, told and has left before them; its
+/// links are clean, and its ageing time stays.
+pub fn runs_leave_standing()
+    ensures { RunsLeaveStanding }
+{
+    tag_round_trip();
+    sends_are_words();
+    sends_leave_as_flat();
+    steps_tell();
+}
+
+/// They say of each Relay among their events, in order, whether its frame passes in the configuration before it.
+pub fn runs_tell_passed()
+    ensures { RunsTellPassed }
+{
+    tag_round_trip();
+    sends_are_words();
+    sends_leave_as_flat();
+    steps_tell();
+}
+
+/// What has left each port of a settled world that stands is what the one bridge sends there.
+pub fn stands_owes_nothing()
+    ensures { StandsOwesNothing }
+{}
+
+/// A settled world that is given an arrival or a command, and settles by moves, tells just what becomes of that by its configuration.
+pub fn events_are_told()
+    ensures { EventsAreTold }
+{
+    tag_round_trip();
+    sends_are_words();
+    sends_leave_as_flat();
+    steps_tell();
+}
+
+/// And just that leaves each port which the one bridge sends there for it.
+pub fn events_go_alone()
+    ensures { EventsGoAlone }
+{
+    tag_round_trip();
+    sends_are_words();
+    sends_leave_as_flat();
+    steps_tell();
+}

@@ -1,7 +1,8 @@
 //! What is true of rounds and of settling.
 ghost use Rattle.exb_resting.specs.Rest.Laws.{SetupsHaveFacts, SettlingEnds, RoundsSpend, RoundsPlanNothing, RoundsDeliver, WindowsGetOn, OrderKeepsFacts, TurnsAreOrderly, SetupsBeginGoing};
 ghost use Rattle.exb_resting.specs.Rest.Settles.{RunsAreReady, RunsStayLow, Settles, SettlingAlwaysPlays};
-ghost use Rattle.exb_resting.specs.Rest.Playing.{RunsAreFew, RunsAreUnderWay, RunsWriteLegally, RunsWriteEagerly, RunsWriteFronts};
+ghost use Rattle.exb_resting.specs.Rest.Crossing.{LeavesMayCross, CommandsSendNothing, CrossingsMayArrive};
+ghost use Rattle.exb_resting.specs.Rest.Playing.{RunsAreFew, RunsAreUnderWay, RunsSayPassed, RunsWriteLegally, RunsWriteEagerly, RunsWriteFronts};
 
 use crate::laws::motion::settled_is_orderly;
 use exb_changing::laws::steps_tell;
@@ -152,6 +153,18 @@ pub fn runs_write_legally()
     settled_is_orderly();
 }
 
+/// Such a run said of each Relay that it told, in order, whether its frame passed in the configuration before it.
+pub fn runs_say_passed()
+    ensures { RunsSayPassed }
+{
+    tag_round_trip();
+    sends_are_words();
+    sends_leave_as_flat();
+    steps_tell();
+    steps_stay_written();
+    settled_is_orderly();
+}
+
 /// A run that has played all segments of the eager mode told the eager history, and what has left each external port is what one
 /// VLAN bridge sends there over it.
 pub fn runs_write_eagerly()
@@ -176,3 +189,32 @@ pub fn runs_write_fronts()
     steps_tell();
     steps_stay_written();
 }
+
+/// What leaves a settled world for one arrival, until it is settled again, leaves at external ports, at each at most once, at the
+/// moment of the arrival and with at most 9,220 bytes.
+pub fn leaves_may_cross()
+    ensures { LeavesMayCross }
+{
+    tag_round_trip();
+    sends_are_words();
+    sends_leave_as_flat();
+    steps_tell();
+    steps_stay_written();
+}
+
+/// For a command nothing leaves.
+pub fn commands_send_nothing()
+    ensures { CommandsSendNothing }
+{
+    tag_round_trip();
+    sends_are_words();
+    sends_leave_as_flat();
+    steps_tell();
+    steps_stay_written();
+}
+
+/// A frame of at most 9,220 bytes may arrive at each external port of which fewer than 2 to the power of 63 arrivals came, with its
+/// next index.
+pub fn crossings_may_arrive()
+    ensures { CrossingsMayArrive }
+{}

@@ -1,0 +1,6 @@
+use Rattle.std.proofs.Common.{All, take}
+use Rattle.exb_legal.specs.TextLaws.{IsOfNumbers}
+use Rattle.exb_audit.proofs.facts.events_numbers.Given as goal
+
+abbrev pub invariant-loop-event : goal.invariant-loop-event
+invariant-loop-event l = All IsOfNumbers (take l.event-index l.events)

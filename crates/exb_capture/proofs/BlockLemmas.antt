@@ -1,0 +1,158 @@
+-- pcapng is a format: what stands at a front stands whatever follows.
+use Rattle.std.proofs.Common.{◌≡◌, ◌<◌, ◌≤◌, ◌+◌, ◌-◌, ℕ, Bool, true, false, List, [], ◌++◌, length, take, drop, Option, Some, None, Result, Ok, Err, cond, refl, ap, sym, subst, ◌∙◌, arith}
+use Rattle.std.specs.Prelude.{nat_lt, nat_eq, ◌||◌, ◌&&◌, not, ◌==◌, ◌%◌}
+use Rattle.std.proofs.lemmas.Bool.{ltb-false, ltb-true, le-ltb, eqb-true}
+use Rattle.std.proofs.lemmas.List.{take-append-le, take-take, drop-take}
+use Rattle.exb_capture.specs.declared.fault.Fault.{Fault}
+use Rattle.exb_capture.specs.declared.fault.Flaw.TheVariants.{Cut, Length}
+use Rattle.exb_capture.specs.declared.order.ByteOrder.{ByteOrder}
+use Rattle.exb_capture.specs.declared.interface.Interface.{Interface}
+use Rattle.exb_capture.specs.Within.{section_of}
+use Rattle.exb_capture.specs.declared.block.Kind.{Kind}
+use Rattle.exb_capture.specs.declared.block.Head.{Head}
+use Rattle.exb_capture.specs.declared.block.Content.{Content}
+use Rattle.exb_capture.specs.declared.block.Content.TheVariants.{Skipped, NewSection, NewInterface, Packet}
+use Rattle.exb_capture.specs.Formats.{Front, Nothing, Short, Over, Holds, fault}
+use Rattle.exb_capture.specs.Pieces.{IsFormat}
+use Rattle.exb_capture.proofs.FormatLemmas.{IsDecided, longer, IsMeasured, format_by, not_empty}
+use Rattle.exb_capture.specs.Fields.{◌>>=◌, refuse, word}
+use Rattle.exb_capture.specs.Blocks.{Sections, order_of, interfaces_of, kind_of, is_read, is_no_size, order_at, head_at, block_at, shown, whole_front, headed_front, block_front, most_held}
+
+-- a block that is there
+abbrev pub block : Sections → Head → List ℕ → Front Sections
+block s head left = shown s head (take head.size left) (block_at head (interfaces_of s.section) s.last (take head.size left))
+
+whole_stands : (s : Sections) (head : Head) (h more : List ℕ) → IsDecided (whole_front s head h) → whole_front s head (h ++ more) ≡ whole_front s head h
+whole_stands s head h more = by_size (nat_lt (length h) head.size) refl
+  where
+    by_size : (b : Bool) → nat_lt (length h) head.size ≡ b → IsDecided (cond b (Short (fault Cut 0)) (block s head h))
+        → whole_front s head (h ++ more) ≡ cond b (Short (fault Cut 0)) (block s head h)
+    by_size true e never = absurd never
+    by_size false e is =
+        let fits = ltb-false (length h) head.size e in
+        ap (λ b. cond b (Short (fault Cut 0)) (block s head (h ++ more))) (longer h more head.size fits)
+        ∙ ap (λ b. shown s head b (block_at head (interfaces_of s.section) s.last b)) (take-append-le head.size h more fits)
+
+headed_stands : (s : Sections) (x : Result Head Fault) (h more : List ℕ) → IsDecided (headed_front s x h) → headed_front s x (h ++ more) ≡ headed_front s x h
+headed_stands s (Err f) h more = λ is. refl
+headed_stands s (Ok head) h more = by_kind (is_read head.kind)
+  where
+    by_kind : (b : Bool) → IsDecided (cond b (whole_front s head h) (Over head.size s)) → cond b (whole_front s head (h ++ more)) (Over head.size s) ≡ cond b (whole_front s head h) (Over head.size s)
+    by_kind true is = whole_stands s head h more is
+    by_kind false is = refl
+
+pub block_stands : (s : Sections) (h more : List ℕ) → IsDecided (block_front s h) → block_front s (h ++ more) ≡ block_front s h
+unfolding block_front
+block_stands s h more = by_none (nat_eq (length h) 0)
+  where
+    rest : List ℕ → Front Sections
+    rest left = cond (nat_lt (length left) 12) (Short (fault Cut 0)) (headed_front s (head_at (order_of s.section) (take 12 left)) left)
+
+    by_head : (b : Bool) → nat_lt (length h) 12 ≡ b → IsDecided (cond b (Short (fault Cut 0)) (headed_front s (head_at (order_of s.section) (take 12 h)) h))
+        → cond (nat_eq (length (h ++ more)) 0) Nothing (rest (h ++ more)) ≡ cond b (Short (fault Cut 0)) (headed_front s (head_at (order_of s.section) (take 12 h)) h)
+    by_head true e never = absurd never
+    by_head false e is =
+        let fits = ltb-false (length h) 12 e in
+        ap (λ b. cond b Nothing (rest (h ++ more))) (not_empty h more (omega (arith, fits)))
+        ∙ ap (λ b. cond b (Short (fault Cut 0)) (headed_front s (head_at (order_of s.section) (take 12 (h ++ more))) (h ++ more))) (longer h more 12 fits)
+        ∙ ap (λ twelve. headed_front s (head_at (order_of s.section) twelve) (h ++ more)) (take-append-le 12 h more fits)
+        ∙ headed_stands s (head_at (order_of s.section) (take 12 h)) h more is
+
+    by_none : (b : Bool) → IsDecided (cond b Nothing (rest h)) → cond (nat_eq (length (h ++ more)) 0) Nothing (rest (h ++ more)) ≡ cond b Nothing (rest h)
+    by_none true never = absurd never
+    by_none false is = by_head (nat_lt (length h) 12) refl is
+
+-- ---- sizes
+-- what a head that is read tells of the size
+pub record IsSized (head : Head) : Type 0 where
+  pub some : 12 ≤ head.size
+  pub most : is_read head.kind ≡ true → head.size ≤ 327_680
+
+no_or : (a b : Bool) → (a || b) ≡ false → (a ≡ false) × (b ≡ false)
+no_or true b e = absurd (cc)
+no_or false b e = (refl, e)
+
+no_and : (a b : Bool) → (a && b) ≡ false → a ≡ true → b ≡ false
+no_and true b e h = e
+no_and false b e h = absurd (cc)
+
+sized_by : (kind : Kind) (size : ℕ) → is_no_size kind size ≡ false → (12 ≤ size) × (is_read kind ≡ true → size ≤ 327_680)
+sized_by kind size e =
+    let parts = no_or (nat_lt size 12 || not (size % 4 == 0)) (is_read kind && nat_lt 327_680 size) e in (
+      ltb-false size 12 (no_or (nat_lt size 12) (not (size % 4 == 0)) parts.0).0,
+      λ read. ltb-false 327_680 size (no_and (is_read kind) (nat_lt 327_680 size) parts.1 read),
+    )
+
+pub head_sized : (old : Option ByteOrder) (twelve : List ℕ) (head : Head) → head_at old twelve ≡ Ok head → IsSized head
+head_sized old twelve head = by_order (order_at old twelve)
+  where
+    by_test : (order : ByteOrder) (b : Bool) → is_no_size (kind_of (word order twelve 0)) (word order twelve 4) ≡ b
+        → (refuse b (fault Length 4) >>= (λ sized. Ok (record { order = order; kind = kind_of (word order twelve 0); size = word order twelve 4 }))) ≡ Ok head → IsSized head
+    by_test order true t e = absurd (cc)
+    by_test order false t e =
+        let same : record { order = order; kind = kind_of (word order twelve 0); size = word order twelve 4 } ≡ head = cc in
+        let sized = sized_by (kind_of (word order twelve 0)) (word order twelve 4) t in
+        subst IsSized same (record { some = sized.0; most = sized.1 })
+
+    by_order : (x : Result ByteOrder Fault)
+        → (x >>= (λ order. refuse (is_no_size (kind_of (word order twelve 0)) (word order twelve 4)) (fault Length 4) >>= (λ sized. Ok (record { order = order; kind = kind_of (word order twelve 0); size = word order twelve 4 }))))
+        ≡ Ok head → IsSized head
+    by_order (Ok order) e = by_test order (is_no_size (kind_of (word order twelve 0)) (word order twelve 4)) refl e
+    by_order (Err f) e = absurd (cc)
+
+shown_measured : (s : Sections) (head : Head) (b : List ℕ) (x : Result Content Fault) (h : List ℕ) → 0 < head.size → head.size ≤ length h → IsMeasured most_held h (shown s head b x)
+shown_measured s head b (Ok Skipped) h some fits = some
+shown_measured s head b (Ok NewSection) h some fits = some
+shown_measured s head b (Ok (NewInterface i)) h some fits = some
+shown_measured s head b (Ok (Packet moment from n)) h some fits = (some, fits)
+shown_measured s head b (Err f) h some fits = tt
+
+headed_measured : (s : Sections) (x : Result Head Fault) (h : List ℕ) → ((head : Head) → x ≡ Ok head → IsSized head) → IsMeasured most_held h (headed_front s x h)
+headed_measured s (Err f) h sized = tt
+headed_measured s (Ok head) h sized = by_kind (is_read head.kind) refl
+  where
+    by_size : (b : Bool) → nat_lt (length h) head.size ≡ b → is_read head.kind ≡ true → IsMeasured most_held h (cond b (Short (fault Cut 0)) (block s head h))
+    by_size true e read = let few = ltb-true (length h) head.size e in let most = (sized head refl).most read in omega (arith, few, most)
+    by_size false e read = shown_measured s head (take head.size h) (block_at head (interfaces_of s.section) s.last (take head.size h)) h (let some = (sized head refl).some in omega (arith, some)) (ltb-false (length h) head.size e)
+
+    by_kind : (b : Bool) → is_read head.kind ≡ b → IsMeasured most_held h (cond b (whole_front s head h) (Over head.size s))
+    by_kind true read = by_size (nat_lt (length h) head.size) refl read
+    by_kind false read = let some = (sized head refl).some in omega (arith, some)
+
+pub block_measured : (s : Sections) (h : List ℕ) → IsMeasured most_held h (block_front s h)
+unfolding block_front
+block_measured s h = by_none (nat_eq (length h) 0) refl
+  where
+    by_head : (b : Bool) → nat_lt (length h) 12 ≡ b → IsMeasured most_held h (cond b (Short (fault Cut 0)) (headed_front s (head_at (order_of s.section) (take 12 h)) h))
+    by_head true e = let few = ltb-true (length h) 12 e in omega (arith, few)
+    by_head false e = headed_measured s (head_at (order_of s.section) (take 12 h)) h (head_sized (order_of s.section) (take 12 h))
+
+    by_none : (b : Bool) → nat_eq (length h) 0 ≡ b
+        → IsMeasured most_held h (cond b Nothing (cond (nat_lt (length h) 12) (Short (fault Cut 0)) (headed_front s (head_at (order_of s.section) (take 12 h)) h)))
+    by_none true e = let none = eqb-true (length h) 0 e in omega (arith, none)
+    by_none false e = by_head (nat_lt (length h) 12) refl
+
+pub blocks_are_a_format : IsFormat most_held block_front
+blocks_are_a_format = format_by most_held block_front block_stands block_measured
+
+-- ---- a packet, as the code finds it
+pub interfaces_is : (order : Option ByteOrder) (interfaces : List Interface) → (order ≡ None → interfaces ≡ []) → interfaces ≡ interfaces_of (section_of order interfaces)
+interfaces_is None interfaces h = h refl
+interfaces_is (Some order) interfaces h = refl
+
+pub part_of : (held : List ℕ) (from n size : ℕ) → from + n ≤ size → take n (drop from held) ≡ take n (drop from (take size held))
+part_of held from n size fits =
+    let whole : from + (size - from) ≡ size = omega arith in
+    sym (take-take n (size - from) (drop from held) (omega arith))
+    ∙ ap (take n) (sym (drop-take from (size - from) held) ∙ ap (λ k. drop from (take k held)) whole)
+
+pub packet_front : (order : Option ByteOrder) (interfaces : List Interface) (last : ℕ) (head : Head) (held : List ℕ) (moment from n : ℕ) → (order ≡ None → interfaces ≡ [])
+    → head.size ≤ length held → from + n ≤ head.size
+    → Ok (Packet moment from n) ≡ block_at head interfaces last (take head.size held)
+    → Holds (record { time = moment; bytes = take n (drop from held) }) head.size (record { section = section_of order interfaces; last = moment })
+    ≡ whole_front (record { section = section_of order interfaces; last = last }) head held
+packet_front order interfaces last head held moment from n none there fits e =
+    let s : Sections = record { section = section_of order interfaces; last = last } in
+    ap (λ bytes. Holds (record { time = moment; bytes = bytes }) head.size (record { section = section_of order interfaces; last = moment })) (part_of held from n head.size fits)
+    ∙ ap (shown s head (take head.size held)) (e ∙ ap (λ xs. block_at head xs last (take head.size held)) (interfaces_is order interfaces none))
+    ∙ ap (λ b. cond b (Short (fault Cut 0)) (block s head held)) (sym (le-ltb (length held) head.size there))

@@ -1,0 +1,13 @@
+pub mod AgreeLemmas
+pub mod BlockLemmas
+pub mod BufferLemmas
+pub mod CaptureLemmas
+pub mod ClassicLemmas
+pub mod FormatLemmas
+pub mod FrontLemmas
+pub mod OptionLemmas
+pub mod PieceLaws
+pub mod ReaderLemmas
+pub mod RowLemmas
+pub mod TurnLemmas
+pub mod UnitLemmas

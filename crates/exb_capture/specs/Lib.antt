@@ -1,0 +1,10 @@
+pub mod Asked
+pub mod Blocks
+pub mod Captures
+pub mod Classic
+pub mod Cutting
+pub mod Fields
+pub mod Formats
+pub mod Pieces
+pub mod Rows
+pub mod Within

@@ -1,0 +1,422 @@
+//! The blocks of a pcapng file, each looked at once.
+ghost use Rattle.std.specs.Prelude.{◌≡◌, ◌≤◌, ◌<◌, ◌*◌, ◌^◌, ◌+◌, ◌-◌, ◌%◌, All, None, length, IfOk};
+ghost use Rattle.exb_capture.specs.Blocks.{new_order, order_at, kind_of, is_read, head_at, padded, is_no_frame, units_at, snapped, digits_at, or_option, or_six, resolution_from, interface_number, section_at, interface_at, enhanced_at, simple_at, content_at, block_at};
+ghost use Rattle.exb_capture.specs.Within.{HasDigits, HasResolution, IsIn, IsHead};
+ghost use Rattle.exb_capture.specs.Fields.{nanoseconds};
+
+use crate::fault::{Fault, Flaw};
+use crate::interface::Interface;
+use crate::order::{ByteOrder, half_word_at, word_at};
+
+const SECTION_HEADER: u32 = 0x0A0D_0D0A;
+
+const SECTION_MAGIC: u32 = 0x1A2B_3C4D;
+
+const MOST_SIZE: u32 = 327_680;
+
+const MOST_BYTES: u32 = 262_144;
+
+const SECONDS: u64 = 4_294_967_296;
+
+/// What is read of a block.
+#[derive(Clone, Copy, PartialEq, Eq)]
+pub enum Kind {
+    SectionHeader,
+    InterfaceBlock,
+    EnhancedPacket,
+    SimplePacket,
+    Other,
+}
+
+/// What the first twelve bytes of a block say.
+#[derive(Clone, Copy)]
+pub struct Head {
+    pub order: ByteOrder,
+    pub kind: Kind,
+    pub size: u32,
+}
+
+/// What a block says: nothing that is read; that a section begins; an interface; or a frame, with its moment,
+/// where in the block it begins and how many bytes it has.
+#[derive(Clone, Copy)]
+pub enum Content {
+    Skipped,
+    NewSection,
+    NewInterface(Interface),
+    Packet { moment: u64, from: u32, bytes: u32 },
+}
+
+// The same flaw, so many bytes behind a block's front.
+pub(crate) fn flaw(flaw: Flaw, at: u64) -> Fault
+    ensures { result ≡ record { flaw = flaw; at = at } }
+{
+    Fault { flaw, at }
+}
+
+impl Kind {
+    // By the number at a block's front.
+    fn of(number: u32) -> Kind
+        ensures { result ≡ kind_of number }
+    {
+        match number {
+            SECTION_HEADER => Kind::SectionHeader,
+            1 => Kind::InterfaceBlock,
+            6 => Kind::EnhancedPacket,
+            3 => Kind::SimplePacket,
+            _ => Kind::Other,
+        }
+    }
+
+    // Whether a block of this kind is looked into.
+    pub(crate) fn is_read(self) -> bool
+        ensures { result ≡ is_read self }
+    {
+        match self {
+            Kind::SectionHeader
+            | Kind::InterfaceBlock
+            | Kind::EnhancedPacket
+            | Kind::SimplePacket => true,
+            Kind::Other => false,
+        }
+    }
+}
+
+// The order of bytes of the section that this header begins.
+fn new_order(twelve: &[u8]) -> Result<ByteOrder, Fault>
+    requires { 12 ≤ length twelve.now }
+    ensures { result ≡ new_order twelve.now }
+{
+    if word_at(ByteOrder::Big, twelve, 8) == SECTION_MAGIC {
+        Ok(ByteOrder::Big)
+    } else if word_at(ByteOrder::Little, twelve, 8) == SECTION_MAGIC {
+        Ok(ByteOrder::Little)
+    } else {
+        Err(flaw(Flaw::Magic, 8))
+    }
+}
+
+// The order of bytes of a block, in a section of this order.
+fn order_at(old: Option<ByteOrder>, twelve: &[u8]) -> Result<ByteOrder, Fault>
+    requires { 12 ≤ length twelve.now }
+    ensures { result ≡ order_at old twelve.now }
+{
+    if word_at(ByteOrder::Big, twelve, 0) == SECTION_HEADER {
+        return new_order(twelve);
+    }
+    match old {
+        Some(order) => Ok(order),
+        None => Err(flaw(Flaw::Magic, 8)),
+    }
+}
+
+/// What the first twelve bytes of a block say, in a section of this order.
+pub(crate) fn head_of(old: Option<ByteOrder>, twelve: &[u8]) -> Result<Head, Fault>
+    requires { 12 ≤ length twelve.now }
+    ensures value { result ≡ head_at old twelve.now }
+    ensures sized { IfOk result IsHead }
+{
+    let order = match order_at(old, twelve) {
+        Ok(order) => order,
+        Err(fault) => return Err(fault),
+    };
+    let kind = Kind::of(word_at(order, twelve, 0));
+    let size = word_at(order, twelve, 4);
+    if size < 12 || size % 4 != 0 || kind.is_read() && size > MOST_SIZE {
+        return Err(flaw(Flaw::Length, 4));
+    }
+    Ok(Head { order, kind, size })
+}
+
+// The next multiple of four.
+fn padded(n: u32) -> u32
+    requires { n ≤ 262_144 }
+    ensures { result ≡ padded n }
+{
+    (n + 3) / 4 * 4
+}
+
+// Whether a frame is too long, or doesn't fit into a block of this size behind so many bytes.
+fn is_no_frame(size: u32, head: u32, n: u32) -> bool
+    requires { head ≤ 32 }
+    ensures { result ≡ is_no_frame size head n }
+{
+    n > MOST_BYTES || size < head + padded(n)
+}
+
+// How many units of this resolution make a second.
+fn units(digits: u8) -> u64
+    requires { digits ≤ 9 }
+    ensures { result ≡ 10 ^ digits }
+{
+    match digits {
+        0 => 1,
+        1 => 10,
+        2 => 100,
+        3 => 1_000,
+        4 => 10_000,
+        5 => 100_000,
+        6 => 1_000_000,
+        7 => 10_000_000,
+        8 => 100_000_000,
+        _ => 1_000_000_000,
+    }
+}
+
+// A time below 2^32 seconds in nanoseconds.
+fn nanoseconds(digits: u8, time: u64) -> u64
+    requires digits { digits ≤ 9 }
+    requires early { time < 2 ^ 32 * 10 ^ digits }
+    ensures moment { result ≡ nanoseconds digits time }
+    ensures in_time { result < 2 ^ 32 * 1_000_000_000 }
+{
+    time * units(9 - digits)
+}
+
+// A time in units, as its two halves stand in a block.
+fn units_at(order: ByteOrder, block: &[u8]) -> u64
+    requires { 20 ≤ length block.now }
+    ensures { result ≡ units_at order block.now }
+{
+    (word_at(order, block, 12) as u64) * SECONDS + word_at(order, block, 16) as u64
+}
+
+// A length cut to what is stored of a frame.
+fn snapped(snap: u32, n: u32) -> u32
+    ensures { result ≡ snapped snap n }
+{
+    if snap == 0 { n } else { n.min(snap) }
+}
+
+fn section(head: Head, block: &[u8]) -> Result<Content, Fault>
+    requires { length block.now ≡ head.size }
+    ensures value { result ≡ section_at head block.now }
+    ensures within { IfOk result (IsIn head.size 0) }
+{
+    if head.size < 28 {
+        return Err(flaw(Flaw::Length, 4));
+    }
+    if half_word_at(head.order, block, 12) != 1 {
+        return Err(flaw(Flaw::Version, 12));
+    }
+    Ok(Content::NewSection)
+}
+
+// What an option 9 says.
+fn digits_at(order: ByteOrder, block: &[u8], at: usize) -> Result<u8, Fault>
+    requires { at + 8 ≤ length block.now }
+    ensures value { result ≡ digits_at order at block.now }
+    ensures digits { IfOk result (λ digits. digits ≤ 9) }
+{
+    if half_word_at(order, block, at + 2) == 1 && block[at + 4] <= 9 {
+        Ok(block[at + 4])
+    } else {
+        Err(flaw(Flaw::Resolution, at as u64))
+    }
+}
+
+// With the option at this place, where none before it was an option 9.
+fn or_option(
+    first: Option<Result<u8, Fault>>,
+    order: ByteOrder,
+    block: &[u8],
+    at: usize,
+) -> Option<Result<u8, Fault>>
+    requires there { at + 8 ≤ length block.now }
+    requires digits { HasDigits first }
+    ensures value { result ≡ or_option first order at block.now }
+    ensures digits { HasDigits result }
+{
+    match first {
+        Some(first) => Some(first),
+        None => {
+            if half_word_at(order, block, at) == 9 {
+                Some(digits_at(order, block, at))
+            } else {
+                None
+            }
+        }
+    }
+}
+
+// What the first option 9 says, or 6 digits.
+fn or_six(first: Option<Result<u8, Fault>>) -> Result<u8, Fault>
+    requires { HasDigits first }
+    ensures value { result ≡ or_six first }
+    ensures digits { IfOk result (λ digits. digits ≤ 9) }
+{
+    match first {
+        Some(first) => first,
+        None => Ok(6),
+    }
+}
+
+// What the options of an interface block say of its resolution.
+#[tactic(auto, using(crate::proofs::OptionLemmas::from_end, crate::proofs::OptionLemmas::from_zero, crate::proofs::OptionLemmas::from_past, crate::proofs::OptionLemmas::from_next))]
+fn resolution(order: ByteOrder, block: &[u8]) -> Result<u8, Fault>
+    requires long { 20 ≤ length block.now }
+    requires most { length block.now ≤ 327_680 }
+    requires fours { length block.now % 4 ≡ 0 }
+    ensures value { result ≡ resolution_from order None 16 (length block.now - 4) block.now }
+    ensures digits { IfOk result (λ digits. digits ≤ 9) }
+{
+    let to = block.len() - 4;
+    let mut at = 16usize;
+    let mut first: Option<Result<u8, Fault>> = None;
+    'options: loop {
+        if at >= to {
+            return or_six(first);
+        }
+        if half_word_at(order, block, at) == 0 {
+            return or_six(first);
+        }
+        let size = half_word_at(order, block, at + 2) as usize;
+        if to < at + 4 + size {
+            return Err(flaw(Flaw::Length, at as u64));
+        }
+        first = or_option(first, order, block, at);
+        at = at + 4 + (size + 3) / 4 * 4;
+    }
+}
+
+// The interface of this number.
+fn numbered(interfaces: &[Interface], number: u32, none: Fault) -> Result<Interface, Fault>
+    requires { All HasResolution interfaces.now }
+    ensures value { result ≡ interface_number interfaces.now number none }
+    ensures digits { IfOk result HasResolution }
+{
+    if (number as usize) < interfaces.len() {
+        Ok(interfaces[number as usize])
+    } else {
+        Err(none)
+    }
+}
+
+fn interface(head: Head, interfaces: &[Interface], block: &[u8]) -> Result<Content, Fault>
+    requires whole { length block.now ≡ head.size }
+    requires fours { head.size % 4 ≡ 0 }
+    requires most { head.size ≤ 327_680 }
+    ensures value { result ≡ interface_at head interfaces.now block.now }
+    ensures within { IfOk result (IsIn head.size (length interfaces.now)) }
+{
+    if head.size < 20 {
+        return Err(flaw(Flaw::Length, 4));
+    }
+    if interfaces.len() >= 256 {
+        return Err(flaw(Flaw::TooMany, 0));
+    }
+    match resolution(head.order, block) {
+        Ok(digits) => Ok(Content::NewInterface(Interface {
+            link: half_word_at(head.order, block, 8),
+            snap: word_at(head.order, block, 12),
+            digits,
+        })),
+        Err(fault) => Err(fault),
+    }
+}
+
+fn enhanced(head: Head, interfaces: &[Interface], block: &[u8]) -> Result<Content, Fault>
+    requires whole { length block.now ≡ head.size }
+    requires digits { All HasResolution interfaces.now }
+    ensures value { result ≡ enhanced_at head interfaces.now block.now }
+    ensures within { IfOk result (IsIn head.size (length interfaces.now)) }
+{
+    if head.size < 32 {
+        return Err(flaw(Flaw::Length, 4));
+    }
+    let number = word_at(head.order, block, 8);
+    let interface = match numbered(interfaces, number, flaw(Flaw::Interface, 8)) {
+        Ok(interface) => interface,
+        Err(fault) => return Err(fault),
+    };
+    if interface.link != 1 {
+        return Err(flaw(Flaw::LinkType, 8));
+    }
+    let time = units_at(head.order, block);
+    if time >= SECONDS * units(interface.digits) {
+        return Err(flaw(Flaw::Time, 12));
+    }
+    let bytes = word_at(head.order, block, 20);
+    if is_no_frame(head.size, 32, bytes) {
+        return Err(flaw(Flaw::Length, 20));
+    }
+    Ok(Content::Packet {
+        moment: nanoseconds(interface.digits, time),
+        from: 28,
+        bytes,
+    })
+}
+
+fn simple(head: Head, interfaces: &[Interface], last: u64, block: &[u8]) -> Result<Content, Fault>
+    requires whole { length block.now ≡ head.size }
+    requires digits { All HasResolution interfaces.now }
+    requires last { last < 2 ^ 32 * 1_000_000_000 }
+    ensures value { result ≡ simple_at head interfaces.now last block.now }
+    ensures within { IfOk result (IsIn head.size (length interfaces.now)) }
+{
+    if head.size < 16 {
+        return Err(flaw(Flaw::Length, 4));
+    }
+    let interface = match numbered(interfaces, 0, flaw(Flaw::Interface, 0)) {
+        Ok(interface) => interface,
+        Err(fault) => return Err(fault),
+    };
+    if interface.link != 1 {
+        return Err(flaw(Flaw::LinkType, 0));
+    }
+    let bytes = snapped(interface.snap, word_at(head.order, block, 8));
+    if is_no_frame(head.size, 16, bytes) {
+        return Err(flaw(Flaw::Length, 8));
+    }
+    Ok(Content::Packet {
+        moment: last,
+        from: 12,
+        bytes,
+    })
+}
+
+fn content_of(
+    head: Head,
+    interfaces: &[Interface],
+    last: u64,
+    block: &[u8],
+) -> Result<Content, Fault>
+    requires whole { length block.now ≡ head.size }
+    requires fours { head.size % 4 ≡ 0 }
+    requires most { head.size ≤ 327_680 }
+    requires digits { All HasResolution interfaces.now }
+    requires last { last < 2 ^ 32 * 1_000_000_000 }
+    ensures value { result ≡ content_at head.kind head interfaces.now last block.now }
+    ensures within { IfOk result (IsIn head.size (length interfaces.now)) }
+{
+    match head.kind {
+        Kind::SectionHeader => section(head, block),
+        Kind::InterfaceBlock => interface(head, interfaces, block),
+        Kind::EnhancedPacket => enhanced(head, interfaces, block),
+        Kind::SimplePacket => simple(head, interfaces, last, block),
+        Kind::Other => Ok(Content::Skipped),
+    }
+}
+
+/// What a whole block says, in a section of these interfaces, where the record before had this moment.
+#[tactic(auto, unfolding(crate::specs::Blocks::block_at))]
+pub(crate) fn whole_block(
+    head: Head,
+    interfaces: &[Interface],
+    last: u64,
+    block: &[u8],
+) -> Result<Content, Fault>
+    requires whole { length block.now ≡ head.size }
+    requires some { 12 ≤ head.size }
+    requires fours { head.size % 4 ≡ 0 }
+    requires most { head.size ≤ 327_680 }
+    requires digits { All HasResolution interfaces.now }
+    requires last { last < 2 ^ 32 * 1_000_000_000 }
+    ensures value { result ≡ block_at head interfaces.now last block.now }
+    ensures within { IfOk result (IsIn head.size (length interfaces.now)) }
+{
+    let end = head.size - 4;
+    if word_at(head.order, block, end as usize) != head.size {
+        return Err(flaw(Flaw::Length, end as u64));
+    }
+    content_of(head, interfaces, last, block)
+}

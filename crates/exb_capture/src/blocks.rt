@@ -1,0 +1,124 @@
+//! pcapng, block by block.
+ghost use Rattle.std.specs.Prelude.{◌≡◌, ◌≤◌, ◌<◌, ◌%◌, true, length, IfOk};
+ghost use Rattle.exb_capture.specs.Blocks.{Sections, no_section, whole_front, block_front};
+ghost use Rattle.exb_capture.specs.Within.{IsHead, told, Keeps, IsWithin};
+
+use crate::block::{Content, Head, head_of, whole_block};
+use crate::fault::{Fault, Flaw};
+use crate::format::Format;
+use crate::front::Front;
+use crate::interface::Interface;
+use crate::order::ByteOrder;
+use arrayvec::ArrayVec;
+use std::marker::Model;
+
+/// How far a pcapng file was read: the order of bytes and the interfaces of its section, and the moment of
+/// the record before, or 0.
+#[derive(Drop)]
+pub struct Blocks {
+    order: Option<ByteOrder>,
+    interfaces: ArrayVec<Interface, 256>,
+    last: u64,
+}
+
+impl Model for Blocks {
+    ghost use Rattle.exb_capture.specs.Blocks.{Sections};
+    ghost use Rattle.exb_capture.specs.Within.{IsBlocks, section_of};
+
+    ghost Value = { Sections };
+
+    ghost view = { λ b. record { section = section_of b.order b.interfaces.items; last = b.last } };
+
+    ghost invariant = { λ b. IsBlocks b.order b.interfaces.items b.last };
+}
+
+impl Blocks {
+    /// Before the first block.
+    pub fn new() -> Blocks
+        ensures { result ≡ no_section }
+    {
+        Blocks {
+            order: None,
+            interfaces: ArrayVec::new(),
+            last: 0,
+        }
+    }
+
+    // What stands there, where it is a block that is looked into.
+    fn whole(&mut self, head: Head, held: &[u8]) -> Front
+        requires sized { IsHead head }
+        requires most { head.size ≤ 327_680 }
+        ensures value { told result self.new held.now ≡ whole_front self.old head held.now }
+        ensures same { Keeps result (self.new ≡ self.old) }
+        ensures within { IsWithin held.now result }
+    {
+        let size = head.size as usize;
+        if held.len() < size {
+            return Front::Short(Fault {
+                flaw: Flaw::Cut,
+                at: 0,
+            });
+        }
+        match whole_block(head, self.interfaces.as_slice(), self.last, &held[..size]) {
+            Ok(Content::Skipped) => Front::Over(head.size),
+            Ok(Content::NewSection) => {
+                self.order = Some(head.order);
+                self.interfaces.clear();
+                Front::Over(head.size)
+            }
+            Ok(Content::NewInterface(interface)) => {
+                self.order = Some(head.order);
+                self.interfaces.push(interface);
+                Front::Over(head.size)
+            }
+            Ok(
+                Content::Packet {
+                    moment,
+                    from,
+                    bytes,
+                },
+            ) => {
+                self.last = moment;
+                Front::Holds {
+                    moment,
+                    from,
+                    bytes,
+                    size: head.size,
+                }
+            }
+            Err(fault) => Front::Bad(fault),
+        }
+    }
+}
+
+impl Format for Blocks {
+    ghost use Rattle.exb_capture.specs.Blocks.{block_front};
+
+    ghost stands = { block_front };
+
+    /// What stands at the front of these bytes; what was read is known from then on.
+    #[tactic(auto, unfolding(crate::specs::Blocks::block_front))]
+    fn front(&mut self, held: &[u8]) -> Front {
+        if held.is_empty() {
+            return Front::Nothing;
+        }
+        if held.len() < 12 {
+            return Front::Short(Fault {
+                flaw: Flaw::Cut,
+                at: 0,
+            });
+        }
+        match head_of(self.order, &held[..12]) {
+            Ok(head) => {
+                if head.kind.is_read() {
+                    self.whole(head, held)
+                } else {
+                    Front::Over(head.size)
+                }
+            }
+            Err(fault) => Front::Bad(fault),
+        }
+    }
+
+    fn is_a_format(&self) {}
+}

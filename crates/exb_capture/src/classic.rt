@@ -1,0 +1,204 @@
+//! Classic pcap: a header, and then record by record.
+ghost use Rattle.std.specs.Prelude.{◌≡◌, ◌&&◌, ◌≤◌, ◌<◌, ◌-◌, ◌*◌, ◌^◌, ◌∷◌, [], length, IfOk};
+ghost use Rattle.exb_capture.specs.Classic.{digits, classic_front, magic_front, record_front, header_at, shown_header, head_at, form_of, time_at};
+ghost use Rattle.exb_capture.specs.Fields.{agrees, byte_agrees, word};
+ghost use Rattle.exb_capture.specs.Within.{told, Keeps, IsWithin};
+
+use crate::block::flaw;
+use crate::fault::{Fault, Flaw};
+use crate::format::Format;
+use crate::front::Front;
+use crate::order::{ByteOrder, half_word_at, word_at};
+
+/// What a record's fraction of a second counts.
+#[derive(Clone, Copy, Drop)]
+pub enum Resolution {
+    Micros,
+    Nanos,
+}
+
+/// What the magic number says of all that follows it.
+#[derive(Clone, Copy, Drop)]
+pub struct Form {
+    pub order: ByteOrder,
+    pub resolution: Resolution,
+}
+
+/// How far a classic file was read: to its header, or behind it.
+#[derive(Clone, Copy, Drop)]
+pub enum Reached {
+    Start,
+    Behind(Form),
+}
+
+impl Resolution {
+    // How many units make a second.
+    fn units(self) -> u32
+        ensures { result ≡ 10 ^ digits self }
+    {
+        match self {
+            Resolution::Micros => 1_000_000,
+            Resolution::Nanos => 1_000_000_000,
+        }
+    }
+}
+
+// Whether the byte at this place is that one, where it is there.
+fn byte_agrees(byte: u8, bytes: &[u8], at: usize) -> bool
+    ensures { result ≡ byte_agrees byte bytes.now at }
+{
+    bytes.len() <= at || byte == bytes[at]
+}
+
+// Whether all four hold.
+fn all_four(p: bool, q: bool, r: bool, s: bool) -> bool
+    ensures { result ≡ (((p && q) && r) && s) }
+{
+    if !p {
+        return false;
+    }
+    if !q {
+        return false;
+    }
+    if !r {
+        return false;
+    }
+    s
+}
+
+// Whether these bytes are those of a magic number, as far as both go.
+#[tactic(auto, using(crate::proofs::AgreeLemmas::agrees_by))]
+pub(crate) fn agrees(a: u8, b: u8, c: u8, d: u8, bytes: &[u8]) -> bool
+    ensures { result ≡ agrees (a ∷ b ∷ c ∷ d ∷ []) bytes.now }
+{
+    let first = byte_agrees(a, bytes, 0);
+    let second = byte_agrees(b, bytes, 1);
+    let third = byte_agrees(c, bytes, 2);
+    let fourth = byte_agrees(d, bytes, 3);
+    all_four(first, second, third, fourth)
+}
+
+// What the magic number says, as far as it is there.
+fn form_of(left: &[u8]) -> Option<Form>
+    ensures { result ≡ form_of left.now }
+{
+    let (order, resolution) = if agrees(0xA1, 0xB2, 0xC3, 0xD4, left) {
+        (ByteOrder::Big, Resolution::Micros)
+    } else if agrees(0xA1, 0xB2, 0x3C, 0x4D, left) {
+        (ByteOrder::Big, Resolution::Nanos)
+    } else if agrees(0xD4, 0xC3, 0xB2, 0xA1, left) {
+        (ByteOrder::Little, Resolution::Micros)
+    } else if agrees(0x4D, 0x3C, 0xB2, 0xA1, left) {
+        (ByteOrder::Little, Resolution::Nanos)
+    } else {
+        return None;
+    };
+    Some(Form { order, resolution })
+}
+
+// What stands at the front of a file.
+fn start(held: &[u8]) -> (Front, Reached)
+    ensures value { told result.0 result.1 held.now ≡ magic_front (form_of held.now) held.now }
+    ensures same { Keeps result.0 (result.1 ≡ Reached.Start) }
+    ensures within { IsWithin held.now result.0 }
+{
+    let Some(form) = form_of(held) else {
+        return (Front::Bad(flaw(Flaw::NotPcap, 0)), Reached::Start);
+    };
+    if held.len() < 4 {
+        return (Front::Short(flaw(Flaw::NotPcap, 0)), Reached::Start);
+    }
+    if held.len() < 24 {
+        return (Front::Short(flaw(Flaw::Cut, 0)), Reached::Start);
+    }
+    let header = &held[..24];
+    if half_word_at(form.order, header, 4) != 2 || half_word_at(form.order, header, 6) != 4 {
+        return (Front::Bad(flaw(Flaw::Version, 4)), Reached::Start);
+    }
+    if word_at(form.order, header, 20) != 1 {
+        return (Front::Bad(flaw(Flaw::LinkType, 20)), Reached::Start);
+    }
+    (Front::Over(24), Reached::Behind(form))
+}
+
+// The stored length in a record's head.
+fn stored(form: Form, head: &[u8]) -> Result<u32, Fault>
+    requires { 16 ≤ length head.now }
+    ensures value { result ≡ head_at form head.now }
+    ensures early { IfOk result (λ n. word form.order head.now 4 < 10 ^ digits form.resolution) }
+    ensures short { IfOk result (λ n. n ≤ 262_144) }
+{
+    if word_at(form.order, head, 4) >= form.resolution.units() {
+        return Err(flaw(Flaw::Time, 4));
+    }
+    let n = word_at(form.order, head, 8);
+    if n > 262_144 {
+        return Err(flaw(Flaw::Length, 8));
+    }
+    Ok(n)
+}
+
+// When a record was captured.
+fn time_at(form: Form, head: &[u8]) -> u64
+    requires head { 16 ≤ length head.now }
+    requires early { word form.order head.now 4 < 10 ^ digits form.resolution }
+    ensures value { result ≡ time_at form head.now }
+    ensures in_time { result < 2 ^ 32 * 1_000_000_000 }
+{
+    let fraction = word_at(form.order, head, 4) as u64;
+    let rest = match form.resolution {
+        Resolution::Micros => fraction * 1_000,
+        Resolution::Nanos => fraction,
+    };
+    (word_at(form.order, head, 0) as u64) * 1_000_000_000 + rest
+}
+
+// The record at the front of what is left.
+#[tactic(auto, using(crate::proofs::ClassicLemmas::record_is))]
+fn record(form: Form, held: &[u8]) -> Front
+    ensures value { told result (Reached.Behind form) held.now ≡ record_front form held.now }
+    ensures within { IsWithin held.now result }
+{
+    if held.is_empty() {
+        return Front::Nothing;
+    }
+    if held.len() < 16 {
+        return Front::Short(flaw(Flaw::Cut, 0));
+    }
+    let head = &held[..16];
+    match stored(form, head) {
+        Ok(bytes) => {
+            let size = 16 + bytes;
+            if held.len() < size as usize {
+                return Front::Short(flaw(Flaw::Cut, 0));
+            }
+            Front::Holds {
+                moment: time_at(form, head),
+                from: 16,
+                bytes,
+                size,
+            }
+        }
+        Err(fault) => Front::Bad(fault),
+    }
+}
+
+impl Format for Reached {
+    ghost use Rattle.exb_capture.specs.Classic.{classic_front};
+
+    ghost stands = { classic_front };
+
+    #[tactic(auto, unfolding(crate::specs::Classic::classic_front))]
+    fn front(&mut self, held: &[u8]) -> Front {
+        match *self {
+            Reached::Start => {
+                let (front, reached) = start(held);
+                *self = reached;
+                front
+            }
+            Reached::Behind(form) => record(form, held),
+        }
+    }
+
+    fn is_a_format(&self) {}
+}

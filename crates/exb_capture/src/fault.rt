@@ -1,0 +1,33 @@
+//! Why a file is no capture.
+
+/// What is wrong, by the tables of the two formats.
+#[derive(Clone, Copy, Debug, PartialEq, Eq)]
+pub enum Flaw {
+    /// It has no magic number of a classic capture.
+    NotPcap,
+    /// The version is none that is read.
+    Version,
+    /// The link type is not 1, Ethernet.
+    LinkType,
+    /// What begins here is cut off.
+    Cut,
+    /// A length is out of its range, or what it tells of has no room.
+    Length,
+    /// A time is out of its range.
+    Time,
+    /// A section's magic number stands in neither byte order.
+    Magic,
+    /// It is the 257th interface of its section.
+    TooMany,
+    /// A resolution is no power of ten that is read.
+    Resolution,
+    /// There is no such interface.
+    Interface,
+}
+
+/// What is wrong, and the byte at which it is.
+#[derive(Clone, Copy, Debug, PartialEq, Eq)]
+pub struct Fault {
+    pub flaw: Flaw,
+    pub at: u64,
+}

@@ -1,0 +1,20 @@
+//! What stands at the front of the bytes that are held.
+
+use crate::fault::Fault;
+
+/// What stands at the front: nothing; what more bytes decide, with its fault where the file ends; a fault
+/// whatever follows; so many bytes that are no record and needn't all be there yet; or a record, by its moment,
+/// where its bytes begin, how many they are, and how many the whole takes.
+#[derive(Clone, Copy)]
+pub enum Front {
+    Nothing,
+    Short(Fault),
+    Bad(Fault),
+    Over(u32),
+    Holds {
+        moment: u64,
+        from: u32,
+        bytes: u32,
+        size: u32,
+    },
+}

@@ -1,0 +1,17 @@
+pub mod TextReading
+pub mod Entries
+pub mod LineTexts
+pub mod Reading
+pub mod Places
+pub mod Watching
+pub mod Words
+pub mod Captured
+pub mod Entering
+pub mod LegalTrace
+pub mod TextLaws
+pub mod Wrong
+pub mod Rules
+pub mod Deciding
+pub mod Decided
+pub mod Spelled
+pub mod Inputs

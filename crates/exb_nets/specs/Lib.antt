@@ -1,0 +1,6 @@
+pub mod Counters
+pub mod Nets
+pub mod NetHistory
+pub mod Order
+pub mod Ending
+pub mod Laws

@@ -1,0 +1,33 @@
+//! What is true of nets and counters.
+ghost use Rattle.exb_nets.specs.Ending.{QueuesEnd, NetsHaveHistories};
+ghost use Rattle.exb_nets.specs.Laws.{HistoriesAreOne, DuesAreInOrder, NothingGoesBack, OneIsEager};
+
+/// A net has no more than one history by bridge.
+pub fn histories_are_one()
+    ensures { HistoriesAreOne }
+{}
+
+/// All that comes does so to bridges of the net, and at each of them the commands come in their order.
+pub fn dues_are_in_order()
+    ensures { DuesAreInOrder }
+{}
+
+/// Nothing is sent back at the port of an arrival.
+pub fn nothing_goes_back()
+    ensures { NothingGoesBack }
+{}
+
+/// After some deliveries nothing is left of what one event of a valid net sent, since its wires have no loop.
+pub fn queues_end()
+    ensures { QueuesEnd }
+{}
+
+/// So a valid net has a history of each of its bridges.
+pub fn nets_have_histories()
+    ensures { NetsHaveHistories }
+{}
+
+/// A net of one bridge has the history of the eager run.
+pub fn one_is_eager()
+    ensures { OneIsEager }
+{}

@@ -1,0 +1,3 @@
+mod Bridges
+mod Nets
+mod Counting

@@ -1,0 +1,38 @@
+//! What is true of runs of several worlds.
+ghost use Rattle.exb_wiring.specs.Counting.{CountsGoOn};
+ghost use Rattle.exb_wiring.specs.Laws.{NetsArePlayed, NetsArePlayedEagerly};
+
+use exb_changing::laws::steps_tell;
+use exb_frame::laws::tag_round_trip;
+use exb_machine::laws::steps_stay_written;
+use exb_relay::laws::{sends_are_words, sends_leave_as_flat};
+
+/// A run of several worlds that opens each, and then gives each event to its bridge and each frame that leaves a wired port to the
+/// bridge at its far end, in the order of their queue until none is left, tells each the history that the net gives it. What has
+/// left each external port is what the one bridge sends there over it, and of each Relay it is told whether its frame passed.
+pub fn nets_are_played()
+    ensures { NetsArePlayed }
+{
+    tag_round_trip();
+    sends_are_words();
+    sends_leave_as_flat();
+    steps_tell();
+    steps_stay_written();
+}
+
+/// So where it is all that comes to the net, in its order, these are the histories of the eager run of the net.
+pub fn nets_are_played_eagerly()
+    ensures { NetsArePlayedEagerly }
+{
+    tag_round_trip();
+    sends_are_words();
+    sends_leave_as_flat();
+    steps_tell();
+    steps_stay_written();
+}
+
+/// The counts of a port after more events are those before them and what the events add; which Relays pass nowhere is what is said of
+/// each.
+pub fn counts_go_on()
+    ensures { CountsGoOn }
+{}
