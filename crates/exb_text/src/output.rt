@@ -1,11 +1,36 @@
 //! Names of the files that a run writes.
 ghost use Rattle.std.specs.Prelude.{◌≡◌, IfOk, string_bytes};
-ghost use Rattle.exb_text.specs.Names.{capture_name, journal_name, trace_name};
+ghost use Rattle.exb_text.specs.Names.{capture_name, counters_name, file_name, journal_name, trace_name};
 
 use crate::PortName;
 use exb_model::memory::NoMemory;
 use exb_model::port::PortId;
 use std::alloc::Global;
+
+/// A kind of file that a run writes.
+#[derive(Clone, Copy, Debug, PartialEq, Eq)]
+pub enum Output {
+    /// What leaves an external port.
+    Capture(PortId),
+    /// The journal.
+    Journal,
+    /// The trace, where it is asked for.
+    Trace,
+    /// The counters, where they are asked for.
+    Counters,
+}
+
+/// The name of the file of each kind.
+pub fn file_name(alloc: Global, prefix: &str, output: &Output) -> Result<String, NoMemory>
+    ensures { IfOk result (λ name. string_bytes name ≡ file_name prefix.now output.now) }
+{
+    match output {
+        Output::Capture(port) => capture_file_name(alloc, prefix, *port),
+        Output::Journal => journal_file_name(alloc, prefix),
+        Output::Trace => trace_file_name(alloc, prefix),
+        Output::Counters => counters_file_name(alloc, prefix),
+    }
+}
 
 /// The name of the file of what leaves a port: the run's prefix, the port's name, and `.pcap`.
 #[tactic(auto, unfolding(crate::specs::Names::capture_name))]
@@ -29,4 +54,12 @@ pub fn trace_file_name(alloc: Global, prefix: &str) -> Result<String, NoMemory>
     ensures { IfOk result (λ name. string_bytes name ≡ trace_name prefix.now) }
 {
     Ok(format!(in alloc; "{prefix}trace.txt")?)
+}
+
+/// The name of the counters' file: the run's prefix, and `counters.txt`.
+#[tactic(auto, unfolding(crate::specs::Names::counters_name))]
+pub fn counters_file_name(alloc: Global, prefix: &str) -> Result<String, NoMemory>
+    ensures { IfOk result (λ name. string_bytes name ≡ counters_name prefix.now) }
+{
+    Ok(format!(in alloc; "{prefix}counters.txt")?)
 }
