@@ -1,6 +1,7 @@
 -- The names of the files that a run writes.
-use Rattle.std.specs.Prelude.{ℕ, ◌<◌, List, ◌++◌, codes}
+use Rattle.std.specs.Prelude.{ℕ, ◌<◌, List, [], ◌∷◌, ◌++◌, codes, map}
 use Rattle.exb_model.specs.Texts.{port_name}
+use Rattle.exb_model.specs.Tree.{Shape, external_ports}
 use Rattle.exb_text.specs.declared.output.Output.{Output}
 use Rattle.exb_text.specs.declared.output.Output.TheVariants as output
 
@@ -31,3 +32,11 @@ file_name prefix output.Counters = counters_name prefix
 abbrev pub IsOfPort : Output → Type 0
 IsOfPort (output.Capture p) = p < 4160
 IsOfPort _ = Unit {0}
+
+-- the kinds beside captures, in the order in which they are made
+abbrev pub other_outputs : List Output
+other_outputs = output.Journal ∷ output.Trace ∷ output.Counters ∷ []
+
+-- all that runs of a tree may write
+abbrev pub all_outputs : Shape → List Output
+all_outputs t = map output.Capture (external_ports t) ++ other_outputs

@@ -13,7 +13,8 @@ mod trace_line;
 
 pub use event_line::{EventLine, write_line};
 pub use output::{
-    Output, capture_file_name, counters_file_name, file_name, journal_file_name, trace_file_name,
+    Output, add_name, add_other_names, capture_file_name, counters_file_name, file_name,
+    journal_file_name, trace_file_name,
 };
 pub use port_name::PortName;
 pub use tally::Tally;

@@ -1,10 +1,12 @@
 //! Names of the files that a run writes.
-ghost use Rattle.std.specs.Prelude.{◌≡◌, IfOk, string_bytes};
-ghost use Rattle.exb_text.specs.Names.{capture_name, counters_name, file_name, journal_name, trace_name};
+ghost use Rattle.std.specs.Prelude.{◌≡◌, ◌++◌, ◌∷◌, [], IfOk, OnOk, map, string_bytes};
+ghost use Rattle.exb_text.specs.Names.{capture_name, counters_name, file_name, journal_name, other_outputs, trace_name};
 
 use crate::PortName;
+use exb_model::list::List;
 use exb_model::memory::NoMemory;
 use exb_model::port::PortId;
+use exb_model::text::Text;
 use std::alloc::Global;
 
 /// A kind of file that a run writes.
@@ -30,6 +32,28 @@ pub fn file_name(alloc: Global, prefix: &str, output: &Output) -> Result<String,
         Output::Trace => trace_file_name(alloc, prefix),
         Output::Counters => counters_file_name(alloc, prefix),
     }
+}
+
+/// Puts the name of a file behind other names.
+pub fn add_name(
+    alloc: Global,
+    prefix: &str,
+    output: &Output,
+    names: &mut List<Text>,
+) -> Result<(), NoMemory>
+    ensures { OnOk result (names.new ≡ names.old ++ file_name prefix.now output.now ∷ []) }
+{
+    let name = file_name(alloc, prefix, output)?;
+    names.push(Text::from_str(alloc, name.as_str())?)
+}
+
+/// Puts the names of all files but the captures behind other names, in the order in which the files are made.
+pub fn add_other_names(alloc: Global, prefix: &str, names: &mut List<Text>) -> Result<(), NoMemory>
+    ensures { OnOk result (names.new ≡ names.old ++ map (file_name prefix.now) other_outputs) }
+{
+    add_name(alloc, prefix, &Output::Journal, names)?;
+    add_name(alloc, prefix, &Output::Trace, names)?;
+    add_name(alloc, prefix, &Output::Counters, names)
 }
 
 /// The name of the file of what leaves a port: the run's prefix, the port's name, and `.pcap`.
