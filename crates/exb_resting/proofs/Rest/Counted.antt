@@ -112,7 +112,7 @@ few_sent b look (event.Up p) q = omega arith
 few_sent b look (event.NoUp p x) q = omega arith
 few_sent b look event.Settled q = omega arith
 
-few_flat : (i : Basis) (h : History) (q : ℕ) → length (flat i h q) ≤ length (filter_map place_of h)
+pub few_flat : (i : Basis) (h : History) (q : ℕ) → length (flat i h q) ≤ length (filter_map place_of h)
 unfolding flat
 few_flat i [] q = omega arith
 few_flat i (e ∷ h) q =
