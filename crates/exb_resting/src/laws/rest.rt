@@ -129,8 +129,8 @@ pub fn runs_are_under_way()
     steps_stay_written();
 }
 
-/// In such a run each arrival was relayed or ignored, once, each command took effect or was refused, once, and in all at most 4,160
-/// frames for each arrival have left.
+/// In such a run each arrival was relayed or ignored, once, each command took effect or was refused, once, a port has sent at
+/// most one frame for each arrival.
 pub fn runs_are_few()
     ensures { RunsAreFew }
 {
