@@ -13,11 +13,12 @@ COUNTS = re.compile(r"(failures|errors|skipped|unexpected successes)=(\d+)")
 
 
 def suite(program, path):
-    """Runs a file's tests. EXBR_PROGRAM names the program for them."""
+    """Runs a file's tests. EXBR_PROGRAM names the program for them, and so does EXBR, as the tools take it."""
     env = {**os.environ, "PYTHONDONTWRITEBYTECODE": "1"}
-    env.pop("EXBR_PROGRAM", None)
-    if program:
-        env["EXBR_PROGRAM"] = program
+    for name in ("EXBR_PROGRAM", "EXBR"):
+        env.pop(name, None)
+        if program:
+            env[name] = program
     words = [sys.executable, "-m", "unittest", "discover", "-v", "-s", os.path.dirname(path), "-p", os.path.basename(path)]
     how = {"stdin": subprocess.DEVNULL, "stdout": subprocess.PIPE, "stderr": subprocess.STDOUT, "text": True, "errors": "replace"}
     try:

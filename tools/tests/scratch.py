@@ -4,6 +4,7 @@ import os
 import platform
 import shutil
 import subprocess
+import sys
 import tempfile
 
 TOP = os.path.dirname(os.path.dirname(os.path.dirname(os.path.abspath(__file__))))
@@ -61,8 +62,10 @@ class Scratch:
         for name in PARTS:
             os.makedirs(os.path.dirname(self.at(name)), exist_ok=True)
             shutil.copy2(os.path.join(TOP, name), self.at(name))
-        os.chmod(self.at("kit/rt"), 0o755)
-        os.chmod(self.at("test"), 0o755)
+        # Python as it runs here, and nothing else of its folder, where an rt may lie.
+        self.write("bin/python3", f'#!/bin/sh\nexec "{sys.executable}" "$@"\n')
+        for name in ("kit/rt", "bin/python3", "test"):
+            os.chmod(self.at(name), 0o755)
 
     def at(self, name):
         return os.path.join(self.top, name)
@@ -93,7 +96,8 @@ class Scratch:
 
     def run(self, *words, has_rt=True, cwd=None):
         """Status, standard output and standard error of a command of the scratch repository."""
-        path = f"{self.at('kit')}:/usr/bin:/bin" if has_rt else "/usr/bin:/bin"
+        path = f"{self.at('bin')}:/usr/bin:/bin"
+        path = f"{self.at('kit')}:{path}" if has_rt else path
         env = {"PATH": path, "HOME": self.top, "LC_ALL": "C.UTF-8", "PYTHONDONTWRITEBYTECODE": "1"}
         how = {"stdin": subprocess.DEVNULL, "capture_output": True, "text": True, "errors": "replace", "env": env}
         ran = subprocess.run([self.at(words[0]), *words[1:]], cwd=cwd or self.top, **how)
