@@ -141,6 +141,15 @@ def differs(program, sources, by, dist=None):
     return f"dist/record must have the line: {other[0]}" if other else None
 
 
+def fault(dist=None):
+    """Why dist/ isn't what its own record says, or not of the sources as they are; nothing where it is."""
+    dist = dist or os.path.join(TOP, "dist")
+    said = read(f"{dist}/record")
+    if said and os.path.isfile(f"{dist}/exbr") and said.get("program") != sum_of(f"{dist}/exbr"):
+        return "dist/exbr isn't what dist/record says: its sum is another one"
+    return differs(f"{dist}/exbr", sources_of(), said.get("kit"), dist)
+
+
 def first_difference(one, other):
     """The place of the first byte at which two files differ, counted from 0, or None."""
     with open(one, "rb") as first, open(other, "rb") as second:

@@ -72,7 +72,7 @@ class AByteIsAnother(Launched):
     def test_in_the_program(self):
         it = self.refreshed()
         it.change_byte("dist/exbr")
-        self.says(["tools/dist", "check"], 1, "dist/record must have the line: program ")
+        self.says(["tools/dist", "check"], 1, "dist/exbr isn't what dist/record says: its sum is another one")
         printed, _ = self.says([".ci/run"], 1, "dist: FAILED: dist/exbr is not the program that these sources give: they differ first at byte ")
         self.assertEqual(printed.splitlines()[-1], "7 passed, 1 failed")
         os.remove(it.at("crates/exbr/out/exbr"))
