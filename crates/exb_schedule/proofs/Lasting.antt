@@ -139,9 +139,9 @@ one_here law step moves old new k gives only settled r after i aged g h left sto
       settled = there.0;
       may = reached_takes old k (step ∷ moves) r.may;
       moves_alone = only;
-      after = there.1.0;
+      after = there.1;
     } in
-    let one : IsOneEvent t l i v g h left step moves = law s k.steps step moves gives alone i there.1.1.0 g h left there.1.1.1 in
+    let one : IsOneEvent t l i v g h left step moves = law s k.steps step moves gives alone i there.2 g h left there.3 in
     subst (λ (a : Shape). IsOneEvent a (bounds_of old) i (world_of old) g h left step moves) (sym k.tree)
     (subst (λ (b : Limits). IsOneEvent t b i (world_of old) g h left step moves) (sym k.limits) (subst (λ (w : World). IsOneEvent t l i w g h left step moves) (sym k.world) one))
 

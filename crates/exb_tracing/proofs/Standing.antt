@@ -35,7 +35,6 @@ use Rattle.exb_resting.specs.Motion.Stands.{IsWordOf, Stands}
 use Rattle.exb_resting.proofs.Motion.Going.{going}
 use Rattle.exb_resting.proofs.Motion.Setups.{setups_may_start}
 use Rattle.exb_resting.specs.Rest.Settles.{MayTakeAll, beginning, reached_by}
-use Rattle.exb_resting.proofs.Rest.PlaysGive.{port_arrivals}
 use Rattle.exb_resting.proofs.Rest.Settles.{IsRun, begins, go_after, run_after, step_run}
 use Rattle.exb_tracing.specs.Laws.{RunsStayTraced, StaysReady, given_in}
 use Rattle.exb_tracing.specs.Ready.{AreRecords, AwaitsNext, IsRecord, Serves, ServesStations}
@@ -47,6 +46,11 @@ use Rattle.exb_tracing.proofs.Stations.{stations_kept, begins_serving}
 -- ---- what was given, as files
 some_same : {A : Type 0} {x y : A} → Some x ≡ Some y → x ≡ y
 some_same e = cc
+
+port_arrivals : (p : ℕ) (g : List Given) → arrivals_at p g ≡ filter (λ (a : Arrival). a.port == p) (arrivals_of g)
+port_arrivals p [] = refl
+port_arrivals p (Told c ∷ g) = port_arrivals p g
+port_arrivals p (Came a ∷ g) = elim (cases_Bool (a.port == p)) [ inl e ↦ rw e (ap (λ (xs : List Arrival). a ∷ xs) (port_arrivals p g)) | inr e ↦ rw e (port_arrivals p g) ]
 
 frames_at : (p : ℕ) (g : List Given) → captures_of (arrivals_of g) p ≡ map (λ (a : Arrival). a.bytes) (arrivals_at p g)
 frames_at p g = ap (map (λ (a : Arrival). a.bytes)) (sym (port_arrivals p g))
