@@ -17,7 +17,7 @@ from .facts import Change, Counters, Device, Member, Notice, Port, Report, Span,
 from .markup import tag
 from .rows import IGNORED, LEFT, NOWHERE, Choice, Rows
 
-SPANS, SHOWN_VLANS, SHOWN_MEMBERS, SHOWN_FAULTS = 240, 300, 64, 20
+SPANS, SHOWN_VLANS, SHOWN_MEMBERS, SHOWN_FAULTS, FEW_LOST = 240, 300, 64, 20, 4
 
 
 class Counting(Judge):
@@ -126,7 +126,7 @@ def ports_of(seen: Gathering) -> list[Port]:
 
 def names_of(now: Configuration, vid: int, kind: str) -> list[str]:
     """The members of one kind of a VLAN, in port order."""
-    return [NAMES[port] for port in sorted(now.vlans.get(vid, words.plain_nobody())[kind])]
+    return [NAMES[port] for port in sorted(now.vlans.get(vid, words.nobody())[kind])]
 
 
 def vlans_of(seen: Gathering) -> tuple[list[Vlan], int]:
@@ -199,17 +199,44 @@ def refusals(seen: Gathering) -> list[Notice]:
 
 
 def lost(seen: Gathering) -> list[Notice]:
-    """Which frames went nowhere, most first."""
-    found, place = [], seen.rows.place
-    for (port, cause, vid, at), count in sorted(seen.nowhere.items(), key=lambda it: -it[1])[:12]:
-        what = "ignored" if cause in ("absent", "short", "long", "reserved") else f"nowhere:{cause}"
-        many = "1 frame" if count == 1 else f"{count:,} frames"
-        said = f"{many} of {NAMES[port]} {words.WENT[cause]}".format(vid=vid, port=NAMES[port], at=NAMES[at or 0])
-        level = "note" if cause in ("back", "reserved") else "warn"
-        found.append(Notice(level, said + ".", frames_link("Show them", port=str(place[port]), what=what)))
-    if len(seen.nowhere) > 12:
-        found.append(Notice("note", f"{len(seen.nowhere) - 12} more groups of frames went nowhere; the table of ports has them."))
+    """Which frames went nowhere, most first. What is so at many ports is said once."""
+    causes: dict[str, list[tuple]] = {}
+    for key, count in seen.nowhere.most_common():
+        causes.setdefault(key[1], []).append((*key, count))
+    return [it for cause, them in causes.items() for it in (each_lost(seen, them) if len(them) <= FEW_LOST else [all_lost(cause, them)])]
+
+
+def what_of(cause: str) -> str:
+    """By what the filter of the frames finds them."""
+    return "ignored" if cause in words.IGNORED else f"nowhere:{cause}"
+
+
+def level_of(cause: str) -> str:
+    """Whether it may be a fault that frames go nowhere for this cause."""
+    return "note" if cause in ("back", "reserved") else "warn"
+
+
+def frames_in_words(count: int) -> str:
+    """A number of frames."""
+    return "1 frame" if count == 1 else f"{count:,} frames"
+
+
+def each_lost(seen: Gathering, them: list[tuple]) -> list[Notice]:
+    """Frames that went nowhere for one cause, at few ports."""
+    found = []
+    for port, cause, vid, at, count in them:
+        said = f"{frames_in_words(count)} of {NAMES[port]} " + words.went(cause, count).format(vid=vid, port=NAMES[port], at=NAMES[at or 0])
+        found.append(Notice(level_of(cause), f"{said}.", frames_link("Show them", port=str(seen.rows.place[port]), what=what_of(cause))))
     return found
+
+
+def all_lost(cause: str, them: list[tuple]) -> Notice:
+    """Frames that went nowhere for one cause, at many ports."""
+    ports = sorted({it[0] for it in them})
+    names = lists.ports([NAMES[port] for port in ports], 8)
+    at = f"{len(ports)} ports ({names})" if len(ports) > 1 else names
+    said = f"{frames_in_words(sum(it[-1] for it in them))} of {at} went nowhere: {words.EVERY[cause]}."
+    return Notice(level_of(cause), said, frames_link("Show them", what=what_of(cause)))
 
 
 def counters_of(run: runs.Run) -> dict[str, list[int]] | None:
@@ -257,7 +284,5 @@ def report_of(run: runs.Run, most: int, quiet: bool = False) -> Report:
     vlans, every = vlans_of(seen)
     notices = disagreements(seen) + counted(seen, ports) + refusals(seen) + lost(seen)
     title = os.path.basename(os.path.abspath(run.folder)) + "/" + os.path.basename(run.topology.path)
-    changes = changes_of(seen)
-    orders = {it.number: f"{it.words} (second {it.second})" for it in changes}
-    return Report(title, run.folder, devices_of(run), ports, vlans, changes, spans_of(seen), notices,
-                  seen.rows.data([it.name for it in ports], marked(seen), orders), seen.rows.choice.words(), is_seeded(run), every)
+    return Report(title, run.folder, devices_of(run), ports, vlans, changes_of(seen), spans_of(seen), notices,
+                  seen.rows.data([it.name for it in ports], marked(seen)), seen.rows.choice.words(), is_seeded(run), every)

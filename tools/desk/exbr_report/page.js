@@ -51,11 +51,12 @@
     return parts.length > 6 ? `${parts.slice(0, 5).join(", ")} .. ${number(them.length)} ports` : parts.join(", ");
   };
   const why = (row) => {
-    const values = { port: ports[col.port[row]], number: col.number[row], vid: col.vid[row], source: addresses[col.source[row]],
-      destination: addresses[col.destination[row]], targets: grouped(targets(row)).join(", "), at: ports[col.at[row]], of: col.of[row],
-      age: col.age[row], command: col.command[row], order: data.orders[col.command[row]] };
+    const values = { port: ports[col.port[row]], vid: col.vid[row], destination: addresses[col.destination[row]], at: ports[col.at[row]],
+      of: col.of[row], age: col.age[row] };
     // The first is the cause by which the filter finds it; the others are sentences.
-    return reasons[col.reason[row]].slice(1).map((it) => fill(words[it], values));
+    const told = reasons[col.reason[row]].slice(1).map((it) => fill(words[it], values));
+    const left = grouped(targets(row));
+    return left.length ? [...told, `left ${left.join(", ")}`] : told;
   };
 
   const opened = new Set();
@@ -70,7 +71,7 @@
     tr.classList.add("open");
     button.setAttribute("aria-expanded", "true");
     const list = element("ol", null, ...why(row).map((it) => element("li", null, it)));
-    const head = `Record ${col.number[row]} of ${ports[col.port[row]]}, line ${col.line[row]} of the journal`;
+    const head = `Frame ${col.number[row]} of ${ports[col.port[row]]}, line ${col.line[row]} of the journal`;
     const wrong = data.disagree[row];
     tr.after(element("tr", { class: "why" }, element("td", { colspan: 10 }, element("strong", null, head), list,
       wrong ? element("p", { class: "disagree" }, wrong) : "")));
@@ -78,7 +79,7 @@
   const rowOf = (row) => {
     const what = col.what[row];
     const button = element("button", { type: "button", "aria-expanded": "false",
-      "aria-label": `Why: record ${col.number[row]} of ${ports[col.port[row]]}` }, "why");
+      "aria-label": `Why: frame ${col.number[row]} of ${ports[col.port[row]]}` }, "why");
     const cell = (kind, of, ...content) => element("td", { class: kind, "data-of": of }, ...content);
     const tr = element("tr", null,
       cell("n", "second", second(row)),

@@ -7,7 +7,7 @@ from exbr_desk.reading import Arrival, Reading
 from . import words
 
 LEFT, NOWHERE, IGNORED = range(3)
-COLUMNS = ("time", "port", "number", "vid", "source", "destination", "info", "length", "what", "reason", "set", "at", "of", "age", "command", "line")
+COLUMNS = ("time", "port", "number", "vid", "source", "destination", "info", "length", "what", "reason", "set", "at", "of", "age", "line")
 FEW = 4
 
 
@@ -65,7 +65,7 @@ class Rows:
         self.place = {port: at for at, port in enumerate(ports)}
         self.choice, self.start = choice, start * 1_000_000_000
         self.columns: dict[str, list[int]] = {name: [] for name in COLUMNS}
-        self.addresses, self.infos, self.reasons, self.sets = Texts(), Texts(), Texts(), Texts()
+        self.addresses, self.infos, self.sentences, self.reasons, self.sets = Texts(), Texts(), Texts(), Texts(), Texts()
         self._known: dict[int, tuple] = {}
 
     def add(self, it: Arrival, what: int, reading: Reading) -> None:
@@ -74,15 +74,14 @@ class Rows:
             return
         frame, entry = it.frame, it.entry
         head = frames.ethernet(frame)
-        said = words.why(it, reading)
-        command = words.command_of(it, reading) if what else 0
-        reason = with_cause(said + (["set by"] if command else []), what)
+        cause = "" if what != NOWHERE else words.refusal_of(it, reading) if it.rule else words.nowhere(it, reading)
+        reason = (cause, *map(self.sentences.number, words.sentences(it, reading)))
         address = self.addresses.number
         row = ((it.moment - self.start) // 1000, self.place[it.port], it.index, it.vid or 0,
                address(frame[6:12]) if head else address(b""), address(frame[:6]) if head else address(b""),
                self.infos.number(frames.inside(frame, head) if head else f"{frame.hex()}, too short for a frame"), len(frame), what,
                self.reasons.number(reason), self._set(it, reading) if it.targets else -1,
-               self.place[entry.port] if entry else -1, entry.index if entry else 0, it.clock - entry.clock if entry else 0, command, it.line)
+               self.place[entry.port] if entry else -1, entry.index if entry else 0, it.clock - entry.clock if entry else 0, it.line)
         for name, value in zip(COLUMNS, row):
             self.columns[name].append(value)
 
@@ -99,11 +98,10 @@ class Rows:
         self._known[id(it.targets)] = (it.targets, it.port, number)
         return number
 
-    def data(self, names: list[str], disagree: dict[int, str], orders: dict[int, str]) -> dict:
-        """All of it, as the script of the page takes it. Of `orders`, the commands in words, it has those that frames name."""
-        named = sorted(set(self.columns["command"]) - {0})
-        return {"orders": {it: orders[it] for it in named}, "ports": names, "addresses": [it.hex(":") for it in self.addresses.all()], "infos": self.infos.all(),
-                "reasons": self.reasons.all(), "sets": self.sets.all(), "words": words.WHY, "columns": self.columns, "disagree": disagree,
+    def data(self, names: list[str], disagree: dict[int, str]) -> dict:
+        """All of it, as the script of the page takes it."""
+        return {"ports": names, "addresses": [it.hex(":") for it in self.addresses.all()], "infos": self.infos.all(),
+                "reasons": self.reasons.all(), "sets": self.sets.all(), "words": self.sentences.all(), "columns": self.columns, "disagree": disagree,
                 "causes": self.causes()}
 
     def causes(self) -> dict[str, str]:
@@ -117,9 +115,3 @@ class Rows:
         place = self.place.get(port)
         column = self.columns
         return next((at for at, (one, other) in enumerate(zip(column["port"], column["number"])) if one == place and other == index), None)
-
-
-def with_cause(said: list[str], what: int) -> tuple[str, ...]:
-    """What is said of a frame, behind the cause for which it went nowhere: by that the list of the filter finds it."""
-    cause = next((it for it in said if it in words.CAUSES or it in words.NOBODY_CAUSES), "") if what == NOWHERE else ""
-    return cause, *said
