@@ -20,11 +20,17 @@ TURN = 0.25
 BAR = 20
 
 
+def program() -> str:
+    """The program that is run where none is named."""
+    known = [os.environ.get("EXBR", ""), os.path.join(TOP, "dist", "exbr"), os.path.join(TOP, "exbr")]
+    return next((it for it in known if it and os.access(it, os.X_OK)), known[-1])
+
+
 def parser() -> argparse.ArgumentParser:
     """The words of the tool."""
     it = argparse.ArgumentParser("exbr-watch", description=ABOUT, epilog=END, usage="exbr-watch [options] -- WORDS OF EXBR ..")
-    it.add_argument("--program", metavar="FILE", default=os.environ.get("EXBR", os.path.join(TOP, "exbr")),
-                    help="the program (the file that EXBR names, or ./exbr at the top of the repository)")
+    it.add_argument("--program", metavar="FILE", default=program(),
+                    help="the program (the file that EXBR names, else dist/exbr or ./exbr of the repository)")
     it.add_argument("--every", metavar="SECONDS", type=float, default=10.0,
                     help="where standard error is no terminal: a line after so many seconds each (10)")
     it.add_argument("words", nargs="+", metavar="WORDS", help="what exbr is given, behind --")
