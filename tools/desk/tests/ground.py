@@ -6,6 +6,7 @@ import subprocess
 import sys
 import tempfile
 import unittest
+import warnings
 
 TESTS = os.path.dirname(os.path.abspath(__file__))
 DESK = os.path.dirname(TESTS)
@@ -26,6 +27,8 @@ class InFolder(unittest.TestCase):
     """A test with a folder of its own."""
 
     def setUp(self) -> None:
+        # A run's captures stay open as long as the run is of use.
+        warnings.simplefilter("ignore", ResourceWarning)
         self.folder = tempfile.mkdtemp(prefix="exbr-test-")
         self.addCleanup(shutil.rmtree, self.folder, True)
 
@@ -36,7 +39,7 @@ class InFolder(unittest.TestCase):
         """An example with the files that its run leaves."""
         to = self.path(example)
         source = os.path.join(EXAMPLES, example)
-        os.makedirs(to)
+        os.makedirs(to, exist_ok=True)
         for folder in (source, os.path.join(source, "expected")):
             for name in os.listdir(folder):
                 if name.endswith((".pcap", ".txt", ".toml")) and not (folder == source and name.startswith("out-")):
