@@ -20,17 +20,23 @@ TURN = 0.25
 BAR = 20
 
 
-def program() -> str:
-    """The program that is run where none is named."""
-    known = [os.environ.get("EXBR", ""), os.path.join(TOP, "dist", "exbr"), os.path.join(TOP, "exbr")]
-    return next((it for it in known if it and os.access(it, os.X_OK)), known[-1])
+def program(named: str | None) -> str:
+    """The program: the one that is named, or one that is built already. None is built here, since that takes long."""
+    built = os.path.join(TOP, "crates", "exbr", "out")
+    known = [os.environ.get("EXBR"), os.path.join(TOP, "dist", "exbr")]
+    known += [os.path.join(built, "exbr")] if os.path.exists(os.path.join(built, "built")) else []
+    for path in [named] if named else known:
+        if path and os.path.isfile(path) and os.access(path, os.X_OK):
+            return os.path.abspath(path)
+    if named:
+        raise DeskError(f"{named} is no program")
+    raise DeskError(f"there is no exbr that is built: name one by --program FILE ({TOP}/exbr builds it, which takes half an hour and more)")
 
 
 def parser() -> argparse.ArgumentParser:
     """The words of the tool."""
     it = argparse.ArgumentParser("exbr-watch", description=ABOUT, epilog=END, usage="exbr-watch [options] -- WORDS OF EXBR ..")
-    it.add_argument("--program", metavar="FILE", default=program(),
-                    help="the program (the file that EXBR names, else dist/exbr or ./exbr of the repository)")
+    it.add_argument("--program", metavar="FILE", help="the program (the file that EXBR names, else that of the repository, where it is built)")
     it.add_argument("--every", metavar="SECONDS", type=float, default=10.0,
                     help="where standard error is no terminal: a line after so many seconds each (10)")
     it.add_argument("words", nargs="+", metavar="WORDS", help="what exbr is given, behind --")
@@ -94,7 +100,7 @@ def follow(running: subprocess.Popen, given: Input | None, shown: Shown) -> None
         except subprocess.TimeoutExpired:
             spent, read = time.monotonic() - begun, process.bytes_read(running.pid)
             course = watch.course(read, spent) if watch and read is not None else None
-            if not process.is_script(running.pid) and running.poll() is None:
+            if running.poll() is None:
                 shown.show(line(course, given, spent, process.memory(running.pid)), spent)
 
 
@@ -118,10 +124,11 @@ def main(words: list[str] | None = None) -> int:
         raise DeskError("--every takes a number of seconds above 0")
     path = topology_of(asked.words)
     given = input_of(path) if path else None
+    path_of_program = program(asked.program)
     try:
-        running = subprocess.Popen([asked.program, *asked.words])
+        running = subprocess.Popen([path_of_program, *asked.words])
     except OSError as fault:
-        raise DeskError(f"{asked.program}: {fault.strerror}") from None
+        raise DeskError(f"{path_of_program}: {fault.strerror}") from None
     # Whoever presses Ctrl-C ends the program, which shares the terminal, and this tool then ends with its status.
     signal.signal(signal.SIGINT, signal.SIG_IGN)
     signal.signal(signal.SIGTERM, lambda *_: running.terminate())

@@ -1,5 +1,4 @@
 """What the system says of a process: it is asked under /proc, and needs no help of the program."""
-import os
 
 
 def words_of(path: str) -> dict[str, int]:
@@ -26,11 +25,3 @@ def memory(process: int) -> int | None:
     """How many bytes of memory a process holds."""
     held = words_of(f"/proc/{process}/status").get("VmRSS")
     return None if held is None else 1024 * held
-
-
-def is_script(process: int) -> bool:
-    """Whether a shell still stands in the program's place: `./exbr` may first build it, and tells of that itself."""
-    try:
-        return os.path.basename(os.readlink(f"/proc/{process}/exe")) in ("sh", "dash", "bash")
-    except OSError:
-        return False

@@ -60,7 +60,7 @@ class Watching(ground.InFolder):
         return path
 
     def test_shows_and_passes_through(self):
-        self.write("in.pcap", bytes(1_000_000))
+        self.write("in.pcap", bytes(3_000_000))
         self.write("topology.toml", '[captures]\n"b1" = "in.pcap"\n')
         done = ground.tool("exbr-watch", "--program", self.program(SLOW), "--every", "0.2", "--", "run", "topology.toml", "--trace", cwd=self.folder)
         self.assertEqual((done.returncode, done.stdout), (7, "arrivals run topology.toml --trace\n"))
@@ -77,7 +77,7 @@ class Watching(ground.InFolder):
         self.assertEqual((done.returncode, done.stdout, done.stderr), (5, "exbr: missing nope\n", ""))
 
     def test_bad_words(self):
-        self.assert_line(ground.tool("exbr-watch", "--program", self.path("nope"), "--", "run", "t"), 2, "exbr-watch: ", "No such file")
+        self.assert_line(ground.tool("exbr-watch", "--program", self.path("nope"), "--", "run", "t"), 2, "exbr-watch: ", "is no program")
         self.assert_line(ground.tool("exbr-watch"), 2, "usage: exbr-watch")
         self.assert_line(ground.tool("exbr-watch", "--every", "0", "--", "run", "t"), 2, "--every")
         self.assert_line(ground.tool("exbr-watch", "--help"), 0)
