@@ -3,7 +3,7 @@ from .facts import Change, Report, Span
 from .markup import Markup, join, tag
 
 WIDE, HIGH, FOOT, TOP, SIDE = 960, 190, 24, 26, 44
-MARKS, WIDEST = 8, 26
+MARKS, WIDEST, APART = 8, 26, 32
 
 
 def steps(most: int) -> int:
@@ -78,29 +78,36 @@ def seconds(scale: Scale) -> list[Markup]:
     return found
 
 
+def grouped(changes: list[Change], scale: Scale) -> list[list[Change]]:
+    """The commands with a mark of their own: those whose marks would overlap share one."""
+    found: list[list[Change]] = []
+    for it in changes:
+        if found and scale.x(it.second) - scale.x(found[-1][0].second) < APART:
+            found[-1].append(it)
+        else:
+            found.append([it])
+    return found
+
+
 def mark(changes: list[Change], scale: Scale) -> Markup:
-    """The commands of one second: an upright line, with a mark above it that says how many, and whether one was refused."""
-    second = changes[0].second
-    x = min(max(scale.x(second), SIDE), WIDE - 8)
-    refused = [it for it in changes if it.done is False]
+    """Commands at one place: an upright line for each second, with a mark above that says how many, and whether one was refused."""
+    first, last = changes[0].second, changes[-1].second
+    places = sorted({min(max(scale.x(it.second), SIDE), WIDE - 8) for it in changes})
+    refused = sum(it.done is False for it in changes)
     said = "; ".join(f"command {it.number}: {it.words}" + (", refused" if it.done is False else "") for it in changes[:6])
     said += f"; and {len(changes) - 6} more" if len(changes) > 6 else ""
-    label = f"Second {second}: {said}"
-    sign = "✕" if refused else "▼"
-    count = str(len(changes)) if len(changes) > 1 else ""
-    return tag("g", tag("title", label), tag("line", x1=f"{x:.1f}", x2=f"{x:.1f}", y1=TOP - 6, y2=HIGH - FOOT),
-               tag("text", sign + count, x=f"{x:.1f}", y=TOP - 10), class_="change refused" if refused else "change",
-               role="img", aria_label=label)
+    label = (f"Second {first}: " if first == last else f"Seconds {first} to {last}: ") + said
+    done = len(changes) - refused
+    sign = " ".join(f"{it}{many}" if many > 1 else it for it, many in (("▼", done), ("✕", refused)) if many)
+    lines_ = [tag("line", x1=f"{x:.1f}", x2=f"{x:.1f}", y1=TOP - 6, y2=HIGH - FOOT) for x in places]
+    return tag("g", tag("title", label), lines_, tag("text", sign, x=f"{sum(places) / len(places):.1f}", y=TOP - 10),
+               class_="change refused" if refused else "change", role="img", aria_label=label)
 
 
 def picture(report: Report) -> Markup:
     """The whole time line."""
     scale = Scale(report.spans)
-    by_second: dict[int, list[Change]] = {}
-    for it in report.changes:
-        if it.done is not None:
-            by_second.setdefault(it.second, []).append(it)
-    marks = [mark(them, scale) for _, them in sorted(by_second.items())][:400]
+    marks = [mark(them, scale) for them in grouped([it for it in report.changes if it.done is not None], scale)]
     piles = [pile(it, scale) for it in report.spans if it.all]
     return tag("svg", join(lines(scale)), join(seconds(scale)), join(piles), join(marks), id="time",
                viewBox=f"0 0 {WIDE} {HIGH}", role="group", aria_label="Frames and changes of the configuration by second")

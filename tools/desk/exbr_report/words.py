@@ -10,7 +10,7 @@ CAUSES = {
 }
 NOBODY_CAUSES = {
     "alone": "nobody else in its VLAN may get it", "back": "its target is where it came from", "no member": "its target's port is no member",
-    "apart": "it and its target are isolated", "no ports": "its static entry has no port for it",
+    "apart": "both ports are isolated", "no ports": "its static entry has no port for it",
 }
 
 IGNORED = {

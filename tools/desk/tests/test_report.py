@@ -10,7 +10,7 @@ import ground
 import many
 from exbr_desk import runs
 from exbr_report import gather, lists, markup, page, picture_time, picture_tree
-from exbr_report.facts import Device, Span
+from exbr_report.facts import Change, Device, Span
 from exbr_report.rows import IGNORED, LEFT, NOWHERE, Choice
 
 
@@ -250,6 +250,12 @@ class Pictures(unittest.TestCase):
 
     def test_clock(self):
         self.assertEqual([picture_time.clock(it) for it in (0, 99, 100, 3600, 90061)], ["0 s", "99 s", "1:40", "1:00:00", "25:01:01"])
+
+    def test_marks_share_a_place(self):
+        scale = picture_time.Scale([Span(0, 1000, left=1)])
+        changes = [Change(number, second, "x", number != 2) for number, second in ((1, 5), (2, 6), (3, 500))]
+        self.assertEqual([[it.number for it in them] for them in picture_time.grouped(changes, scale)], [[1, 2], [3]])
+        self.assertIn("▼ ✕", picture_time.mark(changes[:2], scale))
 
     def test_empty_run(self):
         self.assertEqual(picture_time.Scale([]).most, 1)
