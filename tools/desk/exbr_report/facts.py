@@ -110,7 +110,7 @@ class Notice:
 class Report:
     """A run."""
     title: str
-    folder: str
+    begins: str
     devices: list[Device]
     ports: list[Port]
     vlans: list[Vlan]

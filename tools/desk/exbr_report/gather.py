@@ -4,6 +4,7 @@ import json
 import os
 from collections import Counter
 from collections.abc import Iterator
+from datetime import datetime, timezone
 
 from exbr_desk import frames, journal, runs
 from exbr_desk.errors import DeskError
@@ -274,6 +275,13 @@ def marked(seen: Gathering) -> dict[int, str]:
     return found
 
 
+def begin_of(seen: Gathering) -> str:
+    """When the run begins, as its captures say it."""
+    if not any(seen.seconds):
+        return ""
+    return datetime.fromtimestamp(seen.reading.start, timezone.utc).strftime("%Y-%m-%d %H:%M:%S")
+
+
 def report_of(run: runs.Run, most: int, quiet: bool = False) -> Report:
     """All that the page of a run shows."""
     progress = Progress("exbr-report: events", 0, quiet)
@@ -284,5 +292,5 @@ def report_of(run: runs.Run, most: int, quiet: bool = False) -> Report:
     vlans, every = vlans_of(seen)
     notices = disagreements(seen) + counted(seen, ports) + refusals(seen) + lost(seen)
     title = os.path.basename(os.path.abspath(run.folder)) + "/" + os.path.basename(run.topology.path)
-    return Report(title, run.folder, devices_of(run), ports, vlans, changes_of(seen), spans_of(seen), notices,
+    return Report(title, begin_of(seen), devices_of(run), ports, vlans, changes_of(seen), spans_of(seen), notices,
                   seen.rows.data([it.name for it in ports], marked(seen)), seen.rows.choice.words(), is_seeded(run), every)

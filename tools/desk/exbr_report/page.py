@@ -222,8 +222,9 @@ def build(report: Report) -> str:
     head = tag("head", tag("meta", charset="utf-8"), tag("meta", name="viewport", content="width=device-width, initial-scale=1"),
                tag("meta", http_equiv="Content-Security-Policy", content="default-src 'none'; style-src 'unsafe-inline'; script-src 'unsafe-inline'; img-src data:"),
                tag("title", f"exbr: {report.title}"), tag("style", Markup(asset("page.css"))))
-    order = "in a drawn order (more of one second at once)" if report.seeded else "each event to its end before the next"
-    top = tag("header", tag("h1", f"Run of {report.title}"), tag("p", f"From the files in {report.folder}; played {order}.", class_="under"))
+    order = "All of one second was played at once, in a drawn order." if report.seeded else "Each event was played to its end before the next."
+    begins = f"Seconds count from {report.begins} UTC, as the captures have it. " if report.begins else ""
+    top = tag("header", tag("h1", f"Run of {report.title}"), tag("p", begins + order, class_="under"))
     bodies = {"notices": [notices(report)], "picture": tree(report, palette), "timeline": timeline(report), "ports": port_table(report, palette),
               "vlans": vlan_table(report, palette), "changes": change_table(report), "frames": frame_table(report)}
     main = tag("main", figures(report), [section(name, words, *bodies[name]) for name, words in PARTS])

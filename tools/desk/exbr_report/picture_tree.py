@@ -5,8 +5,10 @@ from .markup import Markup, join, tag
 
 TILE_WIDE, TILE_HIGH, GAP, LANE = 76, 60, 6, 6
 PADDING, HEAD = 10, 24
-COLUMN_GAP, ROW_GAP = 90, 22
+COLUMN_GAP, ROW_GAP = 70, 22
 STRIPE = 7
+# How small a picture may be shown, so that it fits and can still be read. Beyond that one scrolls.
+SMALLEST = 0.75
 
 
 class Plate:
@@ -219,5 +221,6 @@ def picture(report: Report, palette: Palette) -> Markup:
     most = max((it.counters.arrived + it.counters.left for it in report.ports), default=0)
     wires = [wire(plate, below) for plate in plates for below in plate.below]
     devices = [drawn(plate, ports, palette, most) for plate in plates]
-    return tag("svg", join(wires), join(devices), id="tree", viewBox=f"0 0 {wide} {high}", width=wide, height=high,
+    return tag("svg", join(wires), join(devices), id="tree", viewBox=f"0 0 {wide} {high}",
+               style=f"width: min(100%, {wide}px); min-width: {SMALLEST * wide:.0f}px; height: auto",
                role="group", aria_label="The tree of bridge and extenders, with their ports")
