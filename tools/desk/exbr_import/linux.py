@@ -1,6 +1,7 @@
 """A Linux bridge, by the answers of iproute2: `ip -j -d link`, `bridge -j vlan show`, `bridge -j fdb show`, `bridge -j mdb show`."""
 import ipaddress
 import json
+import re
 
 from exbr_desk.errors import DeskError
 
@@ -13,6 +14,7 @@ FLAGS = (("learning", True, "it doesn't learn addresses"), ("flood", True, "fram
          ("proxy_arp", False, "it answers ARP itself"), ("vlan_tunnel", False, "it maps VLANs to tunnels"),
          ("locked", False, "it lets in known addresses alone"), ("mcast_to_unicast", False, "it copies group frames to single stations"))
 PASSING = ("forwarding",)
+MAC = re.compile("[0-9a-f]{2}(:[0-9a-f]{2}){5}", re.IGNORECASE)
 
 
 def read(path: str, what: str) -> list:
@@ -27,6 +29,33 @@ def read(path: str, what: str) -> list:
     if not isinstance(answer, list) or not all(isinstance(it, dict) for it in answer):
         raise DeskError(f"{path}: it isn't an answer of: {what}")
     return answer
+
+
+def name_in(it: dict, key: str) -> str:
+    """A name of an answer, or nothing where there is none."""
+    found = it.get(key)
+    return found if isinstance(found, str) else ""
+
+
+def flags_in(it: dict) -> list[str]:
+    """The flags of an answer."""
+    found = it.get("flags")
+    return [one for one in found if isinstance(one, str)] if isinstance(found, list) else []
+
+
+def vid_in(it: dict, key: str, path: str) -> int:
+    """A VLAN of an answer."""
+    found = it.get(key)
+    if isinstance(found, bool) or not isinstance(found, int) or not 1 <= found <= 4094:
+        raise DeskError(f"{path}: a VLAN isn't in 1 to 4094: {json.dumps(it)[:80]}")
+    return found
+
+
+def mac_in(text: str, path: str) -> str:
+    """An address."""
+    if not MAC.fullmatch(text):
+        raise DeskError(f"{path}: {json.dumps(text[:40])} is no address")
+    return text
 
 
 def bridge_of(links: list[dict], name: str | None, path: str) -> dict:
@@ -62,14 +91,14 @@ def switch_of(links: str, vlans: str | None, name: str | None, host: bool) -> Sw
     name = str(bridge.get("ifname"))
     data = part(bridge, "info_data")
     found = Switch(f"the Linux bridge {name}", [])
-    members = [it for it in every if it.get("master") == name and it.get("ifname")]
+    members = [it for it in every if it.get("master") == name and name_in(it, "ifname")]
     found.ports = [port_of(it, found) for it in members]
     if host:
         found.ports.append(Port(name))
     if not found.ports:
         raise DeskError(f"{links}: the bridge {name} has no ports")
     set_ageing(data, found)
-    told = {str(it.get("ifname")): it.get("vlans") for it in read(vlans, "bridge -j vlan show")} if vlans else {}
+    told = {name_in(it, "ifname"): it.get("vlans") for it in read(vlans, "bridge -j vlan show")} if vlans else {}
     if data.get("vlan_filtering"):
         if not vlans:
             raise DeskError(f"{name} filters VLANs, so the answer of bridge -j vlan show is needed: --vlan FILE")
@@ -99,7 +128,7 @@ def port_of(link: dict, found: Switch) -> Port:
 def set_ageing(data: dict, found: Switch) -> None:
     """The ageing time. Linux gives hundredths of seconds."""
     told = data.get("ageing_time", 30000)
-    seconds = told / 100 if isinstance(told, (int, float)) else 300.0
+    seconds = told / 100 if isinstance(told, int) and told >= 0 else 300.0
     found.ageing = 0 if seconds == 0 else min(max(round(seconds), 10), 1_000_000)
     if found.ageing != seconds:
         found.lost.append(f"the ageing time of {seconds:g} s: it is {found.ageing} s here")
@@ -115,13 +144,13 @@ def set_vlans(found: Switch, told: dict, path: str) -> None:
             set_row(port, row, path)
 
 
-def set_row(port: Port, row: dict, path: str) -> None:
+def set_row(port: Port, row: object, path: str) -> None:
     """One VLAN of a port, or a range of them."""
-    first = row.get("vlan") if isinstance(row, dict) else None
-    last = row.get("vlanEnd", first) if isinstance(row, dict) else None
-    if not isinstance(first, int) or not isinstance(last, int) or not 1 <= first <= last <= 4094:
-        raise DeskError(f"{path}: {port.name} has a VLAN that isn't in 1 to 4094: {json.dumps(row)[:80]}")
-    flags = row.get("flags", [])
+    if not isinstance(row, dict):
+        raise DeskError(f"{path}: the VLANs of {port.name} are no list of VLANs; make it with: bridge -j vlan show")
+    first = vid_in(row, "vlan", path)
+    last = vid_in(row, "vlanEnd", path) if "vlanEnd" in row else first
+    flags = flags_in(row)
     (port.untagged if "Egress Untagged" in flags else port.tagged).update(range(first, last + 1))
     if "PVID" in flags:
         port.pvid = first
@@ -154,7 +183,7 @@ def add_entries(found: Switch, path: str) -> None:
     """The static entries of the forwarding table."""
     known, own, bare = {it.name for it in found.ports}, 0, 0
     for it in read(path, "bridge -j fdb show"):
-        if it.get("ifname") not in known or "self" in it.get("flags", []):
+        if name_in(it, "ifname") not in known or "self" in flags_in(it):
             continue
         own += it.get("state") == "permanent" and "vlan" in it
         if it.get("state") != "static":
@@ -162,7 +191,7 @@ def add_entries(found: Switch, path: str) -> None:
         if "vlan" not in it:
             bare += 1
         else:
-            found.statics.append(Static(int(it["vlan"]), str(it["mac"]), [str(it["ifname"])]))
+            found.statics.append(Static(vid_in(it, "vlan", path), mac_in(name_in(it, "mac"), path), [name_in(it, "ifname")]))
     if own:
         found.lost.append(f"{own} entries for the host's own addresses (state permanent)")
     if bare:
@@ -174,11 +203,14 @@ def add_groups(found: Switch, path: str) -> None:
     known = {it.name for it in found.ports}
     groups: dict[tuple[int, str], list[str]] = {}
     for table in read(path, "bridge -j mdb show"):
-        for it in table.get("mdb", []):
-            if not isinstance(it, dict) or it.get("state") != "permanent" or it.get("port") not in known:
-                continue
-            key = int(it.get("vid", 1)), group_address(str(it.get("grp")), path)
-            groups.setdefault(key, []).append(str(it["port"]))
+        entries = table.get("mdb")
+        for it in entries if isinstance(entries, list) else []:
+            if isinstance(it, dict) and it.get("state") == "permanent" and name_in(it, "port") in known:
+                if "vid" not in it:
+                    found.lost.append(f"the group {name_in(it, 'grp')} at {name_in(it, 'port')}, which has no VLAN")
+                    continue
+                key = vid_in(it, "vid", path), group_address(name_in(it, "grp"), path)
+                groups.setdefault(key, []).append(name_in(it, "port"))
     found.statics.extend(Static(vid, mac, ports) for (vid, mac), ports in groups.items())
 
 
@@ -187,9 +219,7 @@ def group_address(group: str, path: str) -> str:
     try:
         address = ipaddress.ip_address(group)
     except ValueError:
-        if group.count(":") == 5:
-            return group
-        raise DeskError(f"{path}: {group} is no group") from None
+        return mac_in(group, path)
     data = address.packed
     mac = bytes((1, 0, 0x5E, data[1] & 0x7F, *data[2:])) if address.version == 4 else b"\x33\x33" + data[-4:]
     return mac.hex(":")
