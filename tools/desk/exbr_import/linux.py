@@ -199,19 +199,23 @@ def add_entries(found: Switch, path: str) -> None:
 
 
 def add_groups(found: Switch, path: str) -> None:
-    """The permanent entries of groups."""
-    known = {it.name for it in found.ports}
+    """The permanent entries of groups. Those of one group are one entry."""
     groups: dict[tuple[int, str], list[str]] = {}
-    for table in read(path, "bridge -j mdb show"):
-        entries = table.get("mdb")
-        for it in entries if isinstance(entries, list) else []:
-            if isinstance(it, dict) and it.get("state") == "permanent" and name_in(it, "port") in known:
-                if "vid" not in it:
-                    found.lost.append(f"the group {name_in(it, 'grp')} at {name_in(it, 'port')}, which has no VLAN")
-                    continue
-                key = vid_in(it, "vid", path), group_address(name_in(it, "grp"), path)
-                groups.setdefault(key, []).append(name_in(it, "port"))
+    for it in group_entries(found, path):
+        if "vid" in it:
+            key = vid_in(it, "vid", path), group_address(name_in(it, "grp"), path)
+            groups.setdefault(key, []).append(name_in(it, "port"))
+        else:
+            found.lost.append(f"the group {name_in(it, 'grp')} at {name_in(it, 'port')}, which has no VLAN")
     found.statics.extend(Static(vid, mac, ports) for (vid, mac), ports in groups.items())
+
+
+def group_entries(found: Switch, path: str) -> list[dict]:
+    """The permanent entries of groups at known ports."""
+    known = {it.name for it in found.ports}
+    tables = [it.get("mdb") for it in read(path, "bridge -j mdb show")]
+    entries = [it for table in tables if isinstance(table, list) for it in table]
+    return [it for it in entries if isinstance(it, dict) and it.get("state") == "permanent" and name_in(it, "port") in known]
 
 
 def group_address(group: str, path: str) -> str:
