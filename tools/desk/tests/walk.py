@@ -54,7 +54,8 @@ class Walk:
         shutil.copytree(os.path.join(TOP, "crates", "exb_cases"), os.path.join(self.folder, "crates", "exb_cases"))
         os.symlink(os.path.abspath(program), os.path.join(self.folder, "exbr"))
         self.here = self.folder
-        self.variables = os.environ | {"EXBR": os.path.abspath(program)}
+        named = os.path.abspath(program)
+        self.variables = os.environ | {"EXBR": named, "EXBR_PROGRAM": named}
 
     def end(self) -> None:
         shutil.rmtree(self.folder, ignore_errors=True)
