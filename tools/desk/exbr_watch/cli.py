@@ -1,36 +1,22 @@
 """The words of exbr-watch, and the line that it shows."""
 import argparse
-import os
 import shutil
 import signal
 import subprocess
 import sys
 import time
 
+from exbr_desk import play
 from exbr_desk.errors import DeskError
 
 from . import process
 from .course import Course, Input, Watch, input_of
 
-TOP = os.path.dirname(os.path.dirname(os.path.dirname(os.path.dirname(os.path.realpath(__file__)))))
 ABOUT = """Runs exbr and shows on standard error how far it is. What the program prints, and its status, pass through as they are."""
 END = """status: that of the program; 128 and the signal's number where a signal ended it; 2 with a line on standard error where it can't be
 started. Example: exbr-watch -- run topology.toml --trace"""
 TURN = 0.25
 BAR = 20
-
-
-def program(named: str | None) -> str:
-    """The program: the one that is named, or one that is built already. None is built here, since that takes long."""
-    built = os.path.join(TOP, "crates", "exbr", "out")
-    known = [os.environ.get("EXBR"), os.path.join(TOP, "dist", "exbr")]
-    known += [os.path.join(built, "exbr")] if os.path.exists(os.path.join(built, "built")) else []
-    for path in [named] if named else known:
-        if path and os.path.isfile(path) and os.access(path, os.X_OK):
-            return os.path.abspath(path)
-    if named:
-        raise DeskError(f"{named} is no program")
-    raise DeskError(f"there is no exbr that is built: name one by --program FILE ({TOP}/exbr builds it, which takes half an hour and more)")
 
 
 def parser() -> argparse.ArgumentParser:
@@ -124,7 +110,7 @@ def main(words: list[str] | None = None) -> int:
         raise DeskError("--every takes a number of seconds above 0")
     path = topology_of(asked.words)
     given = input_of(path) if path else None
-    path_of_program = program(asked.program)
+    path_of_program = play.program(asked.program)
     try:
         running = subprocess.Popen([path_of_program, *asked.words])
     except OSError as fault:
