@@ -12,6 +12,9 @@
 | `runs` | a run: its topology, and the files that it wrote |
 | `reading` | the second reading: what the rules make of each record, and why |
 | `judge` | the second reading held against the files of a run |
+| `counts` | counts of each port, by rule |
+| `explain` | why a frame went where it went, in sentences |
+| `choose` | which frames are meant |
 | `align` | two sequences side by side: what is there, what is missing, what is too many |
 | `progress` | a line on the terminal while work is long |
 """

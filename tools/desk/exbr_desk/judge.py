@@ -7,7 +7,8 @@ from typing import Iterator
 from . import captures, frames, journal, plain
 from .align import Aligner
 from .captures import Pieces, form_of, opened
-from .reading import NAMES, Arrival, Event, Ordered, Reading, Told, Where
+from .counts import Counts
+from .reading import NAMES, Arrival, Event, Reading, Where
 from .runs import Run
 
 
@@ -35,6 +36,7 @@ class Judge:
         self.run, self.reading = run, Reading(run)
         self.faults: list[Fault] = []
         self.left = 0
+        self.counts = Counts(run)
         self._outputs = {port: self._output(port) for port in run.topology.external}
         self._journal: Aligner | None = None
 
@@ -53,17 +55,20 @@ class Judge:
             yield from self._eager()
         for aligner in self._outputs.values():
             aligner.finish()
+        if self.run.counters:
+            self._counters(self.run.counters)
 
     # The journal.
 
     def _eager(self) -> Iterator[Event]:
         """Without a seed each line of the journal is told by the captures."""
         it = self._journal = Aligner(journal.texts(self.run.journal), self._tell_line, _set_line)
-        expect = it.expect
+        expect, count = it.expect, self.counts.add
         for event in self.reading.events():
             event.line = expect(event.text, event)
             if event.__class__ is Arrival:
                 self._leave(event)
+                count(event)
             yield event
         it.finish()
 
@@ -79,6 +84,7 @@ class Judge:
         for event in followed(self.reading, lines, self._fault_of_line):
             if event.__class__ is Arrival:
                 self._leave(event)
+                self.counts.add(event)
             yield event
 
     def _fault_of_line(self, line: journal.Line | None, text: str) -> None:
@@ -134,6 +140,18 @@ class Judge:
         else:
             text = f"record {place} ought to be {of}: {_difference(wanted, found)}"
         self.faults.append(Fault(self.run.output(port), what, place, text, arrival, port, found[1] if found else None))
+
+
+    def _counters(self, path: str) -> None:
+        """Holds the counters of the run against those of the rules."""
+        there = list(journal.texts(path))
+        for number, (port, ought) in enumerate(zip(self.counts.ports, self.counts.lines()), 1):
+            found = there[number - 1] if number <= len(there) else None
+            if found != ought:
+                text = f"line {number} is '{found}', and by the rules it is '{ought}'" if found is not None else f"'{ought}' is missing at its end"
+                self.faults.append(Fault(path, "changed" if found is not None else "missing", number, text, None, port))
+        for number in range(len(self.counts.ports) + 1, len(there) + 1):
+            self.faults.append(Fault(path, "extra", number, f"line {number}, '{there[number - 1]}', ought not to be there"))
 
 
 def _set_line(event: Event, place: int) -> None:
