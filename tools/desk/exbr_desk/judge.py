@@ -30,13 +30,14 @@ class Fault:
 
 
 class Judge:
-    """Goes through a run, and gives each event with its place in the files. `faults` has the differences so far."""
+    """Goes through a run, and gives each event with its place in the files. `faults` has the differences so far. Counts are made
+    where they are asked for, or where the run has counters."""
 
-    def __init__(self, run: Run):
+    def __init__(self, run: Run, counting: bool = False):
         self.run, self.reading = run, Reading(run)
         self.faults: list[Fault] = []
         self.left = 0
-        self.counts = Counts(run)
+        self.counts = Counts(run) if counting or run.counters else None
         self._outputs = {port: self._output(port) for port in run.topology.external}
         self._journal: Aligner | None = None
 
@@ -63,12 +64,11 @@ class Judge:
     def _eager(self) -> Iterator[Event]:
         """Without a seed each line of the journal is told by the captures."""
         it = self._journal = Aligner(journal.texts(self.run.journal), self._tell_line, _set_line)
-        expect, count = it.expect, self.counts.add
+        expect = it.expect
         for event in self.reading.events():
             event.line = expect(event.text, event)
             if event.__class__ is Arrival:
                 self._leave(event)
-                count(event)
             yield event
         it.finish()
 
@@ -84,7 +84,6 @@ class Judge:
         for event in followed(self.reading, lines, self._fault_of_line):
             if event.__class__ is Arrival:
                 self._leave(event)
-                self.counts.add(event)
             yield event
 
     def _fault_of_line(self, line: journal.Line | None, text: str) -> None:
@@ -128,6 +127,8 @@ class Judge:
             it.places[at] = self._outputs[port].expect(key, (it, at))
             at += 1
         self.left += at
+        if self.counts:
+            self.counts.add(it)
 
     def _tell_record(self, port: int, what: str, place: int, wanted, item, found) -> None:
         it = item[0] if item else None
