@@ -87,6 +87,13 @@ def facts(row: Row, when: str) -> str:
     return f"VLAN {vlans}: {counted(it.count, 'frame')}{other} ({which(it)})" + because(it, when)
 
 
+def lost_facts(found: Differences, row: Row) -> str:
+    """The same of a pair that loses connectivity, with what arrives now of it that didn't."""
+    new = found.gains.get(row.pair) or found.more.get(row.pair)
+    but = f", but VLAN {', '.join(map(str, sorted(new.vlans)))}: {counted(new.count, 'frame')} now arrive{'s' * (new.count == 1)}" if new else ""
+    return facts(row, "now") + but
+
+
 def which(it: Counted) -> str:
     return ", ".join(f"{NAMES[port]}:{index}" for port, index in it.first[:3]) + (", .." if it.count > 3 else "")
 
@@ -110,7 +117,7 @@ def summary(found: Differences) -> list[str]:
     rest += _files(found)
     room, lost = TOP - len(told) - len(rest), rows(found.loses, homes)
     shown = lost[:room if len(lost) <= room else room - 1]
-    told += [f"  {who(row, homes)}: {facts(row, 'now')}" for row in shown]
+    told += [f"  {who(row, homes)}: {lost_facts(found, row)}" for row in shown]
     if len(shown) < len(lost):
         told.append(f"  and {counted(len(lost) - len(shown), 'more pair')} below")
     return told + rest
@@ -144,7 +151,8 @@ def detail(found: Differences, limit: int) -> Iterator[str]:
                                ("fewer frames arrive", found.fewer, "now"), ("more frames arrive", found.more, "before")):
         if pairs:
             yield from ["", f"{title}:"]
-            yield from cut([f"  {who(row, homes)}: {facts(row, when)}" for row in rows(pairs, homes)], limit)
+            its = (lost_facts(found, row) if pairs is found.loses else facts(row, when) for row in rows(pairs, homes))
+            yield from cut([f"  {who(row, homes)}: {it}" for row, it in zip(rows(pairs, homes), its)], limit)
     if found.detail:
         yield from ["", "by VLAN, source and port:"]
         yield from cut(list(_by_vlan(found)), limit)

@@ -41,7 +41,7 @@ class Counted:
 
     def add(self, where: Where, vid: int | None, why: str = "") -> None:
         self.count += 1
-        if len(self.first) < FIRST:
+        if len(self.first) < FIRST and where not in self.first:
             self.first.append(where)
         if vid is not None:
             self.vlans.add(vid)
@@ -164,7 +164,7 @@ def became(mine: Outcome, other: Outcome) -> str:
     if other.vid != mine.vid:
         return f"it passes in VLAN {other.vid}"
     if other.how == "learned":
-        return f"its address is learned at {NAMES[other.to]}" + ("" if other.left else ", where it doesn't leave")
+        return f"its address is learned at {NAMES[other.to]}" + ("" if other.left else f", which gets nothing of VLAN {other.vid} from there")
     if other.how == "static":
         return "a static entry says where it goes"
     return f"it is flooded in VLAN {other.vid}, without that port"
