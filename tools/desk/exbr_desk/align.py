@@ -48,11 +48,11 @@ class Aligner:
             self._differs("extra", self.place, None, None, there)
 
     def _differs(self, what: str, place: int, wanted: Hashable, item: Any, found: Hashable) -> None:
-        self.faults += 1
-        if self.faults > MOST:
+        if self.faults == MOST:
             self.given_up = True
             self.wanted, self.found = [], []
         else:
+            self.faults += 1
             self.tell(what, place, wanted, item, found)
 
     def _fill(self, is_end: bool) -> None:
@@ -68,10 +68,12 @@ class Aligner:
         while self.wanted and not self.given_up:
             self._fill(is_end)
             keys = [key for key, _ in self.wanted]
-            steps = SequenceMatcher(None, keys, self.found, False).get_opcodes()
+            steps = _plainly(keys, self.found) or SequenceMatcher(None, keys, self.found, False).get_opcodes()
             last = max((at for at, step in enumerate(steps) if step[0] == "equal"), default=-1)
             done = steps[:last + 1] or steps
             self._go(done)
+            if self.given_up:
+                return
             until, found = done[-1][2], done[-1][4]
             self.place += found
             self.wanted, self.found = self.wanted[until:], self.found[found:]
@@ -93,21 +95,35 @@ class Aligner:
             self.actual = _chained(rest, actual)
 
     def _go(self, steps: list[tuple[str, int, int, int, int]]) -> None:
+        wanted, found, place = self.wanted, self.found, self.place + 1
         for step, begin, end, first, last in steps:
-            if self.given_up:
-                return
             if step == "equal":
                 for at in range(end - begin):
-                    self.late(self.wanted[begin + at][1], self.place + first + at + 1)
+                    self.late(wanted[begin + at][1], place + first + at)
                 continue
             pairs = min(end - begin, last - first) if step == "replace" else 0
             for at in range(pairs):
-                key, item = self.wanted[begin + at]
-                self._differs("changed", self.place + first + at + 1, key, item, self.found[first + at])
-            for key, item in self.wanted[begin + pairs:end]:
-                self._differs("missing", self.place + last + 1, key, item, None)
+                self._differs("changed", place + first + at, *wanted[begin + at], found[first + at])
+            for key, item in wanted[begin + pairs:end]:
+                self._differs("missing", place + last, key, item, None)
             for at in range(first + pairs, last):
-                self._differs("extra", self.place + at + 1, None, None, self.found[at])
+                self._differs("extra", place + at, None, None, found[at])
+
+
+def _plainly(wanted: list, found: list) -> list[tuple[str, int, int, int, int]] | None:
+    """The steps where but a few things at the front are changed, missing or too many, and all behind them is equal. Of sequences that
+    repeat themselves a search for what is equal would find too much."""
+    count = len(wanted)
+    for few in range(1, 9):
+        if 4 * few > count:
+            return None
+        if count <= len(found) and wanted[few:] == found[few:count]:
+            return [("replace", 0, few, 0, few), ("equal", few, count, few, count)]
+        if count <= len(found) + few and wanted[few:] == found[:count - few]:
+            return [("delete", 0, few, 0, 0), ("equal", few, count, 0, count - few)]
+        if count + few <= len(found) and wanted == found[few:count + few]:
+            return [("insert", 0, 0, 0, few), ("equal", 0, count, few, count + few)]
+    return None
 
 
 def _chained(front: list, rest: Iterator) -> Iterator:

@@ -221,6 +221,8 @@ def form_of(file: BinaryIO, name: str) -> Classic | Blocks:
 def opened(path: str) -> BinaryIO:
     """The file, or a line that says why it can't be read."""
     try:
+        if os.path.isdir(path):
+            raise DeskError(f"{path}: it is a folder")
         return open(path, "rb", buffering=0)
     except OSError as fault:
         raise DeskError(f"{path}: {fault.strerror}") from None
@@ -242,26 +244,25 @@ class Capture:
         self.path, self.piece, self.count = path, piece, 0
         self.size = os.path.getsize(path) if os.path.exists(path) else 0
         self._marks: list[tuple[Classic | Blocks, int]] = []
-        self._file = opened(path)
         self._coming: Iterator[Record] = iter(())
         self._next = 0
         self.first_second: int | None = None
         self._scan()
 
     def _scan(self) -> None:
-        form = form_of(self._file, self.path)
-        moment, least, number, marks = 0, None, 0, self._marks
-        for place, time, _ in form.records(Pieces(self._file, self.path, form.start, 1 << 20)):
-            if not number % STRIDE:
-                state = form.seen if isinstance(form, Blocks) else form
-                marks.append((state.at_place(place), moment))
-            if time > moment:
-                moment = time
-            if least is None or moment < least:
-                least = moment
-            number += 1
+        moment, number, marks = 0, 0, self._marks
+        with opened(self.path) as file:
+            form = form_of(file, self.path)
+            for place, time, _ in form.records(Pieces(file, self.path, form.start, 1 << 20)):
+                if not number % STRIDE:
+                    state = form.seen if isinstance(form, Blocks) else form
+                    marks.append((state.at_place(place), moment))
+                if time > moment:
+                    moment = time
+                if not number:
+                    self.first_second = time // SECOND
+                number += 1
         self.count = number
-        self.first_second = None if least is None else least // SECOND
 
     def from_number(self, index: int) -> Iterator[Record]:
         """The records from a number on, each with its moment: its time, or the moment of the record before it if that is greater."""
@@ -269,13 +270,13 @@ class Capture:
             return
         state, moment = self._marks[(index - 1) // STRIDE]
         number = (index - 1) // STRIDE * STRIDE
-        file = self._file if not self._file.closed else opened(self.path)
         form = state.at_place(state.start)
-        for _, time, frame in form.records(Pieces(file, self.path, state.start, self.piece)):
-            moment = time if time > moment else moment
-            number += 1
-            if number >= index:
-                yield Record(number, moment, frame)
+        with opened(self.path) as file:
+            for _, time, frame in form.records(Pieces(file, self.path, state.start, self.piece)):
+                moment = time if time > moment else moment
+                number += 1
+                if number >= index:
+                    yield Record(number, moment, frame)
 
     def record(self, index: int) -> Record:
         """The record with a number, with its moment as its time. Reading them in order costs no more than reading through."""

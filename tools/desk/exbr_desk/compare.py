@@ -116,11 +116,29 @@ def summary(found: Differences) -> list[str]:
     rest.append(f"commands: before {differ.commands(found.before)}; after {differ.commands(found.after)}")
     rest += _files(found)
     room, lost = TOP - len(told) - len(rest), rows(found.loses, homes)
-    shown = lost[:room if len(lost) <= room else room - 1]
-    told += [f"  {who(row, homes)}: {lost_facts(found, row)}" for row in shown]
-    if len(shown) < len(lost):
-        told.append(f"  and {counted(len(lost) - len(shown), 'more pair')} below")
-    return told + rest
+    return told + (cut_by_ports(lost, homes, room) if len(lost) > room else [f"  {who(row, homes)}: {lost_facts(found, row)}" for row in lost]) + rest
+
+
+def cut_by_ports(lost: list[Row], homes: Homes, room: int) -> list[str]:
+    """Many pairs by the two ports at which they are, those of most frames first."""
+    by: dict[tuple[str, str], list[Row]] = {}
+    for row in lost:
+        there = (row.pair.at,) if row.pair.to is None else homes.get(row.pair.to, ())
+        ends = sorted((row.pair.port, there[0])) if len(there) == 1 else [row.pair.port, -1]
+        by.setdefault((NAMES[ends[0]], NAMES[ends[1]] if ends[1] >= 0 else "addresses at no one port"), []).append(row)
+    every = sorted(by.items(), key=lambda it: -sum(map(weight, it[1])))
+    told = []
+    for (one, other), its in every[:room if len(every) <= room else room - 1]:
+        stations = sum(row.pair.to is not None for row in its)
+        what = ([counted(stations, "pair") + " of stations"] if stations else []) + (["frames to all"] if stations < len(its) else [])
+        vlans = ", ".join(map(str, sorted(set().union(*(row.it.vlans for row in its)))))
+        told.append(f"  between {one} and {other}: {' and '.join(what)}, VLAN {vlans}, {counted(sum(map(weight, its)), 'frame')}{because(its[0].it, 'now')}")
+    return told + ([f"  and between {counted(len(every) - len(told), 'more pair')} of ports, below"] if len(told) < len(every) else [])
+
+
+def weight(row: Row) -> int:
+    """How many frames a row stands for."""
+    return row.it.count + (row.back.count if row.back else 0)
 
 
 WORDS = {"same": "as before", "fewer": "reach fewer ports", "more": "reach more", "others": "reach others", "tag": "leave with another tag"}
