@@ -14,11 +14,16 @@ TOP = os.path.normpath(os.path.join(os.path.dirname(os.path.abspath(__file__)), 
 
 
 def program(named: str | None = None) -> str:
-    """The program: that which is named, or the one in dist/, or the script that builds it first."""
-    for path in [named] if named else [os.environ.get("EXBR_PROGRAM"), os.path.join(TOP, "dist", "exbr"), os.path.join(TOP, "exbr")]:
+    """The program: that which is named, here or by EXBR, or one that is built already. None is built here, since that takes long."""
+    built = os.path.join(TOP, "crates", "exbr", "out")
+    known = [os.environ.get("EXBR_PROGRAM"), os.environ.get("EXBR"), os.path.join(TOP, "dist", "exbr")]
+    known += [os.path.join(built, "exbr")] if os.path.exists(os.path.join(built, "built")) else []
+    for path in [named] if named else known:
         if path and os.path.isfile(path) and os.access(path, os.X_OK):
             return os.path.abspath(path)
-    raise DeskError(f"{named} is no program" if named else "there is no exbr to run; name it with --program")
+    if named:
+        raise DeskError(f"{named} is no program")
+    raise DeskError("there is no exbr that is built; name one by --program FILE (./exbr at the top builds it, which takes half an hour and more)")
 
 
 def written(tables: dict) -> str:
