@@ -1,6 +1,8 @@
 """What the tests of the desk share: folders of runs, the tools, and the program where there is one."""
 from __future__ import annotations
 
+import contextlib
+import io
 import os
 import shutil
 import subprocess
@@ -13,6 +15,10 @@ HERE = os.path.dirname(os.path.abspath(__file__))
 TOP = os.path.normpath(os.path.join(HERE, "..", "..", ".."))
 TOOLS = os.path.join(TOP, "tools")
 sys.path[:0] = [path for path in (os.path.join(HERE, ".."), HERE, os.path.join(TOP, "crates", "exb_cases")) if path not in sys.path]
+
+from exbr_desk import compare, errors, why
+
+MAINS = {"exbr-why": why.main, "exbr-compare": compare.main}
 
 
 def program() -> str | None:
@@ -57,11 +63,21 @@ class FolderTest(unittest.TestCase):
         return folder
 
     def tool(self, name: str, *words: str, at: str | None = None) -> subprocess.CompletedProcess:
-        """What a tool says. It never ends with a traceback."""
-        done = subprocess.run([sys.executable, os.path.join(TOOLS, name), *words], cwd=at or self.folder, capture_output=True, text=True,
-                              timeout=120, check=False)
-        self.assertNotIn("Traceback", done.stderr)
-        return done
+        """What a tool says, in this process, since to begin a Python for each call takes long. Whatever else it raises fails the test."""
+        out, err, before = io.StringIO(), io.StringIO(), os.getcwd()
+        os.chdir(at or self.folder)
+        try:
+            with contextlib.redirect_stdout(out), contextlib.redirect_stderr(err):
+                status = errors.ended(name, lambda: MAINS[name](list(words)))
+        except SystemExit as end:
+            status = end.code
+        finally:
+            os.chdir(before)
+        return subprocess.CompletedProcess(words, status, out.getvalue(), err.getvalue())
+
+    def script(self, name: str, *words: str) -> subprocess.CompletedProcess:
+        """What a tool says as the user calls it."""
+        return subprocess.run([os.path.join(TOOLS, name), *words], cwd=self.folder, capture_output=True, text=True, check=False)
 
     def refused(self, name: str, *words: str, at: str | None = None) -> str:
         """The one line with which a tool ends for broken input."""

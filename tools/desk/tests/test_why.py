@@ -10,6 +10,7 @@ import unittest
 from desk_help import TOP, FolderTest, program
 from exbr_desk import captures, runs
 from planted import PLANTED
+from world.schedule import run as run_world
 from random_runs import given_of, looked_at, named_by, one, write_run
 
 EXAMPLES = sorted(it for it in os.listdir(os.path.join(TOP, "examples")) if os.path.isdir(os.path.join(TOP, "examples", it, "expected")))
@@ -26,9 +27,24 @@ class Examples(FolderTest):
         for example in EXAMPLES:
             self.assertIn("The files agree with the rules", self.told(example, "--all"))
 
-    def test_a_frame_that_is_refused_by_its_port(self):
-        text = self.told("office", "rule=filter")
-        self.assertIn("refused by x1.3, which filters and isn't a member of VLAN 10 (its tag says so)", text)
+    def test_rules_that_keep_a_frame_out(self):
+        topology = ("[bridge]\nports = 1\n[[extender]]\nnumber = 1\non = 'b1'\nports = 2\n[captures]\n'x1.1' = 'a.pcap'\n"
+                    "[[vlan]]\nvid = 1\nuntagged = ['*']\n[[vlan]]\nvid = 5\ntagged = ['x1.2']\n"
+                    + "".join(f"[[command]]\nat = {at}\nop = {rest}\n" for at, rest in
+                              enumerate(("'filter'\nport = 'x1.1'\nfilter = true", "'accept'\nport = 'x1.1'\naccept = 'untagged'",
+                                         "'down'\nport = 'x1.1'"), 2)))
+        five, nine = (b"\xff" * 6 + b"\x02" + bytes(5) + b"\x81\x00\x00" + bytes([vid]) + b"\x08\x00" + bytes(42) for vid in (5, 9))
+        given = captures.capture_text((at * captures.SECOND, it) for at, it in ((100, five), (100, nine), (100, five[:14]), (102, five), (103, five), (104, five)))
+        written, _, _ = run_world(topology, {"a.pcap": given})
+        for file, data in {"topology.toml": topology.encode(), "a.pcap": given, **written}.items():
+            self.write(file, data)
+        done = self.tool("exbr-why", "--limit", "9", "port=x1.1")
+        self.assertEqual(done.returncode, 0, done.stdout)
+        for line in ("left x1.2 with tag 5: record 1", "refused: VLAN 9 has no member, so nothing passes in it (its tag says so)",
+                     "relayed to nobody: its VLAN tag is cut off or names VLAN 4095", "ignored: x1.1 is down (as command 3 left it)",
+                     "refused by x1.1, which filters (as command 1 left it) and isn't a member of VLAN 5 (its tag says so)",
+                     "refused by x1.1, which accepts frames without a VLAN alone (as command 2 left it); this one has tag 5"):
+            self.assertIn(line, done.stdout)
 
     def test_flooded_learned_and_aged(self):
         text = self.told("office", "--limit", "9", "vlan=10")
@@ -185,7 +201,7 @@ class Broken(FolderTest):
             self.assertIn(self.tool("exbr-why", "x1.1:1", at=folder).returncode, (0, 1, 2))
 
     def test_help(self):
-        done = self.tool("exbr-why", "--help")
+        done = self.script("exbr-why", "--help")
         self.assertEqual(done.returncode, 0)
         self.assertIn("status: 0 the files agree", done.stdout)
 
