@@ -5,7 +5,7 @@ ghost use Rattle.exb_capture.specs.declared.capture.Capture.TheVariants.{Unknown
 ghost use Rattle.exb_capture.specs.Captures.{capture_front, EachIsRead};
 ghost use Rattle.exb_capture.specs.declared.classic.Reached.TheVariants.{Start};
 ghost use Rattle.exb_capture.specs.Classic.{classic_front};
-ghost use Rattle.exb_capture.specs.Cutting.{PiecesAreRead, PiecesGiveTheRecords, AnswersAreFirst, MoreHasRoom};
+ghost use Rattle.exb_capture.specs.Cutting.{PiecesAreRead, PiecesGiveTheRecords, MoreIsOpen, AnswersAreFirst, MoreHasRoom};
 ghost use Rattle.exb_capture.specs.Pieces.{IsFormat};
 ghost use Rattle.exb_capture.specs.Rows.{TheRowIsRead, AnotherInterface, TheLastByteCut, NothingIsEmpty, TheTable};
 
@@ -35,6 +35,14 @@ pub fn pieces_are_read_as_the_whole()
     ensures blocks { PiecesAreRead most_held block_front no_section }
     ensures captures { PiecesAreRead most_held capture_front Unknown }
     ensures records { PiecesGiveTheRecords most_held capture_front Unknown }
+{}
+
+/// Before the end is told, More is answered exactly where no record and no fault stands for every
+/// continuation of what was fed.
+pub fn more_is_answered_where_nothing_stands()
+    ensures classic { MoreIsOpen most_held classic_front Start }
+    ensures blocks { MoreIsOpen most_held block_front no_section }
+    ensures captures { MoreIsOpen most_held capture_front Unknown }
 {}
 
 /// What a reader answers comes first of what it still gives, for every continuation of what it was fed; and More
