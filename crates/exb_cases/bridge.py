@@ -7,6 +7,8 @@ stands above one, and in which order extenders are opened. A topology is the tex
 import struct
 import tomllib
 
+import captured
+
 SECOND = 1_000_000_000
 RESERVED = bytes.fromhex("0180C20000")
 NOBODY = {"tagged": frozenset(), "untagged": frozenset()}
@@ -322,14 +324,10 @@ class Bridge:
 
 
 def records_of(file):
-    """The moments and frames of a capture, which has to be without a fault."""
-    order, unit = {b"\xd4\xc3\xb2\xa1": ("<", 1000), b"\xa1\xb2\xc3\xd4": (">", 1000),
-                   b"\x4d\x3c\xb2\xa1": ("<", 1), b"\xa1\xb2\x3c\x4d": (">", 1)}[file[:4]]
-    at, records = 24, []
-    while at < len(file):
-        seconds, fraction, length, _ = struct.unpack_from(order + "IIII", file, at)
-        records.append((seconds * SECOND + fraction * unit, file[at + 16:at + 16 + length]))
-        at += 16 + length
+    """The moments and frames of a capture of either format, which has to be without a fault."""
+    records, fault = captured.read(file)
+    if fault:
+        raise ValueError(fault)
     return records
 
 

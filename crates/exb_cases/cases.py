@@ -21,6 +21,7 @@ import changes
 import examples
 import fates
 import generated
+import pcapng
 import seeds
 import stepped
 import trees
@@ -299,7 +300,7 @@ def main():
     print(f"{stepped.agree()} cases of exb_schedule_tests come to the same")
     cases = Cases()
     for part in (examples.play, frames, vlans, files, *trees.PARTS, *changes.PARTS, *generated.PARTS, *fates.PARTS, *seeds.PARTS,
-                 *words.PARTS, faults):
+                 *words.PARTS, *pcapng.PARTS, faults):
         part(cases)
     cases.write()
 

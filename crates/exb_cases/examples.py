@@ -1,7 +1,7 @@
 """The examples of the repository: the captures that they read, and what must come of them."""
 import os
 
-from frames import capture, commits, journal, relays, summary
+from frames import block_capture, capture, commits, journal, relays, summary
 from stations import asks, echo, neighbour, picture, tells, with_tag
 from world.schedule import run as run_world
 
@@ -111,13 +111,20 @@ def write(folder, name, data):
         file.write(data)
 
 
+def file_of(name, port, records):
+    """The file with the capture of a port, and its bytes: that of the office's phone is a pcapng."""
+    if (name, port) == ("office", "x1.4"):
+        return f"in-{port}.pcapng", block_capture(*records)
+    return f"in-{port}.pcap", capture(*records)
+
+
 def make():
     """Writes the captures and expected files of the examples, and gives the line that each prints."""
     printed = {}
     for name, what in MADE.items():
         given, left, lines, line = what()
         for port, records in given.items():
-            write(os.path.join(EXAMPLES, name), f"in-{port}.pcap", capture(*records))
+            write(os.path.join(EXAMPLES, name), *file_of(name, port, records))
         for port in {line.split()[1] for line in lines if line.startswith("up")} | {"b1", "b2", "b3", "b4"} & left.keys():
             write(os.path.join(EXAMPLES, name, "expected"), f"out-{port}.pcap", capture(*left.get(port, [])))
         write(os.path.join(EXAMPLES, name, "expected"), "out-journal.txt", journal(*lines))
@@ -130,7 +137,7 @@ def make():
 def trace_of(name, given):
     """The trace of an example, for which the tree over links alone can say it."""
     with open(os.path.join(EXAMPLES, name, "topology.toml"), encoding="utf-8") as it:
-        written, _, _ = run_world(it.read(), {f"in-{port}.pcap": capture(*records) for port, records in given.items()})
+        written, _, _ = run_world(it.read(), dict(file_of(name, port, records) for port, records in given.items()))
     return written["out-trace.txt"]
 
 

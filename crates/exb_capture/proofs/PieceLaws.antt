@@ -96,7 +96,7 @@ read_fault : (rs : List Record) (ps : List ℕ) (f : Option Fault) (last : Fault
 read_fault rs ps None last q = absurd (cc)
 read_fault rs ps (Some f) last q = let same : f ≡ last = cc in ap Err same
 
-same_coming : {S : Type 0} (front : S → List ℕ → Front S) (s : Stage S) (p : ℕ) (h k more rest : List ℕ) (o b m n : ℕ) → h ++ more ≡ k ++ rest
+pub same_coming : {S : Type 0} (front : S → List ℕ → Front S) (s : Stage S) (p : ℕ) (h k more rest : List ℕ) (o b m n : ℕ) → h ++ more ≡ k ++ rest
     → to_come front (reading s p h o b m) more ≡ to_come front (reading s p k o b n) rest
 same_coming front (At s) p h k more rest o b m n e = ap (λ xs. cond (nat_lt (length xs) o) (record { records = []; places = []; fault = Some (fault Cut b) }) (reading_from front s p (drop o xs))) e
 same_coming front (Failed f) p h k more rest o b m n e = refl

@@ -1,13 +1,13 @@
 //! Captures that are read again, each on a shelf that reads at most so many bytes at once, and of which another file was told.
 ghost use Rattle.std.specs.Prelude.{◌<◌, length};
 ghost use Rattle.exb_faulty.specs.Faulty.{ids_of};
-ghost use Rattle.exb_scan.specs.Reading.{IsAt};
-ghost use Rattle.exb_scan.specs.Replaying.{IsKept};
+ghost use Rattle.exb_capture.specs.Reading.{IsAt};
+ghost use Rattle.exb_capture.specs.Replaying.{IsKept};
 
 use crate::compare::same;
 use crate::scans::{CUTS, Change, MAGIC, capture, changed, name_of, shelf_with};
+use exb_capture::{Replay, ReplayFault, Replayed, Scanned, scan};
 use exb_faulty::{Disturbance, FaultyShelf};
-use exb_scan::{Replay, ReplayFault, Replayed, Scanned, scan};
 use std::alloc::Global;
 use std::process::Abort;
 
@@ -76,7 +76,7 @@ const AGAIN: [Again; 28] = [
         133,
         TIME,
         (0, [0x0A, 0x0D, 0x0D, 0x0A], 133),
-        "Changed { at: 0 }",
+        "Changed { at: 8 }",
     ),
     (133, TIME, (4, [2, 0, 3, 0], 133), "Changed { at: 4 }"),
     (133, TIME, (20, [105, 0, 0, 0], 133), "Changed { at: 20 }"),

@@ -5,11 +5,11 @@ use Rattle.std.specs.List.{AllByRecursion}
 use Rattle.std.proofs.lemmas.Bool.{cases_eq, cases_lt}
 use Rattle.exb_shelf.specs.Files.{Files, SameFiles}
 use Rattle.exb_shelf.specs.Shelf.{Id, IsReadingOf, Opens, Rose, reading}
-use Rattle.exb_scan.specs.declared.replay.Replay.{Replay}
-use Rattle.exb_scan.specs.declared.replay.ReplayFault.{ReplayFault}
-use Rattle.exb_scan.specs.declared.replay.ReplayFault.TheVariants as replay
-use Rattle.exb_scan.specs.Reading.{IsAt, MovesOn, left_to_read}
-use Rattle.exb_scan.specs.Replaying.{ComesAt, IsKept, IsSameReplay}
+use Rattle.exb_capture.specs.declared.replay.Replay.{Replay}
+use Rattle.exb_capture.specs.declared.replay.ReplayFault.{ReplayFault}
+use Rattle.exb_capture.specs.declared.replay.ReplayFault.TheVariants as replay
+use Rattle.exb_capture.specs.Reading.{IsAt, MovesOn, left_to_read}
+use Rattle.exb_capture.specs.Replaying.{ComesAt, IsKept, IsSameReplay}
 use Rattle.exb_merge.specs.declared.replays.Again.{Again}
 use Rattle.exb_merge.specs.declared.replays.CaptureFault.{CaptureFault}
 use Rattle.exb_merge.specs.declared.replays.CaptureFault.TheVariants.{Read, Changed}
@@ -77,7 +77,7 @@ reads_none mine given = record { others = λ j other. refl; same = λ j name rea
 
 -- the capture that was read, as it is kept
 pub opened_next : (ids given : ℕ → Id) (s : Again) (port : ℕ) (taken looked : Replay) (index : ℕ) (next : Option ℕ) → IsOpened given s → index ≡ suc s.index → IsSameReplay s.replay taken → IsSameReplay taken looked →
-    IsKept looked → IsAt (ids looked.file.id) looked.file.got → left_to_read taken.file + 16 ≤ left_to_read s.replay.file → left_to_read looked.file ≤ left_to_read taken.file →
+    IsKept looked → IsAt (ids looked.file.id) looked.file.got → left_to_read taken.file + 1 ≤ left_to_read s.replay.file → left_to_read looked.file ≤ left_to_read taken.file →
     IfSome next (λ m. ComesAt m looked) → IsOpened ids (record { port = port; index = index; next = next; replay = looked })
 opened_next ids given s port taken looked index next o is first second kept at takes looks comes =
     let told : looked.told.bytes ≡ s.replay.told.bytes = ap (λ t. t.bytes) (second.told ∙ first.told) in

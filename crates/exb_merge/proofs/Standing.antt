@@ -4,8 +4,8 @@ use Rattle.std.specs.Prelude.{◌≢◌, sum_by, Option, Some, None, IfSome}
 use Rattle.std.specs.List.{AllByRecursion}
 use Rattle.std.proofs.lemmas.List.Sums.{sum_by-cons, sum_by-append}
 use Rattle.exb_model.specs.Input.{second_of}
-use Rattle.exb_scan.specs.Reading.{left_to_read}
-use Rattle.exb_scan.specs.Replaying.{IsSince}
+use Rattle.exb_capture.specs.Reading.{left_to_read}
+use Rattle.exb_capture.specs.Replaying.{IsSince}
 use Rattle.exb_merge.specs.declared.replays.Again.{Again}
 use Rattle.exb_merge.specs.Replays.{Apart, Standing, standing_of, number_of, gone_on, HasPort}
 use Rattle.exb_merge.proofs.Members.{all-right}
@@ -65,7 +65,7 @@ abbrev pub left_of : Again → ℕ
 left_of s = left_to_read s.replay.file
 
 -- what is left of all falls with what is left of one
-pub left_less : (before after : List Again) (s s' : Again) → left_of s' + 16 ≤ left_of s → sum_by left_of (before ++ s' ∷ after) + 16 ≤ sum_by left_of (before ++ s ∷ after)
+pub left_less : (before after : List Again) (s s' : Again) → left_of s' + 1 ≤ left_of s → sum_by left_of (before ++ s' ∷ after) + 1 ≤ sum_by left_of (before ++ s ∷ after)
 left_less before after s s' less =
     omega (arith, less, sum_by-append left_of before (s ∷ after), sum_by-append left_of before (s' ∷ after), sum_by-cons left_of s after, sum_by-cons left_of s' after)
 

@@ -20,9 +20,9 @@ use Rattle.exb_model.specs.Ports.{below}
 use Rattle.exb_model.specs.Setup.{IsValid, shape_of}
 use Rattle.exb_model.specs.Texts.{summary}
 use Rattle.exb_model.specs.Tree.{Shape, IsTree, external_ports, is_external}
-use Rattle.exb_pcap.specs.declared.reader.PcapFault.{PcapFault}
-use Rattle.exb_pcap.specs.Captures.{pcap_records, records_or_none}
-use Rattle.exb_scan.specs.Scans.{scanned_of}
+use Rattle.exb_capture.specs.declared.fault.Fault.{Fault as Broke}
+use Rattle.exb_capture.specs.Captures.{capture_records, records_or_none}
+use Rattle.exb_capture.specs.Scans.{scanned_of}
 use Rattle.exb_shelf.specs.Files.{Files, Puts, bytes_of}
 use Rattle.exb_tables.specs.declared.rows.Named.{Named}
 use Rattle.exb_text.specs.Names.{capture_name, journal_name, trace_name}
@@ -120,7 +120,7 @@ keeps_all captures at names file end = subst (λ (xs : List Capture). KeepsFirst
 
 -- ---- what was made, one after the other
 abbrev ReadAt : Type 0
-ReadAt = ℕ × Result (List Record) PcapFault
+ReadAt = ℕ × Result (List Record) Broke
 
 module _ (r : ℕ → List Record) where
   abbrev At : ℕ → ReadAt
@@ -196,7 +196,7 @@ named_as (x ∷ xs) q = by_port (x.port == q) (named_as xs q)
 -- ---- the files of a made input
 -- the records of a capture by its name
 abbrev records_named : Files → Option (List ℕ) → List Record
-records_named file o = if is_some o then records_or_none (pcap_records (bytes_named file o)) else []
+records_named file o = if is_some o then records_or_none (capture_records (bytes_named file o)) else []
 
 -- its setup, what is read of its captures, and where they are kept
 module _ (number : ℕ) (setup : Setup) (cs : List Capture) (names : List Named) (file : Files) (is : setup ≡ (made number).setup)
@@ -232,7 +232,7 @@ module _ (number : ℕ) (setup : Setup) (cs : List Capture) (names : List Named)
         sym (alone number q (false_from_ne_true (is_external (tree_of (made number)) q) (λ ext. false≢true (sym (ap is_some none) ∙ has_name q ext))))
     same_by (Some name) q named =
         let own = kept q name named in
-        ap (λ (o : Option (List ℕ)). records_or_none (pcap_records (bytes_of o))) own.there ∙ ap records_or_none own.read
+        ap (λ (o : Option (List ℕ)). records_or_none (capture_records (bytes_of o))) own.there ∙ ap records_or_none own.read
 
     pub input_same : (commands : List Timed) → map given_by commands ≡ (made number).commands → input_from setup commands names file ≡ made number
     input_same commands given =

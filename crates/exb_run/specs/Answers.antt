@@ -16,8 +16,9 @@ use Rattle.exb_merge.specs.declared.replays.CaptureFault.{CaptureFault}
 use Rattle.exb_merge.specs.declared.replays.CaptureFault.TheVariants as capture
 use Rattle.exb_needs.specs.Lines.{lines_of}
 use Rattle.exb_needs.specs.Needed.{needs_of}
-use Rattle.exb_pcap.specs.declared.reader.PcapFault.{PcapFault}
-use Rattle.exb_pcap.specs.declared.reader.PcapFault.TheVariants as pcap
+use Rattle.exb_capture.specs.declared.fault.Fault.{Fault as Broke}
+use Rattle.exb_capture.specs.declared.fault.Flaw.{Flaw as Wrong}
+use Rattle.exb_capture.specs.declared.fault.Flaw.TheVariants as wrong
 use Rattle.exb_shelf.specs.declared.shelf.ShelfFault.{ShelfFault}
 use Rattle.exb_shelf.specs.declared.shelf.ShelfFault.TheVariants as shelf
 use Rattle.exb_shelf.specs.Files.{Files, SameFiles}
@@ -170,14 +171,22 @@ CanBe (BadTopology topology.Memory) = ⊥
 CanBe _ = ⊤
 
 -- ---- what is printed
+-- what is wrong with a capture
+abbrev pub flaw_name : Wrong → List ℕ
+flaw_name wrong.NotPcap = codes "NotPcap"
+flaw_name wrong.Version = codes "Version"
+flaw_name wrong.LinkType = codes "LinkType"
+flaw_name wrong.Cut = codes "Cut"
+flaw_name wrong.Length = codes "Length"
+flaw_name wrong.Time = codes "Time"
+flaw_name wrong.Magic = codes "Magic"
+flaw_name wrong.TooMany = codes "TooMany"
+flaw_name wrong.Resolution = codes "Resolution"
+flaw_name wrong.Interface = codes "Interface"
+
 -- a fault of the grammar of captures, and its place
-abbrev pub broken_text : PcapFault → List ℕ
-broken_text pcap.NotPcap = codes "NotPcap at 0"
-broken_text pcap.Version = codes "Version at 4"
-broken_text pcap.LinkType = codes "LinkType at 20"
-broken_text (pcap.Cut place) = codes "Cut at " ++ decimal place
-broken_text (pcap.Length place) = codes "Length at " ++ decimal place
-broken_text (pcap.Time place) = codes "Time at " ++ decimal place
+abbrev pub broken_text : Broke → List ℕ
+broken_text fault = flaw_name fault.flaw ++ codes " at " ++ decimal fault.at
 
 abbrev pub flaw_text : Flaw → List ℕ
 flaw_text (Large limit) = codes "Large " ++ decimal limit

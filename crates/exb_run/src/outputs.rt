@@ -14,7 +14,7 @@ use crate::plan::Plan;
 use exb_model::event::Event;
 use exb_model::memory::NoMemory;
 use exb_model::trace::TraceLine;
-use exb_pcap::{header_text, record_text};
+use exb_capture::{header_text, record_text};
 use exb_schedule::Left;
 use exb_shelf::{PIECE, Shelf, write_text};
 use exb_text::laws::{
