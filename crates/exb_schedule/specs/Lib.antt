@@ -4,5 +4,7 @@ pub mod Rounds
 pub mod Playing
 pub mod Worlds
 pub mod Drawing
+pub mod Segments
 pub mod Laws
 pub mod Standing
+pub mod Lasting

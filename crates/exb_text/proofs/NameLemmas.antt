@@ -1,12 +1,14 @@
--- The names of ports differ.
+-- The names of ports differ, and so those of all files.
 use Rattle.std.proofs.Common.{◌≡◌, ◌≢◌, ◌<◌, ◌≤◌, ◌+◌, ◌/◌, ◌%◌, ◌^◌, ℕ, List, [], ◌∷◌, ◌++◌, ap, sym, ◌∙◌, refl, arith, get_or, drop, inl, inr, ◌⊎◌}
-use Rattle.std.specs.Prelude.{codes}
+use Rattle.std.specs.Prelude.{codes, ◌==◌, if◌then◌else◌}
 use Rattle.std.specs.Fmt.{decimal}
 use Rattle.std.proofs.lemmas.Fmt.{decimal_injective, decimal_by_steps}
 use Rattle.std.proofs.lemmas.Bool.{cases_lt, lt-ltb, le-ltb}
 use Rattle.std.proofs.lemmas.List.{append_assoc, append_cancel_left, append_cancel_right}
 use Rattle.exb_model.specs.Texts.{port_name}
-use Rattle.exb_text.specs.Names.{capture_name, journal_name, trace_name}
+use Rattle.exb_text.specs.declared.output.Output.{Output}
+use Rattle.exb_text.specs.declared.output.Output.TheVariants as output
+use Rattle.exb_text.specs.Names.{capture_name, counters_name, file_name, journal_name, trace_name, IsOfPort}
 
 -- no point
 abbrev pub NoPoint : List ℕ → Type 0
@@ -75,46 +77,64 @@ port_names_differ p q lp lq e = elim (cases_lt p 64) [
   ]
 ]
 
-pub capture_names_differ : (prefix : List ℕ) (p q : ℕ) → p < 4160 → q < 4160 → capture_name prefix p ≡ capture_name prefix q → p ≡ q
-unfolding capture_name
-capture_names_differ prefix p q lp lq e =
-    port_names_differ p q lp lq (append_cancel_left prefix (port_name p) (port_name q) (append_cancel_right (prefix ++ port_name p) (prefix ++ port_name q) (codes ".pcap") e))
+-- ---- by kind
+-- what stands behind the prefix
+abbrev ending : Output → List ℕ
+ending (output.Capture p) = port_name p ++ codes ".pcap"
+ending output.Journal = codes "journal.txt"
+ending output.Trace = codes "trace.txt"
+ending output.Counters = codes "counters.txt"
+
+behind : (prefix : List ℕ) (x : Output) → file_name prefix x ≡ prefix ++ ending x
+unfolding capture_name journal_name trace_name counters_name
+behind prefix (output.Capture p) = append_assoc prefix (port_name p) (codes ".pcap")
+behind prefix output.Journal = refl
+behind prefix output.Trace = refl
+behind prefix output.Counters = refl
+
+abbrev letter : Output → ℕ
+letter x = get_or (ending x) 0 0
 
 -- a port's file begins with b or x after the prefix
-head_of_file : (p : ℕ) → (get_or (port_name p ++ codes ".pcap") 0 0 ≡ 98) ⊎ (get_or (port_name p ++ codes ".pcap") 0 0 ≡ 120)
-head_of_file p = elim (cases_lt p 64) [
+letter_of_port : (p : ℕ) → (letter (output.Capture p) ≡ 98) ⊎ (letter (output.Capture p) ≡ 120)
+letter_of_port p = elim (cases_lt p 64) [
   | inl h ↦ inl (ap (λ (l : List ℕ). get_or (l ++ codes ".pcap") 0 0) (bridge_name p h))
   | inr h ↦ inr (ap (λ (l : List ℕ). get_or (l ++ codes ".pcap") 0 0) (extended_name p h))
 ]
 
-j_is_neither : (n : ℕ) → (n ≡ 98) ⊎ (n ≡ 120) → n ≡ 106 → ⊥
-j_is_neither n (inl b) j = omega arith
-j_is_neither n (inr x) j = omega arith
+-- and no other file does
+port_or : (n k : ℕ) → (n ≡ 98) ⊎ (n ≡ 120) → n ≡ k → k ≢ 98 → k ≢ 120 → ⊥
+port_or n k (inl b) same not_b not_x = not_b (sym same ∙ b)
+port_or n k (inr x) same not_b not_x = not_x (sym same ∙ x)
 
-pub no_capture_is_the_journal : (prefix : List ℕ) (p : ℕ) → capture_name prefix p ≢ journal_name prefix
-unfolding capture_name journal_name
-no_capture_is_the_journal prefix p e =
-    let rest : port_name p ++ codes ".pcap" ≡ codes "journal.txt" =
-    append_cancel_left prefix (port_name p ++ codes ".pcap") (codes "journal.txt") (sym (append_assoc prefix (port_name p) (codes ".pcap")) ∙ e)
-    in
-    j_is_neither _ (head_of_file p) (ap (λ (l : List ℕ). get_or l 0 0) rest)
+of_port : (p k : ℕ) → letter (output.Capture p) ≡ k → k ≢ 98 → k ≢ 120 → ⊥
+of_port p k = port_or (letter (output.Capture p)) k (letter_of_port p)
 
-t_is_neither : (n : ℕ) → (n ≡ 98) ⊎ (n ≡ 120) → n ≡ 116 → ⊥
-t_is_neither n (inl b) t = omega arith
-t_is_neither n (inr x) t = omega arith
+-- the other kinds by their letter
+abbrev by_letter : ℕ → Output
+by_letter n = if n == 106 then output.Journal else if n == 116 then output.Trace else output.Counters
 
-pub no_capture_is_the_trace : (prefix : List ℕ) (p : ℕ) → capture_name prefix p ≢ trace_name prefix
-unfolding capture_name trace_name
-no_capture_is_the_trace prefix p e =
-    let rest : port_name p ++ codes ".pcap" ≡ codes "trace.txt" =
-    append_cancel_left prefix (port_name p ++ codes ".pcap") (codes "trace.txt") (sym (append_assoc prefix (port_name p) (codes ".pcap")) ∙ e)
-    in
-    t_is_neither _ (head_of_file p) (ap (λ (l : List ℕ). get_or l 0 0) rest)
+other_endings : (x y : Output) → ending x ≡ ending y → by_letter (letter x) ≡ x → by_letter (letter y) ≡ y → x ≡ y
+other_endings x y e hx hy = sym hx ∙ ap (λ (l : List ℕ). by_letter (get_or l 0 0)) e ∙ hy
 
-j_is_no_t : (let j : ℕ = 106 in let t : ℕ = 116 in j ≡ t) → ⊥
-j_is_no_t e = omega arith
+endings_differ : (x y : Output) → IsOfPort x → IsOfPort y → ending x ≡ ending y → x ≡ y
+endings_differ (output.Capture p) (output.Capture q) hx hy e =
+    ap output.Capture (port_names_differ p q hx hy (append_cancel_right (port_name p) (port_name q) (codes ".pcap") e))
+endings_differ (output.Capture p) output.Journal hx hy e = absurd (of_port p 106 (ap (λ (l : List ℕ). get_or l 0 0) e) (λ s. omega arith) (λ s. omega arith))
+endings_differ (output.Capture p) output.Trace hx hy e = absurd (of_port p 116 (ap (λ (l : List ℕ). get_or l 0 0) e) (λ s. omega arith) (λ s. omega arith))
+endings_differ (output.Capture p) output.Counters hx hy e = absurd (of_port p 99 (ap (λ (l : List ℕ). get_or l 0 0) e) (λ s. omega arith) (λ s. omega arith))
+endings_differ output.Journal (output.Capture q) hx hy e = absurd (of_port q 106 (ap (λ (l : List ℕ). get_or l 0 0) (sym e)) (λ s. omega arith) (λ s. omega arith))
+endings_differ output.Trace (output.Capture q) hx hy e = absurd (of_port q 116 (ap (λ (l : List ℕ). get_or l 0 0) (sym e)) (λ s. omega arith) (λ s. omega arith))
+endings_differ output.Counters (output.Capture q) hx hy e = absurd (of_port q 99 (ap (λ (l : List ℕ). get_or l 0 0) (sym e)) (λ s. omega arith) (λ s. omega arith))
+endings_differ output.Journal output.Journal hx hy e = refl
+endings_differ output.Journal output.Trace hx hy e = other_endings output.Journal output.Trace e refl refl
+endings_differ output.Journal output.Counters hx hy e = other_endings output.Journal output.Counters e refl refl
+endings_differ output.Trace output.Journal hx hy e = other_endings output.Trace output.Journal e refl refl
+endings_differ output.Trace output.Trace hx hy e = refl
+endings_differ output.Trace output.Counters hx hy e = other_endings output.Trace output.Counters e refl refl
+endings_differ output.Counters output.Journal hx hy e = other_endings output.Counters output.Journal e refl refl
+endings_differ output.Counters output.Trace hx hy e = other_endings output.Counters output.Trace e refl refl
+endings_differ output.Counters output.Counters hx hy e = refl
 
-pub the_journal_is_no_trace : (prefix : List ℕ) → journal_name prefix ≢ trace_name prefix
-unfolding journal_name trace_name
-the_journal_is_no_trace prefix e =
-    j_is_no_t (ap (λ (l : List ℕ). get_or l 0 0) (append_cancel_left prefix (codes "journal.txt") (codes "trace.txt") e))
+pub file_names_differ : (prefix : List ℕ) (x y : Output) → IsOfPort x → IsOfPort y → file_name prefix x ≡ file_name prefix y → x ≡ y
+file_names_differ prefix x y hx hy e = endings_differ x y hx hy (append_cancel_left prefix (ending x) (ending y) (sym (behind prefix x) ∙ e ∙ behind prefix y))

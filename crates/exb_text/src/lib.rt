@@ -1,18 +1,21 @@
 //! The texts that a run writes and prints: the lines of the journal and of a trace, the summary, and the names of the
 //! files. Upwards it promises that each is byte for byte the text that the definitions say, that want of
-//! memory leaves no part of a line, and that under one prefix the files of the ports, the journal and the trace all
-//! have different names. It stands on `exb_model`.
+//! memory leaves no part of a line, and that under one prefix all files, of each kind and of each port, have different
+//! names. It stands on `exb_model`.
 #![tactic(auto)]
 
 mod event_line;
-mod file_name;
 pub mod laws;
+mod output;
 mod port_name;
 mod tally;
 mod trace_line;
 
 pub use event_line::{EventLine, write_line};
-pub use file_name::{capture_file_name, journal_file_name, trace_file_name};
+pub use output::{
+    Output, add_name, add_other_names, capture_file_name, counters_file_name, file_name,
+    journal_file_name, trace_file_name,
+};
 pub use port_name::PortName;
 pub use tally::Tally;
 pub use trace_line::{event_bytes, write_trace_line};
