@@ -179,7 +179,7 @@ def main():
         "//! Files of pcapng in hexadecimal digits, and what is read of them, as `tools/captures/make_cases.py` writes them.\n",
         f"/// A section header, little-endian.\npub(super) const HEAD: &str = \"{HEAD}\";\n",
         f"/// The same, big-endian.\npub(super) const BIG_HEAD: &str = \"{BIG}\";\n",
-        f"/// One frame of 60 bytes at 100 seconds: 140 bytes.\npub(super) const ROW: &str =\n    \"{ROW}\";\n",
+        f"/// One frame of 60 bytes at 100 seconds: 140 bytes.\npub(crate) const ROW: &str =\n    \"{ROW}\";\n",
         "/// What stands behind the header, and what is read.\n"
         + table("BLOCKS", [(blocks, told(bytes_of(HEAD + " " + blocks))) for blocks in BLOCKS]),
         "/// A time of 5 in each unit.\n" + table("LITTLE", [(blocks, told(bytes_of(HEAD + " " + blocks))) for blocks in UNITS]),

@@ -15,7 +15,7 @@ use Rattle.exb_capture.specs.declared.block.Content.TheVariants.{Skipped, NewSec
 use Rattle.exb_capture.specs.Formats.{Front, Nothing, Short, Over, Holds, fault}
 use Rattle.exb_capture.specs.Pieces.{IsFormat}
 use Rattle.exb_capture.proofs.FormatLemmas.{IsDecided, longer, IsMeasured, format_by, not_empty}
-use Rattle.exb_capture.proofs.BlockSizes.{head_sized, IsSized}
+use Rattle.exb_capture.proofs.BlockSizes.{head_sized, IsSized, IsLong, block_long}
 use Rattle.exb_capture.proofs.BlockOpen.{block_undecided, block_blank}
 use Rattle.exb_capture.specs.Fields.{◌>>=◌, refuse, word}
 use Rattle.exb_capture.specs.Blocks.{Sections, order_of, interfaces_of, kind_of, is_read, is_no_size, order_at, head_at, block_at, shown, whole_front, headed_front, block_front, most_held}
@@ -65,12 +65,12 @@ block_stands s h more = by_none (nat_eq (length h) 0)
     by_none false is = by_head (nat_lt (length h) 12) refl is
 
 -- ---- sizes
-shown_measured : (s : Sections) (head : Head) (b : List ℕ) (x : Result Content Fault) (h : List ℕ) → 0 < head.size → head.size ≤ length h → IsMeasured most_held h (shown s head b x)
-shown_measured s head b (Ok Skipped) h some fits = some
-shown_measured s head b (Ok NewSection) h some fits = some
-shown_measured s head b (Ok (NewInterface i)) h some fits = some
-shown_measured s head b (Ok (Packet moment from n)) h some fits = (some, fits)
-shown_measured s head b (Err f) h some fits = tt
+shown_measured : (s : Sections) (head : Head) (b : List ℕ) (x : Result Content Fault) (h : List ℕ) → IsLong head.size x → 0 < head.size → head.size ≤ length h → IsMeasured most_held h (shown s head b x)
+shown_measured s head b (Ok Skipped) h long some fits = some
+shown_measured s head b (Ok NewSection) h long some fits = some
+shown_measured s head b (Ok (NewInterface i)) h long some fits = some
+shown_measured s head b (Ok (Packet moment from n)) h long some fits = (long, fits)
+shown_measured s head b (Err f) h long some fits = tt
 
 headed_measured : (s : Sections) (x : Result Head Fault) (h : List ℕ) → ((head : Head) → x ≡ Ok head → IsSized head) → IsMeasured most_held h (headed_front s x h)
 headed_measured s (Err f) h sized = tt
@@ -78,7 +78,7 @@ headed_measured s (Ok head) h sized = by_kind (is_read head.kind) refl
   where
     by_size : (b : Bool) → nat_lt (length h) head.size ≡ b → is_read head.kind ≡ true → IsMeasured most_held h (cond b (Short (fault Cut 0)) (block s head h))
     by_size true e read = let few = ltb-true (length h) head.size e in let most = (sized head refl).most read in omega (arith, few, most)
-    by_size false e read = shown_measured s head (take head.size h) (block_at head (interfaces_of s.section) s.last (take head.size h)) h (let some = (sized head refl).some in omega (arith, some)) (ltb-false (length h) head.size e)
+    by_size false e read = shown_measured s head (take head.size h) (block_at head (interfaces_of s.section) s.last (take head.size h)) h (block_long head (interfaces_of s.section) s.last (take head.size h)) (let some = (sized head refl).some in omega (arith, some)) (ltb-false (length h) head.size e)
 
     by_kind : (b : Bool) → is_read head.kind ≡ b → IsMeasured most_held h (cond b (whole_front s head h) (Over head.size s))
     by_kind true read = by_size (nat_lt (length h) head.size) refl read

@@ -29,7 +29,7 @@ IsMeasured most h Nothing = length h < most
 IsMeasured most h (Short f) = length h < most
 IsMeasured most h (Bad f) = Unit {0}
 IsMeasured most h (Over n t) = 0 < n
-IsMeasured most h (Holds x n t) = (0 < n) × (n ≤ length h)
+IsMeasured most h (Holds x n t) = (16 ≤ n) × (n ≤ length h)
 
 -- ---- the format, by the two laws
 pub format_by : {S : Type 0} (most : ℕ) (front : S → List ℕ → Front S)

@@ -71,5 +71,5 @@ module _ {S : Type 0} (most : ℕ) (front : S → List ℕ → Front S) (ok : Is
   unfolding reading_from reading_within
   from_holds s p left x n t e =
       ap (λ o. continued o p left (reading_within front (length left))) e
-      ∙ ap (before x p) (behind_some t n (behind p n) left (ok.holds_some s left x n t e) (ok.there s left x n t e)
+      ∙ ap (before x p) (behind_some t n (behind p n) left (let some = ok.holds_some s left x n t e in omega (arith, some)) (ok.there s left x n t e)
       ∙ sym (over_there t n p (behind p n) left (ok.there s left x n t e)))

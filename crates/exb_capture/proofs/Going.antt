@@ -171,7 +171,7 @@ seen_sound f s sound e ahead = record {
   seen = record { there = ahead.there; in_time = ahead.in_time; short = ahead.short; whole = found_held (asked_of f).answer (found_in s (asked_of f).left.held) (asked_of f).left e (leaves f).2 };
 }
 
-taken_one : (a : Answer) (x : Record) → a ≡ Found x → taken_by a ≡ 1
+taken_one : (a : Answer) (x : Record) → a ≡ Found x → taken_by a ≡ 16
 taken_one a x e = ap taken_by e
 
 pub seen_less : (f : CaptureFile) (s : Seen) → f.next ≡ None → (asked_of f).answer ≡ Found (found_in s (asked_of f).left.held) → left_to_read (with_seen f (asked_of f).left s) ≤ left_to_read f
@@ -197,10 +197,10 @@ taken f = record f { next = None }
 pub taken_sound : (f : CaptureFile) → IsSound f → IsSound (taken f)
 taken_sound f s = record { most = s.most; small = s.small; fits = s.fits; seen = tt }
 
-pub taken_less : (f : CaptureFile) (x : Record) → next_of f ≡ Some x → left_to_read (taken f) < left_to_read f
+pub taken_less : (f : CaptureFile) (x : Record) → next_of f ≡ Some x → left_to_read (taken f) + 16 ≤ left_to_read f
 taken_less f x e = by_next f.next e
   where
-    by_next : (o : Option Seen) → seen_in o f.reader.held ≡ Some x → left_to_read (taken f) < left_to_read (record f { next = o })
+    by_next : (o : Option Seen) → seen_in o f.reader.held ≡ Some x → left_to_read (taken f) + 16 ≤ left_to_read (record f { next = o })
     by_next None t = absurd (cc)
     by_next (Some s) t = omega arith
 

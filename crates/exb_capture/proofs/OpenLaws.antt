@@ -76,9 +76,9 @@ unsettled_as c d same u = record {
 abbrev pub unread_of : {S : Type 0} → Reading S → ℕ
 unread_of r = length r.held - r.owing
 
--- a record is a byte at least
+-- a record is 16 bytes at least
 abbrev pub taken_by : Answer → ℕ
-taken_by (Found x) = 1
+taken_by (Found x) = 16
 taken_by More = 0
 taken_by End = 0
 taken_by (Faulty f) = 0

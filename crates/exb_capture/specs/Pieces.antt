@@ -31,14 +31,14 @@ IsNotCut (Over n s) = ⊥
 IsNotCut (Holds x n s) = ⊥
 
 -- What stands at a front stands whatever follows, but where nothing is there or more decides; and of the bytes of a record all are there.
--- A reader whose buffer has so many bytes can then hold whatever is not decided yet. Where more decides, there are bytes that decide
+-- A record takes at least 16. A reader whose buffer has so many bytes can then hold whatever is not decided yet. Where more decides, there are bytes that decide
 -- otherwise than the end.
 pub record IsFormat {S : Type 0} (most : ℕ) (front : S → List ℕ → Front S) : Type 0 where
   pub bad : (s : S) (held more : List ℕ) (f : Fault) → front s held ≡ Bad f → front s (held ++ more) ≡ Bad f
   pub over : (s : S) (held more : List ℕ) (n : ℕ) (t : S) → front s held ≡ Over n t → front s (held ++ more) ≡ Over n t
   pub holds : (s : S) (held more : List ℕ) (x : Record) (n : ℕ) (t : S) → front s held ≡ Holds x n t → front s (held ++ more) ≡ Holds x n t
   pub over_some : (s : S) (held : List ℕ) (n : ℕ) (t : S) → front s held ≡ Over n t → 0 < n
-  pub holds_some : (s : S) (held : List ℕ) (x : Record) (n : ℕ) (t : S) → front s held ≡ Holds x n t → 0 < n
+  pub holds_some : (s : S) (held : List ℕ) (x : Record) (n : ℕ) (t : S) → front s held ≡ Holds x n t → 16 ≤ n
   pub there : (s : S) (held : List ℕ) (x : Record) (n : ℕ) (t : S) → front s held ≡ Holds x n t → n ≤ length held
   pub nothing : (s : S) (held : List ℕ) → front s held ≡ Nothing → length held < most
   pub short : (s : S) (held : List ℕ) (f : Fault) → front s held ≡ Short f → length held < most

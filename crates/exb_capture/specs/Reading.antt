@@ -76,12 +76,12 @@ with_next (Some x) place rest = before x place rest
 abbrev pub coming : CaptureFile → List ℕ → Capture
 coming f more = with_next (next_of f) f.reader.begun (to_come capture_front f.reader more)
 
--- a record that was looked at is one
+-- the bytes that a record which was looked at takes at least
 abbrev pub one_next : Option Seen → ℕ
 one_next None = 0
-one_next (Some s) = 1
+one_next (Some s) = 16
 
--- what the reader holds and hasn't gone past, and the record that was looked at
+-- how many bytes the reader holds and hasn't gone past, and a record that was looked at takes
 abbrev pub left_held : CaptureFile → ℕ
 left_held f = (length f.reader.held - f.reader.owing) + one_next f.next
 

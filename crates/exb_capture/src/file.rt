@@ -294,7 +294,7 @@ impl CaptureFile {
         ensures sound { IsSound self.new }
         ensures same { IsSameFile self.old self.new }
         ensures got { self.new.got ≡ self.old.got }
-        ensures left { left_to_read self.new < left_to_read self.old }
+        ensures left { left_to_read self.new + 16 ≤ left_to_read self.old }
         ensures bytes { (x : Record) → next_of self.old ≡ Some x → IfOk result (λ bytes. bytes ≡ x.bytes) }
         ensures short { IfOk result (λ bytes. length bytes ≤ 262_144) }
         ensures read { (bytes : List ℕ) (xs : List Record) (x : Record) → next_of self.old ≡ Some x

@@ -229,7 +229,7 @@ impl Replay {
         ensures kept { IsKept self.new }
         ensures same { IsSameReplay self.old self.new }
         ensures got { self.new.file.got ≡ self.old.file.got }
-        ensures left { left_to_read self.new.file < left_to_read self.old.file }
+        ensures left { left_to_read self.new.file + 16 ≤ left_to_read self.old.file }
         ensures least { OnOk result (self.new.least ≡ moment) }
         ensures moment { IfOk result (λ x. x.moment ≡ moment) }
         ensures limits { IfOk result (IsReplayed self.old.least self.old.told.first) }
@@ -263,7 +263,7 @@ impl Replay {
         ensures at { OnOk result (IsAt (S.ids shelf.new self.new.file.id) self.new.file.got) }
         ensures limits { IfOk result (λ next. IfSome next (IsReplayed self.old.least self.old.told.first)) }
         ensures least { IfOk result (λ next. IfSome next (λ x. self.new.least ≡ x.moment)) }
-        ensures left { IfOk result (λ next. IfSome next (λ x. left_to_read self.new.file < left_to_read self.old.file)) }
+        ensures left { IfOk result (λ next. IfSome next (λ x. left_to_read self.new.file + 16 ≤ left_to_read self.old.file)) }
 
         ensures order { S.tells → IfOk result (λ next. (left : List Record) → IsReplaying (bytes_of (S.file shelf.old (S.ids shelf.old self.old.file.id).name)) left self.old
             → IsFirstOf left self.old.least next (λ rest. IsReplaying (bytes_of (S.file shelf.old (S.ids shelf.old self.old.file.id).name)) rest self.new)) }

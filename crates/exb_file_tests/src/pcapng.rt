@@ -3,7 +3,8 @@ mod cases;
 
 use crate::compare::{same, same_at};
 use crate::hostile::bytes_of;
-use crate::pcapng::cases::{BIG_HEAD, BLOCKS, FRONTS, HEAD, LITTLE, ROW, TWINS};
+pub(crate) use crate::pcapng::cases::ROW;
+use crate::pcapng::cases::{BIG_HEAD, BLOCKS, FRONTS, HEAD, LITTLE, TWINS};
 use crate::reading::{front_text, sized_text, whole_text};
 use std::alloc::Global;
 use std::process::Abort;

@@ -77,7 +77,7 @@ reads_none mine given = record { others = λ j other. refl; same = λ j name rea
 
 -- the capture that was read, as it is kept
 pub opened_next : (ids given : ℕ → Id) (s : Again) (port : ℕ) (taken looked : Replay) (index : ℕ) (next : Option ℕ) → IsOpened given s → index ≡ suc s.index → IsSameReplay s.replay taken → IsSameReplay taken looked →
-    IsKept looked → IsAt (ids looked.file.id) looked.file.got → left_to_read taken.file + 1 ≤ left_to_read s.replay.file → left_to_read looked.file ≤ left_to_read taken.file →
+    IsKept looked → IsAt (ids looked.file.id) looked.file.got → left_to_read taken.file + 16 ≤ left_to_read s.replay.file → left_to_read looked.file ≤ left_to_read taken.file →
     IfSome next (λ m. ComesAt m looked) → IsOpened ids (record { port = port; index = index; next = next; replay = looked })
 opened_next ids given s port taken looked index next o is first second kept at takes looks comes =
     let told : looked.told.bytes ≡ s.replay.told.bytes = ap (λ t. t.bytes) (second.told ∙ first.told) in

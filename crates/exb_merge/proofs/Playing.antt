@@ -1,6 +1,6 @@
 -- The next record is taken of the capture whose turn it is.
 use Rattle.std.proofs.Common.{◌≡◌, ℕ, suc, ◌+◌, ◌*◌, ◌^◌, ◌<◌, ◌≤◌, List, [], ◌∷◌, ◌++◌, length, map, max, set, sym, ap, subst, ◌∙◌, arith}
-use Rattle.std.specs.Prelude.{Option, IfSome, IfNone, sum_by}
+use Rattle.std.specs.Prelude.{Option, Some, IfSome, IfNone, sum_by}
 use Rattle.std.specs.List.{AllByRecursion}
 use Rattle.std.specs.List.Sorted.{IsPermutation}
 use Rattle.std.specs.declared.collections.BinaryHeap.{BinaryHeap}
@@ -38,7 +38,7 @@ module _ (xs : List Again) (m place : ℕ) (s s' : Again) (h : IsNext xs m place
       subst (AllByRecursion (IsOpened ids)) (sym put_is)
       (opened_put given ids h.at.before h.at.after s s' moves (subst Apart h.at.split apart) own (subst (AllByRecursion (IsOpened given)) h.at.split each))
 
-  pub next_left : left_of s' + 1 ≤ left_of s → sum_by left_of (set xs place s') + 1 ≤ sum_by left_of xs
+  pub next_left : left_of s' + 16 ≤ left_of s → sum_by left_of (set xs place s') + 16 ≤ sum_by left_of xs
   next_left less =
       let now = ap (sum_by left_of) put_is in
       let was = ap (sum_by left_of) h.at.split in

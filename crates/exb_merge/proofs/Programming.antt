@@ -214,7 +214,7 @@ command_kept ids p low all = record { opened = all.opened; start = all.start; si
 -- ---- a record
 pub record_coming : (ids : ℕ → Id) (p : Programme) (new : Replays) (c : Came) (command captured : Option ℕ) (b : Bool) → IsProgramme ids p → command ≡ first_moment (commands_left (played_with [] p)) →
     IsEarliest captured p.captures → b ≡ comes_first command captured → b ≡ false → HasCome (standings p.captures) c (standings new) → IsEarliest (Some c.moment) p.captures →
-    NoneIsBefore c.moment new → p.start ≤ second_of c.moment → left_in new + 1 ≤ left_in p.captures → ids_in new ≡ ids_in p.captures → IsComing p (next.Record c) (record p { captures = new })
+    NoneIsBefore c.moment new → p.start ≤ second_of c.moment → left_in new + 16 ≤ left_in p.captures → ids_in new ≡ ids_in p.captures → IsComing p (next.Record c) (record p { captures = new })
 record_coming ids p new c command captured b all left e test other come first rises since less same =
     let one = one_earliest p.captures captured (Some c.moment) e first in
     let behind : comes_first (first_moment (commands_left (played_with [] p))) (Some c.moment) ≡ false =

@@ -65,7 +65,7 @@ abbrev pub left_of : Again → ℕ
 left_of s = left_to_read s.replay.file
 
 -- what is left of all falls with what is left of one
-pub left_less : (before after : List Again) (s s' : Again) → left_of s' + 1 ≤ left_of s → sum_by left_of (before ++ s' ∷ after) + 1 ≤ sum_by left_of (before ++ s ∷ after)
+pub left_less : (before after : List Again) (s s' : Again) → left_of s' + 16 ≤ left_of s → sum_by left_of (before ++ s' ∷ after) + 16 ≤ sum_by left_of (before ++ s ∷ after)
 left_less before after s s' less =
     omega (arith, less, sum_by-append left_of before (s ∷ after), sum_by-append left_of before (s' ∷ after), sum_by-cons left_of s after, sum_by-cons left_of s' after)
 

@@ -85,7 +85,7 @@ impl Again {
         ensures kept { IsKept self.new.replay }
         ensures same { IsSameReplay self.old.replay self.new.replay }
         ensures got { self.new.replay.file.got ≡ self.old.replay.file.got }
-        ensures left { left_to_read self.new.replay.file < left_to_read self.old.replay.file }
+        ensures left { left_to_read self.new.replay.file + 16 ≤ left_to_read self.old.replay.file }
         ensures port { self.new.port ≡ self.old.port }
         ensures index { OnOk result (self.new.index ≡ self.old.index + 1) }
         ensures least { OnOk result (self.new.replay.least ≡ moment) }
@@ -214,7 +214,7 @@ impl Replays {
         ensures rises { IfOk result (λ next. IfSome next (λ c. NoneIsBefore c.moment self.new)) }
         ensures since { (second : ℕ) → AreToldSince second self.old → IfOk result (λ next. IfSome next (λ c. second ≤ second_of c.moment)) }
         ensures told { (second : ℕ) → AreToldSince second self.old → OnOk result (AreToldSince second self.new) }
-        ensures left { IfOk result (λ next. IfSome next (λ c. left_in self.new < left_in self.old)) }
+        ensures left { IfOk result (λ next. IfSome next (λ c. left_in self.new + 16 ≤ left_in self.old)) }
         ensures end { IfOk result (λ next. IfNone next (IsEarliest None self.old)) }
         ensures same { IfOk result (λ next. IfNone next (standings self.new ≡ standings self.old)) }
 

@@ -32,8 +32,24 @@ returns-then-ends_short-clause-changed g c = λ tells at e xs h.
     early_ends r.told bytes there (x ∷ []) seen c.got-got.result at same (ends (x ∷ []) (subst (λ (b : List ℕ). HasRead b (x ∷ []) taken) (sym same) one)) c.got-got.ensures
     (c.ends_short.ensures c.if-ends_short.true) e
 
-pub returns-clause-changed : goal.returns-clause-changed
-returns-clause-changed g c = λ tells at e xs h.
+pub returns-else-ends_short-clause-changed : goal.returns-else-ends_short-clause-changed
+returns-else-ends_short-clause-changed g c = λ tells at e xs h.
+    let S = g.S.Shelf in
+    let r = c.args.self.now in
+    let bytes = bytes_of (S.file c.args.shelf.now (S.ids c.args.shelf.now r.file.id).name) in
+    let x = c.requires.found.1.0 in
+    early_comes r.told bytes x c.requires.found.0 r.file.reader.begun c.begun-begin.result at (begins bytes xs x r c.requires.fresh h c.requires.found.1.1) c.requires.found.1.2 c.requires.found.2 c.begun-begin.ensures e
+
+pub returns-else-bytes-end-clause-changed : goal.returns-else-bytes-end-clause-changed
+returns-else-bytes-end-clause-changed g c = λ tells at e xs h.
+    let S = g.S.Shelf in
+    let r = c.args.self.now in
+    let bytes = bytes_of (S.file c.args.shelf.now (S.ids c.args.shelf.now r.file.id).name) in
+    let x = c.requires.found.1.0 in
+    early_comes r.told bytes x c.requires.found.0 r.file.reader.begun c.begun-begin.result at (begins bytes xs x r c.requires.fresh h c.requires.found.1.1) c.requires.found.1.2 c.requires.found.2 c.begun-begin.ensures e
+
+pub returns-else-bytes-end-2-clause-changed : goal.returns-else-bytes-end-2-clause-changed
+returns-else-bytes-end-2-clause-changed g c = λ tells at e xs h.
     let S = g.S.Shelf in
     let r = c.args.self.now in
     let bytes = bytes_of (S.file c.args.shelf.now (S.ids c.args.shelf.now r.file.id).name) in
