@@ -228,11 +228,6 @@ def files(cases):
     cases.runs("one-capture-for-two-ports", one_extender(2, {"x1.1": "a.pcap", "x1.2": "a.pcap"}), {"a.pcap": [(100, F)]},
                {"out-x1.1.pcap": [(100, F)], "out-x1.2.pcap": [(100, F)], "out-journal.txt": journal(*UP, *relays("x1.1 1", "x1.2 1"))},
                summary(2, 2, 0, 2))
-    # The journal takes the place of the topology.
-    name = "journal-over-topology"
-    cases.put(name, {"journal.txt": "bridge = { ports = 1, out = 'FOLDER/' }\nextender = [{ number = 1, on = 'b1', ports = 1 }]\n",
-                     "expected/journal.txt": journal("up x1.1", "settled"), "expected/x1.1.pcap": HEADER})
-    cases.end(name, 0, "run FOLDER/journal.txt", ["journal.txt", "x1.1.pcap"], summary(0, 0, 0, 0))
     opening = {"out-x1.1.pcap": [], "out-x1.2.pcap": [], "out-journal.txt": journal(*UP)}
     said = one_extender(2, A, bridge="ports = 1, channels = 4094, groups = 12288",
                         more="vlan = [{ vid = 1, untagged = ['*'] }]\nport = [{ name = 'x1.1', isolated = false }]\n"
@@ -264,6 +259,22 @@ def faults(cases):
     cases.stops("first-broken", 4, both, {"a.pcap": HEADER[:3]}, "exbr: capture x1.1: NotPcap at 0")
     cases.stops("second-broken", 4, both, {"a.pcap": HEADER, "b.pcap": HEADER[:20]}, "exbr: capture x1.2: Cut at 0")
     cases.stops("no-topology", 5, "", {}, "exbr: missing FOLDER/other.toml", "run FOLDER/other.toml")
+
+
+def outputs_that_are_read(cases):
+    """What is read is never made: a capture or the topology that the first output's name leads to, by itself, by a dot or through another
+    folder. It stays as it was, and no file is made."""
+    files = ["out-x1.2.pcap", "out-journal.txt"]
+    for name, spelled in [("capture-is-an-output-by-a-dot", "./out-x1.1.pcap"),
+                          ("capture-is-an-output-by-a-folder", "../FOLDER/out-x1.1.pcap")]:
+        cases.put(name, {"topology.toml": one_extender(2, {"x1.2": spelled}), "out-x1.1.pcap": capture((100, F))})
+        cases.end(name, 7, "run FOLDER/topology.toml", files, "exbr: write fault")
+    name = "topology-is-an-output"
+    cases.put(name, {"out-x1.1.pcap": one_extender(2, {})})
+    cases.end(name, 7, "run FOLDER/out-x1.1.pcap", files, "exbr: write fault")
+    name = "topology-is-an-output-by-a-folder"
+    cases.put(name, {"out-x1.1.pcap": one_extender(2, {}).replace("'FOLDER/out-", "'FOLDER/../FOLDER/out-")})
+    cases.end(name, 7, "run FOLDER/out-x1.1.pcap", files, "exbr: write fault")
 
 
 def told_of(played):
@@ -300,7 +311,7 @@ def main():
     print(f"{stepped.agree()} cases of exb_schedule_tests come to the same")
     cases = Cases()
     for part in (examples.play, frames, vlans, files, *trees.PARTS, *changes.PARTS, *generated.PARTS, *fates.PARTS, *seeds.PARTS,
-                 *words.PARTS, *pcapng.PARTS, faults):
+                 *words.PARTS, *pcapng.PARTS, faults, outputs_that_are_read):
         part(cases)
     cases.write()
 

@@ -1,5 +1,5 @@
 -- A beat is flown: what is sent again or announced goes out, and the session counts it.
-use Rattle.std.proofs.Common.{◌≡◌, ℕ, ◌+◌, true, false, List, [], ◌∷◌, Option, Some, None, refl, sym, ◌∙◌, ap, subst, inl, inr}
+use Rattle.std.proofs.Common.{◌≡◌, ℕ, true, false, List, [], ◌∷◌, Option, Some, None, refl, sym, ◌∙◌, ap, subst, inl, inr}
 use Rattle.std.proofs.lemmas.Bool.{cases_Bool}
 use Rattle.exb_model.specs.Tree.{Shape, IsTree, is_extender}
 use Rattle.exb_model.specs.Setup.{Limits}

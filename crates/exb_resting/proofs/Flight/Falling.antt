@@ -15,7 +15,7 @@ use Rattle.exb_csp.specs.AllTables.{port_of, tables_at}
 use Rattle.exb_extender.specs.Forwarding.{Sent, forwarding_of, emitted, is_bare_control}
 use Rattle.exb_extender.specs.Machine.{ExtenderState, IsExtender}
 use Rattle.exb_link.specs.declared.word.Word.{Word}
-use Rattle.exb_link.specs.Words.{is_control, is_data, without_data}
+use Rattle.exb_link.specs.Words.{is_control, without_data}
 use Rattle.exb_model.specs.Frames.{is_control_frame}
 use Rattle.exb_changing.specs.Runs.Systems.{System}
 use Rattle.exb_changing.specs.Runs.Planned.{IsSetting}

@@ -1,14 +1,14 @@
 -- What steps leave of a world that a run of a valid setup reaches, whatever it stood with before them.
-use Rattle.std.proofs.Common.{◌≡◌, ◌≢◌, ℕ, ◌++◌, Bool, true, false, cond, List, [], ◌∷◌, length, Option, Some, None, length-append, refl, ap, sym, ◌∙◌, subst, arith}
-use Rattle.std.specs.Prelude.{filter_map, IsSomeAnd}
+use Rattle.std.proofs.Common.{◌≡◌, ℕ, ◌++◌, true, false, List, [], ◌∷◌, length, Option, Some, None, length-append, refl, ap, sym, subst, arith}
+use Rattle.std.specs.Prelude.{IsSomeAnd}
 use Rattle.exb_model.specs.declared.event.Event.TheVariants as event
 use Rattle.exb_model.specs.declared.event.Event.{Event}
 use Rattle.exb_model.specs.EagerHistory.{is_relayed}
 use Rattle.exb_model.specs.FlatBridge.{Sent}
 use Rattle.exb_model.specs.History.{Basis, History, ◌then◌, bridge_after}
-use Rattle.exb_model.specs.Input.{Input, Arrival, Segment, Mode, tree_of, bounds_of}
+use Rattle.exb_model.specs.Input.{Arrival, tree_of, bounds_of}
 use Rattle.exb_model.specs.Input.{basis_of as basis_in}
-use Rattle.exb_model.specs.LegalHistory.{EachEvent, IsEntered, place_of}
+use Rattle.exb_model.specs.LegalHistory.{EachEvent, IsEntered}
 use Rattle.exb_model.specs.Lists.{numbered}
 use Rattle.exb_model.specs.Setup.{Limits, shape_of, limits_of}
 use Rattle.exb_model.specs.Tree.{Shape, is_external}
@@ -16,7 +16,6 @@ use Rattle.exb_frame.specs.TagValues.{TagRoundTrip}
 use Rattle.exb_relay.specs.Laws.{SendsAreWords, SendsLeaveAsFlat}
 use Rattle.exb_changing.specs.Runs.Journal.{StepsTell}
 use Rattle.exb_machine.specs.Settling.{run}
-use Rattle.exb_machine.specs.Stepping.{Stepped}
 use Rattle.exb_machine.specs.Worlds.{World, Left}
 use Rattle.exb_machine.specs.Runs.Sessions.{Each}
 use Rattle.exb_machine.specs.Runs.Written.{StepsStayWritten}
@@ -34,9 +33,9 @@ use Rattle.exb_resting.proofs.Motion.Passed.{runs_tell_passed}
 use Rattle.exb_resting.proofs.Motion.Setups.{setups_may_start}
 use Rattle.exb_resting.proofs.Motion.Standing.{kept_is_clean, kept_stands}
 use Rattle.exb_resting.specs.Motion.Playing.{marked_each, nothing_given}
-use Rattle.exb_resting.specs.Rest.Playing.{PlaysIn, begin_of}
-use Rattle.exb_resting.specs.Rest.Settles.{MayTakeAll, beginning, reached_by}
-use Rattle.exb_resting.specs.Rest.Standing.{IsCopyOut, IsLasting, IsLastingWith, IsPlayedStanding, RunsLast, EventsLast, PlaysStand}
+use Rattle.exb_resting.specs.Rest.Playing.{begin_of}
+use Rattle.exb_resting.specs.Rest.Settles.{beginning, reached_by}
+use Rattle.exb_resting.specs.Rest.Standing.{IsCopyOut, RunsLast, EventsLast, PlaysStand}
 use Rattle.exb_resting.proofs.Rest.Copies.{IsCopy, IsSentCopy, each_front, flat_copies, left_each}
 use Rattle.exb_resting.proofs.Rest.Counted.{few_flat}
 use Rattle.exb_resting.proofs.Rest.Leaving.{IsOutside}

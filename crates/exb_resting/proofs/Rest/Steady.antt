@@ -1,5 +1,5 @@
 -- No step changes the ageing time, and none but a beat the number of beats.
-use Rattle.std.proofs.Common.{◌≡◌, ℕ, ◌+◌, ◌-◌, ◌==◌, nat_lt, Bool, true, false, cond, List, [], ◌∷◌, drop, Option, Some, None, Ok, Err, refl, ap, sym, ◌∙◌, inl, inr}
+use Rattle.std.proofs.Common.{◌≡◌, ℕ, ◌-◌, ◌==◌, nat_lt, Bool, true, false, cond, List, [], ◌∷◌, drop, Option, Some, None, Ok, Err, refl, ◌∙◌, inl, inr}
 use Rattle.std.specs.Prelude.{Result}
 use Rattle.std.proofs.lemmas.Bool.{cases_Bool}
 use Rattle.exb_model.specs.Configuration.{Bridge}
@@ -33,7 +33,7 @@ use Rattle.exb_session.specs.Asking.{took}
 use Rattle.exb_extender.specs.declared.sends.Side.{Side}
 use Rattle.exb_extender.specs.declared.sends.Side.TheVariants as side
 use Rattle.exb_extender.specs.Forwarding.{Sent, has_etag_type}
-use Rattle.exb_extender.specs.Machine.{Input, Reaction, Arrives, Beats, react}
+use Rattle.exb_extender.specs.Machine.{Reaction, Arrives, Beats, react}
 use Rattle.exb_link.specs.declared.word.Stamp.{Stamp}
 use Rattle.exb_link.specs.declared.word.Word.{Word}
 use Rattle.exb_link.specs.Words.{is_control}
@@ -48,7 +48,7 @@ use Rattle.exb_machine.specs.Effects.{Effect, only, then_do, each}
 use Rattle.exb_machine.specs.Extending.{hung_on, port_number, sent_at, sent_to, sends, does, reacts, takes_from_below, stamp_of, ignored, does_or_ignores, arrives_at}
 use Rattle.exb_machine.specs.Hearing.{bridge_request, bridge_acknowledgement, puts_tagged, to_extender, asks, moves, stops, hears_message, hears_fresh, hears_request, hears_pdu, hears_frame, hears, sends_again, beats_near, beats_control}
 use Rattle.exb_machine.specs.Relaying.{puts_word, sent_by, sends_in, sends_all, sends_for, comes, arrival_by, comes_from, holder_by, hung_at, hears_from, bridge_takes}
-use Rattle.exb_machine.specs.Stepping.{words_on, with_words, takes_any, first_data, control_at, rest_of, counted, if_there, all_extenders, beats_all, done_by, stepped}
+use Rattle.exb_machine.specs.Stepping.{words_on, with_words, takes_any, first_data, control_at, rest_of, counted, if_there, all_extenders, beats_all, stepped}
 use Rattle.exb_machine.specs.Worlds.{World, Way, Up, Down, Step, Arrive, Carry, Control, Lose, Beat, Tick, Order, Mark, with_near, with_far, with_control, with_table, next_beat}
 use Rattle.exb_resting.specs.Rest.Rounds.{AgeingStays}
 

@@ -1,5 +1,5 @@
 -- A round goes through each direction once: of what stood there control words alone are left, each by a verdict that isn't Pass.
-use Rattle.std.proofs.Common.{◌≡◌, ◌≢◌, inl, inr, ℕ, ◌+◌, ◌≤◌, true, false, cond, List, [], ◌∷◌, ◌++◌, append_assoc, append-nil, length, map, filter, Option, Some, None, refl, ap, sym, ◌∙◌, subst, arith}
+use Rattle.std.proofs.Common.{◌≡◌, ◌≢◌, inl, inr, ℕ, ◌+◌, ◌≤◌, true, false, cond, List, [], ◌∷◌, ◌++◌, append_assoc, append-nil, length, filter, Option, Some, refl, ap, sym, ◌∙◌, subst, arith}
 use Rattle.std.specs.Prelude.{sum_by, ⊤}
 use Rattle.std.proofs.lemmas.Bool.{cases_Bool, cases_eq}
 use Rattle.std.proofs.lemmas.List.{length-append}
@@ -11,9 +11,9 @@ use Rattle.exb_model.specs.Setup.{Limits}
 use Rattle.exb_model.specs.Tree.{Shape}
 use Rattle.exb_link.specs.declared.word.Word.{Word}
 use Rattle.exb_link.specs.Words.{is_control, without_data, without_control}
-use Rattle.exb_machine.specs.Settling.{Direction, before, direction, directions, first_verdict, after_first, followed_by, gone_through, goes_through, next_place, nothing, run, round, steps_for, through_all}
+use Rattle.exb_machine.specs.Settling.{Direction, before, first_verdict, after_first, followed_by, gone_through, goes_through, next_place, run, steps_for, through_all}
 use Rattle.exb_machine.specs.Stepping.{Stepped, stepped, takes, takes_any, words_on, with_words, first_data, control_at, rest_of}
-use Rattle.exb_machine.specs.Worlds.{World, Way, Up, Down, Step, Carry, Control, Lose, Beat, next_beat}
+use Rattle.exb_machine.specs.Worlds.{World, Way, Up, Down, Step, Carry, Control, Lose}
 use Rattle.exb_machine.specs.Runs.Laws.{IsMove}
 use Rattle.exb_machine.specs.Runs.Sessions.{Each}
 use Rattle.exb_machine.proofs.Rounds.{run_then}

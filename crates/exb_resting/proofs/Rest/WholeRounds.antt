@@ -1,39 +1,36 @@
 -- So it is for a round: all directions are gone through, and a beat passes.
-use Rattle.std.proofs.Common.{◌≡◌, ℕ, zero, suc, ◌+◌, ◌<◌, ◌≤◌, ◌==◌, ◌||◌, Bool, true, false, List, [], ◌∷◌, ◌++◌, append-nil, append_assoc, length, map, filter, Option, Some, None, refl, ap, sym, ◌∙◌, subst, arith, inl, inr}
+use Rattle.std.proofs.Common.{◌≡◌, ℕ, zero, suc, ◌==◌, Bool, true, false, List, [], ◌∷◌, ◌++◌, append-nil, map, Option, Some, None, refl, ap, sym, ◌∙◌, subst, arith, inl, inr}
 use Rattle.std.specs.Prelude.{⊤}
-use Rattle.std.specs.List.{list_any}
-use Rattle.std.proofs.lemmas.Bool.{cases_Bool, eqb-true, or_cases, or_left, or_right}
+use Rattle.std.proofs.lemmas.Bool.{eqb-true, or_cases, or_left, or_right}
 use Rattle.std.proofs.lemmas.List.Folds.{list_any-append}
 use Rattle.exb_model.specs.declared.event.Event.{Event}
 use Rattle.exb_model.specs.declared.setup.Verdict.{Verdict}
 use Rattle.exb_model.specs.Setup.{Limits}
-use Rattle.exb_model.specs.Tree.{Shape, IsTree, HangsOn, on, trunk, is_extender, level, levels, by_depth}
+use Rattle.exb_model.specs.Tree.{Shape, IsTree, HangsOn, on, is_extender, level, levels, by_depth}
 use Rattle.exb_model.proofs.TreeOrder.{listed, listed_levels}
 use Rattle.exb_model.proofs.TreeWays.{number_at_most}
 use Rattle.exb_ecp.specs.declared.stop_and_wait.Beat.{Beat as Due}
 use Rattle.exb_ecp.specs.declared.stop_and_wait.Beat.TheVariants as due
 use Rattle.exb_ecp.specs.Machine.{Sending, beaten, beat_of}
-use Rattle.exb_extender.specs.Machine.{Beats, react}
+use Rattle.exb_extender.specs.Machine.{Beats}
 use Rattle.exb_link.specs.declared.word.Word.{Word}
-use Rattle.exb_link.specs.Words.{is_control}
 use Rattle.exb_changing.specs.Machine.{beats}
 use Rattle.exb_machine.specs.Effects.{Effect, only, then_do, each}
 use Rattle.exb_machine.specs.Extending.{reacts}
 use Rattle.exb_machine.specs.Hearing.{bridge_request, sends_again, beats_near, beats_control}
 use Rattle.exb_machine.specs.Settling.{Direction, direction, directions, deepest_first, followed_by, nothing, run, round, through_all}
 use Rattle.exb_machine.specs.Stepping.{Stepped, stepped, words_on, if_there, all_extenders, beats_all}
-use Rattle.exb_machine.specs.Worlds.{World, Way, Up, Down, Step, Beat, Left, Line, with_near, next_beat}
-use Rattle.exb_machine.specs.Runs.Laws.{IsMove}
+use Rattle.exb_machine.specs.Worlds.{World, Way, Up, Down, Beat, Left, Line, with_near, next_beat}
 use Rattle.exb_machine.specs.Runs.Sessions.{Each}
 use Rattle.exb_machine.proofs.Rounds.{run_then}
 use Rattle.exb_machine.proofs.Trees.{hangs_there}
-use Rattle.exb_resting.specs.Rest.Rounds.{IsGoneThrough, IsWhole, RoundsAreWhole, is_lost}
-use Rattle.exb_resting.proofs.Rest.Grows.{Grows, Any, none_grows, grows_then, then_grows, each_grows, same_links, to_extender_grows, moves_grows, reacts_grows, either}
+use Rattle.exb_resting.specs.Rest.Rounds.{IsWhole, RoundsAreWhole}
+use Rattle.exb_resting.proofs.Rest.Grows.{Grows, Any, none_grows, grows_then, each_grows, same_links, to_extender_grows, moves_grows, reacts_grows, either}
 use Rattle.exb_resting.proofs.Rest.RoundSteps.{AllControl}
 use Rattle.exb_resting.proofs.Rest.Sessions.{depth_few}
-use Rattle.exb_resting.proofs.Rest.Steady.{Stays, beat_is_counted}
+use Rattle.exb_resting.proofs.Rest.Steady.{beat_is_counted}
 use Rattle.exb_resting.proofs.Rest.Streams.{depth_some}
-use Rattle.exb_resting.proofs.Rest.Whole.{AreGone, Goes, HasIn, all_gone, goes_same, goes_then, lost_then, moves_before}
+use Rattle.exb_resting.proofs.Rest.Whole.{AreGone, HasIn, all_gone, goes_same, goes_then, lost_then, moves_before}
 
 -- ---- a beat puts words behind those that stand
 module _ (t : Shape) (l : Limits) where

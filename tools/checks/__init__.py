@@ -1,0 +1,1 @@
+"""What ./test runs: each module gives tests, in groups."""

@@ -1,0 +1,147 @@
+"""Runs of the program in folders of their own: the cases of exb_cases, the examples, numbers of `make`, and printed lines."""
+import os
+import re
+import shutil
+import subprocess
+import sys
+import tempfile
+
+from .tests import Skip, Test
+
+TOP = os.path.dirname(os.path.dirname(os.path.dirname(os.path.abspath(__file__))))
+DATA = os.path.join(TOP, "crates/exb_cases/data")
+SECONDS = 60
+
+
+def play(program, words, folder):
+    """Runs the program there. Its status, what it printed, and what it said on standard error."""
+    try:
+        ran = subprocess.run([program, *words], cwd=folder, stdin=subprocess.DEVNULL, capture_output=True, timeout=SECONDS)
+    except subprocess.TimeoutExpired:
+        raise AssertionError(f"exbr {' '.join(words)} had not ended after {SECONDS} seconds") from None
+    return ran.returncode, ran.stdout.decode(errors="replace"), ran.stderr.decode(errors="replace")
+
+
+def read(path):
+    with open(path, "rb") as it:
+        return it.read()
+
+
+def files_below(folder):
+    """Each file by its name within the folder, with its bytes."""
+    found = {}
+    for at, _, names in os.walk(folder):
+        for name in names:
+            path = os.path.join(at, name)
+            found[os.path.relpath(path, folder)] = read(path)
+    return found
+
+
+def same(name, is_there, wanted):
+    """Fails with the first byte at which a file is another one."""
+    assert is_there is not None, f"{name} isn't there"
+    if is_there == wanted:
+        return
+    at = next((at for at, (a, b) in enumerate(zip(is_there, wanted)) if a != b), min(len(is_there), len(wanted)))
+    raise AssertionError(f"{name}: {len(is_there)} bytes, where {len(wanted)} are wanted; they differ first at byte {at}")
+
+
+class Case:
+    """A line of cases.txt: its folder, the status, the words, and the files; and what must be printed."""
+
+    def __init__(self, line, printed):
+        told, _, files = line.partition(":")
+        self.name, status, words = told.split(" ", 2)
+        self.status, self.printed = int(status), printed
+        self.words = ["" if it == '""' else it for it in words.split()]
+        self.absent = [it.lstrip("!") for it in files.split() if self.status or it.startswith("!")]
+        self.written = [it for it in files.split() if not self.status and not it.startswith("!")]
+
+    def judge(self, before, after):
+        """What was written is as it must be, and nothing else is there or has changed."""
+        for name in self.written:
+            same(name, after.get(f"{self.name}/{name}"), read(f"{DATA}/{self.name}/expected/{name}"))
+        for name in self.absent:
+            assert f"{self.name}/{name}" not in after, f"{name} is there, and must not be"
+        wanted = {f"{self.name}/{it}" for it in self.written}
+        other = [it for it in before.keys() | after.keys() if it not in wanted and before.get(it) != after.get(it)]
+        assert not other, f"{sorted(other)[0]} was made or changed"
+
+    def run(self, program):
+        with tempfile.TemporaryDirectory(prefix="exbr-case-") as room:
+            shutil.copytree(f"{DATA}/{self.name}", f"{room}/{self.name}", ignore=shutil.ignore_patterns("expected"))
+            before = files_below(room)
+            status, printed, said = play(program, self.words, room)
+            assert status == self.status, f"status {status}, where {self.status} is wanted; it printed {printed!r}"
+            assert printed == self.printed, f"it printed {printed!r}, where {self.printed!r} is wanted"
+            assert not said, f"on standard error: {said!r}"
+            self.judge(before, files_below(room))
+
+
+def cases(program):
+    """Each line of cases.txt. The lines that it must print stand in the crate's file stdout, up to the one that tells how it ended."""
+    with open(f"{TOP}/crates/exb_cases/stdout", encoding="utf-8") as it:
+        lines = iter(it.read().splitlines())
+    with open(f"{DATA}/cases.txt", encoding="utf-8") as it:
+        told = it.read().splitlines()
+    found = []
+    for line in told:
+        name, printed = line.split(" ")[0], ""
+        for it in lines:
+            if re.match(rf"{re.escape(name)}: \d+, (\d+ files as expected|none of \d+ files is there)$", it):
+                break
+            printed += f"{it}\n"
+        found.append(Case(line, printed))
+    return [Test("cases", it.name, lambda it=it: it.run(program)) for it in found]
+
+
+def words_of(page):
+    """The words of the run that an example's page shows."""
+    found = re.search(r"\.\./exbr (run [^\n`|&]*)", page)
+    return found[1].split() if found else ["run", "topology.toml"]
+
+
+def example(program, folder):
+    """A run as the example's page shows it: the files of expected/ and no others, and a line that the page has."""
+    with open(f"{folder}/README.md", encoding="utf-8") as it:
+        page = it.read()
+    wanted = files_below(f"{folder}/expected")
+    with tempfile.TemporaryDirectory(prefix="exbr-example-") as room:
+        shutil.copytree(folder, f"{room}/it", ignore=shutil.ignore_patterns("expected", "out-*"))
+        before = files_below(f"{room}/it")
+        status, printed, said = play(program, words_of(page), f"{room}/it")
+        assert status == 0, f"status {status}: {printed}"
+        assert not said, f"on standard error: {said!r}"
+        after = files_below(f"{room}/it")
+    for name, data in wanted.items():
+        same(name, after.get(name), data)
+    other = [it for it in before.keys() | after.keys() if it not in wanted and before.get(it) != after.get(it)]
+    assert not other, f"{sorted(other)[0]} was made or changed, and expected/ doesn't have it"
+    assert printed.strip() in page, f"the page doesn't have the line {printed.strip()!r}"
+
+
+def examples(program):
+    found = []
+    for at, folders, names in sorted(os.walk(f"{TOP}/examples")):
+        if "expected" in folders and "topology.toml" in names and "README.md" in names:
+            found.append(Test("examples", os.path.relpath(at, TOP), lambda at=at: example(program, at)))
+    return found
+
+
+def made_by_model(program, number):
+    """`make` prints what the plain bridge in Python comes to for the same number."""
+    if sys.version_info < (3, 11):
+        raise Skip("the plain bridge in Python needs Python 3.11 or later")
+    code = ("import sys; sys.dont_write_bytecode = True; sys.path.insert(0, sys.argv[1]); import bridge; from world.made import made; "
+            "topology, records = made(int(sys.argv[2])); plain = bridge.Bridge(topology); plain.play(records); print(plain.summary())")
+    ran = subprocess.run([sys.executable, "-c", code, f"{TOP}/crates/exb_cases", str(number)], capture_output=True, text=True)
+    assert ran.returncode == 0, f"the plain bridge ended with an error: {ran.stderr[-300:]}"
+    status, printed, _ = play(program, ["make", str(number)], TOP)
+    assert (status, printed) == (0, ran.stdout), f"status {status}, {printed!r}, where the plain bridge comes to {ran.stdout!r}"
+
+
+NUMBERS = [1, 2, 3, 17, 100, 46, 65_535, 4_294_967_296, 9_999_999_999_999_999_999, 18_446_744_073_709_551_614]
+
+
+def makes(program):
+    return [Test("make", str(number), lambda number=number: made_by_model(program, number)) for number in NUMBERS]

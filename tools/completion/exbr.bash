@@ -1,0 +1,50 @@
+# Completion of exbr's words for bash. ./install puts it where bash looks; to try it: . tools/completion/exbr.bash
+
+# Whether one of the words before the cursor is one of those that are given.
+_exbr_has() {
+    local wanted word at
+    for ((at = 1; at < COMP_CWORD; at++)); do
+        word=${COMP_WORDS[at]}
+        for wanted in "$@"; do
+            [ "$word" = "$wanted" ] && return 0
+        done
+    done
+    return 1
+}
+
+# Topologies and folders.
+_exbr_topologies() {
+    local word=$1 it
+    COMPREPLY=()
+    while IFS= read -r it; do
+        if [ -d "$it" ] || [[ $it == *.toml ]]; then
+            COMPREPLY+=("$it")
+        fi
+    done < <(compgen -f -- "$word")
+    compopt -o filenames 2>/dev/null
+    return 0
+}
+
+_exbr() {
+    local word=${COMP_WORDS[COMP_CWORD]} before=${COMP_WORDS[COMP_CWORD - 1]} options=
+    COMPREPLY=()
+    if [ "$COMP_CWORD" -eq 1 ]; then
+        COMPREPLY=($(compgen -W "run check make" -- "$word"))
+        return 0
+    fi
+    case ${COMP_WORDS[1]} in
+    run)
+        [ "$before" = --seed ] && return 0
+        _exbr_has --trace || options="--trace"
+        _exbr_has --seed || options="$options --seed"
+        case $word in
+        -*) COMPREPLY=($(compgen -W "$options" -- "$word")) ;;
+        *) _exbr_topologies "$word" ;;
+        esac
+        ;;
+    check) _exbr_topologies "$word" ;;
+    esac
+    return 0
+}
+
+complete -F _exbr exbr

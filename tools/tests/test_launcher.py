@@ -1,0 +1,171 @@
+"""What ./exbr, tools/program, tools/build, tools/dist and .ci/run do and say, with dist/ as it must be and with a changed byte in it,
+in its record, or in a source; with the toolchain in the path, without it, and with another one."""
+import os
+import unittest
+
+from scratch import Scratch, can_run
+
+
+class Launched(unittest.TestCase):
+    def setUp(self):
+        if not can_run():
+            self.skipTest("the program that stands in for exbr is /bin/echo of x86-64 Linux, which isn't here")
+        self.it = Scratch()
+        self.addCleanup(self.it.close)
+
+    def refreshed(self):
+        status, _, said = self.it.run("tools/dist", "refresh")
+        self.assertEqual(status, 0, said)
+        return self.it
+
+    def says(self, words, status, *parts, has_rt=True):
+        """A command ends with that status, and what it says has each of these parts."""
+        found, printed, said = self.it.run(*words, has_rt=has_rt)
+        for part in parts:
+            self.assertIn(part, printed + said)
+        self.assertEqual(found, status, printed + said)
+        return printed, said
+
+
+class AsItMustBe(Launched):
+    def test_dist_is_run_at_once(self):
+        it = self.refreshed()
+        os.remove(it.at("kit/calls"))
+        for has_rt in (True, False):
+            self.assertEqual(it.run("exbr", "run", "a b", "", has_rt=has_rt), (0, "run a b \n", ""))
+        self.assertEqual(it.calls(), 0)
+
+    def test_it_runs_in_the_callers_folder_and_through_a_link(self):
+        it = self.refreshed()
+        os.symlink(it.at("exbr"), it.at("kit/linked"))
+        self.assertEqual(it.run("kit/linked", "hello", cwd="/"), (0, "hello\n", ""))
+
+    def test_pages_and_tests_change_nothing(self):
+        it = self.refreshed()
+        it.write("README.md", "other")
+        it.write("crates/exb_tests/src/lib.rt", "other tests")
+        it.write("crates/exb_low/must-fail/one.edit", "edit")
+        self.assertEqual(it.run("exbr", "x", has_rt=False), (0, "x\n", ""))
+
+    def test_check_and_gate_pass(self):
+        self.refreshed()
+        self.says(["tools/dist", "check"], 0, "dist/exbr is the program of these sources, by kit one", has_rt=False)
+        printed, _ = self.says([".ci/run"], 0, "rt: 2 passed, 0 failed", "byte for byte, the program that was proved", "testing", "dist/exbr")
+        self.assertEqual(printed.splitlines()[-1], "8 passed, 0 failed")
+
+    def test_refresh_twice_gives_the_same(self):
+        it = self.refreshed()
+        first = it.read("dist/record")
+        self.says(["tools/dist", "refresh"], 0, "as it was")
+        self.assertEqual(it.read("dist/record"), first)
+
+    def test_build_in_any_case(self):
+        it = self.refreshed()
+        before = it.calls()
+        self.says(["exbr", "--build", "hello"], 0, "hello\n", "exb_low kept (1 of 2", "exbr proved (2 of 2")
+        self.assertEqual(it.calls(), before + 1)
+        self.says(["exbr", "--build", "--help"], 0, "tools/build [--anew]")
+        self.says(["exbr", "--build", "--other"], 2, "takes --anew or nothing")
+
+
+class AByteIsAnother(Launched):
+    def test_in_the_program(self):
+        it = self.refreshed()
+        it.change_byte("dist/exbr")
+        self.says(["tools/dist", "check"], 1, "dist/exbr isn't what dist/record says: its sum is another one")
+        printed, _ = self.says([".ci/run"], 1, "dist: FAILED: dist/exbr is not the program that these sources give: they differ first at byte ")
+        self.assertEqual(printed.splitlines()[-1], "7 passed, 1 failed")
+        os.remove(it.at("crates/exbr/out/exbr"))
+        self.says(["exbr", "x"], 1, "its bytes are not those of its sum in dist/record", "there is no rt in the path", has_rt=False)
+        printed, said = self.says(["exbr", "x"], 0, "its bytes are not those of its sum", "note: dist/exbr is not the program")
+        self.assertEqual(printed, "x\n")
+
+    def test_in_a_source(self):
+        it = self.refreshed()
+        it.change_byte("crates/exbr/src/main.rt", 0)
+        self.says(["tools/dist", "check"], 1, "dist/ was built of other sources than these")
+        self.says(["exbr", "x"], 1, "dist/exbr was built of other sources than these", "no rt in the path", has_rt=False)
+        before = it.calls()
+        self.says(["exbr", "x"], 0, "dist/exbr was built of other sources than these", "proving and building the program, 2 crates")
+        self.assertEqual(it.run("exbr", "x", has_rt=False), (0, "x\n", ""))
+        self.assertEqual(it.calls(), before + 1)
+        printed, _ = self.says([".ci/run"], 1, "dist: FAILED: dist/ was built of other sources than these", "testing", "crates/exbr/out/exbr")
+        self.assertEqual(printed.splitlines()[-1], "7 passed, 1 failed")
+
+    def test_in_a_line_of_crates(self):
+        it = self.refreshed()
+        it.write("crates.txt", it.read("crates.txt").replace("exb_low:\n", "exb_low: arrayvec\n"))
+        self.says(["exbr", "x"], 1, "other sources", has_rt=False)
+
+    def test_in_each_sum(self):
+        it = self.refreshed()
+        program, sources = [line.split()[1] for line in it.read("dist/record").splitlines()[:2]]
+        it.record("program", f"0{program[1:-1]}{'1' if program[-1] == '0' else '0'}")
+        self.says(["exbr", "x"], 0, "x\n")
+        os.remove(it.at("crates/exbr/out/record"))
+        self.says(["exbr", "x"], 1, "its bytes are not those of its sum in dist/record", has_rt=False)
+        self.says([".ci/run"], 1, "dist: FAILED: dist/record must have the line: program ")
+        it.record("program", program)
+        it.record("sources", sources[::-1])
+        self.says(["exbr", "x"], 1, "dist/exbr was built of other sources", has_rt=False)
+        self.says([".ci/run"], 1, "dist: FAILED: dist/ was built of other sources")
+        it.record("sources", sources)
+        it.record("needs", "nothing")
+        self.says([".ci/run"], 1, "dist: FAILED: dist/record must have the line: needs x86-64 Linux")
+
+    def test_no_dist(self):
+        it = self.it
+        self.says(["exbr", "x"], 1, "dist/exbr isn't there", "no rt in the path", has_rt=False)
+        self.says([".ci/run"], 1, "dist: FAILED: dist/ has no program with its record")
+
+
+class AnotherKit(Launched):
+    def test_stops_nobody(self):
+        it = self.refreshed()
+        it.write("kit/kit", "kit two\n")
+        os.remove(it.at("crates/exbr/out/record"))
+        printed, _ = self.says([".ci/run"], 0, "built by another kit, kit one, and this is kit two", "testing", "crates/exbr/out/exbr")
+        self.assertEqual(printed.splitlines()[-1], "7 passed, 0 failed")
+        self.assertEqual(it.run("exbr", "x", has_rt=False), (0, "x\n", ""))
+        self.says(["exbr", "x"], 0, "dist/exbr was built by kit one, and rt is kit two", "proving and building", "x\n")
+        self.assertEqual(it.run("exbr", "x"), (0, "x\n", ""))
+
+    def test_its_file_is_read(self):
+        it = self.refreshed()
+        it.write("KIT-ID", "kit three\n")
+        self.says(["exbr", "x"], 0, "dist/exbr was built by kit one, and rt is kit three")
+
+
+class ItIsNotProved(Launched):
+    def test_nothing_is_run(self):
+        it = self.refreshed()
+        it.write("crates/exb_low/src/lib.rt", "wrong\n")
+        printed, _ = self.says(["exbr", "x"], 1, "the program could not be proved and built", "build.log says why")
+        self.assertEqual(printed, "")
+        self.assertIn("exb_low NOT PROVED", it.read("crates/exbr/out/build.log"))
+        self.says(["tools/dist", "refresh"], 1, "could not be proved")
+        os.remove(it.at("crates/exbr/out/exbr"))
+        printed, _ = self.says([".ci/run"], 1, "rt: 0 passed, 1 failed", "rt ci left no program")
+        self.assertEqual(printed.splitlines()[-1], "0 passed, 1 failed")
+
+    def test_no_toolchain_at_the_gate(self):
+        printed = self.it.run(".ci/run", has_rt=False)[1]
+        self.assertEqual(printed.splitlines()[-1], "0 passed, 1 failed")
+
+
+class Words(Launched):
+    def test_bad_words(self):
+        self.says(["tools/sources", "--bad"], 2, "--bad is no option of it")
+        self.says(["tools/sources", "/nowhere"], 2, "/nowhere")
+        self.says(["tools/dist"], 2, "usage:")
+        self.says(["tools/dist", "check", "--program", "/nowhere"], 2, "there is no /nowhere")
+        self.says([".ci/run", "--bad"], 2, "tools/gate")
+        for name in ("tools/sources", "tools/program", "tools/build", "tools/dist", "tools/gate"):
+            self.says([name, "--help"], 0, name)
+
+    def test_crates_below(self):
+        self.assertEqual(self.it.run("tools/sources", "--crates"), (0, "exb_low\nexbr\n", ""))
+
+
+if __name__ == "__main__":
+    unittest.main()
