@@ -298,11 +298,11 @@ large_at false bytes xs f is none s h e full long = (
   long,
   λ fault stands. (asked_unsettled most_held capture_front captures_are_a_format f.reader (ap (λ b. (asked most_held capture_front b f.reader).answer) (sym is) ∙ e)).fault fault
       (λ more b.
-          let last : f.ended ≡ true → more ≡ [] = λ t. absurd (false≢true (sym is ∙ t)) in
-          let read : capture_of (take f.limit bytes ++ more) ≡ after xs h.places (to_come capture_front f.reader more) =
-          ap (λ n. capture_of (take n bytes ++ more)) (sym full) ∙ h.whole more last ∙ ap (after xs h.places) (unseen_coming f more none) in
-          let c : Capture = capture_of (take f.limit bytes ++ more) in
-          ap (λ (c : Capture). c.fault) (sym read) ∙ fault_read c.records c.places c.fault fault (stands more b)),
+      let last : f.ended ≡ true → more ≡ [] = λ t. absurd (false≢true (sym is ∙ t)) in
+      let read : capture_of (take f.limit bytes ++ more) ≡ after xs h.places (to_come capture_front f.reader more) =
+      ap (λ n. capture_of (take n bytes ++ more)) (sym full) ∙ h.whole more last ∙ ap (after xs h.places) (unseen_coming f more none) in
+      let c : Capture = capture_of (take f.limit bytes ++ more) in
+      ap (λ (c : Capture). c.fault) (sym read) ∙ fault_read c.records c.places c.fault fault (stands more b)),
 )
 
 pub large_told : (bytes : List ℕ) (xs : List Record) (f : CaptureFile) → f.next ≡ None → IsSound f → HasRead bytes xs f → (asked_of f).answer ≡ More

@@ -90,7 +90,8 @@ fn many(rt: &impl Abort, alloc: Global, count: u16) -> Vec<u8> {
     let mut file = bytes_of(rt, alloc, HEAD);
     let interface = bytes_of(rt, alloc, "0100000014000000 0100000000000000 14000000");
     for _interface in 0..count {
-        file.extend_from_slice(interface.as_slice()).expect(rt, "memory");
+        file.extend_from_slice(interface.as_slice())
+            .expect(rt, "memory");
     }
     file
 }
@@ -109,7 +110,8 @@ fn a_section_has_room_for_256_interfaces(rt: HostRuntime) {
 fn a_skipped_block_may_be_longer_than_the_buffer(rt: HostRuntime) {
     let mut file = bytes_of(&rt, rt.alloc(), HEAD);
     let head = bytes_of(&rt, rt.alloc(), "05000000 80841E00");
-    file.extend_from_slice(head.as_slice()).expect(&rt, "memory");
+    file.extend_from_slice(head.as_slice())
+        .expect(&rt, "memory");
     file.resize(2_000_020, 7).expect(&rt, "memory");
     let text = sized_text(&rt, rt.alloc(), file.as_slice(), 65_536);
     same(&rt, text.as_str(), "Cut(28)", "a block that is cut");

@@ -144,7 +144,12 @@ fn feed_whole(rt: &impl Abort, reader: &mut Reader<Capture>, piece: &[u8]) {
 }
 
 // Feeds at most so many bytes, and answers what is left of them.
-fn feed<'a>(rt: &impl Abort, reader: &mut Reader<Capture>, left: &'a [u8], size: usize) -> &'a [u8] {
+fn feed<'a>(
+    rt: &impl Abort,
+    reader: &mut Reader<Capture>,
+    left: &'a [u8],
+    size: usize,
+) -> &'a [u8] {
     let piece = left.get(..size).unwrap_or(left);
     let taken = reader.feed(piece) as usize;
     holds(rt, taken > 0, "room");

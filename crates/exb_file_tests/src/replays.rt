@@ -289,7 +289,13 @@ fn judge_blocks(rt: &impl Abort, alloc: Global, scanned: Scanned, file: &[u8], w
 }
 
 // The same of the front of the row's file, behind which stands a block that is skipped.
-fn judge_front(rt: &impl Abort, alloc: Global, told: (u64, Option<u64>), size: usize, wanted: &str) {
+fn judge_front(
+    rt: &impl Abort,
+    alloc: Global,
+    told: (u64, Option<u64>),
+    size: usize,
+    wanted: &str,
+) {
     let (bytes, first) = told;
     let scanned = Scanned {
         bytes,

@@ -233,7 +233,13 @@ const LATE: Change = (28, [0x40, 0x42, 0x0F, 0], 100);
 
 #[test]
 fn a_fault_that_stands_comes_before_the_limit(rt: HostRuntime) {
-    judge_limit(&rt, rt.alloc(), &LATE, 40, "Fault { fault: Fault { flaw: Time, at: 28 } }");
+    judge_limit(
+        &rt,
+        rt.alloc(),
+        &LATE,
+        40,
+        "Fault { fault: Fault { flaw: Time, at: 28 } }",
+    );
     judge_limit(&rt, rt.alloc(), &LATE, 39, "Large { limit: 39 }");
 }
 

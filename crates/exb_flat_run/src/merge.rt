@@ -9,12 +9,12 @@ ghost use Rattle.exb_flat_run.specs.Merging.{has_capture, stream_for, stream_if,
 
 use crate::captures::Captures;
 use crate::layout::{PORTS, port_of};
+use exb_flat_pcap::Reader;
 use exb_merge::laws::merge_of_chosen;
 use exb_model::bytes::Bytes;
 use exb_model::memory::NoMemory;
 use exb_model::port::PortId;
 use exb_model::setup::Timed;
-use exb_flat_pcap::Reader;
 use std::alloc::Global;
 
 /// The capture of a port: a whole file. Of several for one port the first counts, and one that breaks the

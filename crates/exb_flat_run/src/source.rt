@@ -5,8 +5,8 @@ ghost use Rattle.exb_flat_pcap.specs.Taken.{taken};
 ghost use Rattle.exb_merge.specs.Streams.{stream_of, arrivals_of, next_moment};
 ghost use Rattle.exb_flat_run.specs.Sources.{came_of};
 
-use exb_model::port::PortId;
 use exb_flat_pcap::{Reader, Record};
+use exb_model::port::PortId;
 use std::marker::Model;
 
 /// A record that comes next.

@@ -7,10 +7,10 @@ ghost use Rattle.exb_flat.specs.Histories.{sent_of};
 ghost use Rattle.exb_flat_run.specs.Turns.{told};
 ghost use Rattle.exb_flat_run.specs.Counting.{counted_all};
 
+use exb_capture::{header_text, record_text};
 use exb_flat::flat::Sent;
 use exb_model::event::Event;
 use exb_model::memory::NoMemory;
-use exb_capture::{header_text, record_text};
 use exb_text::{Tally, write_line};
 use std::alloc::Global;
 

@@ -5,9 +5,9 @@ ghost use Rattle.exb_made.specs.Made.{records_at};
 ghost use Rattle.exb_made.specs.Pieces.{frame_of, read_of, sent_of, sent_at, IsPlayable};
 
 use crate::frames::Arriving;
+use exb_capture::{header_text, record_text};
 use exb_model::memory::NoMemory;
 use exb_model::port::PortId;
-use exb_capture::{header_text, record_text};
 use std::alloc::Global;
 
 /// The capture of a port: a classic pcap file.

@@ -11,10 +11,10 @@ ghost use Rattle.exb_merge.specs.Replays.{fault_at, AreOpened, AreReplays, AreTo
 ghost use Rattle.exb_merge.specs.Streams.{Stream, stream_of};
 
 use crate::turns::{Turn, put_turn};
+use exb_capture::{Replay, ReplayFault, Scanned};
 use exb_model::bytes::Bytes;
 use exb_model::memory::NoMemory;
 use exb_model::port::PortId;
-use exb_capture::{Replay, ReplayFault, Scanned};
 use exb_shelf::Shelf;
 use std::alloc::Global;
 use std::cmp::Reverse;

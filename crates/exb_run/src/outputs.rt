@@ -11,10 +11,10 @@ ghost use Rattle.exb_run.specs.Writing.{pieces_of, AreCut, Holds, HasTexts, IsRe
 
 use crate::fault::Fault;
 use crate::plan::Plan;
+use exb_capture::{header_text, record_text};
 use exb_model::event::Event;
 use exb_model::memory::NoMemory;
 use exb_model::trace::TraceLine;
-use exb_capture::{header_text, record_text};
 use exb_schedule::Left;
 use exb_shelf::{PIECE, Shelf, write_text};
 use exb_text::laws::{
