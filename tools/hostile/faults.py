@@ -19,12 +19,13 @@ import time
 sys.dont_write_bytecode = True
 sys.path.insert(0, os.path.dirname(os.path.abspath(__file__)))
 import faults_at_ends
+import faults_of_calls
 import faults_of_names
 import faults_under_way
 from folders import Input, Skipped, Wrong, frames, program_of
 from runs import RUNS
 
-FAULTS = [*faults_of_names.FAULTS, *faults_under_way.FAULTS, *faults_at_ends.FAULTS]
+FAULTS = [*faults_of_names.FAULTS, *faults_under_way.FAULTS, *faults_at_ends.FAULTS, *faults_of_calls.FAULTS]
 
 
 class Place:
