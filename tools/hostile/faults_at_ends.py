@@ -94,7 +94,8 @@ def read_only_disk(place):
 def limited(kind, size, *, ignored=None):
     """What the child does before the program begins: it takes a limit, and perhaps doesn't heed a signal."""
     def limit():
-        resource.setrlimit(kind, (size, size))
+        # The system ends a run at the second number of processor seconds by SIGKILL.
+        resource.setrlimit(kind, (size, size + 2 if kind == resource.RLIMIT_CPU else size))
         if ignored:
             signal.signal(ignored, signal.SIG_IGN)
     return limit
