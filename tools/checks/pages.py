@@ -10,7 +10,7 @@ from .program import TOP, play
 from .tests import Skip, Test
 
 # A command that a page shows is run where it is one of these, in a copy of the examples.
-OURS = re.compile(r"(?:cd examples/\S+ && )?\.\./\.\./(?:exbr|tools/\S+\.py) ")
+OURS = re.compile(r"(?:cd examples/\S+ && )?(?:\.\./\.\./(?:exbr|tools/\S+\.py)|sed|cp|cat|head|grep|diff|cmp) ")
 PAGES = ["README.md", "docs/QUICKSTART.md", "docs/TRACE.md"]
 
 
@@ -77,7 +77,8 @@ def shown(program, page):
     """Runs a page's commands in a copy of the examples, and holds what they print to what the page says."""
     with tempfile.TemporaryDirectory(prefix="exbr-page-") as room:
         shutil.copytree(f"{TOP}/examples", f"{room}/examples", ignore=shutil.ignore_patterns("out-*"))
-        os.symlink(f"{TOP}/tools", f"{room}/tools")
+        for name in ("tools", "crates"):
+            os.symlink(f"{TOP}/{name}", f"{room}/{name}")
         os.symlink(program, f"{room}/exbr")
         here = os.path.dirname(page) if page.startswith("examples/") else ""
         for command, lines in blocks(page):

@@ -1,5 +1,5 @@
 -- Settling raises the number of beats by its answer.
-use Rattle.std.proofs.Common.{◌≡◌, ℕ, zero, suc, ◌+◌, ◌-◌, ◌≤◌, ◌^◌, ◌++◌, true, false, List, [], ◌∷◌, refl, ap, sym, ◌∙◌, subst, arith, inl, inr}
+use Rattle.std.proofs.Common.{◌≡◌, ℕ, zero, suc, ◌+◌, ◌-◌, ◌≤◌, ◌^◌, ◌++◌, List, [], ◌∷◌, refl, ap, sym, ◌∙◌, subst, arith, inl, inr}
 use Rattle.std.specs.Prelude.{min}
 use Rattle.std.proofs.lemmas.Bool.{cases_Bool}
 use Rattle.exb_model.specs.declared.setup.Setup.{Setup}
@@ -15,7 +15,7 @@ use Rattle.exb_resting.specs.Rest.Settles.{beginning}
 use Rattle.exb_resting.proofs.Rest.Steady.{beat_is_counted, step_stays}
 use Rattle.exb_schedule.specs.Lasting.{SettlingCounts}
 use Rattle.exb_schedule.specs.Reached.{Reached}
-use Rattle.exb_schedule.specs.Rounds.{HasSettled, rounds_made}
+use Rattle.exb_schedule.specs.Rounds.{rounds_made}
 use Rattle.exb_schedule.proofs.Leading.{gone_world}
 
 -- ---- numbers that stay at a last one

@@ -1,15 +1,13 @@
 -- What any steps leave of a network: the laws of the machine, said of networks.
-use Rattle.std.proofs.Common.{◌≡◌, ℕ, ◌+◌, ◌≤◌, ◌++◌, Bool, true, List, [], ◌∷◌, append-nil, ap, sym, ◌∙◌, subst, arith}
-use Rattle.std.specs.Prelude.{All}
+use Rattle.std.proofs.Common.{◌≡◌, ◌+◌, ◌++◌, Bool, List, [], ◌∷◌, append-nil, ap, sym, ◌∙◌, subst, arith}
 use Rattle.std.proofs.lemmas.List.{append_cancel_left}
 use Rattle.exb_model.specs.declared.event.Event.{Event}
 use Rattle.exb_model.specs.declared.setup.Setup.{Setup}
 use Rattle.exb_model.specs.declared.setup.Verdict.{Verdict}
 use Rattle.exb_model.specs.History.{Basis, History, ◌then◌}
-use Rattle.exb_model.specs.Input.{Input, Segment, Mode}
 use Rattle.exb_model.specs.Input.{tree_of as tree_in, bounds_of as bounds_in}
 use Rattle.exb_model.specs.Setup.{Limits, limits_of, shape_of}
-use Rattle.exb_model.specs.Tree.{Shape, IsTree, is_external}
+use Rattle.exb_model.specs.Tree.{Shape, IsTree}
 use Rattle.exb_machine.specs.Allowing.{IsSettled}
 use Rattle.exb_machine.specs.Settling.{Played, round, run}
 use Rattle.exb_machine.specs.Stepping.{Stepped}
@@ -29,13 +27,11 @@ use Rattle.exb_resting.specs.Motion.Stands.{Stands}
 use Rattle.exb_resting.specs.Rest.Costs.{costs}
 use Rattle.exb_resting.specs.Rest.Crossing.{IsAlone}
 use Rattle.exb_resting.specs.Rest.Rounds.{IsGoneThrough, IsWhole, RoundsAreWhole}
-use Rattle.exb_resting.specs.Rest.Settles.{MayTakeAll, beginning, reached_by}
+use Rattle.exb_resting.specs.Rest.Settles.{MayTakeAll, reached_by}
 use Rattle.exb_resting.specs.Rest.Standing.{IsCopyOut, IsLasting, IsLastingWith, IsPlayedStanding, RunsLast, EventsLast, PlaysStand}
-use Rattle.exb_schedule.specs.Lasting.{IsLastingOn, IsOneEventOn, IsPlayedStandingOn, IsRoundOf, IsStandingOn, EventsGoOn, PlayedStands, RoundsAreWholeOn, RunsStayStanding, SettledOwes}
+use Rattle.exb_schedule.specs.Lasting.{EventsGoOn, PlayedStands, RoundsAreWholeOn, RunsStayStanding, SettledOwes}
 use Rattle.exb_schedule.specs.Moves.{HasRun, IsMoved}
-use Rattle.exb_schedule.specs.Playing.{HasPlayed}
 use Rattle.exb_schedule.specs.Reached.{Reached}
-use Rattle.exb_schedule.specs.Rounds.{HasAsked}
 use Rattle.exb_schedule.specs.Standing.{IsStanding}
 use Rattle.exb_schedule.proofs.Leading.{gone_world}
 

@@ -1,16 +1,15 @@
 -- A world that stands, with any history, and is tied to a trace stays so.
-use Rattle.std.proofs.Common.{◌≡◌, ℕ, zero, suc, ◌+◌, ◌==◌, Bool, true, false, List, [], ◌∷◌, ◌++◌, length, map, filter, slice_get, Option, Some, None, refl, ap, sym, ◌∙◌, subst, arith, inl, inr}
-use Rattle.std.proofs.lemmas.Bool.{cases_Bool}
+use Rattle.std.proofs.Common.{◌≡◌, ℕ, zero, suc, ◌+◌, ◌==◌, true, false, List, [], ◌∷◌, length, map, filter, slice_get, Option, Some, None, refl, ap, sym, ◌∙◌, subst, inl, inr}
+use Rattle.std.specs.Prelude.{nat_le}
+use Rattle.std.proofs.lemmas.Bool.{and_parts, cases_Bool}
 use Rattle.std.proofs.lemmas.List.{length-map}
 use Rattle.exb_model.specs.declared.event.Event.{Event}
-use Rattle.exb_model.specs.History.{Basis, History, ◌then◌}
+use Rattle.exb_model.specs.History.{Basis, History}
 use Rattle.exb_model.specs.Input.{Arrival}
 use Rattle.exb_model.specs.Lists.{numbered}
 use Rattle.exb_model.specs.Setup.{Limits, shape_of, limits_of, start_of}
-use Rattle.exb_model.specs.Traces.{TraceLine}
-use Rattle.exb_model.specs.Tree.{Shape, is_extended, is_external, is_extender}
+use Rattle.exb_model.specs.Tree.{Shape, is_external}
 use Rattle.exb_model.specs.ETags.{stripped}
-use Rattle.std.proofs.lemmas.Bool.{and_parts}
 use Rattle.exb_frame.specs.TagValues.{TagRoundTrip}
 use Rattle.exb_relay.specs.Laws.{SendsAreWords, SendsLeaveAsFlat}
 use Rattle.exb_link.specs.declared.word.Stamp.{Stamp}
@@ -18,26 +17,26 @@ use Rattle.exb_link.specs.declared.word.Word.{Word}
 use Rattle.exb_link.specs.Words.{is_control}
 use Rattle.exb_changing.specs.Runs.Journal.{StepsTell}
 use Rattle.exb_machine.specs.Settling.{run}
-use Rattle.exb_machine.specs.Stepping.{Stepped, stepped}
-use Rattle.exb_machine.specs.Worlds.{World, Step, Arrive, Carry, Control, Lose, Beat, Tick, Order, Mark, Left}
+use Rattle.exb_machine.specs.Stepping.{stepped}
+use Rattle.exb_machine.specs.Worlds.{World, Step, Left}
 use Rattle.exb_machine.specs.Runs.Laws.{MayMakeAll, StepsStaySound, ordered_by}
 use Rattle.exb_machine.specs.Runs.Sessions.{Each}
-use Rattle.exb_machine.specs.Runs.Simulation.{IsSound, system_of}
+use Rattle.exb_machine.specs.Runs.Simulation.{system_of}
 use Rattle.exb_machine.specs.Runs.Stamped.{IsStamped}
 use Rattle.exb_machine.specs.Runs.Written.{StepsStayWritten}
 use Rattle.exb_machine.proofs.Fixing.{forget}
 use Rattle.exb_resting.specs.Flight.Tokens.{datum_by, data_words}
 use Rattle.exb_resting.proofs.Flight.Carrying.{link_there}
 use Rattle.exb_flight.specs.Items as items
-use Rattle.exb_resting.specs.Motion.Given.{Given, Came, Told, arrivals_at, arrivals_of, records_at}
+use Rattle.exb_resting.specs.Motion.Given.{Given, Came, Told, arrivals_at, arrivals_of}
 use Rattle.exb_resting.specs.Motion.Kept.{MayStart, MayDoAll, basis_of}
 use Rattle.exb_resting.specs.Motion.Stands.{IsWordOf, Stands}
 use Rattle.exb_resting.proofs.Motion.Going.{going}
 use Rattle.exb_resting.proofs.Motion.Setups.{setups_may_start}
 use Rattle.exb_resting.specs.Rest.Settles.{MayTakeAll, beginning, reached_by}
 use Rattle.exb_resting.proofs.Rest.Settles.{IsRun, begins, go_after, run_after, step_run}
-use Rattle.exb_tracing.specs.Laws.{RunsStayTraced, StaysReady, given_in}
-use Rattle.exb_tracing.specs.Ready.{AreRecords, AwaitsNext, IsRecord, Serves, ServesStations}
+use Rattle.exb_tracing.specs.Laws.{RunsStayTraced, StaysReady}
+use Rattle.exb_tracing.specs.Ready.{AwaitsNext, IsRecord, Serves, ServesStations}
 use Rattle.exb_tracing.specs.Runs.{StandingStaysTraced}
 use Rattle.exb_tracing.specs.Traced.{captures_of}
 use Rattle.exb_tracing.proofs.Setups.{may_make, stays_ready}
@@ -55,7 +54,10 @@ port_arrivals p (Came a ∷ g) = elim (cases_Bool (a.port == p)) [ inl e ↦ rw 
 frames_at : (p : ℕ) (g : List Given) → captures_of (arrivals_of g) p ≡ map (λ (a : Arrival). a.bytes) (arrivals_at p g)
 frames_at p g = ap (map (λ (a : Arrival). a.bytes)) (sym (port_arrivals p g))
 
-frame_at : (xs : List Arrival) (k : ℕ) (moment : ℕ) (f : List ℕ) → slice_get (map (λ (a : Arrival). (a.moment, a.bytes)) xs) k ≡ Some (moment, f) → slice_get (map (λ (a : Arrival). a.bytes) xs) k ≡ Some f
+abbrev pairs_of : List Arrival → List (ℕ × List ℕ)
+pairs_of xs = map (λ (a : Arrival). (a.moment, a.bytes)) xs
+
+frame_at : (xs : List Arrival) (k : ℕ) (moment : ℕ) (f : List ℕ) → slice_get (pairs_of xs) k ≡ Some (moment, f) → slice_get (map (λ (a : Arrival). a.bytes) xs) k ≡ Some f
 frame_at [] k moment f e = absurd (none_some e)
   where
     none_some : {A : Type 0} {x : A} → None ≡ Some x → ⊥
@@ -63,7 +65,7 @@ frame_at [] k moment f e = absurd (none_some e)
 frame_at (a ∷ xs) zero moment f e = ap Some (ap (λ (x : ℕ × List ℕ). x.1) (some_same e))
 frame_at (a ∷ xs) (suc k) moment f e = frame_at xs k moment f e
 
-frame_of : (xs : List Arrival) (n : ℕ) (moment : ℕ) (f : List ℕ) → numbered (map (λ (a : Arrival). (a.moment, a.bytes)) xs) n ≡ Some (moment, f) → numbered (map (λ (a : Arrival). a.bytes) xs) n ≡ Some f
+frame_of : (xs : List Arrival) (n : ℕ) (moment : ℕ) (f : List ℕ) → numbered (pairs_of xs) n ≡ Some (moment, f) → numbered (map (λ (a : Arrival). a.bytes) xs) n ≡ Some f
 frame_of xs zero moment f e = absurd (none_some e)
   where
     none_some : {A : Type 0} {x : A} → None ≡ Some x → ⊥
@@ -79,7 +81,7 @@ module _ (t : Shape) (l : Limits) (i : Basis) (w : World) (g : List Given) (h : 
 
   word_record : (x : Word) (st : Stamp) → x.stamp ≡ Some st → IsWordOf t g (datum_by x.bytes (Some st)) → IsRecord t (captures_of (arrivals_of g)) x
   word_record x st is k =
-      let outer = and_parts (Rattle.std.specs.Prelude.nat_le 64 st.port) (is_external t st.port) k.outer in
+      let outer = and_parts (nat_le 64 st.port) (is_external t st.port) k.outer in
       record {
         stamp = st;
         is = is;
