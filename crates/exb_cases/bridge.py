@@ -199,6 +199,32 @@ def egress(frame, kind, vid):
     return frame[:12] + (b"\x81\x00" + struct.pack(">H", tag & 0xF000 | vid) if kind == "tagged" else b"") + body
 
 
+def passes(now, port, frame):
+    """The VLAN of a frame that comes at a port, and the rule that refuses it, or None where it passes: 'bad tag', 'accept', 'vlan' or
+    'filter'. It has to be of a kind that is relayed."""
+    seen, tag = kind_of(frame)
+    if seen == "bad":
+        return None, "bad tag"
+    rules = now.rules[port]
+    vid = tag & 0xFFF if seen == "tagged" else rules.pvid
+    if rules.accept != "all" and (rules.accept == "tagged") != (seen == "tagged"):
+        return vid, "accept"
+    if vid not in now.vlans:
+        return vid, "vlan"
+    if rules.filter and not any(port in ports for ports in now.vlans[vid].values()):
+        return vid, "filter"
+    return vid, None
+
+
+def targets(now, port, vid, chosen):
+    """Where a frame of a VLAN that came at a port leaves, and in which kind. `chosen` is the ports that are chosen, or None for all."""
+    isolated = now.rules[port].isolated
+    for kind, members in now.vlans[vid].items():
+        for target in members & now.present - {port} if chosen is None else members & now.present & chosen - {port}:
+            if not (isolated and now.rules[target].isolated):
+                yield target, kind
+
+
 class Bridge:
     """The bridge in motion. `journal` has the lines of what happened, `left` the moments and frames that left each port."""
 
@@ -214,14 +240,10 @@ class Bridge:
 
     def vlan(self, port, frame):
         """The VLAN in which a frame passes at a port, or None."""
-        seen, tag = kind_of(frame)
-        if seen not in ("plain", "priority", "tagged"):
+        if kind_of(frame)[0] in ("short", "long", "reserved"):
             return None
-        rules = self.now.rules[port]
-        vid = tag & 0xFFF if seen == "tagged" else rules.pvid
-        accepted = rules.accept == "all" or (rules.accept == "tagged") == (seen == "tagged")
-        member = not rules.filter or any(port in ports for ports in self.now.vlans.get(vid, NOBODY).values())
-        return vid if accepted and vid in self.now.vlans and member else None
+        vid, refused = passes(self.now, port, frame)
+        return None if refused else vid
 
     def chosen(self, vid, destination):
         """The ports that are chosen for a destination: None for all."""
@@ -236,11 +258,8 @@ class Bridge:
         vid = self.vlan(port, frame)
         if vid is None:
             return
-        chosen, isolated = self.chosen(vid, frame[:6]), self.now.rules[port].isolated
-        for kind, members in self.now.vlans[vid].items():
-            for target in members & self.now.present - {port} if chosen is None else members & self.now.present & chosen - {port}:
-                if not (isolated and self.now.rules[target].isolated):
-                    self.left[target].append((moment, egress(frame, kind, vid)))
+        for target, kind in targets(self.now, port, vid, self.chosen(vid, frame[:6])):
+            self.left[target].append((moment, egress(frame, kind, vid)))
         if not frame[6] & 1:
             self.learned[vid, frame[6:12]] = (port, self.clock)
 

@@ -1,0 +1,29 @@
+"""What ends a tool of the desk in one line."""
+from __future__ import annotations
+
+import os
+import sys
+from typing import Callable
+
+
+class DeskError(Exception):
+    """Input that can't be used. Its text is the line that a tool prints before it ends with status 2."""
+
+
+def ended(name: str, main: Callable[[], int]) -> int:
+    """The status of a tool: that of `main`, or 2 with a line on standard error where input is broken."""
+    try:
+        return main()
+    except DeskError as fault:
+        print(f"{name}: {fault}", file=sys.stderr)
+    except BrokenPipeError:
+        # Whoever reads the output has enough of it. Nothing more may be written when Python ends.
+        os.dup2(os.open(os.devnull, os.O_WRONLY), sys.stdout.fileno())
+        return 0
+    except KeyboardInterrupt:
+        print(f"{name}: interrupted", file=sys.stderr)
+    except MemoryError:
+        print(f"{name}: out of memory", file=sys.stderr)
+    except OSError as fault:
+        print(f"{name}: {fault.filename or 'a file'}: {fault.strerror or fault}", file=sys.stderr)
+    return 2

@@ -1,0 +1,87 @@
+"""Running the program itself over a topology, in a folder of its own."""
+from __future__ import annotations
+
+import json
+import os
+import subprocess
+import time
+
+from . import runs, topology
+from .errors import DeskError
+from .progress import Progress
+
+TOP = os.path.normpath(os.path.join(os.path.dirname(os.path.abspath(__file__)), "..", "..", ".."))
+
+
+def program(named: str | None = None) -> str:
+    """The program: that which is named, here or by EXBR, or one that is built already. None is built here, since that takes long."""
+    built = os.path.join(TOP, "crates", "exbr", "out")
+    known = [os.environ.get("EXBR_PROGRAM"), os.environ.get("EXBR"), os.path.join(TOP, "dist", "exbr")]
+    known += [os.path.join(built, "exbr")] if os.path.exists(os.path.join(built, "built")) else []
+    for path in [named] if named else known:
+        if path and os.path.isfile(path) and os.access(path, os.X_OK):
+            return os.path.abspath(path)
+    if named:
+        raise DeskError(f"{named} is no program")
+    raise DeskError("there is no exbr that is built; name one by --program FILE (./exbr at the top builds it, which takes half an hour and more)")
+
+
+def written(tables: dict) -> str:
+    """The text of a topology."""
+    def value(it) -> str:
+        if isinstance(it, bool):
+            return "true" if it else "false"
+        if isinstance(it, list):
+            return f"[{', '.join(map(value, it))}]"
+        return json.dumps(it, ensure_ascii=False).replace("\x7f", "\\u007f") if isinstance(it, str) else str(it)
+
+    def table(head: str, it: dict) -> str:
+        return head + "\n" + "".join(f"{json.dumps(key)} = {value(its)}\n" for key, its in it.items())
+
+    # A list without a table has to be a key, and keys come before tables.
+    text = "".join(f"{name} = []\n" for name, it in tables.items() if it == [])
+    for name, it in tables.items():
+        text += table(f"[{name}]", it) if isinstance(it, dict) else "".join(table(f"[[{name}]]", each) for each in it)
+    return text
+
+
+def without(given: topology.Topology, numbers: set[int]) -> dict:
+    """The tables of a topology without some of its commands."""
+    unknown = sorted(it for it in numbers if not 1 <= it <= len(given.commands))
+    if unknown:
+        raise DeskError(f"{given.path} has {len(given.commands)} commands and no command {unknown[0]}")
+    left = [it.table for it in given.commands if it.number not in numbers]
+    return {name: its for name, its in given.tables.items() if name != "command"} | ({"command": left} if left else {})
+
+
+def play(run: runs.Run, tables: dict, folder: str, exbr: str, options: list[str]) -> runs.Run:
+    """Runs the program in a folder over these tables, with the captures of a run, and gives the run that it made there. The program
+    says nothing on standard error, but the script that builds it does, so that stays where the user sees it."""
+    os.makedirs(folder, exist_ok=True)
+    captures = {port: os.path.abspath(run.path(name)) for port, name in tables.get("captures", {}).items()}
+    path = os.path.join(folder, "topology.toml")
+    bridge = {key: value for key, value in tables["bridge"].items() if key != "out"}
+    with open(path, "w", encoding="utf-8") as out:
+        out.write(written(tables | {"bridge": bridge} | ({"captures": captures} if captures else {})))
+    size = sum(os.path.getsize(path) for path in captures.values() if os.path.exists(path))
+    progress = Progress(f"running {os.path.basename(exbr)}: bytes written, captures have {size:,}")
+    with subprocess.Popen([exbr, "run", "topology.toml", *options], cwd=folder, stdout=subprocess.PIPE) as process:
+        status, line = _waited(process, folder, progress)
+    if status:
+        raise DeskError(f"exbr ended with status {status}: {line or 'it said nothing'}")
+    return runs.whole(folder)
+
+
+def _waited(process: subprocess.Popen, folder: str, progress: Progress) -> tuple[int, str]:
+    """The status of the program and what it said."""
+    try:
+        while process.poll() is None and progress.is_on:
+            progress.at(sum(it.stat().st_size for it in os.scandir(folder) if it.is_file()))
+            time.sleep(0.2)
+        out, _ = process.communicate()
+    except BaseException:
+        process.kill()
+        raise
+    finally:
+        progress.end()
+    return process.returncode, out.decode(errors="replace").strip().removeprefix("exbr: ")
