@@ -14,16 +14,20 @@ TOP = os.path.normpath(os.path.join(os.path.dirname(os.path.abspath(__file__)), 
 
 
 def program(named: str | None = None) -> str:
-    """The program: that which is named, here or by EXBR, or one that is built already. None is built here, since that takes long."""
-    built = os.path.join(TOP, "crates", "exbr", "out")
-    known = [os.environ.get("EXBR_PROGRAM"), os.environ.get("EXBR"), os.path.join(TOP, "dist", "exbr")]
-    known += [os.path.join(built, "exbr")] if os.path.exists(os.path.join(built, "built")) else []
-    for path in [named] if named else known:
+    """The program: that which is named, here or by EXBR, or the one that `tools/program` says these sources give. None is built here,
+    since that takes long."""
+    for path in [named] if named else [os.environ.get("EXBR_PROGRAM"), os.environ.get("EXBR")]:
         if path and os.path.isfile(path) and os.access(path, os.X_OK):
             return os.path.abspath(path)
     if named:
         raise DeskError(f"{named} is no program")
-    raise DeskError("there is no exbr that is built; name one by --program FILE (./exbr at the top builds it, which takes half an hour and more)")
+    try:
+        said = subprocess.run([os.path.join(TOP, "tools", "program")], capture_output=True, text=True, stdin=subprocess.DEVNULL)
+    except OSError:
+        raise DeskError("there is no exbr that is built; name one by --program FILE") from None
+    if said.returncode:
+        raise DeskError("there is no exbr that is built of these sources; name one by --program FILE, or build it by ./exbr --build")
+    return said.stdout.strip()
 
 
 def written(tables: dict) -> str:

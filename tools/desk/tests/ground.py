@@ -1,5 +1,8 @@
 """What the tests of report, import, watch and the walk stand on: runs of the examples whose files are known, and the tools as they are
 called."""
+import contextlib
+import importlib
+import io
 import os
 import shutil
 import subprocess
@@ -17,10 +20,24 @@ PLAYED = ("campus", "first-path", "lossy-links", "office", "private-hosts", "sta
 if DESK not in sys.path:
     sys.path.insert(0, DESK)
 
+from exbr_desk.errors import ended
 
-def tool(name: str, *words: str, **options) -> subprocess.CompletedProcess:
-    """A tool as it is called."""
+
+def process(name: str, *words: str, **options) -> subprocess.CompletedProcess:
+    """A tool as it is called, in a process of its own."""
     return subprocess.run([sys.executable, os.path.join(TOOLS, name), *words], capture_output=True, text=True, timeout=300, **options)
+
+
+def tool(name: str, *words: str) -> subprocess.CompletedProcess:
+    """The same in this process, which takes a tenth of the time."""
+    main = importlib.import_module(f"{name.replace('-', '_')}.cli").main
+    printed, said = io.StringIO(), io.StringIO()
+    with contextlib.redirect_stdout(printed), contextlib.redirect_stderr(said):
+        try:
+            status = ended(name, lambda: main(list(words)))
+        except SystemExit as end:
+            status = end.code
+    return subprocess.CompletedProcess([name, *words], status, printed.getvalue(), said.getvalue())
 
 
 class InFolder(unittest.TestCase):

@@ -101,6 +101,10 @@ class OfLinux(ground.InFolder):
         self.assertEqual([(it["on"], it["ports"]) for it in made["extender"]], [("b1", 4), ("b2", 4), ("b3", 4)])
         self.assertIn("last 2 ports of extender 3 are spare", said)
 
+    def test_called_as_a_program(self):
+        self.assert_line(ground.process("exbr-import", "--help"), 0)
+        self.assert_line(ground.process("exbr-import", "--link", self.path("nope")), 2, "exbr-import: ")
+
     def test_broken(self):
         good, nothing = answer("link"), self.write("empty.json", "[]")
         two = json.dumps([bridge(), {**bridge(), "ifname": "br1"}])

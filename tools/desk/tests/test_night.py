@@ -26,8 +26,8 @@ class Night(ground.InFolder):
 
     @unittest.skipUnless(shutil.which("tshark"), "no tshark here: apt-get install tshark")
     def test_tshark_finds_no_malformed_frame(self):
-        for name in sorted(os.listdir(NIGHT)):
-            if name.startswith("in-"):
+        for name in ("in-b3.pcap", "in-b4.pcap", "in-x2.3.pcap", "in-x4.2.pcap", "in-x4.3.pcap"):
+            with self.subTest(name):
                 done = subprocess.run(["tshark", "-r", os.path.join(NIGHT, name), "-Y", "_ws.malformed || _ws.expert.severity == 0x800000"],
                                       capture_output=True, text=True, check=True)
                 self.assertEqual(done.stdout, "", name)

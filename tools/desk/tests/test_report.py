@@ -167,6 +167,10 @@ class Faults(ground.InFolder):
         self.assert_line(ground.tool("exbr-report"), 2, "usage")
         self.assert_line(ground.tool("exbr-report", "--help"), 0)
 
+    def test_called_as_a_program(self):
+        self.assert_line(ground.process("exbr-report", "--help"), 0)
+        self.assert_line(ground.process("exbr-report", self.path("nope")), 2, "exbr-report: ")
+
     def test_names_are_no_markup(self):
         folder = self.played("first-path")
         name = self.path("<script>alert('1')&\"</script>".replace("/", "-"))

@@ -62,25 +62,25 @@ class Watching(ground.InFolder):
     def test_shows_and_passes_through(self):
         self.write("in.pcap", bytes(3_000_000))
         self.write("topology.toml", '[captures]\n"b1" = "in.pcap"\n')
-        done = ground.tool("exbr-watch", "--program", self.program(SLOW), "--every", "0.2", "--", "run", "topology.toml", "--trace", cwd=self.folder)
+        done = ground.process("exbr-watch", "--program", self.program(SLOW), "--every", "0.2", "--", "run", "topology.toml", "--trace", cwd=self.folder)
         self.assertEqual((done.returncode, done.stdout), (7, "arrivals run topology.toml --trace\n"))
         self.assertIn("exbr: looking through 1 captures [", done.stderr)
         self.assertIn("exbr: playing 1 captures [", done.stderr)
 
     def test_signal(self):
-        done = ground.tool("exbr-watch", "--program", self.program("import os; os.abort()"), "--", "run", "topology.toml", cwd=self.folder)
+        done = ground.process("exbr-watch", "--program", self.program("import os; os.abort()"), "--", "run", "topology.toml", cwd=self.folder)
         self.assertEqual(done.returncode, 128 + 6)
 
     def test_topology_that_is_not_there(self):
         program = self.program("print('exbr: missing nope'); raise SystemExit(5)")
-        done = ground.tool("exbr-watch", "--program", program, "--", "run", "nope", cwd=self.folder)
+        done = ground.process("exbr-watch", "--program", program, "--", "run", "nope", cwd=self.folder)
         self.assertEqual((done.returncode, done.stdout, done.stderr), (5, "exbr: missing nope\n", ""))
 
     def test_bad_words(self):
-        self.assert_line(ground.tool("exbr-watch", "--program", self.path("nope"), "--", "run", "t"), 2, "exbr-watch: ", "is no program")
-        self.assert_line(ground.tool("exbr-watch"), 2, "usage: exbr-watch")
-        self.assert_line(ground.tool("exbr-watch", "--every", "0", "--", "run", "t"), 2, "--every")
-        self.assert_line(ground.tool("exbr-watch", "--help"), 0)
+        self.assert_line(ground.process("exbr-watch", "--program", self.path("nope"), "--", "run", "t"), 2, "exbr-watch: ", "is no program")
+        self.assert_line(ground.process("exbr-watch"), 2, "usage: exbr-watch")
+        self.assert_line(ground.process("exbr-watch", "--every", "0", "--", "run", "t"), 2, "--every")
+        self.assert_line(ground.process("exbr-watch", "--help"), 0)
 
 
 if __name__ == "__main__":
