@@ -16,7 +16,7 @@ use Rattle.exb_model.specs.declared.setup.Timed.{Timed}
 use Rattle.exb_model.specs.declared.setup.Verdict.{Verdict}
 use Rattle.exb_model.specs.Tree.{Shape, is_external, external_ports}
 use Rattle.exb_model.specs.Setup.{NamesExternal, shape_of}
-use Rattle.exb_text.specs.Names.{capture_name, journal_name, trace_name}
+use Rattle.exb_text.specs.Names.{all_outputs, file_name}
 use Rattle.exb_keys.specs.declared.faults.KeyFault.TheVariants as fault
 use Rattle.exb_keys.specs.declared.faults.TopoFault.{TopoFault}
 use Rattle.exb_keys.specs.Faults.{Refusal, ◌>>=◌, GivesSeen, in_element}
@@ -61,19 +61,9 @@ differ : (name other : List ℕ) → bytes_eq name other ≡ false → name ≢ 
 differ name other = not_from_Decides (bytes_eq name other) (bytes_eq-Decides name other)
 
 apart_from : (t : Shape) (prefix name : List ℕ) → list_any (λ o. bytes_eq name o) (output_names prefix t) ≡ false → IsApart t prefix name
-unfolding trace_name
-apart_from t prefix name none =
-    let captures : List (List ℕ) = map (capture_name prefix) (external_ports t) in
-    let all : length (output_names prefix t) ≡ length (external_ports t) + 3 = length-append captures _ ∙ ap (λ n. n + 3) (length-map (external_ports t) (capture_name prefix)) in
-    let others : (k : ℕ) → k < 3 → bytes_eq name (get_or (output_names prefix t) (length captures + k) []) ≡ false = λ k low. none_pass (bytes_eq name) (output_names prefix t) none (length captures + k) [] (omega (arith, low, all, length-map (external_ports t) (capture_name prefix))) in
-    record {
-      captures = λ k d low.
-          differ name (capture_name prefix (get_or (external_ports t) k d)) (subst (λ o. bytes_eq name o ≡ false)
-          (get_or_append_left captures _ [] k (omega (arith, low, length-map (external_ports t) (capture_name prefix))) ∙ get_or-map (capture_name prefix) (external_ports t) k d [] low)
-          (none_pass (bytes_eq name) (output_names prefix t) none k [] (omega (arith, low, all))));
-      journal = differ name (journal_name prefix) (subst (λ o. bytes_eq name o ≡ false) (get_or-append-add captures _ 0 []) (others 0 (omega arith)));
-      trace = differ name (trace_name prefix) (subst (λ o. bytes_eq name o ≡ false) (get_or-append-add captures _ 1 []) (others 1 (omega arith)));
-    }
+apart_from t prefix name none k d low =
+    differ name (file_name prefix (get_or (all_outputs t) k d)) (subst (λ o. bytes_eq name o ≡ false) (get_or-map (file_name prefix) (all_outputs t) k d [] low)
+    (none_pass (bytes_eq name) (output_names prefix t) none k [] (rw (length-map (all_outputs t) (file_name prefix)) low)))
 
 files_apart : (t : Shape) (prefix : List ℕ) (all : List Named) → each_ok (file_ok (output_names prefix t)) all 0 all ≡ Ok tt → All (λ x. IsApart t prefix x.name) all
 files_apart t prefix all ok k d low =
