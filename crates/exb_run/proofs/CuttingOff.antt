@@ -47,6 +47,7 @@ cut_before tells m r plan now n c o so_far rest t is segments_are = record {
   segments_are = segments_are;
   network = n;
   told = is.told;
+  passed = is.passed;
   gone = is.gone;
   lines = is.lines;
   played = is.played;
@@ -54,16 +55,17 @@ cut_before tells m r plan now n c o so_far rest t is segments_are = record {
 }
 
 -- while what it told is written
-pub cut_amid : (m : Mode) (r : Run) (plan : Planned) (now : Files) (so_far rest : List Segment) (v : Network) (told more : List Event) (gone : List Leaving) (left : List Left) (lines new : List TraceLine)
-    → plan.tree ≡ tree_of r.input → segments m r.input ≡ so_far ++ rest → IsPlayedBy m r.input so_far v (told ++ more) (gone ++ all_left left) (lines ++ new)
+pub cut_amid : (m : Mode) (r : Run) (plan : Planned) (now : Files) (so_far rest : List Segment) (v : Network) (told more : List Event) (passed : List Bool) (gone : List Leaving) (left : List Left) (lines new : List TraceLine)
+    → plan.tree ≡ tree_of r.input → segments m r.input ≡ so_far ++ rest → IsPlayedBy m r.input so_far v (told ++ more) passed (gone ++ all_left left) (lines ++ new)
     → AreCut plan r.before now (texts-with plan told more gone left lines new) → IsCutOff m r plan now
-cut_amid m r plan now so_far rest v told more gone left lines new tree segments_are played cut = record {
+cut_amid m r plan now so_far rest v told more passed gone left lines new tree segments_are played cut = record {
   tree = tree;
   so_far = so_far;
   rest = rest;
   segments_are = segments_are;
   network = v;
   told = told ++ more;
+  passed = passed;
   gone = gone ++ all_left left;
   lines = lines ++ new;
   played = played;
@@ -80,6 +82,7 @@ cut_at_end tells m r plan old now n c o t is cut = record {
   segments_are = sym (append-nil (segments m r.input));
   network = n;
   told = is.told;
+  passed = is.passed;
   gone = is.gone;
   lines = is.lines;
   played = is.played;

@@ -26,7 +26,7 @@ use Rattle.exb_run.proofs.Counting.{LeftExternal, counts-whole}
 use Rattle.exb_run.proofs.Places.{external_low, port_is}
 
 module _ (m : Mode) (i : Input) (plan : Planned) (tree : plan.tree ≡ tree_of i) (is_tree : IsTree plan.tree) (timely : IsTimely i) (under_way : RunsAreUnderWay) (legally : RunsWriteLegally)
-    (n : Network) (told : List Event) (gone : List Left) (lines : List TraceLine) (played : HasPlayed m i (segments m i) n told gone lines) where
+    (n : Network) (told : List Event) (passed : List Bool) (gone : List Left) (lines : List TraceLine) (played : HasPlayed m i (segments m i) n told passed gone lines) where
   written : HasWrittenIn m i played.done
   written = legally m i played.done timely played.plays
 

@@ -116,9 +116,9 @@ module _ (t : Shape) (l : Limits) where
       )
 
 -- it may be made in the network where it may be in the world of the run
-can-in : (m : Mode) (i : Input) (so_far : List Segment) (n : Network) (told : List Event) (gone : List Left) (lines : List TraceLine) (p : HasPlayed m i so_far n told gone lines) (steps : List Step) →
+can-in : (m : Mode) (i : Input) (so_far : List Segment) (n : Network) (told : List Event) (passed : List Bool) (gone : List Left) (lines : List TraceLine) (p : HasPlayed m i so_far n told passed gone lines) (steps : List Step) →
     CanFrom (tree_of i) (limits_in n) p.done.world steps → CanAll n steps
-can-in m i so_far n told gone lines p steps can =
+can-in m i so_far n told passed gone lines p steps can =
     let P : Shape → Type 0 = λ t. CanFrom t (limits_in n) (world_of n) steps in
     let Q : World → Type 0 = λ w. CanFrom (tree_of i) (limits_in n) w steps in
     subst P (sym p.tree) (subst Q (sym p.world) can)
@@ -304,7 +304,7 @@ module _ (m : Mode) (i : Input) (so_far : List Segment) (last : Option ℕ) (a :
       ∙ sum_by-append (λ (c : Timed). length c.fate) taken.given (drop b.taken b.commands.now)
 
   -- and it can be played
-  module _ (law : RunsAreUnderWay) (net : Network) (told : List Event) (gone : List Left) (lines : List TraceLine) (played : HasPlayed m i so_far net told gone lines) where
+  module _ (law : RunsAreUnderWay) (net : Network) (told : List Event) (passed : List Bool) (gone : List Left) (lines : List TraceLine) (played : HasPlayed m i so_far net told passed gone lines) where
     map-arrive : (xs : List Given) → arrive xs ≡ map (λ (x : Arrival). Arrive x) (map arrived xs)
     map-arrive [] = refl
     map-arrive (x ∷ xs) = ap (λ (steps : List Step). Arrive (arrived x) ∷ steps) (map-arrive xs)
@@ -329,4 +329,4 @@ module _ (m : Mode) (i : Input) (so_far : List Segment) (last : Option ℕ) (a :
         (can-tick t l w seconds a.taken (arrivals_in so_far) (orders taken.given ++ map (λ (x : Arrival). Arrive x) came) begun clock
         (λ v g. can-order t l taken.given v a.taken (arrivals_in so_far) (map (λ (x : Arrival). Arrive x) came) g names few
         (λ u h. can-arrive t l i came u (a.taken + length taken.given) (arrivals_in so_far) refl h behind.places fit))) in
-        can-in m i so_far net told gone lines played (gives seconds cs frames) (subst (λ (xs : List Timed). CanFrom t l w (gives seconds xs frames)) (sym given_are) can)
+        can-in m i so_far net told passed gone lines played (gives seconds cs frames) (subst (λ (xs : List Timed). CanFrom t l w (gives seconds xs frames)) (sym given_are) can)

@@ -71,7 +71,7 @@ module _ (tells : Type 0) (m : Mode) (r : Run) (plan : Planned) (now : Files) (i
     segment = segment-is cs is frames are;
     can =
         can-play m r.input p.playing.so_far p.last p.old tells now now p.given ids second f seconds p.playing.next p.got fine p.seconds_are law net
-        p.playing.is.told p.playing.is.gone p.playing.is.lines p.playing.is.played cs (commands cs is) frames are;
+        p.playing.is.told p.playing.is.passed p.playing.is.gone p.playing.is.lines p.playing.is.played cs (commands cs is) frames are;
     follows = follows m r.input p.playing.so_far p.last p.old tells now now p.given ids second f seconds p.playing.next p.got fine p.seconds_are;
   }
 
@@ -126,9 +126,10 @@ opened-playing tells m r plan now ids n c o p is now' ids' v c' o' world same qu
       is = record {
         tree = is.tree;
         told = told;
+        passed = n.log.passed;
         gone = all_left left;
         lines = lines;
-        played = cleared-played m r.input [] n v told (all_left left) lines world same is.played;
+        played = cleared-played m r.input [] n v told n.log.passed (all_left left) lines world same is.played;
         tracing = same.tracing ∙ is.tracing;
         counted = counts ∙ ap (λ (b : Counts). with_left (length left) (count_events b told)) is.counted ∙ counts-more [] told [] left;
         texts = λ t.
@@ -144,7 +145,7 @@ opened-playing tells m r plan now ids n c o p is now' ids' v c' o' world same qu
 
 -- So a world is opened for a run that can begin.
 pub begins-opened : (tells : Type 0) (m : Mode) (r : Run) (s : Setup) (plan : Planned) (now : Files) (ids : ℕ → Id) (n : Network) (o : Outputs) (p : Programme) → CanBegin tells m r s plan now ids o p
-    → plan.tree ≡ shape_of s → ((i : Input) → i.setup ≡ s → HasPlayed m i [] n n.log.events (all_left n.log.left) n.log.lines) → n.log.tracing ≡ plan.traced
+    → plan.tree ≡ shape_of s → ((i : Input) → i.setup ≡ s → HasPlayed m i [] n n.log.events n.log.passed (all_left n.log.left) n.log.lines) → n.log.tracing ≡ plan.traced
     → IsOpened tells m r plan now ids n nothing_counted o p
 begins-opened tells m r s plan now ids n o p b tree plays tracing = record {
   tree = tree ∙ sym (ap shape_of b.setup);

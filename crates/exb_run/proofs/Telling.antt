@@ -145,37 +145,41 @@ counts-more told more gone xs =
     ∙ ap (with_left (length (gone ++ all_left xs))) (sym (fold-append (λ (b : Counts) (e : Event). counted e b) nothing_counted told more))
 
 -- ---- the run
-pub quiet-played : (m : Mode) (i : Input) (so_far : List Segment) (n : Network) (told : List Event) (gone : List Leaving) (lines : List TraceLine) → IsQuiet n → HasPlayed m i so_far n told gone lines →
-    HasPlayed m i so_far n (told ++ n.log.events) (gone ++ all_left n.log.left) (lines ++ n.log.lines)
-quiet-played m i so_far n told gone lines quiet p = record {
+pub quiet-played : (m : Mode) (i : Input) (so_far : List Segment) (n : Network) (told : List Event) (passed : List Bool) (gone : List Leaving) (lines : List TraceLine) → IsQuiet n → HasPlayed m i so_far n told passed gone lines →
+    HasPlayed m i so_far n (told ++ n.log.events) (passed ++ n.log.passed) (gone ++ all_left n.log.left) (lines ++ n.log.lines)
+quiet-played m i so_far n told passed gone lines quiet p = record {
   done = p.done;
   plays = p.plays;
   tree = p.tree;
   limits = p.limits;
   world = p.world;
   told = ap (λ (es : List Event). told ++ es) quiet.events ∙ append-nil told ∙ p.told;
+  said = ap (λ (bs : List Bool). passed ++ bs) quiet.passed ∙ append-nil passed ∙ p.said;
   gone = ap (λ (xs : List Left). gone ++ all_left xs) quiet.left ∙ append-nil gone ∙ p.gone;
   traced = λ on. ap (λ (ls : List TraceLine). lines ++ ls) quiet.lines ∙ append-nil lines ∙ p.traced on;
+  silent = λ off. ap (λ (ls : List TraceLine). lines ++ ls) quiet.lines ∙ append-nil lines ∙ p.silent off;
 }
 
-pub cleared-played : (m : Mode) (i : Input) (so_far : List Segment) (n v : Network) (told : List Event) (gone : List Leaving) (lines : List TraceLine) → world_of v ≡ world_of n → IsSame n v →
-    HasPlayed m i so_far n told gone lines → HasPlayed m i so_far v told gone lines
-cleared-played m i so_far n v told gone lines world same p = record {
+pub cleared-played : (m : Mode) (i : Input) (so_far : List Segment) (n v : Network) (told : List Event) (passed : List Bool) (gone : List Leaving) (lines : List TraceLine) → world_of v ≡ world_of n → IsSame n v →
+    HasPlayed m i so_far n told passed gone lines → HasPlayed m i so_far v told passed gone lines
+cleared-played m i so_far n v told passed gone lines world same p = record {
   done = p.done;
   plays = p.plays;
   tree = ap (λ (s : Site). s.tree) same.site ∙ p.tree;
   limits = ap limits_at same.site ∙ p.limits;
   world = world ∙ p.world;
   told = p.told;
+  said = p.said;
   gone = p.gone;
   traced = λ on. p.traced (sym same.tracing ∙ on);
+  silent = λ off. p.silent (sym same.tracing ∙ off);
 }
 
 -- ---- how much is counted
 -- the counts of what a run told fit, with what has left
-pub counts-fit : (m : Mode) (i : Input) (so_far : List Segment) (n : Network) (told : List Event) (gone : List Leaving) (lines : List TraceLine) → RunsAreFew → CanFollow i so_far →
-    HasPlayed m i so_far n told gone lines → FitsTally (counts_so_far told gone)
-counts-fit m i so_far n told gone lines law follows p =
+pub counts-fit : (m : Mode) (i : Input) (so_far : List Segment) (n : Network) (told : List Event) (passed : List Bool) (gone : List Leaving) (lines : List TraceLine) → RunsAreFew → CanFollow i so_far →
+    HasPlayed m i so_far n told passed gone lines → FitsTally (counts_so_far told gone)
+counts-fit m i so_far n told passed gone lines law follows p =
     let few = law m i so_far p.done p.plays in
     let events = p.told in
     let relayed = ap (λ (es : List Event). (count_events nothing_counted es).relayed) events in
@@ -198,9 +202,9 @@ counts-fit m i so_far n told gone lines law follows p =
     }
 
 -- arrivals together
-pub arrivals-low : (m : Mode) (i : Input) (so_far : List Segment) (n : Network) (told : List Event) (gone : List Leaving) (lines : List TraceLine) → RunsAreFew → length (arrivals_in so_far) ≤ 2 ^ 49 →
-    HasPlayed m i so_far n told gone lines → (counts_so_far told gone).relayed + (counts_so_far told gone).ignored < 2 ^ 64
-arrivals-low m i so_far n told gone lines law low p =
+pub arrivals-low : (m : Mode) (i : Input) (so_far : List Segment) (n : Network) (told : List Event) (passed : List Bool) (gone : List Leaving) (lines : List TraceLine) → RunsAreFew → length (arrivals_in so_far) ≤ 2 ^ 49 →
+    HasPlayed m i so_far n told passed gone lines → (counts_so_far told gone).relayed + (counts_so_far told gone).ignored < 2 ^ 64
+arrivals-low m i so_far n told passed gone lines law low p =
     let few = law m i so_far p.done p.plays in
     let events = p.told in
     let relayed = ap (λ (es : List Event). (count_events nothing_counted es).relayed) events in
@@ -209,12 +213,12 @@ arrivals-low m i so_far n told gone lines law low p =
     omega (arith, relayed, ignored, entered, low)
 
 -- so do those of a tally, one segment more
-pub tally-fits : (m : Mode) (i : Input) (so_far : List Segment) (n : Network) (told more : List Event) (gone : List Leaving) (xs : List Left) (lines : List TraceLine) (c : Counts) → RunsAreFew → CanFollow i so_far →
-    HasPlayed m i so_far n (told ++ more) (gone ++ all_left xs) lines → c ≡ counts_so_far told gone → FitsTally (with_left (length xs) (count_events c more))
-tally-fits m i so_far n told more gone xs lines c law follows p is =
+pub tally-fits : (m : Mode) (i : Input) (so_far : List Segment) (n : Network) (told more : List Event) (passed : List Bool) (gone : List Leaving) (xs : List Left) (lines : List TraceLine) (c : Counts) → RunsAreFew → CanFollow i so_far →
+    HasPlayed m i so_far n (told ++ more) passed (gone ++ all_left xs) lines → c ≡ counts_so_far told gone → FitsTally (with_left (length xs) (count_events c more))
+tally-fits m i so_far n told more passed gone xs lines c law follows p is =
     let whole : with_left (length xs) (count_events c more) ≡ counts_so_far (told ++ more) (gone ++ all_left xs) =
     ap (λ (b : Counts). with_left (length xs) (count_events b more)) is ∙ counts-more told more gone xs in
-    subst FitsTally (sym whole) (counts-fit m i so_far n (told ++ more) (gone ++ all_left xs) lines law follows p)
+    subst FitsTally (sym whole) (counts-fit m i so_far n (told ++ more) passed (gone ++ all_left xs) lines law follows p)
 
 -- ---- what leaves can be written
 all-right : (P : Leaving → Type 0) (xs ys : List Leaving) → All P (xs ++ ys) → All P ys
@@ -232,9 +236,9 @@ kept-at [] k a low is all = absurd (omega (arith, low))
 kept-at (b ∷ came) zero a low is all = let same = ap (λ (x : Arrived). x.moment) is in let own = all.0 in omega (arith, same, own)
 kept-at (b ∷ came) (suc k) a low is all = kept-at came k a (omega (arith, low)) is all.1
 
-pub frames-fit : (m : Mode) (i : Input) (plan : Planned) (so_far : List Segment) (n : Network) (told : List Event) (gone : List Leaving) (xs : List Left) (lines : List TraceLine) → RunsAreUnderWay → plan.tree ≡ tree_of i →
-    IsTree plan.tree → CanBeKept so_far → HasPlayed m i so_far n told (gone ++ all_left xs) lines → All (λ (x : Left). CanBeWritten plan x) xs
-frames-fit m i plan so_far n told gone xs lines law tree is_tree kept p k d low =
+pub frames-fit : (m : Mode) (i : Input) (plan : Planned) (so_far : List Segment) (n : Network) (told : List Event) (passed : List Bool) (gone : List Leaving) (xs : List Left) (lines : List TraceLine) → RunsAreUnderWay → plan.tree ≡ tree_of i →
+    IsTree plan.tree → CanBeKept so_far → HasPlayed m i so_far n told passed (gone ++ all_left xs) lines → All (λ (x : Left). CanBeWritten plan x) xs
+frames-fit m i plan so_far n told passed gone xs lines law tree is_tree kept p k d low =
     let P : List Leaving → Type 0 = All (λ (x : Leaving). IsCopyOfAny i (arrivals_in so_far) x) in
     let all = subst P (sym p.gone) (law m i so_far p.done p.plays).copies in
     let copy = all-mapped (λ (x : Leaving). IsCopyOfAny i (arrivals_in so_far) x) xs (all-right (λ (x : Leaving). IsCopyOfAny i (arrivals_in so_far) x) gone (all_left xs) all) k d low in

@@ -1,5 +1,5 @@
 -- A run under way: what was told and has left so far, what is written and counted of it, and what is still to come.
-use Rattle.std.specs.Prelude.{◌≡◌, ◌≤◌, ◌<◌, ◌+◌, ◌*◌, ◌^◌, ◌==◌, ℕ, false, List, [], ◌∷◌, ◌++◌, Option, None, IfSome, nat_lt, if◌then◌else◌, length, map, filter_map, flat_map, fold, sum_by, All, AllPairs}
+use Rattle.std.specs.Prelude.{◌≡◌, ◌≤◌, ◌<◌, ◌+◌, ◌*◌, ◌^◌, ◌==◌, ℕ, Bool, false, List, [], ◌∷◌, ◌++◌, Option, None, IfSome, nat_lt, if◌then◌else◌, length, map, filter_map, flat_map, fold, sum_by, All, AllPairs}
 use Rattle.std.specs.List.{AllByRecursion}
 use Rattle.exb_model.specs.declared.event.Event.{Event}
 use Rattle.exb_model.specs.declared.setup.Setup.{Setup}
@@ -60,9 +60,10 @@ pub record Run : Type 0 where
 pub record IsTold (tells : Type 0) (m : Mode) (r : Run) (plan : Planned) (now : Files) (n : Network) (c : Counts) (o : Outputs) (so_far : List Segment) : Type 0 where
   pub tree : plan.tree ≡ tree_of r.input
   pub told : List Event
+  pub passed : List Bool
   pub gone : List Left
   pub lines : List TraceLine
-  pub played : IsPlayedBy m r.input so_far n told gone lines
+  pub played : IsPlayedBy m r.input so_far n told passed gone lines
   pub tracing : n.log.tracing ≡ plan.traced
   pub counted : c ≡ counts_so_far told gone
   pub texts : tells → HasTexts plan (pieces_of o) r.before now (text_so_far plan told gone lines)
@@ -76,9 +77,10 @@ pub record IsCutOff (m : Mode) (r : Run) (plan : Planned) (now : Files) : Type 0
   pub segments_are : segments m r.input ≡ so_far ++ rest
   pub network : Network
   pub told : List Event
+  pub passed : List Bool
   pub gone : List Left
   pub lines : List TraceLine
-  pub played : IsPlayedBy m r.input so_far network told gone lines
+  pub played : IsPlayedBy m r.input so_far network told passed gone lines
   pub cut : AreCut plan r.before now (text_so_far plan told gone lines)
 
 -- ---- what comes

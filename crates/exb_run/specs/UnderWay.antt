@@ -98,7 +98,7 @@ pub record CanBegin (tells : Type 0) (m : Mode) (r : Run) (s : Setup) (plan : Pl
 -- The world is opened, and nothing of it is written or counted yet; the programme has all of an input.
 pub record IsOpened (tells : Type 0) (m : Mode) (r : Run) (plan : Planned) (now : Files) (ids : ℕ → Id) (n : Network) (c : Counts) (o : Outputs) (p : Programme) : Type 0 where
   pub tree : plan.tree ≡ tree_of r.input
-  pub played : IsPlayedBy m r.input [] n n.log.events (all_left n.log.left) n.log.lines
+  pub played : IsPlayedBy m r.input [] n n.log.events n.log.passed (all_left n.log.left) n.log.lines
   pub tracing : n.log.tracing ≡ plan.traced
   pub counted : c ≡ nothing_counted
   pub texts : tells → HasTexts plan (pieces_of o) r.before now (first_text plan)

@@ -1,5 +1,5 @@
 //! A run under way: the world, what is written of it, and what is counted.
-ghost use Rattle.std.specs.Prelude.{◌≡◌, ◌≤◌, ◌<◌, ◌+◌, ◌^◌, ◌++◌, ◌∷◌, [], ℕ, List, length, drop, All, fold, IsOk, IfOk, OnOk, OnErr, IfErr, None, Some, string_bytes};
+ghost use Rattle.std.specs.Prelude.{◌≡◌, ◌≤◌, ◌<◌, ◌+◌, ◌^◌, ◌++◌, ◌∷◌, [], ℕ, Bool, List, length, drop, All, fold, IsOk, IfOk, OnOk, OnErr, IfErr, None, Some, string_bytes};
 ghost use Rattle.exb_model.specs.declared.event.Event.{Event};
 ghost use Rattle.exb_model.specs.Input.{Input, Mode, Eager, Segment, segments, seconds_after};
 ghost use Rattle.exb_model.specs.Setup.{IsValid, shape_of};
@@ -115,9 +115,9 @@ fn play_segment(
 ) -> Result<(), WorldFault>
     requires can { CanAll (network_of world.old) (gives seconds commands.now arrivals.now) }
     requires few { left (fate_in world.old) + letters_in commands.now < 2 ^ 57 }
-    ensures plays { OnOk result ((i : Input) (so_far : List Segment) (s : Segment) (events : List Event) (left : List Leaving) (lines : List TraceLine) → IsSegment i s seconds commands.now arrivals.now
-        → IsPlayedBy (mode_of schedule) i so_far (network_of world.old) (events ++ (network_of world.old).log.events) (left ++ all_left (network_of world.old).log.left) (lines ++ (network_of world.old).log.lines)
-        → IsPlayedBy (mode_of schedule) i (so_far ++ s ∷ []) (network_of world.new) (events ++ (network_of world.new).log.events) (left ++ all_left (network_of world.new).log.left) (lines ++ (network_of world.new).log.lines)) }
+    ensures plays { OnOk result ((i : Input) (so_far : List Segment) (s : Segment) (events : List Event) (passed : List Bool) (left : List Leaving) (lines : List TraceLine) → IsSegment i s seconds commands.now arrivals.now
+        → IsPlayedBy (mode_of schedule) i so_far (network_of world.old) (events ++ (network_of world.old).log.events) (passed ++ (network_of world.old).log.passed) (left ++ all_left (network_of world.old).log.left) (lines ++ (network_of world.old).log.lines)
+        → IsPlayedBy (mode_of schedule) i (so_far ++ s ∷ []) (network_of world.new) (events ++ (network_of world.new).log.events) (passed ++ (network_of world.new).log.passed) (left ++ all_left (network_of world.new).log.left) (lines ++ (network_of world.new).log.lines)) }
     ensures same { OnOk result (IsSame (network_of world.old) (network_of world.new)) }
     ensures fate { left (fate_in world.new) ≤ left (fate_in world.old) + letters_in commands.now }
 {

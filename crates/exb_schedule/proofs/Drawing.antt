@@ -24,6 +24,7 @@ use Rattle.exb_resting.specs.Rest.Settles.{MayTake}
 use Rattle.exb_schedule.specs.declared.segment.Arrival.{Arrival}
 use Rattle.exb_schedule.specs.Drawing.{left_of, seconds_of, MayCome, MayComeAll, MayOrderAll, IsReady, HasDrawn, Keeps}
 use Rattle.exb_schedule.specs.Playing.{arrived, arrive, gives, orders, CanAll, CanFrom, IsSegment}
+use Rattle.exb_schedule.specs.Segments.{GivesThese}
 use Rattle.exb_schedule.proofs.Leading.{run_nothing, run_step, run_steps}
 use Rattle.exb_schedule.proofs.Playing.{moves_give_nothing}
 use Rattle.exb_schedule.proofs.Segments.{GivesIt}
@@ -321,28 +322,32 @@ module _ (all : ℕ) (cs : List Timed) (frames : List Arrival) (seconds taken : 
       record { external = one.external; next = one.index; few = one.few; short = one.short }
 
   -- all is given
-  pub drawn_last : (i : Input) (s : Segment) → IsSegment i s all cs frames → seconds ≡ 0 → length cs ≤ taken → ((j : ℕ) → j < length frames → get_or given j true ≡ true) → GivesIt Seeded i s k.steps
-  drawn_last i s is none last every =
+  pub drawn_last : seconds ≡ 0 → length cs ≤ taken → ((j : ℕ) → j < length frames → get_or given j true ≡ true) → GivesThese all cs frames k.steps
+  drawn_last none last every =
       let whole = k.whole in
       let no_frames : left_of given frames ≡ [] = none_left given frames (omega (arith, whole)) every in
       let no_commands : drop taken cs ≡ [] = drop_all taken cs last in
-      let time : seconds_in k.steps ≡ seconds_of all = sym (append-nil (seconds_in k.steps)) ∙ (ap (λ (n : ℕ). seconds_in k.steps ++ seconds_of n) (sym none) ∙ k.time) in
-      let told : commands_of (given_in k.steps) ≡ map (λ (c : Timed). c.command) cs =
-      sym (append-nil (commands_of (given_in k.steps))) ∙ (ap (λ (ds : List Timed). commands_of (given_in k.steps) ++ map (λ (c : Timed). c.command) ds) (sym no_commands) ∙ k.commands) in
-      let came : IsPermutation (arrivals_of (given_in k.steps)) (map arrived frames) =
-      subst (λ (ys : List Arrived). IsPermutation ys (map arrived frames)) (ap (λ (ds : List Arrival). arrivals_of (given_in k.steps) ++ map arrived ds) no_frames ∙ append-nil (arrivals_of (given_in k.steps))) k.arrivals in
       record {
-        gives = λ moves only.
-            let none_more = moves_give_nothing moves only in
-            let same : given_in (k.steps ++ moves) ≡ given_in k.steps = given_then k.steps moves ∙ (ap (λ (g : List Given). given_in k.steps ++ g) none_more.1 ∙ append-nil (given_in k.steps)) in
-            record {
-              seconds = seconds_then k.steps moves ∙ (ap (λ (ys : List ℕ). seconds_in k.steps ++ ys) none_more.0 ∙ (append-nil (seconds_in k.steps) ∙ (time ∙ ap seconds_of (sym is.seconds_are))));
-              commands = ap commands_of same ∙ (told ∙ sym is.commands);
-              arrivals = subst (λ (g : List Given). IsPermutation (arrivals_of g) s.arrivals) (sym same) (subst (IsPermutation (arrivals_of (given_in k.steps))) (sym is.arrivals_are) came);
-              unmarked = unmarked_then k.steps moves k.unmarked none_more.2;
-            };
-        ordered = λ moves. tt;
+        time = sym (append-nil (seconds_in k.steps)) ∙ (ap (λ (n : ℕ). seconds_in k.steps ++ seconds_of n) (sym none) ∙ k.time);
+        commands = sym (append-nil (commands_of (given_in k.steps))) ∙ (ap (λ (ds : List Timed). commands_of (given_in k.steps) ++ map (λ (c : Timed). c.command) ds) (sym no_commands) ∙ k.commands);
+        arrivals = subst (λ (ys : List Arrived). IsPermutation ys (map arrived frames)) (ap (λ (ds : List Arrival). arrivals_of (given_in k.steps) ++ map arrived ds) no_frames ∙ append-nil (arrivals_of (given_in k.steps))) k.arrivals;
+        unmarked = k.unmarked;
       }
+
+-- so a segment is given, whatever moves come after it
+pub these_give : (i : Input) (s : Segment) (seconds : ℕ) (cs : List Timed) (frames : List Arrival) (steps : List Step) → IsSegment i s seconds cs frames → GivesThese seconds cs frames steps → GivesIt Seeded i s steps
+these_give i s seconds cs frames steps is k = record {
+  gives = λ moves only.
+      let none_more = moves_give_nothing moves only in
+      let same : given_in (steps ++ moves) ≡ given_in steps = given_then steps moves ∙ (ap (λ (g : List Given). given_in steps ++ g) none_more.1 ∙ append-nil (given_in steps)) in
+      record {
+        seconds = seconds_then steps moves ∙ (ap (λ (ys : List ℕ). seconds_in steps ++ ys) none_more.0 ∙ (append-nil (seconds_in steps) ∙ (k.time ∙ ap seconds_of (sym is.seconds_are))));
+        commands = ap commands_of same ∙ (k.commands ∙ sym is.commands);
+        arrivals = subst (λ (g : List Given). IsPermutation (arrivals_of g) s.arrivals) (sym same) (subst (IsPermutation (arrivals_of (given_in steps))) (sym is.arrivals_are) k.arrivals);
+        unmarked = unmarked_then steps moves k.unmarked none_more.2;
+      };
+  ordered = λ moves. tt;
+}
 
 -- a move gives nothing
 pub keeps_by : (x step : Step) (now new : Network) → x ≡ step → IsMove step → IsStepped x now new → MayTake (tree_of now) (world_of now) x → Keeps now new

@@ -38,6 +38,7 @@ moved_nothing n =
       passed = sym (append-nil n.log.passed);
       left = sym (append-nil (all_left n.log.left));
       lines = λ on. sym (append-nil n.log.lines);
+      silent = λ off. refl;
       same = record { site = refl; failed = refl; tracing = refl };
     }
 
@@ -52,6 +53,7 @@ moved_then a b old mid new x y =
           y.lines (x.same.tracing ∙ on)
           ∙ (ap (λ (es : List TraceLine). es ++ all_told b.lines) (x.lines on)
           ∙ (append_assoc old.log.lines (all_told a.lines) (all_told b.lines) ∙ ap (λ (es : List TraceLine). old.log.lines ++ es) (sym (told_then a.lines b.lines))));
+      silent = λ off. y.silent (x.same.tracing ∙ off) ∙ x.silent off;
       same = same_then old mid new x.same y.same;
     }
 
@@ -65,7 +67,7 @@ run_step step old new x may =
     record {
       may = (may, tt);
       moved = subst (λ (z : Stepped). IsMoved z old new) (sym (one_step (tree_of old) (bounds_of old) step (world_of old)))
-          (record { world = x.world; events = x.events; passed = x.passed; left = x.left; lines = x.lines; same = x.same });
+          (record { world = x.world; events = x.events; passed = x.passed; left = x.left; lines = x.lines; silent = x.silent; same = x.same });
     }
 
 pub run_steps : (xs ys : List Step) (old mid new : Network) → HasRun xs old mid → HasRun ys mid new → HasRun (xs ++ ys) old new

@@ -1,10 +1,11 @@
 -- What is true of a network that has played segments of an input.
-use Rattle.std.specs.Prelude.{List, []}
+use Rattle.std.specs.Prelude.{◌≡◌, Bool, List, []}
 use Rattle.exb_model.specs.declared.event.Event.{Event}
-use Rattle.exb_model.specs.Input.{Input, Segment, Mode, Eager, segments}
+use Rattle.exb_model.specs.Input.{Input, Segment, Mode, Eager, basis_of, segments}
 use Rattle.exb_model.specs.Traces.{TraceLine}
 use Rattle.exb_machine.specs.Stepping.{Stepped}
 use Rattle.exb_machine.specs.Worlds.{Left}
+use Rattle.exb_machine.specs.Runs.Passed.{passed_over}
 use Rattle.exb_resting.specs.Motion.Playing.{IsTimely}
 use Rattle.exb_network.specs.Networks.{Network, world_of}
 use Rattle.exb_resting.specs.Rest.Playing.{IsUnderWay, HasWritten, HasWrittenIn}
@@ -18,18 +19,25 @@ shown n events left = record { world = world_of n; events = events; passed = [];
 -- arrivals.
 abbrev pub PlayedIsUnderWay : Type 0
 PlayedIsUnderWay =
-    (m : Mode) (i : Input) (so_far : List Segment) (n : Network) (events : List Event) (left : List Left) (lines : List TraceLine) →
-    HasPlayed m i so_far n events left lines → IsUnderWay i so_far (shown n events left)
+    (m : Mode) (i : Input) (so_far : List Segment) (n : Network) (events : List Event) (passed : List Bool) (left : List Left) (lines : List TraceLine) →
+    HasPlayed m i so_far n events passed left lines → IsUnderWay i so_far (shown n events left)
 
 -- Where all segments are played a history was told that the input allows, and what has left each external port is what the one
 -- bridge sends there over it.
 abbrev pub PlayedWritesLegally : Type 0
 PlayedWritesLegally =
-    (m : Mode) (i : Input) (n : Network) (events : List Event) (left : List Left) (lines : List TraceLine) → IsTimely i →
-    HasPlayed m i (segments m i) n events left lines → HasWrittenIn m i (shown n events left)
+    (m : Mode) (i : Input) (n : Network) (events : List Event) (passed : List Bool) (left : List Left) (lines : List TraceLine) → IsTimely i →
+    HasPlayed m i (segments m i) n events passed left lines → HasWrittenIn m i (shown n events left)
 
 -- In the eager mode it is the eager history.
 abbrev pub PlayedWritesEagerly : Type 0
 PlayedWritesEagerly =
-    (i : Input) (n : Network) (events : List Event) (left : List Left) (lines : List TraceLine) → IsTimely i →
-    HasPlayed Eager i (segments Eager i) n events left lines → HasWritten i (shown n events left)
+    (i : Input) (n : Network) (events : List Event) (passed : List Bool) (left : List Left) (lines : List TraceLine) → IsTimely i →
+    HasPlayed Eager i (segments Eager i) n events passed left lines → HasWritten i (shown n events left)
+
+-- Where all segments are played it was said of each Relay that was told, in order, whether its frame passed in the configuration
+-- before it.
+abbrev pub PlayedSaysPassed : Type 0
+PlayedSaysPassed =
+    (m : Mode) (i : Input) (n : Network) (events : List Event) (passed : List Bool) (left : List Left) (lines : List TraceLine) → IsTimely i →
+    HasPlayed m i (segments m i) n events passed left lines → passed ≡ passed_over (basis_of i) [] events

@@ -4,5 +4,6 @@ pub mod Rounds
 pub mod Playing
 pub mod Worlds
 pub mod Drawing
+pub mod Segments
 pub mod Laws
 pub mod Standing

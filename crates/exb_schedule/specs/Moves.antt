@@ -1,5 +1,5 @@
 -- What moves a network: steps of the machine, one after another.
-use Rattle.std.specs.Prelude.{◌≡◌, ◌++◌, true, List, [], ◌∷◌}
+use Rattle.std.specs.Prelude.{◌≡◌, ◌++◌, true, false, List, [], ◌∷◌}
 use Rattle.exb_machine.specs.Allowing.{IsSettled}
 use Rattle.exb_machine.specs.Settling.{run}
 use Rattle.exb_machine.specs.Stepping.{Stepped}
@@ -12,13 +12,14 @@ use Rattle.exb_network.specs.Worlds.{all_left}
 use Rattle.exb_resting.specs.Rest.Settles.{MayTakeAll}
 
 -- The network is where this was done: its world is that, and what was told and has left stands behind what was told and had left
--- before; so do the lines of its trace, where one is kept.
+-- before; so do the lines of its trace, where one is kept, and else none is added.
 pub record IsMoved (done : Stepped) (old new : Network) : Type 0 where
   pub world : world_of new ≡ done.world
   pub events : new.log.events ≡ old.log.events ++ done.events
   pub passed : new.log.passed ≡ old.log.passed ++ done.passed
   pub left : all_left new.log.left ≡ all_left old.log.left ++ done.left
   pub lines : old.log.tracing ≡ true → new.log.lines ≡ old.log.lines ++ all_told done.lines
+  pub silent : old.log.tracing ≡ false → new.log.lines ≡ old.log.lines
   pub same : IsSame old new
 
 -- It made these steps, each of which might be made when its turn came.

@@ -5,6 +5,7 @@ ghost use Rattle.exb_machine.specs.Allowing.{IsSettled};
 ghost use Rattle.exb_network.specs.Networks.{world_of, tree_of, IsSame};
 ghost use Rattle.exb_schedule.specs.Drawing.{left_of, GoesOn, HasDrawn, IsDrawn, IsReady, Keeps};
 ghost use Rattle.exb_schedule.specs.Playing.{gives, letters_in, CanAll, PlaysOn};
+ghost use Rattle.exb_schedule.specs.Segments.{IsDrawnOut};
 ghost use Rattle.exb_schedule.specs.Worlds.{network_of};
 
 use crate::draws::{Choice, choose};
@@ -301,6 +302,7 @@ fn play_drawn(
     requires can { CanAll (network_of world.old) (gives seconds commands.now arrivals.now) }
     requires few { left world.old.fate + letters_in commands.now < 2 ^ 57 }
     ensures settled { OnOk result (IsSettled (tree_of (network_of world.new)) (world_of (network_of world.new))) }
+    ensures segment { OnOk result (IsDrawnOut seconds commands.now arrivals.now (network_of world.old) (network_of world.new)) }
     ensures plays { OnOk result (PlaysOn Seeded seconds commands.now arrivals.now (network_of world.old) (network_of world.new)) }
     ensures same { OnOk result (IsSame (network_of world.old) (network_of world.new)) }
     ensures fate { left world.new.fate ≤ left world.old.fate + letters_in commands.now }
@@ -322,6 +324,7 @@ pub fn seeded(
     requires can { CanAll (network_of world.old) (gives seconds commands.now arrivals.now) }
     requires few { left world.old.fate + letters_in commands.now < 2 ^ 57 }
     ensures settled { OnOk result (IsSettled (tree_of (network_of world.new)) (world_of (network_of world.new))) }
+    ensures segment { OnOk result (IsDrawnOut seconds commands.now arrivals.now (network_of world.old) (network_of world.new)) }
     ensures plays { OnOk result (PlaysOn Seeded seconds commands.now arrivals.now (network_of world.old) (network_of world.new)) }
     ensures same { OnOk result (IsSame (network_of world.old) (network_of world.new)) }
     ensures failed { (result ≡ Err WorldFault.Failed) ↔ ((network_of world.old).failed ≡ true) }

@@ -1,5 +1,5 @@
 //! What is true of each step, and of a run that has played its input. Each law is a function that does nothing and ensures it.
-ghost use Rattle.exb_schedule.specs.Laws.{PlayedIsUnderWay, PlayedWritesEagerly, PlayedWritesLegally};
+ghost use Rattle.exb_schedule.specs.Laws.{PlayedIsUnderWay, PlayedSaysPassed, PlayedWritesEagerly, PlayedWritesLegally};
 ghost use Rattle.exb_schedule.specs.Standing.{SetupsBeginStanding, StepsLeaveStanding};
 
 use exb_resting::laws::motion::{
@@ -7,7 +7,7 @@ use exb_resting::laws::motion::{
     steps_keep, steps_tell_so,
 };
 use exb_resting::laws::rest::{
-    runs_are_under_way, runs_stay_low, runs_write_eagerly, runs_write_legally,
+    runs_are_under_way, runs_say_passed, runs_stay_low, runs_write_eagerly, runs_write_legally,
 };
 
 /// The network of a valid setup stands as it begins, with nothing given, told or left, and its links are clean.
@@ -57,4 +57,11 @@ pub fn played_writes_legally()
     ensures { PlayedWritesLegally }
 {
     runs_write_legally();
+}
+
+/// And it said of each frame that it relayed, in order, whether it passed in the configuration before it.
+pub fn played_says_passed()
+    ensures { PlayedSaysPassed }
+{
+    runs_say_passed();
 }

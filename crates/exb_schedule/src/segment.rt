@@ -9,6 +9,7 @@ ghost use Rattle.exb_network.specs.Worlds.{all_left};
 ghost use Rattle.exb_resting.specs.Rest.Settles.{MayTake};
 ghost use Rattle.exb_schedule.specs.Moves.{HasEnded, HasRun};
 ghost use Rattle.exb_schedule.specs.Playing.{gives, letters_in, orders, CanAll, HasPlayed, PlaysOn};
+ghost use Rattle.exb_schedule.specs.Segments.{IsPlayedOut};
 ghost use Rattle.exb_schedule.specs.Worlds.{network_of};
 
 use crate::arriving::{let_arrive, let_pass};
@@ -83,7 +84,7 @@ pub fn open(
     requires valid { IsValid setup.now }
     requires few { left fate + length plan.now < 2 ^ 57 }
     ensures plays { IfOk result (λ world. (m : Mode) (i : Input) → i.setup ≡ setup.now
-        → HasPlayed m i [] (network_of world) (network_of world).log.events (all_left (network_of world).log.left) (network_of world).log.lines) }
+        → HasPlayed m i [] (network_of world) (network_of world).log.events (network_of world).log.passed (all_left (network_of world).log.left) (network_of world).log.lines) }
     ensures settled { IfOk result (λ world. IsSettled (tree_of (network_of world)) (world_of (network_of world))) }
     ensures tree { IfOk result (λ world. tree_of (network_of world) ≡ shape_of setup.now) }
     ensures limits { IfOk result (λ world. bounds_of (network_of world) ≡ limits_of setup.now) }
@@ -160,6 +161,7 @@ fn play_in_order(
     requires can { CanAll (network_of world.old) (gives seconds commands.now arrivals.now) }
     requires few { left world.old.fate + letters_in commands.now < 2 ^ 57 }
     ensures settled { OnOk result (IsSettled (tree_of (network_of world.new)) (world_of (network_of world.new))) }
+    ensures segment { OnOk result (IsPlayedOut (gives seconds commands.now arrivals.now) (network_of world.old) (network_of world.new)) }
     ensures plays { OnOk result (PlaysOn Eager seconds commands.now arrivals.now (network_of world.old) (network_of world.new)) }
     ensures same { OnOk result (IsSame (network_of world.old) (network_of world.new)) }
     ensures fate { left world.new.fate ≤ left world.old.fate + letters_in commands.now }
@@ -178,6 +180,7 @@ pub fn eager(
     requires can { CanAll (network_of world.old) (gives seconds commands.now arrivals.now) }
     requires few { left world.old.fate + letters_in commands.now < 2 ^ 57 }
     ensures settled { OnOk result (IsSettled (tree_of (network_of world.new)) (world_of (network_of world.new))) }
+    ensures segment { OnOk result (IsPlayedOut (gives seconds commands.now arrivals.now) (network_of world.old) (network_of world.new)) }
     ensures plays { OnOk result (PlaysOn Eager seconds commands.now arrivals.now (network_of world.old) (network_of world.new)) }
     ensures same { OnOk result (IsSame (network_of world.old) (network_of world.new)) }
     ensures failed { (result ≡ Err WorldFault.Failed) ↔ ((network_of world.old).failed ≡ true) }

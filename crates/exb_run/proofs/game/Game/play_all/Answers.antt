@@ -91,7 +91,7 @@ pub returns-clause-few : goal.returns-clause-few
 returns-clause-few g c =
     let run = c.requires.playing.0 in
     let p = c.events.invariant.goes_on run c.requires.playing.1 in
-    let few = arrivals-low (mode_of c.args.schedule) run.input p.so_far (network_of c.events.self.world) p.is.told p.is.gone p.is.lines c.runs_are_few.ensures
+    let few = arrivals-low (mode_of c.args.schedule) run.input p.so_far (network_of c.events.self.world) p.is.told p.is.passed p.is.gone p.is.lines c.runs_are_few.ensures
     (let most = p.next.few_bytes in omega (arith, most)) p.is.played in
     let relayed = ap (λ x. x.relayed) p.is.counted in
     let ignored = ap (λ x. x.ignored) p.is.counted in

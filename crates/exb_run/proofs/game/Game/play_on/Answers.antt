@@ -28,13 +28,13 @@ returns-clause-done g c tells =
     record {
       history = [] then t.told;
       lines = t.lines;
-      legal = legal m i plan t.tree c.is_tree.ensures timely way law n t.told t.gone t.lines t.played;
-      eager = eagerly m i plan t.tree c.is_tree.ensures timely way law n t.told t.gone t.lines t.played c.runs_write_eagerly.ensures;
-      trace = λ on. trace m i plan t.tree c.is_tree.ensures timely way law n t.told t.gone t.lines t.played c.runs_tell_legally.ensures (t.tracing ∙ on);
-      outputs = weaker run.before (S.file c.end.new.shelf) (output_count plan) (output_name plan) (λ j bytes. bytes ≡ text_so_far plan t.told t.gone t.lines j)
-          (λ j bytes. bytes ≡ output_text i plan ([] then t.told) t.lines j) (texts run.before (text_so_far plan t.told t.gone t.lines) (t.texts tells))
-          (λ j bytes low is. is ∙ texts-whole m i plan t.tree c.is_tree.ensures timely way law n t.told t.gone t.lines t.played j);
-      says = says ∙ ap summary_line (t.counted ∙ counts-end m i plan t.tree c.is_tree.ensures timely way law n t.told t.gone t.lines t.played);
+      legal = legal m i plan t.tree c.is_tree.ensures timely way law n t.told t.passed t.gone t.lines t.played;
+      eager = eagerly m i plan t.tree c.is_tree.ensures timely way law n t.told t.passed t.gone t.lines t.played c.runs_write_eagerly.ensures;
+      trace = λ on. trace m i plan t.tree c.is_tree.ensures timely way law n t.told t.passed t.gone t.lines t.played c.runs_tell_legally.ensures (t.tracing ∙ on);
+      outputs = weaker run.before (S.file c.end.new.shelf) (output_count plan) (output_name plan) (λ j bytes. bytes ≡ text_so_far plan t.told t.passed t.gone t.lines j)
+          (λ j bytes. bytes ≡ output_text i plan ([] then t.told) t.lines j) (texts run.before (text_so_far plan t.told t.passed t.gone t.lines) (t.texts tells))
+          (λ j bytes low is. is ∙ texts-whole m i plan t.tree c.is_tree.ensures timely way law n t.told t.passed t.gone t.lines t.played j);
+      says = says ∙ ap summary_line (t.counted ∙ counts-end m i plan t.tree c.is_tree.ensures timely way law n t.told t.passed t.gone t.lines t.played);
     }) c.end.ensures.line (c.end.ensures.texts tells)
 
 pub returns-clause-only : goal.returns-clause-only

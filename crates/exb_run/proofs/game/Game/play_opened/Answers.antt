@@ -19,7 +19,7 @@ note-requires-clause-frames g c =
     let n = network_of c.args.self.now.world in
     let i = c.requires.opened.0.input in
     let is = c.requires.opened.1 in
-    frames-fit (mode_of c.args.schedule) i c.args.plan.now [] n n.log.events [] n.log.left n.log.lines c.runs_are_under_way.ensures is.tree c.is_tree.ensures tt is.played
+    frames-fit (mode_of c.args.schedule) i c.args.plan.now [] n n.log.events n.log.passed [] n.log.left n.log.lines c.runs_are_under_way.ensures is.tree c.is_tree.ensures tt is.played
 
 pub note-requires-clause-fits : goal.note-requires-clause-fits
 note-requires-clause-fits g c =
@@ -27,7 +27,7 @@ note-requires-clause-fits g c =
     let i = c.requires.opened.0.input in
     let is = c.requires.opened.1 in
     let follows : CanFollow i [] = record { kept = tt; few_arrivals = omega arith; few_commands = omega arith } in
-    tally-fits (mode_of c.args.schedule) i [] n [] n.log.events [] n.log.left n.log.lines _ c.runs_are_few.ensures follows is.played is.counted
+    tally-fits (mode_of c.args.schedule) i [] n [] n.log.events n.log.passed [] n.log.left n.log.lines _ c.runs_are_few.ensures follows is.played is.counted
 
 pub play_on-requires-clause-feed : goal.play_on-requires-clause-feed
 play_on-requires-clause-feed g c = feed-written (g.S.Shelf.ids c.args.shelf.now) (g.S.Shelf.ids c.note.new.shelf) c.args.feed.now c.note.ensures.only.kept c.requires.feed
@@ -63,7 +63,7 @@ returns-in_err-note-clause-cut g c = λ t.
     let plan = c.args.plan.now in
     let m = mode_of c.args.schedule in
     let n = network_of c.args.self.now.world in
-    cut_amid m run plan (S.file c.note.new.shelf) [] (segments m run.input) n [] n.log.events [] n.log.left [] n.log.lines is.tree refl is.played
+    cut_amid m run plan (S.file c.note.new.shelf) [] (segments m run.input) n [] n.log.events n.log.passed [] n.log.left [] n.log.lines is.tree refl is.played
     (c.in_err-note.ensures.cut t run.before (text_so_far plan [] [] [])
     (same_texts plan (pieces_of c.args.self.now.outputs) run.before (S.file c.args.shelf.now) (first_text plan) (text_so_far plan [] [] []) (λ j low. text-first plan j) (is.texts t))))
 

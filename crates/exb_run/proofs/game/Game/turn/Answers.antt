@@ -20,8 +20,8 @@ note-requires-clause-frames g c =
     let is = can.is in
     let ok = sym c.is_err.ensures.value ∙ c.if-is_err.false in
     let v = network_of c.play_segment.new.world in
-    let after = when_ok c.play_segment.result ok c.play_segment.ensures.plays i can.so_far can.next is.told is.gone is.lines can.segment (quiet-played m i can.so_far n is.told is.gone is.lines is.quiet is.played) in
-    frames-fit m i c.args.plan.now (can.so_far ++ can.next ∷ []) v (is.told ++ v.log.events) is.gone v.log.left (is.lines ++ v.log.lines)
+    let after = when_ok c.play_segment.result ok c.play_segment.ensures.plays i can.so_far can.next is.told is.passed is.gone is.lines can.segment (quiet-played m i can.so_far n is.told is.passed is.gone is.lines is.quiet is.played) in
+    frames-fit m i c.args.plan.now (can.so_far ++ can.next ∷ []) v (is.told ++ v.log.events) (is.passed ++ v.log.passed) is.gone v.log.left (is.lines ++ v.log.lines)
     c.runs_are_under_way.ensures is.tree c.is_tree.ensures can.follows.kept after
 
 pub note-requires-clause-fits : goal.note-requires-clause-fits
@@ -33,8 +33,8 @@ note-requires-clause-fits g c =
     let is = can.is in
     let ok = sym c.is_err.ensures.value ∙ c.if-is_err.false in
     let v = network_of c.play_segment.new.world in
-    let after = when_ok c.play_segment.result ok c.play_segment.ensures.plays i can.so_far can.next is.told is.gone is.lines can.segment (quiet-played m i can.so_far n is.told is.gone is.lines is.quiet is.played) in
-    tally-fits m i (can.so_far ++ can.next ∷ []) v is.told v.log.events is.gone v.log.left (is.lines ++ v.log.lines) _ c.runs_are_few.ensures can.follows after is.counted
+    let after = when_ok c.play_segment.result ok c.play_segment.ensures.plays i can.so_far can.next is.told is.passed is.gone is.lines can.segment (quiet-played m i can.so_far n is.told is.passed is.gone is.lines is.quiet is.played) in
+    tally-fits m i (can.so_far ++ can.next ∷ []) v is.told v.log.events (is.passed ++ v.log.passed) is.gone v.log.left (is.lines ++ v.log.lines) _ c.runs_are_few.ensures can.follows after is.counted
 
 pub returns-clause-told : goal.returns-clause-told
 returns-clause-told g c = on_ok_by c.note.result (λ get run so_far s segment is.
@@ -47,13 +47,14 @@ returns-clause-told g c = on_ok_by c.note.result (λ get run so_far s segment is
     let more = v.log.events in
     let left = v.log.left in
     let new = v.log.lines in
-    let after = when_ok c.play_segment.result ok c.play_segment.ensures.plays run.input so_far s is.told is.gone is.lines segment (quiet-played m run.input so_far n is.told is.gone is.lines is.quiet is.played) in
+    let after = when_ok c.play_segment.result ok c.play_segment.ensures.plays run.input so_far s is.told is.passed is.gone is.lines segment (quiet-played m run.input so_far n is.told is.passed is.gone is.lines is.quiet is.played) in
     record {
       tree = is.tree;
       told = is.told ++ more;
+      passed = is.passed ++ v.log.passed;
       gone = is.gone ++ all_left left;
       lines = is.lines ++ new;
-      played = cleared-played m run.input (so_far ++ s ∷ []) v (network_of c.note.new.self.world) (is.told ++ more) (is.gone ++ all_left left) (is.lines ++ new)
+      played = cleared-played m run.input (so_far ++ s ∷ []) v (network_of c.note.new.self.world) (is.told ++ more) (is.passed ++ v.log.passed) (is.gone ++ all_left left) (is.lines ++ new)
           (get _ c.note.ensures.world) (get _ c.note.ensures.same) after;
       tracing = (get _ c.note.ensures.same).tracing ∙ (when_ok c.play_segment.result ok c.play_segment.ensures.same).tracing ∙ is.tracing;
       counted = get _ c.note.ensures.counts ∙ ap (λ (b : Counts). with_left (length left) (count_events b more)) is.counted ∙ counts-more is.told more is.gone left;
@@ -75,7 +76,7 @@ returns-clause-cut g c = λ t. on_err_weaker c.note.result
     let plan = c.args.plan.now in
     let ok = sym c.is_err.ensures.value ∙ c.if-is_err.false in
     let v = network_of c.play_segment.new.world in
-    let after = when_ok c.play_segment.result ok c.play_segment.ensures.plays run.input so_far s is.told is.gone is.lines segment (quiet-played m run.input so_far n is.told is.gone is.lines is.quiet is.played) in
-    cut_amid m run plan (g.S.Shelf.file c.note.new.shelf) (so_far ++ s ∷ []) rest v is.told v.log.events is.gone v.log.left is.lines v.log.lines is.tree
+    let after = when_ok c.play_segment.result ok c.play_segment.ensures.plays run.input so_far s is.told is.passed is.gone is.lines segment (quiet-played m run.input so_far n is.told is.passed is.gone is.lines is.quiet is.played) in
+    cut_amid m run plan (g.S.Shelf.file c.note.new.shelf) (so_far ++ s ∷ []) rest v is.told v.log.events (is.passed ++ v.log.passed) is.gone v.log.left is.lines v.log.lines is.tree
     (segments_are ∙ sym (append_assoc so_far (s ∷ []) rest)) after (cut run.before (text_so_far plan is.told is.gone is.lines) (is.texts t)))
     (c.note.ensures.cut t)
