@@ -2,15 +2,17 @@
 """Lists what the pages say that isn't so by the sources, in seconds:
 
     tools/pages.py
+    tools/pages.py --depths    prints ARCHITECTURE's picture of how deep each crate stands, as crates.txt has it
 
 links that lead nowhere, names in PROMISES, DEFINITIONS, ARCHITECTURE and SETTLING that no source has, laws and clauses of `run` that
-PROMISES doesn't name, crates that ARCHITECTURE doesn't have under their heading of crates.txt, a README that is longer
+PROMISES doesn't name, crates that ARCHITECTURE doesn't have under their heading of crates.txt, a picture of depths that crates.txt doesn't give, a README that is longer
 or wider than it may be, and paths of a machine. It prints a line each, and ends with status 1 where there is one. It knows names,
 and not what is said of them.
 """
 import os
 import re
 import sys
+import textwrap
 
 TOP = os.path.dirname(os.path.dirname(os.path.abspath(__file__)))
 LINK = re.compile(r'(?<!!)\[[^\]]+\]\(([^)\s]+)\)', re.S)
@@ -114,6 +116,33 @@ def architecture():
                 yield f'docs/ARCHITECTURE.md: {crate} does not stand under {group}'
 
 
+def depths():
+    """How deep each crate stands, but for those of tests: crates of definitions and laws alone, and those with code, deepest last."""
+    needs, meaning = {}, {}
+    for line in text('crates.txt').splitlines()[1:]:
+        if line.startswith('# '):
+            group = line[2:].strip().lower()
+        elif ':' in line and group != 'tests':
+            name, _, below = line.partition(':')
+            needs[name], meaning[name] = below.split(), group.endswith(': meaning')
+
+    def depth(name):
+        return 1 + max((depth(it) for it in needs[name] if it in needs), default=0)
+
+    rows = [f' depth   {"definitions and laws alone":45}code']
+    for at in range(max(map(depth, needs)), 0, -1):
+        both = [textwrap.wrap('  '.join(it for it in needs if depth(it) == at and meaning[it] == alone), width, break_long_words=False) for alone, width in ((True, 44), (False, 72))]
+        for line in range(max(map(len, both))):
+            left, right = (it[line].replace(' exb', '  exb').replace('   ', '  ') if line < len(it) else '' for it in both)
+            rows.append(f'{at if not line else "":>4}     {left:45}{right}'.rstrip())
+    return '\n'.join(rows)
+
+
+def picture():
+    if depths() not in text('docs/ARCHITECTURE.md'):
+        yield 'docs/ARCHITECTURE.md: its picture of depths is not that of crates.txt (tools/pages.py --depths prints it)'
+
+
 def readme():
     lines = text('README.md').splitlines()
     if len(lines) > LONG:
@@ -122,11 +151,14 @@ def readme():
 
 
 def main():
+    if sys.argv[1:] == ['--depths']:
+        print(depths())
+        return
     crates = [it for crates in groups().values() for it in crates]
     pages = [it for it in files('.', '.md')]
     found = [it for page in pages for it in links(page)]
     found += [f'{page}: a path of a machine' for page in [*pages, 'docs/exbr.1'] if MACHINE.search(text(page))]
-    found += [*promises(crates), *definitions(crates), *architecture(), *readme()]
+    found += [*promises(crates), *definitions(crates), *architecture(), *picture(), *readme()]
     print(*found, sep='\n', end='\n' if found else '')
     sys.exit(1 if found else 0)
 
