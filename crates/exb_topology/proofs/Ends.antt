@@ -23,6 +23,7 @@ names_behind prefix [] = refl
 names_behind prefix (o ∷ os) = λ i. name_behind prefix o i ∷ names_behind prefix os i
 
 outputs_behind : (prefix : List ℕ) (t : Shape) → output_names prefix t ≡ map (λ o. prefix ++ o) (output_names [] t)
+unfolding output_names
 outputs_behind prefix t = names_behind prefix (all_outputs t)
 
 behind_same : (prefix end o : List ℕ) → bytes_eq (prefix ++ end) (prefix ++ o) ≡ bytes_eq end o
@@ -59,4 +60,5 @@ names_of_captures prefix [] os = refl
 names_of_captures prefix (p ∷ ps) os = ap (λ ns. capture_name prefix p ∷ ns) (names_of_captures prefix ps os)
 
 pub names_all_kinds : (prefix : List ℕ) (t : Shape) → map (capture_name prefix) (external_ports t) ++ map (file_name prefix) other_outputs ≡ output_names prefix t
+unfolding output_names
 names_all_kinds prefix t = names_of_captures prefix (external_ports t) other_outputs

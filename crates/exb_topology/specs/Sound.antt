@@ -1,6 +1,6 @@
 -- What holds of every topology that is read.
 use Rattle.std.specs.Prelude.{◌≡◌, ◌≢◌, ℕ, ◌+◌, ◌≤◌, true, List, length, sum_by, All, AllPairs, Ok}
-use Rattle.exb_model.specs.Tree.{Shape, is_external, external_ports}
+use Rattle.exb_model.specs.Tree.{Shape, is_external}
 use Rattle.exb_model.specs.Setup.{shape_of, NamesExternal}
 use Rattle.exb_text.specs.Names.{all_outputs, file_name}
 use Rattle.exb_topology.specs.declared.topology.Topology.{Topology}

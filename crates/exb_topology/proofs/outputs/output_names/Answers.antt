@@ -1,5 +1,4 @@
-use Rattle.std.proofs.Common.{◌≡◌, ◌∙◌, ◌++◌, List, ℕ, ap, map}
-use Rattle.exb_model.specs.Tree.{external_ports}
+use Rattle.std.proofs.Common.{◌∙◌, ◌++◌, List, ℕ, ap, map}
 use Rattle.exb_text.specs.Names.{file_name, other_outputs}
 use Rattle.exb_topology.proofs.Ends.{names_all_kinds}
 use Rattle.exb_topology.proofs.outputs.output_names.Goals as goal
