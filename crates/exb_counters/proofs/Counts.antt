@@ -37,8 +37,8 @@ fits_before es said q c f =
 
 -- the events that are left lead from what is counted so far to the whole, at each port that has counts
 pub record LeadsOn (start now : Table) (events : List Event) (k : ℕ) (said rest : List Bool) : Type 0 where
-  ports : length now.counts.items ≡ length start.counts.items
-  counts : (q : ℕ) → HasPort start q → plus_events (drop k events) rest q (counts_at now q) ≡ plus_events events said q (counts_at start q)
+  pub ports : length now.counts.items ≡ length start.counts.items
+  pub counts : (q : ℕ) → HasPort start q → plus_events (drop k events) rest q (counts_at now q) ≡ plus_events events said q (counts_at start q)
 
 pub leads_first : (start : Table) (events : List Event) (said : List Bool) → LeadsOn start start events 0 said said
 leads_first start events said = record { ports = refl; counts = λ q h. refl }

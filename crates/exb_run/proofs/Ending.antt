@@ -10,20 +10,28 @@ use Rattle.exb_model.specs.Input.{Input, Mode, Eager, basis_of, tree_of, segment
 use Rattle.exb_model.specs.LegalHistory.{Legal}
 use Rattle.exb_model.specs.Texts.{capture_text, counts, journal_text}
 use Rattle.exb_model.specs.Traces.{TraceLine, trace_text}
-use Rattle.exb_model.specs.Tree.{Shape, IsTree, is_external}
+use Rattle.exb_model.specs.Tree.{Shape, IsTree, external_ports, is_external}
+use Rattle.exb_text.specs.declared.output.Output.{Output}
+use Rattle.exb_text.specs.declared.output.Output.TheVariants as output
+use Rattle.exb_counters.specs.declared.counters.Counts5.{Counts5}
+use Rattle.exb_counters.specs.Counters.{count_lines}
+use Rattle.exb_machine.specs.Runs.Passed.{passed_over}
+use Rattle.exb_wiring.specs.Counting.{CountsGoOn}
 use Rattle.exb_machine.specs.Telling.{all_told}
 use Rattle.exb_machine.specs.Worlds.{Left}
 use Rattle.exb_resting.specs.Motion.Playing.{IsTimely}
 use Rattle.exb_network.specs.Networks.{Network}
-use Rattle.exb_resting.specs.Rest.Playing.{HasWrittenIn, PlaysIn, RunsAreUnderWay, RunsWriteEagerly, RunsWriteLegally}
+use Rattle.exb_resting.specs.Rest.Playing.{HasWrittenIn, PlaysIn, RunsAreUnderWay, RunsSayPassed, RunsWriteEagerly, RunsWriteLegally}
 use Rattle.exb_schedule.specs.Playing.{HasPlayed}
 use Rattle.exb_resting.specs.Flight.Showing.{left_at}
 use Rattle.exb_tracing.specs.Runs.{RunsTellLegally}
 use Rattle.exb_run.specs.Outputs.{IsTraceOf, output_text}
-use Rattle.exb_run.specs.Plans.{Planned, port_count, port_at}
-use Rattle.exb_run.specs.Playing.{counts_so_far, text_so_far}
+use Rattle.exb_run.specs.Plans.{Planned, IsMade, kind_at, output_count}
+use Rattle.exb_run.specs.Playing.{counts_so_far, port_counts_so_far, text_so_far}
+use Rattle.exb_run.proofs.PortCounts.{counts_end}
+use Rattle.exb_run.proofs.Kinds.{kind_is}
 use Rattle.exb_run.proofs.Counting.{LeftExternal, counts-whole}
-use Rattle.exb_run.proofs.Places.{external_low, port_is}
+use Rattle.exb_run.proofs.Places.{external_low}
 
 module _ (m : Mode) (i : Input) (plan : Planned) (tree : plan.tree ≡ tree_of i) (is_tree : IsTree plan.tree) (timely : IsTimely i) (under_way : RunsAreUnderWay) (legally : RunsWriteLegally)
     (n : Network) (told : List Event) (passed : List Bool) (gone : List Left) (lines : List TraceLine) (played : HasPlayed m i (segments m i) n told passed gone lines) where
@@ -50,19 +58,17 @@ module _ (m : Mode) (i : Input) (plan : Planned) (tree : plan.tree ≡ tree_of i
   sent : (q : ℕ) → is_external (tree_of i) q ≡ true → left_at q gone ≡ flat (basis_of i) ([] then told) q
   sent q is = ap (left_at q) played.gone ∙ written.captures q is ∙ ap (λ (g : History). flat (basis_of i) g q) (sym same-history)
 
-  -- its texts
-  pub texts-whole : (j : ℕ) → text_so_far plan told gone lines j ≡ output_text i plan ([] then told) lines j
-  texts-whole j = by_place (nat_lt j (port_count plan)) refl
+  -- its texts, with the lines of these counts
+  pub texts-whole : (ports : ℕ → Counts5) → ((q : ℕ) → q < 4160 → is_external plan.tree q ≡ true → ports q ≡ port_counts_so_far told passed gone q) → CountsGoOn → RunsSayPassed →
+      (j : ℕ) → j < output_count plan → text_so_far told gone lines (count_lines ports (external_ports plan.tree)) (kind_at plan j) ≡ output_text i ([] then told) lines (kind_at plan j)
+  texts-whole ports are go_on says j low = by_kind (kind_at plan j) (kind_is plan j low).made
     where
-      rest : List ℕ
-      rest = if j == port_count plan then journal_text ([] then told) else trace_text lines
-
-      by_place : (b : Bool) → nat_lt j (port_count plan) ≡ b →
-          (if b then capture_text (left_at (port_at plan j) gone) else rest) ≡ (if b then capture_text (flat (basis_of i) ([] then told) (port_at plan j)) else rest)
-      by_place true e =
-          let inside : j < port_count plan = ltb-true j (port_count plan) e in
-          ap capture_text (sent (port_at plan j) (ap (λ (t : Shape). is_external t (port_at plan j)) (sym tree) ∙ (port_is plan j inside).passes))
-      by_place false e = refl
+      by_kind : (o : Output) → IsMade plan.options plan.tree o → text_so_far told gone lines (count_lines ports (external_ports plan.tree)) o ≡ output_text i ([] then told) lines o
+      by_kind (output.Capture q) made = ap capture_text (sent q (ap (λ (t : Shape). is_external t q) (sym tree) ∙ made))
+      by_kind output.Journal made = refl
+      by_kind output.Trace made = refl
+      by_kind output.Counters made =
+          counts_end (tree_of i) (basis_of i) told passed gone go_on (played.said ∙ says m i played.done timely played.plays ∙ ap (passed_over (basis_of i) []) (sym played.told)) sent plan.tree tree ports are
 
   own : All (LeftExternal (tree_of i)) gone
   own k d low =
