@@ -50,20 +50,20 @@ joined_back xs x = (
 )
 
 -- ---- the last wire
-some_same : {A : Type 0} {x y : A} → Some x ≡ Some y → x ≡ y
+pub some_same : {A : Type 0} {x y : A} → Some x ≡ Some y → x ≡ y
 some_same e = cc
 
-none_some : {A : Type 0} {x : A} → None ≡ Some x → ⊥
+pub none_some : {A : Type 0} {x : A} → None ≡ Some x → ⊥
 none_some e = cc
 
 -- it leads from an end to the other
 abbrev pub IsOn : End → End → ℕ → ℕ → End → Type 0
 IsOn x y b q e = (b ≡ x.bridge) × (q ≡ x.port) × (e ≡ y)
 
-at_is : (x : End) (b q : ℕ) → is_at x b q ≡ true → (x.bridge ≡ b) × (x.port ≡ q)
+pub at_is : (x : End) (b q : ℕ) → is_at x b q ≡ true → (x.bridge ≡ b) × (x.port ≡ q)
 at_is x b q e = (let k = and_parts (x.bridge == b) (x.port == q) e in (eqb-true x.bridge b k.0, eqb-true x.port q k.1))
 
-across_on : (x : Wire) (b q : ℕ) (e : End) → across x b q ≡ Some e → IsOn x.a x.b b q e ⊎ IsOn x.b x.a b q e
+pub across_on : (x : Wire) (b q : ℕ) (e : End) → across x b q ≡ Some e → IsOn x.a x.b b q e ⊎ IsOn x.b x.a b q e
 across_on x b q e k =
     elim (cases_Bool (is_at x.a b q)) [
       | inl z ↦ (let i = at_is x.a b q z in inl (sym i.0, sym i.1, sym (some_same (rw z at k))))

@@ -4,4 +4,5 @@ pub mod Order
 mod Back
 mod Forest
 mod Ending
+mod Soon
 mod Alone

@@ -9,7 +9,7 @@ module _ (n : Net) where
   empty hs = record { histories = hs; queue = [] }
 
   -- nothing more comes of an empty queue
-  stays : (k : ℕ) (hs : Histories) → delivered_times n k (empty hs) ≡ empty hs
+  pub stays : (k : ℕ) (hs : Histories) → delivered_times n k (empty hs) ≡ empty hs
   unfolding delivered_times
   stays zero hs = refl
   stays (suc k) hs = stays k hs

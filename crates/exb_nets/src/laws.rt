@@ -1,5 +1,5 @@
 //! What is true of nets.
-ghost use Rattle.exb_nets.specs.Ending.{QueuesEnd, NetsHaveHistories};
+ghost use Rattle.exb_nets.specs.Ending.{QueuesEnd, QueuesEndSoon, NetsHaveHistories};
 ghost use Rattle.exb_nets.specs.Laws.{HistoriesAreOne, DuesAreInOrder, NothingGoesBack, OneIsEager};
 
 /// A net has no more than one history by bridge.
@@ -20,6 +20,12 @@ pub fn nothing_goes_back()
 /// After some deliveries nothing is left of what one event of a valid net sent, since its wires have no loop.
 pub fn queues_end()
     ensures { QueuesEnd }
+{}
+
+/// That takes no more deliveries than there are wires, and meanwhile each port has one arrival at most: one wire leads down to each
+/// bridge, so it is reached once.
+pub fn queues_end_soon()
+    ensures { QueuesEndSoon }
 {}
 
 /// So a valid net has a history of each of its bridges.

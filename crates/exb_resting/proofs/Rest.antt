@@ -91,3 +91,8 @@ pub mod UnderWay
 -- how much was told and has left
 pub mod Counted
 pub mod Crossing
+pub mod Standing
+-- rounds are steps, whole
+pub mod Steady
+mod Whole
+pub mod WholeRounds

@@ -13,3 +13,5 @@ pub mod Going
 pub mod Settles
 pub mod Playing
 pub mod Crossing
+pub mod Standing
+pub mod Rounds

@@ -14,3 +14,5 @@ mod RoundsLeft
 mod Resting
 mod Played
 mod Standing
+mod Lasting
+mod Counting

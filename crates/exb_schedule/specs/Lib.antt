@@ -7,3 +7,4 @@ pub mod Drawing
 pub mod Segments
 pub mod Laws
 pub mod Standing
+pub mod Lasting

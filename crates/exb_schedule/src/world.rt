@@ -12,6 +12,7 @@ ghost use Rattle.exb_resting.specs.Motion.Kept.{HasVid};
 ghost use Rattle.exb_network.specs.Networks.{world_of, tree_of, bounds_of, step_of, IsQuiet, IsSame, IsStepped};
 ghost use Rattle.exb_network.specs.Steps.{way_of};
 ghost use Rattle.exb_resting.specs.Rest.Settles.{MayTake};
+ghost use Rattle.exb_schedule.specs.Reached.{IsReached};
 ghost use Rattle.exb_schedule.specs.Standing.{BeginsStanding, HasCleanLinks, StaysStanding, TellsByKind};
 ghost use Rattle.exb_schedule.specs.Worlds.{network_of};
 
@@ -221,6 +222,14 @@ impl World {
         ensures { result.now ≡ (network_of self.now).log.lines }
     {
         self.motion.trace()
+    }
+
+    /// That a run of a valid setup comes to this network, where memory hasn't run out, as a fact for whoever calls this: the laws of
+    /// this crate ask it. It does nothing.
+    pub fn is_reached(&self)
+        ensures { IsReached (network_of self.now) }
+    {
+        self.motion.is_reached();
     }
 
     /// Forgets what happened, and changes nothing else.

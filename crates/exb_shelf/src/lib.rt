@@ -6,6 +6,7 @@
 
 mod entries;
 mod files;
+mod known;
 mod memory;
 pub mod pieces;
 mod scratch;

@@ -35,12 +35,12 @@ are_held t w clean n x s there low found stamped =
     let its = subst (λ (fs : List Datum). Each (CleanUp t w.control.held (trunk t n)) fs) first.1 (clean.up n (link_there t n there)) in
     (record_of t w n x s low stamped its.0).1.held
 
-may_make : (t : Shape) (l : Limits) (steps : List Step) (w : World) → MayDoAll t l w steps → MayMakeAll t l w steps
+pub may_make : (t : Shape) (l : Limits) (steps : List Step) (w : World) → MayDoAll t l w steps → MayMakeAll t l w steps
 may_make t l [] w may = tt
 may_make t l (step ∷ steps) w may = (may.0.may, may_make t l steps (stepped t l step w).world may.1)
 
 module _ (round : TagRoundTrip) (words : SendsAreWords) (leave : SendsLeaveAsFlat) (law : StepsTell) (stay : StepsStayWritten) where
-  stays_ready : (t : Shape) (l : Limits) (i : Basis) (start : MayStart t l i) (steps : List Step) (w : World) → MayTakeAll t l w steps → IsRun t l i w → StaysReady t l w steps
+  pub stays_ready : (t : Shape) (l : Limits) (i : Basis) (start : MayStart t l i) (steps : List Step) (w : World) → MayTakeAll t l w steps → IsRun t l i w → StaysReady t l w steps
   stays_ready t l i start [] w may k = tt
   stays_ready t l i start (step ∷ steps) w may k = (
     record {

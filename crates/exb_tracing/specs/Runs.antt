@@ -1,18 +1,21 @@
 -- The traces of all runs of a valid setup, and of those that play an input.
-use Rattle.std.specs.Prelude.{List, [], All}
+use Rattle.std.specs.Prelude.{List, [], ◌++◌, All}
 use Rattle.exb_model.specs.declared.setup.Setup.{Setup}
-use Rattle.exb_model.specs.History.{◌then◌}
+use Rattle.exb_model.specs.History.{Basis, History, ◌then◌}
 use Rattle.exb_model.specs.Input.{Input, Mode, tree_of, segments}
 use Rattle.exb_model.specs.Setup.{IsValid, shape_of, limits_of}
 use Rattle.exb_machine.specs.Allowing.{IsSettled}
 use Rattle.exb_machine.specs.Settling.{run}
 use Rattle.exb_machine.specs.Stepping.{Stepped}
-use Rattle.exb_machine.specs.Worlds.{Step}
+use Rattle.exb_machine.specs.Worlds.{Step, Left}
+use Rattle.exb_model.specs.Traces.{TraceLine}
+use Rattle.exb_resting.specs.Motion.Given.{Given, arrivals_of}
 use Rattle.exb_resting.specs.Motion.Kept.{HasVid}
 use Rattle.exb_resting.specs.Motion.Playing.{IsTimely}
+use Rattle.exb_resting.specs.Motion.Stands.{Stands}
 use Rattle.exb_resting.specs.Rest.Playing.{PlaysIn}
-use Rattle.exb_resting.specs.Rest.Settles.{MayTakeAll, beginning}
-use Rattle.exb_tracing.specs.Laws.{given_in}
+use Rattle.exb_resting.specs.Rest.Settles.{MayTakeAll, beginning, reached_by}
+use Rattle.exb_tracing.specs.Laws.{given_in, told_after}
 use Rattle.exb_legal.specs.Inputs.{frames_in, frames_out}
 use Rattle.exb_legal.specs.LegalTrace.{LegalTrace}
 use Rattle.exb_machine.specs.Telling.{all_told}
@@ -42,3 +45,14 @@ RunsTellLegally =
     (m : Mode) (i : Input) (done : Stepped) → IsTimely i → PlaysIn m i (segments m i) done →
     let h = [] then done.events in
     LegalTrace (tree_of i) (journal_of h) (frames_in i) (frames_out i h) (all_told done.lines)
+
+-- ---- with any history
+-- Whatever was given, told and has left, and whatever trace was told: where a world that a run of a valid setup reaches stands with it and
+-- is tied to that trace, any steps keep it so, with the lines that they tell behind it.
+abbrev pub StandingStaysTraced : Type 0
+StandingStaysTraced =
+    (s : Setup) (before steps : List Step) → IsValid s → All HasVid s.start → MayTakeAll (shape_of s) (limits_of s) (beginning s) before → MayTakeAll (shape_of s) (limits_of s) (reached_by s before) steps →
+    (i : Basis) (g : List Given) (h : History) (left : List Left) (lines : List TraceLine) → Stands (shape_of s) (limits_of s) i (reached_by s before) g h left →
+    Traced (shape_of s) (reached_by s before) (arrivals_of g) h left lines →
+    let done = run (shape_of s) (limits_of s) steps (reached_by s before) in
+    Traced (shape_of s) done.world (arrivals_of g ++ given_in steps) (h then done.events) (left ++ done.left) (told_after lines done)

@@ -28,6 +28,17 @@ fn out_of_memory(rt: HostRuntime) -> ExitCode {
     }
 }
 
+// Status 0 stands only where all that was written has come to the disk: else 7, behind the summary.
+fn brought_to_disk(status: u8, shelf: &mut FileShelf, out: &mut OutSink) -> u8 {
+    if status != 0 || shelf.sync().is_ok() {
+        return status;
+    }
+    match print_text(out, b"exbr: write fault\n") {
+        Err(ShelfFault::Memory) => 1,
+        _ => 7,
+    }
+}
+
 fn main(rt: HostRuntime) -> ExitCode {
     let alloc = rt.alloc();
     let Ok(words) = words(alloc, &rt) else {
@@ -38,5 +49,6 @@ fn main(rt: HostRuntime) -> ExitCode {
     };
     let mut shelf = FileShelf::new(alloc, rt);
     let mut out = OutSink::new(rt);
-    ExitCode::from(run(alloc, &words, &mut shelf, &mut out, fate))
+    let status = run(alloc, &words, &mut shelf, &mut out, fate);
+    ExitCode::from(brought_to_disk(status, &mut shelf, &mut out))
 }

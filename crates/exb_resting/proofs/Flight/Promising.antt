@@ -5,7 +5,7 @@ use Rattle.exb_relay.specs.Laws.{SendsAreWords, SendsLeaveAsFlat}
 use Rattle.exb_model.specs.History.{◌then◌}
 use Rattle.exb_machine.specs.Worlds.{World, Up, Down, Arrive, Carry, Control, Lose, Beat, Tick, Order, Mark, first_world}
 use Rattle.exb_machine.specs.Settling.{run}
-use Rattle.exb_resting.specs.Flight.Promises.{WorldsPromise}
+use Rattle.exb_resting.specs.Flight.Promises.{RunsStand, WorldsPromise}
 use Rattle.exb_resting.proofs.Flight.Flying.{ticks_fly, marks_fly, losses_fly}
 use Rattle.exb_resting.proofs.Flight.Movings.{orders_fly}
 use Rattle.exb_resting.proofs.Flight.Beating.{beats_fly}
@@ -28,8 +28,11 @@ all_fly round words leave (Tick seconds) = ticks_fly seconds
 all_fly round words leave (Order c) = orders_fly round c
 all_fly round words leave Mark = marks_fly
 
+pub all_stand : TagRoundTrip → SendsAreWords → SendsLeaveAsFlat → RunsStand
+all_stand round words leave = runs_stand round words leave (all_fly round words leave)
+
 pub worlds_promise : TagRoundTrip → SendsAreWords → SendsLeaveAsFlat → WorldsPromise
 worlds_promise round words leave t l i steps setting few may fly =
     let w : World = first_world t l i.start i.ageing in
     stood_promises t l i setting (run t l steps w).world ([] then (run t l steps w).events) (run t l steps w).left
-    (runs_stand round words leave (all_fly round words leave) t l i setting w [] [] (begins_stood t l i setting few may) steps fly)
+    (all_stand round words leave t l i setting w [] [] (begins_stood t l i setting few may) steps fly)

@@ -141,7 +141,7 @@ step_stands round words leave fly t l i setting w h left stood step may =
       shows = flown.shows;
     }
 
-pub runs_stand : TagRoundTrip → SendsAreWords → SendsLeaveAsFlat → RunsStand
+pub runs_stand : TagRoundTrip → SendsAreWords → SendsLeaveAsFlat → StepsFly → RunsStand
 unfolding run
 runs_stand round words leave fly t l i setting w h left stood [] may = subst (Stood t l i w h) (sym (append-nil left)) stood
 runs_stand round words leave fly t l i setting w h left stood (step ∷ steps) may =

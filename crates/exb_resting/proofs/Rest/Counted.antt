@@ -112,7 +112,7 @@ few_sent b look (event.Up p) q = omega arith
 few_sent b look (event.NoUp p x) q = omega arith
 few_sent b look event.Settled q = omega arith
 
-few_flat : (i : Basis) (h : History) (q : ℕ) → length (flat i h q) ≤ length (filter_map place_of h)
+pub few_flat : (i : Basis) (h : History) (q : ℕ) → length (flat i h q) ≤ length (filter_map place_of h)
 unfolding flat
 few_flat i [] q = omega arith
 few_flat i (e ∷ h) q =
@@ -227,8 +227,8 @@ module _ (round : TagRoundTrip) (words : SendsAreWords) (leave : SendsLeaveAsFla
         ∙ (length-range_with_len 1 (length (commands_of (given_in (marked_each (k.first ∷ k.plays)))))
         ∙ ap (λ (cs : List Command). length cs) (commands round words leave law stay m i so_far done k)))
 
-    left_few : length done.left ≤ 4160 * length (arrivals_in so_far)
-    left_few =
+    left_each : (q : ℕ) → length (left_at q done.left) ≤ length (arrivals_in so_far)
+    left_each q =
         let t : Shape = tree_of i in
         let g : List Given = given_in (marked_each (k.first ∷ k.plays)) in
         let h : History = [] then done.events in
@@ -239,7 +239,6 @@ module _ (round : TagRoundTrip) (words : SendsAreWords) (leave : SendsLeaveAsFla
         let stands = kept_stands t (bounds_of i) (basis_of i.setup) begun done.world g h done.left end in
         let told : length (filter_map place_of h) ≡ length (arrivals_in so_far) =
         (let sum = told_then place_of done.events [] in let its = entered in omega (arith, sum, its)) in
-        let each : (q : ℕ) → length (left_at q done.left) ≤ length (arrivals_in so_far) = λ q.
         elim (cases_Bool (is_external t q)) [
           | inl ext ↦
               let even = ap (λ (xs : List Sent). length xs) (stands.even q ext) in
@@ -247,9 +246,15 @@ module _ (round : TagRoundTrip) (words : SendsAreWords) (leave : SendsLeaveAsFla
               let few = few_flat b h q in
               omega (arith, even, parts, few, told)
           | inr outer ↦ let none = ap (λ (xs : List Sent). length xs) (none_left t q outer done.left outside) in omega (arith, none)
-        ] in
+        ]
+
+    left_few : length done.left ≤ 4160 * length (arrivals_in so_far)
+    left_few =
+        let t : Shape = tree_of i in
+        let begun = start round words leave law stay m i so_far done k in
+        let outside = (passed round words leave law stay m i so_far done k).outside in
         let low : Each (λ (x : Left). x.port < 4160) done.left = all_low t begun.setting.tree done.left outside in
-        let most = at_ports 4160 (length (arrivals_in so_far)) done.left low each in
+        let most = at_ports 4160 (length (arrivals_in so_far)) done.left low left_each in
         let product = times_is 4160 (length (arrivals_in so_far)) in
         subst (λ (n : ℕ). length done.left ≤ n) product most
 
@@ -260,7 +265,7 @@ module _ (round : TagRoundTrip) (words : SendsAreWords) (leave : SendsLeaveAsFla
         let ds = c.decided in
         let e = entered in
         let d = decided in
-        record { entered = omega (arith, es, e); decided = omega (arith, ds, d); left = left_few }
+        record { entered = omega (arith, es, e); decided = omega (arith, ds, d); left = left_few; left_each = left_each }
 
   pub runs_are_few : RunsAreFew
   runs_are_few = few

@@ -19,7 +19,7 @@ use Rattle.exb_flight.specs.Words.{owed}
 use Rattle.exb_flight.specs.Facts.{CleanDown, CleanUp}
 use Rattle.exb_resting.specs.Flight.Tokens.{data_words}
 use Rattle.exb_resting.specs.Flight.Showing.{left_at, Stood}
-use Rattle.exb_resting.specs.Flight.Flying.{MayFlyAll, StepsFly}
+use Rattle.exb_resting.specs.Flight.Flying.{MayFlyAll}
 
 -- ---- what is owed
 -- what the downward data words will leave at port q: nothing at a port of the bridge
@@ -65,10 +65,10 @@ abbrev pub BeginsStood : Type 0
 BeginsStood =
     (t : Shape) (l : Limits) (i : Basis) → IsSetting t l → HasFewPorts t → MayBegin t l i.start → Stood t l i (first_world t l i.start i.ageing) [] []
 
--- Where each step flies it stands after any steps that may be made.
+-- It stands after any steps that may be made.
 abbrev pub RunsStand : Type 0
 RunsStand =
-    StepsFly → (t : Shape) (l : Limits) (i : Basis) → IsSetting t l → (w : World) (h : History) (left : List Left) → Stood t l i w h left →
+    (t : Shape) (l : Limits) (i : Basis) → IsSetting t l → (w : World) (h : History) (left : List Left) → Stood t l i w h left →
     (steps : List Step) → MayFlyAll t l i w steps →
     Stood t l i (run t l steps w).world (h then (run t l steps w).events) (left ++ (run t l steps w).left)
 

@@ -74,12 +74,13 @@ none_counted = record { relayed = 0; ignored = 0; left = 0; commits = 0; refusal
 abbrev pub counted_in : List Event → Counts
 counted_in events = fold (λ (c : Counts) (e : Event). counted e c) none_counted events
 
--- Each arrival was relayed or ignored, once; each command took effect or was refused, once; and of each arrival at most one
--- frame has left a port.
+-- Each arrival was relayed or ignored, once; each command took effect or was refused, once; a port has sent at most one frame
+-- for each arrival, so in all at most 4,160 for each have left.
 pub record AreFew (i : Input) (so_far : List Segment) (done : Stepped) : Type 0 where
   pub entered : (counted_in done.events).relayed + (counted_in done.events).ignored ≡ length (arrivals_in so_far)
   pub decided : (counted_in done.events).commits + (counted_in done.events).refusals ≡ length (flat_map (λ (s : Segment). filter_map (command_of (basis_of i)) s.commands) so_far)
   pub left : length done.left ≤ 4160 * length (arrivals_in so_far)
+  pub left_each : (q : ℕ) → length (left_at q done.left) ≤ length (arrivals_in so_far)
 
 abbrev pub RunsAreFew : Type 0
 RunsAreFew = (m : Mode) (i : Input) (so_far : List Segment) (done : Stepped) → PlaysIn m i so_far done → AreFew i so_far done

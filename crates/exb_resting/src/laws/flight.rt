@@ -74,7 +74,7 @@ pub fn begins_stood()
     ensures { BeginsStood }
 {}
 
-/// Where each step flies, the world stands after any steps that may be made.
+/// The world stands after any steps that may be made.
 pub fn runs_stand()
     ensures { RunsStand }
 {

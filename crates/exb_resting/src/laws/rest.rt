@@ -2,6 +2,8 @@
 ghost use Rattle.exb_resting.specs.Rest.Laws.{SetupsHaveFacts, SettlingEnds, RoundsSpend, RoundsPlanNothing, RoundsDeliver, WindowsGetOn, OrderKeepsFacts, TurnsAreOrderly, SetupsBeginGoing};
 ghost use Rattle.exb_resting.specs.Rest.Settles.{RunsAreReady, RunsStayLow, Settles, SettlingAlwaysPlays};
 ghost use Rattle.exb_resting.specs.Rest.Crossing.{LeavesMayCross, CommandsSendNothing, CrossingsMayArrive};
+ghost use Rattle.exb_resting.specs.Rest.Rounds.{AgeingStays, RoundsAreWhole};
+ghost use Rattle.exb_resting.specs.Rest.Standing.{EventsLast, PlaysStand, RunsLast};
 ghost use Rattle.exb_resting.specs.Rest.Playing.{RunsAreFew, RunsAreUnderWay, RunsSayPassed, RunsWriteLegally, RunsWriteEagerly, RunsWriteFronts};
 
 use crate::laws::motion::settled_is_orderly;
@@ -127,8 +129,8 @@ pub fn runs_are_under_way()
     steps_stay_written();
 }
 
-/// In such a run each arrival was relayed or ignored, once, each command took effect or was refused, once, and of each arrival at
-/// most one frame has left a port.
+/// In such a run each arrival was relayed or ignored, once, each command took effect or was refused, once, a port has sent at
+/// most one frame for each arrival.
 pub fn runs_are_few()
     ensures { RunsAreFew }
 {
@@ -218,3 +220,50 @@ pub fn commands_send_nothing()
 pub fn crossings_may_arrive()
     ensures { CrossingsMayArrive }
 {}
+
+/// No step changes the ageing time.
+pub fn ageing_stays()
+    ensures { AgeingStays }
+{}
+
+/// A round is made of moves and counts one beat, unless the number of beats is the last one. It goes through each direction: of the
+/// words that stood there control words alone are left, and behind them stands what was sent. Those and the words that were lost are
+/// at most as many as the verdicts other than Pass that it spent.
+pub fn rounds_are_whole()
+    ensures { RoundsAreWhole }
+{}
+
+/// From each world that a run of a valid setup reaches any steps leave it standing, with whatever it stood before them, with what they
+/// give, tell and make leave. They say which relayed frames passed, and what leaves are copies of what was given, at external ports.
+pub fn runs_last()
+    ensures { RunsLast }
+{
+    tag_round_trip();
+    sends_are_words();
+    sends_leave_as_flat();
+    steps_tell();
+    steps_stay_written();
+}
+
+/// And where it is settled, is given an arrival or a command and settles by moves, it tells just what becomes of that by its
+/// configuration, and just that leaves which the one bridge sends for it; with whatever it stood before.
+pub fn events_last()
+    ensures { EventsLast }
+{
+    tag_round_trip();
+    sends_are_words();
+    sends_leave_as_flat();
+    steps_tell();
+    steps_stay_written();
+}
+
+/// A run that has played the opening and some segments of an input stands with what they give, and its links are clean.
+pub fn plays_stand()
+    ensures { PlaysStand }
+{
+    tag_round_trip();
+    sends_are_words();
+    sends_leave_as_flat();
+    steps_tell();
+    steps_stay_written();
+}

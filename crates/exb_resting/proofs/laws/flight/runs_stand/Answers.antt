@@ -1,5 +1,5 @@
-use Rattle.exb_resting.proofs.Flight.Standing.{runs_stand}
+use Rattle.exb_resting.proofs.Flight.Promising.{all_stand}
 use Rattle.exb_resting.proofs.laws.flight.runs_stand.Goals as goal
 
 pub returns : goal.returns
-returns c = runs_stand c.tag_round_trip.ensures c.sends_are_words.ensures c.sends_leave_as_flat.ensures
+returns c = all_stand c.tag_round_trip.ensures c.sends_are_words.ensures c.sends_leave_as_flat.ensures
