@@ -194,6 +194,10 @@ cut_more plan f g text o more = cut_longer plan f g text (with_more text o more)
 pub cut_frames : (plan : Planned) (f g : Files) (text : Output → List ℕ) (left : List Left) → AreCut plan f g text → AreCut plan f g (with_left_frames text left)
 cut_frames plan f g text left = cut_longer plan f g text (with_left_frames text left) (λ k l. goes_frames text left (kind_at plan k))
 
+pub cut_spelled : (plan : Planned) (f g : Files) (text : Output → List ℕ) (o p : Output) (xs ys : List ℕ) → o ≡ p → xs ≡ ys → AreCut plan f g (with_more text o xs) → AreCut plan f g (with_more text p ys)
+cut_spelled plan f g text o p xs ys eo ex cut =
+    subst (λ (k : Output). AreCut plan f g (with_more text k ys)) eo (subst (λ (zs : List ℕ). AreCut plan f g (with_more text o zs)) ex cut)
+
 -- ---- in the middle of a list
 -- what is before, one more, and the rest
 cut_behind : (plan : Planned) (f g : Files) (text : Output → List ℕ) (o : Output) (before one rest whole : List ℕ) → (before ++ one) ++ rest ≡ whole

@@ -22,11 +22,16 @@ use Rattle.exb_run.proofs.OutputLemmas.{IsPlace, place_is, name_of_capture, name
 use Rattle.exb_run.proofs.Running.{name_by, named_by}
 
 -- ---- a topology
--- no output has a name that is apart
-apart_from : (plan : Planned) (name : List ℕ) → IsApart plan.tree plan.prefix name → (j : ℕ) → IsPlace plan j → name ≢ output_name plan j
-apart_from plan name apart j (inl inside) e = apart.captures j 0 inside (e ∙ name_of_capture plan j inside)
-apart_from plan name apart j (inr (inl is)) e = apart.journal (e ∙ name_of_journal plan j is)
-apart_from plan name apart j (inr (inr last)) e = apart.trace (e ∙ name_of_trace plan j last.1)
+-- all kinds of files are among those of which a name is apart
+among : {P : Output → Type 0} (t : Shape) (o : Options) → All P (all_outputs t) → (k : Output) → IsMade o t k → IsOfPort k → P k
+unfolding external_ports
+among {P} t o all (output.Capture q) made low =
+    let ports : List ℕ = filter (is_external t) (below 4160) in
+    let place : IsPlaced (is_external t) 4160 q 0 = is_placed (is_external t) 4160 q low made in
+    ?
+among {P} t o all output.Journal made low = behind t all 0 (omega arith)
+among {P} t o all output.Trace made low = behind t all 1 (omega arith)
+among {P} t o all output.Counters made low = behind t all 2 (omega arith)
 
 pub sound_captures : (tells : Type 0) (t : Topology) (plan : Planned) (file : Files) (captures : List Checked) → plan.tree ≡ shape_of t.setup → plan.prefix ≡ t.prefix → IsSound t
     → AreChecked tells t.captures file captures → CanBeRead tells plan t.captures file captures

@@ -249,6 +249,13 @@ more_behind plan f g pieces text o before one after is =
     kinds_same plan f g pieces (with_more (with_more text o before) o one) (with_more text o after)
     (λ k. with_more_twice text o before one k ∙ ap (λ (xs : List ℕ). with_more text o xs k) is)
 
+-- more of a kind, spelled in another way
+pub more_spelled : (plan : Planned) (f g : Files) (pieces : List (List ℕ)) (text : Output → List ℕ) (o p : Output) (xs ys : List ℕ)
+    → o ≡ p → xs ≡ ys → HasTexts plan pieces f g (with_more text o xs) → HasTexts plan pieces f g (with_more text p ys)
+more_spelled plan f g pieces text o p xs ys eo ex held =
+    subst (λ (k : Output). HasTexts plan pieces f g (with_more text k ys)) eo
+    (subst (λ (zs : List ℕ). HasTexts plan pieces f g (with_more text o zs)) ex held)
+
 -- the texts of one of a list more
 pub texts_more : {X : Type 0} (text : X → List ℕ) (xs : List X) (i : ℕ) (x : X) → i < length xs → x ≡ get_or xs i x
     → flat_map text (take i xs) ++ text x ≡ flat_map text (take (i + 1) xs)

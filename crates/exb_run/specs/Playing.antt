@@ -1,5 +1,5 @@
 -- A run under way: what was told and has left so far, what is written and counted of it, and what is still to come.
-use Rattle.std.specs.Prelude.{◌≡◌, ◌≤◌, ◌<◌, ◌+◌, ◌*◌, ◌^◌, ℕ, Bool, true, false, List, [], ◌∷◌, ◌++◌, Option, Some, None, length, map, filter_map, flat_map, fold, sum_by, All, AllPairs}
+use Rattle.std.specs.Prelude.{◌≡◌, ◌≤◌, ◌<◌, ◌+◌, ◌*◌, ◌^◌, ℕ, Bool, true, false, List, [], ◌∷◌, ◌++◌, Option, Some, None, IfSome, length, map, filter_map, flat_map, fold, sum_by, All, AllPairs}
 use Rattle.std.specs.List.{AllByRecursion}
 use Rattle.exb_model.specs.declared.event.Event.{Event}
 use Rattle.exb_model.specs.declared.setup.Setup.{Setup}
@@ -11,9 +11,10 @@ use Rattle.exb_model.specs.Input.{Input, Segment, Coming, Mode, Eager, Seeded, b
 use Rattle.exb_model.specs.Setup.{NamesExternal}
 use Rattle.exb_model.specs.Texts.{Counts, counted, with_left, capture_text, journal_text}
 use Rattle.exb_model.specs.Traces.{TraceLine, trace_text}
-use Rattle.exb_model.specs.Tree.{Shape, is_external}
+use Rattle.exb_model.specs.Tree.{Shape, external_ports, is_external}
 use Rattle.exb_machine.specs.Worlds.{Left}
 use Rattle.exb_resting.specs.Motion.Playing.{IsTimely}
+use Rattle.exb_network.specs.declared.log.Left.{Left as Leaving}
 use Rattle.exb_network.specs.Networks.{Network, IsQuiet}
 use Rattle.exb_network.specs.Worlds.{all_left}
 use Rattle.exb_resting.specs.Rest.Playing.{arrivals_in}
@@ -23,11 +24,11 @@ use Rattle.exb_shelf.specs.Files.{Files}
 use Rattle.exb_resting.specs.Flight.Showing.{left_at}
 use Rattle.exb_text.specs.declared.output.Output.{Output}
 use Rattle.exb_text.specs.declared.output.Output.TheVariants as output
-use Rattle.exb_text.specs.Tallies.{counts_of, nothing_counted}
+use Rattle.exb_text.specs.Tallies.{FitsTally, counts_of, nothing_counted}
 use Rattle.exb_counters.specs.declared.counters.Counters.{Counters}
 use Rattle.exb_counters.specs.declared.counters.Counts5.{Counts5}
-use Rattle.exb_counters.specs.Counters.{octets_of}
-use Rattle.exb_counters.specs.Counting.{HasPort, counts_at, nothing, plus_events}
+use Rattle.exb_counters.specs.Counters.{count_lines, octets_of}
+use Rattle.exb_counters.specs.Counting.{FitsCounts, HasPort, counts_at, drops_in, nothing, plus_events}
 use Rattle.exb_run.specs.declared.counted.Counted.{Counted}
 use Rattle.exb_run.specs.declared.outputs.Outputs.{Outputs}
 use Rattle.exb_run.specs.declared.script.Schedule.{Schedule}
@@ -74,10 +75,42 @@ AreCounted plan None told passed gone = plan.options.counters ≡ false
 AreCounted plan (Some c) told passed gone =
     (plan.options.counters ≡ true) × ((q : ℕ) → q < 4160 → is_external plan.tree q ≡ true → HasPort c q) × ((q : ℕ) → HasPort c q → counts_at c q ≡ port_counts_so_far told passed gone q)
 
+-- there are counts by port exactly where they are asked for, and of each external port
+abbrev pub AreCountsOf : Planned → Option Counters → Type 0
+AreCountsOf plan None = plan.options.counters ≡ false
+AreCountsOf plan (Some c) = (plan.options.counters ≡ true) × ((q : ℕ) → q < 4160 → is_external plan.tree q ≡ true → HasPort c q)
+
+-- the text of the counters
+abbrev pub counts_text : Planned → Option Counters → List ℕ
+counts_text plan None = []
+counts_text plan (Some c) = count_lines (counts_at c) (external_ports plan.tree)
+
 -- what is counted is what was told and has left
 pub record IsCounted (plan : Planned) (c : Counted) (told : List Event) (passed : List Bool) (gone : List Left) : Type 0 where
   pub tally : counts_of c.tally ≡ counts_so_far told gone
   pub ports : AreCounted plan c.ports told passed gone
+
+-- what was said of Relays goes with what was told: the drops of more are those of what comes more
+abbrev pub GoTogether : List Event → List Bool → Type 0
+GoTogether told passed = (more : List Event) (said : List Bool) (q : ℕ) → drops_in (told ++ more) (passed ++ said) q ≡ drops_in told passed q + drops_in more said q
+
+-- events and frames more can be counted
+abbrev pub CanCountAt : List Event → List Bool → List Leaving → Counters → Type 0
+CanCountAt events passed left c =
+    All (λ (x : Leaving). HasPort c x.port) left
+    × ((q : ℕ) → HasPort c q → FitsCounts (with_frames (left_at q (all_left left)) (plus_events events passed q (counts_at c q))))
+
+pub record CanCount (c : Counted) (events : List Event) (passed : List Bool) (left : List Leaving) : Type 0 where
+  pub tally : FitsTally (with_left (length left) (fold (λ k e. counted e k) (counts_of c.tally) events))
+  pub ports : IfSome c.ports (CanCountAt events passed left)
+
+-- and they are
+abbrev pub CountsOn : Option Counters → Option Counters → List Event → List Bool → List Leaving → Type 0
+CountsOn None None events passed left = Unit {0}
+CountsOn (Some c) (Some d) events passed left =
+    (length d.counts.items ≡ length c.counts.items)
+    × ((q : ℕ) → HasPort c q → counts_at d q ≡ with_frames (left_at q (all_left left)) (plus_events events passed q (counts_at c q)))
+CountsOn _ _ events passed left = ⊥
 
 -- an input, and the files before its run
 pub record Run : Type 0 where

@@ -14,7 +14,7 @@ use std::alloc::{AllocError, Global};
 
 /// The words that are accepted.
 const USAGE: &str =
-    "exbr: usage: exbr run TOPOLOGY [--trace] [--seed N] | exbr check TOPOLOGY | exbr make N\n";
+    "exbr: usage: exbr run TOPOLOGY [--trace] [--counters] [--seed N] | exbr check TOPOLOGY | exbr make N\n";
 
 /// The fault of a capture, and its place.
 fn broken_text(alloc: Global, fault: PcapFault) -> Result<String, AllocError>
