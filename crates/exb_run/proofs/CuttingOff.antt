@@ -35,7 +35,7 @@ use Rattle.exb_run.specs.Playing.{IsCutOff, IsTold, Run, text_so_far}
 use Rattle.exb_run.specs.Writing.{AreCut, HasTexts, first_text, lines_of, pieces_of, with_more}
 use Rattle.exb_run.proofs.Cutting.{GoesOnAs, cut_longer, cut_now, cut_same, cut_whole, longer}
 use Rattle.exb_run.proofs.Filling.{weaker}
-use Rattle.exb_run.proofs.Kinds.{kind_is}
+use Rattle.exb_run.proofs.ByKind.{kind_is}
 use Rattle.exb_run.proofs.Telling.{counts_written, text-more, texts-with}
 use Rattle.exb_run.proofs.Texts.{capture_text-append, capture_text-nil, journal_text-then}
 

@@ -29,7 +29,7 @@ use Rattle.exb_run.specs.Outputs.{IsTraceOf, output_text}
 use Rattle.exb_run.specs.Plans.{Planned, IsMade, kind_at, output_count}
 use Rattle.exb_run.specs.Playing.{AreCounted, counts_so_far, counts_text, text_so_far}
 use Rattle.exb_run.proofs.PortCounts.{counts_end}
-use Rattle.exb_run.proofs.Kinds.{kind_is}
+use Rattle.exb_run.proofs.ByKind.{kind_is}
 use Rattle.exb_run.proofs.Counting.{LeftExternal, counts-whole}
 use Rattle.exb_run.proofs.Places.{external_low}
 

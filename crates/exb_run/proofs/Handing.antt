@@ -21,7 +21,7 @@ use Rattle.exb_run.specs.Checks.{AreChecked, CanBeRead}
 use Rattle.exb_run.specs.Outputs.{output_name}
 use Rattle.exb_run.specs.Plans.{Planned, IsMade, kind_at, output_count, place_in}
 use Rattle.exb_run.specs.Playing.{IsScript}
-use Rattle.exb_run.proofs.Kinds.{kind_is}
+use Rattle.exb_run.proofs.ByKind.{kind_is}
 use Rattle.exb_run.proofs.Places.{place_low, port_of_place}
 use Rattle.exb_run.proofs.Running.{name_by, named_by}
 

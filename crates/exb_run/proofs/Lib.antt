@@ -14,7 +14,7 @@ pub mod Ending
 pub mod Beginning
 pub mod Reopening
 pub mod Filling
-pub mod Kinds
+pub mod ByKind
 pub mod OutputLemmas
 pub mod PortCounts
 pub mod Cutting

@@ -18,7 +18,7 @@ use Rattle.exb_run.specs.Shelving.{IsOfPlay, IsOfRun, WritesPlanned}
 use Rattle.exb_run.specs.Answers.{HoldsTopology, status_of}
 use Rattle.exb_run.specs.Reading.{IsOfCapture, IsOfPlaying}
 use Rattle.exb_run.specs.Opening.{IsOutput, ReadsCapture, WritesOutput, IsOpenedFor, OpensBy}
-use Rattle.exb_run.proofs.Kinds.{kind_is}
+use Rattle.exb_run.proofs.ByKind.{kind_is}
 use Rattle.exb_run.proofs.Reporting.{early_end, opens_on}
 use Rattle.exb_run.proofs.Running.{Outcome}
 

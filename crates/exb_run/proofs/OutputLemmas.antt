@@ -22,7 +22,7 @@ use Rattle.exb_run.specs.Plans.{Planned, IsMade, kind_at, output_count}
 use Rattle.exb_run.specs.Outputs.{output_name}
 use Rattle.exb_run.specs.Writing.{Holds, HasTexts, is_same, with_more, lines_of, with_left_frames}
 use Rattle.exb_run.proofs.Filling.{weaker, still_filled, one_more}
-use Rattle.exb_run.proofs.Kinds.{kind_is, kinds_differ, other_kind, same_itself}
+use Rattle.exb_run.proofs.ByKind.{kind_is, kinds_differ, other_kind, same_itself}
 
 -- what left a port
 abbrev pub sent_at : List Left → ℕ → List Sent

@@ -20,7 +20,7 @@ use Rattle.exb_run.specs.declared.fault.Fault.{Fault}
 use Rattle.exb_run.specs.Plans.{Planned, IsMade, kind_at, output_count, place_of}
 use Rattle.exb_run.specs.Inputs.{is_named, name_of}
 use Rattle.exb_run.specs.Outputs.{AreCutEagerly, AreFrontsOf, GrowsEagerly, IsCut, OnlyOutputs, OnlyPlanned, IsPlayed, HasPlayed, output_name, output_text}
-use Rattle.exb_run.proofs.Kinds.{kind_is, placed}
+use Rattle.exb_run.proofs.ByKind.{kind_is, placed}
 use Rattle.exb_run.proofs.Places.{external_low}
 
 pub files_same : (f g : Files) → SameFiles f g → g ≡ f

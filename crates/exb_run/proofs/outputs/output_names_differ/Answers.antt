@@ -1,4 +1,4 @@
-use Rattle.exb_run.proofs.Kinds.{names_apart}
+use Rattle.exb_run.proofs.ByKind.{names_apart}
 use Rattle.exb_run.proofs.outputs.output_names_differ.Goals as goal
 
 pub returns : goal.returns

@@ -4,7 +4,7 @@ use Rattle.exb_model.specs.Traces.{trace_line}
 use Rattle.exb_text.specs.declared.output.Output.TheVariants as output
 use Rattle.exb_run.specs.Plans.{kind_at}
 use Rattle.exb_run.specs.Writing.{pieces_of}
-use Rattle.exb_run.proofs.Kinds.{placed}
+use Rattle.exb_run.proofs.ByKind.{placed}
 use Rattle.exb_run.proofs.OutputLemmas.{more_spelled}
 use Rattle.exb_run.proofs.Cutting.{cut_more, cut_now, cut_spelled}
 use Rattle.exb_run.proofs.outputs.Outputs.add_line.Goals as goal
