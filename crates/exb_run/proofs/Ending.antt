@@ -63,7 +63,7 @@ module _ (m : Mode) (i : Input) (plan : Planned) (tree : plan.tree ≡ tree_of i
   counters-whole None are go_on says asked = absurd (false≢true (sym are ∙ asked))
   counters-whole (Some c) are go_on says asked =
       counts_end (tree_of i) (basis_of i) told passed gone go_on (played.said ∙ says m i played.done timely played.plays ∙ ap (passed_over (basis_of i) []) (sym played.told)) sent plan.tree tree (counts_at c)
-      (λ q low out. are.1.1 q (are.1.0 q low out))
+      (λ q low out. are.2 q (are.1 q low out))
 
   -- its texts
   pub texts-whole : (ports : Option Counters) → AreCounted plan ports told passed gone → CountsGoOn → RunsSayPassed →

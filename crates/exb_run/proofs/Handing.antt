@@ -42,8 +42,8 @@ of_kind : (plan : Planned) (P : Output → Type 0) → All P (all_outputs plan.t
 of_kind plan P all (output.Capture q) made low =
     subst (λ (k : ℕ). P (output.Capture k)) (port_of_place plan q low made) ((by_kinds P (external_ports plan.tree) all).0 (place_in plan.tree q) 0 (place_low plan q low made))
 of_kind plan P all output.Journal made low = (by_kinds P (external_ports plan.tree) all).1.0
-of_kind plan P all output.Trace made low = (by_kinds P (external_ports plan.tree) all).1.1.0
-of_kind plan P all output.Counters made low = (by_kinds P (external_ports plan.tree) all).1.1.1
+of_kind plan P all output.Trace made low = (by_kinds P (external_ports plan.tree) all).1.1
+of_kind plan P all output.Counters made low = (by_kinds P (external_ports plan.tree) all).1.2
 
 apart_from : (plan : Planned) (name : List ℕ) → IsApart plan.tree plan.prefix name → (j : ℕ) → j < output_count plan → name ≢ output_name plan j
 apart_from plan name apart j low =

@@ -46,7 +46,7 @@ fives c d r p g l o = λ i. record { relayed = r i; dropped = p i; ignored = g i
 -- ---- what was said goes with what was told
 pub none_together : GoTogether [] []
 unfolding drops_in
-none_together more said q = refl
+none_together more said q = omega arith
 
 one_together : (b : Bridge) (e : Event) (es : List Event) (bs : List Bool) → GoTogether es bs → GoTogether (e ∷ es) (passed_by b e ++ bs)
 unfolding drops_in
@@ -184,11 +184,7 @@ module _ (start now : Counters) (left : List Left) (k : ℕ) (x : Left) (low : k
       let back : HasPort start x.port = (let same = lead.ports in omega (arith, same, h)) in
       let whole = subst FitsCounts (sym (lead.counts x.port back) ∙ after_frame x.port) (fits x.port back) in
       let own = fits_frames (left_at x.port (all_left (drop (k + 1) left))) (if x.port == x.port then with_left (length x.bytes) (counts_at now x.port) else counts_at now x.port) whole in
-      subst (λ (b : Bool). FitsCounts (if b then with_left (length x.bytes) (counts_at now x.port) else counts_at now x.port)) (itself x.port) own
-    where
-      itself : (n : ℕ) → (n == n) ≡ true
-      itself zero = refl
-      itself (suc n) = itself n
+      subst (λ (b : Bool). FitsCounts (if b then with_left (length x.bytes) (counts_at now x.port) else counts_at now x.port)) (eq-eqb x.port x.port refl) own
 
 pub frames_last : (start now : Counters) (left : List Left) (k : ℕ) → length left ≤ k → FramesLead start now left k → (q : ℕ) → HasPort start q → counts_at now q ≡ with_frames (left_at q (all_left left)) (counts_at start q)
 frames_last start now left k end lead q h =
@@ -243,14 +239,12 @@ drops_few (event.Settled ∷ es) said q = (let rest = drops_few es said q in let
 -- each frame is short, and so are those of a port together
 octets_few : (q : ℕ) (xs : List Leaving) → ((k : ℕ) (d : Leaving) → k < length xs → length (get_or xs k d).bytes ≤ 9220) → octets_of (left_at q xs) ≤ 9220 * length (left_at q xs)
 octets_few q [] short = omega arith
-octets_few q (x ∷ xs) short = by_port (x.port == q)
+octets_few q (x ∷ xs) short = by_port (x.port == q) (octets_few q xs (λ k d low. short (suc k) d (omega (arith, low))))
   where
-    rest : octets_of (left_at q xs) ≤ 9220 * length (left_at q xs)
-    rest = octets_few q xs (λ k d low. short (suc k) d (omega (arith, low)))
-
-    by_port : (b : Bool) → octets_of (if b then (x.moment, x.bytes) ∷ left_at q xs else left_at q xs) ≤ 9220 * length (if b then (x.moment, x.bytes) ∷ left_at q xs else left_at q xs)
-    by_port true = (let s = sum_by-cons (λ (y : Sent). length y.1) (x.moment, x.bytes) (left_at q xs) in let own = short 0 x (omega arith) in let r = rest in omega (arith, s, own, r))
-    by_port false = rest
+    by_port : (b : Bool) → octets_of (left_at q xs) ≤ 9220 * length (left_at q xs) →
+        octets_of (if b then (x.moment, x.bytes) ∷ left_at q xs else left_at q xs) ≤ 9220 * length (if b then (x.moment, x.bytes) ∷ left_at q xs else left_at q xs)
+    by_port true r = (let s = sum_by-cons (λ (y : Sent). length y.1) (x.moment, x.bytes) (left_at q xs) in let own = short 0 x (omega arith) in omega (arith, s, own, r))
+    by_port false r = r
 
 -- ---- at the end
 module _ (t : Shape) (b : Basis) (told : List Event) (passed : List Bool) (gone : List Leaving) (law : CountsGoOn) (said : passed ≡ passed_over b [] told)
@@ -318,10 +312,10 @@ ports-can : (plan : Planned) (ports : Option Counters) (told more : List Event) 
     All (λ (x : Left). CanBeWritten plan x) xs → ((q : ℕ) → FitsCounts (port_counts_so_far (told ++ more) (passed ++ said) (gone ++ all_left xs) q)) → IfSome ports (CanCountAt more said xs)
 ports-can plan None told more passed said gone xs are together frames fits = tt
 ports-can plan (Some c) told more passed said gone xs are together frames fits = (
-  λ k d low. are.1.0 (get_or xs k d).port (frames k d low).low (frames k d low).port,
+  λ k d low. are.1 (get_or xs k d).port (frames k d low).low (frames k d low).port,
   λ q there.
       subst FitsCounts
-      (sym (ap (λ (z : Counts5). with_frames (left_at q (all_left xs)) (plus_events more said q z)) (are.1.1 q there) ∙ port_more told more passed said gone (all_left xs) q together))
+      (sym (ap (λ (z : Counts5). with_frames (left_at q (all_left xs)) (plus_events more said q z)) (are.2 q there) ∙ port_more told more passed said gone (all_left xs) q together))
       (fits q),
 )
 
@@ -341,10 +335,10 @@ ports-on plan (Some c) None told more passed said gone xs on together are = absu
 ports-on plan (Some c) (Some d) told more passed said gone xs on together are =
     let same = on.0 in (
       are.0,
-      (λ q low out. (let h = are.1.0 q low out in omega (arith, h, same))),
+      (λ q low out. (let h = are.1 q low out in omega (arith, h, same))),
       (λ q there.
       let was : HasPort c q = omega (arith, there, same) in
-      on.1 q was ∙ ap (λ (z : Counts5). with_frames (left_at q (all_left xs)) (plus_events more said q z)) (are.1.1 q was) ∙ port_more told more passed said gone (all_left xs) q together),
+      on.1 q was ∙ ap (λ (z : Counts5). with_frames (left_at q (all_left xs)) (plus_events more said q z)) (are.2 q was) ∙ port_more told more passed said gone (all_left xs) q together),
     )
 
 pub counted-on : (plan : Planned) (c d : Counted) (told more : List Event) (passed said : List Bool) (gone : List Leaving) (xs : List Left) →

@@ -4,4 +4,4 @@ use Rattle.exb_run.proofs.Counting.{count_events}
 use Rattle.exb_run.proofs.counted.count_all.Given as goal
 
 abbrev pub invariant-loop-event : goal.invariant-loop-event
-invariant-loop-event l = counts_of l.tally ≡ count_events l.fn.counted (take l.event-index l.events)
+invariant-loop-event l = counts_of l.tally ≡ count_events (counts_of l.fn.tally) (take l.event-index l.events)

@@ -1,6 +1,8 @@
-use Rattle.std.proofs.Common.{rules, ◌<◌, take, length, arith}
+use Rattle.std.proofs.Common.{rules, ◌<◌, take, length, arith, ◌≤◌, List, subst}
+use Rattle.std.proofs.lemmas.List.{take_all}
 use Rattle.std.proofs.lemmas.Result.{err_from_is_err_and}
-use Rattle.exb_run.specs.Writing.{pieces_of, with_left_frames}
+use Rattle.exb_network.specs.declared.log.Left.{Left}
+use Rattle.exb_run.specs.Writing.{HasTexts, pieces_of, with_left_frames}
 use Rattle.exb_run.proofs.OutputLemmas.{no_frames, more_frames}
 use Rattle.exb_run.proofs.ShelvingLemmas.{writes_none, writes_then}
 use Rattle.exb_run.proofs.Cutting.{cut_left}
@@ -44,3 +46,10 @@ returns-in_err-add_left-clause-cut g c = λ t.
     let left = c.args.left.now in
     cut_left c.args.plan.now orig (g.S.Shelf.file c.add_left.new.shelf) text left c.loop-frame.frame-index c.frame-item.result (omega arith) c.frame-item.is
     (c.in_err-add_left.ensures.cut t orig (with_left_frames text (take c.loop-frame.frame-index left)) (before.texts t orig text p)))
+
+pub returns-clause-texts : goal.returns-clause-texts
+returns-clause-texts g c = λ t orig text p.
+    let all : List Left = c.args.left.now in
+    let end : length all ≤ c.loop-frame.frame-index = omega arith in
+    subst (λ (xs : List Left). HasTexts c.args.plan.now (pieces_of c.loop-frame.self) orig (g.S.Shelf.file c.loop-frame.shelf) (with_left_frames text xs))
+    (take_all c.loop-frame.frame-index all end) (c.loop-frame.invariant.texts t orig text p)
