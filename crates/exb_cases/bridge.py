@@ -237,6 +237,7 @@ class Bridge:
         self.captures = {number_of(port): name for port, name in topology.get("captures", {}).items()}
         self.journal, self.left = [], {port: [] for port in self.tree.external}
         self.counts = dict.fromkeys(("relayed", "ignored", "commits", "refusals"), 0)
+        self.counters = {port: dict.fromkeys(("relayed", "dropped", "ignored"), 0) for port in self.tree.external}
 
     def vlan(self, port, frame):
         """The VLAN in which a frame passes at a port, or None."""
@@ -257,6 +258,7 @@ class Bridge:
     def relay(self, port, moment, frame):
         vid = self.vlan(port, frame)
         if vid is None:
+            self.counters[port]["dropped"] += 1
             return
         for target, kind in targets(self.now, port, vid, self.chosen(vid, frame[:6])):
             self.left[target].append((moment, egress(frame, kind, vid)))
@@ -266,9 +268,11 @@ class Bridge:
     def arrive(self, port, index, moment, frame):
         if port not in self.now.present or kind_of(frame)[0] in ("short", "long", "reserved"):
             self.counts["ignored"] += 1
+            self.counters[port]["ignored"] += 1
             self.journal.append(f"ignore {name_of(port)} {index}")
             return
         self.counts["relayed"] += 1
+        self.counters[port]["relayed"] += 1
         self.journal.append(f"relay {name_of(port)} {index}")
         self.relay(port, moment, frame)
 
@@ -336,6 +340,16 @@ class Bridge:
                 self.clock += int(words[0]) if kind == "tick" else 0
                 self.journal.append(line)
 
+    def counted(self):
+        """A line for each external port: what came in there, what of it a rule refused, what was ignored, and what left."""
+        lines = []
+        for port in self.tree.external:
+            came, left = self.counters[port], self.left[port]
+            octets = sum(len(frame) for _, frame in left)
+            lines.append(f"{name_of(port)} relayed {came['relayed']} dropped {came['dropped']} ignored {came['ignored']} "
+                         f"left {len(left)} octets {octets}\n")
+        return "".join(lines)
+
     def summary(self):
         arrivals, left = self.counts["relayed"] + self.counts["ignored"], sum(map(len, self.left.values()))
         return (f"arrivals {arrivals} relayed {self.counts['relayed']} ignored {self.counts['ignored']} left {left} "
@@ -368,4 +382,5 @@ def run(text, files, journal=None):
     prefix = bridge.bridge.get("out", "out-")
     written = {f"{prefix}{name_of(port)}.pcap": capture_of(left) for port, left in bridge.left.items()}
     written[f"{prefix}journal.txt"] = "".join(f"{line}\n" for line in bridge.journal).encode()
+    written[f"{prefix}counters.txt"] = bridge.counted().encode()
     return written, bridge.summary()

@@ -102,7 +102,9 @@ def lossy_links():
 
 MADE = {"first-path": first_path, "office": office, "campus": campus, "private-hosts": private_hosts, "static-group": static_group,
         "too-few-groups": too_few_groups, "lossy-links": lossy_links}
-OPTIONS = {"lossy-links": "--trace"}
+OPTIONS = {"lossy-links": "--trace", "office": "--counters"}
+# what came in at the external ports of an example and was relayed, refused by a rule and ignored, and the frames and bytes that left
+COUNTS = {"office": {"b1": (2, 0, 0, 2, 128), "x1.1": (2, 1, 0, 3, 180), "x1.2": (1, 0, 0, 2, 120), "x1.3": (1, 0, 0, 0, 0), "x1.4": (0, 0, 1, 1, 60)}}
 
 
 def write(folder, name, data):
@@ -129,9 +131,17 @@ def make():
             write(os.path.join(EXAMPLES, name, "expected"), f"out-{port}.pcap", capture(*left.get(port, [])))
         write(os.path.join(EXAMPLES, name, "expected"), "out-journal.txt", journal(*lines))
         printed[name] = line
-        if name in OPTIONS:
+        if "--trace" in OPTIONS.get(name, ""):
             write(os.path.join(EXAMPLES, name, "expected"), "out-trace.txt", trace_of(name, given))
+        if name in COUNTS:
+            write(os.path.join(EXAMPLES, name, "expected"), "out-counters.txt", counters(COUNTS[name]))
     return printed
+
+
+def counters(counts):
+    """The text of counters."""
+    words = ("relayed", "dropped", "ignored", "left", "octets")
+    return "".join(f"{port} {' '.join(f'{word} {it}' for word, it in zip(words, its))}\n" for port, its in counts.items()).encode()
 
 
 def trace_of(name, given):

@@ -13,7 +13,7 @@ use std::alloc::{AllocError, Global};
 
 /// The words that are accepted.
 const USAGE: &str =
-    "exbr: usage: exbr run TOPOLOGY [--trace] [--seed N] | exbr check TOPOLOGY | exbr make N\n";
+    "exbr: usage: exbr run TOPOLOGY [--trace] [--counters] [--seed N] | exbr check TOPOLOGY | exbr make N\n";
 
 /// The name of what is wrong with a capture.
 fn flaw_name(flaw: exb_capture::Flaw) -> &'static str

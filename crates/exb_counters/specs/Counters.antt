@@ -8,14 +8,7 @@ use Rattle.exb_model.specs.History.{Basis, History, bridge_after}
 use Rattle.exb_model.specs.Learning.{passes}
 use Rattle.exb_model.specs.Texts.{port_name}
 use Rattle.exb_model.specs.Tree.{Shape, external_ports}
-
--- of port q: its Relays, those of them that pass nowhere, its Ignored, and the frames that left it with their total length
-pub record PortCounts : Type 0 where
-  pub relayed : ℕ
-  pub dropped : ℕ
-  pub ignored : ℕ
-  pub left : ℕ
-  pub octets : ℕ
+use Rattle.exb_counters.specs.declared.counters.Counts5.{Counts5}
 
 -- ---- what an event adds
 -- a Relay of port q
@@ -50,7 +43,8 @@ ignored_at (e ∷ h) q = ignored_at h q + ignored_by e q
 abbrev pub octets_of : List Sent → ℕ
 octets_of xs = sum_by (λ (x : Sent). length x.1) xs
 
-abbrev pub port_counts : Basis → History → ℕ → PortCounts
+-- of port q: its Relays, those of them that pass nowhere, its Ignored, and the frames that left it with their total length
+abbrev pub port_counts : Basis → History → ℕ → Counts5
 port_counts i h q =
     record {
       relayed = relayed_at h q;
@@ -62,13 +56,13 @@ port_counts i h q =
 
 -- ---- the text
 -- PORT relayed R dropped D ignored I left L octets O, with its newline
-unfoldable pub count_line : ℕ → PortCounts → List ℕ
+unfoldable pub count_line : ℕ → Counts5 → List ℕ
 count_line q c =
     port_name q ++ (codes " relayed " ++ decimal c.relayed ++ codes " dropped " ++ decimal c.dropped ++ codes " ignored " ++ decimal c.ignored
     ++ codes " left " ++ decimal c.left ++ codes " octets " ++ decimal c.octets ++ 10 ∷ [])
 
 -- a line for each of these ports
-abbrev pub count_lines : (ℕ → PortCounts) → List ℕ → List ℕ
+abbrev pub count_lines : (ℕ → Counts5) → List ℕ → List ℕ
 count_lines counts qs = flat_map (λ q. count_line q (counts q)) qs
 
 -- CountText(H): each external port in port order

@@ -2,7 +2,7 @@ use Rattle.std.proofs.Common.{◌+◌, ap, sym, subst, ◌∙◌}
 use Rattle.exb_model.specs.Texts.{counted}
 use Rattle.exb_text.specs.Tallies.{FitsTally, counts_of}
 use Rattle.exb_run.proofs.Tallying.{counted_next, fits-so-far}
-use Rattle.exb_run.proofs.game.count_all.Goals as goal
+use Rattle.exb_run.proofs.counted.count_all.Goals as goal
 
 pub loop-event-preserved : goal.loop-event-preserved
 loop-event-preserved c =
