@@ -7,6 +7,8 @@ stands above one, and in which order extenders are opened. A topology is the tex
 import struct
 import tomllib
 
+import captured
+
 SECOND = 1_000_000_000
 RESERVED = bytes.fromhex("0180C20000")
 NOBODY = {"tagged": frozenset(), "untagged": frozenset()}
@@ -235,6 +237,7 @@ class Bridge:
         self.captures = {number_of(port): name for port, name in topology.get("captures", {}).items()}
         self.journal, self.left = [], {port: [] for port in self.tree.external}
         self.counts = dict.fromkeys(("relayed", "ignored", "commits", "refusals"), 0)
+        self.counters = {port: dict.fromkeys(("relayed", "dropped", "ignored"), 0) for port in self.tree.external}
 
     def vlan(self, port, frame):
         """The VLAN in which a frame passes at a port, or None."""
@@ -255,6 +258,7 @@ class Bridge:
     def relay(self, port, moment, frame):
         vid = self.vlan(port, frame)
         if vid is None:
+            self.counters[port]["dropped"] += 1
             return
         for target, kind in targets(self.now, port, vid, self.chosen(vid, frame[:6])):
             self.left[target].append((moment, egress(frame, kind, vid)))
@@ -264,9 +268,11 @@ class Bridge:
     def arrive(self, port, index, moment, frame):
         if port not in self.now.present or kind_of(frame)[0] in ("short", "long", "reserved"):
             self.counts["ignored"] += 1
+            self.counters[port]["ignored"] += 1
             self.journal.append(f"ignore {name_of(port)} {index}")
             return
         self.counts["relayed"] += 1
+        self.counters[port]["relayed"] += 1
         self.journal.append(f"relay {name_of(port)} {index}")
         self.relay(port, moment, frame)
 
@@ -334,6 +340,16 @@ class Bridge:
                 self.clock += int(words[0]) if kind == "tick" else 0
                 self.journal.append(line)
 
+    def counted(self):
+        """A line for each external port: what came in there, what of it a rule refused, what was ignored, and what left."""
+        lines = []
+        for port in self.tree.external:
+            came, left = self.counters[port], self.left[port]
+            octets = sum(len(frame) for _, frame in left)
+            lines.append(f"{name_of(port)} relayed {came['relayed']} dropped {came['dropped']} ignored {came['ignored']} "
+                         f"left {len(left)} octets {octets}\n")
+        return "".join(lines)
+
     def summary(self):
         arrivals, left = self.counts["relayed"] + self.counts["ignored"], sum(map(len, self.left.values()))
         return (f"arrivals {arrivals} relayed {self.counts['relayed']} ignored {self.counts['ignored']} left {left} "
@@ -341,14 +357,10 @@ class Bridge:
 
 
 def records_of(file):
-    """The moments and frames of a capture, which has to be without a fault."""
-    order, unit = {b"\xd4\xc3\xb2\xa1": ("<", 1000), b"\xa1\xb2\xc3\xd4": (">", 1000),
-                   b"\x4d\x3c\xb2\xa1": ("<", 1), b"\xa1\xb2\x3c\x4d": (">", 1)}[file[:4]]
-    at, records = 24, []
-    while at < len(file):
-        seconds, fraction, length, _ = struct.unpack_from(order + "IIII", file, at)
-        records.append((seconds * SECOND + fraction * unit, file[at + 16:at + 16 + length]))
-        at += 16 + length
+    """The moments and frames of a capture of either format, which has to be without a fault."""
+    records, fault = captured.read(file)
+    if fault:
+        raise ValueError(fault)
     return records
 
 
@@ -370,4 +382,5 @@ def run(text, files, journal=None):
     prefix = bridge.bridge.get("out", "out-")
     written = {f"{prefix}{name_of(port)}.pcap": capture_of(left) for port, left in bridge.left.items()}
     written[f"{prefix}journal.txt"] = "".join(f"{line}\n" for line in bridge.journal).encode()
+    written[f"{prefix}counters.txt"] = bridge.counted().encode()
     return written, bridge.summary()

@@ -21,6 +21,7 @@ import changes
 import examples
 import fates
 import generated
+import pcapng
 import seeds
 import stepped
 import trees
@@ -33,19 +34,20 @@ DATA = os.path.join(HERE, "data")
 
 
 def agree_with_world(name, topology, files, seed=None):
-    """What a run writes and prints, its trace among it. The tree over links and the plain bridge have to come to the same, and the
-    trace and the order of events have to keep to their rules. Without a seed each event is played by itself."""
+    """What a run writes and prints, its trace and its counters among it. The tree over links and the plain bridge have to come to the
+    same, and the trace and the order of events have to keep to their rules. Without a seed each event is played by itself."""
     written, line, world = run_world(topology, files, seed)
-    plainly = bridge.run(topology, files, None if seed is None else world.journal)
+    plainly, summed = bridge.run(topology, files, None if seed is None else world.journal)
     trace = next(file for file in written if file.endswith("trace.txt"))
-    if ({file: data for file, data in written.items() if file != trace}, line) != plainly:
+    counters = next(file for file in plainly if file.endswith("counters.txt"))
+    if ({file: data for file, data in written.items() if file != trace}, line) != ({file: data for file, data in plainly.items() if file != counters}, summed):
         sys.exit(f"{name}: the tree over links and the plain bridge come to different files")
     if not is_in_order(world, topology, files, seed):
         sys.exit(f"{name}: the journal of the tree over links isn't in order")
     rule = judge_files(topology, files, written)
     if rule:
         sys.exit(f"{name}: the trace of the tree over links breaks rule {rule}")
-    return written, line
+    return written | {counters: plainly[counters]}, line
 
 class Cases:
     """The lines of the list and of what is printed."""
@@ -76,7 +78,7 @@ class Cases:
         and a trace isn't told."""
         written, printed = self.plays(name, topology, captures, before, options)
         whole = {file: capture(*data) if isinstance(data, list) else data for file, data in expected.items()}
-        silent = {file: data if file.endswith("trace.txt") else HEADER for file, data in written.items() if not file.endswith("journal.txt")}
+        silent = {file: data if file.endswith(("trace.txt", "counters.txt")) else HEADER for file, data in written.items() if not file.endswith("journal.txt")}
         for file, data in (silent | whole).items():
             if written.get(file) != data:
                 sys.exit(f"{name}: the plain bridge comes to another {file}: {written.get(file)} {data}")
@@ -91,20 +93,19 @@ class Cases:
         topology = topology.replace("FOLDER", name)
         written, line = agree_with_world(name, topology, files, seed)
         written = {file.removeprefix(f"{name}/"): data for file, data in written.items()}
-        trace = next(file for file in written if file.endswith("trace.txt"))
-        absent = [] if "--trace" in options else [f"!{trace}"]
-        if absent:
-            del written[trace]
+        absent = [next(file for file in written if file.endswith(f"{kind}.txt")) for kind in ("counters", "trace") if f"--{kind}" not in options]
+        for output in absent:
+            del written[output]
         self.put(name, {file: topology, **given, **(before or {})})
         self.put(name, {f"expected/{file}": data for file, data in written.items()})
         words = options if "run" in options else f"run FOLDER/{file} {options}".rstrip()
-        self.end(name, 0, words, sorted(written) + absent, line)
+        self.end(name, 0, words, sorted(written) + [f"!{output}" for output in absent], line)
         return written, line
 
     def stops(self, name, status, topology, captures, line, words="run FOLDER/topology.toml"):
         """A case that makes no file."""
         self.put(name, {"topology.toml": topology, **captures})
-        self.end(name, status, words, ["out-journal.txt", "out-trace.txt", "out-x1.1.pcap", "out-x1.2.pcap"], line)
+        self.end(name, status, words, ["out-counters.txt", "out-journal.txt", "out-trace.txt", "out-x1.1.pcap", "out-x1.2.pcap"], line)
 
     def prints(self, name, words, lines, topology=""):
         """A case that prints lines and makes no file."""
@@ -196,6 +197,35 @@ def vlans(cases):
     cases.runs("forty-vlans", forty, {"a.pcap": [(100, tagged(59)), (100, tagged(60))]},
                {"out-x1.1.pcap": [], "out-x1.2.pcap": [], "out-x1.3.pcap": [(100, tagged(59))],
                 "out-journal.txt": journal(*UP3, *relays("x1.1 1", "x1.1 2"))}, summary(2, 2, 0, 1))
+
+
+def counters(cases):
+    """Counters: each of the five numbers by itself, in port order."""
+    cases.runs("counters", TWO_PORTS, {"a.pcap": [(100, F)]},
+               {"out-x1.1.pcap": [], "out-x1.2.pcap": [(100, F)], "out-journal.txt": journal(*UP, *relays("x1.1 1")),
+                "out-counters.txt": b"x1.1 relayed 1 dropped 0 ignored 0 left 0 octets 0\nx1.2 relayed 0 dropped 0 ignored 0 left 1 octets 60\n"},
+               summary(1, 1, 0, 1), options="--counters")
+    # A file that was there is replaced, and a port at which nothing happens has its line.
+    cases.runs("counters-of-nothing", one_extender(3, A, bridge="ports = 2"), {"a.pcap": []},
+               {"out-journal.txt": journal(*UP3),
+                "out-counters.txt": "".join(f"{port} relayed 0 dropped 0 ignored 0 left 0 octets 0\n" for port in ("b2", "x1.1", "x1.2", "x1.3")).encode()},
+               summary(0, 0, 0, 0), {"out-counters.txt": b"before" * 99}, options="--counters")
+    # x1.2 takes tagged frames alone, and b2 those of its VLANs: three and one are dropped. A frame that is too short is ignored. What
+    # leaves b2 has a tag, so it has four bytes more.
+    rules = ("port = [{ name = 'x1.2', accept = 'tagged' }, { name = 'b2', filter = true }]\n"
+             "vlan = [{ vid = 1, tagged = ['b2'], untagged = ['x1.*'] }]\n")
+    other = frame(source=TWO)
+    cases.runs("counters-of-drops", one_extender(2, {"b2": "c.pcap", "x1.1": "a.pcap", "x1.2": "b.pcap"}, bridge="ports = 2", more=rules),
+               {"a.pcap": [(100, F), (100, frame(size=13))], "b.pcap": [(101, other)] * 3, "c.pcap": [(102, tagged(7, source=TWO))]},
+               {"out-b2.pcap": [(100, tagged(1))], "out-x1.1.pcap": [], "out-x1.2.pcap": [(100, F)],
+                "out-journal.txt": journal(*UP, *relays("x1.1 1"), "ignore x1.1 2", "settled", "tick 1", *relays("x1.2 1", "x1.2 2", "x1.2 3"), "tick 1",
+                                           *relays("b2 1")),
+                "out-counters.txt": b"b2 relayed 1 dropped 1 ignored 0 left 1 octets 64\nx1.1 relayed 1 dropped 0 ignored 1 left 0 octets 0\n"
+                                    b"x1.2 relayed 3 dropped 3 ignored 0 left 1 octets 60\n"},
+               summary(6, 5, 1, 2), options="--counters")
+    # With a trace beside them, and in a drawn order.
+    cases.plays("counters-and-trace", TWO_PORTS, {"a.pcap": [(100, F)]}, options="--trace --counters")
+    cases.plays("counters-of-a-seed", one_extender(3, AB), {"a.pcap": [(100, F)] * 5, "b.pcap": [(100, frame(ONE, TWO))] * 5}, options="--counters --seed 7", seed=7)
 
 
 def files(cases):
@@ -309,8 +339,8 @@ def main():
     print(f"{agree_with_tables()} cases of exb_bridge_tests come to the same")
     print(f"{stepped.agree()} cases of exb_schedule_tests come to the same")
     cases = Cases()
-    for part in (examples.play, frames, vlans, files, *trees.PARTS, *changes.PARTS, *generated.PARTS, *fates.PARTS, *seeds.PARTS,
-                 *words.PARTS, faults, outputs_that_are_read):
+    for part in (examples.play, frames, vlans, counters, files, *trees.PARTS, *changes.PARTS, *generated.PARTS, *fates.PARTS, *seeds.PARTS,
+                 *words.PARTS, *pcapng.PARTS, faults, outputs_that_are_read):
         part(cases)
     cases.write()
 

@@ -1,7 +1,7 @@
 """The examples of the repository: the captures that they read, and what must come of them."""
 import os
 
-from frames import capture, commits, journal, relays, summary
+from frames import block_capture, capture, commits, journal, relays, summary
 from stations import asks, echo, neighbour, picture, tells, with_tag
 from world.schedule import run as run_world
 
@@ -102,7 +102,9 @@ def lossy_links():
 
 MADE = {"first-path": first_path, "office": office, "campus": campus, "private-hosts": private_hosts, "static-group": static_group,
         "too-few-groups": too_few_groups, "lossy-links": lossy_links}
-OPTIONS = {"lossy-links": "--trace"}
+OPTIONS = {"lossy-links": "--trace", "office": "--counters"}
+# what came in at the external ports of an example and was relayed, refused by a rule and ignored, and the frames and bytes that left
+COUNTS = {"office": {"b1": (2, 0, 0, 2, 128), "x1.1": (2, 1, 0, 3, 180), "x1.2": (1, 0, 0, 2, 120), "x1.3": (1, 0, 0, 0, 0), "x1.4": (0, 0, 1, 1, 60)}}
 
 
 def write(folder, name, data):
@@ -111,26 +113,41 @@ def write(folder, name, data):
         file.write(data)
 
 
+def file_of(name, port, records):
+    """The file with the capture of a port, and its bytes: that of the office's phone is a pcapng."""
+    if (name, port) == ("office", "x1.4"):
+        return f"in-{port}.pcapng", block_capture(*records)
+    return f"in-{port}.pcap", capture(*records)
+
+
 def make():
     """Writes the captures and expected files of the examples, and gives the line that each prints."""
     printed = {}
     for name, what in MADE.items():
         given, left, lines, line = what()
         for port, records in given.items():
-            write(os.path.join(EXAMPLES, name), f"in-{port}.pcap", capture(*records))
+            write(os.path.join(EXAMPLES, name), *file_of(name, port, records))
         for port in {line.split()[1] for line in lines if line.startswith("up")} | {"b1", "b2", "b3", "b4"} & left.keys():
             write(os.path.join(EXAMPLES, name, "expected"), f"out-{port}.pcap", capture(*left.get(port, [])))
         write(os.path.join(EXAMPLES, name, "expected"), "out-journal.txt", journal(*lines))
         printed[name] = line
-        if name in OPTIONS:
+        if "--trace" in OPTIONS.get(name, ""):
             write(os.path.join(EXAMPLES, name, "expected"), "out-trace.txt", trace_of(name, given))
+        if name in COUNTS:
+            write(os.path.join(EXAMPLES, name, "expected"), "out-counters.txt", counters(COUNTS[name]))
     return printed
+
+
+def counters(counts):
+    """The text of counters."""
+    words = ("relayed", "dropped", "ignored", "left", "octets")
+    return "".join(f"{port} {' '.join(f'{word} {it}' for word, it in zip(words, its))}\n" for port, its in counts.items()).encode()
 
 
 def trace_of(name, given):
     """The trace of an example, for which the tree over links alone can say it."""
     with open(os.path.join(EXAMPLES, name, "topology.toml"), encoding="utf-8") as it:
-        written, _, _ = run_world(it.read(), {f"in-{port}.pcap": capture(*records) for port, records in given.items()})
+        written, _, _ = run_world(it.read(), dict(file_of(name, port, records) for port, records in given.items()))
     return written["out-trace.txt"]
 
 

@@ -26,6 +26,19 @@ def capture(*records):
     )
 
 
+def block_capture(*records):
+    """The same as pcapng: a section, an interface whose times are in microseconds, and an enhanced packet for each record."""
+    def block(kind, content):
+        return struct.pack("<II", kind, len(content) + 12) + content + struct.pack("<I", len(content) + 12)
+
+    def packet(at, data):
+        time = int(at) * 1_000_000 + round(at % 1 * 1_000_000)
+        return struct.pack("<IIIII", 0, time >> 32, time & 0xFFFF_FFFF, len(data), len(data)) + data.ljust(-(-len(data) // 4) * 4, b"\0")
+
+    section = block(0x0A0D0D0A, struct.pack("<IHHq", 0x1A2B3C4D, 1, 0, -1))
+    return section + block(1, struct.pack("<HHI", 1, 0, 262_144)) + b"".join(block(6, packet(*it)) for it in records)
+
+
 def journal(*lines):
     return "".join(f"{line}\n" for line in lines).encode()
 

@@ -7,7 +7,7 @@ from world.schedule import play, summary as summary_of
 
 A = {"x1.1": "a.pcap"}
 TWO_PORTS = one_extender(2, A)
-USAGE = "exbr: usage: exbr run TOPOLOGY [--trace] [--seed N] | exbr check TOPOLOGY | exbr make N"
+USAGE = "exbr: usage: exbr run TOPOLOGY [--trace] [--counters] [--seed N] | exbr check TOPOLOGY | exbr make N"
 
 REFUSED = {
     "no-words": "",
@@ -24,6 +24,11 @@ REFUSED = {
     "number-of-ports": "run 04 2",
     "trace-twice": "run FOLDER/topology.toml --trace --trace",
     "trace-with-a-value": "run FOLDER/topology.toml --trace=1",
+    "counters-twice": "run FOLDER/topology.toml --counters --trace --counters",
+    "counters-with-a-value": "run FOLDER/topology.toml --counters=1",
+    "counters-in-other-letters": "run FOLDER/topology.toml --Counters",
+    "check-with-counters": "check FOLDER/topology.toml --counters",
+    "make-with-counters": "make 7 --counters",
     "seed-without-number": "run FOLDER/topology.toml --seed",
     "seed-that-takes-an-option": "run FOLDER/topology.toml --seed --trace",
     "seed-twice": "run FOLDER/topology.toml --seed 1 --seed 2",
@@ -67,9 +72,11 @@ def accepted(cases):
     for name, words in [("option-before-the-name", "run --trace FOLDER/topology.toml"),
                         ("options-on-both-sides", "run --seed 7 FOLDER/topology.toml --trace"), ("dashes-before-the-name", "run -- FOLDER/topology.toml"),
                         ("option-and-dashes", "run --trace -- FOLDER/topology.toml"),
+                        ("counters-before-the-name", "run --counters FOLDER/topology.toml"),
+                        ("options-in-another-order", "run --seed=7 --counters FOLDER/topology.toml --trace"),
                         ("largest-seed", "run --seed=18446744073709551615 FOLDER/topology.toml"),
                         ("seed-of-20-digits", "run FOLDER/topology.toml --seed 00000000000000000007")]:
-        seed = {"options-on-both-sides": 7, "largest-seed": 2**64 - 1, "seed-of-20-digits": 7}.get(name)
+        seed = {"options-on-both-sides": 7, "options-in-another-order": 7, "largest-seed": 2**64 - 1, "seed-of-20-digits": 7}.get(name)
         written, _ = cases.plays(name, TWO_PORTS, {"a.pcap": [(100, F)]}, seed=seed, options=words)
         assert is_among(one, written)
     for name, words, missing in [("a-dash", "run -", "-"), ("name-behind-dashes", "run -- --trace", "--trace"),

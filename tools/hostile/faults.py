@@ -19,12 +19,13 @@ import time
 sys.dont_write_bytecode = True
 sys.path.insert(0, os.path.dirname(os.path.abspath(__file__)))
 import faults_at_ends
+import faults_of_calls
 import faults_of_names
 import faults_under_way
 from folders import Input, Skipped, Wrong, frames, program_of
 from runs import RUNS
 
-FAULTS = [*faults_of_names.FAULTS, *faults_under_way.FAULTS, *faults_at_ends.FAULTS]
+FAULTS = [*faults_of_names.FAULTS, *faults_under_way.FAULTS, *faults_at_ends.FAULTS, *faults_of_calls.FAULTS]
 
 
 class Place:
@@ -59,6 +60,11 @@ class Place:
         return it
 
 
+def chosen_by(word):
+    """The faults whose name has this word."""
+    return [it for it in FAULTS if word in it.name]
+
+
 def tried(place, fault):
     """What a fault answered and left, or what is wrong."""
     try:
@@ -85,7 +91,7 @@ def main():
     if words.room and not os.path.isdir(words.room):
         print(f"faults.py: there is no folder {words.room}", file=sys.stderr)
         return 2
-    chosen = [it for it in FAULTS if words.only in it.name]
+    chosen = chosen_by(words.only)
     if not chosen:
         print(f"faults.py: no fault has {words.only!r} in its name; --list prints the names", file=sys.stderr)
         return 2

@@ -94,7 +94,8 @@ def read_only_disk(place):
 def limited(kind, size, *, ignored=None):
     """What the child does before the program begins: it takes a limit, and perhaps doesn't heed a signal."""
     def limit():
-        resource.setrlimit(kind, (size, size))
+        # The system ends a run at the second number of processor seconds by SIGKILL.
+        resource.setrlimit(kind, (size, size + 2 if kind == resource.RLIMIT_CPU else size))
         if ignored:
             signal.signal(ignored, signal.SIG_IGN)
     return limit
@@ -125,22 +126,14 @@ FAULTS.named("files may not grow past a size, and the signal ends the run")(file
 FAULTS.named("files may not grow past a size, and the signal isn't heeded")(file_size(False))
 
 
-@FAULTS.named("so many files may be open")
+@FAULTS.named("one file more than the standard streams may be open")
 def open_files(place):
-    it, told = place.input("tree"), []
-    for count in range(5):
-        place.clear()
-        it.put(place.folder)
-        ran = play(place.program, place.folder, it.words, limit=limited(resource.RLIMIT_NOFILE, count))
-        if count > 3:
-            it.judge(place.folder, ran, (0,))
-        elif count == 3:
-            it.judge(place.folder, ran, (6,))
-        elif ran.status not in (6, 127, -6) and ran.status != 255 and ran.status <= 0:
-            raise Wrong(f"status {ran.status} where {count} files may be open")
-        told.append(f"{ran.status} for {count}")
-    it.is_whole_again(place.program, place.folder)
-    return f"{', '.join(told[3:])}; one file at a time is enough"
+    it = place.input("lossy")
+    it.put(place.folder)
+    # With fewer the system can't load the program.
+    ran = play(place.program, place.folder, it.words, limit=limited(resource.RLIMIT_NOFILE, 4))
+    it.judge(place.folder, ran, (0,))
+    return "0; each output is whole"
 
 
 @FAULTS.named("memory comes to its end")

@@ -5,8 +5,8 @@ use Rattle.std.proofs.lemmas.List.Elements.{All-head, All-tail}
 use Rattle.exb_model.specs.FlatBridge.{Sent, flat}
 use Rattle.exb_model.specs.Input.{Record, basis_of, tree_of}
 use Rattle.exb_model.specs.Texts.{capture_text}
-use Rattle.exb_pcap.specs.Captures.{pcap_records}
-use Rattle.exb_pcap.specs.Written.{CanBeWritten, in_microseconds}
+use Rattle.exb_capture.specs.Classic.{pcap_records}
+use Rattle.exb_capture.specs.Written.{CanBeWritten, in_microseconds}
 use Rattle.exb_legal.specs.Decided.{AllAreJudged}
 use Rattle.exb_legal.specs.Reading.{Each}
 use Rattle.exb_legal.specs.Spelled.{HasBytes, LegalLinesAreSpelled}

@@ -17,7 +17,7 @@ use Rattle.exb_model.specs.Learning.{passes, passes_as, learned}
 use Rattle.exb_model.specs.Targets.{target}
 use Rattle.exb_model.specs.FlatBridge.{flat, sent_as, sent_by}
 use Rattle.exb_model.specs.LegalHistory.{EachEvent}
-use Rattle.exb_pcap.specs.Written.{CanBeWritten}
+use Rattle.exb_capture.specs.Written.{CanBeWritten}
 use Rattle.exb_legal.specs.Inputs.{RelayFits}
 use Rattle.exb_audit.specs.Written.{FlatCanBeWritten}
 

@@ -7,7 +7,7 @@ use Rattle.exb_model.specs.LegalHistory.{EachEvent}
 use Rattle.exb_model.specs.Texts.{capture_text, journal_text}
 use Rattle.exb_model.specs.Traces.{TraceLine, trace_text}
 use Rattle.exb_model.specs.Tree.{Shape, is_external}
-use Rattle.exb_pcap.specs.Captures.{pcap_records}
+use Rattle.exb_capture.specs.Classic.{pcap_records}
 use Rattle.exb_legal.specs.Decided.{AreFiles}
 use Rattle.exb_legal.specs.Deciding.{judged}
 use Rattle.exb_legal.specs.Entries.{entry_in, journal_of}

@@ -4,7 +4,7 @@ use Rattle.exb_model.specs.FlatBridge.{flat}
 use Rattle.exb_model.specs.History.{Basis, History}
 use Rattle.exb_model.specs.LegalHistory.{EachEvent}
 use Rattle.exb_legal.specs.Inputs.{RelayFits}
-use Rattle.exb_pcap.specs.Written.{CanBeWritten}
+use Rattle.exb_capture.specs.Written.{CanBeWritten}
 
 -- whatever its length: a frame that passes has at most 9,216 bytes
 abbrev pub FlatCanBeWritten : Type 0

@@ -6,11 +6,12 @@
 //! k of extender 1 is 63 + k.
 mod outcomes;
 
+use exb_capture::{header_text, record_text};
+use exb_flat_pcap::{Reader, Record};
 use exb_flat_run::merge::Capture;
 use exb_flat_run::outcome::{Outcome, flat_outcome};
 use exb_hostile::hex;
 use exb_model::port::PortId;
-use exb_pcap::{Reader, Record, header_text, record_text};
 use exb_text::PortName;
 use exb_topology::{Topology, read};
 use std::alloc::Global;

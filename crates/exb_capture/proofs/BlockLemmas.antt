@@ -15,6 +15,8 @@ use Rattle.exb_capture.specs.declared.block.Content.TheVariants.{Skipped, NewSec
 use Rattle.exb_capture.specs.Formats.{Front, Nothing, Short, Over, Holds, fault}
 use Rattle.exb_capture.specs.Pieces.{IsFormat}
 use Rattle.exb_capture.proofs.FormatLemmas.{IsDecided, longer, IsMeasured, format_by, not_empty}
+use Rattle.exb_capture.proofs.BlockSizes.{head_sized, IsSized, IsLong, block_long}
+use Rattle.exb_capture.proofs.BlockOpen.{block_undecided, block_blank}
 use Rattle.exb_capture.specs.Fields.{◌>>=◌, refuse, word}
 use Rattle.exb_capture.specs.Blocks.{Sections, order_of, interfaces_of, kind_of, is_read, is_no_size, order_at, head_at, block_at, shown, whole_front, headed_front, block_front, most_held}
 
@@ -63,49 +65,12 @@ block_stands s h more = by_none (nat_eq (length h) 0)
     by_none false is = by_head (nat_lt (length h) 12) refl is
 
 -- ---- sizes
--- what a head that is read tells of the size
-pub record IsSized (head : Head) : Type 0 where
-  pub some : 12 ≤ head.size
-  pub most : is_read head.kind ≡ true → head.size ≤ 327_680
-
-no_or : (a b : Bool) → (a || b) ≡ false → (a ≡ false) × (b ≡ false)
-no_or true b e = absurd (cc)
-no_or false b e = (refl, e)
-
-no_and : (a b : Bool) → (a && b) ≡ false → a ≡ true → b ≡ false
-no_and true b e h = e
-no_and false b e h = absurd (cc)
-
-sized_by : (kind : Kind) (size : ℕ) → is_no_size kind size ≡ false → (12 ≤ size) × (is_read kind ≡ true → size ≤ 327_680)
-sized_by kind size e =
-    let parts = no_or (nat_lt size 12 || not (size % 4 == 0)) (is_read kind && nat_lt 327_680 size) e in (
-      ltb-false size 12 (no_or (nat_lt size 12) (not (size % 4 == 0)) parts.0).0,
-      λ read. ltb-false 327_680 size (no_and (is_read kind) (nat_lt 327_680 size) parts.1 read),
-    )
-
-pub head_sized : (old : Option ByteOrder) (twelve : List ℕ) (head : Head) → head_at old twelve ≡ Ok head → IsSized head
-head_sized old twelve head = by_order (order_at old twelve)
-  where
-    by_test : (order : ByteOrder) (b : Bool) → is_no_size (kind_of (word order twelve 0)) (word order twelve 4) ≡ b
-        → (refuse b (fault Length 4) >>= (λ sized. Ok (record { order = order; kind = kind_of (word order twelve 0); size = word order twelve 4 }))) ≡ Ok head → IsSized head
-    by_test order true t e = absurd (cc)
-    by_test order false t e =
-        let same : record { order = order; kind = kind_of (word order twelve 0); size = word order twelve 4 } ≡ head = cc in
-        let sized = sized_by (kind_of (word order twelve 0)) (word order twelve 4) t in
-        subst IsSized same (record { some = sized.0; most = sized.1 })
-
-    by_order : (x : Result ByteOrder Fault)
-        → (x >>= (λ order. refuse (is_no_size (kind_of (word order twelve 0)) (word order twelve 4)) (fault Length 4) >>= (λ sized. Ok (record { order = order; kind = kind_of (word order twelve 0); size = word order twelve 4 }))))
-        ≡ Ok head → IsSized head
-    by_order (Ok order) e = by_test order (is_no_size (kind_of (word order twelve 0)) (word order twelve 4)) refl e
-    by_order (Err f) e = absurd (cc)
-
-shown_measured : (s : Sections) (head : Head) (b : List ℕ) (x : Result Content Fault) (h : List ℕ) → 0 < head.size → head.size ≤ length h → IsMeasured most_held h (shown s head b x)
-shown_measured s head b (Ok Skipped) h some fits = some
-shown_measured s head b (Ok NewSection) h some fits = some
-shown_measured s head b (Ok (NewInterface i)) h some fits = some
-shown_measured s head b (Ok (Packet moment from n)) h some fits = (some, fits)
-shown_measured s head b (Err f) h some fits = tt
+shown_measured : (s : Sections) (head : Head) (b : List ℕ) (x : Result Content Fault) (h : List ℕ) → IsLong head.size x → 0 < head.size → head.size ≤ length h → IsMeasured most_held h (shown s head b x)
+shown_measured s head b (Ok Skipped) h long some fits = some
+shown_measured s head b (Ok NewSection) h long some fits = some
+shown_measured s head b (Ok (NewInterface i)) h long some fits = some
+shown_measured s head b (Ok (Packet moment from n)) h long some fits = (long, fits)
+shown_measured s head b (Err f) h long some fits = tt
 
 headed_measured : (s : Sections) (x : Result Head Fault) (h : List ℕ) → ((head : Head) → x ≡ Ok head → IsSized head) → IsMeasured most_held h (headed_front s x h)
 headed_measured s (Err f) h sized = tt
@@ -113,7 +78,7 @@ headed_measured s (Ok head) h sized = by_kind (is_read head.kind) refl
   where
     by_size : (b : Bool) → nat_lt (length h) head.size ≡ b → is_read head.kind ≡ true → IsMeasured most_held h (cond b (Short (fault Cut 0)) (block s head h))
     by_size true e read = let few = ltb-true (length h) head.size e in let most = (sized head refl).most read in omega (arith, few, most)
-    by_size false e read = shown_measured s head (take head.size h) (block_at head (interfaces_of s.section) s.last (take head.size h)) h (let some = (sized head refl).some in omega (arith, some)) (ltb-false (length h) head.size e)
+    by_size false e read = shown_measured s head (take head.size h) (block_at head (interfaces_of s.section) s.last (take head.size h)) h (block_long head (interfaces_of s.section) s.last (take head.size h)) (let some = (sized head refl).some in omega (arith, some)) (ltb-false (length h) head.size e)
 
     by_kind : (b : Bool) → is_read head.kind ≡ b → IsMeasured most_held h (cond b (whole_front s head h) (Over head.size s))
     by_kind true read = by_size (nat_lt (length h) head.size) refl read
@@ -133,7 +98,7 @@ block_measured s h = by_none (nat_eq (length h) 0) refl
     by_none false e = by_head (nat_lt (length h) 12) refl
 
 pub blocks_are_a_format : IsFormat most_held block_front
-blocks_are_a_format = format_by most_held block_front block_stands block_measured
+blocks_are_a_format = format_by most_held block_front block_stands block_measured block_undecided block_blank
 
 -- ---- a packet, as the code finds it
 pub interfaces_is : (order : Option ByteOrder) (interfaces : List Interface) → (order ≡ None → interfaces ≡ []) → interfaces ≡ interfaces_of (section_of order interfaces)

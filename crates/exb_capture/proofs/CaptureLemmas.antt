@@ -15,12 +15,9 @@ use Rattle.exb_capture.specs.Blocks.{Sections, no_section, block_front, most_hel
 use Rattle.exb_capture.specs.Classic.{form_of, header_at, shown_header, magic_front, classic_front, pcap_records}
 use Rattle.exb_capture.specs.Captures.{mapped, first_bytes, unknown_front, capture_front, capture_records}
 use Rattle.exb_capture.proofs.FormatLemmas.{IsDecided, longer, IsMeasured, format_by, differs_on, agrees_whole, mapped_stands, mapped_measured}
+use Rattle.exb_capture.proofs.CaptureOpen.{chosen_front, capture_undecided, capture_blank}
 use Rattle.exb_capture.proofs.ClassicLemmas.{classic_stands, classic_measured}
 use Rattle.exb_capture.proofs.BlockLemmas.{block_stands, block_measured}
-
-abbrev pub chosen_front : Bool → List ℕ → Front State
-chosen_front t left =
-    cond t (cond (nat_lt (length left) 4) (Short (fault NotPcap 0)) (mapped Blocks (block_front no_section left))) (mapped Classic (classic_front Start left))
 
 unknown_stands : (h more : List ℕ) (t : Bool) → agrees first_bytes h ≡ t → IsDecided (chosen_front t h) → unknown_front (h ++ more) ≡ chosen_front t h
 unknown_stands h more false e = λ is. ap (λ t. chosen_front t (h ++ more)) (differs_on first_bytes h more e)
@@ -57,7 +54,7 @@ capture_measured (Classic s) h = mapped_measured Classic most_held h (classic_fr
 capture_measured (Blocks s) h = mapped_measured Blocks most_held h (block_front s h) (block_measured s h)
 
 pub captures_are_a_format : IsFormat most_held capture_front
-captures_are_a_format = format_by most_held capture_front capture_stands capture_measured
+captures_are_a_format = format_by most_held capture_front capture_stands capture_measured capture_undecided capture_blank
 
 -- ---- each file by its own format
 mapped_continued : {S T : Type 0} (m : S → T) (x : Front S) (p : ℕ) (left : List ℕ) (f : T → ℕ → List ℕ → Capture) (g : S → ℕ → List ℕ → Capture)
@@ -66,7 +63,7 @@ mapped_continued m Nothing p left f g h = refl
 mapped_continued m (Short x) p left f g h = refl
 mapped_continued m (Bad x) p left f g h = refl
 mapped_continued m (Over n s) p left f g h = ap (λ c. cond (nat_lt (length left) n) (at_fault (fault Cut p)) c) (h s (behind p n) (drop n left))
-mapped_continued m (Holds x n s) p left f g h = ap (before x) (h s (behind p n) (drop n left))
+mapped_continued m (Holds x n s) p left f g h = ap (before x p) (h s (behind p n) (drop n left))
 
 mapped_within : {S T : Type 0} (m : S → T) (front : T → List ℕ → Front T) (own : S → List ℕ → Front S) (same : (s : S) (left : List ℕ) → front (m s) left ≡ mapped m (own s left))
     → (n : ℕ) (s : S) (p : ℕ) (left : List ℕ) → reading_within front n (m s) p left ≡ reading_within own n s p left

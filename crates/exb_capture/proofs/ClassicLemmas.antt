@@ -16,12 +16,10 @@ use Rattle.exb_capture.specs.Pieces.{IsFormat}
 use Rattle.exb_capture.specs.Blocks.{most_held}
 use Rattle.exb_capture.specs.Classic.{form, digits, form_of, header_at, shown_header, magic_front, head_at, time_at, stored_front, record_front, classic_front}
 use Rattle.exb_capture.proofs.BlockLemmas.{part_of}
+use Rattle.exb_capture.proofs.ClassicOpen.{form_by, same_by, form_more, record_in, classic_undecided, classic_blank}
 use Rattle.exb_capture.proofs.FormatLemmas.{IsDecided, longer, not_empty, IsMeasured, format_by, differs_on, agrees_whole}
 
 -- ---- the magic number
-abbrev pub form_by : Bool → Bool → Bool → Bool → Option Form
-form_by a b c d = cond a (Some (form Big Micros)) (cond b (Some (form Big Nanos)) (cond c (Some (form Little Micros)) (cond d (Some (form Little Nanos)) None)))
-
 none_by : (a b c d : Bool) → form_by a b c d ≡ None → (a ≡ false) × (b ≡ false) × (c ≡ false) × (d ≡ false)
 none_by true b c d e = absurd (cc)
 none_by false true c d e = absurd (cc)
@@ -29,16 +27,10 @@ none_by false false true d e = absurd (cc)
 none_by false false false true e = absurd (cc)
 none_by false false false false e = (refl, refl, refl, refl)
 
-same_by : (a b c d e f g h : Bool) → a ≡ e → b ≡ f → c ≡ g → d ≡ h → form_by a b c d ≡ form_by e f g h
-same_by a b c d e f g h p q r s = λ i. form_by (p i) (q i) (r i) (s i)
-
 form_none : (h more : List ℕ) → form_of h ≡ None → form_of (h ++ more) ≡ None
 form_none h more e =
     let none = none_by (agrees _ h) (agrees _ h) (agrees _ h) (agrees _ h) e in
     same_by _ _ _ _ false false false false (differs_on _ h more none.0) (differs_on _ h more none.1) (differs_on _ h more none.2) (differs_on _ h more none.3)
-
-form_more : (h more : List ℕ) → 4 ≤ length h → form_of (h ++ more) ≡ form_of h
-form_more h more fits = same_by _ _ _ _ _ _ _ _ (agrees_whole _ h more fits) (agrees_whole _ h more fits) (agrees_whole _ h more fits) (agrees_whole _ h more fits)
 
 magic_stands : (h more : List ℕ) (o : Option Form) → form_of h ≡ o → IsDecided (magic_front o h) → magic_front (form_of (h ++ more)) (h ++ more) ≡ magic_front o h
 magic_stands h more None e = λ is. ap (λ x. magic_front x (h ++ more)) (form_none h more e)
@@ -63,9 +55,6 @@ magic_stands h more (Some f) e = by_four (nat_lt (length h) 4) refl
     by_four false t is = by_head (nat_lt (length h) 24) refl is
 
 -- ---- a record
-abbrev pub record_in : Form → ℕ → List ℕ → Front Reached
-record_in f n left = Holds (record { time = time_at f (take 16 left); bytes = take n (drop 16 (take (16 + n) left)) }) (16 + n) (Behind f)
-
 stored_stands : (f : Form) (x : Result ℕ Fault) (h more : List ℕ) → 16 ≤ length h → IsDecided (stored_front f x h) → stored_front f x (h ++ more) ≡ stored_front f x h
 stored_stands f (Err x) h more long = λ is. refl
 stored_stands f (Ok n) h more long = by_size (nat_lt (length h) (16 + n)) refl
@@ -157,7 +146,7 @@ classic_measured Start h = magic_measured (form_of h) h
 classic_measured (Behind f) h = record_measured f h
 
 pub classic_is_a_format : IsFormat most_held classic_front
-classic_is_a_format = format_by most_held classic_front classic_stands classic_measured
+classic_is_a_format = format_by most_held classic_front classic_stands classic_measured classic_undecided classic_blank
 
 -- ---- a record, as the code finds it
 pub record_is : (f : Form) (held : List ℕ) (n time : ℕ) → 16 + n ≤ length held → Ok n ≡ head_at f (take 16 held) → time ≡ time_at f (take 16 held)

@@ -5,7 +5,8 @@ use Rattle.std.proofs.lemmas.Bool.{le-ltb, ne_eqb, false≢true, false_from_ne_t
 use Rattle.exb_capture.specs.Fields.{agrees}
 use Rattle.exb_capture.specs.Formats.{Front, Nothing, Short, Bad, Over, Holds}
 use Rattle.exb_capture.specs.Captures.{mapped}
-use Rattle.exb_capture.specs.Pieces.{IsFormat}
+use Rattle.exb_capture.specs.declared.fault.Fault.{Fault}
+use Rattle.exb_capture.specs.Pieces.{IsFormat, IsUndecided, IsNotCut}
 
 -- it is decided: more bytes don't change it
 abbrev pub IsDecided : {S : Type 0} → Front S → Type 0
@@ -28,13 +29,14 @@ IsMeasured most h Nothing = length h < most
 IsMeasured most h (Short f) = length h < most
 IsMeasured most h (Bad f) = Unit {0}
 IsMeasured most h (Over n t) = 0 < n
-IsMeasured most h (Holds x n t) = (0 < n) × (n ≤ length h)
+IsMeasured most h (Holds x n t) = (16 ≤ n) × (n ≤ length h)
 
 -- ---- the format, by the two laws
 pub format_by : {S : Type 0} (most : ℕ) (front : S → List ℕ → Front S)
     → ((s : S) (h more : List ℕ) → IsDecided (front s h) → front s (h ++ more) ≡ front s h)
-    → ((s : S) (h : List ℕ) → IsMeasured most h (front s h)) → IsFormat most front
-format_by most front stands measured = record {
+    → ((s : S) (h : List ℕ) → IsMeasured most h (front s h))
+    → ((s : S) (h : List ℕ) (f : Fault) → front s h ≡ Short f → IsUndecided front s h f.flaw) → ((s : S) → IsNotCut (front s [])) → IsFormat most front
+format_by most front stands measured undecided blank = record {
   bad = λ s h more f e. stands s h more (subst IsDecided (sym e) tt) ∙ e;
   over = λ s h more n t e. stands s h more (subst IsDecided (sym e) tt) ∙ e;
   holds = λ s h more x n t e. stands s h more (subst IsDecided (sym e) tt) ∙ e;
@@ -43,6 +45,8 @@ format_by most front stands measured = record {
   there = λ s h x n t e. (subst (IsMeasured most h) e (measured s h)).1;
   nothing = λ s h e. subst (IsMeasured most h) e (measured s h);
   short = λ s h f e. subst (IsMeasured most h) e (measured s h);
+  open_end = undecided;
+  blank = blank;
 }
 
 -- ---- in other states

@@ -20,7 +20,7 @@ continued_same (Over n t) p left f g h k = by_long (nat_lt (length left) n) refl
     by_long : (b : Bool) → nat_lt (length left) n ≡ b → cond b (at_fault (fault Cut p)) (f t (behind p n) (drop n left)) ≡ cond b (at_fault (fault Cut p)) (g t (behind p n) (drop n left))
     by_long true e = refl
     by_long false e = h n t refl (ltb-false (length left) n e)
-continued_same (Holds x n t) p left f g h k = ap (before x) (k x n t refl)
+continued_same (Holds x n t) p left f g h k = ap (before x p) (k x n t refl)
 
 -- once there are more steps than bytes, the bound doesn't matter
 pub within_enough : {S : Type 0} (most : ℕ) (front : S → List ℕ → Front S) (ok : IsFormat most front) (n m : ℕ) (s : S) (p : ℕ) (left : List ℕ) → length left < n → length left < m
@@ -67,9 +67,9 @@ module _ {S : Type 0} (most : ℕ) (front : S → List ℕ → Front S) (ok : Is
   over_there s n b p left fits = ap (λ t. cond t (at_fault (fault Cut b)) (reading_from front s p (drop n left))) (le-ltb (length left) n fits)
 
   pub from_holds : (s : S) (p : ℕ) (left : List ℕ) (x : Record) (n : ℕ) (t : S) → front s left ≡ Holds x n t
-      → reading_from front s p left ≡ before x (reading_over front t n p (behind p n) left)
+      → reading_from front s p left ≡ before x p (reading_over front t n p (behind p n) left)
   unfolding reading_from reading_within
   from_holds s p left x n t e =
       ap (λ o. continued o p left (reading_within front (length left))) e
-      ∙ ap (before x) (behind_some t n (behind p n) left (ok.holds_some s left x n t e) (ok.there s left x n t e)
+      ∙ ap (before x p) (behind_some t n (behind p n) left (let some = ok.holds_some s left x n t e in omega (arith, some)) (ok.there s left x n t e)
       ∙ sym (over_there t n p (behind p n) left (ok.there s left x n t e)))

@@ -22,9 +22,9 @@ at_turn n m c e = ap (λ k. in_turn k c.records c.fault) e
 next_turn : (n : ℕ) → 1 + n ≡ suc n
 next_turn n = omega arith
 
-found_turn : (n : ℕ) (x : Record) (left : Capture) → in_turn (suc n) (before x left).records (before x left).fault ≡ Found x ∷ in_turn n left.records left.fault
+found_turn : (n : ℕ) (x : Record) (p : ℕ) (left : Capture) → in_turn (suc n) (before x p left).records (before x p left).fault ≡ Found x ∷ in_turn n left.records left.fault
 unfolding in_turn
-found_turn n x left = refl
+found_turn n x p left = refl
 
 end_turn : (n : ℕ) → in_turn (suc n) [] None ≡ End ∷ in_turn n [] None
 unfolding in_turn
@@ -41,13 +41,13 @@ zero_turn records f = refl
 no_turn : (n : ℕ) → 0 + n ≡ n
 no_turn n = omega arith
 
-first_read : (a : Answer) (left coming : Capture) → IsFirst a left coming → IsRead (but_more a) left coming
-first_read (Found x) left coming e n = at_turn (1 + n) (suc n) coming (next_turn n) ∙ ap (λ (c : Capture). in_turn (suc n) c.records c.fault) e ∙ found_turn n x left
-first_read More left coming e n = at_turn (0 + n) n coming (no_turn n) ∙ ap (λ (c : Capture). in_turn n c.records c.fault) e
-first_read End left coming e n =
+first_read : (a : Answer) (p : ℕ) (left coming : Capture) → IsFirst a p left coming → IsRead (but_more a) left coming
+first_read (Found x) p left coming e n = at_turn (1 + n) (suc n) coming (next_turn n) ∙ ap (λ (c : Capture). in_turn (suc n) c.records c.fault) e ∙ found_turn n x p left
+first_read More p left coming e n = at_turn (0 + n) n coming (no_turn n) ∙ ap (λ (c : Capture). in_turn n c.records c.fault) e
+first_read End p left coming e n =
     at_turn (1 + n) (suc n) coming (next_turn n) ∙ ap (λ (c : Capture). in_turn (suc n) c.records c.fault) e.0 ∙ end_turn n
     ∙ ap (λ (c : Capture). End ∷ in_turn n c.records c.fault) (sym e.1)
-first_read (Faulty f) left coming e n =
+first_read (Faulty f) p left coming e n =
     at_turn (1 + n) (suc n) coming (next_turn n) ∙ ap (λ (c : Capture). in_turn (suc n) c.records c.fault) e.0 ∙ fault_turn n f
     ∙ ap (λ (c : Capture). Faulty f ∷ in_turn n c.records c.fault) (sym e.1)
 
@@ -88,17 +88,17 @@ turned_fault (suc n) [] None (x ∷ xs) last again e = absurd (cc)
 turned_fault (suc n) [] (Some f) [] last again e = let same : f ≡ last = cc in ap Some same
 turned_fault (suc n) [] (Some f) (x ∷ xs) last again e = absurd (cc)
 
-read_whole : (rs : List Record) (f : Option Fault) (xs : List Record) → rs ≡ xs → f ≡ None → whole (record { records = rs; fault = f }) ≡ Ok xs
-read_whole rs None xs p q = ap Ok p
-read_whole rs (Some f) xs p q = absurd (cc)
+read_whole : (rs : List Record) (ps : List ℕ) (f : Option Fault) (xs : List Record) → rs ≡ xs → f ≡ None → whole (record { records = rs; places = ps; fault = f }) ≡ Ok xs
+read_whole rs ps None xs p q = ap Ok p
+read_whole rs ps (Some f) xs p q = absurd (cc)
 
-read_fault : (rs : List Record) (f : Option Fault) (last : Fault) → f ≡ Some last → whole (record { records = rs; fault = f }) ≡ Err last
-read_fault rs None last q = absurd (cc)
-read_fault rs (Some f) last q = let same : f ≡ last = cc in ap Err same
+read_fault : (rs : List Record) (ps : List ℕ) (f : Option Fault) (last : Fault) → f ≡ Some last → whole (record { records = rs; places = ps; fault = f }) ≡ Err last
+read_fault rs ps None last q = absurd (cc)
+read_fault rs ps (Some f) last q = let same : f ≡ last = cc in ap Err same
 
-same_coming : {S : Type 0} (front : S → List ℕ → Front S) (s : Stage S) (p : ℕ) (h k more rest : List ℕ) (o b m n : ℕ) → h ++ more ≡ k ++ rest
+pub same_coming : {S : Type 0} (front : S → List ℕ → Front S) (s : Stage S) (p : ℕ) (h k more rest : List ℕ) (o b m n : ℕ) → h ++ more ≡ k ++ rest
     → to_come front (reading s p h o b m) more ≡ to_come front (reading s p k o b n) rest
-same_coming front (At s) p h k more rest o b m n e = ap (λ xs. cond (nat_lt (length xs) o) (record { records = []; fault = Some (fault Cut b) }) (reading_from front s p (drop o xs))) e
+same_coming front (At s) p h k more rest o b m n e = ap (λ xs. cond (nat_lt (length xs) o) (record { records = []; places = []; fault = Some (fault Cut b) }) (reading_from front s p (drop o xs))) e
 same_coming front (Failed f) p h k more rest o b m n e = refl
 
 feed_keeps : {S : Type 0} (most : ℕ) (front : S → List ℕ → Front S) (n : ℕ) (f : Feeding S) (more : List ℕ)
@@ -132,9 +132,9 @@ ends most front (Ask ended ∷ cs) f may = ((λ e. ap (λ xs. xs ++ []) (may.0 e
 module _ {S : Type 0} (most : ℕ) (front : S → List ℕ → Front S) (ok : IsFormat most front) where
   call_read : (c : Call) (f : Feeding S) (more : List ℕ) → EndsAll more c f
       → IsRead (answered most front c f) (to_come front (after_call most front c f).reader ((after_call most front c f).rest ++ more)) (to_come front f.reader (f.rest ++ more))
-  call_read (Feed n) f more last = first_read More _ _ (sym (feed_keeps most front n f more))
+  call_read (Feed n) f more last = first_read More 0 _ _ (sym (feed_keeps most front n f more))
   call_read (Ask ended) f more last =
-      first_read (asked most front ended f.reader).answer _ _
+      first_read (asked most front ended f.reader).answer (asked most front ended f.reader).left.begun _ _
       (asked_reads most front ok ended f.reader (f.rest ++ more) last)
 
   pub all_read : (calls : List Call) (f : Feeding S) (more : List ℕ) → EndAtEnd most front more calls f
@@ -142,7 +142,10 @@ module _ {S : Type 0} (most : ℕ) (front : S → List ℕ → Front S) (ok : Is
   unfolding answers after_calls EndAtEnd
   all_read [] f more last = none_read (to_come front f.reader (f.rest ++ more))
   all_read (c ∷ cs) f more last =
-      both_read (answered most front c f) (answers most front cs (after_call most front c f)) _ _ _
+      both_read (answered most front c f) (answers most front cs (after_call most front c f))
+      (to_come front (after_calls most front cs (after_call most front c f)).reader ((after_calls most front cs (after_call most front c f)).rest ++ more))
+      (to_come front (after_call most front c f).reader ((after_call most front c f).rest ++ more))
+      (to_come front f.reader (f.rest ++ more))
       (call_read c f more last.0)
       (all_read cs (after_call most front c f) more last.1)
 
@@ -165,8 +168,8 @@ module _ {S : Type 0} (most : ℕ) (front : S → List ℕ → Front S) (ok : Is
       let read : Capture = reading_from front s 0 file in
       let n : ℕ = length (answers most front calls (begun most s file)) in
       let law = pieces_read s file calls may in (
-        (λ e. let end = turned_end n read.records read.fault records again (sym law ∙ e) in read_whole read.records read.fault records end.0 end.1),
-        λ f e. read_fault read.records read.fault f (turned_fault n read.records read.fault records f again (sym law ∙ e)),
+        (λ e. let end = turned_end n read.records read.fault records again (sym law ∙ e) in read_whole read.records read.places read.fault records end.0 end.1),
+        λ f e. read_fault read.records read.places read.fault f (turned_fault n read.records read.fault records f again (sym law ∙ e)),
       )
 
   -- ---- More comes only before the end, and leaves room
@@ -188,11 +191,11 @@ module _ {S : Type 0} (most : ℕ) (front : S → List ℕ → Front S) (ok : Is
   owing_roomy false f r few = λ is. (refl, omega arith)
 
   -- what is owed and held, by which the turns that are left are counted
-  abbrev Enough : ℕ → ℕ → List ℕ → Type 0
+  abbrev pub Enough : ℕ → ℕ → List ℕ → Type 0
   Enough n o h = (length (drop o h) + 2 ≤ n) ⊎ ((length h < o) × (0 < n))
 
   -- a turn that goes on leaves one fewer
-  turn_counts_at : (n : ℕ) (ended : Bool) (s : Stage S) (p : ℕ) (h : List ℕ) (o b m : ℕ) (r : Reading S) → Enough (suc n) o h → turn most front ended (reading s p h o b m) ≡ GoesOn r → Enough n r.owing r.held
+  pub turn_counts_at : (n : ℕ) (ended : Bool) (s : Stage S) (p : ℕ) (h : List ℕ) (o b m : ℕ) (r : Reading S) → Enough (suc n) o h → turn most front ended (reading s p h o b m) ≡ GoesOn r → Enough n r.owing r.held
   turn_counts_at n ended (At s) p h o b m r enough e = by_owing (nat_lt 0 (o - length h)) refl e
     where
       g : Reading S

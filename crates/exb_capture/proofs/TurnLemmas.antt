@@ -15,7 +15,7 @@ reading s p h o b m = record { stage = s; place = p; held = h; owing = o; begun 
 
 -- what a turn makes of what is to come
 abbrev pub IsTurn : {S : Type 0} → (S → List ℕ → Front S) → Turn S → List ℕ → Capture → Type 0
-IsTurn front (Answers a r) more coming = IsFirst a (to_come front r more) coming
+IsTurn front (Answers a r) more coming = IsFirst a r.begun (to_come front r more) coming
 IsTurn front (GoesOn r) more coming = coming ≡ to_come front r more
 
 pub same_room : {S : Type 0} (front : S → List ℕ → Front S) (s : Stage S) (p : ℕ) (h : List ℕ) (o b m n : ℕ) (more : List ℕ)
@@ -25,7 +25,7 @@ same_room front (Failed f) p h o b m n more = refl
 
 module _ {S : Type 0} (most : ℕ) (front : S → List ℕ → Front S) (ok : IsFormat most front) where
   -- what was read before is gone, as far as it is held
-  gone_reads : (s : S) (o b p : ℕ) (h more : List ℕ)
+  pub gone_reads : (s : S) (o b p : ℕ) (h more : List ℕ)
       → reading_over front s (o - length h) b p (drop o h ++ more) ≡ reading_over front s o b p (h ++ more)
   gone_reads s o b p h more = by_long (cases_lt (length h) o)
     where
@@ -95,7 +95,7 @@ module _ {S : Type 0} (most : ℕ) (front : S → List ℕ → Front S) (ok : Is
       by_owing true e = at_owing ended s p h o b m more (owed (ltb-true 0 o e)) last
       by_owing false e = let none = ltb-false 0 o e in at_front ended s p h o b m more (front s h) refl (omega arith) last
 
-  turn_reads_at : (ended : Bool) (s : Stage S) (p : ℕ) (h : List ℕ) (o b m : ℕ) (more : List ℕ) → (ended ≡ true → more ≡ [])
+  pub turn_reads_at : (ended : Bool) (s : Stage S) (p : ℕ) (h : List ℕ) (o b m : ℕ) (more : List ℕ) → (ended ≡ true → more ≡ [])
       → IsTurn front (turn most front ended (reading s p h o b m)) more (to_come front (reading s p h o b m) more)
   turn_reads_at ended (At s) p h o b m more last =
       subst (λ (c : Capture). IsTurn front (turn most front ended (reading (At s) p h o b m)) more c) (gone_reads s o b p h more)
@@ -104,13 +104,13 @@ module _ {S : Type 0} (most : ℕ) (front : S → List ℕ → Front S) (ok : Is
 
   -- ---- what is asked
   settled_reads : (t : Turn S) (rest : Reading S → Step S) (more : List ℕ) (coming : Capture) → IsTurn front t more coming
-      → ((r : Reading S) → t ≡ GoesOn r → IsFirst (rest r).answer (to_come front (rest r).left more) (to_come front r more))
-      → IsFirst (settled t rest).answer (to_come front (settled t rest).left more) coming
+      → ((r : Reading S) → t ≡ GoesOn r → IsFirst (rest r).answer (rest r).left.begun (to_come front (rest r).left more) (to_come front r more))
+      → IsFirst (settled t rest).answer (settled t rest).left.begun (to_come front (settled t rest).left more) coming
   settled_reads (Answers a r) rest more coming is later = is
-  settled_reads (GoesOn r) rest more coming is later = subst (λ (c : Capture). IsFirst (rest r).answer (to_come front (rest r).left more) c) (sym is) (later r refl)
+  settled_reads (GoesOn r) rest more coming is later = subst (λ (c : Capture). IsFirst (rest r).answer (rest r).left.begun (to_come front (rest r).left more) c) (sym is) (later r refl)
 
   asked_reads_within : (n : ℕ) (ended : Bool) (r : Reading S) (more : List ℕ) → (ended ≡ true → more ≡ [])
-      → IsFirst (asked_within most front n ended r).answer (to_come front (asked_within most front n ended r).left more) (to_come front r more)
+      → IsFirst (asked_within most front n ended r).answer (asked_within most front n ended r).left.begun (to_come front (asked_within most front n ended r).left more) (to_come front r more)
   unfolding asked_within
   asked_reads_within zero ended r more last = same_room front r.stage r.place r.held r.owing r.begun r.room (most - length r.held) more
   asked_reads_within (suc n) ended r more last =
@@ -119,6 +119,6 @@ module _ {S : Type 0} (most : ℕ) (front : S → List ℕ → Front S) (ok : Is
       (λ x e. asked_reads_within n ended x more last)
 
   pub asked_reads : (ended : Bool) (r : Reading S) (more : List ℕ) → (ended ≡ true → more ≡ [])
-      → IsFirst (asked most front ended r).answer (to_come front (asked most front ended r).left more) (to_come front r more)
+      → IsFirst (asked most front ended r).answer (asked most front ended r).left.begun (to_come front (asked most front ended r).left more) (to_come front r more)
   unfolding asked
   asked_reads ended r more last = asked_reads_within (suc (suc (length r.held))) ended r more last

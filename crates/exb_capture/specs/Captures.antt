@@ -1,5 +1,5 @@
 -- A capture of either format: the first four bytes of a file say which.
-use Rattle.std.specs.Prelude.{◌≡◌, ◌<◌, ◌≤◌, ℕ, nat_lt, if◌then◌else◌, true, false, List, [], ◌∷◌, length, Result}
+use Rattle.std.specs.Prelude.{◌≡◌, ◌<◌, ◌≤◌, ℕ, nat_lt, if◌then◌else◌, true, false, List, [], ◌∷◌, length, Result, Ok, Err}
 use Rattle.exb_model.specs.Input.{Record}
 use Rattle.exb_capture.specs.declared.fault.Fault.{Fault}
 use Rattle.exb_capture.specs.declared.fault.Flaw.TheVariants.{NotPcap}
@@ -9,7 +9,7 @@ use Rattle.exb_capture.specs.Classic.{classic_front, pcap_records}
 use Rattle.exb_capture.specs.declared.capture.Capture.{Capture as State}
 use Rattle.exb_capture.specs.declared.capture.Capture.TheVariants.{Unknown, Classic, Blocks}
 use Rattle.exb_capture.specs.Fields.{agrees}
-use Rattle.exb_capture.specs.Formats.{Front, Nothing, Short, Bad, Over, Holds, fault, reading_from, whole}
+use Rattle.exb_capture.specs.Formats.{Front, Nothing, Short, Bad, Over, Holds, Capture, fault, reading_from, whole}
 
 -- the same front, in other states
 abbrev pub mapped : {S T : Type 0} → (S → T) → Front S → Front T
@@ -34,9 +34,18 @@ capture_front Unknown left = unknown_front left
 capture_front (Classic s) left = mapped Classic (classic_front s left)
 capture_front (Blocks s) left = mapped Blocks (block_front s left)
 
+-- what is read of a whole file
+abbrev pub capture_of : List ℕ → Capture
+capture_of file = reading_from capture_front Unknown 0 file
+
 -- a capture as the list of its times and frames, or its first fault
 unfoldable pub capture_records : List ℕ → Result (List Record) Fault
-capture_records file = whole (reading_from capture_front Unknown 0 file)
+capture_records file = whole (capture_of file)
+
+-- the records of a capture, where it has no fault
+abbrev pub records_or_none : Result (List Record) Fault → List Record
+records_or_none (Ok records) = records
+records_or_none (Err fault) = []
 
 -- a file that begins with these four bytes is read as pcapng, every other as classic pcap
 pub record EachIsRead : Type 0 where

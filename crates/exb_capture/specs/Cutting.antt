@@ -1,5 +1,6 @@
 -- A file that is fed in pieces, however it is cut: the calls that are made, and what is answered, over any format.
-use Rattle.std.specs.Prelude.{◌≡◌, ◌<◌, ℕ, zero, suc, Bool, true, false, List, [], ◌∷◌, ◌++◌, length, take, drop, map, Option, Some, None, Ok, Err}
+use Rattle.std.specs.Prelude.{◌≡◌, ◌<◌, ◌+◌, ◌↔◌, All, ℕ, zero, suc, Bool, true, false, List, [], ◌∷◌, ◌++◌, length, take, drop, map, Option, Some, None, Ok, Err}
+use Rattle.exb_model.specs.Frames.{IsBytes}
 use Rattle.exb_model.specs.Input.{Record}
 use Rattle.exb_capture.specs.declared.fault.Fault.{Fault}
 use Rattle.exb_capture.specs.Formats.{Front, reading_from, whole}
@@ -56,6 +57,11 @@ unfoldable pub MayBeCalled : {S : Type 0} → ℕ → (S → List ℕ → Front 
 MayBeCalled most front [] f = Unit {0}
 MayBeCalled most front (c ∷ cs) f = MayCall c f × MayBeCalled most front cs (after_call most front c f)
 
+-- the end wasn't told
+abbrev pub IsOpen : Call → Type 0
+IsOpen (Feed n) = Unit {0}
+IsOpen (Ask ended) = ended ≡ false
+
 -- n answers: these records in their order, then the end or the fault, again and again
 unfoldable pub in_turn : ℕ → List Record → Option Fault → List Answer
 in_turn zero records fault = []
@@ -66,6 +72,17 @@ in_turn (suc n) [] (Some fault) = Faulty fault ∷ in_turn n [] (Some fault)
 -- the first n answers of a reader of this file
 abbrev pub first_answers : {S : Type 0} → (S → List ℕ → Front S) → S → ℕ → List ℕ → List Answer
 first_answers front s n file = in_turn n (reading_from front s 0 file).records (reading_from front s 0 file).fault
+
+-- a record or a fault
+abbrev pub IsRecordOrFault : Answer → Type 0
+IsRecordOrFault (Found x) = Unit {0}
+IsRecordOrFault More = ⊥
+IsRecordOrFault End = ⊥
+IsRecordOrFault (Faulty fault) = Unit {0}
+
+-- whatever follows what was taken, this is the next answer behind those that were given
+abbrev pub Stands : {S : Type 0} → (S → List ℕ → Front S) → S → List ℕ → List Answer → Answer → Type 0
+Stands front s taken given a = (more : List ℕ) → IsBytes more → first_answers front s (length given + 1) (taken ++ more) ≡ given ++ a ∷ []
 
 -- what is answered in pieces is what is read of the whole file: the records in their order, then End or the first fault
 abbrev pub PiecesAreRead : {S : Type 0} → ℕ → (S → List ℕ → Front S) → S → Type 0
@@ -79,10 +96,16 @@ PiecesGiveTheRecords most front s = (file : List ℕ) (calls : List Call) → Ma
     → (answers most front calls (begun most s file) ≡ map Found records ++ End ∷ again → whole (reading_from front s 0 file) ≡ Ok records)
     × ((fault : Fault) → answers most front calls (begun most s file) ≡ map Found records ++ Faulty fault ∷ again → whole (reading_from front s 0 file) ≡ Err fault)
 
--- what a reader answers comes first of what it still gives, whatever follows what it was fed
+-- what a reader answers comes first of what it still gives, whatever follows what it was fed; a record begins where the reader says
 abbrev pub AnswersAreFirst : {S : Type 0} → ℕ → (S → List ℕ → Front S) → Type 0
 AnswersAreFirst {S} most front = (ended : Bool) (r : Reading S) (more : List ℕ) → (ended ≡ true → more ≡ [])
-    → IsFirst (asked most front ended r).answer (to_come front (asked most front ended r).left more) (to_come front r more)
+    → IsFirst (asked most front ended r).answer (asked most front ended r).left.begun (to_come front (asked most front ended r).left more) (to_come front r more)
+
+-- before the end is told, More is answered exactly where no record and no fault stands whatever follows
+abbrev pub MoreIsOpen : {S : Type 0} → ℕ → (S → List ℕ → Front S) → S → Type 0
+MoreIsOpen most front s = (file : List ℕ) (calls : List Call) → All IsOpen calls → (after_calls most front calls (begun most s file)).rest ≡ []
+    → ((asked most front false (after_calls most front calls (begun most s file)).reader).answer ≡ More)
+    ↔ ((a : Answer) → IsRecordOrFault a → Stands front s file (answers most front calls (begun most s file)) a → ⊥)
 
 -- More is answered only before the end is told, and leaves room
 abbrev pub MoreHasRoom : {S : Type 0} → ℕ → (S → List ℕ → Front S) → Type 0

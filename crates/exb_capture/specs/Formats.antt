@@ -31,22 +31,23 @@ pub data Front (S : Type 0) : Type 0 where
   -- a record, how many bytes it takes, all of which are there, and the state behind it
   Holds : Record → ℕ → S → Front S
 
--- what is read of a capture: its records up to the end or the first fault, and that fault
+-- what is read of a capture: its records up to the end or the first fault, where in the file each begins, and that fault
 pub record Capture : Type 0 where
   pub records : List Record
+  pub places : List ℕ
   pub fault : Option Fault
 
 -- nothing is left
 abbrev pub at_end : Capture
-at_end = record { records = []; fault = None }
+at_end = record { records = []; places = []; fault = None }
 
 -- what is left has this fault at its front
 abbrev pub at_fault : Fault → Capture
-at_fault f = record { records = []; fault = Some f }
+at_fault f = record { records = []; places = []; fault = Some f }
 
--- a record, and what follows it
-abbrev pub before : Record → Capture → Capture
-before x rest = record rest { records = x ∷ rest.records }
+-- a record that begins at this place, and what follows it
+abbrev pub before : Record → ℕ → Capture → Capture
+before x place rest = record { records = x ∷ rest.records; places = place ∷ rest.places; fault = rest.fault }
 
 -- what is read of what is left, which begins at this place, where this stands at its front
 abbrev pub continued : {S : Type 0} → Front S → ℕ → List ℕ → (S → ℕ → List ℕ → Capture) → Capture
@@ -55,7 +56,7 @@ continued (Short f) place left rest = at_fault (at_place place f)
 continued (Bad f) place left rest = at_fault (at_place place f)
 continued (Over n s) place left rest =
     if nat_lt (length left) n then at_fault (fault Cut place) else rest s (behind place n) (drop n left)
-continued (Holds x n s) place left rest = before x (rest s (behind place n) (drop n left))
+continued (Holds x n s) place left rest = before x place (rest s (behind place n) (drop n left))
 
 -- the records of what is left, in at most so many steps
 unfoldable pub reading_within : {S : Type 0} → (S → List ℕ → Front S) → ℕ → S → ℕ → List ℕ → Capture

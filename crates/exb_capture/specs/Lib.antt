@@ -6,5 +6,9 @@ pub mod Cutting
 pub mod Fields
 pub mod Formats
 pub mod Pieces
+pub mod Reading
+pub mod Replaying
 pub mod Rows
+pub mod Scans
 pub mod Within
+pub mod Written

@@ -1,22 +1,49 @@
 -- A reader that is fed a file in pieces, over any format, as a machine: its state, and what each call makes of it.
 use Rattle.std.specs.Prelude.{◌≡◌, ◌<◌, ◌≤◌, ℕ, zero, suc, ◌-◌, ◌++◌, nat_lt, min, if◌then◌else◌, Bool, true, false, List, [], length, drop, take}
+use Rattle.exb_model.specs.Frames.{IsBytes}
 use Rattle.exb_model.specs.Input.{Record}
 use Rattle.exb_capture.specs.declared.fault.Fault.{Fault}
+use Rattle.exb_capture.specs.declared.fault.Flaw.{Flaw}
 use Rattle.exb_capture.specs.declared.fault.Flaw.TheVariants.{Cut}
 use Rattle.exb_capture.specs.Formats.{Front, Nothing, Short, Bad, Over, Holds, Capture, at_end, at_fault, before, fault, behind, at_place, reading_from}
 
 -- ---- what a format has to keep
+-- this front of so many bytes isn't one with this flaw, and where all of them are passed over it is none of what is cut off
+abbrev pub IsOther : {S : Type 0} → Flaw → ℕ → Front S → Type 0
+IsOther flaw size Nothing = Unit {0}
+IsOther flaw size (Short f) = f.flaw ≡ flaw → ⊥
+IsOther flaw size (Bad f) = f.flaw ≡ flaw → ⊥
+IsOther flaw size (Over n s) = (n ≡ size) × (flaw ≡ Cut)
+IsOther flaw size (Holds x n s) = (n ≡ size) × (flaw ≡ Cut)
+
+-- there are bytes behind these with which another front stands there than one with this flaw
+pub record IsUndecided {S : Type 0} (front : S → List ℕ → Front S) (s : S) (held : List ℕ) (flaw : Flaw) : Type 0 where
+  pub more : List ℕ
+  pub bytes : IsBytes more
+  pub other : IsOther flaw (length (held ++ more)) (front s (held ++ more))
+
+-- where no bytes are, nothing is cut off
+abbrev pub IsNotCut : {S : Type 0} → Front S → Type 0
+IsNotCut Nothing = Unit {0}
+IsNotCut (Short f) = f.flaw ≡ Cut → ⊥
+IsNotCut (Bad f) = ⊥
+IsNotCut (Over n s) = ⊥
+IsNotCut (Holds x n s) = ⊥
+
 -- What stands at a front stands whatever follows, but where nothing is there or more decides; and of the bytes of a record all are there.
--- A reader whose buffer has so many bytes can then hold whatever is not decided yet.
+-- A record takes at least 16. A reader whose buffer has so many bytes can then hold whatever is not decided yet. Where more decides, there are bytes that decide
+-- otherwise than the end.
 pub record IsFormat {S : Type 0} (most : ℕ) (front : S → List ℕ → Front S) : Type 0 where
   pub bad : (s : S) (held more : List ℕ) (f : Fault) → front s held ≡ Bad f → front s (held ++ more) ≡ Bad f
   pub over : (s : S) (held more : List ℕ) (n : ℕ) (t : S) → front s held ≡ Over n t → front s (held ++ more) ≡ Over n t
   pub holds : (s : S) (held more : List ℕ) (x : Record) (n : ℕ) (t : S) → front s held ≡ Holds x n t → front s (held ++ more) ≡ Holds x n t
   pub over_some : (s : S) (held : List ℕ) (n : ℕ) (t : S) → front s held ≡ Over n t → 0 < n
-  pub holds_some : (s : S) (held : List ℕ) (x : Record) (n : ℕ) (t : S) → front s held ≡ Holds x n t → 0 < n
+  pub holds_some : (s : S) (held : List ℕ) (x : Record) (n : ℕ) (t : S) → front s held ≡ Holds x n t → 16 ≤ n
   pub there : (s : S) (held : List ℕ) (x : Record) (n : ℕ) (t : S) → front s held ≡ Holds x n t → n ≤ length held
   pub nothing : (s : S) (held : List ℕ) → front s held ≡ Nothing → length held < most
   pub short : (s : S) (held : List ℕ) (f : Fault) → front s held ≡ Short f → length held < most
+  pub open_end : (s : S) (held : List ℕ) (f : Fault) → front s held ≡ Short f → IsUndecided front s held f.flaw
+  pub blank : (s : S) → IsNotCut (front s [])
 
 -- ---- the machine
 -- whether it goes on, and in which state of the format, or has failed
@@ -135,9 +162,10 @@ to_come_at front (Failed f) r more = at_fault f
 abbrev pub to_come : {S : Type 0} → (S → List ℕ → Front S) → Reading S → List ℕ → Capture
 to_come front r more = to_come_at front r.stage r more
 
--- this answer comes first of what is to come, and that is left behind it; the end and a fault stay
-abbrev pub IsFirst : Answer → Capture → Capture → Type 0
-IsFirst (Found x) left coming = coming ≡ before x left
-IsFirst More left coming = coming ≡ left
-IsFirst End left coming = (coming ≡ at_end) × (left ≡ at_end)
-IsFirst (Faulty f) left coming = (coming ≡ at_fault f) × (left ≡ at_fault f)
+-- This answer comes first of what is to come, and that is left behind it; the end and a fault stay. A record that comes begins at this
+-- place.
+abbrev pub IsFirst : Answer → ℕ → Capture → Capture → Type 0
+IsFirst (Found x) place left coming = coming ≡ before x place left
+IsFirst More place left coming = coming ≡ left
+IsFirst End place left coming = (coming ≡ at_end) × (left ≡ at_end)
+IsFirst (Faulty f) place left coming = (coming ≡ at_fault f) × (left ≡ at_fault f)

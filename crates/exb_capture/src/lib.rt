@@ -1,29 +1,39 @@
-//! Captures of Ethernet frames, read in pieces: classic pcap and pcapng behind one small contract of a format.
-//! Upwards it promises that a reader gives the capture's records in order and then its end or its first
-//! fault, each fault at its place, however the file is cut. It stands on `exb_model` and `arrayvec`.
+//! Captures of Ethernet frames: classic pcap and pcapng behind one small contract of a format, read in pieces from
+//! memory or from a shelf, and classic pcap as it is written. Upwards it promises that what is told and given of a
+//! capture is what its format reads of the whole file, however it is cut: its records in order, and then its end or
+//! its first fault at its place; and that what is written is read again. It stands on `exb_shelf`, `exb_model` and
+//! `arrayvec`.
 #![tactic(auto)]
 
 mod block;
 mod blocks;
 mod capture;
+mod checking;
 mod classic;
 mod fault;
+mod file;
 mod format;
 mod front;
 mod interface;
 pub mod laws;
 mod order;
 mod reader;
+mod replay;
 #[cfg(test)]
 mod tests;
+mod writer;
 
 pub use block::{Content, Head, Kind};
 pub use blocks::Blocks;
 pub use capture::Capture;
+pub use checking::{ScanFault, Scanned, scan};
 pub use classic::{Form, Reached, Resolution};
 pub use fault::{Fault, Flaw};
+pub use file::{CaptureFile, Halt};
 pub use format::Format;
 pub use front::Front;
 pub use interface::Interface;
 pub use order::ByteOrder;
 pub use reader::{Ahead, Reader};
+pub use replay::{Replay, ReplayFault, Replayed};
+pub use writer::{header_text, record_text};

@@ -1,7 +1,7 @@
 //! Captures: the records that are read of them, or the first fault, at once and in pieces.
 use crate::compare::{holds, same, same_at};
 use crate::reading::{front_text, pieces_text, whole_text};
-use exb_pcap::{header_text, record_text};
+use exb_capture::{header_text, record_text};
 use std::alloc::Global;
 use std::process::Abort;
 
@@ -28,11 +28,10 @@ type Change = (usize, [u8; 4], usize);
 const MAGIC: [u8; 4] = [0xD4, 0xC3, 0xB2, 0xA1];
 
 /// A change, and what is read.
-const CHANGED: [(Change, &str); 11] = [
+const CHANGED: [(Change, &str); 10] = [
     ((0, MAGIC, 100), "100000000000 60;"),
     ((0, MAGIC, 24), ""),
     ((0, MAGIC, 3), "NotPcap"),
-    ((0, [0x0A, 0x0D, 0x0D, 0x0A], 100), "NotPcap"),
     ((0, MAGIC, 23), "Cut(0)"),
     ((4, [2, 0, 3, 0], 100), "Version"),
     ((20, [105, 0, 0, 0], 100), "LinkType"),

@@ -11,6 +11,8 @@ mod compare;
 #[cfg(test)]
 mod hostile;
 #[cfg(test)]
+mod pcapng;
+#[cfg(test)]
 mod reading;
 #[cfg(test)]
 mod replays;

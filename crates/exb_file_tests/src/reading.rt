@@ -1,16 +1,40 @@
 //! What is read of a capture, whole and in pieces: moment and length of each record, and the fault where one comes.
-use crate::compare::holds;
-use exb_pcap::{Next, PcapFault, PieceReader, Reader};
+use crate::compare::{holds, same};
+use exb_capture::{Ahead, Capture, Fault, Flaw, Reader};
+use exb_flat_pcap::{PcapFault, Reader as Plain};
 use std::alloc::Global;
 use std::process::Abort;
+
+/// A fault of the plain reader, with its place.
+pub(crate) fn of_plain(fault: PcapFault) -> Fault {
+    let (flaw, at) = match fault {
+        PcapFault::NotPcap => (Flaw::NotPcap, 0),
+        PcapFault::Version => (Flaw::Version, 4),
+        PcapFault::LinkType => (Flaw::LinkType, 20),
+        PcapFault::Cut(at) => (Flaw::Cut, at),
+        PcapFault::Length(at) => (Flaw::Length, at),
+        PcapFault::Time(at) => (Flaw::Time, at),
+    };
+    Fault { flaw, at }
+}
+
+// The name of a fault, and its place where the name alone doesn't say it.
+fn fault_text(rt: &impl Abort, alloc: Global, fault: Fault) -> String {
+    let Fault { flaw, at } = fault;
+    let text = match (flaw, at) {
+        (Flaw::NotPcap, 0) => format!(in alloc; "NotPcap"),
+        (Flaw::Version, 4) => format!(in alloc; "Version"),
+        (Flaw::LinkType, 20) => format!(in alloc; "LinkType"),
+        _ => format!(in alloc; "{flaw:?}({at})"),
+    };
+    text.expect(rt, "memory")
+}
 
 /// What is read of a file.
 #[derive(Drop)]
 struct Told<'a> {
     alloc: Global,
     file: &'a [u8],
-    /// Where the head of the next record stands.
-    place: usize,
     text: String,
 }
 
@@ -19,7 +43,6 @@ impl<'a> Told<'a> {
         Told {
             alloc,
             file,
-            place: 24,
             text: String::new(alloc),
         }
     }
@@ -28,40 +51,60 @@ impl<'a> Told<'a> {
         self.text.push_str(text).expect(rt, "memory");
     }
 
-    fn put_fault(&mut self, rt: &impl Abort, fault: PcapFault) {
-        let told = format!(in self.alloc; "{fault:?}").expect(rt, "memory");
+    fn put_fault(&mut self, rt: &impl Abort, fault: Fault) {
+        let told = fault_text(rt, self.alloc, fault);
         self.put(rt, told.as_str());
     }
 
-    // The bytes of a record have to stand behind its head.
-    fn put_record(&mut self, rt: &impl Abort, moment: u64, bytes: &[u8]) {
-        let start = self.place.saturating_add(16);
-        let stands = self.file.get(start..).unwrap_or(&[]).starts_with(bytes);
-        holds(rt, stands, "the bytes of a record");
+    // Whether these bytes stand so many behind a place.
+    fn stands(&self, place: usize, head: usize, bytes: &[u8]) -> bool {
+        let start = place.saturating_add(head);
+        self.file.get(start..).unwrap_or(&[]).starts_with(bytes)
+    }
+
+    // The bytes of a record that begins here have to stand behind its head.
+    fn put_record(&mut self, rt: &impl Abort, place: usize, moment: u64, bytes: &[u8]) {
+        let classic = self.stands(place, 16, bytes);
+        let enhanced = self.stands(place, 28, bytes);
+        let simple = self.stands(place, 12, bytes);
+        holds(rt, classic || enhanced || simple, "the bytes of a record");
         let length = bytes.len();
         let record = format!(in self.alloc; "{moment} {length}; ").expect(rt, "memory");
         self.put(rt, record.as_str());
-        self.place = start.saturating_add(length);
     }
 
-    // Puts what a reader of the whole file answers.
-    fn put_records(&mut self, rt: &impl Abort, reader: &mut Reader<'_>) {
+    // Puts what the plain reader of a whole classic file answers.
+    fn put_records(&mut self, rt: &impl Abort, reader: &mut Plain<'_>) {
+        let mut place = 24usize;
         for _record in 0..9u32 {
             match reader.next() {
-                Ok(Some(record)) => self.put_record(rt, record.moment, record.bytes),
+                Ok(Some(record)) => {
+                    self.put_record(rt, place, record.moment, record.bytes);
+                    place = place.saturating_add(16).saturating_add(record.bytes.len());
+                }
                 Ok(None) => return,
-                Err(fault) => return self.put_fault(rt, fault),
+                Err(fault) => return self.put_fault(rt, of_plain(fault)),
             }
         }
     }
 
     // Puts what a reader answers up to More, the end or a fault; true where it is More.
-    fn put_answers(&mut self, rt: &impl Abort, reader: &mut PieceReader, ended: bool) -> bool {
+    fn put_answers(&mut self, rt: &impl Abort, reader: &mut Reader<Capture>, ended: bool) -> bool {
         for _answer in 0..9u32 {
-            match reader.next(ended) {
-                Ok(Next::Record { moment, bytes }) => self.put_record(rt, moment, bytes),
-                Ok(Next::More) => return true,
-                Ok(Next::End) => return false,
+            match reader.advance(ended) {
+                Ok(
+                    Ahead::Record {
+                        moment,
+                        from,
+                        bytes,
+                    },
+                ) => {
+                    let place = reader.begun() as usize;
+                    let frame = reader.frame(from, bytes);
+                    self.put_record(rt, place, moment, frame);
+                }
+                Ok(Ahead::More) => return true,
+                Ok(Ahead::End) => return false,
                 Err(fault) => {
                     self.put_fault(rt, fault);
                     return false;
@@ -72,7 +115,7 @@ impl<'a> Told<'a> {
     }
 
     // Puts what is answered of the file in these pieces, where it is asked behind each.
-    fn put_pieces(&mut self, rt: &impl Abort, reader: &mut PieceReader, pieces: &[&[u8]]) {
+    fn put_pieces(&mut self, rt: &impl Abort, reader: &mut Reader<Capture>, pieces: &[&[u8]]) {
         for piece in pieces {
             feed_whole(rt, reader, piece);
             if !self.put_answers(rt, reader, false) {
@@ -84,7 +127,7 @@ impl<'a> Told<'a> {
     }
 
     // Puts what is answered of the file in pieces of so many bytes, where the end is told with the last of them.
-    fn put_sized(&mut self, rt: &impl Abort, reader: &mut PieceReader, size: usize) {
+    fn put_sized(&mut self, rt: &impl Abort, reader: &mut Reader<Capture>, size: usize) {
         let mut left = self.file;
         for _piece in 0..9_999u32 {
             if !self.put_answers(rt, reader, left.is_empty()) {
@@ -96,30 +139,45 @@ impl<'a> Told<'a> {
 }
 
 // Feeds a piece for which there has to be room.
-fn feed_whole(rt: &impl Abort, reader: &mut PieceReader, piece: &[u8]) {
+fn feed_whole(rt: &impl Abort, reader: &mut Reader<Capture>, piece: &[u8]) {
     holds(rt, reader.feed(piece) as usize == piece.len(), "room");
 }
 
 // Feeds at most so many bytes, and answers what is left of them.
-fn feed<'a>(rt: &impl Abort, reader: &mut PieceReader, left: &'a [u8], size: usize) -> &'a [u8] {
+fn feed<'a>(
+    rt: &impl Abort,
+    reader: &mut Reader<Capture>,
+    left: &'a [u8],
+    size: usize,
+) -> &'a [u8] {
     let piece = left.get(..size).unwrap_or(left);
     let taken = reader.feed(piece) as usize;
     holds(rt, taken > 0, "room");
     left.get(taken..).unwrap_or(&[])
 }
 
-fn piece_reader(rt: &impl Abort, alloc: Global) -> PieceReader {
-    PieceReader::new(alloc).expect(rt, "memory")
+fn piece_reader(rt: &impl Abort, alloc: Global) -> Reader<Capture> {
+    Reader::new(alloc, Capture::Unknown).expect(rt, "memory")
 }
 
-/// What is read of a whole file.
-pub(crate) fn whole_text(rt: &impl Abort, alloc: Global, file: &[u8]) -> String {
+/// What the plain reader reads of a whole classic file.
+pub(crate) fn plain_text(rt: &impl Abort, alloc: Global, file: &[u8]) -> String {
     let mut told = Told::new(alloc, file);
-    match Reader::new(file) {
+    match Plain::new(file) {
         Ok(mut reader) => told.put_records(rt, &mut reader),
-        Err(fault) => told.put_fault(rt, fault),
+        Err(fault) => told.put_fault(rt, of_plain(fault)),
     }
     told.text
+}
+
+/// What is read of a whole file: a classic one is read by the plain reader too, and has to be read as the same.
+pub(crate) fn whole_text(rt: &impl Abort, alloc: Global, file: &[u8]) -> String {
+    let text = sized_text(rt, alloc, file, file.len());
+    if !file.starts_with(&[0x0A, 0x0D, 0x0D, 0x0A]) {
+        let plain = plain_text(rt, alloc, file);
+        same(rt, text.as_str(), plain.as_str(), "a classic file");
+    }
+    text
 }
 
 /// What is answered of a file in these pieces.

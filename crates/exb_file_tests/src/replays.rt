@@ -1,13 +1,15 @@
 //! Captures that are read again, each on a shelf that reads at most so many bytes at once, and of which another file was told.
 ghost use Rattle.std.specs.Prelude.{◌<◌, length};
 ghost use Rattle.exb_faulty.specs.Faulty.{ids_of};
-ghost use Rattle.exb_scan.specs.Reading.{IsAt};
-ghost use Rattle.exb_scan.specs.Replaying.{IsKept};
+ghost use Rattle.exb_capture.specs.Reading.{IsAt};
+ghost use Rattle.exb_capture.specs.Replaying.{IsKept};
 
-use crate::compare::same;
+use crate::compare::{same, same_at};
+use crate::hostile::bytes_of;
+use crate::pcapng::ROW;
 use crate::scans::{CUTS, Change, MAGIC, capture, changed, name_of, shelf_with};
+use exb_capture::{Replay, ReplayFault, Replayed, Scanned, scan};
 use exb_faulty::{Disturbance, FaultyShelf};
-use exb_scan::{Replay, ReplayFault, Replayed, Scanned, scan};
 use std::alloc::Global;
 use std::process::Abort;
 
@@ -76,7 +78,7 @@ const AGAIN: [Again; 28] = [
         133,
         TIME,
         (0, [0x0A, 0x0D, 0x0D, 0x0A], 133),
-        "Changed { at: 0 }",
+        "Changed { at: 8 }",
     ),
     (133, TIME, (4, [2, 0, 3, 0], 133), "Changed { at: 4 }"),
     (133, TIME, (20, [105, 0, 0, 0], 133), "Changed { at: 20 }"),
@@ -260,6 +262,56 @@ fn judge_again(rt: &impl Abort, alloc: Global, again: &Again) {
 fn a_change_shows_at_its_byte(rt: HostRuntime) {
     for again in &AGAIN {
         judge_again(&rt, rt.alloc(), again);
+    }
+}
+
+/// What was told of a capture of pcapng, how many bytes of it there are when it is read again, and what comes of it.
+const BLOCKS_AGAIN: [(u64, Option<u64>, usize, &str); 10] = [
+    (156, TIME, 156, "100000000000 60; end"),
+    (140, TIME, 140, "100000000000 60; end"),
+    (140, TIME, 139, "Changed { at: 48 }"),
+    (156, TIME, 140, "100000000000 60; Changed { at: 140 }"),
+    (140, TIME, 156, "100000000000 60; Changed { at: 140 }"),
+    // Its first record comes early: where its block begins, but where the file ends with it or is told to end before it does.
+    (140, LATER, 140, "Changed { at: 48 }"),
+    (139, LATER, 140, "Changed { at: 139 }"),
+    (156, LATER, 140, "Changed { at: 140 }"),
+    (172, LATER, 156, "Changed { at: 48 }"),
+    (156, None, 156, "Changed { at: 48 }"),
+];
+
+// Asserts what comes of a capture of pcapng of which this was told, however much is read at once.
+fn judge_blocks(rt: &impl Abort, alloc: Global, scanned: Scanned, file: &[u8], wanted: &str) {
+    for most in &CUTS {
+        let text = played(rt, alloc, file, Disturbance::Slow { bytes: *most }, scanned);
+        same_at(rt, text.as_str(), wanted, "a capture of pcapng", file.len());
+    }
+}
+
+// The same of the front of the row's file, behind which stands a block that is skipped.
+fn judge_front(
+    rt: &impl Abort,
+    alloc: Global,
+    told: (u64, Option<u64>),
+    size: usize,
+    wanted: &str,
+) {
+    let (bytes, first) = told;
+    let scanned = Scanned {
+        bytes,
+        records: 0,
+        first,
+    };
+    let text = format!(in alloc; "{ROW} 05000000 10000000 00000000 10000000").expect(rt, "memory");
+    let mut file = bytes_of(rt, alloc, text.as_str());
+    file.truncate(size);
+    judge_blocks(rt, alloc, scanned, file.as_slice(), wanted);
+}
+
+#[test]
+fn a_change_of_pcapng_shows_at_its_byte(rt: HostRuntime) {
+    for (bytes, first, size, wanted) in &BLOCKS_AGAIN {
+        judge_front(&rt, rt.alloc(), (*bytes, *first), *size, wanted);
     }
 }
 

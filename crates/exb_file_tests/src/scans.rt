@@ -1,8 +1,9 @@
 //! Captures that are checked, each on a shelf that reads at most so many bytes at once.
 use crate::compare::same;
+use crate::reading::of_plain;
+use exb_capture::{Fault, ScanFault, Scanned, header_text, record_text, scan};
 use exb_faulty::{Disturbance, FaultyShelf};
-use exb_pcap::{PcapFault, Reader, header_text, record_text};
-use exb_scan::{ScanFault, Scanned, scan};
+use exb_flat_pcap::Reader;
 use std::alloc::Global;
 use std::process::Abort;
 
@@ -24,7 +25,7 @@ pub(crate) type Change = (usize, [u8; 4], usize);
 /// The first four bytes of the capture: nothing changes where they stand there.
 pub(crate) const MAGIC: [u8; 4] = [0xD4, 0xC3, 0xB2, 0xA1];
 
-const CHANGED: [Change; 16] = [
+const CHANGED: [Change; 15] = [
     (0, MAGIC, 100),
     (0, MAGIC, 0),
     (0, MAGIC, 3),
@@ -35,7 +36,6 @@ const CHANGED: [Change; 16] = [
     (0, MAGIC, 116),
     (0, MAGIC, 117),
     (0, MAGIC, 133),
-    (0, [0x0A, 0x0D, 0x0D, 0x0A], 100),
     (4, [2, 0, 3, 0], 100),
     (20, [105, 0, 0, 0], 100),
     (28, [0x40, 0x42, 0x0F, 0], 100),
@@ -52,8 +52,8 @@ const LIMITED: [(usize, u64, &str); 10] = [
     (100, 3, "Large { limit: 3 }"),
     (100, 0, "Large { limit: 0 }"),
     (24, 24, "24 0 None"),
-    (99, 100, "Fault { fault: Cut(24) }"),
-    (99, 99, "Fault { fault: Cut(24) }"),
+    (99, 100, "Fault { fault: Fault { flaw: Cut, at: 24 } }"),
+    (99, 99, "Fault { fault: Fault { flaw: Cut, at: 24 } }"),
     (99, 98, "Large { limit: 98 }"),
 ];
 
@@ -93,18 +93,22 @@ pub(crate) fn changed(rt: &impl Abort, alloc: Global, change: &Change) -> Vec<u8
     file
 }
 
-// What the whole reader reads of it, as a scan tells it.
-fn read(file: &[u8]) -> Result<(u64, Option<u64>), PcapFault> {
-    let mut reader = Reader::new(file)?;
+// What the plain reader reads of it, as a scan tells it.
+fn read(file: &[u8]) -> Result<(u64, Option<u64>), Fault> {
+    let mut reader = match Reader::new(file) {
+        Ok(reader) => reader,
+        Err(fault) => return Err(of_plain(fault)),
+    };
     let mut records = 0u64;
     let mut first = None;
     for _record in 0..9u32 {
-        match reader.next()? {
-            Some(record) => {
+        match reader.next() {
+            Ok(Some(record)) => {
                 records = records.saturating_add(1);
                 first = first.or(Some(record.moment));
             }
-            None => return Ok((records, first)),
+            Ok(None) => return Ok((records, first)),
+            Err(fault) => return Err(of_plain(fault)),
         }
     }
     Ok((records, first))
@@ -125,7 +129,7 @@ fn told_text(rt: &impl Abort, alloc: Global, told: Result<Scanned, ScanFault>) -
     text.expect(rt, "memory")
 }
 
-// What the whole reader reads of a file, as a scan tells it.
+// What the plain reader reads of a file, as a scan tells it.
 fn whole_text(rt: &impl Abort, alloc: Global, file: &[u8]) -> String {
     let told = match read(file) {
         Ok((records, first)) => Ok(Scanned {
@@ -190,7 +194,7 @@ fn judge_change(rt: &impl Abort, alloc: Global, change: &Change) {
 }
 
 #[test]
-fn a_scan_tells_what_the_whole_reader_reads(rt: HostRuntime) {
+fn a_scan_tells_what_the_plain_reader_reads(rt: HostRuntime) {
     for change in &CHANGED {
         judge_change(&rt, rt.alloc(), change);
     }
@@ -229,7 +233,13 @@ const LATE: Change = (28, [0x40, 0x42, 0x0F, 0], 100);
 
 #[test]
 fn a_fault_that_stands_comes_before_the_limit(rt: HostRuntime) {
-    judge_limit(&rt, rt.alloc(), &LATE, 40, "Fault { fault: Time(28) }");
+    judge_limit(
+        &rt,
+        rt.alloc(),
+        &LATE,
+        40,
+        "Fault { fault: Fault { flaw: Time, at: 28 } }",
+    );
     judge_limit(&rt, rt.alloc(), &LATE, 39, "Large { limit: 39 }");
 }
 

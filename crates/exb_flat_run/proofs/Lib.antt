@@ -1,6 +1,7 @@
 mod WaysUp
 pub mod Ranges
 pub mod TurnLemmas
+mod Opened
 mod SiteLemmas
 pub mod MergeLemmas
 pub mod Counts

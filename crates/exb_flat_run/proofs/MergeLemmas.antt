@@ -8,8 +8,8 @@ use Rattle.exb_model.specs.Ports.{below, all_ports}
 use Rattle.exb_model.specs.Input.{Input, Given, given_by, Record, Arrival, Coming, Ordered, Captured, moment_of, second_of, least_or, start_second, arrivals_at, all_arrivals, commands_from, put_in_order, by_moment, merge}
 use Rattle.exb_model.specs.declared.setup.Timed.{Timed}
 use Rattle.exb_merge.specs.Streams.{Stream, stream_of, stream_at, arrivals_of, to_come}
-use Rattle.exb_pcap.specs.declared.reader.PcapFault.{PcapFault}
-use Rattle.exb_pcap.specs.Captures.{pcap_records, records_or_none}
+use Rattle.exb_flat_pcap.specs.declared.reader.PcapFault.{PcapFault}
+use Rattle.exb_flat_pcap.specs.Captures.{pcap_records, records_or_none}
 use Rattle.exb_flat_run.specs.declared.merge.Capture.{Capture}
 use Rattle.exb_flat_run.specs.Inputs.{records_in, records_of}
 use Rattle.exb_flat_run.specs.Merging.{is_good, has_capture, stream_for, stream_if, first_second, put_all, ComesAfter, FitsComing, IsRecord}

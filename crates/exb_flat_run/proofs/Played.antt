@@ -28,7 +28,7 @@ use Rattle.exb_model.specs.Refusals.{refusal}
 use Rattle.exb_model.specs.Input.{Input, Arrival, Coming, Ordered, Captured, Eager, given_by, basis_of as basis_for, tree_of, bounds_of as bounds_for, arrival_in, merge, segments, segments_after}
 use Rattle.exb_model.specs.EagerHistory.{eager, eagerly, opening, decided, risen, refusal_of, is_relayed}
 use Rattle.exb_model.specs.LegalHistory.{EachEvent}
-use Rattle.exb_pcap.specs.Written.{CanBeWritten}
+use Rattle.exb_capture.specs.Written.{CanBeWritten}
 use Rattle.exb_flat_run.specs.declared.merge.Capture.{Capture}
 use Rattle.exb_flat_run.specs.declared.site.Site.{Site}
 use Rattle.exb_flat_run.specs.Sites.{IsSiteOf, basis_of}

@@ -3,7 +3,7 @@ use Rattle.std.specs.Prelude.{ℕ, ◌==◌, List, [], map, Option, Some, None, 
 use Rattle.exb_model.specs.declared.setup.Setup.{Setup}
 use Rattle.exb_model.specs.declared.setup.Timed.{Timed}
 use Rattle.exb_model.specs.Input.{Input, Record, Arrival, Coming as Comes, Ordered, Captured, given_by}
-use Rattle.exb_pcap.specs.Captures.{pcap_records, records_or_none}
+use Rattle.exb_flat_pcap.specs.Captures.{pcap_records, records_or_none}
 use Rattle.exb_flat_run.specs.declared.merge.Capture.{Capture}
 use Rattle.exb_flat_run.specs.declared.merge.Arrival.{Arrival as Arrived}
 use Rattle.exb_flat_run.specs.declared.merge.Coming.{Coming}

@@ -2,6 +2,7 @@ pub mod Layouts
 pub mod Sets
 pub mod Limits
 pub mod Sites
+pub mod Sources
 pub mod Merging
 pub mod Turns
 pub mod Counting

@@ -2,7 +2,7 @@
 use Rattle.std.specs.Prelude.{◌≡◌, ℕ, ◌+◌, ◌*◌, ◌<◌, ◌≤◌, ◌^◌, Bool, false, List, [], ◌∷◌, length, Option, Some, None, find, is_ok, ◌==◌, if◌then◌else◌}
 use Rattle.exb_model.specs.Input.{Arrival, Coming as Comes, Ordered, Captured, moment_of, second_of, put_in_order}
 use Rattle.exb_merge.specs.Streams.{Stream, stream_of}
-use Rattle.exb_pcap.specs.Captures.{pcap_records}
+use Rattle.exb_flat_pcap.specs.Captures.{pcap_records}
 use Rattle.exb_flat_run.specs.declared.merge.Capture.{Capture}
 use Rattle.exb_flat_run.specs.declared.merge.Coming.{Coming}
 use Rattle.exb_flat_run.specs.Inputs.{records_of, coming_of}

@@ -3,18 +3,18 @@ ghost use Rattle.std.specs.Prelude.{◌≡◌, ◌<◌, ◌≤◌, ◌*◌, ◌+
 ghost use Rattle.exb_model.specs.Ports.{all_ports};
 ghost use Rattle.exb_model.specs.Input.{Input, Coming as Comes, Captured, merge, by_moment, put_in_order, commands_from, all_arrivals, given_by, moment_of};
 ghost use Rattle.exb_merge.specs.Streams.{to_come};
-ghost use Rattle.exb_pcap.specs.Captures.{pcap_records};
+ghost use Rattle.exb_flat_pcap.specs.Captures.{pcap_records};
 ghost use Rattle.exb_flat_run.specs.Inputs.{records_of, coming_of};
 ghost use Rattle.exb_flat_run.specs.Merging.{has_capture, stream_for, stream_if, first_second, put_all, ComesAfter, FitsComing, IsRecord};
 
+use crate::captures::Captures;
 use crate::layout::{PORTS, port_of};
-use exb_merge::Captures;
+use exb_flat_pcap::Reader;
 use exb_merge::laws::merge_of_chosen;
 use exb_model::bytes::Bytes;
 use exb_model::memory::NoMemory;
 use exb_model::port::PortId;
 use exb_model::setup::Timed;
-use exb_pcap::Reader;
 use std::alloc::Global;
 
 /// The capture of a port: a whole file. Of several for one port the first counts, and one that breaks the

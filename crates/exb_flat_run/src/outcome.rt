@@ -5,7 +5,7 @@ ghost use Rattle.exb_model.specs.FlatBridge.{flat as flat_of};
 ghost use Rattle.exb_model.specs.Input.{basis_of as basis_for, tree_of};
 ghost use Rattle.exb_model.specs.EagerHistory.{eager as eager_of};
 ghost use Rattle.exb_model.specs.Texts.{journal_text as journal_of, summary as summary_of};
-ghost use Rattle.exb_pcap.specs.Written.{CanBeWritten};
+ghost use Rattle.exb_capture.specs.Written.{CanBeWritten};
 ghost use Rattle.exb_flat.specs.Histories.{basis_of};
 ghost use Rattle.exb_flat_run.specs.Sites.{IsSiteOf};
 ghost use Rattle.exb_flat_run.specs.Inputs.{input_of};

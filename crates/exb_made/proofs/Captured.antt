@@ -5,13 +5,13 @@ use Rattle.std.proofs.lemmas.List.Elements.{filter_passes}
 use Rattle.exb_model.specs.Input.{Record}
 use Rattle.exb_model.specs.Ports.{all_ports}
 use Rattle.exb_model.specs.Tree.{Shape, is_external, external_ports}
-use Rattle.exb_pcap.specs.declared.reader.PcapFault.{PcapFault}
-use Rattle.exb_pcap.specs.Captures.{pcap_records}
+use Rattle.exb_capture.specs.declared.fault.Fault.{Fault}
+use Rattle.exb_capture.specs.Captures.{capture_records}
 use Rattle.exb_made.specs.declared.captures.Capture.{Capture}
 use Rattle.exb_made.specs.Pieces.{read_of, IsAtExternal, IsWhole}
 
 module _ (t : Shape) (records : ℕ → List Record) (cs : List Capture) (are : map read_of cs ≡ map (λ q. (q, Ok (records q))) (external_ports t)) where
-  abbrev at_port : ℕ → ℕ × Result (List Record) PcapFault
+  abbrev at_port : ℕ → ℕ × Result (List Record) Fault
   at_port q = (q, Ok (records q))
 
   -- the capture at a place is that of the port at the place
@@ -32,5 +32,5 @@ module _ (t : Shape) (records : ℕ → List Record) (cs : List Capture) (are : 
   pub all_whole : All IsWhole cs
   all_whole k d l =
       let at = here k d l in
-      let is : pcap_records (get_or cs k d).file.items ≡ Ok (records (get_or (external_ports t) k 0)) = ap (λ x. x.1) at.1 in
+      let is : capture_records (get_or cs k d).file.items ≡ Ok (records (get_or (external_ports t) k 0)) = ap (λ x. x.1) at.1 in
       subst IsOk (sym is) refl

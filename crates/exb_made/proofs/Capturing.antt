@@ -8,7 +8,7 @@ use Rattle.std.proofs.lemmas.List.Sums.{sum_by-append, sum_by-cons}
 use Rattle.exb_model.specs.FlatBridge.{Sent}
 use Rattle.exb_model.specs.Input.{second_of}
 use Rattle.exb_model.specs.Texts.{capture_header, four_bytes, capture_text, record_text}
-use Rattle.exb_pcap.specs.Written.{CanBeWritten, in_microseconds}
+use Rattle.exb_capture.specs.Written.{CanBeWritten, in_microseconds}
 use Rattle.exb_made.specs.Drawing.{Frame}
 use Rattle.exb_made.specs.Made.{records_at}
 use Rattle.exb_made.specs.Pieces.{IsPlayable, sent_of, sent_at}

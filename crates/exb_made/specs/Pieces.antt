@@ -3,8 +3,8 @@ use Rattle.std.specs.Prelude.{◌≡◌, ℕ, ◌*◌, ◌/◌, ◌<◌, ◌≤�
 use Rattle.exb_model.specs.Input.{Record}
 use Rattle.exb_model.specs.FlatBridge.{Sent}
 use Rattle.exb_model.specs.Tree.{Shape, is_external}
-use Rattle.exb_pcap.specs.declared.reader.PcapFault.{PcapFault}
-use Rattle.exb_pcap.specs.Captures.{pcap_records}
+use Rattle.exb_capture.specs.declared.fault.Fault.{Fault}
+use Rattle.exb_capture.specs.Captures.{capture_records}
 use Rattle.exb_made.specs.declared.frames.Arriving.{Arriving}
 use Rattle.exb_made.specs.declared.captures.Capture.{Capture}
 use Rattle.exb_made.specs.declared.making.Drawn.{Drawn as Kept}
@@ -29,8 +29,8 @@ pub record IsPlayable (f : Frame) : Type 0 where
   pub bytes : length f.record_there.bytes ≤ 64
 
 -- a port, and what a reader gives of its capture
-abbrev pub read_of : Capture → ℕ × Result (List Record) PcapFault
-read_of c = (c.port, pcap_records c.file.items)
+abbrev pub read_of : Capture → ℕ × Result (List Record) Fault
+read_of c = (c.port, capture_records c.file.items)
 
 -- what was drawn
 abbrev pub drawn_of : Kept → Drawn
@@ -42,4 +42,4 @@ IsAtExternal t c = is_external t c.port ≡ true
 
 -- a reader finds no fault in it
 abbrev pub IsWhole : Capture → Type 0
-IsWhole c = IsOk (pcap_records c.file.items)
+IsWhole c = IsOk (capture_records c.file.items)

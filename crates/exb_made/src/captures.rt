@@ -5,9 +5,9 @@ ghost use Rattle.exb_made.specs.Made.{records_at};
 ghost use Rattle.exb_made.specs.Pieces.{frame_of, read_of, sent_of, sent_at, IsPlayable};
 
 use crate::frames::Arriving;
+use exb_capture::{header_text, record_text};
 use exb_model::memory::NoMemory;
 use exb_model::port::PortId;
-use exb_pcap::{header_text, record_text};
 use std::alloc::Global;
 
 /// The capture of a port: a classic pcap file.
@@ -48,7 +48,7 @@ fn capture_of(alloc: Global, arrived: &[Arriving], port: PortId) -> Result<Captu
     ensures read { IfOk result (λ made. read_of made ≡ (port, Ok (records_at (map frame_of arrived.now) port))) }
     ensures small { IfOk result (λ made. length made.file.items ≤ 24 + 80 * length arrived.now) }
 {
-    exb_pcap::laws::written_is_read();
+    exb_capture::laws::written_is_read();
     let file = file_of(alloc, arrived, port)?;
     Ok(Capture { port, file })
 }

@@ -5,15 +5,17 @@ use Rattle.std.specs.List.{AllByRecursion}
 use Rattle.std.specs.declared.collections.BinaryHeap.{BinaryHeap}
 use Rattle.std.specs.BinaryHeap.{IsHeap, heap_items, heap_len, heap_capacity}
 use Rattle.exb_model.specs.Input.{Record}
-use Rattle.exb_pcap.specs.Captures.{pcap_records}
-use Rattle.exb_pcap.specs.Pieces.{Reading}
+use Rattle.exb_capture.specs.Captures.{capture_records}
+use Rattle.exb_capture.specs.declared.capture.Capture.{Capture as State}
+use Rattle.exb_capture.specs.declared.file.Seen.{Seen}
+use Rattle.exb_capture.specs.Pieces.{Reading}
 use Rattle.exb_shelf.specs.Files.{Files, SameFiles, bytes_of}
 use Rattle.exb_shelf.specs.Shelf.{Id, IsReadingOf, Opens, reading}
-use Rattle.exb_scan.specs.declared.checking.Scanned.{Scanned}
-use Rattle.exb_scan.specs.declared.replay.Replay.{Replay}
-use Rattle.exb_scan.specs.Reading.{IsAt, IsBegun, MovesOn, left_to_read}
-use Rattle.exb_scan.specs.Replaying.{ComesAt, HasGiven, IsAsBefore, IsKept, IsPlayed, IsSameReplay}
-use Rattle.exb_scan.specs.Scans.{scanned_of}
+use Rattle.exb_capture.specs.declared.checking.Scanned.{Scanned}
+use Rattle.exb_capture.specs.declared.replay.Replay.{Replay}
+use Rattle.exb_capture.specs.Reading.{IsAt, IsBegun, MovesOn, left_to_read, one_next}
+use Rattle.exb_capture.specs.Replaying.{ComesAt, HasGiven, IsAsBefore, IsKept, IsPlayed, IsSameReplay}
+use Rattle.exb_capture.specs.Scans.{scanned_of}
 use Rattle.exb_merge.specs.declared.replays.Again.{Again}
 use Rattle.exb_merge.specs.Replays.{Apart, AreReplays, HasPort, IsOpened, IsReplayOf, seen, standing_of}
 use Rattle.exb_merge.specs.Streams.{Stream, stream_of}
@@ -41,13 +43,14 @@ module _ (port : ℕ) (told : Scanned) (opened looked : Replay) (next : Option �
       IfSome next (λ m. ComesAt m looked) → IsOpened ids one_more
   opened_first ids small kept at looks comes =
       let size : looked.told.bytes ≡ told.bytes = ap (λ (t : Scanned). t.bytes) (same.told ∙ tells) in
-      let held = ap (λ (r : Reading). length r.held) begun.reader in
-      record { at = at; kept = kept; small = omega (arith, small, size); first = omega arith; numbers = omega (arith, size, looks, held, begun.got, begun.limit_is); comes = comes }
+      let held = ap (λ (r : Reading State). length r.held) begun.reader in
+      let unseen = ap (λ (o : Option Seen). one_next o) begun.next in
+      record { at = at; kept = kept; small = omega (arith, small, size); first = omega arith; numbers = omega (arith, size, looks, held, unseen, begun.got, begun.limit_is); comes = comes }
 
   -- the shelf: before, once it was opened, and once it was looked at
   module _ (file mid now : Files) (given opening ids : ℕ → Id) (name : List ℕ) (same_mid : SameFiles file mid) (same_now : SameFiles mid now) (moves : MovesOn opened.file.id opening ids)
       (is : opening opened.file.id ≡ reading name 0) (as_before : IsAsBefore opened looked) (none : opened.least ≡ 0) where
-    pub replay_first : (bytes : List ℕ) (records : List Record) → file name ≡ Some bytes → pcap_records bytes ≡ Ok records → told ≡ scanned_of bytes records → HasGiven (bytes_of (file name)) [] opened →
+    pub replay_first : (bytes : List ℕ) (records : List Record) → file name ≡ Some bytes → capture_records bytes ≡ Ok records → told ≡ scanned_of bytes records → HasGiven (bytes_of (file name)) [] opened →
         ((xs : List Record) → HasGiven (bytes_of (mid (opening opened.file.id).name)) xs opened → HasGiven (bytes_of (mid (opening opened.file.id).name)) xs looked) →
         IfNone next ((xs : List Record) → HasGiven (bytes_of (mid (opening opened.file.id).name)) xs opened → IsPlayed opened.told (bytes_of (mid (opening opened.file.id).name)) xs) →
         IsReplayOf now ids one_more (stream_of port records)

@@ -2,7 +2,6 @@ pub mod InOrder
 pub mod Arriving
 pub mod Members
 pub mod TurnLemmas
-pub mod Opened
 pub mod Merged
 pub mod Among
 pub mod Starting

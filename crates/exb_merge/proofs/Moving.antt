@@ -5,11 +5,11 @@ use Rattle.std.specs.List.{AllByRecursion}
 use Rattle.std.proofs.lemmas.Bool.{cases_eq, cases_lt}
 use Rattle.exb_shelf.specs.Files.{Files, SameFiles}
 use Rattle.exb_shelf.specs.Shelf.{Id, IsReadingOf, Opens, Rose, reading}
-use Rattle.exb_scan.specs.declared.replay.Replay.{Replay}
-use Rattle.exb_scan.specs.declared.replay.ReplayFault.{ReplayFault}
-use Rattle.exb_scan.specs.declared.replay.ReplayFault.TheVariants as replay
-use Rattle.exb_scan.specs.Reading.{IsAt, MovesOn, left_to_read}
-use Rattle.exb_scan.specs.Replaying.{ComesAt, IsKept, IsSameReplay}
+use Rattle.exb_capture.specs.declared.replay.Replay.{Replay}
+use Rattle.exb_capture.specs.declared.replay.ReplayFault.{ReplayFault}
+use Rattle.exb_capture.specs.declared.replay.ReplayFault.TheVariants as replay
+use Rattle.exb_capture.specs.Reading.{IsAt, MovesOn, left_to_read}
+use Rattle.exb_capture.specs.Replaying.{ComesAt, IsKept, IsSameReplay}
 use Rattle.exb_merge.specs.declared.replays.Again.{Again}
 use Rattle.exb_merge.specs.declared.replays.CaptureFault.{CaptureFault}
 use Rattle.exb_merge.specs.declared.replays.CaptureFault.TheVariants.{Read, Changed}

@@ -1,17 +1,17 @@
 -- The next record is taken of the capture whose turn it is.
 use Rattle.std.proofs.Common.{◌≡◌, ℕ, suc, ◌+◌, ◌*◌, ◌^◌, ◌<◌, ◌≤◌, List, [], ◌∷◌, ◌++◌, length, map, max, set, sym, ap, subst, ◌∙◌, arith}
-use Rattle.std.specs.Prelude.{Option, IfSome, IfNone, sum_by}
+use Rattle.std.specs.Prelude.{Option, Some, IfSome, IfNone, sum_by}
 use Rattle.std.specs.List.{AllByRecursion}
 use Rattle.std.specs.List.Sorted.{IsPermutation}
 use Rattle.std.specs.declared.collections.BinaryHeap.{BinaryHeap}
 use Rattle.std.specs.BinaryHeap.{IsHeap, heap_items, heap_len, heap_capacity}
 use Rattle.exb_model.specs.Input.{Record, Captured, second_of}
-use Rattle.exb_pcap.specs.Pieces.{Found, asked}
+use Rattle.exb_capture.specs.Reading.{next_of}
 use Rattle.exb_shelf.specs.Files.{Files, SameFiles, bytes_of}
 use Rattle.exb_shelf.specs.Shelf.{Id}
-use Rattle.exb_scan.specs.declared.replay.Replay.{Replay}
-use Rattle.exb_scan.specs.Reading.{IsAt, MovesOn}
-use Rattle.exb_scan.specs.Replaying.{ComesAt, HasGiven, IsPlayed, IsReplaying, IsSameReplay, IsSince}
+use Rattle.exb_capture.specs.declared.replay.Replay.{Replay}
+use Rattle.exb_capture.specs.Reading.{IsAt, MovesOn}
+use Rattle.exb_capture.specs.Replaying.{ComesAt, HasGiven, IsPlayed, IsReplaying, IsSameReplay, IsSince}
 use Rattle.exb_merge.specs.declared.replays.Again.{Again}
 use Rattle.exb_merge.specs.declared.replays.Came.{Came}
 use Rattle.exb_merge.specs.Arrivals.{arrival_with}
@@ -98,7 +98,7 @@ module _ (given : ℕ → Id) (s : Again) (taken : Replay) (same : IsSameReplay 
 
 -- what is still to come of the capture whose turn it is
 module _ (file : Files) (given : ℕ → Id) (xs : List Again) (m place : ℕ) (s : Again) (h : IsNext xs m place s) (each : AllByRecursion (IsOpened given) xs) (taken : Replay) (same : IsSameReplay s.replay taken)
-    (gives : (bytes : List ℕ) (ys : List Record) (x : Record) → (asked s.replay.file.ended s.replay.file.reader).answer ≡ Found x → HasGiven bytes ys s.replay → HasGiven bytes (ys ++ x ∷ []) taken) where
+    (gives : (bytes : List ℕ) (ys : List Record) (x : Record) → next_of s.replay.file ≡ Some x → HasGiven bytes ys s.replay → HasGiven bytes (ys ++ x ∷ []) taken) where
   own : IsOpened given s
   own = own_of (IsOpened given) xs place s h.at each
 
@@ -115,10 +115,10 @@ module _ (file : Files) (given : ℕ → Id) (xs : List Again) (m place : ℕ) (
     pub bytes : frame ≡ first.bytes
     pub left : IsReplaying (bytes_of (file (given taken.file.id).name)) rest taken
 
-  pub has_rest : (streams : List Stream) (frame : List ℕ) → ((x : Record) → (asked s.replay.file.ended s.replay.file.reader).answer ≡ Found x → frame ≡ x.bytes) → AreReplays file given xs streams → HasRest streams frame
+  pub has_rest : (streams : List Stream) (frame : List ℕ) → ((x : Record) → next_of s.replay.file ≡ Some x → frame ≡ x.bytes) → AreReplays file given xs streams → HasRest streams frame
   has_rest streams frame is told =
       let q = replay_at file given h.at.before h.at.after s streams (subst (λ ss. AreReplays file given ss streams) h.at.split told) in
-      let k = replaying_taken (bytes_of (file (given s.replay.file.id).name)) frame q.one.records s.replay taken m comes own.kept.sound same.told (is comes.next comes.found) gives q.is.left in
+      let k = replaying_taken (bytes_of (file (given s.replay.file.id).name)) frame q.one.records s.replay taken m comes same.told (is comes.next comes.found) gives q.is.left in
       record {
         there = q;
         first = k.0;

@@ -9,7 +9,7 @@ use Rattle.std.proofs.lemmas.List.Sums.{sum_by-cons}
 use Rattle.exb_merge.specs.declared.replays.Again.{Again}
 use Rattle.exb_merge.specs.Replays.{HasNext, IsOpened, seen, seen_at}
 use Rattle.exb_shelf.specs.Shelf.{Id}
-use Rattle.exb_scan.specs.Replaying.{ComesAt}
+use Rattle.exb_capture.specs.Replaying.{ComesAt}
 use Rattle.exb_merge.specs.Streams.{Stream, arrivals_of, next_moment}
 use Rattle.exb_merge.specs.Turns.{Turn, by_turn, turn_at, turns_from, SameMembers, IsInTurn}
 use Rattle.std.specs.declared.collections.BinaryHeap.{BinaryHeap}

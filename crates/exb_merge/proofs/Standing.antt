@@ -4,8 +4,8 @@ use Rattle.std.specs.Prelude.{◌≢◌, sum_by, Option, Some, None, IfSome}
 use Rattle.std.specs.List.{AllByRecursion}
 use Rattle.std.proofs.lemmas.List.Sums.{sum_by-cons, sum_by-append}
 use Rattle.exb_model.specs.Input.{second_of}
-use Rattle.exb_scan.specs.Reading.{left_to_read}
-use Rattle.exb_scan.specs.Replaying.{IsSince}
+use Rattle.exb_capture.specs.Reading.{left_to_read}
+use Rattle.exb_capture.specs.Replaying.{IsSince}
 use Rattle.exb_merge.specs.declared.replays.Again.{Again}
 use Rattle.exb_merge.specs.Replays.{Apart, Standing, standing_of, number_of, gone_on, HasPort}
 use Rattle.exb_merge.proofs.Members.{all-right}

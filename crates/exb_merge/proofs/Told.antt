@@ -3,19 +3,19 @@ use Rattle.std.proofs.Common.{◌≡◌, ℕ, suc, false, List, [], ◌∷◌, �
 use Rattle.std.specs.Prelude.{Option, Some, None, Ok, IfSome, IfNone}
 use Rattle.std.specs.List.{AllByRecursion}
 use Rattle.exb_model.specs.Input.{Record, Arrival, Captured, arrivals_from}
-use Rattle.exb_pcap.specs.Captures.{pcap_records}
-use Rattle.exb_pcap.specs.Pieces.{Found, asked}
+use Rattle.exb_capture.specs.Captures.{capture_records}
+use Rattle.exb_capture.specs.Reading.{next_of}
 use Rattle.exb_shelf.specs.Files.{Files, SameFiles, bytes_of}
 use Rattle.exb_shelf.specs.Shelf.{Id, reading}
-use Rattle.exb_scan.specs.declared.checking.Scanned.{Scanned}
-use Rattle.exb_scan.specs.declared.replay.Replay.{Replay}
-use Rattle.exb_scan.specs.declared.replay.Replayed.{Replayed}
-use Rattle.exb_scan.specs.Reading.{IsAt, MovesOn, IsSound}
-use Rattle.exb_scan.specs.Replaying.{ComesAt, HasGiven, IsPlayed, IsReplaying, IsSameReplay}
-use Rattle.exb_scan.specs.Scans.{scanned_of}
-use Rattle.exb_scan.proofs.Going.{taken_read}
-use Rattle.exb_scan.proofs.Looking.{kept_bytes}
-use Rattle.exb_scan.proofs.Replaying.{next_replayed, end_replayed}
+use Rattle.exb_capture.specs.declared.checking.Scanned.{Scanned}
+use Rattle.exb_capture.specs.declared.replay.Replay.{Replay}
+use Rattle.exb_capture.specs.declared.replay.Replayed.{Replayed}
+use Rattle.exb_capture.specs.Reading.{IsAt, MovesOn}
+use Rattle.exb_capture.specs.Replaying.{ComesAt, HasGiven, IsPlayed, IsReplaying, IsSameReplay}
+use Rattle.exb_capture.specs.Scans.{scanned_of}
+use Rattle.exb_capture.proofs.Going.{taken_read}
+use Rattle.exb_capture.proofs.Looking.{kept_bytes}
+use Rattle.exb_capture.proofs.Replaying.{next_replayed, end_replayed}
 use Rattle.exb_merge.specs.declared.replays.Again.{Again}
 use Rattle.exb_merge.specs.declared.replays.Came.{Came}
 use Rattle.exb_merge.specs.Arrivals.{arrival_with}
@@ -29,13 +29,13 @@ use Rattle.exb_merge.proofs.TurnLemmas.{HasTurn, NoTurnBefore, at-split, set-spl
 
 -- ---- one capture
 -- the first record of what is left comes next
-told_moment : (bytes : List ℕ) (left : List Record) (r : Replay) (m : ℕ) → IsSound r.file → ComesAt m r → IsReplaying bytes left r →
+told_moment : (bytes : List ℕ) (left : List Record) (r : Replay) (m : ℕ) → ComesAt m r → IsReplaying bytes left r →
     (x : Record) × (rest : List Record) × (left ≡ x ∷ rest) × (m ≡ max r.least x.time)
-told_moment bytes left r m sound c k =
-    let next : Replay = record r { file = record r.file { reader = (asked r.file.ended r.file.reader).left }; fresh = false } in
+told_moment bytes left r m c k =
+    let next : Replay = record r { file = record r.file { next = None }; fresh = false } in
     let given : Replayed = record { moment = m; bytes = c.next.bytes } in
-    let has : HasGiven bytes (k.given ++ c.next ∷ []) next = record { read = taken_read bytes k.given c.next r.file sound c.found k.has.read; fresh = λ e. absurd (cc) } in
-    let first = next_replayed bytes left r r next m given k c sound k.has has refl refl refl refl in
+    let has : HasGiven bytes (k.given ++ c.next ∷ []) next = record { read = taken_read bytes k.given c.next r.file c.found k.has.read; fresh = λ e. absurd (cc) } in
+    let first = next_replayed bytes left r r next m given k c k.has has refl refl refl refl in
     (first.0, first.1, first.2, first.3)
 
 pub next_told : (files : Files) (ids : ℕ → Id) (s : Again) (x : Stream) → IsOpened ids s → IsReplayOf files ids s x → next_moment (arrivals_of x) ≡ s.next
@@ -44,17 +44,17 @@ next_told files ids s x o t = by_next s.next refl o.comes
     by_next : (n : Option ℕ) → s.next ≡ n → IfSome n (λ m. ComesAt m s.replay) → next_moment (arrivals_of x) ≡ n
     by_next None e h = ap (λ rs. next_moment (arrivals_from x.port x.index x.least rs)) (t.over e)
     by_next (Some m) e h =
-        let first = told_moment (bytes_of (files (ids s.replay.file.id).name)) x.records s.replay m o.kept.sound h t.left in
+        let first = told_moment (bytes_of (files (ids s.replay.file.id).name)) x.records s.replay m h t.left in
         ap (λ rs. next_moment (arrivals_from x.port x.index x.least rs)) first.2
         ∙ ap Some (ap (λ n. max n first.0.time) t.least ∙ sym first.3)
 
 -- a record of it was taken: it is the first of what was left
-pub replaying_taken : (bytes taken_bytes : List ℕ) (left : List Record) (r taken : Replay) (m : ℕ) (c : ComesAt m r) → IsSound r.file → taken.told ≡ r.told → taken_bytes ≡ c.next.bytes →
-    ((b : List ℕ) (xs : List Record) (x : Record) → (asked r.file.ended r.file.reader).answer ≡ Found x → HasGiven b xs r → HasGiven b (xs ++ x ∷ []) taken) → IsReplaying bytes left r →
+pub replaying_taken : (bytes taken_bytes : List ℕ) (left : List Record) (r taken : Replay) (m : ℕ) (c : ComesAt m r) → taken.told ≡ r.told → taken_bytes ≡ c.next.bytes →
+    ((b : List ℕ) (xs : List Record) (x : Record) → next_of r.file ≡ Some x → HasGiven b xs r → HasGiven b (xs ++ x ∷ []) taken) → IsReplaying bytes left r →
     (x : Record) × (rest : List Record) × (left ≡ x ∷ rest) × (m ≡ max r.least x.time) × (taken_bytes ≡ x.bytes) × IsReplaying bytes rest taken
-replaying_taken bytes taken_bytes left r taken m c sound told is gives k =
+replaying_taken bytes taken_bytes left r taken m c told is gives k =
     let given : Replayed = record { moment = m; bytes = taken_bytes } in
-    next_replayed bytes left r r taken m given k c sound k.has (gives bytes k.given c.next c.found k.has) refl is refl told
+    next_replayed bytes left r r taken m given k c k.has (gives bytes k.given c.next c.found k.has) refl is refl told
 
 -- it was looked at, so far as its next record
 pub replaying_looked : (file now : Files) (given ids : ℕ → Id) (left : List Record) (r looked : Replay) (next : Option ℕ) → IsAt (given r.file.id) r.file.got → MovesOn r.file.id given ids →
@@ -74,7 +74,7 @@ replaying_looked file now given ids left r looked next at moves files same gives
     by_next (Some m) h e = absurd (cc)
 
 -- it was opened
-pub replaying_opened : (file opened : Files) (ids : ℕ → Id) (name bytes : List ℕ) (records : List Record) (told : Scanned) (r : Replay) → file name ≡ Some bytes → pcap_records bytes ≡ Ok records →
+pub replaying_opened : (file opened : Files) (ids : ℕ → Id) (name bytes : List ℕ) (records : List Record) (told : Scanned) (r : Replay) → file name ≡ Some bytes → capture_records bytes ≡ Ok records →
     told ≡ scanned_of bytes records → SameFiles file opened → ids r.file.id ≡ reading name 0 → r.told ≡ told → HasGiven (bytes_of (file name)) [] r →
     IsReplaying (bytes_of (opened (ids r.file.id).name)) records r
 replaying_opened file opened ids name bytes records told r there whole is same id tells has =

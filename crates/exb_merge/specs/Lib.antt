@@ -1,6 +1,5 @@
 pub mod Streams
 pub mod Arrivals
-pub mod Sources
 pub mod Turns
 pub mod Agendas
 pub mod Programmes

@@ -4,11 +4,11 @@ use Rattle.std.specs.List.{AllByRecursion}
 use Rattle.exb_model.specs.Input.{Captured, second_of}
 use Rattle.exb_shelf.specs.Files.{Files, bytes_of}
 use Rattle.exb_shelf.specs.Shelf.{Id, IsReadingOf}
-use Rattle.exb_scan.specs.Reading.{IsAt, left_to_read}
-use Rattle.exb_scan.specs.Replaying.{IsKept, ComesAt, IsReplaying}
+use Rattle.exb_capture.specs.Reading.{IsAt, left_to_read}
+use Rattle.exb_capture.specs.Replaying.{IsKept, ComesAt, IsReplaying}
 use Rattle.exb_merge.specs.declared.replays.Again.{Again}
-use Rattle.exb_scan.specs.declared.replay.ReplayFault.{ReplayFault}
-use Rattle.exb_scan.specs.declared.replay.ReplayFault.TheVariants as replay
+use Rattle.exb_capture.specs.declared.replay.ReplayFault.{ReplayFault}
+use Rattle.exb_capture.specs.declared.replay.ReplayFault.TheVariants as replay
 use Rattle.exb_merge.specs.declared.replays.CaptureFault.{CaptureFault}
 use Rattle.exb_merge.specs.declared.replays.CaptureFault.TheVariants.{Memory, Read, Changed}
 use Rattle.exb_merge.specs.declared.replays.Came.{Came}

@@ -1,21 +1,20 @@
 //! The captures of some ports that were checked, as they are read again and played.
 ghost use Rattle.std.specs.Prelude.{false, ◌≡◌, ◌≢◌, ◌+◌, ◌*◌, ◌^◌, ◌<◌, ◌≤◌, [], ◌∷◌, ◌++◌, ℕ, List, Some, None, length, IfOk, OnOk, IsErrOf, IfSome, IfNone};
 ghost use Rattle.exb_model.specs.Input.{Record, second_of};
-ghost use Rattle.exb_pcap.specs.Captures.{pcap_records};
+ghost use Rattle.exb_capture.specs.Captures.{capture_records};
 ghost use Rattle.exb_shelf.specs.Files.{SameFiles, bytes_of};
 ghost use Rattle.exb_shelf.specs.Shelf.{Id, IsReadingOf, Opens, Rose, NoFewer};
-ghost use Rattle.exb_pcap.specs.Pieces.{Found, asked};
-ghost use Rattle.exb_scan.specs.Reading.{left_to_read};
-ghost use Rattle.exb_scan.specs.Replaying.{ComesAt, HasGiven, IsKept, IsSameReplay, IsSince};
-ghost use Rattle.exb_scan.specs.Scans.{scanned_of};
+ghost use Rattle.exb_capture.specs.Reading.{left_to_read, next_of};
+ghost use Rattle.exb_capture.specs.Replaying.{ComesAt, HasGiven, IsKept, IsSameReplay, IsSince};
+ghost use Rattle.exb_capture.specs.Scans.{scanned_of};
 ghost use Rattle.exb_merge.specs.Replays.{fault_at, AreOpened, AreReplays, AreToldSince, ComesFirst, HasCome, HasPort, IsEarliest, NoneIsBefore, ReadsOn, ids_in, left_in, standings};
 ghost use Rattle.exb_merge.specs.Streams.{Stream, stream_of};
 
-use crate::captures::{Turn, put_turn};
+use crate::turns::{Turn, put_turn};
+use exb_capture::{Replay, ReplayFault, Scanned};
 use exb_model::bytes::Bytes;
 use exb_model::memory::NoMemory;
 use exb_model::port::PortId;
-use exb_scan::{Replay, ReplayFault, Scanned};
 use exb_shelf::Shelf;
 use std::alloc::Global;
 use std::cmp::Reverse;
@@ -92,8 +91,8 @@ impl Again {
         ensures least { OnOk result (self.new.replay.least ≡ moment) }
         ensures comes { IfOk result (λ c. (c.port ≡ self.old.port) × (c.index ≡ self.old.index) × (c.moment ≡ moment)) }
         ensures limits { IfOk result (λ c. (self.old.replay.least ≤ moment) × IsSince self.old.replay.told.first moment × (moment < 2 ^ 32 * 1_000_000_000) × (length c.bytes ≤ 262_144)) }
-        ensures bytes { (x : Record) → (asked self.old.replay.file.ended self.old.replay.file.reader).answer ≡ Found x → IfOk result (λ c. c.bytes ≡ x.bytes) }
-        ensures given { OnOk result ((bytes : List ℕ) (xs : List Record) (x : Record) → (asked self.old.replay.file.ended self.old.replay.file.reader).answer ≡ Found x
+        ensures bytes { (x : Record) → next_of self.old.replay.file ≡ Some x → IfOk result (λ c. c.bytes ≡ x.bytes) }
+        ensures given { OnOk result ((bytes : List ℕ) (xs : List Record) (x : Record) → next_of self.old.replay.file ≡ Some x
             → HasGiven bytes xs self.old.replay → HasGiven bytes (xs ++ x ∷ []) self.new.replay) }
     {
         let record = self.replay.take(alloc, moment)?;
@@ -144,11 +143,11 @@ impl Replays {
         ensures since { (second : ℕ) → IfSome told.first (λ first. second ≤ second_of first) → AreToldSince second self.old → OnOk result (AreToldSince second self.new) }
 
         ensures streams { S.tells → OnOk result ((bytes : List ℕ) (records : List Record) (streams : List Stream)
-            → S.file shelf.old name.now ≡ Some bytes → pcap_records bytes ≡ Ok records → told ≡ scanned_of bytes records
+            → S.file shelf.old name.now ≡ Some bytes → capture_records bytes ≡ Ok records → told ≡ scanned_of bytes records
             → AreReplays (S.file shelf.old) (S.ids shelf.old) self.old.sources.items streams
             → AreReplays (S.file shelf.new) (S.ids shelf.new) self.new.sources.items (streams ++ stream_of port records ∷ [])) }
         ensures never { S.tells → (p at : ℕ) → IsErrOf result (CaptureFault.Changed p at) → (bytes : List ℕ) (records : List Record)
-            → S.file shelf.old name.now ≡ Some bytes → pcap_records bytes ≡ Ok records → told ≡ scanned_of bytes records → ⊥ }
+            → S.file shelf.old name.now ≡ Some bytes → capture_records bytes ≡ Ok records → told ≡ scanned_of bytes records → ⊥ }
 
         // What is opened, and what stays.
         ensures id { OnOk result ((id : ℕ) × (ids_in self.new ≡ ids_in self.old ++ id ∷ []) × ((S.ids shelf.old id).given ≡ false)) }

@@ -1,4 +1,3 @@
-pub mod Counters
 pub mod Nets
 pub mod NetHistory
 pub mod Order

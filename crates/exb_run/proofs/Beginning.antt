@@ -19,10 +19,10 @@ use Rattle.exb_merge.specs.declared.replays.Replays.{Replays}
 use Rattle.exb_merge.specs.Programmes.{played_with}
 use Rattle.exb_merge.specs.Replays.{AreReplays, HasPort, Standing, ids_in, left_in, number_of, standings}
 use Rattle.exb_merge.specs.Streams.{Stream, arrivals_of, next_moment, stream_at, stream_of, to_come}
-use Rattle.exb_pcap.specs.Captures.{pcap_records, records_or_none}
+use Rattle.exb_capture.specs.Captures.{capture_records, records_or_none}
 use Rattle.exb_resting.specs.Motion.Playing.{IsTimely}
-use Rattle.exb_scan.specs.declared.checking.Scanned.{Scanned}
-use Rattle.exb_scan.specs.Scans.{first_time, scanned_of}
+use Rattle.exb_capture.specs.declared.checking.Scanned.{Scanned}
+use Rattle.exb_capture.specs.Scans.{first_time, scanned_of}
 use Rattle.exb_schedule.specs.Playing.{letters_in}
 use Rattle.exb_shelf.specs.Files.{Files, bytes_of}
 use Rattle.exb_shelf.specs.Shelf.{Id}
@@ -89,7 +89,7 @@ told-streams i names file (c ∷ cs) same =
     ∙ ap (λ (r : ℕ → List Record). stream_of c.port (r c.port) ∷ map (stream_at i) (ports_in cs)) (sym same)
 
 none-elsewhere : (names : List Named) (file : Files) (q : ℕ) → is_named names q ≡ false → records_at names file q ≡ []
-none-elsewhere names file q isnt = ap (λ (b : Bool). if b then records_or_none (pcap_records (bytes_at names file q)) else []) isnt
+none-elsewhere names file q isnt = ap (λ (b : Bool). if b then records_or_none (capture_records (bytes_at names file q)) else []) isnt
 
 -- ---- what was told of one capture
 record IsTold (names : List Named) (file : Files) (c : Checked) : Type 0 where
@@ -101,10 +101,10 @@ record IsTold (names : List Named) (file : Files) (c : Checked) : Type 0 where
 told-by : (names : List Named) (file : Files) (c : Checked) → IsToldOf names file c → IsTold names file c
 told-by names file c (name, named, good) = by_file (file name) refl good
   where
-    at-file : (bytes : List ℕ) (records : List Record) → file name ≡ Some bytes → pcap_records bytes ≡ Ok records → records_at names file c.port ≡ records
+    at-file : (bytes : List ℕ) (records : List Record) → file name ≡ Some bytes → capture_records bytes ≡ Ok records → records_at names file c.port ≡ records
     at-file bytes records at read =
-        ap (λ (o : Option (List ℕ)). if is_some o then records_or_none (pcap_records (bytes_named file o)) else []) named
-        ∙ ap (λ (o : Option (List ℕ)). records_or_none (pcap_records (bytes_of o))) at ∙ ap records_or_none read
+        ap (λ (o : Option (List ℕ)). if is_some o then records_or_none (capture_records (bytes_named file o)) else []) named
+        ∙ ap (λ (o : Option (List ℕ)). records_or_none (capture_records (bytes_of o))) at ∙ ap records_or_none read
 
     by_file : (o : Option (List ℕ)) → file name ≡ o → IsGood o c.told → IsTold names file c
     by_file None at (inl isnt) = absurd (cc)
@@ -323,10 +323,10 @@ input-stays setup commands plan names file files cs tells only can =
     records-stay q None named = none-elsewhere names files q (ap is_some named) ∙ sym (none-elsewhere names file q (ap is_some named))
     records-stay q (Some name) named =
         let same : files name ≡ file name = only name (λ j small is. can.apart q name named j small is) in
-        let At : Files → List Record = λ f. if is_named names q then records_or_none (pcap_records (bytes_named f (name_of names q))) else [] in
-        ap (λ (o : Option (List ℕ)). if is_some o then records_or_none (pcap_records (bytes_named files o)) else []) named
-        ∙ ap (λ (o : Option (List ℕ)). records_or_none (pcap_records (bytes_of o))) same
-        ∙ sym (ap (λ (o : Option (List ℕ)). if is_some o then records_or_none (pcap_records (bytes_named file o)) else []) named)
+        let At : Files → List Record = λ f. if is_named names q then records_or_none (capture_records (bytes_named f (name_of names q))) else [] in
+        ap (λ (o : Option (List ℕ)). if is_some o then records_or_none (capture_records (bytes_named files o)) else []) named
+        ∙ ap (λ (o : Option (List ℕ)). records_or_none (capture_records (bytes_of o))) same
+        ∙ sym (ap (λ (o : Option (List ℕ)). if is_some o then records_or_none (capture_records (bytes_named file o)) else []) named)
 
 -- ---- the least second that was told
 least-more : (d n : ℕ) (ns : List ℕ) (x : ℕ) → least_or d (n ∷ (ns ++ x ∷ [])) ≡ min (least_or d (n ∷ ns)) x
@@ -431,7 +431,7 @@ pub record ToldNamed (names : List Named) (file : Files) (c : Checked) (name : L
   pub bytes : List ℕ
   pub records : List Record
   pub there : file name ≡ Some bytes
-  pub read : pcap_records bytes ≡ Ok records
+  pub read : capture_records bytes ≡ Ok records
   pub told : c.told ≡ scanned_of bytes records
   pub are : records_at names file c.port ≡ records
 
@@ -454,6 +454,6 @@ told-named names file c name (other, found, good) named = by_file (file other) r
           read = is.read;
           told = is.tells;
           are =
-              ap (λ (o : Option (List ℕ)). if is_some o then records_or_none (pcap_records (bytes_named file o)) else []) named
-              ∙ ap (λ (o : Option (List ℕ)). records_or_none (pcap_records (bytes_of o))) there ∙ ap records_or_none is.read;
+              ap (λ (o : Option (List ℕ)). if is_some o then records_or_none (capture_records (bytes_named file o)) else []) named
+              ∙ ap (λ (o : Option (List ℕ)). records_or_none (capture_records (bytes_of o))) there ∙ ap records_or_none is.read;
         }

@@ -10,7 +10,7 @@ use Rattle.exb_model.specs.FlatBridge.{Sent, sent_by, flat}
 use Rattle.exb_model.specs.History.{Basis, History, ◌then◌, bridge_after}
 use Rattle.exb_model.specs.Input.{Input, Mode, Eager, Segment, basis_of, tree_of, segments}
 use Rattle.exb_model.specs.Learning.{learned}
-use Rattle.exb_model.specs.Texts.{Counts, capture_header, capture_text, journal_text, record_text}
+use Rattle.exb_model.specs.Texts.{capture_header, capture_text, journal_text, record_text}
 use Rattle.exb_model.specs.Traces.{TraceLine, trace_text}
 use Rattle.exb_model.specs.Tree.{Shape, is_external}
 use Rattle.exb_machine.specs.Worlds.{Left as Leaving}
@@ -22,23 +22,26 @@ use Rattle.exb_resting.specs.Rest.Playing.{HasWrittenFront, RunsWriteFronts}
 use Rattle.exb_schedule.specs.Playing.{HasPlayed as IsPlayedBy}
 use Rattle.exb_shelf.specs.Files.{Files, SameFiles}
 use Rattle.exb_resting.specs.Flight.Showing.{left_at}
+use Rattle.exb_text.specs.declared.output.Output.{Output}
+use Rattle.exb_text.specs.declared.output.Output.TheVariants as output
 use Rattle.exb_text.specs.Names.{capture_name, journal_name}
+use Rattle.exb_counters.specs.Counters.{count_text}
 use Rattle.exb_run.specs.declared.fault.Fault.{Fault}
+use Rattle.exb_run.specs.declared.counted.Counted.{Counted}
 use Rattle.exb_run.specs.declared.outputs.Outputs.{Outputs}
-use Rattle.exb_run.specs.Outputs.{AreCutEagerly, AreFrontsOf, HasPlayed, IsCut, output_name, output_text}
-use Rattle.exb_run.specs.Plans.{Planned, output_count, port_count, port_at}
+use Rattle.exb_run.specs.Outputs.{AreCutEagerly, AreFrontsOf, GrowsEagerly, HasPlayed, IsCut, output_name, output_text}
+use Rattle.exb_run.specs.Plans.{Planned, IsMade, kind_at, output_count}
 use Rattle.exb_run.specs.Playing.{IsCutOff, IsTold, Run, text_so_far}
-use Rattle.exb_run.specs.Writing.{AreCut, HasTexts, first_text, lines_of, pieces_of}
-use Rattle.exb_run.proofs.Cutting.{GoesOnAs, cut_longer, cut_now, cut_same, cut_whole}
+use Rattle.exb_run.specs.Writing.{AreCut, HasTexts, first_text, lines_of, pieces_of, with_more}
+use Rattle.exb_run.proofs.Cutting.{GoesOnAs, cut_longer, cut_now, cut_same, cut_whole, longer}
 use Rattle.exb_run.proofs.Filling.{weaker}
-use Rattle.exb_run.proofs.OutputLemmas.{journal_low}
-use Rattle.exb_run.proofs.Places.{port_is}
-use Rattle.exb_run.proofs.Telling.{text-more, texts-with}
+use Rattle.exb_run.proofs.ByKind.{kind_is}
+use Rattle.exb_run.proofs.Telling.{counts_written, text-more, texts-with}
 use Rattle.exb_run.proofs.Texts.{capture_text-append, capture_text-nil, journal_text-then}
 
 -- ---- where it ends
 -- before the next segment is played
-pub cut_before : (tells : Type 0) (m : Mode) (r : Run) (plan : Planned) (now : Files) (n : Network) (c : Counts) (o : Outputs) (so_far rest : List Segment) → tells → IsTold tells m r plan now n c o so_far
+pub cut_before : (tells : Type 0) (m : Mode) (r : Run) (plan : Planned) (now : Files) (n : Network) (c : Counted) (o : Outputs) (so_far rest : List Segment) → tells → IsTold tells m r plan now n c o so_far
     → segments m r.input ≡ so_far ++ rest → IsCutOff m r plan now
 cut_before tells m r plan now n c o so_far rest t is segments_are = record {
   tree = is.tree;
@@ -51,13 +54,14 @@ cut_before tells m r plan now n c o so_far rest t is segments_are = record {
   gone = is.gone;
   lines = is.lines;
   played = is.played;
-  cut = cut_now plan r.before now (pieces_of o) (text_so_far plan is.told is.gone is.lines) (is.texts t);
+  counts = [];
+  cut = cut_now plan r.before now (pieces_of o) (text_so_far is.told is.gone is.lines []) (is.texts t);
 }
 
 -- while what it told is written
 pub cut_amid : (m : Mode) (r : Run) (plan : Planned) (now : Files) (so_far rest : List Segment) (v : Network) (told more : List Event) (passed : List Bool) (gone : List Leaving) (left : List Left) (lines new : List TraceLine)
     → plan.tree ≡ tree_of r.input → segments m r.input ≡ so_far ++ rest → IsPlayedBy m r.input so_far v (told ++ more) passed (gone ++ all_left left) (lines ++ new)
-    → AreCut plan r.before now (texts-with plan told more gone left lines new) → IsCutOff m r plan now
+    → AreCut plan r.before now (texts-with told more gone left lines new) → IsCutOff m r plan now
 cut_amid m r plan now so_far rest v told more passed gone left lines new tree segments_are played cut = record {
   tree = tree;
   so_far = so_far;
@@ -69,13 +73,14 @@ cut_amid m r plan now so_far rest v told more passed gone left lines new tree se
   gone = gone ++ all_left left;
   lines = lines ++ new;
   played = played;
-  cut = cut_same plan r.before now (texts-with plan told more gone left lines new) (text_so_far plan (told ++ more) (gone ++ all_left left) (lines ++ new)) (text-more plan told more gone left lines new) cut;
+  counts = [];
+  cut = cut_same plan r.before now (texts-with told more gone left lines new) (text_so_far (told ++ more) (gone ++ all_left left) (lines ++ new) []) (text-more told more gone left lines new) cut;
 }
 
 -- while what is left of all is written
-pub cut_at_end : (tells : Type 0) (m : Mode) (r : Run) (plan : Planned) (old now : Files) (n : Network) (c : Counts) (o : Outputs) → tells → (is : IsTold tells m r plan old n c o (segments m r.input))
-    → ((orig : Files) (text : ℕ → List ℕ) → HasTexts plan (pieces_of o) orig old text → AreCut plan orig now text) → IsCutOff m r plan now
-cut_at_end tells m r plan old now n c o t is cut = record {
+pub cut_at_end : (tells : Type 0) (m : Mode) (r : Run) (plan : Planned) (old now : Files) (n : Network) (c : Counted) (o : Outputs) → tells → (is : IsTold tells m r plan old n c o (segments m r.input))
+    → (counts : List ℕ) → ((orig : Files) (text : Output → List ℕ) → HasTexts plan (pieces_of o) orig old text → AreCut plan orig now (with_more text output.Counters counts)) → IsCutOff m r plan now
+cut_at_end tells m r plan old now n c o t is counts cut = record {
   tree = is.tree;
   so_far = segments m r.input;
   rest = [];
@@ -85,8 +90,10 @@ cut_at_end tells m r plan old now n c o t is cut = record {
   passed = is.passed;
   gone = is.gone;
   lines = is.lines;
+  counts = counts;
   played = is.played;
-  cut = cut r.before (text_so_far plan is.told is.gone is.lines) (is.texts t);
+  cut = cut_same plan r.before now (with_more (text_so_far is.told is.gone is.lines []) output.Counters counts) (text_so_far is.told is.gone is.lines counts)
+      (counts_written is.told is.gone is.lines counts) (cut r.before (text_so_far is.told is.gone is.lines []) (is.texts t));
 }
 
 -- ---- texts of a longer history
@@ -118,70 +125,56 @@ module _ (law : RunsWriteFronts) (r : Run) (plan : Planned) (now : Files) (timel
   journal_goes : (more : List ℕ) × (journal_text (eager r.input) ≡ journal_text ([] then k.told) ++ more)
   journal_goes = (lines_of written.more, ap journal_text history ∙ journal_text-then ([] then k.told) written.more)
 
-  goes : (j : ℕ) → GoesOnAs (text_so_far plan k.told k.gone k.lines) (output_text r.input plan (eager r.input) k.lines) j
-  goes j = by_place (nat_lt j (port_count plan)) (j == port_count plan) refl
-    where
-      port_of : nat_lt j (port_count plan) ≡ true → is_external (tree_of r.input) (port_at plan j) ≡ true
-      port_of e = ap (λ (t : Shape). is_external t (port_at plan j)) (sym k.tree) ∙ (port_is plan j (ltb-true j (port_count plan) e)).passes
+  port_of : (q : ℕ) → is_external plan.tree q ≡ true → is_external (tree_of r.input) q ≡ true
+  port_of q out = ap (λ (t : Shape). is_external t q) (sym k.tree) ∙ out
 
-      by_place : (b c : Bool) → nat_lt j (port_count plan) ≡ b →
-          (more : List ℕ)
-          × ((if b then capture_text (flat (basis_of r.input) (eager r.input) (port_at plan j)) else (if c then journal_text (eager r.input) else trace_text k.lines))
-          ≡ (if b then capture_text (left_at (port_at plan j) k.gone) else (if c then journal_text ([] then k.told) else trace_text k.lines)) ++ more)
-      by_place true c e = capture_goes (port_at plan j) (port_of e)
-      by_place false true e = journal_goes
-      by_place false false e = ([], sym (append-nil (trace_text k.lines)))
+  goes : (o : Output) → IsMade plan.options plan.tree o → GrowsEagerly o → GoesOnAs (text_so_far k.told k.gone k.lines k.counts) (output_text r.input (eager r.input) []) o
+  goes (output.Capture q) made grows = capture_goes q (port_of q made)
+  goes output.Journal made grows = journal_goes
+  goes output.Trace made grows = absurd grows
+  goes output.Counters made grows = absurd grows
 
-  whole : AreCut plan r.before now (output_text r.input plan (eager r.input) k.lines)
-  whole = cut_longer plan r.before now (text_so_far plan k.told k.gone k.lines) (output_text r.input plan (eager r.input) k.lines) (λ j l. goes j) k.cut
+  -- of a run that ended early
+  whole : AreCutEagerly r.input plan r.before now
+  whole j low grows = longer r.before now plan j (text_so_far k.told k.gone k.lines k.counts) (output_text r.input (eager r.input) []) (goes (kind_at plan j) (kind_is plan j low).made grows) (k.cut.each j low)
 
--- ---- all but the trace
--- the lines of the trace are no matter
-any_lines : (i : Input) (plan : Planned) (h : History) (lines : List TraceLine) (j : ℕ) → j ≤ port_count plan → output_text i plan h lines j ≡ output_text i plan h [] j
-any_lines i plan h lines j le = elim (cases_lt j (port_count plan)) [
-  | inl below ↦ rw (lt-ltb j (port_count plan) below) refl
-  | inr above ↦
-      let is : j ≡ port_count plan = omega (arith, above, le) in
-      rw (le-ltb j (port_count plan) above, eq-eqb j (port_count plan) is) refl
-]
-
-but_the_trace : (i : Input) (plan : Planned) (lines : List TraceLine) (f g : Files) → AreCut plan f g (output_text i plan (eager i) lines) → AreCutEagerly i plan f g
-but_the_trace i plan lines f g p j le =
-    let low = journal_low plan in
-    subst (λ (text : List ℕ). IsCut (f (output_name plan j)) (g (output_name plan j)) text) (any_lines i plan (eager i) lines j le) (p.each j (omega (arith, le, low)))
-
--- of a run that ended early
 pub cut_eagerly : (law : RunsWriteFronts) (r : Run) (plan : Planned) (now : Files) → IsTimely r.input → IsCutOff Eager r plan now → AreCutEagerly r.input plan r.before now
-cut_eagerly law r plan now timely k = but_the_trace r.input plan k.lines r.before now (whole law r plan now timely k)
+cut_eagerly law r plan now timely k = whole law r plan now timely k
+
+-- the text of a kind that grows is no matter of the trace
+any_lines : (i : Input) (h : History) (lines : List TraceLine) (o : Output) → GrowsEagerly o → output_text i h lines o ≡ output_text i h [] o
+any_lines i h lines (output.Capture q) grows = refl
+any_lines i h lines output.Journal grows = refl
+any_lines i h lines output.Trace grows = absurd grows
+any_lines i h lines output.Counters grows = absurd grows
+
+but_the_trace : (i : Input) (plan : Planned) (lines : List TraceLine) (f g : Files) → AreCut plan f g (output_text i (eager i) lines) → AreCutEagerly i plan f g
+but_the_trace i plan lines f g p j low grows =
+    subst (λ (text : List ℕ). IsCut (f (output_name plan j)) (g (output_name plan j)) text) (any_lines i (eager i) lines (kind_at plan j) grows) (p.each j low)
 
 -- of one that made its outputs alone
-pub made_eagerly : (i : Input) (plan : Planned) (f g : Files) → ((text : ℕ → List ℕ) → AreCut plan f g text) → AreCutEagerly i plan f g
-made_eagerly i plan f g cut = but_the_trace i plan [] f g (cut (output_text i plan (eager i) []))
+pub made_eagerly : (i : Input) (plan : Planned) (f g : Files) → ((text : Output → List ℕ) → AreCut plan f g text) → AreCutEagerly i plan f g
+made_eagerly i plan f g cut = but_the_trace i plan [] f g (cut (output_text i (eager i) []))
 
-first_goes : (i : Input) (plan : Planned) (j : ℕ) → GoesOnAs (first_text plan) (output_text i plan (eager i) []) j
-first_goes i plan j = by_place (nat_lt j (port_count plan))
-  where
-    sent : List Sent
-    sent = flat (basis_of i) (eager i) (port_at plan j)
+first_goes : (i : Input) (o : Output) → GoesOnAs first_text (output_text i (eager i) []) o
+first_goes i (output.Capture q) =
+    let sent : List Sent = flat (basis_of i) (eager i) q in
+    (flat_map record_text sent, capture_text-append [] sent ∙ ap (λ (xs : List ℕ). xs ++ flat_map record_text sent) capture_text-nil)
+first_goes i output.Journal = (journal_text (eager i), refl)
+first_goes i output.Trace = (trace_text [], refl)
+first_goes i output.Counters = (count_text (tree_of i) (basis_of i) (eager i), refl)
 
-    behind : List ℕ
-    behind = if j == port_count plan then journal_text (eager i) else trace_text []
-
-    by_place : (b : Bool) → (more : List ℕ) × ((if b then capture_text sent else behind) ≡ (if b then capture_header else []) ++ more)
-    by_place true = (flat_map record_text sent, capture_text-append [] sent ∙ ap (λ (xs : List ℕ). xs ++ flat_map record_text sent) capture_text-nil)
-    by_place false = (behind, refl)
-
-pub begun_eagerly : (i : Input) (plan : Planned) (f g : Files) (pieces : List (List ℕ)) → HasTexts plan pieces f g (first_text plan) → AreCutEagerly i plan f g
+pub begun_eagerly : (i : Input) (plan : Planned) (f g : Files) (pieces : List (List ℕ)) → HasTexts plan pieces f g first_text → AreCutEagerly i plan f g
 begun_eagerly i plan f g pieces held =
-    but_the_trace i plan [] f g (cut_longer plan f g (first_text plan) (output_text i plan (eager i) []) (λ j l. first_goes i plan j) (cut_now plan f g pieces (first_text plan) held))
+    but_the_trace i plan [] f g (cut_longer plan f g first_text (output_text i (eager i) []) (λ j l. first_goes i (kind_at plan j)) (cut_now plan f g pieces first_text held))
 
 -- of one that played all
 pub played_eagerly : (i : Input) (plan : Planned) (f g : Files) (line : List ℕ) → HasPlayed Eager i plan f g line → AreCutEagerly i plan f g
 played_eagerly i plan f g line played =
     but_the_trace i plan played.lines f g
-    (cut_whole plan f g (output_text i plan (eager i) played.lines)
-    (weaker f g (output_count plan) (output_name plan) (λ j bytes. bytes ≡ output_text i plan played.history played.lines j) (λ j bytes. bytes ≡ output_text i plan (eager i) played.lines j) played.outputs
-    (λ j bytes l is. is ∙ ap (λ (h : History). output_text i plan h played.lines j) (played.eager refl))))
+    (cut_whole plan f g (output_text i (eager i) played.lines)
+    (weaker f g (output_count plan) (output_name plan) (λ j bytes. bytes ≡ output_text i played.history played.lines (kind_at plan j)) (λ j bytes. bytes ≡ output_text i (eager i) played.lines (kind_at plan j)) played.outputs
+    (λ j bytes l is. is ∙ ap (λ (h : History). output_text i h played.lines (kind_at plan j)) (played.eager refl))))
 
 -- however it ended
 pub ended_eagerly : (law : RunsWriteFronts) (m : Mode) (r : Run) (plan : Planned) (now : Files) (o : Result (String Global) Fault) → m ≡ Eager → IsTimely r.input

@@ -1,29 +1,37 @@
 -- The end of a run: what it wrote and counted is what the input calls for.
-use Rattle.std.proofs.Common.{◌≡◌, ℕ, ◌<◌, ◌==◌, Bool, true, false, List, [], length, nat_lt, All, get_or, refl, ap, sym, subst, ◌∙◌, arith}
-use Rattle.std.specs.Prelude.{if◌then◌else◌}
-use Rattle.std.proofs.lemmas.Bool.{ltb-true}
+use Rattle.std.proofs.Common.{◌≡◌, ℕ, ◌<◌, true, false, List, [], Option, Some, None, length, All, get_or, refl, ap, sym, subst, ◌∙◌, arith}
+use Rattle.std.proofs.lemmas.Bool.{false≢true}
 use Rattle.exb_model.specs.declared.event.Event.{Event}
 use Rattle.exb_model.specs.EagerHistory.{eager}
 use Rattle.exb_model.specs.FlatBridge.{flat}
 use Rattle.exb_model.specs.History.{History, ◌then◌}
 use Rattle.exb_model.specs.Input.{Input, Mode, Eager, basis_of, tree_of, segments}
 use Rattle.exb_model.specs.LegalHistory.{Legal}
-use Rattle.exb_model.specs.Texts.{capture_text, counts, journal_text}
-use Rattle.exb_model.specs.Traces.{TraceLine, trace_text}
+use Rattle.exb_model.specs.Texts.{capture_text, counts}
+use Rattle.exb_model.specs.Traces.{TraceLine}
 use Rattle.exb_model.specs.Tree.{Shape, IsTree, is_external}
+use Rattle.exb_text.specs.declared.output.Output.{Output}
+use Rattle.exb_text.specs.declared.output.Output.TheVariants as output
+use Rattle.exb_counters.specs.declared.counters.Counters.{Counters}
+use Rattle.exb_counters.specs.Counters.{count_text}
+use Rattle.exb_counters.specs.Counting.{counts_at}
+use Rattle.exb_machine.specs.Runs.Passed.{passed_over}
+use Rattle.exb_wiring.specs.Counting.{CountsGoOn}
 use Rattle.exb_machine.specs.Telling.{all_told}
 use Rattle.exb_machine.specs.Worlds.{Left}
 use Rattle.exb_resting.specs.Motion.Playing.{IsTimely}
 use Rattle.exb_network.specs.Networks.{Network}
-use Rattle.exb_resting.specs.Rest.Playing.{HasWrittenIn, PlaysIn, RunsAreUnderWay, RunsWriteEagerly, RunsWriteLegally}
+use Rattle.exb_resting.specs.Rest.Playing.{HasWrittenIn, PlaysIn, RunsAreUnderWay, RunsSayPassed, RunsWriteEagerly, RunsWriteLegally}
 use Rattle.exb_schedule.specs.Playing.{HasPlayed}
 use Rattle.exb_resting.specs.Flight.Showing.{left_at}
 use Rattle.exb_tracing.specs.Runs.{RunsTellLegally}
 use Rattle.exb_run.specs.Outputs.{IsTraceOf, output_text}
-use Rattle.exb_run.specs.Plans.{Planned, port_count, port_at}
-use Rattle.exb_run.specs.Playing.{counts_so_far, text_so_far}
+use Rattle.exb_run.specs.Plans.{Planned, IsMade, kind_at, output_count}
+use Rattle.exb_run.specs.Playing.{AreCounted, counts_so_far, counts_text, text_so_far}
+use Rattle.exb_run.proofs.PortCounts.{counts_end}
+use Rattle.exb_run.proofs.ByKind.{kind_is}
 use Rattle.exb_run.proofs.Counting.{LeftExternal, counts-whole}
-use Rattle.exb_run.proofs.Places.{external_low, port_is}
+use Rattle.exb_run.proofs.Places.{external_low}
 
 module _ (m : Mode) (i : Input) (plan : Planned) (tree : plan.tree ≡ tree_of i) (is_tree : IsTree plan.tree) (timely : IsTimely i) (under_way : RunsAreUnderWay) (legally : RunsWriteLegally)
     (n : Network) (told : List Event) (passed : List Bool) (gone : List Left) (lines : List TraceLine) (played : HasPlayed m i (segments m i) n told passed gone lines) where
@@ -50,19 +58,23 @@ module _ (m : Mode) (i : Input) (plan : Planned) (tree : plan.tree ≡ tree_of i
   sent : (q : ℕ) → is_external (tree_of i) q ≡ true → left_at q gone ≡ flat (basis_of i) ([] then told) q
   sent q is = ap (left_at q) played.gone ∙ written.captures q is ∙ ap (λ (g : History). flat (basis_of i) g q) (sym same-history)
 
-  -- its texts
-  pub texts-whole : (j : ℕ) → text_so_far plan told gone lines j ≡ output_text i plan ([] then told) lines j
-  texts-whole j = by_place (nat_lt j (port_count plan)) refl
-    where
-      rest : List ℕ
-      rest = if j == port_count plan then journal_text ([] then told) else trace_text lines
+  -- the text of its counters
+  counters-whole : (ports : Option Counters) → AreCounted plan ports told passed gone → CountsGoOn → RunsSayPassed → plan.options.counters ≡ true → counts_text plan ports ≡ count_text (tree_of i) (basis_of i) ([] then told)
+  counters-whole None are go_on says asked = absurd (false≢true (sym are ∙ asked))
+  counters-whole (Some c) are go_on says asked =
+      counts_end (tree_of i) (basis_of i) told passed gone go_on (played.said ∙ says m i played.done timely played.plays ∙ ap (passed_over (basis_of i) []) (sym played.told)) sent plan.tree tree (counts_at c)
+      (λ q low out. are.2 q (are.1 q low out))
 
-      by_place : (b : Bool) → nat_lt j (port_count plan) ≡ b →
-          (if b then capture_text (left_at (port_at plan j) gone) else rest) ≡ (if b then capture_text (flat (basis_of i) ([] then told) (port_at plan j)) else rest)
-      by_place true e =
-          let inside : j < port_count plan = ltb-true j (port_count plan) e in
-          ap capture_text (sent (port_at plan j) (ap (λ (t : Shape). is_external t (port_at plan j)) (sym tree) ∙ (port_is plan j inside).passes))
-      by_place false e = refl
+  -- its texts
+  pub texts-whole : (ports : Option Counters) → AreCounted plan ports told passed gone → CountsGoOn → RunsSayPassed →
+      (j : ℕ) → j < output_count plan → text_so_far told gone lines (counts_text plan ports) (kind_at plan j) ≡ output_text i ([] then told) lines (kind_at plan j)
+  texts-whole ports are go_on says j low = by_kind (kind_at plan j) (kind_is plan j low).made
+    where
+      by_kind : (o : Output) → IsMade plan.options plan.tree o → text_so_far told gone lines (counts_text plan ports) o ≡ output_text i ([] then told) lines o
+      by_kind (output.Capture q) made = ap capture_text (sent q (ap (λ (t : Shape). is_external t q) (sym tree) ∙ made))
+      by_kind output.Journal made = refl
+      by_kind output.Trace made = refl
+      by_kind output.Counters made = counters-whole ports are go_on says made
 
   own : All (LeftExternal (tree_of i)) gone
   own k d low =

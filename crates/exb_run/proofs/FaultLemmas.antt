@@ -4,11 +4,11 @@ use Rattle.std.specs.Prelude.{slice_index_or, All}
 use Rattle.std.proofs.Math.Seq.{drop-cons, drop-length}
 use Rattle.std.proofs.lemmas.Bool.{cases_lt}
 use Rattle.std.proofs.lemmas.List.Elements.{All-append}
-use Rattle.exb_scan.specs.declared.checking.Scanned.{Scanned}
-use Rattle.exb_scan.specs.declared.checking.ScanFault.{ScanFault}
-use Rattle.exb_scan.specs.declared.checking.ScanFault.TheVariants as scan
-use Rattle.exb_scan.specs.Scans.{IsOfFile}
-use Rattle.exb_scan.proofs.OneAnswer.{one_of_all}
+use Rattle.exb_capture.specs.declared.checking.Scanned.{Scanned}
+use Rattle.exb_capture.specs.declared.checking.ScanFault.{ScanFault}
+use Rattle.exb_capture.specs.declared.checking.ScanFault.TheVariants as scan
+use Rattle.exb_capture.specs.Scans.{IsOfFile}
+use Rattle.exb_capture.proofs.OneAnswer.{one_of_all}
 use Rattle.exb_shelf.specs.Files.{Files}
 use Rattle.exb_tables.specs.declared.rows.Named.{Named}
 use Rattle.exb_run.specs.declared.fault.Flaw.{Flaw}

@@ -7,7 +7,7 @@ use Rattle.exb_model.specs.declared.setup.Setup.{Setup}
 use Rattle.exb_model.specs.declared.setup.Timed.{Timed}
 use Rattle.exb_model.specs.Input.{Input, Coming, Segment, Mode, segment_of, seconds_after, segments, segments_after}
 use Rattle.exb_model.specs.Setup.{shape_of}
-use Rattle.exb_model.specs.Texts.{Counts, with_left}
+use Rattle.exb_model.specs.Texts.{with_left}
 use Rattle.exb_model.specs.Traces.{trace_text}
 use Rattle.exb_merge.specs.Agendas.{still_to_come}
 use Rattle.exb_merge.specs.declared.programme.Programme.{Programme}
@@ -20,13 +20,16 @@ use Rattle.exb_schedule.specs.declared.segment.Arrival.{Arrival}
 use Rattle.exb_schedule.specs.Playing.{HasPlayed, IsSegment, letters_in}
 use Rattle.exb_shelf.specs.Files.{Files, SameFiles}
 use Rattle.exb_shelf.specs.Shelf.{Id}
-use Rattle.exb_text.specs.Tallies.{nothing_counted}
+use Rattle.exb_text.specs.declared.output.Output.{Output}
+use Rattle.exb_text.specs.declared.output.Output.TheVariants as output
+use Rattle.exb_text.specs.Tallies.{counts_of}
 use Rattle.exb_run.specs.declared.feed.Feed.{Feed}
+use Rattle.exb_run.specs.declared.counted.Counted.{Counted}
 use Rattle.exb_run.specs.declared.outputs.Outputs.{Outputs}
 use Rattle.exb_run.specs.Outputs.{OnlyPlanned}
 use Rattle.exb_run.specs.Plans.{Planned, port_count}
 use Rattle.exb_run.specs.Shelving.{OnlyReads}
-use Rattle.exb_run.specs.Playing.{Run, IsCutOff, IsTold, text_so_far}
+use Rattle.exb_run.specs.Playing.{CountsOn, Run, IsCounted, IsCutOff, IsTold, text_so_far}
 use Rattle.exb_run.specs.UnderWay.{AreApart, CanBegin, CanBePlayed, CanGoOn, IsGathered, IsOpened, IsPlaying, LeadsOn, NothingIsLeft}
 use Rattle.exb_run.specs.Writing.{HasTexts, first_text, lines_of, pieces_of, with_left_frames, with_more}
 use Rattle.exb_run.proofs.Counting.{count_events}
@@ -35,9 +38,11 @@ use Rattle.exb_run.proofs.Following.{can-play, commands-are, follows, going-on, 
 use Rattle.exb_run.proofs.Keeping.{apart-read, ids-same, leads-written}
 use Rattle.exb_run.proofs.Segmenting.{segments_after-end}
 use Rattle.exb_run.proofs.Taking.{HasCommands, came_by, comes-ids}
-use Rattle.exb_run.proofs.Telling.{cleared-played, counts-more, same_texts, text-first, text-more}
+use Rattle.exb_run.proofs.OutputLemmas.{kinds_same}
+use Rattle.exb_run.proofs.PortCounts.{counted-on, none_together}
+use Rattle.exb_run.proofs.Telling.{cleared-played, text-first, text-more}
 
-module _ (tells : Type 0) (m : Mode) (r : Run) (plan : Planned) (now : Files) (ids : ℕ → Id) (net : Network) (c : Counts) (o : Outputs) (seconds from second : ℕ) (f : Feed)
+module _ (tells : Type 0) (m : Mode) (r : Run) (plan : Planned) (now : Files) (ids : ℕ → Id) (net : Network) (c : Counted) (o : Outputs) (seconds from second : ℕ) (f : Feed)
     (p : CanGoOn tells m r plan now ids net c o seconds from second f) (fine : IsProgramme ids f.programme) where
   -- the segment that comes next
   abbrev pub the_next : Segment
@@ -80,7 +85,7 @@ module _ (tells : Type 0) (m : Mode) (r : Run) (plan : Planned) (now : Files) (i
 
   -- and then the programme goes on
   pub goes-on : (cs : List Timed) → cs ≡ take (f.programme.taken - from) (drop from f.programme.commands.now) → (frames : List Arrival) → frames ≡ f.gathered.items →
-      (now' : Files) (net' : Network) (c' : Counts) (o' : Outputs) → (tells → OnlyPlanned plan now now') →
+      (now' : Files) (net' : Network) (c' : Counted) (o' : Outputs) → (tells → OnlyPlanned plan now now') →
       ((so_far : List Segment) (s : Segment) → IsSegment r.input s seconds cs frames → IsTold tells m r plan now net c o so_far → IsTold tells m r plan now' net' c' o' (so_far ++ s ∷ [])) →
       IsPlaying tells m r plan now' ids net' c' o' (Some second) f.programme
   goes-on cs is frames are now' net' c' o' only told = record {
@@ -109,14 +114,14 @@ module _ (tells : Type 0) (m : Mode) (r : Run) (plan : Planned) (now : Files) (i
       ∙ ap (λ (xs : List Timed). letters_in xs + letters_in (drop f.programme.taken f.programme.commands.now)) (sym (commands cs is))
 
 -- A run that is opened goes on once what the opening told is written and counted.
-pub opened-playing : (tells : Type 0) (m : Mode) (r : Run) (plan : Planned) (now : Files) (ids : ℕ → Id) (n : Network) (c : Counts) (o : Outputs) (p : Programme) → IsOpened tells m r plan now ids n c o p
-    → (now' : Files) (ids' : ℕ → Id) (v : Network) (c' : Counts) (o' : Outputs) → world_of v ≡ world_of n → IsSame n v → IsQuiet v
-    → c' ≡ with_left (length n.log.left) (count_events c n.log.events)
-    → (tells → (orig : Files) (text : ℕ → List ℕ) → HasTexts plan (pieces_of o) orig now text
-    → HasTexts plan (pieces_of o') orig now' (with_more (with_left_frames plan (with_more text (port_count plan) (lines_of n.log.events)) n.log.left) (port_count plan + 1) (trace_text n.log.lines)))
+pub opened-playing : (tells : Type 0) (m : Mode) (r : Run) (plan : Planned) (now : Files) (ids : ℕ → Id) (n : Network) (c : Counted) (o : Outputs) (p : Programme) → IsOpened tells m r plan now ids n c o p
+    → (now' : Files) (ids' : ℕ → Id) (v : Network) (c' : Counted) (o' : Outputs) → world_of v ≡ world_of n → IsSame n v → IsQuiet v
+    → counts_of c'.tally ≡ with_left (length n.log.left) (count_events (counts_of c.tally) n.log.events) → CountsOn c.ports c'.ports n.log.events n.log.passed n.log.left
+    → (tells → (orig : Files) (text : Output → List ℕ) → HasTexts plan (pieces_of o) orig now text
+    → HasTexts plan (pieces_of o') orig now' (with_more (with_left_frames (with_more text output.Journal (lines_of n.log.events)) n.log.left) output.Trace (trace_text n.log.lines)))
     → (tells → OnlyPlanned plan now now') → ((j : ℕ) → ids' j ≡ ids j)
     → IsPlaying tells m r plan now' ids' v c' o' None p
-opened-playing tells m r plan now ids n c o p is now' ids' v c' o' world same quiet counts texts only kept =
+opened-playing tells m r plan now ids n c o p is now' ids' v c' o' world same quiet tally ports texts only kept =
     let told = n.log.events in
     let left = n.log.left in
     let lines = n.log.lines in
@@ -131,11 +136,11 @@ opened-playing tells m r plan now ids n c o p is now' ids' v c' o' world same qu
         lines = lines;
         played = cleared-played m r.input [] n v told n.log.passed (all_left left) lines world same is.played;
         tracing = same.tracing ∙ is.tracing;
-        counted = counts ∙ ap (λ (b : Counts). with_left (length left) (count_events b told)) is.counted ∙ counts-more [] told [] left;
+        counted = counted-on plan c c' [] told [] n.log.passed [] left tally ports none_together is.counted;
         texts = λ t.
-            same_texts plan (pieces_of o') r.before now' _ (text_so_far plan told (all_left left) lines) (text-more plan [] told [] left [] lines)
-            (texts t r.before (text_so_far plan [] [] [])
-            (same_texts plan (pieces_of o) r.before now (first_text plan) (text_so_far plan [] [] []) (λ j low. text-first plan j) (is.texts t)));
+            kinds_same plan r.before now' (pieces_of o') _ (text_so_far told (all_left left) lines []) (text-more [] told [] left [] lines)
+            (texts t r.before (text_so_far [] [] [] [])
+            (kinds_same plan r.before now (pieces_of o) first_text (text_so_far [] [] [] []) text-first (is.texts t)));
         quiet = quiet;
       };
       next = is.next;
@@ -145,13 +150,13 @@ opened-playing tells m r plan now ids n c o p is now' ids' v c' o' world same qu
 
 -- So a world is opened for a run that can begin.
 pub begins-opened : (tells : Type 0) (m : Mode) (r : Run) (s : Setup) (plan : Planned) (now : Files) (ids : ℕ → Id) (n : Network) (o : Outputs) (p : Programme) → CanBegin tells m r s plan now ids o p
-    → plan.tree ≡ shape_of s → ((i : Input) → i.setup ≡ s → HasPlayed m i [] n n.log.events n.log.passed (all_left n.log.left) n.log.lines) → n.log.tracing ≡ plan.traced
-    → IsOpened tells m r plan now ids n nothing_counted o p
-begins-opened tells m r s plan now ids n o p b tree plays tracing = record {
+    → plan.tree ≡ shape_of s → ((i : Input) → i.setup ≡ s → HasPlayed m i [] n n.log.events n.log.passed (all_left n.log.left) n.log.lines) → n.log.tracing ≡ plan.options.trace → (c : Counted) → IsCounted plan c [] [] []
+    → IsOpened tells m r plan now ids n c o p
+begins-opened tells m r s plan now ids n o p b tree plays tracing c none = record {
   tree = tree ∙ sym (ap shape_of b.setup);
   played = plays r.input b.setup;
   tracing = tracing;
-  counted = refl;
+  counted = none;
   texts = b.texts;
   timely = b.timely;
   next = b.next;
@@ -160,7 +165,7 @@ begins-opened tells m r s plan now ids n o p b tree plays tracing = record {
 }
 
 -- what was gathered behind a run can be played
-pub can-go-on : (tells : Type 0) (m : Mode) (r : Run) (plan : Planned) (file now : Files) (given ids : ℕ → Id) (net : Network) (c : Counts) (o : Outputs) (last : Option ℕ) (old : Programme) (seconds from second : ℕ) (f : Feed) →
+pub can-go-on : (tells : Type 0) (m : Mode) (r : Run) (plan : Planned) (file now : Files) (given ids : ℕ → Id) (net : Network) (c : Counted) (o : Outputs) (last : Option ℕ) (old : Programme) (seconds from second : ℕ) (f : Feed) →
     IsPlaying tells m r plan file given net c o last old → IsGathered tells m file now given ids second old f → OnlyReads (ids_in old.captures) file now given ids → from ≡ old.taken → seconds ≡ seconds_after last second →
     CanGoOn tells m r plan now ids net c o seconds from second f
 can-go-on tells m r plan file now given ids net c o last old seconds from second f playing got only from_is seconds_are =
@@ -179,14 +184,14 @@ can-go-on tells m r plan file now given ids net c o last old seconds from second
     }
 
 -- before what comes next was read, it was cut off
-pub cut-reading : (tells : Type 0) (m : Mode) (r : Run) (plan : Planned) (file now : Files) (given : ℕ → Id) (net : Network) (c : Counts) (o : Outputs) (last : Option ℕ) (old : Programme) → tells →
+pub cut-reading : (tells : Type 0) (m : Mode) (r : Run) (plan : Planned) (file now : Files) (given : ℕ → Id) (net : Network) (c : Counted) (o : Outputs) (last : Option ℕ) (old : Programme) → tells →
     IsPlaying tells m r plan file given net c o last old → SameFiles file now → IsCutOff m r plan now
 cut-reading tells m r plan file now given net c o last old t playing files =
     let same : now ≡ file = fun_ext λ n. files n in
     subst (IsCutOff m r plan) (sym same) (cut_before tells m r plan file net c o playing.so_far _ t playing.is (playing.leads t).rest)
 
 -- nothing is left, so all was played
-pub all-played : (tells : Type 0) (m : Mode) (r : Run) (plan : Planned) (file now : Files) (given : ℕ → Id) (net : Network) (c : Counts) (o : Outputs) (last : Option ℕ) (old : Programme) → tells →
+pub all-played : (tells : Type 0) (m : Mode) (r : Run) (plan : Planned) (file now : Files) (given : ℕ → Id) (net : Network) (c : Counted) (o : Outputs) (last : Option ℕ) (old : Programme) → tells →
     IsPlaying tells m r plan file given net c o last old → NothingIsLeft file given old → SameFiles file now → IsTold tells m r plan now net c o (segments m r.input)
 all-played tells m r plan file now given net c o last old t playing none files =
     let same : now ≡ file = fun_ext λ n. files n in
@@ -198,7 +203,7 @@ all-played tells m r plan file now given net c o last old t playing none files =
     playing.is)
 
 -- the seconds that pass before what was gathered fit 32 bits
-pub seconds-fit : (tells : Type 0) (m : Mode) (r : Run) (plan : Planned) (file now : Files) (given ids : ℕ → Id) (net : Network) (c : Counts) (o : Outputs) (last : Option ℕ) (old : Programme) (second : ℕ) (f : Feed) →
+pub seconds-fit : (tells : Type 0) (m : Mode) (r : Run) (plan : Planned) (file now : Files) (given ids : ℕ → Id) (net : Network) (c : Counted) (o : Outputs) (last : Option ℕ) (old : Programme) (second : ℕ) (f : Feed) →
     IsPlaying tells m r plan file given net c o last old → IsGathered tells m file now given ids second old f → IsProgramme ids f.programme → seconds_after last second < 2 ^ 32
 seconds-fit tells m r plan file now given ids net c o last old second f playing got fine =
     short m r.input playing.so_far last old tells file now given ids second f (seconds_after last second) playing.next got fine refl

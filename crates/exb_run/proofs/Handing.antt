@@ -1,5 +1,5 @@
 -- What is handed to a run: the captures and commands of a topology, and the commands of an input that is made.
-use Rattle.std.proofs.Common.{◌≡◌, ◌≢◌, ◌+◌, ◌≤◌, ℕ, List, [], ◌∷◌, length, All, refl, ap, sym, subst, ◌∙◌, arith, inl, inr}
+use Rattle.std.proofs.Common.{◌≡◌, ◌≢◌, ◌+◌, ◌<◌, ◌≤◌, ◌++◌, ℕ, zero, suc, List, [], ◌∷◌, length, map, All, refl, ap, sym, subst, ◌∙◌, arith}
 use Rattle.std.specs.Prelude.{sum_by, AllPairs}
 use Rattle.std.proofs.lemmas.List.Elements.{All-head, All-tail}
 use Rattle.std.proofs.lemmas.List.Sums.{sum_by-cons}
@@ -9,24 +9,46 @@ use Rattle.exb_model.specs.declared.setup.Timed.{Timed}
 use Rattle.exb_model.specs.declared.setup.Verdict.{Verdict}
 use Rattle.exb_model.specs.Input.{tree_of}
 use Rattle.exb_model.specs.Setup.{NamesExternal, shape_of}
-use Rattle.exb_model.specs.Tree.{Shape, is_external}
+use Rattle.exb_model.specs.Tree.{Shape, external_ports, is_external}
+use Rattle.exb_text.specs.declared.output.Output.{Output}
+use Rattle.exb_text.specs.declared.output.Output.TheVariants as output
+use Rattle.exb_text.specs.Names.{IsOfPort, all_outputs, file_name, other_outputs}
 use Rattle.exb_shelf.specs.Files.{Files}
 use Rattle.exb_topology.specs.declared.topology.Topology.{Topology}
 use Rattle.exb_topology.specs.Sound.{IsApart, IsSound}
 use Rattle.exb_run.specs.declared.checked.Checked.{Checked}
 use Rattle.exb_run.specs.Checks.{AreChecked, CanBeRead}
 use Rattle.exb_run.specs.Outputs.{output_name}
-use Rattle.exb_run.specs.Plans.{Planned}
+use Rattle.exb_run.specs.Plans.{Planned, IsMade, kind_at, output_count, place_in}
 use Rattle.exb_run.specs.Playing.{IsScript}
-use Rattle.exb_run.proofs.OutputLemmas.{IsPlace, place_is, name_of_capture, name_of_journal, name_of_trace}
+use Rattle.exb_run.proofs.ByKind.{kind_is}
+use Rattle.exb_run.proofs.Places.{place_low, port_of_place}
 use Rattle.exb_run.proofs.Running.{name_by, named_by}
 
 -- ---- a topology
+-- what holds of all kinds of files that runs of a tree may write
+all-cons : {X : Type 0} (P : X → Type 0) (x : X) (xs : List X) → P x → All P xs → All P (x ∷ xs)
+all-cons P x xs here rest zero d low = here
+all-cons P x xs here rest (suc k) d low = rest k d (omega (arith, low))
+
+by_kinds : (P : Output → Type 0) (ports : List ℕ) → All P (map output.Capture ports ++ other_outputs) → All (λ q. P (output.Capture q)) ports × (P output.Journal × P output.Trace × P output.Counters)
+by_kinds P [] all = (λ k d low. absurd (omega (arith, low)), all 0 output.Journal (omega arith), all 1 output.Journal (omega arith), all 2 output.Journal (omega arith))
+by_kinds P (p ∷ ports) all =
+    let rest = by_kinds P ports (λ k d low. all (suc k) d (omega (arith, low))) in
+    (all-cons (λ q. P (output.Capture q)) p ports (all 0 output.Journal (omega arith)) rest.0, rest.1)
+
 -- no output has a name that is apart
-apart_from : (plan : Planned) (name : List ℕ) → IsApart plan.tree plan.prefix name → (j : ℕ) → IsPlace plan j → name ≢ output_name plan j
-apart_from plan name apart j (inl inside) e = apart.captures j 0 inside (e ∙ name_of_capture plan j inside)
-apart_from plan name apart j (inr (inl is)) e = apart.journal (e ∙ name_of_journal plan j is)
-apart_from plan name apart j (inr (inr last)) e = apart.trace (e ∙ name_of_trace plan j last.1)
+of_kind : (plan : Planned) (P : Output → Type 0) → All P (all_outputs plan.tree) → (o : Output) → IsMade plan.options plan.tree o → IsOfPort o → P o
+of_kind plan P all (output.Capture q) made low =
+    subst (λ (k : ℕ). P (output.Capture k)) (port_of_place plan q low made) ((by_kinds P (external_ports plan.tree) all).0 (place_in plan.tree q) 0 (place_low plan q low made))
+of_kind plan P all output.Journal made low = (by_kinds P (external_ports plan.tree) all).1.0
+of_kind plan P all output.Trace made low = (by_kinds P (external_ports plan.tree) all).1.1
+of_kind plan P all output.Counters made low = (by_kinds P (external_ports plan.tree) all).1.2
+
+apart_from : (plan : Planned) (name : List ℕ) → IsApart plan.tree plan.prefix name → (j : ℕ) → j < output_count plan → name ≢ output_name plan j
+apart_from plan name apart j low =
+    let kind = kind_is plan j low in
+    of_kind plan (λ o. name ≢ file_name plan.prefix o) apart (kind_at plan j) kind.made kind.of_port
 
 pub sound_captures : (tells : Type 0) (t : Topology) (plan : Planned) (file : Files) (captures : List Checked) → plan.tree ≡ shape_of t.setup → plan.prefix ≡ t.prefix → IsSound t
     → AreChecked tells t.captures file captures → CanBeRead tells plan t.captures file captures
@@ -35,7 +57,7 @@ sound_captures tells t plan file captures tree prefix sound checked = record {
   external = λ q is. ap (λ (s : Shape). is_external s q) tree ∙ named_by (is_external (shape_of t.setup)) t.captures q sound.captures is;
   apart = λ q name named j low.
       let own : IsApart (shape_of t.setup) t.prefix name = name_by (IsApart (shape_of t.setup) t.prefix) t.captures q name sound.apart named in
-      apart_from plan name (subst (λ (s : Shape). IsApart s plan.prefix name) (sym tree) (subst (λ (p : List ℕ). IsApart (shape_of t.setup) p name) (sym prefix) own)) j (place_is plan j low);
+      apart_from plan name (subst (λ (s : Shape). IsApart s plan.prefix name) (sym tree) (subst (λ (p : List ℕ). IsApart (shape_of t.setup) p name) (sym prefix) own)) j low;
 }
 
 pub sound_script : (t : Topology) → IsSound t → IsScript (shape_of t.setup) t.commands t.fate

@@ -8,8 +8,8 @@ use Rattle.exb_merge.specs.declared.programme.Programme.{Programme}
 use Rattle.exb_merge.specs.declared.replays.Again.{Again}
 use Rattle.exb_merge.specs.Replays.{AreReplays, IsOpened, IsReplayOf, ReadsOn, ids_in}
 use Rattle.exb_merge.specs.Streams.{Stream}
-use Rattle.exb_scan.specs.Reading.{IsAt}
-use Rattle.exb_scan.specs.Replaying.{IsReplaying}
+use Rattle.exb_capture.specs.Reading.{IsAt}
+use Rattle.exb_capture.specs.Replaying.{IsReplaying}
 use Rattle.exb_shelf.specs.Files.{Files, SameFiles, bytes_of}
 use Rattle.exb_shelf.specs.Shelf.{Id, IsReadingOf, Opens, writing}
 use Rattle.exb_run.specs.declared.outputs.Outputs.{Outputs}

@@ -14,7 +14,9 @@ pub mod Ending
 pub mod Beginning
 pub mod Reopening
 pub mod Filling
+pub mod ByKind
 pub mod OutputLemmas
+pub mod PortCounts
 pub mod Cutting
 pub mod CuttingOff
 pub mod FaultLemmas

@@ -10,15 +10,15 @@ use Rattle.exb_topology.specs.declared.topology.Topology.{Topology}
 use Rattle.exb_words.specs.Words.{Ask, Run, Check}
 use Rattle.exb_run.specs.declared.fault.Fault.{Fault}
 use Rattle.exb_run.specs.declared.fault.Fault.TheVariants.{Usage, Missing, Topology as BadTopology, Capture, Changed, Read, Write, Memory}
-use Rattle.exb_run.specs.Plans.{Planned, output_count, port_at}
+use Rattle.exb_words.specs.declared.asked.Options.{Options}
+use Rattle.exb_run.specs.Plans.{Planned, kind_at, output_count}
 use Rattle.exb_run.specs.Outputs.{output_name}
 use Rattle.exb_run.specs.Checks.{AreAllGood}
 use Rattle.exb_run.specs.Shelving.{IsOfPlay, IsOfRun, WritesPlanned}
 use Rattle.exb_run.specs.Answers.{HoldsTopology, status_of}
 use Rattle.exb_run.specs.Reading.{IsOfCapture, IsOfPlaying}
 use Rattle.exb_run.specs.Opening.{IsOutput, ReadsCapture, WritesOutput, IsOpenedFor, OpensBy}
-use Rattle.exb_run.proofs.OutputLemmas.{name_of_capture, name_of_journal, name_of_trace, place_is}
-use Rattle.exb_run.proofs.Places.{port_is}
+use Rattle.exb_run.proofs.ByKind.{kind_is}
 use Rattle.exb_run.proofs.Reporting.{early_end, opens_on}
 use Rattle.exb_run.proofs.Running.{Outcome}
 
@@ -60,36 +60,30 @@ not_three (Err Write) is = λ e. omega arith
 not_three (Err Memory) is = λ e. omega arith
 
 -- ---- outputs
-output_is : (plan : Planned) (j : ℕ) → j < output_count plan → IsOutput plan.traced plan.tree plan.prefix (output_name plan j)
-output_is plan j low = elim (place_is plan j low) [
-  | inl below ↦ inl (port_at plan j, (port_is plan j below).passes, name_of_capture plan j below)
-  | inr other ↦ elim other [
-    | inl journal ↦ inr (inl (name_of_journal plan j journal))
-    | inr trace ↦ inr (inr (trace.0, name_of_trace plan j trace.1))
-  ]
-]
+output_is : (plan : Planned) (j : ℕ) → j < output_count plan → IsOutput plan.options plan.tree plan.prefix (output_name plan j)
+output_is plan j low = (kind_at plan j, (kind_is plan j low).made, refl)
 
 -- an output of a plan is one of its topology
-planned_is_output : (plan : Planned) (traced : Bool) (t : Topology) → plan.traced ≡ traced → plan.prefix ≡ t.prefix → plan.tree ≡ shape_of t.setup → (i : Id)
-    → WritesPlanned plan i → WritesOutput traced t i
-planned_is_output plan traced t same prefix tree i w = record {
+planned_is_output : (plan : Planned) (options : Options) (t : Topology) → plan.options ≡ options → plan.prefix ≡ t.prefix → plan.tree ≡ shape_of t.setup → (i : Id)
+    → WritesPlanned plan i → WritesOutput options t i
+planned_is_output plan options t same prefix tree i w = record {
   name = output_name plan w.at;
   output =
-      subst (λ (b : Bool). IsOutput b (shape_of t.setup) t.prefix (output_name plan w.at)) same
-      (subst (λ (p : List ℕ). IsOutput plan.traced (shape_of t.setup) p (output_name plan w.at)) prefix
-      (subst (λ (s : Shape). IsOutput plan.traced s plan.prefix (output_name plan w.at)) tree (output_is plan w.at w.within)));
+      subst (λ (b : Options). IsOutput b (shape_of t.setup) t.prefix (output_name plan w.at)) same
+      (subst (λ (p : List ℕ). IsOutput plan.options (shape_of t.setup) p (output_name plan w.at)) prefix
+      (subst (λ (s : Shape). IsOutput plan.options s plan.prefix (output_name plan w.at)) tree (output_is plan w.at w.within)));
   writes = w.writes;
 }
 
 -- captures are opened, and then these again and outputs
-pub opened_for : (plan : Planned) (traced : Bool) (t : Topology) (f : Files) (a b c : ℕ → Id) → plan.traced ≡ traced → plan.prefix ≡ t.prefix → plan.tree ≡ shape_of t.setup
-    → AreAllGood t.captures f → Opens (ReadsCapture t.captures) a b → Opens (IsOfRun t.captures plan) b c → Opens (IsOpenedFor traced t f) a c
-opened_for plan traced t f a b c same prefix tree good read played =
-    opens_then (IsOpenedFor traced t f) a b c
-    (opens_weaker (ReadsCapture t.captures) (IsOpenedFor traced t f) a b (λ i reads. inl reads) read)
-    (opens_weaker (IsOfRun t.captures plan) (IsOpenedFor traced t f) b c (λ i opened. elim opened [
+pub opened_for : (plan : Planned) (options : Options) (t : Topology) (f : Files) (a b c : ℕ → Id) → plan.options ≡ options → plan.prefix ≡ t.prefix → plan.tree ≡ shape_of t.setup
+    → AreAllGood t.captures f → Opens (ReadsCapture t.captures) a b → Opens (IsOfRun t.captures plan) b c → Opens (IsOpenedFor options t f) a c
+opened_for plan options t f a b c same prefix tree good read played =
+    opens_then (IsOpenedFor options t f) a b c
+    (opens_weaker (ReadsCapture t.captures) (IsOpenedFor options t f) a b (λ i reads. inl reads) read)
+    (opens_weaker (IsOfRun t.captures plan) (IsOpenedFor options t f) b c (λ i opened. elim opened [
       | inl reads ↦ inl reads
-      | inr writes ↦ inr (good, planned_is_output plan traced t same prefix tree i writes)
+      | inr writes ↦ inr (good, planned_is_output plan options t same prefix tree i writes)
     ]) played)
 
 -- ---- by the status
@@ -118,9 +112,9 @@ module _ (tells : Type 0) (f : Files) (name : List ℕ) (a b : ℕ → Id) (read
     only = λ t. opens_weaker _ _ a b (λ i r. inl (inl r)) read;
   }
 
-  module _ (trace : Bool) (seed : Option ℕ) where
+  module _ (options : Options) where
     -- the topology alone, since it is refused
-    pub run_refused_opens : (status : ℕ) → OpensBy tells status (Some (Run name trace seed)) f a b
+    pub run_refused_opens : (status : ℕ) → OpensBy tells status (Some (Run name options)) f a b
     run_refused_opens status = record {
       nothing = λ e. absurd (cc);
       made = λ number e. absurd (cc);
@@ -134,8 +128,8 @@ module _ (tells : Type 0) (f : Files) (name : List ℕ) (a b : ℕ → Id) (read
     -- the topology, its captures, and its outputs
     pub opens_by_run : (o : Outcome) (t : Topology) (g : Files) (c : ℕ → Id) → (tells → HoldsTopology name f t) → g ≡ f → IfErr o IsOfPlaying
         → IfErr o (λ x. IsOfPlay x ⊎ Opens (ReadsCapture t.captures) b c)
-        → (tells → Opens (IsOpenedFor trace t g) b c)
-        → OpensBy tells (status_of o) (Some (Run name trace seed)) f a c
+        → (tells → Opens (IsOpenedFor options t g) b c)
+        → OpensBy tells (status_of o) (Some (Run name options)) f a c
     opens_by_run o t g c holds same causes early played = record {
       nothing = λ e. absurd (cc);
       made = λ number e. absurd (cc);

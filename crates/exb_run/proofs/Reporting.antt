@@ -8,6 +8,7 @@ use Rattle.exb_shelf.specs.Files.{Files, AppendsFront}
 use Rattle.exb_shelf.specs.Shelf.{Id, Faults, Rose, Opens}
 use Rattle.exb_shelf.proofs.IdLemmas.{opens_weaker, opens_then}
 use Rattle.exb_tables.specs.declared.rows.Named.{Named}
+use Rattle.exb_words.specs.declared.asked.Options.{Options}
 use Rattle.exb_words.specs.Words.{Ask, Run, Check, Make}
 use Rattle.exb_run.specs.declared.fault.Fault.{Fault}
 use Rattle.exb_run.specs.declared.fault.Fault.TheVariants.{Usage, Missing, Topology as BadTopology, Capture, Changed, Read, Write, Memory}
@@ -47,8 +48,8 @@ playing_can_be Memory is = tt
 
 can_be_come : (a : Option Ask) (x : Fault) → CanCome a x → CanBe x
 can_be_come None x is = subst CanBe (sym is) tt
-can_be_come (Some (Run name trace seed)) x (inl topology) = topology_can_be x topology
-can_be_come (Some (Run name trace seed)) x (inr playing) = playing_can_be x playing
+can_be_come (Some (Run name options)) x (inl topology) = topology_can_be x topology
+can_be_come (Some (Run name options)) x (inr playing) = playing_can_be x playing
 can_be_come (Some (Check name)) x is = topology_can_be x is
 can_be_come (Some (Make number)) x is = subst CanBe (sym is) tt
 
@@ -61,8 +62,8 @@ can_be a o come x e = can_be_come a x (come_of a o x come e)
 -- the words alone are answered with the usage line
 usage_none : (a : Option Ask) → CanCome a Usage → a ≡ None
 usage_none None is = refl
-usage_none (Some (Run name trace seed)) (inl is) = absurd is
-usage_none (Some (Run name trace seed)) (inr is) = absurd is
+usage_none (Some (Run name options)) (inl is) = absurd is
+usage_none (Some (Run name options)) (inr is) = absurd is
 usage_none (Some (Check name)) is = absurd is
 usage_none (Some (Make number)) is = absurd (cc)
 
@@ -72,7 +73,7 @@ none_by_usage a o come e = usage_none a (come_of a o Usage come e)
 -- only a run writes
 write_runs : (a : Option Ask) → CanCome a Write → IsRun a
 write_runs None is = absurd (cc)
-write_runs (Some (Run name trace seed)) is = tt
+write_runs (Some (Run name options)) is = tt
 write_runs (Some (Check name)) is = absurd is
 write_runs (Some (Make number)) is = absurd (cc)
 
@@ -141,21 +142,21 @@ topology_status name Read is = refl
 topology_status name Write is = absurd is
 topology_status name Memory is = refl
 
-run_status : (name : List ℕ) (trace : Bool) (seed : Option ℕ) (x : Fault) → IsOfTopology x ⊎ IsOfPlaying x → IsStatus (Some (Run name trace seed)) (fault_status x)
-run_status name trace seed Usage (inl is) = absurd is
-run_status name trace seed Usage (inr is) = absurd is
-run_status name trace seed (Missing n) is = refl
-run_status name trace seed (BadTopology fault) is = refl
-run_status name trace seed (Capture p flaw) is = refl
-run_status name trace seed (Changed p byte) is = refl
-run_status name trace seed Read is = refl
-run_status name trace seed Write is = refl
-run_status name trace seed Memory is = refl
+run_status : (name : List ℕ) (options : Options) (x : Fault) → IsOfTopology x ⊎ IsOfPlaying x → IsStatus (Some (Run name options)) (fault_status x)
+run_status name options Usage (inl is) = absurd is
+run_status name options Usage (inr is) = absurd is
+run_status name options (Missing n) is = refl
+run_status name options (BadTopology fault) is = refl
+run_status name options (Capture p flaw) is = refl
+run_status name options (Changed p byte) is = refl
+run_status name options Read is = refl
+run_status name options Write is = refl
+run_status name options Memory is = refl
 
 status_comes : (a : Option Ask) (o : Outcome) → IfErr o (CanCome a) → (a ≡ None → IsErrOf o Usage) → IsStatus a (status_of o)
 status_comes None o come none = subst (λ (p : Outcome). IsStatus None (status_of p)) (sym (none refl)) refl
-status_comes (Some (Run name trace seed)) (Ok text) come none = refl
-status_comes (Some (Run name trace seed)) (Err x) come none = run_status name trace seed x come
+status_comes (Some (Run name options)) (Ok text) come none = refl
+status_comes (Some (Run name options)) (Err x) come none = run_status name options x come
 status_comes (Some (Check name)) (Ok text) come none = refl
 status_comes (Some (Check name)) (Err x) come none = topology_status name x come
 status_comes (Some (Make number)) (Ok text) come none = refl
@@ -163,13 +164,13 @@ status_comes (Some (Make number)) (Err x) come none = subst (λ (y : Fault). IsS
 
 one_is : (a : Option Ask) → IsStatus a 1
 one_is None = refl
-one_is (Some (Run name trace seed)) = refl
+one_is (Some (Run name options)) = refl
 one_is (Some (Check name)) = refl
 one_is (Some (Make number)) = refl
 
 seven_is : (a : Option Ask) → IsStatus a 7
 seven_is None = refl
-seven_is (Some (Run name trace seed)) = refl
+seven_is (Some (Run name options)) = refl
 seven_is (Some (Check name)) = refl
 seven_is (Some (Make number)) = refl
 
@@ -201,8 +202,8 @@ module _ (s : ℕ) (two : s ≢ 2) (three : s ≢ 3) (four : s ≢ 4) (five : s 
 
   pub stop_status : (a : Option Ask) (f : Files) (x : Fault) → Stops a f x → fault_status x ≢ s
   stop_status None f x is h = two (sym h ∙ ap fault_status is)
-  stop_status (Some (Run name trace seed)) f x (inl refused) h = refused_status name (f name) x refused h
-  stop_status (Some (Run name trace seed)) f x (inr p) h = first_status p.topology.captures f p.port x p.first h
+  stop_status (Some (Run name options)) f x (inl refused) h = refused_status name (f name) x refused h
+  stop_status (Some (Run name options)) f x (inr p) h = first_status p.topology.captures f p.port x p.first h
   stop_status (Some (Check name)) f x refused h = refused_status name (f name) x refused h
   stop_status (Some (Make number)) f x is h = absurd is
 

@@ -9,6 +9,7 @@ use Rattle.exb_needs.specs.Lines.{lines_of}
 use Rattle.exb_needs.specs.Needed.{needs_of}
 use Rattle.exb_shelf.specs.Files.{Files, SameFiles}
 use Rattle.exb_topology.specs.declared.topology.Topology.{Topology}
+use Rattle.exb_words.specs.declared.asked.Options.{Options}
 use Rattle.exb_words.specs.Words.{Run, Check, Make}
 use Rattle.exb_run.specs.declared.fault.Fault.{Fault}
 use Rattle.exb_run.specs.declared.fault.Fault.TheVariants.{Usage, Read, Write, Memory}
@@ -17,7 +18,7 @@ use Rattle.exb_run.specs.Outputs.{AreFrontsOf, IsPlayed, OnlyOutputs}
 use Rattle.exb_run.specs.Checks.{AreAllGood, FirstFault}
 use Rattle.exb_run.specs.Reading.{IsOfTopology, IsOfPlaying}
 use Rattle.exb_run.specs.Shelving.{IsOfPlay}
-use Rattle.exb_run.specs.Answers.{AreFronts, HoldsTopology, IsDone, IsFailure, IsRefused, OnlyAsked, Stops, eager_summary, mode_for}
+use Rattle.exb_run.specs.Answers.{AreFronts, AreFrontsIn, HoldsTopology, IsDone, IsFailure, IsRefused, OnlyAsked, Stops, eager_summary, mode_for}
 use Rattle.exb_run.specs.Outcomes.{CameOut}
 use Rattle.exb_run.proofs.Asking.{holds_once, shape_same, prefix_same}
 use Rattle.exb_run.proofs.Running.{Outcome}
@@ -40,9 +41,9 @@ came_unaccepted tells f = record {
 
 -- ---- the topology is not taken
 -- no file has changed
-fronts_same : (name : List ℕ) (trace : Bool) (seed : Option ℕ) (f g : Files) → SameFiles f g → AreFronts (Some (Run name trace seed)) f g
-fronts_same name trace None f g same = inl same
-fronts_same name trace (Some n) f g same = tt
+fronts_same : (name : List ℕ) (seed : Option ℕ) (f g : Files) → SameFiles f g → AreFrontsIn seed name f g
+fronts_same name None f g same = inl same
+fronts_same name (Some n) f g same = tt
 
 module _ (tells : Type 0) (name : List ℕ) (f g : Files) (x : Fault) (is : tells → IsRefused name (f name) x ⊎ (x ≡ Read) ⊎ (x ≡ Memory)) (causes : IsOfTopology x) (same : SameFiles f g) where
   ends : (fault : Fault) → IsRefused name (f name) x ⊎ (x ≡ Read) ⊎ (x ≡ Memory) → (IsRefused name (f name) x → x ≡ fault)
@@ -51,8 +52,8 @@ module _ (tells : Type 0) (name : List ℕ) (f g : Files) (x : Fault) (is : tell
   ends fault (inr (inl read)) one = inr (inl (ap Err read))
   ends fault (inr (inr memory)) one = inr (inr (ap Err memory))
 
-  pub came_run_refused : (trace : Bool) (seed : Option ℕ) → CameOut tells (Some (Run name trace seed)) (Err x) f g
-  came_run_refused trace seed = record {
+  pub came_run_refused : (options : Options) → CameOut tells (Some (Run name options)) (Err x) f g
+  came_run_refused options = record {
     unaccepted = λ none. absurd (cc);
     done = λ t. tt;
     cause = λ t. elim (is t) [
@@ -70,8 +71,8 @@ module _ (tells : Type 0) (name : List ℕ) (f g : Files) (x : Fault) (is : tell
     early = inr same;
     read_only = λ other. same;
     stopped = λ t fault stops. same;
-    others = λ t u holds m captures journal trace_file. same m;
-    fronts = λ t. fronts_same name trace seed f g same;
+    others = λ t u holds m none. same m;
+    fronts = λ t. fronts_same name options.seed f g same;
   }
 
   pub came_check_refused : CameOut tells (Some (Check name)) (Err x) f g
@@ -149,25 +150,25 @@ came_made tells number f (Err x) says memory = record {
 
 -- ---- the topology is played
 -- what comes of it, over the files before and after
-pub record PlaysOut (tells : Type 0) (trace : Bool) (seed : Option ℕ) (t : Topology) (o : Outcome) (old new : Files) : Type 0 where
+pub record PlaysOut (tells : Type 0) (options : Options) (t : Topology) (o : Outcome) (old new : Files) : Type 0 where
   pub good : tells → IfOk o (λ line. AreAllGood t.captures old)
-  pub done : tells → IfOk o (λ line. IsPlayed (mode_for seed) trace (input_of t old) t.prefix old new (string_bytes line))
+  pub done : tells → IfOk o (λ line. IsPlayed (mode_for options.seed) options (input_of t old) t.prefix old new (string_bytes line))
   pub cause : tells → IfErr o (λ x. ((p : ℕ) × FirstFault t.captures old p x) ⊎ (x ≡ Read) ⊎ (x ≡ Write) ⊎ (x ≡ Memory))
   pub stops : tells → (p : ℕ) (x : Fault) → FirstFault t.captures old p x → IsErrOf o x ⊎ IsErrOf o Read ⊎ IsErrOf o Memory
   pub causes : IfErr o IsOfPlaying
   pub early : IfErr o (λ x. IsOfPlay x ⊎ SameFiles old new)
   pub stopped : tells → (p : ℕ) (x : Fault) → FirstFault t.captures old p x → SameFiles old new
-  pub others : tells → OnlyOutputs trace (shape_of t.setup) t.prefix old new
-  pub fronts : tells → mode_for seed ≡ Eager → AreFrontsOf (input_of t old) t.prefix old new
+  pub others : tells → OnlyOutputs options (shape_of t.setup) t.prefix old new
+  pub fronts : tells → mode_for options.seed ≡ Eager → AreFrontsOf (input_of t old) t.prefix old new
 
-module _ (tells : Type 0) (name : List ℕ) (trace : Bool) (seed : Option ℕ) (t : Topology) (f h : Files) (holds : tells → HoldsTopology name f t) where
-  done-by : (o : Outcome) → IfOk o (λ line. AreAllGood t.captures f) → IfOk o (λ line. IsPlayed (mode_for seed) trace (input_of t f) t.prefix f h (string_bytes line)) → HoldsTopology name f t
-      → IfOk o (λ line. IsDone (Some (Run name trace seed)) f h (string_bytes line))
+module _ (tells : Type 0) (name : List ℕ) (options : Options) (t : Topology) (f h : Files) (holds : tells → HoldsTopology name f t) where
+  done-by : (o : Outcome) → IfOk o (λ line. AreAllGood t.captures f) → IfOk o (λ line. IsPlayed (mode_for options.seed) options (input_of t f) t.prefix f h (string_bytes line)) → HoldsTopology name f t
+      → IfOk o (λ line. IsDone (Some (Run name options)) f h (string_bytes line))
   done-by (Ok line) good played held = record { topology = t; ready = record { holds = held; good = good }; played = played }
   done-by (Err x) good played held = tt
 
   cause-by : (o : Outcome) → IfErr o (λ x. ((p : ℕ) × FirstFault t.captures f p x) ⊎ (x ≡ Read) ⊎ (x ≡ Write) ⊎ (x ≡ Memory)) → HoldsTopology name f t
-      → IfErr o (λ x. Stops (Some (Run name trace seed)) f x ⊎ IsFailure (Some (Run name trace seed)) x)
+      → IfErr o (λ x. Stops (Some (Run name options)) f x ⊎ IsFailure (Some (Run name options)) x)
   cause-by (Ok line) cause held = tt
   cause-by (Err x) (inl (p, first)) held = inl (inr (record { topology = t; holds = held; port = p; first = first }))
   cause-by (Err x) (inr failure) held = inr failure
@@ -177,21 +178,21 @@ module _ (tells : Type 0) (name : List ℕ) (trace : Bool) (seed : Option ℕ) (
   comes (Err x) is = inr is
 
   -- the captures are at fault, since the topology isn't
-  first-by : (x : Fault) → HoldsTopology name f t → Stops (Some (Run name trace seed)) f x → (p : ℕ) × FirstFault t.captures f p x
+  first-by : (x : Fault) → HoldsTopology name f t → Stops (Some (Run name options)) f x → (p : ℕ) × FirstFault t.captures f p x
   first-by x held (inl refused) = absurd (held_not name f t x held refused)
   first-by x held (inr faulty) = first_of name f t x held faulty
 
-  others-by : OnlyOutputs trace (shape_of t.setup) t.prefix f h → HoldsTopology name f t → OnlyAsked (Some (Run name trace seed)) f h
+  others-by : OnlyOutputs options (shape_of t.setup) t.prefix f h → HoldsTopology name f t → OnlyAsked (Some (Run name options)) f h
   others-by only held u held-u =
       let e = holds_once name f t u held held-u in
-      subst (λ (p : List ℕ). OnlyOutputs trace (shape_of u.setup) p f h) (prefix_same t u e)
-      (subst (λ (s : Shape). OnlyOutputs trace s t.prefix f h) (shape_same t u e) only)
+      subst (λ (p : List ℕ). OnlyOutputs options (shape_of u.setup) p f h) (prefix_same t u e)
+      (subst (λ (s : Shape). OnlyOutputs options s t.prefix f h) (shape_same t u e) only)
 
-  fronts-by : (s : Option ℕ) → (mode_for s ≡ Eager → AreFrontsOf (input_of t f) t.prefix f h) → HoldsTopology name f t → AreFronts (Some (Run name trace s)) f h
+  fronts-by : (s : Option ℕ) → (mode_for s ≡ Eager → AreFrontsOf (input_of t f) t.prefix f h) → HoldsTopology name f t → AreFrontsIn s name f h
   fronts-by None fronts held = inr (record { topology = t; holds = held; fronts = fronts refl })
   fronts-by (Some n) fronts held = tt
 
-  pub came_played : (o : Outcome) → PlaysOut tells trace seed t o f h → CameOut tells (Some (Run name trace seed)) o f h
+  pub came_played : (o : Outcome) → PlaysOut tells options t o f h → CameOut tells (Some (Run name options)) o f h
   came_played o out = record {
     unaccepted = λ none. absurd (cc);
     done = λ told. done-by o (out.good told) (out.done told) (holds told);
@@ -202,5 +203,5 @@ module _ (tells : Type 0) (name : List ℕ) (trace : Bool) (seed : Option ℕ) (
     read_only = λ other. absurd (other tt);
     stopped = λ told x stops. let found = first-by x (holds told) stops in out.stopped told found.0 x found.1;
     others = λ told. others-by (out.others told) (holds told);
-    fronts = λ told. fronts-by seed (out.fronts told) (holds told);
+    fronts = λ told. fronts-by options.seed (out.fronts told) (holds told);
   }

@@ -11,94 +11,67 @@ use Rattle.exb_model.specs.Tree.{Shape, IsTree, is_external}
 use Rattle.exb_model.specs.FlatBridge.{flat}
 use Rattle.exb_model.specs.Texts.{capture_text, journal_text}
 use Rattle.exb_model.specs.Traces.{TraceLine, trace_text}
-use Rattle.exb_shelf.specs.Files.{Files, SameFiles}
-use Rattle.exb_text.specs.Names.{capture_name, journal_name, trace_name}
+use Rattle.exb_shelf.specs.Files.{Files, Filled, SameFiles}
+use Rattle.exb_text.specs.declared.output.Output.{Output}
+use Rattle.exb_text.specs.declared.output.Output.TheVariants as output
+use Rattle.exb_text.specs.Names.{IsOfPort, file_name}
 use Rattle.exb_tables.specs.declared.rows.Named.{Named}
 use Rattle.exb_run.specs.declared.fault.Fault.{Fault}
-use Rattle.exb_run.specs.Plans.{Planned, port_count, port_at, place_in}
+use Rattle.exb_run.specs.Plans.{Planned, IsMade, kind_at, output_count, place_of}
 use Rattle.exb_run.specs.Inputs.{is_named, name_of}
-use Rattle.exb_run.specs.Outputs.{AreCutEagerly, AreFrontsOf, IsCut, OnlyOutputs, OnlyPlanned, IsPlayed, HasPlayed, output_name, output_text}
-use Rattle.exb_run.proofs.OutputLemmas.{IsPlace, place_is, capture_low, journal_low, trace_low, name_of_capture, name_of_journal, name_of_trace}
-use Rattle.exb_run.proofs.Places.{external_low, port_is, place_low, port_of_place}
+use Rattle.exb_run.specs.Outputs.{AreCutEagerly, AreFrontsOf, GrowsEagerly, IsCut, OnlyOutputs, OnlyPlanned, IsPlayed, HasPlayed, output_name, output_text}
+use Rattle.exb_run.proofs.ByKind.{kind_is, placed}
+use Rattle.exb_run.proofs.Places.{external_low}
 
 pub files_same : (f g : Files) → SameFiles f g → g ≡ f
 files_same f g same = fun_ext λ n. same n
 
 module _ (i : Input) (plan : Planned) (prefix : List ℕ) (same : plan.prefix ≡ prefix) (tree : plan.tree ≡ tree_of i) where
-  pub only_by : (f g : Files) → OnlyPlanned plan f g → OnlyOutputs plan.traced (tree_of i) prefix f g
-  only_by f g only m captures journal trace = only m (λ j low e. apart j (place_is plan j low) e)
-    where
-      apart : (j : ℕ) → IsPlace plan j → m ≡ output_name plan j → ⊥
-      apart j (inl inside) e =
-          captures (port_at plan j) (ap (λ (t : Shape). is_external t (port_at plan j)) (sym tree) ∙ (port_is plan j inside).passes)
-          (e ∙ name_of_capture plan j inside ∙ ap (λ (p : List ℕ). capture_name p (port_at plan j)) same)
-      apart j (inr (inl is)) e = journal (e ∙ name_of_journal plan j is ∙ ap journal_name same)
-      apart j (inr (inr last)) e = trace last.0 (e ∙ name_of_trace plan j last.1 ∙ ap trace_name same)
+  made_by : (o : Output) → IsMade plan.options plan.tree o → IsMade plan.options (tree_of i) o
+  made_by o made = subst (λ (t : Shape). IsMade plan.options t o) tree made
 
-  module _ (h : History) (lines : List TraceLine) where
-    text_of_capture : (j : ℕ) → j < port_count plan → output_text i plan h lines j ≡ capture_text (flat (basis_of i) h (port_at plan j))
-    text_of_capture j inside = rw (lt-ltb j (port_count plan) inside) refl
+  pub only_by : (f g : Files) → OnlyPlanned plan f g → OnlyOutputs plan.options (tree_of i) prefix f g
+  only_by f g only m none =
+      only m (λ j low e. none (kind_at plan j) (made_by (kind_at plan j) (kind_is plan j low).made) (e ∙ ap (λ (p : List ℕ). file_name p (kind_at plan j)) same))
 
-    text_of_journal : (j : ℕ) → j ≡ port_count plan → output_text i plan h lines j ≡ journal_text h
-    text_of_journal j is = rw (le-ltb j (port_count plan) (omega (arith, is)), eq-eqb j (port_count plan) is) refl
+  -- the file of a kind that is made holds the text of its kind
+  file_of : (f g : Files) (text : Output → List ℕ) → Filled f g (output_count plan) (output_name plan) (λ j bytes. bytes ≡ text (kind_at plan j)) →
+      (o : Output) → IsMade plan.options plan.tree o → IsOfPort o → g (file_name prefix o) ≡ Some (text o)
+  file_of f g text filled o made of_port =
+      let place = placed plan o made of_port in
+      let found = filled.each (place_of plan o) place.low in
+      let name : file_name prefix o ≡ output_name plan (place_of plan o) = ap (λ (p : List ℕ). file_name p o) (sym same) ∙ ap (file_name plan.prefix) (sym place.at) in
+      ap g name ∙ found.1 ∙ ap Some (found.2 ∙ ap text place.at)
 
-    text_of_trace : (j : ℕ) → j ≡ port_count plan + 1 → output_text i plan h lines j ≡ trace_text lines
-    text_of_trace j is = rw (le-ltb j (port_count plan) (omega (arith, is)), ne_eqb j (port_count plan) (λ e. omega (arith, is, e))) refl
-
-  pub played_by : (m : Mode) → IsTree (tree_of i) → (f g : Files) (line : List ℕ) → HasPlayed m i plan f g line → IsPlayed m plan.traced i prefix f g line
+  pub played_by : (m : Mode) → IsTree (tree_of i) → (f g : Files) (line : List ℕ) → HasPlayed m i plan f g line → IsPlayed m plan.options i prefix f g line
   played_by m is_tree f g line played = record {
-    history = h;
+    history = played.history;
     legal = played.legal;
     eager = played.eager;
-    captures = λ q is.
-        let low = external_low (tree_of i) q is_tree is in
-        let own : is_external plan.tree q ≡ true = ap (λ (t : Shape). is_external t q) tree ∙ is in
-        let j : ℕ = place_in plan.tree q in
-        let inside : j < port_count plan = place_low plan q low own in
-        let place : q ≡ port_at plan j = sym (port_of_place plan q low own) in
-        let found = played.outputs.each j (capture_low plan j inside) in
-        let name : capture_name prefix q ≡ output_name plan j =
-        ap (capture_name prefix) place ∙ ap (λ (p : List ℕ). capture_name p (port_at plan j)) (sym same) ∙ sym (name_of_capture plan j inside) in
-        ap g name ∙ found.1 ∙ ap Some (found.2 ∙ text_of_capture h lines j inside ∙ ap (λ (p : ℕ). capture_text (flat (basis_of i) h p)) (sym place));
-    journal =
-        let found = played.outputs.each (port_count plan) (journal_low plan) in
-        ap g (ap journal_name (sym same) ∙ sym (name_of_journal plan (port_count plan) refl)) ∙ found.1 ∙ ap Some (found.2 ∙ text_of_journal h lines (port_count plan) refl);
-    trace = λ traced.
-        let found = played.outputs.each (port_count plan + 1) (trace_low plan traced) in
-        record {
-          lines = lines;
-          is = ap g (ap trace_name (sym same) ∙ sym (name_of_trace plan (port_count plan + 1) refl)) ∙ found.1 ∙ ap Some (found.2 ∙ text_of_trace h lines (port_count plan + 1) refl);
-          legal = played.trace traced;
-        };
+    captures = λ q is. holds (output.Capture q) (ap (λ (t : Shape). is_external t q) tree ∙ is) (external_low (tree_of i) q is_tree is);
+    journal = holds output.Journal tt tt;
+    trace = λ traced. record { lines = played.lines; is = holds output.Trace traced tt; legal = played.trace traced };
+    counters = λ counted. holds output.Counters counted tt;
     others = only_by f g played.outputs.others;
     says = played.says;
   }
     where
-      h : History
-      h = played.history
-
-      lines : List TraceLine
-      lines = played.lines
+      holds : (o : Output) → IsMade plan.options plan.tree o → IsOfPort o → g (file_name prefix o) ≡ Some (output_text i played.history played.lines o)
+      holds = file_of f g (output_text i played.history played.lines) played.outputs
 
   -- where it ended early
   pub fronts_by : IsTree (tree_of i) → (f g : Files) → AreCutEagerly i plan f g → AreFrontsOf i prefix f g
   fronts_by is_tree f g cut = record {
-    captures = λ q is.
-        let low = external_low (tree_of i) q is_tree is in
-        let own : is_external plan.tree q ≡ true = ap (λ (t : Shape). is_external t q) tree ∙ is in
-        let j : ℕ = place_in plan.tree q in
-        let inside : j < port_count plan = place_low plan q low own in
-        let place : q ≡ port_at plan j = sym (port_of_place plan q low own) in
-        let name : output_name plan j ≡ capture_name prefix q =
-        name_of_capture plan j inside ∙ ap (λ (p : List ℕ). capture_name p (port_at plan j)) same ∙ ap (capture_name prefix) (sym place) in
-        subst (λ (text : List ℕ). IsCut (f (capture_name prefix q)) (g (capture_name prefix q)) text)
-        (text_of_capture (eager i) [] j inside ∙ ap (λ (p : ℕ). capture_text (flat (basis_of i) (eager i) p)) (sym place))
-        (subst (λ (m : List ℕ). IsCut (f m) (g m) (output_text i plan (eager i) [] j)) name (cut j (omega (arith, inside))));
-    journal =
-        subst (λ (text : List ℕ). IsCut (f (journal_name prefix)) (g (journal_name prefix)) text) (text_of_journal (eager i) [] (port_count plan) refl)
-        (subst (λ (m : List ℕ). IsCut (f m) (g m) (output_text i plan (eager i) [] (port_count plan))) (name_of_journal plan (port_count plan) refl ∙ ap journal_name same)
-        (cut (port_count plan) (omega arith)));
+    captures = λ q is. front (output.Capture q) (ap (λ (t : Shape). is_external t q) tree ∙ is) (external_low (tree_of i) q is_tree is) tt;
+    journal = front output.Journal tt tt tt;
   }
+    where
+      front : (o : Output) → IsMade plan.options plan.tree o → IsOfPort o → GrowsEagerly o → IsCut (f (file_name prefix o)) (g (file_name prefix o)) (output_text i (eager i) [] o)
+      front o made of_port grows =
+          let place = placed plan o made of_port in
+          let j : ℕ = place_of plan o in
+          subst (λ (p : List ℕ). IsCut (f (file_name p o)) (g (file_name p o)) (output_text i (eager i) [] o)) same
+          (subst (λ (k : Output). IsCut (f (file_name plan.prefix k)) (g (file_name plan.prefix k)) (output_text i (eager i) [] k)) place.at (cut j place.low (subst GrowsEagerly (sym place.at) grows)))
 
 -- the name of a capture is one of which this is told of all
 pub name_by : (P : List ℕ → Type 0) (names : List Named) (q : ℕ) (name : List ℕ) → All (λ x. P x.name) names → name_of names q ≡ Some name → P name

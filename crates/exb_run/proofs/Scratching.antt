@@ -20,12 +20,14 @@ use Rattle.exb_model.specs.Ports.{below}
 use Rattle.exb_model.specs.Setup.{IsValid, shape_of}
 use Rattle.exb_model.specs.Texts.{summary}
 use Rattle.exb_model.specs.Tree.{Shape, IsTree, external_ports, is_external}
-use Rattle.exb_pcap.specs.declared.reader.PcapFault.{PcapFault}
-use Rattle.exb_pcap.specs.Captures.{pcap_records, records_or_none}
-use Rattle.exb_scan.specs.Scans.{scanned_of}
+use Rattle.exb_capture.specs.declared.fault.Fault.{Fault as Broke}
+use Rattle.exb_capture.specs.Captures.{capture_records, records_or_none}
+use Rattle.exb_capture.specs.Scans.{scanned_of}
 use Rattle.exb_shelf.specs.Files.{Files, Puts, bytes_of}
 use Rattle.exb_tables.specs.declared.rows.Named.{Named}
-use Rattle.exb_text.specs.Names.{capture_name, journal_name, trace_name}
+use Rattle.exb_text.specs.declared.output.Output.{Output}
+use Rattle.exb_text.specs.declared.output.Output.TheVariants as output
+use Rattle.exb_text.specs.Names.{capture_name, counters_name, file_name, journal_name, trace_name}
 use Rattle.exb_run.specs.declared.checked.Checked.{Checked}
 use Rattle.exb_run.specs.declared.fault.Fault.{Fault}
 use Rattle.exb_run.specs.declared.fault.Fault.TheVariants.{Usage, Missing, Topology as BadTopology, Capture as Faulty, Changed, Read, Write, Memory}
@@ -33,11 +35,10 @@ use Rattle.exb_run.specs.Answers.{eager_summary}
 use Rattle.exb_run.specs.Checks.{AreAllGood, AreChecked, CanBeRead, FirstFault, IsGood, IsGoodNamed, most_bytes}
 use Rattle.exb_run.specs.Inputs.{bytes_named, input_from, is_named, name_of, records_at}
 use Rattle.exb_run.specs.Outputs.{HasPlayed, output_name}
-use Rattle.exb_run.specs.Plans.{Planned, port_at}
+use Rattle.exb_run.specs.Plans.{Planned, kind_at}
 use Rattle.exb_run.specs.Scratch.{AreKept, IsKept, IsReadAs, KeepsFirst, KeepsMore, name_made}
 use Rattle.exb_run.specs.Shelving.{CountsFaults, IsChange, IsOfPlay}
 use Rattle.exb_run.proofs.FaultLemmas.{first_none}
-use Rattle.exb_run.proofs.OutputLemmas.{IsPlace, place_is, name_of_capture, name_of_journal, name_of_trace}
 use Rattle.exb_run.proofs.Places.{external_low}
 use Rattle.exb_run.proofs.Running.{Outcome}
 
@@ -120,7 +121,7 @@ keeps_all captures at names file end = subst (λ (xs : List Capture). KeepsFirst
 
 -- ---- what was made, one after the other
 abbrev ReadAt : Type 0
-ReadAt = ℕ × Result (List Record) PcapFault
+ReadAt = ℕ × Result (List Record) Broke
 
 module _ (r : ℕ → List Record) where
   abbrev At : ℕ → ReadAt
@@ -196,7 +197,7 @@ named_as (x ∷ xs) q = by_port (x.port == q) (named_as xs q)
 -- ---- the files of a made input
 -- the records of a capture by its name
 abbrev records_named : Files → Option (List ℕ) → List Record
-records_named file o = if is_some o then records_or_none (pcap_records (bytes_named file o)) else []
+records_named file o = if is_some o then records_or_none (capture_records (bytes_named file o)) else []
 
 -- its setup, what is read of its captures, and where they are kept
 module _ (number : ℕ) (setup : Setup) (cs : List Capture) (names : List Named) (file : Files) (is : setup ≡ (made number).setup)
@@ -232,7 +233,7 @@ module _ (number : ℕ) (setup : Setup) (cs : List Capture) (names : List Named)
         sym (alone number q (false_from_ne_true (is_external (tree_of (made number)) q) (λ ext. false≢true (sym (ap is_some none) ∙ has_name q ext))))
     same_by (Some name) q named =
         let own = kept q name named in
-        ap (λ (o : Option (List ℕ)). records_or_none (pcap_records (bytes_of o))) own.there ∙ ap records_or_none own.read
+        ap (λ (o : Option (List ℕ)). records_or_none (capture_records (bytes_of o))) own.there ∙ ap records_or_none own.read
 
     pub input_same : (commands : List Timed) → map given_by commands ≡ (made number).commands → input_from setup commands names file ≡ made number
     input_same commands given =
@@ -241,26 +242,24 @@ module _ (number : ℕ) (setup : Setup) (cs : List Capture) (names : List Named)
         ∙ ap (λ (rs : ℕ → List Record). record { setup = (made number).setup; commands = (made number).commands; records = rs }) (fun_ext (λ q. same_by (name_of names q) q refl))
 
   -- no file that is written has the name of a capture
-  apart_from : (plan : Planned) (q : ℕ) (name : List ℕ) → plan.prefix ≡ codes "out/" → name ≡ name_made q → (j : ℕ) → IsPlace plan j → name ≢ output_name plan j
-  unfolding capture_name journal_name trace_name
-  apart_from plan q name prefix own j (inl inside) e =
-      let same : name_made q ≡ capture_name (codes "out/") (port_at plan j) = sym own ∙ e ∙ name_of_capture plan j inside ∙ ap (λ (p : List ℕ). capture_name p (port_at plan j)) prefix in
-      let byte : 105 ≡ 111 = ap (λ (bs : List ℕ). get_or bs 0 0) same in
-      omega (arith, byte)
-  apart_from plan q name prefix own j (inr (inl at)) e =
-      let same : name_made q ≡ journal_name (codes "out/") = sym own ∙ e ∙ name_of_journal plan j at ∙ ap journal_name prefix in
-      let byte : 105 ≡ 111 = ap (λ (bs : List ℕ). get_or bs 0 0) same in
-      omega (arith, byte)
-  apart_from plan q name prefix own j (inr (inr last)) e =
-      let same : name_made q ≡ trace_name (codes "out/") = sym own ∙ e ∙ name_of_trace plan j last.1 ∙ ap trace_name prefix in
-      let byte : 105 ≡ 111 = ap (λ (bs : List ℕ). get_or bs 0 0) same in
+  first_byte : (o : Output) → get_or (file_name (codes "out/") o) 0 0 ≡ 111
+  unfolding capture_name journal_name trace_name counters_name
+  first_byte (output.Capture q) = refl
+  first_byte output.Journal = refl
+  first_byte output.Trace = refl
+  first_byte output.Counters = refl
+
+  apart_from : (plan : Planned) (q : ℕ) (name : List ℕ) → plan.prefix ≡ codes "out/" → name ≡ name_made q → (j : ℕ) → name ≢ output_name plan j
+  apart_from plan q name prefix own j e =
+      let same : name_made q ≡ file_name (codes "out/") (kind_at plan j) = sym own ∙ e ∙ ap (λ (p : List ℕ). file_name p (kind_at plan j)) prefix in
+      let byte : 105 ≡ 111 = ap (λ (bs : List ℕ). get_or bs 0 0) same ∙ first_byte (kind_at plan j) in
       omega (arith, byte)
 
   pub made_captures : (plan : Planned) (captures : List Checked) → plan.tree ≡ shape_of setup → plan.prefix ≡ codes "out/" → AreChecked ⊤ names file captures → CanBeRead ⊤ plan names file captures
   made_captures plan captures tree prefix checked = record {
     checked = checked;
     external = λ q named. ap (λ (s : Shape). is_external s q) (tree ∙ ap shape_of is) ∙ external q named;
-    apart = λ q name named j low. apart_from plan q name prefix (kept q name named).own j (place_is plan j low);
+    apart = λ q name named j low. apart_from plan q name prefix (kept q name named).own j;
   }
 
 -- ---- how the run of what was made ends

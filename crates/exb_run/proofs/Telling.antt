@@ -23,15 +23,17 @@ use Rattle.exb_resting.specs.Rest.Playing.{IsCopyOfAny, RunsAreUnderWay, RunsAre
 use Rattle.exb_schedule.specs.Playing.{HasPlayed}
 use Rattle.exb_shelf.specs.Files.{Files}
 use Rattle.exb_resting.specs.Flight.Showing.{left_at}
+use Rattle.exb_text.specs.declared.output.Output.{Output}
+use Rattle.exb_text.specs.declared.output.Output.TheVariants as output
 use Rattle.exb_text.specs.Tallies.{FitsTally, nothing_counted}
 use Rattle.exb_run.specs.Outputs.{output_name}
-use Rattle.exb_run.specs.Plans.{Planned, output_count, port_count, port_at}
+use Rattle.exb_run.specs.Plans.{Planned}
 use Rattle.exb_run.specs.Playing.{CanBeKept, counts_so_far, text_so_far}
 use Rattle.exb_run.specs.UnderWay.{CanFollow}
 use Rattle.exb_run.specs.Writing.{HasTexts, Holds, CanBeWritten, first_text, lines_of, with_more, with_left_frames}
 use Rattle.exb_run.proofs.Counting.{count_events, count_events-left}
 use Rattle.exb_run.proofs.Filling.{weaker}
-use Rattle.exb_run.proofs.OutputLemmas.{IsPlace, place_is, no_trace}
+use Rattle.exb_run.proofs.OutputLemmas.{no_trace}
 use Rattle.exb_run.proofs.Places.{external_low}
 use Rattle.exb_run.proofs.Texts.{capture_text-append, capture_text-nil, journal_text-then}
 
@@ -56,11 +58,6 @@ pub none_at : {X Q : Type 0} (o : Option X) → o ≡ None → IfNone o Q → Q
 none_at None is q = q
 none_at (Some x) is q = absurd (cc)
 
--- the same texts
-pub same_texts : (plan : Planned) (pieces : List (List ℕ)) (old new : Files) (text text' : ℕ → List ℕ) → ((j : ℕ) → j < output_count plan → text j ≡ text' j) →
-    HasTexts plan pieces old new text → HasTexts plan pieces old new text'
-same_texts plan pieces old new text text' same = λ held. weaker old new (output_count plan) (output_name plan) (Holds pieces text) (Holds pieces text') held (λ j bytes low is. is ∙ same j low)
-
 -- ---- texts
 then-append : (h : History) (xs ys : List Event) → (h then (xs ++ ys)) ≡ ((h then xs) then ys)
 then-append h [] ys = refl
@@ -79,44 +76,34 @@ trace_text-append : (xs ys : List TraceLine) → trace_text (xs ++ ys) ≡ trace
 unfolding trace_text
 trace_text-append xs ys = flat_map-append (λ (l : TraceLine). trace_line l ++ 10 ∷ []) xs ys
 
-module _ (plan : Planned) (told more : List Event) (gone : List Leaving) (xs : List Left) (lines new : List TraceLine) where
+module _ (told more : List Event) (gone : List Leaving) (xs : List Left) (lines new : List TraceLine) where
   -- the texts with what was told, has left and was traced more
-  abbrev pub texts-with : ℕ → List ℕ
-  texts-with = with_more (with_left_frames plan (with_more (text_so_far plan told gone lines) (port_count plan) (lines_of more)) xs) (port_count plan + 1) (trace_text new)
+  abbrev pub texts-with : Output → List ℕ
+  texts-with = with_more (with_left_frames (with_more (text_so_far told gone lines []) output.Journal (lines_of more)) xs) output.Trace (trace_text new)
 
-  pub text-more : (j : ℕ) → j < output_count plan → texts-with j ≡ text_so_far plan (told ++ more) (gone ++ all_left xs) (lines ++ new) j
-  text-more j low = by_place (place_is plan j low)
-    where
-      by_place : IsPlace plan j → texts-with j ≡ text_so_far plan (told ++ more) (gone ++ all_left xs) (lines ++ new) j
-      by_place (inl below) =
-          let here : nat_lt j (port_count plan) ≡ true = lt-ltb j (port_count plan) below in
-          let journal : (j == port_count plan) ≡ false = ne_eqb j (port_count plan) (λ e. omega (arith, e, below)) in
-          let trace : (j == port_count plan + 1) ≡ false = ne_eqb j (port_count plan + 1) (λ e. omega (arith, e, below)) in
-          rw (trace, here, journal) (sym (ap capture_text (left_at-append (port_at plan j) gone (all_left xs)) ∙ capture_text-append (left_at (port_at plan j) gone) (left_at (port_at plan j) (all_left xs))))
-      by_place (inr (inl is)) =
-          let here : nat_lt j (port_count plan) ≡ false = le-ltb j (port_count plan) (omega (arith, is)) in
-          let journal : (j == port_count plan) ≡ true = eq-eqb j (port_count plan) is in
-          let trace : (j == port_count plan + 1) ≡ false = ne_eqb j (port_count plan + 1) (λ e. omega (arith, e, is)) in
-          rw (trace, here, journal) (sym (ap journal_text (then-append [] told more) ∙ journal_text-then ([] then told) more))
-      by_place (inr (inr last)) =
-          let is = last.1 in
-          let here : nat_lt j (port_count plan) ≡ false = le-ltb j (port_count plan) (omega (arith, is)) in
-          let journal : (j == port_count plan) ≡ false = ne_eqb j (port_count plan) (λ e. omega (arith, e, is)) in
-          let trace : (j == port_count plan + 1) ≡ true = eq-eqb j (port_count plan + 1) is in
-          rw (trace, here, journal) (sym (trace_text-append lines new))
+  pub text-more : (o : Output) → texts-with o ≡ text_so_far (told ++ more) (gone ++ all_left xs) (lines ++ new) [] o
+  text-more (output.Capture q) = sym (ap capture_text (left_at-append q gone (all_left xs)) ∙ capture_text-append (left_at q gone) (left_at q (all_left xs)))
+  text-more output.Journal = sym (ap journal_text (then-append [] told more) ∙ journal_text-then ([] then told) more)
+  text-more output.Trace = sym (trace_text-append lines new)
+  text-more output.Counters = refl
 
 -- before anything is told
 journal-none : journal_text [] ≡ []
 unfolding journal_text
 journal-none = refl
 
-pub text-first : (plan : Planned) (j : ℕ) → first_text plan j ≡ text_so_far plan [] [] [] j
-text-first plan j = by_place (nat_lt j (port_count plan)) (j == port_count plan)
-  where
-    by_place : (b c : Bool) → (if b then capture_header else []) ≡ (if b then capture_text [] else (if c then journal_text [] else trace_text []))
-    by_place true c = sym capture_text-nil
-    by_place false true = sym journal-none
-    by_place false false = sym no_trace
+pub text-first : (o : Output) → first_text o ≡ text_so_far [] [] [] [] o
+text-first (output.Capture q) = sym capture_text-nil
+text-first output.Journal = sym journal-none
+text-first output.Trace = sym no_trace
+text-first output.Counters = refl
+
+-- the counters are written at the end
+pub counts_written : (told : List Event) (gone : List Leaving) (lines : List TraceLine) (counts : List ℕ) (o : Output) → with_more (text_so_far told gone lines []) output.Counters counts o ≡ text_so_far told gone lines counts o
+counts_written told gone lines counts (output.Capture q) = refl
+counts_written told gone lines counts output.Journal = refl
+counts_written told gone lines counts output.Trace = refl
+counts_written told gone lines counts output.Counters = refl
 
 -- ---- counts
 left-aside : (es : List Event) (n : ℕ) (c : Counts) → count_events (with_left n c) es ≡ with_left n (count_events c es)

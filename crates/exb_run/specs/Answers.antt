@@ -16,14 +16,16 @@ use Rattle.exb_merge.specs.declared.replays.CaptureFault.{CaptureFault}
 use Rattle.exb_merge.specs.declared.replays.CaptureFault.TheVariants as capture
 use Rattle.exb_needs.specs.Lines.{lines_of}
 use Rattle.exb_needs.specs.Needed.{needs_of}
-use Rattle.exb_pcap.specs.declared.reader.PcapFault.{PcapFault}
-use Rattle.exb_pcap.specs.declared.reader.PcapFault.TheVariants as pcap
+use Rattle.exb_capture.specs.declared.fault.Fault.{Fault as Broke}
+use Rattle.exb_capture.specs.declared.fault.Flaw.{Flaw as Wrong}
+use Rattle.exb_capture.specs.declared.fault.Flaw.TheVariants as wrong
 use Rattle.exb_shelf.specs.declared.shelf.ShelfFault.{ShelfFault}
 use Rattle.exb_shelf.specs.declared.shelf.ShelfFault.TheVariants as shelf
 use Rattle.exb_shelf.specs.Files.{Files, SameFiles}
 use Rattle.exb_shelf.specs.Shelf.{Faults, Rose}
 use Rattle.exb_topology.specs.declared.topology.Topology.{Topology}
 use Rattle.exb_topology.specs.Topologies.{topology_of, topology_view}
+use Rattle.exb_words.specs.declared.asked.Options.{Options}
 use Rattle.exb_words.specs.Words.{Ask, Run, Check, Make, words_of}
 use Rattle.exb_run.specs.declared.fault.Flaw.{Flaw}
 use Rattle.exb_run.specs.declared.fault.Flaw.TheVariants.{Large, Broken}
@@ -52,13 +54,13 @@ pub record IsReady (name : List ℕ) (file : Files) (t : Topology) : Type 0 wher
 -- what is asked for can be done
 abbrev pub CanBeDone : Option Ask → Files → Type 0
 CanBeDone None file = ⊥
-CanBeDone (Some (Run name trace seed)) file = (t : Topology) × IsReady name file t
+CanBeDone (Some (Run name options)) file = (t : Topology) × IsReady name file t
 CanBeDone (Some (Check name)) file = (t : Topology) × HoldsTopology name file t
 CanBeDone (Some (Make number)) file = ⊤
 
 -- to play a topology is asked for, by which alone files are written
 abbrev pub IsRun : Option Ask → Type 0
-IsRun (Some (Run name trace seed)) = ⊤
+IsRun (Some (Run name options)) = ⊤
 IsRun _ = ⊥
 
 -- ---- what is done
@@ -68,10 +70,10 @@ mode_for None = Eager
 mode_for (Some seed) = Seeded
 
 -- all was played and written; this line sums it up
-pub record Played (name : List ℕ) (trace : Bool) (seed : Option ℕ) (old new : Files) (line : List ℕ) : Type 0 where
+pub record Played (name : List ℕ) (options : Options) (old new : Files) (line : List ℕ) : Type 0 where
   pub topology : Topology
   pub ready : IsReady name old topology
-  pub played : IsPlayed (mode_for seed) trace (input_of topology old) topology.prefix old new line
+  pub played : IsPlayed (mode_for options.seed) options (input_of topology old) topology.prefix old new line
 
 -- these lines say what numbers the topology needs
 pub record Checked (name : List ℕ) (file : Files) (lines : List ℕ) : Type 0 where
@@ -86,13 +88,13 @@ eager_summary i = summary (tree_of i) (basis_of i) (eager i)
 -- what was asked for is done, and this text says so
 abbrev pub IsDone : Option Ask → Files → Files → List ℕ → Type 0
 IsDone None old new text = ⊥
-IsDone (Some (Run name trace seed)) old new text = Played name trace seed old new text
+IsDone (Some (Run name options)) old new text = Played name options old new text
 IsDone (Some (Check name)) old new text = Checked name old text
 IsDone (Some (Make number)) old new text = text ≡ eager_summary (made number)
 
 -- no file but the outputs of what is asked for has changed
 abbrev pub OnlyAsked : Option Ask → Files → Files → Type 0
-OnlyAsked (Some (Run name trace seed)) old new = (t : Topology) → HoldsTopology name old t → OnlyOutputs trace (shape_of t.setup) t.prefix old new
+OnlyAsked (Some (Run name options)) old new = (t : Topology) → HoldsTopology name old t → OnlyOutputs options (shape_of t.setup) t.prefix old new
 OnlyAsked _ old new = SameFiles old new
 
 -- what a run of the topology in the file of this name leaves: fronts of what its input calls for
@@ -101,9 +103,14 @@ pub record LeavesFronts (name : List ℕ) (old new : Files) : Type 0 where
   pub holds : HoldsTopology name old topology
   pub fronts : AreFrontsOf (input_of topology old) topology.prefix old new
 
--- However an eager run ends, no file has changed, or each capture and the journal are as they were or hold a front of their text.
+-- However a run in this order ends: where it is the eager one, no file has changed, or each capture and the journal are as they were
+-- or hold a front of their text.
+abbrev pub AreFrontsIn : Option ℕ → List ℕ → Files → Files → Type 0
+AreFrontsIn None name old new = SameFiles old new ⊎ LeavesFronts name old new
+AreFrontsIn (Some seed) name old new = ⊤
+
 abbrev pub AreFronts : Option Ask → Files → Files → Type 0
-AreFronts (Some (Run name trace None)) old new = SameFiles old new ⊎ LeavesFronts name old new
+AreFronts (Some (Run name options)) old new = AreFrontsIn options.seed name old new
 AreFronts _ old new = ⊤
 
 -- ---- faults
@@ -151,14 +158,14 @@ pub record CaptureFaulty (name : List ℕ) (file : Files) (fault : Fault) : Type
 -- is played its captures
 abbrev pub Stops : Option Ask → Files → Fault → Type 0
 Stops None file fault = fault ≡ Usage
-Stops (Some (Run name trace seed)) file fault = IsRefused name (file name) fault ⊎ CaptureFaulty name file fault
+Stops (Some (Run name options)) file fault = IsRefused name (file name) fault ⊎ CaptureFaulty name file fault
 Stops (Some (Check name)) file fault = IsRefused name (file name) fault
 Stops (Some (Make number)) file fault = ⊥
 
 -- a fault of the shelf, or want of memory
 abbrev pub IsFailure : Option Ask → Fault → Type 0
 IsFailure None fault = ⊥
-IsFailure (Some (Run name trace seed)) fault = (fault ≡ Read) ⊎ (fault ≡ Write) ⊎ (fault ≡ Memory)
+IsFailure (Some (Run name options)) fault = (fault ≡ Read) ⊎ (fault ≡ Write) ⊎ (fault ≡ Memory)
 IsFailure (Some (Check name)) fault = (fault ≡ Read) ⊎ (fault ≡ Memory)
 IsFailure (Some (Make number)) fault = fault ≡ Memory
 
@@ -170,14 +177,22 @@ CanBe (BadTopology topology.Memory) = ⊥
 CanBe _ = ⊤
 
 -- ---- what is printed
+-- what is wrong with a capture
+abbrev pub flaw_name : Wrong → List ℕ
+flaw_name wrong.NotPcap = codes "NotPcap"
+flaw_name wrong.Version = codes "Version"
+flaw_name wrong.LinkType = codes "LinkType"
+flaw_name wrong.Cut = codes "Cut"
+flaw_name wrong.Length = codes "Length"
+flaw_name wrong.Time = codes "Time"
+flaw_name wrong.Magic = codes "Magic"
+flaw_name wrong.TooMany = codes "TooMany"
+flaw_name wrong.Resolution = codes "Resolution"
+flaw_name wrong.Interface = codes "Interface"
+
 -- a fault of the grammar of captures, and its place
-abbrev pub broken_text : PcapFault → List ℕ
-broken_text pcap.NotPcap = codes "NotPcap at 0"
-broken_text pcap.Version = codes "Version at 4"
-broken_text pcap.LinkType = codes "LinkType at 20"
-broken_text (pcap.Cut place) = codes "Cut at " ++ decimal place
-broken_text (pcap.Length place) = codes "Length at " ++ decimal place
-broken_text (pcap.Time place) = codes "Time at " ++ decimal place
+abbrev pub broken_text : Broke → List ℕ
+broken_text fault = flaw_name fault.flaw ++ codes " at " ++ decimal fault.at
 
 abbrev pub flaw_text : Flaw → List ℕ
 flaw_text (Large limit) = codes "Large " ++ decimal limit
@@ -205,7 +220,7 @@ topology_text (topology.At fault key) = key_fault_text fault ++ codes " at " ++ 
 
 -- the words that are accepted
 abbrev pub usage : List ℕ
-usage = codes "exbr: usage: exbr run TOPOLOGY [--trace] [--seed N] | exbr check TOPOLOGY | exbr make N\n"
+usage = codes "exbr: usage: exbr run TOPOLOGY [--trace] [--counters] [--seed N] | exbr check TOPOLOGY | exbr make N\n"
 
 -- the line of a capture that is not taken
 unfoldable pub capture_line : ℕ → List ℕ → List ℕ
@@ -244,7 +259,7 @@ status_of (Err fault) = fault_status fault
 -- the statuses that can come
 abbrev pub IsStatus : Option Ask → ℕ → Type 0
 IsStatus None n = IsTrue (n == 1 || n == 2 || n == 7)
-IsStatus (Some (Run name trace seed)) n = IsTrue (n == 0 || n == 1 || n == 3 || n == 4 || n == 5 || n == 6 || n == 7 || n == 10)
+IsStatus (Some (Run name options)) n = IsTrue (n == 0 || n == 1 || n == 3 || n == 4 || n == 5 || n == 6 || n == 7 || n == 10)
 IsStatus (Some (Check name)) n = IsTrue (n == 0 || n == 1 || n == 3 || n == 5 || n == 6 || n == 7)
 IsStatus (Some (Make number)) n = IsTrue (n == 0 || n == 1 || n == 7)
 

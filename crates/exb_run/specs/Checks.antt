@@ -5,10 +5,10 @@ use Rattle.exb_model.specs.Ports.{all_ports}
 use Rattle.exb_merge.specs.Replays.{Standing}
 use Rattle.exb_merge.specs.Streams.{Stream, stream_of}
 use Rattle.exb_model.specs.Tree.{is_external}
-use Rattle.exb_scan.specs.declared.checking.Scanned.{Scanned}
-use Rattle.exb_scan.specs.declared.checking.ScanFault.{ScanFault}
-use Rattle.exb_scan.specs.declared.checking.ScanFault.TheVariants as scan
-use Rattle.exb_scan.specs.Scans.{IsScan, IsOfFile}
+use Rattle.exb_capture.specs.declared.checking.Scanned.{Scanned}
+use Rattle.exb_capture.specs.declared.checking.ScanFault.{ScanFault}
+use Rattle.exb_capture.specs.declared.checking.ScanFault.TheVariants as scan
+use Rattle.exb_capture.specs.Scans.{IsScan, IsOfFile}
 use Rattle.exb_shelf.specs.Files.{Files}
 use Rattle.exb_tables.specs.declared.rows.Named.{Named}
 use Rattle.exb_run.specs.declared.checked.Checked.{Checked}

@@ -3,7 +3,7 @@ use Rattle.std.specs.Prelude.{ℕ, Bool, ◌==◌, if◌then◌else◌, List, []
 use Rattle.exb_model.specs.declared.setup.Setup.{Setup}
 use Rattle.exb_model.specs.declared.setup.Timed.{Timed}
 use Rattle.exb_model.specs.Input.{Input, Record, given_by}
-use Rattle.exb_pcap.specs.Captures.{pcap_records, records_or_none}
+use Rattle.exb_capture.specs.Captures.{capture_records, records_or_none}
 use Rattle.exb_shelf.specs.Files.{Files, bytes_of}
 use Rattle.exb_tables.specs.declared.rows.Named.{Named}
 use Rattle.exb_topology.specs.declared.topology.Topology.{Topology}
@@ -30,7 +30,7 @@ bytes_at names file q = bytes_named file (name_of names q)
 -- ---- the input
 -- the records of the capture of port q, and none where it has no capture
 abbrev pub records_at : List Named → Files → ℕ → List Record
-records_at names file q = if is_named names q then records_or_none (pcap_records (bytes_at names file q)) else []
+records_at names file q = if is_named names q then records_or_none (capture_records (bytes_at names file q)) else []
 
 -- the input of a setup, of commands and of the captures that are named
 abbrev pub input_from : Setup → List Timed → List Named → Files → Input

@@ -4,11 +4,14 @@ use Rattle.exb_model.specs.Setup.{shape_of}
 use Rattle.exb_model.specs.Tree.{Shape, is_external}
 use Rattle.exb_shelf.specs.Files.{Files}
 use Rattle.exb_shelf.specs.Shelf.{Id, IsReading, IsReadingOf, Opens, writing}
-use Rattle.exb_text.specs.Names.{capture_name, journal_name, trace_name}
+use Rattle.exb_text.specs.declared.output.Output.{Output}
+use Rattle.exb_text.specs.Names.{file_name}
 use Rattle.exb_tables.specs.declared.rows.Named.{Named}
 use Rattle.exb_topology.specs.declared.topology.Topology.{Topology}
+use Rattle.exb_words.specs.declared.asked.Options.{Options}
 use Rattle.exb_words.specs.Words.{Ask, Run, Check, Make}
 use Rattle.exb_run.specs.Inputs.{name_of}
+use Rattle.exb_run.specs.Plans.{IsMade}
 use Rattle.exb_run.specs.Checks.{AreAllGood}
 use Rattle.exb_run.specs.Answers.{HoldsTopology, IsReady}
 
@@ -22,7 +25,7 @@ pub record ReadsCapture (names : List Named) (i : Id) : Type 0 where
 -- an id to read the topology that is asked for
 abbrev pub ReadsTopology : Option Ask → Id → Type 0
 ReadsTopology None i = ⊥
-ReadsTopology (Some (Run name trace seed)) i = IsReadingOf name i
+ReadsTopology (Some (Run name options)) i = IsReadingOf name i
 ReadsTopology (Some (Check name)) i = IsReadingOf name i
 ReadsTopology (Some (Make number)) i = ⊥
 
@@ -34,38 +37,36 @@ pub record ReadsCaptureOf (name : List ℕ) (file : Files) (i : Id) : Type 0 whe
 
 -- an id to read a capture of the topology that is to be played
 abbrev pub ReadsInput : Option Ask → Files → Id → Type 0
-ReadsInput (Some (Run name trace seed)) file i = ReadsCaptureOf name file i
+ReadsInput (Some (Run name options)) file i = ReadsCaptureOf name file i
 ReadsInput _ file i = ⊥
 
 -- the files that may be read
 abbrev pub IsWanted : Option Ask → Files → Id → Type 0
 IsWanted a file i = ReadsTopology a i ⊎ ReadsInput a file i
 
--- the name of a file that runs of a tree write under a prefix: the capture of an external port, the journal, or the trace where
--- one is asked for
-abbrev pub IsOutput : Bool → Shape → List ℕ → List ℕ → Type 0
-IsOutput traced tree prefix name =
-    ((q : ℕ) × (is_external tree q ≡ true) × (name ≡ capture_name prefix q)) ⊎ (name ≡ journal_name prefix) ⊎ ((traced ≡ true) × (name ≡ trace_name prefix))
+-- the name of a file that runs of a tree write under a prefix
+abbrev pub IsOutput : Options → Shape → List ℕ → List ℕ → Type 0
+IsOutput options tree prefix name = (o : Output) × IsMade options tree o × (name ≡ file_name prefix o)
 
 -- an id to write an output of a topology
-pub record WritesOutput (traced : Bool) (t : Topology) (i : Id) : Type 0 where
+pub record WritesOutput (options : Options) (t : Topology) (i : Id) : Type 0 where
   pub name : List ℕ
-  pub output : IsOutput traced (shape_of t.setup) t.prefix name
+  pub output : IsOutput options (shape_of t.setup) t.prefix name
   pub writes : i ≡ writing name
 
 -- the files that a run of a topology may open: its captures, and where these are good, its outputs
-abbrev pub IsOpenedFor : Bool → Topology → Files → Id → Type 0
-IsOpenedFor traced t file i = ReadsCapture t.captures i ⊎ (AreAllGood t.captures file × WritesOutput traced t i)
+abbrev pub IsOpenedFor : Options → Topology → Files → Id → Type 0
+IsOpenedFor options t file i = ReadsCapture t.captures i ⊎ (AreAllGood t.captures file × WritesOutput options t i)
 
 -- an id to write an output of the topology in the file of this name, where that and its captures can be played
-pub record MakesOutputOf (name : List ℕ) (traced : Bool) (file : Files) (i : Id) : Type 0 where
+pub record MakesOutputOf (name : List ℕ) (options : Options) (file : Files) (i : Id) : Type 0 where
   pub topology : Topology
   pub ready : IsReady name file topology
-  pub output : WritesOutput traced topology i
+  pub output : WritesOutput options topology i
 
 -- an id to write an output of the topology that is to be played
 abbrev pub MakesOutput : Option Ask → Files → Id → Type 0
-MakesOutput (Some (Run name trace seed)) file i = MakesOutputOf name trace file i
+MakesOutput (Some (Run name options)) file i = MakesOutputOf name options file i
 MakesOutput _ file i = ⊥
 
 -- Which files are opened: none where the words are not accepted or an input is made, the topology alone where it is refused or

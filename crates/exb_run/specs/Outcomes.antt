@@ -12,7 +12,7 @@ use Rattle.exb_run.specs.Shelving.{IsOfPlay}
 -- a fault that can come where this is asked for
 abbrev pub CanCome : Option Ask → Fault → Type 0
 CanCome None fault = fault ≡ Usage
-CanCome (Some (Run name trace seed)) fault = IsOfTopology fault ⊎ IsOfPlaying fault
+CanCome (Some (Run name options)) fault = IsOfTopology fault ⊎ IsOfPlaying fault
 CanCome (Some (Check name)) fault = IsOfTopology fault
 CanCome (Some (Make number)) fault = fault ≡ Memory
 

@@ -1,5 +1,6 @@
--- What a run writes: the capture of each external port, the journal, the trace where it is asked for, and the summary line.
-use Rattle.std.specs.Prelude.{◌≡◌, ◌≢◌, ◌<◌, ◌≤◌, ◌==◌, ◌⊎◌, ℕ, Bool, true, List, [], Option, Some, nat_lt, take, if◌then◌else◌}
+-- What a run writes: the capture of each external port, the journal, the trace and the counters where they are asked for, and the
+-- summary line.
+use Rattle.std.specs.Prelude.{◌≡◌, ◌≢◌, ◌<◌, ◌⊎◌, ℕ, true, List, [], Option, Some, take}
 use Rattle.exb_model.specs.EagerHistory.{eager as eager_history}
 use Rattle.exb_model.specs.FlatBridge.{flat}
 use Rattle.exb_model.specs.History.{History}
@@ -9,16 +10,19 @@ use Rattle.exb_model.specs.Texts.{capture_text, journal_text, summary}
 use Rattle.exb_model.specs.Traces.{TraceLine, trace_text}
 use Rattle.exb_model.specs.Tree.{Shape, is_external}
 use Rattle.exb_shelf.specs.Files.{Files, Filled}
-use Rattle.exb_text.specs.Names.{capture_name, journal_name, trace_name}
+use Rattle.exb_text.specs.declared.output.Output.{Output}
+use Rattle.exb_text.specs.declared.output.Output.TheVariants as output
+use Rattle.exb_text.specs.Names.{capture_name, counters_name, file_name, journal_name, trace_name}
+use Rattle.exb_counters.specs.Counters.{count_text}
+use Rattle.exb_words.specs.declared.asked.Options.{Options}
 use Rattle.exb_legal.specs.LegalTrace.{LegalTrace}
 use Rattle.exb_legal.specs.Inputs.{frames_in, frames_out}
 use Rattle.exb_legal.specs.Entries.{journal_of}
-use Rattle.exb_run.specs.Plans.{Planned, output_count, port_count, port_at}
+use Rattle.exb_run.specs.Plans.{Planned, IsMade, kind_at, output_count}
 
--- no file but those of the external ports, the journal and the trace has changed
-abbrev pub OnlyOutputs : Bool → Shape → List ℕ → Files → Files → Type 0
-OnlyOutputs traced tree prefix old new =
-    (m : List ℕ) → ((q : ℕ) → is_external tree q ≡ true → m ≢ capture_name prefix q) → m ≢ journal_name prefix → (traced ≡ true → m ≢ trace_name prefix) → new m ≡ old m
+-- no file but those of the kinds that are made has changed
+abbrev pub OnlyOutputs : Options → Shape → List ℕ → Files → Files → Type 0
+OnlyOutputs options tree prefix old new = (m : List ℕ) → ((o : Output) → IsMade options tree o → m ≢ file_name prefix o) → new m ≡ old m
 
 -- a legal trace of a history, of the frames of the captures, and of those that the one flat bridge sends
 abbrev pub IsTraceOf : Input → History → List TraceLine → Type 0
@@ -31,16 +35,17 @@ pub record IsTraced (i : Input) (h : History) (file : Option (List ℕ)) : Type 
   pub legal : IsTraceOf i h lines
 
 -- All was played and written under a prefix, and this line sums it up: the file of each external port is what the one flat bridge
--- sends at it over a history that the input allows, which in an eager run is the eager history; the journal is that history, and
--- the trace is legal.
-pub record IsPlayed (m : Mode) (traced : Bool) (i : Input) (prefix : List ℕ) (old new : Files) (line : List ℕ) : Type 0 where
+-- sends at it over a history that the input allows, which in an eager run is the eager history; the journal is that history, the
+-- counters are those of it, and the trace is legal.
+pub record IsPlayed (m : Mode) (options : Options) (i : Input) (prefix : List ℕ) (old new : Files) (line : List ℕ) : Type 0 where
   pub history : History
   pub legal : Legal m i history
   pub eager : m ≡ Eager → history ≡ eager_history i
   pub captures : (q : ℕ) → is_external (tree_of i) q ≡ true → new (capture_name prefix q) ≡ Some (capture_text (flat (basis_of i) history q))
   pub journal : new (journal_name prefix) ≡ Some (journal_text history)
-  pub trace : traced ≡ true → IsTraced i history (new (trace_name prefix))
-  pub others : OnlyOutputs traced (tree_of i) prefix old new
+  pub trace : options.trace ≡ true → IsTraced i history (new (trace_name prefix))
+  pub counters : options.counters ≡ true → new (counters_name prefix) ≡ Some (count_text (tree_of i) (basis_of i) history)
+  pub others : OnlyOutputs options (tree_of i) prefix old new
   pub says : line ≡ summary (tree_of i) (basis_of i) history
 
 -- ---- where a run ended early
@@ -54,15 +59,16 @@ pub record AreFrontsOf (i : Input) (prefix : List ℕ) (old new : Files) : Type 
   pub journal : IsCut (old (journal_name prefix)) (new (journal_name prefix)) (journal_text (eager_history i))
 
 -- ---- the outputs of a plan
--- the files of the external ports in port order (counted from 0), after them the journal, and then the trace
+-- the name of file j, counted from 0
 abbrev pub output_name : Planned → ℕ → List ℕ
-output_name plan j =
-    if nat_lt j (port_count plan) then capture_name plan.prefix (port_at plan j) else (if j == port_count plan then journal_name plan.prefix else trace_name plan.prefix)
+output_name plan j = file_name plan.prefix (kind_at plan j)
 
--- what they hold over a history, with these lines of the trace
-abbrev pub output_text : Input → Planned → History → List TraceLine → ℕ → List ℕ
-output_text i plan h lines j =
-    if nat_lt j (port_count plan) then capture_text (flat (basis_of i) h (port_at plan j)) else (if j == port_count plan then journal_text h else trace_text lines)
+-- what a file holds over a history, by its kind, with these lines of the trace
+abbrev pub output_text : Input → History → List TraceLine → Output → List ℕ
+output_text i h lines (output.Capture q) = capture_text (flat (basis_of i) h q)
+output_text i h lines output.Journal = journal_text h
+output_text i h lines output.Trace = trace_text lines
+output_text i h lines output.Counters = count_text (tree_of i) (basis_of i) h
 
 -- they hold it, and this is the summary
 pub record HasPlayed (m : Mode) (i : Input) (plan : Planned) (old new : Files) (line : List ℕ) : Type 0 where
@@ -70,13 +76,21 @@ pub record HasPlayed (m : Mode) (i : Input) (plan : Planned) (old new : Files) (
   pub lines : List TraceLine
   pub legal : Legal m i history
   pub eager : m ≡ Eager → history ≡ eager_history i
-  pub trace : plan.traced ≡ true → IsTraceOf i history lines
-  pub outputs : Filled old new (output_count plan) (output_name plan) (λ j bytes. bytes ≡ output_text i plan history lines j)
+  pub trace : plan.options.trace ≡ true → IsTraceOf i history lines
+  pub outputs : Filled old new (output_count plan) (output_name plan) (λ j bytes. bytes ≡ output_text i history lines (kind_at plan j))
   pub says : line ≡ summary (tree_of i) (basis_of i) history
 
--- all but the trace are as they were, or hold a front of their text over the eager history
+-- a kind whose text over the eager history is written as it happens
+abbrev pub GrowsEagerly : Output → Type 0
+GrowsEagerly (output.Capture q) = Unit {0}
+GrowsEagerly output.Journal = Unit {0}
+GrowsEagerly output.Trace = ⊥
+GrowsEagerly output.Counters = ⊥
+
+-- these are as they were, or hold a front of their text over the eager history
 abbrev pub AreCutEagerly : Input → Planned → Files → Files → Type 0
-AreCutEagerly i plan old new = (j : ℕ) → j ≤ port_count plan → IsCut (old (output_name plan j)) (new (output_name plan j)) (output_text i plan (eager_history i) [] j)
+AreCutEagerly i plan old new =
+    (j : ℕ) → j < output_count plan → GrowsEagerly (kind_at plan j) → IsCut (old (output_name plan j)) (new (output_name plan j)) (output_text i (eager_history i) [] (kind_at plan j))
 
 -- no file but the outputs has changed
 abbrev pub OnlyPlanned : Planned → Files → Files → Type 0

@@ -1,18 +1,20 @@
 -- A run under way: what was told and has left so far, what is written and counted of it, and what is still to come.
-use Rattle.std.specs.Prelude.{◌≡◌, ◌≤◌, ◌<◌, ◌+◌, ◌*◌, ◌^◌, ◌==◌, ℕ, Bool, false, List, [], ◌∷◌, ◌++◌, Option, None, IfSome, nat_lt, if◌then◌else◌, length, map, filter_map, flat_map, fold, sum_by, All, AllPairs}
+use Rattle.std.specs.Prelude.{◌≡◌, ◌≤◌, ◌<◌, ◌+◌, ◌*◌, ◌^◌, ℕ, Bool, true, false, List, [], ◌∷◌, ◌++◌, Option, Some, None, IfSome, length, map, filter_map, flat_map, fold, sum_by, All, AllPairs}
 use Rattle.std.specs.List.{AllByRecursion}
 use Rattle.exb_model.specs.declared.event.Event.{Event}
 use Rattle.exb_model.specs.declared.setup.Setup.{Setup}
 use Rattle.exb_model.specs.declared.setup.Timed.{Timed}
 use Rattle.exb_model.specs.declared.setup.Verdict.{Verdict}
+use Rattle.exb_model.specs.FlatBridge.{Sent}
 use Rattle.exb_model.specs.History.{◌then◌, command_of}
 use Rattle.exb_model.specs.Input.{Input, Segment, Coming, Mode, Eager, Seeded, basis_of, tree_of, arrival_in, given_by, merge, moment_of, second_of, segments, segments_after, seconds_after}
 use Rattle.exb_model.specs.Setup.{NamesExternal}
 use Rattle.exb_model.specs.Texts.{Counts, counted, with_left, capture_text, journal_text}
 use Rattle.exb_model.specs.Traces.{TraceLine, trace_text}
-use Rattle.exb_model.specs.Tree.{Shape, is_external}
+use Rattle.exb_model.specs.Tree.{Shape, external_ports, is_external}
 use Rattle.exb_machine.specs.Worlds.{Left}
 use Rattle.exb_resting.specs.Motion.Playing.{IsTimely}
+use Rattle.exb_network.specs.declared.log.Left.{Left as Leaving}
 use Rattle.exb_network.specs.Networks.{Network, IsQuiet}
 use Rattle.exb_network.specs.Worlds.{all_left}
 use Rattle.exb_resting.specs.Rest.Playing.{arrivals_in}
@@ -20,12 +22,19 @@ use Rattle.exb_schedule.specs.declared.segment.Arrival.{Arrival}
 use Rattle.exb_schedule.specs.Playing.{CanAll, HasPlayed as IsPlayedBy, IsSegment, arrived, gives}
 use Rattle.exb_shelf.specs.Files.{Files}
 use Rattle.exb_resting.specs.Flight.Showing.{left_at}
-use Rattle.exb_text.specs.Tallies.{nothing_counted}
+use Rattle.exb_text.specs.declared.output.Output.{Output}
+use Rattle.exb_text.specs.declared.output.Output.TheVariants as output
+use Rattle.exb_text.specs.Tallies.{FitsTally, counts_of, nothing_counted}
+use Rattle.exb_counters.specs.declared.counters.Counters.{Counters}
+use Rattle.exb_counters.specs.declared.counters.Counts5.{Counts5}
+use Rattle.exb_counters.specs.Counters.{count_lines, octets_of}
+use Rattle.exb_counters.specs.Counting.{FitsCounts, HasPort, counts_at, drops_in, nothing, plus_events}
+use Rattle.exb_run.specs.declared.counted.Counted.{Counted}
 use Rattle.exb_run.specs.declared.outputs.Outputs.{Outputs}
 use Rattle.exb_run.specs.declared.script.Schedule.{Schedule}
 use Rattle.exb_run.specs.declared.script.Schedule.TheVariants as schedule
-use Rattle.exb_run.specs.Plans.{Planned, port_count, port_at}
-use Rattle.exb_run.specs.Writing.{AreCut, HasTexts, first_text, pieces_of}
+use Rattle.exb_run.specs.Plans.{Planned}
+use Rattle.exb_run.specs.Writing.{AreCut, HasTexts, pieces_of}
 
 -- ---- what is asked for
 abbrev pub mode_of : Schedule → Mode
@@ -41,14 +50,67 @@ pub record IsScript (t : Shape) (given : List Timed) (fate : List Verdict) : Typ
   pub few_letters : length fate + sum_by (λ c. length c.fate) given ≤ 60000
 
 -- ---- what is told
--- the text of output j after this was told and this has left
-abbrev pub text_so_far : Planned → List Event → List Left → List TraceLine → ℕ → List ℕ
-text_so_far plan told gone lines j =
-    if nat_lt j (port_count plan) then capture_text (left_at (port_at plan j) gone) else (if j == port_count plan then journal_text ([] then told) else trace_text lines)
+-- the text of each kind after this was told and this has left; counters have theirs at the end
+abbrev pub text_so_far : List Event → List Left → List TraceLine → List ℕ → Output → List ℕ
+text_so_far told gone lines counts (output.Capture q) = capture_text (left_at q gone)
+text_so_far told gone lines counts output.Journal = journal_text ([] then told)
+text_so_far told gone lines counts output.Trace = trace_text lines
+text_so_far told gone lines counts output.Counters = counts
 
 -- and the counts
 abbrev pub counts_so_far : List Event → List Left → Counts
 counts_so_far told gone = with_left (length gone) (fold (λ c e. counted e c) nothing_counted told)
+
+-- the counts of port q, with these frames more
+abbrev pub with_frames : List Sent → Counts5 → Counts5
+with_frames xs c =
+    record { relayed = c.relayed; dropped = c.dropped; ignored = c.ignored; left = c.left + length xs; octets = c.octets + octets_of xs }
+
+abbrev pub port_counts_so_far : List Event → List Bool → List Left → ℕ → Counts5
+port_counts_so_far told passed gone q = with_frames (left_at q gone) (plus_events told passed q nothing)
+
+-- there are counts by port where they are asked for, and they are these
+abbrev pub AreCounted : Planned → Option Counters → List Event → List Bool → List Left → Type 0
+AreCounted plan None told passed gone = plan.options.counters ≡ false
+AreCounted plan (Some c) told passed gone =
+    (plan.options.counters ≡ true) × ((q : ℕ) → q < 4160 → is_external plan.tree q ≡ true → HasPort c q) × ((q : ℕ) → HasPort c q → counts_at c q ≡ port_counts_so_far told passed gone q)
+
+-- there are counts by port exactly where they are asked for, and of each external port
+abbrev pub AreCountsOf : Planned → Option Counters → Type 0
+AreCountsOf plan None = plan.options.counters ≡ false
+AreCountsOf plan (Some c) = (plan.options.counters ≡ true) × ((q : ℕ) → q < 4160 → is_external plan.tree q ≡ true → HasPort c q)
+
+-- the text of the counters
+abbrev pub counts_text : Planned → Option Counters → List ℕ
+counts_text plan None = []
+counts_text plan (Some c) = count_lines (counts_at c) (external_ports plan.tree)
+
+-- what is counted is what was told and has left
+pub record IsCounted (plan : Planned) (c : Counted) (told : List Event) (passed : List Bool) (gone : List Left) : Type 0 where
+  pub tally : counts_of c.tally ≡ counts_so_far told gone
+  pub ports : AreCounted plan c.ports told passed gone
+
+-- what was said of Relays goes with what was told: the drops of more are those of what comes more
+abbrev pub GoTogether : List Event → List Bool → Type 0
+GoTogether told passed = (more : List Event) (said : List Bool) (q : ℕ) → drops_in (told ++ more) (passed ++ said) q ≡ drops_in told passed q + drops_in more said q
+
+-- events and frames more can be counted
+abbrev pub CanCountAt : List Event → List Bool → List Leaving → Counters → Type 0
+CanCountAt events passed left c =
+    All (λ (x : Leaving). HasPort c x.port) left
+    × ((q : ℕ) → HasPort c q → FitsCounts (with_frames (left_at q (all_left left)) (plus_events events passed q (counts_at c q))))
+
+pub record CanCount (c : Counted) (events : List Event) (passed : List Bool) (left : List Leaving) : Type 0 where
+  pub tally : FitsTally (with_left (length left) (fold (λ k e. counted e k) (counts_of c.tally) events))
+  pub ports : IfSome c.ports (CanCountAt events passed left)
+
+-- and they are
+abbrev pub CountsOn : Option Counters → Option Counters → List Event → List Bool → List Leaving → Type 0
+CountsOn None None events passed left = Unit {0}
+CountsOn (Some c) (Some d) events passed left =
+    (length d.counts.items ≡ length c.counts.items)
+    × ((q : ℕ) → HasPort c q → counts_at d q ≡ with_frames (left_at q (all_left left)) (plus_events events passed q (counts_at c q)))
+CountsOn _ _ events passed left = ⊥
 
 -- an input, and the files before its run
 pub record Run : Type 0 where
@@ -57,16 +119,16 @@ pub record Run : Type 0 where
 
 -- The network has played these segments of the input, what is written and counted are those of what it told, and nothing is
 -- still to be written.
-pub record IsTold (tells : Type 0) (m : Mode) (r : Run) (plan : Planned) (now : Files) (n : Network) (c : Counts) (o : Outputs) (so_far : List Segment) : Type 0 where
+pub record IsTold (tells : Type 0) (m : Mode) (r : Run) (plan : Planned) (now : Files) (n : Network) (c : Counted) (o : Outputs) (so_far : List Segment) : Type 0 where
   pub tree : plan.tree ≡ tree_of r.input
   pub told : List Event
   pub passed : List Bool
   pub gone : List Left
   pub lines : List TraceLine
   pub played : IsPlayedBy m r.input so_far n told passed gone lines
-  pub tracing : n.log.tracing ≡ plan.traced
-  pub counted : c ≡ counts_so_far told gone
-  pub texts : tells → HasTexts plan (pieces_of o) r.before now (text_so_far plan told gone lines)
+  pub tracing : n.log.tracing ≡ plan.options.trace
+  pub counted : IsCounted plan c told passed gone
+  pub texts : tells → HasTexts plan (pieces_of o) r.before now (text_so_far told gone lines [])
   pub quiet : IsQuiet n
 
 -- The run ended early, after some of its segments: each output is as it was, or holds a front of its text over what these told.
@@ -80,8 +142,9 @@ pub record IsCutOff (m : Mode) (r : Run) (plan : Planned) (now : Files) : Type 0
   pub passed : List Bool
   pub gone : List Left
   pub lines : List TraceLine
+  pub counts : List ℕ
   pub played : IsPlayedBy m r.input so_far network told passed gone lines
-  pub cut : AreCut plan r.before now (text_so_far plan told gone lines)
+  pub cut : AreCut plan r.before now (text_so_far told gone lines counts)
 
 -- ---- what comes
 -- the arrivals of some segments can be written in a capture

@@ -2,7 +2,7 @@
 use Rattle.std.specs.Prelude.{◌≡◌, ◌<◌, ◌≤◌, ◌++◌, ◌∷◌, [], ℕ, List, Option, Some, Ok, All, codes, decimal, length, map}
 use Rattle.exb_made.specs.declared.captures.Capture.{Capture}
 use Rattle.exb_model.specs.Input.{Record}
-use Rattle.exb_pcap.specs.Captures.{pcap_records}
+use Rattle.exb_capture.specs.Captures.{capture_records}
 use Rattle.exb_shelf.specs.Files.{Files}
 use Rattle.exb_tables.specs.declared.rows.Named.{Named}
 use Rattle.exb_run.specs.Checks.{most_bytes}
@@ -14,7 +14,7 @@ name_made p = codes "in/" ++ decimal p
 
 -- a capture is read as the records of its port, and is not too large
 pub record IsReadAs (records : ℕ → List Record) (c : Capture) : Type 0 where
-  pub read : pcap_records c.file.items ≡ Ok (records c.port)
+  pub read : capture_records c.file.items ≡ Ok (records c.port)
   pub small : length c.file.items ≤ most_bytes
 
 -- the same of a file, which has the name of the capture of port q
@@ -23,7 +23,7 @@ pub record IsKept (records : ℕ → List Record) (q : ℕ) (name : List ℕ) (f
   pub own : name ≡ name_made q
   pub bytes : List ℕ
   pub there : file ≡ Some bytes
-  pub read : pcap_records bytes ≡ Ok (records q)
+  pub read : capture_records bytes ≡ Ok (records q)
   pub small : length bytes ≤ most_bytes
 
 -- the same of all captures that are named

@@ -6,7 +6,6 @@ use Rattle.exb_model.specs.declared.setup.Timed.{Timed}
 use Rattle.exb_model.specs.History.{command_of}
 use Rattle.exb_model.specs.Input.{Input, Segment, Mode, Eager, Seeded, arrival_in, basis_of, tree_of, given_by, moment_of, second_of, segments, segments_after, seconds_after}
 use Rattle.exb_model.specs.Setup.{NamesExternal}
-use Rattle.exb_model.specs.Texts.{Counts}
 use Rattle.exb_model.specs.Tree.{is_external}
 use Rattle.exb_merge.specs.Agendas.{begins_in, still_to_come}
 use Rattle.exb_merge.specs.declared.programme.Next.{Next}
@@ -22,12 +21,12 @@ use Rattle.exb_schedule.specs.declared.segment.Arrival.{Arrival}
 use Rattle.exb_schedule.specs.Playing.{CanAll, HasPlayed as IsPlayedBy, IsSegment, arrived, gives}
 use Rattle.exb_shelf.specs.Files.{Files}
 use Rattle.exb_shelf.specs.Shelf.{Id, IsReadingOf}
-use Rattle.exb_text.specs.Tallies.{nothing_counted}
+use Rattle.exb_run.specs.declared.counted.Counted.{Counted}
 use Rattle.exb_run.specs.declared.feed.Feed.{Feed}
 use Rattle.exb_run.specs.declared.outputs.Outputs.{Outputs}
 use Rattle.exb_run.specs.Outputs.{output_name}
 use Rattle.exb_run.specs.Plans.{Planned, output_count}
-use Rattle.exb_run.specs.Playing.{CanBeKept, IsTold, Run}
+use Rattle.exb_run.specs.Playing.{CanBeKept, IsCounted, IsTold, Run}
 use Rattle.exb_run.specs.Writing.{HasTexts, first_text, pieces_of}
 
 -- ---- whatever the captures give
@@ -78,7 +77,7 @@ pub record LeadsOn (m : Mode) (i : Input) (so_far : List Segment) (last : Option
   pub rest : segments m i ≡ so_far ++ segments_after m last (still_to_come (played_with streams p))
 
 -- The run stands after some segments, and the programme goes on; where the files are told, it leads to all of the input.
-pub record IsPlaying (tells : Type 0) (m : Mode) (r : Run) (plan : Planned) (now : Files) (ids : ℕ → Id) (n : Network) (c : Counts) (o : Outputs) (last : Option ℕ) (p : Programme) : Type 0 where
+pub record IsPlaying (tells : Type 0) (m : Mode) (r : Run) (plan : Planned) (now : Files) (ids : ℕ → Id) (n : Network) (c : Counted) (o : Outputs) (last : Option ℕ) (p : Programme) : Type 0 where
   pub so_far : List Segment
   pub is : IsTold tells m r plan now n c o so_far
   pub next : IsGoingOn r.input so_far last p
@@ -89,19 +88,19 @@ pub record IsPlaying (tells : Type 0) (m : Mode) (r : Run) (plan : Planned) (now
 -- programme has all of an input.
 pub record CanBegin (tells : Type 0) (m : Mode) (r : Run) (s : Setup) (plan : Planned) (now : Files) (ids : ℕ → Id) (o : Outputs) (p : Programme) : Type 0 where
   pub setup : r.input.setup ≡ s
-  pub texts : tells → HasTexts plan (pieces_of o) r.before now (first_text plan)
+  pub texts : tells → HasTexts plan (pieces_of o) r.before now first_text
   pub timely : IsTimely r.input
   pub next : IsGoingOn r.input [] None p
   pub apart : AreApart plan ids (ids_in p.captures)
   pub leads : tells → LeadsOn m r.input [] None now ids p
 
 -- The world is opened, and nothing of it is written or counted yet; the programme has all of an input.
-pub record IsOpened (tells : Type 0) (m : Mode) (r : Run) (plan : Planned) (now : Files) (ids : ℕ → Id) (n : Network) (c : Counts) (o : Outputs) (p : Programme) : Type 0 where
+pub record IsOpened (tells : Type 0) (m : Mode) (r : Run) (plan : Planned) (now : Files) (ids : ℕ → Id) (n : Network) (c : Counted) (o : Outputs) (p : Programme) : Type 0 where
   pub tree : plan.tree ≡ tree_of r.input
   pub played : IsPlayedBy m r.input [] n n.log.events n.log.passed (all_left n.log.left) n.log.lines
-  pub tracing : n.log.tracing ≡ plan.traced
-  pub counted : c ≡ nothing_counted
-  pub texts : tells → HasTexts plan (pieces_of o) r.before now (first_text plan)
+  pub tracing : n.log.tracing ≡ plan.options.trace
+  pub counted : IsCounted plan c [] [] []
+  pub texts : tells → HasTexts plan (pieces_of o) r.before now first_text
   pub timely : IsTimely r.input
   pub next : IsGoingOn r.input [] None p
   pub apart : AreApart plan ids (ids_in p.captures)
@@ -172,7 +171,7 @@ pub record IsGathered (tells : Type 0) (m : Mode) (file files : Files) (given id
 
 -- A run stands after some segments, and this was gathered behind them: so many commands were taken before it, and so many seconds pass
 -- before it.
-pub record CanGoOn (tells : Type 0) (m : Mode) (r : Run) (plan : Planned) (now : Files) (ids : ℕ → Id) (n : Network) (c : Counts) (o : Outputs) (seconds from second : ℕ) (f : Feed) : Type 0 where
+pub record CanGoOn (tells : Type 0) (m : Mode) (r : Run) (plan : Planned) (now : Files) (ids : ℕ → Id) (n : Network) (c : Counted) (o : Outputs) (seconds from second : ℕ) (f : Feed) : Type 0 where
   pub last : Option ℕ
   pub old : Programme
   pub given : ℕ → Id
@@ -183,7 +182,7 @@ pub record CanGoOn (tells : Type 0) (m : Mode) (r : Run) (plan : Planned) (now :
   pub seconds_are : seconds ≡ seconds_after last second
 
 -- the run stands after some segments, and these seconds, commands and arrivals make the next one, which can be played
-pub record CanBePlayed (tells : Type 0) (m : Mode) (r : Run) (plan : Planned) (now : Files) (n : Network) (c : Counts) (o : Outputs) (seconds : ℕ) (cs : List Timed) (frames : List Arrival) : Type 0 where
+pub record CanBePlayed (tells : Type 0) (m : Mode) (r : Run) (plan : Planned) (now : Files) (n : Network) (c : Counted) (o : Outputs) (seconds : ℕ) (cs : List Timed) (frames : List Arrival) : Type 0 where
   pub so_far : List Segment
   pub is : IsTold tells m r plan now n c o so_far
   pub next : Segment

@@ -1,6 +1,6 @@
 -- The outputs while they are written: each file, followed by the piece that is not written yet, is its
 -- text so far.
-use Rattle.std.specs.Prelude.{◌≡◌, ◌<◌, ◌*◌, ◌^◌, ◌==◌, ◌++◌, true, ℕ, List, [], ◌∷◌, map, flat_map, length, nat_lt, if◌then◌else◌, slice_index, slice_index_or}
+use Rattle.std.specs.Prelude.{◌≡◌, ◌<◌, ◌*◌, ◌^◌, ◌==◌, ◌++◌, Bool, true, false, ℕ, List, [], ◌∷◌, map, flat_map, length, if◌then◌else◌, slice_index, slice_index_or}
 use Rattle.exb_model.specs.declared.event.Event.{Event}
 use Rattle.exb_model.specs.Tree.{is_external}
 use Rattle.exb_model.specs.Texts.{capture_header, record_text, line_of}
@@ -8,9 +8,11 @@ use Rattle.exb_network.specs.declared.log.Left.{Left}
 use Rattle.exb_network.specs.Worlds.{all_left}
 use Rattle.exb_resting.specs.Flight.Showing.{left_at}
 use Rattle.exb_shelf.specs.Files.{Files, Cut, Filled}
+use Rattle.exb_text.specs.declared.output.Output.{Output}
+use Rattle.exb_text.specs.declared.output.Output.TheVariants as output
 use Rattle.exb_shelf.specs.Shelf.{Id, writing}
 use Rattle.exb_run.specs.declared.outputs.Outputs.{Outputs}
-use Rattle.exb_run.specs.Plans.{Planned, output_count, port_count, port_at}
+use Rattle.exb_run.specs.Plans.{Planned, kind_at, output_count}
 use Rattle.exb_run.specs.Outputs.{output_name}
 
 -- the pieces that are not written yet
@@ -21,13 +23,13 @@ pieces_of o = map (λ v. v.items) o.pieces.items
 abbrev pub Holds : List (List ℕ) → (ℕ → List ℕ) → ℕ → List ℕ → Type 0
 Holds pieces text j bytes = bytes ++ slice_index_or pieces j [] ≡ text j
 
--- each output has its text, and no other file has changed
-abbrev pub HasTexts : Planned → List (List ℕ) → Files → Files → (ℕ → List ℕ) → Type 0
-HasTexts plan pieces old new text = Filled old new (output_count plan) (output_name plan) (Holds pieces text)
+-- each output has the text of its kind, and no other file has changed
+abbrev pub HasTexts : Planned → List (List ℕ) → Files → Files → (Output → List ℕ) → Type 0
+HasTexts plan pieces old new text = Filled old new (output_count plan) (output_name plan) (Holds pieces (λ j. text (kind_at plan j)))
 
--- each output is as it was or holds a front of its text, and no other file has changed
-abbrev pub AreCut : Planned → Files → Files → (ℕ → List ℕ) → Type 0
-AreCut plan old new text = Cut old new (output_count plan) (output_name plan) text
+-- each output is as it was or holds a front of the text of its kind, and no other file has changed
+abbrev pub AreCut : Planned → Files → Files → (Output → List ℕ) → Type 0
+AreCut plan old new text = Cut old new (output_count plan) (output_name plan) (λ j. text (kind_at plan j))
 
 -- the outputs of a plan: each has an id of its file, and a piece
 pub record IsReady (plan : Planned) (given : ℕ → Id) (o : Outputs) : Type 0 where
@@ -36,21 +38,34 @@ pub record IsReady (plan : Planned) (given : ℕ → Id) (o : Outputs) : Type 0 
   pub named : (j : ℕ) → j < output_count plan → given (slice_index o.ids.items j) ≡ writing (output_name plan j)
 
 -- what the outputs begin with: captures with their header
-abbrev pub first_text : Planned → ℕ → List ℕ
-first_text plan j = if nat_lt j (port_count plan) then capture_header else []
+abbrev pub first_text : Output → List ℕ
+first_text (output.Capture q) = capture_header
+first_text output.Journal = []
+first_text output.Trace = []
+first_text output.Counters = []
 
--- the texts, where that of output j has this more
-abbrev pub with_more : (ℕ → List ℕ) → ℕ → List ℕ → ℕ → List ℕ
-with_more text j more k = if k == j then text k ++ more else text k
+-- they are of one kind, and of one port
+abbrev pub is_same : Output → Output → Bool
+is_same (output.Capture p) (output.Capture q) = p == q
+is_same output.Journal output.Journal = true
+is_same output.Trace output.Trace = true
+is_same output.Counters output.Counters = true
+is_same _ _ = false
+
+-- the texts, where that of one kind has this more
+abbrev pub with_more : (Output → List ℕ) → Output → List ℕ → Output → List ℕ
+with_more text o more k = if is_same o k then text k ++ more else text k
 
 -- the lines of events, in order
 abbrev pub lines_of : List Event → List ℕ
 lines_of events = flat_map (λ e. line_of e ++ 10 ∷ []) events
 
 -- the texts, where each capture has what left its port
-abbrev pub with_left_frames : Planned → (ℕ → List ℕ) → List Left → ℕ → List ℕ
-with_left_frames plan text left j =
-    if nat_lt j (port_count plan) then text j ++ flat_map record_text (left_at (port_at plan j) (all_left left)) else text j
+abbrev pub with_left_frames : (Output → List ℕ) → List Left → Output → List ℕ
+with_left_frames text left (output.Capture q) = text (output.Capture q) ++ flat_map record_text (left_at q (all_left left))
+with_left_frames text left output.Journal = text output.Journal
+with_left_frames text left output.Trace = text output.Trace
+with_left_frames text left output.Counters = text output.Counters
 
 -- a frame that can be written: it left an external port, below 2^32 seconds
 pub record CanBeWritten (plan : Planned) (x : Left) : Type 0 where

@@ -9,9 +9,9 @@ ghost use Rattle.exb_run.specs.Reading.{IsOfCapture};
 ghost use Rattle.exb_run.specs.Shelving.{CountsFaults};
 
 use crate::fault::{Fault, Flaw};
+use exb_capture::{ScanFault, Scanned, scan};
 use exb_model::port::PortId;
 use exb_model::text::Text;
-use exb_scan::{ScanFault, Scanned, scan};
 use exb_shelf::Shelf;
 use exb_tables::Named;
 use std::alloc::Global;

@@ -8,7 +8,6 @@ use exb_merge::CaptureFault;
 use exb_model::memory::NoMemory;
 use exb_model::port::PortId;
 use exb_model::text::Text;
-use exb_pcap::PcapFault;
 use exb_schedule::WorldFault;
 use exb_shelf::ShelfFault;
 
@@ -17,8 +16,8 @@ use exb_shelf::ShelfFault;
 pub(crate) enum Flaw {
     /// It has more bytes than this limit.
     Large { limit: u64 },
-    /// It is no classic capture of Ethernet frames.
-    Broken { fault: PcapFault },
+    /// It is no capture of Ethernet frames in either format.
+    Broken { fault: exb_capture::Fault },
 }
 
 /// Why a run ends before its end.

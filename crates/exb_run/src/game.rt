@@ -13,29 +13,33 @@ ghost use Rattle.exb_network.specs.Worlds.{all_left};
 ghost use Rattle.exb_schedule.specs.Playing.{CanAll, HasPlayed as IsPlayedBy, IsSegment, gives, letters_in};
 ghost use Rattle.exb_schedule.specs.Worlds.{network_of, fate_in};
 ghost use Rattle.exb_shelf.specs.Files.{Files, Filled};
-ghost use Rattle.exb_text.specs.Tallies.{counts_of, nothing_counted, FitsTally};
-ghost use Rattle.exb_run.specs.Plans.{output_count, port_count};
-ghost use Rattle.exb_run.specs.Playing.{Run, IsCutOff, IsTold, mode_of};
+ghost use Rattle.exb_text.specs.declared.output.Output.{Output};
+ghost use Rattle.exb_text.specs.declared.output.Output.TheVariants as output;
+ghost use Rattle.exb_text.specs.Tallies.{counts_of};
+ghost use Rattle.exb_run.specs.Plans.{kind_at, output_count};
+ghost use Rattle.exb_run.specs.Playing.{AreCountsOf, CanCount, CountsOn, Run, IsCutOff, IsTold, counts_text, mode_of};
 ghost use Rattle.exb_run.specs.UnderWay.{CanBegin, CanBePlayed, CanFeed, CanGoOn, IsOpened, IsPlaying};
 ghost use Rattle.exb_run.specs.Outputs.{AreCutEagerly, HasPlayed, output_name};
 ghost use Rattle.exb_run.specs.Shelving.{CountsFaults, IsChange, IsOfPlay, IsOfWriting, OnlyGoesOn, OnlyWrites};
 ghost use Rattle.exb_run.specs.Writing.{AreCut, HasTexts, IsReady, pieces_of, lines_of, with_more, with_left_frames, CanBeWritten};
 
+use crate::counted::Counted;
 use crate::fault::Fault;
 use crate::feed::Feed;
 use crate::outputs::Outputs;
 use crate::plan::Plan;
 use crate::script::{Schedule, Script};
 use exb_fate::Fate;
-use exb_model::event::Event;
 use exb_model::setup::Timed;
+use exb_machine::laws::steps_tell_passed;
 use exb_resting::laws::rest::{
-    runs_are_few, runs_are_under_way, runs_write_eagerly, runs_write_fronts, runs_write_legally,
+    runs_are_few, runs_are_under_way, runs_say_passed, runs_write_eagerly, runs_write_fronts,
+    runs_write_legally,
 };
 use exb_schedule::{Arrival, World, WorldFault, eager, open, seeded};
 use exb_shelf::Shelf;
-use exb_text::Tally;
 use exb_tracing::laws::runs_tell_legally;
+use exb_wiring::laws::counts_go_on;
 use rand_core::SeedableRng;
 use rand_pcg::Lcg64Xsh32;
 use std::alloc::Global;
@@ -52,7 +56,7 @@ struct Room {
 struct Game {
     world: World,
     outputs: Outputs,
-    tally: Tally,
+    counted: Counted,
     /// What seeded runs draw from.
     rng: Lcg64Xsh32,
     room: Room,
@@ -63,16 +67,6 @@ fn seed_of(schedule: Schedule) -> u64 {
     match schedule {
         Schedule::Eager => 0,
         Schedule::Seeded { seed } => seed,
-    }
-}
-
-/// Counts events.
-fn count_all(tally: &mut Tally, events: &[Event])
-    requires { FitsTally (fold (λ c e. counted e c) (counts_of tally.old) events.now) }
-    ensures { counts_of tally.new ≡ fold (λ c e. counted e c) (counts_of tally.old) events.now }
-{
-    for event in events {
-        tally.count(event);
     }
 }
 
@@ -87,14 +81,14 @@ fn write_all<S: Shelf>(
     requires ready { IsReady plan.now (S.ids shelf.old) outputs.old }
     requires frames { All (λ x. CanBeWritten plan.now x) (network_of world.now).log.left }
     ensures ready { IsReady plan.now (S.ids shelf.new) outputs.new }
-    ensures texts { S.tells → OnOk result ((orig : Files) (text : ℕ → List ℕ) → HasTexts plan.now (pieces_of outputs.old) orig (S.file shelf.old) text
+    ensures texts { S.tells → OnOk result ((orig : Files) (text : Output → List ℕ) → HasTexts plan.now (pieces_of outputs.old) orig (S.file shelf.old) text
         → HasTexts plan.now (pieces_of outputs.new) orig (S.file shelf.new)
-        (with_more (with_left_frames plan.now (with_more text (port_count plan.now) (lines_of (network_of world.now).log.events)) (network_of world.now).log.left)
-        (port_count plan.now + 1) (trace_text (network_of world.now).log.lines))) }
-    ensures cut { S.tells → OnErr result ((orig : Files) (text : ℕ → List ℕ) → HasTexts plan.now (pieces_of outputs.old) orig (S.file shelf.old) text
+        (with_more (with_left_frames (with_more text output.Journal (lines_of (network_of world.now).log.events)) (network_of world.now).log.left)
+        output.Trace (trace_text (network_of world.now).log.lines))) }
+    ensures cut { S.tells → OnErr result ((orig : Files) (text : Output → List ℕ) → HasTexts plan.now (pieces_of outputs.old) orig (S.file shelf.old) text
         → AreCut plan.now orig (S.file shelf.new)
-        (with_more (with_left_frames plan.now (with_more text (port_count plan.now) (lines_of (network_of world.now).log.events)) (network_of world.now).log.left)
-        (port_count plan.now + 1) (trace_text (network_of world.now).log.lines))) }
+        (with_more (with_left_frames (with_more text output.Journal (lines_of (network_of world.now).log.events)) (network_of world.now).log.left)
+        output.Trace (trace_text (network_of world.now).log.lines))) }
     ensures only { OnlyWrites S.tells plan.now (S.file shelf.old) (S.file shelf.new) (S.ids shelf.old) (S.ids shelf.new) }
     ensures causes { IfErr result IsOfWriting }
     ensures faults { CountsFaults result (S.faults shelf.old) (S.faults shelf.new) }
@@ -143,29 +137,32 @@ impl Game {
     fn note<S: Shelf>(&mut self, shelf: &mut S, plan: &Plan) -> Result<(), Fault>
         requires ready { IsReady plan.now (S.ids shelf.old) self.old.outputs }
         requires frames { All (λ x. CanBeWritten plan.now x) (network_of self.old.world).log.left }
-        requires fits { FitsTally (with_left (length (network_of self.old.world).log.left) (fold (λ c e. counted e c) (counts_of self.old.tally) (network_of self.old.world).log.events)) }
+        requires can { CanCount self.old.counted (network_of self.old.world).log.events (network_of self.old.world).log.passed (network_of self.old.world).log.left }
         ensures ready { IsReady plan.now (S.ids shelf.new) self.new.outputs }
         ensures world { OnOk result (world_of (network_of self.new.world) ≡ world_of (network_of self.old.world)) }
         ensures same { OnOk result (IsSame (network_of self.old.world) (network_of self.new.world)) }
         ensures quiet { OnOk result (IsQuiet (network_of self.new.world)) }
-        ensures texts { S.tells → OnOk result ((orig : Files) (text : ℕ → List ℕ) → HasTexts plan.now (pieces_of self.old.outputs) orig (S.file shelf.old) text
+        ensures texts { S.tells → OnOk result ((orig : Files) (text : Output → List ℕ) → HasTexts plan.now (pieces_of self.old.outputs) orig (S.file shelf.old) text
             → HasTexts plan.now (pieces_of self.new.outputs) orig (S.file shelf.new)
-            (with_more (with_left_frames plan.now (with_more text (port_count plan.now) (lines_of (network_of self.old.world).log.events)) (network_of self.old.world).log.left)
-            (port_count plan.now + 1) (trace_text (network_of self.old.world).log.lines))) }
-        ensures cut { S.tells → OnErr result ((orig : Files) (text : ℕ → List ℕ) → HasTexts plan.now (pieces_of self.old.outputs) orig (S.file shelf.old) text
+            (with_more (with_left_frames (with_more text output.Journal (lines_of (network_of self.old.world).log.events)) (network_of self.old.world).log.left)
+            output.Trace (trace_text (network_of self.old.world).log.lines))) }
+        ensures cut { S.tells → OnErr result ((orig : Files) (text : Output → List ℕ) → HasTexts plan.now (pieces_of self.old.outputs) orig (S.file shelf.old) text
             → AreCut plan.now orig (S.file shelf.new)
-            (with_more (with_left_frames plan.now (with_more text (port_count plan.now) (lines_of (network_of self.old.world).log.events)) (network_of self.old.world).log.left)
-            (port_count plan.now + 1) (trace_text (network_of self.old.world).log.lines))) }
+            (with_more (with_left_frames (with_more text output.Journal (lines_of (network_of self.old.world).log.events)) (network_of self.old.world).log.left)
+            output.Trace (trace_text (network_of self.old.world).log.lines))) }
         ensures counts { OnOk result (counts_of self.new.tally
-            ≡ with_left (length (network_of self.old.world).log.left) (fold (λ c e. counted e c) (counts_of self.old.tally) (network_of self.old.world).log.events)) }
+            ≡ with_left (length (network_of self.old.world).log.left) (fold (λ c e. counted e c) self.old.counted (network_of self.old.world).log.events)) }
         ensures fate { OnOk result (left (fate_in self.new.world) ≡ left (fate_in self.old.world)) }
         ensures only { OnlyWrites S.tells plan.now (S.file shelf.old) (S.file shelf.new) (S.ids shelf.old) (S.ids shelf.new) }
         ensures causes { IfErr result IsOfWriting }
         ensures faults { CountsFaults result (S.faults shelf.old) (S.faults shelf.new) }
     {
         write_all(shelf, plan, &mut self.outputs, &mut self.room, &self.world)?;
-        count_all(&mut self.tally, self.world.events());
-        self.tally.add_left(self.world.left().len() as u64);
+        self.counted.note(
+            self.world.events(),
+            self.world.passed(),
+            self.world.left(),
+        );
         self.world.clear();
         Ok(())
     }
@@ -181,15 +178,15 @@ impl Game {
         arrivals: &[Arrival],
     ) -> Result<(), Fault>
         requires ready { IsReady plan.now (S.ids shelf.old) self.old.outputs }
-        requires playable { (run : Run) × CanBePlayed S.tells (mode_of schedule) run plan.now (S.file shelf.old) (network_of self.old.world) (counts_of self.old.tally) self.old.outputs seconds commands.now arrivals.now }
+        requires playable { (run : Run) × CanBePlayed S.tells (mode_of schedule) run plan.now (S.file shelf.old) (network_of self.old.world) self.old.counted self.old.outputs seconds commands.now arrivals.now }
         requires budget { left (fate_in self.old.world) + letters_in commands.now < 2 ^ 57 }
         ensures ready { IsReady plan.now (S.ids shelf.new) self.new.outputs }
         ensures told { OnOk result ((run : Run) (so_far : List Segment) (s : Segment) → IsSegment run.input s seconds commands.now arrivals.now
-            → IsTold S.tells (mode_of schedule) run plan.now (S.file shelf.old) (network_of self.old.world) (counts_of self.old.tally) self.old.outputs so_far
-            → IsTold S.tells (mode_of schedule) run plan.now (S.file shelf.new) (network_of self.new.world) (counts_of self.new.tally) self.new.outputs (so_far ++ s ∷ [])) }
+            → IsTold S.tells (mode_of schedule) run plan.now (S.file shelf.old) (network_of self.old.world) self.old.counted self.old.outputs so_far
+            → IsTold S.tells (mode_of schedule) run plan.now (S.file shelf.new) (network_of self.new.world) self.new.counted self.new.outputs (so_far ++ s ∷ [])) }
         ensures cut { S.tells → OnErr result ((run : Run) (so_far rest : List Segment) (s : Segment) → segments (mode_of schedule) run.input ≡ so_far ++ s ∷ rest
             → IsSegment run.input s seconds commands.now arrivals.now
-            → IsTold S.tells (mode_of schedule) run plan.now (S.file shelf.old) (network_of self.old.world) (counts_of self.old.tally) self.old.outputs so_far
+            → IsTold S.tells (mode_of schedule) run plan.now (S.file shelf.old) (network_of self.old.world) self.old.counted self.old.outputs so_far
             → IsCutOff (mode_of schedule) run plan.now (S.file shelf.new)) }
         ensures budget { OnOk result (left (fate_in self.new.world) ≤ left (fate_in self.old.world) + letters_in commands.now) }
         ensures only { OnlyWrites S.tells plan.now (S.file shelf.old) (S.file shelf.new) (S.ids shelf.old) (S.ids shelf.new) }
@@ -198,6 +195,7 @@ impl Game {
     {
         runs_are_under_way();
         runs_are_few();
+        steps_tell_passed();
         plan.is_tree();
         if play_segment(
             schedule,
@@ -226,14 +224,14 @@ impl Game {
     ) -> Result<(), Fault>
         requires ready { IsReady plan.now (S.ids shelf.old) self.old.outputs }
         requires feed { CanFeed (S.ids shelf.old) feed.now }
-        requires playing { (run : Run) × ((second : ℕ) × CanGoOn S.tells (mode_of schedule) run plan.now (S.file shelf.old) (S.ids shelf.old) (network_of self.old.world) (counts_of self.old.tally) self.old.outputs seconds from second feed.now) }
+        requires playing { (run : Run) × ((second : ℕ) × CanGoOn S.tells (mode_of schedule) run plan.now (S.file shelf.old) (S.ids shelf.old) (network_of self.old.world) self.old.counted self.old.outputs seconds from second feed.now) }
         requires budget { left (fate_in self.old.world) + letters_in (drop from feed.now.programme.commands.now) < 2 ^ 57 }
         ensures ready { IsReady plan.now (S.ids shelf.new) self.new.outputs }
         ensures told { OnOk result ((run : Run) (second : ℕ)
-            → CanGoOn S.tells (mode_of schedule) run plan.now (S.file shelf.old) (S.ids shelf.old) (network_of self.old.world) (counts_of self.old.tally) self.old.outputs seconds from second feed.now
-            → IsPlaying S.tells (mode_of schedule) run plan.now (S.file shelf.new) (S.ids shelf.new) (network_of self.new.world) (counts_of self.new.tally) self.new.outputs (Some second) feed.now.programme) }
+            → CanGoOn S.tells (mode_of schedule) run plan.now (S.file shelf.old) (S.ids shelf.old) (network_of self.old.world) self.old.counted self.old.outputs seconds from second feed.now
+            → IsPlaying S.tells (mode_of schedule) run plan.now (S.file shelf.new) (S.ids shelf.new) (network_of self.new.world) self.new.counted self.new.outputs (Some second) feed.now.programme) }
         ensures cut { S.tells → OnErr result ((run : Run) (second : ℕ)
-            → CanGoOn S.tells (mode_of schedule) run plan.now (S.file shelf.old) (S.ids shelf.old) (network_of self.old.world) (counts_of self.old.tally) self.old.outputs seconds from second feed.now
+            → CanGoOn S.tells (mode_of schedule) run plan.now (S.file shelf.old) (S.ids shelf.old) (network_of self.old.world) self.old.counted self.old.outputs seconds from second feed.now
             → IsCutOff (mode_of schedule) run plan.now (S.file shelf.new)) }
         ensures budget { OnOk result (left (fate_in self.new.world) + letters_in (drop feed.now.programme.taken feed.now.programme.commands.now) < 2 ^ 57) }
         ensures only { OnlyWrites S.tells plan.now (S.file shelf.old) (S.file shelf.new) (S.ids shelf.old) (S.ids shelf.new) }
@@ -257,18 +255,19 @@ impl Game {
     ) -> Result<(), Fault>
         requires ready { IsReady plan.now (S.ids shelf.old) self.old.outputs }
         requires feed { CanFeed (S.ids shelf.old) feed.old }
-        requires playing { (run : Run) × IsPlaying S.tells (mode_of schedule) run plan.now (S.file shelf.old) (S.ids shelf.old) (network_of self.old.world) (counts_of self.old.tally) self.old.outputs None feed.old.programme }
+        requires playing { (run : Run) × IsPlaying S.tells (mode_of schedule) run plan.now (S.file shelf.old) (S.ids shelf.old) (network_of self.old.world) self.old.counted self.old.outputs None feed.old.programme }
         requires budget { left (fate_in self.old.world) + letters_in (drop feed.old.programme.taken feed.old.programme.commands.now) < 2 ^ 57 }
         ensures ready { OnOk result (IsReady plan.now (S.ids shelf.new) self.new.outputs) }
-        ensures few { OnOk result (self.new.tally.relayed + self.new.tally.ignored < 2 ^ 64) }
+        ensures few { OnOk result (self.new.counted.tally.relayed + self.new.counted.tally.ignored < 2 ^ 64) }
+        ensures counted { OnOk result (AreCountsOf plan.now self.new.counted.ports) }
         ensures told { S.tells → OnOk result ((run : Run)
-            → IsPlaying S.tells (mode_of schedule) run plan.now (S.file shelf.old) (S.ids shelf.old) (network_of self.old.world) (counts_of self.old.tally) self.old.outputs None feed.old.programme
-            → IsTold S.tells (mode_of schedule) run plan.now (S.file shelf.new) (network_of self.new.world) (counts_of self.new.tally) self.new.outputs (segments (mode_of schedule) run.input)) }
+            → IsPlaying S.tells (mode_of schedule) run plan.now (S.file shelf.old) (S.ids shelf.old) (network_of self.old.world) self.old.counted self.old.outputs None feed.old.programme
+            → IsTold S.tells (mode_of schedule) run plan.now (S.file shelf.new) (network_of self.new.world) self.new.counted self.new.outputs (segments (mode_of schedule) run.input)) }
         ensures cut { S.tells → OnErr result ((run : Run)
-            → IsPlaying S.tells (mode_of schedule) run plan.now (S.file shelf.old) (S.ids shelf.old) (network_of self.old.world) (counts_of self.old.tally) self.old.outputs None feed.old.programme
+            → IsPlaying S.tells (mode_of schedule) run plan.now (S.file shelf.old) (S.ids shelf.old) (network_of self.old.world) self.old.counted self.old.outputs None feed.old.programme
             → IsCutOff (mode_of schedule) run plan.now (S.file shelf.new)) }
         ensures never { S.tells → IfErr result (λ fault. IsChange fault → (run : Run)
-            → IsPlaying S.tells (mode_of schedule) run plan.now (S.file shelf.old) (S.ids shelf.old) (network_of self.old.world) (counts_of self.old.tally) self.old.outputs None feed.old.programme → ⊥) }
+            → IsPlaying S.tells (mode_of schedule) run plan.now (S.file shelf.old) (S.ids shelf.old) (network_of self.old.world) self.old.counted self.old.outputs None feed.old.programme → ⊥) }
         ensures only { OnlyGoesOn S.tells plan.now (ids_in feed.old.programme.captures) (S.file shelf.old) (S.file shelf.new) (S.ids shelf.old) (S.ids shelf.new) }
         ensures causes { IfErr result IsOfPlay }
         ensures faults { CountsFaults result (S.faults shelf.old) (S.faults shelf.new) }
@@ -285,21 +284,46 @@ impl Game {
         Ok(())
     }
 
-    /// Writes what is still to be written, and answers the summary line.
-    fn end<S: Shelf>(&mut self, alloc: Global, shelf: &mut S, plan: &Plan) -> Result<String, Fault>
+    /// Writes the counters, where they are asked for.
+    fn write_counters<S: Shelf>(&mut self, shelf: &mut S, plan: &Plan) -> Result<(), Fault>
         requires ready { IsReady plan.now (S.ids shelf.old) self.old.outputs }
-        requires few { self.old.tally.relayed + self.old.tally.ignored < 2 ^ 64 }
-        ensures texts { S.tells → OnOk result ((orig : Files) (text : ℕ → List ℕ) → HasTexts plan.now (pieces_of self.old.outputs) orig (S.file shelf.old) text
-            → Filled orig (S.file shelf.new) (output_count plan.now) (output_name plan.now) (λ j bytes. bytes ≡ text j)) }
-        ensures cut { S.tells → OnErr result ((orig : Files) (text : ℕ → List ℕ) → HasTexts plan.now (pieces_of self.old.outputs) orig (S.file shelf.old) text
-            → AreCut plan.now orig (S.file shelf.new) text) }
-        ensures line { IfOk result (λ line. string_bytes line ≡ summary_line (counts_of self.old.tally)) }
+        requires counted { AreCountsOf plan.now self.old.counted.ports }
+        ensures ready { IsReady plan.now (S.ids shelf.new) self.new.outputs }
+        ensures counted { self.new.counted ≡ self.old.counted }
+        ensures texts { S.tells → OnOk result ((orig : Files) (text : Output → List ℕ) → HasTexts plan.now (pieces_of self.old.outputs) orig (S.file shelf.old) text
+            → HasTexts plan.now (pieces_of self.new.outputs) orig (S.file shelf.new) (with_more text output.Counters (counts_text plan.now self.old.counted.ports))) }
+        ensures cut { S.tells → OnErr result ((orig : Files) (text : Output → List ℕ) → HasTexts plan.now (pieces_of self.old.outputs) orig (S.file shelf.old) text
+            → AreCut plan.now orig (S.file shelf.new) (with_more text output.Counters (counts_text plan.now self.old.counted.ports))) }
         ensures only { OnlyWrites S.tells plan.now (S.file shelf.old) (S.file shelf.new) (S.ids shelf.old) (S.ids shelf.new) }
         ensures causes { IfErr result IsOfWriting }
         ensures faults { CountsFaults result (S.faults shelf.old) (S.faults shelf.new) }
     {
+        match &self.counted.ports {
+            Some(counters) => {
+                self.outputs
+                    .write_counters(shelf, plan, &mut self.room.text, counters)
+            }
+            None => Ok(()),
+        }
+    }
+
+    /// Writes what is still to be written, and answers the summary line.
+    fn end<S: Shelf>(&mut self, alloc: Global, shelf: &mut S, plan: &Plan) -> Result<String, Fault>
+        requires ready { IsReady plan.now (S.ids shelf.old) self.old.outputs }
+        requires counted { AreCountsOf plan.now self.old.counted.ports }
+        requires few { self.old.counted.tally.relayed + self.old.counted.tally.ignored < 2 ^ 64 }
+        ensures texts { S.tells → OnOk result ((orig : Files) (text : Output → List ℕ) → HasTexts plan.now (pieces_of self.old.outputs) orig (S.file shelf.old) text
+            → Filled orig (S.file shelf.new) (output_count plan.now) (output_name plan.now) (λ j bytes. bytes ≡ with_more text output.Counters (counts_text plan.now self.old.counted.ports) (kind_at plan.now j))) }
+        ensures cut { S.tells → OnErr result ((orig : Files) (text : Output → List ℕ) → HasTexts plan.now (pieces_of self.old.outputs) orig (S.file shelf.old) text
+            → AreCut plan.now orig (S.file shelf.new) (with_more text output.Counters (counts_text plan.now self.old.counted.ports))) }
+        ensures line { IfOk result (λ line. string_bytes line ≡ summary_line (counts_of self.old.counted.tally)) }
+        ensures only { OnlyWrites S.tells plan.now (S.file shelf.old) (S.file shelf.new) (S.ids shelf.old) (S.ids shelf.new) }
+        ensures causes { IfErr result IsOfWriting }
+        ensures faults { CountsFaults result (S.faults shelf.old) (S.faults shelf.new) }
+    {
+        self.write_counters(shelf, plan)?;
         self.outputs.finish(shelf, plan)?;
-        Ok(self.tally.line(alloc)?)
+        Ok(self.counted.tally.line(alloc)?)
     }
 
     /// Plays all that comes, writes what is still to be written, and answers the summary line.
@@ -313,16 +337,16 @@ impl Game {
     ) -> Result<String, Fault>
         requires ready { IsReady plan.now (S.ids shelf.old) self.old.outputs }
         requires feed { CanFeed (S.ids shelf.old) feed.old }
-        requires playing { (run : Run) × IsPlaying S.tells (mode_of schedule) run plan.now (S.file shelf.old) (S.ids shelf.old) (network_of self.old.world) (counts_of self.old.tally) self.old.outputs None feed.old.programme }
+        requires playing { (run : Run) × IsPlaying S.tells (mode_of schedule) run plan.now (S.file shelf.old) (S.ids shelf.old) (network_of self.old.world) self.old.counted self.old.outputs None feed.old.programme }
         requires budget { left (fate_in self.old.world) + letters_in (drop feed.old.programme.taken feed.old.programme.commands.now) < 2 ^ 57 }
         ensures done { S.tells → IfOk result (λ line. (run : Run) → IsTimely run.input
-            → IsPlaying S.tells (mode_of schedule) run plan.now (S.file shelf.old) (S.ids shelf.old) (network_of self.old.world) (counts_of self.old.tally) self.old.outputs None feed.old.programme
+            → IsPlaying S.tells (mode_of schedule) run plan.now (S.file shelf.old) (S.ids shelf.old) (network_of self.old.world) self.old.counted self.old.outputs None feed.old.programme
             → HasPlayed (mode_of schedule) run.input plan.now run.before (S.file shelf.new) (string_bytes line)) }
         ensures cut { S.tells → OnErr result ((run : Run)
-            → IsPlaying S.tells (mode_of schedule) run plan.now (S.file shelf.old) (S.ids shelf.old) (network_of self.old.world) (counts_of self.old.tally) self.old.outputs None feed.old.programme
+            → IsPlaying S.tells (mode_of schedule) run plan.now (S.file shelf.old) (S.ids shelf.old) (network_of self.old.world) self.old.counted self.old.outputs None feed.old.programme
             → IsCutOff (mode_of schedule) run plan.now (S.file shelf.new)) }
         ensures never { S.tells → IfErr result (λ fault. IsChange fault → (run : Run)
-            → IsPlaying S.tells (mode_of schedule) run plan.now (S.file shelf.old) (S.ids shelf.old) (network_of self.old.world) (counts_of self.old.tally) self.old.outputs None feed.old.programme → ⊥) }
+            → IsPlaying S.tells (mode_of schedule) run plan.now (S.file shelf.old) (S.ids shelf.old) (network_of self.old.world) self.old.counted self.old.outputs None feed.old.programme → ⊥) }
         ensures only { OnlyGoesOn S.tells plan.now (ids_in feed.old.programme.captures) (S.file shelf.old) (S.file shelf.new) (S.ids shelf.old) (S.ids shelf.new) }
         ensures causes { IfErr result IsOfPlay }
         ensures faults { CountsFaults result (S.faults shelf.old) (S.faults shelf.new) }
@@ -330,6 +354,8 @@ impl Game {
         runs_are_under_way();
         runs_write_legally();
         runs_write_eagerly();
+        runs_say_passed();
+        counts_go_on();
         runs_tell_legally();
         plan.is_tree();
         self.play_all(alloc, shelf, plan, schedule, feed)?;
@@ -347,22 +373,23 @@ impl Game {
     ) -> Result<String, Fault>
         requires ready { IsReady plan.now (S.ids shelf.old) self.old.outputs }
         requires feed { CanFeed (S.ids shelf.old) feed.old }
-        requires opened { (run : Run) × IsOpened S.tells (mode_of schedule) run plan.now (S.file shelf.old) (S.ids shelf.old) (network_of self.old.world) (counts_of self.old.tally) self.old.outputs feed.old.programme }
+        requires opened { (run : Run) × IsOpened S.tells (mode_of schedule) run plan.now (S.file shelf.old) (S.ids shelf.old) (network_of self.old.world) self.old.counted self.old.outputs feed.old.programme }
         requires budget { left (fate_in self.old.world) + letters_in (drop feed.old.programme.taken feed.old.programme.commands.now) < 2 ^ 57 }
         ensures done { S.tells → IfOk result (λ line. (run : Run)
-            → IsOpened S.tells (mode_of schedule) run plan.now (S.file shelf.old) (S.ids shelf.old) (network_of self.old.world) (counts_of self.old.tally) self.old.outputs feed.old.programme
+            → IsOpened S.tells (mode_of schedule) run plan.now (S.file shelf.old) (S.ids shelf.old) (network_of self.old.world) self.old.counted self.old.outputs feed.old.programme
             → HasPlayed (mode_of schedule) run.input plan.now run.before (S.file shelf.new) (string_bytes line)) }
         ensures cut { S.tells → OnErr result ((run : Run)
-            → IsOpened S.tells (mode_of schedule) run plan.now (S.file shelf.old) (S.ids shelf.old) (network_of self.old.world) (counts_of self.old.tally) self.old.outputs feed.old.programme
+            → IsOpened S.tells (mode_of schedule) run plan.now (S.file shelf.old) (S.ids shelf.old) (network_of self.old.world) self.old.counted self.old.outputs feed.old.programme
             → IsCutOff (mode_of schedule) run plan.now (S.file shelf.new)) }
         ensures never { S.tells → IfErr result (λ fault. IsChange fault → (run : Run)
-            → IsOpened S.tells (mode_of schedule) run plan.now (S.file shelf.old) (S.ids shelf.old) (network_of self.old.world) (counts_of self.old.tally) self.old.outputs feed.old.programme → ⊥) }
+            → IsOpened S.tells (mode_of schedule) run plan.now (S.file shelf.old) (S.ids shelf.old) (network_of self.old.world) self.old.counted self.old.outputs feed.old.programme → ⊥) }
         ensures only { OnlyGoesOn S.tells plan.now (ids_in feed.old.programme.captures) (S.file shelf.old) (S.file shelf.new) (S.ids shelf.old) (S.ids shelf.new) }
         ensures causes { IfErr result IsOfPlay }
         ensures faults { CountsFaults result (S.faults shelf.old) (S.faults shelf.new) }
     {
         runs_are_under_way();
         runs_are_few();
+        steps_tell_passed();
         plan.is_tree();
         self.note(shelf, plan)?;
         self.play_on(alloc, shelf, plan, schedule, feed)
@@ -377,20 +404,21 @@ fn play_world<S: Shelf>(
     schedule: Schedule,
     world: World,
     outputs: Outputs,
+    counted: Counted,
     feed: &mut Feed<'_>,
 ) -> Result<String, Fault>
     requires ready { IsReady plan.now (S.ids shelf.old) outputs }
     requires feed { CanFeed (S.ids shelf.old) feed.old }
-    requires opened { (run : Run) × IsOpened S.tells (mode_of schedule) run plan.now (S.file shelf.old) (S.ids shelf.old) (network_of world) nothing_counted outputs feed.old.programme }
+    requires opened { (run : Run) × IsOpened S.tells (mode_of schedule) run plan.now (S.file shelf.old) (S.ids shelf.old) (network_of world) counted outputs feed.old.programme }
     requires budget { left (fate_in world) + letters_in (drop feed.old.programme.taken feed.old.programme.commands.now) < 2 ^ 57 }
     ensures done { S.tells → IfOk result (λ line. (run : Run)
-        → IsOpened S.tells (mode_of schedule) run plan.now (S.file shelf.old) (S.ids shelf.old) (network_of world) nothing_counted outputs feed.old.programme
+        → IsOpened S.tells (mode_of schedule) run plan.now (S.file shelf.old) (S.ids shelf.old) (network_of world) counted outputs feed.old.programme
         → HasPlayed (mode_of schedule) run.input plan.now run.before (S.file shelf.new) (string_bytes line)) }
     ensures cut { S.tells → OnErr result ((run : Run)
-        → IsOpened S.tells (mode_of schedule) run plan.now (S.file shelf.old) (S.ids shelf.old) (network_of world) nothing_counted outputs feed.old.programme
+        → IsOpened S.tells (mode_of schedule) run plan.now (S.file shelf.old) (S.ids shelf.old) (network_of world) counted outputs feed.old.programme
         → IsCutOff (mode_of schedule) run plan.now (S.file shelf.new)) }
     ensures never { S.tells → IfErr result (λ fault. IsChange fault → (run : Run)
-        → IsOpened S.tells (mode_of schedule) run plan.now (S.file shelf.old) (S.ids shelf.old) (network_of world) nothing_counted outputs feed.old.programme → ⊥) }
+        → IsOpened S.tells (mode_of schedule) run plan.now (S.file shelf.old) (S.ids shelf.old) (network_of world) counted outputs feed.old.programme → ⊥) }
     ensures only { OnlyGoesOn S.tells plan.now (ids_in feed.old.programme.captures) (S.file shelf.old) (S.file shelf.new) (S.ids shelf.old) (S.ids shelf.new) }
     ensures causes { IfErr result IsOfPlay }
     ensures faults { CountsFaults result (S.faults shelf.old) (S.faults shelf.new) }
@@ -398,7 +426,7 @@ fn play_world<S: Shelf>(
     let mut game = Game {
         world,
         outputs,
-        tally: Tally::new(),
+        counted,
         rng: Lcg64Xsh32::seed_from_u64(seed_of(schedule)),
         room: Room {
             line: String::new(alloc),
@@ -441,8 +469,17 @@ pub(crate) fn play_feed<S: Shelf>(
     ensures faults { CountsFaults result (S.faults shelf.old) (S.faults shelf.new) }
 {
     runs_write_fronts();
-    let Ok(world) = open(alloc, script.setup, fate, script.fate, plan.traced()) else {
+    let Ok(counted) = Counted::new(alloc, script.setup, plan) else {
         return Err(Fault::Memory);
     };
-    play_world(alloc, shelf, plan, schedule, world, outputs, feed)
+    let Ok(world) = open(
+        alloc,
+        script.setup,
+        fate,
+        script.fate,
+        plan.options().trace,
+    ) else {
+        return Err(Fault::Memory);
+    };
+    play_world(alloc, shelf, plan, schedule, world, outputs, counted, feed)
 }

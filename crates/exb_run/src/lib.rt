@@ -5,6 +5,7 @@
 
 mod check;
 mod checked;
+mod counted;
 mod fault;
 mod feed;
 mod game;

@@ -17,6 +17,7 @@ use exb_model::memory::NoMemory;
 use exb_model::text::Text;
 use exb_shelf::ScratchShelf;
 use exb_tables::Named;
+use exb_words::Options;
 use std::alloc::Global;
 
 /// What the names of all files begin with that are written: none is the name of a capture that was made.
@@ -66,7 +67,12 @@ pub(crate) fn make_input(alloc: Global, number: u64, fate: Box<dyn Fate>) -> Res
     let mut shelf = ScratchShelf::new(alloc);
     let names = put_all(alloc, &mut shelf, input.captures.as_slice())?;
     let checked = check_captures(alloc, &mut shelf, names.as_slice())?;
-    let plan = Plan::new(alloc, &input.setup, PREFIX, false)?;
+    let options = Options {
+        trace: false,
+        counters: false,
+        seed: None,
+    };
+    let plan = Plan::new(alloc, &input.setup, PREFIX, options)?;
     let script = Script {
         setup: &input.setup,
         commands: input.commands.as_slice(),

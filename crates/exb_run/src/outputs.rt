@@ -2,32 +2,33 @@
 ghost use Rattle.std.specs.Prelude.{◌≡◌, ◌≢◌, true, ◌≤◌, ◌<◌, ◌+◌, ◌-◌, ◌*◌, ◌++◌, ℕ, List, [], length, IfOk, OnOk, OnErr, IfErr, string_bytes, ◌∷◌, ◌⊎◌, All};
 ghost use Rattle.exb_shelf.specs.Files.{Files, SameFiles, Puts, Adds, AddsFront, Filled};
 ghost use Rattle.exb_shelf.specs.Shelf.{IsWriting, Opens, writing};
-ghost use Rattle.exb_run.specs.Plans.{Planned, output_count, port_count, place_in};
+ghost use Rattle.exb_run.specs.Plans.{Planned, kind_at, output_count};
 ghost use Rattle.exb_run.specs.Outputs.{output_name};
 ghost use Rattle.exb_run.specs.Shelving.{CountsFaults, IsOfWriting, OnlyMakes, OnlyWrites, WritesPlanned};
+ghost use Rattle.exb_counters.specs.Counters.{count_line, count_lines};
+ghost use Rattle.exb_counters.specs.Counting.{counts_at, HasPort};
 ghost use Rattle.exb_model.specs.Texts.{line_of, record_text as record_of};
 ghost use Rattle.exb_model.specs.Traces.{trace_line, trace_text};
+ghost use Rattle.exb_model.specs.Tree.{external_ports, is_external};
+ghost use Rattle.exb_text.specs.declared.output.Output.{Output};
+ghost use Rattle.exb_text.specs.declared.output.Output.TheVariants as output;
 ghost use Rattle.exb_run.specs.Writing.{pieces_of, AreCut, Holds, HasTexts, IsReady, first_text, with_more, lines_of, with_left_frames, CanBeWritten};
 
 use crate::fault::Fault;
 use crate::plan::Plan;
+use exb_capture::{header_text, record_text};
+use exb_counters::{Counters, write_count_line};
 use exb_model::event::Event;
 use exb_model::memory::NoMemory;
+use exb_model::port::PortId;
 use exb_model::trace::TraceLine;
-use exb_pcap::{header_text, record_text};
 use exb_schedule::Left;
 use exb_shelf::{PIECE, Shelf, write_text};
-use exb_text::laws::{
-    capture_names_differ, no_capture_is_the_journal, no_capture_is_the_trace,
-    the_journal_is_no_trace,
-};
-use exb_text::{
-    capture_file_name, journal_file_name, trace_file_name, write_line, write_trace_line,
-};
+use exb_text::laws::file_names_differ;
+use exb_text::{Output, file_name, write_line, write_trace_line};
 use std::alloc::Global;
 
-/// The outputs: the capture of each port, the journal, and last the trace where it is asked for. Each has the id of its file and a
-/// piece of its text that is not written yet.
+/// The outputs in the order in which they are made. Each has the id of its file and a piece of its text that is not written yet.
 #[derive(Drop)]
 pub(crate) struct Outputs {
     ids: Vec<u32>,
@@ -36,36 +37,27 @@ pub(crate) struct Outputs {
 
 /// The name of output `at`.
 fn output_name(alloc: Global, plan: &Plan, at: u16) -> Result<String, NoMemory>
+    requires { at < output_count plan.now }
     ensures { IfOk result (λ name. string_bytes name ≡ output_name plan.now at) }
 {
-    let prefix = plan.prefix();
-    if at < plan.count() {
-        capture_file_name(alloc, prefix, plan.port(at))
-    } else if at == plan.count() {
-        journal_file_name(alloc, prefix)
-    } else {
-        trace_file_name(alloc, prefix)
-    }
+    file_name(alloc, plan.prefix(), &plan.kind(at))
 }
 
 /// The outputs of a plan have different names.
 fn output_names_differ()
     ensures { (plan : Planned) (i j : ℕ) → i < output_count plan → j < output_count plan → i ≢ j → output_name plan i ≢ output_name plan j }
 {
-    capture_names_differ();
-    no_capture_is_the_journal();
-    no_capture_is_the_trace();
-    the_journal_is_no_trace();
+    file_names_differ();
 }
 
 /// What output `at` begins with.
 fn first_piece(alloc: Global, plan: &Plan, at: u16) -> Result<Vec<u8>, NoMemory>
-    ensures { IfOk result (λ piece. piece.items ≡ first_text plan.now at) }
+    requires { at < output_count plan.now }
+    ensures { IfOk result (λ piece. piece.items ≡ first_text (kind_at plan.now at)) }
 {
-    if at < plan.count() {
-        Ok(header_text().to_vec(alloc)?)
-    } else {
-        Ok(Vec::new(alloc))
+    match plan.kind(at) {
+        Output::Capture(_) => Ok(header_text().to_vec(alloc)?),
+        _ => Ok(Vec::new(alloc)),
     }
 }
 
@@ -81,7 +73,7 @@ fn create_one<S: Shelf>(
     requires ids { length outputs.old.ids.items ≡ at }
     requires pieces { length outputs.old.pieces.items ≡ at }
     ensures ids { OnOk result ((id : ℕ) × (outputs.new.ids.items ≡ outputs.old.ids.items ++ id ∷ []) × (S.ids shelf.new id ≡ writing (output_name plan.now at))) }
-    ensures pieces { OnOk result (pieces_of outputs.new ≡ pieces_of outputs.old ++ first_text plan.now at ∷ []) }
+    ensures pieces { OnOk result (pieces_of outputs.new ≡ pieces_of outputs.old ++ first_text (kind_at plan.now at) ∷ []) }
     ensures count { OnOk result (length outputs.new.pieces.items ≡ at + 1) }
     ensures opened { Opens (WritesPlanned plan.now) (S.ids shelf.old) (S.ids shelf.new) }
     ensures empty { S.tells → OnOk result (Puts (S.file shelf.old) (S.file shelf.new) (output_name plan.now at) []) }
@@ -106,8 +98,8 @@ pub(crate) fn create_all<S: Shelf>(
     plan: &Plan,
 ) -> Result<Outputs, Fault>
     ensures ready { IfOk result (λ outputs. IsReady plan.now (S.ids shelf.new) outputs) }
-    ensures texts { S.tells → IfOk result (λ outputs. HasTexts plan.now (pieces_of outputs) (S.file shelf.old) (S.file shelf.new) (first_text plan.now)) }
-    ensures cut { S.tells → OnErr result ((text : ℕ → List ℕ) → AreCut plan.now (S.file shelf.old) (S.file shelf.new) text) }
+    ensures texts { S.tells → IfOk result (λ outputs. HasTexts plan.now (pieces_of outputs) (S.file shelf.old) (S.file shelf.new) first_text) }
+    ensures cut { S.tells → OnErr result ((text : Output → List ℕ) → AreCut plan.now (S.file shelf.old) (S.file shelf.new) text) }
     ensures only { OnlyMakes S.tells plan.now (S.file shelf.old) (S.file shelf.new) (S.ids shelf.old) (S.ids shelf.new) }
     ensures causes { IfErr result IsOfWriting }
     ensures faults { CountsFaults result (S.faults shelf.old) (S.faults shelf.new) }
@@ -177,10 +169,10 @@ impl Outputs {
     ) -> Result<(), Fault>
         requires ready { IsReady plan.now (S.ids shelf.old) self.old }
         ensures ready { IsReady plan.now (S.ids shelf.new) self.new }
-        ensures texts { S.tells → OnOk result ((orig : Files) (text : ℕ → List ℕ) → HasTexts plan.now (pieces_of self.old) orig (S.file shelf.old) text
-            → HasTexts plan.now (pieces_of self.new) orig (S.file shelf.new) (with_more text (port_count plan.now) (lines_of events.now))) }
-        ensures cut { S.tells → OnErr result ((orig : Files) (text : ℕ → List ℕ) → HasTexts plan.now (pieces_of self.old) orig (S.file shelf.old) text
-            → AreCut plan.now orig (S.file shelf.new) (with_more text (port_count plan.now) (lines_of events.now))) }
+        ensures texts { S.tells → OnOk result ((orig : Files) (text : Output → List ℕ) → HasTexts plan.now (pieces_of self.old) orig (S.file shelf.old) text
+            → HasTexts plan.now (pieces_of self.new) orig (S.file shelf.new) (with_more text output.Journal (lines_of events.now))) }
+        ensures cut { S.tells → OnErr result ((orig : Files) (text : Output → List ℕ) → HasTexts plan.now (pieces_of self.old) orig (S.file shelf.old) text
+            → AreCut plan.now orig (S.file shelf.new) (with_more text output.Journal (lines_of events.now))) }
         ensures only { OnlyWrites S.tells plan.now (S.file shelf.old) (S.file shelf.new) (S.ids shelf.old) (S.ids shelf.new) }
         ensures causes { IfErr result IsOfWriting }
         ensures faults { CountsFaults result (S.faults shelf.old) (S.faults shelf.new) }
@@ -201,10 +193,10 @@ impl Outputs {
         requires ready { IsReady plan.now (S.ids shelf.old) self.old }
         requires frames { All (λ x. CanBeWritten plan.now x) left.now }
         ensures ready { IsReady plan.now (S.ids shelf.new) self.new }
-        ensures texts { S.tells → OnOk result ((orig : Files) (text : ℕ → List ℕ) → HasTexts plan.now (pieces_of self.old) orig (S.file shelf.old) text
-            → HasTexts plan.now (pieces_of self.new) orig (S.file shelf.new) (with_left_frames plan.now text left.now)) }
-        ensures cut { S.tells → OnErr result ((orig : Files) (text : ℕ → List ℕ) → HasTexts plan.now (pieces_of self.old) orig (S.file shelf.old) text
-            → AreCut plan.now orig (S.file shelf.new) (with_left_frames plan.now text left.now)) }
+        ensures texts { S.tells → OnOk result ((orig : Files) (text : Output → List ℕ) → HasTexts plan.now (pieces_of self.old) orig (S.file shelf.old) text
+            → HasTexts plan.now (pieces_of self.new) orig (S.file shelf.new) (with_left_frames text left.now)) }
+        ensures cut { S.tells → OnErr result ((orig : Files) (text : Output → List ℕ) → HasTexts plan.now (pieces_of self.old) orig (S.file shelf.old) text
+            → AreCut plan.now orig (S.file shelf.new) (with_left_frames text left.now)) }
         ensures only { OnlyWrites S.tells plan.now (S.file shelf.old) (S.file shelf.new) (S.ids shelf.old) (S.ids shelf.new) }
         ensures causes { IfErr result IsOfWriting }
         ensures faults { CountsFaults result (S.faults shelf.old) (S.faults shelf.new) }
@@ -225,15 +217,15 @@ impl Outputs {
     ) -> Result<(), Fault>
         requires ready { IsReady plan.now (S.ids shelf.old) self.old }
         ensures ready { IsReady plan.now (S.ids shelf.new) self.new }
-        ensures texts { S.tells → OnOk result ((orig : Files) (text : ℕ → List ℕ) → HasTexts plan.now (pieces_of self.old) orig (S.file shelf.old) text
-            → HasTexts plan.now (pieces_of self.new) orig (S.file shelf.new) (with_more text (port_count plan.now + 1) (trace_text lines.now))) }
-        ensures cut { S.tells → OnErr result ((orig : Files) (text : ℕ → List ℕ) → HasTexts plan.now (pieces_of self.old) orig (S.file shelf.old) text
-            → AreCut plan.now orig (S.file shelf.new) (with_more text (port_count plan.now + 1) (trace_text lines.now))) }
+        ensures texts { S.tells → OnOk result ((orig : Files) (text : Output → List ℕ) → HasTexts plan.now (pieces_of self.old) orig (S.file shelf.old) text
+            → HasTexts plan.now (pieces_of self.new) orig (S.file shelf.new) (with_more text output.Trace (trace_text lines.now))) }
+        ensures cut { S.tells → OnErr result ((orig : Files) (text : Output → List ℕ) → HasTexts plan.now (pieces_of self.old) orig (S.file shelf.old) text
+            → AreCut plan.now orig (S.file shelf.new) (with_more text output.Trace (trace_text lines.now))) }
         ensures only { OnlyWrites S.tells plan.now (S.file shelf.old) (S.file shelf.new) (S.ids shelf.old) (S.ids shelf.new) }
         ensures causes { IfErr result IsOfWriting }
         ensures faults { CountsFaults result (S.faults shelf.old) (S.faults shelf.new) }
     {
-        if plan.traced() {
+        if plan.options().trace {
             self.add_lines(shelf, plan, line, lines)
         } else {
             Ok(())
@@ -248,13 +240,13 @@ impl Outputs {
         line: &mut Vec<u8>,
         lines: &[TraceLine],
     ) -> Result<(), Fault>
-        requires traced { plan.now.traced ≡ true }
+        requires traced { plan.now.options.trace ≡ true }
         requires ready { IsReady plan.now (S.ids shelf.old) self.old }
         ensures ready { IsReady plan.now (S.ids shelf.new) self.new }
-        ensures texts { S.tells → OnOk result ((orig : Files) (text : ℕ → List ℕ) → HasTexts plan.now (pieces_of self.old) orig (S.file shelf.old) text
-            → HasTexts plan.now (pieces_of self.new) orig (S.file shelf.new) (with_more text (port_count plan.now + 1) (trace_text lines.now))) }
-        ensures cut { S.tells → OnErr result ((orig : Files) (text : ℕ → List ℕ) → HasTexts plan.now (pieces_of self.old) orig (S.file shelf.old) text
-            → AreCut plan.now orig (S.file shelf.new) (with_more text (port_count plan.now + 1) (trace_text lines.now))) }
+        ensures texts { S.tells → OnOk result ((orig : Files) (text : Output → List ℕ) → HasTexts plan.now (pieces_of self.old) orig (S.file shelf.old) text
+            → HasTexts plan.now (pieces_of self.new) orig (S.file shelf.new) (with_more text output.Trace (trace_text lines.now))) }
+        ensures cut { S.tells → OnErr result ((orig : Files) (text : Output → List ℕ) → HasTexts plan.now (pieces_of self.old) orig (S.file shelf.old) text
+            → AreCut plan.now orig (S.file shelf.new) (with_more text output.Trace (trace_text lines.now))) }
         ensures only { OnlyWrites S.tells plan.now (S.file shelf.old) (S.file shelf.new) (S.ids shelf.old) (S.ids shelf.new) }
         ensures causes { IfErr result IsOfWriting }
         ensures faults { CountsFaults result (S.faults shelf.old) (S.faults shelf.new) }
@@ -265,12 +257,38 @@ impl Outputs {
         Ok(())
     }
 
+    /// Puts the lines of all counts behind the counters, which are asked for. `line` is room for one line.
+    pub(crate) fn write_counters<S: Shelf>(
+        &mut self,
+        shelf: &mut S,
+        plan: &Plan,
+        line: &mut Vec<u8>,
+        counters: &Counters,
+    ) -> Result<(), Fault>
+        requires asked { plan.now.options.counters ≡ true }
+        requires ports { (q : ℕ) → q < 4160 → is_external plan.now.tree q ≡ true → HasPort counters.now q }
+        requires ready { IsReady plan.now (S.ids shelf.old) self.old }
+        ensures ready { IsReady plan.now (S.ids shelf.new) self.new }
+        ensures texts { S.tells → OnOk result ((orig : Files) (text : Output → List ℕ) → HasTexts plan.now (pieces_of self.old) orig (S.file shelf.old) text
+            → HasTexts plan.now (pieces_of self.new) orig (S.file shelf.new) (with_more text output.Counters (count_lines (counts_at counters.now) (external_ports plan.now.tree)))) }
+        ensures cut { S.tells → OnErr result ((orig : Files) (text : Output → List ℕ) → HasTexts plan.now (pieces_of self.old) orig (S.file shelf.old) text
+            → AreCut plan.now orig (S.file shelf.new) (with_more text output.Counters (count_lines (counts_at counters.now) (external_ports plan.now.tree)))) }
+        ensures only { OnlyWrites S.tells plan.now (S.file shelf.old) (S.file shelf.new) (S.ids shelf.old) (S.ids shelf.new) }
+        ensures causes { IfErr result IsOfWriting }
+        ensures faults { CountsFaults result (S.faults shelf.old) (S.faults shelf.new) }
+    {
+        for at in 0..plan.count() {
+            self.add_count(shelf, plan, line, plan.port(at), counters)?;
+        }
+        Ok(())
+    }
+
     /// Writes all that is not written yet.
     pub(crate) fn finish<S: Shelf>(&mut self, shelf: &mut S, plan: &Plan) -> Result<(), Fault>
         requires ready { IsReady plan.now (S.ids shelf.old) self.old }
-        ensures texts { S.tells → OnOk result ((orig : Files) (text : ℕ → List ℕ) → HasTexts plan.now (pieces_of self.old) orig (S.file shelf.old) text
-            → Filled orig (S.file shelf.new) (output_count plan.now) (output_name plan.now) (λ j bytes. bytes ≡ text j)) }
-        ensures cut { S.tells → OnErr result ((orig : Files) (text : ℕ → List ℕ) → HasTexts plan.now (pieces_of self.old) orig (S.file shelf.old) text
+        ensures texts { S.tells → OnOk result ((orig : Files) (text : Output → List ℕ) → HasTexts plan.now (pieces_of self.old) orig (S.file shelf.old) text
+            → Filled orig (S.file shelf.new) (output_count plan.now) (output_name plan.now) (λ j bytes. bytes ≡ text (kind_at plan.now j))) }
+        ensures cut { S.tells → OnErr result ((orig : Files) (text : Output → List ℕ) → HasTexts plan.now (pieces_of self.old) orig (S.file shelf.old) text
             → AreCut plan.now orig (S.file shelf.new) text) }
         ensures only { OnlyWrites S.tells plan.now (S.file shelf.old) (S.file shelf.new) (S.ids shelf.old) (S.ids shelf.new) }
         ensures causes { IfErr result IsOfWriting }
@@ -293,10 +311,10 @@ impl Outputs {
     ) -> Result<(), Fault>
         requires ready { IsReady plan.now (S.ids shelf.old) self.old }
         ensures ready { IsReady plan.now (S.ids shelf.new) self.new }
-        ensures texts { S.tells → OnOk result ((orig : Files) (text : ℕ → List ℕ) → HasTexts plan.now (pieces_of self.old) orig (S.file shelf.old) text
-            → HasTexts plan.now (pieces_of self.new) orig (S.file shelf.new) (with_more text (port_count plan.now) (line_of event.now ++ 10 ∷ []))) }
-        ensures cut { S.tells → OnErr result ((orig : Files) (text : ℕ → List ℕ) → HasTexts plan.now (pieces_of self.old) orig (S.file shelf.old) text
-            → AreCut plan.now orig (S.file shelf.new) (with_more text (port_count plan.now) (line_of event.now ++ 10 ∷ []))) }
+        ensures texts { S.tells → OnOk result ((orig : Files) (text : Output → List ℕ) → HasTexts plan.now (pieces_of self.old) orig (S.file shelf.old) text
+            → HasTexts plan.now (pieces_of self.new) orig (S.file shelf.new) (with_more text output.Journal (line_of event.now ++ 10 ∷ []))) }
+        ensures cut { S.tells → OnErr result ((orig : Files) (text : Output → List ℕ) → HasTexts plan.now (pieces_of self.old) orig (S.file shelf.old) text
+            → AreCut plan.now orig (S.file shelf.new) (with_more text output.Journal (line_of event.now ++ 10 ∷ []))) }
         ensures only { OnlyWrites S.tells plan.now (S.file shelf.old) (S.file shelf.new) (S.ids shelf.old) (S.ids shelf.new) }
         ensures causes { IfErr result IsOfWriting }
         ensures faults { CountsFaults result (S.faults shelf.old) (S.faults shelf.new) }
@@ -305,7 +323,7 @@ impl Outputs {
         if write_line(line, event).is_err() {
             return Err(Fault::Memory);
         }
-        self.add_to(shelf, plan, plan.count() as usize, &[], line.as_bytes())
+        self.add_to(shelf, plan, plan.journal(), &[], line.as_bytes())
     }
 
     /// Puts a line behind the trace, which is asked for.
@@ -316,13 +334,13 @@ impl Outputs {
         line: &mut Vec<u8>,
         one: &TraceLine,
     ) -> Result<(), Fault>
-        requires traced { plan.now.traced ≡ true }
+        requires traced { plan.now.options.trace ≡ true }
         requires ready { IsReady plan.now (S.ids shelf.old) self.old }
         ensures ready { IsReady plan.now (S.ids shelf.new) self.new }
-        ensures texts { S.tells → OnOk result ((orig : Files) (text : ℕ → List ℕ) → HasTexts plan.now (pieces_of self.old) orig (S.file shelf.old) text
-            → HasTexts plan.now (pieces_of self.new) orig (S.file shelf.new) (with_more text (port_count plan.now + 1) (trace_line one.now ++ 10 ∷ []))) }
-        ensures cut { S.tells → OnErr result ((orig : Files) (text : ℕ → List ℕ) → HasTexts plan.now (pieces_of self.old) orig (S.file shelf.old) text
-            → AreCut plan.now orig (S.file shelf.new) (with_more text (port_count plan.now + 1) (trace_line one.now ++ 10 ∷ []))) }
+        ensures texts { S.tells → OnOk result ((orig : Files) (text : Output → List ℕ) → HasTexts plan.now (pieces_of self.old) orig (S.file shelf.old) text
+            → HasTexts plan.now (pieces_of self.new) orig (S.file shelf.new) (with_more text output.Trace (trace_line one.now ++ 10 ∷ []))) }
+        ensures cut { S.tells → OnErr result ((orig : Files) (text : Output → List ℕ) → HasTexts plan.now (pieces_of self.old) orig (S.file shelf.old) text
+            → AreCut plan.now orig (S.file shelf.new) (with_more text output.Trace (trace_line one.now ++ 10 ∷ []))) }
         ensures only { OnlyWrites S.tells plan.now (S.file shelf.old) (S.file shelf.new) (S.ids shelf.old) (S.ids shelf.new) }
         ensures causes { IfErr result IsOfWriting }
         ensures faults { CountsFaults result (S.faults shelf.old) (S.faults shelf.new) }
@@ -331,7 +349,35 @@ impl Outputs {
         if write_trace_line(line, one).is_err() {
             return Err(Fault::Memory);
         }
-        self.add_to(shelf, plan, plan.count() as usize + 1, &[], line.as_slice())
+        self.add_to(shelf, plan, plan.trace(), &[], line.as_slice())
+    }
+
+    /// Puts the line of a port's counts behind the counters, which are asked for.
+    fn add_count<S: Shelf>(
+        &mut self,
+        shelf: &mut S,
+        plan: &Plan,
+        line: &mut Vec<u8>,
+        port: PortId,
+        counters: &Counters,
+    ) -> Result<(), Fault>
+        requires asked { plan.now.options.counters ≡ true }
+        requires port { HasPort counters.now port }
+        requires ready { IsReady plan.now (S.ids shelf.old) self.old }
+        ensures ready { IsReady plan.now (S.ids shelf.new) self.new }
+        ensures texts { S.tells → OnOk result ((orig : Files) (text : Output → List ℕ) → HasTexts plan.now (pieces_of self.old) orig (S.file shelf.old) text
+            → HasTexts plan.now (pieces_of self.new) orig (S.file shelf.new) (with_more text output.Counters (count_line port (counts_at counters.now port)))) }
+        ensures cut { S.tells → OnErr result ((orig : Files) (text : Output → List ℕ) → HasTexts plan.now (pieces_of self.old) orig (S.file shelf.old) text
+            → AreCut plan.now orig (S.file shelf.new) (with_more text output.Counters (count_line port (counts_at counters.now port)))) }
+        ensures only { OnlyWrites S.tells plan.now (S.file shelf.old) (S.file shelf.new) (S.ids shelf.old) (S.ids shelf.new) }
+        ensures causes { IfErr result IsOfWriting }
+        ensures faults { CountsFaults result (S.faults shelf.old) (S.faults shelf.new) }
+    {
+        line.clear();
+        if write_count_line(line, port, &counters.line(port)).is_err() {
+            return Err(Fault::Memory);
+        }
+        self.add_to(shelf, plan, plan.counters(), &[], line.as_slice())
     }
 
     /// Puts a frame that left a port behind the port's capture.
@@ -339,15 +385,15 @@ impl Outputs {
         requires ready { IsReady plan.now (S.ids shelf.old) self.old }
         requires frame { CanBeWritten plan.now left.now }
         ensures ready { IsReady plan.now (S.ids shelf.new) self.new }
-        ensures texts { S.tells → OnOk result ((orig : Files) (text : ℕ → List ℕ) → HasTexts plan.now (pieces_of self.old) orig (S.file shelf.old) text
-            → HasTexts plan.now (pieces_of self.new) orig (S.file shelf.new) (with_more text (place_in plan.now.tree left.now.port) (record_of (left.now.moment, left.now.bytes)))) }
-        ensures cut { S.tells → OnErr result ((orig : Files) (text : ℕ → List ℕ) → HasTexts plan.now (pieces_of self.old) orig (S.file shelf.old) text
-            → AreCut plan.now orig (S.file shelf.new) (with_more text (place_in plan.now.tree left.now.port) (record_of (left.now.moment, left.now.bytes)))) }
+        ensures texts { S.tells → OnOk result ((orig : Files) (text : Output → List ℕ) → HasTexts plan.now (pieces_of self.old) orig (S.file shelf.old) text
+            → HasTexts plan.now (pieces_of self.new) orig (S.file shelf.new) (with_more text (output.Capture left.now.port) (record_of (left.now.moment, left.now.bytes)))) }
+        ensures cut { S.tells → OnErr result ((orig : Files) (text : Output → List ℕ) → HasTexts plan.now (pieces_of self.old) orig (S.file shelf.old) text
+            → AreCut plan.now orig (S.file shelf.new) (with_more text (output.Capture left.now.port) (record_of (left.now.moment, left.now.bytes)))) }
         ensures only { OnlyWrites S.tells plan.now (S.file shelf.old) (S.file shelf.new) (S.ids shelf.old) (S.ids shelf.new) }
         ensures causes { IfErr result IsOfWriting }
         ensures faults { CountsFaults result (S.faults shelf.old) (S.faults shelf.new) }
     {
-        let at = plan.place(left.port) as usize;
+        let at = plan.place(left.port);
         let bytes = left.bytes.as_slice();
         let head = record_text(left.moment, bytes.len() as u32);
         self.add_to(shelf, plan, at, &head, bytes)
@@ -358,22 +404,23 @@ impl Outputs {
         &mut self,
         shelf: &mut S,
         plan: &Plan,
-        at: usize,
+        at: u16,
         head: &[u8],
         bytes: &[u8],
     ) -> Result<(), Fault>
         requires ready { IsReady plan.now (S.ids shelf.old) self.old }
         requires within { at < output_count plan.now }
         ensures ready { IsReady plan.now (S.ids shelf.new) self.new }
-        ensures texts { S.tells → OnOk result ((orig : Files) (text : ℕ → List ℕ) → HasTexts plan.now (pieces_of self.old) orig (S.file shelf.old) text
-            → HasTexts plan.now (pieces_of self.new) orig (S.file shelf.new) (with_more text at (head.now ++ bytes.now))) }
-        ensures cut { S.tells → OnErr result ((orig : Files) (text : ℕ → List ℕ) → HasTexts plan.now (pieces_of self.old) orig (S.file shelf.old) text
-            → AreCut plan.now orig (S.file shelf.new) (with_more text at (head.now ++ bytes.now))) }
+        ensures texts { S.tells → OnOk result ((orig : Files) (text : Output → List ℕ) → HasTexts plan.now (pieces_of self.old) orig (S.file shelf.old) text
+            → HasTexts plan.now (pieces_of self.new) orig (S.file shelf.new) (with_more text (kind_at plan.now at) (head.now ++ bytes.now))) }
+        ensures cut { S.tells → OnErr result ((orig : Files) (text : Output → List ℕ) → HasTexts plan.now (pieces_of self.old) orig (S.file shelf.old) text
+            → AreCut plan.now orig (S.file shelf.new) (with_more text (kind_at plan.now at) (head.now ++ bytes.now))) }
         ensures only { OnlyWrites S.tells plan.now (S.file shelf.old) (S.file shelf.new) (S.ids shelf.old) (S.ids shelf.new) }
         ensures causes { IfErr result IsOfWriting }
         ensures faults { CountsFaults result (S.faults shelf.old) (S.faults shelf.new) }
     {
         output_names_differ();
+        let at = at as usize;
         add(shelf, self.ids[at], &mut self.pieces[at], head, bytes)
     }
 }

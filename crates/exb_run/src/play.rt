@@ -138,10 +138,10 @@ fn play_into<S: Shelf>(
     requires captures { CanBeRead S.tells plan.now names.now (S.file shelf.old) checked.now }
     requires fate { left fate < 2 ^ 56 }
     requires ready { IsReady plan.now (S.ids shelf.old) outputs }
-    requires texts { (before : Files) × (S.tells → HasTexts plan.now (pieces_of outputs) before (S.file shelf.old) (first_text plan.now)) }
-    ensures done { S.tells → IfOk result (λ line. (before : Files) → HasTexts plan.now (pieces_of outputs) before (S.file shelf.old) (first_text plan.now)
+    requires texts { (before : Files) × (S.tells → HasTexts plan.now (pieces_of outputs) before (S.file shelf.old) first_text) }
+    ensures done { S.tells → IfOk result (λ line. (before : Files) → HasTexts plan.now (pieces_of outputs) before (S.file shelf.old) first_text
         → HasPlayed (mode_of schedule) (input_from script.now.setup.now script.now.commands.now names.now (S.file shelf.old)) plan.now before (S.file shelf.new) (string_bytes line)) }
-    ensures fronts { S.tells → mode_of schedule ≡ Eager → (before : Files) → HasTexts plan.now (pieces_of outputs) before (S.file shelf.old) (first_text plan.now)
+    ensures fronts { S.tells → mode_of schedule ≡ Eager → (before : Files) → HasTexts plan.now (pieces_of outputs) before (S.file shelf.old) first_text
         → AreCutEagerly (input_from script.now.setup.now script.now.commands.now names.now (S.file shelf.old)) plan.now before (S.file shelf.new) }
     ensures never { S.tells → IfErr result (λ fault. IsChange fault → ⊥) }
     ensures only { OnlyPlays S.tells names.now plan.now (S.file shelf.old) (S.file shelf.new) (S.ids shelf.old) (S.ids shelf.new) }

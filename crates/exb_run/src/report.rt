@@ -2,32 +2,44 @@
 ghost use Rattle.std.specs.Prelude.{◌≡◌, ◌≢◌, ◌≤◌, ◌++◌, IfOk, OnOk, OnErr, IsErrOf, string_bytes};
 ghost use Rattle.exb_shelf.specs.Files.{AppendsFront};
 ghost use Rattle.exb_shelf.specs.Shelf.{Rose};
-ghost use Rattle.exb_run.specs.Answers.{broken_text, flaw_text, key_fault_text, topology_text, capture_line, fault_line, line_of, fault_status, status_of};
+ghost use Rattle.exb_run.specs.Answers.{broken_text, flaw_name, flaw_text, key_fault_text, topology_text, capture_line, fault_line, line_of, fault_status, status_of};
 
 use crate::fault::{Fault, Flaw};
 use exb_keys::faults::{KeyFault, TopoFault};
 use exb_model::port::PortId;
-use exb_pcap::PcapFault;
 use exb_shelf::{ShelfFault, Sink, print_text};
 use exb_text::PortName;
 use std::alloc::{AllocError, Global};
 
 /// The words that are accepted.
 const USAGE: &str =
-    "exbr: usage: exbr run TOPOLOGY [--trace] [--seed N] | exbr check TOPOLOGY | exbr make N\n";
+    "exbr: usage: exbr run TOPOLOGY [--trace] [--counters] [--seed N] | exbr check TOPOLOGY | exbr make N\n";
+
+/// The name of what is wrong with a capture.
+fn flaw_name(flaw: exb_capture::Flaw) -> &'static str
+    ensures { result.now ≡ flaw_name flaw }
+{
+    match flaw {
+        exb_capture::Flaw::NotPcap => "NotPcap",
+        exb_capture::Flaw::Version => "Version",
+        exb_capture::Flaw::LinkType => "LinkType",
+        exb_capture::Flaw::Cut => "Cut",
+        exb_capture::Flaw::Length => "Length",
+        exb_capture::Flaw::Time => "Time",
+        exb_capture::Flaw::Magic => "Magic",
+        exb_capture::Flaw::TooMany => "TooMany",
+        exb_capture::Flaw::Resolution => "Resolution",
+        exb_capture::Flaw::Interface => "Interface",
+    }
+}
 
 /// The fault of a capture, and its place.
-fn broken_text(alloc: Global, fault: PcapFault) -> Result<String, AllocError>
+fn broken_text(alloc: Global, fault: exb_capture::Fault) -> Result<String, AllocError>
     ensures { IfOk result (λ text. string_bytes text ≡ broken_text fault) }
 {
-    match fault {
-        PcapFault::NotPcap => format!(in alloc; "NotPcap at 0"),
-        PcapFault::Version => format!(in alloc; "Version at 4"),
-        PcapFault::LinkType => format!(in alloc; "LinkType at 20"),
-        PcapFault::Cut(at) => format!(in alloc; "Cut at {at}"),
-        PcapFault::Length(at) => format!(in alloc; "Length at {at}"),
-        PcapFault::Time(at) => format!(in alloc; "Time at {at}"),
-    }
+    let name = flaw_name(fault.flaw);
+    let at = fault.at;
+    format!(in alloc; "{name} at {at}")
 }
 
 fn flaw_text(alloc: Global, flaw: Flaw) -> Result<String, AllocError>

@@ -30,7 +30,7 @@ use crate::topology::read_topology;
 use exb_fate::Fate;
 use exb_shelf::{Shelf, Sink};
 use exb_topology::Topology;
-use exb_words::{Asked, accept};
+use exb_words::{Asked, Options, accept};
 use std::alloc::Global;
 
 /// Eager, or drawn from a seed.
@@ -48,8 +48,7 @@ fn play_topology<S: Shelf>(
     alloc: Global,
     shelf: &mut S,
     topology: &Topology,
-    trace: bool,
-    seed: Option<u64>,
+    options: Options,
     fate: Box<dyn Fate>,
 ) -> Result<String, Fault>
     requires valid { IsValid topology.now.setup }
@@ -57,9 +56,9 @@ fn play_topology<S: Shelf>(
     requires fate { left fate < 2 ^ 56 }
     ensures good { S.tells → IfOk result (λ line. AreAllGood topology.now.captures (S.file shelf.old)) }
     ensures done { S.tells → IfOk result (λ line.
-        IsPlayed (mode_for seed) trace (input_of topology.now (S.file shelf.old)) topology.now.prefix
+        IsPlayed (mode_for options.seed) options (input_of topology.now (S.file shelf.old)) topology.now.prefix
         (S.file shelf.old) (S.file shelf.new) (string_bytes line)) }
-    ensures fronts { S.tells → mode_for seed ≡ Eager
+    ensures fronts { S.tells → mode_for options.seed ≡ Eager
         → AreFrontsOf (input_of topology.now (S.file shelf.old)) topology.now.prefix (S.file shelf.old) (S.file shelf.new) }
 
     // Each fault has its cause.
@@ -73,19 +72,19 @@ fn play_topology<S: Shelf>(
     ensures early { IfErr result (λ fault. IsOfPlay fault ⊎ SameFiles (S.file shelf.old) (S.file shelf.new)) }
     ensures stopped { S.tells → (p : ℕ) (fault : Fault) → FirstFault topology.now.captures (S.file shelf.old) p fault
         → SameFiles (S.file shelf.old) (S.file shelf.new) }
-    ensures others { S.tells → OnlyOutputs trace (shape_of topology.now.setup) topology.now.prefix (S.file shelf.old) (S.file shelf.new) }
+    ensures others { S.tells → OnlyOutputs options (shape_of topology.now.setup) topology.now.prefix (S.file shelf.old) (S.file shelf.new) }
     ensures opened { IfErr result (λ fault. IsOfPlay fault ⊎ Opens (ReadsCapture topology.now.captures) (S.ids shelf.old) (S.ids shelf.new)) }
-    ensures played { S.tells → Opens (IsOpenedFor trace topology.now (S.file shelf.old)) (S.ids shelf.old) (S.ids shelf.new) }
+    ensures played { S.tells → Opens (IsOpenedFor options topology.now (S.file shelf.old)) (S.ids shelf.old) (S.ids shelf.new) }
     ensures faults { CountsFaults result (S.faults shelf.old) (S.faults shelf.new) }
 {
     let checked = check_captures(alloc, shelf, topology.captures.as_slice())?;
-    let plan = Plan::new(alloc, &topology.setup, topology.prefix.as_str(), trace)?;
+    let plan = Plan::new(alloc, &topology.setup, topology.prefix.as_str(), options)?;
     let script = Script {
         setup: &topology.setup,
         commands: topology.commands.as_slice(),
         fate: topology.fate.as_slice(),
     };
-    let schedule = schedule_of(seed);
+    let schedule = schedule_of(options.seed);
     play(
         alloc,
         shelf,
@@ -103,17 +102,16 @@ fn run_topology<S: Shelf>(
     alloc: Global,
     shelf: &mut S,
     name: &str,
-    trace: bool,
-    seed: Option<u64>,
+    options: Options,
     fate: Box<dyn Fate>,
 ) -> Result<String, Fault>
     requires { left fate < 2 ^ 56 }
-    ensures came { CameOut S.tells (Some (Run name.now trace seed)) result (S.file shelf.old) (S.file shelf.new) }
-    ensures opens { OpensBy S.tells (status_of result) (Some (Run name.now trace seed)) (S.file shelf.old) (S.ids shelf.old) (S.ids shelf.new) }
+    ensures came { CameOut S.tells (Some (Run name.now options)) result (S.file shelf.old) (S.file shelf.new) }
+    ensures opens { OpensBy S.tells (status_of result) (Some (Run name.now options)) (S.file shelf.old) (S.ids shelf.old) (S.ids shelf.new) }
     ensures faults { CountsFaults result (S.faults shelf.old) (S.faults shelf.new) }
 {
     let topology = read_topology(alloc, shelf, name)?;
-    play_topology(alloc, shelf, &topology, trace, seed, fate)
+    play_topology(alloc, shelf, &topology, options, fate)
 }
 
 /// Does all but print: what the words ask for.
@@ -133,13 +131,9 @@ fn work<S: Shelf>(
 {
     match accept(words) {
         None => Err(Fault::Usage),
-        Some(
-            Asked::Run {
-                topology,
-                trace,
-                seed,
-            },
-        ) => run_topology(alloc, shelf, topology, trace, seed, fate),
+        Some(Asked::Run { topology, options }) => {
+            run_topology(alloc, shelf, topology, options, fate)
+        }
         Some(Asked::Check { topology }) => check_topology(alloc, shelf, topology),
         Some(Asked::Make { number }) => make_input(alloc, number, fate),
     }

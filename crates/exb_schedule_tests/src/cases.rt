@@ -7,7 +7,7 @@ use crate::steps::{begun, is_external};
 use exb_flat_run::outcome::PortText;
 use exb_flat_run::texts::journal_text;
 use exb_model::port::PortId;
-use exb_pcap::{header_text, record_text};
+use exb_capture::{header_text, record_text};
 use exb_schedule::{Left, World};
 use exb_shelf::MemShelf;
 use exb_topology::{Topology, read};

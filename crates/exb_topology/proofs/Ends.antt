@@ -4,22 +4,27 @@ use Rattle.std.specs.List.{list_any}
 use Rattle.std.specs.Str.{bytes_eq}
 use Rattle.std.specs.Cmp.Lexicographic.{bytes_decides}
 use Rattle.std.proofs.lemmas.Bool.{eq-eqb, false_from_ne_true}
-use Rattle.std.proofs.lemmas.List.{map-append}
 use Rattle.exb_model.specs.Tree.{Shape, external_ports}
 use Rattle.exb_model.specs.Texts.{port_name}
-use Rattle.exb_text.specs.Names.{capture_name, journal_name}
+use Rattle.exb_text.specs.declared.output.Output.{Output}
+use Rattle.exb_text.specs.declared.output.Output.TheVariants as output
+use Rattle.exb_text.specs.Names.{all_outputs, capture_name, counters_name, file_name, journal_name, other_outputs, trace_name}
 use Rattle.exb_topology.specs.Checks.{output_names}
 
-names_behind : (prefix ps : List ℕ) → map (capture_name prefix) ps ≡ map (λ o. prefix ++ o) (map (capture_name []) ps)
-unfolding capture_name
+name_behind : (prefix : List ℕ) (o : Output) → file_name prefix o ≡ prefix ++ file_name [] o
+unfolding capture_name journal_name trace_name counters_name
+name_behind prefix (output.Capture p) = append_assoc prefix (port_name p) (codes ".pcap")
+name_behind prefix output.Journal = refl
+name_behind prefix output.Trace = refl
+name_behind prefix output.Counters = refl
+
+names_behind : (prefix : List ℕ) (os : List Output) → map (file_name prefix) os ≡ map (λ o. prefix ++ o) (map (file_name []) os)
 names_behind prefix [] = refl
-names_behind prefix (p ∷ ps) = λ i. append_assoc prefix (port_name p) (codes ".pcap") i ∷ names_behind prefix ps i
+names_behind prefix (o ∷ os) = λ i. name_behind prefix o i ∷ names_behind prefix os i
 
 outputs_behind : (prefix : List ℕ) (t : Shape) → output_names prefix t ≡ map (λ o. prefix ++ o) (output_names [] t)
-unfolding journal_name
-outputs_behind prefix t =
-    ap (λ ns. ns ++ (prefix ++ codes "journal.txt") ∷ (prefix ++ codes "trace.txt") ∷ (prefix ++ codes "counters.txt") ∷ []) (names_behind prefix (external_ports t))
-    ∙ sym (map-append (λ o. prefix ++ o) (map (capture_name []) (external_ports t)) (codes "journal.txt" ∷ codes "trace.txt" ∷ codes "counters.txt" ∷ []))
+unfolding output_names
+outputs_behind prefix t = names_behind prefix (all_outputs t)
 
 behind_same : (prefix end o : List ℕ) → bytes_eq (prefix ++ end) (prefix ++ o) ≡ bytes_eq end o
 behind_same [] end o = refl
@@ -48,3 +53,12 @@ without_end name prefix t other =
     ap (λ ns. list_any (λ o. bytes_eq name o) ns) (outputs_behind prefix t)
     ∙ any_behind prefix (λ o. bytes_eq name o) (λ o. false) (output_names [] t) (λ o. behind_other name prefix o other)
     ∙ none_passes (output_names [] t)
+
+-- ---- the captures, and after them the others
+names_of_captures : (prefix ps : List ℕ) (os : List Output) → map (capture_name prefix) ps ++ map (file_name prefix) os ≡ map (file_name prefix) (map output.Capture ps ++ os)
+names_of_captures prefix [] os = refl
+names_of_captures prefix (p ∷ ps) os = ap (λ ns. capture_name prefix p ∷ ns) (names_of_captures prefix ps os)
+
+pub names_all_kinds : (prefix : List ℕ) (t : Shape) → map (capture_name prefix) (external_ports t) ++ map (file_name prefix) other_outputs ≡ output_names prefix t
+unfolding output_names
+names_all_kinds prefix t = names_of_captures prefix (external_ports t) other_outputs

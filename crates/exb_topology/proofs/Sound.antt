@@ -1,11 +1,11 @@
 -- A topology that a file gives is sound, by the definition alone.
-use Rattle.std.proofs.Common.{◌≡◌, ◌≢◌, ℕ, zero, suc, ◌+◌, ◌<◌, ◌≤◌, Bool, true, false, List, [], ◌∷◌, ◌++◌, length, get_or, take, All, map, Result, Ok, Err, refl, sym, ap, subst, ◌∙◌, arith}
+use Rattle.std.proofs.Common.{◌≡◌, ◌≢◌, ℕ, zero, suc, ◌<◌, ◌≤◌, Bool, true, false, List, [], ◌∷◌, ◌++◌, length, get_or, take, All, map, Result, Ok, Err, refl, sym, ap, subst, ◌∙◌, arith}
 use Rattle.std.specs.Prelude.{codes, IfOk}
-use Rattle.std.specs.List.{list_any, sum_by}
+use Rattle.std.specs.List.{list_any}
 use Rattle.std.specs.Str.{bytes_eq}
 use Rattle.std.proofs.lemmas.Bool.{not-false, false≢true, false_from_ne_true}
 use Rattle.std.proofs.lemmas.Bool.Decides.{not_from_Decides}
-use Rattle.std.proofs.lemmas.List.{length-map, length-append, get_or-map, get_or_append_left, get_or-append-add}
+use Rattle.std.proofs.lemmas.List.{length-map, get_or-map}
 use Rattle.std.proofs.lemmas.List.Folds.{list_any_at}
 use Rattle.std.proofs.lemmas.Slice.Eq.{bytes_eq-Decides}
 use Rattle.exb_model.specs.declared.command.Command.{Command}
@@ -14,13 +14,13 @@ use Rattle.exb_model.specs.declared.setup.ExtenderSetup.{ExtenderSetup}
 use Rattle.exb_model.specs.declared.setup.Setup.{Setup}
 use Rattle.exb_model.specs.declared.setup.Timed.{Timed}
 use Rattle.exb_model.specs.declared.setup.Verdict.{Verdict}
-use Rattle.exb_model.specs.Tree.{Shape, is_external, external_ports}
+use Rattle.exb_model.specs.Tree.{Shape, is_external}
 use Rattle.exb_model.specs.Setup.{NamesExternal, shape_of}
-use Rattle.exb_text.specs.Names.{capture_name, journal_name, trace_name}
+use Rattle.exb_text.specs.Names.{all_outputs, file_name}
 use Rattle.exb_keys.specs.declared.faults.KeyFault.TheVariants as fault
 use Rattle.exb_keys.specs.declared.faults.TopoFault.{TopoFault}
 use Rattle.exb_keys.specs.Faults.{Refusal, ◌>>=◌, GivesSeen, in_element}
-use Rattle.exb_keys.proofs.Went.{Went, went}
+use Rattle.exb_keys.proofs.Went.{went}
 use Rattle.exb_tables.specs.declared.rows.Named.{Named}
 use Rattle.exb_tables.specs.declared.commands.Action.{Action}
 use Rattle.exb_tables.specs.declared.commands.Action.TheVariants as does
@@ -31,7 +31,7 @@ use Rattle.exb_tables.proofs.Counted.{Follow, CommandsFollow, follow_map, follow
 use Rattle.exb_topology.specs.declared.topology.Topology.{Topology}
 use Rattle.exb_topology.specs.Each.{each_ok}
 use Rattle.exb_topology.specs.Trees.{tree_ok}
-use Rattle.exb_topology.specs.Checks.{ports_ok, port_ok, words_ok, port_table_ok, vlans_ok, static_ok, action_ok, command_ok, capture_ok, capture_key, file_ok, output_names}
+use Rattle.exb_topology.specs.Checks.{ports_ok, port_ok, port_table_ok, vlans_ok, static_ok, action_ok, command_ok, capture_ok, capture_key, file_ok, output_names}
 use Rattle.exb_topology.specs.Seen.{Seen, set_vlan, put_member, take_member, set_pvid, set_accept, set_filter, set_isolated, put_static, take_static, go_up, go_down, seen, TimedSeen, timed_view}
 use Rattle.exb_topology.specs.Topologies.{TopologySeen, topology_view, topology_of, topology_seen, resolved, bare, deed, command_seen}
 use Rattle.exb_topology.specs.Sound.{IsApart, IsSound, ReadIsSound}
@@ -61,19 +61,10 @@ differ : (name other : List ℕ) → bytes_eq name other ≡ false → name ≢ 
 differ name other = not_from_Decides (bytes_eq name other) (bytes_eq-Decides name other)
 
 apart_from : (t : Shape) (prefix name : List ℕ) → list_any (λ o. bytes_eq name o) (output_names prefix t) ≡ false → IsApart t prefix name
-unfolding trace_name
-apart_from t prefix name none =
-    let captures : List (List ℕ) = map (capture_name prefix) (external_ports t) in
-    let all : length (output_names prefix t) ≡ length (external_ports t) + 3 = length-append captures _ ∙ ap (λ n. n + 3) (length-map (external_ports t) (capture_name prefix)) in
-    let others : (k : ℕ) → k < 3 → bytes_eq name (get_or (output_names prefix t) (length captures + k) []) ≡ false = λ k low. none_pass (bytes_eq name) (output_names prefix t) none (length captures + k) [] (omega (arith, low, all, length-map (external_ports t) (capture_name prefix))) in
-    record {
-      captures = λ k d low.
-          differ name (capture_name prefix (get_or (external_ports t) k d)) (subst (λ o. bytes_eq name o ≡ false)
-          (get_or_append_left captures _ [] k (omega (arith, low, length-map (external_ports t) (capture_name prefix))) ∙ get_or-map (capture_name prefix) (external_ports t) k d [] low)
-          (none_pass (bytes_eq name) (output_names prefix t) none k [] (omega (arith, low, all))));
-      journal = differ name (journal_name prefix) (subst (λ o. bytes_eq name o ≡ false) (get_or-append-add captures _ 0 []) (others 0 (omega arith)));
-      trace = differ name (trace_name prefix) (subst (λ o. bytes_eq name o ≡ false) (get_or-append-add captures _ 1 []) (others 1 (omega arith)));
-    }
+unfolding output_names
+apart_from t prefix name none k d low =
+    differ name (file_name prefix (get_or (all_outputs t) k d)) (subst (λ o. bytes_eq name o ≡ false) (get_or-map (file_name prefix) (all_outputs t) k d [] low)
+    (none_pass (bytes_eq name) (output_names prefix t) none k [] (rw (length-map (all_outputs t) (file_name prefix)) low)))
 
 files_apart : (t : Shape) (prefix : List ℕ) (all : List Named) → each_ok (file_ok (output_names prefix t)) all 0 all ≡ Ok tt → All (λ x. IsApart t prefix x.name) all
 files_apart t prefix all ok k d low =

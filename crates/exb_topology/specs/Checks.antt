@@ -1,10 +1,10 @@
 -- The third pass: that ports are external ports of the tree, and that nothing is given twice.
-use Rattle.std.specs.Prelude.{ℕ, zero, suc, ◌+◌, ◌-◌, ◌/◌, ◌==◌, ◌&&◌, Bool, true, not, nat_le, List, [], ◌∷◌, ◌++◌, Option, Some, None, Result, Ok, codes, map}
+use Rattle.std.specs.Prelude.{ℕ, zero, suc, ◌+◌, ◌-◌, ◌/◌, ◌==◌, ◌&&◌, Bool, true, not, nat_le, List, ◌++◌, Option, Some, None, Result, Ok, codes, map}
 use Rattle.std.specs.List.{list_any, list_all}
 use Rattle.std.specs.Str.{bytes_eq}
-use Rattle.exb_model.specs.Tree.{Shape, is_extender, is_external, external_ports}
+use Rattle.exb_model.specs.Tree.{Shape, is_extender, is_external}
 use Rattle.exb_model.specs.Texts.{port_name}
-use Rattle.exb_text.specs.Names.{capture_name, journal_name}
+use Rattle.exb_text.specs.Names.{all_outputs, file_name}
 use Rattle.exb_keys.specs.declared.faults.KeyFault.TheVariants as fault
 use Rattle.exb_keys.specs.declared.words.Word.{Word}
 use Rattle.exb_keys.specs.declared.words.Word.TheVariants as word
@@ -107,8 +107,8 @@ abbrev pub capture_ok : Shape → List Named → ℕ → Named → Result (Unit 
 capture_ok t before i n = port_ok t (capture_key n.port) n.port
 
 -- the names of all files that runs of this topology write
-abbrev pub output_names : List ℕ → Shape → List (List ℕ)
-output_names prefix t = map (capture_name prefix) (external_ports t) ++ journal_name prefix ∷ (prefix ++ codes "trace.txt") ∷ (prefix ++ codes "counters.txt") ∷ []
+unfoldable pub output_names : List ℕ → Shape → List (List ℕ)
+output_names prefix t = map (file_name prefix) (all_outputs t)
 
 abbrev pub file_ok : List (List ℕ) → List Named → ℕ → Named → Result (Unit {0}) Refusal
 file_ok outputs before i n = refuse (list_any (λ o. bytes_eq n.name o) outputs) fault.Repeat (capture_key n.port)

@@ -1,16 +1,14 @@
 -- What holds of every topology that is read.
 use Rattle.std.specs.Prelude.{◌≡◌, ◌≢◌, ℕ, ◌+◌, ◌≤◌, true, List, length, sum_by, All, AllPairs, Ok}
-use Rattle.exb_model.specs.Tree.{Shape, is_external, external_ports}
+use Rattle.exb_model.specs.Tree.{Shape, is_external}
 use Rattle.exb_model.specs.Setup.{shape_of, NamesExternal}
-use Rattle.exb_text.specs.Names.{capture_name, journal_name, trace_name}
+use Rattle.exb_text.specs.Names.{all_outputs, file_name}
 use Rattle.exb_topology.specs.declared.topology.Topology.{Topology}
 use Rattle.exb_topology.specs.Topologies.{topology_view, topology_of}
 
 -- no file that runs of a tree write under a prefix has this name
-pub record IsApart (tree : Shape) (prefix name : List ℕ) : Type 0 where
-  pub captures : All (λ q. name ≢ capture_name prefix q) (external_ports tree)
-  pub journal : name ≢ journal_name prefix
-  pub trace : name ≢ trace_name prefix
+abbrev pub IsApart : Shape → List ℕ → List ℕ → Type 0
+IsApart tree prefix name = All (λ o. name ≢ file_name prefix o) (all_outputs tree)
 
 -- Captures and commands name external ports, no capture has the name of an output, there are at most 65,536 commands, whose seconds
 -- never fall, and all letters of fates together are at most 60,000.

@@ -9,34 +9,21 @@ use exb_model::memory::NoMemory;
 use exb_model::port::PortId;
 use exb_model::text::Text;
 use exb_model::tree::Tree;
-use exb_text::{capture_file_name, journal_file_name};
+use exb_text::{Output, add_name, add_other_names};
 use std::alloc::Global;
 
-/// The names of all files that runs of a topology write: one for each external port in port order, the
-/// journal, the trace and the counters.
+/// The names of all files that runs of a topology write: the captures of the external ports in port order, and after
+/// them the others.
 pub(crate) fn output_names(alloc: Global, prefix: &str, tree: &Tree) -> Result<List<Text>, NoMemory>
     ensures { IfOk result (λ names. names ≡ output_names prefix.now tree.now) }
 {
     let mut names = capture_names(alloc, prefix, tree)?;
-    let journal = journal_file_name(alloc, prefix)?;
-    names.push(Text::from_str(alloc, journal.as_str())?)?;
-    let trace = format!(in alloc; "{prefix}trace.txt")?;
-    names.push(Text::from_str(alloc, trace.as_str())?)?;
-    let counters = format!(in alloc; "{prefix}counters.txt")?;
-    names.push(Text::from_str(alloc, counters.as_str())?)?;
+    add_other_names(alloc, prefix, &mut names)?;
     Ok(names)
 }
 
-/// The name of the capture that runs write for a port.
-fn capture_name(alloc: Global, prefix: &str, port: PortId) -> Result<Text, NoMemory>
-    ensures { IfOk result (λ name. name ≡ capture_name prefix.now port) }
-{
-    let name = capture_file_name(alloc, prefix, port)?;
-    Text::from_str(alloc, name.as_str())
-}
-
 /// Puts the name of the capture of a port at the end, where the port is external.
-fn add_name(
+fn add_capture(
     alloc: Global,
     prefix: &str,
     tree: &Tree,
@@ -48,8 +35,7 @@ fn add_name(
     if !tree.is_external(port) {
         return Ok(());
     }
-    let name = capture_name(alloc, prefix, port)?;
-    names.push(name)
+    add_name(alloc, prefix, &Output::Capture(port), names)
 }
 
 /// The names of the captures that runs write.
@@ -59,7 +45,7 @@ fn capture_names(alloc: Global, prefix: &str, tree: &Tree) -> Result<List<Text>,
     let mut names = List::new(alloc);
     for number in 0..4160u16 {
         let port = PortId::new(number).unwrap();
-        add_name(alloc, prefix, tree, port, &mut names)?;
+        add_capture(alloc, prefix, tree, port, &mut names)?;
     }
     Ok(names)
 }

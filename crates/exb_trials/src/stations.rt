@@ -3,7 +3,7 @@ ghost use Rattle.std.specs.Prelude.{◌≤◌, ◌<◌};
 
 use crate::draws::{draw, draw_byte, draw_vlan};
 use exb_model::port::PortId;
-use exb_pcap::{header_text, record_text};
+use exb_capture::{header_text, record_text};
 use rand_pcg::Lcg64Xsh32;
 use std::alloc::Global;
 use std::process::Abort;

@@ -7,8 +7,9 @@ use Rattle.exb_model.specs.declared.event.Event.TheVariants as event
 use Rattle.exb_model.specs.History.{Basis, History, ◌then◌, bridge_after}
 use Rattle.exb_model.specs.Learning.{passes}
 use Rattle.exb_machine.specs.Runs.Passed.{passed_over}
-use Rattle.exb_nets.specs.Counters.{relayed_at, relayed_by, dropped_at, ignored_at, ignored_by}
-use Rattle.exb_wiring.specs.Counting.{drops_in, CountsGoOn}
+use Rattle.exb_counters.specs.Counters.{relayed_at, relayed_by, dropped_at, ignored_at, ignored_by}
+use Rattle.exb_counters.specs.Counting.{drops_in}
+use Rattle.exb_wiring.specs.Counting.{CountsGoOn}
 
 relayed_on : (es : List Event) (h : History) (q : ℕ) → relayed_at (h then es) q ≡ relayed_at h q + sum_by (λ (e : Event). relayed_by e q) es
 unfolding relayed_at
@@ -26,7 +27,7 @@ none_not true (Some v) = refl
 none_not false o = refl
 
 dropped_on : (i : Basis) (es : List Event) (h : History) (q : ℕ) → dropped_at i (h then es) q ≡ dropped_at i h q + drops_in es (passed_over i h es) q
-unfolding dropped_at
+unfolding dropped_at drops_in
 dropped_on i [] h q = omega arith
 dropped_on i (event.Relay p n t f ∷ es) h q =
     (let rest = dropped_on i es (event.Relay p n t f ∷ h) q in let same = none_not (p == q) (passes (bridge_after i h) p f) in omega (arith, rest, same))

@@ -5,63 +5,81 @@ use Rattle.std.specs.Str.{bytes_eq}
 use Rattle.std.proofs.lemmas.Bool.{false≢true, false_from_ne_true}
 use Rattle.std.proofs.lemmas.Slice.Eq.{bytes_eq-Decides}
 use Rattle.exb_words.specs.declared.said.Said.{Said}
-use Rattle.exb_words.specs.Words.{Ask, Run, Check, Make, check_of, make_of, number_in, Item, Name, Trace, Seed, items_of, names_in, traces_in, seeds_in, the_only, at_most_one, run_of, name_alone, words_of}
+use Rattle.exb_words.specs.Words.{Ask, Run, Check, Make, check_of, make_of, number_in, Item, Name, Trace, Counters, Seed, items_of, names_in, traces_in, counters_in, seeds_in, the_only, at_most_one, run_of, name_alone, words_of}
 use Rattle.exb_words.specs.Asking.{Gathered, with_all, gathered, nothing_said, run_from, name_from, gathered_of}
 
 -- each at most once
-abbrev pub at_once : Option (Option (List ℕ)) → Option (Option (Unit {0})) → Option (Option ℕ) → Option Gathered
-at_once names traces seeds =
-    option_and_then (λ n. option_and_then (λ t. option_and_then (λ s. Some (record { name = n; trace = is_some t; seed = s })) seeds) traces) names
+abbrev pub at_once : Option (Option (List ℕ)) → Option (Option (Unit {0})) → Option (Option (Unit {0})) → Option (Option ℕ) → Option Gathered
+at_once names traces counts seeds =
+    option_and_then (λ n. option_and_then (λ t. option_and_then (λ c. option_and_then (λ s. Some (record { name = n; options = record { trace = is_some t; counters = is_some c; seed = s } })) seeds) counts) traces) names
 
-abbrev pub all_once : List (List ℕ) → List (Unit {0}) → List ℕ → Option Gathered
-all_once names traces seeds = at_once (at_most_one names) (at_most_one traces) (at_most_one seeds)
+abbrev pub all_once : List (List ℕ) → List (Unit {0}) → List (Unit {0}) → List ℕ → Option Gathered
+all_once names traces counts seeds = at_once (at_most_one names) (at_most_one traces) (at_most_one counts) (at_most_one seeds)
 
-abbrev traces_of : Bool → List (Unit {0})
-traces_of true = tt ∷ []
-traces_of false = []
+abbrev flags_of : Bool → List (Unit {0})
+flags_of true = tt ∷ []
+flags_of false = []
 
-no_trace : (names : Option (Option (List ℕ))) (seeds : Option (Option ℕ)) → None ≡ at_once names None seeds
-no_trace None seeds = refl
-no_trace (Some n) seeds = refl
+no_trace : (names : Option (Option (List ℕ))) (counts : Option (Option (Unit {0}))) (seeds : Option (Option ℕ)) → None ≡ at_once names None counts seeds
+no_trace None counts seeds = refl
+no_trace (Some n) counts seeds = refl
 
-no_seed : (names : Option (Option (List ℕ))) (traces : Option (Option (Unit {0}))) → None ≡ at_once names traces None
-no_seed None traces = refl
-no_seed (Some n) None = refl
-no_seed (Some n) (Some t) = refl
+no_counters : (names : Option (Option (List ℕ))) (traces : Option (Option (Unit {0}))) (seeds : Option (Option ℕ)) → None ≡ at_once names traces None seeds
+no_counters None traces seeds = refl
+no_counters (Some n) None seeds = refl
+no_counters (Some n) (Some t) seeds = refl
 
-with_all-is : (is : List Item) (n : Option (List ℕ)) (t : Bool) (s : Option ℕ) →
-    with_all is (record { name = n; trace = t; seed = s }) ≡ all_once (option_to_list n ++ names_in is) (traces_of t ++ traces_in is) (option_to_list s ++ seeds_in is)
-unfolding with_all names_in traces_in seeds_in
-with_all-is [] None true None = refl
-with_all-is [] None true (Some s) = refl
-with_all-is [] None false None = refl
-with_all-is [] None false (Some s) = refl
-with_all-is [] (Some n) true None = refl
-with_all-is [] (Some n) true (Some s) = refl
-with_all-is [] (Some n) false None = refl
-with_all-is [] (Some n) false (Some s) = refl
-with_all-is (Name w ∷ is) None t s = with_all-is is (Some w) t s
-with_all-is (Name w ∷ is) (Some n) t s = refl
-with_all-is (Trace ∷ is) n false s = with_all-is is n true s
-with_all-is (Trace ∷ is) n true s = no_trace (at_most_one (option_to_list n ++ names_in is)) (at_most_one (option_to_list s ++ seeds_in is))
-with_all-is (Seed k ∷ is) n t None = with_all-is is n t (Some k)
-with_all-is (Seed k ∷ is) n t (Some s) = no_seed (at_most_one (option_to_list n ++ names_in is)) (at_most_one (traces_of t ++ traces_in is))
+no_seed : (names : Option (Option (List ℕ))) (traces counts : Option (Option (Unit {0}))) → None ≡ at_once names traces counts None
+no_seed None traces counts = refl
+no_seed (Some n) None counts = refl
+no_seed (Some n) (Some t) None = refl
+no_seed (Some n) (Some t) (Some c) = refl
+
+with_all-is : (is : List Item) (n : Option (List ℕ)) (t c : Bool) (s : Option ℕ) →
+    with_all is (record { name = n; options = record { trace = t; counters = c; seed = s } }) ≡ all_once (option_to_list n ++ names_in is) (flags_of t ++ traces_in is) (flags_of c ++ counters_in is) (option_to_list s ++ seeds_in is)
+unfolding with_all names_in traces_in counters_in seeds_in
+with_all-is [] None true true None = refl
+with_all-is [] None true true (Some s) = refl
+with_all-is [] None true false None = refl
+with_all-is [] None true false (Some s) = refl
+with_all-is [] None false true None = refl
+with_all-is [] None false true (Some s) = refl
+with_all-is [] None false false None = refl
+with_all-is [] None false false (Some s) = refl
+with_all-is [] (Some n) true true None = refl
+with_all-is [] (Some n) true true (Some s) = refl
+with_all-is [] (Some n) true false None = refl
+with_all-is [] (Some n) true false (Some s) = refl
+with_all-is [] (Some n) false true None = refl
+with_all-is [] (Some n) false true (Some s) = refl
+with_all-is [] (Some n) false false None = refl
+with_all-is [] (Some n) false false (Some s) = refl
+with_all-is (Name w ∷ is) None t c s = with_all-is is (Some w) t c s
+with_all-is (Name w ∷ is) (Some n) t c s = refl
+with_all-is (Trace ∷ is) n false c s = with_all-is is n true c s
+with_all-is (Trace ∷ is) n true c s = no_trace (at_most_one (option_to_list n ++ names_in is)) (at_most_one (flags_of c ++ counters_in is)) (at_most_one (option_to_list s ++ seeds_in is))
+with_all-is (Counters ∷ is) n t false s = with_all-is is n t true s
+with_all-is (Counters ∷ is) n t true s = no_counters (at_most_one (option_to_list n ++ names_in is)) (at_most_one (flags_of t ++ traces_in is)) (at_most_one (option_to_list s ++ seeds_in is))
+with_all-is (Seed k ∷ is) n t c None = with_all-is is n t c (Some k)
+with_all-is (Seed k ∷ is) n t c (Some s) = no_seed (at_most_one (option_to_list n ++ names_in is)) (at_most_one (flags_of t ++ traces_in is)) (at_most_one (flags_of c ++ counters_in is))
 
 -- ---- `run`
-run-cases : (names : List (List ℕ)) (traces : Option (Option (Unit {0}))) (seeds : Option (Option ℕ)) →
-    option_and_then (λ w. option_and_then (λ t. option_and_then (λ s. Some (Run w (is_some t) s)) seeds) traces) (the_only names)
-    ≡ option_and_then run_from (at_once (at_most_one names) traces seeds)
-run-cases [] None seeds = refl
-run-cases [] (Some t) None = refl
-run-cases [] (Some t) (Some s) = refl
-run-cases (x ∷ []) None seeds = refl
-run-cases (x ∷ []) (Some t) None = refl
-run-cases (x ∷ []) (Some t) (Some s) = refl
-run-cases (x ∷ y ∷ rest) traces seeds = refl
+run-cases : (names : List (List ℕ)) (traces counts : Option (Option (Unit {0}))) (seeds : Option (Option ℕ)) →
+    option_and_then (λ w. option_and_then (λ t. option_and_then (λ c. option_and_then (λ s. Some (Run w (record { trace = is_some t; counters = is_some c; seed = s }))) seeds) counts) traces) (the_only names)
+    ≡ option_and_then run_from (at_once (at_most_one names) traces counts seeds)
+run-cases [] None counts seeds = refl
+run-cases [] (Some t) None seeds = refl
+run-cases [] (Some t) (Some c) None = refl
+run-cases [] (Some t) (Some c) (Some s) = refl
+run-cases (x ∷ []) None counts seeds = refl
+run-cases (x ∷ []) (Some t) None seeds = refl
+run-cases (x ∷ []) (Some t) (Some c) None = refl
+run-cases (x ∷ []) (Some t) (Some c) (Some s) = refl
+run-cases (x ∷ y ∷ rest) traces counts seeds = refl
 
 run-items : (is : List Item) → run_of is ≡ option_and_then run_from (with_all is nothing_said)
 unfolding run_of
-run-items is = run-cases (names_in is) (at_most_one (traces_in is)) (at_most_one (seeds_in is)) ∙ ap (option_and_then run_from) (sym (with_all-is is None false None))
+run-items is = run-cases (names_in is) (at_most_one (traces_in is)) (at_most_one (counters_in is)) (at_most_one (seeds_in is)) ∙ ap (option_and_then run_from) (sym (with_all-is is None false false None))
 
 pub run-is : (ws : List (List ℕ)) → option_and_then run_from (gathered ws nothing_said) ≡ option_and_then run_of (items_of ws)
 unfolding gathered
@@ -72,33 +90,49 @@ run-is ws = by_items (items_of ws)
     by_items (Some is) = sym (run-items is)
 
 -- ---- a name alone
-traced : (names : Option (Option (List ℕ))) (ts : List (Unit {0})) (seeds : Option (Option ℕ)) → None ≡ option_and_then name_from (at_once names (at_most_one (tt ∷ ts)) seeds)
-traced None ts seeds = refl
-traced (Some n) [] None = refl
-traced (Some n) [] (Some s) = refl
-traced (Some n) (t ∷ ts) seeds = refl
+traced : (names : Option (Option (List ℕ))) (ts : List (Unit {0})) (counts : Option (Option (Unit {0}))) (seeds : Option (Option ℕ)) → None ≡ option_and_then name_from (at_once names (at_most_one (tt ∷ ts)) counts seeds)
+traced None ts counts seeds = refl
+traced (Some n) [] None seeds = refl
+traced (Some n) [] (Some c) None = refl
+traced (Some n) [] (Some c) (Some s) = refl
+traced (Some n) (t ∷ ts) counts seeds = refl
 
-seeded : (names : Option (Option (List ℕ))) (traces : Option (Option (Unit {0}))) (k : ℕ) (ss : List ℕ) → None ≡ option_and_then name_from (at_once names traces (at_most_one (k ∷ ss)))
-seeded None traces k ss = refl
-seeded (Some n) None k ss = refl
-seeded (Some n) (Some None) k [] = refl
-seeded (Some n) (Some (Some t)) k [] = refl
-seeded (Some n) (Some t) k (s ∷ ss) = refl
+counted : (names : Option (Option (List ℕ))) (traces : Option (Option (Unit {0}))) (cs : List (Unit {0})) (seeds : Option (Option ℕ)) → None ≡ option_and_then name_from (at_once names traces (at_most_one (tt ∷ cs)) seeds)
+counted None traces cs seeds = refl
+counted (Some n) None cs seeds = refl
+counted (Some n) (Some None) [] None = refl
+counted (Some n) (Some (Some t)) [] None = refl
+counted (Some n) (Some None) [] (Some s) = refl
+counted (Some n) (Some (Some t)) [] (Some s) = refl
+counted (Some n) (Some t) (c ∷ cs) seeds = refl
 
-name-cases : (is : List Item) → name_alone is ≡ option_and_then name_from (all_once (names_in is) (traces_in is) (seeds_in is))
-unfolding name_alone names_in traces_in seeds_in
+seeded : (names : Option (Option (List ℕ))) (traces counts : Option (Option (Unit {0}))) (k : ℕ) (ss : List ℕ) → None ≡ option_and_then name_from (at_once names traces counts (at_most_one (k ∷ ss)))
+seeded None traces counts k ss = refl
+seeded (Some n) None counts k ss = refl
+seeded (Some n) (Some t) None k ss = refl
+seeded (Some n) (Some None) (Some None) k [] = refl
+seeded (Some n) (Some None) (Some (Some c)) k [] = refl
+seeded (Some n) (Some (Some t)) (Some None) k [] = refl
+seeded (Some n) (Some (Some t)) (Some (Some c)) k [] = refl
+seeded (Some n) (Some t) (Some c) k (s ∷ ss) = refl
+
+name-cases : (is : List Item) → name_alone is ≡ option_and_then name_from (all_once (names_in is) (traces_in is) (counters_in is) (seeds_in is))
+unfolding name_alone names_in traces_in counters_in seeds_in
 name-cases [] = refl
 name-cases (Name w ∷ []) = refl
 name-cases (Trace ∷ []) = refl
+name-cases (Counters ∷ []) = refl
 name-cases (Seed k ∷ []) = refl
 name-cases (Name w ∷ Name v ∷ is) = refl
-name-cases (Name w ∷ Trace ∷ is) = traced (at_most_one (w ∷ names_in is)) (traces_in is) (at_most_one (seeds_in is))
-name-cases (Name w ∷ Seed k ∷ is) = seeded (at_most_one (w ∷ names_in is)) (at_most_one (traces_in is)) k (seeds_in is)
-name-cases (Trace ∷ j ∷ is) = traced (at_most_one (names_in (j ∷ is))) (traces_in (j ∷ is)) (at_most_one (seeds_in (j ∷ is)))
-name-cases (Seed k ∷ j ∷ is) = seeded (at_most_one (names_in (j ∷ is))) (at_most_one (traces_in (j ∷ is))) k (seeds_in (j ∷ is))
+name-cases (Name w ∷ Trace ∷ is) = traced (at_most_one (w ∷ names_in is)) (traces_in is) (at_most_one (counters_in is)) (at_most_one (seeds_in is))
+name-cases (Name w ∷ Counters ∷ is) = counted (at_most_one (w ∷ names_in is)) (at_most_one (traces_in is)) (counters_in is) (at_most_one (seeds_in is))
+name-cases (Name w ∷ Seed k ∷ is) = seeded (at_most_one (w ∷ names_in is)) (at_most_one (traces_in is)) (at_most_one (counters_in is)) k (seeds_in is)
+name-cases (Trace ∷ j ∷ is) = traced (at_most_one (names_in (j ∷ is))) (traces_in (j ∷ is)) (at_most_one (counters_in (j ∷ is))) (at_most_one (seeds_in (j ∷ is)))
+name-cases (Counters ∷ j ∷ is) = counted (at_most_one (names_in (j ∷ is))) (at_most_one (traces_in (j ∷ is))) (counters_in (j ∷ is)) (at_most_one (seeds_in (j ∷ is)))
+name-cases (Seed k ∷ j ∷ is) = seeded (at_most_one (names_in (j ∷ is))) (at_most_one (traces_in (j ∷ is))) (at_most_one (counters_in (j ∷ is))) k (seeds_in (j ∷ is))
 
 name-items : (is : List Item) → name_alone is ≡ option_and_then name_from (with_all is nothing_said)
-name-items is = name-cases is ∙ ap (option_and_then name_from) (sym (with_all-is is None false None))
+name-items is = name-cases is ∙ ap (option_and_then name_from) (sym (with_all-is is None false false None))
 
 pub name-is : (ws : List (List ℕ)) → option_and_then name_from (gathered ws nothing_said) ≡ option_and_then name_alone (items_of ws)
 unfolding gathered
@@ -120,10 +154,10 @@ make-is None = refl
 make-is (Some is) = refl
 
 -- what was said has a name
-pub run-said : (s : Said) (n : Option (Bor (List ℕ))) → s.name ≡ n → option_map (λ w. Run w.now s.trace s.seed) n ≡ run_from (gathered_of s)
-run-said s n is = ap (λ (m : Option (Bor (List ℕ))). option_map (λ w. Run w.now s.trace s.seed) m) (sym is) ∙ by_name s.name
+pub run-said : (s : Said) (n : Option (Bor (List ℕ))) → s.name ≡ n → option_map (λ w. Run w.now s.options) n ≡ run_from (gathered_of s)
+run-said s n is = ap (λ (m : Option (Bor (List ℕ))). option_map (λ w. Run w.now s.options) m) (sym is) ∙ by_name s.name
   where
-    by_name : (m : Option (Bor (List ℕ))) → option_map (λ w. Run w.now s.trace s.seed) m ≡ option_map (λ w. Run w s.trace s.seed) (option_map (λ w. w.now) m)
+    by_name : (m : Option (Bor (List ℕ))) → option_map (λ w. Run w.now s.options) m ≡ option_map (λ w. Run w s.options) (option_map (λ w. w.now) m)
     by_name None = refl
     by_name (Some w) = refl
 

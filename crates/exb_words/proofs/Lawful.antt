@@ -9,8 +9,9 @@ use Rattle.std.proofs.lemmas.List.Sums.{sum_by-cons}
 use Rattle.std.proofs.lemmas.Slice.Eq.{bytes_eq-Decides}
 use Rattle.std.proofs.lemmas.Str.Parse.{IsNumeralModel, numerals_by_value, tells_all_ascii_digits}
 use Rattle.std.proofs.lemmas.Fmt.{digits_decimal, digits_value-decimal, decimal_nonempty, length-decimal-le}
-use Rattle.exb_words.specs.Words.{Ask, Run, Check, Make, Item, Name, Trace, Seed, if_short, number_in, item_of, items_of, with_item, names_in, traces_in, seeds_in, the_only, at_most_one, run_of, name_alone, check_of, make_of, words_of}
-use Rattle.exb_words.specs.Laws.{SaySame, OrderIsFree, DashesEndOptions, WrittenIsRead}
+use Rattle.std.specs.Prelude.{IfSome}
+use Rattle.exb_words.specs.Words.{Ask, Run, Check, Make, Item, Name, Trace, Counters, Seed, if_short, number_in, item_of, items_of, with_item, names_in, traces_in, counters_in, seeds_in, the_only, at_most_one, run_of, name_alone, check_of, make_of, words_of}
+use Rattle.exb_words.specs.Laws.{SaySame, OrderIsFree, DashesEndOptions, WrittenIsRead, written}
 
 -- ---- numbers as they are written
 own : IsNumeralModel (λ ds. all_ascii_digits ds ≡ true) (digits_value 10)
@@ -45,13 +46,21 @@ digit-first (c ∷ cs) all some = plain_items c cs (no_dash c (and_parts _ (all_
     no_dash : (c : ℕ) → is_ascii_digit c ≡ true → (c == 45) ≡ false
     no_dash c h = grind (arith, nat_tests)
 
+run_read : (t : List ℕ) (trace counts : Bool) (seed : Option ℕ) → IfSome seed (λ n. n < 2 ^ 64) →
+    words_of (written (Run t (record { trace = trace; counters = counts; seed = seed }))) ≡ Some (Run t (record { trace = trace; counters = counts; seed = seed }))
+unfolding words_of items_of item_of run_of names_in traces_in counters_in seeds_in
+run_read t false false None short = refl
+run_read t false true None short = refl
+run_read t true false None short = refl
+run_read t true true None short = refl
+run_read t false false (Some n) short = ap (λ o. option_and_then run_of (with_item (option_map Seed o) (Some (Name t ∷ [])))) (number-decimal n short)
+run_read t false true (Some n) short = ap (λ o. option_and_then run_of (with_item (Some Counters) (with_item (option_map Seed o) (Some (Name t ∷ []))))) (number-decimal n short)
+run_read t true false (Some n) short = ap (λ o. option_and_then run_of (with_item (Some Trace) (with_item (option_map Seed o) (Some (Name t ∷ []))))) (number-decimal n short)
+run_read t true true (Some n) short = ap (λ o. option_and_then run_of (with_item (Some Trace) (with_item (Some Counters) (with_item (option_map Seed o) (Some (Name t ∷ [])))))) (number-decimal n short)
+
 pub written_read : WrittenIsRead
-unfolding words_of items_of item_of run_of check_of make_of name_alone names_in traces_in seeds_in
-written_read (Run t false None) short = refl
-written_read (Run t true None) short = refl
-written_read (Run t false (Some n)) short = ap (λ o. option_and_then run_of (with_item (option_map Seed o) (Some (Name t ∷ [])))) (number-decimal n short)
-written_read (Run t true (Some n)) short =
-    ap (λ o. option_and_then run_of (with_item (Some Trace) (with_item (option_map Seed o) (Some (Name t ∷ []))))) (number-decimal n short)
+unfolding words_of items_of item_of check_of make_of name_alone
+written_read (Run t options) short = run_read t options.trace options.counters options.seed short
 written_read (Check t) short = refl
 written_read (Make n) short =
     ap (option_and_then make_of) (digit-first (decimal n) (digits_decimal own n short) (decimal_nonempty n short)) ∙ ap (option_map Make) (number-decimal n short)
@@ -105,16 +114,25 @@ the_only-is (x ∷ y ∷ rest) = refl
 weigh_name : (List ℕ → ℕ) → Item → ℕ
 weigh_name f (Name w) = f w
 weigh_name f Trace = 0
+weigh_name f Counters = 0
 weigh_name f (Seed n) = 0
 
 weigh_trace : (Unit {0} → ℕ) → Item → ℕ
 weigh_trace f (Name w) = 0
 weigh_trace f Trace = f tt
+weigh_trace f Counters = 0
 weigh_trace f (Seed n) = 0
+
+weigh_counters : (Unit {0} → ℕ) → Item → ℕ
+weigh_counters f (Name w) = 0
+weigh_counters f Trace = 0
+weigh_counters f Counters = f tt
+weigh_counters f (Seed n) = 0
 
 weigh_seed : (ℕ → ℕ) → Item → ℕ
 weigh_seed f (Name w) = 0
 weigh_seed f Trace = 0
+weigh_seed f Counters = 0
 weigh_seed f (Seed n) = f n
 
 sum-names : (f : List ℕ → ℕ) (is : List Item) → sum_by (weigh_name f) is ≡ sum_by f (names_in is)
@@ -122,6 +140,7 @@ unfolding names_in weigh_name
 sum-names f [] = refl
 sum-names f (Name w ∷ is) = sum_by-cons (weigh_name f) (Name w) is ∙ (ap (λ (n : ℕ). f w + n) (sum-names f is) ∙ sym (sum_by-cons f w (names_in is)))
 sum-names f (Trace ∷ is) = sum_by-cons (weigh_name f) Trace is ∙ (zero-add (sum_by (weigh_name f) is) ∙ sum-names f is)
+sum-names f (Counters ∷ is) = sum_by-cons (weigh_name f) Counters is ∙ (zero-add (sum_by (weigh_name f) is) ∙ sum-names f is)
 sum-names f (Seed n ∷ is) = sum_by-cons (weigh_name f) (Seed n) is ∙ (zero-add (sum_by (weigh_name f) is) ∙ sum-names f is)
 
 sum-traces : (f : Unit {0} → ℕ) (is : List Item) → sum_by (weigh_trace f) is ≡ sum_by f (traces_in is)
@@ -129,34 +148,46 @@ unfolding traces_in weigh_trace
 sum-traces f [] = refl
 sum-traces f (Name w ∷ is) = sum_by-cons (weigh_trace f) (Name w) is ∙ (zero-add (sum_by (weigh_trace f) is) ∙ sum-traces f is)
 sum-traces f (Trace ∷ is) = sum_by-cons (weigh_trace f) Trace is ∙ (ap (λ (n : ℕ). f tt + n) (sum-traces f is) ∙ sym (sum_by-cons f tt (traces_in is)))
+sum-traces f (Counters ∷ is) = sum_by-cons (weigh_trace f) Counters is ∙ (zero-add (sum_by (weigh_trace f) is) ∙ sum-traces f is)
 sum-traces f (Seed n ∷ is) = sum_by-cons (weigh_trace f) (Seed n) is ∙ (zero-add (sum_by (weigh_trace f) is) ∙ sum-traces f is)
+
+sum-counters : (f : Unit {0} → ℕ) (is : List Item) → sum_by (weigh_counters f) is ≡ sum_by f (counters_in is)
+unfolding counters_in weigh_counters
+sum-counters f [] = refl
+sum-counters f (Name w ∷ is) = sum_by-cons (weigh_counters f) (Name w) is ∙ (zero-add (sum_by (weigh_counters f) is) ∙ sum-counters f is)
+sum-counters f (Trace ∷ is) = sum_by-cons (weigh_counters f) Trace is ∙ (zero-add (sum_by (weigh_counters f) is) ∙ sum-counters f is)
+sum-counters f (Counters ∷ is) = sum_by-cons (weigh_counters f) Counters is ∙ (ap (λ (n : ℕ). f tt + n) (sum-counters f is) ∙ sym (sum_by-cons f tt (counters_in is)))
+sum-counters f (Seed n ∷ is) = sum_by-cons (weigh_counters f) (Seed n) is ∙ (zero-add (sum_by (weigh_counters f) is) ∙ sum-counters f is)
 
 sum-seeds : (f : ℕ → ℕ) (is : List Item) → sum_by (weigh_seed f) is ≡ sum_by f (seeds_in is)
 unfolding seeds_in weigh_seed
 sum-seeds f [] = refl
 sum-seeds f (Name w ∷ is) = sum_by-cons (weigh_seed f) (Name w) is ∙ (zero-add (sum_by (weigh_seed f) is) ∙ sum-seeds f is)
 sum-seeds f (Trace ∷ is) = sum_by-cons (weigh_seed f) Trace is ∙ (zero-add (sum_by (weigh_seed f) is) ∙ sum-seeds f is)
+sum-seeds f (Counters ∷ is) = sum_by-cons (weigh_seed f) Counters is ∙ (zero-add (sum_by (weigh_seed f) is) ∙ sum-seeds f is)
 sum-seeds f (Seed n ∷ is) = sum_by-cons (weigh_seed f) (Seed n) is ∙ (ap (λ (m : ℕ). f n + m) (sum-seeds f is) ∙ sym (sum_by-cons f n (seeds_in is)))
 
-abbrev run_by : Option (Option (List ℕ)) → Option (Option (Unit {0})) → Option (Option ℕ) → Option Ask
-run_by names traces seeds =
-    option_and_then (λ w. option_and_then (λ t. option_and_then (λ s. Some (Run w (is_some t) s)) seeds) traces) (option_and_then (λ o. o) names)
+abbrev run_by : Option (Option (List ℕ)) → Option (Option (Unit {0})) → Option (Option (Unit {0})) → Option (Option ℕ) → Option Ask
+run_by names traces counts seeds =
+    option_and_then (λ w. option_and_then (λ t. option_and_then (λ c. option_and_then (λ s. Some (Run w (record { trace = is_some t; counters = is_some c; seed = s }))) seeds) counts) traces) (option_and_then (λ o. o) names)
 
-run-by : (is : List Item) → run_of is ≡ run_by (at_most_one (names_in is)) (at_most_one (traces_in is)) (at_most_one (seeds_in is))
+run-by : (is : List Item) → run_of is ≡ run_by (at_most_one (names_in is)) (at_most_one (traces_in is)) (at_most_one (counters_in is)) (at_most_one (seeds_in is))
 unfolding run_of
 run-by is =
-    ap (λ n. option_and_then (λ w. option_and_then (λ t. option_and_then (λ s. Some (Run w (is_some t) s)) (at_most_one (seeds_in is))) (at_most_one (traces_in is))) n) (the_only-is (names_in is))
+    ap (λ n. option_and_then (λ w. option_and_then (λ t. option_and_then (λ c. option_and_then (λ s. Some (Run w (record { trace = is_some t; counters = is_some c; seed = s }))) (at_most_one (seeds_in is))) (at_most_one (counters_in is))) (at_most_one (traces_in is))) n) (the_only-is (names_in is))
 
 run-same : (is js : List Item) → SaySame is js → run_of is ≡ run_of js
 run-same is js same =
     let names = same-at_most_one bytes_eq (λ x y h. (bytes_eq-Decides x y).0 h) (λ x. (bytes_eq-Decides x x).1 refl) (names_in is) (names_in js)
     (λ f. sym (sum-names f is) ∙ (same (weigh_name f) ∙ sum-names f js)) in
     let traces = same-at_most_one (λ x y. true) (λ x y h. refl) (λ x. refl) (traces_in is) (traces_in js) (λ f. sym (sum-traces f is) ∙ (same (weigh_trace f) ∙ sum-traces f js)) in
+    let counts = same-at_most_one (λ x y. true) (λ x y h. refl) (λ x. refl) (counters_in is) (counters_in js) (λ f. sym (sum-counters f is) ∙ (same (weigh_counters f) ∙ sum-counters f js)) in
     let seeds = same-at_most_one ◌==◌ (λ x y h. eqb-true x y h) (λ x. eq-eqb x x refl) (seeds_in is) (seeds_in js) (λ f. sym (sum-seeds f is) ∙ (same (weigh_seed f) ∙ sum-seeds f js)) in
     run-by is
-    ∙ (ap (λ n. run_by n (at_most_one (traces_in is)) (at_most_one (seeds_in is))) names
-    ∙ (ap (λ t. run_by (at_most_one (names_in js)) t (at_most_one (seeds_in is))) traces
-    ∙ (ap (λ s. run_by (at_most_one (names_in js)) (at_most_one (traces_in js)) s) seeds ∙ sym (run-by js))))
+    ∙ (ap (λ n. run_by n (at_most_one (traces_in is)) (at_most_one (counters_in is)) (at_most_one (seeds_in is))) names
+    ∙ (ap (λ t. run_by (at_most_one (names_in js)) t (at_most_one (counters_in is)) (at_most_one (seeds_in is))) traces
+    ∙ (ap (λ c. run_by (at_most_one (names_in js)) (at_most_one (traces_in js)) c (at_most_one (seeds_in is))) counts
+    ∙ (ap (λ s. run_by (at_most_one (names_in js)) (at_most_one (traces_in js)) (at_most_one (counters_in js)) s) seeds ∙ sym (run-by js)))))
 
 pub order_free : OrderIsFree
 unfolding words_of

@@ -1,30 +1,31 @@
 -- How the words are read, one after another.
 use Rattle.std.specs.Prelude.{ℕ, Bool, true, false, ◌||◌, if◌then◌else◌, List, [], ◌∷◌, Option, Some, None, is_some, option_map, option_and_then}
-use Rattle.exb_words.specs.Words.{Ask, Run, Check, Make, Item, Name, Trace, Seed, items_of}
+use Rattle.exb_words.specs.Words.{Ask, Run, Check, Make, Item, Name, Trace, Counters, Seed, items_of}
+use Rattle.exb_words.specs.declared.asked.Options.{Options}
 use Rattle.exb_words.specs.declared.asked.Asked.{Asked}
 use Rattle.exb_words.specs.declared.asked.Asked.TheVariants as asked
 use Rattle.exb_words.specs.declared.said.Said.{Said}
 
 -- what is asked for, with the bytes of the name
 abbrev pub ask_of : Asked → Ask
-ask_of (asked.Run topology trace seed) = Run topology.now trace seed
+ask_of (asked.Run topology options) = Run topology.now options
 ask_of (asked.Check topology) = Check topology.now
 ask_of (asked.Make number) = Make number
 
 -- ---- what the words read so far say: one name, and the options
 pub record Gathered : Type 0 where
   pub name : Option (List ℕ)
-  pub trace : Bool
-  pub seed : Option ℕ
+  pub options : Options
 
 abbrev pub nothing_said : Gathered
-nothing_said = record { name = None; trace = false; seed = None }
+nothing_said = record { name = None; options = record { trace = false; counters = false; seed = None } }
 
 -- each is said once at most
 abbrev pub with_one : Item → Gathered → Option Gathered
 with_one (Name w) g = if is_some g.name then None else Some (record g { name = Some w })
-with_one Trace g = if g.trace then None else Some (record g { trace = true })
-with_one (Seed n) g = if is_some g.seed then None else Some (record g { seed = Some n })
+with_one Trace g = if g.options.trace then None else Some (record { name = g.name; options = record g.options { trace = true } })
+with_one Counters g = if g.options.counters then None else Some (record { name = g.name; options = record g.options { counters = true } })
+with_one (Seed n) g = if is_some g.options.seed then None else Some (record { name = g.name; options = record g.options { seed = Some n } })
 
 unfoldable pub with_all : List Item → Gathered → Option Gathered
 with_all [] g = Some g
@@ -35,11 +36,11 @@ unfoldable pub gathered : List (List ℕ) → Gathered → Option Gathered
 gathered ws g = option_and_then (λ is. with_all is g) (items_of ws)
 
 abbrev pub gathered_of : Said → Gathered
-gathered_of s = record { name = option_map (λ w. w.now) s.name; trace = s.trace; seed = s.seed }
+gathered_of s = record { name = option_map (λ w. w.now) s.name; options = s.options }
 
 -- ---- what is asked for by what was gathered
 abbrev pub run_from : Gathered → Option Ask
-run_from g = option_map (λ w. Run w g.trace g.seed) g.name
+run_from g = option_map (λ w. Run w g.options) g.name
 
 abbrev pub name_from : Gathered → Option (List ℕ)
-name_from g = if g.trace || is_some g.seed then None else g.name
+name_from g = if (g.options.trace || g.options.counters) || is_some g.options.seed then None else g.name

@@ -19,18 +19,21 @@ DashesEndOptions = (word : List ℕ) → words_of (codes "check" ∷ codes "--" 
 abbrev pub written_trace : Bool → List (List ℕ)
 written_trace trace = if trace then codes "--trace" ∷ [] else []
 
+abbrev pub written_counters : Bool → List (List ℕ)
+written_counters counters = if counters then codes "--counters" ∷ [] else []
+
 abbrev pub written_seed : Option ℕ → List (List ℕ)
 written_seed None = []
 written_seed (Some n) = codes "--seed" ∷ decimal n ∷ []
 
 abbrev pub written : Ask → List (List ℕ)
-written (Run topology trace seed) = codes "run" ∷ written_trace trace ++ written_seed seed ++ codes "--" ∷ topology ∷ []
+written (Run topology options) = codes "run" ∷ written_trace options.trace ++ written_counters options.counters ++ written_seed options.seed ++ codes "--" ∷ topology ∷ []
 written (Check topology) = codes "check" ∷ codes "--" ∷ topology ∷ []
 written (Make number) = codes "make" ∷ decimal number ∷ []
 
 -- its numbers have 64 bits
 abbrev pub IsShort : Ask → Type 0
-IsShort (Run topology trace seed) = IfSome seed (λ n. n < 2 ^ 64)
+IsShort (Run topology options) = IfSome options.seed (λ n. n < 2 ^ 64)
 IsShort (Check topology) = Unit {0}
 IsShort (Make number) = number < 2 ^ 64
 

@@ -2,6 +2,7 @@
 use Rattle.std.specs.Prelude.{ℕ, ◌^◌, nat_lt, nat_le, Bool, false, ◌==◌, ◌&&◌, if◌then◌else◌, List, [], ◌∷◌, map, length, take, drop, Option, Some, None, is_some, option_map, option_and_then, codes}
 use Rattle.std.specs.Str.{bytes_eq, all_ascii_digits}
 use Rattle.std.specs.Str.Parse.{digits_value}
+use Rattle.exb_words.specs.declared.asked.Options.{Options}
 
 infixl 10 ◌>>=◌
 abbrev ◌>>=◌ : {A B : Type 0} → Option A → (A → Option B) → Option B
@@ -9,7 +10,7 @@ o >>= f = option_and_then f o
 
 -- ---- what is asked for
 pub data Ask : Type 0 where
-  Run : (topology : List ℕ) (trace : Bool) (seed : Option ℕ) → Ask
+  Run : (topology : List ℕ) (options : Options) → Ask
   Check : (topology : List ℕ) → Ask
   Make : (number : ℕ) → Ask
 
@@ -17,6 +18,7 @@ pub data Ask : Type 0 where
 pub data Item : Type 0 where
   Name : (word : List ℕ) → Item
   Trace : Item
+  Counters : Item
   Seed : (number : ℕ) → Item
 
 -- where 64 bits hold it
@@ -41,8 +43,9 @@ is_dashed (c ∷ d ∷ rest) = c == 45
 unfoldable pub item_of : List ℕ → Option Item
 item_of word =
     if bytes_eq word (codes "--trace") then Some Trace
+    else (if bytes_eq word (codes "--counters") then Some Counters
     else (if bytes_eq (take 7 word) (codes "--seed=") then option_map Seed (number_in (drop 7 word))
-    else (if is_dashed word then None else Some (Name word)))
+    else (if is_dashed word then None else Some (Name word))))
 
 abbrev pub with_item : Option Item → Option (List Item) → Option (List Item)
 with_item i is = do
@@ -64,6 +67,7 @@ unfoldable pub names_in : List Item → List (List ℕ)
 names_in [] = []
 names_in (Name w ∷ is) = w ∷ names_in is
 names_in (Trace ∷ is) = names_in is
+names_in (Counters ∷ is) = names_in is
 names_in (Seed n ∷ is) = names_in is
 
 -- how often
@@ -71,12 +75,21 @@ unfoldable pub traces_in : List Item → List (Unit {0})
 traces_in [] = []
 traces_in (Name w ∷ is) = traces_in is
 traces_in (Trace ∷ is) = tt ∷ traces_in is
+traces_in (Counters ∷ is) = traces_in is
 traces_in (Seed n ∷ is) = traces_in is
+
+unfoldable pub counters_in : List Item → List (Unit {0})
+counters_in [] = []
+counters_in (Name w ∷ is) = counters_in is
+counters_in (Trace ∷ is) = counters_in is
+counters_in (Counters ∷ is) = tt ∷ counters_in is
+counters_in (Seed n ∷ is) = counters_in is
 
 unfoldable pub seeds_in : List Item → List ℕ
 seeds_in [] = []
 seeds_in (Name w ∷ is) = seeds_in is
 seeds_in (Trace ∷ is) = seeds_in is
+seeds_in (Counters ∷ is) = seeds_in is
 seeds_in (Seed n ∷ is) = n ∷ seeds_in is
 
 abbrev pub the_only : {A : Type 0} → List A → Option A
@@ -95,8 +108,9 @@ unfoldable pub run_of : List Item → Option Ask
 run_of items = do
   topology ← the_only (names_in items)
   trace ← at_most_one (traces_in items)
+  counters ← at_most_one (counters_in items)
   seed ← at_most_one (seeds_in items)
-  Some (Run topology (is_some trace) seed)
+  Some (Run topology (record { trace = is_some trace; counters = is_some counters; seed = seed }))
 
 -- one name alone
 unfoldable pub name_alone : List Item → Option (List ℕ)

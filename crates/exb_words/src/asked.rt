@@ -1,20 +1,23 @@
 //! What can be asked for.
 
+/// How a run is asked for.
+#[derive(Clone, Copy, Debug, Default, PartialEq, Eq)]
+pub struct Options {
+    /// With a trace.
+    pub trace: bool,
+    /// With counters.
+    pub counters: bool,
+    /// In an order drawn from this seed, where there is one.
+    pub seed: Option<u64>,
+}
+
 /// What the words ask for.
 #[derive(Clone, Copy, Debug)]
 pub enum Asked<'a> {
-    /// To play the captures of a topology; with a trace or not, and in an order drawn from a seed where there is one.
-    Run {
-        topology: &'a str,
-        trace: bool,
-        seed: Option<u64>,
-    },
+    /// To play the captures of a topology.
+    Run { topology: &'a str, options: Options },
     /// To say what numbers a topology needs.
-    Check {
-        topology: &'a str,
-    },
+    Check { topology: &'a str },
     /// To play the input that is made from a number.
-    Make {
-        number: u64,
-    },
+    Make { number: u64 },
 }

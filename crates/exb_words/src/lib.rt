@@ -8,5 +8,5 @@ mod numbers;
 mod said;
 mod words;
 
-pub use asked::Asked;
+pub use asked::{Asked, Options};
 pub use words::accept;

@@ -1,16 +1,16 @@
 //! What the words behind the first say, read one after another.
 ghost use Rattle.std.specs.Prelude.{◌≡◌, option_map, option_and_then, map, string_bytes};
-ghost use Rattle.exb_words.specs.Words.{Name, Trace, Seed, item_of, number_in, is_dashed};
+ghost use Rattle.exb_words.specs.Words.{Name, Trace, Counters, Seed, item_of, number_in, is_dashed};
 ghost use Rattle.exb_words.specs.Asking.{gathered_of, with_one, with_all, gathered, nothing_said};
 
+use crate::asked::Options;
 use crate::numbers::number;
 
 /// What was said so far: a name, and the options.
 #[derive(Clone, Copy)]
 pub(crate) struct Said<'a> {
     pub(crate) name: Option<&'a str>,
-    pub(crate) trace: bool,
-    pub(crate) seed: Option<u64>,
+    pub(crate) options: Options,
 }
 
 fn with_name<'a>(said: Said<'a>, word: &'a str) -> Option<Said<'a>>
@@ -19,8 +19,7 @@ fn with_name<'a>(said: Said<'a>, word: &'a str) -> Option<Said<'a>>
     match said.name {
         None => Some(Said {
             name: Some(word),
-            trace: said.trace,
-            seed: said.seed,
+            options: said.options,
         }),
         Some(_) => None,
     }
@@ -29,13 +28,43 @@ fn with_name<'a>(said: Said<'a>, word: &'a str) -> Option<Said<'a>>
 fn with_trace(said: Said<'_>) -> Option<Said<'_>>
     ensures { option_map gathered_of result ≡ with_one Trace (gathered_of said.entry) }
 {
-    if said.trace {
+    let Options {
+        trace,
+        counters,
+        seed,
+    } = said.options;
+    if trace {
         None
     } else {
         Some(Said {
             name: said.name,
-            trace: true,
-            seed: said.seed,
+            options: Options {
+                trace: true,
+                counters,
+                seed,
+            },
+        })
+    }
+}
+
+fn with_counters(said: Said<'_>) -> Option<Said<'_>>
+    ensures { option_map gathered_of result ≡ with_one Counters (gathered_of said.entry) }
+{
+    let Options {
+        trace,
+        counters,
+        seed,
+    } = said.options;
+    if counters {
+        None
+    } else {
+        Some(Said {
+            name: said.name,
+            options: Options {
+                trace,
+                counters: true,
+                seed,
+            },
         })
     }
 }
@@ -44,11 +73,19 @@ fn with_seed<'a>(said: Said<'a>, word: &[u8]) -> Option<Said<'a>>
     ensures { option_map gathered_of result ≡ option_and_then (λ n. with_one (Seed n) (gathered_of said.entry)) (number_in word.now) }
 {
     let number = number(word)?;
-    match said.seed {
+    let Options {
+        trace,
+        counters,
+        seed,
+    } = said.options;
+    match seed {
         None => Some(Said {
             name: said.name,
-            trace: said.trace,
-            seed: Some(number),
+            options: Options {
+                trace,
+                counters,
+                seed: Some(number),
+            },
         }),
         Some(_) => None,
     }
@@ -71,6 +108,9 @@ fn with_word<'a>(said: Said<'a>, word: &'a str) -> Option<Said<'a>>
 {
     if word == "--trace" {
         return with_trace(said);
+    }
+    if word == "--counters" {
+        return with_counters(said);
     }
     match word.as_bytes().strip_prefix(b"--seed=") {
         Some(seed) => with_seed(said, seed),
@@ -100,8 +140,11 @@ pub(crate) fn read(words: &[String]) -> Option<Said<'_>>
 {
     let mut said = Said {
         name: None,
-        trace: false,
-        seed: None,
+        options: Options {
+            trace: false,
+            counters: false,
+            seed: None,
+        },
     };
     let mut rest = words;
     while let Some((word, behind)) = rest.split_first() {

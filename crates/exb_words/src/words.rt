@@ -15,8 +15,7 @@ fn run(words: &[String]) -> Option<Asked<'_>>
     let topology = said.name?;
     Some(Asked::Run {
         topology,
-        trace: said.trace,
-        seed: said.seed,
+        options: said.options,
     })
 }
 
@@ -24,10 +23,10 @@ fn run(words: &[String]) -> Option<Asked<'_>>
 fn name_alone(said: Said<'_>) -> Option<&str>
     ensures { option_map (λ w. w.now) result ≡ name_from (gathered_of said.entry) }
 {
-    if said.trace {
+    if said.options.trace || said.options.counters {
         return None;
     }
-    match said.seed {
+    match said.options.seed {
         None => said.name,
         Some(_) => None,
     }

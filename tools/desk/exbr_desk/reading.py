@@ -87,6 +87,7 @@ class Told:
 
 Event = Arrival | Ordered | Told
 NAMES = [plain.name_of(port) for port in range(65 * 64)]
+SETS = ("vlan", "member", "unmember", "static", "unstatic")
 SETTLED, IGNORED = "settled", ("short", "long", "reserved")
 
 
@@ -102,6 +103,7 @@ class Reading:
         self.learned: dict[tuple[int, bytes], Entry] = {}
         self.since: dict[tuple, int] = {}
         self._known: dict = {}
+        self._parts: int | None = None
         starts = [capture.first_second for capture in run.captures.values() if capture.first_second is not None]
         self.start = min(starts, default=0)
 
@@ -159,26 +161,36 @@ class Reading:
 
     def refusal(self, table: dict) -> str | None:
         """Why a command is refused now, or None. Where groups can't run out they aren't counted, which would take long."""
-        tables, (channels, groups) = self.topology.tables, self.topology.limits
-        bound = 8 * (len(self.now.vlans) + len(self.now.statics) + 1)
-        if groups >= bound and table["op"] != "up":
+        channels, groups = self.topology.limits
+        # Each part gives two sets below a port of the bridge, before the command and after it.
+        if groups < 2 * (self._count_parts() + (self._parts_after(table) if table["op"] in SETS else self._count_parts())):
+            return plain.refusal(self.tree, self.topology.tables["bridge"], self.now, table)
+        if table["op"] != "up":
             return None
-        if groups >= bound:
-            port = plain.number_of(table["port"])
-            if port < 64 or port in self.now.present:
-                return None
-            trunk = self.tree.trunk(port)
-            if self.tree.cascades(trunk) + len(self.tree.extended[trunk]) <= channels:
-                return None
-            needed = self.tree.cascades(trunk) + len(self.tree.extended[trunk] & self.now.present) + 1
-            return f"channels {needed} {channels}" if needed > channels else None
-        return plain.refusal(self.tree, tables["bridge"], self.now, table)
+        port = plain.number_of(table["port"])
+        if port < 64 or port in self.now.present:
+            return None
+        trunk = self.tree.trunk(port)
+        if self.tree.cascades(trunk) + len(self.tree.extended[trunk]) <= channels:
+            return None
+        needed = self.tree.cascades(trunk) + len(self.tree.extended[trunk] & self.now.present) + 1
+        return f"channels {needed} {channels}" if needed > channels else None
+
+    def _count_parts(self) -> int:
+        """How many parts the configuration has, present or not."""
+        if self._parts is None:
+            self._parts = len(self.now.parts())
+        return self._parts
+
+    def _parts_after(self, table: dict) -> int:
+        return len(self.now.after(table).parts())
 
     def obey(self, command: Command, moment: int) -> Ordered:
         cause = self.refusal(command.table)
         if cause is None:
             self.now.command(command.table)
             self._known.clear()
+            self._parts = None if command.table["op"] in SETS else self._parts
             for what in _set_by(command.table):
                 self.since[what] = command.number
             if command.table["op"] == "down":

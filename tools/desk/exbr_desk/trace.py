@@ -5,9 +5,10 @@ link frames come in as they went out, and at each port they come as its capture 
 """
 from __future__ import annotations
 
+import re
 from collections import deque
 from dataclasses import dataclass
-from typing import Iterator
+from typing import Iterator, NamedTuple
 
 from . import frames, journal, plain
 from .errors import DeskError
@@ -15,6 +16,7 @@ from .reading import Where
 from .topology import Topology
 
 CONTROL = "0180c200000e"
+HEX = re.compile("[0-9a-f]*").fullmatch
 BEAT, SAID, IN, OUT = "beat", "=", "in", "out"
 
 
@@ -42,8 +44,7 @@ class Hop:
                f"at {self.place}: {tags}"
 
 
-@dataclass(frozen=True)
-class Spoken:
+class Spoken(NamedTuple):
     """A line of the trace: `beat`, a line of the journal, or a frame as text."""
 
     number: int
@@ -55,6 +56,7 @@ class Spoken:
 
 def spoken(path: str) -> Iterator[Spoken]:
     """The lines of a trace. One in no form of a line is a fault."""
+    places: dict[tuple[str, str], tuple[int, int]] = {}
     for number, text in enumerate(journal.texts(path), 1):
         if text == BEAT:
             yield Spoken(number, BEAT)
@@ -62,22 +64,21 @@ def spoken(path: str) -> Iterator[Spoken]:
             yield Spoken(number, SAID, data=text[2:])
         else:
             words = text.split(" ")
-            device = _device(words)
-            if device is None:
+            place = places.get((words[1], words[2])) if len(words) == 4 else None
+            if place is None and len(words) == 4:
+                place = places[words[1], words[2]] = _place(words[1], words[2])
+            if place is None or words[0] not in (IN, OUT) or len(words[3]) % 2 or not HEX(words[3]):
                 raise DeskError(f"{path}: line {number} is no line of a trace: {text[:60]}")
-            yield Spoken(number, words[0], device, 0 if words[2] == "up" else int(words[2]), words[3])
+            yield Spoken(number, words[0], *place, words[3])
 
 
-def _device(words: list[str]) -> int | None:
-    """The device of a line with a frame, if it is one."""
-    if len(words) != 4 or words[0] not in (IN, OUT) or len(words[3]) % 2 or set(words[3]) - set("0123456789abcdef"):
-        return None
-    device, side = words[1:3]
+def _place(device: str, side: str) -> tuple[int, int] | None:
+    """The device and side of a line with a frame, if they are ones."""
     if not (side == "up" and device != "b") and not (side.isdigit() and plain.is_port(f"b{side}")):
         return None
-    if device == "b":
-        return 0
-    return int(device[1:]) if plain.is_port(f"{device}.1") else None
+    if device != "b" and not plain.is_port(f"{device}.1"):
+        return None
+    return int(device[1:] or 0), 0 if side == "up" else int(side)
 
 
 class Ways:
@@ -138,11 +139,18 @@ class Ways:
         return self.here
 
 
-def hops(topology: Topology, path: str, wanted: set[Where]) -> tuple[dict[Where, list[Hop]], list[str]]:
-    """The hops of some records, and what in the trace can't be."""
+def hops(topology: Topology, path: str, wanted: set[Where], told: str | None = None) -> tuple[dict[Where, list[Hop]], list[str]]:
+    """The hops of some records, and what in the trace can't be. Where a journal is `told`, its lines have to be those of the trace."""
     found: dict[Where, list[Hop]] = {it: [] for it in wanted}
-    ways = Ways(topology)
+    ways, rest, texts = Ways(topology), [], enumerate(journal.texts(told), 1) if told else None
     for line, where in ways.named(spoken(path)):
         if where in found and line.kind in (IN, OUT):
             found[where].append(Hop(line.number, line.kind, line.device, line.side, bytes.fromhex(line.data)))
-    return found, ways.faults
+        elif line.kind == SAID and texts is not None:
+            number, text = next(texts, (0, None))
+            if text != line.data:
+                is_told = f"line {number} of {told} is '{text}'" if text is not None else f"{told} is at its end"
+                rest, texts = [f"line {line.number} is '= {line.data}', and {is_told}"], None
+    if texts is not None and (behind := next(texts, None)):
+        rest.append(f"it ends, and line {behind[0]} of {told} is '{behind[1]}'")
+    return found, ways.faults + rest

@@ -9,7 +9,6 @@ from dataclasses import dataclass, field
 from . import choose, explain, frames, plain, runs, trace
 from .errors import DeskError
 from .judge import Fault, Judge, seconds
-from .journal import texts
 from .progress import Progress
 from .reading import NAMES, Arrival, Where
 
@@ -89,9 +88,8 @@ class Why:
     def _follow(self, path: str) -> None:
         """The hops of the frames in the trace, and whether they lead where the rules do."""
         of = {(it.arrival.port, it.arrival.index): it for it in self.answers}
-        found, faults = trace.hops(self.run.topology, path, set(of))
+        found, faults = trace.hops(self.run.topology, path, set(of), self.run.journal)
         self.elsewhere += [f"{path}: {text}" for text in faults]
-        self.elsewhere += _not_the_journal(path, self.run.journal)
         external = set(self.run.topology.external)
         for where, hops in found.items():
             of[where].hops = hops
@@ -106,19 +104,6 @@ def _looks_like(fault: Fault, it: Arrival) -> bool:
     def bare(frame: bytes) -> bytes:
         return frame[:12] + (frame[16:] if frame[12:14] == b"\x81\x00" else frame[12:])
     return bare(fault.frame) == bare(it.frame)
-
-
-def _not_the_journal(path: str, journal: str) -> list[str]:
-    """Where the journal's lines of a trace aren't those of the journal."""
-    said = (it for it in trace.spoken(path) if it.kind == trace.SAID)
-    number = 0
-    for number, text in enumerate(texts(journal), 1):
-        line = next(said, None)
-        if line is None or line.data != text:
-            there = f"line {line.number} is '= {line.data}'" if line else "at its end"
-            return [f"{path}: {there}, and line {number} of {journal} is '{text}'"]
-    line = next(said, None)
-    return [f"{path}: line {line.number}, '= {line.data}', is behind the end of {journal}"] if line else []
 
 
 def _hops_differ(it: Arrival, hops: list[trace.Hop], external: set[int]) -> list[str]:

@@ -77,9 +77,8 @@ def named_by(found: why.Why) -> set[str]:
 def plant(folder: str, what: str, chance: random.Random) -> tuple[str | None, set[str]]:
     """The file into which a fault was put, in a copy of a run, and the files that are named."""
     with tempfile.TemporaryDirectory() as other:
-        shutil.copytree(folder, other, dirs_exist_ok=True)
-        if what == "a journal line changed" and os.path.exists(os.path.join(other, "out-trace.txt")):
-            os.remove(os.path.join(other, "out-trace.txt"))
+        # The trace has each frame once more, and would find the fault by itself.
+        shutil.copytree(folder, other, dirs_exist_ok=True, ignore=shutil.ignore_patterns("out-trace.txt"))
         path = PLANTED[what](runs.whole(other), chance)
         if path is None:
             return None, set()

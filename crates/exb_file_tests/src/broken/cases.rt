@@ -63,12 +63,12 @@ pub(super) const NANOSECOND_HEAD: &str = "4D3CB2A1 0200 0400 00000000 00000000 F
 
 /// Headers with each field at a limit, and beyond.
 pub(super) const HEADERS: [(&str, &str); 19] = [
-    // Magics that are none, that of pcapng among them.
+    // Magics that are none; a file that begins as pcapng is read as that.
     ("", "NotPcap"),
     ("00", "NotPcap"),
     ("D4C3B2", "NotPcap"),
     ("00000000 20x00", "NotPcap"),
-    ("0A0D0D0A 20x00", "NotPcap"),
+    ("0A0D0D0A 20x00", "Magic(8)"),
     (
         "A1B2CD34 0002 0004 00000000 00000000 0000FFFF 00000001",
         "NotPcap",

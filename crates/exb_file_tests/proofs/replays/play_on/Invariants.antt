@@ -1,7 +1,7 @@
 use Rattle.std.proofs.Common.{◌<◌, length}
 use Rattle.exb_faulty.specs.Faulty.{ids_of}
-use Rattle.exb_scan.specs.Reading.{IsAt}
-use Rattle.exb_scan.specs.Replaying.{IsKept}
+use Rattle.exb_capture.specs.Reading.{IsAt}
+use Rattle.exb_capture.specs.Replaying.{IsKept}
 use Rattle.exb_file_tests.proofs.replays.play_on.Given as goal
 
 abbrev pub invariant-records : goal.invariant-records

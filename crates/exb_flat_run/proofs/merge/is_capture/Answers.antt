@@ -1,6 +1,6 @@
 use Rattle.std.proofs.Common.{ap}
 use Rattle.std.specs.Prelude.{is_ok}
-use Rattle.exb_pcap.specs.Captures.{pcap_records, all_records}
+use Rattle.exb_flat_pcap.specs.Captures.{pcap_records, all_records}
 use Rattle.exb_flat_run.proofs.merge.is_capture.Goals as goal
 
 pub returns-in-Err : goal.returns-in-Err

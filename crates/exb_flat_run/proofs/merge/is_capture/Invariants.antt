@@ -1,6 +1,6 @@
 use Rattle.std.proofs.Common.{◌≡◌, length}
 use Rattle.std.specs.Prelude.{is_ok}
-use Rattle.exb_pcap.specs.Captures.{pcap_records, whole}
+use Rattle.exb_flat_pcap.specs.Captures.{pcap_records, whole}
 use Rattle.exb_flat_run.proofs.merge.is_capture.Given as goal
 
 abbrev pub invariant-records : goal.invariant-records

@@ -1,5 +1,5 @@
 use Rattle.std.proofs.Common.{◌∙◌, ap, map, Ok}
-use Rattle.exb_pcap.specs.Captures.{pcap_records}
+use Rattle.exb_capture.specs.Captures.{capture_records}
 use Rattle.exb_made.specs.Pieces.{frame_of, sent_at}
 use Rattle.exb_made.proofs.Capturing.{can_be_written, read-records}
 use Rattle.exb_made.proofs.captures.capture_of.Goals as goal
@@ -8,5 +8,5 @@ pub returns-clause-read : goal.returns-clause-read
 returns-clause-read c =
     let fs = map frame_of c.args.arrived.now in
     ap (λ r. (c.args.port, r))
-    (ap pcap_records c.in_ok-file.ensures.file
-    ∙ (c.written_is_read.ensures (sent_at fs c.args.port) (can_be_written fs c.args.port c.requires) ∙ ap Ok (read-records fs c.args.port c.requires)))
+    (ap capture_records c.in_ok-file.ensures.file
+    ∙ (c.written_is_read.ensures.either (sent_at fs c.args.port) (can_be_written fs c.args.port c.requires) ∙ ap Ok (read-records fs c.args.port c.requires)))

@@ -15,7 +15,7 @@ play_world-requires-clause-opened g c =
     let run = c.requires.begins.0 in (
       run,
       begins-opened S.tells m run c.args.script.now.setup.now c.args.plan.now (S.file c.args.shelf.now) (S.ids c.args.shelf.now) (network_of c.in-Ok.world) c.args.outputs c.args.feed.now.programme c.requires.begins.1
-          c.requires.tree (c.in-Ok.ensures.plays m) (c.in-Ok.ensures.tracing ∙ c.traced.ensures),
+          c.requires.tree (c.in-Ok.ensures.plays m) (c.in-Ok-open.ensures.tracing ∙ ap (λ (o : Options). o.trace) c.options.ensures) c.in-Ok.counted c.in-Ok.ensures,
     )
 
 pub play_world-requires-clause-budget : goal.play_world-requires-clause-budget
@@ -32,7 +32,7 @@ returns-clause-done g c tells =
     (λ line played run b.
     played run
     (begins-opened S.tells m run c.args.script.now.setup.now c.args.plan.now (S.file c.args.shelf.now) (S.ids c.args.shelf.now) (network_of c.in-Ok.world) c.args.outputs c.args.feed.now.programme b
-    c.requires.tree (c.in-Ok.ensures.plays m) (c.in-Ok.ensures.tracing ∙ c.traced.ensures)))
+    c.requires.tree (c.in-Ok.ensures.plays m) (c.in-Ok-open.ensures.tracing ∙ ap (λ (o : Options). o.trace) c.options.ensures) c.in-Ok.counted c.in-Ok.ensures))
     (c.play_world.ensures.done tells)
 
 pub returns-clause-never : goal.returns-clause-never
@@ -43,7 +43,7 @@ returns-clause-never g c tells =
     (λ fault never change run b.
     never change run
     (begins-opened S.tells m run c.args.script.now.setup.now c.args.plan.now (S.file c.args.shelf.now) (S.ids c.args.shelf.now) (network_of c.in-Ok.world) c.args.outputs c.args.feed.now.programme b
-    c.requires.tree (c.in-Ok.ensures.plays m) (c.in-Ok.ensures.tracing ∙ c.traced.ensures)))
+    c.requires.tree (c.in-Ok.ensures.plays m) (c.in-Ok-open.ensures.tracing ∙ ap (λ (o : Options). o.trace) c.options.ensures) c.in-Ok.counted c.in-Ok.ensures))
     (c.play_world.ensures.never tells)
 
 -- ---- where it ended early
@@ -56,7 +56,7 @@ returns-clause-fronts g c tells eager run b =
     let m = mode_of c.args.schedule in
     let is =
     begins-opened S.tells m run c.args.script.now.setup.now c.args.plan.now (S.file c.args.shelf.now) (S.ids c.args.shelf.now) (network_of c.in-Ok.world) c.args.outputs c.args.feed.now.programme b
-    c.requires.tree (c.in-Ok.ensures.plays m) (c.in-Ok.ensures.tracing ∙ c.traced.ensures) in
+    c.requires.tree (c.in-Ok.ensures.plays m) (c.in-Ok-open.ensures.tracing ∙ ap (λ (o : Options). o.trace) c.options.ensures) c.in-Ok.counted c.in-Ok.ensures in
     ended_eagerly c.runs_write_fronts.ensures m run c.args.plan.now (S.file c.play_world.new.shelf) c.play_world.result eager b.timely
     (if_ok_map c.play_world.result (λ line played. played run is) (c.play_world.ensures.done tells))
     (on_err_weaker c.play_world.result (λ cut. cut run is) (c.play_world.ensures.cut tells))

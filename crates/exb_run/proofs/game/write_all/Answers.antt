@@ -4,7 +4,7 @@ use Rattle.exb_model.specs.declared.event.Event.{Event}
 use Rattle.exb_model.specs.Traces.{TraceLine, trace_text}
 use Rattle.exb_network.specs.declared.log.Left.{Left}
 use Rattle.exb_schedule.specs.Worlds.{network_of}
-use Rattle.exb_run.specs.Plans.{port_count}
+use Rattle.exb_text.specs.declared.output.Output.TheVariants as output
 use Rattle.exb_run.specs.Writing.{AreCut, HasTexts, pieces_of, lines_of, with_more, with_left_frames}
 use Rattle.exb_run.proofs.ShelvingLemmas.{writes_then}
 use Rattle.exb_run.proofs.Cutting.{cut_frames, cut_more}
@@ -17,11 +17,11 @@ returns-clause-texts g c tells =
     on_ok_weaker c.write_trace.result
     (λ last orig text held.
     let first = c.in_ok-write_events.ensures.texts tells orig text held in
-    let second = c.in_ok-write_left.ensures.texts tells orig (with_more text (port_count plan) (lines_of c.events.result.now)) first in
-    let third = last orig (with_left_frames plan (with_more text (port_count plan) (lines_of c.events.result.now)) c.left.result.now) second in
+    let second = c.in_ok-write_left.ensures.texts tells orig (with_more text output.Journal (lines_of c.events.result.now)) first in
+    let third = last orig (with_left_frames (with_more text output.Journal (lines_of c.events.result.now)) c.left.result.now) second in
     let n = network_of c.args.world.now in
     let P = λ (es : List Event) (xs : List Left) (ls : List TraceLine). HasTexts plan (pieces_of c.write_trace.new.self) orig (S.file c.write_trace.new.shelf)
-    (with_more (with_left_frames plan (with_more text (port_count plan) (lines_of es)) xs) (port_count plan + 1) (trace_text ls)) in
+    (with_more (with_left_frames (with_more text output.Journal (lines_of es)) xs) output.Trace (trace_text ls)) in
     let one : P n.log.events c.left.result.now c.trace.result.now = subst (λ (es : List Event). P es c.left.result.now c.trace.result.now) c.events.ensures third in
     let two : P n.log.events n.log.left c.trace.result.now = subst (λ (xs : List Left). P n.log.events xs c.trace.result.now) c.left.ensures one in
     subst (λ (ls : List TraceLine). P n.log.events n.log.left ls) c.trace.ensures two)
@@ -42,9 +42,9 @@ returns-in_err-write_events-clause-cut g c = λ t.
     let plan = c.args.plan.now in
     let file = g.S.Shelf.file c.write_events.new.shelf in
     let n = network_of c.args.world.now in
-    let first = subst (λ (es : List Event). AreCut plan orig file (with_more text (port_count plan) (lines_of es))) c.events.ensures (c.in_err-write_events.ensures.cut t orig text p) in
-    cut_more plan orig file (with_left_frames plan (with_more text (port_count plan) (lines_of n.log.events)) n.log.left) (port_count plan + 1) (trace_text n.log.lines)
-    (cut_frames plan orig file (with_more text (port_count plan) (lines_of n.log.events)) n.log.left first))
+    let first = subst (λ (es : List Event). AreCut plan orig file (with_more text output.Journal (lines_of es))) c.events.ensures (c.in_err-write_events.ensures.cut t orig text p) in
+    cut_more plan orig file (with_left_frames (with_more text output.Journal (lines_of n.log.events)) n.log.left) output.Trace (trace_text n.log.lines)
+    (cut_frames plan orig file (with_more text output.Journal (lines_of n.log.events)) n.log.left first))
 
 pub returns-in_err-write_left-clause-cut : goal.returns-in_err-write_left-clause-cut
 returns-in_err-write_left-clause-cut g c = λ t.
@@ -55,10 +55,10 @@ returns-in_err-write_left-clause-cut g c = λ t.
     let file = g.S.Shelf.file c.write_left.new.shelf in
     let n = network_of c.args.world.now in
     let first = c.in_ok-write_events.ensures.texts t orig text p in
-    let second = c.in_err-write_left.ensures.cut t orig (with_more text (port_count plan) (lines_of c.events.result.now)) first in
-    let one = subst (λ (es : List Event). AreCut plan orig file (with_left_frames plan (with_more text (port_count plan) (lines_of es)) c.left.result.now)) c.events.ensures second in
-    let two = subst (λ (xs : List Left). AreCut plan orig file (with_left_frames plan (with_more text (port_count plan) (lines_of n.log.events)) xs)) c.left.ensures one in
-    cut_more plan orig file (with_left_frames plan (with_more text (port_count plan) (lines_of n.log.events)) n.log.left) (port_count plan + 1) (trace_text n.log.lines) two)
+    let second = c.in_err-write_left.ensures.cut t orig (with_more text output.Journal (lines_of c.events.result.now)) first in
+    let one = subst (λ (es : List Event). AreCut plan orig file (with_left_frames (with_more text output.Journal (lines_of es)) c.left.result.now)) c.events.ensures second in
+    let two = subst (λ (xs : List Left). AreCut plan orig file (with_left_frames (with_more text output.Journal (lines_of n.log.events)) xs)) c.left.ensures one in
+    cut_more plan orig file (with_left_frames (with_more text output.Journal (lines_of n.log.events)) n.log.left) output.Trace (trace_text n.log.lines) two)
 
 pub returns-clause-cut : goal.returns-clause-cut
 returns-clause-cut g c tells =
@@ -67,11 +67,11 @@ returns-clause-cut g c tells =
     on_err_weaker c.write_trace.result
     (λ last orig text held.
     let first = c.in_ok-write_events.ensures.texts tells orig text held in
-    let second = c.in_ok-write_left.ensures.texts tells orig (with_more text (port_count plan) (lines_of c.events.result.now)) first in
-    let third = last orig (with_left_frames plan (with_more text (port_count plan) (lines_of c.events.result.now)) c.left.result.now) second in
+    let second = c.in_ok-write_left.ensures.texts tells orig (with_more text output.Journal (lines_of c.events.result.now)) first in
+    let third = last orig (with_left_frames (with_more text output.Journal (lines_of c.events.result.now)) c.left.result.now) second in
     let n = network_of c.args.world.now in
     let P = λ (es : List Event) (xs : List Left) (ls : List TraceLine). AreCut plan orig (S.file c.write_trace.new.shelf)
-    (with_more (with_left_frames plan (with_more text (port_count plan) (lines_of es)) xs) (port_count plan + 1) (trace_text ls)) in
+    (with_more (with_left_frames (with_more text output.Journal (lines_of es)) xs) output.Trace (trace_text ls)) in
     let one : P n.log.events c.left.result.now c.trace.result.now = subst (λ (es : List Event). P es c.left.result.now c.trace.result.now) c.events.ensures third in
     let two : P n.log.events n.log.left c.trace.result.now = subst (λ (xs : List Left). P n.log.events xs c.trace.result.now) c.left.ensures one in
     subst (λ (ls : List TraceLine). P n.log.events n.log.left ls) c.trace.ensures two)

@@ -4,7 +4,7 @@ use Rattle.std.proofs.lemmas.Result.{err_from_is_err_and}
 use Rattle.exb_shelf.specs.Files.{Filled}
 use Rattle.exb_shelf.proofs.FileLemmas.{filled_one}
 use Rattle.exb_shelf.proofs.IdLemmas.{opens_then}
-use Rattle.exb_run.specs.Plans.{output_count}
+use Rattle.exb_run.specs.Plans.{kind_at, output_count}
 use Rattle.exb_run.specs.Outputs.{output_name}
 use Rattle.exb_run.specs.Writing.{pieces_of, first_text}
 use Rattle.exb_run.proofs.OutputLemmas.{more_named, more_texts, none_written}
@@ -28,7 +28,7 @@ loop-at-preserved g c =
           ∙ more_named (S.ids c.loop-at.shelf) (S.ids c.create_one.new.shelf) ids made.ids.0 c.loop-at.at name before.ids before.named made.opened.kept made.ids.2 j l;
       texts = λ j l.
           ap (λ (ps : List (List ℕ)). get_or ps j []) made.pieces
-          ∙ more_texts pieces (first_text c.args.plan.now c.loop-at.at) c.loop-at.at (first_text c.args.plan.now) (length-map c.loop-at.outputs.pieces.items (λ v. v.items) ∙ before.pieces)
+          ∙ more_texts pieces (first_text (kind_at c.args.plan.now c.loop-at.at)) c.loop-at.at (λ k. first_text (kind_at c.args.plan.now k)) (length-map c.loop-at.outputs.pieces.items (λ v. v.items) ∙ before.pieces)
           before.texts refl j l;
       files = λ t.
           filled_one (S.file c.args.shelf.now) (S.file c.loop-at.shelf) (S.file c.create_one.new.shelf) (output_count c.args.plan.now) c.loop-at.at name (λ j bytes. bytes ≡ [])
@@ -41,7 +41,7 @@ pub returns-clause-texts : goal.returns-clause-texts
 returns-clause-texts g c = λ t.
     let S = g.S.Shelf in
     let all : c.loop-at.at ≡ output_count c.args.plan.now = omega arith in
-    none_written c.args.plan.now (S.file c.args.shelf.now) (S.file c.loop-at.shelf) (pieces_of c.loop-at.outputs) (first_text c.args.plan.now)
+    none_written c.args.plan.now (S.file c.args.shelf.now) (S.file c.loop-at.shelf) (pieces_of c.loop-at.outputs) (λ k. first_text (kind_at c.args.plan.now k))
     (λ j l. c.loop-at.invariant.texts j (omega arith))
     (subst (λ (n : ℕ). Filled (S.file c.args.shelf.now) (S.file c.loop-at.shelf) n (output_name c.args.plan.now) (λ j bytes. bytes ≡ [])) all (c.loop-at.invariant.files t))
 

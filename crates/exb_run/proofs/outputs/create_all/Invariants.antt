@@ -2,6 +2,7 @@ use Rattle.std.proofs.Common.{◌≡◌, ◌<◌, ℕ, [], length, slice_index, 
 use Rattle.exb_shelf.specs.Files.{Filled}
 use Rattle.exb_shelf.specs.Shelf.{NoFewer, Opens, writing}
 use Rattle.exb_run.specs.Outputs.{output_name}
+use Rattle.exb_run.specs.Plans.{kind_at}
 use Rattle.exb_run.specs.Shelving.{WritesPlanned}
 use Rattle.exb_run.specs.Writing.{pieces_of, first_text}
 use Rattle.exb_run.proofs.outputs.create_all.Given as goal
@@ -13,7 +14,7 @@ invariant-loop-at g l =
       ids : length l.outputs.ids.items ≡ l.at;
       pieces : length l.outputs.pieces.items ≡ l.at;
       named : (j : ℕ) → j < l.at → S.ids l.shelf (slice_index l.outputs.ids.items j) ≡ writing (output_name l.plan j);
-      texts : (j : ℕ) → j < l.at → slice_index_or (pieces_of l.outputs) j [] ≡ first_text l.plan j;
+      texts : (j : ℕ) → j < l.at → slice_index_or (pieces_of l.outputs) j [] ≡ first_text (kind_at l.plan j);
       files : S.tells → Filled (S.file l.fn.shelf) (S.file l.shelf) l.at (output_name l.plan) (λ j bytes. bytes ≡ []);
       opened : Opens (WritesPlanned l.plan) (S.ids l.fn.shelf) (S.ids l.shelf);
       faults : NoFewer (S.faults l.fn.shelf) (S.faults l.shelf);

@@ -3,7 +3,7 @@ use Rattle.std.specs.List.{AllByRecursion}
 use Rattle.std.proofs.lemmas.Result.{err_from_is_err_and}
 use Rattle.exb_merge.specs.declared.replays.Again.{Again}
 use Rattle.exb_merge.specs.Replays.{AreReplays, HasPort, ids_in, left_in, standing_of}
-use Rattle.exb_scan.specs.Reading.{left_to_read}
+use Rattle.exb_capture.specs.Reading.{left_to_read}
 use Rattle.exb_merge.specs.Streams.{Stream}
 use Rattle.exb_shelf.specs.Files.{Files}
 use Rattle.exb_shelf.proofs.IdLemmas.{opens_none, opens_then}

@@ -1,4 +1,4 @@
-use Rattle.std.proofs.Common.{◌≡◌, Bool, List, Err, ap, sym, subst, ◌∙◌, inl, inr}
+use Rattle.std.proofs.Common.{◌≡◌, List, Err, ap, sym, subst, ◌∙◌, inl, inr}
 use Rattle.std.proofs.lemmas.Result.{err_from_is_err_and}
 use Rattle.std.specs.Prelude.{string_bytes}
 use Rattle.exb_model.specs.declared.setup.Timed.{Timed}
@@ -8,6 +8,7 @@ use Rattle.exb_model.specs.Setup.{shape_of}
 use Rattle.exb_shelf.specs.Files.{Files}
 use Rattle.exb_shelf.specs.Shelf.{Opens}
 use Rattle.exb_tables.specs.declared.rows.Named.{Named}
+use Rattle.exb_words.specs.declared.asked.Options.{Options}
 use Rattle.exb_run.specs.declared.checked.Checked.{Checked}
 use Rattle.exb_run.specs.Checks.{AreAllGood, AreChecked, CanBeRead, FirstFault}
 use Rattle.exb_run.specs.Inputs.{input_from, input_of}
@@ -71,8 +72,8 @@ returns-clause-done g c tells =
     ∙ ap (input_of t) unchanged in
     if_ok_map c.play.result
     (λ line played.
-    subst (λ (b : Bool). IsPlayed (mode_for c.args.seed) b i t.prefix before after (string_bytes line)) c.in_ok-plan.ensures.traced
-    (subst (λ (k : Mode). IsPlayed k plan.traced i t.prefix before after (string_bytes line)) c.schedule_of-schedule.ensures
+    subst (λ (b : Options). IsPlayed (mode_for c.args.options.seed) b i t.prefix before after (string_bytes line)) c.in_ok-plan.ensures.options
+    (subst (λ (k : Mode). IsPlayed k plan.options i t.prefix before after (string_bytes line)) c.schedule_of-schedule.ensures
     (played_by i plan t.prefix (c.in_ok-plan.ensures.prefix ∙ c.as_str.ensures) c.in_ok-plan.ensures.tree m c.requires.valid.tree before after (string_bytes line)
     (subst (λ (f : Files). HasPlayed m i plan f after (string_bytes line)) unchanged
     (subst (λ (j : Input). HasPlayed m j plan read after (string_bytes line)) same played)))))
@@ -87,7 +88,7 @@ returns-clause-others g c tells =
     let read = S.file c.check_captures.new.shelf in
     let after = S.file c.play.new.shelf in
     let i : Input = input_of t before in
-    subst (λ (b : Bool). OnlyOutputs b (shape_of t.setup) t.prefix before after) c.in_ok-plan.ensures.traced
+    subst (λ (b : Options). OnlyOutputs b (shape_of t.setup) t.prefix before after) c.in_ok-plan.ensures.options
     (only_by i plan t.prefix (c.in_ok-plan.ensures.prefix ∙ c.as_str.ensures) c.in_ok-plan.ensures.tree before after
     (subst (λ (f : Files). OnlyPlanned plan f after) (files_same before read c.in_ok-checked.ensures.files) (c.play.ensures.only.others tells)))
 
@@ -98,7 +99,7 @@ returns-clause-played g c tells =
     let t = c.args.topology.now in
     let plan = c.in_ok-plan.plan in
     let file = S.file c.args.shelf.now in
-    opened_for plan c.args.trace t file _ _ _ c.in_ok-plan.ensures.traced (c.in_ok-plan.ensures.prefix ∙ c.as_str.ensures) c.in_ok-plan.ensures.tree
+    opened_for plan c.args.options t file _ _ _ c.in_ok-plan.ensures.options (c.in_ok-plan.ensures.prefix ∙ c.as_str.ensures) c.in_ok-plan.ensures.tree
     (subst (λ (names : List Named). AreAllGood names file) c.as_slice.ensures (c.in_ok-checked.ensures.good tells))
     (subst (λ (names : List Named). Opens (ReadsCapture names) (S.ids c.args.shelf.now) (S.ids c.check_captures.new.shelf)) c.as_slice.ensures c.in_ok-checked.ensures.opened)
     (subst (λ (names : List Named). Opens (IsOfRun names plan) (S.ids c.check_captures.new.shelf) (S.ids c.play.new.shelf)) c.as_slice-4.ensures c.play.ensures.only.opened)

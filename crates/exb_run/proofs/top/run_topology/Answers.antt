@@ -12,12 +12,12 @@ returns-in_err-topology-clause-came g c =
     let p = err_from_is_err_and c.from_residual.result c.from_residual.ensures.1 in
     let x : Fault = c.in_err-topology.field-0.0 in
     let found = c.in_err-topology.ensures in
-    rw (p.1, p.2) (came_run_refused g.S.Shelf.tells c.args.name.now _ _ x found.refused found.causes found.files c.args.trace c.args.seed)
+    rw (p.1, p.2) (came_run_refused g.S.Shelf.tells c.args.name.now _ _ x found.refused found.causes found.files c.args.options)
 
 pub returns-in_err-topology-clause-opens : goal.returns-in_err-topology-clause-opens
 returns-in_err-topology-clause-opens g c =
     let p = err_from_is_err_and c.from_residual.result c.from_residual.ensures.1 in
-    rw (p.1, p.2) (run_refused_opens g.S.Shelf.tells _ c.args.name.now _ _ c.in_err-topology.ensures.opened c.args.trace c.args.seed _)
+    rw (p.1, p.2) (run_refused_opens g.S.Shelf.tells _ c.args.name.now _ _ c.in_err-topology.ensures.opened c.args.options _)
 
 pub returns-clause-came : goal.returns-clause-came
 returns-clause-came g c =
@@ -28,8 +28,8 @@ returns-clause-came g c =
     let h = S.file c.play_topology.new.shelf in
     let o = c.play_topology.result in
     let is = c.play_topology.ensures in
-    came_played S.tells c.args.name.now c.args.trace c.args.seed t f h found.read o
-    (subst (λ (k : Files). PlaysOut S.tells c.args.trace c.args.seed t o k h) (files_same f (S.file c.read_topology.new.shelf) found.files) (record {
+    came_played S.tells c.args.name.now c.args.options t f h found.read o
+    (subst (λ (k : Files). PlaysOut S.tells c.args.options t o k h) (files_same f (S.file c.read_topology.new.shelf) found.files) (record {
       good = is.good;
       done = is.done;
       cause = is.cause;
@@ -47,5 +47,5 @@ returns-clause-opens g c =
     let found = c.in_ok-topology.ensures in
     let f = S.file c.args.shelf.now in
     let read = S.file c.read_topology.new.shelf in
-    opens_by_run S.tells f c.args.name.now _ _ found.opened c.args.trace c.args.seed c.play_topology.result c.in_ok-topology.topology read _ found.read
+    opens_by_run S.tells f c.args.name.now _ _ found.opened c.args.options c.play_topology.result c.in_ok-topology.topology read _ found.read
     (files_same f read found.files) c.play_topology.ensures.causes c.play_topology.ensures.opened c.play_topology.ensures.played

@@ -13,7 +13,7 @@ loop-number-preserved c =
     let p = is_external c.args.tree.now in
     let n = c.loop-number.number in
     let port : c.unwrap-port.result ≡ n = rw c.unwrap-port.ensures at c.new.ensures.value in
-    let pushed : c.add_name.new.names ≡ c.loop-number.names ++ cond (p c.unwrap-port.result) (f c.unwrap-port.result ∷ []) [] = c.in_ok-add_name.ensures in
+    let pushed : c.add_capture.new.names ≡ c.loop-number.names ++ cond (p c.unwrap-port.result) (f c.unwrap-port.result ∷ []) [] = c.in_ok-add_capture.ensures in
     pushed ∙ ap (λ (k : ℕ). c.loop-number.names ++ cond (p k) (f k ∷ []) []) port ∙ ap (λ (names : List (List ℕ)). names ++ cond (p n) (f n ∷ []) []) c.loop-number.invariant ∙ sym (names_more f p n)
 
 pub returns : goal.returns

@@ -1,7 +1,7 @@
 use Rattle.std.proofs.Common.{◌≡◌, [], ◌∷◌, ◌++◌, map, Err, sym, ap, subst, ◌∙◌, arith}
 use Rattle.std.specs.List.{AllByRecursion}
 use Rattle.exb_shelf.specs.Files.{bytes_of}
-use Rattle.exb_scan.proofs.Replaying.{never_replayed}
+use Rattle.exb_capture.proofs.Replaying.{never_replayed}
 use Rattle.exb_merge.specs.declared.replays.Again.{Again}
 use Rattle.exb_merge.specs.declared.replays.CaptureFault.TheVariants.{Changed}
 use Rattle.exb_merge.specs.Replays.{Apart, AreReplays, IsOpened, seen}

@@ -1,24 +1,17 @@
-use Rattle.std.proofs.Common.{List, length, ap, sym, subst, arith}
+use Rattle.std.proofs.Common.{◌<◌, ◌^◌, Bool, List, length, sym, subst, All}
 use Rattle.exb_model.specs.declared.event.Event.{Event}
-use Rattle.exb_model.specs.Texts.{Counts}
 use Rattle.exb_network.specs.declared.log.Left.{Left}
 use Rattle.exb_schedule.specs.Worlds.{network_of}
-use Rattle.exb_text.specs.Tallies.{FitsTally, counts_of}
-use Rattle.exb_run.proofs.Counting.{count_events}
-use Rattle.exb_run.proofs.Tallying.{fits-events}
+use Rattle.exb_run.specs.Playing.{CanCount}
 use Rattle.exb_run.proofs.game.Game.note.Goals as goal
 
-pub count_all-requires : goal.count_all-requires
-count_all-requires g c =
-    let n = network_of c.args.self.now.world in
-    subst (λ (es : List Event). FitsTally (count_events (counts_of c.args.self.now.tally) es)) (sym c.events.ensures)
-    (fits-events n.log.events (counts_of c.args.self.now.tally) (length n.log.left) c.requires.fits)
+pub note-requires-clause-short : goal.note-requires-clause-short
+note-requires-clause-short g c = subst (λ (xs : List Left). All (λ (x : Left). length x.bytes < 2 ^ 32) xs) (sym c.left.ensures) (λ k d low. (c.requires.frames k d low).bytes)
 
-pub add_left-requires : goal.add_left-requires
-add_left-requires g c =
+pub note-requires-clause-can : goal.note-requires-clause-can
+note-requires-clause-can g c =
     let n = network_of c.args.self.now.world in
-    let same = ap (λ (x : Counts). x.left) c.count_all.ensures in
-    let kept = ap (λ (es : List Event). (count_events (counts_of c.args.self.now.tally) es).left) c.events.ensures in
-    let size = ap (λ (xs : List Left). length xs) c.left.ensures in
-    let low = c.requires.fits.left in
-    omega (arith, same, kept, size, low)
+    let counted = c.args.self.now.counted in
+    subst (λ (es : List Event). CanCount counted es c.passed.result.now c.left.result.now) (sym c.events.ensures)
+    (subst (λ (bs : List Bool). CanCount counted n.log.events bs c.left.result.now) (sym c.passed.ensures)
+    (subst (λ (xs : List Left). CanCount counted n.log.events n.log.passed xs) (sym c.left.ensures) c.requires.can))

@@ -20,7 +20,7 @@ seconds_since-seconds-requires g c =
     let run = c.requires.playing.0 in
     let got = some_at _ c.in_ok-second.field-0 c.in-Some.second c.in-Some.is c.in_ok-second.ensures.gathered in
     seconds-fit S.tells (mode_of c.args.schedule) run c.args.plan.now (S.file c.events.shelf) (S.file c.gather.new.shelf) (S.ids c.events.shelf) (S.ids c.gather.new.shelf)
-    (network_of c.events.self.world) (counts_of c.events.self.tally) c.events.self.outputs c.events.last c.events.feed.programme c.in-Some.second c.gather.new.self (c.events.invariant.goes_on run c.requires.playing.1) got c.in_ok-second.ensures.feed.programme
+    (network_of c.events.self.world) c.events.self.counted c.events.self.outputs c.events.last c.events.feed.programme c.in-Some.second c.gather.new.self (c.events.invariant.goes_on run c.requires.playing.1) got c.in_ok-second.ensures.feed.programme
 
 pub go_on-requires-clause-ready : goal.go_on-requires-clause-ready
 go_on-requires-clause-ready g c =
@@ -37,7 +37,7 @@ go_on-requires-clause-playing g c =
       (
         c.in-Some.second,
         can-go-on S.tells (mode_of c.args.schedule) run c.args.plan.now (S.file c.events.shelf) (S.file c.gather.new.shelf) (S.ids c.events.shelf) (S.ids c.gather.new.shelf)
-            (network_of c.events.self.world) (counts_of c.events.self.tally) c.events.self.outputs c.events.last c.events.feed.programme _ _ c.in-Some.second c.gather.new.self (c.events.invariant.goes_on run c.requires.playing.1) got c.gather.ensures.reads
+            (network_of c.events.self.world) c.events.self.counted c.events.self.outputs c.events.last c.events.feed.programme _ _ c.in-Some.second c.gather.new.self (c.events.invariant.goes_on run c.requires.playing.1) got c.gather.ensures.reads
             c.events.invariant.taken c.seconds_since-seconds.ensures,
       ),
     )
@@ -63,7 +63,7 @@ events-preserved g c =
       goes_on = λ run start.
           c.in_ok-go_on.ensures.told run c.in-Some.second
           (can-go-on S.tells (mode_of c.args.schedule) run c.args.plan.now (S.file c.events.shelf) (S.file c.gather.new.shelf) (S.ids c.events.shelf) (S.ids c.gather.new.shelf)
-          (network_of c.events.self.world) (counts_of c.events.self.tally) c.events.self.outputs c.events.last c.events.feed.programme _ _ c.in-Some.second c.gather.new.self (inv.goes_on run start) got c.gather.ensures.reads
+          (network_of c.events.self.world) c.events.self.counted c.events.self.outputs c.events.last c.events.feed.programme _ _ c.in-Some.second c.gather.new.self (inv.goes_on run start) got c.gather.ensures.reads
           inv.taken c.seconds_since-seconds.ensures);
       taken = c.taken-taken-in-Some.ensures;
       budget = c.in_ok-go_on.ensures.budget;
@@ -100,7 +100,7 @@ returns-clause-few g c =
 pub returns-clause-told : goal.returns-clause-told
 returns-clause-told g c t run start =
     let S = g.S.Shelf in
-    all-played S.tells (mode_of c.args.schedule) run c.args.plan.now (S.file c.events.shelf) (S.file c.gather.new.shelf) (S.ids c.events.shelf) (network_of c.events.self.world) (counts_of c.events.self.tally) c.events.self.outputs c.events.last
+    all-played S.tells (mode_of c.args.schedule) run c.args.plan.now (S.file c.events.shelf) (S.file c.gather.new.shelf) (S.ids c.events.shelf) (network_of c.events.self.world) c.events.self.counted c.events.self.outputs c.events.last
     c.events.feed.programme t (c.events.invariant.goes_on run start) (none_at c.in_ok-second.field-0 c.in_default.is (c.in_ok-second.ensures.end t)) c.gather.ensures.reads.files
 
 pub returns-in_err-second-clause-cut : goal.returns-in_err-second-clause-cut
@@ -109,7 +109,7 @@ returns-in_err-second-clause-cut g c = λ t.
     rw e.1
     (λ run start.
     let S = g.S.Shelf in
-    cut-reading S.tells (mode_of c.args.schedule) run c.args.plan.now (S.file c.events.shelf) (S.file c.gather.new.shelf) (S.ids c.events.shelf) (network_of c.events.self.world) (counts_of c.events.self.tally) c.events.self.outputs c.events.last
+    cut-reading S.tells (mode_of c.args.schedule) run c.args.plan.now (S.file c.events.shelf) (S.file c.gather.new.shelf) (S.ids c.events.shelf) (network_of c.events.self.world) c.events.self.counted c.events.self.outputs c.events.last
     c.events.feed.programme t (c.events.invariant.goes_on run start) c.gather.ensures.reads.files)
 
 pub returns-in_err-go_on-clause-cut : goal.returns-in_err-go_on-clause-cut
@@ -121,7 +121,7 @@ returns-in_err-go_on-clause-cut g c = λ t.
     let got = some_at _ c.in_ok-second.field-0 c.in-Some.second c.in-Some.is c.in_ok-second.ensures.gathered in
     c.in_err-go_on.ensures.cut t run c.in-Some.second
     (can-go-on S.tells (mode_of c.args.schedule) run c.args.plan.now (S.file c.events.shelf) (S.file c.gather.new.shelf) (S.ids c.events.shelf) (S.ids c.gather.new.shelf)
-    (network_of c.events.self.world) (counts_of c.events.self.tally) c.events.self.outputs c.events.last c.events.feed.programme _ _ c.in-Some.second c.gather.new.self (c.events.invariant.goes_on run start) got c.gather.ensures.reads
+    (network_of c.events.self.world) c.events.self.counted c.events.self.outputs c.events.last c.events.feed.programme _ _ c.in-Some.second c.gather.new.self (c.events.invariant.goes_on run start) got c.gather.ensures.reads
     c.events.invariant.taken c.seconds_since-seconds.ensures))
 
 pub returns-in_err-second-clause-never : goal.returns-in_err-second-clause-never

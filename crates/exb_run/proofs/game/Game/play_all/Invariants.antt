@@ -18,8 +18,8 @@ invariant-events g l =
     record {
       ready : IsReady l.plan (S.ids l.shelf) l.self.outputs;
       feed : CanFeed (S.ids l.shelf) l.feed;
-      goes_on : (run : Run) → IsPlaying S.tells m run l.plan (S.file l.fn.shelf) (S.ids l.fn.shelf) (network_of l.fn.self.world) (counts_of l.fn.self.tally) l.fn.self.outputs None l.fn.feed.programme →
-          IsPlaying S.tells m run l.plan (S.file l.shelf) (S.ids l.shelf) (network_of l.self.world) (counts_of l.self.tally) l.self.outputs l.last l.feed.programme;
+      goes_on : (run : Run) → IsPlaying S.tells m run l.plan (S.file l.fn.shelf) (S.ids l.fn.shelf) (network_of l.fn.self.world) l.fn.self.counted l.fn.self.outputs None l.fn.feed.programme →
+          IsPlaying S.tells m run l.plan (S.file l.shelf) (S.ids l.shelf) (network_of l.self.world) l.self.counted l.self.outputs l.last l.feed.programme;
       taken : l.taken ≡ l.feed.programme.taken;
       budget : (goal.Fate-dyn g (l.self.world.fate.vtable, l.self.world.fate.value)).left l.self.world.fate.value + letters_in (drop l.feed.programme.taken l.feed.programme.commands.now) < 2 ^ 57;
       same : ids_in l.feed.programme.captures ≡ ids_in l.fn.feed.programme.captures;

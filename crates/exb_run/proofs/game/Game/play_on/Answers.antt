@@ -1,15 +1,16 @@
-use Rattle.std.proofs.Common.{◌≡◌, ◌∙◌, [], ap}
+use Rattle.std.proofs.Common.{◌≡◌, ◌∙◌, ℕ, List, [], ap}
 use Rattle.std.proofs.lemmas.Result.{err_from_is_err_and, on_err_weaker}
 use Rattle.exb_model.specs.History.{◌then◌}
 use Rattle.exb_model.specs.Texts.{summary_line}
 use Rattle.exb_schedule.specs.Worlds.{network_of}
-use Rattle.exb_text.specs.Tallies.{counts_of}
+use Rattle.exb_text.specs.declared.output.Output.TheVariants as output
 use Rattle.exb_run.specs.Outputs.{output_name, output_text}
-use Rattle.exb_run.specs.Plans.{output_count}
-use Rattle.exb_run.specs.Playing.{mode_of, text_so_far}
+use Rattle.exb_run.specs.Plans.{kind_at, output_count}
+use Rattle.exb_run.specs.Playing.{counts_text, mode_of, text_so_far}
+use Rattle.exb_run.specs.Writing.{with_more}
 use Rattle.exb_run.proofs.Ending.{counts-end, eagerly, legal, texts-whole, trace}
 use Rattle.exb_run.proofs.Filling.{weaker}
-use Rattle.exb_run.proofs.Telling.{if_ok_both}
+use Rattle.exb_run.proofs.Telling.{counts_written, if_ok_both}
 use Rattle.exb_run.proofs.Keeping.{goes-writing}
 use Rattle.exb_run.proofs.CuttingOff.{cut_at_end}
 use Rattle.exb_run.proofs.game.Game.play_on.Goals as goal
@@ -25,16 +26,19 @@ returns-clause-done g c tells =
     let t = c.in_ok-play_all.ensures.told tells run start in
     let way = c.runs_are_under_way.ensures in
     let law = c.runs_write_legally.ensures in
+    let counts : List ℕ = counts_text plan c.play_all.new.self.counted.ports in
     record {
       history = [] then t.told;
       lines = t.lines;
       legal = legal m i plan t.tree c.is_tree.ensures timely way law n t.told t.passed t.gone t.lines t.played;
       eager = eagerly m i plan t.tree c.is_tree.ensures timely way law n t.told t.passed t.gone t.lines t.played c.runs_write_eagerly.ensures;
       trace = λ on. trace m i plan t.tree c.is_tree.ensures timely way law n t.told t.passed t.gone t.lines t.played c.runs_tell_legally.ensures (t.tracing ∙ on);
-      outputs = weaker run.before (S.file c.end.new.shelf) (output_count plan) (output_name plan) (λ j bytes. bytes ≡ text_so_far plan t.told t.passed t.gone t.lines j)
-          (λ j bytes. bytes ≡ output_text i plan ([] then t.told) t.lines j) (texts run.before (text_so_far plan t.told t.passed t.gone t.lines) (t.texts tells))
-          (λ j bytes low is. is ∙ texts-whole m i plan t.tree c.is_tree.ensures timely way law n t.told t.passed t.gone t.lines t.played j);
-      says = says ∙ ap summary_line (t.counted ∙ counts-end m i plan t.tree c.is_tree.ensures timely way law n t.told t.passed t.gone t.lines t.played);
+      outputs = weaker run.before (S.file c.end.new.shelf) (output_count plan) (output_name plan) (λ j bytes. bytes ≡ with_more (text_so_far t.told t.gone t.lines []) output.Counters counts (kind_at plan j))
+          (λ j bytes. bytes ≡ output_text i ([] then t.told) t.lines (kind_at plan j)) (texts run.before (text_so_far t.told t.gone t.lines []) (t.texts tells))
+          (λ j bytes low is.
+          is ∙ counts_written t.told t.gone t.lines counts (kind_at plan j)
+          ∙ texts-whole m i plan t.tree c.is_tree.ensures timely way law n t.told t.passed t.gone t.lines t.played c.play_all.new.self.counted.ports t.counted.ports c.counts_go_on.ensures c.runs_say_passed.ensures j low);
+      says = says ∙ ap summary_line (t.counted.tally ∙ counts-end m i plan t.tree c.is_tree.ensures timely way law n t.told t.passed t.gone t.lines t.played);
     }) c.end.ensures.line (c.end.ensures.texts tells)
 
 pub returns-clause-only : goal.returns-clause-only
@@ -44,8 +48,8 @@ pub returns-clause-cut : goal.returns-clause-cut
 returns-clause-cut g c = λ t. on_err_weaker c.end.result
     (λ cut run start.
     let S = g.S.Shelf in
-    cut_at_end S.tells (mode_of c.args.schedule) run c.args.plan.now (S.file c.play_all.new.shelf) (S.file c.end.new.shelf) (network_of c.play_all.new.self.world) (counts_of c.play_all.new.self.tally) c.play_all.new.self.outputs t
-    (c.in_ok-play_all.ensures.told t run start) cut)
+    cut_at_end S.tells (mode_of c.args.schedule) run c.args.plan.now (S.file c.play_all.new.shelf) (S.file c.end.new.shelf) (network_of c.play_all.new.self.world) c.play_all.new.self.counted c.play_all.new.self.outputs t
+    (c.in_ok-play_all.ensures.told t run start) (counts_text c.args.plan.now c.play_all.new.self.counted.ports) cut)
     (c.end.ensures.cut t)
 
 pub returns-in_err-play_all-clause-never : goal.returns-in_err-play_all-clause-never

@@ -2,16 +2,17 @@ use Rattle.std.proofs.Common.{[], refl, arith}
 use Rattle.std.proofs.lemmas.Result.{err_from_is_err_and, on_err_weaker}
 use Rattle.exb_model.specs.Input.{segments}
 use Rattle.exb_schedule.specs.Worlds.{network_of}
-use Rattle.exb_text.specs.Tallies.{counts_of}
 use Rattle.exb_run.specs.Playing.{mode_of, text_so_far}
 use Rattle.exb_run.specs.UnderWay.{CanFollow}
 use Rattle.exb_run.specs.Writing.{first_text, pieces_of}
 use Rattle.exb_run.proofs.CuttingOff.{cut_amid}
+use Rattle.exb_run.proofs.OutputLemmas.{kinds_same}
+use Rattle.exb_run.proofs.PortCounts.{can-count, none_together}
 use Rattle.exb_run.proofs.Going.{opened-playing}
 use Rattle.exb_run.proofs.Keeping.{feed-written, goes-none, goes-then, goes-writing}
 use Rattle.exb_run.proofs.Running.{if_err_map, if_ok_map}
 use Rattle.exb_run.proofs.ShelvingLemmas.{counts_after}
-use Rattle.exb_run.proofs.Telling.{same_texts, text-first, frames-fit, tally-fits}
+use Rattle.exb_run.proofs.Telling.{text-first, frames-fit}
 use Rattle.exb_run.proofs.game.Game.play_opened.Goals as goal
 
 pub note-requires-clause-frames : goal.note-requires-clause-frames
@@ -21,13 +22,16 @@ note-requires-clause-frames g c =
     let is = c.requires.opened.1 in
     frames-fit (mode_of c.args.schedule) i c.args.plan.now [] n n.log.events n.log.passed [] n.log.left n.log.lines c.runs_are_under_way.ensures is.tree c.is_tree.ensures tt is.played
 
-pub note-requires-clause-fits : goal.note-requires-clause-fits
-note-requires-clause-fits g c =
+pub note-requires-clause-can : goal.note-requires-clause-can
+note-requires-clause-can g c =
+    let m = mode_of c.args.schedule in
     let n = network_of c.args.self.now.world in
     let i = c.requires.opened.0.input in
     let is = c.requires.opened.1 in
     let follows : CanFollow i [] = record { kept = tt; few_arrivals = omega arith; few_commands = omega arith } in
-    tally-fits (mode_of c.args.schedule) i [] n [] n.log.events n.log.passed [] n.log.left n.log.lines _ c.runs_are_few.ensures follows is.played is.counted
+    let frames = frames-fit m i c.args.plan.now [] n n.log.events n.log.passed [] n.log.left n.log.lines c.runs_are_under_way.ensures is.tree c.is_tree.ensures tt is.played in
+    can-count m i c.args.plan.now [] n c.args.self.now.counted [] n.log.events [] n.log.passed [] n.log.left n.log.lines c.steps_tell_passed.ensures c.runs_are_few.ensures c.runs_are_under_way.ensures follows is.played is.counted
+    none_together frames
 
 pub play_on-requires-clause-feed : goal.play_on-requires-clause-feed
 play_on-requires-clause-feed g c = feed-written (g.S.Shelf.ids c.args.shelf.now) (g.S.Shelf.ids c.note.new.shelf) c.args.feed.now c.note.ensures.only.kept c.requires.feed
@@ -38,8 +42,8 @@ play_on-requires-clause-playing g c =
     let note = c.in_ok-note.ensures in
     let run = c.requires.opened.0 in (
       run,
-      opened-playing S.tells (mode_of c.args.schedule) run c.args.plan.now (S.file c.args.shelf.now) (S.ids c.args.shelf.now) (network_of c.args.self.now.world) (counts_of c.args.self.now.tally) c.args.self.now.outputs c.args.feed.now.programme c.requires.opened.1
-          (S.file c.note.new.shelf) (S.ids c.note.new.shelf) (network_of c.note.new.self.world) (counts_of c.note.new.self.tally) c.note.new.self.outputs note.world note.same note.quiet note.counts note.texts
+      opened-playing S.tells (mode_of c.args.schedule) run c.args.plan.now (S.file c.args.shelf.now) (S.ids c.args.shelf.now) (network_of c.args.self.now.world) c.args.self.now.counted c.args.self.now.outputs c.args.feed.now.programme c.requires.opened.1
+          (S.file c.note.new.shelf) (S.ids c.note.new.shelf) (network_of c.note.new.self.world) c.note.new.self.counted c.note.new.self.outputs note.world note.same note.quiet note.tally note.ports note.texts
           note.only.others note.only.kept,
     )
 
@@ -49,8 +53,8 @@ returns-clause-done g c tells = if_ok_map c.play_on.result
     let S = g.S.Shelf in
     let note = c.in_ok-note.ensures in
     played run is.timely
-    (opened-playing S.tells (mode_of c.args.schedule) run c.args.plan.now (S.file c.args.shelf.now) (S.ids c.args.shelf.now) (network_of c.args.self.now.world) (counts_of c.args.self.now.tally) c.args.self.now.outputs c.args.feed.now.programme is
-    (S.file c.note.new.shelf) (S.ids c.note.new.shelf) (network_of c.note.new.self.world) (counts_of c.note.new.self.tally) c.note.new.self.outputs note.world note.same note.quiet note.counts note.texts
+    (opened-playing S.tells (mode_of c.args.schedule) run c.args.plan.now (S.file c.args.shelf.now) (S.ids c.args.shelf.now) (network_of c.args.self.now.world) c.args.self.now.counted c.args.self.now.outputs c.args.feed.now.programme is
+    (S.file c.note.new.shelf) (S.ids c.note.new.shelf) (network_of c.note.new.self.world) c.note.new.self.counted c.note.new.self.outputs note.world note.same note.quiet note.tally note.ports note.texts
     note.only.others note.only.kept))
     (c.play_on.ensures.done tells)
 
@@ -64,8 +68,8 @@ returns-in_err-note-clause-cut g c = λ t.
     let m = mode_of c.args.schedule in
     let n = network_of c.args.self.now.world in
     cut_amid m run plan (S.file c.note.new.shelf) [] (segments m run.input) n [] n.log.events n.log.passed [] n.log.left [] n.log.lines is.tree refl is.played
-    (c.in_err-note.ensures.cut t run.before (text_so_far plan [] [] [])
-    (same_texts plan (pieces_of c.args.self.now.outputs) run.before (S.file c.args.shelf.now) (first_text plan) (text_so_far plan [] [] []) (λ j low. text-first plan j) (is.texts t))))
+    (c.in_err-note.ensures.cut t run.before (text_so_far [] [] [] [])
+    (kinds_same plan run.before (S.file c.args.shelf.now) (pieces_of c.args.self.now.outputs) first_text (text_so_far [] [] [] []) text-first (is.texts t))))
 
 pub returns-clause-cut : goal.returns-clause-cut
 returns-clause-cut g c = λ t. on_err_weaker c.play_on.result
@@ -73,8 +77,8 @@ returns-clause-cut g c = λ t. on_err_weaker c.play_on.result
     let S = g.S.Shelf in
     let note = c.in_ok-note.ensures in
     cut run
-    (opened-playing S.tells (mode_of c.args.schedule) run c.args.plan.now (S.file c.args.shelf.now) (S.ids c.args.shelf.now) (network_of c.args.self.now.world) (counts_of c.args.self.now.tally) c.args.self.now.outputs c.args.feed.now.programme is
-    (S.file c.note.new.shelf) (S.ids c.note.new.shelf) (network_of c.note.new.self.world) (counts_of c.note.new.self.tally) c.note.new.self.outputs note.world note.same note.quiet note.counts note.texts
+    (opened-playing S.tells (mode_of c.args.schedule) run c.args.plan.now (S.file c.args.shelf.now) (S.ids c.args.shelf.now) (network_of c.args.self.now.world) c.args.self.now.counted c.args.self.now.outputs c.args.feed.now.programme is
+    (S.file c.note.new.shelf) (S.ids c.note.new.shelf) (network_of c.note.new.self.world) c.note.new.self.counted c.note.new.self.outputs note.world note.same note.quiet note.tally note.ports note.texts
     note.only.others note.only.kept))
     (c.play_on.ensures.cut t)
 
@@ -84,8 +88,8 @@ returns-clause-never g c tells = if_err_map c.play_on.result
     let S = g.S.Shelf in
     let note = c.in_ok-note.ensures in
     never change run
-    (opened-playing S.tells (mode_of c.args.schedule) run c.args.plan.now (S.file c.args.shelf.now) (S.ids c.args.shelf.now) (network_of c.args.self.now.world) (counts_of c.args.self.now.tally) c.args.self.now.outputs c.args.feed.now.programme is
-    (S.file c.note.new.shelf) (S.ids c.note.new.shelf) (network_of c.note.new.self.world) (counts_of c.note.new.self.tally) c.note.new.self.outputs note.world note.same note.quiet note.counts note.texts
+    (opened-playing S.tells (mode_of c.args.schedule) run c.args.plan.now (S.file c.args.shelf.now) (S.ids c.args.shelf.now) (network_of c.args.self.now.world) c.args.self.now.counted c.args.self.now.outputs c.args.feed.now.programme is
+    (S.file c.note.new.shelf) (S.ids c.note.new.shelf) (network_of c.note.new.self.world) c.note.new.self.counted c.note.new.self.outputs note.world note.same note.quiet note.tally note.ports note.texts
     note.only.others note.only.kept))
     (c.play_on.ensures.never tells)
 

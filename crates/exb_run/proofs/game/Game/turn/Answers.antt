@@ -1,13 +1,12 @@
 use Rattle.std.proofs.Common.{◌++◌, ◌∷◌, [], length, ap, sym, ◌∙◌, append_assoc}
 use Rattle.std.proofs.lemmas.Result.{on_err_weaker}
-use Rattle.exb_model.specs.Texts.{Counts, with_left}
 use Rattle.exb_network.specs.Worlds.{all_left}
 use Rattle.exb_schedule.specs.Worlds.{network_of}
-use Rattle.exb_text.specs.Tallies.{counts_of}
 use Rattle.exb_run.specs.Playing.{mode_of, text_so_far}
 use Rattle.exb_run.specs.Writing.{pieces_of}
-use Rattle.exb_run.proofs.Counting.{count_events}
-use Rattle.exb_run.proofs.Telling.{when_ok, on_ok_by, same_texts, text-more, counts-more, quiet-played, cleared-played, frames-fit, tally-fits}
+use Rattle.exb_run.proofs.OutputLemmas.{kinds_same}
+use Rattle.exb_run.proofs.PortCounts.{can-count, counted-on, played_together}
+use Rattle.exb_run.proofs.Telling.{when_ok, on_ok_by, text-more, quiet-played, cleared-played, frames-fit}
 use Rattle.exb_run.proofs.CuttingOff.{cut_amid, cut_before}
 use Rattle.exb_run.proofs.game.Game.turn.Goals as goal
 
@@ -24,8 +23,8 @@ note-requires-clause-frames g c =
     frames-fit m i c.args.plan.now (can.so_far ++ can.next ∷ []) v (is.told ++ v.log.events) (is.passed ++ v.log.passed) is.gone v.log.left (is.lines ++ v.log.lines)
     c.runs_are_under_way.ensures is.tree c.is_tree.ensures can.follows.kept after
 
-pub note-requires-clause-fits : goal.note-requires-clause-fits
-note-requires-clause-fits g c =
+pub note-requires-clause-can : goal.note-requires-clause-can
+note-requires-clause-can g c =
     let m = mode_of c.args.schedule in
     let n = network_of c.args.self.now.world in
     let i = c.requires.playable.0.input in
@@ -34,7 +33,11 @@ note-requires-clause-fits g c =
     let ok = sym c.is_err.ensures.value ∙ c.if-is_err.false in
     let v = network_of c.play_segment.new.world in
     let after = when_ok c.play_segment.result ok c.play_segment.ensures.plays i can.so_far can.next is.told is.passed is.gone is.lines can.segment (quiet-played m i can.so_far n is.told is.passed is.gone is.lines is.quiet is.played) in
-    tally-fits m i (can.so_far ++ can.next ∷ []) v is.told v.log.events (is.passed ++ v.log.passed) is.gone v.log.left (is.lines ++ v.log.lines) _ c.runs_are_few.ensures can.follows after is.counted
+    let frames =
+    frames-fit m i c.args.plan.now (can.so_far ++ can.next ∷ []) v (is.told ++ v.log.events) (is.passed ++ v.log.passed) is.gone v.log.left (is.lines ++ v.log.lines)
+    c.runs_are_under_way.ensures is.tree c.is_tree.ensures can.follows.kept after in
+    can-count m i c.args.plan.now (can.so_far ++ can.next ∷ []) v c.args.self.now.counted is.told v.log.events is.passed v.log.passed is.gone v.log.left (is.lines ++ v.log.lines)
+    c.steps_tell_passed.ensures c.runs_are_few.ensures c.runs_are_under_way.ensures can.follows after is.counted (played_together c.steps_tell_passed.ensures m i can.so_far n is.told is.passed is.gone is.lines is.played) frames
 
 pub returns-clause-told : goal.returns-clause-told
 returns-clause-told g c = on_ok_by c.note.result (λ get run so_far s segment is.
@@ -57,16 +60,17 @@ returns-clause-told g c = on_ok_by c.note.result (λ get run so_far s segment is
       played = cleared-played m run.input (so_far ++ s ∷ []) v (network_of c.note.new.self.world) (is.told ++ more) (is.passed ++ v.log.passed) (is.gone ++ all_left left) (is.lines ++ new)
           (get _ c.note.ensures.world) (get _ c.note.ensures.same) after;
       tracing = (get _ c.note.ensures.same).tracing ∙ (when_ok c.play_segment.result ok c.play_segment.ensures.same).tracing ∙ is.tracing;
-      counted = get _ c.note.ensures.counts ∙ ap (λ (b : Counts). with_left (length left) (count_events b more)) is.counted ∙ counts-more is.told more is.gone left;
+      counted = counted-on plan c.args.self.now.counted c.note.new.self.counted is.told more is.passed v.log.passed is.gone left (get _ c.note.ensures.tally) (get _ c.note.ensures.ports)
+          (played_together c.steps_tell_passed.ensures m run.input so_far n is.told is.passed is.gone is.lines is.played) is.counted;
       texts = λ tells.
-          same_texts plan (pieces_of c.note.new.self.outputs) run.before (S.file c.note.new.shelf) _ (text_so_far plan (is.told ++ more) (is.gone ++ all_left left) (is.lines ++ new))
-          (text-more plan is.told more is.gone left is.lines new) (get _ (c.note.ensures.texts tells) run.before (text_so_far plan is.told is.gone is.lines) (is.texts tells));
+          kinds_same plan run.before (S.file c.note.new.shelf) (pieces_of c.note.new.self.outputs) _ (text_so_far (is.told ++ more) (is.gone ++ all_left left) (is.lines ++ new) [])
+          (text-more is.told more is.gone left is.lines new) (get _ (c.note.ensures.texts tells) run.before (text_so_far is.told is.gone is.lines []) (is.texts tells));
       quiet = get _ c.note.ensures.quiet;
     })
 
 pub returns-then-is_err-clause-cut : goal.returns-then-is_err-clause-cut
 returns-then-is_err-clause-cut g c = λ t run so_far rest s segments_are segment is.
-    cut_before g.S.Shelf.tells (mode_of c.args.schedule) run c.args.plan.now (g.S.Shelf.file c.args.shelf.now) (network_of c.args.self.now.world) (counts_of c.args.self.now.tally) c.args.self.now.outputs so_far (s ∷ rest) t is segments_are
+    cut_before g.S.Shelf.tells (mode_of c.args.schedule) run c.args.plan.now (g.S.Shelf.file c.args.shelf.now) (network_of c.args.self.now.world) c.args.self.now.counted c.args.self.now.outputs so_far (s ∷ rest) t is segments_are
 
 pub returns-clause-cut : goal.returns-clause-cut
 returns-clause-cut g c = λ t. on_err_weaker c.note.result
@@ -78,5 +82,5 @@ returns-clause-cut g c = λ t. on_err_weaker c.note.result
     let v = network_of c.play_segment.new.world in
     let after = when_ok c.play_segment.result ok c.play_segment.ensures.plays run.input so_far s is.told is.passed is.gone is.lines segment (quiet-played m run.input so_far n is.told is.passed is.gone is.lines is.quiet is.played) in
     cut_amid m run plan (g.S.Shelf.file c.note.new.shelf) (so_far ++ s ∷ []) rest v is.told v.log.events (is.passed ++ v.log.passed) is.gone v.log.left is.lines v.log.lines is.tree
-    (segments_are ∙ sym (append_assoc so_far (s ∷ []) rest)) after (cut run.before (text_so_far plan is.told is.gone is.lines) (is.texts t)))
+    (segments_are ∙ sym (append_assoc so_far (s ∷ []) rest)) after (cut run.before (text_so_far is.told is.gone is.lines []) (is.texts t)))
     (c.note.ensures.cut t)

@@ -1,19 +1,20 @@
 use Rattle.std.proofs.Common.{◌≡◌, ◌++◌, ℕ, List, ap, sym, ◌∙◌, length, arith}
 use Rattle.std.proofs.lemmas.Result.{on_err_weaker, on_ok_weaker}
 use Rattle.exb_model.specs.Texts.{record_text}
-use Rattle.exb_run.specs.Plans.{place_in}
+use Rattle.exb_text.specs.declared.output.Output.TheVariants as output
+use Rattle.exb_run.specs.Plans.{kind_at}
 use Rattle.exb_run.specs.Writing.{pieces_of}
-use Rattle.exb_run.proofs.OutputLemmas.{capture_low, more_spelled}
-use Rattle.exb_run.proofs.Places.{place_low}
+use Rattle.exb_run.proofs.OutputLemmas.{more_spelled}
+use Rattle.exb_run.proofs.ByKind.{placed}
 use Rattle.exb_run.proofs.Cutting.{cut_spelled}
 use Rattle.exb_run.proofs.outputs.Outputs.add_left.Goals as goal
 
 pub add_to-requires-clause-within : goal.add_to-requires-clause-within
 add_to-requires-clause-within g c =
     let can = c.requires.frame in
-    let low = place_low c.args.plan.now c.args.left.now.port can.low can.port in
+    let low = (placed c.args.plan.now (output.Capture c.args.left.now.port) can.port can.low).low in
     let same = c.place-at.ensures in
-    capture_low c.args.plan.now c.place-at.result (omega (arith, same, low))
+    omega (arith, same, low)
 
 pub returns-clause-texts : goal.returns-clause-texts
 returns-clause-texts g c = λ t.
@@ -25,8 +26,8 @@ returns-clause-texts g c = λ t.
     in
     on_ok_weaker c.add_to.result
     (λ added orig text p.
-    more_spelled c.args.plan.now orig (S.file c.add_to.new.shelf) (pieces_of c.add_to.new.self) text c.place-at.result (place_in c.args.plan.now.tree left.port) _ _
-    c.place-at.ensures written (added orig text p))
+    more_spelled c.args.plan.now orig (S.file c.add_to.new.shelf) (pieces_of c.add_to.new.self) text (kind_at c.args.plan.now c.place-at.result) (output.Capture left.port) _ _
+    (ap (kind_at c.args.plan.now) c.place-at.ensures ∙ (placed c.args.plan.now (output.Capture left.port) c.requires.frame.port c.requires.frame.low).at) written (added orig text p))
     (c.add_to.ensures.texts t)
 
 pub returns-clause-cut : goal.returns-clause-cut
@@ -39,6 +40,6 @@ returns-clause-cut g c = λ t.
     in
     on_err_weaker c.add_to.result
     (λ cut orig text p.
-    cut_spelled c.args.plan.now orig (S.file c.add_to.new.shelf) text c.place-at.result (place_in c.args.plan.now.tree left.port) _ _
-    c.place-at.ensures written (cut orig text p))
+    cut_spelled c.args.plan.now orig (S.file c.add_to.new.shelf) text (kind_at c.args.plan.now c.place-at.result) (output.Capture left.port) _ _
+    (ap (kind_at c.args.plan.now) c.place-at.ensures ∙ (placed c.args.plan.now (output.Capture left.port) c.requires.frame.port c.requires.frame.low).at) written (cut orig text p))
     (c.add_to.ensures.cut t)

@@ -1,8 +1,10 @@
-use Rattle.std.proofs.Common.{rules, ◌<◌, ◌+◌, take, length, arith}
+use Rattle.std.proofs.Common.{rules, ◌<◌, ◌+◌, take, length, arith, ◌≤◌, List, subst}
+use Rattle.std.proofs.lemmas.List.{take_all}
 use Rattle.std.proofs.lemmas.Result.{err_from_is_err_and}
-use Rattle.exb_run.specs.Plans.{port_count}
+use Rattle.exb_model.specs.Traces.{TraceLine}
 use Rattle.exb_model.specs.Traces.{trace_text}
-use Rattle.exb_run.specs.Writing.{pieces_of, with_more}
+use Rattle.exb_text.specs.declared.output.Output.TheVariants as output
+use Rattle.exb_run.specs.Writing.{HasTexts, pieces_of, with_more}
 use Rattle.exb_run.proofs.OutputLemmas.{no_more, more_trace}
 use Rattle.exb_run.proofs.ShelvingLemmas.{writes_none, writes_then}
 use Rattle.exb_run.proofs.Cutting.{cut_trace}
@@ -14,7 +16,7 @@ loop-one-init g c =
     let file = g.S.Shelf.file c.args.shelf.now in
     record {
       ready = c.requires.ready;
-      texts = λ t orig text p. no_more c.args.plan.now orig file (pieces_of c.args.self.now) text (port_count c.args.plan.now + 1) p;
+      texts = λ t orig text p. no_more c.args.plan.now orig file (pieces_of c.args.self.now) text output.Trace p;
       only = writes_none _ _ _ _;
       faults = search rules;
     }
@@ -30,7 +32,7 @@ loop-one-preserved g c =
       texts = λ t orig text p.
           more_trace c.args.plan.now orig (g.S.Shelf.file c.add_line.new.shelf) (pieces_of c.add_line.new.self) text lines c.loop-one.one-index c.one-item.result
           inside c.one-item.is
-          (added.texts t orig (with_more text (port_count c.args.plan.now + 1) (trace_text (take c.loop-one.one-index lines))) (before.texts t orig text p));
+          (added.texts t orig (with_more text output.Trace (trace_text (take c.loop-one.one-index lines))) (before.texts t orig text p));
       only = writes_then _ _ _ _ _ _ _ _ before.only added.only;
       faults = search (arith, added.faults.none_fell, before.faults);
     }
@@ -46,4 +48,11 @@ returns-in_err-add_line-clause-cut g c = λ t.
     let before = c.loop-one.invariant in
     let lines = c.args.lines.now in
     cut_trace c.args.plan.now orig (g.S.Shelf.file c.add_line.new.shelf) text lines c.loop-one.one-index c.one-item.result (omega arith) c.one-item.is
-    (c.in_err-add_line.ensures.cut t orig (with_more text (port_count c.args.plan.now + 1) (trace_text (take c.loop-one.one-index lines))) (before.texts t orig text p)))
+    (c.in_err-add_line.ensures.cut t orig (with_more text output.Trace (trace_text (take c.loop-one.one-index lines))) (before.texts t orig text p)))
+
+pub returns-clause-texts : goal.returns-clause-texts
+returns-clause-texts g c = λ t orig text p.
+    let all : List TraceLine = c.args.lines.now in
+    let end : length all ≤ c.loop-one.one-index = omega arith in
+    subst (λ (xs : List TraceLine). HasTexts c.args.plan.now (pieces_of c.loop-one.self) orig (g.S.Shelf.file c.loop-one.shelf) (with_more text output.Trace (trace_text xs)))
+    (take_all c.loop-one.one-index all end) (c.loop-one.invariant.texts t orig text p)

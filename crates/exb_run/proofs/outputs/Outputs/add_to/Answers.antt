@@ -1,9 +1,9 @@
-use Rattle.std.proofs.Common.{◌≡◌, ◌<◌, length, arith}
+use Rattle.std.proofs.Common.{◌≡◌, ◌<◌, length, refl, arith}
 use Rattle.std.proofs.lemmas.Result.{on_err_weaker, on_ok_weaker}
-use Rattle.exb_run.specs.Plans.{output_count}
+use Rattle.exb_run.specs.Plans.{kind_at, output_count}
 use Rattle.exb_run.specs.Outputs.{output_name}
-use Rattle.exb_run.proofs.OutputLemmas.{name_of_id, has_more_at}
-use Rattle.exb_run.proofs.Cutting.{cut_at}
+use Rattle.exb_run.proofs.OutputLemmas.{by_kind, name_of_id, has_more_of, of_kind}
+use Rattle.exb_run.proofs.Cutting.{cut_at, cut_kind}
 use Rattle.exb_run.proofs.outputs.Outputs.add_to.Goals as goal
 
 pub returns-clause-texts : goal.returns-clause-texts
@@ -17,8 +17,9 @@ returns-clause-texts g c = λ t.
     in
     on_ok_weaker c.add.result
     (λ change orig text p.
-    has_more_at (λ v. v.items) c.args.plan.now orig (g.S.Shelf.file c.args.shelf.now) (g.S.Shelf.file c.add.new.shelf) c.args.self.now.pieces.items text c.args.at
-    c.index_mut.result.now c.add.new.piece _ _ (c.output_names_differ.ensures c.args.plan.now) lt c.requires.ready.pieces c.index_mut.ensures.value named p change)
+    by_kind c.args.plan.now orig (g.S.Shelf.file c.add.new.shelf) _ text c.args.at (kind_at c.args.plan.now c.args.at) _ lt refl
+    (has_more_of (λ v. v.items) c.args.plan.now orig (g.S.Shelf.file c.args.shelf.now) (g.S.Shelf.file c.add.new.shelf) c.args.self.now.pieces.items (of_kind c.args.plan.now text) c.args.at
+    c.index_mut.result.now c.add.new.piece _ _ (c.output_names_differ.ensures c.args.plan.now) lt c.requires.ready.pieces c.index_mut.ensures.value named p change))
     (c.add.ensures.kept_or_written t)
 
 pub returns-clause-cut : goal.returns-clause-cut
@@ -32,6 +33,7 @@ returns-clause-cut g c = λ t.
     in
     on_err_weaker c.add.result
     (λ front orig text p.
-    cut_at (λ v. v.items) c.args.plan.now orig (g.S.Shelf.file c.args.shelf.now) (g.S.Shelf.file c.add.new.shelf) c.args.self.now.pieces.items text c.args.at
-    c.index_mut.result.now _ _ (c.output_names_differ.ensures c.args.plan.now) lt c.requires.ready.pieces c.index_mut.ensures.value named p front)
+    cut_kind c.args.plan.now orig (g.S.Shelf.file c.add.new.shelf) text c.args.at (kind_at c.args.plan.now c.args.at) _ lt refl
+    (cut_at (λ v. v.items) c.args.plan.now orig (g.S.Shelf.file c.args.shelf.now) (g.S.Shelf.file c.add.new.shelf) c.args.self.now.pieces.items (of_kind c.args.plan.now text) c.args.at
+    c.index_mut.result.now _ _ (c.output_names_differ.ensures c.args.plan.now) lt c.requires.ready.pieces c.index_mut.ensures.value named p front))
     (c.add.ensures.front t)

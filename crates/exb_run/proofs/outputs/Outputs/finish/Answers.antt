@@ -3,7 +3,7 @@ use Rattle.std.proofs.lemmas.Result.{err_from_is_err_and}
 use Rattle.exb_run.specs.Plans.{output_count}
 use Rattle.exb_run.specs.Outputs.{output_name}
 use Rattle.exb_run.specs.Writing.{pieces_of}
-use Rattle.exb_run.proofs.OutputLemmas.{name_of_id, is_flushed, more_empty, all_written}
+use Rattle.exb_run.proofs.OutputLemmas.{name_of_id, is_flushed, more_empty, all_written, of_kind}
 use Rattle.exb_run.proofs.Cutting.{cut_piece}
 use Rattle.exb_run.proofs.outputs.Outputs.finish.Goals as goal
 
@@ -24,7 +24,7 @@ loop-at-preserved g c =
       ready = search (rules, c.in_ok-flush.ensures.kept, before.ready);
       empty = more_empty (λ v. v.items) pieces c.loop-at.at c.flush.new.piece in_pieces c.in_ok-flush.ensures.empty before.empty;
       texts = λ t orig text p.
-          is_flushed (λ v. v.items) c.args.plan.now orig (S.file c.loop-at.shelf) (S.file c.flush.new.shelf) pieces text c.loop-at.at c.index_mut.result.now
+          is_flushed (λ v. v.items) c.args.plan.now orig (S.file c.loop-at.shelf) (S.file c.flush.new.shelf) pieces (of_kind c.args.plan.now text) c.loop-at.at c.index_mut.result.now
           c.flush.new.piece _ (c.output_names_differ.ensures c.args.plan.now) lt before.ready.pieces c.index_mut.ensures.value named
           (before.texts t orig text p) (c.in_ok-flush.ensures.written t) c.in_ok-flush.ensures.empty;
       only = record {
@@ -36,7 +36,7 @@ loop-at-preserved g c =
 
 pub returns-clause-texts : goal.returns-clause-texts
 returns-clause-texts g c = λ t orig text p.
-    all_written c.args.plan.now orig (g.S.Shelf.file c.loop-at.shelf) (pieces_of c.loop-at.self) text (λ j l. c.loop-at.invariant.empty j (omega arith))
+    all_written c.args.plan.now orig (g.S.Shelf.file c.loop-at.shelf) (pieces_of c.loop-at.self) (of_kind c.args.plan.now text) (λ j l. c.loop-at.invariant.empty j (omega arith))
     (c.loop-at.invariant.texts t orig text p)
 
 pub returns-in_err-flush-clause-cut : goal.returns-in_err-flush-clause-cut

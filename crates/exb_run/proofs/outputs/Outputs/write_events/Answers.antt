@@ -1,7 +1,9 @@
-use Rattle.std.proofs.Common.{rules, ◌<◌, take, length, arith}
+use Rattle.std.proofs.Common.{rules, ◌<◌, take, length, arith, ◌≤◌, List, subst}
+use Rattle.std.proofs.lemmas.List.{take_all}
 use Rattle.std.proofs.lemmas.Result.{err_from_is_err_and}
-use Rattle.exb_run.specs.Plans.{port_count}
-use Rattle.exb_run.specs.Writing.{pieces_of, with_more, lines_of}
+use Rattle.exb_model.specs.declared.event.Event.{Event}
+use Rattle.exb_text.specs.declared.output.Output.TheVariants as output
+use Rattle.exb_run.specs.Writing.{HasTexts, pieces_of, with_more, lines_of}
 use Rattle.exb_run.proofs.OutputLemmas.{no_more, more_lines}
 use Rattle.exb_run.proofs.ShelvingLemmas.{writes_none, writes_then}
 use Rattle.exb_run.proofs.Cutting.{cut_lines}
@@ -12,7 +14,7 @@ loop-event-init g c =
     let file = g.S.Shelf.file c.args.shelf.now in
     record {
       ready = c.requires.ready;
-      texts = λ t orig text p. no_more c.args.plan.now orig file (pieces_of c.args.self.now) text (port_count c.args.plan.now) p;
+      texts = λ t orig text p. no_more c.args.plan.now orig file (pieces_of c.args.self.now) text output.Journal p;
       only = writes_none _ _ _ _;
       faults = search rules;
     }
@@ -28,7 +30,7 @@ loop-event-preserved g c =
       texts = λ t orig text p.
           more_lines c.args.plan.now orig (g.S.Shelf.file c.add_event.new.shelf) (pieces_of c.add_event.new.self) text events c.loop-event.event-index c.event-item.result
           inside c.event-item.is
-          (added.texts t orig (with_more text (port_count c.args.plan.now) (lines_of (take c.loop-event.event-index events))) (before.texts t orig text p));
+          (added.texts t orig (with_more text output.Journal (lines_of (take c.loop-event.event-index events))) (before.texts t orig text p));
       only = writes_then _ _ _ _ _ _ _ _ before.only added.only;
       faults = search (arith, added.faults.none_fell, before.faults);
     }
@@ -44,4 +46,11 @@ returns-in_err-add_event-clause-cut g c = λ t.
     let before = c.loop-event.invariant in
     let events = c.args.events.now in
     cut_lines c.args.plan.now orig (g.S.Shelf.file c.add_event.new.shelf) text events c.loop-event.event-index c.event-item.result (omega arith) c.event-item.is
-    (c.in_err-add_event.ensures.cut t orig (with_more text (port_count c.args.plan.now) (lines_of (take c.loop-event.event-index events))) (before.texts t orig text p)))
+    (c.in_err-add_event.ensures.cut t orig (with_more text output.Journal (lines_of (take c.loop-event.event-index events))) (before.texts t orig text p)))
+
+pub returns-clause-texts : goal.returns-clause-texts
+returns-clause-texts g c = λ t orig text p.
+    let all : List Event = c.args.events.now in
+    let end : length all ≤ c.loop-event.event-index = omega arith in
+    subst (λ (xs : List Event). HasTexts c.args.plan.now (pieces_of c.loop-event.self) orig (g.S.Shelf.file c.loop-event.shelf) (with_more text output.Journal (lines_of xs)))
+    (take_all c.loop-event.event-index all end) (c.loop-event.invariant.texts t orig text p)

@@ -1,6 +1,8 @@
-use Rattle.std.proofs.Common.{rules, ◌<◌, take, length, arith}
+use Rattle.std.proofs.Common.{rules, ◌<◌, take, length, arith, ◌≤◌, List, subst}
+use Rattle.std.proofs.lemmas.List.{take_all}
 use Rattle.std.proofs.lemmas.Result.{err_from_is_err_and}
-use Rattle.exb_run.specs.Writing.{pieces_of, with_left_frames, CanBeWritten}
+use Rattle.exb_network.specs.declared.log.Left.{Left}
+use Rattle.exb_run.specs.Writing.{HasTexts, pieces_of, with_left_frames}
 use Rattle.exb_run.proofs.OutputLemmas.{no_frames, more_frames}
 use Rattle.exb_run.proofs.ShelvingLemmas.{writes_none, writes_then}
 use Rattle.exb_run.proofs.Cutting.{cut_left}
@@ -22,13 +24,12 @@ loop-frame-preserved g c =
     let added = c.in_ok-add_left.ensures in
     let left = c.args.left.now in
     let inside : c.loop-frame.frame-index < length left = omega arith in
-    let can : CanBeWritten c.args.plan.now c.frame-item.result = search (rules, c.requires.frames) in
     record {
       ready = added.ready;
       texts = λ t orig text p.
           more_frames c.args.plan.now orig (g.S.Shelf.file c.add_left.new.shelf) (pieces_of c.add_left.new.self) text left c.loop-frame.frame-index c.frame-item.result
-          inside c.frame-item.is can
-          (added.texts t orig (with_left_frames c.args.plan.now text (take c.loop-frame.frame-index left)) (before.texts t orig text p));
+          inside c.frame-item.is
+          (added.texts t orig (with_left_frames text (take c.loop-frame.frame-index left)) (before.texts t orig text p));
       only = writes_then _ _ _ _ _ _ _ _ before.only added.only;
       faults = search (arith, added.faults.none_fell, before.faults);
     }
@@ -43,6 +44,12 @@ returns-in_err-add_left-clause-cut g c = λ t.
     (λ orig text p.
     let before = c.loop-frame.invariant in
     let left = c.args.left.now in
-    let can : CanBeWritten c.args.plan.now c.frame-item.result = search (rules, c.requires.frames) in
-    cut_left c.args.plan.now orig (g.S.Shelf.file c.add_left.new.shelf) text left c.loop-frame.frame-index c.frame-item.result (omega arith) c.frame-item.is can
-    (c.in_err-add_left.ensures.cut t orig (with_left_frames c.args.plan.now text (take c.loop-frame.frame-index left)) (before.texts t orig text p)))
+    cut_left c.args.plan.now orig (g.S.Shelf.file c.add_left.new.shelf) text left c.loop-frame.frame-index c.frame-item.result (omega arith) c.frame-item.is
+    (c.in_err-add_left.ensures.cut t orig (with_left_frames text (take c.loop-frame.frame-index left)) (before.texts t orig text p)))
+
+pub returns-clause-texts : goal.returns-clause-texts
+returns-clause-texts g c = λ t orig text p.
+    let all : List Left = c.args.left.now in
+    let end : length all ≤ c.loop-frame.frame-index = omega arith in
+    subst (λ (xs : List Left). HasTexts c.args.plan.now (pieces_of c.loop-frame.self) orig (g.S.Shelf.file c.loop-frame.shelf) (with_left_frames text xs))
+    (take_all c.loop-frame.frame-index all end) (c.loop-frame.invariant.texts t orig text p)

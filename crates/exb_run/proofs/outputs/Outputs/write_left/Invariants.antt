@@ -1,6 +1,7 @@
 use Rattle.std.proofs.Common.{ℕ, List, take}
 use Rattle.exb_shelf.specs.Files.{Files}
 use Rattle.exb_shelf.specs.Shelf.{NoFewer}
+use Rattle.exb_text.specs.declared.output.Output.{Output}
 use Rattle.exb_run.specs.Shelving.{OnlyWrites}
 use Rattle.exb_run.specs.Writing.{pieces_of, HasTexts, IsReady, with_left_frames}
 use Rattle.exb_run.proofs.outputs.Outputs.write_left.Given as goal
@@ -10,8 +11,8 @@ invariant-loop-frame g l =
     let S = g.S.Shelf in
     record {
       ready : IsReady l.plan (S.ids l.shelf) l.self;
-      texts : S.tells → (orig : Files) (text : ℕ → List ℕ) → HasTexts l.plan (pieces_of l.fn.self) orig (S.file l.fn.shelf) text
-          → HasTexts l.plan (pieces_of l.self) orig (S.file l.shelf) (with_left_frames l.plan text (take l.frame-index l.left));
+      texts : S.tells → (orig : Files) (text : Output → List ℕ) → HasTexts l.plan (pieces_of l.fn.self) orig (S.file l.fn.shelf) text
+          → HasTexts l.plan (pieces_of l.self) orig (S.file l.shelf) (with_left_frames text (take l.frame-index l.left));
       only : OnlyWrites S.tells l.plan (S.file l.fn.shelf) (S.file l.shelf) (S.ids l.fn.shelf) (S.ids l.shelf);
       faults : NoFewer (S.faults l.fn.shelf) (S.faults l.shelf);
     }

@@ -1,0 +1,5 @@
+use Rattle.exb_capture.proofs.WrittenLemmas.{all_written, either_written}
+use Rattle.exb_capture.proofs.laws.written_is_read.Goals as goal
+
+pub returns : goal.returns
+returns c = record { classic = all_written; either = either_written }

@@ -1,0 +1,50 @@
+use Rattle.std.proofs.Common.{ℕ, List, Option, sym, subst, ◌∙◌}
+use Rattle.std.specs.Prelude.{IfNone}
+use Rattle.exb_model.specs.Input.{Record}
+use Rattle.exb_shelf.specs.Files.{bytes_of}
+use Rattle.exb_capture.specs.Reading.{HasRead, IsWhole}
+use Rattle.exb_capture.specs.Replaying.{Disagrees, HasGiven, IsPlayed}
+use Rattle.exb_capture.proofs.Looking.{kept_bytes}
+use Rattle.exb_capture.proofs.Replaying.{fault_is, halted_disagrees, ended_disagrees, played_when, played_whole}
+use Rattle.exb_capture.proofs.replay.Replay.ahead.Goals as goal
+
+pub returns-then-comes_early-clause-changed : goal.returns-then-comes_early-clause-changed
+returns-then-comes_early-clause-changed g c = λ tells at e xs h.
+    let S = g.S.Shelf in
+    let r = c.args.self.now in
+    let seen = c.ahead.new.self in
+    let same =
+    kept_bytes (S.file c.args.shelf.now) (S.file c.ahead.new.shelf) (S.ids c.args.shelf.now) (S.ids c.ahead.new.shelf) r.file.id seen.id r.file.got c.requires.at
+    c.ahead.ensures.moves c.ahead.ensures.files c.ahead.ensures.same.id in
+    let read = subst (λ (b : List ℕ). HasRead b xs seen) (sym same) (c.in-Ok-Some.ensures.read tells xs h.read) in
+    subst (λ (b : List ℕ). Disagrees r.told b at) same
+    (c.early.ensures.changed tells at (fault_is c.early.result at e) xs (record { read = read; fresh = h.fresh }))
+
+pub returns-in-Err-clause-changed : goal.returns-in-Err-clause-changed
+returns-in-Err-clause-changed g c = λ tells at e xs h.
+    let S = g.S.Shelf in
+    let r = c.args.self.now in
+    let bytes = bytes_of (S.file c.args.shelf.now (S.ids c.args.shelf.now r.file.id).name) in
+    halted_disagrees r.told bytes r.file.limit c.in-Err.halt at c.requires.kept.limit (c.in-Err.ensures.halts tells xs h.read) (sym c.unread.ensures ∙ fault_is c.unread.result at e)
+
+pub returns-in-Ok-None-clause-end : goal.returns-in-Ok-None-clause-end
+returns-in-Ok-None-clause-end g c = λ tells.
+    let S = g.S.Shelf in
+    let r = c.args.self.now in
+    let seen = c.ahead.new.self in
+    let bytes = bytes_of (S.file c.args.shelf.now (S.ids c.args.shelf.now r.file.id).name) in
+    let ends =
+    subst (λ (o : Option ℕ). IfNone o ((ys : List Record) → HasRead bytes ys r.file → IsWhole bytes ys seen)) c.in-Ok-None.field-0-is (c.in-Ok-None.ensures.end tells) in
+    played_when c.at_end.result c.got.result r.told.bytes ((xs : List Record) → HasGiven bytes xs r → IsPlayed r.told bytes xs) c.at_end.ensures.none
+    (λ same xs h. played_whole r.told bytes xs seen c.got.result (ends xs h.read) c.got.ensures same)
+
+pub returns-in-Ok-None-clause-changed : goal.returns-in-Ok-None-clause-changed
+returns-in-Ok-None-clause-changed g c = λ tells at e xs h.
+    let S = g.S.Shelf in
+    let r = c.args.self.now in
+    let seen = c.ahead.new.self in
+    let bytes = bytes_of (S.file c.args.shelf.now (S.ids c.args.shelf.now r.file.id).name) in
+    let ends =
+    subst (λ (o : Option ℕ). IfNone o ((ys : List Record) → HasRead bytes ys r.file → IsWhole bytes ys seen)) c.in-Ok-None.field-0-is (c.in-Ok-None.ensures.end tells) in
+    let other = c.at_end.ensures.other at e in
+    ended_disagrees r.told bytes xs seen c.got.result at (ends xs h.read) c.got.ensures other.0 other.1

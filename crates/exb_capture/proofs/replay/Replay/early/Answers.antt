@@ -1,0 +1,57 @@
+use Rattle.std.proofs.Common.{ℕ, List, [], ◌∷◌, Option, sym, ap, subst}
+use Rattle.std.specs.Prelude.{IfNone}
+use Rattle.exb_model.specs.Input.{Record}
+use Rattle.exb_shelf.specs.Files.{bytes_of}
+use Rattle.exb_capture.specs.Reading.{HasRead, IsWhole}
+use Rattle.exb_capture.proofs.Replaying.{begins, early_goes_on, early_ends, early_comes}
+use Rattle.exb_capture.proofs.replay.Replay.early.Goals as goal
+
+pub returns-then-bytes-end-clause-changed : goal.returns-then-bytes-end-clause-changed
+returns-then-bytes-end-clause-changed g c = λ tells at e xs h.
+    let S = g.S.Shelf in
+    let r = c.args.self.now in
+    let bytes = bytes_of (S.file c.args.shelf.now (S.ids c.args.shelf.now r.file.id).name) in
+    let x = c.requires.found.1.0 in
+    early_goes_on r.told bytes xs x r.file c.place-end.result at c.requires.kept.sound h.read c.requires.found.1.1 c.place-end.ensures c.if-bytes-end.true e
+
+pub returns-then-ends_short-clause-changed : goal.returns-then-ends_short-clause-changed
+returns-then-ends_short-clause-changed g c = λ tells at e xs h.
+    let S = g.S.Shelf in
+    let r = c.args.self.now in
+    let shelf = c.args.shelf.now in
+    let bytes = bytes_of (S.file shelf (S.ids shelf r.file.id).name) in
+    let taken = c.pass.new.self in
+    let there = bytes_of (S.file shelf (S.ids shelf taken.id).name) in
+    let seen = c.ahead.new.self in
+    let x = c.requires.found.1.0 in
+    let read = subst (λ (ys : List Record). HasRead bytes ys r.file) (h.fresh c.requires.fresh) h.read in
+    let one = c.pass.ensures.read bytes [] x c.requires.found.1.1 read in
+    let same = ap (λ (k : ℕ). bytes_of (S.file shelf (S.ids shelf k).name)) c.pass.ensures.same.id in
+    let ends =
+    subst (λ (o : Option ℕ). IfNone o ((ys : List Record) → HasRead there ys taken → IsWhole there ys seen)) c.in-Ok-None.field-0-is (c.in-Ok-None.ensures.end tells) in
+    early_ends r.told bytes there (x ∷ []) seen c.got-got.result at same (ends (x ∷ []) (subst (λ (b : List ℕ). HasRead b (x ∷ []) taken) (sym same) one)) c.got-got.ensures
+    (c.ends_short.ensures c.if-ends_short.true) e
+
+pub returns-else-ends_short-clause-changed : goal.returns-else-ends_short-clause-changed
+returns-else-ends_short-clause-changed g c = λ tells at e xs h.
+    let S = g.S.Shelf in
+    let r = c.args.self.now in
+    let bytes = bytes_of (S.file c.args.shelf.now (S.ids c.args.shelf.now r.file.id).name) in
+    let x = c.requires.found.1.0 in
+    early_comes r.told bytes x c.requires.found.0 r.file.reader.begun c.begun-begin.result at (begins bytes xs x r c.requires.fresh h c.requires.found.1.1) c.requires.found.1.2 c.requires.found.2 c.begun-begin.ensures e
+
+pub returns-else-bytes-end-clause-changed : goal.returns-else-bytes-end-clause-changed
+returns-else-bytes-end-clause-changed g c = λ tells at e xs h.
+    let S = g.S.Shelf in
+    let r = c.args.self.now in
+    let bytes = bytes_of (S.file c.args.shelf.now (S.ids c.args.shelf.now r.file.id).name) in
+    let x = c.requires.found.1.0 in
+    early_comes r.told bytes x c.requires.found.0 r.file.reader.begun c.begun-begin.result at (begins bytes xs x r c.requires.fresh h c.requires.found.1.1) c.requires.found.1.2 c.requires.found.2 c.begun-begin.ensures e
+
+pub returns-else-bytes-end-2-clause-changed : goal.returns-else-bytes-end-2-clause-changed
+returns-else-bytes-end-2-clause-changed g c = λ tells at e xs h.
+    let S = g.S.Shelf in
+    let r = c.args.self.now in
+    let bytes = bytes_of (S.file c.args.shelf.now (S.ids c.args.shelf.now r.file.id).name) in
+    let x = c.requires.found.1.0 in
+    early_comes r.told bytes x c.requires.found.0 r.file.reader.begun c.begun-begin.result at (begins bytes xs x r c.requires.fresh h c.requires.found.1.1) c.requires.found.1.2 c.requires.found.2 c.begun-begin.ensures e

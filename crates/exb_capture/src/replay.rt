@@ -1,0 +1,286 @@
+//! Reading a capture again that was checked.
+ghost use Rattle.std.specs.Prelude.{◌≡◌, ◌≢◌, ◌<◌, ◌≤◌, ◌+◌, ◌*◌, ◌^◌, ◌∷◌, ◌++◌, [], ℕ, List, true, false, Some, None, length, min, IfOk, OnOk, IfErr, IsErrOf, IfSome, IfNone, IsSome};
+ghost use Rattle.exb_model.specs.Input.{Record};
+ghost use Rattle.exb_shelf.specs.Files.{SameFiles, bytes_of};
+ghost use Rattle.exb_shelf.specs.Shelf.{IsReadingOf, Opens, reading, Rose, NoFewer};
+ghost use Rattle.exb_capture.specs.Reading.{IsAt, IsBegun, ComesNext, MovesOn, left_to_read, next_of};
+ghost use Rattle.exb_capture.specs.Replaying.{comes_early, Disagrees, IsKept, IsSameReplay, IsAsBefore, ComesAt, IsReplayed, HasGiven, IsPlayed, IsReplaying, unopened, unread, IsFirstOf};
+
+use crate::checking::Scanned;
+use crate::file::{CaptureFile, Halt};
+use exb_model::bytes::Bytes;
+use exb_model::memory::NoMemory;
+use exb_shelf::{OpenFault, Shelf};
+use std::alloc::Global;
+
+/// A record of a capture that is read again.
+#[derive(Debug, Drop)]
+pub struct Replayed {
+    /// Its time in nanoseconds since the epoch, or the moment of the record before it if that is greater.
+    pub moment: u64,
+    /// Its frame, at most 262,144 bytes.
+    pub bytes: Bytes,
+}
+
+/// Why a capture isn't read on.
+#[derive(Clone, Copy, Debug, PartialEq, Eq)]
+pub enum ReplayFault {
+    /// Memory ran out.
+    Memory,
+    /// The shelf failed.
+    Read,
+    /// It is another capture than the one that was checked, as this byte shows.
+    Changed { at: u64 },
+}
+
+/// Whether a first record of this time was not told, or is earlier than was told.
+fn comes_early(told: Option<u64>, time: u64) -> bool
+    ensures { result ≡ comes_early told time }
+{
+    match told {
+        None => true,
+        Some(first) => time < first,
+    }
+}
+
+/// Why a capture can't be opened again.
+fn unopened(fault: OpenFault) -> ReplayFault
+    ensures { result ≡ unopened fault }
+{
+    match fault {
+        OpenFault::Missing => ReplayFault::Changed { at: 0 },
+        OpenFault::Failed => ReplayFault::Read,
+        OpenFault::Memory => ReplayFault::Memory,
+    }
+}
+
+/// Why a capture of which so many bytes were told can't be read on.
+fn unread(halt: Halt, bytes: u64) -> ReplayFault
+    ensures { result ≡ unread bytes halt }
+{
+    match halt {
+        Halt::Memory => ReplayFault::Memory,
+        Halt::Failed => ReplayFault::Read,
+        Halt::Broken { fault } => ReplayFault::Changed { at: fault.at },
+        Halt::Large => ReplayFault::Changed { at: bytes },
+    }
+}
+
+/// What is answered at a capture's end, after so many bytes, of which so many were told.
+fn at_end(got: u64, bytes: u64) -> Result<Option<u64>, ReplayFault>
+    ensures none { IfOk result (λ next. (next ≡ None) × (got ≡ bytes)) }
+    ensures other { (at : ℕ) → IsErrOf result (ReplayFault.Changed at) → (got ≢ bytes) × (at ≡ min got bytes) }
+    ensures read { IsErrOf result ReplayFault.Read → ⊥ }
+{
+    if got == bytes {
+        Ok(None)
+    } else {
+        Err(ReplayFault::Changed { at: got.min(bytes) })
+    }
+}
+
+/// Whether a file of so many bytes ends with its first record, before what was told.
+fn ends_short(got: u64, end: u64, bytes: u64) -> bool
+    ensures { result ≡ true → got < bytes }
+{
+    if got == end { got < bytes } else { false }
+}
+
+/// A capture on a shelf that was checked and is read again in pieces, with one buffer. One byte more than
+/// was told is read, so that a longer file shows.
+#[derive(Drop)]
+pub struct Replay {
+    file: CaptureFile,
+    told: Scanned,
+    /// The moment of the record that was given last, or 0.
+    least: u64,
+    /// Whether no record was given.
+    fresh: bool,
+}
+
+impl Replay {
+    /// Opens a capture again of which this was told.
+    ///
+    /// Where the files are told, it is Changed only where the file is no longer there.
+    pub fn open<S: Shelf>(
+        alloc: Global,
+        shelf: &mut S,
+        name: &str,
+        told: Scanned,
+    ) -> Result<Replay, ReplayFault>
+        requires room { told.bytes + 1 < 2 ^ 64 }
+        ensures told { IfOk result (λ replay. (replay.told ≡ told) × (replay.least ≡ 0)) }
+        ensures kept { IfOk result IsKept }
+        ensures begun { IfOk result (λ replay. IsBegun (told.bytes + 1) replay.file) }
+        ensures given { S.tells → IfOk result (HasGiven (bytes_of (S.file shelf.old name.now)) []) }
+        ensures there { S.tells → OnOk result (IsSome (S.file shelf.old name.now)) }
+        ensures changed { (at : ℕ) → IsErrOf result (ReplayFault.Changed at) → (at ≡ 0)
+            × (Rose (S.faults shelf.old).missing (S.faults shelf.new).missing)
+            × (S.tells → S.file shelf.old name.now ≡ None) }
+
+        // What is opened, and what stays.
+        ensures id { IfOk result (λ replay. S.ids shelf.new replay.file.id ≡ reading name.now 0) }
+        ensures new { IfOk result (λ replay. (S.ids shelf.old replay.file.id).given ≡ false) }
+        ensures others { IfOk result (λ replay. (j : ℕ) → j ≢ replay.file.id → S.ids shelf.new j ≡ S.ids shelf.old j) }
+        ensures opened { Opens (IsReadingOf name.now) (S.ids shelf.old) (S.ids shelf.new) }
+        ensures files { SameFiles (S.file shelf.old) (S.file shelf.new) }
+
+        ensures faults { NoFewer (S.faults shelf.old) (S.faults shelf.new) }
+        ensures failed { IsErrOf result ReplayFault.Read → Rose (S.faults shelf.old).reads (S.faults shelf.new).reads }
+    {
+        match CaptureFile::open(alloc, shelf, name, told.bytes + 1) {
+            Ok(file) => Ok(Replay {
+                file,
+                told,
+                least: 0,
+                fresh: true,
+            }),
+            Err(fault) => Err(unopened(fault)),
+        }
+    }
+
+    /// At which byte a capture is another one, whose first record comes early. Where that record ends only
+    /// behind what was told, the file goes on there; and where it ends with the file, it ends too soon.
+    /// Else it is where that record begins.
+    fn early<S: Shelf>(&mut self, shelf: &mut S, piece: &mut [u8]) -> ReplayFault
+        requires at { IsAt (S.ids shelf.old self.old.file.id) self.old.file.got }
+        requires piece { 0 < length piece.old }
+        requires kept { IsKept self.old }
+        requires fresh { self.old.fresh ≡ true }
+        requires found { (time : ℕ) × (ComesNext time self.old.file) × (comes_early self.old.told.first time ≡ true) }
+        ensures piece { length piece.new ≡ length piece.old }
+        ensures kept { IsKept self.new }
+        ensures same { IsSameReplay self.old self.new }
+        ensures changed { S.tells → (at : ℕ) → result ≡ ReplayFault.Changed at → (xs : List Record) → HasGiven (bytes_of (S.file shelf.old (S.ids shelf.old self.old.file.id).name)) xs self.old
+            → Disagrees self.old.told (bytes_of (S.file shelf.old (S.ids shelf.old self.old.file.id).name)) at }
+        ensures before { IsAsBefore self.old self.new }
+        ensures unread { result ≢ ReplayFault.Read }
+        ensures moves { MovesOn self.old.file.id (S.ids shelf.old) (S.ids shelf.new) }
+        ensures files { SameFiles (S.file shelf.old) (S.file shelf.new) }
+        ensures faults { NoFewer (S.faults shelf.old) (S.faults shelf.new) }
+    {
+        let bytes = self.told.bytes;
+        let begin = self.file.begun();
+        let end = self.file.place();
+        if bytes < end {
+            return ReplayFault::Changed { at: bytes };
+        }
+        self.file.pass();
+        if let Ok(None) = self.file.ahead(shelf, piece) {
+            let got = self.file.got();
+            if ends_short(got, end, bytes) {
+                return ReplayFault::Changed { at: got };
+            }
+        }
+        ReplayFault::Changed { at: begin }
+    }
+
+    /// Reads on until it is known what comes next, and answers the moment of the record, or None at the end.
+    /// What comes next isn't taken yet. `piece` has room for what is read at once.
+    ///
+    /// Where the files are told, it is Changed at a byte only where the file disagrees there with what was
+    /// told, and None only where all was given and it agrees.
+    pub fn ahead<S: Shelf>(
+        &mut self,
+        alloc: Global,
+        shelf: &mut S,
+        piece: &mut [u8],
+    ) -> Result<Option<u64>, ReplayFault>
+        requires at { IsAt (S.ids shelf.old self.old.file.id) self.old.file.got }
+        requires piece { 0 < length piece.old }
+        requires kept { IsKept self.old }
+        ensures piece { length piece.new ≡ length piece.old }
+        ensures kept { IsKept self.new }
+        ensures same { IsSameReplay self.old self.new }
+        ensures before { IsAsBefore self.old self.new }
+        ensures at { OnOk result (IsAt (S.ids shelf.new self.new.file.id) self.new.file.got) }
+        ensures left { OnOk result (left_to_read self.new.file ≤ left_to_read self.old.file) }
+        ensures found { IfOk result (λ next. IfSome next (λ moment. ComesAt moment self.new)) }
+
+        // What it says of the file, of which the records xs were given.
+        ensures given { S.tells → OnOk result ((xs : List Record) → HasGiven (bytes_of (S.file shelf.old (S.ids shelf.old self.old.file.id).name)) xs self.old
+            → HasGiven (bytes_of (S.file shelf.old (S.ids shelf.old self.old.file.id).name)) xs self.new) }
+        ensures end { S.tells → IfOk result (λ next. IfNone next ((xs : List Record) → HasGiven (bytes_of (S.file shelf.old (S.ids shelf.old self.old.file.id).name)) xs self.old
+            → IsPlayed self.old.told (bytes_of (S.file shelf.old (S.ids shelf.old self.old.file.id).name)) xs)) }
+        ensures changed { S.tells → (at : ℕ) → IsErrOf result (ReplayFault.Changed at) → (xs : List Record) → HasGiven (bytes_of (S.file shelf.old (S.ids shelf.old self.old.file.id).name)) xs self.old
+            → Disagrees self.old.told (bytes_of (S.file shelf.old (S.ids shelf.old self.old.file.id).name)) at }
+
+        ensures moves { MovesOn self.old.file.id (S.ids shelf.old) (S.ids shelf.new) }
+        ensures files { SameFiles (S.file shelf.old) (S.file shelf.new) }
+        ensures faults { NoFewer (S.faults shelf.old) (S.faults shelf.new) }
+        ensures failed { IsErrOf result ReplayFault.Read → Rose (S.faults shelf.old).reads (S.faults shelf.new).reads }
+    {
+        match self.file.ahead(shelf, piece) {
+            Ok(Some(time)) => {
+                if self.fresh && comes_early(self.told.first, time) {
+                    return Err(self.early(shelf, piece));
+                }
+                Ok(Some(time.max(self.least)))
+            }
+            Ok(None) => at_end(self.file.got(), self.told.bytes),
+            Err(halt) => Err(unread(halt, self.told.bytes)),
+        }
+    }
+
+    /// Takes the record that comes next, of which the moment is known, and gives its bytes as a copy.
+    pub fn take(&mut self, alloc: Global, moment: u64) -> Result<Replayed, NoMemory>
+        requires found { ComesAt moment self.old }
+        requires kept { IsKept self.old }
+        ensures kept { IsKept self.new }
+        ensures same { IsSameReplay self.old self.new }
+        ensures got { self.new.file.got ≡ self.old.file.got }
+        ensures left { left_to_read self.new.file + 16 ≤ left_to_read self.old.file }
+        ensures least { OnOk result (self.new.least ≡ moment) }
+        ensures moment { IfOk result (λ x. x.moment ≡ moment) }
+        ensures limits { IfOk result (IsReplayed self.old.least self.old.told.first) }
+        ensures bytes { (x : Record) → next_of self.old.file ≡ Some x → IfOk result (λ replayed. replayed.bytes ≡ x.bytes) }
+        ensures given { OnOk result ((bytes : List ℕ) (xs : List Record) (x : Record) → next_of self.old.file ≡ Some x
+            → HasGiven bytes xs self.old → HasGiven bytes (xs ++ x ∷ []) self.new) }
+    {
+        let bytes = self.file.take(alloc)?;
+        self.least = moment;
+        self.fresh = false;
+        Ok(Replayed { moment, bytes })
+    }
+
+    /// Reads on and takes the record that comes next; None exactly at the end. `piece` has room for what is
+    /// read at once.
+    ///
+    /// Where the files are told and the file is the one that was checked, the records come as they stand in
+    /// it, each with its moment, and it is never Changed.
+    pub fn next<S: Shelf>(
+        &mut self,
+        alloc: Global,
+        shelf: &mut S,
+        piece: &mut [u8],
+    ) -> Result<Option<Replayed>, ReplayFault>
+        requires at { IsAt (S.ids shelf.old self.old.file.id) self.old.file.got }
+        requires piece { 0 < length piece.old }
+        requires kept { IsKept self.old }
+        ensures piece { length piece.new ≡ length piece.old }
+        ensures kept { IsKept self.new }
+        ensures same { IsSameReplay self.old self.new }
+        ensures at { OnOk result (IsAt (S.ids shelf.new self.new.file.id) self.new.file.got) }
+        ensures limits { IfOk result (λ next. IfSome next (IsReplayed self.old.least self.old.told.first)) }
+        ensures least { IfOk result (λ next. IfSome next (λ x. self.new.least ≡ x.moment)) }
+        ensures left { IfOk result (λ next. IfSome next (λ x. left_to_read self.new.file + 16 ≤ left_to_read self.old.file)) }
+
+        ensures order { S.tells → IfOk result (λ next. (left : List Record) → IsReplaying (bytes_of (S.file shelf.old (S.ids shelf.old self.old.file.id).name)) left self.old
+            → IsFirstOf left self.old.least next (λ rest. IsReplaying (bytes_of (S.file shelf.old (S.ids shelf.old self.old.file.id).name)) rest self.new)) }
+        ensures never { S.tells → (at : ℕ) → IsErrOf result (ReplayFault.Changed at) → (left : List Record) → IsReplaying (bytes_of (S.file shelf.old (S.ids shelf.old self.old.file.id).name)) left self.old → ⊥ }
+
+        ensures moves { MovesOn self.old.file.id (S.ids shelf.old) (S.ids shelf.new) }
+        ensures files { SameFiles (S.file shelf.old) (S.file shelf.new) }
+        ensures faults { NoFewer (S.faults shelf.old) (S.faults shelf.new) }
+        ensures failed { IsErrOf result ReplayFault.Read → Rose (S.faults shelf.old).reads (S.faults shelf.new).reads }
+    {
+        match self.ahead(alloc, shelf, piece) {
+            Ok(Some(moment)) => match self.take(alloc, moment) {
+                Ok(next) => Ok(Some(next)),
+                Err(_) => Err(ReplayFault::Memory),
+            },
+            Ok(None) => Ok(None),
+            Err(fault) => Err(fault),
+        }
+    }
+}

@@ -1,0 +1,4 @@
+mod Counts
+mod Pieces
+mod Summary
+pub mod Summing

@@ -1,6 +1,0 @@
-pub mod Counting
-pub mod Going
-pub mod Looking
-pub mod OneAnswer
-pub mod Replaying
-pub mod Telling

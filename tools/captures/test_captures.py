@@ -1,0 +1,133 @@
+#!/usr/bin/env python3
+"""The program and a second reader of captures (crates/exb_cases/captured.py) say the same of files that nobody made with care.
+
+Each file is the capture of a port. Of one that is read the status is 0, and what leaves the other port and the journal's records
+are those of the second reader; of one with a fault the status is 4, and the line names the fault and its byte.
+"""
+import os
+import pathlib
+import random
+import shutil
+import struct
+import subprocess
+import sys
+import tempfile
+import unittest
+
+HERE = pathlib.Path(__file__).resolve().parent
+TOP = HERE.parent.parent
+sys.dont_write_bytecode = True
+sys.path.insert(0, str(TOP / "crates/exb_cases"))
+import captured
+import frames
+import pcapng
+
+TOPOLOGY = "bridge = { ports = 2 }\ncaptures = { b1 = 'in.pcapng' }\n"
+
+
+def program():
+    """Where the program is, or None."""
+    given = os.environ.get("EXBR_PROGRAM") or str(TOP / "dist/exbr")
+    return given if os.access(given, os.X_OK) else None
+
+
+def some_block(draw, order, sizes):
+    """A block with content that is drawn: mostly a good one."""
+    kind = draw.choice([1, 3, 6, 6, 6, 5, 4, 0x0A0D0D0A, 2, draw.getrandbits(32)])
+    content = draw.randbytes(4 * draw.randrange(12))
+    if kind == 6:
+        frame = draw.randbytes(draw.randrange(40))
+        content = struct.pack(order + "IIIII", draw.choice([0, 0, 0, 1]), draw.choice([0, 0, 0x000F0000, 0xFFFFFFFF]), draw.getrandbits(32), len(frame), 60)
+        content += frame + bytes(-len(frame) % 4)
+    elif kind == 3:
+        content = struct.pack(order + "I", draw.randrange(40)) + draw.randbytes(40)
+    elif kind == 1:
+        value = draw.choice([6, 9, 0, 3, 10, 137])
+        options = draw.choice([b"", struct.pack(order + "HHI", 9, 1, 0)[:4] + bytes([value, 0, 0, 0]), struct.pack(order + "HH", 2, 4) + b"name", bytes(4)])
+        content = struct.pack(order + "HHI", draw.choice([1, 1, 1, 113]), 0, draw.choice([0, 0, 20])) + options
+    elif kind == 0x0A0D0D0A:
+        content = struct.pack(order + "IHHq", 0x1A2B3C4D, draw.choice([1, 1, 1, 2]), 0, -1)
+    size = len(content) + 12
+    if draw.random() < sizes:
+        size = draw.choice([size + 4, size - 4, 0, draw.getrandbits(32), 327_684])
+    return struct.pack(order + "II", kind, size & 0xFFFFFFFF) + content + struct.pack(order + "I", size & 0xFFFFFFFF)
+
+
+def some_file(draw):
+    """A section with an interface and blocks that are drawn."""
+    order = draw.choice("<>")
+    file = struct.pack(order + "IIIHHqI", 0x0A0D0D0A, 28, 0x1A2B3C4D, 1, 0, -1, 28) + struct.pack(order + "IIHHII", 1, 20, 1, 0, 0, 20)
+    file += b"".join(some_block(draw, order, 0.01) for _ in range(draw.randrange(1, 30)))
+    return file[:draw.randrange(len(file))] if draw.random() < 0.1 else file
+
+
+@unittest.skipUnless(program(), "no program: set EXBR_PROGRAM")
+class Captures(unittest.TestCase):
+    def setUp(self):
+        self.folder = tempfile.mkdtemp()
+        self.addCleanup(shutil.rmtree, self.folder)
+        pathlib.Path(self.folder, "topology.toml").write_text(TOPOLOGY, encoding="utf-8")
+        self.read, self.refused = 0, 0
+
+    def judge(self, file, name):
+        """The program says of a file what the second reader does."""
+        pathlib.Path(self.folder, "in.pcapng").write_bytes(file)
+        ran = subprocess.run([program(), "run", "topology.toml"], cwd=self.folder, capture_output=True, text=True, check=False)
+        records, fault = captured.read(file)
+        if fault:
+            self.refused += 1
+            self.assertEqual((ran.returncode, ran.stdout), (4, "exbr: capture b1: %s at %d\n" % fault), name)
+            return
+        self.read += 1
+        self.assertEqual((ran.returncode, ran.stdout.split()[:2]), (0, ["arrivals", str(len(records))]), name)
+        out = captured.read(pathlib.Path(self.folder, "out-b2.pcap").read_bytes())[0]
+        rest = iter(self.raised(records))
+        for time, frame in out:
+            self.assertTrue(any((at // 1000 * 1000, data) == (time, frame) for at, data in rest), name)
+
+    @staticmethod
+    def raised(records):
+        """Moments never fall; a frame leaves as it came where it is untagged, and those with a tag leave without."""
+        least = 0
+        for time, frame in records:
+            least = max(least, time)
+            yield least, frame
+            if frame[12:14] == b"\x81\x00":
+                yield least, frame[:12] + frame[16:]
+
+    def test_each_bit_of_a_small_file(self):
+        small = pcapng.HEAD + pcapng.block(1, struct.pack("<HHIHHI", 1, 0, 0, 9, 1, 9)) + pcapng.block(6, struct.pack("<IIIII", 0, 0, 5, 2, 2) + b"ab\0\0")
+        small += pcapng.block(3, struct.pack("<I", 3) + b"abc\0")
+        for bit in range(8 * len(small)):
+            file = bytearray(small)
+            file[bit // 8] ^= 1 << bit % 8
+            self.judge(bytes(file), f"bit {bit}")
+        self.assertGreater(self.read, 300)
+        self.assertGreater(self.refused, 300)
+
+    def test_each_front_of_each_written_file(self):
+        for path in sorted((TOP / "crates/exb_cases/written").glob("*.pcap*")):
+            file = path.read_bytes()
+            for size in [*range(0, len(file), 61), len(file)]:
+                self.judge(file[:size], f"{path.name} cut to {size}")
+
+    def test_blocks_that_are_drawn(self):
+        draw = random.Random(19)
+        for at in range(int(os.environ.get("EXBR_DRAWS", "500"))):
+            self.judge(some_file(draw), f"draw {at}")
+        self.assertGreater(self.read, 30)
+        self.assertGreater(self.refused, 100)
+
+    def test_long_files_of_blocks(self):
+        draw = random.Random(20)
+        for at in range(4):
+            blocks = []
+            while sum(map(len, blocks)) < 1_000_000:
+                frame = draw.randbytes(draw.randrange(14, 2000))
+                blocks += [pcapng.block(6, struct.pack("<IIIII", 0, 0, draw.getrandbits(32), len(frame), 1) + frame + bytes(-len(frame) % 4))] * 8
+                blocks.append(pcapng.block(draw.choice([2, 4, 5, 0xBAD]), bytes(4 * draw.randrange(50_000))))
+            self.judge(pcapng.HEAD + pcapng.ETHERNET + b"".join(blocks), f"long file {at}")
+
+
+if __name__ == "__main__":
+    unittest.main()
