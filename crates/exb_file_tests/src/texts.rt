@@ -3,7 +3,9 @@ use crate::compare::{holds, same};
 use exb_model::bytes::Bytes;
 use exb_model::event::{Cause, Event};
 use exb_model::port::PortId;
-use exb_text::{PortName, Tally, capture_file_name, journal_file_name, write_line};
+use exb_text::{
+    PortName, Tally, capture_file_name, counters_file_name, journal_file_name, write_line,
+};
 use std::alloc::Global;
 use std::process::Abort;
 
@@ -109,7 +111,9 @@ fn ports_are_counted_from_one_and_files_named_after_them(rt: HostRuntime) {
 }
 
 #[test]
-fn the_journal_has_a_name(rt: HostRuntime) {
+fn the_journal_and_the_counters_have_names(rt: HostRuntime) {
     let journal = journal_file_name(rt.alloc(), "out-").expect(&rt, "memory");
     same(&rt, journal.as_str(), "out-journal.txt", "a journal");
+    let counters = counters_file_name(rt.alloc(), "out-").expect(&rt, "memory");
+    same(&rt, counters.as_str(), "out-counters.txt", "counters");
 }

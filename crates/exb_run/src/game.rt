@@ -150,8 +150,9 @@ impl Game {
             → AreCut plan.now orig (S.file shelf.new)
             (with_more (with_left_frames (with_more text output.Journal (lines_of (network_of self.old.world).log.events)) (network_of self.old.world).log.left)
             output.Trace (trace_text (network_of self.old.world).log.lines))) }
-        ensures counts { OnOk result (counts_of self.new.tally
-            ≡ with_left (length (network_of self.old.world).log.left) (fold (λ c e. counted e c) self.old.counted (network_of self.old.world).log.events)) }
+        ensures tally { OnOk result (counts_of self.new.counted.tally
+            ≡ with_left (length (network_of self.old.world).log.left) (fold (λ c e. counted e c) (counts_of self.old.counted.tally) (network_of self.old.world).log.events)) }
+        ensures ports { OnOk result (CountsOn self.old.counted.ports self.new.counted.ports (network_of self.old.world).log.events (network_of self.old.world).log.passed (network_of self.old.world).log.left) }
         ensures fate { OnOk result (left (fate_in self.new.world) ≡ left (fate_in self.old.world)) }
         ensures only { OnlyWrites S.tells plan.now (S.file shelf.old) (S.file shelf.new) (S.ids shelf.old) (S.ids shelf.new) }
         ensures causes { IfErr result IsOfWriting }

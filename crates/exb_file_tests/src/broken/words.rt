@@ -3,7 +3,7 @@ use super::topologies::filled;
 use crate::compare::{holds, same};
 use crate::hostile::{verdict_at, verdict_of_bit};
 use exb_hostile::turned::{BITS, turn};
-use exb_words::{Asked, accept};
+use exb_words::{Asked, Options, accept};
 use std::alloc::Global;
 use std::process::Abort;
 
@@ -69,7 +69,7 @@ const CASES: [Case; 4] = [
 ];
 
 /// Numbers and names at their limits, and beyond.
-const LIMITS: [(&str, &str); 22] = [
+const LIMITS: [(&str, &str); 27] = [
     ("make 0", "make 0"),
     ("make 00000000000000000000", "make 0"),
     ("make 000000000000000000000", "none"),
@@ -88,6 +88,11 @@ const LIMITS: [(&str, &str); 22] = [
     ("run t --seed \u{661}", "none"),
     ("run t --seed=7 --trace", "run <t> trace seed 7"),
     ("run --seed=7 --seed=7 t", "none"),
+    ("run --counters t", "run <t> counters"),
+    ("run --seed 7 --counters t --trace", "run <t> trace counters seed 7"),
+    ("run --counters t --counters", "none"),
+    ("run t --counters=1", "none"),
+    ("check --counters t", "none"),
     ("run t --seed=--trace", "none"),
     ("run \u{2d}\u{301}", "none"),
     ("run \u{2212}t", "run <\u{2212}t>"),
@@ -109,13 +114,17 @@ fn run_text(
     rt: &impl Abort,
     alloc: Global,
     topology: &str,
-    trace: bool,
-    seed: Option<u64>,
+    options: Options,
 ) -> String {
-    let traced = if trace { " trace" } else { "" };
-    let told = match seed {
-        None => format!(in alloc; "run <{topology}>{traced}"),
-        Some(seed) => format!(in alloc; "run <{topology}>{traced} seed {seed}"),
+    let traced = if options.trace { " trace" } else { "" };
+    let counted = if options.counters {
+        " counters"
+    } else {
+        ""
+    };
+    let told = match options.seed {
+        None => format!(in alloc; "run <{topology}>{traced}{counted}"),
+        Some(seed) => format!(in alloc; "run <{topology}>{traced}{counted} seed {seed}"),
     };
     told.expect(rt, "memory")
 }
@@ -128,13 +137,7 @@ fn asked_text(rt: &impl Abort, alloc: Global, asked: Option<Asked<'_>>) -> Strin
             format!(in alloc; "check <{topology}>").expect(rt, "memory")
         }
         Some(Asked::Make { number }) => format!(in alloc; "make {number}").expect(rt, "memory"),
-        Some(
-            Asked::Run {
-                topology,
-                trace,
-                seed,
-            },
-        ) => run_text(rt, alloc, topology, trace, seed),
+        Some(Asked::Run { topology, options }) => run_text(rt, alloc, topology, options),
     }
 }
 
