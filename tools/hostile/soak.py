@@ -47,8 +47,8 @@ class Taken:
         self.topology, self.captures = topology.replace("FOLDER/", ""), captures
 
 
-def drawn(chance):
-    """An input, and what must come of it."""
+def drawn(chance, offers_counters):
+    """An input, and what must come of it. Counters are asked for where the program offers them and the models in Python have them."""
     taken = Taken()
     generated.at_random(taken, chance.getrandbits(32), chance.choice([1, 1, 2, 2, 3, 4, 6]), chance.choice([3, 6, 12, 20]))
     text, words = taken.topology, ["run", "t.toml"]
@@ -62,6 +62,11 @@ def drawn(chance):
         whole, line, _ = run_world(text, taken.captures, seed)
         if not traced:
             whole = {name: data for name, data in whole.items() if not name.endswith("trace.txt")}
+    counters = [name for name in whole if name.endswith("counters.txt")]
+    if counters and offers_counters and chance.random() < 0.5:
+        words.append("--counters")
+    else:
+        whole = {name: data for name, data in whole.items() if name not in counters}
     return Input({"t.toml": text.encode(), **taken.captures}, words, whole, f"{line}\n".encode()), traced
 
 
@@ -71,7 +76,7 @@ class Soak:
     def __init__(self, program, room):
         self.program, self.room, self.folder = program, room, os.path.join(room, "it")
         usage = subprocess.run([program], capture_output=True, check=False).stdout.decode()
-        self.audits, self.counts_ports = "audit" in usage, "--counters" in usage
+        self.audits, self.offers_counters = "audit" in usage, "--counters" in usage
         self.counts, self.statuses = collections.Counter(), collections.Counter()
         self.library = self.built("fail.c")
         self.refuses = self.built("refuse.c")
@@ -111,11 +116,6 @@ class Soak:
         it.put(self.folder)
         ran = play(self.program, self.folder, it.words)
         it.judge(self.folder, ran, (0,))
-        if self.counts_ports:
-            self.clear()
-            it.put(self.folder)
-            ran = play(self.program, self.folder, [*it.words, "--counters"])
-            it.judge(self.folder, ran, (0,), more=["out-counters.txt"])
 
     def audit(self, it):
         """An audit of a traced run finds nothing, changes nothing, and finds something where the trace lacks a line."""
@@ -228,7 +228,7 @@ class Soak:
     def input(self, number):
         """Plays the input of a number, and the same under some faults."""
         chance = random.Random(number)
-        it, traced = drawn(chance)
+        it, traced = drawn(chance, self.offers_counters)
         try:
             self.first(it)
             if traced and self.audits:

@@ -8,14 +8,20 @@ from __future__ import annotations
 import importlib.util
 import os
 import re
+import sys
 
-HOME = os.path.join(os.path.dirname(os.path.abspath(__file__)), "..", "..", "..", "crates", "exb_cases", "bridge.py")
+HOME = os.path.normpath(os.path.join(os.path.dirname(os.path.abspath(__file__)), "..", "..", "..", "crates", "exb_cases"))
 
 
 def _load():
-    spec = importlib.util.spec_from_file_location("exb_plain_bridge", os.path.normpath(HOME))
+    spec = importlib.util.spec_from_file_location("exb_plain_bridge", os.path.join(HOME, "bridge.py"))
     module = importlib.util.module_from_spec(spec)
-    spec.loader.exec_module(module)
+    # What it stands on lies beside it.
+    sys.path.insert(0, HOME)
+    try:
+        spec.loader.exec_module(module)
+    finally:
+        sys.path.remove(HOME)
     return module
 
 

@@ -59,7 +59,7 @@ class InFolder(unittest.TestCase):
         os.makedirs(to, exist_ok=True)
         for folder in (source, os.path.join(source, "expected")):
             for name in os.listdir(folder):
-                if name.endswith((".pcap", ".txt", ".toml")) and not (folder == source and name.startswith("out-")):
+                if name.endswith((".pcap", ".pcapng", ".txt", ".toml")) and not (folder == source and name.startswith("out-")):
                     shutil.copy(os.path.join(folder, name), to)
         return to
 

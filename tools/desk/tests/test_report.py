@@ -205,19 +205,19 @@ class Large(ground.InFolder):
         run = runs.read(self.folder)
         self.assertEqual((len(run.topology.external), run.arrivals), (49, 480))
 
-    def test_all_ports_there_can_be(self):
+    def test_many_ports(self):
         # Ports of the bridge carry extenders of 64 ports each. Nothing arrives there; the journal has the ups alone.
-        tables = "".join(f'[[extender]]\nnumber = {it}\non = "b{it}"\nports = 64\n' for it in range(1, 65))
-        self.write("topology.toml", f"[bridge]\nports = 64\n{tables}")
-        ports = [f"x{it}.{number}" for it in range(1, 65) for number in range(1, 65)]
+        tables = "".join(f'[[extender]]\nnumber = {it}\non = "b{it}"\nports = 64\n' for it in range(1, 7))
+        self.write("topology.toml", f"[bridge]\nports = 6\n{tables}")
+        ports = [f"x{it}.{number}" for it in range(1, 7) for number in range(1, 65)]
         self.write("out-journal.txt", "".join(f"up {it}\n" for it in ports) + "settled\n")
         for it in ports:
             self.write(f"out-{it}.pcap", many.HEADER)
         found = report(self.folder)
-        self.assertEqual((len(found.ports), [it for it in found.notices if it.is_fault]), (4096, []))
+        self.assertEqual((len(found.ports), [it for it in found.notices if it.is_fault]), (384, []))
         text = page.build(found)
-        self.assertEqual(text.count('class="port"'), 4096)
-        self.assertLess(len(text), 8_000_000)
+        self.assertEqual(text.count('class="port"'), 384)
+        self.assertLess(len(text), 800_000)
 
 
 class Pictures(unittest.TestCase):
