@@ -241,7 +241,7 @@ pub can-begin : (tells : Type 0) (m : Mode) (setup : Setup) (commands : List Tim
     (before : Files) (p : Programme) → MergeOfAll → StartIsLeast → IsScript (shape_of setup) commands fate → plan.tree ≡ shape_of setup → CanBeRead tells plan names file cs →
     p.start ≡ start_told cs → p.commands.now ≡ commands → p.taken ≡ 0 → standings p.captures ≡ map first_standing cs → left_in p.captures ≤ sum_by (λ c. c.told.bytes + 1) cs →
     AllByRecursion (λ k. ReadsCapture names (ids k)) (ids_in p.captures) → (tells → AreReplays now ids p.captures.sources.items (map (stream_told names file) cs)) →
-    (tells → HasTexts plan (pieces_of o) before now (first_text plan)) →
+    (tells → HasTexts plan (pieces_of o) before now first_text) →
     CanBegin tells m (record { input = input_from setup commands names file; before = before }) setup plan now ids o p
 can-begin tells m setup commands fate plan names file now cs ids o before p law least script tree can start same none standing left named replays texts =
     let i : Input = input_from setup commands names file in
@@ -279,7 +279,7 @@ pub can-begin-of : (tells : Type 0) (m : Mode) (setup : Setup) (commands : List 
     (before : Files) (p : Programme) (captures : Replays) → MergeOfAll → StartIsLeast → IsScript (shape_of setup) commands fate → plan.tree ≡ shape_of setup → CanBeRead tells plan names file cs →
     p.start ≡ start_told cs → p.commands.now ≡ commands → p.taken ≡ 0 → p.captures ≡ captures → standings captures ≡ map first_standing cs → left_in captures ≤ sum_by (λ c. c.told.bytes + 1) cs →
     AllByRecursion (λ k. ReadsCapture names (ids k)) (ids_in captures) → (tells → AreReplays now ids captures.sources.items (map (stream_told names file) cs)) →
-    (tells → HasTexts plan (pieces_of o) before now (first_text plan)) →
+    (tells → HasTexts plan (pieces_of o) before now first_text) →
     CanBegin tells m (record { input = input_from setup commands names file; before = before }) setup plan now ids o p
 can-begin-of tells m setup commands fate plan names file now cs ids o before p captures law least script tree can start same none are standing left named replays texts =
     can-begin tells m setup commands fate plan names file now cs ids o before p law least script tree can start same none

@@ -188,4 +188,4 @@ pub unchanged_fronts : (i : Input) (prefix : List ℕ) (f g : Files) → SameFil
 unchanged_fronts i prefix f g same = record { captures = λ q is. inl (same (capture_name prefix q)); journal = inl (same (journal_name prefix)) }
 
 pub same_eagerly : (i : Input) (plan : Planned) (f g : Files) → SameFiles f g → AreCutEagerly i plan f g
-same_eagerly i plan f g same j le = inl (same (output_name plan j))
+same_eagerly i plan f g same j low grows = inl (same (output_name plan j))

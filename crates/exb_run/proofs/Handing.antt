@@ -32,7 +32,7 @@ all-cons P x xs here rest zero d low = here
 all-cons P x xs here rest (suc k) d low = rest k d (omega (arith, low))
 
 by_kinds : (P : Output → Type 0) (ports : List ℕ) → All P (map output.Capture ports ++ other_outputs) → All (λ q. P (output.Capture q)) ports × (P output.Journal × P output.Trace × P output.Counters)
-by_kinds P [] all = (λ k d low. absurd (omega (arith, low)), all 0 output.Journal (omega arith), all 1 output.Journal (omega arith), all 2 output.Journal (omega arith))
+by_kinds P [] all = (λ k d low. absurd (omega (arith, low)), (all 0 output.Journal (omega arith), all 1 output.Journal (omega arith), all 2 output.Journal (omega arith)))
 by_kinds P (p ∷ ports) all =
     let rest = by_kinds P ports (λ k d low. all (suc k) d (omega (arith, low))) in
     (all-cons (λ q. P (output.Capture q)) p ports (all 0 output.Journal (omega arith)) rest.0, rest.1)

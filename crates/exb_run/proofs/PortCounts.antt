@@ -33,7 +33,7 @@ use Rattle.exb_schedule.specs.Playing.{HasPlayed}
 use Rattle.exb_text.specs.Tallies.{counts_of, nothing_counted}
 use Rattle.exb_wiring.specs.Counting.{CountsGoOn}
 use Rattle.exb_run.specs.declared.counted.Counted.{Counted}
-use Rattle.exb_run.specs.Playing.{AreCounted, CanCount, CanCountAt, CountsOn, GoTogether, IsCounted, counts_so_far, port_counts_so_far, with_frames}
+use Rattle.exb_run.specs.Playing.{AreCounted, AreCountsOf, CanCount, CanCountAt, CountsOn, GoTogether, IsCounted, counts_so_far, port_counts_so_far, with_frames}
 use Rattle.exb_run.specs.Writing.{CanBeWritten}
 use Rattle.exb_run.specs.Plans.{Planned}
 use Rattle.exb_run.specs.UnderWay.{CanFollow}
@@ -352,6 +352,14 @@ counted-on plan c d told more passed said gone xs tally ports together are = rec
 -- before anything is told
 pub counted-none : (plan : Planned) (c : Counted) → counts_of c.tally ≡ nothing_counted → AreCounted plan c.ports [] [] [] → IsCounted plan c [] [] []
 counted-none plan c tally ports = record { tally = tally; ports = ports }
+
+pub asked_for : (b : Bool) → not b ≡ false → b ≡ true
+asked_for true e = refl
+asked_for false e = sym e
+
+pub counts-of : (plan : Planned) (ports : Option Counters) (told : List Event) (passed : List Bool) (gone : List Leaving) → AreCounted plan ports told passed gone → AreCountsOf plan ports
+counts-of plan None told passed gone are = are
+counts-of plan (Some c) told passed gone are = (are.0, are.1)
 
 pub ports-new : (plan : Planned) (made : Counters) → plan.options.counters ≡ true → ((q : ℕ) → q < 4160 → is_external plan.tree q ≡ true → HasPort made q) → ((q : ℕ) → counts_at made q ≡ nothing) →
     AreCounted plan (Some made) [] [] []

@@ -17,7 +17,7 @@ use Rattle.exb_run.specs.Opening.{ReadsCapture}
 use Rattle.exb_run.specs.Playing.{IsScript, mode_of}
 use Rattle.exb_run.specs.Shelving.{IsOfRun}
 use Rattle.exb_run.specs.Answers.{mode_for}
-use Rattle.exb_run.proofs.FaultLemmas.{first_once}
+use Rattle.exb_run.proofs.FaultLemmas.{first_none, first_once}
 use Rattle.exb_run.proofs.Handing.{sound_captures, sound_script}
 use Rattle.exb_run.proofs.OpenLemmas.{opened_for}
 use Rattle.exb_run.proofs.Running.{files_same, fronts_by, only_by, played_by, if_ok_map}
@@ -55,6 +55,12 @@ returns-in_err-checked-clause-stops g c tells p fault first =
       | inr (inl read) ↦ inr (inl (ap Err read))
       | inr (inr memory) ↦ inr (inr (ap Err memory))
     ])
+
+pub returns-clause-stops : goal.returns-clause-stops
+returns-clause-stops g c tells p fault first =
+    let file = g.S.Shelf.file c.args.shelf.now in
+    let good : AreAllGood c.args.topology.now.captures file = subst (λ (names : List Named). AreAllGood names file) c.as_slice.ensures (c.in_ok-checked.ensures.good tells) in
+    absurd (first_none c.args.topology.now.captures file p fault good first)
 
 pub returns-clause-done : goal.returns-clause-done
 returns-clause-done g c tells =

@@ -1,12 +1,13 @@
 use Rattle.std.proofs.Common.{◌≡◌, ℕ, ◌<◌, ◌^◌, List, ◌∷◌, Some, drop, ap, sym, subst, ◌∙◌, arith}
 use Rattle.std.proofs.lemmas.Result.{err_from_is_err_and}
+use Rattle.exb_model.specs.Texts.{Counts}
 use Rattle.exb_model.specs.declared.setup.Timed.{Timed}
 use Rattle.exb_merge.specs.Replays.{ids_in}
 use Rattle.exb_schedule.specs.Playing.{letters_in}
 use Rattle.exb_schedule.specs.Worlds.{network_of}
-use Rattle.exb_text.specs.Tallies.{counts_of}
 use Rattle.exb_run.specs.Playing.{mode_of}
 use Rattle.exb_run.specs.Shelving.{OnlyReads}
+use Rattle.exb_run.proofs.PortCounts.{counts-of}
 use Rattle.exb_run.proofs.Going.{all-played, can-go-on, cut-reading, seconds-fit}
 use Rattle.exb_run.proofs.Keeping.{feed-written, goes-reading, goes-writing, ready-read}
 use Rattle.exb_run.proofs.ShelvingLemmas.{fewer_then}
@@ -93,9 +94,14 @@ returns-clause-few g c =
     let p = c.events.invariant.goes_on run c.requires.playing.1 in
     let few = arrivals-low (mode_of c.args.schedule) run.input p.so_far (network_of c.events.self.world) p.is.told p.is.passed p.is.gone p.is.lines c.runs_are_few.ensures
     (let most = p.next.few_bytes in omega (arith, most)) p.is.played in
-    let relayed = ap (λ x. x.relayed) p.is.counted in
-    let ignored = ap (λ x. x.ignored) p.is.counted in
+    let relayed = ap (λ (x : Counts). x.relayed) p.is.counted.tally in
+    let ignored = ap (λ (x : Counts). x.ignored) p.is.counted.tally in
     omega (arith, few, relayed, ignored)
+
+pub returns-clause-counted : goal.returns-clause-counted
+returns-clause-counted g c =
+    let p = c.events.invariant.goes_on c.requires.playing.0 c.requires.playing.1 in
+    counts-of c.args.plan.now c.events.self.counted.ports p.is.told p.is.passed p.is.gone p.is.counted.ports
 
 pub returns-clause-told : goal.returns-clause-told
 returns-clause-told g c t run start =
