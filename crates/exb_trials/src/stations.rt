@@ -2,8 +2,8 @@
 ghost use Rattle.std.specs.Prelude.{◌≤◌, ◌<◌};
 
 use crate::draws::{draw, draw_byte, draw_vlan};
-use exb_model::port::PortId;
 use exb_capture::{header_text, record_text};
+use exb_model::port::PortId;
 use rand_pcg::Lcg64Xsh32;
 use std::alloc::Global;
 use std::process::Abort;

@@ -89,7 +89,10 @@ const LIMITS: [(&str, &str); 27] = [
     ("run t --seed=7 --trace", "run <t> trace seed 7"),
     ("run --seed=7 --seed=7 t", "none"),
     ("run --counters t", "run <t> counters"),
-    ("run --seed 7 --counters t --trace", "run <t> trace counters seed 7"),
+    (
+        "run --seed 7 --counters t --trace",
+        "run <t> trace counters seed 7",
+    ),
     ("run --counters t --counters", "none"),
     ("run t --counters=1", "none"),
     ("check --counters t", "none"),
@@ -110,18 +113,9 @@ fn words_of(rt: &impl Abort, alloc: Global, text: &str) -> Vec<String> {
 }
 
 // What a run asks for.
-fn run_text(
-    rt: &impl Abort,
-    alloc: Global,
-    topology: &str,
-    options: Options,
-) -> String {
+fn run_text(rt: &impl Abort, alloc: Global, topology: &str, options: Options) -> String {
     let traced = if options.trace { " trace" } else { "" };
-    let counted = if options.counters {
-        " counters"
-    } else {
-        ""
-    };
+    let counted = if options.counters { " counters" } else { "" };
     let told = match options.seed {
         None => format!(in alloc; "run <{topology}>{traced}{counted}"),
         Some(seed) => format!(in alloc; "run <{topology}>{traced}{counted} seed {seed}"),
