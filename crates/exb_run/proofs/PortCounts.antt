@@ -337,8 +337,8 @@ ports-on plan (Some c) (Some d) told more passed said gone xs on together are =
       are.0,
       (λ q low out. (let h = are.1 q low out in omega (arith, h, same))),
       (λ q there.
-      let was : HasPort c q = omega (arith, there, same) in
-      on.1 q was ∙ ap (λ (z : Counts5). with_frames (left_at q (all_left xs)) (plus_events more said q z)) (are.2 q was) ∙ port_more told more passed said gone (all_left xs) q together),
+          let was : HasPort c q = omega (arith, there, same) in
+          on.1 q was ∙ ap (λ (z : Counts5). with_frames (left_at q (all_left xs)) (plus_events more said q z)) (are.2 q was) ∙ port_more told more passed said gone (all_left xs) q together),
     )
 
 pub counted-on : (plan : Planned) (c d : Counted) (told more : List Event) (passed said : List Bool) (gone : List Leaving) (xs : List Left) →

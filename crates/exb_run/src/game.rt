@@ -30,8 +30,8 @@ use crate::outputs::Outputs;
 use crate::plan::Plan;
 use crate::script::{Schedule, Script};
 use exb_fate::Fate;
-use exb_model::setup::Timed;
 use exb_machine::laws::steps_tell_passed;
+use exb_model::setup::Timed;
 use exb_resting::laws::rest::{
     runs_are_few, runs_are_under_way, runs_say_passed, runs_write_eagerly, runs_write_fronts,
     runs_write_legally,
@@ -159,11 +159,7 @@ impl Game {
         ensures faults { CountsFaults result (S.faults shelf.old) (S.faults shelf.new) }
     {
         write_all(shelf, plan, &mut self.outputs, &mut self.room, &self.world)?;
-        self.counted.note(
-            self.world.events(),
-            self.world.passed(),
-            self.world.left(),
-        );
+        self.counted.note(self.world.events(), self.world.passed(), self.world.left());
         self.world.clear();
         Ok(())
     }
@@ -473,13 +469,7 @@ pub(crate) fn play_feed<S: Shelf>(
     let Ok(counted) = Counted::new(alloc, script.setup, plan) else {
         return Err(Fault::Memory);
     };
-    let Ok(world) = open(
-        alloc,
-        script.setup,
-        fate,
-        script.fate,
-        plan.options().trace,
-    ) else {
+    let Ok(world) = open(alloc, script.setup, fate, script.fate, plan.options().trace) else {
         return Err(Fault::Memory);
     };
     play_world(alloc, shelf, plan, schedule, world, outputs, counted, feed)
