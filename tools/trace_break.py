@@ -3,8 +3,8 @@
 
 It reads the topology, its captures, and the output files, journal and trace of a run, judges the five rules of a legal trace by the
 judge of `crates/exb_cases/world`, which was written from the rules alone, and prints the lowest rule that doesn't hold and the first
-line at which it doesn't, with so many lines around it (4 without a number), each of them decoded. Its status is that of
-`exbr audit`: 0 where all rules hold, 11 where one is broken.
+line at which it doesn't, with so many lines around it (4 without a number), each of them decoded. Its status is 0 where all rules hold,
+and 11 where one is broken.
 """
 import glob
 import os
