@@ -2,9 +2,9 @@
 ghost use Rattle.exb_audit.specs.Audits.{RunsAreAudited};
 ghost use Rattle.exb_audit.specs.Written.{FlatCanBeWritten};
 
+use exb_capture::laws::written_is_read;
 use exb_legal::deciding::all_are_judged;
 use exb_legal::laws::{journals_are_lines, legal_lines_are_spelled, traces_read_back};
-use exb_capture::laws::written_is_read;
 
 /// Each frame that the one bridge sends can be written into a capture, where the moments of its history can be.
 pub fn flat_can_be_written()
