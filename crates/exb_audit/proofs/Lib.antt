@@ -1,2 +1,15 @@
 pub mod Written
 pub mod Audits
+pub mod Cuts
+pub mod Hexadecimal
+pub mod Counts
+pub mod Ports
+pub mod Told
+pub mod Tables
+pub mod Machines
+pub mod Carrying
+pub mod Watched
+pub mod Entered
+pub mod Finding
+pub mod Beginnings
+pub mod Spoken

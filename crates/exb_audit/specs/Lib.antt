@@ -1,2 +1,11 @@
 pub mod Written
 pub mod Audits
+pub mod Words
+pub mod Frames
+pub mod Counting
+pub mod Capturing
+pub mod Places
+pub mod Watching
+pub mod Linking
+pub mod Entering
+pub mod Judging
