@@ -8,7 +8,7 @@ from .program import TOP
 from .tests import Test
 
 # A file is to take some ten seconds, and is stopped after so many.
-SECONDS = 100
+SECONDS = 600
 COUNTS = re.compile(r"(failures|errors|skipped|unexpected successes)=(\d+)")
 
 
