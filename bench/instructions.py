@@ -98,9 +98,10 @@ def counted(case, top, flat, options):
     own = [program, "run", "topology.toml"]
     plain = [flat, "1", "flat-"] + [f"in-{port}.pcap" for port in case.tree.ports]
     ways = [own, own + options, plain] if options else [own, plain]
-    with concurrent.futures.ThreadPoolExecutor(os.cpu_count()) as pool:
-        counts = list(pool.map(lambda it: instructions(*it), [(way, folder) for way in ways for folder in folders]))
-    return [(high - low) / more for low, high in zip(counts[::2], counts[1::2])]
+    # Two runs at once in one folder would write over each other's files.
+    with concurrent.futures.ThreadPoolExecutor(len(folders)) as pool:
+        low, high = pool.map(lambda folder: [instructions(way, folder) for way in ways], folders)
+    return [(most - least) / more for least, most in zip(low, high)]
 
 
 def table(rows, options, markdown):
