@@ -3,14 +3,11 @@ ghost use Rattle.std.specs.Prelude.{◌≡◌, ◌∷◌, ◌++◌, [], Some, On
 ghost use Rattle.exb_model.specs.Texts.{line_of, cause_text};
 
 use crate::PortName;
-use arrayvec::ArrayString;
+use crate::quick_line::{ROOM, quick_line};
 use exb_model::event::{Cause, Event};
 use exb_model::memory::NoMemory;
 use std::fmt;
 use std::fmt::Write;
-
-// A refusal for want of channels, with each number at its largest, and the newline.
-const LONGEST_LINE: usize = 59;
 
 /// An event that prints as its line of the journal, without the newline.
 #[derive(Clone, Copy)]
@@ -57,12 +54,20 @@ pub fn write_line(text: &mut String, event: &Event) -> Result<(), NoMemory>
     ensures ok { OnOk result (string_bytes text.new ≡ string_bytes text.old ++ line_of event.now ++ 10 ∷ []) }
     ensures err { OnErr result (string_bytes text.new ≡ string_bytes text.old) }
 {
-    // The line is made on the stack first, so that no part of it stays where memory runs out.
-    let mut line = ArrayString::<LONGEST_LINE>::new();
-    if writeln!(line, "{}", EventLine(event)).is_ok() {
-        return Ok(text.push_str(line.as_str())?);
+    let mut room = [0; ROOM];
+    match quick_line(&mut room, event) {
+        Some(line) => Ok(text.push_str(line)?),
+        None => write_formatted(text, event),
     }
-    // Every line has room there, but no clause of `writeln!` says when it fails.
+}
+
+/// Puts the line of any event, with its newline, at the end of a text by the formatter.
+#[cold]
+#[inline(never)]
+fn write_formatted(text: &mut String, event: &Event) -> Result<(), NoMemory>
+    ensures ok { OnOk result (string_bytes text.new ≡ string_bytes text.old ++ line_of event.now ++ 10 ∷ []) }
+    ensures err { OnErr result (string_bytes text.new ≡ string_bytes text.old) }
+{
     let line = format!(in *text.allocator(); "{}\n", EventLine(event))?;
     Ok(text.push_str(line.as_str())?)
 }

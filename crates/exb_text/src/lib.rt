@@ -1,13 +1,14 @@
 //! The texts that a run writes and prints: the lines of the journal and of a trace, the summary, and the names of the
 //! files. Upwards it promises that each is byte for byte the text that the definitions say, that want of
 //! memory leaves no part of a line, and that under one prefix all files, of each kind and of each port, have different
-//! names. It stands on `exb_model`.
+//! names. It stands on `exb_model`, and writes the digits of a frame's line by the pack's `itoa`.
 #![tactic(auto)]
 
 mod event_line;
 pub mod laws;
 mod output;
 mod port_name;
+mod quick_line;
 mod tally;
 mod trace_line;
 
