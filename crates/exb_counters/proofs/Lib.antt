@@ -1,3 +1,4 @@
+mod Allowed
 mod Counts
 mod Pieces
 mod Summary

@@ -1,8 +1,10 @@
 -- What the counts of all ports say together.
-use Rattle.std.specs.Prelude.{◌≡◌, ℕ, ◌+◌, ◌<◌, true, List, [], ◌∷◌, sum_by}
+use Rattle.std.specs.Prelude.{◌≡◌, ℕ, ◌+◌, ◌<◌, true, false, [], ◌∷◌, sum_by}
 use Rattle.exb_model.specs.declared.event.Event.{Event}
 use Rattle.exb_model.specs.declared.event.Event.TheVariants as event
 use Rattle.exb_model.specs.History.{Basis, History}
+use Rattle.exb_model.specs.Input.{Input, Mode, basis_of, tree_of}
+use Rattle.exb_model.specs.LegalHistory.{Legal}
 use Rattle.exb_model.specs.Texts.{counts}
 use Rattle.exb_model.specs.Tree.{Shape, is_external, external_ports}
 use Rattle.exb_counters.specs.Counters.{port_counts}
@@ -32,3 +34,11 @@ pub record AreSummed (t : Shape) (i : Basis) (h : History) : Type 0 where
 
 abbrev pub CountsAreTheSummary : Type 0
 CountsAreTheSummary = (t : Shape) (i : Basis) (h : History) → ComeIn t h → AreSummed t i h
+
+-- only external ports have records
+abbrev pub IsOfExternal : Input → Type 0
+IsOfExternal i = (p : ℕ) → is_external (tree_of i) p ≡ false → i.records p ≡ []
+
+-- So of every history that an input allows whose records are of external ports.
+abbrev pub CountsOfInputsAreTheSummary : Type 0
+CountsOfInputsAreTheSummary = (m : Mode) (i : Input) (h : History) → IsOfExternal i → Legal m i h → AreSummed (tree_of i) (basis_of i) h

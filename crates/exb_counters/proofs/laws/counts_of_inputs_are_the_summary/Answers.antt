@@ -1,0 +1,5 @@
+use Rattle.exb_counters.proofs.Allowed.{counts_of_inputs_are_the_summary}
+use Rattle.exb_counters.proofs.laws.counts_of_inputs_are_the_summary.Goals as goal
+
+pub returns : goal.returns
+returns c = counts_of_inputs_are_the_summary
