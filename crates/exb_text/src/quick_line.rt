@@ -61,8 +61,8 @@ fn put_arrival(room: &mut [u8; ROOM], word: &[u8], port: PortId, index: u64) -> 
     ensures within { result ≤ 40 }
     ensures written { drop result room.new ≡ (word.now ++ port_name port ++ codes " " ++ decimal index) ++ 10 ∷ [] }
 {
-    room[39] = b'\n';
-    let digits = write_digits(index, room, 39);
+    let end = put(room, b"\n", ROOM);
+    let digits = write_digits(index, room, end);
     let space = put(room, b" ", digits);
     let name = put_port(room, port, space);
     put(room, word, name)
@@ -73,8 +73,8 @@ fn put_tick(room: &mut [u8; ROOM], seconds: u32) -> usize
     ensures within { result ≤ 40 }
     ensures written { drop result room.new ≡ (codes "tick " ++ decimal seconds) ++ 10 ∷ [] }
 {
-    room[39] = b'\n';
-    let digits = write_digits(u64::from(seconds), room, 39);
+    let end = put(room, b"\n", ROOM);
+    let digits = write_digits(u64::from(seconds), room, end);
     put(room, b"tick ", digits)
 }
 
