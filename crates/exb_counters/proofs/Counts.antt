@@ -1,14 +1,12 @@
 -- Counts, event by event.
-use Rattle.std.proofs.Common.{◌≡◌, ℕ, ◌+◌, ◌<◌, ◌≤◌, Bool, List, [], ◌∷◌, length, drop, get_or, refl, ap, sym, subst, ◌∙◌, arith, All}
-use Rattle.std.specs.Prelude.{sum_by}
+use Rattle.std.proofs.Common.{◌≡◌, ℕ, ◌+◌, ◌<◌, ◌≤◌, Bool, List, [], ◌∷◌, length, drop, get_or, refl, ap, sym, subst, ◌∙◌, arith}
 use Rattle.std.proofs.lemmas.List.{drop_more, drop_all}
 use Rattle.std.proofs.lemmas.List.Sums.{sum_by-cons}
 use Rattle.exb_model.specs.declared.event.Event.{Event}
-use Rattle.exb_model.specs.declared.event.Event.TheVariants as event
 use Rattle.exb_counters.specs.declared.counters.Counts5.{Counts5}
 use Rattle.exb_counters.specs.declared.counters.Counters.{Counters as Table}
 use Rattle.exb_counters.specs.Counters.{relayed_by, ignored_by}
-use Rattle.exb_counters.specs.Counting.{HasPort, counts_at, FitsCounts, rest_after, drop_in, drops_in, plus_event, plus_events}
+use Rattle.exb_counters.specs.Counting.{HasPort, counts_at, FitsCounts, rest_after, drops_in, plus_event, plus_events}
 
 fives : (c d : Counts5) → c.relayed ≡ d.relayed → c.dropped ≡ d.dropped → c.ignored ≡ d.ignored → c.left ≡ d.left → c.octets ≡ d.octets → c ≡ d
 fives c d r p g l o = λ i. record { relayed = r i; dropped = p i; ignored = g i; left = l i; octets = o i }

@@ -1,13 +1,11 @@
 -- The counts of all ports together are those of the summary.
-use Rattle.std.proofs.Common.{◌≡◌, ℕ, ◌+◌, ◌<◌, ◌==◌, Bool, true, cond, List, [], ◌∷◌, sum_by, filter, refl, ap, sym, ◌∙◌, arith}
-use Rattle.exb_model.specs.declared.event.Event.{Event}
+use Rattle.std.proofs.Common.{◌≡◌, ℕ, ◌+◌, ◌<◌, ◌==◌, true, cond, List, [], ◌∷◌, sum_by, refl, ap, sym, ◌∙◌, arith}
 use Rattle.exb_model.specs.declared.event.Event.TheVariants as event
 use Rattle.exb_model.specs.History.{Basis, History}
-use Rattle.exb_model.specs.Ports.{below}
 use Rattle.exb_model.specs.Texts.{counts}
 use Rattle.exb_model.specs.Tree.{Shape, is_external, external_ports}
-use Rattle.exb_counters.specs.Counters.{relayed_at, relayed_by, ignored_at, ignored_by, port_counts}
-use Rattle.exb_counters.specs.Laws.{CountsAreTheSummary, ComeIn, IsIn}
+use Rattle.exb_counters.specs.Counters.{relayed_at, ignored_at}
+use Rattle.exb_counters.specs.Laws.{CountsAreTheSummary, ComeIn}
 use Rattle.exb_counters.proofs.Summing.{sum_by-plus, sum_by-zero, hit_once, counts-left}
 
 once : (t : Shape) (p : ℕ) → is_external t p ≡ true → p < 4160 → sum_by (λ q. cond (p == q) 1 0) (external_ports t) ≡ 1

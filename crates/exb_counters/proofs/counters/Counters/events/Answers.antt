@@ -1,4 +1,3 @@
-use Rattle.std.proofs.Common.{arith}
 use Rattle.exb_counters.proofs.Counts.{leads_first, leads_more, leads_last, fits_one}
 use Rattle.exb_counters.proofs.counters.Counters.events.Goals as goal
 
