@@ -5,7 +5,6 @@ pub mod Simulation
 pub mod Laws
 pub mod Journal
 pub mod Stamped
-pub mod Carried
 pub mod Asks
 pub mod Written
 pub mod Passed

@@ -113,9 +113,14 @@ stay_opened P given mid ids id ss fresh opens moves each =
 pub opens_on : (name : List ℕ) (given mid ids : ℕ → Id) (id : ℕ) → (given id).given ≡ false → mid id ≡ reading name 0 → Opens (IsReadingOf name) given mid → MovesOn id mid ids → Opens (IsReadingOf name) given ids
 opens_on name given mid ids id fresh is opens moves = record {
   fresh = λ j not_given now. by_id j not_given now (cases_eq j id);
+  rises = λ i j was not_given now. opens.rises i j was not_given (known j now (cases_eq j id));
   kept = λ j was. moves.others j (λ e. let no : true ≡ false = sym was ∙ ap (λ k. (given k).given) e ∙ fresh in cc) ∙ opens.kept j was;
 }
   where
+    known : (j : ℕ) → (ids j).given ≡ true → (j ≡ id) ⊎ (j ≡ id → ⊥) → (mid j).given ≡ true
+    known j now (inl e) = ap (λ (k : ℕ). (mid k).given) e ∙ ap (λ (i : Id). i.given) is
+    known j now (inr other) = ap (λ (i : Id). i.given) (sym (moves.others j other)) ∙ now
+
     by_id : (j : ℕ) → (given j).given ≡ false → (ids j).given ≡ true → (j ≡ id) ⊎ (j ≡ id → ⊥) → IsReadingOf name (ids j)
     by_id j not_given now (inl e) =
         subst (λ k. IsReadingOf name (ids k)) (sym e)

@@ -136,16 +136,20 @@ pub plays-opened : (names : List Named) (plan : Planned) (a b c : ℕ → Id) (m
     AllByRecursion (λ k. ReadsCapture names (b k)) mine → ReadsOn mine b c → Opens (IsOfRun names plan) a c
 plays-opened names plan a b c mine opens fresh named reads = record {
   fresh = λ j was now. by_given j was now (b j).given refl;
+  rises = λ i j given was now. opens.rises i j given was (stays j now (b j).given refl);
   kept = λ j given. reads.others j (none-new a j mine given fresh) ∙ opens.kept j given;
 }
   where
-    by_given : (j : ℕ) → (a j).given ≡ false → (c j).given ≡ true → (g : Bool) → (b j).given ≡ g → IsOfRun names plan (c j)
-    by_given j was now true is =
-        let own : ReadsCapture names (b j) = opens.fresh j was is in
-        inl (record { port = own.port; name = own.name; named = own.named; reads = reads.same j own.name own.reads })
-    by_given j was now false is =
+    stays : (j : ℕ) → (c j).given ≡ true → (g : Bool) → (b j).given ≡ g → (b j).given ≡ true
+    stays j now true is = is
+    stays j now false is =
         let same : c j ≡ b j = reads.others j (none-of b j mine is (reads-given names b mine named)) in
         absurd (let both : true ≡ false = sym now ∙ ap (λ (i : Id). i.given) same ∙ is in cc)
+
+    by_given : (j : ℕ) → (a j).given ≡ false → (c j).given ≡ true → (g : Bool) → (b j).given ≡ g → IsOfRun names plan (c j)
+    by_given j was now g is =
+        let own : ReadsCapture names (b j) = opens.fresh j was (stays j now g is) in
+        inl (record { port = own.port; name = own.name; named = own.named; reads = reads.same j own.name own.reads })
 
 -- of no capture
 pub since-none : (second : ℕ) (r : Replays) → r.sources.items ≡ [] → AreToldSince second r

@@ -3,3 +3,4 @@ pub mod FileLemmas
 pub mod PieceLemmas
 pub mod MemoryLemmas
 pub mod IdLemmas
+pub mod CountLemmas

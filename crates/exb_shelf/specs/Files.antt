@@ -1,5 +1,5 @@
 -- What happens to files: which change, which stay, and what they hold then.
-use Rattle.std.specs.Prelude.{◌≡◌, ◌≢◌, ◌<◌, ◌≤◌, ◌++◌, ◌⊎◌, ℕ, List, [], Option, Some, take, slice_index, unwrap_or}
+use Rattle.std.specs.Prelude.{◌≡◌, ◌≢◌, ◌<◌, ◌≤◌, ◌++◌, ◌⊎◌, ℕ, List, [], Option, Some, length, take, slice_index, unwrap_or}
 use Rattle.exb_model.specs.Frames.{IsBytes}
 
 -- files as a program sees them: the bytes of each name, none where there is no such file
@@ -31,6 +31,10 @@ AddsFront old new name text = (k : ℕ) × Adds old new name (take k text)
 -- new is old with some front of the text at its end
 abbrev pub AppendsFront : List ℕ → List ℕ → List ℕ → Type 0
 AppendsFront old new text = (k : ℕ) × (new ≡ old ++ take k text)
+
+-- new is old with a front of the text at its end, and not all of it
+abbrev pub BreaksOff : List ℕ → List ℕ → List ℕ → Type 0
+BreaksOff old new text = (k : ℕ) × (k < length text) × (new ≡ old ++ take k text)
 
 -- each of the n named files now has bytes with P, and no other file has changed
 pub record Filled (old new : Files) (n : ℕ) (name : ℕ → List ℕ) (P : ℕ → List ℕ → Type 0) : Type 0 where

@@ -1,5 +1,5 @@
 -- What a shelf and a sink in memory hold.
-use Rattle.std.specs.Prelude.{ℕ, ◌+◌, ◌-◌, ◌^◌, List, Vec, String, min}
+use Rattle.std.specs.Prelude.{ℕ, List, Vec, String}
 use Rattle.std.specs.Option.{option_map}
 use Rattle.std.specs.BTreeMap.{BTreeMap, get_by_text}
 use Rattle.std.specs.declared.alloc.Global.{Global}
@@ -41,10 +41,6 @@ calls_of s = s.calls
 -- the numbers of the calls that are to fail
 abbrev pub failing_of : MemShelf → List ℕ
 failing_of s = s.fail.items
-
--- one call more
-abbrev pub one_more : ℕ → ℕ
-one_more calls = min (calls + 1) (2 ^ 64 - 1)
 
 -- ---- a sink
 abbrev pub text_of : MemSink → List ℕ

@@ -45,9 +45,14 @@ pub record IsReadingOf (name : List ℕ) (i : Id) : Type 0 where
 abbrev pub NewIds : (Id → Type 0) → (ℕ → Id) → (ℕ → Id) → Type 0
 NewIds P old new = (j : ℕ) → (old j).given ≡ false → (new j).given ≡ true → P (new j)
 
--- whatever was opened is such, and each id that was given stays as it was
+-- whatever id is given now, and wasn't before, is above each that was
+abbrev pub IdsRise : (ℕ → Id) → (ℕ → Id) → Type 0
+IdsRise old new = (i j : ℕ) → (old i).given ≡ true → (old j).given ≡ false → (new j).given ≡ true → i < j
+
+-- whatever was opened is such, with an id above all that were given, and each of these stays as it was
 pub record Opens (P : Id → Type 0) (before after : ℕ → Id) : Type 0 where
   pub fresh : NewIds P before after
+  pub rises : IdsRise before after
   pub kept : (j : ℕ) → (before j).given ≡ true → after j ≡ before j
 
 -- how often a shelf has answered that a file is missing, has failed to read, and has failed to write

@@ -4,7 +4,8 @@ ghost use Rattle.std.specs.Option.{option_copied};
 ghost use Rattle.exb_model.specs.Frames.{IsBytes};
 ghost use Rattle.exb_shelf.specs.Files.{SameFiles, Puts, bytes_of};
 ghost use Rattle.exb_shelf.specs.Shelf.{Faults, IsReading, IsWriting, reading, writing, moved, no_id, Rose, NoFewer};
-ghost use Rattle.exb_shelf.specs.Memory.{file_in, files_of, ids_of, faults_of, calls_of, failing_of, one_more, text_of, sink_faults_of, sink_calls_of, sink_failing_of};
+ghost use Rattle.exb_shelf.specs.Counting.{one_more, after_open, after_read, after_write, after_print};
+ghost use Rattle.exb_shelf.specs.Memory.{file_in, files_of, ids_of, faults_of, calls_of, failing_of, text_of, sink_faults_of, sink_calls_of, sink_failing_of};
 
 use crate::{OpenFault, ScratchShelf, Shelf, ShelfFault, Sink};
 use exb_model::memory::NoMemory;
@@ -70,6 +71,7 @@ impl Sink for MemSink {
         ensures some { 0 < length bytes.now → IfOk result (λ n. 0 < n) }
         ensures appended { IfOk result (λ n. text_of self.new ≡ text_of self.old ++ take n bytes.now) }
         ensures err { OnErr result (text_of self.new ≡ text_of self.old) }
+        ensures counts { sink_faults_of self.new ≡ after_print result (sink_faults_of self.old) }
         ensures faults { sink_faults_of self.old ≤ sink_faults_of self.new }
         ensures failed { IsErrOf result ShelfFault.Failed → Rose (sink_faults_of self.old) (sink_faults_of self.new) }
 
@@ -149,6 +151,7 @@ impl Shelf for MemShelf {
     fn open(&mut self, name: &str) -> Result<u32, OpenFault>
         ensures id { IfOk result (λ id. ids_of self.new id ≡ reading name.now 0) }
         ensures fresh { IfOk result (λ id. (ids_of self.old id).given ≡ false) }
+        ensures rises { IfOk result (λ id. (j : ℕ) → (ids_of self.old j).given ≡ true → j < id) }
         ensures others { IfOk result (λ id. (j : ℕ) → j ≢ id → ids_of self.new j ≡ ids_of self.old j) }
         ensures kept { (j : ℕ) → (ids_of self.old j).given ≡ true → ids_of self.new j ≡ ids_of self.old j }
         ensures none_given { OnErr result ((j : ℕ) → ids_of self.new j ≡ ids_of self.old j) }
@@ -156,6 +159,7 @@ impl Shelf for MemShelf {
         ensures there { OnOk result (IsSome (files_of self.old name.now)) }
         ensures bytes { OnOk result (IsBytes (bytes_of (files_of self.old name.now))) }
         ensures not_there { IsErrOf result OpenFault.Missing → files_of self.old name.now ≡ None }
+        ensures counts { faults_of self.new ≡ after_open result (faults_of self.old) }
         ensures faults { NoFewer (faults_of self.old) (faults_of self.new) }
         ensures missing { IsErrOf result OpenFault.Missing → Rose (faults_of self.old).missing (faults_of self.new).missing }
         ensures failed { IsErrOf result OpenFault.Failed → Rose (faults_of self.old).reads (faults_of self.new).reads }
@@ -182,6 +186,7 @@ impl Shelf for MemShelf {
         ensures id_err { OnErr result (ids_of self.new id ≡ ids_of self.old id) }
         ensures others { (j : ℕ) → j ≢ id → ids_of self.new j ≡ ids_of self.old j }
         ensures files { SameFiles (files_of self.old) (files_of self.new) }
+        ensures counts { faults_of self.new ≡ after_read result (faults_of self.old) }
         ensures faults { NoFewer (faults_of self.old) (faults_of self.new) }
         ensures failed { IsErrOf result ShelfFault.Failed → Rose (faults_of self.old).reads (faults_of self.new).reads }
 
@@ -199,11 +204,13 @@ impl Shelf for MemShelf {
     fn create(&mut self, name: &str) -> Result<u32, ShelfFault>
         ensures id { IfOk result (λ id. ids_of self.new id ≡ writing name.now) }
         ensures fresh { IfOk result (λ id. (ids_of self.old id).given ≡ false) }
+        ensures rises { IfOk result (λ id. (j : ℕ) → (ids_of self.old j).given ≡ true → j < id) }
         ensures others { IfOk result (λ id. (j : ℕ) → j ≢ id → ids_of self.new j ≡ ids_of self.old j) }
         ensures kept { (j : ℕ) → (ids_of self.old j).given ≡ true → ids_of self.new j ≡ ids_of self.old j }
         ensures none_given { OnErr result ((j : ℕ) → ids_of self.new j ≡ ids_of self.old j) }
         ensures empty { OnOk result (Puts (files_of self.old) (files_of self.new) name.now []) }
         ensures err { OnErr result (SameFiles (files_of self.old) (files_of self.new)) }
+        ensures counts { faults_of self.new ≡ after_write result (faults_of self.old) }
         ensures faults { NoFewer (faults_of self.old) (faults_of self.new) }
         ensures failed { IsErrOf result ShelfFault.Failed → Rose (faults_of self.old).writes (faults_of self.new).writes }
 
@@ -226,6 +233,7 @@ impl Shelf for MemShelf {
             (bytes_of (files_of self.old (ids_of self.old id).name) ++ take n bytes.now)) }
         ensures err { OnErr result (SameFiles (files_of self.old) (files_of self.new)) }
         ensures kept { (j : ℕ) → ids_of self.new j ≡ ids_of self.old j }
+        ensures counts { faults_of self.new ≡ after_write result (faults_of self.old) }
         ensures faults { NoFewer (faults_of self.old) (faults_of self.new) }
         ensures failed { IsErrOf result ShelfFault.Failed → Rose (faults_of self.old).writes (faults_of self.new).writes }
 

@@ -1,6 +1,7 @@
 //! Whole files and texts, through calls that take pieces.
 ghost use Rattle.std.specs.Prelude.{◌≡◌, ◌≢◌, ◌<◌, ◌≤◌, ◌+◌, ◌++◌, [], ℕ, List, true, Some, None, length, take, drop, IfOk, OnOk, OnErr, IsErrOf};
-ghost use Rattle.exb_shelf.specs.Files.{bytes_of, SameFiles, Puts, Adds, AddsFront, AppendsFront};
+ghost use Rattle.exb_shelf.specs.Files.{bytes_of, SameFiles, Puts, Adds, AddsFront, AppendsFront, BreaksOff};
+ghost use Rattle.exb_shelf.specs.Counting.{after_read, after_reading, after_write, after_print};
 ghost use Rattle.exb_shelf.specs.Reading.{unopened, unread};
 ghost use Rattle.exb_shelf.specs.Shelf.{IsReading, IsWriting, IsReadingOf, Opens, moved, Rose, NoFewer};
 
@@ -71,6 +72,7 @@ fn read_on<S: Shelf>(
     ensures file { (name : List ℕ) → IsReadingOf name (S.ids shelf.old id) → IsReadingOf name (S.ids shelf.new id) }
     ensures others { (j : ℕ) → j ≢ id → S.ids shelf.new j ≡ S.ids shelf.old j }
     ensures files { SameFiles (S.file shelf.old) (S.file shelf.new) }
+    ensures counts { S.faults shelf.new ≡ after_read result (S.faults shelf.old) }
     ensures faults { NoFewer (S.faults shelf.old) (S.faults shelf.new) }
     ensures failed { IsErrOf result ShelfFault.Failed → Rose (S.faults shelf.old).reads (S.faults shelf.new).reads }
 {
@@ -105,6 +107,7 @@ pub fn read_file<S: Shelf>(
     ensures files { SameFiles (S.file shelf.old) (S.file shelf.new) }
     ensures opened { Opens (IsReadingOf name.now) (S.ids shelf.old) (S.ids shelf.new) }
 
+    ensures counts { S.faults shelf.new ≡ after_reading result (S.faults shelf.old) }
     ensures faults { NoFewer (S.faults shelf.old) (S.faults shelf.new) }
     ensures missing { IsErrOf result ReadFault.Missing → Rose (S.faults shelf.old).missing (S.faults shelf.new).missing }
     ensures failed { IsErrOf result ReadFault.Failed → Rose (S.faults shelf.old).reads (S.faults shelf.new).reads }
@@ -134,6 +137,7 @@ fn write_on<S: Shelf>(shelf: &mut S, id: u32, text: &[u8]) -> Result<usize, Shel
         (bytes_of (S.file shelf.old (S.ids shelf.old id).name) ++ take n text.now)) }
     ensures err { S.tells → OnErr result (SameFiles (S.file shelf.old) (S.file shelf.new)) }
     ensures kept { (j : ℕ) → S.ids shelf.new j ≡ S.ids shelf.old j }
+    ensures counts { S.faults shelf.new ≡ after_write result (S.faults shelf.old) }
     ensures faults { NoFewer (S.faults shelf.old) (S.faults shelf.new) }
     ensures failed { IsErrOf result ShelfFault.Failed → Rose (S.faults shelf.old).writes (S.faults shelf.new).writes }
 {
@@ -148,6 +152,7 @@ pub fn write_text<S: Shelf>(shelf: &mut S, id: u32, text: &[u8]) -> Result<(), S
     ensures err { S.tells → OnErr result (AddsFront (S.file shelf.old) (S.file shelf.new) (S.ids shelf.old id).name text.now) }
     ensures kept { (j : ℕ) → S.ids shelf.new j ≡ S.ids shelf.old j }
 
+    ensures counts { S.faults shelf.new ≡ after_write result (S.faults shelf.old) }
     ensures faults { NoFewer (S.faults shelf.old) (S.faults shelf.new) }
     ensures failed { IsErrOf result ShelfFault.Failed → Rose (S.faults shelf.old).writes (S.faults shelf.new).writes }
 {
@@ -161,11 +166,14 @@ pub fn write_text<S: Shelf>(shelf: &mut S, id: u32, text: &[u8]) -> Result<(), S
     Ok(())
 }
 
-/// Appends a whole text to the sink. Where it fails, the sink has a front of the text more.
+/// Appends a whole text to the sink. Where it fails, the sink has a front of the text more, and never all
+/// of it.
 pub fn print_text<O: Sink>(out: &mut O, text: &[u8]) -> Result<(), ShelfFault>
     ensures ok { O.tells → OnOk result (O.text out.new ≡ O.text out.old ++ text.now) }
     ensures err { O.tells → OnErr result (AppendsFront (O.text out.old) (O.text out.new) text.now) }
+    ensures short { O.tells → OnErr result (BreaksOff (O.text out.old) (O.text out.new) text.now) }
 
+    ensures counts { O.faults out.new ≡ after_print result (O.faults out.old) }
     ensures faults { O.faults out.old ≤ O.faults out.new }
     ensures failed { IsErrOf result ShelfFault.Failed → Rose (O.faults out.old) (O.faults out.new) }
 {

@@ -2,6 +2,7 @@
 ghost use Rattle.std.specs.Prelude.{◌≡◌, ◌≢◌, ◌<◌, ◌≤◌, ◌+◌, ◌++◌, ◌↔◌, [], ℕ, true, false, List, Option, None, length, take, drop, IfOk, OnOk, OnErr, IsErrOf, IsSome};
 ghost use Rattle.exb_model.specs.Frames.{IsBytes};
 ghost use Rattle.exb_shelf.specs.Files.{Files, SameFiles, Puts, bytes_of};
+ghost use Rattle.exb_shelf.specs.Counting.{after_open, after_read, after_write, after_print};
 ghost use Rattle.exb_shelf.specs.Shelf.{Id, Faults, IsReading, IsWriting, reading, writing, moved, Rose, NoFewer};
 
 /// Why a file could not be opened.
@@ -27,8 +28,10 @@ pub enum ShelfFault {
 /// Files by their names. A file is read or written through an id that `open` or `create` gave.
 ///
 /// Some shelves tell what their files hold, so that it can be proved what a program read and wrote;
-/// others do not, as one over the system's files. Each counts its faults, and no count ever falls.
-/// A count that stands at 2^64 - 1, its last value, counts as risen.
+/// others do not, as one over the system's files. Each counts its faults: a call that answers that a file
+/// is missing, or that it failed, raises its own count by one, and no other count ever changes. A count
+/// that stands at 2^64 - 1, its last value, stays there, and counts as risen. Ids rise: each that is given
+/// is above all that were.
 pub trait Shelf {
     /// Whether the contents of the files are told.
     ghost tells: { Type 0 };
@@ -46,6 +49,7 @@ pub trait Shelf {
     fn open(&mut self, name: &str) -> Result<u32, OpenFault>
         ensures id { IfOk result (λ id. ids self.new id ≡ reading name.now 0) }
         ensures fresh { IfOk result (λ id. (ids self.old id).given ≡ false) }
+        ensures rises { IfOk result (λ id. (j : ℕ) → (ids self.old j).given ≡ true → j < id) }
         ensures others { IfOk result (λ id. (j : ℕ) → j ≢ id → ids self.new j ≡ ids self.old j) }
         ensures kept { (j : ℕ) → (ids self.old j).given ≡ true → ids self.new j ≡ ids self.old j }
         ensures none_given { OnErr result ((j : ℕ) → ids self.new j ≡ ids self.old j) }
@@ -55,6 +59,7 @@ pub trait Shelf {
         ensures bytes { tells → OnOk result (IsBytes (bytes_of (file self.old name.now))) }
         ensures not_there { tells → IsErrOf result OpenFault.Missing → file self.old name.now ≡ None }
 
+        ensures counts { faults self.new ≡ after_open result (faults self.old) }
         ensures faults { NoFewer (faults self.old) (faults self.new) }
         ensures missing { IsErrOf result OpenFault.Missing → Rose (faults self.old).missing (faults self.new).missing }
         ensures failed { IsErrOf result OpenFault.Failed → Rose (faults self.old).reads (faults self.new).reads };
@@ -75,6 +80,7 @@ pub trait Shelf {
         ensures others { (j : ℕ) → j ≢ id → ids self.new j ≡ ids self.old j }
         ensures files { SameFiles (file self.old) (file self.new) }
 
+        ensures counts { faults self.new ≡ after_read result (faults self.old) }
         ensures faults { NoFewer (faults self.old) (faults self.new) }
         ensures failed { IsErrOf result ShelfFault.Failed → Rose (faults self.old).reads (faults self.new).reads };
 
@@ -82,6 +88,7 @@ pub trait Shelf {
     fn create(&mut self, name: &str) -> Result<u32, ShelfFault>
         ensures id { IfOk result (λ id. ids self.new id ≡ writing name.now) }
         ensures fresh { IfOk result (λ id. (ids self.old id).given ≡ false) }
+        ensures rises { IfOk result (λ id. (j : ℕ) → (ids self.old j).given ≡ true → j < id) }
         ensures others { IfOk result (λ id. (j : ℕ) → j ≢ id → ids self.new j ≡ ids self.old j) }
         ensures kept { (j : ℕ) → (ids self.old j).given ≡ true → ids self.new j ≡ ids self.old j }
         ensures none_given { OnErr result ((j : ℕ) → ids self.new j ≡ ids self.old j) }
@@ -89,6 +96,7 @@ pub trait Shelf {
         ensures empty { tells → OnOk result (Puts (file self.old) (file self.new) name.now []) }
         ensures err { tells → OnErr result (SameFiles (file self.old) (file self.new)) }
 
+        ensures counts { faults self.new ≡ after_write result (faults self.old) }
         ensures faults { NoFewer (faults self.old) (faults self.new) }
         ensures failed { IsErrOf result ShelfFault.Failed → Rose (faults self.old).writes (faults self.new).writes };
 
@@ -104,14 +112,16 @@ pub trait Shelf {
         ensures err { tells → OnErr result (SameFiles (file self.old) (file self.new)) }
         ensures kept { (j : ℕ) → ids self.new j ≡ ids self.old j }
 
+        ensures counts { faults self.new ≡ after_write result (faults self.old) }
         ensures faults { NoFewer (faults self.old) (faults self.new) }
         ensures failed { IsErrOf result ShelfFault.Failed → Rose (faults self.old).writes (faults self.new).writes };
 }
 
 /// Text that goes out, as to standard output.
 ///
-/// Some sinks tell what was written to them, and others do not. Each counts its faults; the count never
-/// falls, and at 2^64 - 1, its last value, it counts as risen.
+/// Some sinks tell what was written to them, and others do not. Each counts its faults: a call that fails
+/// raises the count by one, and no other changes it. At 2^64 - 1, its last value, it stays, and counts as
+/// risen.
 pub trait Sink {
     /// Whether the text is told.
     ghost tells: { Type 0 };
@@ -129,6 +139,7 @@ pub trait Sink {
         ensures appended { tells → IfOk result (λ n. text self.new ≡ text self.old ++ take n bytes.now) }
         ensures err { tells → OnErr result (text self.new ≡ text self.old) }
 
+        ensures counts { faults self.new ≡ after_print result (faults self.old) }
         ensures faults { faults self.old ≤ faults self.new }
         ensures failed { IsErrOf result ShelfFault.Failed → Rose (faults self.old) (faults self.new) };
 }

@@ -50,7 +50,7 @@ use Rattle.exb_machine.specs.Relaying.{puts_word, sent_by, sends_in, sends_all, 
 use Rattle.exb_machine.specs.Stepping.{takes_up, if_there, all_extenders, beats_all}
 use Rattle.exb_machine.specs.Runs.Sessions.{Each}
 use Rattle.exb_machine.proofs.Stamps.{IsControl, hears_control, reacts_control, beats_sent}
-use Rattle.exb_machine.proofs.Records.{down_sides}
+use Rattle.exb_machine.proofs.Sides.{down_sides}
 use Rattle.exb_machine.proofs.Words.{at_same}
 use Rattle.exb_flight.specs.Items.{Word as Datum}
 use Rattle.exb_resting.specs.Flight.Tokens.{datum, data_words}

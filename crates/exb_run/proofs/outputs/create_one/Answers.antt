@@ -7,4 +7,4 @@ returns-in_err-id-clause-opened g c = opens_same _ _ _ c.in_err-id.ensures.none_
 
 pub returns-then-is_err-clause-opened : goal.returns-then-is_err-clause-opened
 returns-then-is_err-clause-opened g c =
-    opens_one _ _ _ c.in_ok-id.id c.in_ok-id.ensures.others c.in_ok-id.ensures.kept (record { at = c.args.at; within = c.requires.within; writes = search rules })
+    opens_one _ _ _ c.in_ok-id.id c.in_ok-id.ensures.others c.in_ok-id.ensures.kept c.in_ok-id.ensures.rises (record { at = c.args.at; within = c.requires.within; writes = search rules })

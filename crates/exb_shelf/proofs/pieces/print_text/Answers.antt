@@ -9,5 +9,6 @@ loop-at-preserved g c = record {
       ∙ ap (λ xs. xs ++ take c.in-Ok.n (take (length c.args.text.now - c.loop-at.at) (drop c.loop-at.at c.args.text.now))) (c.loop-at.invariant.text t)
       ∙ append_assoc _ (take c.loop-at.at c.args.text.now) _
       ∙ ap (λ xs. g.O.Sink.text c.args.out.now ++ xs) (take_on c.args.text.now c.loop-at.at c.in-Ok.n);
+  counted = c.in-Ok.ensures.counts ∙ c.loop-at.invariant.counted;
   faults = omega (arith, c.in-Ok.ensures.faults);
 }

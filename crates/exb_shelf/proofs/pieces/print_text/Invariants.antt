@@ -7,6 +7,7 @@ invariant-loop-at g l =
     record {
       place : l.at ≤ length l.text;
       text : O.tells → O.text l.out ≡ O.text l.fn.out ++ take l.at l.text;
+      counted : O.faults l.out ≡ O.faults l.fn.out;
       faults : O.faults l.fn.out ≤ O.faults l.out;
     }
 

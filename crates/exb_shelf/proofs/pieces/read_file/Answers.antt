@@ -8,6 +8,7 @@ returns-in_err-n-clause-opened g c =
     let inv = c.pieces.invariant in
     opens_one _ _ _ c.in_ok-id.id (λ j n. c.read_on.ensures.others j n ∙ inv.others j n)
     (λ j given. c.read_on.ensures.others j (given_apart (g.S.Shelf.ids c.args.shelf.now) c.in_ok-id.id j inv.fresh given) ∙ inv.kept j given)
+    c.in_ok-id.ensures.rises
     (c.read_on.ensures.file c.args.name.now (reads_of _ _ _ inv.id))
 
 pub pieces-preserved : goal.pieces-preserved
@@ -20,5 +21,6 @@ pieces-preserved g c = record {
   others = λ j n. c.read_on.ensures.others j n ∙ c.pieces.invariant.others j n;
   fresh = search rules;
   files = search rules;
+  counted = c.in_ok-n.ensures.counts ∙ c.pieces.invariant.counted;
   faults = search rules;
 }

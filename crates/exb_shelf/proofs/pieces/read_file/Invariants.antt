@@ -15,6 +15,7 @@ invariant-pieces g l =
       others : (j : ℕ) → j ≢ l.id → S.ids l.shelf j ≡ S.ids l.fn.shelf j;
       fresh : (S.ids l.fn.shelf l.id).given ≡ false;
       files : SameFiles (S.file l.fn.shelf) (S.file l.shelf);
+      counted : S.faults l.shelf ≡ S.faults l.fn.shelf;
       faults : NoFewer (S.faults l.fn.shelf) (S.faults l.shelf);
     }
 

@@ -16,5 +16,6 @@ loop-at-preserved g c =
           subst (λ (xs : List ℕ). Adds (S.file c.args.shelf.now) (S.file c.write_on.new.shelf) name xs) (take_on c.args.text.now c.loop-at.at c.in-Ok.n)
           (adds_more _ _ _ _ _ _ (c.loop-at.invariant.file t) put);
       kept = λ j. c.in-Ok.ensures.kept j ∙ c.loop-at.invariant.kept j;
+      counted = c.in-Ok.ensures.counts ∙ c.loop-at.invariant.counted;
       faults = search (arith, c.in-Ok.ensures.faults, c.loop-at.invariant.faults);
     }

@@ -10,6 +10,7 @@ invariant-loop-at g l =
       place : l.at ≤ length l.text;
       file : S.tells → Adds (S.file l.fn.shelf) (S.file l.shelf) (S.ids l.fn.shelf l.id).name (take l.at l.text);
       kept : (j : ℕ) → S.ids l.shelf j ≡ S.ids l.fn.shelf j;
+      counted : S.faults l.shelf ≡ S.faults l.fn.shelf;
       faults : NoFewer (S.faults l.fn.shelf) (S.faults l.shelf);
     }
 
