@@ -4,7 +4,7 @@ use Rattle.std.specs.Prelude.{Option, Some, None, is_some, bytes_eq}
 use Rattle.std.specs.List.{list_any, IsDistinct, AllByRecursion}
 use Rattle.std.specs.Map.{keys_of, lookup}
 use Rattle.exb_model.specs.Learning.{kept_unless}
-use Rattle.exb_model.specs.declared.station.Station.{Station}
+use Rattle.exb_learn.specs.declared.key.StationKey.{StationKey}
 use Rattle.exb_learn.specs.declared.entries.Place.{Place}
 use Rattle.exb_learn.specs.Stations.{same, is_live, is_elsewhere, kept_if, Keeps, Changes}
 use Rattle.exb_learn.specs.Calls.{See, Tick, Forget, after_call, if_live, port_of}
@@ -30,15 +30,15 @@ place_of-other q (Some p) = by_test (p.port == q)
 -- ---- the tables
 module _ (l : Entries) where
   -- the table with other entries, another clock and another room
-  abbrev pub with_entries : List (Station × Place) → ℕ → ℕ → Entries
+  abbrev pub with_entries : List (StationKey × Place) → ℕ → ℕ → Entries
   with_entries es clock spare = record { entries = es; clock = clock; ageing = l.ageing; spare = spare }
 
-  seen_changed : (es : List (Station × Place)) (clock spare : ℕ) (f : ℕ → List ℕ → Option (ℕ × ℕ)) → ((v : ℕ) (m : List ℕ) → place_of (lookup (same (station v m)) es) ≡ f v m) →
+  seen_changed : (es : List (StationKey × Place)) (clock spare : ℕ) (f : ℕ → List ℕ → Option (ℕ × ℕ)) → ((v : ℕ) (m : List ℕ) → place_of (lookup (same (station v m)) es) ≡ f v m) →
       table_of (with_entries es clock spare) ≡ record (table_of l) { clock = clock; seen = f }
   unfolding table_of
   seen_changed es clock spare f h = λ i. record { ageing = l.ageing; clock = clock; seen = λ v m. h v m i }
 
-  pub table-see : (es : List (Station × Place)) (spare : ℕ) (s : Station) (p : Place) → nat_lt 0 l.ageing ≡ true → p.at ≡ l.clock →
+  pub table-see : (es : List (StationKey × Place)) (spare : ℕ) (s : StationKey) (p : Place) → nat_lt 0 l.ageing ≡ true → p.at ≡ l.clock →
       Changes l.entries es s (Some p) →
       table_of (with_entries es l.clock spare) ≡ after_call (See s.vid s.address.0 p.port) (table_of l)
   unfolding table_of
@@ -62,7 +62,7 @@ module _ (l : Entries) where
     seen = λ w n. ap (λ b. cond (b && (v == w && bytes_eq m n)) (Some (p, l.clock)) (place_of (lookup (same (station w n)) l.entries))) (sym ages) i;
   }
 
-  pub table-tick : (es : List (Station × Place)) (clock spare seconds : ℕ) → clock ≡ l.clock + seconds → Keeps (is_live clock l.ageing) l.entries es →
+  pub table-tick : (es : List (StationKey × Place)) (clock spare seconds : ℕ) → clock ≡ l.clock + seconds → Keeps (is_live clock l.ageing) l.entries es →
       table_of (with_entries es clock spare) ≡ after_call (Tick seconds) (table_of l)
   unfolding table_of
   table-tick es clock spare seconds now keeps =
@@ -70,7 +70,7 @@ module _ (l : Entries) where
       (λ v m. ap place_of (keeps (station v m)) ∙ place_of-live clock l.ageing (lookup (same (station v m)) l.entries))
       ∙ ap (λ (x : ℕ). record (table_of l) { clock = x; seen = λ w n. if_live x l.ageing (place_of (lookup (same (station w n)) l.entries)) }) now
 
-  pub table-forget : (es : List (Station × Place)) (spare p : ℕ) → Keeps (is_elsewhere p) l.entries es →
+  pub table-forget : (es : List (StationKey × Place)) (spare p : ℕ) → Keeps (is_elsewhere p) l.entries es →
       table_of (with_entries es l.clock spare) ≡ after_call (Forget p) (table_of l)
   unfolding table_of
   table-forget es spare p keeps =
@@ -78,10 +78,10 @@ module _ (l : Entries) where
       (λ v m. ap place_of (keeps (station v m)) ∙ place_of-other p (lookup (same (station v m)) l.entries))
 
 -- ---- their number
-abbrev key_of : Station × Place → Key
+abbrev key_of : StationKey × Place → Key
 key_of e = (e.0.vid, e.0.address.0)
 
-any-keys : (v : ℕ) (m : List ℕ) (es : List (Station × Place)) → list_any (is_key v m) (map key_of es) ≡ is_some (port_of (place_of (lookup (same (station v m)) es)))
+any-keys : (v : ℕ) (m : List ℕ) (es : List (StationKey × Place)) → list_any (is_key v m) (map key_of es) ≡ is_some (port_of (place_of (lookup (same (station v m)) es)))
 any-keys v m [] = refl
 any-keys v m (e ∷ es) = by_test (same (station v m) e.0) (any-keys v m es)
   where
@@ -90,16 +90,16 @@ any-keys v m (e ∷ es) = by_test (same (station v m) e.0) (any-keys v m es)
     by_test true rest = refl
     by_test false rest = rest
 
-none-keys : (k : Station) (es : List (Station × Place)) → AllByRecursion (λ y. same k y ≡ false) (keys_of es) → list_any (is_key k.vid k.address.0) (map key_of es) ≡ false
+none-keys : (k : StationKey) (es : List (StationKey × Place)) → AllByRecursion (λ y. same k y ≡ false) (keys_of es) → list_any (is_key k.vid k.address.0) (map key_of es) ≡ false
 none-keys k [] none = refl
 none-keys k (e ∷ es) none = rw none.0 (none-keys k es none.1)
 
-once-keys : (es : List (Station × Place)) → IsDistinct same (keys_of es) → EachOnce (map key_of es)
+once-keys : (es : List (StationKey × Place)) → IsDistinct same (keys_of es) → EachOnce (map key_of es)
 unfolding IsDistinct
 once-keys [] once = tt
 once-keys (e ∷ es) once = (none-keys e.0 es once.0, once-keys es once.1)
 
-length-keys : (es : List (Station × Place)) → length (map key_of es) ≡ length es
+length-keys : (es : List (StationKey × Place)) → length (map key_of es) ≡ length es
 length-keys [] = refl
 length-keys (e ∷ es) = ap suc (length-keys es)
 

@@ -6,7 +6,7 @@ use Rattle.std.specs.Map.{keys_of}
 use Rattle.std.proofs.lemmas.Bool.{eqb-true}
 use Rattle.std.proofs.lemmas.Option.{slice_get_within}
 use Rattle.indexmap.specs.IndexMap.{insert_entry, set_value_at}
-use Rattle.exb_model.specs.declared.station.Station.{Station}
+use Rattle.exb_learn.specs.declared.key.StationKey.{StationKey}
 use Rattle.exb_learn.specs.declared.entries.Place.{Place}
 use Rattle.exb_learn.specs.Links.{Links, RingTable, links_of, room_of, taken, placed, removed, itself, first_of, moved_if, IsNow, IsLaid}
 use Rattle.exb_learn.specs.Stations.{same, is_elsewhere, AllPass, IsUntil}
@@ -14,13 +14,13 @@ use Rattle.exb_learn.specs.Stored.{IsSlotted, IsPutting, IsRemoving, IsOldest, I
 use Rattle.exb_learn.proofs.Laid.{laid_first, laid_more, laid_moved, laid_kept, laid_less, laid_none, laid_some}
 use Rattle.exb_learn.proofs.Lookups.{put_over, put_behind, found_at, slot_of}
 
-move : (old new : RingTable) (l : Links) (es : List (Station × Place)) (home key : Place → ℕ) → IsNow old new l → IsLaid old.heads l es home key → IsLaid new.heads (links_of new) es home key
+move : (old new : RingTable) (l : Links) (es : List (StationKey × Place)) (home key : Place → ℕ) → IsNow old new l → IsLaid old.heads l es home key → IsLaid new.heads (links_of new) es home key
 move old new l es home key now laid =
     subst (λ h. IsLaid h (links_of new) es home key) (sym now.heads) (subst (λ (m : Links). IsLaid old.heads m es home key) (sym now.links) laid)
 
 -- ---- one ring more
-refreshed : (heads : ℕ) (home key : Place → ℕ) (l : Links) (es : List (Station × Place)) (i ring : ℕ) (e : Station × Place) (w : Place) (b : Bool) →
-    IsLaid heads l es home key → slice_get es i ≡ Some e → i < length es → ring ≡ home w → home w < heads → ((k : ℕ) (d : Station × Place) → slice_get es k ≡ Some d → key d.1 ≤ key w) →
+refreshed : (heads : ℕ) (home key : Place → ℕ) (l : Links) (es : List (StationKey × Place)) (i ring : ℕ) (e : StationKey × Place) (w : Place) (b : Bool) →
+    IsLaid heads l es home key → slice_get es i ≡ Some e → i < length es → ring ≡ home w → home w < heads → ((k : ℕ) (d : StationKey × Place) → slice_get es k ≡ Some d → key d.1 ≤ key w) →
     (b ≡ false → (home w ≡ home e.1) × (key w ≡ key e.1)) →
     IsLaid heads (cond b (placed (taken l (heads + i)) ring (heads + i)) l) (set_value_at es i w) home key
 refreshed heads home key l es i ring e w true laid there less ring_is under most same =
@@ -35,7 +35,7 @@ differs a b h = sym (eqb-true a b (by_test (a == b) h))
     by_test true h = refl
     by_test false h = cc
 
-pub slotted_known : (es : List (Station × Place)) (s : Station) (n : ℕ) (ages ports new_ages new_ports : RingTable) (slot port : ℕ) (known place : Place) →
+pub slotted_known : (es : List (StationKey × Place)) (s : StationKey) (n : ℕ) (ages ports new_ages new_ports : RingTable) (slot port : ℕ) (known place : Place) →
     IsPutting es s n ages ports slot (Some known) place → port ≡ place.port → place.port < 4160 →
     IsNow ages new_ages (moved_if ages (not (known.at == place.at)) 0 slot) →
     IsNow ports new_ports (moved_if ports (not (known.port == place.port)) port slot) →
@@ -61,7 +61,7 @@ slotted_known es s n ages ports new_ages new_ports slot port known place putting
           (λ k d there. omega arith) (λ h. (differs known.port place.port h, refl)));
     })
 
-pub slotted_new : (es : List (Station × Place)) (s : Station) (n : ℕ) (ages ports new_ages new_ports : RingTable) (slot port : ℕ) (place : Place) →
+pub slotted_new : (es : List (StationKey × Place)) (s : StationKey) (n : ℕ) (ages ports new_ages new_ports : RingTable) (slot port : ℕ) (place : Place) →
     IsPutting es s n ages ports slot None place → port ≡ place.port → place.port < 4160 →
     IsNow ages new_ages (placed (links_of ages) 0 (ages.heads + slot)) → IsNow ports new_ports (placed (links_of ports) port (ports.heads + slot)) →
     IsSlotted (insert_entry same es s place) n new_ages new_ports
@@ -85,7 +85,7 @@ slotted_new es s n ages ports new_ages new_ports slot port place putting port_is
           (laid_more ports.heads (λ p. p.port) (λ p. 0) (links_of ports) es (s, place) old.by_port (omega (arith, all, under)) (λ i e there. omega arith))));
     })
 
-pub slotted_less : (es : List (Station × Place)) (n : ℕ) (ages ports new_ages new_ports : RingTable) (slot last : ℕ) (e : Station × Place) →
+pub slotted_less : (es : List (StationKey × Place)) (n : ℕ) (ages ports new_ages new_ports : RingTable) (slot last : ℕ) (e : StationKey × Place) →
     IsRemoving es n ages ports slot last → slice_get es slot ≡ Some e →
     IsNow ages new_ages (removed ages.heads (links_of ages) slot last) → IsNow ports new_ports (removed ports.heads (links_of ports) slot last) →
     IsSlotted (swap_remove es slot e) n new_ages new_ports
@@ -106,7 +106,7 @@ slotted_less es n ages ports new_ages new_ports slot last e removing there a b =
     }
 
 -- there is room for fewer, and for as many as the tables have
-pub slotted_room : (es : List (Station × Place)) (n m : ℕ) (ages ports new_ages new_ports : RingTable) → IsSlotted es n ages ports →
+pub slotted_room : (es : List (StationKey × Place)) (n m : ℕ) (ages ports new_ages new_ports : RingTable) → IsSlotted es n ages ports →
     new_ages.heads ≡ ages.heads → new_ports.heads ≡ ports.heads → links_of new_ages ≡ links_of ages → links_of new_ports ≡ links_of ports → m ≤ room_of new_ages → m ≤ room_of new_ports →
     IsSlotted es m new_ages new_ports
 slotted_room es n m ages ports new_ages new_ports old age_heads port_heads age_links port_links age_room port_room = record {
@@ -118,7 +118,7 @@ slotted_room es n m ages ports new_ages new_ports old age_heads port_heads age_l
   by_port = subst (λ h. IsLaid h (links_of new_ports) es (λ p. p.port) (λ p. 0)) (sym port_heads) (subst (λ (l : Links). IsLaid ports.heads l es (λ p. p.port) (λ p. 0)) (sym port_links) old.by_port);
 }
 
-pub slotted_empty : (es : List (Station × Place)) (ages ports : RingTable) → es ≡ [] → ages.heads ≡ 1 → ports.heads ≡ 4160 → links_of ages ≡ itself → links_of ports ≡ itself → IsSlotted es 0 ages ports
+pub slotted_empty : (es : List (StationKey × Place)) (ages ports : RingTable) → es ≡ [] → ages.heads ≡ 1 → ports.heads ≡ 4160 → links_of ages ≡ itself → links_of ports ≡ itself → IsSlotted es 0 ages ports
 slotted_empty es ages ports none one all age_links port_links = record {
   one_ring = one;
   port_rings = all;
@@ -129,11 +129,11 @@ slotted_empty es ages ports none one all age_links port_links = record {
 }
 
 -- ---- the first slots
-module _ (es : List (Station × Place)) (n : ℕ) (ages ports : RingTable) (h : IsSlotted es n ages ports) where
+module _ (es : List (StationKey × Place)) (n : ℕ) (ages ports : RingTable) (h : IsSlotted es n ages ports) where
   pub no_oldest : first_of ages.heads (links_of ages) 0 ≡ None → es ≡ []
   no_oldest none = by_entries es (λ i e there. laid_none ages.heads (λ p. 0) (λ p. p.at) (links_of ages) es 0 h.by_age none i e there refl)
     where
-      by_entries : (fs : List (Station × Place)) → ((i : ℕ) (e : Station × Place) → slice_get fs i ≡ Some e → ⊥) → fs ≡ []
+      by_entries : (fs : List (StationKey × Place)) → ((i : ℕ) (e : StationKey × Place) → slice_get fs i ≡ Some e → ⊥) → fs ≡ []
       by_entries [] never = refl
       by_entries (f ∷ fs) never = absurd (never 0 f refl)
 
@@ -164,7 +164,7 @@ module _ (es : List (Station × Place)) (n : ℕ) (ages ports : RingTable) (h : 
 
 -- ---- what is stored
 -- the entries were seen until this clock
-pub latest : (x : ℕ) (es : List (Station × Place)) → IsDistinct same (keys_of es) → IsUntil x es → (i : ℕ) (e : Station × Place) → slice_get es i ≡ Some e → e.1.at ≤ x
+pub latest : (x : ℕ) (es : List (StationKey × Place)) → IsDistinct same (keys_of es) → IsUntil x es → (i : ℕ) (e : StationKey × Place) → slice_get es i ≡ Some e → e.1.at ≤ x
 latest x es once until i e there = until e.0 e.1 (found_at es i e once there)
 
 -- ---- answers that may be missing

@@ -4,7 +4,7 @@ use Rattle.std.specs.List.{IsDistinct, position_or_len, swap_remove}
 use Rattle.std.specs.Map.{keys_of, lookup}
 use Rattle.std.proofs.lemmas.Bool.{true≢false}
 use Rattle.indexmap.specs.IndexMap.{insert_entry, set_value_at}
-use Rattle.exb_model.specs.declared.station.Station.{Station}
+use Rattle.exb_learn.specs.declared.key.StationKey.{StationKey}
 use Rattle.exb_learn.specs.declared.entries.Place.{Place}
 use Rattle.exb_learn.specs.Links.{RingTable}
 use Rattle.exb_learn.specs.Stations.{same, Changes, IsTaken, IsUntil}
@@ -14,7 +14,7 @@ use Rattle.exb_learn.proofs.Lookups.{same_is, same_itself, found_at, position_wi
 use Rattle.exb_learn.proofs.Slotted.{slotted_room, latest}
 
 -- ---- an entry is put
-pub length_put : (s : Station) (v : Place) (es : List (Station × Place)) → length (insert_entry same es s v) ≡ length es + cond (is_some (lookup (same s) es)) 0 1
+pub length_put : (s : StationKey) (v : Place) (es : List (StationKey × Place)) → length (insert_entry same es s v) ≡ length es + cond (is_some (lookup (same s) es)) 0 1
 length_put s v [] = refl
 length_put s v (e ∷ es) = by_test (same s e.0) (length_put s v es)
   where
@@ -23,7 +23,7 @@ length_put s v (e ∷ es) = by_test (same s e.0) (length_put s v es)
     by_test true rest = omega arith
     by_test false rest = omega (arith, rest)
 
-same_turned : (a b : Station) → same a b ≡ same b a
+same_turned : (a b : StationKey) → same a b ≡ same b a
 same_turned a b = by_tests (same a b) (same b a) refl refl
   where
     by_tests : (c d : Bool) → same a b ≡ c → same b a ≡ d → c ≡ d
@@ -42,7 +42,7 @@ beside true false x y z w apart is = refl
 beside false true x y z w apart is = is
 beside false false x y z w apart is = is
 
-pub changes_put : (s : Station) (v : Place) (es : List (Station × Place)) → Changes es (insert_entry same es s v) s (Some v)
+pub changes_put : (s : StationKey) (v : Place) (es : List (StationKey × Place)) → Changes es (insert_entry same es s v) s (Some v)
 changes_put s v [] q = ap (λ b. cond b (Some v) None) (same_turned q s)
 changes_put s v (e ∷ es) q = by_test (same s e.0) refl (changes_put s v es q)
   where
@@ -56,7 +56,7 @@ changes_put s v (e ∷ es) q = by_test (same s e.0) refl (changes_put s v es q)
         beside (same q e.0) (same s q) (Some v) (lookup (same q) es) (Some e.1) (lookup (same q) (insert_entry same es s v))
         (λ (g : same q e.0 ≡ true). ap (λ x. same s x) (same_is q e.0 g) ∙ h) rest
 
-pub putting : (es : List (Station × Place)) (s : Station) (room spare : ℕ) (ages ports : RingTable) (slot : ℕ) (known : Option Place) (place : Place) →
+pub putting : (es : List (StationKey × Place)) (s : StationKey) (room spare : ℕ) (ages ports : RingTable) (slot : ℕ) (known : Option Place) (place : Place) →
     IsStored es room spare ages ports → 1 ≤ room → IsUntil place.at es → slot ≡ position_or_len (same s) (keys_of es) → known ≡ lookup (same s) es →
     IsPutting es s (length es + room) ages ports slot known place
 putting es s room spare ages ports slot known place stored room_is until slot_is known_is = record {
@@ -68,7 +68,7 @@ putting es s room spare ages ports slot known place stored room_is until slot_is
   latest = latest place.at es stored.once until;
 }
 
-pub stored_put : (es new : List (Station × Place)) (s : Station) (room spare new_room new_spare : ℕ) (ages ports new_ages new_ports : RingTable) (known : Option Place) (place : Place) →
+pub stored_put : (es new : List (StationKey × Place)) (s : StationKey) (room spare new_room new_spare : ℕ) (ages ports new_ages new_ports : RingTable) (known : Option Place) (place : Place) →
     IsStored es room spare ages ports → new ≡ insert_entry same es s place → known ≡ lookup (same s) es → IsDistinct same (keys_of new) →
     new_room + cond (is_some known) 0 1 ≡ room → spare ≤ new_spare + cond (is_some known) 0 1 →
     IsSlotted (insert_entry same es s place) (length es + room) new_ages new_ports → IsStored new new_room new_spare new_ages new_ports
@@ -83,11 +83,11 @@ stored_put es new s room spare new_room new_spare ages ports new_ages new_ports 
     }
 
 -- ---- an entry is taken out
-pub removing : (es : List (Station × Place)) (room spare : ℕ) (ages ports : RingTable) (slot last : ℕ) → IsStored es room spare ages ports → slot < length es → last ≡ length es - 1 →
+pub removing : (es : List (StationKey × Place)) (room spare : ℕ) (ages ports : RingTable) (slot last : ℕ) → IsStored es room spare ages ports → slot < length es → last ≡ length es - 1 →
     IsRemoving es (length es + room) ages ports slot last
 removing es room spare ages ports slot last stored less last_is = record { slotted = stored.slotted; less = less; within = omega arith; last_is = last_is }
 
-pub stored_removed : (es new : List (Station × Place)) (slot room spare new_spare : ℕ) (e : Station × Place) (ages ports new_ages new_ports : RingTable) →
+pub stored_removed : (es new : List (StationKey × Place)) (slot room spare new_spare : ℕ) (e : StationKey × Place) (ages ports new_ages new_ports : RingTable) →
     IsStored es room spare ages ports → slice_get es slot ≡ Some e → new ≡ swap_remove es slot e → spare ≤ new_spare → IsDistinct same (keys_of new) →
     IsSlotted (swap_remove es slot e) (length es + room) new_ages new_ports → IsStored new room new_spare new_ages new_ports
 stored_removed es new slot room spare new_spare e ages ports new_ages new_ports stored there is spare_is once slotted =
@@ -102,26 +102,26 @@ stored_removed es new slot room spare new_spare e ages ports new_ages new_ports 
           refl refl refl refl (omega (arith, short, ages_fit)) (omega (arith, short, ports_fit));
     }
 
-pub taken_out : (es new : List (Station × Place)) (slot : ℕ) (e : Station × Place) → IsDistinct same (keys_of es) → slice_get es slot ≡ Some e → Changes es new e.0 None → suc (length new) ≡ length es → IsTaken es new e
+pub taken_out : (es new : List (StationKey × Place)) (slot : ℕ) (e : StationKey × Place) → IsDistinct same (keys_of es) → slice_get es slot ≡ Some e → Changes es new e.0 None → suc (length new) ≡ length es → IsTaken es new e
 taken_out es new slot e once there changes short = record { found = found_at es slot e once there; gone = changes; shorter = short }
 
 -- the value of an entry is another one, and no station stands twice still
-pub once_over : (es : List (Station × Place)) (i : ℕ) (v : Place) → IsDistinct same (keys_of es) → IsDistinct same (keys_of (set_value_at es i v))
+pub once_over : (es : List (StationKey × Place)) (i : ℕ) (v : Place) → IsDistinct same (keys_of es) → IsDistinct same (keys_of (set_value_at es i v))
 once_over es i v once = subst (IsDistinct same) (sym (keys es i)) once
   where
-    keys : (es : List (Station × Place)) (i : ℕ) → keys_of (set_value_at es i v) ≡ keys_of es
+    keys : (es : List (StationKey × Place)) (i : ℕ) → keys_of (set_value_at es i v) ≡ keys_of es
     keys [] i = refl
     keys (e ∷ es) zero = refl
-    keys (e ∷ es) (suc i) = ap (λ (ks : List Station). e.0 ∷ ks) (keys es i)
+    keys (e ∷ es) (suc i) = ap (λ (ks : List StationKey). e.0 ∷ ks) (keys es i)
 
 -- ---- room is made
-pub stored_again : (es new : List (Station × Place)) (room spare new_spare : ℕ) (ages ports new_ages new_ports : RingTable) → IsStored es room spare ages ports → new ≡ es → spare ≤ new_spare →
+pub stored_again : (es new : List (StationKey × Place)) (room spare new_spare : ℕ) (ages ports new_ages new_ports : RingTable) → IsStored es room spare ages ports → new ≡ es → spare ≤ new_spare →
     IsSlotted es (length es + room) new_ages new_ports → IsStored new room new_spare new_ages new_ports
 stored_again es new room spare new_spare ages ports new_ages new_ports stored is more slotted =
     let fits = stored.fits in
     subst (λ xs. IsStored xs room new_spare new_ages new_ports) (sym is) (record { once = stored.once; fits = omega (arith, fits, more); slotted = slotted })
 
-pub stored_more : (es new : List (Station × Place)) (room spare new_spare slots held : ℕ) (ages ports new_ages new_ports : RingTable) → IsStored es room spare ages ports → new ≡ es →
+pub stored_more : (es new : List (StationKey × Place)) (room spare new_spare slots held : ℕ) (ages ports new_ages new_ports : RingTable) → IsStored es room spare ages ports → new ≡ es →
     slots ≡ length new + new_spare → held ≡ length new → IsSlotted es slots new_ages new_ports → IsStored new (slots - held) new_spare new_ages new_ports
 stored_more es new room spare new_spare slots held ages ports new_ages new_ports stored is slots_is held_is slotted = record {
   once = subst (λ xs. IsDistinct same (keys_of xs)) (sym is) stored.once;

@@ -2,14 +2,14 @@
 use Rattle.std.specs.Prelude.{ℕ, List, Option, Some, None}
 use Rattle.std.specs.Map.{lookup}
 use Rattle.exb_model.specs.Learning.{Look}
-use Rattle.exb_model.specs.declared.station.Station.{Station}
+use Rattle.exb_learn.specs.declared.key.StationKey.{StationKey}
 use Rattle.exb_learn.specs.declared.entries.Place.{Place}
 use Rattle.exb_learn.specs.Stations.{same}
 use Rattle.exb_learn.specs.Calls.{Table, look_in}
 
 -- the entries, the clock and the ageing time in seconds, and for how many more entries there is room
 pub record Entries : Type 0 where
-  pub entries : List (Station × Place)
+  pub entries : List (StationKey × Place)
   pub clock : ℕ
   pub ageing : ℕ
   pub spare : ℕ
@@ -18,7 +18,7 @@ abbrev pub place_of : Option Place → Option (ℕ × ℕ)
 place_of None = None
 place_of (Some p) = Some (p.port, p.at)
 
-abbrev pub station : ℕ → List ℕ → Station
+abbrev pub station : ℕ → List ℕ → StationKey
 station v m = record { vid = v; address = record { 0 = m } }
 
 unfoldable pub table_of : Entries → Table

@@ -5,4 +5,5 @@ pub mod Entries
 pub mod Counts
 pub mod Histories
 pub mod Links
+pub mod Keys
 pub mod Stored

@@ -5,8 +5,8 @@ ghost use Rattle.std.specs.Map.{keys_of, lookup};
 ghost use Rattle.indexmap.specs.IndexMap.{insert_entry, spare, IsUnique};
 ghost use Rattle.exb_learn.specs.Stations.{same, is_live};
 
+use crate::key::StationKey;
 use exb_model::port::PortId;
-use exb_model::station::Station;
 use indexmap::IndexMap;
 
 /// Where a station was seen last, and when.
@@ -27,8 +27,8 @@ pub fn is_live(place: &Place, clock: u64, ageing: u32) -> bool
 /// Puts the place of a station, where there is room for one more. Answers the index of its entry and the place that
 /// it had.
 pub fn put_place(
-    places: &mut IndexMap<Station, Place>,
-    station: Station,
+    places: &mut IndexMap<StationKey, Place>,
+    station: StationKey,
     place: &Place,
 ) -> (usize, Option<Place>)
     requires spare { 1 ≤ spare places.old }

@@ -7,11 +7,11 @@ ghost use Rattle.exb_learn.specs.Counts.{HasLive};
 
 use crate::entries::Place;
 use crate::forgetting::{forget_dead, forget_port};
+use crate::key::StationKey;
 use crate::store::Store;
 use exb_model::address::Mac;
 use exb_model::memory::NoMemory;
 use exb_model::port::PortId;
-use exb_model::station::Station;
 use exb_model::vlan::Vid;
 use std::alloc::Global;
 use std::marker::Model;
@@ -86,7 +86,7 @@ impl Learned {
             at: self.clock,
         };
         if self.ageing > 0 {
-            self.store.put(Station { vid, address }, place);
+            self.store.put(StationKey { vid, address }, place);
         }
     }
 
@@ -96,7 +96,7 @@ impl Learned {
     pub fn look(&self, vid: Vid, address: Mac) -> Option<PortId>
         ensures { result ≡ look_of self.now vid address.0 }
     {
-        let place = self.store.place(&Station { vid, address })?;
+        let place = self.store.place(&StationKey { vid, address })?;
         Some(place.port)
     }
 

@@ -5,6 +5,7 @@
 
 pub mod entries;
 pub mod forgetting;
+pub mod key;
 pub mod laws;
 pub mod learned;
 pub mod rings;

@@ -6,10 +6,10 @@ ghost use Rattle.exb_learn.specs.Stations.{same, is_elsewhere, AllPass, Changes,
 ghost use Rattle.exb_learn.specs.Stored.{IsOldest, IsSeenAt};
 
 use crate::entries::{Place, put_place};
+use crate::key::StationKey;
 use crate::slots::Slots;
 use exb_model::memory::NoMemory;
 use exb_model::port::PortId;
-use exb_model::station::Station;
 use indexmap::IndexMap;
 use std::alloc::Global;
 use std::marker::Model;
@@ -17,7 +17,7 @@ use std::marker::Model;
 /// Where each station was seen last. The slot of a station is the index of its entry.
 #[derive(Drop)]
 pub struct Store {
-    places: IndexMap<Station, Place>,
+    places: IndexMap<StationKey, Place>,
     slots: Slots,
     // how many more entries there is room for, by the last `reserve`
     room: usize,
@@ -47,12 +47,15 @@ impl Store {
         }
     }
 
-    /// Makes room for one more entry.
+    /// Makes room for one more entry, where there is none.
     pub fn reserve(&mut self) -> Result<(), NoMemory>
         ensures ok { OnOk result (1 ≤ self.new.room) }
         ensures err { OnErr result (self.new ≡ self.old) }
         ensures entries { self.new.entries ≡ self.old.entries }
     {
+        if self.room > 0 {
+            return Ok(());
+        }
         self.places.reserve(1)?;
         let slots = self.places.capacity();
         self.slots.reserve(slots)?;
@@ -76,14 +79,14 @@ impl Store {
     }
 
     /// Where a station was seen last.
-    pub fn place(&self, station: &Station) -> Option<Place>
+    pub fn place(&self, station: &StationKey) -> Option<Place>
         ensures { result ≡ lookup (same station.now) self.now.entries }
     {
         self.places.get(station).copied()
     }
 
     /// Puts the place of a station, which was seen no earlier than all others.
-    pub fn put(&mut self, station: Station, place: Place)
+    pub fn put(&mut self, station: StationKey, place: Place)
         requires room { 1 ≤ self.old.room }
         requires latest { IsUntil place.at self.old.entries }
         ensures updates { Changes self.old.entries self.new.entries station (Some place) }
