@@ -179,6 +179,39 @@ module _ (ports : List ℕ) (xs : List (Option Fields)) (passed : ℕ) (d : Devi
                 rw (get_set_other xs n k (Some f) ne) (bit ∙ noted.waits k)
           ]
 
+  -- its state is as before
+  pub noted_same : (f g : Fields) (sending waiting : ℕ) → x ≡ Some g → AreNoted xs sending waiting passed → state_of f ≡ state_of g → AreNoted (set xs n (Some f)) sending waiting passed
+  noted_same f g sending waiting same noted is =
+      record {
+        few = length-set xs n (Some f) ∙ noted.few;
+        noted = λ k. noted_at k;
+        waits = λ k. waits k;
+        low = noted.low;
+      }
+    where
+      placed : slice_get (set xs n (Some f)) n ≡ Some (Some f)
+      placed = get_set xs n (Some f) (get_within xs n (Some g) (found g same))
+
+      sends : sent_at (slice_get (set xs n (Some f)) n) ≡ sent_at (slice_get xs n)
+      sends = ap sent_at placed ∙ ap (λ (s : ExtenderState). s.ecp.sending) is ∙ sym (ap sent_at (found g same))
+
+      waits_so : waits_at (slice_get (set xs n (Some f)) n) ≡ waits_at (slice_get xs n)
+      waits_so = ap waits_at placed ∙ ap (λ (s : ExtenderState). if rests s then 0 else 1) is ∙ sym (ap waits_at (found g same))
+
+      noted_at : (k : ℕ) → (bit_at sending k ≡ 0) ↔ (sent_at (slice_get (set xs n (Some f)) k) ≡ None)
+      noted_at k =
+          elim (cases_eq k n) [
+            | inl at ↦ rw (at, sends) (noted.noted n)
+            | inr ne ↦ rw (get_set_other xs n k (Some f) ne) (noted.noted k)
+          ]
+
+      waits : (k : ℕ) → bit_at waiting k ≡ waits_at (slice_get (set xs n (Some f)) k)
+      waits k =
+          elim (cases_eq k n) [
+            | inl at ↦ rw (at, waits_so) (noted.waits n)
+            | inr ne ↦ rw (get_set_other xs n k (Some f) ne) (noted.waits k)
+          ]
+
 -- ---- those that rest
 -- one beat more has passed at them
 more_passed : (passed : ℕ) (s : ExtenderState) → rested ((passed + 1) % 16) s ≡ if_rests (rested passed s)

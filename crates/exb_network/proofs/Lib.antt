@@ -8,6 +8,7 @@ pub mod Relayed
 pub mod Stepped
 pub mod Sides
 pub mod Fars
+pub mod Forwards
 pub mod ToExtenders
 pub mod Hearings
 pub mod Again

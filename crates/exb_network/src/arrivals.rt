@@ -27,3 +27,10 @@ impl<'a> Arrived<'a> {
         }
     }
 }
+
+/// A frame that came to an extender, with the stamp of its word.
+#[derive(Clone, Copy)]
+pub(crate) struct Came<'a> {
+    pub(crate) frame: &'a [u8],
+    pub(crate) stamp: Option<Stamp>,
+}

@@ -14,10 +14,9 @@ ghost use Rattle.exb_machine.specs.Runs.Sessions.{AreLow, Each};
 ghost use Rattle.exb_network.specs.Worlds.{world_in, IsAt, Does};
 
 use crate::forms::{channel_tag, put_tagged};
-use crate::log::{Log, add_events, note_out};
+use crate::log::{Post, add_events, note_out};
 use crate::sending::hung_on;
 use crate::site::{Buffers, Core, Room, Site};
-use crate::store::Store;
 use exb_changing::Asked;
 use exb_ecp::Pdu;
 use exb_link::Word;
@@ -26,7 +25,6 @@ use exb_model::buffers::ControlBuf;
 use exb_model::bytes::Bytes;
 use exb_model::memory::NoMemory;
 use exb_model::port::PortId;
-use std::alloc::Global;
 
 /// The bridge's address: 02-45-42-00-00-00.
 const BRIDGE: Mac = Mac([0x02, 0x45, 0x42, 0x00, 0x00, 0x00]);
@@ -71,27 +69,26 @@ pub(crate) fn has_low_number(site: &Site, extender: u8)
 
 /// A control frame goes out at a port of the bridge, counted from 0, onto the link of the extender that hangs there.
 fn put(
-    alloc: Global,
     site: &Site,
     place: u8,
     below: u8,
     frame: Bytes,
     core: &mut Core,
-    log: &mut Log,
+    post: &mut Post,
 ) -> Result<(), NoMemory>
     requires at { IsAt site.now core.old }
     requires place { place < 64 }
     requires known { below < 65 }
-    ensures { OnOk result (Does (puts place below frame (world_in core.old)) site.now core.new log.old log.new) }
+    ensures { OnOk result (Does (puts place below frame (world_in core.old)) site.now core.new post.old.log post.new.log) }
 {
     let _ = site;
     note_out(
-        alloc,
-        log.tracing,
+        post.alloc,
+        post.log.tracing,
         0,
         place + 1,
         frame.as_slice(),
-        &mut log.outs,
+        &mut post.log.outs,
     )?;
     let word = Word {
         bytes: frame,
@@ -102,20 +99,20 @@ fn put(
 
 /// A control frame goes to a deeper extender, with the channel of the port on which that hangs, by way of the extender
 /// on the bridge port above it.
+#[cold]
+#[inline(never)]
 fn put_deeper(
-    alloc: Global,
     site: &Site,
     extender: u8,
     frame: &[u8],
-    store: &mut Store,
     core: &mut Core,
-    log: &mut Log,
+    post: &mut Post,
 ) -> Result<(), NoMemory>
     requires at { IsAt site.now core.old }
     requires there { is_extender site.now.tree extender ≡ true }
     requires long { 12 ≤ length frame.now }
     ensures { OnOk result (Does (puts_tagged (trunk site.now.tree extender) (hung_on site.now.tree (trunk site.now.tree extender))
-        (channel_at_trunk site.now.tree (world_in core.old).control.held (on site.now.tree extender)) frame.now (world_in core.old)) site.now core.new log.old log.new) }
+        (channel_at_trunk site.now.tree (world_in core.old).control.held (on site.now.tree extender)) frame.now (world_in core.old)) site.now core.new post.old.log post.new.log) }
 {
     let tree = site.tree();
     tree.is_tree();
@@ -127,56 +124,49 @@ fn put_deeper(
     let Some(channel) = core.control.of(site.on(extender)) else {
         return Ok(());
     };
-    let mut buffer = store.buffer(alloc);
+    let mut buffer = post.store.buffer(post.alloc);
     put_tagged(frame, &channel_tag(channel), &mut buffer)?;
-    put(
-        alloc,
-        site,
-        place,
-        below,
-        Bytes::from_vec(buffer),
-        core,
-        log,
-    )
+    put(site, place, below, Bytes::from_vec(buffer), core, post)
 }
 
 /// A control frame goes to an extender.
+#[cold]
+#[inline(never)]
 pub(crate) fn send_to_extender(
-    alloc: Global,
     site: &Site,
     extender: u8,
     frame: &[u8],
-    store: &mut Store,
     core: &mut Core,
-    log: &mut Log,
+    post: &mut Post,
 ) -> Result<(), NoMemory>
     requires at { IsAt site.now core.old }
     requires there { is_extender site.now.tree extender ≡ true }
     requires long { 12 ≤ length frame.now }
-    ensures { OnOk result (Does (to_extender site.now.tree extender frame.now (world_in core.old)) site.now core.new log.old log.new) }
+    ensures { OnOk result (Does (to_extender site.now.tree extender frame.now (world_in core.old)) site.now core.new post.old.log post.new.log) }
 {
     has_low_number(site, extender);
     let port = site.on(extender);
     if port.device() == 0 {
-        let bytes = store.copy(alloc, frame)?;
-        put(alloc, site, port.place(), extender, bytes, core, log)
+        let bytes = post.store.copy(post.alloc, frame)?;
+        put(site, port.place(), extender, bytes, core, post)
     } else {
-        put_deeper(alloc, site, extender, frame, store, core, log)
+        put_deeper(site, extender, frame, core, post)
     }
 }
 
 /// A message is submitted to an extender, in place of what is sent to it, and goes out.
+#[cold]
+#[inline(never)]
 fn ask(
-    alloc: Global,
     site: &Site,
     asked: &Asked,
     buffers: &mut Buffers,
     core: &mut Core,
-    log: &mut Log,
+    post: &mut Post,
 ) -> Result<(), NoMemory>
     requires at { IsAt site.now core.old }
     requires askable { CanGo site.now.tree asked.now }
-    ensures { OnOk result (Does (asks site.now.tree asked.now (world_in core.old)) site.now core.new log.old log.new) }
+    ensures { OnOk result (Does (asks site.now.tree asked.now (world_in core.old)) site.now core.new post.old.log post.new.log) }
 {
     has_low_number(site, asked.extender);
     exb_csp::write(&asked.message, &mut buffers.message);
@@ -184,52 +174,41 @@ fn ask(
     let sequence = core.near.submit(asked.extender, payload);
     spell_request(sequence, payload, &mut buffers.control);
     let frame = buffers.control.as_slice();
-    send_to_extender(
-        alloc,
-        site,
-        asked.extender,
-        frame,
-        &mut buffers.store,
-        core,
-        log,
-    )
+    send_to_extender(site, asked.extender, frame, core, post)
 }
 
 /// All messages go out, in order.
 fn ask_all(
-    alloc: Global,
     site: &Site,
     asked: &[Asked],
     buffers: &mut Buffers,
     core: &mut Core,
-    log: &mut Log,
+    post: &mut Post,
 ) -> Result<(), NoMemory>
     requires at { IsAt site.now core.old }
     requires askable { Each (CanGo site.now.tree) asked.now }
-    ensures { OnOk result (Does (each (asks site.now.tree) asked.now (world_in core.old)) site.now core.new log.old log.new) }
+    ensures { OnOk result (Does (each (asks site.now.tree) asked.now (world_in core.old)) site.now core.new post.old.log post.new.log) }
 {
     for one in asked {
-        ask(alloc, site, one, buffers, core, log)?;
+        ask(site, one, buffers, core, post)?;
     }
     Ok(())
 }
 
 /// What the control told is told, and what it asked goes out: the rest of a step of the machine of changes, once the
 /// control has made it.
-pub(crate) fn follow(
-    alloc: Global,
-    site: &Site,
-    room: &mut Room,
-    core: &mut Core,
-    log: &mut Log,
-) -> Result<(), NoMemory>
+pub(crate) fn follow(site: &Site, room: &mut Room, core: &mut Core) -> Result<(), NoMemory>
     requires at { IsAt site.now core.old }
     requires askable { AreLow (world_in core.old).control.askers → Each (CanGo site.now.tree) room.old.outbox.asks }
     ensures { OnOk result ((m : Moved) (w : World) → world_in core.old ≡ with_table (forgotten_all m.downs w.table) (with_control m.state w)
-        → room.old.outbox.events ≡ m.events → room.old.outbox.asks ≡ m.asks → Does (moves site.now.tree m w) site.now core.new log.old log.new) }
+        → room.old.outbox.events ≡ m.events → room.old.outbox.asks ≡ m.asks → Does (moves site.now.tree m w) site.now core.new room.old.post.log room.new.post.log) }
 {
     core.control.has_low_serials();
-    add_events(alloc, &mut room.outbox.events, &mut log.events)?;
+    add_events(
+        room.post.alloc,
+        &mut room.outbox.events,
+        &mut room.post.log.events,
+    )?;
     let asked = room.outbox.asks.as_slice();
-    ask_all(alloc, site, asked, &mut room.buffers, core, log)
+    ask_all(site, asked, &mut room.buffers, core, &mut room.post)
 }

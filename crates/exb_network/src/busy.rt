@@ -22,6 +22,7 @@ pub struct Turn {
 }
 
 /// The earlier of two places, where the second isn't before `from`; else the first.
+#[inline(always)]
 fn earlier(first: u8, place: u8, from: u8) -> u8
     ensures { IsEarlier first place from result }
 {
@@ -33,6 +34,7 @@ fn earlier(first: u8, place: u8, from: u8) -> u8
 }
 
 /// The turn at a place in the order, if there is one.
+#[inline(always)]
 fn turn_at(order: &[u8], place: u8) -> Option<Turn>
     requires { length order.now ≤ 64 }
     ensures found { IfSome result (λ turn. (turn.place ≡ place) × (slice_get order.now place ≡ Some turn.link)) }
@@ -47,6 +49,7 @@ fn turn_at(order: &[u8], place: u8) -> Option<Turn>
 
 /// The first of these links, from a place on, that has a word. Only links that have one are looked at: of each its place
 /// in the order is known.
+#[inline(always)]
 fn first_among(
     order: &[u8],
     places: &[u8; DEVICES as usize],
@@ -68,6 +71,7 @@ fn first_among(
 }
 
 /// The turn of the link at a place in the order, if that has a word.
+#[inline(always)]
 fn turn_here(order: &[u8], links: &Direction, place: u8) -> Option<Turn>
     requires low { All (λ n. n < 65) order.now }
     requires few { length order.now ≤ 64 }
@@ -82,6 +86,7 @@ fn turn_here(order: &[u8], links: &Direction, place: u8) -> Option<Turn>
 }
 
 /// The first of these links, from a place on, that has a word. Where many have one it is mostly that at the place itself.
+#[inline(always)]
 fn first_busy(
     order: &[u8],
     places: &[u8; DEVICES as usize],
@@ -101,6 +106,7 @@ fn first_busy(
 }
 
 /// The first direction of a way, from a place on, that has a word.
+#[inline(always)]
 pub(crate) fn next_busy(site: &Site, core: &Core, way: Way, from: u8) -> Option<Turn>
     ensures found { IfSome result (IsTurn site.now.tree (way_of way) (world_in core.now) from) }
     ensures none { IfNone result ((k n : ℕ) → from ≤ k → slice_get (order_of site.now.tree (way_of way)) k ≡ Some n → words_on n (way_of way) (world_in core.now) ≡ []) }

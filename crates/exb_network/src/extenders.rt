@@ -2,6 +2,7 @@
 ghost use Rattle.std.specs.Prelude.{◌≡◌, ◌↔◌, ◌&&◌, ℕ, ◌≤◌, ◌<◌, true, false, not, if◌then◌else◌, IfOk, IsTrue, None, [], slice_index};
 ghost use Rattle.std.specs.Int.{bit_at};
 ghost use Rattle.std.specs.List.{All};
+ghost use Rattle.exb_model.specs.Frames.{is_control_frame};
 ghost use Rattle.exb_model.specs.Setup.{IsValid, shape_of};
 ghost use Rattle.exb_model.specs.Tree.{is_extender};
 ghost use Rattle.exb_extender.specs.Fields.{state_of};
@@ -15,6 +16,7 @@ ghost use Rattle.exb_network.specs.Devices.{far_of, first_far, has_extender, if_
 
 use crate::numbers::{meet, with_bit};
 use exb_extender::{Entry, Extender, Sends, Side};
+use exb_model::address::is_control_frame;
 use exb_model::memory::NoMemory;
 use exb_model::port::DEVICES;
 use exb_model::setup::Setup;
@@ -115,7 +117,26 @@ impl Extenders {
     }
 
     /// An extender takes a frame from upstream, or from one of its cascade ports.
+    #[inline(always)]
     pub(crate) fn take(&mut self, number: u8, from: Side, frame: &[u8], sends: &mut Sends)
+        requires there { has_extender self.old number ≡ true }
+        requires from { CanTake (far_of self.old number) from }
+        ensures state { far_of self.new ≡ at number (react (Arrives from frame.now) (far_of self.old number)).0 (far_of self.old) }
+        ensures sends { sent_by frame.now sends.new ≡ (react (Arrives from frame.now) (far_of self.old number)).1 }
+        ensures given { All (CanGo frame.now) sends.new.frames.items }
+        ensures same { AreSame self.old self.new }
+    {
+        if is_control_frame(frame) {
+            self.hear(number, from, frame, sends);
+        } else {
+            self.forward(number, from, frame, sends);
+        }
+    }
+
+    /// It takes a control frame.
+    #[cold]
+    #[inline(never)]
+    fn hear(&mut self, number: u8, from: Side, frame: &[u8], sends: &mut Sends)
         requires there { has_extender self.old number ≡ true }
         requires from { CanTake (far_of self.old number) from }
         ensures state { far_of self.new ≡ at number (react (Arrives from frame.now) (far_of self.old number)).0 (far_of self.old) }
@@ -132,6 +153,22 @@ impl Extenders {
             let wakes = !extender.rests();
             self.sending = with_bit(self.sending, number, busy);
             self.waiting = with_bit(self.waiting, number, wakes);
+        }
+    }
+
+    /// It takes a data frame, which changes nothing of it: it sends and rests as before.
+    fn forward(&mut self, number: u8, from: Side, frame: &[u8], sends: &mut Sends)
+        requires there { has_extender self.old number ≡ true }
+        requires from { CanTake (far_of self.old number) from }
+        requires plain { is_control_frame frame.now ≡ false }
+        ensures state { far_of self.new ≡ at number (react (Arrives from frame.now) (far_of self.old number)).0 (far_of self.old) }
+        ensures sends { sent_by frame.now sends.new ≡ (react (Arrives from frame.now) (far_of self.old number)).1 }
+        ensures given { All (CanGo frame.now) sends.new.frames.items }
+        ensures same { AreSame self.old self.new }
+    {
+        if let Some(extender) = &mut self.extenders[number as usize] {
+            has_few_ports(extender);
+            extender.take(from, frame, sends);
         }
     }
 

@@ -10,6 +10,7 @@ use exb_frame::etag::ETag;
 use exb_model::memory::NoMemory;
 
 /// Puts bytes behind others.
+#[inline(always)]
 fn put(bytes: &[u8], into: &mut Vec<u8>) -> Result<(), NoMemory>
     ensures { OnOk result (into.new.items ≡ into.old.items ++ bytes.now) }
 {
@@ -18,6 +19,7 @@ fn put(bytes: &[u8], into: &mut Vec<u8>) -> Result<(), NoMemory>
 }
 
 /// Empties a buffer, and makes room for so many bytes.
+#[inline(always)]
 fn begin(size: usize, into: &mut Vec<u8>) -> Result<(), NoMemory>
     ensures { into.new.items ≡ [] }
 {
@@ -49,6 +51,7 @@ pub(crate) fn put_stripped(frame: &[u8], into: &mut Vec<u8>) -> Result<(), NoMem
 }
 
 /// The E-TAG that names a channel (IEEE 802.1BR): priority 0, and no port from which the frame came.
+#[inline(always)]
 pub(crate) fn channel_tag(channel: u16) -> ETag
     ensures { tag_of result ≡ channel_tag channel }
 {

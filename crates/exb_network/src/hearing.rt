@@ -12,28 +12,24 @@ ghost use Rattle.exb_network.specs.Worlds.{world_in, IsAt, Does};
 
 use crate::asking::{follow, has_low_number, send_to_extender, spell_acknowledgement};
 use crate::ends::Ends;
-use crate::log::Log;
 use crate::site::{Core, Room, Site};
 use exb_control::Taken;
 use exb_csp::Message;
 use exb_lldp::Announce;
 use exb_model::memory::NoMemory;
-use std::alloc::Global;
 
 /// An announcement of an extender.
 fn hear_announcement(
-    alloc: Global,
     site: &Site,
     number: u8,
     announce: &Announce,
     room: &mut Room,
     core: &mut Core,
-    log: &mut Log,
 ) -> Result<(), NoMemory>
     requires at { IsAt site.now core.old }
     requires there { is_extender site.now.tree number ≡ true }
     requires asks { AsksWell site.now.tree (limits_in site.now) (world_in core.old).control }
-    ensures { OnOk result ((f : List ℕ) → Does (hears_frame site.now.tree (limits_in site.now) number (Ok announce.now) f (world_in core.old)) site.now core.new log.old log.new) }
+    ensures { OnOk result ((f : List ℕ) → Does (hears_frame site.now.tree (limits_in site.now) number (Ok announce.now) f (world_in core.old)) site.now core.new room.old.post.log room.new.post.log) }
 {
     if core
         .control
@@ -42,7 +38,7 @@ fn hear_announcement(
     {
         return Err(NoMemory);
     }
-    follow(alloc, site, room, core, log)
+    follow(site, room, core)
 }
 
 /// An answer that is taken ends the sending of its request.
@@ -59,79 +55,65 @@ fn stop_answered(taken: &Taken, number: u8, near: &mut Ends)
 
 /// A message of an extender. An answer that is taken ends the sending of its request.
 fn hear_message(
-    alloc: Global,
     site: &Site,
     number: u8,
     message: &Message,
     room: &mut Room,
     core: &mut Core,
-    log: &mut Log,
 ) -> Result<(), NoMemory>
     requires at { IsAt site.now core.old }
     requires there { is_extender site.now.tree number ≡ true }
     requires asks { AsksWell site.now.tree (limits_in site.now) (world_in core.old).control }
-    ensures { OnOk result (Does (hears_message site.now.tree (limits_in site.now) number (Ok message.now) (world_in core.old)) site.now core.new log.old log.new) }
+    ensures { OnOk result (Does (hears_message site.now.tree (limits_in site.now) number (Ok message.now) (world_in core.old)) site.now core.new room.old.post.log room.new.post.log) }
 {
     has_low_number(site, number);
     let Ok(taken) = core.control.answered(number, message, &mut room.outbox) else {
         return Err(NoMemory);
     };
     stop_answered(&taken, number, &mut core.near);
-    follow(alloc, site, room, core, log)
+    follow(site, room, core)
 }
 
 /// A request of an extender over the transport: it is acknowledged first; where its sequence differs from the last received
 /// its payload is taken.
 fn hear_request(
-    alloc: Global,
     site: &Site,
     number: u8,
     sequence: u16,
     payload: &[u8],
     room: &mut Room,
     core: &mut Core,
-    log: &mut Log,
 ) -> Result<(), NoMemory>
     requires at { IsAt site.now core.old }
     requires there { is_extender site.now.tree number ≡ true }
     requires asks { AsksWell site.now.tree (limits_in site.now) (world_in core.old).control }
-    ensures { OnOk result (Does (hears_request site.now.tree (limits_in site.now) number sequence payload.now (world_in core.old)) site.now core.new log.old log.new) }
+    ensures { OnOk result (Does (hears_request site.now.tree (limits_in site.now) number sequence payload.now (world_in core.old)) site.now core.new room.old.post.log room.new.post.log) }
 {
     has_low_number(site, number);
     spell_acknowledgement(sequence, &mut room.buffers.control);
     let frame = room.buffers.control.as_slice();
-    send_to_extender(
-        alloc,
-        site,
-        number,
-        frame,
-        &mut room.buffers.store,
-        core,
-        log,
-    )?;
+    send_to_extender(site, number, frame, core, &mut room.post)?;
     if !core.near.received(number, sequence) {
         return Ok(());
     }
     match exb_csp::read(payload) {
-        Ok(message) => hear_message(alloc, site, number, &message, room, core, log),
+        Ok(message) => hear_message(site, number, &message, room, core),
         Err(_) => Ok(()),
     }
 }
 
 /// A control frame of an extender that is no announcement.
 fn hear_pdu(
-    alloc: Global,
     site: &Site,
     number: u8,
     frame: &[u8],
     room: &mut Room,
     core: &mut Core,
-    log: &mut Log,
 ) -> Result<(), NoMemory>
     requires at { IsAt site.now core.old }
     requires there { is_extender site.now.tree number ≡ true }
     requires asks { AsksWell site.now.tree (limits_in site.now) (world_in core.old).control }
-    ensures { OnOk result (Does (hears_pdu site.now.tree (limits_in site.now) number (pdu_in frame.now) frame.now (world_in core.old)) site.now core.new log.old log.new) }
+    ensures { OnOk result (Does (hears_pdu site.now.tree (limits_in site.now) number (pdu_in frame.now) frame.now (world_in core.old)) site.now core.new room.old.post.log room.new.post.log) }
 {
     has_low_number(site, number);
     let Ok(pdu) = exb_ecp::read(frame) else {
@@ -144,36 +126,25 @@ fn hear_pdu(
         core.near.acked(number, pdu.sequence);
         return Ok(());
     }
-    hear_request(
-        alloc,
-        site,
-        number,
-        pdu.sequence,
-        &frame[18..],
-        room,
-        core,
-        log,
-    )
+    hear_request(site, number, pdu.sequence, &frame[18..], room, core)
 }
 
 /// A control frame of an extender, without an E-TAG.
 #[tactic(auto, unfolding(exb_machine::specs::Hearing::hears))]
 pub(crate) fn hear(
-    alloc: Global,
     site: &Site,
     number: u8,
     frame: &[u8],
     room: &mut Room,
     core: &mut Core,
-    log: &mut Log,
 ) -> Result<(), NoMemory>
     requires at { IsAt site.now core.old }
     requires there { is_extender site.now.tree number ≡ true }
     requires asks { AsksWell site.now.tree (limits_in site.now) (world_in core.old).control }
-    ensures { OnOk result (Does (hears site.now.tree (limits_in site.now) number frame.now (world_in core.old)) site.now core.new log.old log.new) }
+    ensures { OnOk result (Does (hears site.now.tree (limits_in site.now) number frame.now (world_in core.old)) site.now core.new room.old.post.log room.new.post.log) }
 {
     match exb_lldp::read(frame) {
-        Ok(announce) => hear_announcement(alloc, site, number, &announce, room, core, log),
-        Err(_) => hear_pdu(alloc, site, number, frame, room, core, log),
+        Ok(announce) => hear_announcement(site, number, &announce, room, core),
+        Err(_) => hear_pdu(site, number, frame, room, core),
     }
 }

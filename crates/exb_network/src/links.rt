@@ -46,6 +46,7 @@ impl Direction {
     }
 
     /// Puts a word behind all others on the link of an extender.
+    #[inline(always)]
     pub(crate) fn push(&mut self, extender: u8, word: Word) -> Result<(), NoMemory>
         requires { extender < 65 }
         ensures { OnOk result (words_of self.new ≡ at extender (words_of self.old extender ++ word ∷ []) (words_of self.old)) }
@@ -61,6 +62,7 @@ impl Direction {
     }
 
     /// Takes the first data word out.
+    #[inline(always)]
     pub(crate) fn take_data(&mut self, extender: u8) -> Option<Word>
         requires { extender < 65 }
         ensures word { result ≡ slice_get (filter is_data (words_of self.old extender)) 0 }
@@ -74,6 +76,8 @@ impl Direction {
     }
 
     /// Takes the control word at a position out.
+    #[cold]
+    #[inline(never)]
     pub(crate) fn take_control(&mut self, extender: u8, place: u64) -> Option<Word>
         requires { extender < 65 }
         ensures word { result ≡ slice_get (filter is_control (words_of self.old extender)) place }
@@ -95,6 +99,7 @@ impl Direction {
     }
 
     /// The link of an extender.
+    #[inline(always)]
     pub(crate) fn link(&self, extender: u8) -> &Link
         requires { extender < 65 }
         ensures { result.now ≡ words_of self.now extender }
@@ -103,6 +108,7 @@ impl Direction {
     }
 
     /// Whether a word is on the link of an extender.
+    #[inline(always)]
     pub(crate) fn has_word(&self, extender: u8) -> bool
         requires { extender < 65 }
         ensures { (result ≡ false) ↔ (words_of self.now extender ≡ []) }
@@ -111,6 +117,7 @@ impl Direction {
     }
 
     /// The first link, by extender from a number on, that has a word.
+    #[inline(always)]
     pub(crate) fn next_busy(&self, from: u8) -> Option<u8>
         requires { from < 128 }
         ensures found { IfSome result (IsNextBusy self.now from) }
@@ -120,6 +127,7 @@ impl Direction {
     }
 
     /// Whether links of these extenders, each a bit of its number, have a word.
+    #[inline(always)]
     pub(crate) fn have_words(&self, among: u128) -> bool
         ensures { (result ≡ false) ↔ ((n : ℕ) → bit_at among n ≡ 1 → words_of self.now n ≡ []) }
     {

@@ -80,6 +80,8 @@ fn keep_all(left: &mut List<Left>, store: &mut Store)
 }
 
 /// A copy of an event.
+#[cold]
+#[inline(never)]
 pub(crate) fn copy_of(alloc: Global, event: &Event) -> Result<Event, NoMemory>
     ensures { IfOk result (λ copy. copy ≡ event.now) }
 {
@@ -115,6 +117,8 @@ pub(crate) fn copy_of(alloc: Global, event: &Event) -> Result<Event, NoMemory>
 }
 
 /// Puts copies of events behind others.
+#[cold]
+#[inline(never)]
 fn copy_events(alloc: Global, events: &[Event], to: &mut List<Event>) -> Result<(), NoMemory>
     ensures { OnOk result (to.new ≡ to.old ++ events.now) }
 {
@@ -144,6 +148,7 @@ pub(crate) fn add_events(
 }
 
 /// A frame goes out by a side of a device: 0 is upstream, else a port's number. Where no trace is kept nothing is copied.
+#[inline(always)]
 pub(crate) fn note_out(
     alloc: Global,
     tracing: bool,
@@ -157,6 +162,21 @@ pub(crate) fn note_out(
     if !tracing {
         return Ok(());
     }
+    put_out(alloc, who, side, frame, outs)
+}
+
+/// Puts the line of a frame that goes out behind others.
+#[cold]
+#[inline(never)]
+fn put_out(
+    alloc: Global,
+    who: u8,
+    side: u8,
+    frame: &[u8],
+    outs: &mut Vec<TraceLine>,
+) -> Result<(), NoMemory>
+    ensures { OnOk result (outs.new.items ≡ outs.old.items ++ Out who side frame.now ∷ []) }
+{
     outs.push(TraceLine {
         who,
         way: TraceWay::Out,
@@ -164,4 +184,13 @@ pub(crate) fn note_out(
         bytes: Bytes::from_slice(alloc, frame)?,
     })?;
     Ok(())
+}
+
+/// What a step is lent for what goes out and what it tells: memory, buffers, and what has happened.
+#[derive(Drop)]
+pub(crate) struct Post {
+    pub(crate) alloc: Global,
+    /// Buffers of words that are gone, for those that are to come.
+    pub(crate) store: Store,
+    pub(crate) log: Log,
 }

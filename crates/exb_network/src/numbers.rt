@@ -4,6 +4,7 @@ ghost use Rattle.std.specs.Int.{bit_at};
 ghost use Rattle.exb_network.specs.Numbers.{IsFirstIn};
 
 /// The set in which one number is or isn't, and all others are as before.
+#[inline(always)]
 pub(crate) fn with_bit(bits: u128, number: u8, wanted: bool) -> u128
     requires { number < 128 }
     ensures { (n : ℕ) → bit_at result n ≡ (if n == number then (if wanted then 1 else 0) else bit_at bits n) }
@@ -16,6 +17,7 @@ pub(crate) fn with_bit(bits: u128, number: u8, wanted: bool) -> u128
 }
 
 /// The first number of a set that isn't below `from`.
+#[inline(always)]
 pub(crate) fn first_in(bits: u128, from: u8) -> Option<u8>
     requires { from < 128 }
     ensures found { IfSome result (IsFirstIn bits from) }
@@ -29,6 +31,7 @@ pub(crate) fn first_in(bits: u128, from: u8) -> Option<u8>
 }
 
 /// Whether two sets have a number in common.
+#[inline(always)]
 pub(crate) fn meet(bits: u128, others: u128) -> bool
     ensures { (result ≡ false) ↔ ((n : ℕ) → bit_at others n ≡ 1 → bit_at bits n ≡ 0) }
 {

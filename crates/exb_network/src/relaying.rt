@@ -18,7 +18,7 @@ ghost use Rattle.exb_network.specs.Worlds.{world_in, IsAt, Does, HasLeft, KeepsT
 use crate::arrivals::Arrived;
 use crate::forms::{put_stripped, put_tagged};
 use crate::hearing::hear;
-use crate::log::{Left, Log, add_events, note_out};
+use crate::log::{Left, Post, add_events, note_out};
 use crate::sending::hung_on;
 use crate::site::{Buffers, Core, Room, Site};
 use exb_control::{Ingress, Outbox, SendTo};
@@ -32,7 +32,6 @@ use exb_model::memory::NoMemory;
 use exb_model::port::PortId;
 use exb_model::vlan::Vid;
 use exb_relay::laws::spaces_number;
-use std::alloc::Global;
 
 /// A frame that passed at its port in a VLAN, with the priority of its VLAN tag (`pcp` is below 8).
 #[derive(Clone, Copy)]
@@ -44,26 +43,21 @@ struct Passed<'a> {
 }
 
 /// A frame leaves at a port of the bridge.
-fn leave(
-    alloc: Global,
-    bridge_port: u8,
-    moment: u64,
-    frame: Bytes,
-    log: &mut Log,
-) -> Result<(), NoMemory>
+#[inline(always)]
+fn leave(bridge_port: u8, moment: u64, frame: Bytes, post: &mut Post) -> Result<(), NoMemory>
     requires from1 { 1 ≤ bridge_port }
     requires to64 { bridge_port ≤ 64 }
-    ensures { OnOk result (HasLeft (record { port = bridge_port - 1; moment = moment; bytes = frame }) (Out 0 bridge_port frame) log.old log.new) }
+    ensures { OnOk result (HasLeft (record { port = bridge_port - 1; moment = moment; bytes = frame }) (Out 0 bridge_port frame) post.old.log post.new.log) }
 {
     note_out(
-        alloc,
-        log.tracing,
+        post.alloc,
+        post.log.tracing,
         0,
         bridge_port,
         frame.as_slice(),
-        &mut log.outs,
+        &mut post.log.outs,
     )?;
-    log.left.push(Left {
+    post.log.left.push(Left {
         port: PortId::at(0, bridge_port - 1),
         moment,
         bytes: frame,
@@ -71,19 +65,19 @@ fn leave(
 }
 
 /// A word goes onto the link of the extender that hangs on a port of the bridge.
+#[inline(always)]
 fn put_word(
-    alloc: Global,
     site: &Site,
     bridge_port: u8,
     frame: Bytes,
     stamp: Stamp,
     core: &mut Core,
-    log: &mut Log,
+    post: &mut Post,
 ) -> Result<(), NoMemory>
     requires at { IsAt site.now core.old }
     requires from1 { 1 ≤ bridge_port }
     requires to64 { bridge_port ≤ 64 }
-    ensures { OnOk result (Does (puts_word bridge_port (hung_on site.now.tree (bridge_port - 1)) (record { bytes = frame; stamp = Some stamp }) (world_in core.old)) site.now core.new log.old log.new) }
+    ensures { OnOk result (Does (puts_word bridge_port (hung_on site.now.tree (bridge_port - 1)) (record { bytes = frame; stamp = Some stamp }) (world_in core.old)) site.now core.new post.old.log post.new.log) }
 {
     let tree = site.tree();
     tree.is_tree();
@@ -91,12 +85,12 @@ fn put_word(
         return Ok(());
     };
     note_out(
-        alloc,
-        log.tracing,
+        post.alloc,
+        post.log.tracing,
         0,
         bridge_port,
         frame.as_slice(),
-        &mut log.outs,
+        &mut post.log.outs,
     )?;
     let word = Word {
         bytes: frame,
@@ -107,18 +101,17 @@ fn put_word(
 
 /// One send of the bridge: the frame leaves there, or goes down there with an E-TAG.
 fn send(
-    alloc: Global,
     site: &Site,
     passed: &Passed,
     send: &SendTo,
     buffers: &mut Buffers,
     core: &mut Core,
-    log: &mut Log,
+    post: &mut Post,
 ) -> Result<(), NoMemory>
     requires at { IsAt site.now core.old }
     requires passed { HasPassed passed.now }
     requires send { CanSend send.now }
-    ensures { OnOk result (Does (sends_in site.now.tree (arrival_of passed.now.arrived) passed.now.vid send.now (world_in core.old)) site.now core.new log.old log.new) }
+    ensures { OnOk result (Does (sends_in site.now.tree (arrival_of passed.now.arrived) passed.now.vid send.now (world_in core.old)) site.now core.new post.old.log post.new.log) }
 {
     let frame = passed.arrived.bytes;
     egress_into(
@@ -132,41 +125,41 @@ fn send(
     match &send.tag {
         None => {
             let moment = passed.arrived.moment;
-            let bytes = buffers.store.copy(alloc, buffers.frame.as_slice())?;
-            leave(alloc, send.bridge_port, moment, bytes, log)
+            let bytes = post.store.copy(post.alloc, buffers.frame.as_slice())?;
+            leave(send.bridge_port, moment, bytes, post)
         }
         Some(tag) => {
             let stamp = passed.arrived.stamp();
-            let mut buffer = buffers.store.buffer(alloc);
+            let mut buffer = post.store.buffer(post.alloc);
             put_tagged(buffers.frame.as_slice(), tag, &mut buffer)?;
             let bytes = Bytes::from_vec(buffer);
-            put_word(alloc, site, send.bridge_port, bytes, stamp, core, log)
+            put_word(site, send.bridge_port, bytes, stamp, core, post)
         }
     }
 }
 
 /// All sends of the bridge, in order.
 fn send_all(
-    alloc: Global,
     site: &Site,
     passed: &Passed,
     sends: &[SendTo],
     buffers: &mut Buffers,
     core: &mut Core,
-    log: &mut Log,
+    post: &mut Post,
 ) -> Result<(), NoMemory>
     requires at { IsAt site.now core.old }
     requires passed { HasPassed passed.now }
     requires sends { All CanSend sends.now }
-    ensures { OnOk result (Does (each (sends_in site.now.tree (arrival_of passed.now.arrived) passed.now.vid) sends.now (world_in core.old)) site.now core.new log.old log.new) }
+    ensures { OnOk result (Does (each (sends_in site.now.tree (arrival_of passed.now.arrived) passed.now.vid) sends.now (world_in core.old)) site.now core.new post.old.log post.new.log) }
 {
     for one in sends {
-        send(alloc, site, passed, one, buffers, core, log)?;
+        send(site, passed, one, buffers, core, post)?;
     }
     Ok(())
 }
 
 /// Whether the first of these events is one of a frame that was relayed.
+#[inline(always)]
 fn is_relay(events: &[Event]) -> bool
     ensures { result ≡ is_relay_first events.now }
 {
@@ -174,6 +167,7 @@ fn is_relay(events: &[Event]) -> bool
 }
 
 /// Whether a frame passed at its port.
+#[inline(always)]
 fn has_passed(ingress: &Ingress) -> bool
     ensures { result ≡ is_passed ingress.now }
 {
@@ -181,6 +175,7 @@ fn has_passed(ingress: &Ingress) -> bool
 }
 
 /// Tells whether a relayed frame passed.
+#[inline(always)]
 fn put_passed(relayed: bool, passed: bool, to: &mut List<bool>) -> Result<(), NoMemory>
     ensures { OnOk result (to.new ≡ to.old ++ (if relayed then passed ∷ [] else [])) }
 {
@@ -188,35 +183,30 @@ fn put_passed(relayed: bool, passed: bool, to: &mut List<bool>) -> Result<(), No
 }
 
 /// Tells what happened to a frame.
-fn tell(
-    alloc: Global,
-    events: &mut List<Event>,
-    ingress: &Ingress,
-    log: &mut Log,
-) -> Result<(), NoMemory>
-    ensures events { OnOk result (log.new.events ≡ log.old.events ++ events.old) }
-    ensures passed { OnOk result (log.new.passed ≡ log.old.passed ++ passed_in events.old ingress.now) }
-    ensures left { log.new.left ≡ log.old.left }
-    ensures trace { KeepsTrace log.old log.new }
+#[inline(always)]
+fn tell(events: &mut List<Event>, ingress: &Ingress, post: &mut Post) -> Result<(), NoMemory>
+    ensures events { OnOk result (post.new.log.events ≡ post.old.log.events ++ events.old) }
+    ensures passed { OnOk result (post.new.log.passed ≡ post.old.log.passed ++ passed_in events.old ingress.now) }
+    ensures left { post.new.log.left ≡ post.old.log.left }
+    ensures trace { KeepsTrace post.old.log post.new.log }
 {
     let relayed = is_relay(events.as_slice());
-    put_passed(relayed, has_passed(ingress), &mut log.passed)?;
-    add_events(alloc, events, &mut log.events)
+    put_passed(relayed, has_passed(ingress), &mut post.log.passed)?;
+    add_events(post.alloc, events, &mut post.log.events)
 }
 
 /// A frame comes to the bridge's control: it is ignored, or relayed and then learned from. What is sent for it is in the
 /// outbox.
 fn learn(
-    alloc: Global,
     site: &Site,
     arrived: &Arrived,
     outbox: &mut Outbox,
     core: &mut Core,
-    log: &mut Log,
+    post: &mut Post,
 ) -> Result<(), NoMemory>
     requires at { IsAt site.now core.old }
     requires external { is_external site.now.tree arrived.now.port ≡ true }
-    ensures does { OnOk result (Does (told_by (arrival_of arrived.now) (world_in core.old)) site.now core.new log.old log.new) }
+    ensures does { OnOk result (Does (told_by (arrival_of arrived.now) (world_in core.old)) site.now core.new post.old.log post.new.log) }
     ensures sends { OnOk result (outbox.new.sends.items ≡ sends_for site.now.tree (world_in core.old) (arrival_of arrived.now)) }
     ensures can { OnOk result (All CanSend outbox.new.sends.items) }
     ensures ingress { OnOk result (outbox.new.ingress ≡ ingress_for (world_in core.old).control.bridge (arrival_of arrived.now)) }
@@ -230,26 +220,24 @@ fn learn(
         .control
         .frame(arrived.port, arrived.index, arrived.moment, frame, outbox)
     {
-        Ok(()) => tell(alloc, &mut outbox.events, &outbox.ingress, log),
+        Ok(()) => tell(&mut outbox.events, &outbox.ingress, post),
         Err(_) => Err(NoMemory),
     }
 }
 
 /// A frame comes to the bridge: it is ignored, or relayed and then learned from.
 pub(crate) fn come(
-    alloc: Global,
     site: &Site,
     arrived: &Arrived,
     room: &mut Room,
     core: &mut Core,
-    log: &mut Log,
 ) -> Result<(), NoMemory>
     requires at { IsAt site.now core.old }
     requires external { is_external site.now.tree arrived.now.port ≡ true }
-    ensures { OnOk result (Does (comes site.now.tree (arrival_of arrived.now) (world_in core.old)) site.now core.new log.old log.new) }
+    ensures { OnOk result (Does (comes site.now.tree (arrival_of arrived.now) (world_in core.old)) site.now core.new room.old.post.log room.new.post.log) }
 {
     are_bytes(arrived.bytes);
-    learn(alloc, site, arrived, &mut room.outbox, core, log)?;
+    learn(site, arrived, &mut room.outbox, core, &mut room.post)?;
     match &room.outbox.ingress {
         Ingress::Dropped => Ok(()),
         Ingress::Passed { vid, pcp, dei } => {
@@ -265,12 +253,20 @@ pub(crate) fn come(
                 dei: *dei,
             };
             let sends = room.outbox.sends.as_slice();
-            send_all(alloc, site, &passed, sends, &mut room.buffers, core, log)
+            send_all(
+                site,
+                &passed,
+                sends,
+                &mut room.buffers,
+                core,
+                &mut room.post,
+            )
         }
     }
 }
 
 /// The port whose channel the E-TAG of a frame names, at a cascade port of the bridge.
+#[inline(always)]
 fn holder(site: &Site, core: &Core, bridge_port: u8, frame: &[u8]) -> Option<PortId>
     requires at { IsAt site.now core.now }
     requires from1 { 1 ≤ bridge_port }
@@ -294,28 +290,27 @@ fn has_etag_type(frame: &[u8]) -> bool
 }
 
 /// A control word comes to a cascade port of the bridge, from the extender that hangs there or one below it.
+#[cold]
+#[inline(never)]
 fn take_control(
-    alloc: Global,
     site: &Site,
     bridge_port: u8,
     below: u8,
     frame: &[u8],
-    inner: &mut Vec<u8>,
     room: &mut Room,
     core: &mut Core,
-    log: &mut Log,
 ) -> Result<(), NoMemory>
     requires at { IsAt site.now core.old }
     requires from1 { 1 ≤ bridge_port }
     requires to64 { bridge_port ≤ 64 }
     requires hangs { HangsOn site.now.tree below (bridge_port - 1) }
     requires asks { AsksWell site.now.tree (limits_in site.now) (world_in core.old).control }
-    ensures { OnOk result (Does (takes_control site.now.tree (limits_in site.now) (bridge_port - 1) below frame.now (world_in core.old)) site.now core.new log.old log.new) }
+    ensures { OnOk result (Does (takes_control site.now.tree (limits_in site.now) (bridge_port - 1) below frame.now (world_in core.old)) site.now core.new room.old.post.log room.new.post.log) }
 {
     let tree = site.tree();
     tree.is_tree();
     if !has_etag_type(frame) {
-        return hear(alloc, site, below, frame, room, core, log);
+        return hear(site, below, frame, room, core);
     }
     let Some(port) = holder(site, core, bridge_port, frame) else {
         return Ok(());
@@ -323,26 +318,27 @@ fn take_control(
     let Some(number) = hung_on(tree, port) else {
         return Ok(());
     };
-    put_stripped(frame, inner)?;
-    hear(alloc, site, number, inner.as_slice(), room, core, log)
+    let mut inner = room.post.store.buffer(room.post.alloc);
+    put_stripped(frame, &mut inner)?;
+    hear(site, number, inner.as_slice(), room, core)?;
+    room.post.store.keep(Bytes::from_vec(inner));
+    Ok(())
 }
 
 /// A data word comes to a cascade port of the bridge: its frame comes from the port whose channel it has.
+#[inline(always)]
 fn take_data(
-    alloc: Global,
     site: &Site,
     bridge_port: u8,
     word: &Word,
-    inner: &mut Vec<u8>,
     room: &mut Room,
     core: &mut Core,
-    log: &mut Log,
 ) -> Result<(), NoMemory>
     requires at { IsAt site.now core.old }
     requires from1 { 1 ≤ bridge_port }
     requires to64 { bridge_port ≤ 64 }
     requires cascade { is_cascade site.now.tree (bridge_port - 1) ≡ true }
-    ensures { OnOk result (Does (comes_from site.now.tree (holder_by (world_in core.old) (bridge_port - 1) (read_etag word.now.bytes)) word.now.stamp (stripped word.now.bytes) (world_in core.old)) site.now core.new log.old log.new) }
+    ensures { OnOk result (Does (comes_from site.now.tree (holder_by (world_in core.old) (bridge_port - 1) (read_etag word.now.bytes)) word.now.stamp (stripped word.now.bytes) (world_in core.old)) site.now core.new room.old.post.log room.new.post.log) }
 {
     let frame = word.bytes.as_slice();
     let Some(port) = holder(site, core, bridge_port, frame) else {
@@ -354,50 +350,41 @@ fn take_data(
     if !site.tree().is_external(port) {
         return Ok(());
     }
-    put_stripped(frame, inner)?;
+    let mut inner = room.post.store.buffer(room.post.alloc);
+    put_stripped(frame, &mut inner)?;
     let arrived = Arrived {
         port,
         index: stamp.index,
         moment: stamp.moment,
         bytes: inner.as_slice(),
     };
-    come(alloc, site, &arrived, room, core, log)
+    come(site, &arrived, room, core)?;
+    room.post.store.keep(Bytes::from_vec(inner));
+    Ok(())
 }
 
 /// The bridge takes a word at its port on which an extender hangs.
+#[inline(always)]
 pub(crate) fn take(
-    alloc: Global,
     site: &Site,
     bridge_port: u8,
     below: u8,
     word: &Word,
-    inner: &mut Vec<u8>,
     room: &mut Room,
     core: &mut Core,
-    log: &mut Log,
 ) -> Result<(), NoMemory>
     requires at { IsAt site.now core.old }
     requires from1 { 1 ≤ bridge_port }
     requires to64 { bridge_port ≤ 64 }
     requires hangs { HangsOn site.now.tree below (bridge_port - 1) }
     requires asks { AsksWell site.now.tree (limits_in site.now) (world_in core.old).control }
-    ensures { OnOk result (Does (bridge_takes site.now.tree (limits_in site.now) (bridge_port - 1) below word.now (world_in core.old)) site.now core.new log.old log.new) }
+    ensures { OnOk result (Does (bridge_takes site.now.tree (limits_in site.now) (bridge_port - 1) below word.now (world_in core.old)) site.now core.new room.old.post.log room.new.post.log) }
 {
     site.tree().is_tree();
     if word.is_control() {
         let frame = word.bytes.as_slice();
-        take_control(
-            alloc,
-            site,
-            bridge_port,
-            below,
-            frame,
-            inner,
-            room,
-            core,
-            log,
-        )
+        take_control(site, bridge_port, below, frame, room, core)
     } else {
-        take_data(alloc, site, bridge_port, word, inner, room, core, log)
+        take_data(site, bridge_port, word, room, core)
     }
 }

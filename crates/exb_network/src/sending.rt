@@ -9,10 +9,10 @@ ghost use Rattle.exb_machine.specs.Worlds.{moment_of};
 ghost use Rattle.exb_network.specs.Forms.{IsSide, CanGo, GoesOn};
 ghost use Rattle.exb_network.specs.Worlds.{world_in, IsAt, Does};
 
+use crate::arrivals::Came;
 use crate::forms::put_form;
-use crate::log::{Left, Log, note_out};
+use crate::log::{Left, Post, note_out};
 use crate::site::{Core, Site};
-use crate::store::Store;
 use exb_extender::{Form, Out, Sends, Side};
 use exb_link::{Stamp, Word};
 use exb_model::bytes::Bytes;
@@ -20,9 +20,9 @@ use exb_model::memory::NoMemory;
 use exb_model::port::PortId;
 use exb_model::role::Role;
 use exb_model::tree::Tree;
-use std::alloc::Global;
 
 /// The extender that hangs on a port.
+#[inline(always)]
 pub(crate) fn hung_on(tree: &Tree, port: PortId) -> Option<u8>
     ensures { result ≡ hung_on tree.now port }
 {
@@ -34,6 +34,7 @@ pub(crate) fn hung_on(tree: &Tree, port: PortId) -> Option<u8>
 }
 
 /// The moment of the record by which a word came in; 0 where it has none.
+#[inline(always)]
 fn moment_of(stamp: &Option<Stamp>) -> u64
     ensures { result ≡ moment_of stamp.now }
 {
@@ -45,26 +46,25 @@ fn moment_of(stamp: &Option<Stamp>) -> u64
 
 /// A word goes out at a port of an extender.
 fn send_at(
-    alloc: Global,
     site: &Site,
     number: u8,
     port: u8,
     word: Word,
     core: &mut Core,
-    log: &mut Log,
+    post: &mut Post,
 ) -> Result<(), NoMemory>
     requires at { IsAt site.now core.old }
     requires number { number < 65 }
     requires port { (0 < port) × (port ≤ 64) }
-    ensures { OnOk result (Does (sent_at number port (hung_on site.now.tree (port_of number port)) word.stamp word.bytes (world_in core.old)) site.now core.new log.old log.new) }
+    ensures { OnOk result (Does (sent_at number port (hung_on site.now.tree (port_of number port)) word.stamp word.bytes (world_in core.old)) site.now core.new post.old.log post.new.log) }
 {
     note_out(
-        alloc,
-        log.tracing,
+        post.alloc,
+        post.log.tracing,
         number,
         port,
         word.bytes.as_slice(),
-        &mut log.outs,
+        &mut post.log.outs,
     )?;
     let place = PortId::at(number, port - 1);
     let tree = site.tree();
@@ -73,7 +73,7 @@ fn send_at(
         Some(below) => core.down.push(below, word),
         None => {
             let moment = moment_of(&word.stamp);
-            log.left.push(Left {
+            post.log.left.push(Left {
                 port: place,
                 moment,
                 bytes: word.bytes,
@@ -84,166 +84,140 @@ fn send_at(
 
 /// A word goes up from an extender.
 fn send_up(
-    alloc: Global,
     site: &Site,
     number: u8,
     word: Word,
     core: &mut Core,
-    log: &mut Log,
+    post: &mut Post,
 ) -> Result<(), NoMemory>
     requires at { IsAt site.now core.old }
     requires number { number < 65 }
-    ensures { OnOk result (Does (sent_to site.now.tree number word.stamp Side.Up word.bytes (world_in core.old)) site.now core.new log.old log.new) }
+    ensures { OnOk result (Does (sent_to site.now.tree number word.stamp Side.Up word.bytes (world_in core.old)) site.now core.new post.old.log post.new.log) }
 {
     let _ = site;
     note_out(
-        alloc,
-        log.tracing,
+        post.alloc,
+        post.log.tracing,
         number,
         0,
         word.bytes.as_slice(),
-        &mut log.outs,
+        &mut post.log.outs,
     )?;
     core.up.push(number, word)
 }
 
 /// A word goes out at a side of an extender.
+#[inline(always)]
 fn send_to(
-    alloc: Global,
     site: &Site,
     number: u8,
     side: Side,
     word: Word,
     core: &mut Core,
-    log: &mut Log,
+    post: &mut Post,
 ) -> Result<(), NoMemory>
     requires at { IsAt site.now core.old }
     requires number { number < 65 }
     requires side { IsSide side }
-    ensures { OnOk result (Does (sent_to site.now.tree number word.stamp side word.bytes (world_in core.old)) site.now core.new log.old log.new) }
+    ensures { OnOk result (Does (sent_to site.now.tree number word.stamp side word.bytes (world_in core.old)) site.now core.new post.old.log post.new.log) }
 {
     match side {
-        Side::Up => send_up(alloc, site, number, word, core, log),
-        Side::Port { port } => send_at(alloc, site, number, port, word, core, log),
+        Side::Up => send_up(site, number, word, core, post),
+        Side::Port { port } => send_at(site, number, port, word, core, post),
     }
 }
 
 /// A frame that an extender took goes out in a form.
+#[inline(always)]
 fn send_frame(
-    alloc: Global,
     site: &Site,
     number: u8,
-    frame: &[u8],
-    stamp: &Option<Stamp>,
+    came: &Came,
     out: &Out,
-    store: &mut Store,
     core: &mut Core,
-    log: &mut Log,
+    post: &mut Post,
 ) -> Result<(), NoMemory>
     requires at { IsAt site.now core.old }
     requires number { number < 65 }
-    requires can { CanGo frame.now out.now }
-    ensures { OnOk result (Does (sends site.now.tree number stamp.now (out_sent frame.now out.now) (world_in core.old)) site.now core.new log.old log.new) }
+    requires can { CanGo came.now.frame.now out.now }
+    ensures { OnOk result (Does (sends site.now.tree number came.now.stamp (out_sent came.now.frame.now out.now) (world_in core.old)) site.now core.new post.old.log post.new.log) }
 {
-    let mut buffer = store.buffer(alloc);
-    put_form(frame, &out.form, &mut buffer)?;
+    let mut buffer = post.store.buffer(post.alloc);
+    put_form(came.frame, &out.form, &mut buffer)?;
     let word = Word {
         bytes: Bytes::from_vec(buffer),
-        stamp: *stamp,
+        stamp: came.stamp,
     };
-    send_to(alloc, site, number, out.to, word, core, log)
+    send_to(site, number, out.to, word, core, post)
 }
 
 /// A frame that an extender took goes out in each form.
 fn send_frames(
-    alloc: Global,
     site: &Site,
     number: u8,
-    frame: &[u8],
-    stamp: &Option<Stamp>,
+    came: &Came,
     outs: &[Out],
-    store: &mut Store,
     core: &mut Core,
-    log: &mut Log,
+    post: &mut Post,
 ) -> Result<(), NoMemory>
     requires at { IsAt site.now core.old }
     requires number { number < 65 }
-    requires can { All (CanGo frame.now) outs.now }
-    ensures { OnOk result (Does (each (sends site.now.tree number stamp.now) (map (out_sent frame.now) outs.now) (world_in core.old)) site.now core.new log.old log.new) }
+    requires can { All (CanGo came.now.frame.now) outs.now }
+    ensures { OnOk result (Does (each (sends site.now.tree number came.now.stamp) (map (out_sent came.now.frame.now) outs.now) (world_in core.old)) site.now core.new post.old.log post.new.log) }
 {
     for out in outs {
-        send_frame(alloc, site, number, frame, stamp, out, store, core, log)?;
+        send_frame(site, number, came, out, core, post)?;
     }
     Ok(())
 }
 
 /// A control frame of an extender's own goes up; an empty one isn't sent.
 fn send_own(
-    alloc: Global,
     site: &Site,
     number: u8,
-    stamp: &Option<Stamp>,
+    stamp: Option<Stamp>,
     frame: &[u8],
-    store: &mut Store,
     core: &mut Core,
-    log: &mut Log,
+    post: &mut Post,
 ) -> Result<(), NoMemory>
     requires at { IsAt site.now core.old }
     requires number { number < 65 }
-    ensures { OnOk result (Does (each (sends site.now.tree number stamp.now) (own_sent frame.now) (world_in core.old)) site.now core.new log.old log.new) }
+    ensures { OnOk result (Does (each (sends site.now.tree number stamp) (own_sent frame.now) (world_in core.old)) site.now core.new post.old.log post.new.log) }
 {
     if frame.is_empty() {
         return Ok(());
     }
     let word = Word {
-        bytes: store.copy(alloc, frame)?,
-        stamp: *stamp,
+        bytes: post.store.copy(post.alloc, frame)?,
+        stamp,
     };
-    send_to(alloc, site, number, Side::Up, word, core, log)
+    send_to(site, number, Side::Up, word, core, post)
 }
 
 /// All that an extender sends where this frame came goes out: the frame in its forms, then the extender's own frames.
 pub(crate) fn send_all(
-    alloc: Global,
     site: &Site,
     number: u8,
-    frame: &[u8],
-    stamp: &Option<Stamp>,
+    came: &Came,
     reaction: &Sends,
-    store: &mut Store,
     core: &mut Core,
-    log: &mut Log,
+    post: &mut Post,
 ) -> Result<(), NoMemory>
     requires at { IsAt site.now core.old }
     requires number { number < 65 }
-    requires can { All (CanGo frame.now) reaction.now.frames.items }
-    ensures { OnOk result (Does (each (sends site.now.tree number stamp.now) (sent_by frame.now reaction.now) (world_in core.old)) site.now core.new log.old log.new) }
+    requires can { All (CanGo came.now.frame.now) reaction.now.frames.items }
+    ensures { OnOk result (Does (each (sends site.now.tree number came.now.stamp) (sent_by came.now.frame.now reaction.now) (world_in core.old)) site.now core.new post.old.log post.new.log) }
 {
     let outs = reaction.frames.as_slice();
-    send_frames(alloc, site, number, frame, stamp, outs, store, core, log)?;
-    send_own(
-        alloc,
-        site,
-        number,
-        stamp,
-        reaction.first.as_slice(),
-        store,
-        core,
-        log,
-    )?;
-    send_own(
-        alloc,
-        site,
-        number,
-        stamp,
-        reaction.second.as_slice(),
-        store,
-        core,
-        log,
-    )
+    send_frames(site, number, came, outs, core, post)?;
+    let first = reaction.first.as_slice();
+    send_own(site, number, came.stamp, first, core, post)?;
+    let second = reaction.second.as_slice();
+    send_own(site, number, came.stamp, second, core, post)
 }
 
 /// The one side to which a frame goes on as it is, where it goes nowhere else and nothing else is sent.
+#[inline(always)]
 fn only_side(reaction: &Sends) -> Option<Side>
     ensures { IfSome result (GoesOn reaction.now) }
 {
@@ -264,36 +238,27 @@ fn only_side(reaction: &Sends) -> Option<Side>
 /// All that an extender sends where this word came goes out. A word that goes on as it is, and nowhere else, is not copied;
 /// of another one the buffer is kept.
 pub(crate) fn send_on(
-    alloc: Global,
     site: &Site,
     number: u8,
     word: Word,
     reaction: &Sends,
-    store: &mut Store,
     core: &mut Core,
-    log: &mut Log,
+    post: &mut Post,
 ) -> Result<(), NoMemory>
     requires at { IsAt site.now core.old }
     requires number { number < 65 }
     requires can { All (CanGo word.bytes) reaction.now.frames.items }
-    ensures { OnOk result (Does (each (sends site.now.tree number word.stamp) (sent_by word.bytes reaction.now) (world_in core.old)) site.now core.new log.old log.new) }
+    ensures { OnOk result (Does (each (sends site.now.tree number word.stamp) (sent_by word.bytes reaction.now) (world_in core.old)) site.now core.new post.old.log post.new.log) }
 {
     match only_side(reaction) {
-        Some(side) => send_to(alloc, site, number, side, word, core, log),
+        Some(side) => send_to(site, number, side, word, core, post),
         None => {
-            let frame = word.bytes.as_slice();
-            send_all(
-                alloc,
-                site,
-                number,
-                frame,
-                &word.stamp,
-                reaction,
-                store,
-                core,
-                log,
-            )?;
-            store.keep(word.bytes);
+            let came = Came {
+                frame: word.bytes.as_slice(),
+                stamp: word.stamp,
+            };
+            send_all(site, number, &came, reaction, core, post)?;
+            post.store.keep(word.bytes);
             Ok(())
         }
     }

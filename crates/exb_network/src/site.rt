@@ -1,5 +1,5 @@
 //! The parts of a network.
-ghost use Rattle.std.specs.Prelude.{◌≡◌, ◌<◌, true, IfOk};
+ghost use Rattle.std.specs.Prelude.{◌≡◌, ◌<◌, [], true, IfOk};
 ghost use Rattle.exb_model.specs.Setup.{IsPlace, IsValid, port_at, shape_of, start_of, limits_of};
 ghost use Rattle.exb_model.specs.Tree.{by_depth, is_extender, on};
 ghost use Rattle.exb_machine.specs.Settling.{deepest_first};
@@ -11,6 +11,7 @@ use crate::ends::Ends;
 use crate::extenders::Extenders;
 use crate::indices::Indices;
 use crate::links::Direction;
+use crate::log::{Log, Post};
 use crate::orders::{all_extenders, deepest_first, downward_places, upward_places};
 use crate::store::Store;
 use exb_control::{Control, Outbox};
@@ -206,11 +207,9 @@ pub(crate) struct Buffers {
     pub(crate) control: ControlBuf,
     /// A frame as it leaves the bridge.
     pub(crate) frame: FrameBuf,
-    /// Buffers of words that are gone, for those that are to come.
-    pub(crate) store: Store,
 }
 
-/// What calls give; each call replaces it.
+/// What is lent to every step: where calls write what they give, which each call replaces, and what has happened.
 #[derive(Drop)]
 pub(crate) struct Room {
     /// What a call of the control gives.
@@ -218,10 +217,17 @@ pub(crate) struct Room {
     /// What an extender sends.
     pub(crate) sends: Sends,
     pub(crate) buffers: Buffers,
+    pub(crate) post: Post,
 }
 
 impl Room {
-    pub(crate) fn new(alloc: Global) -> Room {
+    pub(crate) fn new(alloc: Global, tracing: bool) -> Room
+        ensures events { result.post.log.events ≡ [] }
+        ensures passed { result.post.log.passed ≡ [] }
+        ensures left { result.post.log.left ≡ [] }
+        ensures lines { result.post.log.lines ≡ [] }
+        ensures tracing { result.post.log.tracing ≡ tracing }
+    {
         Room {
             outbox: Outbox::new(alloc),
             sends: Sends::new(),
@@ -229,7 +235,11 @@ impl Room {
                 message: ControlBuf::new(),
                 control: ControlBuf::new(),
                 frame: FrameBuf::new(),
+            },
+            post: Post {
+                alloc,
                 store: Store::new(alloc),
+                log: Log::new(alloc, tracing),
             },
         }
     }

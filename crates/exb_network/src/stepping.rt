@@ -1,8 +1,8 @@
 //! How each step is made.
-ghost use Rattle.std.specs.Prelude.{◌≡◌, ◌<◌, ◌+◌, ◌^◌, true, IfOk, OnOk, filter, slice_get};
+ghost use Rattle.std.specs.Prelude.{◌≡◌, ◌<◌, ◌+◌, ◌^◌, true, false, IfOk, OnOk, filter, slice_get};
 ghost use Rattle.exb_model.specs.Setup.{NamesExternal};
 ghost use Rattle.exb_model.specs.Tree.{is_extender, is_external};
-ghost use Rattle.exb_machine.specs.Stepping.{arrives, control_at, done_by, first_data, rest_of, takes, takes_up, with_words, words_on};
+ghost use Rattle.exb_machine.specs.Stepping.{arrives, control_at, done_by, first_data, takes, takes_up, with_words, words_on};
 ghost use Rattle.exb_machine.specs.Worlds.{Carry, Control, Lose, Mark, Order, Tick};
 ghost use Rattle.exb_link.specs.Words.{is_control, without_control, without_data};
 ghost use Rattle.exb_network.specs.Arrivals.{arrival_of};
@@ -28,67 +28,54 @@ use exb_model::memory::NoMemory;
 use std::alloc::Global;
 
 /// A word that comes up from an extender is taken by the device on which that hangs.
+#[inline(always)]
 fn take_up(
-    alloc: Global,
     site: &Site,
     number: u8,
     word: Word,
-    inner: &mut Vec<u8>,
     room: &mut Room,
     core: &mut Core,
-    log: &mut Log,
 ) -> Result<(), NoMemory>
     requires at { IsAt site.now core.old }
     requires there { is_extender site.now.tree number ≡ true }
     requires asks { AsksWell site.now.tree (limits_in site.now) (world_in core.old).control }
-    ensures { OnOk result (Does (takes_up site.now.tree (limits_in site.now) number word (world_in core.old)) site.now core.new log.old log.new) }
+    ensures { OnOk result (Does (takes_up site.now.tree (limits_in site.now) number word (world_in core.old)) site.now core.new room.old.post.log room.new.post.log) }
 {
     site.tree().is_tree();
     let port = site.on(number);
     if port.device() == 0 {
         let bridge_port = port.place() + 1;
-        relaying::take(
-            alloc,
-            site,
-            bridge_port,
-            number,
-            &word,
-            inner,
-            room,
-            core,
-            log,
-        )?;
-        room.buffers.store.keep(word.bytes);
+        relaying::take(site, bridge_port, number, &word, room, core)?;
+        room.post.store.keep(word.bytes);
         Ok(())
     } else {
-        take_from_below(alloc, site, port, word, room, core, log)
+        take_from_below(site, port, word, room, core)
     }
 }
 
 /// A word is taken at the end of its direction.
+#[inline(always)]
 fn take(
-    alloc: Global,
     site: &Site,
     number: u8,
     way: Way,
     word: Word,
-    inner: &mut Vec<u8>,
     room: &mut Room,
     core: &mut Core,
-    log: &mut Log,
 ) -> Result<(), NoMemory>
     requires at { IsAt site.now core.old }
     requires there { is_extender site.now.tree number ≡ true }
     requires asks { AsksWell site.now.tree (limits_in site.now) (world_in core.old).control }
-    ensures { OnOk result (Does (takes site.now.tree (limits_in site.now) number (way_of way) word (world_in core.old)) site.now core.new log.old log.new) }
+    ensures { OnOk result (Does (takes site.now.tree (limits_in site.now) number (way_of way) word (world_in core.old)) site.now core.new room.old.post.log room.new.post.log) }
 {
     match way {
-        Way::Up => take_up(alloc, site, number, word, inner, room, core, log),
-        Way::Down => take_from_above(alloc, site, number, word, room, core, log),
+        Way::Up => take_up(site, number, word, room, core),
+        Way::Down => take_from_above(site, number, word, room, core),
     }
 }
 
 /// The first data word of a direction is taken off its link.
+#[inline(always)]
 fn pull_data(site: &Site, number: u8, way: Way, core: &mut Core) -> Option<Word>
     requires at { IsAt site.now core.old }
     requires known { number < 65 }
@@ -104,6 +91,8 @@ fn pull_data(site: &Site, number: u8, way: Way, core: &mut Core) -> Option<Word>
 }
 
 /// The control word at a position is taken off its link.
+#[cold]
+#[inline(never)]
 fn pull_control(site: &Site, number: u8, way: Way, place: u64, core: &mut Core) -> Option<Word>
     requires at { IsAt site.now core.old }
     requires known { number < 65 }
@@ -137,25 +126,17 @@ fn copied(
     }
 }
 
-/// The control word at a position; it stays on its link if it is kept.
-fn fetch(
+/// A copy of the control word at a position; it stays on its link.
+fn copy_control(
     alloc: Global,
-    site: &Site,
     number: u8,
     way: Way,
     place: u64,
-    keep: bool,
-    core: &mut Core,
+    core: &Core,
 ) -> Result<Option<Word>, NoMemory>
-    requires at { IsAt site.now core.old }
-    requires known { number < 65 }
-    ensures word { IfOk result (λ word. word ≡ control_at (words_on number (way_of way) (world_in core.old)) place) }
-    ensures rest { OnOk result (world_in core.new ≡ with_words number (way_of way) (rest_of keep (words_on number (way_of way) (world_in core.old)) place) (world_in core.old)) }
-    ensures at { OnOk result (IsAt site.now core.new) }
+    requires { number < 65 }
+    ensures { IfOk result (λ word. word ≡ control_at (words_on number (way_of way) (world_in core.now)) place) }
 {
-    if !keep {
-        return Ok(pull_control(site, number, way, place, core));
-    }
     match way {
         Way::Up => copied(alloc, &core.up, number, place),
         Way::Down => copied(alloc, &core.down, number, place),
@@ -163,50 +144,69 @@ fn fetch(
 }
 
 /// The first data word of a direction is taken.
+#[inline(never)]
 pub(crate) fn carry(
-    alloc: Global,
     site: &Site,
     number: u8,
     way: Way,
-    inner: &mut Vec<u8>,
     room: &mut Room,
     core: &mut Core,
-    log: &mut Log,
 ) -> Result<(), NoMemory>
     requires at { IsAt site.now core.old }
     requires there { is_extender site.now.tree number ≡ true }
     requires asks { AsksWell site.now.tree (limits_in site.now) (world_in core.old).control }
-    ensures { OnOk result (Does (done_by site.now.tree (limits_in site.now) (Carry number (way_of way)) (world_in core.old)) site.now core.new log.old log.new) }
+    ensures { OnOk result (Does (done_by site.now.tree (limits_in site.now) (Carry number (way_of way)) (world_in core.old)) site.now core.new room.old.post.log room.new.post.log) }
 {
     site.has_low_number(number);
     match pull_data(site, number, way, core) {
         None => Ok(()),
-        Some(word) => take(alloc, site, number, way, word, inner, room, core, log),
+        Some(word) => take(site, number, way, word, room, core),
     }
 }
 
 /// The control word at a position is delivered.
+#[cold]
+#[inline(never)]
 pub(crate) fn deliver(
-    alloc: Global,
     site: &Site,
     number: u8,
     way: Way,
     place: u64,
-    keep: bool,
-    inner: &mut Vec<u8>,
     room: &mut Room,
     core: &mut Core,
-    log: &mut Log,
 ) -> Result<(), NoMemory>
     requires at { IsAt site.now core.old }
     requires there { is_extender site.now.tree number ≡ true }
     requires asks { AsksWell site.now.tree (limits_in site.now) (world_in core.old).control }
-    ensures { OnOk result (Does (done_by site.now.tree (limits_in site.now) (Control number (way_of way) place keep) (world_in core.old)) site.now core.new log.old log.new) }
+    ensures { OnOk result (Does (done_by site.now.tree (limits_in site.now) (Control number (way_of way) place false) (world_in core.old)) site.now core.new room.old.post.log room.new.post.log) }
 {
     site.has_low_number(number);
-    match fetch(alloc, site, number, way, place, keep, core)? {
+    match pull_control(site, number, way, place, core) {
         None => Ok(()),
-        Some(word) => take(alloc, site, number, way, word, inner, room, core, log),
+        Some(word) => take(site, number, way, word, room, core),
+    }
+}
+
+/// The control word at a position is delivered, and stays on its link too.
+#[cold]
+#[inline(never)]
+pub(crate) fn repeat(
+    site: &Site,
+    number: u8,
+    way: Way,
+    place: u64,
+    room: &mut Room,
+    core: &mut Core,
+) -> Result<(), NoMemory>
+    requires at { IsAt site.now core.old }
+    requires there { is_extender site.now.tree number ≡ true }
+    requires asks { AsksWell site.now.tree (limits_in site.now) (world_in core.old).control }
+    ensures { OnOk result (Does (done_by site.now.tree (limits_in site.now) (Control number (way_of way) place true) (world_in core.old)) site.now core.new room.old.post.log room.new.post.log) }
+{
+    site.has_low_number(number);
+    match copy_control(room.post.alloc, number, way, place, core)? {
+        None => Ok(()),
+        Some(word) => take(site, number, way, word, room, core),
     }
 }
 
@@ -221,41 +221,41 @@ pub(crate) fn lose(site: &Site, number: u8, way: Way, place: u64, core: &mut Cor
 }
 
 /// A frame arrives at an external port.
+#[inline(never)]
 pub(crate) fn arrive(
-    alloc: Global,
     site: &Site,
     arrived: &Arrived,
     room: &mut Room,
     core: &mut Core,
-    log: &mut Log,
 ) -> Result<(), NoMemory>
     requires at { IsAt site.now core.old }
     requires external { is_external site.now.tree arrived.now.port ≡ true }
     requires few { (world_in core.old).next arrived.now.port < 2 ^ 63 }
-    ensures { OnOk result (Does (arrives site.now.tree (arrival_of arrived.now) (world_in core.old)) site.now core.new log.old log.new) }
+    ensures { OnOk result (Does (arrives site.now.tree (arrival_of arrived.now) (world_in core.old)) site.now core.new room.old.post.log room.new.post.log) }
 {
     core.next.count(arrived.port);
     if arrived.port.device() == 0 {
-        come(alloc, site, arrived, room, core, log)
+        come(site, arrived, room, core)
     } else {
-        arrive_at(alloc, site, arrived, room, core, log)
+        arrive_at(site, arrived, room, core)
     }
 }
 
 /// The clock goes on.
+#[cold]
+#[inline(never)]
 pub(crate) fn tick(
     site: &Site,
     seconds: u32,
     room: &mut Room,
     core: &mut Core,
-    log: &mut Log,
 ) -> Result<(), NoMemory>
     requires at { IsAt site.now core.old }
     requires clock { (world_in core.old).table.clock + seconds < 2 ^ 63 }
-    ensures { OnOk result (Does (done_by site.now.tree (limits_in site.now) (Tick seconds) (world_in core.old)) site.now core.new log.old log.new) }
+    ensures { OnOk result (Does (done_by site.now.tree (limits_in site.now) (Tick seconds) (world_in core.old)) site.now core.new room.old.post.log room.new.post.log) }
 {
     let _ = site;
-    log.events.push(Event::Tick { seconds })?;
+    room.post.log.events.push(Event::Tick { seconds })?;
     match core.control.tick(seconds, &mut room.outbox) {
         Ok(()) => Ok(()),
         Err(_) => Err(NoMemory),
@@ -263,27 +263,28 @@ pub(crate) fn tick(
 }
 
 /// A command is given.
+#[cold]
+#[inline(never)]
 pub(crate) fn order(
-    alloc: Global,
     site: &Site,
     command: &Command,
     room: &mut Room,
     core: &mut Core,
-    log: &mut Log,
 ) -> Result<(), NoMemory>
     requires at { IsAt site.now core.old }
     requires names { NamesExternal site.now.tree command.now }
     requires few { (world_in core.old).control.given < 65536 }
     requires asks { AsksWell site.now.tree (limits_in site.now) (world_in core.old).control }
-    ensures { OnOk result (Does (done_by site.now.tree (limits_in site.now) (Order command.now) (world_in core.old)) site.now core.new log.old log.new) }
+    ensures { OnOk result (Does (done_by site.now.tree (limits_in site.now) (Order command.now) (world_in core.old)) site.now core.new room.old.post.log room.new.post.log) }
 {
     match core.control.command(command, &mut room.outbox) {
-        Ok(()) => follow(alloc, site, room, core, log),
+        Ok(()) => follow(site, room, core),
         Err(_) => Err(NoMemory),
     }
 }
 
 /// A settled network is marked.
+#[inline(always)]
 pub(crate) fn mark(site: &Site, core: &Core, log: &mut Log) -> Result<(), NoMemory>
     requires at { IsAt site.now core.now }
     ensures { OnOk result (Does (done_by site.now.tree (limits_in site.now) Mark (world_in core.now)) site.now core.now log.old log.new) }

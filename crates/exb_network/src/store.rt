@@ -23,6 +23,7 @@ impl Store {
     }
 
     /// A buffer to be written anew: one that was kept, or else one without room.
+    #[inline(always)]
     pub(crate) fn buffer(&mut self, alloc: Global) -> Vec<u8> {
         match self.kept.pop() {
             Some(buffer) => buffer,
@@ -41,6 +42,7 @@ impl Store {
     }
 
     /// Keeps the buffer of bytes that nobody needs, unless enough are kept or there is no memory to note it.
+    #[inline(always)]
     pub(crate) fn keep(&mut self, bytes: Bytes) {
         if self.kept.len() < MOST {
             let _ = self.kept.push(bytes.into_vec());

@@ -6,7 +6,7 @@ ghost use Rattle.exb_machine.specs.Extending.{arrives_at, port_number, reacts, t
 ghost use Rattle.exb_network.specs.Arrivals.{arrival_of, IsPortAt};
 ghost use Rattle.exb_network.specs.Worlds.{world_in, IsAt, Does, KeepsTrace};
 
-use crate::arrivals::Arrived;
+use crate::arrivals::{Arrived, Came};
 use crate::log::Log;
 use crate::sending::{send_all, send_on};
 use crate::site::{Core, Room, Site};
@@ -15,51 +15,37 @@ use exb_link::Word;
 use exb_model::event::Event;
 use exb_model::memory::NoMemory;
 use exb_model::port::PortId;
-use std::alloc::Global;
 
 /// An extender takes a word from upstream.
 pub(crate) fn take_from_above(
-    alloc: Global,
     site: &Site,
     number: u8,
     word: Word,
     room: &mut Room,
     core: &mut Core,
-    log: &mut Log,
 ) -> Result<(), NoMemory>
     requires at { IsAt site.now core.old }
     requires extender { is_extender site.now.tree number ≡ true }
-    ensures { OnOk result (Does (takes_from_above site.now.tree number word (world_in core.old)) site.now core.new log.old log.new) }
+    ensures { OnOk result (Does (takes_from_above site.now.tree number word (world_in core.old)) site.now core.new room.old.post.log room.new.post.log) }
 {
     site.has_low_number(number);
     core.far
         .take(number, Side::Up, word.bytes.as_slice(), &mut room.sends);
     let sends = &room.sends;
-    send_on(
-        alloc,
-        site,
-        number,
-        word,
-        sends,
-        &mut room.buffers.store,
-        core,
-        log,
-    )
+    send_on(site, number, word, sends, core, &mut room.post)
 }
 
 /// An extender takes a word from one of its ports, if that is a cascade port in its tables.
 pub(crate) fn take_from_below(
-    alloc: Global,
     site: &Site,
     port: PortId,
     word: Word,
     room: &mut Room,
     core: &mut Core,
-    log: &mut Log,
 ) -> Result<(), NoMemory>
     requires at { IsAt site.now core.old }
     requires port { IsPortAt site.now.tree port }
-    ensures { OnOk result (Does (takes_from_below site.now.tree (device port) (port_number port) word (world_in core.old)) site.now core.new log.old log.new) }
+    ensures { OnOk result (Does (takes_from_below site.now.tree (device port) (port_number port) word (world_in core.old)) site.now core.new room.old.post.log room.new.post.log) }
 {
     let number = port.device();
     site.has_low_number(number);
@@ -74,19 +60,12 @@ pub(crate) fn take_from_below(
         &mut room.sends,
     );
     let sends = &room.sends;
-    send_on(
-        alloc,
-        site,
-        number,
-        word,
-        sends,
-        &mut room.buffers.store,
-        core,
-        log,
-    )
+    send_on(site, number, word, sends, core, &mut room.post)
 }
 
 /// A frame is ignored.
+#[cold]
+#[inline(never)]
 pub(crate) fn ignore(arrived: &Arrived, log: &mut Log) -> Result<(), NoMemory>
     ensures events { OnOk result (log.new.events ≡ log.old.events ++ Event.Ignored arrived.now.port arrived.now.index ∷ []) }
     ensures passed { log.new.passed ≡ log.old.passed }
@@ -101,71 +80,56 @@ pub(crate) fn ignore(arrived: &Arrived, log: &mut Log) -> Result<(), NoMemory>
 
 /// A frame arrives at an external port of an extender.
 pub(crate) fn arrive_at(
-    alloc: Global,
     site: &Site,
     arrived: &Arrived,
     room: &mut Room,
     core: &mut Core,
-    log: &mut Log,
 ) -> Result<(), NoMemory>
     requires at { IsAt site.now core.old }
     requires port { IsPortAt site.now.tree arrived.now.port }
-    ensures { OnOk result (Does (arrives_at site.now.tree (arrival_of arrived.now) (world_in core.old)) site.now core.new log.old log.new) }
+    ensures { OnOk result (Does (arrives_at site.now.tree (arrival_of arrived.now) (world_in core.old)) site.now core.new room.old.post.log room.new.post.log) }
 {
     let number = arrived.port.device();
     site.has_low_number(number);
     let port = arrived.port.place() + 1;
     if core.far.cascade(number, port) {
-        return ignore(arrived, log);
+        return ignore(arrived, &mut room.post.log);
     }
     match core
         .far
         .arrive(number, port, arrived.bytes, &mut room.sends)
     {
-        Entry::Ignored => ignore(arrived, log),
+        Entry::Ignored => ignore(arrived, &mut room.post.log),
         Entry::Sent => {
-            let stamp = Some(arrived.stamp());
+            let came = Came {
+                frame: arrived.bytes,
+                stamp: Some(arrived.stamp()),
+            };
             let sends = &room.sends;
-            send_all(
-                alloc,
-                site,
-                number,
-                arrived.bytes,
-                &stamp,
-                sends,
-                &mut room.buffers.store,
-                core,
-                log,
-            )
+            send_all(site, number, &came, sends, core, &mut room.post)
         }
     }
 }
 
 /// A beat passes at an extender.
+#[cold]
+#[inline(never)]
 pub(crate) fn beat(
-    alloc: Global,
     site: &Site,
     number: u8,
     room: &mut Room,
     core: &mut Core,
-    log: &mut Log,
 ) -> Result<(), NoMemory>
     requires at { IsAt site.now core.old }
     requires extender { is_extender site.now.tree number ≡ true }
-    ensures { OnOk result (Does (reacts site.now.tree number None Beats (world_in core.old)) site.now core.new log.old log.new) }
+    ensures { OnOk result (Does (reacts site.now.tree number None Beats (world_in core.old)) site.now core.new room.old.post.log room.new.post.log) }
 {
     site.has_low_number(number);
     core.far.beat(number, &mut room.sends);
+    let came = Came {
+        frame: &[],
+        stamp: None,
+    };
     let sends = &room.sends;
-    send_all(
-        alloc,
-        site,
-        number,
-        &[],
-        &None,
-        sends,
-        &mut room.buffers.store,
-        core,
-        log,
-    )
+    send_all(site, number, &came, sends, core, &mut room.post)
 }

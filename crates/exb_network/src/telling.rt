@@ -26,6 +26,8 @@ use std::alloc::Global;
 use std::mem;
 
 /// Puts a line behind others.
+#[cold]
+#[inline(never)]
 fn put(
     alloc: Global,
     way: TraceWay,
@@ -45,6 +47,8 @@ fn put(
 }
 
 /// A frame comes in by a port.
+#[cold]
+#[inline(never)]
 fn put_at(
     alloc: Global,
     port: PortId,
@@ -82,6 +86,8 @@ fn put_word(
 }
 
 /// A word that may be there comes in at the end of its direction.
+#[cold]
+#[inline(never)]
 fn put_any(
     alloc: Global,
     site: &Site,
@@ -100,6 +106,7 @@ fn put_any(
 }
 
 /// What comes in by a step.
+#[inline(always)]
 fn put_ins(
     alloc: Global,
     site: &Site,
@@ -128,6 +135,7 @@ fn put_ins(
 }
 
 /// Tells what comes in by a step, where a trace is kept.
+#[inline(always)]
 pub(crate) fn tell_ins(
     alloc: Global,
     tracing: bool,
@@ -158,6 +166,8 @@ fn put_event(alloc: Global, event: &Event, to: &mut List<TraceLine>) -> Result<(
 }
 
 /// The lines of the journal for events.
+#[cold]
+#[inline(never)]
 fn put_events(alloc: Global, events: &[Event], to: &mut List<TraceLine>) -> Result<(), NoMemory>
     ensures { OnOk result (to.new ≡ to.old ++ all_told (map Journal events.now)) }
 {
@@ -168,6 +178,8 @@ fn put_events(alloc: Global, events: &[Event], to: &mut List<TraceLine>) -> Resu
 }
 
 /// Moves lines behind others.
+#[cold]
+#[inline(never)]
 fn put_outs(outs: Vec<TraceLine>, to: &mut List<TraceLine>) -> Result<(), NoMemory>
     ensures { OnOk result (to.new ≡ to.old ++ outs.items) }
 {
@@ -178,6 +190,7 @@ fn put_outs(outs: Vec<TraceLine>, to: &mut List<TraceLine>) -> Result<(), NoMemo
 }
 
 /// Tells what happened in a step, and what went out, where a trace is kept.
+#[inline(always)]
 pub(crate) fn tell_outs(
     alloc: Global,
     tracing: bool,

@@ -19,10 +19,10 @@ ghost use Rattle.exb_network.specs.Worlds.{world_in, IsAt, Does};
 
 use crate::arrivals::Arrived;
 use crate::busy::Turn;
-use crate::log::{Left, Log};
+use crate::log::Left;
 use crate::site::{Core, Room, Site};
 use crate::step::{Step, Way};
-use crate::stepping::{arrive, carry, deliver, lose, mark, order, tick};
+use crate::stepping::{arrive, carry, deliver, lose, mark, order, repeat, tick};
 use crate::telling::{tell_ins, tell_outs};
 use crate::{allowing, beating, busy};
 use exb_link::{Counts, Link};
@@ -52,13 +52,9 @@ pub enum WorldFault {
 /// The controlling bridge with all extenders and links, and what has happened since the last `clear`.
 #[derive(Drop)]
 pub struct World {
-    alloc: Global,
     site: Site,
     core: Core,
     room: Room,
-    /// A frame without its E-TAG, as the bridge takes it.
-    inner: Vec<u8>,
-    log: Log,
     failed: bool,
 }
 
@@ -69,7 +65,7 @@ impl Model for World {
 
     ghost use Rattle.exb_network.specs.Networks.{network_of, IsKept};
 
-    ghost view = { λ w. network_of w.site w.core w.log w.failed };
+    ghost view = { λ w. network_of w.site w.core w.room.post.log w.failed };
 
     ghost invariant = { λ w. IsKept w.site w.core w.failed };
 }
@@ -93,12 +89,9 @@ impl World {
         let site = Site::new(alloc, setup)?;
         let core = Core::new(alloc, setup)?;
         Ok(World {
-            alloc,
             site,
             core,
-            room: Room::new(alloc),
-            inner: Vec::new(alloc),
-            log: Log::new(alloc, trace),
+            room: Room::new(alloc, trace),
             failed: false,
         })
     }
@@ -115,46 +108,9 @@ impl World {
         !self.failed && allowing::can(&self.site, &self.core, step)
     }
 
-    /// Makes a step.
-    pub fn step(&mut self, step: Step<'_>) -> Result<(), WorldFault>
-        requires { Can (tree_of self.old) (world_of self.old) (step_of step) }
-        ensures ok { OnOk result (IsStepped (step_of step.entry) self.old self.new) }
-        ensures failed { (result ≡ Err WorldFault.Failed) ↔ (self.old.failed ≡ true) }
-        ensures memory { OnErr result (self.new.failed ≡ true) }
-    {
-        match step {
-            Step::Arrive {
-                port,
-                index,
-                moment,
-                bytes,
-            } => self.go(&Step::Arrive {
-                port,
-                index,
-                moment,
-                bytes,
-            }),
-            Step::Carry { link, way } => self.go(&Step::Carry { link, way }),
-            Step::Control {
-                link,
-                way,
-                at,
-                keep,
-            } => self.go(&Step::Control {
-                link,
-                way,
-                at,
-                keep,
-            }),
-            Step::Lose { link, way, at } => self.go(&Step::Lose { link, way, at }),
-            Step::Beat => self.go(&Step::Beat),
-            Step::Tick { seconds } => self.go(&Step::Tick { seconds }),
-            Step::Command { command } => self.go(&Step::Command { command }),
-            Step::Mark => self.go(&Step::Mark),
-        }
-    }
-
-    fn go(&mut self, step: &Step<'_>) -> Result<(), WorldFault>
+    /// Makes a step. It is put into the place of its call, where the kind of the step is known: so no step is looked at twice.
+    #[inline(always)]
+    pub fn step(&mut self, step: &Step<'_>) -> Result<(), WorldFault>
         requires { Can (tree_of self.old) (world_of self.old) (step_of step.now) }
         ensures ok { OnOk result (IsStepped (step_of step.now) self.old self.new) }
         ensures failed { (result ≡ Err WorldFault.Failed) ↔ (self.old.failed ≡ true) }
@@ -164,15 +120,7 @@ impl World {
             return Err(WorldFault::Failed);
         }
         let site = &self.site;
-        match make_told(
-            self.alloc,
-            site,
-            step,
-            &mut self.inner,
-            &mut self.room,
-            &mut self.core,
-            &mut self.log,
-        ) {
+        match make_told(site, step, &mut self.room, &mut self.core) {
             Ok(()) => Ok(()),
             Err(_) => {
                 self.failed = true;
@@ -181,10 +129,17 @@ impl World {
         }
     }
 
-    /// Whether nothing is left to be done: no job waits and no change is at work, nothing is on any link, and every end of
-    /// the transport is idle.
+    /// Whether memory ran out.
+    pub fn has_failed(&self) -> bool
+        ensures { result ≡ self.now.failed }
+    {
+        self.failed
+    }
+
+    /// Whether nothing is left to be done, and memory hasn't run out: no job waits and no change is at work, nothing is on any
+    /// link, and every end of the transport is idle.
     pub fn settled(&self) -> bool
-        ensures { self.now.failed ≡ false → (IsTrue result ↔ IsSettled (tree_of self.now) (world_of self.now)) }
+        ensures { IsTrue result ↔ ((self.now.failed ≡ false) × IsSettled (tree_of self.now) (world_of self.now)) }
     {
         !self.failed && is_settled(&self.site, &self.core)
     }
@@ -241,28 +196,28 @@ impl World {
     pub fn events(&self) -> &[Event]
         ensures { result.now ≡ self.now.log.events }
     {
-        self.log.events.as_slice()
+        self.room.post.log.events.as_slice()
     }
 
     /// For each Relay among the events, in order, whether its frame passed at its port.
     pub fn passed(&self) -> &[bool]
         ensures { result.now ≡ self.now.log.passed }
     {
-        self.log.passed.as_slice()
+        self.room.post.log.passed.as_slice()
     }
 
     /// What left the ports since the last `clear`, in order.
     pub fn left(&self) -> &[Left]
         ensures { result.now ≡ self.now.log.left }
     {
-        self.log.left.as_slice()
+        self.room.post.log.left.as_slice()
     }
 
     /// The lines of the trace since the last `clear`, in order; none where no trace is kept.
     pub fn trace(&self) -> &[TraceLine]
         ensures { result.now ≡ self.now.log.lines }
     {
-        self.log.lines.as_slice()
+        self.room.post.log.lines.as_slice()
     }
 
     /// Marks that memory ran out in the middle of a work: no later step is made.
@@ -281,7 +236,7 @@ impl World {
         ensures same { IsSame self.old self.new }
         ensures quiet { IsQuiet self.new }
     {
-        self.log.clear(&mut self.room.buffers.store);
+        self.room.post.log.clear(&mut self.room.post.store);
     }
 }
 
@@ -295,31 +250,31 @@ fn brings_bytes(step: &Step<'_>)
 }
 
 /// Makes a step, and tells its lines where a trace is kept.
-fn make_told(
-    alloc: Global,
-    site: &Site,
-    step: &Step<'_>,
-    inner: &mut Vec<u8>,
-    room: &mut Room,
-    core: &mut Core,
-    log: &mut Log,
-) -> Result<(), NoMemory>
+#[inline(always)]
+fn make_told(site: &Site, step: &Step<'_>, room: &mut Room, core: &mut Core) -> Result<(), NoMemory>
     requires live { IsLive site.now core.old }
     requires can { Can site.now.tree (world_in core.old) (step_of step.now) }
     ensures live { OnOk result (IsLive site.now core.new) }
-    ensures made { OnOk result ((failed : Bool) → IsStepped (step_of step.now) (network_of site.now core.old log.old failed) (network_of site.now core.new log.new failed)) }
+    ensures made { OnOk result ((failed : Bool) → IsStepped (step_of step.now) (network_of site.now core.old room.old.post.log failed) (network_of site.now core.new room.new.post.log failed)) }
 {
-    let before = log.events.as_slice().len();
-    log.outs.clear();
-    tell_ins(alloc, log.tracing, site, step, core, &mut log.lines)?;
-    advance(alloc, site, step, inner, room, core, log)?;
-    let events = log.events.as_slice();
+    let before = room.post.log.events.as_slice().len();
+    room.post.log.outs.clear();
+    tell_ins(
+        room.post.alloc,
+        room.post.log.tracing,
+        site,
+        step,
+        core,
+        &mut room.post.log.lines,
+    )?;
+    advance(site, step, room, core)?;
+    let events = room.post.log.events.as_slice();
     tell_outs(
-        alloc,
-        log.tracing,
+        room.post.alloc,
+        room.post.log.tracing,
         behind(events, before),
-        &mut log.outs,
-        &mut log.lines,
+        &mut room.post.log.outs,
+        &mut room.post.log.lines,
     )
 }
 
@@ -332,19 +287,12 @@ fn behind(events: &[Event], from: usize) -> &[Event]
 }
 
 /// Makes a step, and what the machine keeps is kept.
-fn advance(
-    alloc: Global,
-    site: &Site,
-    step: &Step<'_>,
-    inner: &mut Vec<u8>,
-    room: &mut Room,
-    core: &mut Core,
-    log: &mut Log,
-) -> Result<(), NoMemory>
+#[inline(always)]
+fn advance(site: &Site, step: &Step<'_>, room: &mut Room, core: &mut Core) -> Result<(), NoMemory>
     requires live { IsLive site.now core.old }
     requires can { Can site.now.tree (world_in core.old) (step_of step.now) }
     ensures live { OnOk result (IsLive site.now core.new) }
-    ensures does { OnOk result (Does (done_by site.now.tree (limits_in site.now) (step_of step.now) (world_in core.old)) site.now core.new log.old log.new) }
+    ensures does { OnOk result (Does (done_by site.now.tree (limits_in site.now) (step_of step.now) (world_in core.old)) site.now core.new room.old.post.log room.new.post.log) }
 {
     asks_can_be_sent();
     runs_stay_sound();
@@ -353,7 +301,7 @@ fn advance(
     core.control.is_fabric();
     core.control.has_low_serials();
     brings_bytes(step);
-    match make(alloc, site, step, inner, room, core, log) {
+    match make(site, step, room, core) {
         Ok(()) => {
             core.control.has_low_serials();
             Ok(())
@@ -363,19 +311,12 @@ fn advance(
 }
 
 /// Makes a step.
-fn make(
-    alloc: Global,
-    site: &Site,
-    step: &Step<'_>,
-    inner: &mut Vec<u8>,
-    room: &mut Room,
-    core: &mut Core,
-    log: &mut Log,
-) -> Result<(), NoMemory>
+#[inline(always)]
+fn make(site: &Site, step: &Step<'_>, room: &mut Room, core: &mut Core) -> Result<(), NoMemory>
     requires at { IsAt site.now core.old }
     requires asks { AsksWell site.now.tree (limits_in site.now) (world_in core.old).control }
     requires can { Can site.now.tree (world_in core.old) (step_of step.now) }
-    ensures { OnOk result (Does (done_by site.now.tree (limits_in site.now) (step_of step.now) (world_in core.old)) site.now core.new log.old log.new) }
+    ensures { OnOk result (Does (done_by site.now.tree (limits_in site.now) (step_of step.now) (world_in core.old)) site.now core.new room.old.post.log room.new.post.log) }
 {
     match step {
         Step::Arrive {
@@ -390,24 +331,28 @@ fn make(
                 moment: *moment,
                 bytes: *bytes,
             };
-            arrive(alloc, site, &arrived, room, core, log)
+            arrive(site, &arrived, room, core)
         }
-        Step::Carry { link, way } => carry(alloc, site, *link, *way, inner, room, core, log),
+        Step::Carry { link, way } => carry(site, *link, *way, room, core),
         Step::Control {
             link,
             way,
             at,
             keep,
-        } => deliver(alloc, site, *link, *way, *at, *keep, inner, room, core, log),
+        } => if *keep {
+            repeat(site, *link, *way, *at, room, core)
+        } else {
+            deliver(site, *link, *way, *at, room, core)
+        },
         Step::Lose { link, way, at } => {
             site.has_low_number(*link);
             lose(site, *link, *way, *at, core);
             Ok(())
         }
-        Step::Beat => beating::beat(alloc, site, room, core, log),
-        Step::Tick { seconds } => tick(site, *seconds, room, core, log),
-        Step::Command { command } => order(alloc, site, *command, room, core, log),
-        Step::Mark => mark(site, core, log),
+        Step::Beat => beating::beat(site, room, core),
+        Step::Tick { seconds } => tick(site, *seconds, room, core),
+        Step::Command { command } => order(site, *command, room, core),
+        Step::Mark => mark(site, core, &mut room.post.log),
     }
 }
 

@@ -12,20 +12,19 @@ use Rattle.exb_machine.specs.Worlds.{World, Step, first_world}
 use Rattle.exb_machine.specs.Runs.Laws.{HasBytes}
 use Rattle.exb_machine.proofs.Rounds.{run_then}
 use Rattle.exb_resting.specs.Motion.Kept.{HasVid, HasVidIn}
-use Rattle.exb_network.specs.declared.step.Step.{Step as Made}
 use Rattle.exb_network.specs.declared.world.WorldFault.{WorldFault}
 use Rattle.exb_network.specs.declared.world.WorldFault.TheVariants as fault
-use Rattle.exb_network.specs.Networks.{Network, world_of, tree_of, bounds_of, step_of, IsStepped}
+use Rattle.exb_network.specs.Networks.{Network, world_of, tree_of, bounds_of, IsStepped}
 use Rattle.exb_network.specs.Sites.{Site, limits_in}
 use Rattle.exb_resting.specs.Rest.Settles.{MayTake, beginning, reached_by}
-use Rattle.exb_schedule.specs.Reached.{Reached, IsKept}
+use Rattle.exb_schedule.specs.Reached.{Reached, IsReached}
 use Rattle.exb_schedule.proofs.Runs.{one_step, take_then}
 
-pub kept_first : (s : Setup) (n : Network) → IsValid s → All HasVid s.start → world_of n ≡ first_world (shape_of s) (limits_of s) (start_of s) s.ageing → tree_of n ≡ shape_of s → bounds_of n ≡ limits_of s →
-    n.failed ≡ false → IsKept n false
+pub reached_first : (s : Setup) (n : Network) → IsValid s → All HasVid s.start → world_of n ≡ first_world (shape_of s) (limits_of s) (start_of s) s.ageing → tree_of n ≡ shape_of s → bounds_of n ≡ limits_of s →
+    IsReached n
 unfolding run
-kept_first s n valid vids world tree limits awake =
-    record { flag = awake; reached = λ e. record { setup = s; steps = []; valid = valid; vids = vids; tree = tree; limits = limits; may = tt; world = world } }
+reached_first s n valid vids world tree limits =
+    λ awake. record { setup = s; steps = []; valid = valid; vids = vids; tree = tree; limits = limits; may = tt; world = world }
 
 -- one step more
 reached_step : (step : Step) (n m : Network) → Reached n → MayTake (tree_of n) (world_of n) step → IsStepped step n m → Reached m
@@ -52,19 +51,13 @@ pub ok_awake : (n : Network) (x : Unit {0}) → (Ok x ≡ Err fault.Failed) ↔ 
 ok_awake n x fails = elim (cases_Bool n.failed) [ inl e ↦ absurd (false≢true (ap is_err (fails.1 e))) | inr e ↦ e ]
 
 -- a step of the network, or an error
-kept_step : (step : Step) (n m : Network) (failed : Bool) (r : Result (Unit {0}) WorldFault) → IsKept n failed → Can (tree_of n) (world_of n) step → HasBytes step → HasVidIn step →
-    OnOk r (IsStepped step n m) → (r ≡ Err fault.Failed) ↔ (n.failed ≡ true) → OnErr r (m.failed ≡ true) → IsKept m (is_err r)
-kept_step step n m failed (Ok x) k can bytes vid ok fails memory =
-    let awake : n.failed ≡ false = ok_awake n x fails in
-    record { flag = ok.same.failed ∙ awake; reached = λ e. reached_step step n m (k.reached awake) (record { can = can; has = bytes; vid = vid }) ok }
-kept_step step n m failed (Err x) k can bytes vid ok fails memory = record { flag = memory; reached = λ e. absurd (false≢true (sym e ∙ memory)) }
-
-pub kept_made : (given made : Made) (a n m : Network) (failed : Bool) (r : Result (Unit {0}) WorldFault) → given ≡ made → n ≡ a → IsKept n failed → Can (tree_of a) (world_of a) (step_of given) →
-    HasBytes (step_of made) → HasVidIn (step_of made) → OnOk r (IsStepped (step_of made) n m) → (r ≡ Err fault.Failed) ↔ (n.failed ≡ true) → OnErr r (m.failed ≡ true) → IsKept m (is_err r)
-kept_made given made a n m failed r is here k can bytes vid ok fails memory =
-    kept_step (step_of made) n m failed r k
-    (subst (λ (x : Made). Can (tree_of n) (world_of n) (step_of x)) is (subst (λ (b : Network). Can (tree_of b) (world_of b) (step_of given)) (sym here) can)) bytes vid ok fails memory
+pub reached_made : (step : Step) (a n m : Network) (r : Result (Unit {0}) WorldFault) → n ≡ a → IsReached n → Can (tree_of a) (world_of a) step → HasBytes step → HasVidIn step →
+    OnOk r (IsStepped step n m) → (r ≡ Err fault.Failed) ↔ (n.failed ≡ true) → OnErr r (m.failed ≡ true) → IsReached m
+reached_made step a n m (Ok x) here k can bytes vid ok fails memory =
+    let can_here : Can (tree_of n) (world_of n) step = subst (λ (b : Network). Can (tree_of b) (world_of b) step) (sym here) can in
+    λ e. reached_step step n m (k (ok_awake n x fails)) (record { can = can_here; has = bytes; vid = vid }) ok
+reached_made step a n m (Err x) here k can bytes vid ok fails memory = λ e. absurd (false≢true (sym e ∙ memory))
 
 -- memory ran out
-pub kept_failed : (n : Network) → n.failed ≡ true → IsKept n true
-kept_failed n failed = record { flag = failed; reached = λ e. absurd (false≢true (sym e ∙ failed)) }
+pub reached_failed : (n : Network) → n.failed ≡ true → IsReached n
+reached_failed n failed = λ e. absurd (false≢true (sym e ∙ failed))

@@ -1,5 +1,5 @@
 -- Networks that runs reach.
-use Rattle.std.specs.Prelude.{◌≡◌, Bool, false, List, All}
+use Rattle.std.specs.Prelude.{◌≡◌, false, List, All}
 use Rattle.exb_model.specs.declared.setup.Setup.{Setup}
 use Rattle.exb_model.specs.Setup.{IsValid, shape_of, limits_of}
 use Rattle.exb_machine.specs.Worlds.{Step}
@@ -21,8 +21,3 @@ pub record Reached (n : Network) : Type 0 where
 -- so it is as long as memory hasn't run out
 abbrev pub IsReached : Network → Type 0
 IsReached n = n.failed ≡ false → Reached n
-
--- and a flag says whether it has
-pub record IsKept (n : Network) (failed : Bool) : Type 0 where
-  pub flag : n.failed ≡ failed
-  pub reached : IsReached n

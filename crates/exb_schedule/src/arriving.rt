@@ -6,7 +6,6 @@ ghost use Rattle.exb_schedule.specs.Playing.{arrive, tick, CanAll};
 
 use crate::motion::Motion;
 use crate::segment::Arrival;
-use crate::steps::tick;
 use exb_network::{Step, WorldFault};
 
 /// Lets seconds pass, if there are any.
@@ -19,7 +18,7 @@ pub(crate) fn let_pass(motion: &mut Motion, seconds: u32) -> Result<(), WorldFau
     if seconds == 0 {
         return Ok(());
     }
-    motion.step(tick(seconds))
+    motion.step(&Step::Tick { seconds })
 }
 
 /// Lets frames arrive, in order.
@@ -30,7 +29,7 @@ pub(crate) fn let_arrive(motion: &mut Motion, arrivals: &[Arrival]) -> Result<()
     ensures memory { OnErr result (motion.new.failed ≡ true) }
 {
     for arrival in arrivals {
-        motion.step(Step::Arrive {
+        motion.step(&Step::Arrive {
             port: arrival.port,
             index: arrival.index,
             moment: arrival.moment,

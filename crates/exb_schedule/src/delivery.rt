@@ -11,13 +11,15 @@ ghost use Rattle.exb_schedule.specs.Rounds.{goes_along, goes_one_way, AreNext, G
 ghost use Rattle.exb_schedule.specs.Worlds.{network_of};
 
 use crate::remaining::Remaining;
-use crate::steps::{beat, carry, deliver, lose};
+use crate::steps::{deliver, lose};
 use crate::world::World;
 use exb_model::setup::Verdict;
-use exb_network::{Way, WorldFault};
+use exb_network::{Step, Way, WorldFault};
 
 /// Asks the fate of a control word that is free, and does what it says: the word is delivered, lost, delivered and kept, or left.
 /// Answers the place of the next one.
+#[cold]
+#[inline(never)]
 pub(crate) fn take_control(
     world: &mut World,
     link: u8,
@@ -34,15 +36,15 @@ pub(crate) fn take_control(
 {
     match world.fate() {
         Verdict::Pass => {
-            world.motion.step(deliver(link, way, place, false))?;
+            world.motion.step(&deliver(link, way, place, false))?;
             Ok(place)
         }
         Verdict::Lose => {
-            world.motion.step(lose(link, way, place))?;
+            world.motion.step(&lose(link, way, place))?;
             Ok(place)
         }
         Verdict::Twice => {
-            world.motion.step(deliver(link, way, place, true))?;
+            world.motion.step(&deliver(link, way, place, true))?;
             Ok(place + 1)
         }
         Verdict::Later => Ok(place + 1),
@@ -50,6 +52,7 @@ pub(crate) fn take_control(
 }
 
 /// Looks at the next word of a direction: a data word is carried, and of a control word the fate is asked. It is no longer left.
+#[inline(always)]
 fn take_next(world: &mut World, link: u8, way: Way, rest: &mut Remaining) -> Result<(), WorldFault>
     requires there { is_extender (tree_of (network_of world.old)) link ≡ true }
     requires next { AreNext link (way_of way) (world_of (network_of world.old)) rest.old }
@@ -69,11 +72,12 @@ fn take_next(world: &mut World, link: u8, way: Way, rest: &mut Remaining) -> Res
         Ok(())
     } else {
         rest.frames -= 1;
-        world.motion.step(carry(link, way))
+        world.motion.step(&Step::Carry { link, way })
     }
 }
 
 /// Goes once, in order, through the words that stand on a direction, and looks at each.
+#[inline(always)]
 fn go_through(world: &mut World, link: u8, way: Way) -> Result<(), WorldFault>
     requires { is_extender (tree_of (network_of world.old)) link ≡ true }
     ensures ok { OnOk result (HasAsked (goes_along (tree_of (network_of world.old)) (bounds_of (network_of world.old)) (direction (way_of way) link) (world_of (network_of world.old))) (left world.old.fate) (left world.new.fate) (network_of world.old) (network_of world.new)) }
@@ -103,7 +107,7 @@ fn go_one_way(world: &mut World, way: Way) -> Result<(), WorldFault>
     ensures falls { left world.new.fate ≤ left world.old.fate }
 {
     let mut from = 0;
-    'directions: while let Some(turn) = world.motion.next_busy(way, from) {
+    'directions: while let Some(turn) = world.motion.network().next_busy(way, from) {
         go_through(world, turn.link, way)?;
         from = turn.place + 1;
     }
@@ -121,5 +125,5 @@ pub fn round(world: &mut World) -> Result<(), WorldFault>
 {
     go_one_way(world, Way::Up)?;
     go_one_way(world, Way::Down)?;
-    world.motion.step(beat())
+    world.motion.step(&Step::Beat)
 }

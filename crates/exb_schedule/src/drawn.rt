@@ -12,11 +12,11 @@ use crate::draws::{Choice, choose};
 use crate::queues::{Queue, next_in, queues_of, take_from};
 use crate::rest::{Rest, can_come, come, command, pass};
 use crate::segment::{Arrival, end};
-use crate::steps::{beat, carry, deliver, lose};
+use crate::steps::{carry, deliver, lose};
 use crate::world::World;
 use exb_model::memory::NoMemory;
 use exb_model::setup::{Timed, Verdict};
-use exb_network::{Way, WorldFault};
+use exb_network::{Step, Way, WorldFault};
 use rand_pcg::Lcg64Xsh32;
 
 /// Takes the first data word of a direction.
@@ -29,7 +29,7 @@ fn take_data(world: &mut World, link: u8, way: Way) -> Result<(), WorldFault>
     if !world.can(&carry(link, way)) {
         return Ok(());
     }
-    world.motion.step(carry(link, way))
+    world.motion.step(&carry(link, way))
 }
 
 /// Delivers a control word, and may keep it.
@@ -48,7 +48,7 @@ fn deliver_at(
     if !world.can(&deliver(link, way, place, keep)) {
         return Ok(());
     }
-    world.motion.step(deliver(link, way, place, keep))
+    world.motion.step(&deliver(link, way, place, keep))
 }
 
 /// Loses a control word.
@@ -61,7 +61,7 @@ fn lose_at(world: &mut World, link: u8, way: Way, place: u64) -> Result<(), Worl
     if !world.can(&lose(link, way, place)) {
         return Ok(());
     }
-    world.motion.step(lose(link, way, place))
+    world.motion.step(&lose(link, way, place))
 }
 
 /// A beat passes.
@@ -71,7 +71,7 @@ fn beat_once(world: &mut World) -> Result<(), WorldFault>
     ensures failed { result ≡ Err WorldFault.Failed → (network_of world.old).failed ≡ true }
     ensures fate { left world.new.fate ≡ left world.old.fate }
 {
-    world.motion.step(beat())
+    world.motion.step(&Step::Beat)
 }
 
 /// Asks the fate of a control word, and does what it says.
@@ -331,7 +331,7 @@ pub fn seeded(
     ensures memory { OnErr result ((network_of world.new).failed ≡ true) }
     ensures fate { left world.new.fate ≤ left world.old.fate + letters_in commands.now }
 {
-    if world.motion.has_failed() {
+    if world.motion.network().has_failed() {
         return Err(WorldFault::Failed);
     }
     match play_drawn(world, rng, seconds, commands, arrivals) {

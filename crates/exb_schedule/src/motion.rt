@@ -1,29 +1,17 @@
 //! What schedules move: a network that a setup began.
-ghost use Rattle.std.specs.Prelude.{All, ◌≡◌, ◌↔◌, ◌<◌, ◌≤◌, ℕ, [], true, false, Some, IfOk, IfSome, IfNone, IsTrue, OnErr, OnOk, length, filter, slice_get};
+ghost use Rattle.std.specs.Prelude.{All, ◌≡◌, ◌↔◌, true, false, IfOk, OnErr, OnOk};
 ghost use Rattle.exb_model.specs.Setup.{IsValid, limits_of, shape_of, start_of};
-ghost use Rattle.exb_model.specs.Tree.{is_extender};
-ghost use Rattle.exb_changing.specs.Counting.{planned};
-ghost use Rattle.exb_changing.specs.Deciding.{decide};
-ghost use Rattle.exb_link.specs.Words.{is_control, is_data, leading};
-ghost use Rattle.exb_machine.specs.Allowing.{Can, IsSettled};
-ghost use Rattle.exb_machine.specs.Stepping.{words_on};
+ghost use Rattle.exb_machine.specs.Allowing.{Can};
 ghost use Rattle.exb_machine.specs.Worlds.{first_world};
 ghost use Rattle.exb_resting.specs.Motion.Kept.{HasVid};
 ghost use Rattle.exb_network.specs.Networks.{world_of, tree_of, bounds_of, step_of, IsQuiet, IsSame, IsStepped};
-ghost use Rattle.exb_network.specs.Steps.{way_of};
-ghost use Rattle.exb_network.specs.Turns.{order_of, IsTurn};
 ghost use Rattle.exb_resting.specs.Rest.Settles.{MayTake};
 ghost use Rattle.exb_schedule.specs.Reached.{IsReached};
 
-use crate::facts::{name_vlans, names_vlan};
-use exb_link::Counts;
-use exb_model::bytes::are_bytes;
-use exb_model::event::Event;
+use crate::facts::{brings_bytes, brings_vlan, name_vlans};
 use exb_model::memory::NoMemory;
 use exb_model::setup::Setup;
-use exb_model::trace::TraceLine;
-use exb_model::tree::Tree;
-use exb_network::{Left, Step, Turn, Way, World as Network, WorldFault};
+use exb_network::{Step, World as Network, WorldFault};
 use std::alloc::Global;
 use std::marker::{Model, PhantomData};
 
@@ -31,8 +19,6 @@ use std::marker::{Model, PhantomData};
 #[derive(Drop)]
 pub struct Motion {
     network: Network,
-    /// Whether memory ran out in a step.
-    failed: bool,
     /// Names the types of a step, for functions that make one.
     steps: PhantomData<Step<'static>>,
 }
@@ -42,11 +28,11 @@ impl Model for Motion {
 
     ghost Value = { Network };
 
-    ghost use Rattle.exb_schedule.specs.Reached.{IsKept};
+    ghost use Rattle.exb_schedule.specs.Reached.{IsReached};
 
     ghost view = { λ w. w.network };
 
-    ghost invariant = { λ w. IsKept w.network w.failed };
+    ghost invariant = { λ w. IsReached w.network };
 }
 
 impl Motion {
@@ -64,80 +50,30 @@ impl Motion {
         name_vlans(setup.start.as_slice());
         Ok(Motion {
             network: Network::new(alloc, setup, trace)?,
-            failed: false,
             steps: PhantomData,
         })
     }
 
-    /// Whether a step may be made, where memory hasn't run out: by exactly the rules of the network.
-    pub fn can(&self, step: &Step<'_>) -> bool
-        ensures may { result ≡ true → Can (tree_of self.now) (world_of self.now) (step_of step.now) }
-        ensures exact { self.now.failed ≡ false → Can (tree_of self.now) (world_of self.now) (step_of step.now) → result ≡ true }
+    /// The network, to look at.
+    #[inline(always)]
+    pub fn network(&self) -> &Network
+        ensures { result.now ≡ self.now }
     {
-        self.network.can(step)
+        &self.network
     }
 
     /// Makes a step.
-    pub fn step(&mut self, step: Step<'_>) -> Result<(), WorldFault>
-        requires { Can (tree_of self.old) (world_of self.old) (step_of step) }
-        ensures ok { OnOk result (IsStepped (step_of step.entry) self.old self.new) }
-        ensures may { OnOk result (MayTake (tree_of self.old) (world_of self.old) (step_of step.entry)) }
+    #[inline(always)]
+    pub fn step(&mut self, step: &Step<'_>) -> Result<(), WorldFault>
+        requires { Can (tree_of self.old) (world_of self.old) (step_of step.now) }
+        ensures ok { OnOk result (IsStepped (step_of step.now) self.old self.new) }
+        ensures may { OnOk result (MayTake (tree_of self.old) (world_of self.old) (step_of step.now)) }
         ensures failed { (result ≡ Err WorldFault.Failed) ↔ (self.old.failed ≡ true) }
         ensures memory { OnErr result (self.new.failed ≡ true) }
     {
-        let done = match step {
-            Step::Arrive {
-                port,
-                index,
-                moment,
-                bytes,
-            } => {
-                are_bytes(bytes);
-                self.network.step(Step::Arrive {
-                    port,
-                    index,
-                    moment,
-                    bytes,
-                })
-            }
-            Step::Carry { link, way } => self.network.step(Step::Carry { link, way }),
-            Step::Control {
-                link,
-                way,
-                at,
-                keep,
-            } => self.network.step(Step::Control {
-                link,
-                way,
-                at,
-                keep,
-            }),
-            Step::Lose { link, way, at } => self.network.step(Step::Lose { link, way, at }),
-            Step::Beat => self.network.step(Step::Beat),
-            Step::Tick { seconds } => self.network.step(Step::Tick { seconds }),
-            Step::Command { command } => {
-                names_vlan(command);
-                self.network.step(Step::Command { command })
-            }
-            Step::Mark => self.network.step(Step::Mark),
-        };
-        self.failed = done.is_err();
-        done
-    }
-
-    /// Whether nothing is left to be done, and memory hasn't run out: no job waits and no change is at work, nothing is on any
-    /// link, and every end of the transport is idle.
-    pub fn settled(&self) -> bool
-        ensures { IsTrue result ↔ ((self.now.failed ≡ false) × IsSettled (tree_of self.now) (world_of self.now)) }
-    {
-        !self.failed && self.network.settled()
-    }
-
-    /// Whether memory ran out.
-    pub fn has_failed(&self) -> bool
-        ensures { result ≡ self.now.failed }
-    {
-        self.failed
+        brings_bytes(step);
+        brings_vlan(step);
+        self.network.step(step)
     }
 
     /// Marks that memory ran out: no later step is made.
@@ -148,7 +84,6 @@ impl Motion {
         ensures log { self.new.log ≡ self.old.log }
     {
         self.network.fail();
-        self.failed = true;
     }
 
     /// That a run of a valid setup comes to this network, as a fact for whoever calls this. It does nothing.
@@ -156,80 +91,6 @@ impl Motion {
         ensures { IsReached self.now }
     {
         let _ = &self.network;
-    }
-
-    /// How many beats there were; it stays at 2^64 - 1.
-    pub fn beats(&self) -> u64
-        ensures { result ≡ (world_of self.now).beats }
-    {
-        self.network.beats()
-    }
-
-    /// The tree.
-    pub fn tree(&self) -> &Tree
-        ensures { result.now ≡ tree_of self.now }
-    {
-        self.network.tree()
-    }
-
-    /// How many exchanges and announcements are still to come before all jobs are done.
-    pub fn planned(&self) -> Result<u64, NoMemory>
-        ensures { self.now.failed ≡ false → IfOk result (λ count. count ≡ planned (tree_of self.now) (decide (tree_of self.now) (bounds_of self.now)) (world_of self.now).control) }
-    {
-        self.network.planned()
-    }
-
-    /// How many data words and control words are on a direction.
-    pub fn counts(&self, link: u8, way: Way) -> Counts
-        requires { is_extender (tree_of self.now) link ≡ true }
-        ensures frames { result.frames ≡ length (filter is_data (words_on link (way_of way) (world_of self.now))) }
-        ensures control { result.control ≡ length (filter is_control (words_on link (way_of way) (world_of self.now))) }
-    {
-        self.network.counts(link, way)
-    }
-
-    /// Whether there is a control word at a position of a direction, and no data word sent before it is left.
-    pub fn free_at(&self, link: u8, way: Way, at: u64) -> bool
-        requires { is_extender (tree_of self.now) link ≡ true }
-        ensures { IsTrue result ↔ (at < leading (words_on link (way_of way) (world_of self.now))) }
-    {
-        self.network.free_at(link, way, at)
-    }
-
-    /// The first direction of a way, from a place on in the order in which a round goes through them, that has a word.
-    pub fn next_busy(&self, way: Way, from: u8) -> Option<Turn>
-        ensures found { IfSome result (λ turn. IsTurn (tree_of self.now) (way_of way) (world_of self.now) from turn) }
-        ensures none { IfNone result ((k n : ℕ) → from ≤ k → slice_get (order_of (tree_of self.now) (way_of way)) k ≡ Some n → words_on n (way_of way) (world_of self.now) ≡ []) }
-    {
-        self.network.next_busy(way, from)
-    }
-
-    /// What happened since the last `clear`, in order.
-    pub fn events(&self) -> &[Event]
-        ensures { result.now ≡ self.now.log.events }
-    {
-        self.network.events()
-    }
-
-    /// For each Relay among the events, in order, whether its frame passed at its port.
-    pub fn passed(&self) -> &[bool]
-        ensures { result.now ≡ self.now.log.passed }
-    {
-        self.network.passed()
-    }
-
-    /// What left the ports since the last `clear`, in order.
-    pub fn left(&self) -> &[Left]
-        ensures { result.now ≡ self.now.log.left }
-    {
-        self.network.left()
-    }
-
-    /// The lines of the trace since the last `clear`, in order; none where no trace is kept.
-    pub fn trace(&self) -> &[TraceLine]
-        ensures { result.now ≡ self.now.log.lines }
-    {
-        self.network.trace()
     }
 
     /// Forgets what happened, and changes nothing else.

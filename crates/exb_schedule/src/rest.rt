@@ -8,7 +8,6 @@ ghost use Rattle.exb_schedule.specs.Playing.{arrived, letters_in};
 ghost use Rattle.exb_schedule.specs.Worlds.{network_of};
 
 use crate::segment::{Arrival, give_one};
-use crate::steps::tick;
 use crate::world::World;
 use exb_model::memory::NoMemory;
 use exb_model::setup::Timed;
@@ -74,7 +73,9 @@ pub(crate) fn pass(world: &mut World, rest: &mut Rest) -> Result<(), WorldFault>
     if rest.seconds == 0 {
         return Ok(());
     }
-    world.motion.step(tick(rest.seconds))?;
+    world.motion.step(&Step::Tick {
+        seconds: rest.seconds,
+    })?;
     rest.seconds = 0;
     Ok(())
 }
@@ -121,7 +122,7 @@ pub(crate) fn come(
     if rest.given[at] {
         return Ok(());
     }
-    world.motion.step(arrive(&arrivals[at]))?;
+    world.motion.step(&arrive(&arrivals[at]))?;
     rest.given[at] = true;
     Ok(())
 }

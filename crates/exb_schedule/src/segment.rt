@@ -15,14 +15,13 @@ ghost use Rattle.exb_schedule.specs.Worlds.{network_of};
 use crate::arriving::{let_arrive, let_pass};
 use crate::motion::Motion;
 use crate::settling::settle;
-use crate::steps::{mark, order};
 use crate::world::World;
 use exb_fate::Fate;
 use exb_model::bytes::Bytes;
 use exb_model::memory::NoMemory;
 use exb_model::port::PortId;
 use exb_model::setup::{Setup, Timed, Verdict};
-use exb_network::WorldFault;
+use exb_network::{Step, WorldFault};
 use std::alloc::Global;
 
 /// A frame of a capture that arrives: record `index` (from 1) of its port, at `moment` nanoseconds.
@@ -42,7 +41,7 @@ fn set_mark(motion: &mut Motion) -> Result<(), WorldFault>
     ensures failed { (result ≡ Err WorldFault.Failed) ↔ (motion.old.failed ≡ true) }
     ensures memory { OnErr result (motion.new.failed ≡ true) }
 {
-    motion.step(mark())
+    motion.step(&Step::Mark)
 }
 
 /// Settles and marks.
@@ -113,7 +112,9 @@ pub(crate) fn give_one(world: &mut World, command: &Timed) -> Result<(), WorldFa
     ensures fate { left world.new.fate ≤ left world.old.fate + length command.now.fate }
 {
     match world.arm(command.fate.as_slice()) {
-        Ok(()) => world.motion.step(order(&command.command)),
+        Ok(()) => world.motion.step(&Step::Command {
+            command: &command.command,
+        }),
         Err(_) => Err(WorldFault::Memory),
     }
 }
@@ -187,7 +188,7 @@ pub fn eager(
     ensures memory { OnErr result ((network_of world.new).failed ≡ true) }
     ensures fate { left world.new.fate ≤ left world.old.fate + letters_in commands.now }
 {
-    if world.motion.has_failed() {
+    if world.motion.network().has_failed() {
         return Err(WorldFault::Failed);
     }
     match play_in_order(world, seconds, commands, arrivals) {

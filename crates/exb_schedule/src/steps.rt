@@ -1,10 +1,9 @@
-//! The steps that schedules make of their own: each takes what comes first.
+//! The steps that are asked for when they were drawn.
 ghost use Rattle.std.specs.Prelude.{◌≡◌};
-ghost use Rattle.exb_machine.specs.Worlds.{Beat, Carry, Control, Lose, Mark, Order, Tick};
+ghost use Rattle.exb_machine.specs.Worlds.{Carry, Control, Lose};
 ghost use Rattle.exb_network.specs.Networks.{step_of};
 ghost use Rattle.exb_network.specs.Steps.{way_of};
 
-use exb_model::command::Command;
 use exb_network::{Step, Way};
 
 /// The first data word of a direction is taken.
@@ -31,32 +30,4 @@ pub(crate) fn lose(link: u8, way: Way, at: u64) -> Step<'static>
     ensures { step_of result ≡ Lose link (way_of way) at }
 {
     Step::Lose { link, way, at }
-}
-
-/// A beat passes.
-pub(crate) fn beat() -> Step<'static>
-    ensures { step_of result ≡ Beat }
-{
-    Step::Beat
-}
-
-/// What is settled is marked.
-pub(crate) fn mark() -> Step<'static>
-    ensures { step_of result ≡ Mark }
-{
-    Step::Mark
-}
-
-/// Seconds pass.
-pub(crate) fn tick(seconds: u32) -> Step<'static>
-    ensures { step_of result ≡ Tick seconds }
-{
-    Step::Tick { seconds }
-}
-
-/// A command is given.
-pub(crate) fn order<'a>(command: &'a Command) -> Step<'a>
-    ensures { step_of result ≡ Order command.now }
-{
-    Step::Command { command }
 }

@@ -71,7 +71,7 @@ impl World {
         ensures may { result ≡ true → Can (tree_of (network_of self.now)) (world_of (network_of self.now)) (step_of step.now) }
         ensures exact { (network_of self.now).failed ≡ false → Can (tree_of (network_of self.now)) (world_of (network_of self.now)) (step_of step.now) → result ≡ true }
     {
-        self.motion.can(step)
+        self.motion.network().can(step)
     }
 
     /// Makes a step.
@@ -95,31 +95,29 @@ impl World {
                 index,
                 moment,
                 bytes,
-            } => {
-                self.motion.step(Step::Arrive {
-                    port,
-                    index,
-                    moment,
-                    bytes,
-                })
-            }
-            Step::Carry { link, way } => self.motion.step(Step::Carry { link, way }),
+            } => self.motion.step(&Step::Arrive {
+                port,
+                index,
+                moment,
+                bytes,
+            }),
+            Step::Carry { link, way } => self.motion.step(&Step::Carry { link, way }),
             Step::Control {
                 link,
                 way,
                 at,
                 keep,
-            } => self.motion.step(Step::Control {
+            } => self.motion.step(&Step::Control {
                 link,
                 way,
                 at,
                 keep,
             }),
-            Step::Lose { link, way, at } => self.motion.step(Step::Lose { link, way, at }),
-            Step::Beat => self.motion.step(Step::Beat),
-            Step::Tick { seconds } => self.motion.step(Step::Tick { seconds }),
-            Step::Command { command } => { self.motion.step(Step::Command { command }) }
-            Step::Mark => self.motion.step(Step::Mark),
+            Step::Lose { link, way, at } => self.motion.step(&Step::Lose { link, way, at }),
+            Step::Beat => self.motion.step(&Step::Beat),
+            Step::Tick { seconds } => self.motion.step(&Step::Tick { seconds }),
+            Step::Command { command } => self.motion.step(&Step::Command { command }),
+            Step::Mark => self.motion.step(&Step::Mark),
         }
     }
 
@@ -155,28 +153,28 @@ impl World {
     pub fn settled(&self) -> bool
         ensures { IsTrue result ↔ (((network_of self.now).failed ≡ false) × IsSettled (tree_of (network_of self.now)) (world_of (network_of self.now))) }
     {
-        self.motion.settled()
+        self.motion.network().settled()
     }
 
     /// How many beats there were; it stays at 2^64 - 1.
     pub fn beats(&self) -> u64
         ensures { result ≡ (world_of (network_of self.now)).beats }
     {
-        self.motion.beats()
+        self.motion.network().beats()
     }
 
     /// The tree.
     pub fn tree(&self) -> &Tree
         ensures { result.now ≡ tree_of (network_of self.now) }
     {
-        self.motion.tree()
+        self.motion.network().tree()
     }
 
     /// How many exchanges and announcements are still to come before all jobs are done.
     pub fn planned(&self) -> Result<u64, NoMemory>
         ensures { (network_of self.now).failed ≡ false → IfOk result (λ count. count ≡ planned (tree_of (network_of self.now)) (decide (tree_of (network_of self.now)) (bounds_of (network_of self.now))) (world_of (network_of self.now)).control) }
     {
-        self.motion.planned()
+        self.motion.network().planned()
     }
 
     /// How many data words and control words are on a direction.
@@ -185,7 +183,7 @@ impl World {
         ensures frames { result.frames ≡ length (filter is_data (words_on link (way_of way) (world_of (network_of self.now)))) }
         ensures control { result.control ≡ length (filter is_control (words_on link (way_of way) (world_of (network_of self.now)))) }
     {
-        self.motion.counts(link, way)
+        self.motion.network().counts(link, way)
     }
 
     /// Whether there is a control word at a position of a direction, and no data word sent before it is left.
@@ -193,35 +191,35 @@ impl World {
         requires { is_extender (tree_of (network_of self.now)) link ≡ true }
         ensures { IsTrue result ↔ (at < leading (words_on link (way_of way) (world_of (network_of self.now)))) }
     {
-        self.motion.free_at(link, way, at)
+        self.motion.network().free_at(link, way, at)
     }
 
     /// What happened since the last `clear`, in order.
     pub fn events(&self) -> &[Event]
         ensures { result.now ≡ (network_of self.now).log.events }
     {
-        self.motion.events()
+        self.motion.network().events()
     }
 
     /// For each Relay among the events, in order, whether its frame passed at its port.
     pub fn passed(&self) -> &[bool]
         ensures { result.now ≡ (network_of self.now).log.passed }
     {
-        self.motion.passed()
+        self.motion.network().passed()
     }
 
     /// What left the ports since the last `clear`, in order.
     pub fn left(&self) -> &[Left]
         ensures { result.now ≡ (network_of self.now).log.left }
     {
-        self.motion.left()
+        self.motion.network().left()
     }
 
     /// The lines of the trace since the last `clear`, in order; none where no trace is kept.
     pub fn trace(&self) -> &[TraceLine]
         ensures { result.now ≡ (network_of self.now).log.lines }
     {
-        self.motion.trace()
+        self.motion.network().trace()
     }
 
     /// That a run of a valid setup comes to this network, where memory hasn't run out, as a fact for whoever calls this: the laws of

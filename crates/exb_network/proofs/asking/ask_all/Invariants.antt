@@ -8,4 +8,4 @@ use Rattle.exb_network.proofs.asking.ask_all.Given as goal
 -- those that are left lead to the whole
 abbrev pub invariant-loop-one : goal.invariant-loop-one
 invariant-loop-one l =
-    Leads (each (asks l.site.tree) l.asked (world_in l.fn.core)) (each (asks l.site.tree) (drop l.one-index l.asked) (world_in l.core)) l.fn.log l.log × IsAt l.site l.core
+    Leads (each (asks l.site.tree) l.asked (world_in l.fn.core)) (each (asks l.site.tree) (drop l.one-index l.asked) (world_in l.core)) l.fn.post.log l.post.log × IsAt l.site l.core

@@ -32,6 +32,6 @@ returns c =
     let place : c.trunk-trunk.result - 1 ≡ trunk c.tree-tree.result.now n = omega (arith, top) in
     let here : c.trunk-trunk.result - 1 ≡ trunk t n = place ∙ ap (λ (u : Shape). trunk u n) c.tree-tree.ensures in
     on_ok_weaker c.put.result (λ done.
-    tagged_on c.args.site.now core c.put.new.core (trunk t n) (hung_on t (trunk t n)) (channel_at_trunk t (held_in f) (on t n)) c.args.frame.now c.in-Some.below c.in-Some-of.channel c.args.log.now c.put.new.log below has
-    (subst (λ (k : ℕ). Does (puts k c.in-Some.below (tagged c.args.frame.now (channel_tag c.in-Some-of.channel)) (world_in core)) c.args.site.now c.put.new.core c.args.log.now c.put.new.log) here
-    (subst (λ (x : List ℕ). Does (puts (c.trunk-trunk.result - 1) c.in-Some.below x (world_in core)) c.args.site.now c.put.new.core c.args.log.now c.put.new.log) spelled done))) c.put.ensures
+    tagged_on c.args.site.now core c.put.new.core (trunk t n) (hung_on t (trunk t n)) (channel_at_trunk t (held_in f) (on t n)) c.args.frame.now c.in-Some.below c.in-Some-of.channel c.args.post.now.log c.put.new.post.log below has
+    (subst (λ (k : ℕ). Does (puts k c.in-Some.below (tagged c.args.frame.now (channel_tag c.in-Some-of.channel)) (world_in core)) c.args.site.now c.put.new.core c.args.post.now.log c.put.new.post.log) here
+    (subst (λ (x : List ℕ). Does (puts (c.trunk-trunk.result - 1) c.in-Some.below x (world_in core)) c.args.site.now c.put.new.core c.args.post.now.log c.put.new.post.log) spelled done))) c.put.ensures

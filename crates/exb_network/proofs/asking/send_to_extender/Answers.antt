@@ -17,6 +17,6 @@ returns-in_ok-bytes c =
     let low : on t n / 64 ≡ 0 = omega (arith, port, device, is) in
     let here : c.place.result ≡ on t n = omega (arith, port, device, is, place) in
     on_ok_weaker c.put.result (λ done.
-    near_by t c.args.site.now c.args.core.now c.put.new.core n c.args.frame.now c.args.log.now c.put.new.log low
-    (subst (λ (k : ℕ). Does (puts k n c.args.frame.now (world_in c.args.core.now)) c.args.site.now c.put.new.core c.args.log.now c.put.new.log) here
-    (subst (λ (x : List ℕ). Does (puts c.place.result n x (world_in c.args.core.now)) c.args.site.now c.put.new.core c.args.log.now c.put.new.log) c.in_ok-bytes.ensures done))) c.put.ensures
+    near_by t c.args.site.now c.args.core.now c.put.new.core n c.args.frame.now c.args.post.now.log c.put.new.post.log low
+    (subst (λ (k : ℕ). Does (puts k n c.args.frame.now (world_in c.args.core.now)) c.args.site.now c.put.new.core c.args.post.now.log c.put.new.post.log) here
+    (subst (λ (x : List ℕ). Does (puts c.place.result n x (world_in c.args.core.now)) c.args.site.now c.put.new.core c.args.post.now.log c.put.new.post.log) c.in_ok-bytes.ensures done))) c.put.ensures

@@ -11,7 +11,7 @@ numbers-init c =
     let s = c.args.site.now in
     let core = c.args.core.now in
     let far = c.beat_resting.new.self in
-    (omega arith, omega arith, far_first s.tree s core far c.args.log.now c.beat_resting.ensures.state (far_at s core c.requires.at far c.beat_resting.ensures.same))
+    (omega arith, omega arith, far_first s.tree s core far c.args.room.now.post.log c.beat_resting.ensures.state (far_at s core c.requires.at far c.beat_resting.ensures.same))
 
 pub beat-requires-clause-extender : goal.beat-requires-clause-extender
 beat-requires-clause-extender c =
@@ -48,8 +48,8 @@ numbers-preserved c =
     let start = found.start in (
       omega arith,
       omega (arith, low),
-      far_next s.tree s w n c.numbers.core c.beat.new.core c.args.log.now c.numbers.log c.beat.new.log (omega (arith, start, inv.0)) low one.awake one.there
-          (far_skip s.tree s w c.numbers.from n c.numbers.core c.args.log.now c.numbers.log inv.0 start (omega (arith, low))
+      far_next s.tree s w n c.numbers.core c.beat.new.core c.args.room.now.post.log c.numbers.room.post.log c.beat.new.room.post.log (omega (arith, start, inv.0)) low one.awake one.there
+          (far_skip s.tree s w c.numbers.from n c.numbers.core c.args.room.now.post.log c.numbers.room.post.log inv.0 start (omega (arith, low))
           (λ k from before. waits_not _ (sym (bit k) ∙ found.before k from before)) inv.2) c.in_ok-beat.ensures,
     )
 
@@ -61,6 +61,6 @@ returns c =
     let far = c.beat_resting.new.self in
     let inv = c.numbers.invariant in
     let bit = waiting_bit s core far c.waiting-waiting.result (far_at s core c.requires.at far c.beat_resting.ensures.same) c.beat_resting.ensures.state c.waiting-waiting.ensures in
-    far_last s.tree s w 65 c.numbers.core c.args.log.now c.numbers.log (omega arith) (subst IsTree c.tree.ensures c.is_tree.ensures) (resting_there s core c.requires.at)
-    (far_skip s.tree s w c.numbers.from 65 c.numbers.core c.args.log.now c.numbers.log inv.0 inv.1 (omega arith)
+    far_last s.tree s w 65 c.numbers.core c.args.room.now.post.log c.numbers.room.post.log (omega arith) (subst IsTree c.tree.ensures c.is_tree.ensures) (resting_there s core c.requires.at)
+    (far_skip s.tree s w c.numbers.from 65 c.numbers.core c.args.room.now.post.log c.numbers.room.post.log inv.0 inv.1 (omega arith)
     (λ k start before. waits_not _ (sym (bit k) ∙ c.in_default.ensures.none k start)) inv.2)

@@ -5,7 +5,7 @@ use Rattle.exb_network.proofs.beating.beat_all_far.Given as goal
 
 -- those that are left lead to the whole
 abbrev pub invariant-numbers : goal.invariant-numbers
-invariant-numbers l = (0 < l.from) × (l.from ≤ 65) × FarLeft l.site.tree l.site (world_in l.fn.core) l.fn.log l.from l.core l.log
+invariant-numbers l = (0 < l.from) × (l.from ≤ 65) × FarLeft l.site.tree l.site (world_in l.fn.core) l.fn.room.post.log l.from l.core l.room.post.log
 
 abbrev pub decreases-numbers : goal.decreases-numbers
 decreases-numbers l = 65 - l.from

@@ -4,7 +4,7 @@ use Rattle.exb_network.proofs.Beats.{near_first, near_last, near_next, near_skip
 use Rattle.exb_network.proofs.beating.beat_all_near.Goals as goal
 
 pub numbers-init : goal.numbers-init
-numbers-init c = (omega arith, omega arith, near_first c.args.site.now.tree c.args.site.now c.args.core.now c.args.log.now c.requires.at)
+numbers-init c = (omega arith, omega arith, near_first c.args.site.now.tree c.args.site.now c.args.core.now c.args.post.now.log c.requires.at)
 
 pub numbers-preserved : goal.numbers-preserved
 numbers-preserved c =
@@ -16,8 +16,8 @@ numbers-preserved c =
     let start = c.in-Some.ensures.found.start in (
       omega arith,
       omega (arith, low),
-      near_next s.tree s w n c.numbers.core c.beat_near_any.new.core c.args.log.now c.numbers.log c.beat_near_any.new.log (omega (arith, start, inv.0)) low
-          (near_skip s.tree s w c.numbers.from n c.numbers.core c.args.log.now c.numbers.log inv.0 start (omega (arith, low)) c.in-Some.ensures.found.before inv.2) c.in_ok-beat_near_any.ensures,
+      near_next s.tree s w n c.numbers.core c.beat_near_any.new.core c.args.post.now.log c.numbers.post.log c.beat_near_any.new.post.log (omega (arith, start, inv.0)) low
+          (near_skip s.tree s w c.numbers.from n c.numbers.core c.args.post.now.log c.numbers.post.log inv.0 start (omega (arith, low)) c.in-Some.ensures.found.before inv.2) c.in_ok-beat_near_any.ensures,
     )
 
 pub returns : goal.returns
@@ -25,5 +25,5 @@ returns c =
     let s = c.args.site.now in
     let w = world_in c.args.core.now in
     let inv = c.numbers.invariant in
-    near_last s.tree s w 65 c.numbers.core c.args.log.now c.numbers.log (omega arith)
-    (near_skip s.tree s w c.numbers.from 65 c.numbers.core c.args.log.now c.numbers.log inv.0 inv.1 (omega arith) (λ k start before. c.in_default.ensures.none k start) inv.2)
+    near_last s.tree s w 65 c.numbers.core c.args.post.now.log c.numbers.post.log (omega arith)
+    (near_skip s.tree s w c.numbers.from 65 c.numbers.core c.args.post.now.log c.numbers.post.log inv.0 inv.1 (omega arith) (λ k start before. c.in_default.ensures.none k start) inv.2)

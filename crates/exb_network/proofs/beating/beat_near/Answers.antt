@@ -14,4 +14,4 @@ returns c =
     let spelled = c.as_slice-frame.ensures.value ∙ c.spell_request.ensures.bytes in
     on_ok_weaker c.send_to_extender.result (λ done.
     again_on c.args.site.now.tree c.args.number c.args.site.now c.args.core.now c.send_to_extender.new.core c.beat.new.self c.sequence.result c.payload_of.result.now c.as_slice-frame.result.now
-    c.args.log.now c.send_to_extender.new.log c.beat.ensures.state (sym c.beat.ensures.due ∙ is) its bytes spelled done) c.send_to_extender.ensures
+    c.args.post.now.log c.send_to_extender.new.post.log c.beat.ensures.state (sym c.beat.ensures.due ∙ is) its bytes spelled done) c.send_to_extender.ensures

@@ -8,5 +8,5 @@ pub returns-in-Ok : goal.returns-in-Ok
 returns-in-Ok c =
     let s = c.args.site.now in
     on_ok_weaker c.hear_announcement.result (λ done.
-    announcement_on s.tree (limits_in s) c.args.number c.args.frame.now c.in-Ok.announce s c.args.core.now c.hear_announcement.new.core c.args.log.now c.hear_announcement.new.log
+    announcement_on s.tree (limits_in s) c.args.number c.args.frame.now c.in-Ok.announce s c.args.core.now c.hear_announcement.new.core c.args.room.now.post.log c.hear_announcement.new.room.post.log
     (sym c.read.ensures ∙ c.in-Ok.is) (done c.args.frame.now)) c.hear_announcement.ensures

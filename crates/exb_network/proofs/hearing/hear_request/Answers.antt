@@ -14,13 +14,13 @@ returns-then-not-received c =
     let s = c.args.site.now in
     let mid = c.send_to_extender.new.core in
     let spelled = c.as_slice-frame.ensures.value ∙ c.spell_acknowledgement.ensures.bytes in
-    stale_on s.tree (limits_in s) c.args.number c.args.sequence c.args.payload.now c.as_slice-frame.result.now s c.args.core.now mid c.received.new.self c.args.log.now c.send_to_extender.new.log spelled
+    stale_on s.tree (limits_in s) c.args.number c.args.sequence c.args.payload.now c.as_slice-frame.result.now s c.args.core.now mid c.received.new.self c.args.room.now.post.log c.send_to_extender.new.post.log spelled
     c.in_ok-send_to_extender.ensures c.received.ensures.state (sym c.received.ensures.fresh ∙ c.if-not-received.true)
 
 pub hear_message-requires-clause-asks : goal.hear_message-requires-clause-asks
 hear_message-requires-clause-asks c =
     let s = c.args.site.now in
-    still_asks s.tree (limits_in s) c.args.number c.as_slice-frame.result.now s c.args.core.now c.send_to_extender.new.core c.args.log.now c.send_to_extender.new.log c.in_ok-send_to_extender.ensures c.requires.asks
+    still_asks s.tree (limits_in s) c.args.number c.as_slice-frame.result.now s c.args.core.now c.send_to_extender.new.core c.args.room.now.post.log c.send_to_extender.new.post.log c.in_ok-send_to_extender.ensures c.requires.asks
 
 pub returns-in-Ok : goal.returns-in-Ok
 returns-in-Ok c =
@@ -30,9 +30,9 @@ returns-in-Ok c =
     let heard = record mid { near = c.received.new.self } in
     let spelled = c.as_slice-frame.ensures.value ∙ c.spell_acknowledgement.ensures.bytes in
     on_ok_weaker c.hear_message.result (λ done.
-    fresh_on s.tree (limits_in s) n c.args.sequence c.args.payload.now c.as_slice-frame.result.now s c.args.core.now mid c.hear_message.new.core c.received.new.self c.args.log.now c.send_to_extender.new.log c.hear_message.new.log
+    fresh_on s.tree (limits_in s) n c.args.sequence c.args.payload.now c.as_slice-frame.result.now s c.args.core.now mid c.hear_message.new.core c.received.new.self c.args.room.now.post.log c.send_to_extender.new.post.log c.hear_message.new.room.post.log
     spelled c.in_ok-send_to_extender.ensures c.received.ensures.state (sym c.received.ensures.fresh ∙ c.if-not-received.false)
-    (subst (λ (r : Result Message CspFault). Does (hears_message s.tree (limits_in s) n r (world_in heard)) s c.hear_message.new.core c.send_to_extender.new.log c.hear_message.new.log)
+    (subst (λ (r : Result Message CspFault). Does (hears_message s.tree (limits_in s) n r (world_in heard)) s c.hear_message.new.core c.send_to_extender.new.post.log c.hear_message.new.room.post.log)
     (sym c.in-Ok.is ∙ c.read.ensures.exact) done)) c.hear_message.ensures
 
 pub returns-in-Err : goal.returns-in-Err
@@ -42,9 +42,9 @@ returns-in-Err c =
     let mid = c.send_to_extender.new.core in
     let heard = record mid { near = c.received.new.self } in
     let spelled = c.as_slice-frame.ensures.value ∙ c.spell_acknowledgement.ensures.bytes in
-    let told = c.send_to_extender.new.log in
+    let told = c.send_to_extender.new.post.log in
     let done = c.in_ok-send_to_extender.ensures in
-    fresh_on s.tree (limits_in s) n c.args.sequence c.args.payload.now c.as_slice-frame.result.now s c.args.core.now mid heard c.received.new.self c.args.log.now told told
+    fresh_on s.tree (limits_in s) n c.args.sequence c.args.payload.now c.as_slice-frame.result.now s c.args.core.now mid heard c.received.new.self c.args.room.now.post.log told told
     spelled done c.received.ensures.state (sym c.received.ensures.fresh ∙ c.if-not-received.false)
     (subst (λ (r : Result Message CspFault). Does (hears_message s.tree (limits_in s) n r (world_in heard)) s heard told told)
     (sym c.in-Err.is ∙ c.read.ensures.exact) (does_nothing s heard told (near_at s mid done.at c.received.new.self)))

@@ -19,9 +19,9 @@ returns-in-Dropped c =
     let w = world_in c.args.core.now in
     let a = arrival_of c.args.arrived.now in
     let d = c.learn.new.core in
-    let told = c.learn.new.log in
+    let told = c.learn.new.post.log in
     let done = c.in_ok-learn.ensures in
-    does_then (told_by a w) (sends_all s.tree a (sends_for s.tree w a) (passes w.control.bridge a.port a.bytes)) s d d c.args.log.now told told done.does
+    does_then (told_by a w) (sends_all s.tree a (sends_for s.tree w a) (passes w.control.bridge a.port a.bytes)) s d d c.args.room.now.post.log told told done.does
     (does_as _ (only (world_in d)) s d told told (sends_none s.tree a w (world_in d) (sym done.ingress ∙ c.in-Dropped.is)) (does_nothing s d told done.does.at))
 
 pub send_all-requires-clause-passed : goal.send_all-requires-clause-passed
@@ -34,11 +34,11 @@ returns-in-Passed c =
     let w = world_in c.args.core.now in
     let a = arrival_of c.args.arrived.now in
     let d = c.learn.new.core in
-    let told = c.learn.new.log in
+    let told = c.learn.new.post.log in
     let done = c.in_ok-learn.ensures in
     on_ok_weaker c.send_all.result (λ sent.
-    does_then (told_by a w) (sends_all s.tree a (sends_for s.tree w a) (passes w.control.bridge a.port a.bytes)) s d c.send_all.new.core c.args.log.now told c.send_all.new.log done.does
-    (does_as _ (each (sends_in s.tree a c.in-Passed.vid) (sends_for s.tree w a) (world_in d)) s c.send_all.new.core told c.send_all.new.log
+    does_then (told_by a w) (sends_all s.tree a (sends_for s.tree w a) (passes w.control.bridge a.port a.bytes)) s d c.send_all.new.core c.args.room.now.post.log told c.send_all.new.post.log done.does
+    (does_as _ (each (sends_in s.tree a c.in-Passed.vid) (sends_for s.tree w a) (world_in d)) s c.send_all.new.core told c.send_all.new.post.log
     (sends_some s.tree a w (world_in d) c.in-Passed.vid c.in-Passed.pcp c.in-Passed.dei (sym done.ingress ∙ c.in-Passed.is))
-    (subst (λ (xs : List SendTo). Does (each (sends_in s.tree a c.in-Passed.vid) xs (world_in d)) s c.send_all.new.core told c.send_all.new.log) (c.as_slice-sends.ensures.value ∙ done.sends) sent)))
+    (subst (λ (xs : List SendTo). Does (each (sends_in s.tree a c.in-Passed.vid) xs (world_in d)) s c.send_all.new.core told c.send_all.new.post.log) (c.as_slice-sends.ensures.value ∙ done.sends) sent)))
     c.send_all.ensures

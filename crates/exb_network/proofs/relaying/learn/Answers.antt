@@ -6,7 +6,7 @@ pub returns-in-Ok-clause-does : goal.returns-in-Ok-clause-does
 returns-in-Ok-clause-does c =
     on_ok_two c.tell.result
     (λ events passed.
-    came_does c.args.site.now c.args.core.now c.frame.new.self (arrival_of c.args.arrived.now) c.frame.new.out c.in-Ok.ensures.ok c.args.log.now c.tell.new.log c.requires.at events passed c.tell.ensures.left c.tell.ensures.trace)
+    came_does c.args.site.now c.args.core.now c.frame.new.self (arrival_of c.args.arrived.now) c.frame.new.out c.in-Ok.ensures.ok c.args.post.now.log c.tell.new.post.log c.requires.at events passed c.tell.ensures.left c.tell.ensures.trace)
     c.tell.ensures.events c.tell.ensures.passed
 
 pub returns-in-Ok-clause-sends : goal.returns-in-Ok-clause-sends

@@ -12,7 +12,7 @@ loop-one-preserved c =
     let f = sends_in c.args.site.now.tree (arrival_of c.args.passed.now.arrived) c.args.passed.now.vid in
     let xs = c.args.sends.now in
     let does = c.in_ok-send.ensures in (
-      read_leads f (each f xs (world_in c.args.core.now)) xs c.loop-one.one-index (record { bridge_port = 0; tag = None; kind = kind.Tagged }) c.args.site.now c.loop-one.core c.send.new.core c.args.log.now
-          c.loop-one.log c.send.new.log c.loop-one-test.true c.loop-one.invariant.0 does,
+      read_leads f (each f xs (world_in c.args.core.now)) xs c.loop-one.one-index (record { bridge_port = 0; tag = None; kind = kind.Tagged }) c.args.site.now c.loop-one.core c.send.new.core c.args.post.now.log
+          c.loop-one.post.log c.send.new.post.log c.loop-one-test.true c.loop-one.invariant.0 does,
       does.at,
     )

@@ -13,6 +13,6 @@ take_data-requires-clause-cascade c =
 pub returns-then-is_control : goal.returns-then-is_control
 returns-then-is_control c =
     on_ok_weaker c.take_control.result (λ done.
-    bridge_control c.args.site.now (limits_in c.args.site.now) c.args.core.now c.take_control.new.core (c.args.bridge_port - 1) c.args.below c.args.word.now c.as_slice-frame.result.now c.args.log.now c.take_control.new.log
+    bridge_control c.args.site.now (limits_in c.args.site.now) c.args.core.now c.take_control.new.core (c.args.bridge_port - 1) c.args.below c.args.word.now c.as_slice-frame.result.now c.args.room.now.post.log c.take_control.new.room.post.log
     (sym c.is_control.ensures ∙ c.if-is_control.true) c.as_slice-frame.ensures done)
     c.take_control.ensures

@@ -9,7 +9,7 @@ use Rattle.exb_network.proofs.sending.send_frames.Given as goal
 -- what is left to be sent leads from here to the whole
 abbrev pub invariant-loop-out : goal.invariant-loop-out
 invariant-loop-out l = record {
-  leads : Leads (each (sends l.site.tree l.number l.stamp) (map (out_sent l.frame) l.outs) (world_in l.initial.core))
-      (each (sends l.site.tree l.number l.stamp) (map (out_sent l.frame) (drop l.out-index l.outs)) (world_in l.core)) l.initial.log l.log;
+  leads : Leads (each (sends l.site.tree l.number l.came.stamp) (map (out_sent l.came.frame.now) l.outs) (world_in l.initial.core))
+      (each (sends l.site.tree l.number l.came.stamp) (map (out_sent l.came.frame.now) (drop l.out-index l.outs)) (world_in l.core)) l.initial.post.log l.post.log;
   at : IsAt l.site l.core;
 }

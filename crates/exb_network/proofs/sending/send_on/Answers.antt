@@ -9,5 +9,5 @@ pub returns-in-Some : goal.returns-in-Some
 returns-in-Some c =
     let word = c.args.word in
     on_ok_weaker c.send_to.result
-    (went_on c.args.site.now.tree c.args.number word.stamp word.bytes c.args.reaction.now c.in-Some.side c.args.site.now c.args.core.now c.send_to.new.core c.args.log.now c.send_to.new.log c.in-Some.ensures)
+    (went_on c.args.site.now.tree c.args.number word.stamp word.bytes c.args.reaction.now c.in-Some.side c.args.site.now c.args.core.now c.send_to.new.core c.args.post.now.log c.send_to.new.post.log c.in-Some.ensures)
     c.send_to.ensures

@@ -8,7 +8,7 @@ pub returns-then-device-eq0 : goal.returns-then-device-eq0
 returns-then-device-eq0 c =
     let low : c.args.arrived.now.port < 64 = let b = c.device.ensures.value in let z = c.if-device-eq0.true in omega (arith, b, z) in
     on_ok_weaker c.come.result (λ done.
-    arrives_below c.args.site.now c.args.core.now (record c.args.core.now { next = c.count.new.self }) c.come.new.core (arrival_of c.args.arrived.now) c.args.log.now c.come.new.log
+    arrives_below c.args.site.now c.args.core.now (record c.args.core.now { next = c.count.new.self }) c.come.new.core (arrival_of c.args.arrived.now) c.args.room.now.post.log c.come.new.room.post.log
     (next_is c.args.core.now c.count.new.self _ c.count.ensures) low done)
     c.come.ensures
 
@@ -21,6 +21,6 @@ pub returns-else-device-eq0 : goal.returns-else-device-eq0
 returns-else-device-eq0 c =
     let deep : 64 ≤ c.args.arrived.now.port = let b = c.device.ensures.value in let z = c.if-device-eq0.false in omega (arith, b, z) in
     on_ok_weaker c.arrive_at.result (λ done.
-    arrives_deeper c.args.site.now c.args.core.now (record c.args.core.now { next = c.count.new.self }) c.arrive_at.new.core (arrival_of c.args.arrived.now) c.args.log.now c.arrive_at.new.log
+    arrives_deeper c.args.site.now c.args.core.now (record c.args.core.now { next = c.count.new.self }) c.arrive_at.new.core (arrival_of c.args.arrived.now) c.args.room.now.post.log c.arrive_at.new.room.post.log
     (next_is c.args.core.now c.count.new.self _ c.count.ensures) deep done)
     c.arrive_at.ensures

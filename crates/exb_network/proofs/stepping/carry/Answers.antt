@@ -11,7 +11,7 @@ use Rattle.exb_network.proofs.stepping.carry.Goals as goal
 pub returns-in-None : goal.returns-in-None
 returns-in-None c =
     let s = c.args.site.now in
-    no_data s (limits_in s) c.args.core.now c.pull_data.new.core c.args.number (way_of c.args.way) c.args.log.now (sym c.pull_data.ensures.word ∙ c.in-None.is) c.pull_data.ensures.rest c.pull_data.ensures.at
+    no_data s (limits_in s) c.args.core.now c.pull_data.new.core c.args.number (way_of c.args.way) c.args.room.now.post.log (sym c.pull_data.ensures.word ∙ c.in-None.is) c.pull_data.ensures.rest c.pull_data.ensures.at
 
 pub take-requires-clause-asks : goal.take-requires-clause-asks
 take-requires-clause-asks c =
@@ -25,5 +25,5 @@ returns-in-Some c =
     let way = way_of c.args.way in
     on_ok_weaker c.take.result (λ done.
     somebody s (limits_in s) c.args.core.now c.pull_data.new.core c.args.number way (without_data (words_on c.args.number way (world_in c.args.core.now))) c.pull_data.ensures.rest _ c.in-Some.word c.take.new.core
-    c.args.log.now c.take.new.log (sym c.pull_data.ensures.word ∙ c.in-Some.is) done)
+    c.args.room.now.post.log c.take.new.room.post.log (sym c.pull_data.ensures.word ∙ c.in-Some.is) done)
     c.take.ensures

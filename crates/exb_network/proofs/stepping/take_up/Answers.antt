@@ -20,7 +20,7 @@ returns-in_ok-take c =
     let n = c.args.number in
     let is : c.place-bridge_port.result + 1 - 1 ≡ on t n = let a = c.on-port.ensures in let b = c.device.ensures.value in let z = c.if-device-eq0.true in let p = c.place-bridge_port.ensures.value in omega (arith, a, b, z, p) in
     let low : on t n < 64 = let a = c.on-port.ensures in let b = c.device.ensures.value in let z = c.if-device-eq0.true in omega (arith, a, b, z) in
-    at_bridge c.args.site.now (limits_in c.args.site.now) c.args.core.now c.take.new.core n (c.place-bridge_port.result + 1 - 1) c.args.word c.args.log.now c.take.new.log low is c.in_ok-take.ensures
+    at_bridge c.args.site.now (limits_in c.args.site.now) c.args.core.now c.take.new.core n (c.place-bridge_port.result + 1 - 1) c.args.word c.args.room.now.post.log c.take.new.room.post.log low is c.in_ok-take.ensures
 
 pub take_from_below-requires-clause-port : goal.take_from_below-requires-clause-port
 take_from_below-requires-clause-port c =
@@ -36,5 +36,5 @@ returns-else-device-eq0 c =
     let n = c.args.number in
     let deep : 64 ≤ on t n = let a = c.on-port.ensures in let b = c.device.ensures.value in let z = c.if-device-eq0.false in omega (arith, a, b, z) in
     on_ok_weaker c.take_from_below.result (λ done.
-    at_extender c.args.site.now (limits_in c.args.site.now) c.args.core.now c.take_from_below.new.core n c.on-port.result c.args.word c.args.log.now c.take_from_below.new.log deep c.on-port.ensures done)
+    at_extender c.args.site.now (limits_in c.args.site.now) c.args.core.now c.take_from_below.new.core n c.on-port.result c.args.word c.args.room.now.post.log c.take_from_below.new.room.post.log deep c.on-port.ensures done)
     c.take_from_below.ensures

@@ -15,12 +15,12 @@ returns-in-Ignored c =
     let a = arrival_of c.args.arrived.now in
     let outer = rw (c.device-number.ensures.value, c.place-port.ensures.value) at (sym c.cascade.ensures ∙ c.if-cascade.false) in
     let ignored = rw (c.device-number.ensures.value, c.place-port.ensures.value) at c.arrive.ensures.ignored in
-    subst (λ (far : Devices). OnOk c.ignore-in-Ignored.result (Does (arrives_at s.tree a (world_in core)) s (record core { far = far }) c.args.log.now c.ignore-in-Ignored.new.log))
+    subst (λ (far : Devices). OnOk c.ignore-in-Ignored.result (Does (arrives_at s.tree a (world_in core)) s (record core { far = far }) c.args.room.now.post.log c.ignore-in-Ignored.new.log))
     (sym c.arrive.ensures.state)
     (on_ok_weaker c.ignore-in-Ignored.result
     (λ told.
-    arrives_ignored s.tree a s core c.args.log.now c.ignore-in-Ignored.new.log outer (ignored.0 c.in-Ignored.is)
-    (ignores s core a c.args.log.now c.ignore-in-Ignored.new.log told c.ignore-in-Ignored.ensures.passed c.ignore-in-Ignored.ensures.left c.ignore-in-Ignored.ensures.trace c.requires.at))
+    arrives_ignored s.tree a s core c.args.room.now.post.log c.ignore-in-Ignored.new.log outer (ignored.0 c.in-Ignored.is)
+    (ignores s core a c.args.room.now.post.log c.ignore-in-Ignored.new.log told c.ignore-in-Ignored.ensures.passed c.ignore-in-Ignored.ensures.left c.ignore-in-Ignored.ensures.trace c.requires.at))
     c.ignore-in-Ignored.ensures.events)
 
 pub returns-in-Sent : goal.returns-in-Sent
@@ -33,6 +33,6 @@ returns-in-Sent c =
     let are = rw (c.device-number.ensures.value, c.place-port.ensures.value) at c.arrive.ensures.sends in
     on_ok_weaker c.send_all.result
     (λ done.
-    arrives_sent s.tree a s core c.send_all.new.core c.arrive.result c.arrive.new.sends c.args.log.now c.send_all.new.log outer ignored c.in-Sent.is are
+    arrives_sent s.tree a s core c.send_all.new.core c.arrive.result c.arrive.new.sends c.args.room.now.post.log c.send_all.new.post.log outer ignored c.in-Sent.is are
     (rw (c.arrive.ensures.state, c.stamp.ensures, c.device-number.ensures.value) at done))
     c.send_all.ensures

@@ -12,5 +12,5 @@ pub returns : goal.returns
 returns c =
     let s = c.args.site.now in
     on_ok_weaker c.send_all.result
-    (λ done. reacted s.tree s c.args.core.now c.send_all.new.core c.beat.new.self c.args.number None Beats [] c.beat.new.sends c.args.log.now c.send_all.new.log c.beat.ensures.state c.beat.ensures.sends done)
+    (λ done. reacted s.tree s c.args.core.now c.send_all.new.core c.beat.new.self c.args.number None Beats [] c.beat.new.sends c.args.room.now.post.log c.send_all.new.post.log c.beat.ensures.state c.beat.ensures.sends done)
     c.send_all.ensures

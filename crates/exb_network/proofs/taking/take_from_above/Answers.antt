@@ -12,6 +12,6 @@ returns c =
     let word = c.args.word in
     on_ok_weaker c.send_on.result
     (λ done.
-    reacted s.tree s core c.send_on.new.core c.take.new.self n word.stamp (Arrives side.Up word.bytes) word.bytes c.take.new.sends c.args.log.now c.send_on.new.log
+    reacted s.tree s core c.send_on.new.core c.take.new.self n word.stamp (Arrives side.Up word.bytes) word.bytes c.take.new.sends c.args.room.now.post.log c.send_on.new.post.log
     (rw c.as_slice.ensures at c.take.ensures.state) (rw c.as_slice.ensures at c.take.ensures.sends) done)
     c.send_on.ensures

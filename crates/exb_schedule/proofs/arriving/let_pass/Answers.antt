@@ -1,8 +1,6 @@
 use Rattle.std.proofs.Common.{List, sym, subst}
 use Rattle.exb_machine.specs.Worlds.{Step, Tick}
-use Rattle.exb_network.specs.Networks.{world_of, tree_of, IsStepped}
 use Rattle.exb_network.proofs.Coming.{on_ok_two}
-use Rattle.exb_resting.specs.Rest.Settles.{MayTake}
 use Rattle.exb_schedule.specs.Moves.{HasRun}
 use Rattle.exb_schedule.proofs.Giving.{tick_none, tick_some}
 use Rattle.exb_schedule.proofs.Leading.{run_nothing, run_step}
@@ -18,7 +16,5 @@ returns-clause-ok c =
     let old = c.args.motion.now in
     on_ok_two c.step.result
     (λ made may.
-    subst (λ (zs : List Step). HasRun zs old c.step.new.self) (sym (tick_some c.args.seconds c.if-seconds-eq0.false))
-    (run_step (Tick c.args.seconds) c.args.motion.now c.step.new.self (subst (λ (s : Step). IsStepped s old c.step.new.self) c.tick.ensures made)
-    (subst (MayTake (tree_of old) (world_of old)) c.tick.ensures may)))
+    subst (λ (zs : List Step). HasRun zs old c.step.new.self) (sym (tick_some c.args.seconds c.if-seconds-eq0.false)) (run_step (Tick c.args.seconds) old c.step.new.self made may))
     c.step.ensures.ok c.step.ensures.may

@@ -1,5 +1,9 @@
-use Rattle.std.proofs.Common.{arith}
+use Rattle.std.proofs.Common.{◌≡◌, ℕ, ◌≤◌, Some, [], arith, subst}
+use Rattle.std.specs.List.{slice_get}
+use Rattle.exb_machine.specs.Stepping.{words_on}
+use Rattle.exb_network.specs.Networks.{Network, tree_of, world_of}
 use Rattle.exb_network.specs.Steps.{way_of}
+use Rattle.exb_network.specs.Turns.{order_of, IsTurn}
 use Rattle.exb_schedule.specs.Worlds.{network_of}
 use Rattle.exb_schedule.proofs.Going.{none_after, none_between, those_first, those_next}
 use Rattle.exb_schedule.proofs.delivery.go_one_way.Goals as goal
@@ -10,7 +14,7 @@ directions-init g c = record { those = those_first (way_of c.args.way) _ (networ
 pub directions-preserved : goal.directions-preserved
 directions-preserved g c =
     let turn = c.in-Some.turn in
-    let is = c.in-Some.ensures.found in
+    let is = subst (λ (n : Network). IsTurn (tree_of n) (way_of c.args.way) (world_of n) c.directions.from turn) c.network.ensures c.in-Some.ensures.found in
     let low = is.low in
     let falls = c.in_ok-go_through.ensures.falls in
     let before = c.directions.invariant.falls in
@@ -23,4 +27,7 @@ directions-preserved g c =
 
 pub returns-clause-ok : goal.returns-clause-ok
 returns-clause-ok g c =
-    none_after (way_of c.args.way) _ _ (network_of c.args.world.now) (network_of c.directions.world) c.directions.from c.in_default.ensures.none c.directions.invariant.those
+    let way = way_of c.args.way in
+    let none =
+    subst (λ (n : Network). (k m : ℕ) → c.directions.from ≤ k → slice_get (order_of (tree_of n) way) k ≡ Some m → words_on m way (world_of n) ≡ []) c.network.ensures c.in_default.ensures.none in
+    none_after way _ _ (network_of c.args.world.now) (network_of c.directions.world) c.directions.from none c.directions.invariant.those

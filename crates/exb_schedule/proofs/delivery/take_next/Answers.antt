@@ -1,13 +1,10 @@
-use Rattle.std.proofs.Common.{◌<◌, refl, sym, subst, ◌∙◌, arith}
+use Rattle.std.proofs.Common.{◌<◌, refl, sym, ◌∙◌, arith}
 use Rattle.std.proofs.lemmas.Bool.{false≢true}
 use Rattle.exb_link.specs.Words.{leading}
-use Rattle.exb_machine.specs.Allowing.{Can}
 use Rattle.exb_machine.specs.Stepping.{words_on}
-use Rattle.exb_machine.specs.Worlds.{Step}
-use Rattle.exb_network.specs.Networks.{world_of, tree_of, IsStepped}
+use Rattle.exb_network.specs.Networks.{world_of}
 use Rattle.exb_network.specs.Steps.{way_of}
 use Rattle.exb_network.proofs.Coming.{on_ok_two}
-use Rattle.exb_resting.specs.Rest.Settles.{MayTake}
 use Rattle.exb_schedule.specs.Worlds.{network_of}
 use Rattle.exb_schedule.proofs.Leading.{run_step}
 use Rattle.exb_schedule.proofs.Giving.{on_ok_all}
@@ -45,20 +42,18 @@ returns-in_ok-rest-clause-fewer g c =
 
 pub step-requires : goal.step-requires
 step-requires g c =
-    let now = network_of c.args.world.now in
     let some = left_data c.args.link (way_of c.args.way) (world_of (network_of c.args.world.now)) c.args.rest.now c.requires.next c.requires.some (λ h. false≢true (sym c.if-free_at.false ∙ c.free_at.ensures.1 h)) in
-    subst (Can (tree_of now) (world_of now)) (sym c.carry.ensures) (c.requires.there, some.1)
+    (c.requires.there, some.1)
 
 pub returns-else-free_at-clause-ok : goal.returns-else-free_at-clause-ok
 returns-else-free_at-clause-ok g c = λ whole before old k.
-    let now = network_of c.args.world.now in
     let none : c.args.rest.now.place < leading (words_on c.args.link (way_of c.args.way) (world_of (network_of c.args.world.now))) → ⊥ = λ h. false≢true (sym c.if-free_at.false ∙ c.free_at.ensures.1 h) in
     let some = (left_data c.args.link (way_of c.args.way) (world_of (network_of c.args.world.now)) c.args.rest.now c.requires.next c.requires.some none).0 in
     on_ok_two c.step.result
     (λ made may.
     data_by c.args.link (way_of c.args.way) whole before _ _ old (network_of c.args.world.now) c.step.new.self c.args.rest.now _ k.next.kept k.next.rest k.next.more c.requires.there k.next.control_alone k.next.place k.next.is
     k.next.frames k.next.control c.requires.some none
-    (run_step _ now c.step.new.self (subst (λ (s : Step). IsStepped s now c.step.new.self) c.carry.ensures made) (subst (MayTake (tree_of now) (world_of now)) c.carry.ensures may)) refl (omega (arith, some)) refl (omega arith)
+    (run_step _ (network_of c.args.world.now) c.step.new.self made may) refl (omega (arith, some)) refl (omega arith)
     k.leads)
     c.step.ensures.ok c.step.ensures.may
 

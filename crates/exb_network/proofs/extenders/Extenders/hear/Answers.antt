@@ -3,7 +3,7 @@ use Rattle.exb_extender.specs.Machine.{ExtenderState, Arrives, react}
 use Rattle.exb_extender.specs.Fields.{state_of}
 use Rattle.exb_network.proofs.Fars.{far_after, far_found, not_none, noted_after, same_found}
 use Rattle.exb_network.proofs.Sides.{sides_comes, can_go}
-use Rattle.exb_network.proofs.extenders.Extenders.take.Goals as goal
+use Rattle.exb_network.proofs.extenders.Extenders.hear.Goals as goal
 
 pub invariant_of-self : goal.invariant_of-self
 invariant_of-self c =
