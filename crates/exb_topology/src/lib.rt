@@ -13,5 +13,7 @@ mod trees;
 mod words;
 
 pub use exb_keys::faults::{KeyFault, TopoFault};
+pub use checks::{is_output, refuse};
 pub use exb_tables::Named;
+pub use outputs::output_names;
 pub use topology::{Topology, read};

@@ -1,0 +1,5 @@
+pub mod Joined
+pub mod Nets
+pub mod Size
+pub mod Names
+pub mod Files
