@@ -1,5 +1,5 @@
 -- What holds of every file that is read.
-use Rattle.std.proofs.Common.{◌≡◌, ◌≢◌, ◌⊎◌, ℕ, zero, suc, ◌+◌, ◌<◌, ◌≤◌, ◌==◌, ◌++◌, Bool, true, false, cond, List, [], ◌∷◌, Option, Some, None, Result, Ok, Err, All, length, get_or, take, refl, ap, sym, ◌∙◌, subst, arith, codes}
+use Rattle.std.proofs.Common.{◌≡◌, ◌≢◌, ◌⊎◌, ℕ, zero, suc, ◌+◌, ◌<◌, ◌≤◌, ◌==◌, ◌++◌, Bool, true, false, cond, List, [], ◌∷◌, Option, Some, None, Result, Ok, Err, All, length, get_or, take, refl, ap, sym, ◌∙◌, subst, arith, codes, inl, inr}
 use Rattle.std.specs.Prelude.{nat_lt, if◌then◌else◌}
 use Rattle.std.specs.List.{list_any, AllPairs}
 use Rattle.std.specs.Str.{bytes_eq}
@@ -11,6 +11,9 @@ use Rattle.std.proofs.lemmas.List.Elements.{All-cons, All-nil}
 use Rattle.toml.specs.Data.{Data, string, integer, boolean, array, table, Items, no_items, item, Members, get_member}
 use Rattle.exb_keys.specs.declared.faults.KeyFault.{KeyFault}
 use Rattle.exb_keys.specs.declared.faults.KeyFault.TheVariants as fault
+use Rattle.std.specs.Prelude.{IfOk}
+use Rattle.exb_keys.specs.declared.faults.TopoFault.{TopoFault}
+use Rattle.exb_keys.specs.Faults.{Gives}
 use Rattle.exb_keys.specs.Documents.{document}
 use Rattle.exb_keys.specs.Faults.{Refusal, at, ◌>>=◌, in_element}
 use Rattle.exb_keys.specs.Keys.{text, named, worded, placed, keyed, key_at, only, table_of, elements, each, same_state}
@@ -179,3 +182,7 @@ files_are_sound file f e =
   where
     unit_is : (u : Unit {0}) {r : Result (Unit {0}) Refusal} → r ≡ Ok u → r ≡ Ok tt
     unit_is u e = e
+
+pub read_is_sound : (file : List ℕ) (r : Result NetFile TopoFault) → Gives r (net_file_of file) → IfOk r IsNetFile
+read_is_sound file (Ok f) h = files_are_sound file f h
+read_is_sound file (Err e) h = tt

@@ -2,7 +2,7 @@
 use Rattle.std.proofs.Common.{◌≡◌, ◌≢◌, ◌⊎◌, ◌↔◌, ℕ, ◌+◌, ◌<◌, ◌==◌, ◌&&◌, ◌||◌, ◌++◌, Bool, true, false, cond, List, [], ◌∷◌, length, get_or, slice_index, map, refl, ap, sym, ◌∙◌, subst, arith, inl, inr}
 use Rattle.std.specs.List.{list_any}
 use Rattle.std.proofs.lemmas.Bool.{cases_Bool, cases_eq, eq-eqb, ne_eqb, eqb-true, and_parts, and_from, or_cases, or_left, or_right}
-use Rattle.std.proofs.lemmas.List.{append_assoc, append-nil, get_or-map, length-map}
+use Rattle.std.proofs.lemmas.List.{append_assoc, append-nil}
 use Rattle.exb_nets.specs.declared.wires.Wire.{Wire}
 use Rattle.exb_nets.specs.Nets.{is_between, AreJoined, Leads}
 use Rattle.exb_nets.proofs.Forest.{any_last, joined_more, joined_then, joined_on, joined_back}
@@ -178,18 +178,15 @@ pub labels_begin : (labels : List ℕ) → length labels ≡ 256 → ((b : ℕ) 
 unfolding joined_over
 labels_begin labels sized own = record { sized = sized; tell = λ b c lb lc. rw (own b lb, own c lc) refl }
 
-module _ (labels : List ℕ) (r : Test) (x : Wire) (l : AreLabels labels r) (low_a : x.a.bridge < 256) (low_b : x.b.bridge < 256) where
-  abbrev new : List ℕ
-  new = map (other_label (slice_index labels x.b.bridge) (slice_index labels x.a.bridge)) labels
-
-  new_at : (b : ℕ) → b < 256 → slice_index new b ≡ other_label (slice_index labels x.b.bridge) (slice_index labels x.a.bridge) (slice_index labels b)
-  new_at b lb = get_or-map (other_label (slice_index labels x.b.bridge) (slice_index labels x.a.bridge)) labels b 0 0 (omega (arith, lb, l.sized))
-
+-- after a wire: all that had the label of one end have that of the other
+module _ (labels new : List ℕ) (r : Test) (x : Wire) (l : AreLabels labels r) (low_a : x.a.bridge < 256) (low_b : x.b.bridge < 256)
+    (at : (b : ℕ) → b < 256 → slice_index new b ≡ other_label (slice_index labels x.b.bridge) (slice_index labels x.a.bridge) (slice_index labels b)) where
   new_tell : (b c : ℕ) → b < 256 → c < 256 → (slice_index new b == slice_index new c) ≡ with_wire r x b c
   new_tell b c lb lc =
-      (λ i. new_at b lb i == new_at c lc i)
+      (λ i. at b lb i == at c lc i)
       ∙ renamed (slice_index labels b) (slice_index labels c) (slice_index labels x.b.bridge) (slice_index labels x.a.bridge)
       ∙ (λ i. l.tell b c lb lc i || ((l.tell b x.a.bridge lb low_a i && l.tell x.b.bridge c low_b lc i) || (l.tell b x.b.bridge lb low_b i && l.tell x.a.bridge c low_a lc i)))
 
-pub labels_step : (labels : List ℕ) (r : Test) (x : Wire) → AreLabels labels r → x.a.bridge < 256 → x.b.bridge < 256 → AreLabels (map (other_label (slice_index labels x.b.bridge) (slice_index labels x.a.bridge)) labels) (with_wire r x)
-labels_step labels r x l low_a low_b = record { sized = length-map labels (other_label (slice_index labels x.b.bridge) (slice_index labels x.a.bridge)) ∙ l.sized; tell = new_tell labels r x l low_a low_b }
+  pub labels_step : (xs : List Wire) → r ≡ are_joined xs → length new ≡ 256 → AreLabels new (are_joined (xs ++ x ∷ []))
+  labels_step xs is sized =
+      subst (AreLabels new) (ap (λ (t : Test). with_wire t x) is ∙ sym (joined_push equal xs x)) (record { sized = sized; tell = new_tell })

@@ -3,3 +3,4 @@ pub mod Nets
 pub mod Size
 pub mod Names
 pub mod Files
+pub mod Steps

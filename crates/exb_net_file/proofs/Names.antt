@@ -5,7 +5,6 @@ use Rattle.std.specs.List.{list_all}
 use Rattle.std.proofs.lemmas.Bool.{and_parts, false≢true}
 use Rattle.exb_text.specs.declared.output.Output.{Output}
 use Rattle.exb_text.specs.Names.{file_name, IsOfPort}
-use Rattle.exb_text.proofs.NameLemmas.{file_names_differ}
 use Rattle.exb_topology.proofs.Ends.{name_behind}
 use Rattle.exb_net_file.specs.Members.{prefix_of}
 use Rattle.exb_net_file.specs.Words.{is_letter, is_name}
@@ -39,7 +38,8 @@ parts_same (c ∷ m) (d ∷ k) r s lm lk e =
 name_parts : (m : List ℕ) (x : Output) → file_name (prefix_of m) x ≡ m ++ 45 ∷ file_name [] x
 name_parts m x = name_behind (prefix_of m) x ∙ append_assoc m (codes "-") (file_name [] x)
 
-pub bridges_write_apart : (m k : List ℕ) (x y : Output) → is_name m ≡ true → is_name k ≡ true → IsOfPort x → IsOfPort y → file_name (prefix_of m) x ≡ file_name (prefix_of k) y → (m ≡ k) × (x ≡ y)
-bridges_write_apart m k x y im ik hx hy e =
+pub bridges_write_apart : ((prefix : List ℕ) (x y : Output) → IsOfPort x → IsOfPort y → file_name prefix x ≡ file_name prefix y → x ≡ y)
+    → (m k : List ℕ) (x y : Output) → is_name m ≡ true → is_name k ≡ true → IsOfPort x → IsOfPort y → file_name (prefix_of m) x ≡ file_name (prefix_of k) y → (m ≡ k) × (x ≡ y)
+bridges_write_apart differ m k x y im ik hx hy e =
     let same = parts_same m k (file_name [] x) (file_name [] y) (letters_of m im) (letters_of k ik) (sym (name_parts m x) ∙ e ∙ name_parts k y) in
-    (same.0, file_names_differ [] x y hx hy same.1)
+    (same.0, differ [] x y hx hy same.1)

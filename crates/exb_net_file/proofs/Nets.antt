@@ -1,5 +1,5 @@
 -- Wires that were read are those of a valid net.
-use Rattle.std.proofs.Common.{◌≡◌, ◌≢◌, ◌⊎◌, ℕ, zero, suc, ◌+◌, ◌<◌, ◌≤◌, ◌==◌, ◌&&◌, ◌||◌, ◌++◌, Bool, true, false, not, List, [], ◌∷◌, Option, Some, None, Result, Ok, Err, All, length, get_or, map, refl, ap, sym, ◌∙◌, subst, arith, codes}
+use Rattle.std.proofs.Common.{◌≡◌, ◌≢◌, ◌⊎◌, ℕ, zero, suc, ◌+◌, ◌<◌, ◌≤◌, ◌==◌, ◌&&◌, ◌||◌, ◌++◌, Bool, true, false, not, List, [], ◌∷◌, Option, Some, None, Result, Ok, Err, All, length, get_or, map, refl, ap, sym, ◌∙◌, subst, arith, codes, inl, inr}
 use Rattle.std.specs.Prelude.{nat_lt}
 use Rattle.std.specs.List.{list_any, flat_map, AllPairs}
 use Rattle.std.specs.Str.{bytes_eq}
@@ -24,7 +24,10 @@ use Rattle.exb_net_file.specs.declared.rows.NetWire.{NetWire}
 use Rattle.exb_net_file.specs.declared.members.NetMember.{NetMember}
 use Rattle.exb_net_file.specs.Members.{tree_in, ports_together, files_ok}
 use Rattle.exb_net_file.specs.Wires.{member_from, is_taken, has_capture, port_free, end_of_member, end_in, are_joined, wire_key, wire_in, wires_from, wires_of}
-use Rattle.exb_net_file.specs.Sound.{AreValid, IsInputOf, IsMadeOf}
+use Rattle.std.specs.Prelude.{IfOk}
+use Rattle.exb_keys.specs.declared.faults.TopoFault.{TopoFault}
+use Rattle.exb_keys.specs.Faults.{Gives}
+use Rattle.exb_net_file.specs.Sound.{AreValid, IsInputOf, IsMadeOf, MakesNets}
 use Rattle.exb_net_file.proofs.Joined.{joined_tells}
 
 ok_same : {A : Type 0} (x y : A) → ◌≡◌ {A = Result A Refusal} (Ok x) (Ok y) → x ≡ y
@@ -119,7 +122,7 @@ record Fine (ms : List NetMember) (xs : List Wire) : Type 0 where
   apart : AllPairs (λ e f. e ≢ f) (ends_of xs)
   loops : HaveNoLoop [] xs
 
-ends_push : (xs : List Wire) (x : Wire) → ends_of (xs ++ x ∷ []) ≡ (ends_of xs ++ x.a ∷ []) ++ x.b ∷ []
+pub ends_push : (xs : List Wire) (x : Wire) → ends_of (xs ++ x ∷ []) ≡ (ends_of xs ++ x.a ∷ []) ++ x.b ∷ []
 ends_push [] x = refl
 ends_push (y ∷ xs) x = ap (λ (es : List End). y.a ∷ y.b ∷ es) (ends_push xs x)
 
@@ -210,3 +213,7 @@ module _ (ms : List NetMember) (xs : List Wire) (n : Net) (valid : AreValid ms) 
 
 pub wires_make_nets : (ms : List NetMember) (ws : List NetWire) (xs : List Wire) (n : Net) → AreValid ms → wires_of ms ws ≡ Ok xs → IsMadeOf ms xs n → IsNet n
 wires_make_nets ms ws xs n valid h made = net_valid ms xs n valid made (fine_from ms [] 0 ws xs (none_fine ms) (past ms ws xs h).wires)
+
+pub makes_nets : (ms : List NetMember) (ws : List NetWire) (r : Result (List Wire) TopoFault) → AreValid ms → Gives r (wires_of ms ws) → IfOk r (MakesNets ms)
+makes_nets ms ws (Ok xs) valid h = record { valid = λ n made. wires_make_nets ms ws xs n valid h made }
+makes_nets ms ws (Err e) valid h = tt

@@ -32,6 +32,10 @@ pub record IsMadeOf (ms : List NetMember) (xs : List Wire) (n : Net) : Type 0 wh
   pub inputs : (b : ℕ) (d : NetMember) → b < length ms → IsInputOf (get_or ms b d) (n.input b)
   pub wires : n.wires ≡ xs
 
+-- whatever net is made of these bridges and wires is valid
+pub record MakesNets (ms : List NetMember) (xs : List Wire) : Type 0 where
+  pub valid : (n : Net) → IsMadeOf ms xs n → IsNet n
+
 -- By the definition of what a file says alone.
 abbrev pub FilesAreSound : Type 0
 FilesAreSound = (file : List ℕ) (f : NetFile) → net_file_of file ≡ Ok f → IsNetFile f

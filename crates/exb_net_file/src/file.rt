@@ -51,31 +51,49 @@ fn is_named(before: &[NetBridge], name: &str) -> bool
     false
 }
 
+fn check_name(
+    alloc: Global,
+    before: &[NetBridge],
+    index: usize,
+    bridge: &NetBridge,
+) -> Result<(), TopoFault>
+    ensures { Gives result (name_ok before.now index bridge.now) }
+{
+    let place = Place::Element {
+        table: "bridge",
+        index,
+    };
+    let again = is_named(before, bridge.name.as_str());
+    refuse(alloc, again, place, "name", KeyFault::Repeat)
+}
+
 fn check_names(alloc: Global, bridges: &[NetBridge]) -> Result<(), TopoFault>
     ensures { Gives result (each_ok name_ok bridges.now 0 bridges.now) }
 {
     for (index, bridge) in bridges.iter().enumerate() {
-        let place = Place::Element {
-            table: "bridge",
-            index,
-        };
-        let again = is_named(&bridges[..index], bridge.name.as_str());
-        refuse(alloc, again, place, "name", KeyFault::Repeat)?;
+        check_name(alloc, &bridges[..index], index, bridge)?;
     }
     Ok(())
+}
+
+/// The file of its bytes, with names that are all different.
+#[tactic(auto, unfolding(crate::specs::Files::net_file_of, crate::specs::Files::names_ok))]
+fn checked(alloc: Global, file: &[u8]) -> Result<NetFile, TopoFault>
+    ensures { Gives result (net_file_of file.now) }
+{
+    let table = document(alloc, file, MOST_BYTES)?;
+    let file = file_rows(alloc, &table)?;
+    check_names(alloc, file.bridges.as_slice())?;
+    Ok(file)
 }
 
 /// What a file says, or its first fault. A file of more than 1,048,576 bytes is Large, and one that isn't TOML is NotToml.
 /// Then comes its shape: unknown keys at the top, in byte order, the bridges, and the wires, each element with its unknown keys
 /// first and then its own in their order; and then names that were given earlier. Memory is the one answer that the file
 /// doesn't decide.
-#[tactic(auto, unfolding(crate::specs::Files::net_file_of, crate::specs::Files::names_ok))]
 pub fn read(alloc: Global, file: &[u8]) -> Result<NetFile, TopoFault>
     ensures exact { Gives result (net_file_of file.now) }
     ensures sound { IfOk result IsNetFile }
 {
-    let table = document(alloc, file, MOST_BYTES)?;
-    let file = file_rows(alloc, &table)?;
-    check_names(alloc, file.bridges.as_slice())?;
-    Ok(file)
+    checked(alloc, file)
 }

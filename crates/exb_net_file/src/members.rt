@@ -1,9 +1,9 @@
 //! The bridges of a net with their topologies: their external ports together, and the files that they read and write.
-ghost use Rattle.std.specs.Prelude.{◌≡◌, ◌≤◌, ◌<◌, ◌+◌, ◌*◌, nat_lt, IfOk, All, List, [], codes, length, map, string_bytes};
+ghost use Rattle.std.specs.Prelude.{◌≡◌, ◌≤◌, ◌<◌, ◌+◌, ◌*◌, nat_lt, if◌then◌else◌, IfOk, All, List, [], codes, length, map, string_bytes};
 ghost use Rattle.std.specs.List.{list_any};
 ghost use Rattle.std.specs.Str.{bytes_eq};
 ghost use Rattle.exb_model.specs.Setup.{IsValid};
-ghost use Rattle.exb_model.specs.Tree.{external_ports};
+ghost use Rattle.exb_model.specs.Tree.{external_ports, is_external};
 ghost use Rattle.exb_keys.specs.Faults.{Gives};
 ghost use Rattle.exb_keys.specs.declared.faults.KeyFault.TheVariants.{Range};
 ghost use Rattle.exb_topology.specs.Checks.{output_names};
@@ -39,6 +39,15 @@ pub fn prefix_of(alloc: Global, name: &str) -> Result<String, NoMemory>
     Ok(format!(in alloc; "{name}-")?)
 }
 
+fn one_if_external(tree: &Tree, number: u16) -> usize
+    requires { number < 4160 }
+    ensures value { result ≡ (if is_external tree.now number then 1 else 0) }
+    ensures most { result ≤ 1 }
+{
+    let port = PortId::new(number).unwrap();
+    if tree.is_external(port) { 1 } else { 0 }
+}
+
 /// How many external ports a tree has.
 fn external_count(tree: &Tree) -> usize
     ensures value { result ≡ length (external_ports tree.now) }
@@ -46,10 +55,7 @@ fn external_count(tree: &Tree) -> usize
 {
     let mut count = 0;
     for number in 0..4160u16 {
-        let port = PortId::new(number).unwrap();
-        if tree.is_external(port) {
-            count += 1;
-        }
+        count += one_if_external(tree, number);
     }
     count
 }
@@ -72,7 +78,8 @@ fn ports_together(alloc: Global, members: &[NetMember]) -> Result<usize, NoMemor
 {
     let mut count = 0;
     for member in members {
-        count += ports_of(alloc, member)?;
+        let ports = ports_of(alloc, member)?;
+        count += ports;
     }
     Ok(count)
 }
@@ -159,6 +166,24 @@ fn has_written(
     Ok(false)
 }
 
+fn check_file(
+    alloc: Global,
+    members: &[NetMember],
+    ends: &[List<Text>],
+    index: usize,
+    member: &NetMember,
+) -> Result<(), TopoFault>
+    requires { ends.now ≡ map (λ m. output_names [] (tree_in m)) members.now }
+    ensures { Gives result (files_ok members.now [] index member.now) }
+{
+    let place = Place::Element {
+        table: "bridge",
+        index,
+    };
+    let again = has_written(alloc, members, ends, member.topology.captures.as_slice())?;
+    refuse(alloc, again, place, "topology", KeyFault::Repeat)
+}
+
 fn check_each_file(
     alloc: Global,
     members: &[NetMember],
@@ -168,12 +193,7 @@ fn check_each_file(
     ensures { Gives result (each_ok (files_ok members.now) members.now 0 members.now) }
 {
     for (index, member) in members.iter().enumerate() {
-        let place = Place::Element {
-            table: "bridge",
-            index,
-        };
-        let again = has_written(alloc, members, ends, member.topology.captures.as_slice())?;
-        refuse(alloc, again, place, "topology", KeyFault::Repeat)?;
+        check_file(alloc, members, ends, index, member)?;
     }
     Ok(())
 }

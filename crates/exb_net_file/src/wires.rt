@@ -1,12 +1,14 @@
 //! The wires of a net, once the topologies of all bridges are read.
-ghost use Rattle.std.specs.Prelude.{◌≡◌, ◌==◌, ◌≤◌, ◌<◌, ◌++◌, ℕ, IfOk, OnOk, Ok, Some, List, [], length, map, option_map, if◌then◌else◌, slice_index};
+ghost use Rattle.std.specs.Prelude.{◌≡◌, ◌==◌, ◌≤◌, ◌<◌, ◌++◌, ◌∷◌, ℕ, IfOk, OnOk, Ok, Some, List, [], length, map, option_map, if◌then◌else◌, slice_index};
 ghost use Rattle.std.specs.List.{list_any};
 ghost use Rattle.exb_model.specs.Setup.{IsValid};
 ghost use Rattle.exb_keys.specs.Faults.{Gives, place_text};
-ghost use Rattle.exb_nets.specs.Nets.{Net, IsNet, IsOfFile, ends_of};
+ghost use Rattle.exb_nets.specs.Nets.{ends_of};
 ghost use Rattle.exb_topology.specs.Each.{refuse};
+ghost use Rattle.exb_model.specs.Tree.{is_external};
+ghost use Rattle.exb_net_file.specs.Members.{tree_in};
 ghost use Rattle.exb_net_file.specs.Wires.{member_from, is_taken, has_capture, port_free, end_in, are_joined, wire_in, wires_from, wires_of};
-ghost use Rattle.exb_net_file.specs.Sound.{AreValid, IsMadeOf};
+ghost use Rattle.exb_net_file.specs.Sound.{AreValid, MakesNets};
 
 use crate::members::{NetMember, check_files, check_ports};
 use crate::rows::NetWire;
@@ -14,10 +16,11 @@ use crate::words::EndName;
 use exb_keys::faults::{KeyFault, TopoFault};
 use exb_keys::place::Place;
 use exb_model::list::List;
+use exb_model::memory::NoMemory;
 use exb_model::port::PortId;
 use exb_model::tree::Tree;
 use exb_nets::wires::{End, Wire};
-use exb_topology::{Named, refuse};
+use exb_topology::refuse;
 use std::alloc::Global;
 
 /// The bridge of a name, with its number.
@@ -45,16 +48,25 @@ fn is_taken(ends: &[End], end: End) -> bool
     false
 }
 
-/// Whether one of these captures is of that port.
-fn is_captured(captures: &[Named], port: PortId) -> bool
-    ensures { result ≡ list_any (λ capture. capture.port == port) captures.now }
+/// Whether a port of a bridge has a capture.
+fn is_captured(member: &NetMember, port: PortId) -> bool
+    ensures { result ≡ has_capture member.now port }
 {
-    for capture in captures {
+    for capture in member.topology.captures.as_slice() {
         if capture.port == port {
             return true;
         }
     }
     false
+}
+
+/// Whether a port of a bridge is external.
+fn is_external(alloc: Global, member: &NetMember, port: PortId) -> Result<bool, NoMemory>
+    requires { IsValid member.now.topology.setup }
+    ensures { IfOk result (λ is. is ≡ is_external (tree_in member.now) port) }
+{
+    let tree = Tree::new(alloc, &member.topology.setup)?;
+    Ok(tree.is_external(port))
 }
 
 /// Refuses a port of a bridge that isn't external, or that one of these ends or a capture has.
@@ -70,10 +82,9 @@ fn check_free(
     requires { IsValid member.now.topology.setup }
     ensures { Gives result (port_free member.now taken.now (place_text place ++ key.now) end) }
 {
-    let tree = Tree::new(alloc, &member.topology.setup)?;
-    let unknown = !tree.is_external(end.port);
+    let unknown = !is_external(alloc, member, end.port)?;
     refuse(alloc, unknown, place, key, KeyFault::UnknownPort)?;
-    let shared = is_taken(taken, end) || is_captured(member.topology.captures.as_slice(), end.port);
+    let shared = is_taken(taken, end) || is_captured(member, end.port);
     refuse(alloc, shared, place, key, KeyFault::SharedPort)
 }
 
@@ -85,28 +96,46 @@ fn end_in(
     taken: &[End],
     place: Place,
     key: &str,
-    end: &EndName,
+    named: &EndName,
 ) -> Result<End, TopoFault>
     requires valid { AreValid members.now }
     requires few { length members.now ≤ 16 }
-    ensures { Gives result (end_in members.now taken.now (place_text place ++ key.now) end.now) }
+    ensures { Gives result (end_in members.now taken.now (place_text place ++ key.now) named.now) }
 {
-    match member_of(members, end.bridge.as_str()) {
+    let port = named.port;
+    match member_of(members, named.bridge.as_str()) {
         None => Err(place.fault(alloc, key, KeyFault::Name)),
         Some((bridge, member)) => {
-            let end = End {
-                bridge,
-                port: end.port,
-            };
+            let end = End { bridge, port };
             check_free(alloc, member, taken, place, key, end)?;
             Ok(end)
         }
     }
 }
 
+/// The next end, put behind those before it.
+fn next_end(
+    alloc: Global,
+    members: &[NetMember],
+    ends: &mut List<End>,
+    place: Place,
+    key: &str,
+    named: &EndName,
+) -> Result<End, TopoFault>
+    requires valid { AreValid members.now }
+    requires few { length members.now ≤ 16 }
+    ensures value { Gives result (end_in members.now ends.old (place_text place ++ key.now) named.now) }
+    ensures kept { IfOk result (λ end. ends.new ≡ ends.old ++ end ∷ []) }
+{
+    let end = end_in(alloc, members, ends.as_slice(), place, key, named)?;
+    ends.push(end)?;
+    Ok(end)
+}
+
 /// A label for each bridge: at first its own number.
 fn own_labels() -> [u8; 256]
-    ensures { (b : ℕ) → b < 256 → slice_index result b ≡ b }
+    ensures sized { length result ≡ 256 }
+    ensures own { (b : ℕ) → b < 256 → slice_index result b ≡ b }
 {
     let mut labels = [0u8; 256];
     for bridge in 0..256usize {
@@ -115,14 +144,27 @@ fn own_labels() -> [u8; 256]
     labels
 }
 
+/// The label of a bridge.
+fn label_of(labels: &[u8; 256], bridge: u8) -> u8
+    ensures value { result ≡ slice_index labels.now bridge }
+    ensures low { bridge < 256 }
+{
+    labels[bridge as usize]
+}
+
+fn renamed(label: u8, from: u8, to: u8) -> u8
+    ensures { result ≡ (if label == from then to else label) }
+{
+    if label == from { to } else { label }
+}
+
 /// Gives one label to all that have another one.
 fn relabel(labels: &mut [u8; 256], from: u8, to: u8)
-    ensures { labels.new ≡ map (λ l. if l == from then to else l) labels.old }
+    ensures sized { length labels.new ≡ 256 }
+    ensures named { (b : ℕ) → b < 256 → slice_index labels.new b ≡ (if slice_index labels.old b == from then to else slice_index labels.old b) }
 {
     for bridge in 0..256usize {
-        if labels[bridge] == from {
-            labels[bridge] = to;
-        }
+        labels[bridge] = renamed(labels[bridge], from, to);
     }
 }
 
@@ -132,14 +174,16 @@ fn are_joined(wires: &[Wire], bridge: u8, other: u8) -> bool
 {
     let mut labels = own_labels();
     for wire in wires {
-        let (from, to) = (labels[wire.b.bridge as usize], labels[wire.a.bridge as usize]);
+        let from = label_of(&labels, wire.b.bridge);
+        let to = label_of(&labels, wire.a.bridge);
         relabel(&mut labels, from, to);
     }
-    labels[bridge as usize] == labels[other as usize]
+    let (label, other_label) = (label_of(&labels, bridge), label_of(&labels, other));
+    label == other_label
 }
 
 /// A wire after those before it. Their ends, with those of the wire behind them, are kept.
-#[tactic(auto, unfolding(crate::specs::Wires::wire_in))]
+#[tactic(auto, unfolding(crate::specs::Wires::wire_in), using(crate::proofs::Nets::ends_push))]
 fn wire_in(
     alloc: Global,
     members: &[NetMember],
@@ -158,10 +202,9 @@ fn wire_in(
         table: "wire",
         index,
     };
-    let a = end_in(alloc, members, ends.as_slice(), place, "a", &wire.a)?;
-    ends.push(a)?;
-    let b = end_in(alloc, members, ends.as_slice(), place, "b", &wire.b)?;
-    ends.push(b)?;
+    let NetWire { a, b } = wire;
+    let a = next_end(alloc, members, ends, place, "a", a)?;
+    let b = next_end(alloc, members, ends, place, "b", b)?;
     let again = are_joined(before, a.bridge, b.bridge);
     refuse(alloc, again, place, "a", KeyFault::Loop)?;
     Ok(Wire { a, b })
@@ -185,10 +228,24 @@ fn wires_in(
     Ok(joined)
 }
 
+#[tactic(auto, unfolding(crate::specs::Wires::wires_of))]
+fn checked(
+    alloc: Global,
+    members: &[NetMember],
+    wires: &[NetWire],
+) -> Result<List<Wire>, TopoFault>
+    requires valid { AreValid members.now }
+    requires few { length members.now ≤ 16 }
+    ensures { Gives result (wires_of members.now wires.now) }
+{
+    check_ports(alloc, members)?;
+    check_files(alloc, members)?;
+    wires_in(alloc, members, wires)
+}
+
 /// The wires of a net, or the first fault once all topologies are read: the external ports together, at most 4,160; captures that
 /// are files which some bridge may write; and the wires in order, at each the end `a`, the end `b`, and a loop. Memory is the one
 /// answer that the files don't decide. Where there is none, whatever net is made of these bridges and wires is valid.
-#[tactic(auto, unfolding(crate::specs::Wires::wires_of))]
 pub fn wired(
     alloc: Global,
     members: &[NetMember],
@@ -197,9 +254,7 @@ pub fn wired(
     requires valid { AreValid members.now }
     requires few { length members.now ≤ 16 }
     ensures exact { Gives result (wires_of members.now wires.now) }
-    ensures net { OnOk result ((n : Net) → IfOk result (λ xs. IsMadeOf members.now xs n → IsNet n)) }
+    ensures net { IfOk result (MakesNets members.now) }
 {
-    check_ports(alloc, members)?;
-    check_files(alloc, members)?;
-    wires_in(alloc, members, wires)
+    checked(alloc, members, wires)
 }

@@ -56,3 +56,44 @@ fn bridges_wires_and_names_have_limits(rt: HostRuntime) {
         judge_count(&rt, rt.alloc(), counts);
     }
 }
+
+// A bridge of 64 ports, an extender on each of the first so many of them, each with 64 ports.
+fn wide(rt: &impl Abort, alloc: Global, extenders: u32) -> String {
+    let head = "bridge = {ports = 64}\n";
+    let mut file = String::from_str(alloc, head).expect(rt, "memory");
+    for number in 1..=extenders {
+        let one = format!(in alloc; "[[extender]]\nnumber={number}\non='b{number}'\nports=64\n");
+        file.push_str(one.expect(rt, "memory").as_str()).expect(rt, "memory");
+    }
+    file
+}
+
+/// Two bridges with a wire to a bridge that isn't there.
+const PAIR: &str = "bridge = [{name = 'a', topology = 't'}, {name = 'b', topology = 't'}]\nwire = [{a = 'z:b1', b = 'b:b1'}]\n";
+
+/// The topology of the second bridge beside one of 4,096 external ports, and the verdict.
+const TOGETHER: [(&str, &str); 3] = [
+    ("bridge = {ports = 64}\n", "Name at wire[0].a"),
+    (
+        "bridge = {ports = 64}\nextender = [{number = 1, on = 'b1', ports = 2}]\n",
+        "Range at bridge",
+    ),
+    (
+        "bridge = {ports = 64}\nextender = [{number = 1, on = 'b1', ports = 2}]\ncaptures = {b2 = 'a-x1.1.pcap'}\n",
+        "Range at bridge",
+    ),
+];
+
+fn judge_together(rt: &impl Abort, alloc: Global, other: &str, wanted: &str) {
+    let wide = wide(rt, alloc, 64);
+    let parsed = read(alloc, PAIR.as_bytes()).expect(rt, "a file of a net");
+    let given = wiring(rt, alloc, &parsed, &[wide.as_str(), other]);
+    same(rt, given.as_str(), wanted, other);
+}
+
+#[test]
+fn ports_together_have_a_limit(rt: HostRuntime) {
+    for (other, wanted) in &TOGETHER {
+        judge_together(&rt, rt.alloc(), other, wanted);
+    }
+}
