@@ -4,3 +4,4 @@ pub mod Size
 pub mod Names
 pub mod Files
 pub mod Steps
+pub mod Parts

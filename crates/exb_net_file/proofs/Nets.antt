@@ -41,26 +41,27 @@ record IsMember (ms : List NetMember) (i b : ℕ) (m : NetMember) : Type 0 where
   here : place < length ms
   is : (d : NetMember) → get_or ms place d ≡ m
 
-member_is : (i : ℕ) (name : List ℕ) (ms : List NetMember) (b : ℕ) (m : NetMember) → member_from i name ms ≡ Some (b, m) → IsMember ms i b m
-unfolding member_from
-member_is i name [] b m e = absurd (cc)
-member_is i name (k ∷ ms) b m e =
-    elim (cases_Bool (bytes_eq k.name name)) [
-      | inl z ↦ (let same : ◌≡◌ {A = Option (ℕ × NetMember)} (Some (i, k)) (Some (b, m)) = rw z at e in
-          let first : i ≡ b = ap (λ (o : Option (ℕ × NetMember)). number_or i o) same in
-          let second : k ≡ m = ap (λ (o : Option (ℕ × NetMember)). member_or k o) same in
-          record { place = 0; counted = omega (arith, first); here = omega arith; is = λ d. second })
-      | inr z ↦ (let rest = member_is (i + 1) name ms b m (rw z at e) in
-          record { place = suc rest.place; counted = omega (arith, rest.counted); here = omega (arith, rest.here); is = λ d. rest.is d })
-    ]
-  where
-    number_or : ℕ → Option (ℕ × NetMember) → ℕ
-    number_or n None = n
-    number_or n (Some p) = p.0
+number_or : ℕ → Option (ℕ × NetMember) → ℕ
+number_or n None = n
+number_or n (Some p) = p.0
 
-    member_or : NetMember → Option (ℕ × NetMember) → NetMember
-    member_or n None = n
-    member_or n (Some p) = p.1
+member_or : NetMember → Option (ℕ × NetMember) → NetMember
+member_or m None = m
+member_or m (Some p) = p.1
+
+member_is : (i : ℕ) (name : List ℕ) (ms : List NetMember) (p : ℕ × NetMember) → member_from i name ms ≡ Some p → IsMember ms i p.0 p.1
+unfolding member_from
+member_is i name [] p e = absurd (cc)
+member_is i name (k ∷ ms) p e =
+    elim (cases_Bool (bytes_eq k.name name)) [
+      | inl z ↦
+          let same = rw z at e in
+          let first : i ≡ p.0 = ap (number_or i) same in
+          record { place = 0; counted = omega (arith, first); here = omega arith; is = λ d. ap (member_or k) same }
+      | inr z ↦
+          let rest = member_is (i + 1) name ms p (rw z at e) in
+          record { place = suc rest.place; counted = omega (arith, rest.counted); here = omega (arith, rest.here); is = λ d. rest.is d }
+    ]
 
 -- ---- ends
 -- an external port of one of the bridges, which has no capture
@@ -99,7 +100,7 @@ end_is ms taken key w e h = by_member (member_from 0 w.bridge ms) refl h
         let made : End = record { bridge = b; port = w.port } in
         let a = went (port_free m taken key made) (λ _. Ok made) e k in
         let fine = free_is m taken key made a.passed a.first in
-        let found = member_is 0 w.bridge ms b m is in
+        let found = member_is 0 w.bridge ms (b, m) is in
         let at : b ≡ found.place = omega (arith, found.counted) in
         let same : (d : NetMember) → get_or ms b d ≡ m = λ d. ap (λ (k : ℕ). get_or ms k d) at ∙ found.is d in
         subst (λ (x : End). IsNewEnd ms taken x) (ok_same made e a.rest) (record {

@@ -12,6 +12,9 @@ use Rattle.exb_topology.proofs.Building.{filter_yes, filter_no}
 use Rattle.exb_nets.specs.declared.wires.Wire.{Wire}
 use Rattle.exb_net_file.specs.declared.rows.NetWire.{NetWire}
 use Rattle.exb_net_file.specs.declared.members.NetMember.{NetMember}
+use Rattle.exb_net_file.specs.Members.{ports_together, tree_in}
+use Rattle.std.specs.List.{sum_by}
+use Rattle.std.proofs.lemmas.List.Sums.{sum_by_push}
 use Rattle.exb_net_file.specs.Wires.{member_from, wire_in, wires_from}
 use Rattle.exb_net_file.proofs.Joined.{other_label}
 
@@ -93,3 +96,16 @@ pub kept_more : (labels old : List ℕ) (i l : ℕ) → ((b : ℕ) → i ≤ b �
 kept_more labels old i l kept b le =
     let other : b ≢ i = λ e. omega (arith, le, e) in
     get_or-set_other labels i b l 0 other ∙ kept b (omega (arith, le))
+
+-- ---- the ports of all bridges
+pub none_together : 0 ≡ ports_together []
+unfolding ports_together
+none_together = refl
+
+pub together_more : (ms : List NetMember) (i : ℕ) (m : NetMember) → i < length ms → get_or ms i m ≡ m → ports_together (take (i + 1) ms) ≡ ports_together (take i ms) + length (external_ports (tree_in m))
+unfolding ports_together
+together_more ms i m lt is =
+    let f : NetMember → ℕ = λ x. length (external_ports (tree_in x)) in
+    ap (λ (xs : List NetMember). sum_by f xs) (take_more ms i m lt)
+    ∙ sum_by_push f (take i ms) (get_or ms i m)
+    ∙ ap (λ (x : NetMember). sum_by f (take i ms) + f x) is

@@ -1,6 +1,6 @@
 //! The wires of a net, once the topologies of all bridges are read.
 ghost use Rattle.std.specs.Prelude.{◌≡◌, ◌==◌, ◌≤◌, ◌<◌, ◌++◌, ◌∷◌, ℕ, IfOk, OnOk, Ok, Some, List, [], length, map, option_map, if◌then◌else◌, slice_index};
-ghost use Rattle.std.specs.List.{list_any};
+ghost use Rattle.std.specs.Str.{bytes_eq};
 ghost use Rattle.exb_model.specs.Setup.{IsValid};
 ghost use Rattle.exb_keys.specs.Faults.{Gives, place_text};
 ghost use Rattle.exb_nets.specs.Nets.{ends_of};
@@ -23,13 +23,20 @@ use exb_nets::wires::{End, Wire};
 use exb_topology::refuse;
 use std::alloc::Global;
 
+fn is_named(member: &NetMember, name: &str) -> bool
+    ensures { result ≡ bytes_eq member.now.name name.now }
+{
+    member.name.as_str() == name
+}
+
 /// The bridge of a name, with its number.
 fn member_of<'a>(members: &'a [NetMember], name: &str) -> Option<(u8, &'a NetMember)>
     requires { length members.now ≤ 16 }
     ensures { option_map (λ p. (p.0, p.1.now)) result ≡ member_from 0 name.now members.now }
 {
     for (index, member) in members.iter().enumerate() {
-        if member.name.as_str() == name {
+        let named = is_named(member, name);
+        if named {
             return Some((index as u8, member));
         }
     }
@@ -106,9 +113,8 @@ fn end_in(
     match member_of(members, named.bridge.as_str()) {
         None => Err(place.fault(alloc, key, KeyFault::Name)),
         Some((bridge, member)) => {
-            let end = End { bridge, port };
-            check_free(alloc, member, taken, place, key, end)?;
-            Ok(end)
+            check_free(alloc, member, taken, place, key, End { bridge, port })?;
+            Ok(End { bridge, port })
         }
     }
 }
@@ -127,9 +133,9 @@ fn next_end(
     ensures value { Gives result (end_in members.now ends.old (place_text place ++ key.now) named.now) }
     ensures kept { IfOk result (λ end. ends.new ≡ ends.old ++ end ∷ []) }
 {
-    let end = end_in(alloc, members, ends.as_slice(), place, key, named)?;
-    ends.push(end)?;
-    Ok(end)
+    let End { bridge, port } = end_in(alloc, members, ends.as_slice(), place, key, named)?;
+    ends.push(End { bridge, port })?;
+    Ok(End { bridge, port })
 }
 
 /// A label for each bridge: at first its own number.
@@ -178,7 +184,8 @@ fn are_joined(wires: &[Wire], bridge: u8, other: u8) -> bool
         let to = label_of(&labels, wire.a.bridge);
         relabel(&mut labels, from, to);
     }
-    let (label, other_label) = (label_of(&labels, bridge), label_of(&labels, other));
+    let label = label_of(&labels, bridge);
+    let other_label = label_of(&labels, other);
     label == other_label
 }
 

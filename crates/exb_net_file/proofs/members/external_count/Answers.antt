@@ -12,10 +12,10 @@ loop-number-preserved c =
     let n = c.loop-number.number in
     record {
       counted =
-          ap (λ (k : ℕ). c.loop-number.count + k) c.one_if_external.ensures.value
+          ap (λ (k : ℕ). c.loop-number.count + k) c.one_if_external-count.ensures.value
           ∙ ap (λ (k : ℕ). k + cond (is_external t n) 1 0) c.loop-number.invariant.counted
           ∙ sym (one_more t n);
-      most = omega (arith, c.one_if_external.ensures.most, c.loop-number.invariant.most);
+      most = omega (arith, c.one_if_external-count.ensures.most, c.loop-number.invariant.most);
     }
 
 pub returns-clause-value : goal.returns-clause-value
