@@ -53,7 +53,7 @@ unfolding below ports_together
 ports_same ms xs n made =
     ap (λ c. sum_by (λ b. length (external_ports (tree_of (n.input b)))) (range_with_len 0 c)) made.count
     ∙ sums_same (λ b. length (external_ports (tree_of (n.input b)))) (λ m. length (external_ports (tree_in m))) 0 ms
-      (λ k d lt. ap (λ b. length (external_ports (tree_of (n.input b)))) (zero-add k) ∙ ap (λ s. length (external_ports (shape_of s))) (made.inputs k d lt).setup)
+    (λ k d lt. ap (λ b. length (external_ports (tree_of (n.input b)))) (zero-add k) ∙ ap (λ s. length (external_ports (shape_of s))) (made.inputs k d lt).setup)
 
 pub nets_are_of_file : (ms : List NetMember) (ws : List NetWire) (xs : List Wire) (n : Net) → 1 ≤ length ms → length ms ≤ 16 → length ws ≤ 15 → wires_of ms ws ≡ Ok xs → IsMadeOf ms xs n → IsOfFile n
 nets_are_of_file ms ws xs n some few few_wires h made =

@@ -236,11 +236,7 @@ fn wires_in(
 }
 
 #[tactic(auto, unfolding(crate::specs::Wires::wires_of))]
-fn checked(
-    alloc: Global,
-    members: &[NetMember],
-    wires: &[NetWire],
-) -> Result<List<Wire>, TopoFault>
+fn checked(alloc: Global, members: &[NetMember], wires: &[NetWire]) -> Result<List<Wire>, TopoFault>
     requires valid { AreValid members.now }
     requires few { length members.now ≤ 16 }
     ensures { Gives result (wires_of members.now wires.now) }

@@ -22,7 +22,8 @@ fn file_of(rt: &impl Abort, alloc: Global, bridges: u32, letters: usize, wires: 
     let mut file = String::new(alloc);
     for bridge in 0..bridges {
         let one = format!(in alloc; "[[bridge]]\nname='{bridge:0letters$}'\ntopology='t'\n");
-        file.push_str(one.expect(rt, "memory").as_str()).expect(rt, "memory");
+        file.push_str(one.expect(rt, "memory").as_str())
+            .expect(rt, "memory");
     }
     for _ in 0..wires {
         file.push_str("[[wire]]\n").expect(rt, "memory");
@@ -63,13 +64,15 @@ fn wide(rt: &impl Abort, alloc: Global, extenders: u32) -> String {
     let mut file = String::from_str(alloc, head).expect(rt, "memory");
     for number in 1..=extenders {
         let one = format!(in alloc; "[[extender]]\nnumber={number}\non='b{number}'\nports=64\n");
-        file.push_str(one.expect(rt, "memory").as_str()).expect(rt, "memory");
+        file.push_str(one.expect(rt, "memory").as_str())
+            .expect(rt, "memory");
     }
     file
 }
 
 /// Two bridges with a wire to a bridge that isn't there.
-const PAIR: &str = "bridge = [{name = 'a', topology = 't'}, {name = 'b', topology = 't'}]\nwire = [{a = 'z:b1', b = 'b:b1'}]\n";
+const PAIR: &str =
+    "bridge = [{name = 'a', topology = 't'}, {name = 'b', topology = 't'}]\nwire = [{a = 'z:b1', b = 'b:b1'}]\n";
 
 /// The topology of the second bridge beside one of 4,096 external ports, and the verdict.
 const TOGETHER: [(&str, &str); 3] = [

@@ -7,10 +7,19 @@ const TOP: [(&str, &str); 17] = [
     ("wire = []\n", "Missing at bridge"),
     ("bridge = []\n", "Missing at bridge"),
     ("bridge = 1\n", "Kind at bridge"),
-    ("bridge = {name = 'a', topology = 'a.toml'}\n", "Kind at bridge"),
-    ("[bridge]\nname = 'a'\ntopology = 'a.toml'\n", "Kind at bridge"),
+    (
+        "bridge = {name = 'a', topology = 'a.toml'}\n",
+        "Kind at bridge",
+    ),
+    (
+        "[bridge]\nname = 'a'\ntopology = 'a.toml'\n",
+        "Kind at bridge",
+    ),
     ("bridge = [1]\n", "Kind at bridge"),
-    ("bridge = [{name = 'a', topology = 't'}, 1]\n", "Kind at bridge"),
+    (
+        "bridge = [{name = 'a', topology = 't'}, 1]\n",
+        "Kind at bridge",
+    ),
     ("[[bridge]]\nname = 'a'\ntopology = 'a.toml'\n", "ok"),
     ("bridges = 1\n", "Unknown at bridges"),
     ("wires = 1\nbridges = 1\nWire = 1\n", "Unknown at Wire"),
@@ -109,10 +118,7 @@ const WIRE: [(&str, &str); 33] = [
     ("wire = [{a = 'a:b1', b = 1}]\n", "Kind at wire[0].b"),
     ("wire = [{a = 'a:b1', b = 'b'}]\n", "Name at wire[0].b"),
     ("wire = [{b = 'b', a = 1}]\n", "Kind at wire[0].a"),
-    (
-        "wire = [{a = 1, zoo = 1, c = 1}]\n",
-        "Unknown at wire[0].c",
-    ),
+    ("wire = [{a = 1, zoo = 1, c = 1}]\n", "Unknown at wire[0].c"),
     (
         "wire = [{a = 'a:b1', b = 1}, {zoo = 1}]\n",
         "Kind at wire[0].b",

@@ -8,14 +8,11 @@ const THREE: &str = "bridge = {ports = 3}\n";
 const TREE: &str = "bridge = {ports = 3}\nextender = [{number = 1, on = 'b1', ports = 1}]\n";
 
 /// The same with captures of b3 and of x1.1.
-const HEARD: &str = "bridge = {ports = 3}\nextender = [{number = 1, on = 'b1', ports = 1}]\ncaptures = {b3 = 'in.pcap', 'x1.1' = 'in.pcap'}\n";
+const HEARD: &str =
+    "bridge = {ports = 3}\nextender = [{number = 1, on = 'b1', ports = 1}]\ncaptures = {b3 = 'in.pcap', 'x1.1' = 'in.pcap'}\n";
 
 const NETS: [Net; 22] = [
-    (
-        "bridge = [{name = 'a', topology = 't'}]\n",
-        &[THREE],
-        "",
-    ),
+    ("bridge = [{name = 'a', topology = 't'}]\n", &[THREE], ""),
     (
         "bridge = [{name = 'a', topology = 't'}, {name = 'b', topology = 't'}]\nwire = [{a = 'a:b2', b = 'b:b3'}]\n",
         &[TREE, THREE],
@@ -124,62 +121,96 @@ const NETS: [Net; 22] = [
 ];
 
 /// Two bridges and a wire that has a fault of its own, which comes behind those of captures.
-const PAIR: &str = "bridge = [{name = 'a', topology = 't'}, {name = 'b', topology = 't'}]\nwire = [{a = 'z:b1', b = 'b:b1'}]\n";
+const PAIR: &str =
+    "bridge = [{name = 'a', topology = 't'}, {name = 'b', topology = 't'}]\nwire = [{a = 'z:b1', b = 'b:b1'}]\n";
 
 const CAPTURES: [Net; 16] = [
     (
         PAIR,
-        &["bridge = {ports = 3}\ncaptures = {b3 = 'a-b1.pcap'}\n", THREE],
+        &[
+            "bridge = {ports = 3}\ncaptures = {b3 = 'a-b1.pcap'}\n",
+            THREE,
+        ],
         "Repeat at bridge[0].topology",
     ),
     (
         PAIR,
-        &[THREE, "bridge = {ports = 3}\ncaptures = {b3 = 'a-b1.pcap'}\n"],
+        &[
+            THREE,
+            "bridge = {ports = 3}\ncaptures = {b3 = 'a-b1.pcap'}\n",
+        ],
         "Repeat at bridge[1].topology",
     ),
     (
         PAIR,
-        &["bridge = {ports = 3}\ncaptures = {b3 = 'b-b3.pcap'}\n", THREE],
+        &[
+            "bridge = {ports = 3}\ncaptures = {b3 = 'b-b3.pcap'}\n",
+            THREE,
+        ],
         "Repeat at bridge[0].topology",
     ),
     (
         PAIR,
-        &["bridge = {ports = 3}\ncaptures = {b3 = 'b-b4.pcap'}\n", THREE],
+        &[
+            "bridge = {ports = 3}\ncaptures = {b3 = 'b-b4.pcap'}\n",
+            THREE,
+        ],
         "Name at wire[0].a",
     ),
     (
         PAIR,
-        &["bridge = {ports = 3}\ncaptures = {b3 = 'a-journal.txt'}\n", THREE],
+        &[
+            "bridge = {ports = 3}\ncaptures = {b3 = 'a-journal.txt'}\n",
+            THREE,
+        ],
         "Repeat at bridge[0].topology",
     ),
     (
         PAIR,
-        &[THREE, "bridge = {ports = 3}\ncaptures = {b3 = 'a-trace.txt'}\n"],
+        &[
+            THREE,
+            "bridge = {ports = 3}\ncaptures = {b3 = 'a-trace.txt'}\n",
+        ],
         "Repeat at bridge[1].topology",
     ),
     (
         PAIR,
-        &[THREE, "bridge = {ports = 3}\ncaptures = {b3 = 'b-counters.txt'}\n"],
+        &[
+            THREE,
+            "bridge = {ports = 3}\ncaptures = {b3 = 'b-counters.txt'}\n",
+        ],
         "Repeat at bridge[1].topology",
     ),
     (
         PAIR,
-        &[TREE, "bridge = {ports = 3}\ncaptures = {b3 = 'a-x1.1.pcap'}\n"],
+        &[
+            TREE,
+            "bridge = {ports = 3}\ncaptures = {b3 = 'a-x1.1.pcap'}\n",
+        ],
         "Repeat at bridge[1].topology",
     ),
     (
         PAIR,
-        &[TREE, "bridge = {ports = 3}\ncaptures = {b3 = 'a-b1.pcap'}\n"],
+        &[
+            TREE,
+            "bridge = {ports = 3}\ncaptures = {b3 = 'a-b1.pcap'}\n",
+        ],
         "Name at wire[0].a",
     ),
     (
         PAIR,
-        &[TREE, "bridge = {ports = 3}\ncaptures = {b3 = 'c-b2.pcap'}\n"],
+        &[
+            TREE,
+            "bridge = {ports = 3}\ncaptures = {b3 = 'c-b2.pcap'}\n",
+        ],
         "Name at wire[0].a",
     ),
     (
         PAIR,
-        &[TREE, "bridge = {ports = 3}\ncaptures = {b3 = 'a-b02.pcap'}\n"],
+        &[
+            TREE,
+            "bridge = {ports = 3}\ncaptures = {b3 = 'a-b02.pcap'}\n",
+        ],
         "Name at wire[0].a",
     ),
     (
@@ -189,7 +220,10 @@ const CAPTURES: [Net; 16] = [
     ),
     (
         PAIR,
-        &[TREE, "bridge = {ports = 3, out = 'x-'}\ncaptures = {b3 = 'out-b2.pcap'}\n"],
+        &[
+            TREE,
+            "bridge = {ports = 3, out = 'x-'}\ncaptures = {b3 = 'out-b2.pcap'}\n",
+        ],
         "Name at wire[0].a",
     ),
     (

@@ -20,8 +20,8 @@ loop-wire-preserved c =
     let new = c.relabel.new.labels in
     subst (λ (ws : List Wire). AreLabels new (are_joined ws)) (sym (take_more xs i none c.loop-wire-test.true))
     (labels_step labels new (are_joined (take i xs)) x c.loop-wire.invariant c.label_of-to.ensures.low c.label_of-from.ensures.low
-     (λ b lt. c.relabel.ensures.named b lt ∙ (λ j. other_label (c.label_of-from.ensures.value j) (c.label_of-to.ensures.value j) (slice_index labels b)))
-     (take i xs) refl c.relabel.ensures.sized)
+    (λ b lt. c.relabel.ensures.named b lt ∙ (λ j. other_label (c.label_of-from.ensures.value j) (c.label_of-to.ensures.value j) (slice_index labels b)))
+    (take i xs) refl c.relabel.ensures.sized)
 
 pub returns : goal.returns
 returns c =
