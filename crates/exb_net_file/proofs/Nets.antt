@@ -50,7 +50,7 @@ member_or m None = m
 member_or m (Some p) = p.1
 
 member_is : (i : ℕ) (name : List ℕ) (ms : List NetMember) (p : ℕ × NetMember) → member_from i name ms ≡ Some p → IsMember ms i p.0 p.1
-unfolding member_from
+unfolding member_from number_or member_or
 member_is i name [] p e = absurd (cc)
 member_is i name (k ∷ ms) p e =
     elim (cases_Bool (bytes_eq k.name name)) [

@@ -1,5 +1,5 @@
 //! The wires of a net, once the topologies of all bridges are read.
-ghost use Rattle.std.specs.Prelude.{◌≡◌, ◌==◌, ◌≤◌, ◌<◌, ◌++◌, ◌∷◌, ℕ, IfOk, OnOk, Ok, Some, List, [], length, map, option_map, if◌then◌else◌, slice_index};
+ghost use Rattle.std.specs.Prelude.{◌≡◌, ◌==◌, ◌≤◌, ◌<◌, ◌++◌, ◌∷◌, ℕ, IfOk, IfSome, OnOk, Ok, Some, List, [], length, map, option_map, if◌then◌else◌, slice_index};
 ghost use Rattle.std.specs.Str.{bytes_eq};
 ghost use Rattle.exb_model.specs.Setup.{IsValid};
 ghost use Rattle.exb_keys.specs.Faults.{Gives, place_text};
@@ -31,8 +31,10 @@ fn is_named(member: &NetMember, name: &str) -> bool
 
 /// The bridge of a name, with its number.
 fn member_of<'a>(members: &'a [NetMember], name: &str) -> Option<(u8, &'a NetMember)>
-    requires { length members.now ≤ 16 }
-    ensures { option_map (λ p. (p.0, p.1.now)) result ≡ member_from 0 name.now members.now }
+    requires valid { AreValid members.now }
+    requires few { length members.now ≤ 16 }
+    ensures value { option_map (λ p. (p.0, p.1.now)) result ≡ member_from 0 name.now members.now }
+    ensures valid { IfSome result (λ p. IsValid p.1.now.topology.setup) }
 {
     for (index, member) in members.iter().enumerate() {
         let named = is_named(member, name);
