@@ -1,13 +1,13 @@
 -- What holds of every file that is read.
-use Rattle.std.proofs.Common.{◌≡◌, ◌≢◌, ◌⊎◌, ℕ, zero, suc, ◌+◌, ◌<◌, ◌≤◌, ◌==◌, ◌++◌, Bool, true, false, cond, List, [], ◌∷◌, Option, Some, None, Result, Ok, Err, All, length, get_or, take, refl, ap, sym, ◌∙◌, subst, arith, codes, inl, inr}
-use Rattle.std.specs.Prelude.{nat_lt, if◌then◌else◌}
+use Rattle.std.proofs.Common.{◌≡◌, ◌≢◌, ℕ, ◌+◌, ◌≤◌, ◌==◌, ◌++◌, true, false, List, [], ◌∷◌, Option, Some, None, Result, Ok, Err, All, length, get_or, take, refl, ap, sym, ◌∙◌, subst, arith, codes, inl, inr}
+use Rattle.std.specs.Prelude.{nat_lt}
 use Rattle.std.specs.List.{list_any, AllPairs}
 use Rattle.std.specs.Str.{bytes_eq}
 use Rattle.std.specs.Cmp.Lexicographic.{bytes_decides}
 use Rattle.std.proofs.lemmas.Bool.{cases_Bool, ltb-false, eqb-false, false≢true}
 use Rattle.std.proofs.lemmas.List.{get_or-take, length-take}
 use Rattle.std.proofs.lemmas.List.Folds.{list_any_at}
-use Rattle.std.proofs.lemmas.List.Elements.{All-cons, All-nil}
+use Rattle.std.proofs.lemmas.List.Elements.{All-cons}
 use Rattle.toml.specs.Data.{Data, string, integer, boolean, array, table, Items, no_items, item, Members, get_member}
 use Rattle.exb_keys.specs.declared.faults.KeyFault.{KeyFault}
 use Rattle.exb_keys.specs.declared.faults.KeyFault.TheVariants as fault
@@ -15,19 +15,18 @@ use Rattle.std.specs.Prelude.{IfOk}
 use Rattle.exb_keys.specs.declared.faults.TopoFault.{TopoFault}
 use Rattle.exb_keys.specs.Faults.{Gives}
 use Rattle.exb_keys.specs.Documents.{document}
-use Rattle.exb_keys.specs.Faults.{Refusal, at, ◌>>=◌, in_element}
-use Rattle.exb_keys.specs.Keys.{text, named, worded, placed, keyed, key_at, only, table_of, elements, each, same_state}
-use Rattle.exb_keys.proofs.Went.{Went, went, placed_ok}
+use Rattle.exb_keys.specs.Faults.{Refusal, ◌>>=◌, in_element}
+use Rattle.exb_keys.specs.Keys.{text, named, keyed, key_at, only, table_of, elements, each, same_state}
+use Rattle.exb_keys.proofs.Went.{went, placed_ok}
 use Rattle.exb_tables.specs.Commands.{count}
 use Rattle.exb_topology.specs.Each.{each_ok, refuse}
 use Rattle.exb_topology.proofs.Checking.{refuse_ok, ok_at}
 use Rattle.exb_net_file.specs.declared.schema.Schema.TheVariants as schema
 use Rattle.exb_net_file.specs.declared.rows.NetBridge.{NetBridge}
 use Rattle.exb_net_file.specs.declared.rows.NetWire.{NetWire}
-use Rattle.exb_net_file.specs.declared.words.EndName.{EndName}
 use Rattle.exb_net_file.specs.declared.file.NetFile.{NetFile}
 use Rattle.exb_net_file.specs.Words.{is_name}
-use Rattle.exb_net_file.specs.Rows.{has_key, named_as, name, end, bridge, bridge_item, bridges, wire, wire_item, wires}
+use Rattle.exb_net_file.specs.Rows.{has_key, named_as, name, bridge, bridge_item, bridges, wire_item, wires}
 use Rattle.exb_net_file.specs.Files.{IsNetFile, file_rows, name_ok, names_ok, net_file_of}
 
 ok_same : {A : Type 0} (x y : A) → ◌≡◌ {A = Result A Refusal} (Ok x) (Ok y) → x ≡ y

@@ -1,11 +1,11 @@
 -- The test of loops: it joins exactly what wires join, and labels compute it.
-use Rattle.std.proofs.Common.{◌≡◌, ◌≢◌, ◌⊎◌, ◌↔◌, ℕ, ◌+◌, ◌<◌, ◌==◌, ◌&&◌, ◌||◌, ◌++◌, Bool, true, false, cond, List, [], ◌∷◌, length, get_or, slice_index, map, refl, ap, sym, ◌∙◌, subst, arith, inl, inr}
+use Rattle.std.proofs.Common.{◌≡◌, ◌↔◌, ℕ, ◌<◌, ◌==◌, ◌&&◌, ◌||◌, ◌++◌, Bool, true, false, cond, List, [], ◌∷◌, length, slice_index, refl, ap, sym, ◌∙◌, subst, inl, inr}
 use Rattle.std.specs.List.{list_any}
-use Rattle.std.proofs.lemmas.Bool.{cases_Bool, cases_eq, eq-eqb, ne_eqb, eqb-true, and_parts, and_from, or_cases, or_left, or_right}
+use Rattle.std.proofs.lemmas.Bool.{cases_eq, eq-eqb, ne_eqb, eqb-true, and_parts, and_from, or_cases, or_left, or_right}
 use Rattle.std.proofs.lemmas.List.{append_assoc, append-nil}
 use Rattle.exb_nets.specs.declared.wires.Wire.{Wire}
 use Rattle.exb_nets.specs.Nets.{is_between, AreJoined, Leads}
-use Rattle.exb_nets.proofs.Forest.{any_last, joined_more, joined_then, joined_on, joined_back}
+use Rattle.exb_nets.proofs.Forest.{joined_more, joined_then, joined_on, joined_back}
 use Rattle.exb_net_file.specs.Wires.{with_wire, joined_over, are_joined}
 
 abbrev pub Test : Type 0

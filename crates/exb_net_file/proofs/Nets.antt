@@ -1,19 +1,18 @@
 -- Wires that were read are those of a valid net.
-use Rattle.std.proofs.Common.{◌≡◌, ◌≢◌, ◌⊎◌, ℕ, zero, suc, ◌+◌, ◌<◌, ◌≤◌, ◌==◌, ◌&&◌, ◌||◌, ◌++◌, Bool, true, false, not, List, [], ◌∷◌, Option, Some, None, Result, Ok, Err, All, length, get_or, map, refl, ap, sym, ◌∙◌, subst, arith, codes, inl, inr}
+use Rattle.std.proofs.Common.{◌≡◌, ◌≢◌, ℕ, suc, ◌+◌, ◌<◌, ◌==◌, ◌||◌, ◌++◌, Bool, true, false, not, List, [], ◌∷◌, Option, Some, None, Result, Ok, Err, All, length, get_or, refl, ap, sym, ◌∙◌, subst, arith, codes, inl, inr}
 use Rattle.std.specs.Prelude.{nat_lt}
-use Rattle.std.specs.List.{list_any, flat_map, AllPairs}
+use Rattle.std.specs.List.{AllPairs}
 use Rattle.std.specs.Str.{bytes_eq}
 use Rattle.std.proofs.lemmas.Bool.{cases_Bool, eq-eqb, and_from, or_parts, false≢true}
 use Rattle.std.proofs.lemmas.List.{append_assoc, append-nil}
-use Rattle.std.proofs.lemmas.List.Elements.{All-push, All-nil}
+use Rattle.std.proofs.lemmas.List.Elements.{All-push}
 use Rattle.std.proofs.lemmas.List.Quantifiers.{all_pairs_push}
 use Rattle.std.proofs.lemmas.List.Folds.{list_any_at}
-use Rattle.exb_model.specs.Input.{Input, tree_of}
 use Rattle.exb_model.specs.Tree.{is_external}
 use Rattle.exb_model.specs.Setup.{IsValid, shape_of}
-use Rattle.exb_keys.specs.Faults.{Refusal, at, ◌>>=◌}
+use Rattle.exb_keys.specs.Faults.{Refusal, ◌>>=◌}
 use Rattle.exb_keys.specs.declared.faults.KeyFault.TheVariants as fault
-use Rattle.exb_keys.proofs.Went.{Went, went}
+use Rattle.exb_keys.proofs.Went.{went}
 use Rattle.exb_nets.specs.declared.wires.End.{End}
 use Rattle.exb_nets.specs.declared.wires.Wire.{Wire}
 use Rattle.exb_nets.specs.Nets.{Net, IsNet, IsEnd, AreJoined, HaveNoLoop, ends_of, is_at}
@@ -27,7 +26,7 @@ use Rattle.exb_net_file.specs.Wires.{member_from, is_taken, has_capture, port_fr
 use Rattle.std.specs.Prelude.{IfOk}
 use Rattle.exb_keys.specs.declared.faults.TopoFault.{TopoFault}
 use Rattle.exb_keys.specs.Faults.{Gives}
-use Rattle.exb_net_file.specs.Sound.{AreValid, IsInputOf, IsMadeOf, MakesNets}
+use Rattle.exb_net_file.specs.Sound.{AreValid, IsMadeOf, MakesNets}
 use Rattle.exb_net_file.proofs.Joined.{joined_tells}
 
 ok_same : {A : Type 0} (x y : A) → ◌≡◌ {A = Result A Refusal} (Ok x) (Ok y) → x ≡ y

@@ -1,16 +1,16 @@
 -- How large a net of a file is, and that its commands come in their order.
-use Rattle.std.proofs.Common.{◌≡◌, ℕ, zero, suc, ◌+◌, ◌<◌, ◌≤◌, ◌++◌, false, List, [], ◌∷◌, Result, Ok, All, length, get_or, map, refl, ap, sym, ◌∙◌, subst, arith, codes, zero-add}
+use Rattle.std.proofs.Common.{◌≡◌, ℕ, suc, ◌+◌, ◌<◌, ◌≤◌, ◌++◌, List, [], ◌∷◌, Result, Ok, All, length, get_or, map, refl, ap, sym, ◌∙◌, subst, arith, codes, zero-add}
 use Rattle.std.specs.Prelude.{nat_lt}
 use Rattle.std.specs.List.{AllPairs, range_with_len, sum_by}
 use Rattle.std.proofs.lemmas.Bool.{ltb-false}
 use Rattle.std.proofs.lemmas.List.{get_or-map, length-map, length-append}
 use Rattle.std.proofs.lemmas.List.Sums.{sum_by-cons}
 use Rattle.exb_model.specs.declared.setup.Timed.{Timed}
-use Rattle.exb_model.specs.Input.{Given, Input, given_by, tree_of}
+use Rattle.exb_model.specs.Input.{Given, given_by, tree_of}
 use Rattle.exb_model.specs.Ports.{below}
 use Rattle.exb_model.specs.Setup.{shape_of}
 use Rattle.exb_model.specs.Tree.{external_ports}
-use Rattle.exb_keys.specs.Faults.{Refusal, ◌>>=◌}
+use Rattle.exb_keys.specs.Faults.{Refusal}
 use Rattle.exb_keys.specs.declared.faults.KeyFault.TheVariants as fault
 use Rattle.exb_keys.proofs.Went.{went}
 use Rattle.exb_nets.specs.declared.wires.Wire.{Wire}
@@ -22,8 +22,8 @@ use Rattle.exb_net_file.specs.declared.rows.NetWire.{NetWire}
 use Rattle.exb_net_file.specs.declared.members.NetMember.{NetMember}
 use Rattle.exb_net_file.specs.Members.{tree_in, ports_together}
 use Rattle.exb_net_file.specs.Wires.{wire_in, wires_from, wires_of}
-use Rattle.exb_net_file.specs.Sound.{IsInputOf, IsMadeOf}
-use Rattle.exb_net_file.proofs.Nets.{Passed, past, some_member}
+use Rattle.exb_net_file.specs.Sound.{IsMadeOf}
+use Rattle.exb_net_file.proofs.Nets.{past, some_member}
 
 ok_same : {A : Type 0} (x y : A) → ◌≡◌ {A = Result A Refusal} (Ok x) (Ok y) → x ≡ y
 ok_same x y e = cc

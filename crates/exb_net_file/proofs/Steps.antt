@@ -1,12 +1,12 @@
 -- The steps of loops.
-use Rattle.std.proofs.Common.{◌≡◌, ◌≢◌, ℕ, zero, suc, ◌+◌, ◌<◌, ◌≤◌, ◌==◌, ◌++◌, Bool, true, false, cond, List, [], ◌∷◌, Option, Some, None, Result, Ok, Err, length, get_or, set, slice_index, take, drop, map, filter, refl, ap, sym, ◌∙◌, subst, arith, inl, inr}
+use Rattle.std.proofs.Common.{◌≡◌, ◌≢◌, ℕ, ◌+◌, ◌<◌, ◌≤◌, ◌++◌, true, false, cond, List, [], ◌∷◌, Some, None, Ok, Err, length, get_or, set, slice_index, take, drop, filter, refl, ap, sym, ◌∙◌, subst, arith, inl, inr}
 use Rattle.std.specs.Str.{bytes_eq}
-use Rattle.std.proofs.lemmas.Bool.{cases_Bool, cases_eq, cases_lt}
+use Rattle.std.proofs.lemmas.Bool.{cases_Bool, cases_eq}
 use Rattle.std.proofs.lemmas.List.{drop_more, drop_all, take_more, length_push, get_or-set_same, get_or-set_other}
 use Rattle.exb_model.specs.Ports.{below}
 use Rattle.exb_model.specs.Tree.{Shape, is_external, external_ports}
 use Rattle.exb_keys.specs.declared.faults.TopoFault.{TopoFault}
-use Rattle.exb_keys.specs.Faults.{Refusal, ◌>>=◌, Fails}
+use Rattle.exb_keys.specs.Faults.{Fails}
 use Rattle.exb_keys.proofs.Each.{fails_along}
 use Rattle.exb_topology.proofs.Building.{filter_yes, filter_no}
 use Rattle.exb_nets.specs.declared.wires.Wire.{Wire}

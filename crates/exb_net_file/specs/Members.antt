@@ -1,5 +1,5 @@
 -- The bridges of a net with their topologies: how many external ports they have together, and which files they write.
-use Rattle.std.specs.Prelude.{ℕ, ◌==◌, Bool, List, ◌++◌, length, Result, codes, flat_map, sum_by}
+use Rattle.std.specs.Prelude.{ℕ, Bool, List, ◌++◌, length, Result, codes, sum_by}
 use Rattle.std.specs.List.{list_any}
 use Rattle.std.specs.Str.{bytes_eq}
 use Rattle.exb_model.specs.Tree.{Shape, external_ports}

@@ -1,6 +1,6 @@
 -- What the tables of the file of a net say.
-use Rattle.std.specs.Prelude.{ℕ, Bool, ◌==◌, nat_lt, if◌then◌else◌, List, [], ◌∷◌, ◌++◌, Option, Some, None, Result, Ok, Err, codes}
-use Rattle.toml.specs.Data.{Data, string, Items, Members, get_member}
+use Rattle.std.specs.Prelude.{ℕ, Bool, ◌==◌, nat_lt, if◌then◌else◌, List, [], ◌∷◌, Option, Some, None, Result, Ok, codes}
+use Rattle.toml.specs.Data.{Data, Members, get_member}
 use Rattle.exb_keys.specs.declared.faults.KeyFault.{KeyFault}
 use Rattle.exb_keys.specs.declared.faults.KeyFault.TheVariants as fault
 use Rattle.exb_keys.specs.Faults.{Refusal, ◌>>=◌, in_element}

@@ -1,5 +1,5 @@
 -- What holds of every net whose file and topologies have no fault.
-use Rattle.std.specs.Prelude.{◌≡◌, ◌↔◌, ℕ, ◌<◌, ◌≤◌, true, false, List, [], ◌∷◌, Ok, All, get_or, length, map}
+use Rattle.std.specs.Prelude.{◌≡◌, ◌↔◌, ℕ, ◌<◌, ◌≤◌, true, false, List, [], Ok, All, get_or, length, map}
 use Rattle.exb_model.specs.Input.{Input, given_by}
 use Rattle.exb_model.specs.Setup.{IsValid}
 use Rattle.exb_nets.specs.declared.wires.Wire.{Wire}

@@ -1,5 +1,5 @@
 -- The words of the file of a net: names of bridges, and ends of wires.
-use Rattle.std.specs.Prelude.{ℕ, Bool, ◌&&◌, ◌||◌, nat_le, if◌then◌else◌, List, length, Option, Some, None, option_map, option_and_then}
+use Rattle.std.specs.Prelude.{ℕ, Bool, ◌&&◌, ◌||◌, nat_le, if◌then◌else◌, List, length, Option, None, option_map, option_and_then}
 use Rattle.std.specs.List.{list_all}
 use Rattle.exb_keys.specs.Words.{cut, port_of}
 use Rattle.exb_net_file.specs.declared.words.EndName.{EndName}

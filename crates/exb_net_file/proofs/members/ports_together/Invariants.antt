@@ -1,4 +1,4 @@
-use Rattle.std.proofs.Common.{◌≡◌, ◌≤◌, ◌*◌, take, length}
+use Rattle.std.proofs.Common.{◌≡◌, ◌≤◌, ◌*◌, take}
 use Rattle.exb_net_file.specs.Members.{ports_together}
 use Rattle.exb_net_file.proofs.members.ports_together.Given as goal
 
