@@ -3,10 +3,12 @@ use Rattle.std.proofs.Common.{◌≡◌, ◌≢◌, ◌⊎◌, ℕ, suc, ◌+◌
 use Rattle.std.specs.List.{list_any}
 use Rattle.std.proofs.lemmas.Bool.{cases_Bool, cases_eq, eq-eqb, ne_eqb, eqb-true, and_parts}
 use Rattle.std.proofs.lemmas.List.{append_assoc, append-nil}
-use Rattle.exb_nets.specs.Nets.{End, Wire, across, far_end, first_or, is_at, is_between, AreJoined, HaveNoLoop, Leads}
+use Rattle.exb_nets.specs.declared.wires.End.{End}
+use Rattle.exb_nets.specs.declared.wires.Wire.{Wire}
+use Rattle.exb_nets.specs.Nets.{across, far_end, first_or, is_at, is_between, AreJoined, HaveNoLoop, Leads}
 
 -- ---- walks
-any_more : (p : Wire → Bool) (xs ys : List Wire) → list_any p xs ≡ true → list_any p (xs ++ ys) ≡ true
+pub any_more : (p : Wire → Bool) (xs ys : List Wire) → list_any p xs ≡ true → list_any p (xs ++ ys) ≡ true
 any_more p [] ys e = absurd (let z : false ≡ true = e in cc)
 any_more p (x ∷ xs) ys e =
     elim (cases_Bool (p x)) [
@@ -14,7 +16,7 @@ any_more p (x ∷ xs) ys e =
       | inr k ↦ rw k (any_more p xs ys (rw k at e))
     ]
 
-any_last : (p : Wire → Bool) (xs : List Wire) (x : Wire) → p x ≡ true → list_any p (xs ++ x ∷ []) ≡ true
+pub any_last : (p : Wire → Bool) (xs : List Wire) (x : Wire) → p x ≡ true → list_any p (xs ++ x ∷ []) ≡ true
 any_last p [] x e = rw e refl
 any_last p (y ∷ xs) x e =
     elim (cases_Bool (p y)) [
@@ -26,24 +28,24 @@ leads_more : (xs ys : List Wire) (by : List ℕ) (b c : ℕ) → Leads xs b by c
 leads_more xs ys [] b c k = k
 leads_more xs ys (d ∷ by) b c k = (any_more (is_between b d) xs ys k.0, leads_more xs ys by d c k.1)
 
-joined_more : (xs ys : List Wire) (b c : ℕ) → AreJoined xs b c → AreJoined (xs ++ ys) b c
+pub joined_more : (xs ys : List Wire) (b c : ℕ) → AreJoined xs b c → AreJoined (xs ++ ys) b c
 joined_more xs ys b c k = (k.0, leads_more xs ys k.0 b c k.1)
 
 leads_then : (xs : List Wire) (by : List ℕ) (b c e : ℕ) → Leads xs b by c → AreJoined xs c e → AreJoined xs b e
 leads_then xs [] b c e k j = subst (λ (z : ℕ). AreJoined xs z e) (sym k) j
 leads_then xs (d ∷ by) b c e k j = (let r = leads_then xs by d c e k.1 j in (d ∷ r.0, (k.0, r.1)))
 
-joined_then : (xs : List Wire) (b c e : ℕ) → AreJoined xs b c → AreJoined xs c e → AreJoined xs b e
+pub joined_then : (xs : List Wire) (b c e : ℕ) → AreJoined xs b c → AreJoined xs c e → AreJoined xs b e
 joined_then xs b c e k j = leads_then xs k.0 b c e k.1 j
 
-joined_on : (xs : List Wire) (x : Wire) → AreJoined (xs ++ x ∷ []) x.a.bridge x.b.bridge
+pub joined_on : (xs : List Wire) (x : Wire) → AreJoined (xs ++ x ∷ []) x.a.bridge x.b.bridge
 joined_on xs x = (x.b.bridge ∷ [], (any_last (is_between x.a.bridge x.b.bridge) xs x (rw (eq-eqb x.a.bridge x.a.bridge refl, eq-eqb x.b.bridge x.b.bridge refl) refl), refl))
 
 or_true : (c : Bool) → (c || true) ≡ true
 or_true true = refl
 or_true false = refl
 
-joined_back : (xs : List Wire) (x : Wire) → AreJoined (xs ++ x ∷ []) x.b.bridge x.a.bridge
+pub joined_back : (xs : List Wire) (x : Wire) → AreJoined (xs ++ x ∷ []) x.b.bridge x.a.bridge
 joined_back xs x = (
   x.a.bridge ∷ [],
   (any_last (is_between x.b.bridge x.a.bridge) xs x (rw (eq-eqb x.a.bridge x.a.bridge refl, eq-eqb x.b.bridge x.b.bridge refl) (or_true (x.a.bridge == x.b.bridge && x.b.bridge == x.a.bridge))), refl),

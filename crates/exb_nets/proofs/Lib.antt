@@ -2,7 +2,7 @@
 pub mod Once
 pub mod Order
 mod Back
-mod Forest
+pub mod Forest
 mod Ending
 mod Soon
 mod Alone

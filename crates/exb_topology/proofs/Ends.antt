@@ -11,7 +11,7 @@ use Rattle.exb_text.specs.declared.output.Output.TheVariants as output
 use Rattle.exb_text.specs.Names.{all_outputs, capture_name, counters_name, file_name, journal_name, other_outputs, trace_name}
 use Rattle.exb_topology.specs.Checks.{output_names}
 
-name_behind : (prefix : List ℕ) (o : Output) → file_name prefix o ≡ prefix ++ file_name [] o
+pub name_behind : (prefix : List ℕ) (o : Output) → file_name prefix o ≡ prefix ++ file_name [] o
 unfolding capture_name journal_name trace_name counters_name
 name_behind prefix (output.Capture p) = append_assoc prefix (port_name p) (codes ".pcap")
 name_behind prefix output.Journal = refl

@@ -24,7 +24,7 @@ use std::alloc::Global;
 use std::collections::BTreeSet;
 
 /// Refuses a key for that fault, where the test passes.
-pub(crate) fn refuse(
+pub fn refuse(
     alloc: Global,
     test: bool,
     place: Place,
@@ -300,7 +300,7 @@ fn is_end(end: &[u8], ends: &[Text]) -> bool
 }
 
 /// Whether a file has the name of an output file: the prefix, and then one of the ends that output files have.
-fn is_output(name: &str, prefix: &str, ends: &[Text]) -> bool
+pub fn is_output(name: &str, prefix: &str, ends: &[Text]) -> bool
     ensures { (t : Shape) → ends.now ≡ output_names [] t → result ≡ list_any (λ o. bytes_eq name.now o) (output_names prefix.now t) }
 {
     match name.as_bytes().strip_prefix(prefix.as_bytes()) {

@@ -12,6 +12,8 @@ mod topology;
 mod trees;
 mod words;
 
+pub use checks::{is_output, refuse};
 pub use exb_keys::faults::{KeyFault, TopoFault};
 pub use exb_tables::Named;
+pub use outputs::output_names;
 pub use topology::{Topology, read};

@@ -14,7 +14,7 @@ use std::alloc::Global;
 
 /// The names of all files that runs of a topology write: the captures of the external ports in port order, and after
 /// them the others.
-pub(crate) fn output_names(alloc: Global, prefix: &str, tree: &Tree) -> Result<List<Text>, NoMemory>
+pub fn output_names(alloc: Global, prefix: &str, tree: &Tree) -> Result<List<Text>, NoMemory>
     ensures { IfOk result (λ names. names ≡ output_names prefix.now tree.now) }
 {
     let mut names = capture_names(alloc, prefix, tree)?;

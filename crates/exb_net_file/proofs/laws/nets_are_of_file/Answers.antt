@@ -1,0 +1,5 @@
+use Rattle.exb_net_file.proofs.Size.{nets_are_of_file}
+use Rattle.exb_net_file.proofs.laws.nets_are_of_file.Goals as goal
+
+pub returns : goal.returns
+returns c = nets_are_of_file

@@ -1,0 +1,6 @@
+pub mod Words
+pub mod Rows
+pub mod Files
+pub mod Members
+pub mod Wires
+pub mod Sound

@@ -1,0 +1,128 @@
+//! What the file of a net gives: each fault at each key where it can come, faults in their order, and the wires of a good one.
+ghost use Rattle.exb_model.specs.Setup.{IsValid};
+ghost use Rattle.exb_net_file.specs.Sound.{AreValid};
+
+use crate::compare::same;
+use exb_model::list::List;
+use exb_model::text::Text;
+use exb_net_file::{NetFile, NetMember, read, wired};
+use exb_nets::wires::Wire;
+use exb_text::PortName;
+use exb_topology::TopoFault;
+use std::alloc::Global;
+use std::process::Abort;
+
+mod limits;
+mod shape;
+mod wires;
+
+// A fault and its key.
+fn fault_text(rt: &impl Abort, alloc: Global, fault: &TopoFault) -> String {
+    let text = match fault {
+        TopoFault::At { fault, key } => {
+            let key = key.as_str();
+            format!(in alloc; "{fault:?} at {key}")
+        }
+        TopoFault::NotToml => String::from_str(alloc, "NotToml"),
+        TopoFault::Large => String::from_str(alloc, "Large"),
+        TopoFault::Memory => String::from_str(alloc, "Memory"),
+    };
+    text.expect(rt, "memory")
+}
+
+/// The fault and key of a file by itself, or `ok`.
+pub(crate) fn verdict(rt: &impl Abort, alloc: Global, file: &[u8]) -> String {
+    match read(alloc, file) {
+        Ok(_file) => String::from_str(alloc, "ok").expect(rt, "memory"),
+        Err(fault) => fault_text(rt, alloc, &fault),
+    }
+}
+
+// Asserts the verdict of a file behind a head.
+fn judge_file(rt: &impl Abort, alloc: Global, head: &str, tail: &str, wanted: &str) {
+    let file = format!(in alloc; "{head}{tail}").expect(rt, "memory");
+    let given = verdict(rt, alloc, file.as_bytes());
+    same(rt, given.as_str(), wanted, file.as_str());
+}
+
+/// Asserts that each file, behind a head, has the verdict that stands beside it.
+pub(crate) fn judge(rt: &impl Abort, alloc: Global, head: &str, cases: &[(&str, &str)]) {
+    for (tail, wanted) in cases {
+        judge_file(rt, alloc, head, tail, wanted);
+    }
+}
+
+// ---- with the topologies
+
+// The text that stands at a place, or an empty one.
+fn text_at<'a>(texts: &[&'a str], index: usize) -> &'a str {
+    match texts.get(index) {
+        Some(text) => *text,
+        None => "",
+    }
+}
+
+// A bridge of that name with the topology of a text, which has no fault.
+fn member_of(rt: &impl Abort, alloc: Global, name: &str, text: &str) -> NetMember
+    ensures { IsValid result.topology.setup }
+{
+    let topology = exb_topology::read(alloc, text.as_bytes()).expect(rt, "a topology");
+    let name = Text::from_str(alloc, name).expect(rt, "memory");
+    NetMember { name, topology }
+}
+
+// The bridges of a file, each with the text that stands there in the list.
+fn members_of(rt: &impl Abort, alloc: Global, file: &NetFile, texts: &[&str]) -> List<NetMember>
+    ensures { AreValid result }
+{
+    let mut members = List::new(alloc);
+    for (index, bridge) in file.bridges.as_slice().iter().enumerate() {
+        let text = text_at(texts, index);
+        let member = member_of(rt, alloc, bridge.name.as_str(), text);
+        members.push(member).expect(rt, "memory");
+    }
+    members
+}
+
+// The wires, one behind another: the number of each bridge, and its port.
+fn wires_text(rt: &impl Abort, alloc: Global, wires: &[Wire]) -> String {
+    let mut text = String::new(alloc);
+    for wire in wires {
+        let one = wire_text(rt, alloc, *wire);
+        text.push_str(one.as_str()).expect(rt, "memory");
+    }
+    text
+}
+
+fn wire_text(rt: &impl Abort, alloc: Global, wire: Wire) -> String {
+    let (a, b) = (PortName(wire.a.port), PortName(wire.b.port));
+    let text = format!(in alloc; "{}:{a}-{}:{b};", wire.a.bridge, wire.b.bridge);
+    text.expect(rt, "memory")
+}
+
+// The wires of a file over these topologies, or the first fault.
+fn wiring(rt: &impl Abort, alloc: Global, file: &NetFile, texts: &[&str]) -> String {
+    let members = members_of(rt, alloc, file, texts);
+    assert!(rt; members.as_slice().len() <= 16);
+    match wired(alloc, members.as_slice(), file.wires.as_slice()) {
+        Ok(wires) => wires_text(rt, alloc, wires.as_slice()),
+        Err(fault) => fault_text(rt, alloc, &fault),
+    }
+}
+
+/// A file of a net, the topologies of its bridges, and its wires or its fault.
+pub(crate) type Net = (&'static str, &'static [&'static str], &'static str);
+
+fn judge_net(rt: &impl Abort, alloc: Global, net: &Net) {
+    let (file, texts, wanted) = net;
+    let parsed = read(alloc, file.as_bytes()).expect(rt, "a file of a net");
+    let given = wiring(rt, alloc, &parsed, texts);
+    same(rt, given.as_str(), wanted, file);
+}
+
+/// Asserts the wires or the fault of each net.
+pub(crate) fn judge_nets(rt: &impl Abort, alloc: Global, nets: &[Net]) {
+    for net in nets {
+        judge_net(rt, alloc, net);
+    }
+}
