@@ -1,8 +1,8 @@
 -- What a buffer holds between two places.
-use Rattle.std.proofs.Common.{◌≡◌, ◌<◌, ◌≤◌, ◌+◌, ◌-◌, ℕ, List, refl, ◌++◌, ◌⊎◌, inl, inr, length, take, drop, ap, sym, ◌∙◌, arith, length-take, length-drop, length-append, append_assoc}
-use Rattle.std.specs.Prelude.{min}
+use Rattle.std.proofs.Common.{◌≡◌, ◌<◌, ◌≤◌, ◌+◌, ◌-◌, ℕ, List, refl, ◌++◌, ◌⊎◌, inl, inr, [], length, take, drop, ap, sym, ◌∙◌, arith, length-take, length-drop, length-append, append_assoc}
+use Rattle.std.specs.Prelude.{min, Result, Ok, Err, OnErr}
 use Rattle.std.proofs.lemmas.Bool.{cases_lt}
-use Rattle.std.proofs.lemmas.List.{drop-take, drop-drop, take-take, take_at, drop-append-le, drop_all, length-take-le}
+use Rattle.std.proofs.lemmas.List.{append-nil, take-append-drop, drop-take, drop-drop, take-take, take_at, drop-append-le, drop_all, length-take-le}
 use Rattle.exb_capture.specs.Blocks.{most_held}
 use Rattle.exb_capture.specs.Pieces.{Stage, Reading, fed, gone}
 use Rattle.exb_capture.proofs.TurnLemmas.{reading}
@@ -55,6 +55,23 @@ fed_view s p bytes mid rest piece start end o b n before within few is =
     (between_more bytes mid rest start end n before within size ∙ ap (λ xs. between start end bytes ++ xs) is) refl
     (omega arith)
 
+-- bytes were read into what is free, and so many of them count
+pub filled_view : {S : Type 0} (s : Stage S) (p : ℕ) (bytes into rest : List ℕ) (start end o b n : ℕ) → start ≤ end → end ≤ length bytes → n ≤ length into
+    → view_of s p (take end bytes ++ (into ++ rest)) start (end + n) o b ≡ fed n into (view_of s p bytes start end o b)
+filled_view s p bytes into rest start end o b n before within few =
+    ap (λ xs. view_of s p (take end bytes ++ xs) start (end + n) o b)
+    (ap (λ ys. ys ++ rest) (sym (take-append-drop n into)) ∙ append_assoc (take n into) (drop n into) rest)
+    ∙ fed_view s p bytes (take n into) (drop n into ++ rest) into start end o b n before within few refl
+
+-- or none
+pub kept_view : {S : Type 0} (s : Stage S) (p : ℕ) (bytes rest : List ℕ) (start end o b : ℕ) → start ≤ end → end ≤ length bytes
+    → view_of s p (take end bytes ++ rest) start end o b ≡ view_of s p bytes start end o b
+kept_view s p bytes rest start end o b before within =
+    let none : end + 0 ≡ end = omega arith in
+    same_reading s p _ _ o o b _ _
+    (ap (λ k. take (k - start) (drop start (take end bytes ++ rest))) (sym none) ∙ between_more bytes [] rest start end 0 before within refl ∙ append-nil (between start end bytes))
+    refl refl
+
 between_long : (bytes : List ℕ) (start end : ℕ) → start ≤ end → end ≤ length bytes → length (between start end bytes) ≡ end - start
 between_long bytes start end before within = length-take-le (end - start) (drop start bytes) (omega (arith, length-drop start bytes))
 
@@ -71,3 +88,8 @@ gone_view s p bytes start end o b n before within is =
         let long = between_long bytes start end before within in
         drop_all n (between start end bytes) (omega (arith, is, long)) ∙ sym (drop_all o (between start end bytes) (omega (arith, long)))
     by_owing (inr all) = let same : n ≡ o = omega (arith, is) in ap (λ k. drop k (between start end bytes)) same
+
+-- what holds stands at a fault too
+pub on_err : {T E P : Type 0} (r : Result T E) → P → OnErr r P
+on_err (Ok x) p = tt
+on_err (Err e) p = p

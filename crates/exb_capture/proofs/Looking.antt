@@ -1,6 +1,7 @@
 -- What a look ahead says of a file that is read.
 use Rattle.std.proofs.Common.{◌≡◌, ◌≤◌, ◌<◌, ◌+◌, ◌-◌, ℕ, Bool, true, false, List, length, take, drop, Option, Some, None, Result, Ok, Err, cond, refl, ap, sym, subst, inl, inr, ◌∙◌, arith}
 use Rattle.std.specs.Prelude.{◌⊎◌}
+use Rattle.std.proofs.lemmas.Bool.{cases_lt}
 use Rattle.exb_model.specs.Input.{Record}
 use Rattle.exb_capture.specs.declared.fault.Fault.{Fault}
 use Rattle.exb_capture.specs.declared.capture.Capture.{Capture as State}
@@ -118,3 +119,11 @@ moves_then id j a b c p q e =
 
 pub fewer_then : (a b c : Faults) → NoFewer a b → NoFewer b c → NoFewer a c
 fewer_then a b c p q = record { missing = omega (arith, p.missing, q.missing); reads = omega (arith, p.reads, q.reads); writes = omega (arith, p.writes, q.writes) }
+
+-- what isn't the most is below it
+pub below_by : (got limit : ℕ) → got ≤ limit → (got ≡ limit → ⊥) → 0 < limit - got
+below_by got limit most other = by_size (cases_lt got limit)
+  where
+    by_size : (got < limit) ⊎ (limit ≤ got) → 0 < limit - got
+    by_size (inl t) = omega (arith, t)
+    by_size (inr t) = absurd (other (omega (arith, most, t)))

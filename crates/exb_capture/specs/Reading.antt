@@ -7,7 +7,7 @@ use Rattle.exb_capture.specs.declared.fault.Fault.{Fault}
 use Rattle.exb_model.specs.Frames.{IsBytes}
 use Rattle.exb_capture.specs.declared.capture.Capture.TheVariants.{Unknown}
 use Rattle.exb_capture.specs.Blocks.{most_held}
-use Rattle.exb_capture.specs.Pieces.{to_come, unread}
+use Rattle.exb_capture.specs.Pieces.{Reading, to_come, unread, fed}
 use Rattle.exb_shelf.specs.declared.shelf.ShelfFault.{ShelfFault}
 use Rattle.exb_shelf.specs.declared.shelf.ShelfFault.TheVariants as shelf
 use Rattle.exb_shelf.specs.Shelf.{Id, IsReadingOf}
@@ -30,6 +30,13 @@ pub record IsAt (i : Id) (got : ℕ) : Type 0 where
 pub record MovesOn (id : ℕ) (given ids : ℕ → Id) : Type 0 where
   pub others : (j : ℕ) → j ≢ id → ids j ≡ given j
   pub same : (name : List ℕ) → IsReadingOf name (given id) → IsReadingOf name (ids id)
+
+-- so many bytes were read straight into a reader: where the files are told, the first of these, which come next in the file
+pub record HasFilled {S : Type 0} (tells : Type 0) (rest : List ℕ) (n : ℕ) (old new : Reading S) : Type 0 where
+  pub piece : List ℕ
+  pub there : n ≤ length piece
+  pub has_fed : new ≡ fed n piece old
+  pub told : tells → take n piece ≡ take n rest
 
 -- nothing was read
 pub record IsBegun (limit : ℕ) (f : CaptureFile) : Type 0 where

@@ -55,6 +55,7 @@ pub(crate) fn flaw(flaw: Flaw, at: u64) -> Fault
 
 impl Kind {
     // By the number at a block's front.
+    #[inline(always)]
     fn of(number: u32) -> Kind
         ensures { result ≡ kind_of number }
     {
@@ -68,6 +69,7 @@ impl Kind {
     }
 
     // Whether a block of this kind is looked into.
+    #[inline(always)]
     pub(crate) fn is_read(self) -> bool
         ensures { result ≡ is_read self }
     {
@@ -82,6 +84,8 @@ impl Kind {
 }
 
 // The order of bytes of the section that this header begins.
+#[cold]
+#[inline(never)]
 fn new_order(twelve: &[u8]) -> Result<ByteOrder, Fault>
     requires { 12 ≤ length twelve.now }
     ensures { result ≡ new_order twelve.now }
@@ -96,6 +100,7 @@ fn new_order(twelve: &[u8]) -> Result<ByteOrder, Fault>
 }
 
 // The order of bytes of a block, in a section of this order.
+#[inline(always)]
 fn order_at(old: Option<ByteOrder>, twelve: &[u8]) -> Result<ByteOrder, Fault>
     requires { 12 ≤ length twelve.now }
     ensures { result ≡ order_at old twelve.now }
@@ -110,6 +115,7 @@ fn order_at(old: Option<ByteOrder>, twelve: &[u8]) -> Result<ByteOrder, Fault>
 }
 
 /// What the first twelve bytes of a block say, in a section of this order.
+#[inline(always)]
 pub(crate) fn head_of(old: Option<ByteOrder>, twelve: &[u8]) -> Result<Head, Fault>
     requires { 12 ≤ length twelve.now }
     ensures value { result ≡ head_at old twelve.now }
@@ -128,6 +134,7 @@ pub(crate) fn head_of(old: Option<ByteOrder>, twelve: &[u8]) -> Result<Head, Fau
 }
 
 // The next multiple of four.
+#[inline(always)]
 fn padded(n: u32) -> u32
     requires { n ≤ 262_144 }
     ensures { result ≡ padded n }
@@ -136,6 +143,7 @@ fn padded(n: u32) -> u32
 }
 
 // Whether a frame is too long, or doesn't fit into a block of this size behind so many bytes.
+#[inline(always)]
 fn is_no_frame(size: u32, head: u32, n: u32) -> bool
     requires { head ≤ 32 }
     ensures { result ≡ is_no_frame size head n }
@@ -144,6 +152,7 @@ fn is_no_frame(size: u32, head: u32, n: u32) -> bool
 }
 
 // How many units of this resolution make a second.
+#[inline(always)]
 fn units(digits: u8) -> u64
     requires { digits ≤ 9 }
     ensures { result ≡ 10 ^ digits }
@@ -163,6 +172,7 @@ fn units(digits: u8) -> u64
 }
 
 // A time below 2^32 seconds in nanoseconds.
+#[inline(always)]
 fn nanoseconds(digits: u8, time: u64) -> u64
     requires digits { digits ≤ 9 }
     requires early { time < 2 ^ 32 * 10 ^ digits }
@@ -173,6 +183,7 @@ fn nanoseconds(digits: u8, time: u64) -> u64
 }
 
 // A time in units, as its two halves stand in a block.
+#[inline(always)]
 fn units_at(order: ByteOrder, block: &[u8]) -> u64
     requires { 20 ≤ length block.now }
     ensures { result ≡ units_at order block.now }
@@ -187,6 +198,8 @@ fn snapped(snap: u32, n: u32) -> u32
     if snap == 0 { n } else { n.min(snap) }
 }
 
+#[cold]
+#[inline(never)]
 fn section(head: Head, block: &[u8]) -> Result<Content, Fault>
     requires { length block.now ≡ head.size }
     ensures value { result ≡ section_at head block.now }
@@ -279,6 +292,7 @@ fn resolution(order: ByteOrder, block: &[u8]) -> Result<u8, Fault>
 }
 
 // The interface of this number.
+#[inline(always)]
 fn numbered(interfaces: &[Interface], number: u32, none: Fault) -> Result<Interface, Fault>
     requires { All HasResolution interfaces.now }
     ensures value { result ≡ interface_number interfaces.now number none }
@@ -291,6 +305,8 @@ fn numbered(interfaces: &[Interface], number: u32, none: Fault) -> Result<Interf
     }
 }
 
+#[cold]
+#[inline(never)]
 fn interface(head: Head, interfaces: &[Interface], block: &[u8]) -> Result<Content, Fault>
     requires whole { length block.now ≡ head.size }
     requires fours { head.size % 4 ≡ 0 }
@@ -314,6 +330,7 @@ fn interface(head: Head, interfaces: &[Interface], block: &[u8]) -> Result<Conte
     }
 }
 
+#[inline(always)]
 fn enhanced(head: Head, interfaces: &[Interface], block: &[u8]) -> Result<Content, Fault>
     requires whole { length block.now ≡ head.size }
     requires digits { All HasResolution interfaces.now }
@@ -374,6 +391,7 @@ fn simple(head: Head, interfaces: &[Interface], last: u64, block: &[u8]) -> Resu
     })
 }
 
+#[inline(always)]
 fn content_of(
     head: Head,
     interfaces: &[Interface],
@@ -399,6 +417,7 @@ fn content_of(
 
 /// What a whole block says, in a section of these interfaces, where the record before had this moment.
 #[tactic(auto, unfolding(crate::specs::Blocks::block_at))]
+#[inline(always)]
 pub(crate) fn whole_block(
     head: Head,
     interfaces: &[Interface],

@@ -45,6 +45,7 @@ impl Blocks {
     }
 
     // What stands there, where it is a block that is looked into.
+    #[inline(always)]
     fn whole(&mut self, head: Head, held: &[u8]) -> Front
         requires sized { IsHead head }
         requires most { head.size ≤ 327_680 }
@@ -98,6 +99,7 @@ impl Format for Blocks {
 
     /// What stands at the front of these bytes; what was read is known from then on.
     #[tactic(auto, unfolding(crate::specs::Blocks::block_front))]
+    #[inline(always)]
     fn front(&mut self, held: &[u8]) -> Front {
         if held.is_empty() {
             return Front::Nothing;

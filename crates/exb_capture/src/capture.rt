@@ -21,6 +21,8 @@ pub enum Capture {
 
 impl Capture {
     // What stands at the front of a file, whose first four bytes tell its format.
+    #[cold]
+    #[inline(never)]
     fn begin(&mut self, held: &[u8]) -> Front
         requires { self.old ≡ Unknown }
         ensures value { told result self.new held.now ≡ unknown_front held.now }
@@ -57,6 +59,7 @@ impl Format for Capture {
     ghost stands = { capture_front };
 
     #[tactic(auto, unfolding(crate::specs::Captures::capture_front))]
+    #[inline(always)]
     fn front(&mut self, held: &[u8]) -> Front {
         match self {
             Capture::Unknown => self.begin(held),

@@ -33,6 +33,7 @@ pub enum Reached {
 
 impl Resolution {
     // How many units make a second.
+    #[inline(always)]
     fn units(self) -> u32
         ensures { result ≡ 10 ^ digits self }
     {
@@ -97,6 +98,8 @@ fn form_of(left: &[u8]) -> Option<Form>
 }
 
 // What stands at the front of a file.
+#[cold]
+#[inline(never)]
 fn start(held: &[u8]) -> (Front, Reached)
     ensures value { told result.0 result.1 held.now ≡ magic_front (form_of held.now) held.now }
     ensures same { Keeps result.0 (result.1 ≡ Reached.Start) }
@@ -122,6 +125,7 @@ fn start(held: &[u8]) -> (Front, Reached)
 }
 
 // The stored length in a record's head.
+#[inline(always)]
 fn stored(form: Form, head: &[u8]) -> Result<u32, Fault>
     requires { 16 ≤ length head.now }
     ensures value { result ≡ head_at form head.now }
@@ -139,6 +143,7 @@ fn stored(form: Form, head: &[u8]) -> Result<u32, Fault>
 }
 
 // When a record was captured.
+#[inline(always)]
 fn time_at(form: Form, head: &[u8]) -> u64
     requires head { 16 ≤ length head.now }
     requires early { word form.order head.now 4 < 10 ^ digits form.resolution }
@@ -155,6 +160,7 @@ fn time_at(form: Form, head: &[u8]) -> u64
 
 // The record at the front of what is left.
 #[tactic(auto, using(crate::proofs::ClassicLemmas::record_is))]
+#[inline(always)]
 fn record(form: Form, held: &[u8]) -> Front
     ensures value { told result (Reached.Behind form) held.now ≡ record_front form held.now }
     ensures within { IsWithin held.now result }
@@ -189,6 +195,7 @@ impl Format for Reached {
     ghost stands = { classic_front };
 
     #[tactic(auto, unfolding(crate::specs::Classic::classic_front))]
+    #[inline(always)]
     fn front(&mut self, held: &[u8]) -> Front {
         match *self {
             Reached::Start => {

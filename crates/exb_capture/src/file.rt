@@ -146,6 +146,8 @@ impl CaptureFile {
     }
 
     /// Looks whether the file ends where no more of it may be read.
+    #[cold]
+    #[inline(never)]
     fn look_for_end<S: Shelf>(&mut self, shelf: &mut S, piece: &mut [u8]) -> Result<(), Halt>
         requires at { IsAt (S.ids shelf.old self.old.id) self.old.got }
         requires piece { 0 < length piece.old }
@@ -174,27 +176,9 @@ impl CaptureFile {
         Ok(())
     }
 
-    /// Feeds the first bytes of a piece to the reader, which has room for them.
-    fn take_in(&mut self, piece: &[u8], n: usize)
-        requires there { n ≤ length piece.now }
-        requires room { n ≤ self.old.reader.room }
-        requires within { self.old.got + n ≤ self.old.limit }
-        requires unseen { self.old.next ≡ None }
-        requires sound { IsSound self.old }
-        ensures sound { IsSound self.new }
-        ensures unseen { self.new.next ≡ None }
-        ensures same { IsSameFile self.old self.new }
-        ensures got { self.new.got ≡ self.old.got + n }
-        ensures ended { self.new.ended ≡ self.old.ended }
-        ensures left { left_to_read self.new ≤ left_to_read self.old }
-        ensures read { (bytes : List ℕ) (xs : List Record) → self.old.ended ≡ false → take n piece.now ≡ take n (drop self.old.got bytes)
-            → HasRead bytes xs self.old → HasRead bytes xs self.new }
-    {
-        self.reader.feed(&piece[..n]);
-        self.got += n as u64;
-    }
-
     /// Reads the next bytes of the file, or its end. More bytes than may be read are none to read.
+    #[cold]
+    #[inline(never)]
     fn read_on<S: Shelf>(&mut self, shelf: &mut S, piece: &mut [u8]) -> Result<(), Halt>
         requires at { IsAt (S.ids shelf.old self.old.id) self.old.got }
         requires piece { 0 < length piece.old }
@@ -223,19 +207,18 @@ impl CaptureFile {
         if self.got == self.limit {
             return self.look_for_end(shelf, piece);
         }
-        let size = size_of(self.reader.room(), self.limit - self.got, piece.len());
-        let part = &mut piece[..size];
-        let n = shelf.read(self.id, part)?;
+        let most = size_of(self.reader.room(), self.limit - self.got, piece.len());
+        let n = self.reader.fill(shelf, self.id, most)?;
+        self.got += n as u64;
         if n == 0 {
             self.ended = true;
-        } else {
-            self.take_in(part, n);
         }
         Ok(())
     }
 
     /// Reads on until it is known what comes next, and answers the time of the record, or None at the end.
-    /// What comes next isn't taken yet. `piece` has room for what is read at once.
+    /// What comes next isn't taken yet. No more is read at once than `piece` has room for.
+    #[inline(always)]
     pub fn ahead<S: Shelf>(&mut self, shelf: &mut S, piece: &mut [u8]) -> Result<Option<u64>, Halt>
         requires at { IsAt (S.ids shelf.old self.old.id) self.old.got }
         requires piece { 0 < length piece.old }
@@ -288,6 +271,7 @@ impl CaptureFile {
     }
 
     /// Takes the record that comes next, and gives its bytes as a copy.
+    #[inline(always)]
     pub fn take(&mut self, alloc: Global) -> Result<Bytes, NoMemory>
         requires found { (moment : ℕ) × ComesNext moment self.old }
         requires sound { IsSound self.old }
@@ -310,6 +294,7 @@ impl CaptureFile {
     }
 
     /// Goes past the record that comes next.
+    #[inline(always)]
     pub(crate) fn pass(&mut self)
         requires found { (moment : ℕ) × ComesNext moment self.old }
         requires sound { IsSound self.old }

@@ -19,8 +19,6 @@ pub mod laws;
 mod order;
 mod reader;
 mod replay;
-#[cfg(test)]
-mod tests;
 mod writer;
 
 pub use block::{Content, Head, Kind};

@@ -10,6 +10,7 @@ pub enum ByteOrder {
 }
 
 // The 32 bits at a place.
+#[inline(always)]
 pub(crate) fn word_at(order: ByteOrder, bytes: &[u8], at: usize) -> u32
     requires { at + 4 ≤ length bytes.now }
     ensures { result ≡ word order bytes.now at }
@@ -22,6 +23,7 @@ pub(crate) fn word_at(order: ByteOrder, bytes: &[u8], at: usize) -> u32
 }
 
 // The 16 bits at a place.
+#[inline(always)]
 pub(crate) fn half_word_at(order: ByteOrder, bytes: &[u8], at: usize) -> u16
     requires { at + 2 ≤ length bytes.now }
     ensures { result ≡ half_word order bytes.now at }

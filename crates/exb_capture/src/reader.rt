@@ -1,14 +1,18 @@
 //! Reading a capture that is fed in pieces, in any format.
-ghost use Rattle.std.specs.Prelude.{◌≡◌, ◌<◌, ◌≤◌, ◌+◌, ◌-◌, ◌^◌, false, true, length, drop, take, Ok, None, IfOk, IfSome, min};
+ghost use Rattle.std.specs.Prelude.{◌≡◌, ◌≢◌, ◌<◌, ◌≤◌, ◌+◌, ◌-◌, ◌^◌, ℕ, [], false, true, length, drop, take, Ok, None, IfOk, OnErr, IsErrOf, IfSome, min};
+ghost use Rattle.exb_shelf.specs.Files.{SameFiles, bytes_of};
+ghost use Rattle.exb_shelf.specs.Shelf.{IsReading, moved, Rose, NoFewer};
 ghost use Rattle.exb_capture.specs.Blocks.{most_held};
 ghost use Rattle.exb_capture.specs.Formats.{at_place};
 ghost use Rattle.exb_capture.specs.Pieces.{Reading, At, unread, fitting, fed, roomy, failing, gone, over, at_last, at_nothing, turn, asked};
+ghost use Rattle.exb_capture.specs.Reading.{HasFilled};
 ghost use Rattle.exb_capture.specs.Asked.{turned, seen, IsAhead, IsSeen, Looks};
 
 use crate::fault::{Fault, Flaw};
 use crate::format::Format;
 use crate::front::Front;
 use exb_model::memory::NoMemory;
+use exb_shelf::{Shelf, ShelfFault};
 use std::alloc::{AllocError, Global};
 use std::marker::Model;
 
@@ -29,6 +33,7 @@ pub enum Ahead {
 
 impl Fault {
     // The same fault in what begins at this place of the file.
+    #[inline]
     fn at_place(self, place: u64) -> Fault
         ensures { result ≡ at_place place self }
     {
@@ -120,6 +125,7 @@ impl<F: Format> Reader<F> {
     }
 
     // Goes past what was read before, as far as it is held.
+    #[inline(always)]
     fn go(&mut self)
         ensures { self.new ≡ gone self.old }
     {
@@ -159,7 +165,36 @@ impl<F: Format> Reader<F> {
         size as u32
     }
 
+    /// Reads the next bytes of a file on a shelf straight into the buffer, at most so many, and answers how
+    /// many.
+    pub(crate) fn fill<S: Shelf>(
+        &mut self,
+        shelf: &mut S,
+        id: u32,
+        most: usize,
+    ) -> Result<usize, ShelfFault>
+        requires reading { IsReading (S.ids shelf.old id) }
+        requires room { most ≤ self.old.room }
+        ensures bound { IfOk result (λ n. n ≤ most) }
+        ensures filled { IfOk result (λ n. HasFilled S.tells (drop (S.ids shelf.old id).place (bytes_of (S.file shelf.old (S.ids shelf.old id).name))) n self.old self.new) }
+        ensures end { S.tells → 0 < most → IfOk result (λ n. n ≡ 0 → drop (S.ids shelf.old id).place (bytes_of (S.file shelf.old (S.ids shelf.old id).name)) ≡ []) }
+        ensures same { OnErr result (self.new ≡ self.old) }
+        ensures id { IfOk result (λ n. S.ids shelf.new id ≡ moved (S.ids shelf.old id) n) }
+        ensures others { (j : ℕ) → j ≢ id → S.ids shelf.new j ≡ S.ids shelf.old j }
+        ensures id_err { OnErr result (S.ids shelf.new id ≡ S.ids shelf.old id) }
+        ensures files { SameFiles (S.file shelf.old) (S.file shelf.new) }
+        ensures faults { NoFewer (S.faults shelf.old) (S.faults shelf.new) }
+        ensures failed { IsErrOf result ShelfFault.Failed → Rose (S.faults shelf.old).reads (S.faults shelf.new).reads }
+    {
+        let to = self.end + most;
+        let n = shelf.read(id, &mut self.buffer.as_mut_slice()[self.end..to])?;
+        self.end += n;
+        Ok(n)
+    }
+
     // That more is needed, or at the file's end this fault.
+    #[cold]
+    #[inline(never)]
     fn at_last(&mut self, ended: bool, fault: Fault) -> Option<Result<Ahead, Fault>>
         ensures value { turned result self.new ≡ at_last most_held ended fault self.old }
         ensures held { IsSeen self.new.held result }
@@ -174,6 +209,8 @@ impl<F: Format> Reader<F> {
     }
 
     // That more is needed, or the end.
+    #[cold]
+    #[inline(never)]
     fn at_nothing(&mut self, ended: bool) -> Option<Result<Ahead, Fault>>
         ensures value { turned result self.new ≡ at_nothing most_held ended self.old }
         ensures held { IsSeen self.new.held result }
@@ -187,6 +224,7 @@ impl<F: Format> Reader<F> {
     }
 
     // The bytes that were fed and not yet passed over.
+    #[inline(always)]
     fn held(&self) -> &[u8]
         ensures bytes { result.now ≡ self.now.held }
         ensures len { length result.now ≤ 327_680 }
@@ -195,6 +233,7 @@ impl<F: Format> Reader<F> {
     }
 
     // What stands at the front.
+    #[inline(always)]
     fn look(&mut self) -> Front
         ensures { (s : F) → self.old.stage ≡ At s → Looks F.stands result s self.old self.new }
     {
@@ -202,6 +241,7 @@ impl<F: Format> Reader<F> {
     }
 
     // So many bytes at the front were read.
+    #[inline(always)]
     fn pass(&mut self, n: u32)
         ensures { (s : F) → self.old.stage ≡ At s → self.new ≡ over n s self.old }
     {
@@ -211,6 +251,7 @@ impl<F: Format> Reader<F> {
     }
 
     // One look at the front; nothing where what is there is no record, and it goes on behind it.
+    #[inline(always)]
     fn turn(&mut self, ended: bool) -> Option<Result<Ahead, Fault>>
         ensures value { turned result self.new ≡ turn most_held F.stands ended self.old }
         ensures held { IsSeen self.new.held result }
@@ -262,6 +303,7 @@ impl<F: Format> Reader<F> {
 
     /// What comes next, where all that was fed decides it; `ended` says that the whole file was fed. After
     /// More there is room. After a fault it gives the same fault again.
+    #[inline(always)]
     pub fn advance(&mut self, ended: bool) -> Result<Ahead, Fault>
         ensures answer { seen result self.new.held ≡ (asked most_held F.stands ended self.old).answer }
         ensures left { self.new ≡ (asked most_held F.stands ended self.old).left }
@@ -276,6 +318,7 @@ impl<F: Format> Reader<F> {
     }
 
     /// The bytes of a record that was answered last.
+    #[inline(always)]
     pub fn frame(&self, from: u32, bytes: u32) -> &[u8]
         requires { from + bytes ≤ length self.now.held }
         ensures { result.now ≡ take bytes (drop from self.now.held) }

@@ -34,6 +34,7 @@ pub enum ReplayFault {
 }
 
 /// Whether a first record of this time was not told, or is earlier than was told.
+#[inline(always)]
 fn comes_early(told: Option<u64>, time: u64) -> bool
     ensures { result ≡ comes_early told time }
 {
@@ -55,6 +56,8 @@ fn unopened(fault: OpenFault) -> ReplayFault
 }
 
 /// Why a capture of which so many bytes were told can't be read on.
+#[cold]
+#[inline(never)]
 fn unread(halt: Halt, bytes: u64) -> ReplayFault
     ensures { result ≡ unread bytes halt }
 {
@@ -67,6 +70,8 @@ fn unread(halt: Halt, bytes: u64) -> ReplayFault
 }
 
 /// What is answered at a capture's end, after so many bytes, of which so many were told.
+#[cold]
+#[inline(never)]
 fn at_end(got: u64, bytes: u64) -> Result<Option<u64>, ReplayFault>
     ensures none { IfOk result (λ next. (next ≡ None) × (got ≡ bytes)) }
     ensures other { (at : ℕ) → IsErrOf result (ReplayFault.Changed at) → (got ≢ bytes) × (at ≡ min got bytes) }
@@ -142,6 +147,8 @@ impl Replay {
     /// At which byte a capture is another one, whose first record comes early. Where that record ends only
     /// behind what was told, the file goes on there; and where it ends with the file, it ends too soon.
     /// Else it is where that record begins.
+    #[cold]
+    #[inline(never)]
     fn early<S: Shelf>(&mut self, shelf: &mut S, piece: &mut [u8]) -> ReplayFault
         requires at { IsAt (S.ids shelf.old self.old.file.id) self.old.file.got }
         requires piece { 0 < length piece.old }
@@ -180,6 +187,7 @@ impl Replay {
     ///
     /// Where the files are told, it is Changed at a byte only where the file disagrees there with what was
     /// told, and None only where all was given and it agrees.
+    #[inline(always)]
     pub fn ahead<S: Shelf>(
         &mut self,
         alloc: Global,
@@ -223,6 +231,7 @@ impl Replay {
     }
 
     /// Takes the record that comes next, of which the moment is known, and gives its bytes as a copy.
+    #[inline(always)]
     pub fn take(&mut self, alloc: Global, moment: u64) -> Result<Replayed, NoMemory>
         requires found { ComesAt moment self.old }
         requires kept { IsKept self.old }

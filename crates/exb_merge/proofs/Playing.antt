@@ -83,10 +83,10 @@ module _ (xs : List Again) (m place : ℕ) (s : Again) (h : IsNext xs m place s)
       subst (λ l. second ≤ second_of l) (sym is)
       (since_told second m s.replay.told.first since (own_of (λ (t : Again). IfSome t.replay.told.first (λ first. second ≤ second_of first)) xs place s h.at all))
 
-pub in_turn_next : {A : Type 0} (xs : List Again) (s' : Again) (m place : ℕ) (turns popped turns' : BinaryHeap Turn A) → IsInTurn (map seen xs) turns → IsPermutation (heap_items turns) (turn m place ∷ heap_items popped) →
-    SameMembers (heap_items turns') (turn_at place s'.next ++ heap_items popped) → IsHeap by_turn (heap_items turns') → heap_len turns' ≤ heap_capacity turns' → IsInTurn (map seen (set xs place s')) turns'
-in_turn_next xs s' m place turns popped turns' in_turn moved added ordered room =
-    record { same = λ f. added f ∙ turns_on xs (heap_items turns) (heap_items popped) m place s' in_turn.same moved f; ordered = ordered; room = room }
+pub in_turn_next : {A : Type 0} (xs : List Again) (s' : Again) (m place : ℕ) (turns : BinaryHeap Turn A) (rest : List Turn) (turns' : BinaryHeap Turn A) → IsInTurn (map seen xs) turns → IsPermutation (heap_items turns) (turn m place ∷ rest) →
+    SameMembers (heap_items turns') (turn_at place s'.next ++ rest) → IsHeap by_turn (heap_items turns') → heap_len turns' ≤ heap_capacity turns' → IsInTurn (map seen (set xs place s')) turns'
+in_turn_next xs s' m place turns rest turns' in_turn moved added ordered room =
+    record { same = λ f. added f ∙ turns_on xs (heap_items turns) rest m place s' in_turn.same moved f; ordered = ordered; room = room }
 
 -- ---- a record of it was taken
 module _ (given : ℕ → Id) (s : Again) (taken : Replay) (same : IsSameReplay s.replay taken) where

@@ -1,12 +1,12 @@
 -- Whose turn it is, and the turns after it.
-use Rattle.std.proofs.Common.{◌≡◌, ◌==◌, ℕ, suc, ◌+◌, ◌<◌, ◌≤◌, Bool, true, false, List, [], ◌∷◌, ◌++◌, length, get_or, set, refl, sym, ap, subst, ◌∙◌, arith, add-zero, length-append}
+use Rattle.std.proofs.Common.{◌≡◌, ◌==◌, ℕ, suc, ◌+◌, ◌<◌, ◌≤◌, Bool, true, false, List, [], ◌∷◌, ◌++◌, length, drop, get_or, set, refl, sym, ap, subst, ◌∙◌, arith, add-zero, length-append}
 use Rattle.std.proofs.lemmas.List.{append_assoc}
-use Rattle.std.specs.Prelude.{Option, Some, None, sum_by, flat_map, ◌&&◌}
+use Rattle.std.specs.Prelude.{Option, Some, None, sum_by, flat_map, slice_index_or, ◌&&◌}
 use Rattle.std.specs.List.{AllByRecursion}
 use Rattle.std.specs.List.Sorted.{IsPermutation}
 use Rattle.std.specs.Ordering.{is_lt, nat_cmp, ordering_then}
 use Rattle.std.proofs.lemmas.List.Sums.{sum_by-cons, sum_by-append}
-use Rattle.std.proofs.lemmas.List.Sorted.{sum_by_popped}
+use Rattle.std.proofs.lemmas.List.Sorted.{IsPermutation-refl, sum_by-IsPermutation, sum_by_popped}
 use Rattle.std.proofs.lemmas.Bool.Decides.{nat_tests}
 use Rattle.exb_model.specs.Input.{Arrival, Captured}
 use Rattle.exb_merge.specs.Streams.{Stream, arrivals_of, next_moment, to_come}
@@ -148,6 +148,15 @@ sum-turns f before s after =
     ap (sum_by f) (turns_from-append 0 before (s ∷ after) ∙ ap (λ k. turns_from 0 before ++ turns_from k (s ∷ after)) here)
     ∙ sum_by-append f (turns_from 0 before) (turn_at (length before) (next_moment (arrivals_of s)) ++ turns_from (suc (length before)) after)
     ∙ ap (λ k. sum_by f (turns_from 0 before) + k) (sum_by-append f (turn_at (length before) (next_moment (arrivals_of s))) (turns_from (suc (length before)) after))
+
+-- the first turn of a list, and the others
+pub first-and-rest : (turns : List Turn) (t : Turn) → 0 < length turns → t ≡ slice_index_or turns 0 t → IsPermutation turns (t ∷ drop 1 turns)
+first-and-rest [] t some is = absurd (omega (arith, some))
+first-and-rest (x ∷ xs) t some is = subst (λ y. IsPermutation (x ∷ xs) (y ∷ xs)) (sym is) (IsPermutation-refl (x ∷ xs))
+
+-- turns in another order
+pub same-turns : (turns turns' : List Turn) → IsPermutation turns turns' → SameMembers turns' turns
+same-turns turns turns' moved f = sum_by-IsPermutation f turns turns' moved
 
 -- the turns once that capture has gone on
 pub turns-next : (streams : List Stream) (turns rest : List Turn) (m place : ℕ) (s' : Stream) → SameMembers turns (turns_from 0 streams) → IsPermutation turns (turn m place ∷ rest) →

@@ -6,6 +6,7 @@ ghost use Rattle.exb_merge.specs.Agendas.{comes_first, is_of};
 const NANOSECONDS: u64 = 1_000_000_000;
 
 /// Whether a command comes before a record, by their moments.
+#[inline(always)]
 pub(crate) fn comes_first(command: Option<u64>, captured: Option<u64>) -> bool
     ensures { result ≡ comes_first command captured }
 {
@@ -17,6 +18,7 @@ pub(crate) fn comes_first(command: Option<u64>, captured: Option<u64>) -> bool
 }
 
 /// Whether a moment is of this second.
+#[inline(always)]
 pub(crate) fn is_of(moment: Option<u64>, second: u64) -> bool
     ensures { result ≡ is_of moment second }
 {
@@ -27,6 +29,7 @@ pub(crate) fn is_of(moment: Option<u64>, second: u64) -> bool
 }
 
 /// The moment that is so many seconds after the start.
+#[inline(always)]
 pub(crate) fn moment_after(start: u64, at: u32) -> u64
     requires { start < 2 ^ 32 }
     ensures value { result ≡ (start + at) * 1000000000 }

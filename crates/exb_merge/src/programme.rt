@@ -69,6 +69,7 @@ impl<'a> Programme<'a> {
     }
 
     /// The moment of the next command, if there is one.
+    #[inline(always)]
     fn command_moment(&self) -> Option<u64>
         requires start { self.now.start < 2 ^ 32 }
         ensures { result ≡ first_moment (commands_left (played_with [] self.now)) }
@@ -94,6 +95,8 @@ impl<'a> Programme<'a> {
     }
 
     /// Takes the next command, which comes first.
+    #[cold]
+    #[inline(never)]
     fn take_command(&mut self) -> Next
         requires programme { (ids : ℕ → Id) × IsProgramme ids self.old }
         requires left { self.old.taken < length self.old.commands.now }

@@ -10,7 +10,7 @@ ghost use Rattle.exb_capture.specs.Scans.{scanned_of};
 ghost use Rattle.exb_merge.specs.Replays.{fault_at, AreOpened, AreReplays, AreToldSince, ComesFirst, HasCome, HasPort, IsEarliest, NoneIsBefore, ReadsOn, ids_in, left_in, standings};
 ghost use Rattle.exb_merge.specs.Streams.{Stream, stream_of};
 
-use crate::turns::{Turn, put_turn};
+use crate::turns::{Turn, first_turn, put_turn, turn_on};
 use exb_capture::{Replay, ReplayFault, Scanned};
 use exb_model::bytes::Bytes;
 use exb_model::memory::NoMemory;
@@ -32,6 +32,8 @@ pub enum CaptureFault {
 }
 
 /// Why the captures can't be read on, where that of a port can't.
+#[cold]
+#[inline(never)]
 fn fault_at(port: PortId, fault: ReplayFault) -> CaptureFault
     ensures { result ≡ fault_at port fault }
 {
@@ -77,6 +79,7 @@ pub struct Replays {
 
 impl Again {
     /// Takes the next record, of which the moment is known.
+    #[inline(always)]
     fn take(&mut self, alloc: Global, moment: u64) -> Result<Came, NoMemory>
         requires found { ComesAt moment self.old.replay }
         requires kept { IsKept self.old.replay }
@@ -182,6 +185,7 @@ impl Replays {
     }
 
     /// The moment of what comes next, if anything does. Nothing is read for it.
+    #[inline(always)]
     pub fn moment(&self) -> Option<u64>
         requires opened { (ids : ℕ → Id) × AreOpened ids self.now }
         ensures { IsEarliest result self.now }
@@ -197,6 +201,7 @@ impl Replays {
     ///
     /// Where the files are told and are those that were checked, what comes is the first of what is still to
     /// come of their records, and it is never Changed.
+    #[inline(always)]
     pub fn next<S: Shelf>(
         &mut self,
         alloc: Global,
@@ -230,7 +235,7 @@ impl Replays {
         ensures faults { NoFewer (S.faults shelf.old) (S.faults shelf.new) }
         ensures failed { IsErrOf result CaptureFault.Read → Rose (S.faults shelf.old).reads (S.faults shelf.new).reads }
     {
-        let Some(Reverse((moment, place))) = self.turns.pop() else {
+        let Some(Reverse((moment, place))) = first_turn(&self.turns) else {
             return Ok(None);
         };
         let source = &mut self.sources[place];
@@ -243,7 +248,7 @@ impl Replays {
             Err(fault) => return Err(fault_at(source.port, fault)),
         };
         source.next = next;
-        put_turn(&mut self.turns, next, place);
+        turn_on(&mut self.turns, next, place);
         Ok(Some(came))
     }
 }

@@ -1,4 +1,4 @@
-use Rattle.std.proofs.Common.{Err, sym, ap, ◌∙◌, arith}
+use Rattle.std.proofs.Common.{Err, drop, sym, ap, ◌∙◌, arith}
 use Rattle.std.specs.BinaryHeap.{heap_items}
 use Rattle.exb_shelf.specs.Files.{bytes_of}
 use Rattle.exb_capture.proofs.Replaying.{never_replayed}
@@ -26,7 +26,7 @@ pub index_mut-source-requires : goal.index_mut-source-requires
 index_mut-source-requires g c =
     let r = c.args.self.now in
     let x = c.in-Some.field-0 in
-    let there = is_there r.sources.items r.turns (heap_items c.pop.new.self) x.0.0 x.0.1 c.requires.opened.turns c.in-Some.ensures.permutation in
+    let there = is_there r.sources.items r.turns (drop 1 (heap_items r.turns)) x.0.0 x.0.1 c.requires.opened.turns c.in-Some.ensures.first in
     omega (arith, there)
 
 pub take-requires-clause-found : goal.take-requires-clause-found
@@ -36,7 +36,7 @@ take-requires-clause-found g c =
     let r = c.args.self.now in
     let x = c.in-Some.field-0 in
     let s = c.index_mut-source.result.now in
-    let h = whose_turn r.sources.items r.turns (heap_items c.pop.new.self) x.0.0 x.0.1 c.requires.opened.turns c.in-Some.ensures.permutation s c.index_mut-source.ensures.value in
+    let h = whose_turn r.sources.items r.turns (drop 1 (heap_items r.turns)) x.0.0 x.0.1 c.requires.opened.turns c.in-Some.ensures.first s c.index_mut-source.ensures.value in
     own_comes ids x.0.0 s h.next (own_of (IsOpened ids) r.sources.items x.0.1 s h.at c.requires.opened.each)
 
 pub take-requires-clause-kept : goal.take-requires-clause-kept
@@ -45,7 +45,7 @@ take-requires-clause-kept g c =
     let r = c.args.self.now in
     let x = c.in-Some.field-0 in
     let s = c.index_mut-source.result.now in
-    let h = whose_turn r.sources.items r.turns (heap_items c.pop.new.self) x.0.0 x.0.1 c.requires.opened.turns c.in-Some.ensures.permutation s c.index_mut-source.ensures.value in
+    let h = whose_turn r.sources.items r.turns (drop 1 (heap_items r.turns)) x.0.0 x.0.1 c.requires.opened.turns c.in-Some.ensures.first s c.index_mut-source.ensures.value in
     (own_of (IsOpened (S.ids c.args.shelf.now)) r.sources.items x.0.1 s h.at c.requires.opened.each).kept
 
 pub take-requires-clause-numbers : goal.take-requires-clause-numbers
@@ -54,7 +54,7 @@ take-requires-clause-numbers g c =
     let r = c.args.self.now in
     let x = c.in-Some.field-0 in
     let s = c.index_mut-source.result.now in
-    let h = whose_turn r.sources.items r.turns (heap_items c.pop.new.self) x.0.0 x.0.1 c.requires.opened.turns c.in-Some.ensures.permutation s c.index_mut-source.ensures.value in
+    let h = whose_turn r.sources.items r.turns (drop 1 (heap_items r.turns)) x.0.0 x.0.1 c.requires.opened.turns c.in-Some.ensures.first s c.index_mut-source.ensures.value in
     let o = own_of (IsOpened (S.ids c.args.shelf.now)) r.sources.items x.0.1 s h.at c.requires.opened.each in
     omega (arith, o.numbers, o.small)
 
@@ -64,7 +64,7 @@ take-requires-clause-first g c =
     let r = c.args.self.now in
     let x = c.in-Some.field-0 in
     let s = c.index_mut-source.result.now in
-    let h = whose_turn r.sources.items r.turns (heap_items c.pop.new.self) x.0.0 x.0.1 c.requires.opened.turns c.in-Some.ensures.permutation s c.index_mut-source.ensures.value in
+    let h = whose_turn r.sources.items r.turns (drop 1 (heap_items r.turns)) x.0.0 x.0.1 c.requires.opened.turns c.in-Some.ensures.first s c.index_mut-source.ensures.value in
     (own_of (IsOpened (S.ids c.args.shelf.now)) r.sources.items x.0.1 s h.at c.requires.opened.each).first
 
 pub ahead-requires-clause-at : goal.ahead-requires-clause-at
@@ -77,7 +77,7 @@ ahead-requires-clause-at g c =
     let m = x.0.0 in
     let place = x.0.1 in
     let s = c.index_mut-source.result.now in
-    let h = whose_turn xs r.turns (heap_items c.pop.new.self) m place c.requires.opened.turns c.in-Some.ensures.permutation s c.index_mut-source.ensures.value in
+    let h = whose_turn xs r.turns (drop 1 (heap_items r.turns)) m place c.requires.opened.turns c.in-Some.ensures.first s c.index_mut-source.ensures.value in
     let taken = c.take.new.self in
     let own = own_of (IsOpened given) xs place s h.at c.requires.opened.each in
     at_taken given s taken.replay c.take.ensures.same c.take.ensures.got own.at
@@ -92,7 +92,7 @@ returns-in-Err-ahead-clause-never g c = λ tells p at e streams told.
     let m = x.0.0 in
     let place = x.0.1 in
     let s = c.index_mut-source.result.now in
-    let h = whose_turn xs r.turns (heap_items c.pop.new.self) m place c.requires.opened.turns c.in-Some.ensures.permutation s c.index_mut-source.ensures.value in
+    let h = whose_turn xs r.turns (drop 1 (heap_items r.turns)) m place c.requires.opened.turns c.in-Some.ensures.first s c.index_mut-source.ensures.value in
     let taken = c.take.new.self in
     let file = S.file c.args.shelf.now in
     let t = has_rest file given xs m place s h c.requires.opened.each taken.replay c.take.ensures.same c.in-Ok.ensures.given streams c.in-Ok.came.bytes c.in-Ok.ensures.bytes told in
@@ -110,7 +110,7 @@ returns-in-Err-ahead-clause-reads g c =
     let m = x.0.0 in
     let place = x.0.1 in
     let s = c.index_mut-source.result.now in
-    let h = whose_turn xs r.turns (heap_items c.pop.new.self) m place c.requires.opened.turns c.in-Some.ensures.permutation s c.index_mut-source.ensures.value in
+    let h = whose_turn xs r.turns (drop 1 (heap_items r.turns)) m place c.requires.opened.turns c.in-Some.ensures.first s c.index_mut-source.ensures.value in
     let taken = c.take.new.self in
     let ids = S.ids c.ahead.new.shelf in
     next_reads xs m place s h given ids (moves_taken given s taken.replay c.take.ensures.same ids c.ahead.ensures.moves)
@@ -125,7 +125,7 @@ returns-clause-opened g c =
     let m = x.0.0 in
     let place = x.0.1 in
     let s = c.index_mut-source.result.now in
-    let h = whose_turn xs r.turns (heap_items c.pop.new.self) m place c.requires.opened.turns c.in-Some.ensures.permutation s c.index_mut-source.ensures.value in
+    let h = whose_turn xs r.turns (drop 1 (heap_items r.turns)) m place c.requires.opened.turns c.in-Some.ensures.first s c.index_mut-source.ensures.value in
     let taken = c.take.new.self in
     let own = own_of (IsOpened given) xs place s h.at c.requires.opened.each in
     let looked = c.ahead.new.self in
@@ -139,8 +139,8 @@ returns-clause-opened g c =
     record {
       each = next_each xs m place s s' h given ids moves c.requires.opened.apart kept c.requires.opened.each;
       apart = next_apart xs m place s s' h c.take.ensures.port id c.requires.opened.apart;
-      turns = in_turn_next xs s' m place r.turns c.pop.new.self c.put_turn.new.turns c.requires.opened.turns c.in-Some.ensures.permutation c.put_turn.ensures.same
-          (c.put_turn.ensures.ordered (c.in-Some.ensures.heap_order c.requires.opened.turns.ordered).0) c.put_turn.ensures.room;
+      turns = in_turn_next xs s' m place r.turns (drop 1 (heap_items r.turns)) c.turn_on.new.turns c.requires.opened.turns c.in-Some.ensures.first c.turn_on.ensures.same
+          (c.turn_on.ensures.ordered c.requires.opened.turns.ordered) c.turn_on.ensures.room;
     }
 
 pub returns-clause-come : goal.returns-clause-come
@@ -153,7 +153,7 @@ returns-clause-come g c =
     let m = x.0.0 in
     let place = x.0.1 in
     let s = c.index_mut-source.result.now in
-    let h = whose_turn xs r.turns (heap_items c.pop.new.self) m place c.requires.opened.turns c.in-Some.ensures.permutation s c.index_mut-source.ensures.value in
+    let h = whose_turn xs r.turns (drop 1 (heap_items r.turns)) m place c.requires.opened.turns c.in-Some.ensures.first s c.index_mut-source.ensures.value in
     let taken = c.take.new.self in
     let own = own_of (IsOpened given) xs place s h.at c.requires.opened.each in
     let looked = c.ahead.new.self in
@@ -174,9 +174,9 @@ returns-clause-earliest g c =
     let m = x.0.0 in
     let place = x.0.1 in
     let s = c.index_mut-source.result.now in
-    let h = whose_turn xs r.turns (heap_items c.pop.new.self) m place c.requires.opened.turns c.in-Some.ensures.permutation s c.index_mut-source.ensures.value in
+    let h = whose_turn xs r.turns (drop 1 (heap_items r.turns)) m place c.requires.opened.turns c.in-Some.ensures.first s c.index_mut-source.ensures.value in
     let taken = c.take.new.self in
-    next_earliest xs m place s h r.turns c.in-Ok.came.moment c.in-Ok.ensures.comes.2 c.requires.opened.turns (c.in-Some.ensures.heap_order c.requires.opened.turns.ordered).1
+    next_earliest xs m place s h r.turns c.in-Ok.came.moment c.in-Ok.ensures.comes.2 c.requires.opened.turns (c.in-Some.ensures.greatest c.requires.opened.turns.ordered)
 
 pub returns-clause-rises : goal.returns-clause-rises
 returns-clause-rises g c =
@@ -188,11 +188,11 @@ returns-clause-rises g c =
     let m = x.0.0 in
     let place = x.0.1 in
     let s = c.index_mut-source.result.now in
-    let h = whose_turn xs r.turns (heap_items c.pop.new.self) m place c.requires.opened.turns c.in-Some.ensures.permutation s c.index_mut-source.ensures.value in
+    let h = whose_turn xs r.turns (drop 1 (heap_items r.turns)) m place c.requires.opened.turns c.in-Some.ensures.first s c.index_mut-source.ensures.value in
     let taken = c.take.new.self in
     let looked = c.ahead.new.self in
     let s' : Again = record { port = taken.port; index = taken.index; next = c.in-Ok-ahead.next; replay = looked } in
-    let first = (c.in-Some.ensures.heap_order c.requires.opened.turns.ordered).1 in
+    let first = (c.in-Some.ensures.greatest c.requires.opened.turns.ordered) in
     next_rises xs m place s s' h c.in-Ok.came.moment c.in-Ok.ensures.comes.2 (none_earlier xs (heap_items r.turns) m place c.requires.opened.turns.same first)
     (rises_next c.in-Ok-ahead.next m looked (c.ahead.ensures.before.least ∙ c.in-Ok.ensures.least) c.in-Ok-ahead.ensures.found)
 
@@ -206,7 +206,7 @@ returns-clause-since g c = λ second told.
     let m = x.0.0 in
     let place = x.0.1 in
     let s = c.index_mut-source.result.now in
-    let h = whose_turn xs r.turns (heap_items c.pop.new.self) m place c.requires.opened.turns c.in-Some.ensures.permutation s c.index_mut-source.ensures.value in
+    let h = whose_turn xs r.turns (drop 1 (heap_items r.turns)) m place c.requires.opened.turns c.in-Some.ensures.first s c.index_mut-source.ensures.value in
     let taken = c.take.new.self in
     next_since xs m place s h second c.in-Ok.came.moment c.in-Ok.ensures.comes.2 c.in-Ok.ensures.limits.1 told
 
@@ -220,7 +220,7 @@ returns-clause-left g c =
     let m = x.0.0 in
     let place = x.0.1 in
     let s = c.index_mut-source.result.now in
-    let h = whose_turn xs r.turns (heap_items c.pop.new.self) m place c.requires.opened.turns c.in-Some.ensures.permutation s c.index_mut-source.ensures.value in
+    let h = whose_turn xs r.turns (drop 1 (heap_items r.turns)) m place c.requires.opened.turns c.in-Some.ensures.first s c.index_mut-source.ensures.value in
     let taken = c.take.new.self in
     let looked = c.ahead.new.self in
     let s' : Again = record { port = taken.port; index = taken.index; next = c.in-Ok-ahead.next; replay = looked } in
@@ -236,7 +236,7 @@ returns-clause-order g c = λ tells streams told.
     let m = x.0.0 in
     let place = x.0.1 in
     let s = c.index_mut-source.result.now in
-    let h = whose_turn xs r.turns (heap_items c.pop.new.self) m place c.requires.opened.turns c.in-Some.ensures.permutation s c.index_mut-source.ensures.value in
+    let h = whose_turn xs r.turns (drop 1 (heap_items r.turns)) m place c.requires.opened.turns c.in-Some.ensures.first s c.index_mut-source.ensures.value in
     let taken = c.take.new.self in
     let own = own_of (IsOpened given) xs place s h.at c.requires.opened.each in
     let file = S.file c.args.shelf.now in
@@ -245,7 +245,7 @@ returns-clause-order g c = λ tells streams told.
     let comes = c.in-Ok.ensures.comes in
     let t = has_rest file given xs m place s h c.requires.opened.each taken.replay c.take.ensures.same c.in-Ok.ensures.given streams c.in-Ok.came.bytes c.in-Ok.ensures.bytes told in
     order_next file given xs m place s h c.requires.opened.each taken.replay c.take.ensures.same c.in-Ok.ensures.given (S.file c.ahead.new.shelf) (S.ids c.ahead.new.shelf) looked taken.port taken.index
-    c.in-Ok-ahead.next r.turns c.in-Ok.came streams c.requires.opened.apart c.requires.opened.turns (c.in-Some.ensures.heap_order c.requires.opened.turns.ordered).1 comes.0 comes.1 comes.2
+    c.in-Ok-ahead.next r.turns c.in-Ok.came streams c.requires.opened.apart c.requires.opened.turns (c.in-Some.ensures.greatest c.requires.opened.turns.ordered) comes.0 comes.1 comes.2
     c.take.ensures.port (omega (arith, index)) (c.ahead.ensures.before.least ∙ c.in-Ok.ensures.least)
     (at_taken given s taken.replay c.take.ensures.same c.take.ensures.got own.at) c.ahead.ensures.moves c.ahead.ensures.files c.ahead.ensures.same (c.in-Ok-ahead.ensures.given tells)
     (c.in-Ok-ahead.ensures.end tells) told t
@@ -260,7 +260,7 @@ returns-clause-ids g c =
     let m = x.0.0 in
     let place = x.0.1 in
     let s = c.index_mut-source.result.now in
-    let h = whose_turn xs r.turns (heap_items c.pop.new.self) m place c.requires.opened.turns c.in-Some.ensures.permutation s c.index_mut-source.ensures.value in
+    let h = whose_turn xs r.turns (drop 1 (heap_items r.turns)) m place c.requires.opened.turns c.in-Some.ensures.first s c.index_mut-source.ensures.value in
     let taken = c.take.new.self in
     let looked = c.ahead.new.self in
     let s' : Again = record { port = taken.port; index = taken.index; next = c.in-Ok-ahead.next; replay = looked } in
@@ -276,7 +276,7 @@ returns-clause-reads g c =
     let m = x.0.0 in
     let place = x.0.1 in
     let s = c.index_mut-source.result.now in
-    let h = whose_turn xs r.turns (heap_items c.pop.new.self) m place c.requires.opened.turns c.in-Some.ensures.permutation s c.index_mut-source.ensures.value in
+    let h = whose_turn xs r.turns (drop 1 (heap_items r.turns)) m place c.requires.opened.turns c.in-Some.ensures.first s c.index_mut-source.ensures.value in
     let taken = c.take.new.self in
     let ids = S.ids c.ahead.new.shelf in
     next_reads xs m place s h given ids (moves_taken given s taken.replay c.take.ensures.same ids c.ahead.ensures.moves)
