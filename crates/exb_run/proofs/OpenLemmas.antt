@@ -8,16 +8,17 @@ use Rattle.exb_shelf.specs.Shelf.{Id, IsReading, IsReadingOf, Opens}
 use Rattle.exb_shelf.proofs.IdLemmas.{opens_none, opens_weaker, opens_then}
 use Rattle.exb_topology.specs.declared.topology.Topology.{Topology}
 use Rattle.exb_words.specs.Words.{Ask, Run, Check}
-use Rattle.exb_run.specs.declared.fault.Fault.{Fault}
-use Rattle.exb_run.specs.declared.fault.Fault.TheVariants.{Usage, Missing, Topology as BadTopology, Capture, Changed, Read, Write, Memory}
+use Rattle.exb_inputs.specs.declared.fault.Fault.{Fault}
+use Rattle.exb_inputs.specs.declared.fault.Fault.TheVariants.{Usage, Missing, Topology as BadTopology, Capture, Changed, Read, Write, Memory}
 use Rattle.exb_words.specs.declared.asked.Options.{Options}
 use Rattle.exb_run.specs.Plans.{Planned, kind_at, output_count}
 use Rattle.exb_run.specs.Outputs.{output_name}
-use Rattle.exb_run.specs.Checks.{AreAllGood}
+use Rattle.exb_inputs.specs.Checks.{AreAllGood}
 use Rattle.exb_run.specs.Shelving.{IsOfPlay, IsOfRun, WritesPlanned}
-use Rattle.exb_run.specs.Answers.{HoldsTopology, status_of}
-use Rattle.exb_run.specs.Reading.{IsOfCapture, IsOfPlaying}
-use Rattle.exb_run.specs.Opening.{IsOutput, ReadsCapture, WritesOutput, IsOpenedFor, OpensBy}
+use Rattle.exb_inputs.specs.Answers.{HoldsTopology, status_of}
+use Rattle.exb_inputs.specs.Reading.{IsOfCapture, IsOfPlaying}
+use Rattle.exb_run.specs.Opening.{IsOutput, WritesOutput, IsOpenedFor, OpensBy}
+use Rattle.exb_inputs.specs.Shelving.{ReadsCapture}
 use Rattle.exb_run.proofs.ByKind.{kind_is}
 use Rattle.exb_run.proofs.Reporting.{early_end, opens_on}
 use Rattle.exb_run.proofs.Running.{Outcome}

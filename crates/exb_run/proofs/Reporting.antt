@@ -10,15 +10,16 @@ use Rattle.exb_shelf.proofs.IdLemmas.{opens_weaker, opens_then}
 use Rattle.exb_tables.specs.declared.rows.Named.{Named}
 use Rattle.exb_words.specs.declared.asked.Options.{Options}
 use Rattle.exb_words.specs.Words.{Ask, Run, Check, Make}
-use Rattle.exb_run.specs.declared.fault.Fault.{Fault}
-use Rattle.exb_run.specs.declared.fault.Fault.TheVariants.{Usage, Missing, Topology as BadTopology, Capture, Changed, Read, Write, Memory}
-use Rattle.exb_run.specs.Inputs.{name_of}
-use Rattle.exb_run.specs.Checks.{FirstFault}
-use Rattle.exb_run.specs.Reading.{IsOfTopology, IsOfPlaying}
+use Rattle.exb_inputs.specs.declared.fault.Fault.{Fault}
+use Rattle.exb_inputs.specs.declared.fault.Fault.TheVariants.{Usage, Missing, Topology as BadTopology, Capture, Changed, Read, Write, Memory}
+use Rattle.exb_inputs.specs.Inputs.{name_of}
+use Rattle.exb_inputs.specs.Checks.{FirstFault}
+use Rattle.exb_inputs.specs.Reading.{IsOfTopology, IsOfPlaying}
 use Rattle.exb_run.specs.Shelving.{IsOfPlay}
-use Rattle.exb_run.specs.Answers.{CanBe, IsCause, IsDone, IsFailure, IsFaultLine, IsOfInput, IsRefused, IsRun, IsStatus, IsText, Stops, StopsWith, fault_line, fault_status, line_of, refused_by, status_of, usage}
+use Rattle.exb_inputs.specs.Answers.{CanBe, IsFaultLine, IsRefused, fault_line, fault_status, line_of, refused_by, status_of, usage}
+use Rattle.exb_run.specs.Answers.{IsCause, IsDone, IsFailure, IsOfInput, IsRun, IsStatus, IsText, Stops, StopsWith}
 use Rattle.exb_run.specs.Outcomes.{CanCome}
-use Rattle.exb_run.proofs.FaultLemmas.{fault_of_named}
+use Rattle.exb_inputs.proofs.FaultLemmas.{fault_of_named}
 use Rattle.exb_run.proofs.Running.{Outcome}
 use Rattle.exb_run.proofs.Stopping.{failure_is}
 

@@ -11,18 +11,19 @@ use Rattle.exb_shelf.specs.Files.{Files, SameFiles}
 use Rattle.exb_topology.specs.declared.topology.Topology.{Topology}
 use Rattle.exb_words.specs.declared.asked.Options.{Options}
 use Rattle.exb_words.specs.Words.{Run, Check, Make}
-use Rattle.exb_run.specs.declared.fault.Fault.{Fault}
-use Rattle.exb_run.specs.declared.fault.Fault.TheVariants.{Usage, Read, Write, Memory}
-use Rattle.exb_run.specs.Inputs.{input_of}
+use Rattle.exb_inputs.specs.declared.fault.Fault.{Fault}
+use Rattle.exb_inputs.specs.declared.fault.Fault.TheVariants.{Usage, Read, Write, Memory}
+use Rattle.exb_inputs.specs.Inputs.{input_of}
 use Rattle.exb_run.specs.Outputs.{AreFrontsOf, IsPlayed, OnlyOutputs}
-use Rattle.exb_run.specs.Checks.{AreAllGood, FirstFault}
-use Rattle.exb_run.specs.Reading.{IsOfTopology, IsOfPlaying}
+use Rattle.exb_inputs.specs.Checks.{AreAllGood, FirstFault}
+use Rattle.exb_inputs.specs.Reading.{IsOfTopology, IsOfPlaying}
 use Rattle.exb_run.specs.Shelving.{IsOfPlay}
-use Rattle.exb_run.specs.Answers.{AreFronts, AreFrontsIn, HoldsTopology, IsDone, IsFailure, IsRefused, OnlyAsked, Stops, eager_summary, mode_for}
+use Rattle.exb_run.specs.Answers.{AreFronts, AreFrontsIn, IsDone, IsFailure, OnlyAsked, Stops, eager_summary, mode_for}
+use Rattle.exb_inputs.specs.Answers.{HoldsTopology, IsRefused}
 use Rattle.exb_run.specs.Outcomes.{CameOut}
-use Rattle.exb_run.proofs.Asking.{holds_once, shape_same, prefix_same}
+use Rattle.exb_inputs.proofs.Asking.{holds_once, shape_same, prefix_same}
 use Rattle.exb_run.proofs.Running.{Outcome}
-use Rattle.exb_run.proofs.Stopping.{refused_once, held_not, first_of}
+use Rattle.exb_inputs.proofs.Refused.{refused_once, held_not, first_of}
 
 -- ---- the words are not accepted
 pub came_unaccepted : (tells : Type 0) (f : Files) → CameOut tells None (Err Usage) f f

@@ -1,26 +1,19 @@
 -- Which files are opened.
-use Rattle.std.specs.Prelude.{◌≡◌, ◌≢◌, ◌⊎◌, ℕ, Bool, true, List, Option, Some, None}
+use Rattle.std.specs.Prelude.{◌≡◌, ◌≢◌, ◌⊎◌, ℕ, List, Option, Some, None}
 use Rattle.exb_model.specs.Setup.{shape_of}
-use Rattle.exb_model.specs.Tree.{Shape, is_external}
+use Rattle.exb_model.specs.Tree.{Shape}
 use Rattle.exb_shelf.specs.Files.{Files}
 use Rattle.exb_shelf.specs.Shelf.{Id, IsReading, IsReadingOf, Opens, writing}
 use Rattle.exb_text.specs.declared.output.Output.{Output}
 use Rattle.exb_text.specs.Names.{file_name}
-use Rattle.exb_tables.specs.declared.rows.Named.{Named}
 use Rattle.exb_topology.specs.declared.topology.Topology.{Topology}
 use Rattle.exb_words.specs.declared.asked.Options.{Options}
 use Rattle.exb_words.specs.Words.{Ask, Run, Check, Make}
-use Rattle.exb_run.specs.Inputs.{name_of}
 use Rattle.exb_run.specs.Plans.{IsMade}
-use Rattle.exb_run.specs.Checks.{AreAllGood}
-use Rattle.exb_run.specs.Answers.{HoldsTopology, IsReady}
-
--- an id to read the capture of a port that is named
-pub record ReadsCapture (names : List Named) (i : Id) : Type 0 where
-  pub port : ℕ
-  pub name : List ℕ
-  pub named : name_of names port ≡ Some name
-  pub reads : IsReadingOf name i
+use Rattle.exb_inputs.specs.Checks.{AreAllGood}
+use Rattle.exb_inputs.specs.Shelving.{ReadsCapture}
+use Rattle.exb_inputs.specs.Answers.{HoldsTopology}
+use Rattle.exb_run.specs.Answers.{IsReady}
 
 -- an id to read the topology that is asked for
 abbrev pub ReadsTopology : Option Ask → Id → Type 0

@@ -3,10 +3,10 @@ use Rattle.std.specs.Prelude.{◌≡◌, ◌⊎◌, Option, Some, None, Result, 
 use Rattle.std.specs.declared.alloc.Global.{Global}
 use Rattle.exb_shelf.specs.Files.{Files, SameFiles}
 use Rattle.exb_words.specs.Words.{Ask, Run, Check, Make}
-use Rattle.exb_run.specs.declared.fault.Fault.{Fault}
-use Rattle.exb_run.specs.declared.fault.Fault.TheVariants.{Usage, Read, Memory}
+use Rattle.exb_inputs.specs.declared.fault.Fault.{Fault}
+use Rattle.exb_inputs.specs.declared.fault.Fault.TheVariants.{Usage, Read, Memory}
 use Rattle.exb_run.specs.Answers.{AreFronts, IsDone, IsFailure, IsRun, OnlyAsked, Stops}
-use Rattle.exb_run.specs.Reading.{IsOfTopology, IsOfPlaying}
+use Rattle.exb_inputs.specs.Reading.{IsOfTopology, IsOfPlaying}
 use Rattle.exb_run.specs.Shelving.{IsOfPlay}
 
 -- a fault that can come where this is asked for

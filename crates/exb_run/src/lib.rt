@@ -4,19 +4,14 @@
 #![tactic(auto)]
 
 mod check;
-mod checked;
 mod counted;
-mod fault;
 mod feed;
 mod game;
 mod making;
 mod outputs;
 mod plan;
 mod play;
-mod report;
 mod script;
 mod top;
-mod topology;
-mod weight;
 
 pub use top::run;

@@ -5,7 +5,7 @@ use Rattle.exb_shelf.specs.Files.{Files}
 use Rattle.exb_topology.specs.declared.topology.Topology.{Topology}
 use Rattle.exb_topology.specs.Topologies.{TopologySeen, topology_view, topology_of}
 use Rattle.exb_topology.proofs.Sound.{tree_alone, shape_alone}
-use Rattle.exb_run.specs.Answers.{HoldsTopology}
+use Rattle.exb_inputs.specs.Answers.{HoldsTopology}
 
 pub some_once : {X : Type 0} (o : Option X) (x y : X) → o ≡ Some x → o ≡ Some y → x ≡ y
 some_once o x y p q = let e : Some x ≡ Some y = sym p ∙ q in cc

@@ -5,9 +5,9 @@ ghost use Rattle.exb_shelf.specs.Files.{SameFiles};
 ghost use Rattle.exb_shelf.specs.Shelf.{IsReadingOf, Opens};
 ghost use Rattle.exb_topology.specs.Sound.{IsSound};
 ghost use Rattle.exb_topology.specs.Topologies.{topology_of, topology_view};
-ghost use Rattle.exb_run.specs.Answers.{HoldsTopology, IsRefusal, IsRefused, fault_by};
-ghost use Rattle.exb_run.specs.Reading.{IsOfTopology};
-ghost use Rattle.exb_run.specs.Shelving.{CountsFaults};
+ghost use Rattle.exb_inputs.specs.Answers.{HoldsTopology, IsRefusal, IsRefused, fault_by};
+ghost use Rattle.exb_inputs.specs.Reading.{IsOfTopology};
+ghost use Rattle.exb_inputs.specs.Shelving.{CountsFaults};
 
 use crate::checked::missing;
 use crate::fault::Fault;
@@ -74,7 +74,7 @@ fn read_bytes<S: Shelf>(alloc: Global, shelf: &mut S, name: &str) -> Result<Vec<
 }
 
 /// Reads the topology file of this name.
-pub(crate) fn read_topology<S: Shelf>(
+pub fn read_topology<S: Shelf>(
     alloc: Global,
     shelf: &mut S,
     name: &str,

@@ -2,11 +2,10 @@
 ghost use Rattle.std.specs.Prelude.{◌≡◌, ◌<◌, ◌≤◌, ◌*◌, ◌^◌, ◌⊎◌, ℕ, None, Some, IfOk, OnOk, IfErr, IfSome, IfNone};
 ghost use Rattle.exb_shelf.specs.Files.{SameFiles};
 ghost use Rattle.exb_shelf.specs.Shelf.{IsReadingOf, Opens};
-ghost use Rattle.exb_run.specs.Checks.{AreAllGood, AreChecked, FirstFault, HasFault, IsGood, most_bytes};
-ghost use Rattle.exb_run.specs.Inputs.{name_of};
-ghost use Rattle.exb_run.specs.Opening.{ReadsCapture};
-ghost use Rattle.exb_run.specs.Reading.{IsOfCapture};
-ghost use Rattle.exb_run.specs.Shelving.{CountsFaults};
+ghost use Rattle.exb_inputs.specs.Checks.{AreAllGood, AreChecked, FirstFault, HasFault, IsGood, most_bytes};
+ghost use Rattle.exb_inputs.specs.Inputs.{name_of};
+ghost use Rattle.exb_inputs.specs.Shelving.{ReadsCapture, CountsFaults};
+ghost use Rattle.exb_inputs.specs.Reading.{IsOfCapture};
 
 use crate::fault::{Fault, Flaw};
 use exb_capture::{ScanFault, Scanned, scan};
@@ -24,9 +23,11 @@ const PORTS: u16 = 4160;
 
 /// The capture of a port that was checked, and what was told of it.
 #[derive(Clone, Copy)]
-pub(crate) struct Checked {
-    pub(crate) port: PortId,
-    pub(crate) told: Scanned,
+pub struct Checked {
+    /// The port.
+    pub port: PortId,
+    /// What was told of its capture.
+    pub told: Scanned,
 }
 
 /// The port of a number.
@@ -38,7 +39,7 @@ fn port_of(number: u16) -> PortId
 }
 
 /// The name of the file with the capture of a port, if it has one.
-pub(crate) fn name_of(names: &[Named], port: PortId) -> Option<&str>
+pub fn name_of(names: &[Named], port: PortId) -> Option<&str>
     ensures found { IfSome result (λ name. name_of names.now port ≡ Some name.now) }
     ensures none { IfNone result (name_of names.now port ≡ None) }
 {
@@ -51,7 +52,7 @@ pub(crate) fn name_of(names: &[Named], port: PortId) -> Option<&str>
 }
 
 /// The fault of a file of this name that is not there.
-pub(crate) fn missing(alloc: Global, name: &str) -> Fault
+pub fn missing(alloc: Global, name: &str) -> Fault
     ensures { (result ≡ Fault.Missing name.now) ⊎ (result ≡ Fault.Memory) }
 {
     match Text::from_str(alloc, name) {
@@ -95,7 +96,7 @@ fn check_capture<S: Shelf>(
 }
 
 /// Checks the captures that are named, in port order, up to the first that has a fault.
-pub(crate) fn check_captures<S: Shelf>(
+pub fn check_captures<S: Shelf>(
     alloc: Global,
     shelf: &mut S,
     names: &[Named],

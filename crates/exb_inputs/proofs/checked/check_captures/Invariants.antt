@@ -3,10 +3,10 @@ use Rattle.std.specs.Prelude.{All, IfSome}
 use Rattle.exb_model.specs.Ports.{below}
 use Rattle.exb_shelf.specs.Files.{SameFiles}
 use Rattle.exb_shelf.specs.Shelf.{Opens, NoFewer}
-use Rattle.exb_run.specs.Checks.{IsGoodNamed, IsToldOf, most_bytes}
-use Rattle.exb_run.specs.Inputs.{is_named, name_of}
-use Rattle.exb_run.specs.Opening.{ReadsCapture}
-use Rattle.exb_run.proofs.checked.check_captures.Given as goal
+use Rattle.exb_inputs.specs.Checks.{IsGoodNamed, IsToldOf, most_bytes}
+use Rattle.exb_inputs.specs.Inputs.{is_named, name_of}
+use Rattle.exb_inputs.specs.Shelving.{ReadsCapture}
+use Rattle.exb_inputs.proofs.checked.check_captures.Given as goal
 
 abbrev pub invariant-checking : goal.invariant-checking
 invariant-checking g l =

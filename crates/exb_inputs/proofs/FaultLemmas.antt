@@ -11,13 +11,13 @@ use Rattle.exb_capture.specs.Scans.{IsOfFile}
 use Rattle.exb_capture.proofs.OneAnswer.{one_of_all}
 use Rattle.exb_shelf.specs.Files.{Files}
 use Rattle.exb_tables.specs.declared.rows.Named.{Named}
-use Rattle.exb_run.specs.declared.fault.Flaw.{Flaw}
-use Rattle.exb_run.specs.declared.fault.Flaw.TheVariants.{Large, Broken}
-use Rattle.exb_run.specs.declared.fault.Fault.{Fault}
-use Rattle.exb_run.specs.declared.fault.Fault.TheVariants.{Missing, Capture}
-use Rattle.exb_run.specs.Checks.{AreAllGood, FirstFault, HasFault, HasFaultNamed, IsGood, IsGoodNamed, fault_in, most_bytes}
-use Rattle.exb_run.specs.Inputs.{name_of}
-use Rattle.exb_run.proofs.Asking.{some_once, none_or_some}
+use Rattle.exb_inputs.specs.declared.fault.Flaw.{Flaw}
+use Rattle.exb_inputs.specs.declared.fault.Flaw.TheVariants.{Large, Broken}
+use Rattle.exb_inputs.specs.declared.fault.Fault.{Fault}
+use Rattle.exb_inputs.specs.declared.fault.Fault.TheVariants.{Missing, Capture}
+use Rattle.exb_inputs.specs.Checks.{AreAllGood, FirstFault, HasFault, HasFaultNamed, IsGood, IsGoodNamed, fault_in, most_bytes}
+use Rattle.exb_inputs.specs.Inputs.{name_of}
+use Rattle.exb_inputs.proofs.Asking.{some_once, none_or_some}
 
 -- ---- one capture
 -- what is told of a file is no fault of it

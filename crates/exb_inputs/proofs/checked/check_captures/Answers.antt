@@ -4,12 +4,12 @@ use Rattle.std.proofs.lemmas.List.{map-append}
 use Rattle.std.proofs.lemmas.Result.{err_from_is_err_and}
 use Rattle.exb_model.specs.Ports.{below}
 use Rattle.exb_shelf.proofs.IdLemmas.{opens_none, opens_weaker, opens_then}
-use Rattle.exb_run.specs.declared.checked.Checked.{Checked}
-use Rattle.exb_run.specs.Checks.{HasFault, HasFaultNamed, IsGood, IsGoodNamed, IsToldOf, most_bytes}
-use Rattle.exb_run.specs.Inputs.{name_of, is_named}
-use Rattle.exb_run.proofs.FaultLemmas.{all_more}
-use Rattle.exb_run.proofs.Places.{passed_none, passed_here, passed_not}
-use Rattle.exb_run.proofs.checked.check_captures.Goals as goal
+use Rattle.exb_inputs.specs.declared.checked.Checked.{Checked}
+use Rattle.exb_inputs.specs.Checks.{HasFault, HasFaultNamed, IsGood, IsGoodNamed, IsToldOf, most_bytes}
+use Rattle.exb_inputs.specs.Inputs.{name_of, is_named}
+use Rattle.exb_inputs.proofs.FaultLemmas.{all_more}
+use Rattle.exb_inputs.proofs.Passing.{passed_none, passed_here, passed_not}
+use Rattle.exb_inputs.proofs.checked.check_captures.Goals as goal
 
 pub checking-init : goal.checking-init
 checking-init g c =

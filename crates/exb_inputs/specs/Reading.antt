@@ -1,8 +1,8 @@
 -- Which faults can come while the topology is read, while captures are checked, and while they are played.
 use Rattle.std.specs.Prelude.{⊤, ◌<◌}
 use Rattle.exb_keys.specs.declared.faults.TopoFault.TheVariants as topology
-use Rattle.exb_run.specs.declared.fault.Fault.{Fault}
-use Rattle.exb_run.specs.declared.fault.Fault.TheVariants.{Usage, Missing, Topology as BadTopology, Capture, Changed, Read, Memory}
+use Rattle.exb_inputs.specs.declared.fault.Fault.{Fault}
+use Rattle.exb_inputs.specs.declared.fault.Fault.TheVariants.{Usage, Missing, Topology as BadTopology, Capture, Changed, Read, Memory}
 
 -- a fault that can come while captures are checked
 abbrev pub IsOfCapture : Fault → Type 0

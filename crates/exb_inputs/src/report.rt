@@ -2,7 +2,7 @@
 ghost use Rattle.std.specs.Prelude.{◌≡◌, ◌≢◌, ◌≤◌, ◌++◌, IfOk, OnOk, OnErr, IsErrOf, string_bytes};
 ghost use Rattle.exb_shelf.specs.Files.{AppendsFront};
 ghost use Rattle.exb_shelf.specs.Shelf.{Rose};
-ghost use Rattle.exb_run.specs.Answers.{broken_text, flaw_name, flaw_text, key_fault_text, topology_text, capture_line, fault_line, line_of, fault_status, status_of};
+ghost use Rattle.exb_inputs.specs.Answers.{broken_text, flaw_name, flaw_text, key_fault_text, topology_text, capture_line, fault_line, line_of, fault_status, status_of};
 
 use crate::fault::{Fault, Flaw};
 use exb_keys::faults::{KeyFault, TopoFault};
@@ -183,7 +183,7 @@ fn status(outcome: &Result<String, Fault>) -> u8
 
 /// Prints the line of the outcome, and answers its status: 7 where printing failed, and 1 where memory
 /// ran out while printing.
-pub(crate) fn report<O: Sink>(alloc: Global, out: &mut O, outcome: &Result<String, Fault>) -> u8
+pub fn report<O: Sink>(alloc: Global, out: &mut O, outcome: &Result<String, Fault>) -> u8
     ensures status { result ≢ 1 → result ≢ 7 → result ≡ status_of outcome.now }
     ensures seven { result ≡ 7 → status_of outcome.now ≢ 7 → Rose (O.faults out.old) (O.faults out.new) }
     ensures whole { O.tells → result ≢ 1 → result ≢ 7 → O.text out.new ≡ O.text out.old ++ line_of outcome.now }
