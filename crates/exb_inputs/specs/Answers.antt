@@ -1,5 +1,5 @@
 -- What can be wrong with a topology and with what it names, how that ends a call, and what is printed of it.
-use Rattle.std.specs.Prelude.{⊤, ◌≡◌, ◌<◌, ◌++◌, ℕ, List, Option, Some, None, Result, Ok, Err, String, codes, string_bytes}
+use Rattle.std.specs.Prelude.{⊤, ◌≡◌, ◌<◌, ◌≤◌, ◌++◌, ℕ, List, Option, Some, None, Result, Ok, Err, String, codes, string_bytes}
 use Rattle.std.specs.declared.alloc.Global.{Global}
 use Rattle.std.specs.Fmt.{decimal}
 use Rattle.exb_model.specs.Texts.{port_name}
@@ -19,10 +19,12 @@ use Rattle.exb_shelf.specs.Files.{Files}
 use Rattle.exb_shelf.specs.Shelf.{Rose}
 use Rattle.exb_topology.specs.declared.topology.Topology.{Topology}
 use Rattle.exb_topology.specs.Topologies.{topology_of, topology_view}
+use Rattle.exb_inputs.specs.declared.fault.Part.{Part}
+use Rattle.exb_inputs.specs.declared.fault.Part.TheVariants as part
 use Rattle.exb_inputs.specs.declared.fault.Flaw.{Flaw}
 use Rattle.exb_inputs.specs.declared.fault.Flaw.TheVariants.{Large, Broken}
 use Rattle.exb_inputs.specs.declared.fault.Fault.{Fault}
-use Rattle.exb_inputs.specs.declared.fault.Fault.TheVariants.{Usage, Missing, Topology as BadTopology, Capture, Changed, Read, Write, Memory}
+use Rattle.exb_inputs.specs.declared.fault.Fault.TheVariants.{Usage, Missing, Topology as BadTopology, Capture, Changed, Output, TooLarge, BadLine, Illegal, Read, Write, Memory}
 use Rattle.exb_inputs.specs.Checks.{FirstFault}
 
 -- ---- a topology
@@ -73,10 +75,24 @@ pub record CaptureFaulty (name : List ℕ) (file : Files) (fault : Fault) : Type
   pub port : ℕ
   pub first : FirstFault topology.captures file port fault
 
--- where it speaks of a port, this is one; and want of memory is no fault of a topology
+-- lines are those of the journal and the trace
+abbrev pub HasLines : Part → Type 0
+HasLines part.Journal = ⊤
+HasLines part.Trace = ⊤
+HasLines _ = ⊥
+
+-- the number of a rule of a legal trace
+abbrev pub IsRule : ℕ → Type 0
+IsRule r = (1 ≤ r) × (r ≤ 5)
+
+-- Where it speaks of a port, this is one, and where of a rule, there is one of this number; lines are those of the journal and the trace,
+-- and want of memory is no fault of a topology.
 abbrev pub CanBe : Fault → Type 0
 CanBe (Capture p flaw) = p < 4160
 CanBe (Changed p byte) = p < 4160
+CanBe (Output p broke) = p < 4160
+CanBe (BadLine what n) = HasLines what
+CanBe (Illegal r) = IsRule r
 CanBe (BadTopology topology.Memory) = ⊥
 CanBe _ = ⊤
 
@@ -124,11 +140,28 @@ topology_text (topology.At fault key) = key_fault_text fault ++ codes " at " ++ 
 
 -- the words that are accepted
 abbrev pub usage : List ℕ
-usage = codes "exbr: usage: exbr run TOPOLOGY [--trace] [--counters] [--seed N] | exbr check TOPOLOGY | exbr make N\n"
+usage = codes "exbr: usage: exbr run TOPOLOGY [--trace] [--counters] [--seed N] | exbr check TOPOLOGY | exbr make N | exbr audit TOPOLOGY\n"
 
 -- the line of a capture that is not taken
 unfoldable pub capture_line : ℕ → List ℕ → List ℕ
 capture_line p text = codes "exbr: capture " ++ (port_name p ++ (codes ": " ++ (text ++ codes "\n")))
+
+-- and of an output capture that is none
+unfoldable pub output_line : ℕ → List ℕ → List ℕ
+output_line p text = codes "exbr: out " ++ (port_name p ++ (codes ": " ++ (text ++ codes "\n")))
+
+-- what an audit reads
+abbrev pub part_name : Part → List ℕ
+part_name part.Captures = codes "captures"
+part_name part.Outputs = codes "outputs"
+part_name part.Journal = codes "journal"
+part_name part.Trace = codes "trace"
+
+abbrev pub large_line : Part → List ℕ
+large_line what = codes "exbr: " ++ part_name what ++ codes " Large 536870912\n"
+
+abbrev pub bad_line : Part → ℕ → List ℕ
+bad_line what n = codes "exbr: " ++ part_name what ++ codes " line " ++ decimal n ++ codes "\n"
 
 unfoldable pub fault_line : Fault → List ℕ
 fault_line Usage = usage
@@ -136,6 +169,10 @@ fault_line (Missing name) = codes "exbr: missing " ++ name ++ codes "\n"
 fault_line (BadTopology fault) = codes "exbr: topology: " ++ topology_text fault ++ codes "\n"
 fault_line (Capture p flaw) = capture_line p (flaw_text flaw)
 fault_line (Changed p byte) = capture_line p (codes "Changed at " ++ decimal byte)
+fault_line (Output p broke) = output_line p (broken_text broke)
+fault_line (TooLarge what) = large_line what
+fault_line (BadLine what n) = bad_line what n
+fault_line (Illegal r) = codes "exbr: trace: rule " ++ decimal r ++ codes "\n"
 fault_line Read = codes "exbr: read fault\n"
 fault_line Write = codes "exbr: write fault\n"
 fault_line Memory = codes "exbr: out of memory\n"
@@ -155,6 +192,10 @@ fault_status (Missing name) = 5
 fault_status Read = 6
 fault_status Write = 7
 fault_status (Changed p byte) = 10
+fault_status (Output p broke) = 4
+fault_status (TooLarge what) = 4
+fault_status (BadLine what n) = 12
+fault_status (Illegal r) = 11
 
 abbrev pub status_of : Result (String Global) Fault → ℕ
 status_of (Ok line) = 0
@@ -173,3 +214,5 @@ pub record SaysBy (status : ℕ) (failed fails : ℕ) (old new : List ℕ) : Typ
   pub six : status ≡ 6 → new ≡ old ++ codes "exbr: read fault\n"
   pub seven : status ≡ 7 → ¬ Rose failed fails → new ≡ old ++ codes "exbr: write fault\n"
   pub ten : status ≡ 10 → (line : List ℕ) × IsFaultLine 10 line × (new ≡ old ++ line)
+  pub eleven : status ≡ 11 → (line : List ℕ) × IsFaultLine 11 line × (new ≡ old ++ line)
+  pub twelve : status ≡ 12 → (line : List ℕ) × IsFaultLine 12 line × (new ≡ old ++ line)

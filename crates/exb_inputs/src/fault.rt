@@ -1,4 +1,4 @@
-//! What can end a run before its end.
+//! What can end a call before its end.
 ghost use Rattle.std.specs.Prelude.{◌≡◌};
 ghost use Rattle.exb_inputs.specs.declared.fault.Fault.TheVariants.{Memory};
 ghost use Rattle.exb_inputs.specs.Answers.{fault_again, fault_of};
@@ -25,12 +25,25 @@ pub enum Flaw {
     },
 }
 
-/// Why a run ends before its end.
+/// What an audit reads beside the topology.
+#[derive(Clone, Copy, Debug, PartialEq, Eq)]
+pub enum Part {
+    /// All captures together.
+    Captures,
+    /// All output captures together.
+    Outputs,
+    /// The journal.
+    Journal,
+    /// The trace.
+    Trace,
+}
+
+/// Why a call ends before its end.
 #[derive(Debug, Drop)]
 pub enum Fault {
     /// The words are none that are accepted.
     Usage,
-    /// The topology, or a capture that it names, is not there.
+    /// The topology, or a file that it names or an audit reads, is not there.
     Missing {
         /// Its name.
         name: Text,
@@ -53,6 +66,30 @@ pub enum Fault {
         port: PortId,
         /// Where it shows.
         at: u64,
+    },
+    /// The output capture of this port is no capture, in an audit.
+    Output {
+        /// The port.
+        port: PortId,
+        /// What is wrong with it, and where.
+        fault: exb_capture::Fault,
+    },
+    /// This has more bytes than an audit reads.
+    TooLarge {
+        /// What is too large.
+        what: Part,
+    },
+    /// A line of the journal or of the trace isn't one, or has no newline, in an audit.
+    BadLine {
+        /// What it is a line of.
+        what: Part,
+        /// The first such line, from 1.
+        number: u64,
+    },
+    /// The trace isn't legal.
+    Illegal {
+        /// The lowest rule that doesn't hold, from 1 to 5.
+        rule: u8,
     },
     /// A file could not be read.
     Read,

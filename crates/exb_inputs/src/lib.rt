@@ -9,6 +9,6 @@ mod topology;
 mod weight;
 
 pub use checked::{Checked, check_captures, missing, name_of};
-pub use fault::{Fault, Flaw};
+pub use fault::{Fault, Flaw, Part};
 pub use report::report;
 pub use topology::read_topology;

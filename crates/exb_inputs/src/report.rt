@@ -2,9 +2,9 @@
 ghost use Rattle.std.specs.Prelude.{◌≡◌, ◌≢◌, ◌≤◌, ◌++◌, IfOk, OnOk, OnErr, IsErrOf, string_bytes};
 ghost use Rattle.exb_shelf.specs.Files.{AppendsFront};
 ghost use Rattle.exb_shelf.specs.Shelf.{Rose};
-ghost use Rattle.exb_inputs.specs.Answers.{broken_text, flaw_name, flaw_text, key_fault_text, topology_text, capture_line, fault_line, line_of, fault_status, status_of};
+ghost use Rattle.exb_inputs.specs.Answers.{broken_text, flaw_name, flaw_text, key_fault_text, part_name, topology_text, bad_line, capture_line, large_line, output_line, fault_line, line_of, fault_status, status_of};
 
-use crate::fault::{Fault, Flaw};
+use crate::fault::{Fault, Flaw, Part};
 use exb_keys::faults::{KeyFault, TopoFault};
 use exb_model::port::PortId;
 use exb_shelf::{ShelfFault, Sink, print_text};
@@ -13,7 +13,7 @@ use std::alloc::{AllocError, Global};
 
 /// The words that are accepted.
 const USAGE: &str =
-    "exbr: usage: exbr run TOPOLOGY [--trace] [--counters] [--seed N] | exbr check TOPOLOGY | exbr make N\n";
+    "exbr: usage: exbr run TOPOLOGY [--trace] [--counters] [--seed N] | exbr check TOPOLOGY | exbr make N | exbr audit TOPOLOGY\n";
 
 /// The name of what is wrong with a capture.
 fn flaw_name(flaw: exb_capture::Flaw) -> &'static str
@@ -93,6 +93,41 @@ fn capture_line(alloc: Global, port: PortId, text: &str) -> Result<String, Alloc
     format!(in alloc; "exbr: capture {}: {text}\n", PortName(port))
 }
 
+fn part_name(part: Part) -> &'static str
+    ensures { result.now ≡ part_name part }
+{
+    match part {
+        Part::Captures => "captures",
+        Part::Outputs => "outputs",
+        Part::Journal => "journal",
+        Part::Trace => "trace",
+    }
+}
+
+/// The line of an output capture that is none.
+#[tactic(auto, unfolding(crate::specs::Answers::output_line))]
+fn output_line(alloc: Global, port: PortId, text: &str) -> Result<String, AllocError>
+    ensures { IfOk result (λ line. string_bytes line ≡ output_line port text.now) }
+{
+    format!(in alloc; "exbr: out {}: {text}\n", PortName(port))
+}
+
+/// The line of what is too large for an audit.
+fn large_line(alloc: Global, what: Part) -> Result<String, AllocError>
+    ensures { IfOk result (λ line. string_bytes line ≡ large_line what) }
+{
+    let name = part_name(what);
+    format!(in alloc; "exbr: {name} Large 536870912\n")
+}
+
+/// The line of a line of a journal or a trace that is none.
+fn bad_line(alloc: Global, what: Part, number: u64) -> Result<String, AllocError>
+    ensures { IfOk result (λ line. string_bytes line ≡ bad_line what number) }
+{
+    let name = part_name(what);
+    format!(in alloc; "exbr: {name} line {number}\n")
+}
+
 /// The line of a fault. Those that are always the same are printed without memory by `print_outcome`.
 #[tactic(auto, unfolding(crate::specs::Answers::fault_line))]
 fn fault_line(alloc: Global, fault: &Fault) -> Result<String, AllocError>
@@ -115,6 +150,13 @@ fn fault_line(alloc: Global, fault: &Fault) -> Result<String, AllocError>
             let text = format!(in alloc; "Changed at {at}")?;
             capture_line(alloc, *port, text.as_str())
         }
+        Fault::Output { port, fault } => {
+            let text = broken_text(alloc, *fault)?;
+            output_line(alloc, *port, text.as_str())
+        }
+        Fault::TooLarge { what } => large_line(alloc, *what),
+        Fault::BadLine { what, number } => bad_line(alloc, *what, *number),
+        Fault::Illegal { rule } => format!(in alloc; "exbr: trace: rule {rule}\n"),
         Fault::Usage => String::from_str(alloc, USAGE),
         Fault::Read => format!(in alloc; "exbr: read fault\n"),
         Fault::Write => format!(in alloc; "exbr: write fault\n"),
@@ -164,11 +206,13 @@ fn fault_status(fault: &Fault) -> u8
         Fault::Memory => 1,
         Fault::Usage => 2,
         Fault::Topology { .. } => 3,
-        Fault::Capture { .. } => 4,
+        Fault::Capture { .. } | Fault::Output { .. } | Fault::TooLarge { .. } => 4,
         Fault::Missing { .. } => 5,
         Fault::Read => 6,
         Fault::Write => 7,
         Fault::Changed { .. } => 10,
+        Fault::Illegal { .. } => 11,
+        Fault::BadLine { .. } => 12,
     }
 }
 

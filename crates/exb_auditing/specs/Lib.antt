@@ -1,0 +1,3 @@
+pub mod Scopes
+pub mod Audits
+pub mod Reads
