@@ -124,7 +124,7 @@ HasEntries s file = (journal : List (List ℕ)) × AreEntries s file journal
 abbrev pub StopsAudit : Scope → Files → Fault → Type 0
 StopsAudit s file fault =
     CapturesStop s file fault
-    ⊎ (HasCaptures s file × OutputsStop s file fault)
-    ⊎ (HasCaptures s file × HasOutputs s file × JournalStops s file fault)
-    ⊎ (HasCaptures s file × HasOutputs s file × HasEntries s file × TraceStops s file fault)
-    ⊎ RulesStop s file fault
+    ⊎ (HasCaptures s file × (OutputsStop s file fault
+    ⊎ (HasOutputs s file × (JournalStops s file fault
+    ⊎ (HasEntries s file × (TraceStops s file fault
+    ⊎ RulesStop s file fault))))))

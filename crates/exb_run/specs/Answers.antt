@@ -12,10 +12,13 @@ use Rattle.exb_shelf.specs.Files.{Files, SameFiles}
 use Rattle.exb_shelf.specs.Shelf.{Faults, Rose}
 use Rattle.exb_topology.specs.declared.topology.Topology.{Topology}
 use Rattle.exb_words.specs.declared.asked.Options.{Options}
-use Rattle.exb_words.specs.Words.{Ask, Run, Check, Make, words_of}
+use Rattle.exb_words.specs.Words.{Ask, Run, Check, Make, Audit, words_of}
 use Rattle.exb_inputs.specs.declared.fault.Fault.{Fault}
 use Rattle.exb_inputs.specs.declared.fault.Fault.TheVariants.{Usage, Read, Write, Memory}
 use Rattle.exb_inputs.specs.Inputs.{input_of}
+use Rattle.exb_legal.specs.Rules.{IsLegal}
+use Rattle.exb_auditing.specs.Audits.{IsFoundLegal, IsSeen, Seen, StopsAudit, evidence_of}
+use Rattle.exb_auditing.specs.Scopes.{scope_of}
 use Rattle.exb_run.specs.Outputs.{AreFrontsOf, IsPlayed, OnlyOutputs}
 use Rattle.exb_inputs.specs.Checks.{AreAllGood}
 use Rattle.exb_inputs.specs.Answers.{CaptureFaulty, HoldsTopology, IsRefused, fault_line, fault_status}
@@ -36,6 +39,7 @@ CanBeDone None file = ⊥
 CanBeDone (Some (Run name options)) file = (t : Topology) × IsReady name file t
 CanBeDone (Some (Check name)) file = (t : Topology) × HoldsTopology name file t
 CanBeDone (Some (Make number)) file = ⊤
+CanBeDone (Some (Audit name)) file = (t : Topology) × HoldsTopology name file t × (x : Seen) × IsSeen (scope_of t) file x × IsLegal (evidence_of (scope_of t) x)
 
 -- to play a topology is asked for, by which alone files are written
 abbrev pub IsRun : Option Ask → Type 0
@@ -64,12 +68,19 @@ pub record Checked (name : List ℕ) (file : Files) (lines : List ℕ) : Type 0 
 abbrev pub eager_summary : Input → List ℕ
 eager_summary i = summary (tree_of i) (basis_of i) (eager i)
 
+-- all that a run of the topology in the file of this name wrote was read, its trace is legal, and this text says so
+pub record Audited (name : List ℕ) (file : Files) (text : List ℕ) : Type 0 where
+  pub topology : Topology
+  pub holds : HoldsTopology name file topology
+  pub legal : IsFoundLegal (scope_of topology) file text
+
 -- what was asked for is done, and this text says so
 abbrev pub IsDone : Option Ask → Files → Files → List ℕ → Type 0
 IsDone None old new text = ⊥
 IsDone (Some (Run name options)) old new text = Played name options old new text
 IsDone (Some (Check name)) old new text = Checked name old text
 IsDone (Some (Make number)) old new text = text ≡ eager_summary (made number)
+IsDone (Some (Audit name)) old new text = Audited name old text
 
 -- no file but the outputs of what is asked for has changed
 abbrev pub OnlyAsked : Option Ask → Files → Files → Type 0
@@ -93,13 +104,20 @@ AreFronts (Some (Run name options)) old new = AreFrontsIn options.seed name old 
 AreFronts _ old new = ⊤
 
 -- ---- faults
--- this stops what is asked for, the first in the order in which things are looked at: the words, the topology, and where it
--- is played its captures
+-- this stops the audit of what a run of the topology in the file of this name wrote
+pub record AuditStops (name : List ℕ) (file : Files) (fault : Fault) : Type 0 where
+  pub topology : Topology
+  pub holds : HoldsTopology name file topology
+  pub stops : StopsAudit (scope_of topology) file fault
+
+-- This stops what is asked for, the first in the order in which things are looked at: the words, the topology, where it is played its
+-- captures, and where it is audited all that is read and judged.
 abbrev pub Stops : Option Ask → Files → Fault → Type 0
 Stops None file fault = fault ≡ Usage
 Stops (Some (Run name options)) file fault = IsRefused name (file name) fault ⊎ CaptureFaulty name file fault
 Stops (Some (Check name)) file fault = IsRefused name (file name) fault
 Stops (Some (Make number)) file fault = ⊥
+Stops (Some (Audit name)) file fault = IsRefused name (file name) fault ⊎ AuditStops name file fault
 
 -- a fault of the shelf, or want of memory
 abbrev pub IsFailure : Option Ask → Fault → Type 0
@@ -107,6 +125,7 @@ IsFailure None fault = ⊥
 IsFailure (Some (Run name options)) fault = (fault ≡ Read) ⊎ (fault ≡ Write) ⊎ (fault ≡ Memory)
 IsFailure (Some (Check name)) fault = (fault ≡ Read) ⊎ (fault ≡ Memory)
 IsFailure (Some (Make number)) fault = fault ≡ Memory
+IsFailure (Some (Audit name)) fault = (fault ≡ Read) ⊎ (fault ≡ Memory)
 
 -- ---- statuses
 -- the statuses that can come
@@ -115,10 +134,11 @@ IsStatus None n = IsTrue (n == 1 || n == 2 || n == 7)
 IsStatus (Some (Run name options)) n = IsTrue (n == 0 || n == 1 || n == 3 || n == 4 || n == 5 || n == 6 || n == 7 || n == 10)
 IsStatus (Some (Check name)) n = IsTrue (n == 0 || n == 1 || n == 3 || n == 5 || n == 6 || n == 7)
 IsStatus (Some (Make number)) n = IsTrue (n == 0 || n == 1 || n == 7)
+IsStatus (Some (Audit name)) n = IsTrue (n == 0 || n == 1 || n == 3 || n == 4 || n == 5 || n == 6 || n == 7 || n == 11 || n == 12)
 
--- the statuses of faults of what is asked for: the topology, and the captures that it names
+-- the statuses of faults of what is asked for: the topology, the captures that it names, and what an audit reads and judges
 abbrev pub IsOfInput : ℕ → Type 0
-IsOfInput n = IsTrue (n == 3 || n == 4 || n == 5)
+IsOfInput n = IsTrue (n == 3 || n == 4 || n == 5 || n == 11 || n == 12)
 
 -- the first fault has this status
 abbrev pub StopsWith : Option Ask → Files → ℕ → Type 0

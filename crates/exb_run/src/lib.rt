@@ -3,6 +3,7 @@
 //! and extenders through `exb_schedule` alone, and files through `exb_shelf`'s traits.
 #![tactic(auto)]
 
+mod audit;
 mod check;
 mod counted;
 mod feed;

@@ -20,6 +20,7 @@ ghost use Rattle.exb_inputs.specs.Answers.{fault_status, status_of, fault_line, 
 ghost use Rattle.exb_run.specs.Outcomes.{CameOut};
 ghost use Rattle.exb_run.specs.Playing.{mode_of};
 
+use crate::audit::audit_topology;
 use crate::check::check_topology;
 use crate::making::make_input;
 use crate::plan::Plan;
@@ -135,6 +136,7 @@ fn work<S: Shelf>(
         }
         Some(Asked::Check { topology }) => check_topology(alloc, shelf, topology),
         Some(Asked::Make { number }) => make_input(alloc, number, fate),
+        Some(Asked::Audit { topology }) => audit_topology(alloc, shelf, topology),
     }
 }
 

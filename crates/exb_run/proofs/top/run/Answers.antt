@@ -135,6 +135,14 @@ returns-clause-says g c = λ t. record {
       let n1 : c.report.result ≢ 1 = λ h. omega arith in
       let n7 : c.report.result ≢ 7 = λ h. omega arith in
       fault_says c.work-outcome.result 10 _ _ (sym (c.report.ensures.status n1 n7) ∙ e) (omega arith) (can_be (asked c.args.words.now) c.work-outcome.result c.work-outcome.ensures.came.can_come) (c.report.ensures.whole t n1 n7);
+  eleven = λ e.
+      let n1 : c.report.result ≢ 1 = λ h. omega arith in
+      let n7 : c.report.result ≢ 7 = λ h. omega arith in
+      fault_says c.work-outcome.result 11 _ _ (sym (c.report.ensures.status n1 n7) ∙ e) (omega arith) (can_be (asked c.args.words.now) c.work-outcome.result c.work-outcome.ensures.came.can_come) (c.report.ensures.whole t n1 n7);
+  twelve = λ e.
+      let n1 : c.report.result ≢ 1 = λ h. omega arith in
+      let n7 : c.report.result ≢ 7 = λ h. omega arith in
+      fault_says c.work-outcome.result 12 _ _ (sym (c.report.ensures.status n1 n7) ∙ e) (omega arith) (can_be (asked c.args.words.now) c.work-outcome.result c.work-outcome.ensures.came.can_come) (c.report.ensures.whole t n1 n7);
 }
 
 pub returns-clause-front : goal.returns-clause-front
