@@ -4,11 +4,11 @@
 
 mod checked;
 mod fault;
-mod report;
+mod reporting;
 mod topology;
 mod weight;
 
 pub use checked::{Checked, check_captures, missing, name_of};
 pub use fault::{Fault, Flaw, Part};
-pub use report::report;
+pub use reporting::report;
 pub use topology::read_topology;

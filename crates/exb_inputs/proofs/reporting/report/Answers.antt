@@ -1,7 +1,7 @@
 use Rattle.std.proofs.Common.{◌∙◌, ◌++◌, List, ℕ, ap, sym, length}
 use Rattle.std.proofs.Math.Seq.{take-length}
 use Rattle.exb_inputs.specs.Answers.{line_of}
-use Rattle.exb_inputs.proofs.report.report.Goals as goal
+use Rattle.exb_inputs.proofs.reporting.report.Goals as goal
 
 pub returns-in-Ok-clause-front : goal.returns-in-Ok-clause-front
 returns-in-Ok-clause-front g c = λ t.

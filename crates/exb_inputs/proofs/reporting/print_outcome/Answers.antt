@@ -2,7 +2,7 @@ use Rattle.std.proofs.Common.{rules, ◌≡◌, List, ℕ, subst}
 use Rattle.std.specs.Prelude.{OnErr}
 use Rattle.exb_shelf.specs.Files.{AppendsFront}
 use Rattle.exb_inputs.specs.Answers.{line_of, fault_line}
-use Rattle.exb_inputs.proofs.report.print_outcome.Goals as goal
+use Rattle.exb_inputs.proofs.reporting.print_outcome.Goals as goal
 
 pub returns-in-Err-Usage-clause-err : goal.returns-in-Err-Usage-clause-err
 unfolding fault_line
