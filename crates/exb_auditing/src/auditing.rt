@@ -190,6 +190,7 @@ pub fn audit<S: Shelf>(
     topology: &Topology,
 ) -> Result<String, Fault>
     requires { IsValid topology.now.setup }
+    ensures says { IfOk result (λ text. (n : ℕ) × (string_bytes text ≡ legal_line n)) }
     ensures legal { S.tells → IfOk result (λ text. IsFoundLegal (scope_of topology.now) (S.file shelf.old) (string_bytes text)) }
     ensures cause { S.tells → IfErr result (λ fault. StopsAudit (scope_of topology.now) (S.file shelf.old) fault ⊎ (fault ≡ Fault.Read) ⊎ (fault ≡ Fault.Memory)) }
     ensures causes { IfErr result IsOfAudit }
