@@ -3,5 +3,6 @@
 
 mod auditing;
 mod files;
+pub mod laws;
 
 pub use auditing::audit;
