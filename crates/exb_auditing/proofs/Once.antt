@@ -119,13 +119,31 @@ module _ (s : Scope) (file : Files) where
   trace_not : (seen : Seen) → IsSeen s file seen → (x : Fault) → TraceStops s file x → ⊥
   trace_not seen are x (f, bad, is) = lines_not most (file (trace_name s.prefix)) seen.lines f are.lines bad
 
+  -- what can stop it once the journal is read, once the output files are, and once the captures are
+  abbrev AfterJournal : Fault → Type 0
+  AfterJournal x = TraceStops s file x ⊎ RulesStop s file x
+
+  abbrev AfterOutputs : Fault → Type 0
+  AfterOutputs x = JournalStops s file x ⊎ (HasEntries s file × AfterJournal x)
+
+  abbrev AfterCaptures : Fault → Type 0
+  AfterCaptures x = OutputsStop s file x ⊎ (HasOutputs s file × AfterOutputs x)
+
+  lines_last : Once AfterJournal
+  lines_last = first_once (TraceStops s file) (RulesStop s file) (λ x y p q. trace_not p.0 p.1 y q) trace_once rules_once
+
+  outputs_then : Once AfterOutputs
+  outputs_then =
+      first_once (JournalStops s file) (λ x. HasEntries s file × AfterJournal x) (λ x y p q. journal_not p.0 y q) journal_once (then_once (HasEntries s file) AfterJournal lines_last)
+
+  captures_then : Once AfterCaptures
+  captures_then =
+      first_once (OutputsStop s file) (λ x. HasOutputs s file × AfterOutputs x) (λ x y p q. outputs_not p.0 y q) outputs_once (then_once (HasOutputs s file) AfterOutputs outputs_then)
+
   -- one thing stops it
   pub stops_once : Once (StopsAudit s file)
   stops_once =
-      first_once (CapturesStop s file) _ (λ x y p q. captures_not p.0 y q) captures_once (then_once (HasCaptures s file) _
-      (first_once (OutputsStop s file) _ (λ x y p q. outputs_not p.0 y q) outputs_once (then_once (HasOutputs s file) _
-      (first_once (JournalStops s file) _ (λ x y p q. journal_not p.0 y q) journal_once (then_once (HasEntries s file) _
-      (first_once (TraceStops s file) (RulesStop s file) (λ x y p q. trace_not p.0 p.1 y q) trace_once rules_once))))))
+      first_once (CapturesStop s file) (λ x. HasCaptures s file × AfterCaptures x) (λ x y p q. captures_not p.0 y q) captures_once (then_once (HasCaptures s file) AfterCaptures captures_then)
 
   -- nothing stops it where all can be read and the trace is legal
   pub seen_not : (seen : Seen) (x : Fault) → IsSeen s file seen → IsLegal (evidence_of s seen) → StopsAudit s file x → ⊥
