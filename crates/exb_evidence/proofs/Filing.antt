@@ -13,7 +13,7 @@ use Rattle.exb_evidence.specs.declared.frames.FramesFault.TheVariants.{Memory, R
 use Rattle.exb_evidence.specs.Frames.{Reading, IsReadFrom, EachIsRead, total, AreRead, IsGood, StandsBy, IsFlaw, IsFirstFault}
 
 pub total_more : (file : Files) (xs ys : List PortFile) → total file (xs ++ ys) ≡ total file xs + total file ys
-total_more file [] ys = refl
+total_more file [] ys = omega arith
 total_more file (x ∷ xs) ys = omega (arith, total_more file xs ys)
 
 pub each_more : (read : Reading) (file : Files) (xs : List PortFile) (fs : List PortFrames) (x : PortFile) (f : PortFrames) → EachIsRead read file xs fs → IsReadFrom read file x f
@@ -22,6 +22,11 @@ each_more read file [] [] x f e h = (h, tt)
 each_more read file (y ∷ ys) (g ∷ gs) x f e h = (e.0, each_more read file ys gs x f e.1 h)
 each_more read file [] (g ∷ gs) x f e h = absurd e
 each_more read file (y ∷ ys) [] x f e h = absurd e
+
+-- what is left of the limit behind one file more
+pub rest_more : (file : Files) (xs : List PortFile) (one : PortFile) (bytes : List ℕ) (n left limit : ℕ) → total file xs + left ≡ limit → file one.name ≡ Some bytes → n ≡ length bytes → n ≤ left
+    → total file (xs ++ one ∷ []) + (left - n) ≡ limit
+rest_more file xs one bytes n left limit e there size fits = omega (arith, e, total_more file xs (one ∷ []), ap (λ (o : Option (List ℕ)). length (bytes_of o)) there, size, fits)
 
 good_of : (read : Reading) (file : Files) (x : PortFile) (f : PortFrames) → IsReadFrom read file x f → IsGood read file x
 good_of read file x f h = record { bytes = h.bytes; there = h.there; records = h.holds.records; is = h.holds.is }
