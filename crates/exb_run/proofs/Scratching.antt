@@ -30,7 +30,7 @@ use Rattle.exb_text.specs.declared.output.Output.TheVariants as output
 use Rattle.exb_text.specs.Names.{capture_name, counters_name, file_name, journal_name, trace_name}
 use Rattle.exb_inputs.specs.declared.checked.Checked.{Checked}
 use Rattle.exb_inputs.specs.declared.fault.Fault.{Fault}
-use Rattle.exb_inputs.specs.declared.fault.Fault.TheVariants.{Usage, Missing, Topology as BadTopology, Capture as Faulty, Changed, Output, TooLarge, BadLine, Illegal, Read, Write, Memory}
+use Rattle.exb_inputs.specs.declared.fault.Fault.TheVariants.{Usage, Missing, Topology as BadTopology, Capture as Faulty, Changed, Output as Unread, TooLarge, BadLine, Illegal, Read, Write, Memory}
 use Rattle.exb_run.specs.Answers.{eager_summary}
 use Rattle.exb_inputs.specs.Checks.{AreAllGood, AreChecked, FirstFault, IsGood, IsGoodNamed, most_bytes}
 use Rattle.exb_run.specs.Checks.{CanBeRead}
@@ -296,7 +296,7 @@ memory_alone (Err (Missing name)) m n causes never counts = absurd causes
 memory_alone (Err (BadTopology fault)) m n causes never counts = absurd causes
 memory_alone (Err (Faulty p flaw)) m n causes never counts = absurd causes
 memory_alone (Err (Changed p at)) m n causes never counts = absurd (never tt)
-memory_alone (Err (Output p broke)) m n causes never counts = absurd causes
+memory_alone (Err (Unread p broke)) m n causes never counts = absurd causes
 memory_alone (Err (TooLarge what)) m n causes never counts = absurd causes
 memory_alone (Err (BadLine what n)) m n causes never counts = absurd causes
 memory_alone (Err (Illegal r)) m n causes never counts = absurd causes
