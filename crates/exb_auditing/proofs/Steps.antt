@@ -47,8 +47,16 @@ module _ (s : Scope) (f : Files) (captures : List PortFrames) (are_captures : Ar
     module _ (journal : List (List ℕ)) (are_entries : AreEntries s h journal) (i : Files) (same_i : SameFiles f i) where
       pub trace_cause : (x : Fault) → TraceStops s i x ⊎ (x ≡ Read) ⊎ (x ≡ Memory) → StopsAudit s f x ⊎ (x ≡ Read) ⊎ (x ≡ Memory)
       trace_cause x (inl stop) =
-          inl (inr ((captures, are_captures), inr ((outputs, back (λ k. AreOutputs s k outputs) f g same are_outputs), inr ((journal, back (λ k. AreEntries s k journal) f h same_h are_entries),
-          inl (back (λ k. TraceStops s k x) f i same_i stop)))))
+          inl (inr (
+            (captures, are_captures),
+            inr (
+              (outputs, back (λ k. AreOutputs s k outputs) f g same are_outputs),
+              inr (
+                (journal, back (λ k. AreEntries s k journal) f h same_h are_entries),
+                inl (back (λ k. TraceStops s k x) f i same_i stop),
+              ),
+            ),
+          ))
       trace_cause x (inr other) = inr other
 
       pub all_seen : (lines : List TraceLine) → AreLines s i lines → IsSeen s f (record { captures = captures; outputs = outputs; journal = journal; lines = lines })

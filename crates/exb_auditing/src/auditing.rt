@@ -16,7 +16,9 @@ ghost use Rattle.exb_auditing.specs.Scopes.{capture_files, output_files, scope_o
 
 use crate::files::{capture_files, output_files};
 use exb_audit::{Judged, PortFrames, judge};
-use exb_evidence::{FramesFault, Grammar, LIMIT, LinesFault, read_frames, read_journal, read_trace};
+use exb_evidence::{
+    FramesFault, Grammar, LIMIT, LinesFault, read_frames, read_journal, read_trace,
+};
 use exb_inputs::{Fault, Flaw, Part, missing};
 use exb_model::bytes::Bytes;
 use exb_model::memory::NoMemory;
@@ -184,11 +186,7 @@ fn judge_all(
 
 /// Reads what a run of a topology was given and wrote, in port order captures and output files, then journal and trace; judges it
 /// by the five rules of a legal trace alone; and answers the line that says that it is legal.
-pub fn audit<S: Shelf>(
-    alloc: Global,
-    shelf: &mut S,
-    topology: &Topology,
-) -> Result<String, Fault>
+pub fn audit<S: Shelf>(alloc: Global, shelf: &mut S, topology: &Topology) -> Result<String, Fault>
     requires { IsValid topology.now.setup }
     ensures says { IfOk result (λ text. (n : ℕ) × (string_bytes text ≡ legal_line n)) }
     ensures legal { S.tells → IfOk result (λ text. IsFoundLegal (scope_of topology.now) (S.file shelf.old) (string_bytes text)) }

@@ -74,11 +74,7 @@ fn read_bytes<S: Shelf>(alloc: Global, shelf: &mut S, name: &str) -> Result<Vec<
 }
 
 /// Reads the topology file of this name.
-pub fn read_topology<S: Shelf>(
-    alloc: Global,
-    shelf: &mut S,
-    name: &str,
-) -> Result<Topology, Fault>
+pub fn read_topology<S: Shelf>(alloc: Global, shelf: &mut S, name: &str) -> Result<Topology, Fault>
     ensures read { S.tells → IfOk result (HoldsTopology name.now (S.file shelf.old)) }
     ensures valid { IfOk result (λ topology. IsValid topology.setup) }
     ensures sound { IfOk result IsSound }

@@ -173,6 +173,7 @@ module _ (tells : Type 0) (f : Files) (name : List ℕ) (a b : ℕ → Id) (read
     where
       all : Opens IsReading a c
       all = opens_then IsReading a b c (opens_weaker _ _ a b (λ i r. record { given = r.given; reads = r.reads }) read) (opens_weaker _ _ b c (λ i r. reads_evidence (scope_of t) i r) opened)
+
       wants : tells → Opens (IsWanted (Some (Audit name)) f) a c
       wants told = opens_then _ a b c (opens_weaker _ _ a b (λ i r. inl r) read) (opens_weaker _ _ b c (λ i r. inr (record { topology = t; holds = holds told; evidence = r })) opened)
 
