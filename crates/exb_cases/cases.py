@@ -16,6 +16,7 @@ import sys
 sys.dont_write_bytecode = True
 HERE = os.path.dirname(os.path.abspath(__file__))
 sys.path.insert(0, HERE)
+import audits
 import bridge
 import changes
 import examples
@@ -340,7 +341,7 @@ def main():
     print(f"{stepped.agree()} cases of exb_schedule_tests come to the same")
     cases = Cases()
     for part in (examples.play, frames, vlans, counters, files, *trees.PARTS, *changes.PARTS, *generated.PARTS, *fates.PARTS, *seeds.PARTS,
-                 *words.PARTS, *pcapng.PARTS, faults, outputs_that_are_read):
+                 *words.PARTS, *pcapng.PARTS, *audits.PARTS, faults, outputs_that_are_read):
         part(cases)
     cases.write()
 

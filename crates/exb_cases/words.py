@@ -7,7 +7,7 @@ from world.schedule import play, summary as summary_of
 
 A = {"x1.1": "a.pcap"}
 TWO_PORTS = one_extender(2, A)
-USAGE = "exbr: usage: exbr run TOPOLOGY [--trace] [--counters] [--seed N] | exbr check TOPOLOGY | exbr make N"
+USAGE = "exbr: usage: exbr run TOPOLOGY [--trace] [--counters] [--seed N] | exbr check TOPOLOGY | exbr make N | exbr audit TOPOLOGY"
 
 REFUSED = {
     "no-words": "",
@@ -17,6 +17,7 @@ REFUSED = {
     "run-alone": "run",
     "check-alone": "check",
     "make-alone": "make",
+    "audit-alone": "audit",
     "a-word-too-many": "run FOLDER/topology.toml FOLDER/topology.toml",
     "another-word": "walk FOLDER/topology.toml",
     "option-alone": "run --trace",
@@ -57,6 +58,9 @@ REFUSED = {
     "make-of-two": "make 7 7",
     "make-with-trace": "make 7 --trace",
     "make-of-an-empty-word": 'make ""',
+    "audit-of-two": "audit FOLDER/topology.toml FOLDER/topology.toml",
+    "audit-with-trace": "audit FOLDER/topology.toml --trace",
+    "audit-with-seed": "audit FOLDER/topology.toml --seed 1",
 }
 
 

@@ -29,7 +29,7 @@ _exbr() {
     local word=${COMP_WORDS[COMP_CWORD]} before=${COMP_WORDS[COMP_CWORD - 1]} options=
     COMPREPLY=()
     if [ "$COMP_CWORD" -eq 1 ]; then
-        COMPREPLY=($(compgen -W "run check make" -- "$word"))
+        COMPREPLY=($(compgen -W "run check make audit" -- "$word"))
         return 0
     fi
     case ${COMP_WORDS[1]} in
@@ -42,7 +42,7 @@ _exbr() {
         *) _exbr_topologies "$word" ;;
         esac
         ;;
-    check) _exbr_topologies "$word" ;;
+    check | audit) _exbr_topologies "$word" ;;
     esac
     return 0
 }

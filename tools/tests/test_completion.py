@@ -30,7 +30,7 @@ class Bash(unittest.TestCase):
         return sorted(ran.stdout.splitlines())
 
     def test_first_words(self):
-        self.assertEqual(self.completed(""), ["check", "make", "run"])
+        self.assertEqual(self.completed(""), ["audit", "check", "make", "run"])
         self.assertEqual(self.completed("c"), ["check"])
         self.assertEqual(self.completed("x"), [])
 

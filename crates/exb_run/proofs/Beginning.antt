@@ -27,11 +27,12 @@ use Rattle.exb_schedule.specs.Playing.{letters_in}
 use Rattle.exb_shelf.specs.Files.{Files, bytes_of}
 use Rattle.exb_shelf.specs.Shelf.{Id}
 use Rattle.exb_tables.specs.declared.rows.Named.{Named}
-use Rattle.exb_run.specs.declared.checked.Checked.{Checked}
+use Rattle.exb_inputs.specs.declared.checked.Checked.{Checked}
 use Rattle.exb_run.specs.declared.outputs.Outputs.{Outputs}
-use Rattle.exb_run.specs.Checks.{CanBeRead, IsGood, IsToldOf, earlier, first_standing, most_bytes, start_told, stream_told}
-use Rattle.exb_run.specs.Inputs.{bytes_at, bytes_named, input_from, is_named, name_of, records_at}
-use Rattle.exb_run.specs.Opening.{ReadsCapture}
+use Rattle.exb_run.specs.Checks.{CanBeRead, earlier, first_standing, start_told, stream_told}
+use Rattle.exb_inputs.specs.Checks.{IsGood, IsToldOf, most_bytes}
+use Rattle.exb_inputs.specs.Inputs.{bytes_at, bytes_named, input_from, is_named, name_of, records_at}
+use Rattle.exb_inputs.specs.Shelving.{ReadsCapture}
 use Rattle.exb_run.specs.Outputs.{OnlyPlanned, output_name}
 use Rattle.exb_run.specs.Plans.{Planned, output_count}
 use Rattle.exb_run.specs.Playing.{IsScript, Run}

@@ -26,7 +26,7 @@ use Rattle.exb_text.specs.declared.output.Output.{Output}
 use Rattle.exb_text.specs.declared.output.Output.TheVariants as output
 use Rattle.exb_text.specs.Names.{capture_name, journal_name}
 use Rattle.exb_counters.specs.Counters.{count_text}
-use Rattle.exb_run.specs.declared.fault.Fault.{Fault}
+use Rattle.exb_inputs.specs.declared.fault.Fault.{Fault}
 use Rattle.exb_run.specs.declared.counted.Counted.{Counted}
 use Rattle.exb_run.specs.declared.outputs.Outputs.{Outputs}
 use Rattle.exb_run.specs.Outputs.{AreCutEagerly, AreFrontsOf, GrowsEagerly, HasPlayed, IsCut, output_name, output_text}

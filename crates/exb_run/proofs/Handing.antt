@@ -16,8 +16,9 @@ use Rattle.exb_text.specs.Names.{IsOfPort, all_outputs, file_name, other_outputs
 use Rattle.exb_shelf.specs.Files.{Files}
 use Rattle.exb_topology.specs.declared.topology.Topology.{Topology}
 use Rattle.exb_topology.specs.Sound.{IsApart, IsSound}
-use Rattle.exb_run.specs.declared.checked.Checked.{Checked}
-use Rattle.exb_run.specs.Checks.{AreChecked, CanBeRead}
+use Rattle.exb_inputs.specs.declared.checked.Checked.{Checked}
+use Rattle.exb_inputs.specs.Checks.{AreChecked}
+use Rattle.exb_run.specs.Checks.{CanBeRead}
 use Rattle.exb_run.specs.Outputs.{output_name}
 use Rattle.exb_run.specs.Plans.{Planned, IsMade, kind_at, output_count, place_in}
 use Rattle.exb_run.specs.Playing.{IsScript}

@@ -19,9 +19,6 @@ pub mod OutputLemmas
 pub mod PortCounts
 pub mod Cutting
 pub mod CuttingOff
-pub mod FaultLemmas
-pub mod Refusing
-pub mod Asking
 pub mod Stopping
 pub mod Running
 pub mod RunLemmas

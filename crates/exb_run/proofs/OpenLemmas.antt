@@ -7,17 +7,21 @@ use Rattle.exb_shelf.specs.Files.{Files}
 use Rattle.exb_shelf.specs.Shelf.{Id, IsReading, IsReadingOf, Opens}
 use Rattle.exb_shelf.proofs.IdLemmas.{opens_none, opens_weaker, opens_then}
 use Rattle.exb_topology.specs.declared.topology.Topology.{Topology}
-use Rattle.exb_words.specs.Words.{Ask, Run, Check}
-use Rattle.exb_run.specs.declared.fault.Fault.{Fault}
-use Rattle.exb_run.specs.declared.fault.Fault.TheVariants.{Usage, Missing, Topology as BadTopology, Capture, Changed, Read, Write, Memory}
+use Rattle.exb_words.specs.Words.{Ask, Run, Check, Audit}
+use Rattle.exb_inputs.specs.declared.fault.Fault.{Fault}
+use Rattle.exb_inputs.specs.declared.fault.Fault.TheVariants.{Usage, Missing, Topology as BadTopology, Capture, Changed, Output, TooLarge, BadLine, Illegal, Read, Write, Memory}
 use Rattle.exb_words.specs.declared.asked.Options.{Options}
 use Rattle.exb_run.specs.Plans.{Planned, kind_at, output_count}
 use Rattle.exb_run.specs.Outputs.{output_name}
-use Rattle.exb_run.specs.Checks.{AreAllGood}
+use Rattle.exb_inputs.specs.Checks.{AreAllGood}
 use Rattle.exb_run.specs.Shelving.{IsOfPlay, IsOfRun, WritesPlanned}
-use Rattle.exb_run.specs.Answers.{HoldsTopology, status_of}
-use Rattle.exb_run.specs.Reading.{IsOfCapture, IsOfPlaying}
-use Rattle.exb_run.specs.Opening.{IsOutput, ReadsCapture, WritesOutput, IsOpenedFor, OpensBy}
+use Rattle.exb_inputs.specs.Answers.{HoldsTopology, status_of}
+use Rattle.exb_inputs.specs.Reading.{IsOfAudit, IsOfCapture, IsOfPlaying}
+use Rattle.exb_auditing.specs.Reads.{ReadsEvidence}
+use Rattle.exb_auditing.specs.Scopes.{scope_of}
+use Rattle.exb_auditing.proofs.Steps.{reads_evidence}
+use Rattle.exb_run.specs.Opening.{IsOutput, IsWanted, WritesOutput, IsOpenedFor, OpensBy}
+use Rattle.exb_inputs.specs.Shelving.{ReadsCapture}
 use Rattle.exb_run.proofs.ByKind.{kind_is}
 use Rattle.exb_run.proofs.Reporting.{early_end, opens_on}
 use Rattle.exb_run.proofs.Running.{Outcome}
@@ -29,6 +33,10 @@ capture_plays (Missing name) is = tt
 capture_plays (BadTopology fault) is = absurd is
 capture_plays (Capture p flaw) is = is
 capture_plays (Changed p at) is = absurd is
+capture_plays (Output p broke) is = absurd is
+capture_plays (TooLarge what) is = absurd is
+capture_plays (BadLine what n) is = absurd is
+capture_plays (Illegal r) is = absurd is
 capture_plays Read is = tt
 capture_plays Write is = absurd is
 capture_plays Memory is = tt
@@ -39,6 +47,10 @@ play_plays (Missing name) is = absurd is
 play_plays (BadTopology fault) is = absurd is
 play_plays (Capture p flaw) is = absurd is
 play_plays (Changed p at) is = is
+play_plays (Output p broke) is = absurd is
+play_plays (TooLarge what) is = absurd is
+play_plays (BadLine what n) is = absurd is
+play_plays (Illegal r) is = absurd is
 play_plays Read is = tt
 play_plays Write is = tt
 play_plays Memory is = tt
@@ -55,9 +67,28 @@ not_three (Err (Missing name)) is = λ e. omega arith
 not_three (Err (BadTopology fault)) is = absurd is
 not_three (Err (Capture p flaw)) is = λ e. omega arith
 not_three (Err (Changed p at)) is = λ e. omega arith
+not_three (Err (Output p broke)) is = λ e. omega arith
+not_three (Err (TooLarge what)) is = λ e. omega arith
+not_three (Err (BadLine what n)) is = λ e. omega arith
+not_three (Err (Illegal r)) is = λ e. omega arith
 not_three (Err Read) is = λ e. omega arith
 not_three (Err Write) is = λ e. omega arith
 not_three (Err Memory) is = λ e. omega arith
+
+audit_three : (o : Outcome) → IfErr o IsOfAudit → status_of o ≢ 3
+audit_three (Ok line) is = λ e. omega arith
+audit_three (Err Usage) is = absurd is
+audit_three (Err (Missing name)) is = λ e. omega arith
+audit_three (Err (BadTopology fault)) is = absurd is
+audit_three (Err (Capture p flaw)) is = λ e. omega arith
+audit_three (Err (Changed p at)) is = absurd is
+audit_three (Err (Output p broke)) is = λ e. omega arith
+audit_three (Err (TooLarge what)) is = λ e. omega arith
+audit_three (Err (BadLine what n)) is = λ e. omega arith
+audit_three (Err (Illegal r)) is = λ e. omega arith
+audit_three (Err Read) is = λ e. omega arith
+audit_three (Err Write) is = absurd is
+audit_three (Err Memory) is = λ e. omega arith
 
 -- ---- outputs
 output_is : (plan : Planned) (j : ℕ) → j < output_count plan → IsOutput plan.options plan.tree plan.prefix (output_name plan j)
@@ -88,12 +119,13 @@ opened_for plan options t f a b c same prefix tree good read played =
 
 -- ---- by the status
 -- nothing is opened
-pub opens_by_none : (tells : Type 0) (a : Option Ask) (f : Files) (status : ℕ) (ids : ℕ → Id) → ((name : List ℕ) → a ≢ Some (Check name)) → OpensBy tells status a f ids ids
-opens_by_none tells a f status ids not_check = record {
+pub opens_by_none : (tells : Type 0) (a : Option Ask) (f : Files) (status : ℕ) (ids : ℕ → Id) → ((name : List ℕ) → a ≢ Some (Check name)) → ((name : List ℕ) → a ≢ Some (Audit name)) → OpensBy tells status a f ids ids
+opens_by_none tells a f status ids not_check not_audit = record {
   nothing = λ e j. refl;
   made = λ number e j. refl;
   topology = λ e. opens_none _ ids;
   checked = λ name e. absurd (not_check name e);
+  audited = λ name e. absurd (not_audit name e);
   reads = λ n0 n1 n6 n7 n10. opens_none _ ids;
   wanted = λ t n0 n1 n6 n7 n10. opens_none _ ids;
   only = λ t. opens_none _ ids;
@@ -107,10 +139,43 @@ module _ (tells : Type 0) (f : Files) (name : List ℕ) (a b : ℕ → Id) (read
     made = λ number e. absurd (cc);
     topology = λ e. read;
     checked = λ n e. read;
+    audited = λ n e. absurd (cc);
     reads = λ n0 n1 n6 n7 n10. opens_weaker _ _ a b (λ i r. record { given = r.given; reads = r.reads }) read;
     wanted = λ t n0 n1 n6 n7 n10. opens_weaker _ _ a b (λ i r. inl r) read;
     only = λ t. opens_weaker _ _ a b (λ i r. inl (inl r)) read;
   }
+
+  -- the topology alone, since it is refused, or what is audited too
+  pub audit_refused_opens : (status : ℕ) → OpensBy tells status (Some (Audit name)) f a b
+  audit_refused_opens status = record {
+    nothing = λ e. absurd (cc);
+    made = λ number e. absurd (cc);
+    topology = λ e. read;
+    checked = λ n e. absurd (cc);
+    audited = λ n e. opens_weaker _ _ a b (λ i r. record { given = r.given; reads = r.reads }) read;
+    reads = λ n0 n1 n6 n7 n10. opens_weaker _ _ a b (λ i r. record { given = r.given; reads = r.reads }) read;
+    wanted = λ t n0 n1 n6 n7 n10. opens_weaker _ _ a b (λ i r. inl r) read;
+    only = λ t. opens_weaker _ _ a b (λ i r. inl (inl r)) read;
+  }
+
+  pub opens_by_audit : (o : Outcome) (t : Topology) (c : ℕ → Id) → (tells → HoldsTopology name f t) → IfErr o IsOfAudit → Opens (ReadsEvidence (scope_of t)) b c
+      → OpensBy tells (status_of o) (Some (Audit name)) f a c
+  opens_by_audit o t c holds causes opened = record {
+    nothing = λ e. absurd (cc);
+    made = λ number e. absurd (cc);
+    topology = λ e. absurd (audit_three o causes e);
+    checked = λ n e. absurd (cc);
+    audited = λ n e. all;
+    reads = λ n0 n1 n6 n7 n10. all;
+    wanted = λ told n0 n1 n6 n7 n10. wants told;
+    only = λ told. opens_weaker _ _ a c (λ i r. inl r) (wants told);
+  }
+    where
+      all : Opens IsReading a c
+      all = opens_then IsReading a b c (opens_weaker _ _ a b (λ i r. record { given = r.given; reads = r.reads }) read) (opens_weaker _ _ b c (λ i r. reads_evidence (scope_of t) i r) opened)
+
+      wants : tells → Opens (IsWanted (Some (Audit name)) f) a c
+      wants told = opens_then _ a b c (opens_weaker _ _ a b (λ i r. inl r) read) (opens_weaker _ _ b c (λ i r. inr (record { topology = t; holds = holds told; evidence = r })) opened)
 
   module _ (options : Options) where
     -- the topology alone, since it is refused
@@ -120,6 +185,7 @@ module _ (tells : Type 0) (f : Files) (name : List ℕ) (a b : ℕ → Id) (read
       made = λ number e. absurd (cc);
       topology = λ e. read;
       checked = λ n e. absurd (cc);
+      audited = λ n e. absurd (cc);
       reads = λ n0 n1 n6 n7 n10. opens_weaker _ _ a b (λ i r. record { given = r.given; reads = r.reads }) read;
       wanted = λ t n0 n1 n6 n7 n10. opens_weaker _ _ a b (λ i r. inl r) read;
       only = λ t. opens_weaker _ _ a b (λ i r. inl (inl r)) read;
@@ -135,6 +201,7 @@ module _ (tells : Type 0) (f : Files) (name : List ℕ) (a b : ℕ → Id) (read
       made = λ number e. absurd (cc);
       topology = λ e. absurd (not_three o causes e);
       checked = λ n e. absurd (cc);
+      audited = λ n e. absurd (cc);
       reads = λ n0 n1 n6 n7 n10.
           early_end o _
           (opens_on o IsReading (ReadsCapture t.captures) a b c (opens_weaker _ _ a b (λ i r. record { given = r.given; reads = r.reads }) read)
@@ -165,6 +232,7 @@ opens_by_status tells asked f status o a b is opens = record {
   made = opens.made;
   topology = λ e. opens.topology (sym (is (λ x. omega arith) (λ x. omega arith)) ∙ e);
   checked = opens.checked;
+  audited = opens.audited;
   reads = λ n0 n1 n6 n7 n10. let same = is n1 n7 in opens.reads (λ e. n0 (same ∙ e)) (λ e. n1 (same ∙ e)) (λ e. n6 (same ∙ e)) (λ e. n7 (same ∙ e)) (λ e. n10 (same ∙ e));
   wanted = λ t n0 n1 n6 n7 n10. let same = is n1 n7 in opens.wanted t (λ e. n0 (same ∙ e)) (λ e. n1 (same ∙ e)) (λ e. n6 (same ∙ e)) (λ e. n7 (same ∙ e)) (λ e. n10 (same ∙ e));
   only = opens.only;

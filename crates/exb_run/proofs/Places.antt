@@ -1,37 +1,19 @@
 -- The numbers below n that pass a test, in order, and the place of each among them.
 use Rattle.std.proofs.Common.{◌≡◌, ◌<◌, ◌≤◌, ◌+◌, ◌++◌, ℕ, zero, suc, Bool, true, false, ◌==◌, ◌&&◌, if◌then◌else◌, List, [], ◌∷◌, filter, length, get_or, refl, ap, sym, ◌∙◌, arith, subst, inl, inr, length-append, add-one, eq-eqb, slice_index}
 use Rattle.std.proofs.lemmas.Bool.{cases_lt, lt-ltb}
-use Rattle.std.proofs.lemmas.List.{append-nil, get_or_append_left}
-use Rattle.std.proofs.lemmas.List.Elements.{filter-append}
+use Rattle.std.proofs.lemmas.List.{get_or_append_left}
 use Rattle.std.proofs.Math.Seq.{get_or-append_seam}
 use Rattle.exb_model.specs.Ports.{below}
 use Rattle.exb_model.specs.Tree.{Shape, HangsOn, IsTree, is_port, is_extender, is_cascade, on, is_external, external_ports}
 use Rattle.exb_model.proofs.TreeHung.{extender-low}
 use Rattle.exb_model.proofs.TreeWays.{any_below-from}
 use Rattle.exb_model.proofs.Validity.{extender_from, no_port_past}
-use Rattle.exb_model.proofs.PortLemmas.{below-more}
+use Rattle.exb_inputs.proofs.Passing.{last, passed_here, passed_more, passed_none, passed_not}
 use Rattle.exb_run.specs.Plans.{Planned, port_count, port_at, place_in, ArePlaced}
 
 module _ (P : ℕ → Bool) where
-  -- those below n, and whether n is one
-  abbrev last : ℕ → List ℕ
-  last n = if P n then n ∷ [] else []
-
-  passed_more : (n : ℕ) → filter P (below (suc n)) ≡ filter P (below n) ++ last n
-  passed_more n = ap (λ (k : ℕ). filter P (below k)) (sym (add-one n)) ∙ ap (filter P) (below-more n) ∙ filter-append P (below n) (n ∷ [])
-
-  pub passed_here : (n : ℕ) → P n ≡ true → filter P (below (suc n)) ≡ filter P (below n) ++ n ∷ []
-  passed_here n is = passed_more n ∙ ap (λ (b : Bool). filter P (below n) ++ (if b then n ∷ [] else [])) is
-
-  pub passed_not : (n : ℕ) → P n ≡ false → filter P (below (suc n)) ≡ filter P (below n)
-  passed_not n isnt = passed_more n ∙ ap (λ (b : Bool). filter P (below n) ++ (if b then n ∷ [] else [])) isnt ∙ append-nil (filter P (below n))
-
-  pub passed_none : filter P (below 0) ≡ []
-  unfolding below
-  passed_none = refl
-
   none_passed : length (filter P (below 0)) ≡ 0
-  none_passed = ap (λ (xs : List ℕ). length xs) passed_none
+  none_passed = ap (λ (xs : List ℕ). length xs) (passed_none P)
 
   -- q stands at place j: it passes, and as many pass before it
   pub record IsAt (n j q : ℕ) : Type 0 where
@@ -45,7 +27,7 @@ module _ (P : ℕ → Bool) where
   at_more : (n j d : ℕ) → (j < length (filter P (below n)) → IsAt n j (get_or (filter P (below n)) j d)) →
       (b : Bool) → P n ≡ b → j < length (filter P (below (suc n))) → IsAt (suc n) j (get_or (filter P (below (suc n))) j d)
   at_more n j d before true is low =
-      let all = passed_here n is in
+      let all = passed_here P n is in
       subst (λ (xs : List ℕ). IsAt (suc n) j (get_or xs j d)) (sym all)
       (elim (cases_lt j (length (filter P (below n)))) [
         | inl inside ↦
@@ -57,7 +39,7 @@ module _ (P : ℕ → Bool) where
             subst (IsAt (suc n) j) (sym (ap (λ (k : ℕ). get_or (filter P (below n) ++ n ∷ []) k d) end ∙ get_or-append_seam (filter P (below n)) n [] d)) own
       ])
   at_more n j d before false isnt low =
-      let all = passed_not n isnt in
+      let all = passed_not P n isnt in
       let inside : j < length (filter P (below n)) = subst (λ (xs : List ℕ). j < length xs) all low in
       subst (λ (xs : List ℕ). IsAt (suc n) j (get_or xs j d)) (sym all) (later n j _ (before inside))
 
@@ -75,15 +57,15 @@ module _ (P : ℕ → Bool) where
   placed (suc n) q d low is = elim (cases_lt q n) [
     | inl before ↦
         let was = placed n q d before is in
-        let all = passed_more n in
-        let size : length (filter P (below (suc n))) ≡ length (filter P (below n)) + length (last n) = ap (λ (xs : List ℕ). length xs) all ∙ length-append (filter P (below n)) (last n) in
+        let all = passed_more P n in
+        let size : length (filter P (below (suc n))) ≡ length (filter P (below n)) + length (last P n) = ap (λ (xs : List ℕ). length xs) all ∙ length-append (filter P (below n)) (last P n) in
         record {
           inside = let low' = was.inside in omega arith;
-          here = ap (λ (xs : List ℕ). get_or xs (length (filter P (below q))) d) all ∙ get_or_append_left (filter P (below n)) (last n) d (length (filter P (below q))) was.inside ∙ was.here;
+          here = ap (λ (xs : List ℕ). get_or xs (length (filter P (below q))) d) all ∙ get_or_append_left (filter P (below n)) (last P n) d (length (filter P (below q))) was.inside ∙ was.here;
         }
     | inr not_before ↦
         let same : q ≡ n = omega arith in
-        let all = passed_here n (ap P (sym same) ∙ is) in
+        let all = passed_here P n (ap P (sym same) ∙ is) in
         let size : length (filter P (below (suc n))) ≡ length (filter P (below n)) + 1 = ap (λ (xs : List ℕ). length xs) all ∙ length-append (filter P (below n)) (n ∷ []) in
         let place : length (filter P (below q)) ≡ length (filter P (below n)) = ap (λ (k : ℕ). length (filter P (below k))) same in
         record {
@@ -102,7 +84,7 @@ module _ (P : ℕ → Bool) where
   pub few_pass : (n : ℕ) → length (filter P (below n)) ≤ n
   few_pass zero = let none = none_passed in omega arith
   few_pass (suc n) =
-      let size : length (filter P (below (suc n))) ≡ length (filter P (below n)) + length (last n) = ap (λ (xs : List ℕ). length xs) (passed_more n) ∙ length-append (filter P (below n)) (last n) in
+      let size : length (filter P (below (suc n))) ≡ length (filter P (below n)) + length (last P n) = ap (λ (xs : List ℕ). length xs) (passed_more P n) ∙ length-append (filter P (below n)) (last P n) in
       let was = few_pass n in
       let one = last_small n (P n) in
       omega arith

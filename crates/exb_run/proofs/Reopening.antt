@@ -13,10 +13,11 @@ use Rattle.exb_merge.specs.Replays.{AreToldSince, HasPort, IsOpened, ReadsOn}
 use Rattle.exb_shelf.specs.Files.{Files, SameFiles}
 use Rattle.exb_shelf.specs.Shelf.{Id, IsReadingOf, Opens}
 use Rattle.exb_tables.specs.declared.rows.Named.{Named}
-use Rattle.exb_run.specs.declared.checked.Checked.{Checked}
-use Rattle.exb_run.specs.Checks.{IsToldOf, first_standing, stream_told}
-use Rattle.exb_run.specs.Inputs.{is_named, name_of}
-use Rattle.exb_run.specs.Opening.{ReadsCapture}
+use Rattle.exb_inputs.specs.declared.checked.Checked.{Checked}
+use Rattle.exb_inputs.specs.Checks.{IsToldOf}
+use Rattle.exb_run.specs.Checks.{first_standing, stream_told}
+use Rattle.exb_inputs.specs.Inputs.{is_named, name_of}
+use Rattle.exb_inputs.specs.Shelving.{ReadsCapture}
 use Rattle.exb_run.specs.Plans.{Planned}
 use Rattle.exb_run.specs.Shelving.{IsOfRun}
 use Rattle.exb_run.proofs.Beginning.{Apart, apart-ports}

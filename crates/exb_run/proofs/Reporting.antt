@@ -9,16 +9,30 @@ use Rattle.exb_shelf.specs.Shelf.{Id, Faults, Rose, Opens}
 use Rattle.exb_shelf.proofs.IdLemmas.{opens_weaker, opens_then}
 use Rattle.exb_tables.specs.declared.rows.Named.{Named}
 use Rattle.exb_words.specs.declared.asked.Options.{Options}
-use Rattle.exb_words.specs.Words.{Ask, Run, Check, Make}
-use Rattle.exb_run.specs.declared.fault.Fault.{Fault}
-use Rattle.exb_run.specs.declared.fault.Fault.TheVariants.{Usage, Missing, Topology as BadTopology, Capture, Changed, Read, Write, Memory}
-use Rattle.exb_run.specs.Inputs.{name_of}
-use Rattle.exb_run.specs.Checks.{FirstFault}
-use Rattle.exb_run.specs.Reading.{IsOfTopology, IsOfPlaying}
+use Rattle.exb_words.specs.Words.{Ask, Run, Check, Make, Audit}
+use Rattle.exb_inputs.specs.declared.fault.Fault.{Fault}
+use Rattle.exb_inputs.specs.declared.fault.Fault.TheVariants.{Usage, Missing, Topology as BadTopology, Capture, Changed, Output, TooLarge, BadLine, Illegal, Read, Write, Memory}
+use Rattle.exb_inputs.specs.Inputs.{name_of}
+use Rattle.exb_inputs.specs.Checks.{FirstFault}
+use Rattle.exb_inputs.specs.Reading.{IsOfAudit, IsOfTopology, IsOfPlaying}
 use Rattle.exb_run.specs.Shelving.{IsOfPlay}
-use Rattle.exb_run.specs.Answers.{CanBe, IsCause, IsDone, IsFailure, IsFaultLine, IsOfInput, IsRefused, IsRun, IsStatus, IsText, Stops, StopsWith, fault_line, fault_status, line_of, refused_by, status_of, usage}
+use Rattle.exb_inputs.specs.Answers.{CanBe, IsFaultLine, IsRefused, fault_line, fault_status, line_of, refused_by, status_of, usage}
+use Rattle.exb_run.specs.Answers.{IsCause, IsDone, IsFailure, IsOfInput, IsRun, IsStatus, IsText, Stops, StopsWith}
+use Rattle.exb_inputs.specs.declared.fault.Part.{Part}
+use Rattle.exb_inputs.specs.declared.fault.Part.TheVariants as part
+use Rattle.exb_evidence.specs.declared.frames.FramesFault.{FramesFault}
+use Rattle.exb_evidence.specs.declared.frames.FramesFault.TheVariants as frames
+use Rattle.exb_evidence.specs.declared.texts.LinesFault.{LinesFault}
+use Rattle.exb_evidence.specs.declared.texts.LinesFault.TheVariants as lines
+use Rattle.exb_evidence.specs.Lines.{IsLinesFault}
+use Rattle.exb_legal.specs.Entries.{entry_in}
+use Rattle.exb_legal.specs.LineTexts.{read_line as line_in}
+use Rattle.exb_text.specs.Names.{journal_name, trace_name}
+use Rattle.exb_auditing.specs.Audits.{StopsAudit, captures_fault, lines_fault, most, outputs_fault}
+use Rattle.exb_auditing.specs.Scopes.{Scope, scope_of}
+use Rattle.exb_auditing.proofs.Once.{IsOfFiles, first_of_files}
 use Rattle.exb_run.specs.Outcomes.{CanCome}
-use Rattle.exb_run.proofs.FaultLemmas.{fault_of_named}
+use Rattle.exb_inputs.proofs.FaultLemmas.{fault_of_named}
 use Rattle.exb_run.proofs.Running.{Outcome}
 use Rattle.exb_run.proofs.Stopping.{failure_is}
 
@@ -32,6 +46,10 @@ topology_can_be (BadTopology topology.Large) is = tt
 topology_can_be (BadTopology (topology.At fault key)) is = tt
 topology_can_be (Capture p flaw) is = absurd is
 topology_can_be (Changed p byte) is = absurd is
+topology_can_be (Output p broke) is = absurd is
+topology_can_be (TooLarge what) is = absurd is
+topology_can_be (BadLine what n) is = absurd is
+topology_can_be (Illegal r) is = absurd is
 topology_can_be Read is = tt
 topology_can_be Write is = absurd is
 topology_can_be Memory is = tt
@@ -42,9 +60,27 @@ playing_can_be (Missing name) is = tt
 playing_can_be (BadTopology fault) is = absurd is
 playing_can_be (Capture p flaw) is = is
 playing_can_be (Changed p byte) is = is
+playing_can_be (Output p broke) is = absurd is
+playing_can_be (TooLarge what) is = absurd is
+playing_can_be (BadLine what n) is = absurd is
+playing_can_be (Illegal r) is = absurd is
 playing_can_be Read is = tt
 playing_can_be Write is = tt
 playing_can_be Memory is = tt
+
+pub audit_can_be : (x : Fault) → IsOfAudit x → CanBe x
+audit_can_be Usage is = tt
+audit_can_be (Missing name) is = tt
+audit_can_be (BadTopology fault) is = absurd is
+audit_can_be (Capture p flaw) is = is
+audit_can_be (Changed p byte) is = absurd is
+audit_can_be (Output p broke) is = is
+audit_can_be (TooLarge what) is = tt
+audit_can_be (BadLine what n) is = is
+audit_can_be (Illegal r) is = is
+audit_can_be Read is = tt
+audit_can_be Write is = tt
+audit_can_be Memory is = tt
 
 can_be_come : (a : Option Ask) (x : Fault) → CanCome a x → CanBe x
 can_be_come None x is = subst CanBe (sym is) tt
@@ -52,6 +88,8 @@ can_be_come (Some (Run name options)) x (inl topology) = topology_can_be x topol
 can_be_come (Some (Run name options)) x (inr playing) = playing_can_be x playing
 can_be_come (Some (Check name)) x is = topology_can_be x is
 can_be_come (Some (Make number)) x is = subst CanBe (sym is) tt
+can_be_come (Some (Audit name)) x (inl topology) = topology_can_be x topology
+can_be_come (Some (Audit name)) x (inr audit) = audit_can_be x audit
 
 come_of : (a : Option Ask) (o : Outcome) (x : Fault) → IfErr o (CanCome a) → o ≡ Err x → CanCome a x
 come_of a o x come e = subst (λ (p : Outcome). IfErr p (CanCome a)) e come
@@ -66,6 +104,8 @@ usage_none (Some (Run name options)) (inl is) = absurd is
 usage_none (Some (Run name options)) (inr is) = absurd is
 usage_none (Some (Check name)) is = absurd is
 usage_none (Some (Make number)) is = absurd (cc)
+usage_none (Some (Audit name)) (inl is) = absurd is
+usage_none (Some (Audit name)) (inr is) = absurd is
 
 pub none_by_usage : (a : Option Ask) (o : Outcome) → IfErr o (CanCome a) → o ≡ Err Usage → a ≡ None
 none_by_usage a o come e = usage_none a (come_of a o Usage come e)
@@ -76,6 +116,8 @@ write_runs None is = absurd (cc)
 write_runs (Some (Run name options)) is = tt
 write_runs (Some (Check name)) is = absurd is
 write_runs (Some (Make number)) is = absurd (cc)
+write_runs (Some (Audit name)) (inl is) = absurd is
+write_runs (Some (Audit name)) (inr is) = absurd is
 
 pub run_by_write : (a : Option Ask) (o : Outcome) → IfErr o (CanCome a) → o ≡ Err Write → IsRun a
 run_by_write a o come e = write_runs a (come_of a o Write come e)
@@ -88,6 +130,10 @@ is_usage (Err (Missing name)) e = absurd (omega arith)
 is_usage (Err (BadTopology fault)) e = absurd (omega arith)
 is_usage (Err (Capture p x)) e = absurd (omega arith)
 is_usage (Err (Changed p byte)) e = absurd (omega arith)
+is_usage (Err (Output p broke)) e = absurd (omega arith)
+is_usage (Err (TooLarge what)) e = absurd (omega arith)
+is_usage (Err (BadLine what n)) e = absurd (omega arith)
+is_usage (Err (Illegal r)) e = absurd (omega arith)
 is_usage (Err Read) e = absurd (omega arith)
 is_usage (Err Write) e = absurd (omega arith)
 is_usage (Err Memory) e = absurd (omega arith)
@@ -99,6 +145,10 @@ is_read (Err (Missing name)) e = absurd (omega arith)
 is_read (Err (BadTopology fault)) e = absurd (omega arith)
 is_read (Err (Capture p x)) e = absurd (omega arith)
 is_read (Err (Changed p byte)) e = absurd (omega arith)
+is_read (Err (Output p broke)) e = absurd (omega arith)
+is_read (Err (TooLarge what)) e = absurd (omega arith)
+is_read (Err (BadLine what n)) e = absurd (omega arith)
+is_read (Err (Illegal r)) e = absurd (omega arith)
 is_read (Err Read) e = refl
 is_read (Err Write) e = absurd (omega arith)
 is_read (Err Memory) e = absurd (omega arith)
@@ -111,6 +161,10 @@ write_or_not (Err (Missing name)) = inr (λ e. omega arith)
 write_or_not (Err (BadTopology fault)) = inr (λ e. omega arith)
 write_or_not (Err (Capture p x)) = inr (λ e. omega arith)
 write_or_not (Err (Changed p byte)) = inr (λ e. omega arith)
+write_or_not (Err (Output p broke)) = inr (λ e. omega arith)
+write_or_not (Err (TooLarge what)) = inr (λ e. omega arith)
+write_or_not (Err (BadLine what n)) = inr (λ e. omega arith)
+write_or_not (Err (Illegal r)) = inr (λ e. omega arith)
 write_or_not (Err Read) = inr (λ e. omega arith)
 write_or_not (Err Write) = inl refl
 write_or_not (Err Memory) = inr (λ e. omega arith)
@@ -127,6 +181,10 @@ is_missing (Err (Missing name)) e = (name, refl)
 is_missing (Err (BadTopology fault)) e = absurd (omega arith)
 is_missing (Err (Capture p x)) e = absurd (omega arith)
 is_missing (Err (Changed p byte)) e = absurd (omega arith)
+is_missing (Err (Output p broke)) e = absurd (omega arith)
+is_missing (Err (TooLarge what)) e = absurd (omega arith)
+is_missing (Err (BadLine what n)) e = absurd (omega arith)
+is_missing (Err (Illegal r)) e = absurd (omega arith)
 is_missing (Err Read) e = absurd (omega arith)
 is_missing (Err Write) e = absurd (omega arith)
 is_missing (Err Memory) e = absurd (omega arith)
@@ -138,6 +196,10 @@ topology_status name (Missing n) is = refl
 topology_status name (BadTopology fault) is = refl
 topology_status name (Capture p flaw) is = absurd is
 topology_status name (Changed p byte) is = absurd is
+topology_status name (Output p broke) is = absurd is
+topology_status name (TooLarge what) is = absurd is
+topology_status name (BadLine what n) is = absurd is
+topology_status name (Illegal r) is = absurd is
 topology_status name Read is = refl
 topology_status name Write is = absurd is
 topology_status name Memory is = refl
@@ -149,9 +211,34 @@ run_status name options (Missing n) is = refl
 run_status name options (BadTopology fault) is = refl
 run_status name options (Capture p flaw) is = refl
 run_status name options (Changed p byte) is = refl
+run_status name options (Output p broke) (inl is) = absurd is
+run_status name options (Output p broke) (inr is) = absurd is
+run_status name options (TooLarge what) (inl is) = absurd is
+run_status name options (TooLarge what) (inr is) = absurd is
+run_status name options (BadLine what n) (inl is) = absurd is
+run_status name options (BadLine what n) (inr is) = absurd is
+run_status name options (Illegal r) (inl is) = absurd is
+run_status name options (Illegal r) (inr is) = absurd is
 run_status name options Read is = refl
 run_status name options Write is = refl
 run_status name options Memory is = refl
+
+audit_status : (name : List ℕ) (x : Fault) → IsOfTopology x ⊎ IsOfAudit x → IsStatus (Some (Audit name)) (fault_status x)
+audit_status name Usage (inl is) = absurd is
+audit_status name Usage (inr is) = absurd is
+audit_status name (Missing n) is = refl
+audit_status name (BadTopology fault) is = refl
+audit_status name (Capture p flaw) is = refl
+audit_status name (Changed p byte) (inl is) = absurd is
+audit_status name (Changed p byte) (inr is) = absurd is
+audit_status name (Output p broke) is = refl
+audit_status name (TooLarge what) is = refl
+audit_status name (BadLine what n) is = refl
+audit_status name (Illegal r) is = refl
+audit_status name Read is = refl
+audit_status name Write (inl is) = absurd is
+audit_status name Write (inr is) = absurd is
+audit_status name Memory is = refl
 
 status_comes : (a : Option Ask) (o : Outcome) → IfErr o (CanCome a) → (a ≡ None → IsErrOf o Usage) → IsStatus a (status_of o)
 status_comes None o come none = subst (λ (p : Outcome). IsStatus None (status_of p)) (sym (none refl)) refl
@@ -159,6 +246,8 @@ status_comes (Some (Run name options)) (Ok text) come none = refl
 status_comes (Some (Run name options)) (Err x) come none = run_status name options x come
 status_comes (Some (Check name)) (Ok text) come none = refl
 status_comes (Some (Check name)) (Err x) come none = topology_status name x come
+status_comes (Some (Audit name)) (Ok text) come none = refl
+status_comes (Some (Audit name)) (Err x) come none = audit_status name x come
 status_comes (Some (Make number)) (Ok text) come none = refl
 status_comes (Some (Make number)) (Err x) come none = subst (λ (y : Fault). IsStatus (Some (Make number)) (fault_status y)) (sym come) refl
 
@@ -167,12 +256,14 @@ one_is None = refl
 one_is (Some (Run name options)) = refl
 one_is (Some (Check name)) = refl
 one_is (Some (Make number)) = refl
+one_is (Some (Audit name)) = refl
 
 seven_is : (a : Option Ask) → IsStatus a 7
 seven_is None = refl
 seven_is (Some (Run name options)) = refl
 seven_is (Some (Check name)) = refl
 seven_is (Some (Make number)) = refl
+seven_is (Some (Audit name)) = refl
 
 pub status_is : (a : Option Ask) (o : Outcome) (s : ℕ) → IfErr o (CanCome a) → (a ≡ None → IsErrOf o Usage) → (s ≢ 1 → s ≢ 7 → s ≡ status_of o) → IsStatus a s
 status_is a o s come none is = elim (cases_eq s 1) [
@@ -184,7 +275,7 @@ status_is a o s come none is = elim (cases_eq s 1) [
 ]
 
 -- ---- a fault that stops a run is none of its failures
-module _ (s : ℕ) (two : s ≢ 2) (three : s ≢ 3) (four : s ≢ 4) (five : s ≢ 5) where
+module _ (s : ℕ) (two : s ≢ 2) (three : s ≢ 3) (four : s ≢ 4) (five : s ≢ 5) (eleven : s ≢ 11) (twelve : s ≢ 12) where
   refusal_status : (r : Refusal) → fault_status (refused_by r) ≢ s
   refusal_status not_toml e = three (sym e)
   refusal_status large e = three (sym e)
@@ -200,24 +291,52 @@ module _ (s : ℕ) (two : s ≢ 2) (three : s ≢ 3) (four : s ≢ 4) (five : s 
     | inr flaw ↦ four (sym h ∙ ap fault_status flaw.1)
   ]
 
+  frames_status : (f : FramesFault) (x : Fault) → IsOfFiles f → (x ≡ captures_fault f) ⊎ (x ≡ outputs_fault f) → fault_status x ≢ s
+  frames_status frames.Memory x of (inl is) h = absurd of
+  frames_status frames.Memory x of (inr is) h = absurd of
+  frames_status frames.Read x of (inl is) h = absurd of
+  frames_status frames.Read x of (inr is) h = absurd of
+  frames_status (frames.Missing name) x of (inl is) h = five (sym h ∙ ap fault_status is)
+  frames_status (frames.Missing name) x of (inr is) h = five (sym h ∙ ap fault_status is)
+  frames_status (frames.Broken p broke) x of (inl is) h = four (sym h ∙ ap fault_status is)
+  frames_status (frames.Broken p broke) x of (inr is) h = four (sym h ∙ ap fault_status is)
+  frames_status frames.Large x of (inl is) h = four (sym h ∙ ap fault_status is)
+  frames_status frames.Large x of (inr is) h = four (sym h ∙ ap fault_status is)
+
+  lines_status : {A : Type 0} (read : List ℕ → Option A) (file : Option (List ℕ)) (what : Part) (name : List ℕ) (f : LinesFault) (x : Fault) → IsLinesFault read most file f → x ≡ lines_fault what name f → fault_status x ≢ s
+  lines_status read file what name lines.Memory x bad is h = absurd bad
+  lines_status read file what name lines.Read x bad is h = absurd bad
+  lines_status read file what name lines.Missing x bad is h = five (sym h ∙ ap fault_status is)
+  lines_status read file what name lines.Large x bad is h = four (sym h ∙ ap fault_status is)
+  lines_status read file what name (lines.Bad n) x bad is h = twelve (sym h ∙ ap fault_status is)
+
+  audit_stop_status : (c : Scope) (file : Files) (x : Fault) → StopsAudit c file x → fault_status x ≢ s
+  audit_stop_status c file x (inl (f, first, is)) = frames_status f x (first_of_files _ file most _ f first) (inl is)
+  audit_stop_status c file x (inr (captures, inl (f, first, is))) = frames_status f x (first_of_files _ file most _ f first) (inr is)
+  audit_stop_status c file x (inr (captures, inr (outputs, inl (f, bad, is)))) = lines_status entry_in (file (journal_name c.prefix)) part.Journal (journal_name c.prefix) f x bad is
+  audit_stop_status c file x (inr (captures, inr (outputs, inr (entries, inl (f, bad, is))))) = lines_status line_in (file (trace_name c.prefix)) part.Trace (trace_name c.prefix) f x bad is
+  audit_stop_status c file x (inr (captures, inr (outputs, inr (entries, inr (seen, is_seen, r, lowest, is))))) h = eleven (sym h ∙ ap fault_status is)
+
   pub stop_status : (a : Option Ask) (f : Files) (x : Fault) → Stops a f x → fault_status x ≢ s
   stop_status None f x is h = two (sym h ∙ ap fault_status is)
   stop_status (Some (Run name options)) f x (inl refused) h = refused_status name (f name) x refused h
   stop_status (Some (Run name options)) f x (inr p) h = first_status p.topology.captures f p.port x p.first h
   stop_status (Some (Check name)) f x refused h = refused_status name (f name) x refused h
   stop_status (Some (Make number)) f x is h = absurd is
+  stop_status (Some (Audit name)) f x (inl refused) h = refused_status name (f name) x refused h
+  stop_status (Some (Audit name)) f x (inr p) h = audit_stop_status (scope_of p.topology) f x p.stops h
 
 pub stop_not_seven : (a : Option Ask) (f : Files) (x : Fault) → Stops a f x → fault_status x ≢ 7
-stop_not_seven = stop_status 7 (λ e. omega arith) (λ e. omega arith) (λ e. omega arith) (λ e. omega arith)
+stop_not_seven = stop_status 7 (λ e. omega arith) (λ e. omega arith) (λ e. omega arith) (λ e. omega arith) (λ e. omega arith) (λ e. omega arith)
 
 pub stop_not_six : (a : Option Ask) (f : Files) (x : Fault) → Stops a f x → fault_status x ≢ 6
-stop_not_six = stop_status 6 (λ e. omega arith) (λ e. omega arith) (λ e. omega arith) (λ e. omega arith)
+stop_not_six = stop_status 6 (λ e. omega arith) (λ e. omega arith) (λ e. omega arith) (λ e. omega arith) (λ e. omega arith) (λ e. omega arith)
 
 pub stop_not_ten : (a : Option Ask) (f : Files) (x : Fault) → Stops a f x → fault_status x ≢ 10
-stop_not_ten = stop_status 10 (λ e. omega arith) (λ e. omega arith) (λ e. omega arith) (λ e. omega arith)
+stop_not_ten = stop_status 10 (λ e. omega arith) (λ e. omega arith) (λ e. omega arith) (λ e. omega arith) (λ e. omega arith) (λ e. omega arith)
 
 pub stop_not_one : (a : Option Ask) (f : Files) (x : Fault) → Stops a f x → fault_status x ≢ 1
-stop_not_one = stop_status 1 (λ e. omega arith) (λ e. omega arith) (λ e. omega arith) (λ e. omega arith)
+stop_not_one = stop_status 1 (λ e. omega arith) (λ e. omega arith) (λ e. omega arith) (λ e. omega arith) (λ e. omega arith) (λ e. omega arith)
 
 -- a fault has one of these causes
 pub cause_of : (a : Option Ask) (f : Files) (o : Outcome) (x : Fault) → IfErr o (λ y. Stops a f y ⊎ IsFailure a y) → o ≡ Err x → Stops a f x ⊎ IsFailure a x
@@ -300,6 +419,10 @@ no_zero (Missing name) e = omega arith
 no_zero (BadTopology fault) e = omega arith
 no_zero (Capture p flaw) e = omega arith
 no_zero (Changed p byte) e = omega arith
+no_zero (Output p broke) e = omega arith
+no_zero (TooLarge what) e = omega arith
+no_zero (BadLine what n) e = omega arith
+no_zero (Illegal r) e = omega arith
 no_zero Read e = omega arith
 no_zero Write e = omega arith
 no_zero Memory e = omega arith
@@ -321,6 +444,10 @@ late_status (Missing name) is n1 n6 n7 n10 = is
 late_status (BadTopology fault) is n1 n6 n7 n10 = is
 late_status (Capture p flaw) is n1 n6 n7 n10 = is
 late_status (Changed p byte) is n1 n6 n7 n10 = n10 refl
+late_status (Output p broke) is n1 n6 n7 n10 = is
+late_status (TooLarge what) is n1 n6 n7 n10 = is
+late_status (BadLine what n) is n1 n6 n7 n10 = is
+late_status (Illegal r) is n1 n6 n7 n10 = is
 late_status Read is n1 n6 n7 n10 = n6 refl
 late_status Write is n1 n6 n7 n10 = n7 refl
 late_status Memory is n1 n6 n7 n10 = n1 refl

@@ -10,19 +10,24 @@ use Rattle.exb_needs.specs.Needed.{needs_of}
 use Rattle.exb_shelf.specs.Files.{Files, SameFiles}
 use Rattle.exb_topology.specs.declared.topology.Topology.{Topology}
 use Rattle.exb_words.specs.declared.asked.Options.{Options}
-use Rattle.exb_words.specs.Words.{Run, Check, Make}
-use Rattle.exb_run.specs.declared.fault.Fault.{Fault}
-use Rattle.exb_run.specs.declared.fault.Fault.TheVariants.{Usage, Read, Write, Memory}
-use Rattle.exb_run.specs.Inputs.{input_of}
+use Rattle.exb_words.specs.Words.{Run, Check, Make, Audit}
+use Rattle.exb_inputs.specs.declared.fault.Fault.{Fault}
+use Rattle.exb_inputs.specs.declared.fault.Fault.TheVariants.{Usage, Read, Write, Memory}
+use Rattle.exb_inputs.specs.Inputs.{input_of}
 use Rattle.exb_run.specs.Outputs.{AreFrontsOf, IsPlayed, OnlyOutputs}
-use Rattle.exb_run.specs.Checks.{AreAllGood, FirstFault}
-use Rattle.exb_run.specs.Reading.{IsOfTopology, IsOfPlaying}
+use Rattle.exb_inputs.specs.Checks.{AreAllGood, FirstFault}
+use Rattle.exb_inputs.specs.Reading.{IsOfAudit, IsOfTopology, IsOfPlaying}
 use Rattle.exb_run.specs.Shelving.{IsOfPlay}
-use Rattle.exb_run.specs.Answers.{AreFronts, AreFrontsIn, HoldsTopology, IsDone, IsFailure, IsRefused, OnlyAsked, Stops, eager_summary, mode_for}
+use Rattle.exb_run.specs.Answers.{AreFronts, AreFrontsIn, IsDone, IsFailure, OnlyAsked, Stops, eager_summary, mode_for}
+use Rattle.exb_inputs.specs.Answers.{HoldsTopology, IsRefused}
+use Rattle.exb_auditing.specs.Audits.{IsFoundLegal, StopsAudit}
+use Rattle.exb_auditing.specs.Scopes.{scope_of}
+use Rattle.exb_auditing.proofs.Once.{legal_not, stops_once}
 use Rattle.exb_run.specs.Outcomes.{CameOut}
-use Rattle.exb_run.proofs.Asking.{holds_once, shape_same, prefix_same}
+use Rattle.exb_inputs.proofs.Asking.{holds_once, shape_same, prefix_same}
 use Rattle.exb_run.proofs.Running.{Outcome}
-use Rattle.exb_run.proofs.Stopping.{refused_once, held_not, first_of}
+use Rattle.exb_run.proofs.Stopping.{stops_of}
+use Rattle.exb_inputs.proofs.Refused.{refused_once, held_not, first_of}
 
 -- ---- the words are not accepted
 pub came_unaccepted : (tells : Type 0) (f : Files) → CameOut tells None (Err Usage) f f
@@ -75,6 +80,26 @@ module _ (tells : Type 0) (name : List ℕ) (f g : Files) (x : Fault) (is : tell
     fronts = λ t. fronts_same name options.seed f g same;
   }
 
+  pub came_audit_refused : CameOut tells (Some (Audit name)) (Err x) f g
+  came_audit_refused = record {
+    unaccepted = λ none. absurd (cc);
+    done = λ t. tt;
+    cause = λ t. elim (is t) [
+      | inl refused ↦ inl (inl refused)
+      | inr other ↦ inr other
+    ];
+    stops = λ t fault stops. ends fault (is t) (λ refused. elim stops [
+      | inl refused' ↦ refused_once name (f name) x fault refused refused'
+      | inr stopped ↦ absurd (held_not name f stopped.topology x stopped.holds refused)
+    ]);
+    can_come = inl causes;
+    early = inr same;
+    read_only = λ other. same;
+    stopped = λ t fault stops. same;
+    others = λ t. same;
+    fronts = λ t. tt;
+  }
+
   pub came_check_refused : CameOut tells (Some (Check name)) (Err x) f g
   came_check_refused = record {
     unaccepted = λ none. absurd (cc);
@@ -119,6 +144,53 @@ came_checked tells name f g t (Err x) holds same says memory = record {
   others = λ told. same;
   fronts = λ told. tt;
 }
+
+-- ---- what a run wrote is audited
+module _ (tells : Type 0) (name : List ℕ) (f g : Files) (t : Topology) (holds : tells → HoldsTopology name f t) (same : SameFiles f g) where
+  legal-by : (o : Outcome) → IfOk o (λ text. IsFoundLegal (scope_of t) f (string_bytes text)) → HoldsTopology name f t → IfOk o (λ text. IsDone (Some (Audit name)) f g (string_bytes text))
+  legal-by (Ok text) legal held = record { topology = t; holds = held; legal = legal }
+  legal-by (Err x) legal held = tt
+
+  cause-of : (o : Outcome) → IfErr o (λ x. StopsAudit (scope_of t) f x ⊎ (x ≡ Read) ⊎ (x ≡ Memory)) → HoldsTopology name f t
+      → IfErr o (λ x. Stops (Some (Audit name)) f x ⊎ IsFailure (Some (Audit name)) x)
+  cause-of (Ok text) cause held = tt
+  cause-of (Err x) (inl stops) held = inl (inr (record { topology = t; holds = held; stops = stops }))
+  cause-of (Err x) (inr failure) held = inr failure
+
+  -- what stops the audit is answered, since there is one such fault
+  one-by : (o : Outcome) → IfOk o (λ text. IsFoundLegal (scope_of t) f (string_bytes text)) → IfErr o (λ x. StopsAudit (scope_of t) f x ⊎ (x ≡ Read) ⊎ (x ≡ Memory))
+      → (y : Fault) → StopsAudit (scope_of t) f y → IsErrOf o y ⊎ IsErrOf o Read ⊎ IsErrOf o Memory
+  one-by (Ok text) legal cause y stops = absurd (legal_not (scope_of t) f (string_bytes text) y legal stops)
+  one-by (Err x) legal (inl stopped) y stops = inl (ap Err (stops_once (scope_of t) f x y stopped stops))
+  one-by (Err x) legal (inr (inl read)) y stops = inr (inl (ap Err read))
+  one-by (Err x) legal (inr (inr memory)) y stops = inr (inr (ap Err memory))
+
+  audit-by : (y : Fault) → HoldsTopology name f t → Stops (Some (Audit name)) f y → StopsAudit (scope_of t) f y
+  audit-by y held (inl refused) = absurd (held_not name f t y held refused)
+  audit-by y held (inr stopped) = stops_of name f t y held stopped
+
+  comes-audit : (o : Outcome) → IfErr o IsOfAudit → IfErr o (λ x. IsOfTopology x ⊎ IsOfAudit x)
+  comes-audit (Ok text) is = tt
+  comes-audit (Err x) is = inr is
+
+  early-audit : (o : Outcome) → IfErr o (λ x. IsOfPlay x ⊎ SameFiles f g)
+  early-audit (Ok text) = tt
+  early-audit (Err x) = inr same
+
+  pub came_audited : (o : Outcome) → (tells → IfOk o (λ text. IsFoundLegal (scope_of t) f (string_bytes text)))
+      → (tells → IfErr o (λ x. StopsAudit (scope_of t) f x ⊎ (x ≡ Read) ⊎ (x ≡ Memory))) → IfErr o IsOfAudit → CameOut tells (Some (Audit name)) o f g
+  came_audited o legal cause causes = record {
+    unaccepted = λ none. absurd (cc);
+    done = λ told. legal-by o (legal told) (holds told);
+    cause = λ told. cause-of o (cause told) (holds told);
+    stops = λ told y stops. one-by o (legal told) (cause told) y (audit-by y (holds told) stops);
+    can_come = comes-audit o causes;
+    early = early-audit o;
+    read_only = λ other. same;
+    stopped = λ told y stops. same;
+    others = λ told. same;
+    fronts = λ told. tt;
+  }
 
 -- ---- an input is made
 pub came_made : (tells : Type 0) (number : ℕ) (f : Files) (o : Outcome) → IfOk o (λ line. string_bytes line ≡ eager_summary (made number)) → IfErr o (λ x. x ≡ Memory)

@@ -28,17 +28,19 @@ use Rattle.exb_tables.specs.declared.rows.Named.{Named}
 use Rattle.exb_text.specs.declared.output.Output.{Output}
 use Rattle.exb_text.specs.declared.output.Output.TheVariants as output
 use Rattle.exb_text.specs.Names.{capture_name, counters_name, file_name, journal_name, trace_name}
-use Rattle.exb_run.specs.declared.checked.Checked.{Checked}
-use Rattle.exb_run.specs.declared.fault.Fault.{Fault}
-use Rattle.exb_run.specs.declared.fault.Fault.TheVariants.{Usage, Missing, Topology as BadTopology, Capture as Faulty, Changed, Read, Write, Memory}
+use Rattle.exb_inputs.specs.declared.checked.Checked.{Checked}
+use Rattle.exb_inputs.specs.declared.fault.Fault.{Fault}
+use Rattle.exb_inputs.specs.declared.fault.Fault.TheVariants.{Usage, Missing, Topology as BadTopology, Capture as Faulty, Changed, Output as Unread, TooLarge, BadLine, Illegal, Read, Write, Memory}
 use Rattle.exb_run.specs.Answers.{eager_summary}
-use Rattle.exb_run.specs.Checks.{AreAllGood, AreChecked, CanBeRead, FirstFault, IsGood, IsGoodNamed, most_bytes}
-use Rattle.exb_run.specs.Inputs.{bytes_named, input_from, is_named, name_of, records_at}
+use Rattle.exb_inputs.specs.Checks.{AreAllGood, AreChecked, FirstFault, IsGood, IsGoodNamed, most_bytes}
+use Rattle.exb_run.specs.Checks.{CanBeRead}
+use Rattle.exb_inputs.specs.Inputs.{bytes_named, input_from, is_named, name_of, records_at}
 use Rattle.exb_run.specs.Outputs.{HasPlayed, output_name}
 use Rattle.exb_run.specs.Plans.{Planned, kind_at}
 use Rattle.exb_run.specs.Scratch.{AreKept, IsKept, IsReadAs, KeepsFirst, KeepsMore, name_made}
-use Rattle.exb_run.specs.Shelving.{CountsFaults, IsChange, IsOfPlay}
-use Rattle.exb_run.proofs.FaultLemmas.{first_none}
+use Rattle.exb_inputs.specs.Shelving.{CountsFaults}
+use Rattle.exb_run.specs.Shelving.{IsChange, IsOfPlay}
+use Rattle.exb_inputs.proofs.FaultLemmas.{first_none}
 use Rattle.exb_run.proofs.Places.{external_low}
 use Rattle.exb_run.proofs.Running.{Outcome}
 
@@ -294,6 +296,10 @@ memory_alone (Err (Missing name)) m n causes never counts = absurd causes
 memory_alone (Err (BadTopology fault)) m n causes never counts = absurd causes
 memory_alone (Err (Faulty p flaw)) m n causes never counts = absurd causes
 memory_alone (Err (Changed p at)) m n causes never counts = absurd (never tt)
+memory_alone (Err (Unread p broke)) m n causes never counts = absurd causes
+memory_alone (Err (TooLarge what)) m n causes never counts = absurd causes
+memory_alone (Err (BadLine what n)) m n causes never counts = absurd causes
+memory_alone (Err (Illegal r)) m n causes never counts = absurd causes
 memory_alone (Err Read) m n causes never counts = absurd (no_read Read m n counts refl)
 memory_alone (Err Write) m n causes never counts = absurd (no_write Write m n counts refl)
 memory_alone (Err Memory) m n causes never counts = refl

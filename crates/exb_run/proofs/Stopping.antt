@@ -1,35 +1,36 @@
 -- What stops what is asked for: there is one such fault, or none.
-use Rattle.std.proofs.Common.{◌≡◌, ◌⊎◌, inl, inr, ℕ, List, Option, Some, None, ap, sym, subst, ◌∙◌}
+use Rattle.std.proofs.Common.{◌≡◌, ◌⊎◌, inl, inr, ℕ, List, Option, Some, None, ap, sym, ◌∙◌, subst}
 use Rattle.exb_shelf.specs.Files.{Files}
+use Rattle.exb_words.specs.Words.{Ask, Run, Check, Make, Audit}
+use Rattle.exb_inputs.specs.declared.fault.Fault.{Fault}
+use Rattle.exb_inputs.specs.declared.fault.Fault.TheVariants.{Read, Write, Memory}
+use Rattle.exb_model.specs.Setup.{shape_of}
+use Rattle.exb_model.specs.Tree.{Shape}
 use Rattle.exb_tables.specs.declared.rows.Named.{Named}
 use Rattle.exb_topology.specs.declared.topology.Topology.{Topology}
-use Rattle.exb_topology.specs.Topologies.{topology_of}
-use Rattle.exb_words.specs.Words.{Ask, Run, Check, Make}
-use Rattle.exb_run.specs.declared.fault.Fault.{Fault}
-use Rattle.exb_run.specs.declared.fault.Fault.TheVariants.{Read, Write, Memory}
-use Rattle.exb_run.specs.Checks.{FirstFault}
-use Rattle.exb_run.specs.Answers.{HoldsTopology, CanBeDone, CaptureFaulty, IsFailure, IsRefused, Stops, refused_by}
-use Rattle.exb_run.proofs.Asking.{err_once, ok_or_err, holds_once, captures_same}
-use Rattle.exb_run.proofs.FaultLemmas.{first_none}
+use Rattle.exb_inputs.specs.Answers.{HoldsTopology}
+use Rattle.exb_inputs.proofs.Asking.{captures_same, holds_once, prefix_same, shape_same}
+use Rattle.exb_auditing.specs.Audits.{StopsAudit}
+use Rattle.exb_auditing.specs.Scopes.{Scope, scope_of}
+use Rattle.exb_auditing.proofs.Once.{seen_not}
+use Rattle.exb_run.specs.Answers.{AuditStops, CanBeDone, IsFailure, Stops}
+use Rattle.exb_inputs.proofs.FaultLemmas.{first_none}
+use Rattle.exb_inputs.proofs.Refused.{first_of, held_not}
 
--- a topology file is refused for one cause
-pub refused_once : (name : List ℕ) (o : Option (List ℕ)) (x y : Fault) → IsRefused name o x → IsRefused name o y → x ≡ y
-refused_once name None x y p q = p ∙ sym q
-refused_once name (Some bytes) x y (a, refused, is) (b, refused', is') = is ∙ ap refused_by (err_once (topology_of bytes) a b refused refused') ∙ sym is'
+-- the file of this name has one scope
+abbrev scope_by : Shape → List Named → List ℕ → Scope
+scope_by tree captures prefix = record { tree = tree; captures = captures; prefix = prefix }
 
--- and not where it holds one
-pub held_not : (name : List ℕ) (file : Files) (t : Topology) (x : Fault) → HoldsTopology name file t → IsRefused name (file name) x → ⊥
-held_not name file t x holds is = by_bytes (subst (λ (o : Option (List ℕ)). IsRefused name o x) holds.there is)
-  where
-    by_bytes : IsRefused name (Some holds.bytes) x → ⊥
-    by_bytes (refusal, refused, is') = ok_or_err _ _ _ holds.read refused
+pub scope_same : (name : List ℕ) (file : Files) (t u : Topology) → HoldsTopology name file t → HoldsTopology name file u → scope_of t ≡ scope_of u
+scope_same name file t u p q =
+    let e = holds_once name file t u p q in
+    ap (λ (x : Shape). scope_by x t.captures t.prefix) (shape_same t u e)
+    ∙ ap (λ (x : List Named). scope_by (shape_of u.setup) x t.prefix) (captures_same t u e)
+    ∙ ap (λ (x : List ℕ). scope_by (shape_of u.setup) u.captures x) (prefix_same t u e)
 
--- a capture that stops a run is one of the topology that was read
-pub first_of : (name : List ℕ) (file : Files) (t : Topology) (x : Fault) → HoldsTopology name file t → CaptureFaulty name file x → (p : ℕ) × FirstFault t.captures file p x
-first_of name file t x holds faulty = (
-  faulty.port,
-  subst (λ (names : List Named). FirstFault names file faulty.port x) (captures_same faulty.topology t (holds_once name file faulty.topology t faulty.holds holds)) faulty.first,
-)
+-- what stops an audit stops that of the topology that was read
+pub stops_of : (name : List ℕ) (file : Files) (t : Topology) (x : Fault) → HoldsTopology name file t → AuditStops name file x → StopsAudit (scope_of t) file x
+stops_of name file t x holds stopped = subst (λ (s : Scope). StopsAudit s file x) (scope_same name file stopped.topology t stopped.holds holds) stopped.stops
 
 -- nothing stops what can be done
 pub can_not : (a : Option Ask) (file : Files) (x : Fault) → CanBeDone a file → Stops a file x → ⊥
@@ -38,6 +39,8 @@ can_not (Some (Run name options)) file x (t, ready) (inl refused) = held_not nam
 can_not (Some (Run name options)) file x (t, ready) (inr faulty) = let found = first_of name file t x ready.holds faulty in first_none t.captures file found.0 x ready.good found.1
 can_not (Some (Check name)) file x (t, holds) stops = held_not name file t x holds stops
 can_not (Some (Make number)) file x can stops = absurd stops
+can_not (Some (Audit name)) file x (t, holds, seen, is, legal) (inl refused) = held_not name file t x holds refused
+can_not (Some (Audit name)) file x (t, holds, seen, is, legal) (inr stopped) = seen_not (scope_of t) file seen x is legal (stops_of name file t x holds stopped)
 
 -- any failure
 pub failure_is : (a : Option Ask) (x : Fault) → IsFailure a x → (x ≡ Read) ⊎ (x ≡ Write) ⊎ (x ≡ Memory)
@@ -46,3 +49,5 @@ failure_is (Some (Run name options)) x is = is
 failure_is (Some (Check name)) x (inl read) = inl read
 failure_is (Some (Check name)) x (inr memory) = inr (inr memory)
 failure_is (Some (Make number)) x is = inr (inr is)
+failure_is (Some (Audit name)) x (inl read) = inl read
+failure_is (Some (Audit name)) x (inr memory) = inr (inr memory)

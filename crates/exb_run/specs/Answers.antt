@@ -1,50 +1,32 @@
 -- How what is asked for ends: its status, and what is printed.
-use Rattle.std.specs.Prelude.{⊤, ◌≡◌, ◌<◌, ◌++◌, ◌⊎◌, ◌==◌, ◌||◌, IsTrue, Bool, ℕ, List, map, Option, Some, None, Result, Ok, Err, String, codes, string_bytes}
+use Rattle.std.specs.Prelude.{⊤, ◌≡◌, ◌⊎◌, ◌==◌, ◌||◌, IsTrue, ℕ, List, map, Option, Some, None, String, string_bytes}
 use Rattle.std.specs.declared.alloc.Global.{Global}
-use Rattle.std.specs.Fmt.{decimal}
 use Rattle.exb_model.specs.EagerHistory.{eager}
 use Rattle.exb_model.specs.Input.{Input, Mode, Eager, Seeded, basis_of, tree_of}
 use Rattle.exb_model.specs.Setup.{shape_of, limits_of}
-use Rattle.exb_model.specs.Texts.{port_name, summary}
-use Rattle.exb_keys.specs.declared.faults.KeyFault.{KeyFault}
-use Rattle.exb_keys.specs.declared.faults.KeyFault.TheVariants as keys
-use Rattle.exb_keys.specs.declared.faults.TopoFault.{TopoFault}
-use Rattle.exb_keys.specs.declared.faults.TopoFault.TheVariants as topology
-use Rattle.exb_keys.specs.Faults.{Refusal, not_toml, large, at}
+use Rattle.exb_model.specs.Texts.{summary}
 use Rattle.exb_made.specs.Made.{made}
-use Rattle.exb_merge.specs.declared.replays.CaptureFault.{CaptureFault}
-use Rattle.exb_merge.specs.declared.replays.CaptureFault.TheVariants as capture
 use Rattle.exb_needs.specs.Lines.{lines_of}
 use Rattle.exb_needs.specs.Needed.{needs_of}
-use Rattle.exb_capture.specs.declared.fault.Fault.{Fault as Broke}
-use Rattle.exb_capture.specs.declared.fault.Flaw.{Flaw as Wrong}
-use Rattle.exb_capture.specs.declared.fault.Flaw.TheVariants as wrong
-use Rattle.exb_shelf.specs.declared.shelf.ShelfFault.{ShelfFault}
-use Rattle.exb_shelf.specs.declared.shelf.ShelfFault.TheVariants as shelf
 use Rattle.exb_shelf.specs.Files.{Files, SameFiles}
 use Rattle.exb_shelf.specs.Shelf.{Faults, Rose}
 use Rattle.exb_topology.specs.declared.topology.Topology.{Topology}
-use Rattle.exb_topology.specs.Topologies.{topology_of, topology_view}
 use Rattle.exb_words.specs.declared.asked.Options.{Options}
-use Rattle.exb_words.specs.Words.{Ask, Run, Check, Make, words_of}
-use Rattle.exb_run.specs.declared.fault.Flaw.{Flaw}
-use Rattle.exb_run.specs.declared.fault.Flaw.TheVariants.{Large, Broken}
-use Rattle.exb_run.specs.declared.fault.Fault.{Fault}
-use Rattle.exb_run.specs.declared.fault.Fault.TheVariants.{Usage, Missing, Topology as BadTopology, Capture, Changed, Read, Write, Memory}
-use Rattle.exb_run.specs.Inputs.{input_of}
+use Rattle.exb_words.specs.Words.{Ask, Run, Check, Make, Audit, words_of}
+use Rattle.exb_inputs.specs.declared.fault.Fault.{Fault}
+use Rattle.exb_inputs.specs.declared.fault.Fault.TheVariants.{Usage, Read, Write, Memory}
+use Rattle.exb_inputs.specs.Inputs.{input_of}
+use Rattle.exb_legal.specs.Rules.{IsLegal}
+use Rattle.exb_auditing.specs.Audits.{IsFoundLegal, IsSeen, Seen, StopsAudit, evidence_of}
+use Rattle.exb_auditing.specs.Scopes.{scope_of}
 use Rattle.exb_run.specs.Outputs.{AreFrontsOf, IsPlayed, OnlyOutputs}
-use Rattle.exb_run.specs.Checks.{AreAllGood, FirstFault}
+use Rattle.exb_inputs.specs.Checks.{AreAllGood}
+use Rattle.exb_inputs.specs.Answers.{CaptureFaulty, HoldsTopology, IsRefused, fault_line, fault_status}
 
 -- ---- what is asked for
 -- what words ask for, where they are accepted
 abbrev pub asked : List (String Global) → Option Ask
 asked words = words_of (map string_bytes words)
-
--- the file of this name holds this topology
-pub record HoldsTopology (name : List ℕ) (file : Files) (t : Topology) : Type 0 where
-  pub bytes : List ℕ
-  pub there : file name ≡ Some bytes
-  pub read : topology_of bytes ≡ Ok (topology_view t)
 
 -- and each capture that it names can be played
 pub record IsReady (name : List ℕ) (file : Files) (t : Topology) : Type 0 where
@@ -57,6 +39,7 @@ CanBeDone None file = ⊥
 CanBeDone (Some (Run name options)) file = (t : Topology) × IsReady name file t
 CanBeDone (Some (Check name)) file = (t : Topology) × HoldsTopology name file t
 CanBeDone (Some (Make number)) file = ⊤
+CanBeDone (Some (Audit name)) file = (t : Topology) × HoldsTopology name file t × (x : Seen) × IsSeen (scope_of t) file x × IsLegal (evidence_of (scope_of t) x)
 
 -- to play a topology is asked for, by which alone files are written
 abbrev pub IsRun : Option Ask → Type 0
@@ -85,12 +68,19 @@ pub record Checked (name : List ℕ) (file : Files) (lines : List ℕ) : Type 0 
 abbrev pub eager_summary : Input → List ℕ
 eager_summary i = summary (tree_of i) (basis_of i) (eager i)
 
+-- all that a run of the topology in the file of this name wrote was read, its trace is legal, and this text says so
+pub record Audited (name : List ℕ) (file : Files) (text : List ℕ) : Type 0 where
+  pub topology : Topology
+  pub holds : HoldsTopology name file topology
+  pub legal : IsFoundLegal (scope_of topology) file text
+
 -- what was asked for is done, and this text says so
 abbrev pub IsDone : Option Ask → Files → Files → List ℕ → Type 0
 IsDone None old new text = ⊥
 IsDone (Some (Run name options)) old new text = Played name options old new text
 IsDone (Some (Check name)) old new text = Checked name old text
 IsDone (Some (Make number)) old new text = text ≡ eager_summary (made number)
+IsDone (Some (Audit name)) old new text = Audited name old text
 
 -- no file but the outputs of what is asked for has changed
 abbrev pub OnlyAsked : Option Ask → Files → Files → Type 0
@@ -114,53 +104,20 @@ AreFronts (Some (Run name options)) old new = AreFrontsIn options.seed name old 
 AreFronts _ old new = ⊤
 
 -- ---- faults
--- a failure of the shelf while files are made and written
-abbrev pub fault_of : ShelfFault → Fault
-fault_of shelf.Failed = Write
-fault_of shelf.Memory = Memory
-
--- a failure to read captures again
-abbrev pub fault_again : CaptureFault → Fault
-fault_again capture.Memory = Memory
-fault_again capture.Read = Read
-fault_again (capture.Changed p byte) = Changed p byte
-
--- a fault of reading a topology, of which want of memory is none of the file's
-abbrev pub fault_by : TopoFault → Fault
-fault_by topology.Memory = Memory
-fault_by topology.NotToml = BadTopology topology.NotToml
-fault_by topology.Large = BadTopology topology.Large
-fault_by (topology.At fault key) = BadTopology (topology.At fault key)
-
--- why a topology file is refused
-abbrev pub refused_by : Refusal → Fault
-refused_by not_toml = BadTopology topology.NotToml
-refused_by large = BadTopology topology.Large
-refused_by (at fault key) = BadTopology (topology.At fault key)
-
--- this is why a topology file with these bytes is not taken
-abbrev pub IsRefusal : List ℕ → Fault → Type 0
-IsRefusal bytes fault = (refusal : Refusal) × (topology_of bytes ≡ Err refusal) × (fault ≡ refused_by refusal)
-
--- the same, where the file may be missing
-abbrev pub IsRefused : List ℕ → Option (List ℕ) → Fault → Type 0
-IsRefused name None fault = fault ≡ Missing name
-IsRefused name (Some bytes) fault = IsRefusal bytes fault
-
--- this is the first fault of a capture, in port order, that the topology names
-pub record CaptureFaulty (name : List ℕ) (file : Files) (fault : Fault) : Type 0 where
+-- this stops the audit of what a run of the topology in the file of this name wrote
+pub record AuditStops (name : List ℕ) (file : Files) (fault : Fault) : Type 0 where
   pub topology : Topology
   pub holds : HoldsTopology name file topology
-  pub port : ℕ
-  pub first : FirstFault topology.captures file port fault
+  pub stops : StopsAudit (scope_of topology) file fault
 
--- this stops what is asked for, the first in the order in which things are looked at: the words, the topology, and where it
--- is played its captures
+-- This stops what is asked for, the first in the order in which things are looked at: the words, the topology, where it is played its
+-- captures, and where it is audited all that is read and judged.
 abbrev pub Stops : Option Ask → Files → Fault → Type 0
 Stops None file fault = fault ≡ Usage
 Stops (Some (Run name options)) file fault = IsRefused name (file name) fault ⊎ CaptureFaulty name file fault
 Stops (Some (Check name)) file fault = IsRefused name (file name) fault
 Stops (Some (Make number)) file fault = ⊥
+Stops (Some (Audit name)) file fault = IsRefused name (file name) fault ⊎ AuditStops name file fault
 
 -- a fault of the shelf, or want of memory
 abbrev pub IsFailure : Option Ask → Fault → Type 0
@@ -168,128 +125,30 @@ IsFailure None fault = ⊥
 IsFailure (Some (Run name options)) fault = (fault ≡ Read) ⊎ (fault ≡ Write) ⊎ (fault ≡ Memory)
 IsFailure (Some (Check name)) fault = (fault ≡ Read) ⊎ (fault ≡ Memory)
 IsFailure (Some (Make number)) fault = fault ≡ Memory
-
--- where it speaks of a port, this is one; and want of memory is no fault of a topology
-abbrev pub CanBe : Fault → Type 0
-CanBe (Capture p flaw) = p < 4160
-CanBe (Changed p byte) = p < 4160
-CanBe (BadTopology topology.Memory) = ⊥
-CanBe _ = ⊤
-
--- ---- what is printed
--- what is wrong with a capture
-abbrev pub flaw_name : Wrong → List ℕ
-flaw_name wrong.NotPcap = codes "NotPcap"
-flaw_name wrong.Version = codes "Version"
-flaw_name wrong.LinkType = codes "LinkType"
-flaw_name wrong.Cut = codes "Cut"
-flaw_name wrong.Length = codes "Length"
-flaw_name wrong.Time = codes "Time"
-flaw_name wrong.Magic = codes "Magic"
-flaw_name wrong.TooMany = codes "TooMany"
-flaw_name wrong.Resolution = codes "Resolution"
-flaw_name wrong.Interface = codes "Interface"
-
--- a fault of the grammar of captures, and its place
-abbrev pub broken_text : Broke → List ℕ
-broken_text fault = flaw_name fault.flaw ++ codes " at " ++ decimal fault.at
-
-abbrev pub flaw_text : Flaw → List ℕ
-flaw_text (Large limit) = codes "Large " ++ decimal limit
-flaw_text (Broken fault) = broken_text fault
-
--- a fault at a key of the topology
-abbrev pub key_fault_text : KeyFault → List ℕ
-key_fault_text keys.Missing = codes "Missing"
-key_fault_text keys.Unknown = codes "Unknown"
-key_fault_text keys.Kind = codes "Kind"
-key_fault_text keys.Range = codes "Range"
-key_fault_text keys.Name = codes "Name"
-key_fault_text keys.UnknownPort = codes "UnknownPort"
-key_fault_text keys.TwoUpstreams = codes "TwoUpstreams"
-key_fault_text keys.SharedPort = codes "SharedPort"
-key_fault_text keys.Loop = codes "Loop"
-key_fault_text keys.FewChannels = codes "FewChannels"
-key_fault_text keys.Repeat = codes "Repeat"
-
-abbrev pub topology_text : TopoFault → List ℕ
-topology_text topology.Memory = codes "out of memory"
-topology_text topology.NotToml = codes "NotToml"
-topology_text topology.Large = codes "Large"
-topology_text (topology.At fault key) = key_fault_text fault ++ codes " at " ++ key
-
--- the words that are accepted
-abbrev pub usage : List ℕ
-usage = codes "exbr: usage: exbr run TOPOLOGY [--trace] [--counters] [--seed N] | exbr check TOPOLOGY | exbr make N\n"
-
--- the line of a capture that is not taken
-unfoldable pub capture_line : ℕ → List ℕ → List ℕ
-capture_line p text = codes "exbr: capture " ++ (port_name p ++ (codes ": " ++ (text ++ codes "\n")))
-
-unfoldable pub fault_line : Fault → List ℕ
-fault_line Usage = usage
-fault_line (Missing name) = codes "exbr: missing " ++ name ++ codes "\n"
-fault_line (BadTopology fault) = codes "exbr: topology: " ++ topology_text fault ++ codes "\n"
-fault_line (Capture p flaw) = capture_line p (flaw_text flaw)
-fault_line (Changed p byte) = capture_line p (codes "Changed at " ++ decimal byte)
-fault_line Read = codes "exbr: read fault\n"
-fault_line Write = codes "exbr: write fault\n"
-fault_line Memory = codes "exbr: out of memory\n"
-
--- the summary, or the line of the fault
-abbrev pub line_of : Result (String Global) Fault → List ℕ
-line_of (Ok line) = string_bytes line
-line_of (Err fault) = fault_line fault
+IsFailure (Some (Audit name)) fault = (fault ≡ Read) ⊎ (fault ≡ Memory)
 
 -- ---- statuses
-abbrev pub fault_status : Fault → ℕ
-fault_status Memory = 1
-fault_status Usage = 2
-fault_status (BadTopology fault) = 3
-fault_status (Capture p flaw) = 4
-fault_status (Missing name) = 5
-fault_status Read = 6
-fault_status Write = 7
-fault_status (Changed p byte) = 10
-
-abbrev pub status_of : Result (String Global) Fault → ℕ
-status_of (Ok line) = 0
-status_of (Err fault) = fault_status fault
-
 -- the statuses that can come
 abbrev pub IsStatus : Option Ask → ℕ → Type 0
 IsStatus None n = IsTrue (n == 1 || n == 2 || n == 7)
 IsStatus (Some (Run name options)) n = IsTrue (n == 0 || n == 1 || n == 3 || n == 4 || n == 5 || n == 6 || n == 7 || n == 10)
 IsStatus (Some (Check name)) n = IsTrue (n == 0 || n == 1 || n == 3 || n == 5 || n == 6 || n == 7)
 IsStatus (Some (Make number)) n = IsTrue (n == 0 || n == 1 || n == 7)
+IsStatus (Some (Audit name)) n = IsTrue (n == 0 || n == 1 || n == 3 || n == 4 || n == 5 || n == 6 || n == 7 || n == 11 || n == 12)
 
--- the statuses of faults of what is asked for: the topology, and the captures that it names
+-- the statuses of faults of what is asked for: the topology, the captures that it names, and what an audit reads and judges
 abbrev pub IsOfInput : ℕ → Type 0
-IsOfInput n = IsTrue (n == 3 || n == 4 || n == 5)
+IsOfInput n = IsTrue (n == 3 || n == 4 || n == 5 || n == 11 || n == 12)
 
 -- the first fault has this status
 abbrev pub StopsWith : Option Ask → Files → ℕ → Type 0
 StopsWith a file status = (fault : Fault) × Stops a file fault × (fault_status fault ≡ status)
-
--- the line of a fault of this status
-abbrev pub IsFaultLine : ℕ → List ℕ → Type 0
-IsFaultLine status line = (fault : Fault) × CanBe fault × (fault_status fault ≡ status) × (line ≡ fault_line fault)
 
 -- By its status, which count of faults rose: those of the shelf, or those of the sink. Only a run counts failures to write.
 pub record RoseBy (a : Option Ask) (status : ℕ) (counted counts : Faults) (failed fails : ℕ) : Type 0 where
   pub five : status ≡ 5 → Rose counted.missing counts.missing
   pub six : status ≡ 6 → Rose counted.reads counts.reads
   pub seven : status ≡ 7 → (IsRun a × Rose counted.writes counts.writes) ⊎ Rose failed fails
-
--- What is printed by its status: one line and nothing else. At 7 the sink may have failed.
-pub record SaysBy (status : ℕ) (failed fails : ℕ) (old new : List ℕ) : Type 0 where
-  pub two : status ≡ 2 → new ≡ old ++ usage
-  pub three : status ≡ 3 → (line : List ℕ) × IsFaultLine 3 line × (new ≡ old ++ line)
-  pub four : status ≡ 4 → (line : List ℕ) × IsFaultLine 4 line × (new ≡ old ++ line)
-  pub five : status ≡ 5 → (line : List ℕ) × IsFaultLine 5 line × (new ≡ old ++ line)
-  pub six : status ≡ 6 → new ≡ old ++ codes "exbr: read fault\n"
-  pub seven : status ≡ 7 → ¬ Rose failed fails → new ≡ old ++ codes "exbr: write fault\n"
-  pub ten : status ≡ 10 → (line : List ℕ) × IsFaultLine 10 line × (new ≡ old ++ line)
 
 -- this ended what was asked for: its first fault, a fault that the shelf counted, or want of memory
 abbrev pub IsCause : Option Ask → Files → Faults → Faults → Fault → Type 0

@@ -2,11 +2,11 @@
 use Rattle.std.specs.Prelude.{◌≡◌, ◌⊎◌, Option, Some, None, Result, IfOk, IfErr, IsErrOf, String, string_bytes}
 use Rattle.std.specs.declared.alloc.Global.{Global}
 use Rattle.exb_shelf.specs.Files.{Files, SameFiles}
-use Rattle.exb_words.specs.Words.{Ask, Run, Check, Make}
-use Rattle.exb_run.specs.declared.fault.Fault.{Fault}
-use Rattle.exb_run.specs.declared.fault.Fault.TheVariants.{Usage, Read, Memory}
+use Rattle.exb_words.specs.Words.{Ask, Run, Check, Make, Audit}
+use Rattle.exb_inputs.specs.declared.fault.Fault.{Fault}
+use Rattle.exb_inputs.specs.declared.fault.Fault.TheVariants.{Usage, Read, Memory}
 use Rattle.exb_run.specs.Answers.{AreFronts, IsDone, IsFailure, IsRun, OnlyAsked, Stops}
-use Rattle.exb_run.specs.Reading.{IsOfTopology, IsOfPlaying}
+use Rattle.exb_inputs.specs.Reading.{IsOfAudit, IsOfTopology, IsOfPlaying}
 use Rattle.exb_run.specs.Shelving.{IsOfPlay}
 
 -- a fault that can come where this is asked for
@@ -15,6 +15,7 @@ CanCome None fault = fault ≡ Usage
 CanCome (Some (Run name options)) fault = IsOfTopology fault ⊎ IsOfPlaying fault
 CanCome (Some (Check name)) fault = IsOfTopology fault
 CanCome (Some (Make number)) fault = fault ≡ Memory
+CanCome (Some (Audit name)) fault = IsOfTopology fault ⊎ IsOfAudit fault
 
 -- By the result: what is done, which cause a fault has, and what has become of the files.
 pub record CameOut (tells : Type 0) (a : Option Ask) (o : Result (String Global) Fault) (old new : Files) : Type 0 where

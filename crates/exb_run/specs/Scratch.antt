@@ -5,8 +5,8 @@ use Rattle.exb_model.specs.Input.{Record}
 use Rattle.exb_capture.specs.Captures.{capture_records}
 use Rattle.exb_shelf.specs.Files.{Files}
 use Rattle.exb_tables.specs.declared.rows.Named.{Named}
-use Rattle.exb_run.specs.Checks.{most_bytes}
-use Rattle.exb_run.specs.Inputs.{name_of}
+use Rattle.exb_inputs.specs.Checks.{most_bytes}
+use Rattle.exb_inputs.specs.Inputs.{name_of}
 
 -- the name of the file with the capture of port p
 abbrev pub name_made : ℕ → List ℕ

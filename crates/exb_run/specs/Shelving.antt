@@ -1,21 +1,14 @@
 -- What calls that read and write say of the shelf: what it counted, what has changed, and what was opened.
-use Rattle.std.specs.Prelude.{⊤, ◌≡◌, ◌<◌, ◌⊎◌, ℕ, List, Result, Err, IsErrOf}
+use Rattle.std.specs.Prelude.{⊤, ◌≡◌, ◌<◌, ◌⊎◌, ℕ, List}
 use Rattle.exb_merge.specs.Replays.{ReadsOn}
 use Rattle.exb_shelf.specs.Files.{Files, SameFiles}
-use Rattle.exb_shelf.specs.Shelf.{Id, Faults, Rose, NoFewer, Opens, writing}
-use Rattle.exb_run.specs.declared.fault.Fault.{Fault}
-use Rattle.exb_run.specs.declared.fault.Fault.TheVariants.{Changed, Missing, Read, Write, Memory}
+use Rattle.exb_shelf.specs.Shelf.{Id, Opens, writing}
+use Rattle.exb_inputs.specs.declared.fault.Fault.{Fault}
+use Rattle.exb_inputs.specs.declared.fault.Fault.TheVariants.{Changed, Read, Write, Memory}
 use Rattle.exb_run.specs.Plans.{Planned, output_count}
 use Rattle.exb_run.specs.Outputs.{output_name, OnlyPlanned}
 use Rattle.exb_tables.specs.declared.rows.Named.{Named}
-use Rattle.exb_run.specs.Opening.{ReadsCapture}
-
--- no count has fallen, and a fault of the shelf came only where its count rose
-pub record CountsFaults {X : Type 0} (result : Result X Fault) (old new : Faults) : Type 0 where
-  pub none_fell : NoFewer old new
-  pub missing : (name : List ℕ) → result ≡ Err (Missing name) → Rose old.missing new.missing
-  pub read : IsErrOf result Read → Rose old.reads new.reads
-  pub write : IsErrOf result Write → Rose old.writes new.writes
+use Rattle.exb_inputs.specs.Shelving.{ReadsCapture}
 
 -- a fault that can come while outputs are made and written
 abbrev pub IsOfWriting : Fault → Type 0

@@ -4,13 +4,12 @@ ghost use Rattle.exb_model.specs.Setup.{IsValid, limits_of};
 ghost use Rattle.exb_needs.specs.Lines.{lines_of};
 ghost use Rattle.exb_needs.specs.Needed.{needs_of};
 ghost use Rattle.exb_words.specs.Words.{Check};
-ghost use Rattle.exb_run.specs.Answers.{status_of};
+ghost use Rattle.exb_inputs.specs.Answers.{status_of};
 ghost use Rattle.exb_run.specs.Opening.{OpensBy};
 ghost use Rattle.exb_run.specs.Outcomes.{CameOut};
-ghost use Rattle.exb_run.specs.Shelving.{CountsFaults};
+ghost use Rattle.exb_inputs.specs.Shelving.{CountsFaults};
 
-use crate::fault::Fault;
-use crate::topology::read_topology;
+use exb_inputs::{Fault, read_topology};
 use exb_model::setup::Setup;
 use exb_needs::Needs;
 use exb_shelf::Shelf;

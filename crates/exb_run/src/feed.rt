@@ -6,11 +6,12 @@ ghost use Rattle.exb_merge.specs.declared.programme.Next.{Next as Coming};
 ghost use Rattle.exb_merge.specs.Replays.{ids_in};
 ghost use Rattle.exb_schedule.specs.Playing.{arrived};
 ghost use Rattle.exb_run.specs.Playing.{mode_of};
-ghost use Rattle.exb_run.specs.Shelving.{CountsFaults, IsChange, IsOfPlay, OnlyReads};
+ghost use Rattle.exb_inputs.specs.Shelving.{CountsFaults};
+ghost use Rattle.exb_run.specs.Shelving.{IsChange, IsOfPlay, OnlyReads};
 ghost use Rattle.exb_run.specs.UnderWay.{AreOthers, CanFeed, HasTakenSecond, IsGathered, IsTaken, NoMoreIn, NothingIsLeft, second_by};
 
-use crate::fault::Fault;
 use crate::script::Schedule;
+use exb_inputs::Fault;
 use exb_merge::{Came, Next, Programme};
 use exb_model::memory::NoMemory;
 use exb_schedule::Arrival;

@@ -20,16 +20,17 @@ ghost use Rattle.exb_run.specs.Plans.{kind_at, output_count};
 ghost use Rattle.exb_run.specs.Playing.{AreCountsOf, CanCount, CountsOn, Run, IsCutOff, IsTold, counts_text, mode_of};
 ghost use Rattle.exb_run.specs.UnderWay.{CanBegin, CanBePlayed, CanFeed, CanGoOn, IsOpened, IsPlaying};
 ghost use Rattle.exb_run.specs.Outputs.{AreCutEagerly, HasPlayed, output_name};
-ghost use Rattle.exb_run.specs.Shelving.{CountsFaults, IsChange, IsOfPlay, IsOfWriting, OnlyGoesOn, OnlyWrites};
+ghost use Rattle.exb_inputs.specs.Shelving.{CountsFaults};
+ghost use Rattle.exb_run.specs.Shelving.{IsChange, IsOfPlay, IsOfWriting, OnlyGoesOn, OnlyWrites};
 ghost use Rattle.exb_run.specs.Writing.{AreCut, HasTexts, IsReady, pieces_of, lines_of, with_more, with_left_frames, CanBeWritten};
 
 use crate::counted::Counted;
-use crate::fault::Fault;
 use crate::feed::Feed;
 use crate::outputs::Outputs;
 use crate::plan::Plan;
 use crate::script::{Schedule, Script};
 use exb_fate::Fate;
+use exb_inputs::Fault;
 use exb_machine::laws::steps_tell_passed;
 use exb_model::setup::Timed;
 use exb_resting::laws::rest::{

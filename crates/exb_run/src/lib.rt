@@ -3,20 +3,16 @@
 //! and extenders through `exb_schedule` alone, and files through `exb_shelf`'s traits.
 #![tactic(auto)]
 
+mod audit;
 mod check;
-mod checked;
 mod counted;
-mod fault;
 mod feed;
 mod game;
 mod making;
 mod outputs;
 mod plan;
 mod play;
-mod report;
 mod script;
 mod top;
-mod topology;
-mod weight;
 
 pub use top::run;

@@ -5,12 +5,11 @@ ghost use Rattle.exb_shelf.specs.Memory.{scratch_files};
 ghost use Rattle.exb_run.specs.Answers.{eager_summary};
 ghost use Rattle.exb_run.specs.Scratch.{KeepsFirst, KeepsMore};
 
-use crate::checked::check_captures;
-use crate::fault::Fault;
 use crate::plan::Plan;
 use crate::play::play;
 use crate::script::{Schedule, Script};
 use exb_fate::Fate;
+use exb_inputs::{Fault, check_captures};
 use exb_made::laws::arrives_at_externals;
 use exb_made::{Capture, make};
 use exb_model::memory::NoMemory;

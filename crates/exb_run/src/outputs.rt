@@ -4,7 +4,8 @@ ghost use Rattle.exb_shelf.specs.Files.{Files, SameFiles, Puts, Adds, AddsFront,
 ghost use Rattle.exb_shelf.specs.Shelf.{IsWriting, Opens, writing};
 ghost use Rattle.exb_run.specs.Plans.{Planned, kind_at, output_count};
 ghost use Rattle.exb_run.specs.Outputs.{output_name};
-ghost use Rattle.exb_run.specs.Shelving.{CountsFaults, IsOfWriting, OnlyMakes, OnlyWrites, WritesPlanned};
+ghost use Rattle.exb_inputs.specs.Shelving.{CountsFaults};
+ghost use Rattle.exb_run.specs.Shelving.{IsOfWriting, OnlyMakes, OnlyWrites, WritesPlanned};
 ghost use Rattle.exb_counters.specs.Counters.{count_line, count_lines};
 ghost use Rattle.exb_counters.specs.Counting.{counts_at, HasPort};
 ghost use Rattle.exb_model.specs.Texts.{line_of, record_text as record_of};
@@ -14,10 +15,10 @@ ghost use Rattle.exb_text.specs.declared.output.Output.{Output};
 ghost use Rattle.exb_text.specs.declared.output.Output.TheVariants as output;
 ghost use Rattle.exb_run.specs.Writing.{pieces_of, AreCut, Holds, HasTexts, IsReady, first_text, with_more, lines_of, with_left_frames, CanBeWritten};
 
-use crate::fault::Fault;
 use crate::plan::Plan;
 use exb_capture::{header_text, record_text};
 use exb_counters::{Counters, write_count_line};
+use exb_inputs::Fault;
 use exb_model::event::Event;
 use exb_model::memory::NoMemory;
 use exb_model::port::PortId;

@@ -7,27 +7,27 @@ ghost use Rattle.exb_shelf.specs.Files.{SameFiles, AppendsFront};
 ghost use Rattle.exb_shelf.specs.Shelf.{Opens, Rose};
 ghost use Rattle.exb_topology.specs.Sound.{IsSound};
 ghost use Rattle.exb_words.specs.Words.{Run, Make};
-ghost use Rattle.exb_run.specs.declared.fault.Fault.{Fault};
-ghost use Rattle.exb_run.specs.Inputs.{input_of};
+ghost use Rattle.exb_inputs.specs.declared.fault.Fault.{Fault};
+ghost use Rattle.exb_inputs.specs.Inputs.{input_of};
 ghost use Rattle.exb_run.specs.Outputs.{AreFrontsOf, IsPlayed, OnlyOutputs};
-ghost use Rattle.exb_run.specs.Checks.{AreAllGood, FirstFault};
-ghost use Rattle.exb_run.specs.Opening.{ReadsCapture, IsOpenedFor, OpensBy};
-ghost use Rattle.exb_run.specs.Shelving.{CountsFaults, IsOfPlay};
-ghost use Rattle.exb_run.specs.Reading.{IsOfPlaying};
-ghost use Rattle.exb_run.specs.Answers.{asked, mode_for, AreFronts, eager_summary, IsDone, IsRun, CanBeDone, OnlyAsked, Stops, StopsWith, fault_status, status_of, fault_line, IsText, IsOfInput, RoseBy, SaysBy, IsStatus};
+ghost use Rattle.exb_inputs.specs.Checks.{AreAllGood, FirstFault};
+ghost use Rattle.exb_inputs.specs.Shelving.{ReadsCapture, CountsFaults};
+ghost use Rattle.exb_run.specs.Opening.{IsOpenedFor, OpensBy};
+ghost use Rattle.exb_run.specs.Shelving.{IsOfPlay};
+ghost use Rattle.exb_inputs.specs.Reading.{IsOfPlaying};
+ghost use Rattle.exb_run.specs.Answers.{asked, mode_for, AreFronts, eager_summary, IsDone, IsRun, CanBeDone, OnlyAsked, Stops, StopsWith, IsText, IsOfInput, RoseBy, IsStatus};
+ghost use Rattle.exb_inputs.specs.Answers.{fault_status, status_of, fault_line, SaysBy};
 ghost use Rattle.exb_run.specs.Outcomes.{CameOut};
 ghost use Rattle.exb_run.specs.Playing.{mode_of};
 
+use crate::audit::audit_topology;
 use crate::check::check_topology;
-use crate::checked::check_captures;
-use crate::fault::Fault;
 use crate::making::make_input;
 use crate::plan::Plan;
 use crate::play::play;
-use crate::report::report;
 use crate::script::{Schedule, Script};
-use crate::topology::read_topology;
 use exb_fate::Fate;
+use exb_inputs::{Fault, check_captures, read_topology, report};
 use exb_shelf::{Shelf, Sink};
 use exb_topology::Topology;
 use exb_words::{Asked, Options, accept};
@@ -136,6 +136,7 @@ fn work<S: Shelf>(
         }
         Some(Asked::Check { topology }) => check_topology(alloc, shelf, topology),
         Some(Asked::Make { number }) => make_input(alloc, number, fate),
+        Some(Asked::Audit { topology }) => audit_topology(alloc, shelf, topology),
     }
 }
 

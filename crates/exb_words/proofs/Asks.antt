@@ -5,7 +5,7 @@ use Rattle.std.specs.Str.{bytes_eq}
 use Rattle.std.proofs.lemmas.Bool.{false≢true, false_from_ne_true}
 use Rattle.std.proofs.lemmas.Slice.Eq.{bytes_eq-Decides}
 use Rattle.exb_words.specs.declared.said.Said.{Said}
-use Rattle.exb_words.specs.Words.{Ask, Run, Check, Make, check_of, make_of, number_in, Item, Name, Trace, Counters, Seed, items_of, names_in, traces_in, counters_in, seeds_in, the_only, at_most_one, run_of, name_alone, words_of}
+use Rattle.exb_words.specs.Words.{Ask, Run, Check, Make, Audit, check_of, make_of, audit_of, number_in, Item, Name, Trace, Counters, Seed, items_of, names_in, traces_in, counters_in, seeds_in, the_only, at_most_one, run_of, name_alone, words_of}
 use Rattle.exb_words.specs.Asking.{Gathered, with_all, gathered, nothing_said, run_from, name_from, gathered_of}
 
 -- each at most once
@@ -153,6 +153,11 @@ unfolding make_of
 make-is None = refl
 make-is (Some is) = refl
 
+pub audit-is : (is : Option (List Item)) → option_map Audit (option_and_then name_alone is) ≡ option_and_then audit_of is
+unfolding audit_of
+audit-is None = refl
+audit-is (Some is) = refl
+
 -- what was said has a name
 pub run-said : (s : Said) (n : Option (Bor (List ℕ))) → s.name ≡ n → option_map (λ w. Run w.now s.options) n ≡ run_from (gathered_of s)
 run-said s n is = ap (λ (m : Option (Bor (List ℕ))). option_map (λ w. Run w.now s.options) m) (sym is) ∙ by_name s.name
@@ -178,18 +183,24 @@ pub words-make : (all ws : List (List ℕ)) (w : List ℕ) (o : Option Ask) → 
 unfolding words_of
 words-make all ws w o e is one = one ∙ (ap (λ v. words_of (v ∷ ws)) (sym is) ∙ ap words_of (sym e))
 
+pub words-audit : (all ws : List (List ℕ)) (w : List ℕ) (o : Option Ask) → all ≡ w ∷ ws → w ≡ codes "audit" → o ≡ option_and_then audit_of (items_of ws) → o ≡ words_of all
+unfolding words_of
+words-audit all ws w o e is one = one ∙ (ap (λ v. words_of (v ∷ ws)) (sym is) ∙ ap words_of (sym e))
+
 other_bytes : (v w : List ℕ) → (v ≡ w → ⊥) → bytes_eq v w ≡ false
 other_bytes v w h = false_from_ne_true (bytes_eq v w) (λ e. h ((bytes_eq-Decides v w).0 e))
 
-pub words-other : (all ws : List (List ℕ)) (w : List ℕ) → all ≡ w ∷ ws → (w ≡ codes "run" → ⊥) → (w ≡ codes "check" → ⊥) → (w ≡ codes "make" → ⊥) → None ≡ words_of all
+pub words-other : (all ws : List (List ℕ)) (w : List ℕ) → all ≡ w ∷ ws → (w ≡ codes "run" → ⊥) → (w ≡ codes "check" → ⊥) → (w ≡ codes "make" → ⊥) → (w ≡ codes "audit" → ⊥) → None ≡ words_of all
 unfolding words_of
-words-other all ws w e run check make =
-    by_tests (bytes_eq w (codes "run")) (bytes_eq w (codes "check")) (bytes_eq w (codes "make")) (option_and_then run_of (items_of ws)) (option_and_then check_of (items_of ws)) (option_and_then make_of (items_of ws))
-    (other_bytes w (codes "run") run) (other_bytes w (codes "check") check) (other_bytes w (codes "make") make)
+words-other all ws w e run check make audit =
+    by_tests (bytes_eq w (codes "run")) (bytes_eq w (codes "check")) (bytes_eq w (codes "make")) (bytes_eq w (codes "audit"))
+    (option_and_then run_of (items_of ws)) (option_and_then check_of (items_of ws)) (option_and_then make_of (items_of ws)) (option_and_then audit_of (items_of ws))
+    (other_bytes w (codes "run") run) (other_bytes w (codes "check") check) (other_bytes w (codes "make") make) (other_bytes w (codes "audit") audit)
     ∙ ap words_of (sym e)
   where
-    by_tests : (a b c : Bool) (x y z : Option Ask) → a ≡ false → b ≡ false → c ≡ false → None ≡ (if a then x else (if b then y else (if c then z else None)))
-    by_tests true b c x y z ea eb ec = absurd (false≢true (sym ea))
-    by_tests false true c x y z ea eb ec = absurd (false≢true (sym eb))
-    by_tests false false true x y z ea eb ec = absurd (false≢true (sym ec))
-    by_tests false false false x y z ea eb ec = refl
+    by_tests : (a b c d : Bool) (x y z u : Option Ask) → a ≡ false → b ≡ false → c ≡ false → d ≡ false → None ≡ (if a then x else (if b then y else (if c then z else (if d then u else None))))
+    by_tests true b c d x y z u ea eb ec ed = absurd (false≢true (sym ea))
+    by_tests false true c d x y z u ea eb ec ed = absurd (false≢true (sym eb))
+    by_tests false false true d x y z u ea eb ec ed = absurd (false≢true (sym ec))
+    by_tests false false false true x y z u ea eb ec ed = absurd (false≢true (sym ed))
+    by_tests false false false false x y z u ea eb ec ed = refl

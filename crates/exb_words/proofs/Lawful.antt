@@ -10,7 +10,7 @@ use Rattle.std.proofs.lemmas.Slice.Eq.{bytes_eq-Decides}
 use Rattle.std.proofs.lemmas.Str.Parse.{IsNumeralModel, numerals_by_value, tells_all_ascii_digits}
 use Rattle.std.proofs.lemmas.Fmt.{digits_decimal, digits_value-decimal, decimal_nonempty, length-decimal-le}
 use Rattle.std.specs.Prelude.{IfSome}
-use Rattle.exb_words.specs.Words.{Ask, Run, Check, Make, Item, Name, Trace, Counters, Seed, if_short, number_in, item_of, items_of, with_item, names_in, traces_in, counters_in, seeds_in, the_only, at_most_one, run_of, name_alone, check_of, make_of, words_of}
+use Rattle.exb_words.specs.Words.{Ask, Run, Check, Make, Audit, Item, Name, Trace, Counters, Seed, if_short, number_in, item_of, items_of, with_item, names_in, traces_in, counters_in, seeds_in, the_only, at_most_one, run_of, name_alone, check_of, make_of, audit_of, words_of}
 use Rattle.exb_words.specs.Laws.{SaySame, OrderIsFree, DashesEndOptions, WrittenIsRead, written}
 
 -- ---- numbers as they are written
@@ -59,11 +59,12 @@ run_read t true false (Some n) short = ap (λ o. option_and_then run_of (with_it
 run_read t true true (Some n) short = ap (λ o. option_and_then run_of (with_item (Some Trace) (with_item (Some Counters) (with_item (option_map Seed o) (Some (Name t ∷ [])))))) (number-decimal n short)
 
 pub written_read : WrittenIsRead
-unfolding words_of items_of item_of check_of make_of name_alone
+unfolding words_of items_of item_of check_of make_of audit_of name_alone
 written_read (Run t options) short = run_read t options.trace options.counters options.seed short
 written_read (Check t) short = refl
 written_read (Make n) short =
     ap (option_and_then make_of) (digit-first (decimal n) (digits_decimal own n short) (decimal_nonempty n short)) ∙ ap (option_map Make) (number-decimal n short)
+written_read (Audit t) short = refl
 
 pub dashes_end : DashesEndOptions
 unfolding words_of items_of check_of name_alone

@@ -1,6 +1,6 @@
 -- How the words are read, one after another.
 use Rattle.std.specs.Prelude.{ℕ, Bool, true, false, ◌||◌, if◌then◌else◌, List, [], ◌∷◌, Option, Some, None, is_some, option_map, option_and_then}
-use Rattle.exb_words.specs.Words.{Ask, Run, Check, Make, Item, Name, Trace, Counters, Seed, items_of}
+use Rattle.exb_words.specs.Words.{Ask, Run, Check, Make, Audit, Item, Name, Trace, Counters, Seed, items_of}
 use Rattle.exb_words.specs.declared.asked.Options.{Options}
 use Rattle.exb_words.specs.declared.asked.Asked.{Asked}
 use Rattle.exb_words.specs.declared.asked.Asked.TheVariants as asked
@@ -11,6 +11,7 @@ abbrev pub ask_of : Asked → Ask
 ask_of (asked.Run topology options) = Run topology.now options
 ask_of (asked.Check topology) = Check topology.now
 ask_of (asked.Make number) = Make number
+ask_of (asked.Audit topology) = Audit topology.now
 
 -- ---- what the words read so far say: one name, and the options
 pub record Gathered : Type 0 where

@@ -1,6 +1,6 @@
 -- What holds of the words, said in other words.
 use Rattle.std.specs.Prelude.{◌≡◌, ℕ, ◌<◌, ◌^◌, Bool, if◌then◌else◌, List, [], ◌∷◌, ◌++◌, Option, Some, None, IfSome, codes, decimal, sum_by}
-use Rattle.exb_words.specs.Words.{Ask, Run, Check, Make, Item, items_of, words_of}
+use Rattle.exb_words.specs.Words.{Ask, Run, Check, Make, Audit, Item, items_of, words_of}
 
 -- ---- options may stand in any order around the name
 -- each item is said as often
@@ -30,12 +30,14 @@ abbrev pub written : Ask → List (List ℕ)
 written (Run topology options) = codes "run" ∷ written_trace options.trace ++ written_counters options.counters ++ written_seed options.seed ++ codes "--" ∷ topology ∷ []
 written (Check topology) = codes "check" ∷ codes "--" ∷ topology ∷ []
 written (Make number) = codes "make" ∷ decimal number ∷ []
+written (Audit topology) = codes "audit" ∷ codes "--" ∷ topology ∷ []
 
 -- its numbers have 64 bits
 abbrev pub IsShort : Ask → Type 0
 IsShort (Run topology options) = IfSome options.seed (λ n. n < 2 ^ 64)
 IsShort (Check topology) = Unit {0}
 IsShort (Make number) = number < 2 ^ 64
+IsShort (Audit topology) = Unit {0}
 
 abbrev pub WrittenIsRead : Type 0
 WrittenIsRead = (a : Ask) → IsShort a → words_of (written a) ≡ Some a

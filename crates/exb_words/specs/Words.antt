@@ -13,6 +13,7 @@ pub data Ask : Type 0 where
   Run : (topology : List ℕ) (options : Options) → Ask
   Check : (topology : List ℕ) → Ask
   Make : (number : ℕ) → Ask
+  Audit : (topology : List ℕ) → Ask
 
 -- ---- what a word says
 pub data Item : Type 0 where
@@ -123,6 +124,9 @@ check_of items = option_map Check (name_alone items)
 unfoldable pub make_of : List Item → Option Ask
 make_of items = option_map Make (name_alone items >>= number_in)
 
+unfoldable pub audit_of : List Item → Option Ask
+audit_of items = option_map Audit (name_alone items)
+
 -- ---- all words
 -- what the words ask for, where they are accepted
 unfoldable pub words_of : List (List ℕ) → Option Ask
@@ -130,4 +134,5 @@ words_of [] = None
 words_of (w ∷ ws) =
     if bytes_eq w (codes "run") then items_of ws >>= run_of
     else (if bytes_eq w (codes "check") then items_of ws >>= check_of
-    else (if bytes_eq w (codes "make") then items_of ws >>= make_of else None))
+    else (if bytes_eq w (codes "make") then items_of ws >>= make_of
+    else (if bytes_eq w (codes "audit") then items_of ws >>= audit_of else None)))

@@ -20,4 +20,6 @@ pub enum Asked<'a> {
     Check { topology: &'a str },
     /// To play the input that is made from a number.
     Make { number: u64 },
+    /// To judge the trace that a run of a topology wrote.
+    Audit { topology: &'a str },
 }

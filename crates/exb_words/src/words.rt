@@ -1,6 +1,6 @@
 //! All words together.
 ghost use Rattle.std.specs.Prelude.{◌≡◌, map, string_bytes, option_map, option_and_then};
-ghost use Rattle.exb_words.specs.Words.{words_of, items_of, run_of, check_of, make_of, name_alone};
+ghost use Rattle.exb_words.specs.Words.{words_of, items_of, run_of, check_of, make_of, audit_of, name_alone};
 ghost use Rattle.exb_words.specs.Asking.{ask_of, gathered_of, name_from};
 
 use crate::asked::Asked;
@@ -53,6 +53,13 @@ fn make(words: &[String]) -> Option<Asked<'_>>
     Some(Asked::Make { number })
 }
 
+fn audit(words: &[String]) -> Option<Asked<'_>>
+    ensures { option_map ask_of result ≡ option_and_then audit_of (items_of (map string_bytes words.now)) }
+{
+    let topology = only_name(words)?;
+    Some(Asked::Audit { topology })
+}
+
 /// What the words ask for, without the program's name before them. None exactly where they aren't accepted.
 pub fn accept(words: &[String]) -> Option<Asked<'_>>
     ensures { option_map ask_of result ≡ words_of (map string_bytes words.now) }
@@ -64,6 +71,7 @@ pub fn accept(words: &[String]) -> Option<Asked<'_>>
         "run" => run(rest),
         "check" => check(rest),
         "make" => make(rest),
+        "audit" => audit(rest),
         _ => None,
     }
 }

@@ -8,10 +8,11 @@ use Rattle.exb_model.specs.Setup.{shape_of}
 use Rattle.exb_shelf.specs.Files.{Files}
 use Rattle.exb_shelf.specs.Memory.{scratch_files}
 use Rattle.exb_tables.specs.declared.rows.Named.{Named}
-use Rattle.exb_run.specs.declared.checked.Checked.{Checked}
-use Rattle.exb_run.specs.declared.fault.Fault.TheVariants.{Read, Memory}
-use Rattle.exb_run.specs.Checks.{AreAllGood, AreChecked, CanBeRead, FirstFault}
-use Rattle.exb_run.specs.Inputs.{input_from}
+use Rattle.exb_inputs.specs.declared.checked.Checked.{Checked}
+use Rattle.exb_inputs.specs.declared.fault.Fault.TheVariants.{Read, Memory}
+use Rattle.exb_inputs.specs.Checks.{AreAllGood, AreChecked, FirstFault}
+use Rattle.exb_run.specs.Checks.{CanBeRead}
+use Rattle.exb_inputs.specs.Inputs.{input_from}
 use Rattle.exb_run.specs.Playing.{IsScript}
 use Rattle.exb_run.specs.Scratch.{KeepsFirst}
 use Rattle.exb_run.proofs.Handing.{made_script}

@@ -7,12 +7,13 @@ use Rattle.exb_capture.specs.Reading.{left_to_read}
 use Rattle.exb_merge.specs.Streams.{Stream}
 use Rattle.exb_shelf.specs.Files.{Files}
 use Rattle.exb_shelf.proofs.IdLemmas.{opens_none, opens_then}
-use Rattle.exb_run.specs.Checks.{IsToldOf, first_standing, start_told, stream_told}
-use Rattle.exb_run.specs.Opening.{ReadsCapture}
+use Rattle.exb_inputs.specs.Checks.{IsToldOf}
+use Rattle.exb_run.specs.Checks.{first_standing, start_told, stream_told}
+use Rattle.exb_inputs.specs.Shelving.{ReadsCapture}
 use Rattle.exb_run.proofs.Beginning.{told-since}
 use Rattle.exb_run.proofs.Reopening.{bytes-more, fresh-more, opened-so, port-named, port-new, since-none, standings-more, stream-told-same, streams-more}
 use Rattle.exb_run.proofs.Running.{files_same}
-use Rattle.exb_run.proofs.ShelvingLemmas.{fewer_then}
+use Rattle.exb_inputs.proofs.ShelvingLemmas.{fewer_then}
 use Rattle.exb_run.proofs.play.open_all.Goals as goal
 
 pub open_one-requires-clause-named : goal.open_one-requires-clause-named

@@ -4,7 +4,7 @@ use Rattle.exb_merge.specs.Replays.{AreOpened, AreReplays, AreToldSince, ids_in,
 use Rattle.exb_shelf.specs.Files.{SameFiles}
 use Rattle.exb_shelf.specs.Shelf.{NoFewer, Opens}
 use Rattle.exb_run.specs.Checks.{first_standing, start_told, stream_told}
-use Rattle.exb_run.specs.Opening.{ReadsCapture}
+use Rattle.exb_inputs.specs.Shelving.{ReadsCapture}
 use Rattle.exb_run.proofs.play.open_all.Given as goal
 
 abbrev pub invariant-opening : goal.invariant-opening

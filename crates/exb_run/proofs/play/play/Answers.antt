@@ -7,7 +7,7 @@ use Rattle.exb_run.specs.Playing.{mode_of}
 use Rattle.exb_run.proofs.Beginning.{can-read-on, input-stays}
 use Rattle.exb_run.proofs.CuttingOff.{made_eagerly}
 use Rattle.exb_run.proofs.Running.{if_ok_map}
-use Rattle.exb_run.proofs.ShelvingLemmas.{counts_after}
+use Rattle.exb_inputs.proofs.ShelvingLemmas.{counts_after}
 use Rattle.exb_run.proofs.play.play.Goals as goal
 
 pub play_into-requires-clause-captures : goal.play_into-requires-clause-captures

@@ -4,8 +4,8 @@ use Rattle.std.specs.Vec.{with_items}
 use Rattle.exb_merge.specs.Replays.{ids_in}
 use Rattle.exb_shelf.proofs.IdLemmas.{opens_none, opens_weaker}
 use Rattle.exb_shelf.specs.Files.{Files}
-use Rattle.exb_run.specs.Inputs.{input_from}
-use Rattle.exb_run.specs.Opening.{ReadsCapture}
+use Rattle.exb_inputs.specs.Inputs.{input_from}
+use Rattle.exb_inputs.specs.Shelving.{ReadsCapture}
 use Rattle.exb_run.specs.Playing.{Run, mode_of}
 use Rattle.exb_run.specs.Writing.{HasTexts, first_text, pieces_of}
 use Rattle.exb_run.proofs.Beginning.{can-begin-of, has-budget, start-fits}
@@ -13,7 +13,7 @@ use Rattle.exb_run.proofs.CuttingOff.{begun_eagerly}
 use Rattle.exb_run.proofs.Keeping.{ready-opened}
 use Rattle.exb_run.proofs.Reopening.{plays-opened}
 use Rattle.exb_run.proofs.Running.{files_same, if_err_map, if_ok_map}
-use Rattle.exb_run.proofs.ShelvingLemmas.{counts_after}
+use Rattle.exb_inputs.proofs.ShelvingLemmas.{counts_after}
 use Rattle.exb_run.proofs.play.play_into.Goals as goal
 
 pub new-programme-requires-clause-start : goal.new-programme-requires-clause-start

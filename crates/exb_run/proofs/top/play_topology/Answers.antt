@@ -9,15 +9,16 @@ use Rattle.exb_shelf.specs.Files.{Files}
 use Rattle.exb_shelf.specs.Shelf.{Opens}
 use Rattle.exb_tables.specs.declared.rows.Named.{Named}
 use Rattle.exb_words.specs.declared.asked.Options.{Options}
-use Rattle.exb_run.specs.declared.checked.Checked.{Checked}
-use Rattle.exb_run.specs.Checks.{AreAllGood, AreChecked, CanBeRead, FirstFault}
-use Rattle.exb_run.specs.Inputs.{input_from, input_of}
+use Rattle.exb_inputs.specs.declared.checked.Checked.{Checked}
+use Rattle.exb_inputs.specs.Checks.{AreAllGood, AreChecked, FirstFault}
+use Rattle.exb_run.specs.Checks.{CanBeRead}
+use Rattle.exb_inputs.specs.Inputs.{input_from, input_of}
 use Rattle.exb_run.specs.Outputs.{AreCutEagerly, HasPlayed, IsPlayed, OnlyOutputs, OnlyPlanned}
-use Rattle.exb_run.specs.Opening.{ReadsCapture}
+use Rattle.exb_inputs.specs.Shelving.{ReadsCapture}
 use Rattle.exb_run.specs.Playing.{IsScript, mode_of}
 use Rattle.exb_run.specs.Shelving.{IsOfRun}
 use Rattle.exb_run.specs.Answers.{mode_for}
-use Rattle.exb_run.proofs.FaultLemmas.{first_none, first_once}
+use Rattle.exb_inputs.proofs.FaultLemmas.{first_none, first_once}
 use Rattle.exb_run.proofs.Handing.{sound_captures, sound_script}
 use Rattle.exb_run.proofs.OpenLemmas.{opened_for}
 use Rattle.exb_run.proofs.Running.{files_same, fronts_by, only_by, played_by, if_ok_map}

@@ -1,7 +1,8 @@
 use Rattle.std.proofs.Common.{◌≡◌, ◌≢◌, ◌++◌, ◌∙◌, inl, inr, ℕ, List, Option, Err, sym, ap, subst, arith}
 use Rattle.std.specs.Prelude.{IfErr}
 use Rattle.exb_words.specs.Words.{Ask}
-use Rattle.exb_run.specs.Answers.{asked, status_of, line_of}
+use Rattle.exb_run.specs.Answers.{asked}
+use Rattle.exb_inputs.specs.Answers.{status_of, line_of}
 use Rattle.exb_run.specs.Outcomes.{CanCome}
 use Rattle.exb_run.proofs.OpenLemmas.{opens_by_status}
 use Rattle.exb_run.proofs.Reporting.{can_be, cause_of, done_by, early_end, fault_says, front_by, is_missing, is_read, is_usage, made_is, none_by_usage, not_ten, of_input, read_line, run_by_write, status_cases, status_is, stop_not_one, stop_not_seven, stop_not_six, stops_with, text_by, usage_line, write_line, write_or_not}
@@ -134,6 +135,14 @@ returns-clause-says g c = λ t. record {
       let n1 : c.report.result ≢ 1 = λ h. omega arith in
       let n7 : c.report.result ≢ 7 = λ h. omega arith in
       fault_says c.work-outcome.result 10 _ _ (sym (c.report.ensures.status n1 n7) ∙ e) (omega arith) (can_be (asked c.args.words.now) c.work-outcome.result c.work-outcome.ensures.came.can_come) (c.report.ensures.whole t n1 n7);
+  eleven = λ e.
+      let n1 : c.report.result ≢ 1 = λ h. omega arith in
+      let n7 : c.report.result ≢ 7 = λ h. omega arith in
+      fault_says c.work-outcome.result 11 _ _ (sym (c.report.ensures.status n1 n7) ∙ e) (omega arith) (can_be (asked c.args.words.now) c.work-outcome.result c.work-outcome.ensures.came.can_come) (c.report.ensures.whole t n1 n7);
+  twelve = λ e.
+      let n1 : c.report.result ≢ 1 = λ h. omega arith in
+      let n7 : c.report.result ≢ 7 = λ h. omega arith in
+      fault_says c.work-outcome.result 12 _ _ (sym (c.report.ensures.status n1 n7) ∙ e) (omega arith) (can_be (asked c.args.words.now) c.work-outcome.result c.work-outcome.ensures.came.can_come) (c.report.ensures.whole t n1 n7);
 }
 
 pub returns-clause-front : goal.returns-clause-front

@@ -1,7 +1,7 @@
 use Rattle.std.proofs.Common.{subst}
 use Rattle.std.proofs.lemmas.Result.{err_from_is_err_and}
 use Rattle.exb_shelf.specs.Files.{Files}
-use Rattle.exb_run.specs.declared.fault.Fault.{Fault}
+use Rattle.exb_inputs.specs.declared.fault.Fault.{Fault}
 use Rattle.exb_run.proofs.OpenLemmas.{run_refused_opens, opens_by_run}
 use Rattle.exb_run.proofs.RunLemmas.{PlaysOut, came_run_refused, came_played}
 use Rattle.exb_run.proofs.Running.{files_same}

@@ -3,7 +3,7 @@ use Rattle.exb_merge.specs.Replays.{ids_in}
 use Rattle.exb_run.specs.Shelving.{OnlyReads}
 use Rattle.exb_run.proofs.Gathering.{gathers-more, gathers-same}
 use Rattle.exb_run.proofs.Keeping.{only-reads-then, replays-read}
-use Rattle.exb_run.proofs.ShelvingLemmas.{fewer_then}
+use Rattle.exb_inputs.proofs.ShelvingLemmas.{fewer_then}
 use Rattle.exb_run.proofs.feed.Feed.take_second.Goals as goal
 
 pub returns-in_err-take_within-clause-reads : goal.returns-in_err-take_within-clause-reads

@@ -10,7 +10,7 @@ use Rattle.exb_run.specs.Shelving.{OnlyReads}
 use Rattle.exb_run.proofs.PortCounts.{counts-of}
 use Rattle.exb_run.proofs.Going.{all-played, can-go-on, cut-reading, seconds-fit}
 use Rattle.exb_run.proofs.Keeping.{feed-written, goes-reading, goes-writing, ready-read}
-use Rattle.exb_run.proofs.ShelvingLemmas.{fewer_then}
+use Rattle.exb_inputs.proofs.ShelvingLemmas.{fewer_then}
 use Rattle.exb_run.proofs.Taking.{comes-commands, comes-fewer, comes-ids}
 use Rattle.exb_run.proofs.Telling.{arrivals-low, none_at, some_at}
 use Rattle.exb_run.proofs.game.Game.play_all.Goals as goal

@@ -11,7 +11,7 @@ use Rattle.exb_run.proofs.PortCounts.{can-count, none_together}
 use Rattle.exb_run.proofs.Going.{opened-playing}
 use Rattle.exb_run.proofs.Keeping.{feed-written, goes-none, goes-then, goes-writing}
 use Rattle.exb_run.proofs.Running.{if_err_map, if_ok_map}
-use Rattle.exb_run.proofs.ShelvingLemmas.{counts_after}
+use Rattle.exb_inputs.proofs.ShelvingLemmas.{counts_after}
 use Rattle.exb_run.proofs.Telling.{text-first, frames-fit}
 use Rattle.exb_run.proofs.game.Game.play_opened.Goals as goal
 

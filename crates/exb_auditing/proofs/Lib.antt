@@ -1,0 +1,4 @@
+pub mod Told
+pub mod Once
+pub mod Steps
+pub mod Ports

@@ -1,0 +1,4 @@
+pub mod Scopes
+pub mod Audits
+pub mod Reads
+pub mod Laws

@@ -1,0 +1,5 @@
+pub mod Filing
+pub mod Taking
+pub mod Cutting
+pub mod Exact
+pub mod Loading

@@ -1,0 +1,106 @@
+use Rattle.std.proofs.Common.{rules, ◌≡◌, ◌+◌, ◌<◌, ◌≤◌, ◌*◌, ◌^◌, ◌++◌, ◌∷◌, [], ◌∙◌, inl, inr, ℕ, List, Option, Some, None, filter, map, ap, sym, subst, arith, add-one, below_more, refl}
+use Rattle.std.specs.Prelude.{IfSome, is_some}
+use Rattle.std.proofs.lemmas.List.{map-append}
+use Rattle.std.proofs.lemmas.Result.{err_from_is_err_and}
+use Rattle.exb_model.specs.Ports.{below}
+use Rattle.exb_shelf.proofs.IdLemmas.{opens_none, opens_weaker, opens_then}
+use Rattle.exb_inputs.specs.declared.checked.Checked.{Checked}
+use Rattle.exb_inputs.specs.Checks.{HasFault, HasFaultNamed, IsGood, IsGoodNamed, IsToldOf, most_bytes}
+use Rattle.exb_inputs.specs.Inputs.{name_of, is_named}
+use Rattle.exb_inputs.proofs.FaultLemmas.{all_more}
+use Rattle.exb_inputs.proofs.Passing.{passed_none, passed_here, passed_not}
+use Rattle.exb_inputs.proofs.checked.check_captures.Goals as goal
+
+pub checking-init : goal.checking-init
+checking-init g c =
+    let empty = c.new-checked.ensures.items in
+    record {
+      ports = ap (map (λ (x : Checked). x.port)) empty ∙ sym (passed_none (is_named c.args.names.now));
+      small = search (rules, empty);
+      in_time = search (rules, empty);
+      told = λ t. search (rules, empty);
+      good = λ t q low. absurd (omega arith);
+      opened = opens_none _ _;
+      files = λ n. refl;
+      faults = search rules;
+    }
+
+pub checking-preserved-in_default : goal.checking-preserved-in_default
+checking-preserved-in_default g c =
+    let S = g.S.Shelf in
+    let inv = c.checking.invariant in
+    let p = c.checking.number in
+    let names = c.args.names.now in
+    let f = S.file c.args.shelf.now in
+    let none : name_of names p ≡ None = ap (name_of names) (sym c.port_of-port.ensures) ∙ c.in_default.ensures.none in
+    record {
+      ports = inv.ports ∙ sym (ap (λ k. filter (is_named names) (below k)) (add-one p) ∙ passed_not (is_named names) p (ap is_some none));
+      small = inv.small;
+      in_time = inv.in_time;
+      told = inv.told;
+      good = λ t. below_more _ _ (inv.good t) (subst (λ (n : Option (List ℕ)). IsGoodNamed n f) (sym none) tt);
+      opened = inv.opened;
+      files = inv.files;
+      faults = inv.faults;
+    }
+
+pub returns-in_err-one-clause-flaw : goal.returns-in_err-one-clause-flaw
+returns-in_err-one-clause-flaw g c t =
+    let S = g.S.Shelf in
+    let inv = c.checking.invariant in
+    let p = c.checking.number in
+    let names = c.args.names.now in
+    let f = S.file c.args.shelf.now in
+    let name = c.in-Some.name.now in
+    let x = c.in_err-one.field-0.0 in
+    let is = c.port_of-port.ensures in
+    let named : name_of names p ≡ Some name = ap (name_of names) (sym is) ∙ c.in-Some.ensures.found in
+    let made = err_from_is_err_and c.from_residual.result c.from_residual.ensures.1 in
+    rw (made.1, made.2) (elim (c.in_err-one.ensures.flaw t) [
+      | inl flaw ↦ inl (
+        p,
+        record {
+          port = omega arith;
+          before = inv.good t;
+          here =
+              subst (λ (n : Option (List ℕ)). HasFaultNamed p n f x) (sym named)
+              (subst (λ (o : Option (List ℕ)). HasFault p name o x) (inv.files name) (subst (λ (q : ℕ). HasFault q name (S.file c.checking.shelf name) x) is flaw));
+        },
+      )
+      | inr other ↦ inr other
+    ])
+
+pub checking-preserved : goal.checking-preserved
+checking-preserved g c =
+    let S = g.S.Shelf in
+    let inv = c.checking.invariant in
+    let p = c.checking.number in
+    let names = c.args.names.now in
+    let f = S.file c.args.shelf.now in
+    let name = c.in-Some.name.now in
+    let one : Checked = c.in_ok-one.one in
+    let is = c.port_of-port.ensures in
+    let named : name_of names p ≡ Some name = ap (name_of names) (sym is) ∙ c.in-Some.ensures.found in
+    let port : one.port ≡ p = c.in_ok-one.ensures.port ∙ is in
+    let good : S.tells → IsGood (f name) one.told = λ t. subst (λ (o : Option (List ℕ)). IsGood o one.told) (inv.files name) (c.in_ok-one.ensures.good t) in
+    let pushed : c.push.new.self.items ≡ c.checking.checked.items ++ one ∷ [] = search rules in
+    record {
+      ports =
+          ap (map (λ (x : Checked). x.port)) pushed ∙ map-append (λ (x : Checked). x.port) c.checking.checked.items (one ∷ [])
+          ∙ ap (λ (qs : List ℕ). qs ++ one.port ∷ []) inv.ports ∙ ap (λ (q : ℕ). filter (is_named names) (below p) ++ q ∷ []) port
+          ∙ sym (ap (λ k. filter (is_named names) (below k)) (add-one p) ∙ passed_here (is_named names) p (ap is_some named));
+      small = all_more (λ (x : Checked). x.told.bytes ≤ most_bytes) _ _ one pushed inv.small c.in_ok-one.ensures.small;
+      in_time = all_more (λ (x : Checked). IfSome x.told.first (λ first. first < 2 ^ 32 * 1_000_000_000)) _ _ one pushed inv.in_time c.in_ok-one.ensures.in_time;
+      told = λ t. all_more (IsToldOf names f) _ _ one pushed (inv.told t) (name, ap (name_of names) port ∙ named, good t);
+      good = λ t. below_more _ _ (inv.good t) (subst (λ (n : Option (List ℕ)). IsGoodNamed n f) (sym named) (one.told, good t));
+      opened = opens_then _ _ _ _ inv.opened (opens_weaker _ _ _ _ (λ i reads. record { port = p; name = name; named = named; reads = reads }) c.in_ok-one.ensures.opened);
+      files = λ m. c.in_ok-one.ensures.files m ∙ inv.files m;
+      faults = search (arith, c.in_ok-one.ensures.faults.none_fell, inv.faults);
+    }
+
+pub returns-in_err-one-clause-opened : goal.returns-in_err-one-clause-opened
+returns-in_err-one-clause-opened g c =
+    let inv = c.checking.invariant in
+    let names = c.args.names.now in
+    let named : name_of names c.checking.number ≡ Some c.in-Some.name.now = ap (name_of names) (sym c.port_of-port.ensures) ∙ c.in-Some.ensures.found in
+    opens_then _ _ _ _ inv.opened (opens_weaker _ _ _ _ (λ i reads. record { port = c.checking.number; name = c.in-Some.name.now; named = named; reads = reads }) c.in_err-one.ensures.opened)

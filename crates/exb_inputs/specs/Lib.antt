@@ -1,0 +1,5 @@
+pub mod Inputs
+pub mod Checks
+pub mod Answers
+pub mod Reading
+pub mod Shelving

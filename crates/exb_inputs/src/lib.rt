@@ -1,0 +1,14 @@
+//! What the program is given: reading the topology and checking the captures that it names; the faults that end a call, their
+//! statuses and the lines that are printed of them.
+#![tactic(auto)]
+
+mod checked;
+mod fault;
+mod reporting;
+mod topology;
+mod weight;
+
+pub use checked::{Checked, check_captures, missing, name_of};
+pub use fault::{Fault, Flaw, Part};
+pub use reporting::report;
+pub use topology::read_topology;

@@ -1,0 +1,42 @@
+use Rattle.std.proofs.Common.{◌⊎◌, ◌≡◌, ◌∙◌, subst}
+use Rattle.std.specs.Prelude.{IfErr, IfOk, string_bytes}
+use Rattle.std.proofs.lemmas.Result.{err_from_is_err_and}
+use Rattle.exb_shelf.specs.Files.{Files}
+use Rattle.exb_inputs.specs.declared.fault.Fault.{Fault}
+use Rattle.exb_inputs.specs.declared.fault.Fault.TheVariants.{Read, Memory}
+use Rattle.exb_auditing.specs.Audits.{IsFoundLegal, StopsAudit}
+use Rattle.exb_auditing.specs.Scopes.{scope_of}
+use Rattle.exb_run.proofs.OpenLemmas.{audit_refused_opens, opens_by_audit}
+use Rattle.exb_run.proofs.RunLemmas.{came_audit_refused, came_audited}
+use Rattle.exb_run.proofs.Running.{files_same}
+use Rattle.exb_run.proofs.audit.audit_topology.Goals as goal
+
+pub returns-in_err-topology-clause-came : goal.returns-in_err-topology-clause-came
+returns-in_err-topology-clause-came g c =
+    let p = err_from_is_err_and c.from_residual.result c.from_residual.ensures.1 in
+    let x : Fault = c.in_err-topology.field-0.0 in
+    let found = c.in_err-topology.ensures in
+    rw (p.1, p.2) (came_audit_refused g.S.Shelf.tells c.args.name.now _ _ x found.refused found.causes found.files)
+
+pub returns-in_err-topology-clause-opens : goal.returns-in_err-topology-clause-opens
+returns-in_err-topology-clause-opens g c =
+    let p = err_from_is_err_and c.from_residual.result c.from_residual.ensures.1 in
+    rw (p.1, p.2) (audit_refused_opens g.S.Shelf.tells _ c.args.name.now _ _ c.in_err-topology.ensures.opened _)
+
+pub returns-clause-came : goal.returns-clause-came
+returns-clause-came g c =
+    let S = g.S.Shelf in
+    let t = c.in_ok-topology.topology in
+    let found = c.in_ok-topology.ensures in
+    let f = S.file c.args.shelf.now in
+    let read = S.file c.read_topology.new.shelf in
+    let o = c.audit.result in
+    let same = files_same f read found.files in
+    came_audited S.tells c.args.name.now f (S.file c.audit.new.shelf) t found.read (λ n. c.audit.ensures.files n ∙ found.files n) o
+    (λ told. subst (λ (k : Files). IfOk o (λ text. IsFoundLegal (scope_of t) k (string_bytes text))) same (c.audit.ensures.legal told))
+    (λ told. subst (λ (k : Files). IfErr o (λ x. StopsAudit (scope_of t) k x ⊎ (x ≡ Read) ⊎ (x ≡ Memory))) same (c.audit.ensures.cause told)) c.audit.ensures.causes
+
+pub returns-clause-opens : goal.returns-clause-opens
+returns-clause-opens g c =
+    let found = c.in_ok-topology.ensures in
+    opens_by_audit g.S.Shelf.tells _ c.args.name.now _ _ found.opened c.audit.result c.in_ok-topology.topology _ found.read c.audit.ensures.causes c.audit.ensures.opened
