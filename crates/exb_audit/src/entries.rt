@@ -82,7 +82,7 @@ fn is_long(kind: &[u8], what: &[u8], reason: &[u8], rest: &[u8]) -> bool
 }
 
 /// Whether it is a line of a journal, without its newline.
-pub(crate) fn is_entry(line: &[u8]) -> bool
+pub fn is_entry(line: &[u8]) -> bool
     ensures { result ≡ is_some (entry_in line.now) }
 {
     let (kind, rest) = first_word(line);

@@ -17,6 +17,7 @@ mod places;
 mod watching;
 mod words;
 
+pub use entries::is_entry;
 pub use frames::PortFrames;
 pub use judging::{Judged, judge};
 pub use lines::read_line;

@@ -1,0 +1,4 @@
+pub mod Filing
+pub mod Taking
+pub mod Cutting
+pub mod Exact

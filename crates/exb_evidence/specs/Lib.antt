@@ -1,0 +1,4 @@
+pub mod Frames
+pub mod Capturing
+pub mod Lines
+pub mod Feeding
