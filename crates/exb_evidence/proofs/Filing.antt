@@ -34,7 +34,7 @@ all_good read file (y ∷ ys) [] e = absurd e
 
 -- ---- one answer
 -- the first fault, going through the files
-FaultFrom : Reading → Files → ℕ → List PortFile → FramesFault → Type 0
+abbrev pub FaultFrom : Reading → Files → ℕ → List PortFile → FramesFault → Type 0
 FaultFrom read file left [] f = ⊥
 FaultFrom read file left (x ∷ xs) f = IsFlaw read left x (file x.name) f
     ⊎ (IsGood read file x × (length (bytes_of (file x.name)) ≤ left) × FaultFrom read file (left - length (bytes_of (file x.name))) xs f)

@@ -88,7 +88,7 @@ as_classic : (b : ℕ) (rest : List ℕ) → b ≢ 10 → capture_records (b ∷
 as_classic b rest other = read_as_classic (b ∷ rest) (first_differs b rest other)
 
 -- a header and no record
-header : List ℕ
+abbrev header : List ℕ
 header = 0xD4 ∷ 0xC3 ∷ 0xB2 ∷ 0xA1 ∷ 2 ∷ 0 ∷ 4 ∷ 0 ∷ 0 ∷ 0 ∷ 0 ∷ 0 ∷ 0 ∷ 0 ∷ 0 ∷ 0 ∷ 0xFF ∷ 0xFF ∷ 0 ∷ 0 ∷ 1 ∷ 0 ∷ 0 ∷ 0 ∷ []
 
 header_is_read : pcap_records header ≡ Ok []

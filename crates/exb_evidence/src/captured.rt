@@ -88,9 +88,11 @@ fn take_frames<S: Shelf>(
 {
     let mut frames = Vec::new(alloc);
     'records: while let Some(_) = file.ahead(shelf, piece)? {
-        match file.take(alloc) {
-            Ok(frame) if frames.push(frame).is_ok() => {}
-            _ => return Err(Halt::Memory),
+        let Ok(frame) = file.take(alloc) else {
+            return Err(Halt::Memory);
+        };
+        if frames.push(frame).is_err() {
+            return Err(Halt::Memory);
         }
     }
     Ok(Taken {
