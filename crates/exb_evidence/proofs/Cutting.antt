@@ -1,9 +1,10 @@
 -- Texts that are cut at their newlines, and what is kept of one that is fed in pieces.
-use Rattle.std.proofs.Common.{◌≡◌, ◌≢◌, ◌<◌, ◌≤◌, ◌-◌, ◌+◌, ◌^◌, ◌==◌, ℕ, zero, suc, Bool, true, false, List, [], ◌∷◌, ◌++◌, length, take, drop, get_or, Option, Some, None, refl, ap, sym, subst, inl, inr, ◌∙◌, arith, append_assoc, length-append}
+use Rattle.std.proofs.Common.{◌≡◌, ◌≢◌, ◌<◌, ◌≤◌, ◌-◌, ◌+◌, ◌^◌, ◌==◌, ℕ, zero, suc, Bool, true, false, cond, List, [], ◌∷◌, ◌++◌, length, take, drop, get_or, Option, Some, None, refl, ap, sym, subst, inl, inr, ◌∙◌, arith, append_assoc, length-append, take-add}
 use Rattle.std.specs.Prelude.{◌⊎◌, All, is_some, min, option_map, option_and_then, flat_map}
 use Rattle.std.specs.List.{slice_split}
-use Rattle.std.proofs.lemmas.List.{append-nil, flat_map_more, take-append-drop, take_rest, take_more, take_all, take-add, get_or-drop, length-drop}
-use Rattle.std.proofs.lemmas.List.Elements.{All-append}
+use Rattle.std.proofs.lemmas.List.{append-nil, flat_map_more, take-append-drop, take_rest, take_more, take_all, get_or-drop, length-drop}
+use Rattle.std.proofs.lemmas.Bool.{ne_eqb, false≢true, eqb-true}
+use Rattle.std.proofs.lemmas.List.Elements.{All-append, All-nil}
 use Rattle.std.proofs.lemmas.List.Splits.{slice_split_at, slice_split_none, length-slice_split}
 use Rattle.exb_legal.specs.Entries.{entry_in}
 use Rattle.exb_legal.specs.Reading.{Each}
@@ -42,7 +43,7 @@ ended_parts ([] ∷ []) ls e = ap (λ (z : List (List ℕ)). z ++ [] ∷ []) (so
   where
     some_same : Some [] ≡ Some ls → [] ≡ ls
     some_same z = cc
-ended_parts ((c ∷ cs) ∷ []) ls e = absurd (none_some e)
+ended_parts ((c ∷ cs) ∷ []) ls e = absurd (none_some (sym (ap (λ b. cond b (Some []) None) (ne_eqb (length (c ∷ cs)) 0 (λ z. omega (arith, z)))) ∙ e))
   where
     none_some : None ≡ Some ls → ⊥
     none_some z = cc
@@ -96,10 +97,11 @@ module _ {A : Type 0} (read : List ℕ → Option A) where
   every_read (x ∷ xs) all = by_first (read x) refl (every_read xs all.1)
     where
       by_first : (o : Option A) → read x ≡ o → (zs : List A) × (all_read read xs ≡ Some zs) → (ys : List A) × (all_read read (x ∷ xs) ≡ Some ys)
-      by_first None w rest = absurd (never (sym (ap is_some w) ∙ all.0))
+      by_first None w rest = absurd (never (read x) w all.0)
         where
-          never : is_some {A = A} None ≡ true → ⊥
-          never z = cc
+          never : (o : Option A) → o ≡ None → is_some o ≡ true → ⊥
+          never None z y = cc
+          never (Some a) z y = cc
       by_first (Some y) w rest = (y ∷ rest.0, rw (w, rest.1) refl)
 
   -- ---- a text that is fed
@@ -130,7 +132,7 @@ module _ {A : Type 0} (read : List ℕ → Option A) where
               ∙ (joined a.before old.rest.items line []
               ∙ (sym (ended_more a.before whole) ∙ (sym (append-nil (ended (a.before ++ whole ∷ []))) ∙ ap (λ (r : List ℕ). ended (a.before ++ whole ∷ []) ++ r) (sym rest))));
           each = each_last IsOneLine a.before whole a.each (one_line_both old.rest.items line a.last one);
-          last = subst IsOneLine (sym rest) (λ i low. absurd (omega (arith, low)));
+          last = subst IsOneLine (sym rest) (All-nil (λ (c : ℕ). (c == 10) ≡ false));
           are = all_both read a.before (whole ∷ []) old.lines.items (y ∷ []) a.are (one_read whole y reads) ∙ ap (λ (z : List A). Some z) (sym lines);
         });
   }
@@ -255,7 +257,10 @@ part_more xs from at before within other h =
     (lacks_more 10 (drop from xs) (at - from) (omega (arith, before, within, length-drop from xs)) (λ e. other (ap (λ n. get_or xs n 0) (sym place) ∙ (sym (get_or-drop from xs (at - from) 0) ∙ e))) h)
 
 pub no_part : (xs : List ℕ) (n : ℕ) → IsOneLine (take (n - n) xs)
-no_part xs n = subst (λ k. IsOneLine (take k xs)) (omega arith) (λ i low. absurd (omega (arith, low)))
+no_part xs n = subst (λ k. IsOneLine (take k xs)) (none n) (All-nil (λ (c : ℕ). (c == 10) ≡ false))
+  where
+    none : (k : ℕ) → 0 ≡ k - k
+    none k = omega arith
 
 pub line_there : (xs : List ℕ) (from at : ℕ) → from ≤ at → at < length xs → get_or xs at 0 ≡ 10 → take from xs ++ (take (at - from) (drop from xs) ++ 10 ∷ []) ≡ take (at + 1) xs
 line_there xs from at before within e =
@@ -270,3 +275,12 @@ rest_there xs from = ap (λ (z : List ℕ). take from xs ++ z) (take_rest xs fro
 pub last_part : (xs : List ℕ) (from at : ℕ) → length xs ≤ at → IsOneLine (take (at - from) (drop from xs)) → IsOneLine (take (length xs - from) (drop from xs))
 last_part xs from at past h =
     subst IsOneLine (take_all (at - from) (drop from xs) (omega (arith, past, length-drop from xs)) ∙ sym (take_rest xs from)) h
+
+-- ---- whether a part is empty
+pub rest_some : (xs : List ℕ) (b : Bool) → b ≡ (length xs == 0) → b ≡ false → xs ≡ [] → ⊥
+rest_some [] b e f z = false≢true (sym f ∙ e)
+rest_some (x ∷ xs) b e f z = cc
+
+pub rest_none : (xs : List ℕ) (b : Bool) → b ≡ (length xs == 0) → b ≡ true → xs ≡ []
+rest_none [] b e f = refl
+rest_none (x ∷ xs) b e f = absurd (omega (arith, eqb-true (length (x ∷ xs)) 0 (sym e ∙ f)))

@@ -34,16 +34,16 @@ module _ {A : Type 0} (read : List ℕ → Option A) where
   tails : (x y : List ℕ) (xs ys : List (List ℕ)) → x ∷ xs ≡ y ∷ ys → xs ≡ ys
   tails x y xs ys e = cc
 
-  first_is_one : (xs ys : List (List ℕ)) (l m : List ℕ) (as bs : List (List ℕ)) → xs ++ l ∷ as ≡ ys ++ m ∷ bs → Each IsGoodLine xs → Each IsGoodLine ys → IsBadLine read l as → IsBadLine read m bs
+  first_is_one : (xs ys : List (List ℕ)) (l m : List ℕ) (cs bs : List (List ℕ)) → xs ++ l ∷ cs ≡ ys ++ m ∷ bs → Each IsGoodLine xs → Each IsGoodLine ys → IsBadLine read l cs → IsBadLine read m bs
       → length xs ≡ length ys
-  first_is_one [] [] l m as bs e p q h k = refl
-  first_is_one [] (y ∷ ys) l m as bs e p q h k =
-      let same : l ≡ y = heads l y as (ys ++ m ∷ bs) e in
-      absurd (never_both y q.0 (bad_some y ys m bs (subst (λ z. IsBadLine read y z) (tails l y as (ys ++ m ∷ bs) e) (subst (λ z. IsBadLine read z as) same h))))
-  first_is_one (x ∷ xs) [] l m as bs e p q h k =
-      let same : m ≡ x = heads m x bs (xs ++ l ∷ as) (sym e) in
-      absurd (never_both x p.0 (bad_some x xs l as (subst (λ z. IsBadLine read x z) (tails m x bs (xs ++ l ∷ as) (sym e)) (subst (λ z. IsBadLine read z bs) same k))))
-  first_is_one (x ∷ xs) (y ∷ ys) l m as bs e p q h k = ap suc (first_is_one xs ys l m as bs (tails x y (xs ++ l ∷ as) (ys ++ m ∷ bs) e) p.1 q.1 h k)
+  first_is_one [] [] l m cs bs e p q h k = refl
+  first_is_one [] (y ∷ ys) l m cs bs e p q h k =
+      let same : l ≡ y = heads l y cs (ys ++ m ∷ bs) e in
+      absurd (never_both y q.0 (bad_some y ys m bs (subst (λ z. IsBadLine read y z) (tails l y cs (ys ++ m ∷ bs) e) (subst (λ z. IsBadLine read z cs) same h))))
+  first_is_one (x ∷ xs) [] l m cs bs e p q h k =
+      let same : m ≡ x = heads m x bs (xs ++ l ∷ cs) (sym e) in
+      absurd (never_both x p.0 (bad_some x xs l cs (subst (λ z. IsBadLine read x z) (tails m x bs (xs ++ l ∷ cs) (sym e)) (subst (λ z. IsBadLine read z bs) same k))))
+  first_is_one (x ∷ xs) (y ∷ ys) l m cs bs e p q h k = ap suc (first_is_one xs ys l m cs bs (tails x y (xs ++ l ∷ cs) (ys ++ m ∷ bs) e) p.1 q.1 h k)
 
   pub one_bad : (text : List ℕ) (n k : ℕ) → FirstBadLine read text n → FirstBadLine read text k → n ≡ k
   one_bad text n k a b =
@@ -53,9 +53,9 @@ module _ {A : Type 0} (read : List ℕ → Option A) where
   none_bad : (ls xs : List (List ℕ)) (l : List ℕ) (after : List (List ℕ)) → ls ++ [] ∷ [] ≡ xs ++ l ∷ after → Each IsGoodLine ls → IsBadLine read l after → ⊥
   none_bad [] [] l after e good h = last after (tails [] l [] after e) h
     where
-      last : (as : List (List ℕ)) → [] ≡ as → IsBadLine read l as → ⊥
+      last : (cs : List (List ℕ)) → [] ≡ cs → IsBadLine read l cs → ⊥
       last [] none k = k (sym (heads [] l [] after e))
-      last (a ∷ as) none k = absurd (cc)
+      last (b ∷ bs) none k = absurd (cc)
   none_bad [] (x ∷ xs) l after e good h = more xs (tails [] x [] (xs ++ l ∷ after) e)
     where
       more : (zs : List (List ℕ)) → [] ≡ zs ++ l ∷ after → ⊥
@@ -80,15 +80,15 @@ module _ {A : Type 0} (read : List ℕ → Option A) where
 
   pub one_lines_fault : (limit : ℕ) (file : Option (List ℕ)) (f g : LinesFault) → IsLinesFault read limit file f → IsLinesFault read limit file g → f ≡ g
   one_lines_fault limit file Missing Missing h k = refl
-  one_lines_fault limit file Missing Large h k = absurd (none_some k.0 (sym h ∙ k.1.0))
-  one_lines_fault limit file Missing (Bad n) h k = absurd (none_some k.0 (sym h ∙ k.1.0))
-  one_lines_fault limit file Large Missing h k = absurd (none_some h.0 (sym k ∙ h.1.0))
+  one_lines_fault limit file Missing Large h k = absurd (none_some k.0 (sym h ∙ k.1))
+  one_lines_fault limit file Missing (Bad n) h k = absurd (none_some k.0 (sym h ∙ k.1))
+  one_lines_fault limit file Large Missing h k = absurd (none_some h.0 (sym k ∙ h.1))
   one_lines_fault limit file Large Large h k = refl
-  one_lines_fault limit file Large (Bad n) h k = absurd (omega (arith, h.1.1, k.1.1, ap length (some_same h.0 k.0 (sym h.1.0 ∙ k.1.0))))
-  one_lines_fault limit file (Bad n) Missing h k = absurd (none_some h.0 (sym k ∙ h.1.0))
-  one_lines_fault limit file (Bad n) Large h k = absurd (omega (arith, k.1.1, h.1.1, ap length (some_same h.0 k.0 (sym h.1.0 ∙ k.1.0))))
+  one_lines_fault limit file Large (Bad n) h k = absurd (omega (arith, h.2, k.2, ap length (some_same h.0 k.0 (sym h.1 ∙ k.1))))
+  one_lines_fault limit file (Bad n) Missing h k = absurd (none_some h.0 (sym k ∙ h.1))
+  one_lines_fault limit file (Bad n) Large h k = absurd (omega (arith, k.2, h.2, ap length (some_same h.0 k.0 (sym h.1 ∙ k.1))))
   one_lines_fault limit file (Bad n) (Bad m) h k =
-      ap (λ j. Bad j) (one_bad k.0 n m (subst (λ t. FirstBadLine read t n) (some_same h.0 k.0 (sym h.1.0 ∙ k.1.0)) h.1.2) k.1.2)
+      ap (λ j. Bad j) (one_bad k.0 n m (subst (λ t. FirstBadLine read t n) (some_same h.0 k.0 (sym h.1 ∙ k.1)) h.3) k.3)
   one_lines_fault limit file Read g h k = absurd h
   one_lines_fault limit file Memory g h k = absurd h
   one_lines_fault limit file Missing Read h k = absurd k
@@ -101,10 +101,10 @@ module _ {A : Type 0} (read : List ℕ → Option A) where
   pub lines_or_fault : {B : Type 0} (Gives : List ℕ → List B → Type 0) → ((text : List ℕ) (lines : List B) → Gives text lines → (read_as : List A) × AreLines read text read_as)
       → (limit : ℕ) (file : Option (List ℕ)) (lines : List B) (f : LinesFault) → HoldsLines Gives limit file lines → IsLinesFault read limit file f → ⊥
   lines_or_fault Gives so limit file lines Missing h k = none_some h.text (sym k ∙ h.there)
-  lines_or_fault Gives so limit file lines Large h k = omega (arith, h.small, k.1.1, ap length (some_same h.text k.0 (sym h.there ∙ k.1.0)))
+  lines_or_fault Gives so limit file lines Large h k = omega (arith, h.small, k.2, ap length (some_same h.text k.0 (sym h.there ∙ k.1)))
   lines_or_fault Gives so limit file lines (Bad n) h k =
       let a = so h.text lines h.gives in
-      lines_or_bad k.0 a.0 n (subst (λ t. AreLines read t a.0) (some_same h.text k.0 (sym h.there ∙ k.1.0)) a.1) k.1.2
+      lines_or_bad k.0 a.0 n (subst (λ t. AreLines read t a.0) (some_same h.text k.0 (sym h.there ∙ k.1)) a.1) k.3
   lines_or_fault Gives so limit file lines Read h k = k
   lines_or_fault Gives so limit file lines Memory h k = k
 
@@ -145,7 +145,7 @@ line_same l = by_is (is_some (entry_in l))
 
 bad_same : (line : List ℕ) (after : List (List ℕ)) → IsBadLine journal_line line after → IsBadLine entry_in line after
 bad_same line [] h = h
-bad_same line (a ∷ as) h = none_of (entry_in line) (sym (line_same line) ∙ ap is_some h)
+bad_same line (b ∷ bs) h = none_of (entry_in line) (sym (line_same line) ∙ ap is_some h)
   where
     none_of : (o : Option Entry) → is_some o ≡ false → o ≡ None
     none_of None e = refl
@@ -159,8 +159,8 @@ pub journal_fault : (limit : ℕ) (file : Option (List ℕ)) (f : LinesFault) �
 journal_fault limit file Missing h = h
 journal_fault limit file Large h = h
 journal_fault limit file (Bad n) h =
-    let b = h.1.2 in
-    (h.0, h.1.0, h.1.1, record { before = b.before; line = b.line; after = b.after; cut = b.cut; number_is = b.number_is; good = good_same b.before b.good; bad = bad_same b.line b.after b.bad })
+    let b = h.3 in
+    (h.0, h.1, h.2, record { before = b.before; line = b.line; after = b.after; cut = b.cut; number_is = b.number_is; good = good_same b.before b.good; bad = bad_same b.line b.after b.bad })
 journal_fault limit file Read h = h
 journal_fault limit file Memory h = h
 

@@ -13,7 +13,7 @@ use Rattle.exb_evidence.specs.declared.frames.FramesFault.TheVariants.{Memory, R
 use Rattle.exb_evidence.specs.Frames.{Reading, IsReadFrom, EachIsRead, total, AreRead, IsGood, StandsBy, IsFlaw, IsFirstFault}
 
 pub total_more : (file : Files) (xs ys : List PortFile) → total file (xs ++ ys) ≡ total file xs + total file ys
-total_more file [] ys = refl
+total_more file [] ys = omega arith
 total_more file (x ∷ xs) ys = omega (arith, total_more file xs ys)
 
 pub each_more : (read : Reading) (file : Files) (xs : List PortFile) (fs : List PortFrames) (x : PortFile) (f : PortFrames) → EachIsRead read file xs fs → IsReadFrom read file x f

@@ -2,3 +2,4 @@ pub mod Filing
 pub mod Taking
 pub mod Cutting
 pub mod Exact
+pub mod Loading

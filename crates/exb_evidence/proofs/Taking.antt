@@ -1,7 +1,8 @@
 -- What is read of a capture in either format, of one that can only be classic.
-use Rattle.std.proofs.Common.{◌≡◌, ◌≢◌, ◌<◌, ◌≤◌, ◌-◌, ◌+◌, ◌*◌, ℕ, zero, suc, List, [], ◌∷◌, ◌++◌, length, take, map, Option, Some, None, Result, Ok, Err, refl, ap, sym, subst, inl, inr, ◌∙◌, arith, map-append}
-use Rattle.std.specs.Prelude.{◌⊎◌, ◌&&◌, IsSome, slice_index}
-use Rattle.std.proofs.lemmas.Bool.{ne_eqb}
+use Rattle.std.proofs.Common.{◌≡◌, ◌≢◌, ◌<◌, ◌≤◌, ◌-◌, ◌+◌, ◌*◌, ℕ, zero, suc, List, [], ◌∷◌, ◌++◌, length, take, drop, get_or, map, Option, Some, None, Result, Ok, Err, refl, ap, sym, subst, inl, inr, ◌∙◌, arith, true, false, Bool}
+use Rattle.std.specs.Prelude.{◌⊎◌, ◌&&◌, IsSome, nat_lt}
+use Rattle.std.proofs.lemmas.Bool.{ne_eqb, ltb-true, and_parts}
+use Rattle.std.proofs.lemmas.List.{map-append}
 use Rattle.exb_model.specs.Frames.{IsBytes}
 use Rattle.exb_model.specs.Input.{Record}
 use Rattle.exb_capture.specs.declared.fault.Fault.{Fault}
@@ -15,7 +16,8 @@ use Rattle.exb_capture.specs.declared.file.Halt.{Halt}
 use Rattle.exb_capture.specs.declared.file.Halt.TheVariants as halt
 use Rattle.exb_capture.specs.Reading.{HasRead, HaltsBy, IsWhole, ComesNext, next_of}
 use Rattle.exb_capture.proofs.CaptureLemmas.{read_as_classic}
-use Rattle.exb_shelf.specs.Files.{bytes_of}
+use Rattle.exb_shelf.specs.Files.{Files, SameFiles, bytes_of}
+use Rattle.exb_shelf.specs.Shelf.{Id, reading}
 use Rattle.exb_evidence.specs.declared.captured.Taken.{Taken}
 use Rattle.exb_evidence.specs.declared.frames.PortFile.{PortFile}
 use Rattle.exb_evidence.specs.declared.frames.FramesFault.{FramesFault}
@@ -102,11 +104,16 @@ more_bytes : (b : ℕ) (bs : List ℕ) → b < 256 → IsBytes bs → IsBytes (b
 more_bytes b bs low h zero = low
 more_bytes b bs low h (suc i) = h i
 
+abbrev are_small : List ℕ → Bool
+are_small [] = true
+are_small (b ∷ bs) = nat_lt b 256 && are_small bs
+
+small_bytes : (bs : List ℕ) → are_small bs ≡ true → IsBytes bs
+small_bytes [] e = no_bytes
+small_bytes (b ∷ bs) e = (let p = and_parts (nat_lt b 256) (are_small bs) e in more_bytes b bs (ltb-true b 256 p.0) (small_bytes bs p.1))
+
 header_bytes : IsBytes header
-header_bytes = more_bytes _ _ (omega arith) (more_bytes _ _ (omega arith) (more_bytes _ _ (omega arith) (more_bytes _ _ (omega arith) (more_bytes _ _ (omega arith) (more_bytes _ _ (omega arith)
-    (more_bytes _ _ (omega arith) (more_bytes _ _ (omega arith) (more_bytes _ _ (omega arith) (more_bytes _ _ (omega arith) (more_bytes _ _ (omega arith) (more_bytes _ _ (omega arith)
-    (more_bytes _ _ (omega arith) (more_bytes _ _ (omega arith) (more_bytes _ _ (omega arith) (more_bytes _ _ (omega arith) (more_bytes _ _ (omega arith) (more_bytes _ _ (omega arith)
-    (more_bytes _ _ (omega arith) (more_bytes _ _ (omega arith) (more_bytes _ _ (omega arith) (more_bytes _ _ (omega arith) (more_bytes _ _ (omega arith) (more_bytes _ _ (omega arith) no_bytes)))))))))))))))))))))))
+header_bytes = small_bytes header refl
 
 -- a file without bytes
 pub flaw_nothing : (left : ℕ) (x : PortFile) (file : Option (List ℕ)) (f : FramesFault) → BeginsWith None file → f ≡ Broken x.port (fault NotPcap 0) → IsFlaw pcap_records left x file f
@@ -174,3 +181,24 @@ pub flaw_missing : (read : Reading) (left : ℕ) (x : PortFile) (file : Option (
     → IsFlaw read left x file f ⊎ (f ≡ Read) ⊎ (f ≡ Memory)
 flaw_missing read left x file f (inl h) = inl (subst (λ o. IsFlaw read left x o f) (sym h.0) h.1)
 flaw_missing read left x file f (inr h) = inr h
+
+-- the first byte, as it was read
+first_of : (bytes into : List ℕ) (n : ℕ) → n ≢ 0 → n ≤ length into → take n into ≡ take n bytes → (x : List ℕ) × (bytes ≡ get_or into 0 0 ∷ x)
+first_of bytes into zero some bound e = absurd (some refl)
+first_of bytes [] (suc k) some bound e = absurd (omega (arith, bound))
+first_of [] (b ∷ more) (suc k) some bound e = absurd (cc)
+first_of (d ∷ ds) (b ∷ more) (suc k) some bound e = (ds, ap (λ z. z ∷ ds) (heads e))
+  where
+    heads : b ∷ take k more ≡ d ∷ take k ds → d ≡ b
+    heads z = cc
+
+pub first_read : (f g : Files) (i : Id) (name into : List ℕ) (n : ℕ) → i ≡ reading name 0 → SameFiles f g → IsSome (f name) → n ≢ 0 → n ≤ length into
+    → take n into ≡ take n (drop i.place (bytes_of (g i.name))) → (x : List ℕ) × (f name ≡ Some (get_or into 0 0 ∷ x))
+first_read f g i name into n e same there some bound bytes =
+    let read : take n into ≡ take n (bytes_of (f name)) = bytes ∙ (ap (λ (x : Id). take n (drop x.place (bytes_of (g x.name)))) e ∙ ap (λ (o : Option (List ℕ)). take n (bytes_of o)) (same name)) in
+    let first = first_of (bytes_of (f name)) into n some bound read in
+    (first.0, whole (f name) there ∙ ap (λ (b : List ℕ). Some b) first.1)
+  where
+    whole : (o : Option (List ℕ)) → IsSome o → o ≡ Some (bytes_of o)
+    whole None is = absurd (cc)
+    whole (Some b) is = refl

@@ -36,7 +36,7 @@ pub record AreBroken {A : Type 0} (read : List ℕ → Option A) (text : List �
   pub before : List (List ℕ)
   pub line : List ℕ
   pub more : List ℕ
-  pub is : text ≡ ended before ++ line ++ 10 ∷ more
+  pub is : text ≡ ended before ++ (line ++ 10 ∷ more)
   pub each : Each IsOneLine before
   pub one : IsOneLine line
   pub are : all_read read before ≡ Some lines
