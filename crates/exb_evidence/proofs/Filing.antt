@@ -23,6 +23,11 @@ each_more read file (y ∷ ys) (g ∷ gs) x f e h = (e.0, each_more read file ys
 each_more read file [] (g ∷ gs) x f e h = absurd e
 each_more read file (y ∷ ys) [] x f e h = absurd e
 
+-- what is left of the limit behind one file more
+pub rest_more : (file : Files) (xs : List PortFile) (one : PortFile) (bytes : List ℕ) (n left limit : ℕ) → total file xs + left ≡ limit → file one.name ≡ Some bytes → n ≡ length bytes → n ≤ left
+    → total file (xs ++ one ∷ []) + (left - n) ≡ limit
+rest_more file xs one bytes n left limit e there size fits = omega (arith, e, total_more file xs (one ∷ []), ap (λ (o : Option (List ℕ)). length (bytes_of o)) there, size, fits)
+
 good_of : (read : Reading) (file : Files) (x : PortFile) (f : PortFrames) → IsReadFrom read file x f → IsGood read file x
 good_of read file x f h = record { bytes = h.bytes; there = h.there; records = h.holds.records; is = h.holds.is }
 

@@ -150,11 +150,14 @@ fn first_byte<S: Shelf>(
         Err(fault) => return Err(unopened(alloc, name, fault)),
     };
     let (first, _) = piece.split_at_mut(1);
-    match shelf.read(id, first) {
-        Ok(0) => Ok(None),
-        Ok(_) => Ok(Some(first[0])),
-        Err(fault) => Err(unread(fault)),
+    let n = match shelf.read(id, first) {
+        Ok(n) => n,
+        Err(fault) => return Err(unread(fault)),
+    };
+    if n == 0 {
+        return Ok(None);
     }
+    Ok(Some(first[0]))
 }
 
 /// That a file of this port is no classic capture.
@@ -190,10 +193,14 @@ pub(crate) fn take_classic<S: Shelf>(
     ensures faults { CountsFrames result (S.faults shelf.old) (S.faults shelf.new) }
 {
     let first = first_byte(alloc, shelf, &one.name, piece)?;
-    match first {
-        None => Err(no_classic(one.port)),
-        Some(_) if left == 0 => Err(FramesFault::Large),
-        Some(0x0A) => Err(no_classic(one.port)),
-        Some(_) => take_capture(alloc, shelf, one, left, piece),
+    let Some(byte) = first else {
+        return Err(no_classic(one.port));
+    };
+    if left == 0 {
+        return Err(FramesFault::Large);
     }
+    if byte == 10 {
+        return Err(no_classic(one.port));
+    }
+    take_capture(alloc, shelf, one, left, piece)
 }

@@ -95,10 +95,11 @@ fn feed<L: Line>(alloc: Global, to: &mut Lines<L>, piece: &[u8]) -> Result<(), N
 {
     let mut from = 0;
     'bytes: for (at, byte) in piece.iter().enumerate() {
-        if *byte == b'\n' {
-            end_line(alloc, to, &piece[from..at])?;
-            from = at + 1;
+        if *byte != 10 {
+            continue;
         }
+        end_line(alloc, to, &piece[from..at])?;
+        from = at + 1;
     }
     put_rest(to, &piece[from..])
 }

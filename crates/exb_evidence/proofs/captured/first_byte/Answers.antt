@@ -1,7 +1,10 @@
+use Rattle.std.proofs.Common.{rules, ◌≡◌, ◌∷◌, List, ℕ, Some, get_or, subst}
 use Rattle.exb_evidence.proofs.Taking.{first_read}
 use Rattle.exb_evidence.proofs.captured.first_byte.Goals as goal
 
-pub returns-in-Ok-read-clause-first : goal.returns-in-Ok-read-clause-first
-returns-in-Ok-read-clause-first g c = λ t.
+pub returns-clause-first : goal.returns-clause-first
+returns-clause-first g c = λ t.
     let S = g.S.Shelf in
-    first_read (S.file c.args.shelf.now) (S.file c.open.new.self) (S.ids c.open.new.self c.in-Ok.id) c.args.name.now c.read.new.into c.in-Ok-read.field-0 ? c.in-Ok.ensures.files (c.in-Ok.ensures.there t) ? ? (c.in-Ok-read.ensures.bytes t)
+    subst (λ (name : List ℕ). (x : List ℕ) × (S.file c.args.shelf.now name ≡ Some (get_or c.read.new.into 0 0 ∷ x))) c.as_str.ensures
+    (first_read (S.file c.args.shelf.now) (S.file c.open.new.self) (S.ids c.open.new.self c.in-Ok.id) c.as_str.result.now c.read.new.into c.in-Ok-read.n c.in-Ok.ensures.id c.in-Ok.ensures.files (c.in-Ok.ensures.there t)
+    c.if-n-eq0.false (search rules) (c.in-Ok-read.ensures.bytes t))

@@ -1,0 +1,80 @@
+use Rattle.std.proofs.Common.{rules, ◌≡◌, ◌++◌, ◌∷◌, [], ℕ, List, Option, sym, subst, ◌∙◌}
+use Rattle.std.specs.Prelude.{IfSome, IfNone}
+use Rattle.std.proofs.lemmas.Result.{err_from_is_err_and}
+use Rattle.exb_model.specs.Input.{Record}
+use Rattle.exb_shelf.specs.Files.{bytes_of}
+use Rattle.exb_capture.specs.Reading.{IsAt, IsWhole, HasRead, HaltsBy, ComesNext}
+use Rattle.exb_capture.proofs.Looking.{kept_bytes, moves_then, fewer_then}
+use Rattle.exb_evidence.proofs.Taking.{all_taken, one_taken}
+use Rattle.exb_evidence.proofs.captured.take_frames.Goals as goal
+
+pub returns-in_err-ahead-clause-halts : goal.returns-in_err-ahead-clause-halts
+returns-in_err-ahead-clause-halts g c =
+    let p = err_from_is_err_and c.from_residual.result c.from_residual.ensures.1 in
+    let S = g.S.Shelf in
+    let inv = c.records.invariant in
+    let f = c.records.file in
+    let halt = c.in_err-ahead.field-0.0 in
+    let bytes = bytes_of (S.file c.args.shelf.now (S.ids c.args.shelf.now c.args.file.now.id).name) in
+    let same = kept_bytes (S.file c.args.shelf.now) (S.file c.records.shelf) (S.ids c.args.shelf.now) (S.ids c.records.shelf) c.args.file.now.id f.id c.args.file.now.got c.requires.at inv.moves inv.files inv.same.id in
+    rw (p.1, p.2)
+    (λ tells h.
+    let taken = inv.taken tells h in
+    subst (λ (n : ℕ). HaltsBy bytes n halt) inv.same.limit_is
+    (subst (λ (b : List ℕ). HaltsBy b f.limit halt) same
+    (c.in_err-ahead.ensures.halts tells taken.taken (subst (λ (b : List ℕ). HasRead b taken.taken f) (sym same) taken.read))))
+
+pub records-preserved : goal.records-preserved
+records-preserved g c =
+    let S = g.S.Shelf in
+    let inv = c.records.invariant in
+    let f = c.records.file in
+    let seen = c.ahead.new.self in
+    let next = c.take.new.self in
+    let found = c.in_ok-ahead.ensures in
+    let took = c.take.ensures in
+    let bytes = bytes_of (S.file c.args.shelf.now (S.ids c.args.shelf.now c.args.file.now.id).name) in
+    let same = kept_bytes (S.file c.args.shelf.now) (S.file c.records.shelf) (S.ids c.args.shelf.now) (S.ids c.records.shelf) c.args.file.now.id f.id c.args.file.now.got c.requires.at inv.moves inv.files inv.same.id in
+    let pushed : c.push.new.self.items ≡ c.records.frames.items ++ c.in-Ok.frame ∷ [] = search rules in
+    record {
+      at =
+          subst (λ (n : ℕ). IsAt (S.ids c.ahead.new.shelf next.id) n) (sym took.got)
+          (subst (λ (k : ℕ). IsAt (S.ids c.ahead.new.shelf k) seen.got) (sym took.same.id) found.at);
+      piece = c.ahead.ensures.piece ∙ inv.piece;
+      sound = took.sound;
+      same = record {
+        id = took.same.id ∙ (c.ahead.ensures.same.id ∙ inv.same.id);
+        limit_is = took.same.limit_is ∙ (c.ahead.ensures.same.limit_is ∙ inv.same.limit_is);
+      };
+      taken = λ tells h.
+          let taken = inv.taken tells h in
+          one_taken bytes seen next c.records.frames.items c.push.new.self.items c.in-Some.field-0 c.in-Ok.frame
+          (record {
+            taken = taken.taken;
+            read =
+                subst (λ (b : List ℕ). HasRead b taken.taken seen) same
+                (found.read tells taken.taken (subst (λ (b : List ℕ). HasRead b taken.taken f) (sym same) taken.read));
+            are = taken.are;
+          })
+          (subst (λ (o : Option ℕ). IfSome o (λ m. ComesNext m seen)) c.in-Some.is found.found)
+          c.in-Ok.ensures.bytes (λ xs x. took.read bytes xs x) pushed;
+      moves = moves_then c.args.file.now.id f.id (S.ids c.args.shelf.now) (S.ids c.records.shelf) (S.ids c.ahead.new.shelf) inv.moves c.ahead.ensures.moves inv.same.id;
+      files = λ n. c.ahead.ensures.files n ∙ inv.files n;
+      faults = fewer_then (S.faults c.args.shelf.now) (S.faults c.records.shelf) (S.faults c.ahead.new.shelf) inv.faults c.ahead.ensures.faults;
+    }
+
+pub returns-clause-whole : goal.returns-clause-whole
+returns-clause-whole g c = λ tells h.
+    let S = g.S.Shelf in
+    let inv = c.records.invariant in
+    let f = c.records.file in
+    let seen = c.ahead.new.self in
+    let bytes = bytes_of (S.file c.args.shelf.now (S.ids c.args.shelf.now c.args.file.now.id).name) in
+    let there = bytes_of (S.file c.records.shelf (S.ids c.records.shelf f.id).name) in
+    let same = kept_bytes (S.file c.args.shelf.now) (S.file c.records.shelf) (S.ids c.args.shelf.now) (S.ids c.records.shelf) c.args.file.now.id f.id c.args.file.now.got c.requires.at inv.moves inv.files inv.same.id in
+    let taken = inv.taken tells h in
+    let ends =
+    subst (λ (o : Option ℕ). IfNone o ((xs : List Record) → HasRead there xs f → IsWhole there xs seen)) c.in_default.is (c.in_ok-ahead.ensures.end tells) in
+    all_taken bytes f seen (record { frames = c.records.frames; bytes = c.got.result }) c.args.file.now.limit taken
+    (subst (λ (b : List ℕ). IsWhole b taken.taken seen) same (ends taken.taken (subst (λ (b : List ℕ). HasRead b taken.taken f) (sym same) taken.read)))
+    c.got.ensures (c.ahead.ensures.same.limit_is ∙ inv.same.limit_is)

@@ -1,0 +1,79 @@
+use Rattle.std.proofs.Common.{rules, ◌≡◌, ◌+◌, ◌-◌, ◌++◌, ◌∷◌, [], ◌∙◌, inl, inr, ℕ, List, Option, take, drop, sym, subst, arith, refl}
+use Rattle.std.proofs.lemmas.Result.{err_from_is_err_and}
+use Rattle.exb_shelf.proofs.IdLemmas.{opens_weaker, opens_then}
+use Rattle.exb_audit.proofs.Cuts.{item_is, item_more}
+use Rattle.exb_audit.proofs.Entered.{get_item}
+use Rattle.exb_audit.specs.declared.frames.PortFrames.{PortFrames}
+use Rattle.exb_evidence.specs.declared.frames.PortFile.{PortFile}
+use Rattle.exb_evidence.specs.Frames.{EachIsRead, IsFlaw, IsReadFrom, records_by, total}
+use Rattle.exb_evidence.proofs.Filing.{all_good, each_more, rest_more}
+use Rattle.exb_evidence.proofs.frames.read_frames.Goals as goal
+
+pub returns-in_err-taken-clause-refused : goal.returns-in_err-taken-clause-refused
+returns-in_err-taken-clause-refused g c t =
+    let S = g.S.Shelf in
+    let inv = c.files.invariant in
+    let files = c.args.files.now in
+    let i = c.files.one-index in
+    let one = c.one-item.result in
+    let read = records_by c.args.grammar in
+    let f = S.file c.args.shelf.now in
+    let x = c.in_err-taken.field-0.0 in
+    let made = err_from_is_err_and c.from_residual.result c.from_residual.ensures.1 in
+    rw (made.1, made.2) (elim (c.in_err-taken.ensures.flaw t) [
+      | inl flaw ↦ inl (record {
+        before = take i files;
+        one = one;
+        after = drop (i + 1) files;
+        is = item_is files i one c.one-item.is c.files-test.true;
+        good = all_good read f (take i files) c.files.all.items (inv.each t);
+        within = omega (arith, inv.rest t);
+        here = subst (λ (n : ℕ). IsFlaw read n one (f one.name) x) (omega (arith, inv.rest t)) (subst (λ (o : Option (List ℕ)). IsFlaw read c.files.left one o x) (inv.kept one.name) flaw);
+      })
+      | inr other ↦ inr other
+    ])
+
+pub returns-in_err-taken-clause-opened : goal.returns-in_err-taken-clause-opened
+returns-in_err-taken-clause-opened g c =
+    let one = c.one-item.result in
+    let i = c.files.one-index in
+    opens_then _ _ _ _ c.files.invariant.opened
+    (opens_weaker _ _ _ _ (λ k reads. record { at = i; one = one; is = get_item c.args.files.now i one c.one-item.is c.files-test.true; reads = reads }) c.in_err-taken.ensures.opened)
+
+pub returns-then-is_err-clause-opened : goal.returns-then-is_err-clause-opened
+returns-then-is_err-clause-opened g c =
+    let one = c.one-item.result in
+    let i = c.files.one-index in
+    opens_then _ _ _ _ c.files.invariant.opened
+    (opens_weaker _ _ _ _ (λ k reads. record { at = i; one = one; is = get_item c.args.files.now i one c.one-item.is c.files-test.true; reads = reads }) c.in_ok-taken.ensures.opened)
+
+pub files-preserved : goal.files-preserved
+files-preserved g c =
+    let S = g.S.Shelf in
+    let inv = c.files.invariant in
+    let files = c.args.files.now in
+    let i = c.files.one-index in
+    let one = c.one-item.result in
+    let taken = c.in_ok-taken.taken in
+    let read = records_by c.args.grammar in
+    let f = S.file c.args.shelf.now in
+    let made : PortFrames = record { port = one.port; frames = taken.frames } in
+    let pushed : c.push.new.self.items ≡ c.files.all.items ++ made ∷ [] = search rules in
+    let more = item_more files i one c.one-item.is c.files-test.true in
+    record {
+      each = λ t.
+          let h = c.in_ok-taken.ensures.taken t in
+          subst (λ (xs : List PortFile). EachIsRead read f xs c.push.new.self.items) (sym more)
+          (subst (λ (fs : List PortFrames). EachIsRead read f (take i files ++ one ∷ []) fs) (sym pushed)
+          (each_more read f (take i files) c.files.all.items one made (inv.each t) (record { port = refl; bytes = h.bytes; there = sym (inv.kept one.name) ∙ h.there; holds = h.taken.holds })));
+      rest = λ t.
+          let h = c.in_ok-taken.ensures.taken t in
+          subst (λ (xs : List PortFile). total f xs + (c.files.left - taken.bytes) ≡ c.args.limit) (sym more)
+          (rest_more f (take i files) one h.bytes taken.bytes c.files.left c.args.limit (inv.rest t) (sym (inv.kept one.name) ∙ h.there) h.taken.size c.in_ok-taken.ensures.bytes);
+      piece = c.in_ok-taken.ensures.piece ∙ inv.piece;
+      opened =
+          opens_then _ _ _ _ inv.opened
+          (opens_weaker _ _ _ _ (λ k reads. record { at = i; one = one; is = get_item files i one c.one-item.is c.files-test.true; reads = reads }) c.in_ok-taken.ensures.opened);
+      kept = λ n. c.in_ok-taken.ensures.files n ∙ inv.kept n;
+      faults = search (arith, c.in_ok-taken.ensures.faults.none_fell, inv.faults);
+    }
