@@ -156,7 +156,13 @@ fn a_line_may_be_longer_than_a_piece(rt: HostRuntime) {
             1_000_000,
             Disturbance::Quiet,
         );
-        same(&rt, given.as_str(), wanted, "two long lines", *digits as usize);
+        same(
+            &rt,
+            given.as_str(),
+            wanted,
+            "two long lines",
+            *digits as usize,
+        );
     }
 }
 

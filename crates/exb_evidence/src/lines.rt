@@ -45,11 +45,7 @@ fn unread(fault: ShelfFault) -> LinesFault
 }
 
 /// Reads a line of which a part may be kept already.
-fn read_with<L: Line>(
-    alloc: Global,
-    rest: &mut Vec<u8>,
-    line: &[u8],
-) -> Result<Option<L>, NoMemory>
+fn read_with<L: Line>(alloc: Global, rest: &mut Vec<u8>, line: &[u8]) -> Result<Option<L>, NoMemory>
     ensures read { IfOk result (λ read. read ≡ L.reads (rest.old.items ++ line.now)) }
     ensures rest { OnOk result (rest.new.items ≡ []) }
 {

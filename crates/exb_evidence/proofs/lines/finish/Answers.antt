@@ -9,9 +9,12 @@ pub returns-then-not-is_empty-clause-bad : goal.returns-then-not-is_empty-clause
 returns-then-not-is_empty-clause-bad g c =
     let n = c.next_number-number-then-not-is_empty in
     let rest = c.args.from.rest in
-    let len : rest.len ≡ length rest.items = omega (arith, rest.ok.0) in
-    (n.result, refl, λ text few h. bad_rest g.L.Line.reads text c.args.from n.result c.if-from.false
-    (rest_some rest.items c.is_empty.result (subst (λ (k : ℕ). c.is_empty.result ≡ (k == 0)) len c.is_empty.ensures) c.if-not-is_empty.true) n.ensures few h)
+    let len : rest.len ≡ length rest.items = omega (arith, rest.ok.0) in (
+      n.result,
+      refl,
+      λ text few h. bad_rest g.L.Line.reads text c.args.from n.result c.if-from.false
+          (rest_some rest.items c.is_empty.result (subst (λ (k : ℕ). c.is_empty.result ≡ (k == 0)) len c.is_empty.ensures) c.if-not-is_empty.true) n.ensures few h,
+    )
 
 pub returns-clause-lines : goal.returns-clause-lines
 returns-clause-lines g c =
