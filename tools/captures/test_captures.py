@@ -119,14 +119,20 @@ class Captures(unittest.TestCase):
         self.assertGreater(self.refused, 100)
 
     def test_long_files_of_blocks(self):
+        """16 MB of blocks as they are, and each file again with one bit of it turned."""
         draw = random.Random(20)
-        for at in range(4):
-            blocks = []
-            while sum(map(len, blocks)) < 1_000_000:
+        for at in range(8):
+            blocks, size = [], 0
+            while size < 2_000_000:
                 frame = draw.randbytes(draw.randrange(14, 2000))
-                blocks += [pcapng.block(6, struct.pack("<IIIII", 0, 0, draw.getrandbits(32), len(frame), 1) + frame + bytes(-len(frame) % 4))] * 8
-                blocks.append(pcapng.block(draw.choice([2, 4, 5, 0xBAD]), bytes(4 * draw.randrange(50_000))))
-            self.judge(pcapng.HEAD + pcapng.ETHERNET + b"".join(blocks), f"long file {at}")
+                more = [pcapng.block(6, struct.pack("<IIIII", 0, 0, draw.getrandbits(32), len(frame), 1) + frame + bytes(-len(frame) % 4))] * 8
+                more.append(pcapng.block(draw.choice([2, 4, 5, 0xBAD]), bytes(4 * draw.randrange(50_000))))
+                blocks += more
+                size += sum(map(len, more))
+            file = bytearray(pcapng.HEAD + pcapng.ETHERNET + b"".join(blocks))
+            self.judge(bytes(file), f"long file {at}")
+            file[draw.randrange(len(file))] ^= 1 << draw.randrange(8)
+            self.judge(bytes(file), f"long file {at} with a bit turned")
 
 
 if __name__ == "__main__":

@@ -1,4 +1,5 @@
 //! Inputs that no run takes: files past the limits of their sizes, captures that change, and a folder in the place of a file.
+use crate::hex::bytes_of;
 use crate::runs::{bare_shelf, expect_end, put};
 use exb_faulty::ChangingShelf;
 use exb_shelf::{FileShelf, MemShelf};
@@ -9,47 +10,72 @@ use std::process::Abort;
 const ONE: &str =
     "bridge = { ports = 1 }\nextender = [{ number = 1, on = \"b1\", ports = 1 }]\ncaptures = { \"x1.1\" = \"zeros.pcap\" }\n";
 
-/// A capture up to its first frame: classic, of Ethernet, and that frame has 60 bytes and came at 100 s.
-const HEAD: [u8; 40] = [
-    0xD4, 0xC3, 0xB2, 0xA1, 2, 0, 4, 0, 0, 0, 0, 0, 0, 0, 0, 0, 0, 0, 4, 0, 1, 0, 0, 0, 100, 0, 0,
-    0, 0, 0, 0, 0, 60, 0, 0, 0, 60, 0, 0, 0,
+/// One frame of 60 bytes at 100 s as a classic capture, whose record begins at byte 24.
+const CLASSIC: &str = "D4C3B2A1 02000400 8x00 00000400 01000000 64000000 00000000 3C000000 3C000000 60x00";
+
+/// The same as pcapng: a section, an interface of Ethernet in microseconds, and at byte 48 the packet.
+const BLOCKS: &str = "0A0D0D0A 1C000000 4D3C2B1A 01000000 8xFF 1C000000 01000000 14000000 01000000 00000400 14000000 06000000 5C000000 00000000 00000000 00E1F505 3C000000 3C000000 60x00 5C000000";
+
+/// What stands in the place of a capture when it is read again, and what is said.
+type Changed = (&'static str, &'static str);
+
+/// In the place of the classic one: one that ends sooner, one that goes on, one of another kind, one that begins sooner, and none that is read.
+const CLASSIC_CHANGED: [Changed; 5] = [
+    (
+        "D4C3B2A1 02000400 8x00 00000400 01000000 64000000 00000000 3C000000 3C000000 59x00",
+        "exbr: capture x1.1: Changed at 24\n",
+    ),
+    (
+        "D4C3B2A1 02000400 8x00 00000400 01000000 64000000 00000000 3C000000 3C000000 61x00",
+        "exbr: capture x1.1: Changed at 100\n",
+    ),
+    (
+        "D4C3B2A1 02000400 8x00 00000400 69000000 64000000 00000000 3C000000 3C000000 60x00",
+        "exbr: capture x1.1: Changed at 20\n",
+    ),
+    (
+        "D4C3B2A1 02000400 8x00 00000400 01000000 63000000 00000000 3C000000 3C000000 60x00",
+        "exbr: capture x1.1: Changed at 24\n",
+    ),
+    ("100x00", "exbr: capture x1.1: Changed at 0\n"),
 ];
 
-/// The same of frames of IEEE 802.11.
-const OTHER_KIND: [u8; 40] = [
-    0xD4, 0xC3, 0xB2, 0xA1, 2, 0, 4, 0, 0, 0, 0, 0, 0, 0, 0, 0, 0, 0, 4, 0, 105, 0, 0, 0, 100, 0,
-    0, 0, 0, 0, 0, 0, 60, 0, 0, 0, 60, 0, 0, 0,
-];
-
-/// The same, where the frame came at 99 s.
-const SOONER: [u8; 40] = [
-    0xD4, 0xC3, 0xB2, 0xA1, 2, 0, 4, 0, 0, 0, 0, 0, 0, 0, 0, 0, 0, 0, 4, 0, 1, 0, 0, 0, 99, 0, 0,
-    0, 0, 0, 0, 0, 60, 0, 0, 0, 60, 0, 0, 0,
-];
-
-/// What stands in the place of a capture of one frame when it is read again: its head, how many zeros are behind it, and what is said.
-type Changed = (&'static [u8], usize, &'static str);
-
-/// One that ends sooner, one that goes on, one of another kind, and one that begins sooner.
-const CHANGED: [Changed; 4] = [
-    (&HEAD, 59, "exbr: capture x1.1: Changed at 24\n"),
-    (&HEAD, 61, "exbr: capture x1.1: Changed at 100\n"),
-    (&OTHER_KIND, 60, "exbr: capture x1.1: Changed at 20\n"),
-    (&SOONER, 60, "exbr: capture x1.1: Changed at 24\n"),
+/// In the place of the other: one that ends sooner, one that goes on with a skipped block, one of another kind, one without that interface, one
+/// whose packet's lengths differ, one that begins sooner, and one without a packet.
+const BLOCKS_CHANGED: [Changed; 7] = [
+    (
+        "0A0D0D0A 1C000000 4D3C2B1A 01000000 8xFF 1C000000 01000000 14000000 01000000 00000400 14000000 06000000 5C000000 00000000 00000000 00E1F505 3C000000 3C000000 60x00 5C0000",
+        "exbr: capture x1.1: Changed at 48\n",
+    ),
+    (
+        "0A0D0D0A 1C000000 4D3C2B1A 01000000 8xFF 1C000000 01000000 14000000 01000000 00000400 14000000 06000000 5C000000 00000000 00000000 00E1F505 3C000000 3C000000 60x00 5C000000 05000000 10000000 00000000 10000000",
+        "exbr: capture x1.1: Changed at 140\n",
+    ),
+    (
+        "0A0D0D0A 1C000000 4D3C2B1A 01000000 8xFF 1C000000 01000000 14000000 69000000 00000400 14000000 06000000 5C000000 00000000 00000000 00E1F505 3C000000 3C000000 60x00 5C000000",
+        "exbr: capture x1.1: Changed at 56\n",
+    ),
+    (
+        "0A0D0D0A 1C000000 4D3C2B1A 01000000 8xFF 1C000000 01000000 14000000 01000000 00000400 14000000 06000000 5C000000 01000000 00000000 00E1F505 3C000000 3C000000 60x00 5C000000",
+        "exbr: capture x1.1: Changed at 56\n",
+    ),
+    (
+        "0A0D0D0A 1C000000 4D3C2B1A 01000000 8xFF 1C000000 01000000 14000000 01000000 00000400 14000000 06000000 5C000000 00000000 00000000 00E1F505 3C000000 3C000000 60x00 5D000000",
+        "exbr: capture x1.1: Changed at 136\n",
+    ),
+    (
+        "0A0D0D0A 1C000000 4D3C2B1A 01000000 8xFF 1C000000 01000000 14000000 01000000 00000400 14000000 06000000 5C000000 00000000 00000000 00E1F504 3C000000 3C000000 60x00 5C000000",
+        "exbr: capture x1.1: Changed at 48\n",
+    ),
+    (
+        "0A0D0D0A 1C000000 4D3C2B1A 01000000 8xFF 1C000000 01000000 14000000 01000000 00000400 14000000",
+        "exbr: capture x1.1: Changed at 48\n",
+    ),
 ];
 
 // So many zeros.
 fn zeros(rt: &impl Abort, alloc: Global, bytes: usize) -> Vec<u8> {
     vec![in alloc; 0u8; bytes].expect(rt, "memory")
-}
-
-// A capture of these bytes, behind which stand so many zeros.
-fn capture_of(rt: &impl Abort, alloc: Global, head: &[u8], zeros_behind: usize) -> Vec<u8> {
-    let mut capture = head.to_vec(alloc).expect(rt, "memory");
-    capture
-        .extend_from_slice(zeros(rt, alloc, zeros_behind).as_slice())
-        .expect(rt, "memory");
-    capture
 }
 
 // A shelf with a topology and a capture.
@@ -80,27 +106,30 @@ fn put_there(rt: &impl Abort, shelf: &mut ChangingShelf, name: &str, bytes: &[u8
     shelf.put(name, bytes).expect(rt, "memory");
 }
 
-// A shelf with a topology and a capture of one frame of 60 bytes, in the place of which another one stands when it is read again.
-fn changing_shelf(rt: &impl Abort, alloc: Global, again: &[u8]) -> ChangingShelf {
-    let mut shelf = ChangingShelf::new(alloc, "zeros.pcap", again).expect(rt, "memory");
+// A shelf with a topology and a capture, in the place of which another one stands when it is read again.
+fn changing_shelf(rt: &impl Abort, alloc: Global, first: &str, again: &str) -> ChangingShelf {
+    let again = bytes_of(rt, alloc, again);
+    let mut shelf = ChangingShelf::new(alloc, "zeros.pcap", again.as_slice()).expect(rt, "memory");
     put_there(rt, &mut shelf, "t.toml", ONE.as_bytes());
-    let capture = capture_of(rt, alloc, &HEAD, 60);
-    put_there(rt, &mut shelf, "zeros.pcap", capture.as_slice());
+    let first = bytes_of(rt, alloc, first);
+    put_there(rt, &mut shelf, "zeros.pcap", first.as_slice());
     shelf
 }
 
 // A run of a capture that changes so ends with status 10 and that line.
-fn expect_changed(rt: &impl Abort, alloc: Global, head: &[u8], zeros_behind: usize, line: &str) {
-    let again = capture_of(rt, alloc, head, zeros_behind);
-    let mut shelf = changing_shelf(rt, alloc, again.as_slice());
+fn expect_changed(rt: &impl Abort, alloc: Global, first: &str, again: &str, line: &str) {
+    let mut shelf = changing_shelf(rt, alloc, first, again);
     expect_end(rt, alloc, "run t.toml", &mut shelf, 10, line);
     assert!(rt; shelf.file("out-journal.txt").is_some());
 }
 
 #[test]
 fn a_capture_that_changes_ends_its_run(rt: HostRuntime) {
-    for (head, zeros_behind, line) in &CHANGED {
-        expect_changed(&rt, rt.alloc(), head, *zeros_behind, line);
+    for (again, line) in &CLASSIC_CHANGED {
+        expect_changed(&rt, rt.alloc(), CLASSIC, again, line);
+    }
+    for (again, line) in &BLOCKS_CHANGED {
+        expect_changed(&rt, rt.alloc(), BLOCKS, again, line);
     }
 }
 
