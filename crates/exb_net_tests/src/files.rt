@@ -1,5 +1,5 @@
 //! What the file of a net gives: each fault at each key where it can come, faults in their order, and the wires of a good one.
-ghost use Rattle.exb_model.specs.Setup.{IsValid};
+ghost use Rattle.std.specs.Prelude.{IsTrue};
 ghost use Rattle.exb_net_file.specs.Sound.{AreValid};
 
 use crate::compare::same;
@@ -63,18 +63,14 @@ fn text_at<'a>(texts: &[&'a str], index: usize) -> &'a str {
 }
 
 // A bridge of that name with the topology of a text, which has no fault.
-fn member_of(rt: &impl Abort, alloc: Global, name: &str, text: &str) -> NetMember
-    ensures { IsValid result.topology.setup }
-{
+fn member_of(rt: &impl Abort, alloc: Global, name: &str, text: &str) -> NetMember {
     let topology = exb_topology::read(alloc, text.as_bytes()).expect(rt, "a topology");
     let name = Text::from_str(alloc, name).expect(rt, "memory");
     NetMember { name, topology }
 }
 
 // The bridges of a file, each with the text that stands there in the list.
-fn members_of(rt: &impl Abort, alloc: Global, file: &NetFile, texts: &[&str]) -> List<NetMember>
-    ensures { AreValid result }
-{
+fn members_of(rt: &impl Abort, alloc: Global, file: &NetFile, texts: &[&str]) -> List<NetMember> {
     let mut members = List::new(alloc);
     for (index, bridge) in file.bridges.as_slice().iter().enumerate() {
         let text = text_at(texts, index);
@@ -82,6 +78,18 @@ fn members_of(rt: &impl Abort, alloc: Global, file: &NetFile, texts: &[&str]) ->
         members.push(member).expect(rt, "memory");
     }
     members
+}
+
+// Whether each bridge has a valid setup.
+fn are_valid(members: &[NetMember]) -> bool
+    ensures { IsTrue result → AreValid members.now }
+{
+    for member in members {
+        if !member.topology.setup.valid() {
+            return false;
+        }
+    }
+    true
 }
 
 // The wires, one behind another: the number of each bridge, and its port.
@@ -95,16 +103,19 @@ fn wires_text(rt: &impl Abort, alloc: Global, wires: &[Wire]) -> String {
 }
 
 fn wire_text(rt: &impl Abort, alloc: Global, wire: Wire) -> String {
-    let (a, b) = (PortName(wire.a.port), PortName(wire.b.port));
-    let text = format!(in alloc; "{}:{a}-{}:{b};", wire.a.bridge, wire.b.bridge);
-    text.expect(rt, "memory")
+    let Wire { a, b } = wire;
+    let (from, to) = (a.bridge, b.bridge);
+    let (a, b) = (PortName(a.port), PortName(b.port));
+    format!(in alloc; "{from}:{a}-{to}:{b};").expect(rt, "memory")
 }
 
 // The wires of a file over these topologies, or the first fault.
 fn wiring(rt: &impl Abort, alloc: Global, file: &NetFile, texts: &[&str]) -> String {
     let members = members_of(rt, alloc, file, texts);
-    assert!(rt; members.as_slice().len() <= 16);
-    match wired(alloc, members.as_slice(), file.wires.as_slice()) {
+    let members = members.as_slice();
+    assert!(rt; members.len() <= 16);
+    assert!(rt; are_valid(members));
+    match wired(alloc, members, file.wires.as_slice()) {
         Ok(wires) => wires_text(rt, alloc, wires.as_slice()),
         Err(fault) => fault_text(rt, alloc, &fault),
     }
