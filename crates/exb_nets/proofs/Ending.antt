@@ -11,7 +11,8 @@ use Rattle.exb_model.specs.Input.{Arrival}
 use Rattle.exb_model.specs.Learning.{learned}
 use Rattle.exb_model.specs.Tree.{external_ports}
 use Rattle.exb_model.specs.Input.{tree_of}
-use Rattle.exb_nets.specs.Nets.{End, Net, far_end}
+use Rattle.exb_nets.specs.declared.wires.End.{End}
+use Rattle.exb_nets.specs.Nets.{Net, far_end}
 use Rattle.exb_nets.specs.NetHistory.{Crossing, Due, Histories, IsDrained, arrival_of, basis_in, crosses, delivered_times, due_second, dues, event_of, grown_by, openings, ticked, with_history, Goes, GoesSince}
 use Rattle.exb_nets.specs.Ending.{QueuesEnd, NetsHaveHistories}
 use Rattle.exb_nets.proofs.Back.{nothing_goes_back}

@@ -3,7 +3,9 @@ use Rattle.std.proofs.Common.{◌≡◌, ◌≢◌, ◌⊎◌, ℕ, suc, ◌+◌
 use Rattle.std.specs.List.{list_any}
 use Rattle.std.proofs.lemmas.Bool.{cases_Bool, cases_eq, eq-eqb, ne_eqb, eqb-true, and_parts}
 use Rattle.std.proofs.lemmas.List.{append_assoc, append-nil}
-use Rattle.exb_nets.specs.Nets.{End, Wire, across, far_end, first_or, is_at, is_between, AreJoined, HaveNoLoop, Leads}
+use Rattle.exb_nets.specs.declared.wires.End.{End}
+use Rattle.exb_nets.specs.declared.wires.Wire.{Wire}
+use Rattle.exb_nets.specs.Nets.{across, far_end, first_or, is_at, is_between, AreJoined, HaveNoLoop, Leads}
 
 -- ---- walks
 any_more : (p : Wire → Bool) (xs ys : List Wire) → list_any p xs ≡ true → list_any p (xs ++ ys) ≡ true

@@ -16,7 +16,9 @@ use Rattle.exb_model.specs.Learning.{Look, learned, passes}
 use Rattle.exb_model.specs.Ports.{all_ports, below}
 use Rattle.exb_model.specs.Targets.{target}
 use Rattle.exb_model.specs.Tree.{Shape, external_ports, is_external}
-use Rattle.exb_nets.specs.Nets.{End, Net, Wire, across, ends_of, far_end, first_or, is_at}
+use Rattle.exb_nets.specs.declared.wires.End.{End}
+use Rattle.exb_nets.specs.declared.wires.Wire.{Wire}
+use Rattle.exb_nets.specs.Nets.{Net, across, ends_of, far_end, first_or, is_at}
 use Rattle.exb_nets.specs.NetHistory.{Crossing, Due, Histories, State, arrival_of, basis_in, comes, crosses, delivered_times, event_of, grown_by, named_at, with_history}
 use Rattle.exb_nets.specs.Ending.{QueuesEndSoon}
 use Rattle.exb_nets.proofs.Back.{nothing_goes_back}

@@ -9,7 +9,8 @@ use Rattle.exb_model.specs.Input.{Arrival, Coming, Ordered, Captured, all_arriva
 use Rattle.exb_model.specs.Learning.{learned}
 use Rattle.exb_model.specs.Ports.{below}
 use Rattle.exb_model.specs.Tree.{external_ports}
-use Rattle.exb_nets.specs.Nets.{End, Net, far_end}
+use Rattle.exb_nets.specs.declared.wires.End.{End}
+use Rattle.exb_nets.specs.Nets.{Net, far_end}
 
 -- a history of each bridge
 abbrev pub Histories : Type 0

@@ -5,15 +5,8 @@ use Rattle.exb_model.specs.Input.{Input, tree_of}
 use Rattle.exb_model.specs.Ports.{below}
 use Rattle.exb_model.specs.Setup.{IsValid}
 use Rattle.exb_model.specs.Tree.{is_external, external_ports}
-
--- a port of a bridge, which is counted from 0 in the order of FILE
-pub record End : Type 0 where
-  pub bridge : ℕ
-  pub port : ℕ
-
-pub record Wire : Type 0 where
-  pub a : End
-  pub b : End
+use Rattle.exb_nets.specs.declared.wires.End.{End}
+use Rattle.exb_nets.specs.declared.wires.Wire.{Wire}
 
 -- so many bridges, each with its setup, its commands and its captures, and the wires, in the order of FILE
 pub record Net : Type 0 where

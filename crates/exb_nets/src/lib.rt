@@ -1,7 +1,7 @@
-//! Several bridges whose external ports are wired to one another, and counters by port: what a net is given, when it is valid, which
-//! history each of its bridges has (`NetEager`), and the text of a bridge's counters (`CountText`). Upwards it promises, by its
-//! laws, that a valid input has at most one history by bridge, and that counters grow event by event. It has definitions and laws
-//! alone, and stands on `exb_model`.
+//! Several bridges whose external ports are wired to one another: what a net is given, when it is valid, and which history each
+//! of its bridges has (`NetEager`). Upwards it promises, by its laws, that a valid input has exactly one history by bridge, and
+//! that of a net of one bridge is that of its run. It has the types of wires, definitions and laws, and stands on `exb_model`.
 #![tactic(auto)]
 
 pub mod laws;
+pub mod wires;

@@ -30,7 +30,9 @@ use Rattle.exb_resting.specs.Flight.Showing.{left_at}
 use Rattle.exb_resting.specs.Motion.Kept.{HasVid}
 use Rattle.exb_resting.specs.Motion.Onward.{told_of}
 use Rattle.exb_resting.specs.Rest.Settles.{MayTakeAll, beginning}
-use Rattle.exb_nets.specs.Nets.{End, Wire, Net, IsEnd, IsNet, across, far_end, first_or, is_at, ends_of}
+use Rattle.exb_nets.specs.declared.wires.End.{End}
+use Rattle.exb_nets.specs.declared.wires.Wire.{Wire}
+use Rattle.exb_nets.specs.Nets.{Net, IsEnd, IsNet, across, far_end, first_or, is_at, ends_of}
 use Rattle.exb_nets.specs.NetHistory.{Crossing, Due, Histories, IsDrained, arrival_of, basis_in, comes, crosses, delivered, delivered_times, due_second, dues, event_of, grown_by, named_at, openings, ticked, with_history, GoesSince}
 use Rattle.exb_wiring.specs.Playing.{Dones, Between, Handles, Delivers, Empties, MayPass, IsStepFor, PlaysOne, PlaysSince, Plays, Opens, tree_in, limits_in, does, goes_on, crossed, coming_at, pass}
 use Rattle.exb_nets.specs.Order.{AreHere, IsNext, AreInOrder, taken_by, taken_after}
