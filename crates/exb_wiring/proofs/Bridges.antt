@@ -61,7 +61,7 @@ module _ (t : Shape) (l : Limits) where
   may_append (x ∷ xs) ys w a b = (a.0, may_append xs ys (stepped t l x w).world a.1 b)
 
 -- ---- names
-named_settled : (h : History) (p : ℕ) → named_at (event.Settled ∷ h) p ≡ named_at h p
+pub named_settled : (h : History) (p : ℕ) → named_at (event.Settled ∷ h) p ≡ named_at h p
 unfolding named_at
 named_settled h p = refl
 
@@ -69,12 +69,12 @@ named_tick : (seconds : ℕ) (h : History) (p : ℕ) → named_at (event.Tick se
 unfolding named_at
 named_tick seconds h p = refl
 
-named_decided : (n : ℕ) (o : Option Cause) (h : History) (p : ℕ) → named_at (decided n o ∷ h) p ≡ named_at h p
+pub named_decided : (n : ℕ) (o : Option Cause) (h : History) (p : ℕ) → named_at (decided n o ∷ h) p ≡ named_at h p
 unfolding named_at
 named_decided n None h p = refl
 named_decided n (Some x) h p = refl
 
-named_arrival : (b : Bridge) (a : Arrival) (h : History) (p : ℕ) → named_at (arrival_event b a ∷ h) p ≡ cond (a.port == p) (suc (named_at h p)) (named_at h p)
+pub named_arrival : (b : Bridge) (a : Arrival) (h : History) (p : ℕ) → named_at (arrival_event b a ∷ h) p ≡ cond (a.port == p) (suc (named_at h p)) (named_at h p)
 unfolding named_at
 named_arrival b a h p =
     elim (cases_Bool (is_relayed b a.port a.bytes)) [
@@ -351,7 +351,7 @@ module _ (round : TagRoundTrip) (words : SendsAreWords) (leave : SendsLeaveAsFla
     pub opened_told : told (moves ++ Mark ∷ []) ≡ opening t l (with_all cs)
     opened_told = ap (λ (es : List Event). [] then es) (marked t l moves w0).events ∙ (then_append [] (after moves).events (event.Settled ∷ []) ∙ rises)
 
-    opening_names : (p : ℕ) → named_at (opening t l (with_all cs)) p ≡ 0
+    pub opening_names : (p : ℕ) → named_at (opening t l (with_all cs)) p ≡ 0
     opening_names p = named_settled (with_ups t l (with_all cs) [] (opening_ports t)) p ∙ (named_ups t l (with_all cs) (opening_ports t) [] p ∙ named_none p)
 
     pub opened : Facts s (with_all cs) 0 (moves ++ Mark ∷ [])

@@ -1,3 +1,4 @@
 mod Bridges
 mod Nets
 mod Counting
+mod Delivering

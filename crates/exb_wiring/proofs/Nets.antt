@@ -35,6 +35,7 @@ use Rattle.exb_nets.specs.declared.wires.Wire.{Wire}
 use Rattle.exb_nets.specs.Nets.{Net, IsEnd, IsNet, across, far_end, first_or, is_at, ends_of}
 use Rattle.exb_nets.specs.NetHistory.{Crossing, Due, Histories, IsDrained, arrival_of, basis_in, comes, crosses, delivered, delivered_times, due_second, dues, event_of, grown_by, named_at, openings, ticked, with_history, GoesSince}
 use Rattle.exb_wiring.specs.Playing.{Dones, Between, Handles, Delivers, Empties, MayPass, IsStepFor, PlaysOne, PlaysSince, Plays, Opens, tree_in, limits_in, does, goes_on, crossed, coming_at, pass}
+use Rattle.exb_wiring.specs.Delivering.{DeliversTimes}
 use Rattle.exb_nets.specs.Order.{AreHere, IsNext, AreInOrder, taken_by, taken_after}
 use Rattle.exb_nets.proofs.Order.{dues_are_here, dues_in_order}
 use Rattle.exb_wiring.specs.Laws.{IsShown, ArePlayed, NetsArePlayed, NetsArePlayedEagerly}
@@ -42,11 +43,11 @@ use Rattle.exb_wiring.proofs.Bridges.{Facts, arrived, bridge_is, leaves_is, left
 use Rattle.exb_wiring.proofs.Bridges as bridge
 
 -- ---- lists
-each_join : {A : Type 0} (P : A → Type 0) (xs ys : List A) → Each P xs → Each P ys → Each P (xs ++ ys)
+pub each_join : {A : Type 0} (P : A → Type 0) (xs ys : List A) → Each P xs → Each P ys → Each P (xs ++ ys)
 each_join P [] ys a b = b
 each_join P (x ∷ xs) ys a b = (a.0, each_join P xs ys a.1 b)
 
-each_flat : {A B : Type 0} (P : B → Type 0) (f : A → List B) → ((x : A) → Each P (f x)) → (xs : List A) → Each P (flat_map f xs)
+pub each_flat : {A B : Type 0} (P : B → Type 0) (f : A → List B) → ((x : A) → Each P (f x)) → (xs : List A) → Each P (flat_map f xs)
 each_flat P f all [] = tt
 each_flat P f all (x ∷ xs) = each_join P (f x) (flat_map f xs) (all x) (each_flat P f all xs)
 
@@ -67,7 +68,7 @@ module _ (n : Net) where
   abbrev IsHere : End → Type 0
   IsHere e = e.bridge < n.count
 
-  abbrev InRange : Crossing → Type 0
+  abbrev pub InRange : Crossing → Type 0
   InRange x = x.bridge < n.count
 
   some_same : {A : Type 0} {x y : A} → Some x ≡ Some y → x ≡ y
@@ -101,7 +102,7 @@ module _ (n : Net) where
   crosses_here (Some e) [] all = tt
   crosses_here (Some e) (x ∷ xs) all = (all e refl, crosses_here (Some e) xs all)
 
-  grown_here : IsNet n → (b : ℕ) (h : History) (e : Event) → Each InRange (grown_by n b h e)
+  pub grown_here : IsNet n → (b : ℕ) (h : History) (e : Event) → Each InRange (grown_by n b h e)
   unfolding grown_by
   grown_here net b h e =
       each_flat InRange (λ q. crosses (far_end n.wires b q) (sent_by (bridge_after (basis_in n b) h) (learned (basis_in n b) h) e q))
@@ -114,12 +115,12 @@ pub record IsAt (n : Net) (taken b : ℕ) (d : Stepped) (h : History) : Type 0 w
   pub told : h ≡ ([] then (run (tree_in n b) (limits_in n b) steps (beginning (n.input b).setup)).events)
   pub facts : Facts (n.input b).setup (basis_in n b) taken steps
 
-abbrev AllAt : Net → (ℕ → ℕ) → Dones → Histories → Type 0
+abbrev pub AllAt : Net → (ℕ → ℕ) → Dones → Histories → Type 0
 AllAt n taken s hs = (b : ℕ) → b < n.count → IsAt n (taken b) b (s b) (hs b)
 
 module _ (round : TagRoundTrip) (words : SendsAreWords) (leave : SendsLeaveAsFlat) (law : StepsTell) (stay : StepsStayWritten) (n : Net) (net : IsNet n) (vids : (b : ℕ) → b < n.count → All HasVid (n.input b).setup.start) where
   -- ---- the opening
-  opened_at : (b : ℕ) → b < n.count → (d : Stepped) → Opens n b d → IsAt n 0 b d (openings n b)
+  pub opened_at : (b : ℕ) → b < n.count → (d : Stepped) → Opens n b d → IsAt n 0 b d (openings n b)
   opened_at b here d o =
       record {
         steps = o.moves ++ Mark ∷ [];
@@ -129,9 +130,9 @@ module _ (round : TagRoundTrip) (words : SendsAreWords) (leave : SendsLeaveAsFla
       }
 
   -- ---- one bridge is given something
-  record IsHandled (taken : ℕ → ℕ) (b : ℕ) (e : History → Event) (s v : Between) (hs : Histories) : Type 0 where
-    all : AllAt n taken v.dones (with_history b (event.Settled ∷ e (hs b) ∷ hs b) hs)
-    queue : v.queue ≡ s.queue ++ grown_by n b (hs b) (e (hs b))
+  pub record IsHandled (taken : ℕ → ℕ) (b : ℕ) (e : History → Event) (s v : Between) (hs : Histories) : Type 0 where
+    pub all : AllAt n taken v.dones (with_history b (event.Settled ∷ e (hs b) ∷ hs b) hs)
+    pub queue : v.queue ≡ s.queue ++ grown_by n b (hs b) (e (hs b))
 
   module _ (taken : ℕ → ℕ) (b : ℕ) (here : b < n.count) (step : Step) (s v : Between) (hs : Histories) (k : IsAt n (taken b) b (s.dones b) (hs b)) (h : Handles n b step s v) where
     abbrev steps : List Step
@@ -202,7 +203,7 @@ module _ (round : TagRoundTrip) (words : SendsAreWords) (leave : SendsLeaveAsFla
             ∙ (ap (λ (x : Event). grown_by n b H x) same ∙ ap (λ (z : History). grown_by n b z (e z)) (sym k.told)))
 
   -- an arrival
-  handled_arrival : (taken next : ℕ → ℕ) (b : ℕ) → b < n.count → next b ≡ taken b → ((c : ℕ) → c ≢ b → next c ≡ taken c) → (a : Arrival) (s v : Between) (hs : Histories) → AllAt n taken s.dones hs → Handles n b (Arrive a) s v →
+  pub handled_arrival : (taken next : ℕ → ℕ) (b : ℕ) → b < n.count → next b ≡ taken b → ((c : ℕ) → c ≢ b → next c ≡ taken c) → (a : Arrival) (s v : Between) (hs : Histories) → AllAt n taken s.dones hs → Handles n b (Arrive a) s v →
       IsHandled next b (λ h. arrival_event (bridge_after (basis_in n b) h) a) s v hs
   handled_arrival taken next b here same others a s v hs all h =
       let k = all b here in
@@ -230,20 +231,20 @@ module _ (round : TagRoundTrip) (words : SendsAreWords) (leave : SendsLeaveAsFla
       (ordered round words leave law stay (n.input b).setup (net.setups b here) (vids b here) full (taken b) k.steps k.facts c h.moves rest.0 rest.1 (may_here taken b here (Order c) s v hs k h) h.moves_alone (settled_here taken b here (Order c) s v hs k h)))
 
   -- ---- the queue
-  record IsEmptied (k : ℕ) (taken : ℕ → ℕ) (u v : Between) (hs : Histories) : Type 0 where
-    next : Histories
-    is : delivered_times n k (record { histories = hs; queue = u.queue }) ≡ record { histories = next; queue = [] }
-    all : AllAt n taken v.dones next
+  pub record IsDelivered (k : ℕ) (taken : ℕ → ℕ) (u v : Between) (hs : Histories) : Type 0 where
+    pub next : Histories
+    pub is : delivered_times n k (record { histories = hs; queue = u.queue }) ≡ record { histories = next; queue = v.queue }
+    pub all : AllAt n taken v.dones next
 
-  emptied : (k : ℕ) (taken : ℕ → ℕ) (u v : Between) (hs : Histories) → AllAt n taken u.dones hs → Each (InRange n) u.queue → Empties n k u v → IsEmptied k taken u v hs
+  pub delivered_on : (k : ℕ) (taken : ℕ → ℕ) (u v : Between) (hs : Histories) → AllAt n taken u.dones hs → Each (InRange n) u.queue → DeliversTimes n k u v → IsDelivered k taken u v hs
   unfolding delivered_times
-  emptied zero taken u v hs all range e =
+  delivered_on zero taken u v hs all range e =
       record {
         next = hs;
-        is = ap (λ (q : List Crossing). record { histories = hs; queue = q }) (ap (λ (z : Between). z.queue) e.0 ∙ e.1);
-        all = subst (λ (z : Between). AllAt n taken z.dones hs) e.0 all;
+        is = ap (λ (z : Between). record { histories = hs; queue = z.queue }) e;
+        all = subst (λ (z : Between). AllAt n taken z.dones hs) e all;
       }
-  emptied (suc k) taken u v hs all range e =
+  delivered_on (suc k) taken u v hs all range e =
       let m : Between = e.0 in
       let del : Delivers n u m = e.1 in
       let x : Crossing = del.first in
@@ -259,12 +260,27 @@ module _ (round : TagRoundTrip) (words : SendsAreWords) (leave : SendsLeaveAsFla
       let ev : Event = arrival_event (bridge_after (basis_in n b) (hs b)) a in
       let hs1 : Histories = with_history b (event.Settled ∷ ev ∷ hs b) hs in
       let range1 : Each (InRange n) m.queue = subst (Each (InRange n)) (sym z.queue) (each_join (InRange n) del.rest (grown_by n b (hs b) ev) first.1 (grown_here n net b (hs b) ev)) in
-      let rest = emptied k taken m v hs1 z.all range1 e.2 in
+      let rest = delivered_on k taken m v hs1 z.all range1 e.2 in
       let once : delivered n hs u.queue ≡ record { histories = hs1; queue = m.queue } =
       ap (delivered n hs) del.is
       ∙ (ap (λ (y : Arrival). record { histories = with_history b (event.Settled ∷ arrival_event (bridge_after (basis_in n b) (hs b)) y ∷ hs b) hs; queue = del.rest ++ grown_by n b (hs b) (arrival_event (bridge_after (basis_in n b) (hs b)) y) }) (sym same)
       ∙ ap (λ (q : List Crossing). record { histories = hs1; queue = q }) (sym z.queue)) in
       record { next = rest.next; is = ap (delivered_times n k) once ∙ rest.is; all = rest.all }
+
+  record IsEmptied (k : ℕ) (taken : ℕ → ℕ) (u v : Between) (hs : Histories) : Type 0 where
+    next : Histories
+    is : delivered_times n k (record { histories = hs; queue = u.queue }) ≡ record { histories = next; queue = [] }
+    all : AllAt n taken v.dones next
+
+  emptied : (k : ℕ) (taken : ℕ → ℕ) (u v : Between) (hs : Histories) → AllAt n taken u.dones hs → Each (InRange n) u.queue → Empties n k u v → IsEmptied k taken u v hs
+  emptied k taken u v hs all range e =
+      let times = made k u v e in
+      let z = delivered_on k taken u v hs all range times.0 in
+      record { next = z.next; is = z.is ∙ ap (λ (q : List Crossing). record { histories = z.next; queue = q }) times.1; all = z.all }
+    where
+      made : (k : ℕ) (u v : Between) → Empties n k u v → DeliversTimes n k u v × (v.queue ≡ [])
+      made zero u v e = e
+      made (suc k) u v e = (let r = made k e.0 v e.2 in ((e.0, e.1, r.0), r.1))
 
   -- ---- seconds
   all_pass : (taken : ℕ → ℕ) (seconds : ℕ) (s : Dones) (hs : Histories) → AllAt n taken s hs → MayPass n seconds s → AllAt n taken (pass n seconds s) (ticked seconds hs)

@@ -1,3 +1,4 @@
 pub mod Playing
 pub mod Counting
+pub mod Delivering
 pub mod Laws

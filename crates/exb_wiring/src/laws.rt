@@ -1,10 +1,12 @@
 //! What is true of runs of several worlds.
 ghost use Rattle.exb_wiring.specs.Counting.{CountsGoOn};
+ghost use Rattle.exb_wiring.specs.Delivering.{BridgesHandle, DeliveriesEndSoon, OpenedNetsRun, SecondsPass};
 ghost use Rattle.exb_wiring.specs.Laws.{NetsArePlayed, NetsArePlayedEagerly};
 
 use exb_changing::laws::steps_tell;
 use exb_frame::laws::tag_round_trip;
 use exb_machine::laws::steps_stay_written;
+use exb_nets::laws::queues_end_soon;
 use exb_relay::laws::{sends_are_words, sends_leave_as_flat};
 
 /// A run of several worlds that opens each, and then gives each event to its bridge and each frame that leaves a wired port to the
@@ -36,3 +38,50 @@ pub fn nets_are_played_eagerly()
 pub fn counts_go_on()
     ensures { CountsGoOn }
 {}
+
+/// Worlds that are opened run: each came where it is by steps that may be made, and no record of any port has come.
+pub fn opened_nets_run()
+    ensures { OpenedNetsRun }
+{
+    tag_round_trip();
+    sends_are_words();
+    sends_leave_as_flat();
+    steps_tell();
+    steps_stay_written();
+}
+
+/// Worlds that run do so after seconds that may pass, and no index changes.
+pub fn seconds_pass()
+    ensures { SecondsPass }
+{
+    tag_round_trip();
+    sends_are_words();
+    sends_leave_as_flat();
+    steps_tell();
+    steps_stay_written();
+}
+
+/// Worlds that run do so after one of them was given something; and each frame that leaves for it may arrive at the far end of its
+/// wire. For a command none does.
+pub fn bridges_handle()
+    ensures { BridgesHandle }
+{
+    tag_round_trip();
+    sends_are_words();
+    sends_leave_as_flat();
+    steps_tell();
+    steps_stay_written();
+}
+
+/// After a frame arrived no more deliveries follow than there are wires, and at each port at most one: so far as indices go, all of
+/// them may be made.
+pub fn deliveries_end_soon()
+    ensures { DeliveriesEndSoon }
+{
+    queues_end_soon();
+    tag_round_trip();
+    sends_are_words();
+    sends_leave_as_flat();
+    steps_tell();
+    steps_stay_written();
+}
