@@ -82,7 +82,13 @@ fn a_file_in_pieces_of_any_size_is_read_as_the_whole(rt: HostRuntime) {
     let file = bytes_of(&rt, rt.alloc(), ROW);
     for size in 1..141usize {
         let text = sized_text(&rt, rt.alloc(), file.as_slice(), size);
-        same_at(&rt, text.as_str().trim_end(), "100000000000 60;", "pieces of", size);
+        same_at(
+            &rt,
+            text.as_str().trim_end(),
+            "100000000000 60;",
+            "pieces of",
+            size,
+        );
     }
 }
 

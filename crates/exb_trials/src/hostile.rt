@@ -11,10 +11,12 @@ const ONE: &str =
     "bridge = { ports = 1 }\nextender = [{ number = 1, on = \"b1\", ports = 1 }]\ncaptures = { \"x1.1\" = \"zeros.pcap\" }\n";
 
 /// One frame of 60 bytes at 100 s as a classic capture, whose record begins at byte 24.
-const CLASSIC: &str = "D4C3B2A1 02000400 8x00 00000400 01000000 64000000 00000000 3C000000 3C000000 60x00";
+const CLASSIC: &str =
+    "D4C3B2A1 02000400 8x00 00000400 01000000 64000000 00000000 3C000000 3C000000 60x00";
 
 /// The same as pcapng: a section, an interface of Ethernet in microseconds, and at byte 48 the packet.
-const BLOCKS: &str = "0A0D0D0A 1C000000 4D3C2B1A 01000000 8xFF 1C000000 01000000 14000000 01000000 00000400 14000000 06000000 5C000000 00000000 00000000 00E1F505 3C000000 3C000000 60x00 5C000000";
+const BLOCKS: &str =
+    "0A0D0D0A 1C000000 4D3C2B1A 01000000 8xFF 1C000000 01000000 14000000 01000000 00000400 14000000 06000000 5C000000 00000000 00000000 00E1F505 3C000000 3C000000 60x00 5C000000";
 
 /// What stands in the place of a capture when it is read again, and what is said.
 type Changed = (&'static str, &'static str);
