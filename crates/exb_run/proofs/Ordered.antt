@@ -113,18 +113,18 @@ early_status (Err x) early = topology_status x early
 
 late_of : (o : Outcome) → (status_of o ≡ 0) ⊎ (status_of o ≡ 10) → IsLate o
 late_of (Ok line) is = tt
-late_of (Err Usage) is = elim is [ | inl e ↦ omega arith | inr e ↦ omega arith ]
-late_of (Err (Missing name)) is = elim is [ | inl e ↦ omega arith | inr e ↦ omega arith ]
-late_of (Err (BadTopology fault)) is = elim is [ | inl e ↦ omega arith | inr e ↦ omega arith ]
-late_of (Err (Capture p flaw)) is = elim is [ | inl e ↦ omega arith | inr e ↦ omega arith ]
+late_of (Err Usage) is = elim is [ inl e ↦ omega arith | inr e ↦ omega arith ]
+late_of (Err (Missing name)) is = elim is [ inl e ↦ omega arith | inr e ↦ omega arith ]
+late_of (Err (BadTopology fault)) is = elim is [ inl e ↦ omega arith | inr e ↦ omega arith ]
+late_of (Err (Capture p flaw)) is = elim is [ inl e ↦ omega arith | inr e ↦ omega arith ]
 late_of (Err (Changed p at)) is = tt
-late_of (Err (Output p broke)) is = elim is [ | inl e ↦ omega arith | inr e ↦ omega arith ]
-late_of (Err (TooLarge what)) is = elim is [ | inl e ↦ omega arith | inr e ↦ omega arith ]
-late_of (Err (BadLine what n)) is = elim is [ | inl e ↦ omega arith | inr e ↦ omega arith ]
-late_of (Err (Illegal r)) is = elim is [ | inl e ↦ omega arith | inr e ↦ omega arith ]
-late_of (Err Read) is = elim is [ | inl e ↦ omega arith | inr e ↦ omega arith ]
-late_of (Err Write) is = elim is [ | inl e ↦ omega arith | inr e ↦ omega arith ]
-late_of (Err Memory) is = elim is [ | inl e ↦ omega arith | inr e ↦ omega arith ]
+late_of (Err (Output p broke)) is = elim is [ inl e ↦ omega arith | inr e ↦ omega arith ]
+late_of (Err (TooLarge what)) is = elim is [ inl e ↦ omega arith | inr e ↦ omega arith ]
+late_of (Err (BadLine what n)) is = elim is [ inl e ↦ omega arith | inr e ↦ omega arith ]
+late_of (Err (Illegal r)) is = elim is [ inl e ↦ omega arith | inr e ↦ omega arith ]
+late_of (Err Read) is = elim is [ inl e ↦ omega arith | inr e ↦ omega arith ]
+late_of (Err Write) is = elim is [ inl e ↦ omega arith | inr e ↦ omega arith ]
+late_of (Err Memory) is = elim is [ inl e ↦ omega arith | inr e ↦ omega arith ]
 
 is_capture : (o : Outcome) → IfErr o (λ x. IsOfTopology x ⊎ IsOfPlaying x) → status_of o ≡ 4 → (p : ℕ) × (flaw : Flaw) × (o ≡ Err (Capture p flaw))
 is_capture (Ok line) come e = absurd (omega arith)

@@ -117,4 +117,4 @@ returns-in_err-one-clause-ends g c =
     let named : name_of names p ≡ Some c.in-Some.name.now = ap (name_of names) (sym c.port_of-port.ensures) ∙ c.in-Some.ensures.found in
     let made = err_from_is_err_and c.from_residual.result c.from_residual.ensures.1 in
     rw (made.1, made.2) (ends_at S.tells names (S.file c.args.shelf.now) p c.in-Some.name.now _ _ _ x named inv.opened c.in_err-one.ensures.opened inv.good
-        (λ q flaw e. c.in_err-one.ensures.own q flaw e ∙ c.port_of-port.ensures))
+    (λ q flaw e. c.in_err-one.ensures.own q flaw e ∙ c.port_of-port.ensures))
