@@ -32,7 +32,7 @@ one_fault p name file x y a b =
     let same : a.answer ≡ b.answer = one_of_all most_bytes file a.answer b.answer a.says b.says a.of_file b.of_file in
     some_once (fault_in p name b.answer) x y (sym (ap (fault_in p name) same) ∙ a.is) b.is
 
-named_not : (p : ℕ) (name : Option (List ℕ)) (file : Files) (x : Fault) → IsGoodNamed name file → HasFaultNamed p name file x → ⊥
+pub named_not : (p : ℕ) (name : Option (List ℕ)) (file : Files) (x : Fault) → IsGoodNamed name file → HasFaultNamed p name file x → ⊥
 named_not p None file x good bad = bad
 named_not p (Some name) file x (told, good) bad = good_not p name (file name) told x good bad
 

@@ -1,10 +1,13 @@
 -- What calls that read say of the shelf: what it counted, and what was opened.
-use Rattle.std.specs.Prelude.{◌≡◌, ℕ, List, Some, Result, Err, IsErrOf}
-use Rattle.exb_shelf.specs.Shelf.{Id, IsReadingOf, Faults, Rose, NoFewer}
+use Rattle.std.specs.Prelude.{◌≡◌, ◌<◌, ◌+◌, ℕ, true, List, Some, Result, Err, IsErrOf}
+use Rattle.exb_shelf.specs.Files.{Files}
+use Rattle.exb_shelf.specs.Shelf.{Id, IsReadingOf, Faults, Opens, Rose, NoFewer}
 use Rattle.exb_tables.specs.declared.rows.Named.{Named}
 use Rattle.exb_inputs.specs.declared.fault.Fault.{Fault}
-use Rattle.exb_inputs.specs.declared.fault.Fault.TheVariants.{Missing, Read, Write}
-use Rattle.exb_inputs.specs.Inputs.{name_of}
+use Rattle.exb_inputs.specs.declared.fault.Fault.TheVariants.{Capture, Missing, Read, Write}
+use Rattle.exb_inputs.specs.declared.fault.Flaw.{Flaw}
+use Rattle.exb_inputs.specs.Checks.{IsGoodNamed}
+use Rattle.exb_inputs.specs.Inputs.{is_named, name_of}
 
 -- no count has fallen, and a fault of the shelf came only where its count rose
 pub record CountsFaults {X : Type 0} (result : Result X Fault) (old new : Faults) : Type 0 where
@@ -19,3 +22,19 @@ pub record ReadsCapture (names : List Named) (i : Id) : Type 0 where
   pub name : List ℕ
   pub named : name_of names port ≡ Some name
   pub reads : IsReadingOf name i
+
+-- the same, of a port below this number
+pub record ReadsBelow (names : List Named) (n : ℕ) (i : Id) : Type 0 where
+  pub port : ℕ
+  pub below : port < n
+  pub name : List ℕ
+  pub named : name_of names port ≡ Some name
+  pub reads : IsReadingOf name i
+
+-- Checking ended at a port: no capture of a port above it was opened. Where the fault is one of a capture it is that of this port,
+-- which has one; and where files are told, the captures before it have none.
+pub record EndsAt (tells : Type 0) (names : List Named) (file : Files) (given ids : ℕ → Id) (fault : Fault) : Type 0 where
+  pub port : ℕ
+  pub own : (q : ℕ) (flaw : Flaw) → fault ≡ Capture q flaw → (q ≡ port) × (is_named names port ≡ true)
+  pub before : tells → (q : ℕ) → q < port → IsGoodNamed (name_of names q) file
+  pub opened : Opens (ReadsBelow names (port + 1)) given ids

@@ -4,7 +4,8 @@ ghost use Rattle.exb_shelf.specs.Files.{SameFiles};
 ghost use Rattle.exb_shelf.specs.Shelf.{IsReadingOf, Opens};
 ghost use Rattle.exb_inputs.specs.Checks.{AreAllGood, AreChecked, FirstFault, HasFault, IsGood, most_bytes};
 ghost use Rattle.exb_inputs.specs.Inputs.{name_of};
-ghost use Rattle.exb_inputs.specs.Shelving.{ReadsCapture, CountsFaults};
+ghost use Rattle.exb_inputs.specs.Shelving.{EndsAt, ReadsCapture, CountsFaults};
+ghost use Rattle.exb_inputs.specs.declared.fault.Flaw.{Flaw};
 ghost use Rattle.exb_inputs.specs.Reading.{IsOfCapture};
 
 use crate::fault::{Fault, Flaw};
@@ -75,6 +76,7 @@ fn check_capture<S: Shelf>(
     ensures good { S.tells → IfOk result (λ checked. IsGood (S.file shelf.old name.now) checked.told) }
     ensures flaw { S.tells → IfErr result (λ fault. HasFault port name.now (S.file shelf.old name.now) fault ⊎ (fault ≡ Fault.Read) ⊎ (fault ≡ Fault.Memory)) }
     ensures causes { IfErr result IsOfCapture }
+    ensures own { IfErr result (λ fault. (q : ℕ) (flaw : Flaw) → fault ≡ Fault.Capture q flaw → q ≡ port) }
     ensures opened { Opens (IsReadingOf name.now) (S.ids shelf.old) (S.ids shelf.new) }
     ensures files { SameFiles (S.file shelf.old) (S.file shelf.new) }
     ensures faults { CountsFaults result (S.faults shelf.old) (S.faults shelf.new) }
@@ -105,6 +107,7 @@ pub fn check_captures<S: Shelf>(
     ensures good { S.tells → OnOk result (AreAllGood names.now (S.file shelf.old)) }
     ensures flaw { S.tells → IfErr result (λ fault. ((p : ℕ) × FirstFault names.now (S.file shelf.old) p fault) ⊎ (fault ≡ Fault.Read) ⊎ (fault ≡ Fault.Memory)) }
     ensures causes { IfErr result IsOfCapture }
+    ensures ends { IfErr result (EndsAt S.tells names.now (S.file shelf.old) (S.ids shelf.old) (S.ids shelf.new)) }
     ensures opened { Opens (ReadsCapture names.now) (S.ids shelf.old) (S.ids shelf.new) }
     ensures files { SameFiles (S.file shelf.old) (S.file shelf.new) }
     ensures faults { CountsFaults result (S.faults shelf.old) (S.faults shelf.new) }

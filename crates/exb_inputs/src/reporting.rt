@@ -1,6 +1,7 @@
 //! What is printed at the end.
 ghost use Rattle.std.specs.Prelude.{◌≡◌, ◌≢◌, ◌≤◌, ◌++◌, IfOk, OnOk, OnErr, IsErrOf, string_bytes};
-ghost use Rattle.exb_shelf.specs.Files.{AppendsFront};
+ghost use Rattle.exb_shelf.specs.Counting.{after_print};
+ghost use Rattle.exb_shelf.specs.Files.{AppendsFront, BreaksOff};
 ghost use Rattle.exb_shelf.specs.Shelf.{Rose};
 ghost use Rattle.exb_inputs.specs.Answers.{broken_text, flaw_name, flaw_text, key_fault_text, part_name, topology_text, bad_line, capture_line, large_line, output_line, fault_line, line_of, fault_status, status_of};
 
@@ -168,6 +169,8 @@ fn fault_line(alloc: Global, fault: &Fault) -> Result<String, AllocError>
 fn print_fault<O: Sink>(alloc: Global, out: &mut O, fault: &Fault) -> Result<(), ShelfFault>
     ensures ok { O.tells → OnOk result (O.text out.new ≡ O.text out.old ++ fault_line fault.now) }
     ensures err { O.tells → OnErr result (AppendsFront (O.text out.old) (O.text out.new) (fault_line fault.now)) }
+    ensures short { O.tells → OnErr result (BreaksOff (O.text out.old) (O.text out.new) (fault_line fault.now)) }
+    ensures counts { O.faults out.new ≡ after_print result (O.faults out.old) }
     ensures faults { O.faults out.old ≤ O.faults out.new }
     ensures failed { IsErrOf result ShelfFault.Failed → Rose (O.faults out.old) (O.faults out.new) }
 {
@@ -186,6 +189,8 @@ fn print_outcome<O: Sink>(
 ) -> Result<(), ShelfFault>
     ensures ok { O.tells → OnOk result (O.text out.new ≡ O.text out.old ++ line_of outcome.now) }
     ensures err { O.tells → OnErr result (AppendsFront (O.text out.old) (O.text out.new) (line_of outcome.now)) }
+    ensures short { O.tells → OnErr result (BreaksOff (O.text out.old) (O.text out.new) (line_of outcome.now)) }
+    ensures counts { O.faults out.new ≡ after_print result (O.faults out.old) }
     ensures faults { O.faults out.old ≤ O.faults out.new }
     ensures failed { IsErrOf result ShelfFault.Failed → Rose (O.faults out.old) (O.faults out.new) }
 {
@@ -233,6 +238,8 @@ pub fn report<O: Sink>(alloc: Global, out: &mut O, outcome: &Result<String, Faul
     ensures whole { O.tells → result ≢ 1 → result ≢ 7 → O.text out.new ≡ O.text out.old ++ line_of outcome.now }
     ensures whole_seven { O.tells → result ≡ 7 → ¬ Rose (O.faults out.old) (O.faults out.new) → O.text out.new ≡ O.text out.old ++ line_of outcome.now }
     ensures front { O.tells → AppendsFront (O.text out.old) (O.text out.new) (line_of outcome.now) }
+    ensures short { O.tells → result ≢ status_of outcome.now → BreaksOff (O.text out.old) (O.text out.new) (line_of outcome.now) }
+    ensures counts { result ≢ 7 → O.faults out.new ≡ O.faults out.old }
     ensures faults { O.faults out.old ≤ O.faults out.new }
 {
     match print_outcome(alloc, out, outcome) {

@@ -23,7 +23,11 @@ pub mod Stopping
 pub mod Running
 pub mod RunLemmas
 pub mod Reporting
+pub mod Headlines
+pub mod Printing
 pub mod Handing
 pub mod Scratching
 pub mod ShelvingLemmas
+pub mod Orders
 pub mod OpenLemmas
+pub mod Ordered

@@ -95,7 +95,7 @@ output_is : (plan : Planned) (j : ℕ) → j < output_count plan → IsOutput pl
 output_is plan j low = (kind_at plan j, (kind_is plan j low).made, refl)
 
 -- an output of a plan is one of its topology
-planned_is_output : (plan : Planned) (options : Options) (t : Topology) → plan.options ≡ options → plan.prefix ≡ t.prefix → plan.tree ≡ shape_of t.setup → (i : Id)
+pub planned_is_output : (plan : Planned) (options : Options) (t : Topology) → plan.options ≡ options → plan.prefix ≡ t.prefix → plan.tree ≡ shape_of t.setup → (i : Id)
     → WritesPlanned plan i → WritesOutput options t i
 planned_is_output plan options t same prefix tree i w = record {
   name = output_name plan w.at;

@@ -18,8 +18,6 @@ use Rattle.exb_inputs.specs.Checks.{IsToldOf}
 use Rattle.exb_run.specs.Checks.{first_standing, stream_told}
 use Rattle.exb_inputs.specs.Inputs.{is_named, name_of}
 use Rattle.exb_inputs.specs.Shelving.{ReadsCapture}
-use Rattle.exb_run.specs.Plans.{Planned}
-use Rattle.exb_run.specs.Shelving.{IsOfRun}
 use Rattle.exb_run.proofs.Beginning.{Apart, apart-ports}
 use Rattle.exb_run.proofs.Counting.{passing}
 
@@ -133,9 +131,9 @@ reads-given : (names : List Named) (ids : ℕ → Id) (mine : List ℕ) → AllB
 reads-given names ids [] all = tt
 reads-given names ids (k ∷ mine) all = (all.0.reads.given, reads-given names ids mine all.1)
 
-pub plays-opened : (names : List Named) (plan : Planned) (a b c : ℕ → Id) (mine : List ℕ) → Opens (ReadsCapture names) a b → AllByRecursion (λ k. (a k).given ≡ false) mine →
-    AllByRecursion (λ k. ReadsCapture names (b k)) mine → ReadsOn mine b c → Opens (IsOfRun names plan) a c
-plays-opened names plan a b c mine opens fresh named reads = record {
+pub plays-opened : (names : List Named) (a b c : ℕ → Id) (mine : List ℕ) → Opens (ReadsCapture names) a b → AllByRecursion (λ k. (a k).given ≡ false) mine →
+    AllByRecursion (λ k. ReadsCapture names (b k)) mine → ReadsOn mine b c → Opens (ReadsCapture names) a c
+plays-opened names a b c mine opens fresh named reads = record {
   fresh = λ j was now. by_given j was now (b j).given refl;
   rises = λ i j given was now. opens.rises i j given was (stays j now (b j).given refl);
   kept = λ j given. reads.others j (none-new a j mine given fresh) ∙ opens.kept j given;
@@ -147,10 +145,10 @@ plays-opened names plan a b c mine opens fresh named reads = record {
         let same : c j ≡ b j = reads.others j (none-of b j mine is (reads-given names b mine named)) in
         absurd (let both : true ≡ false = sym now ∙ ap (λ (i : Id). i.given) same ∙ is in cc)
 
-    by_given : (j : ℕ) → (a j).given ≡ false → (c j).given ≡ true → (g : Bool) → (b j).given ≡ g → IsOfRun names plan (c j)
+    by_given : (j : ℕ) → (a j).given ≡ false → (c j).given ≡ true → (g : Bool) → (b j).given ≡ g → ReadsCapture names (c j)
     by_given j was now g is =
         let own : ReadsCapture names (b j) = opens.fresh j was (stays j now g is) in
-        inl (record { port = own.port; name = own.name; named = own.named; reads = reads.same j own.name own.reads })
+        record { port = own.port; name = own.name; named = own.named; reads = reads.same j own.name own.reads }
 
 -- of no capture
 pub since-none : (second : ℕ) (r : Replays) → r.sources.items ≡ [] → AreToldSince second r

@@ -24,6 +24,7 @@ use Rattle.exb_auditing.specs.Audits.{IsFoundLegal, StopsAudit}
 use Rattle.exb_auditing.specs.Scopes.{scope_of}
 use Rattle.exb_auditing.proofs.Once.{legal_not, stops_once}
 use Rattle.exb_run.specs.Outcomes.{CameOut}
+use Rattle.exb_run.specs.Saying.{IsLegalLine, IsSummary}
 use Rattle.exb_inputs.proofs.Asking.{holds_once, shape_same, prefix_same}
 use Rattle.exb_run.proofs.Running.{Outcome}
 use Rattle.exb_run.proofs.Stopping.{stops_of}
@@ -34,6 +35,7 @@ pub came_unaccepted : (tells : Type 0) (f : Files) → CameOut tells None (Err U
 came_unaccepted tells f = record {
   unaccepted = λ none. refl;
   done = λ t. tt;
+  says = tt;
   cause = λ t. inl refl;
   stops = λ t fault is. inl (ap Err (sym is));
   can_come = refl;
@@ -61,6 +63,7 @@ module _ (tells : Type 0) (name : List ℕ) (f g : Files) (x : Fault) (is : tell
   came_run_refused options = record {
     unaccepted = λ none. absurd (cc);
     done = λ t. tt;
+    says = tt;
     cause = λ t. elim (is t) [
       | inl refused ↦ inl (inl refused)
       | inr other ↦ inr (elim other [
@@ -104,6 +107,7 @@ module _ (tells : Type 0) (name : List ℕ) (f g : Files) (x : Fault) (is : tell
   came_check_refused = record {
     unaccepted = λ none. absurd (cc);
     done = λ t. tt;
+    says = tt;
     cause = λ t. elim (is t) [
       | inl refused ↦ inl refused
       | inr other ↦ inr other
@@ -123,6 +127,7 @@ pub came_checked : (tells : Type 0) (name : List ℕ) (f g : Files) (t : Topolog
 came_checked tells name f g t (Ok lines) holds same says memory = record {
   unaccepted = λ none. absurd (cc);
   done = λ told. record { topology = t; holds = holds told; says = says };
+  says = (needs_of t.setup, limits_of t.setup, says);
   cause = λ told. tt;
   stops = λ told fault stops. absurd (held_not name f t fault (holds told) stops);
   can_come = tt;
@@ -135,6 +140,7 @@ came_checked tells name f g t (Ok lines) holds same says memory = record {
 came_checked tells name f g t (Err x) holds same says memory = record {
   unaccepted = λ none. absurd (cc);
   done = λ told. tt;
+  says = tt;
   cause = λ told. inr (inr memory);
   stops = λ told fault stops. absurd (held_not name f t fault (holds told) stops);
   can_come = subst IsOfTopology (sym memory) tt;
@@ -177,11 +183,12 @@ module _ (tells : Type 0) (name : List ℕ) (f g : Files) (t : Topology) (holds 
   early-audit (Ok text) = tt
   early-audit (Err x) = inr same
 
-  pub came_audited : (o : Outcome) → (tells → IfOk o (λ text. IsFoundLegal (scope_of t) f (string_bytes text)))
+  pub came_audited : (o : Outcome) → (tells → IfOk o (λ text. IsFoundLegal (scope_of t) f (string_bytes text))) → IfOk o (λ text. IsLegalLine (string_bytes text))
       → (tells → IfErr o (λ x. StopsAudit (scope_of t) f x ⊎ (x ≡ Read) ⊎ (x ≡ Memory))) → IfErr o IsOfAudit → CameOut tells (Some (Audit name)) o f g
-  came_audited o legal cause causes = record {
+  came_audited o legal says cause causes = record {
     unaccepted = λ none. absurd (cc);
     done = λ told. legal-by o (legal told) (holds told);
+    says = says;
     cause = λ told. cause-of o (cause told) (holds told);
     stops = λ told y stops. one-by o (legal told) (cause told) y (audit-by y (holds told) stops);
     can_come = comes-audit o causes;
@@ -198,6 +205,7 @@ pub came_made : (tells : Type 0) (number : ℕ) (f : Files) (o : Outcome) → If
 came_made tells number f (Ok line) says memory = record {
   unaccepted = λ none. absurd (cc);
   done = λ told. says;
+  says = says;
   cause = λ told. tt;
   stops = λ told fault stops. absurd stops;
   can_come = tt;
@@ -210,6 +218,7 @@ came_made tells number f (Ok line) says memory = record {
 came_made tells number f (Err x) says memory = record {
   unaccepted = λ none. absurd (cc);
   done = λ told. tt;
+  says = tt;
   cause = λ told. inr memory;
   stops = λ told fault stops. absurd stops;
   can_come = memory;
@@ -225,6 +234,7 @@ came_made tells number f (Err x) says memory = record {
 pub record PlaysOut (tells : Type 0) (options : Options) (t : Topology) (o : Outcome) (old new : Files) : Type 0 where
   pub good : tells → IfOk o (λ line. AreAllGood t.captures old)
   pub done : tells → IfOk o (λ line. IsPlayed (mode_for options.seed) options (input_of t old) t.prefix old new (string_bytes line))
+  pub says : IfOk o (λ line. IsSummary (string_bytes line))
   pub cause : tells → IfErr o (λ x. ((p : ℕ) × FirstFault t.captures old p x) ⊎ (x ≡ Read) ⊎ (x ≡ Write) ⊎ (x ≡ Memory))
   pub stops : tells → (p : ℕ) (x : Fault) → FirstFault t.captures old p x → IsErrOf o x ⊎ IsErrOf o Read ⊎ IsErrOf o Memory
   pub causes : IfErr o IsOfPlaying
@@ -268,6 +278,7 @@ module _ (tells : Type 0) (name : List ℕ) (options : Options) (t : Topology) (
   came_played o out = record {
     unaccepted = λ none. absurd (cc);
     done = λ told. done-by o (out.good told) (out.done told) (holds told);
+    says = out.says;
     cause = λ told. cause-by o (out.cause told) (holds told);
     stops = λ told x stops. let found = first-by x (holds told) stops in out.stops told found.0 x found.1;
     can_come = comes o out.causes;

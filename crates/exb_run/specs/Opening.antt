@@ -1,5 +1,6 @@
 -- Which files are opened.
-use Rattle.std.specs.Prelude.{◌≡◌, ◌≢◌, ◌⊎◌, ℕ, List, Option, Some, None}
+use Rattle.std.specs.Prelude.{⊤, ◌≡◌, ◌≢◌, ◌<◌, ◌+◌, ◌++◌, ◌⊎◌, ℕ, true, List, Option, Some, None, Result, Ok, Err, IsErrOf, String}
+use Rattle.std.specs.declared.alloc.Global.{Global}
 use Rattle.exb_model.specs.Setup.{shape_of}
 use Rattle.exb_model.specs.Tree.{Shape}
 use Rattle.exb_shelf.specs.Files.{Files}
@@ -11,10 +12,16 @@ use Rattle.exb_words.specs.declared.asked.Options.{Options}
 use Rattle.exb_words.specs.Words.{Ask, Run, Check, Make, Audit}
 use Rattle.exb_auditing.specs.Reads.{ReadsEvidence}
 use Rattle.exb_auditing.specs.Scopes.{scope_of}
-use Rattle.exb_run.specs.Plans.{IsMade}
-use Rattle.exb_inputs.specs.Checks.{AreAllGood}
-use Rattle.exb_inputs.specs.Shelving.{ReadsCapture}
-use Rattle.exb_inputs.specs.Answers.{HoldsTopology}
+use Rattle.exb_run.specs.Order.{MadeInOrder, MakesInOrder}
+use Rattle.exb_run.specs.Plans.{IsMade, Planned, output_count}
+use Rattle.exb_inputs.specs.declared.fault.Fault.{Fault}
+use Rattle.exb_inputs.specs.declared.fault.Fault.TheVariants.{Capture, Changed}
+use Rattle.exb_inputs.specs.declared.fault.Flaw.{Flaw}
+use Rattle.exb_inputs.specs.Inputs.{is_named}
+use Rattle.exb_inputs.specs.Checks.{AreAllGood, FirstFault}
+use Rattle.exb_inputs.specs.Reading.{IsOfTopology}
+use Rattle.exb_inputs.specs.Shelving.{ReadsBelow, ReadsCapture}
+use Rattle.exb_inputs.specs.Answers.{HoldsTopology, fault_line}
 use Rattle.exb_run.specs.Answers.{IsReady}
 
 -- an id to read the topology that is asked for
@@ -84,3 +91,55 @@ pub record OpensBy (tells : Type 0) (status : ℕ) (a : Option Ask) (file : File
   pub wanted : tells → status ≢ 0 → status ≢ 1 → status ≢ 6 → status ≢ 7 → status ≢ 10 → Opens (IsWanted a file) given ids
   pub audited : (name : List ℕ) → a ≡ Some (Audit name) → Opens IsReading given ids
   pub only : tells → Opens (λ i. IsWanted a file i ⊎ MakesOutput a file i) given ids
+
+-- ---- in order, over every shelf
+-- what a run of a topology writes
+abbrev pub plan_for : Topology → Options → Planned
+plan_for t options = record { tree = shape_of t.setup; prefix = t.prefix; options = options }
+
+-- an id to read a capture of a topology, or to write one of its outputs
+abbrev pub IsFileOf : Options → Topology → Id → Type 0
+IsFileOf options t i = ReadsCapture t.captures i ⊎ WritesOutput options t i
+
+-- an id to read the topology in the file of this name, or the capture of a port up to this one
+abbrev pub ReadsUpTo : List ℕ → Topology → ℕ → Id → Type 0
+ReadsUpTo name t p i = IsReadingOf name i ⊎ ReadsBelow t.captures (p + 1) i
+
+-- What a run of a topology opened, whatever the shelf tells: the topology, its captures, and its outputs, which were made in order,
+-- each once, and all of them where all went well or a capture turned out to be another one. Where the fault is one of a capture no
+-- capture of a later port was opened; nor was one, or an output made, where files are told and a capture has a fault.
+pub record RunOpens (tells : Type 0) (name : List ℕ) (options : Options) (o : Result (String Global) Fault) (file : Files) (given ids : ℕ → Id) : Type 0 where
+  pub topology : Topology
+  pub holds : tells → HoldsTopology name file topology
+  pub opened : Opens (λ i. IsReadingOf name i ⊎ IsFileOf options topology i) given ids
+  pub made : MakesInOrder (plan_for topology options) o given ids
+  pub own : (p : ℕ) (flaw : Flaw) → IsErrOf o (Capture p flaw) → (is_named topology.captures p ≡ true) × Opens (ReadsUpTo name topology p) given ids
+  pub first : tells → (p : ℕ) (fault : Fault) → FirstFault topology.captures file p fault → Opens (ReadsUpTo name topology p) given ids
+
+-- the topology was not taken
+abbrev pub IsRefusedEarly : Result (String Global) Fault → Type 0
+IsRefusedEarly (Ok line) = ⊥
+IsRefusedEarly (Err fault) = IsOfTopology fault
+
+-- what was opened where this was asked for: that of a run, or the topology alone, where it was not taken
+abbrev pub OpensInOrder : Type 0 → Option Ask → Result (String Global) Fault → Files → (ℕ → Id) → (ℕ → Id) → Type 0
+OpensInOrder tells (Some (Run name options)) o file given ids = (IsRefusedEarly o × Opens (IsReadingOf name) given ids) ⊎ RunOpens tells name options o file given ids
+OpensInOrder tells a o file given ids = ⊤
+
+-- The same by the status, with the line that was printed: at 4 that of the last port of which a capture was opened, and at 10 that of a
+-- port.
+pub record RunOpened (tells printing : Type 0) (name : List ℕ) (options : Options) (status : ℕ) (file : Files) (given ids : ℕ → Id) (before after : List ℕ) : Type 0 where
+  pub topology : Topology
+  pub holds : tells → HoldsTopology name file topology
+  pub opened : Opens (λ i. IsReadingOf name i ⊎ IsFileOf options topology i) given ids
+  pub count : ℕ
+  pub made : MadeInOrder (plan_for topology options) count given ids
+  pub all : (status ≡ 0) ⊎ (status ≡ 10) → count ≡ output_count (plan_for topology options)
+  pub four : status ≡ 4 → (p : ℕ) × (flaw : Flaw) × (is_named topology.captures p ≡ true) × Opens (ReadsUpTo name topology p) given ids × (printing → after ≡ before ++ fault_line (Capture p flaw))
+  pub ten : status ≡ 10 → (p : ℕ) × (byte : ℕ) × (p < 4160) × (printing → after ≡ before ++ fault_line (Changed p byte))
+  pub first : tells → (p : ℕ) (fault : Fault) → FirstFault topology.captures file p fault → Opens (ReadsUpTo name topology p) given ids
+
+-- what a run opened, or the topology alone, at 1, 3, 5, 6 and 7
+abbrev pub OpenedInOrder : Type 0 → Type 0 → List ℕ → Options → ℕ → Files → (ℕ → Id) → (ℕ → Id) → List ℕ → List ℕ → Type 0
+OpenedInOrder tells printing name options status file given ids before after =
+    ((status ≢ 0) × (status ≢ 4) × (status ≢ 10) × Opens (IsReadingOf name) given ids) ⊎ RunOpened tells printing name options status file given ids before after

@@ -7,6 +7,7 @@ use Rattle.exb_inputs.specs.declared.fault.Fault.{Fault}
 use Rattle.exb_inputs.specs.declared.fault.Fault.TheVariants.{Usage, Read, Memory}
 use Rattle.exb_run.specs.Answers.{AreFronts, IsDone, IsFailure, IsRun, OnlyAsked, Stops}
 use Rattle.exb_inputs.specs.Reading.{IsOfAudit, IsOfTopology, IsOfPlaying}
+use Rattle.exb_run.specs.Saying.{SaysDone}
 use Rattle.exb_run.specs.Shelving.{IsOfPlay}
 
 -- a fault that can come where this is asked for
@@ -17,10 +18,11 @@ CanCome (Some (Check name)) fault = IsOfTopology fault
 CanCome (Some (Make number)) fault = fault ≡ Memory
 CanCome (Some (Audit name)) fault = IsOfTopology fault ⊎ IsOfAudit fault
 
--- By the result: what is done, which cause a fault has, and what has become of the files.
+-- By the result: what is done, which text says so, which cause a fault has, and what has become of the files.
 pub record CameOut (tells : Type 0) (a : Option Ask) (o : Result (String Global) Fault) (old new : Files) : Type 0 where
   pub unaccepted : a ≡ None → IsErrOf o Usage
   pub done : tells → IfOk o (λ text. IsDone a old new (string_bytes text))
+  pub says : IfOk o (λ text. SaysDone a (string_bytes text))
   pub cause : tells → IfErr o (λ fault. Stops a old fault ⊎ IsFailure a fault)
   pub stops : tells → (fault : Fault) → Stops a old fault → IsErrOf o fault ⊎ IsErrOf o Read ⊎ IsErrOf o Memory
   pub can_come : IfErr o (CanCome a)

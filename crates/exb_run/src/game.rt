@@ -21,6 +21,7 @@ ghost use Rattle.exb_run.specs.Playing.{AreCountsOf, CanCount, CountsOn, Run, Is
 ghost use Rattle.exb_run.specs.UnderWay.{CanBegin, CanBePlayed, CanFeed, CanGoOn, IsOpened, IsPlaying};
 ghost use Rattle.exb_run.specs.Outputs.{AreCutEagerly, HasPlayed, output_name};
 ghost use Rattle.exb_inputs.specs.Shelving.{CountsFaults};
+ghost use Rattle.exb_run.specs.Saying.{IsSummary};
 ghost use Rattle.exb_run.specs.Shelving.{IsChange, IsOfPlay, IsOfWriting, OnlyGoesOn, OnlyWrites};
 ghost use Rattle.exb_run.specs.Writing.{AreCut, HasTexts, IsReady, pieces_of, lines_of, with_more, with_left_frames, CanBeWritten};
 
@@ -340,6 +341,7 @@ impl Game {
         ensures done { S.tells → IfOk result (λ line. (run : Run) → IsTimely run.input
             → IsPlaying S.tells (mode_of schedule) run plan.now (S.file shelf.old) (S.ids shelf.old) (network_of self.old.world) self.old.counted self.old.outputs None feed.old.programme
             → HasPlayed (mode_of schedule) run.input plan.now run.before (S.file shelf.new) (string_bytes line)) }
+        ensures says { IfOk result (λ line. IsSummary (string_bytes line)) }
         ensures cut { S.tells → OnErr result ((run : Run)
             → IsPlaying S.tells (mode_of schedule) run plan.now (S.file shelf.old) (S.ids shelf.old) (network_of self.old.world) self.old.counted self.old.outputs None feed.old.programme
             → IsCutOff (mode_of schedule) run plan.now (S.file shelf.new)) }
@@ -376,6 +378,7 @@ impl Game {
         ensures done { S.tells → IfOk result (λ line. (run : Run)
             → IsOpened S.tells (mode_of schedule) run plan.now (S.file shelf.old) (S.ids shelf.old) (network_of self.old.world) self.old.counted self.old.outputs feed.old.programme
             → HasPlayed (mode_of schedule) run.input plan.now run.before (S.file shelf.new) (string_bytes line)) }
+        ensures says { IfOk result (λ line. IsSummary (string_bytes line)) }
         ensures cut { S.tells → OnErr result ((run : Run)
             → IsOpened S.tells (mode_of schedule) run plan.now (S.file shelf.old) (S.ids shelf.old) (network_of self.old.world) self.old.counted self.old.outputs feed.old.programme
             → IsCutOff (mode_of schedule) run plan.now (S.file shelf.new)) }
@@ -412,6 +415,7 @@ fn play_world<S: Shelf>(
     ensures done { S.tells → IfOk result (λ line. (run : Run)
         → IsOpened S.tells (mode_of schedule) run plan.now (S.file shelf.old) (S.ids shelf.old) (network_of world) counted outputs feed.old.programme
         → HasPlayed (mode_of schedule) run.input plan.now run.before (S.file shelf.new) (string_bytes line)) }
+    ensures says { IfOk result (λ line. IsSummary (string_bytes line)) }
     ensures cut { S.tells → OnErr result ((run : Run)
         → IsOpened S.tells (mode_of schedule) run plan.now (S.file shelf.old) (S.ids shelf.old) (network_of world) counted outputs feed.old.programme
         → IsCutOff (mode_of schedule) run plan.now (S.file shelf.new)) }
@@ -457,6 +461,7 @@ pub(crate) fn play_feed<S: Shelf>(
     ensures done { S.tells → IfOk result (λ line. (run : Run)
         → CanBegin S.tells (mode_of schedule) run script.now.setup.now plan.now (S.file shelf.old) (S.ids shelf.old) outputs feed.old.programme
         → HasPlayed (mode_of schedule) run.input plan.now run.before (S.file shelf.new) (string_bytes line)) }
+    ensures says { IfOk result (λ line. IsSummary (string_bytes line)) }
     ensures fronts { S.tells → mode_of schedule ≡ Eager → (run : Run)
         → CanBegin S.tells (mode_of schedule) run script.now.setup.now plan.now (S.file shelf.old) (S.ids shelf.old) outputs feed.old.programme
         → AreCutEagerly run.input plan.now run.before (S.file shelf.new) }

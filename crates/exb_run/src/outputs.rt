@@ -3,6 +3,7 @@ ghost use Rattle.std.specs.Prelude.{◌≡◌, ◌≢◌, true, ◌≤◌, ◌<�
 ghost use Rattle.exb_shelf.specs.Files.{Files, SameFiles, Puts, Adds, AddsFront, Filled};
 ghost use Rattle.exb_shelf.specs.Shelf.{IsWriting, Opens, writing};
 ghost use Rattle.exb_run.specs.Plans.{Planned, kind_at, output_count};
+ghost use Rattle.exb_run.specs.Order.{MakesFile, MakesInOrder};
 ghost use Rattle.exb_run.specs.Outputs.{output_name};
 ghost use Rattle.exb_inputs.specs.Shelving.{CountsFaults};
 ghost use Rattle.exb_run.specs.Shelving.{IsOfWriting, OnlyMakes, OnlyWrites, WritesPlanned};
@@ -77,6 +78,8 @@ fn create_one<S: Shelf>(
     ensures pieces { OnOk result (pieces_of outputs.new ≡ pieces_of outputs.old ++ first_text (kind_at plan.now at) ∷ []) }
     ensures count { OnOk result (length outputs.new.pieces.items ≡ at + 1) }
     ensures opened { Opens (WritesPlanned plan.now) (S.ids shelf.old) (S.ids shelf.new) }
+    ensures makes { OnOk result ((id : ℕ) × MakesFile id (output_name plan.now at) (S.ids shelf.old) (S.ids shelf.new)) }
+    ensures may_make { OnErr result (((j : ℕ) → S.ids shelf.new j ≡ S.ids shelf.old j) ⊎ ((id : ℕ) × MakesFile id (output_name plan.now at) (S.ids shelf.old) (S.ids shelf.new))) }
     ensures empty { S.tells → OnOk result (Puts (S.file shelf.old) (S.file shelf.new) (output_name plan.now at) []) }
     ensures others { S.tells → OnErr result ((m : List ℕ) → m ≢ output_name plan.now at → S.file shelf.new m ≡ S.file shelf.old m) }
     ensures stays { S.tells → OnErr result (SameFiles (S.file shelf.old) (S.file shelf.new) ⊎ Puts (S.file shelf.old) (S.file shelf.new) (output_name plan.now at) []) }
@@ -102,6 +105,7 @@ pub(crate) fn create_all<S: Shelf>(
     ensures texts { S.tells → IfOk result (λ outputs. HasTexts plan.now (pieces_of outputs) (S.file shelf.old) (S.file shelf.new) first_text) }
     ensures cut { S.tells → OnErr result ((text : Output → List ℕ) → AreCut plan.now (S.file shelf.old) (S.file shelf.new) text) }
     ensures only { OnlyMakes S.tells plan.now (S.file shelf.old) (S.file shelf.new) (S.ids shelf.old) (S.ids shelf.new) }
+    ensures made { MakesInOrder plan.now result (S.ids shelf.old) (S.ids shelf.new) }
     ensures causes { IfErr result IsOfWriting }
     ensures faults { CountsFaults result (S.faults shelf.old) (S.faults shelf.new) }
 {

@@ -9,8 +9,10 @@ ghost use Rattle.exb_inputs.specs.Checks.{AreChecked, IsToldOf, most_bytes};
 ghost use Rattle.exb_run.specs.Checks.{CanBeRead, earlier, first_standing, start_told, stream_told};
 ghost use Rattle.exb_inputs.specs.Inputs.{input_from, is_named};
 ghost use Rattle.exb_inputs.specs.Shelving.{ReadsCapture, CountsFaults};
-ghost use Rattle.exb_run.specs.Outputs.{AreCutEagerly, HasPlayed};
+ghost use Rattle.exb_run.specs.Order.{MakesInOrder};
+ghost use Rattle.exb_run.specs.Outputs.{AreCutEagerly, HasPlayed, OnlyPlanned};
 ghost use Rattle.exb_run.specs.Playing.{IsScript, mode_of};
+ghost use Rattle.exb_run.specs.Saying.{IsSummary};
 ghost use Rattle.exb_run.specs.Shelving.{IsChange, IsOfPlay, OnlyPlays};
 ghost use Rattle.exb_run.specs.Writing.{HasTexts, IsReady, first_text, pieces_of};
 ghost use Rattle.exb_shelf.specs.Files.{Files, SameFiles};
@@ -141,10 +143,12 @@ fn play_into<S: Shelf>(
     requires texts { (before : Files) × (S.tells → HasTexts plan.now (pieces_of outputs) before (S.file shelf.old) first_text) }
     ensures done { S.tells → IfOk result (λ line. (before : Files) → HasTexts plan.now (pieces_of outputs) before (S.file shelf.old) first_text
         → HasPlayed (mode_of schedule) (input_from script.now.setup.now script.now.commands.now names.now (S.file shelf.old)) plan.now before (S.file shelf.new) (string_bytes line)) }
+    ensures says { IfOk result (λ line. IsSummary (string_bytes line)) }
     ensures fronts { S.tells → mode_of schedule ≡ Eager → (before : Files) → HasTexts plan.now (pieces_of outputs) before (S.file shelf.old) first_text
         → AreCutEagerly (input_from script.now.setup.now script.now.commands.now names.now (S.file shelf.old)) plan.now before (S.file shelf.new) }
     ensures never { S.tells → IfErr result (λ fault. IsChange fault → ⊥) }
-    ensures only { OnlyPlays S.tells names.now plan.now (S.file shelf.old) (S.file shelf.new) (S.ids shelf.old) (S.ids shelf.new) }
+    ensures others { S.tells → OnlyPlanned plan.now (S.file shelf.old) (S.file shelf.new) }
+    ensures opens { Opens (ReadsCapture names.now) (S.ids shelf.old) (S.ids shelf.new) }
     ensures causes { IfErr result IsOfPlay }
     ensures faults { CountsFaults result (S.faults shelf.old) (S.faults shelf.new) }
 {
@@ -184,9 +188,11 @@ pub(crate) fn play<S: Shelf>(
     requires captures { CanBeRead S.tells plan.now names.now (S.file shelf.old) checked.now }
     requires fate { left fate < 2 ^ 56 }
     ensures done { S.tells → IfOk result (λ line. HasPlayed (mode_of schedule) (input_from script.now.setup.now script.now.commands.now names.now (S.file shelf.old)) plan.now (S.file shelf.old) (S.file shelf.new) (string_bytes line)) }
+    ensures says { IfOk result (λ line. IsSummary (string_bytes line)) }
     ensures fronts { S.tells → mode_of schedule ≡ Eager → AreCutEagerly (input_from script.now.setup.now script.now.commands.now names.now (S.file shelf.old)) plan.now (S.file shelf.old) (S.file shelf.new) }
     ensures never { S.tells → IfErr result (λ fault. IsChange fault → ⊥) }
     ensures only { OnlyPlays S.tells names.now plan.now (S.file shelf.old) (S.file shelf.new) (S.ids shelf.old) (S.ids shelf.new) }
+    ensures made { MakesInOrder plan.now result (S.ids shelf.old) (S.ids shelf.new) }
     ensures causes { IfErr result IsOfPlay }
     ensures faults { CountsFaults result (S.faults shelf.old) (S.faults shelf.new) }
 {

@@ -1,24 +1,30 @@
 //! The top call.
-ghost use Rattle.std.specs.Prelude.{◌≡◌, ◌≢◌, ◌<◌, ◌++◌, ◌⊎◌, ◌^◌, ℕ, List, Some, None, string_bytes, IfOk, IfErr, IsErrOf};
+ghost use Rattle.std.specs.Prelude.{◌≡◌, ◌≢◌, ◌<◌, ◌+◌, ◌++◌, ◌⊎◌, ◌^◌, ℕ, true, List, Some, None, string_bytes, IfOk, IfErr, IsErrOf};
 ghost use Rattle.exb_made.specs.Made.{made};
 ghost use Rattle.exb_model.specs.Input.{Eager};
 ghost use Rattle.exb_model.specs.Setup.{IsValid, shape_of};
 ghost use Rattle.exb_shelf.specs.Files.{SameFiles, AppendsFront};
 ghost use Rattle.exb_shelf.specs.Shelf.{Opens, Rose};
 ghost use Rattle.exb_topology.specs.Sound.{IsSound};
+ghost use Rattle.exb_words.specs.declared.asked.Options.{Options};
 ghost use Rattle.exb_words.specs.Words.{Run, Make};
 ghost use Rattle.exb_inputs.specs.declared.fault.Fault.{Fault};
-ghost use Rattle.exb_inputs.specs.Inputs.{input_of};
+ghost use Rattle.exb_inputs.specs.declared.fault.Flaw.{Flaw};
+ghost use Rattle.exb_inputs.specs.Inputs.{input_of, is_named};
 ghost use Rattle.exb_run.specs.Outputs.{AreFrontsOf, IsPlayed, OnlyOutputs};
 ghost use Rattle.exb_inputs.specs.Checks.{AreAllGood, FirstFault};
-ghost use Rattle.exb_inputs.specs.Shelving.{ReadsCapture, CountsFaults};
-ghost use Rattle.exb_run.specs.Opening.{IsOpenedFor, OpensBy};
+ghost use Rattle.exb_inputs.specs.Shelving.{ReadsBelow, ReadsCapture, CountsFaults};
+ghost use Rattle.exb_run.specs.Order.{MakesInOrder};
+ghost use Rattle.exb_run.specs.Opening.{IsFileOf, IsOpenedFor, OpenedInOrder, OpensBy, OpensInOrder, plan_for};
 ghost use Rattle.exb_run.specs.Shelving.{IsOfPlay};
 ghost use Rattle.exb_inputs.specs.Reading.{IsOfPlaying};
 ghost use Rattle.exb_run.specs.Answers.{asked, mode_for, AreFronts, eager_summary, IsDone, IsRun, CanBeDone, OnlyAsked, Stops, StopsWith, IsText, IsOfInput, RoseBy, IsStatus};
 ghost use Rattle.exb_inputs.specs.Answers.{fault_status, status_of, fault_line, SaysBy};
+ghost use Rattle.exb_run.specs.Headline.{Headline};
 ghost use Rattle.exb_run.specs.Outcomes.{CameOut};
 ghost use Rattle.exb_run.specs.Playing.{mode_of};
+ghost use Rattle.exb_run.specs.Printing.{Prints};
+ghost use Rattle.exb_run.specs.Saying.{IsSummary};
 
 use crate::audit::audit_topology;
 use crate::check::check_topology;
@@ -58,6 +64,7 @@ fn play_topology<S: Shelf>(
     ensures done { S.tells → IfOk result (λ line.
         IsPlayed (mode_for options.seed) options (input_of topology.now (S.file shelf.old)) topology.now.prefix
         (S.file shelf.old) (S.file shelf.new) (string_bytes line)) }
+    ensures says { IfOk result (λ line. IsSummary (string_bytes line)) }
     ensures fronts { S.tells → mode_for options.seed ≡ Eager
         → AreFrontsOf (input_of topology.now (S.file shelf.old)) topology.now.prefix (S.file shelf.old) (S.file shelf.new) }
 
@@ -75,6 +82,12 @@ fn play_topology<S: Shelf>(
     ensures others { S.tells → OnlyOutputs options (shape_of topology.now.setup) topology.now.prefix (S.file shelf.old) (S.file shelf.new) }
     ensures opened { IfErr result (λ fault. IsOfPlay fault ⊎ Opens (ReadsCapture topology.now.captures) (S.ids shelf.old) (S.ids shelf.new)) }
     ensures played { S.tells → Opens (IsOpenedFor options topology.now (S.file shelf.old)) (S.ids shelf.old) (S.ids shelf.new) }
+    ensures files { Opens (IsFileOf options topology.now) (S.ids shelf.old) (S.ids shelf.new) }
+    ensures made { MakesInOrder (plan_for topology.now options) result (S.ids shelf.old) (S.ids shelf.new) }
+    ensures own { (p : ℕ) (flaw : Flaw) → IsErrOf result (Fault.Capture p flaw) → (is_named topology.now.captures p ≡ true)
+        × Opens (ReadsBelow topology.now.captures (p + 1)) (S.ids shelf.old) (S.ids shelf.new) }
+    ensures upto { S.tells → (p : ℕ) (fault : Fault) → FirstFault topology.now.captures (S.file shelf.old) p fault
+        → Opens (ReadsBelow topology.now.captures (p + 1)) (S.ids shelf.old) (S.ids shelf.new) }
     ensures faults { CountsFaults result (S.faults shelf.old) (S.faults shelf.new) }
 {
     let checked = check_captures(alloc, shelf, topology.captures.as_slice())?;
@@ -108,6 +121,7 @@ fn run_topology<S: Shelf>(
     requires { left fate < 2 ^ 56 }
     ensures came { CameOut S.tells (Some (Run name.now options)) result (S.file shelf.old) (S.file shelf.new) }
     ensures opens { OpensBy S.tells (status_of result) (Some (Run name.now options)) (S.file shelf.old) (S.ids shelf.old) (S.ids shelf.new) }
+    ensures order { OpensInOrder S.tells (Some (Run name.now options)) result (S.file shelf.old) (S.ids shelf.old) (S.ids shelf.new) }
     ensures faults { CountsFaults result (S.faults shelf.old) (S.faults shelf.new) }
 {
     let topology = read_topology(alloc, shelf, name)?;
@@ -127,6 +141,7 @@ fn work<S: Shelf>(
         → IfOk result (λ line. string_bytes line ≡ eager_summary (made number)) }
     ensures alone { (number : ℕ) → asked words.now ≡ Some (Make number) → shelf.new ≡ shelf.old }
     ensures opens { OpensBy S.tells (status_of result) (asked words.now) (S.file shelf.old) (S.ids shelf.old) (S.ids shelf.new) }
+    ensures order { OpensInOrder S.tells (asked words.now) result (S.file shelf.old) (S.ids shelf.old) (S.ids shelf.new) }
     ensures faults { CountsFaults result (S.faults shelf.old) (S.faults shelf.new) }
 {
     match accept(words) {
@@ -149,11 +164,14 @@ pub fn run<S: Shelf, O: Sink>(
     fate: Box<dyn Fate>,
 ) -> u8
     requires { left fate < 2 ^ 56 }
-    // At status 0 what is asked for is done: a topology and its captures were read, played and written; what a topology needs is
-    // said; or the input of a number was played in memory. The sink got the text that says so and nothing else.
-    ensures ran { S.tells → result ≡ 0 → (text : List ℕ) × IsDone (asked words.now) (S.file shelf.old) (S.file shelf.new) text }
-    ensures headline { S.tells → O.tells → result ≡ 0
+    // 0, of a run: the headline, as one record says it.
+    ensures headline { (name : List ℕ) (options : Options) → asked words.now ≡ Some (Run name options) → S.tells → O.tells → result ≡ 0
+        → Headline name options (S.file shelf.old) (S.file shelf.new) (O.text out.old) (O.text out.new) }
+    // 0, whatever is asked for: it is done, and the sink got the text that says so and nothing else. What is said of files needs no
+    // sink that tells, and of an input that is made no shelf that tells.
+    ensures done { S.tells → O.tells → result ≡ 0
         → (text : List ℕ) × IsDone (asked words.now) (S.file shelf.old) (S.file shelf.new) text × (O.text out.new ≡ O.text out.old ++ text) }
+    ensures ran { S.tells → result ≡ 0 → (text : List ℕ) × IsDone (asked words.now) (S.file shelf.old) (S.file shelf.new) text }
     ensures makes { (number : ℕ) → asked words.now ≡ Some (Make number) → O.tells → result ≡ 0
         → O.text out.new ≡ O.text out.old ++ eager_summary (made number) }
     // 2: exactly where the words are not accepted. 3, 4 and 5: exactly by the first fault of the topology and of
@@ -176,6 +194,10 @@ pub fn run<S: Shelf, O: Sink>(
     ensures front { S.tells → O.tells
         → (text : List ℕ) × IsText (asked words.now) (S.file shelf.old) (S.file shelf.new) (S.faults shelf.old) (S.faults shelf.new) text
         × AppendsFront (O.text out.old) (O.text out.new) text }
+    // The same of the text whatever the shelf tells: all of one line where the status is that line's own, and a part of it at 1 and 7.
+    ensures prints { O.tells → Prints (asked words.now) (S.faults shelf.old) (S.faults shelf.new) result (O.text out.old) (O.text out.new) }
+    ensures sink { result ≢ 7 → O.faults out.new ≡ O.faults out.old }
+    ensures out_of_memory { O.tells → O.text out.new ≡ O.text out.old ++ fault_line Fault.Memory → result ≡ 1 }
     // What stays, what was written where it ended early, and which files are opened.
     ensures early { result ≢ 0 → result ≢ 1 → result ≢ 6 → result ≢ 7 → result ≢ 10 → SameFiles (S.file shelf.old) (S.file shelf.new) }
     ensures read_only { ¬ IsRun (asked words.now) → SameFiles (S.file shelf.old) (S.file shelf.new) }
@@ -184,6 +206,9 @@ pub fn run<S: Shelf, O: Sink>(
     ensures fronts { S.tells → AreFronts (asked words.now) (S.file shelf.old) (S.file shelf.new) }
     ensures opens { OpensBy S.tells result (asked words.now) (S.file shelf.old) (S.ids shelf.old) (S.ids shelf.new) }
     ensures alone { (number : ℕ) → asked words.now ≡ Some (Make number) → shelf.new ≡ shelf.old }
+    // What a run opened and made, and in which order, whatever the shelf tells; so status 10 is no way out, and none goes on behind a fault.
+    ensures order { (name : List ℕ) (options : Options) → asked words.now ≡ Some (Run name options)
+        → OpenedInOrder S.tells O.tells name options result (S.file shelf.old) (S.ids shelf.old) (S.ids shelf.new) (O.text out.old) (O.text out.new) }
     // With no fault of what is asked for, and none of shelf or sink, it does all, or memory ran out. To make an input asks nothing
     // of the shelf.
     ensures complete { S.tells → CanBeDone (asked words.now) (S.file shelf.old)

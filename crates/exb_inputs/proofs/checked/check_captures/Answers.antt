@@ -3,10 +3,11 @@ use Rattle.std.specs.Prelude.{IfSome, is_some}
 use Rattle.std.proofs.lemmas.List.{map-append}
 use Rattle.std.proofs.lemmas.Result.{err_from_is_err_and}
 use Rattle.exb_model.specs.Ports.{below}
-use Rattle.exb_shelf.proofs.IdLemmas.{opens_none, opens_weaker, opens_then}
+use Rattle.exb_shelf.proofs.IdLemmas.{opens_none}
 use Rattle.exb_inputs.specs.declared.checked.Checked.{Checked}
 use Rattle.exb_inputs.specs.Checks.{HasFault, HasFaultNamed, IsGood, IsGoodNamed, IsToldOf, most_bytes}
 use Rattle.exb_inputs.specs.Inputs.{name_of, is_named}
+use Rattle.exb_inputs.proofs.EndingAt.{ends_at, opened_any, opened_higher, opened_next}
 use Rattle.exb_inputs.proofs.FaultLemmas.{all_more}
 use Rattle.exb_inputs.proofs.Passing.{passed_none, passed_here, passed_not}
 use Rattle.exb_inputs.proofs.checked.check_captures.Goals as goal
@@ -39,7 +40,7 @@ checking-preserved-in_default g c =
       in_time = inv.in_time;
       told = inv.told;
       good = λ t. below_more _ _ (inv.good t) (subst (λ (n : Option (List ℕ)). IsGoodNamed n f) (sym none) tt);
-      opened = inv.opened;
+      opened = opened_higher names p (p + 1) _ _ (omega arith) inv.opened;
       files = inv.files;
       faults = inv.faults;
     }
@@ -93,7 +94,7 @@ checking-preserved g c =
       in_time = all_more (λ (x : Checked). IfSome x.told.first (λ first. first < 2 ^ 32 * 1_000_000_000)) _ _ one pushed inv.in_time c.in_ok-one.ensures.in_time;
       told = λ t. all_more (IsToldOf names f) _ _ one pushed (inv.told t) (name, ap (name_of names) port ∙ named, good t);
       good = λ t. below_more _ _ (inv.good t) (subst (λ (n : Option (List ℕ)). IsGoodNamed n f) (sym named) (one.told, good t));
-      opened = opens_then _ _ _ _ inv.opened (opens_weaker _ _ _ _ (λ i reads. record { port = p; name = name; named = named; reads = reads }) c.in_ok-one.ensures.opened);
+      opened = opened_next names p name _ _ _ named inv.opened c.in_ok-one.ensures.opened;
       files = λ m. c.in_ok-one.ensures.files m ∙ inv.files m;
       faults = search (arith, c.in_ok-one.ensures.faults.none_fell, inv.faults);
     }
@@ -102,5 +103,18 @@ pub returns-in_err-one-clause-opened : goal.returns-in_err-one-clause-opened
 returns-in_err-one-clause-opened g c =
     let inv = c.checking.invariant in
     let names = c.args.names.now in
-    let named : name_of names c.checking.number ≡ Some c.in-Some.name.now = ap (name_of names) (sym c.port_of-port.ensures) ∙ c.in-Some.ensures.found in
-    opens_then _ _ _ _ inv.opened (opens_weaker _ _ _ _ (λ i reads. record { port = c.checking.number; name = c.in-Some.name.now; named = named; reads = reads }) c.in_err-one.ensures.opened)
+    let p = c.checking.number in
+    let named : name_of names p ≡ Some c.in-Some.name.now = ap (name_of names) (sym c.port_of-port.ensures) ∙ c.in-Some.ensures.found in
+    opened_any names (p + 1) _ _ (opened_next names p c.in-Some.name.now _ _ _ named inv.opened c.in_err-one.ensures.opened)
+
+pub returns-in_err-one-clause-ends : goal.returns-in_err-one-clause-ends
+returns-in_err-one-clause-ends g c =
+    let S = g.S.Shelf in
+    let inv = c.checking.invariant in
+    let names = c.args.names.now in
+    let p = c.checking.number in
+    let x = c.in_err-one.field-0.0 in
+    let named : name_of names p ≡ Some c.in-Some.name.now = ap (name_of names) (sym c.port_of-port.ensures) ∙ c.in-Some.ensures.found in
+    let made = err_from_is_err_and c.from_residual.result c.from_residual.ensures.1 in
+    rw (made.1, made.2) (ends_at S.tells names (S.file c.args.shelf.now) p c.in-Some.name.now _ _ _ x named inv.opened c.in_err-one.ensures.opened inv.good
+    (λ q flaw e. c.in_err-one.ensures.own q flaw e ∙ c.port_of-port.ensures))

@@ -5,7 +5,7 @@ use Rattle.exb_shelf.specs.Files.{SameFiles}
 use Rattle.exb_shelf.specs.Shelf.{Opens, NoFewer}
 use Rattle.exb_inputs.specs.Checks.{IsGoodNamed, IsToldOf, most_bytes}
 use Rattle.exb_inputs.specs.Inputs.{is_named, name_of}
-use Rattle.exb_inputs.specs.Shelving.{ReadsCapture}
+use Rattle.exb_inputs.specs.Shelving.{ReadsBelow}
 use Rattle.exb_inputs.proofs.checked.check_captures.Given as goal
 
 abbrev pub invariant-checking : goal.invariant-checking
@@ -17,7 +17,7 @@ invariant-checking g l =
       in_time : All (λ c. IfSome c.told.first (λ first. first < 2 ^ 32 * 1_000_000_000)) l.checked.items;
       told : S.tells → All (IsToldOf l.names (S.file l.fn.shelf)) l.checked.items;
       good : S.tells → (q : ℕ) → q < l.number → IsGoodNamed (name_of l.names q) (S.file l.fn.shelf);
-      opened : Opens (ReadsCapture l.names) (S.ids l.fn.shelf) (S.ids l.shelf);
+      opened : Opens (ReadsBelow l.names l.number) (S.ids l.fn.shelf) (S.ids l.shelf);
       files : SameFiles (S.file l.fn.shelf) (S.file l.shelf);
       faults : NoFewer (S.faults l.fn.shelf) (S.faults l.shelf);
     }

@@ -33,7 +33,7 @@ returns-clause-came g c =
     let o = c.audit.result in
     let same = files_same f read found.files in
     came_audited S.tells c.args.name.now f (S.file c.audit.new.shelf) t found.read (λ n. c.audit.ensures.files n ∙ found.files n) o
-    (λ told. subst (λ (k : Files). IfOk o (λ text. IsFoundLegal (scope_of t) k (string_bytes text))) same (c.audit.ensures.legal told))
+    (λ told. subst (λ (k : Files). IfOk o (λ text. IsFoundLegal (scope_of t) k (string_bytes text))) same (c.audit.ensures.legal told)) c.audit.ensures.says
     (λ told. subst (λ (k : Files). IfErr o (λ x. StopsAudit (scope_of t) k x ⊎ (x ≡ Read) ⊎ (x ≡ Memory))) same (c.audit.ensures.cause told)) c.audit.ensures.causes
 
 pub returns-clause-opens : goal.returns-clause-opens

@@ -1,15 +1,28 @@
-use Rattle.std.proofs.Common.{◌≡◌, ◌<◌, ◌+◌, ◌∙◌, ℕ, List, [], ap, refl, get_or, length, arith, subst}
+use Rattle.std.proofs.Common.{rules, ◌≡◌, ◌<◌, ◌+◌, ◌∙◌, ℕ, List, [], ap, refl, get_or, length, arith, subst}
 use Rattle.std.proofs.lemmas.List.{length-map, length_push}
 use Rattle.std.proofs.lemmas.Result.{err_from_is_err_and}
 use Rattle.exb_shelf.specs.Files.{Filled}
-use Rattle.exb_shelf.proofs.FileLemmas.{filled_one}
-use Rattle.exb_shelf.proofs.IdLemmas.{opens_then}
+use Rattle.exb_shelf.proofs.FileLemmas.{filled_none, filled_one}
+use Rattle.exb_shelf.proofs.IdLemmas.{opens_none, opens_then}
 use Rattle.exb_run.specs.Plans.{kind_at, output_count}
 use Rattle.exb_run.specs.Outputs.{output_name}
 use Rattle.exb_run.specs.Writing.{pieces_of, first_text}
 use Rattle.exb_run.proofs.OutputLemmas.{more_named, more_texts, none_written}
 use Rattle.exb_run.proofs.Cutting.{cut_made}
+use Rattle.exb_run.proofs.Orders.{made_more, made_none, makes_all, makes_some}
 use Rattle.exb_run.proofs.outputs.create_all.Goals as goal
+
+pub loop-at-init : goal.loop-at-init
+loop-at-init g c = record {
+  ids = search rules;
+  pieces = search rules;
+  named = λ j l. absurd (omega arith);
+  texts = λ j l. absurd (omega arith);
+  files = λ t. filled_none _ _ _;
+  opened = opens_none _ _;
+  made = made_none c.args.plan.now _;
+  faults = search rules;
+}
 
 pub loop-at-preserved : goal.loop-at-preserved
 loop-at-preserved g c =
@@ -34,6 +47,7 @@ loop-at-preserved g c =
           filled_one (S.file c.args.shelf.now) (S.file c.loop-at.shelf) (S.file c.create_one.new.shelf) (output_count c.args.plan.now) c.loop-at.at name (λ j bytes. bytes ≡ [])
           [] (c.output_names_differ.ensures c.args.plan.now) lt (before.files t) (made.empty t) refl;
       opened = opens_then _ _ _ _ before.opened made.opened;
+      made = made_more c.args.plan.now c.loop-at.at _ _ _ before.made before.opened.kept lt made.makes.0 made.makes.1;
       faults = search (arith, made.faults.none_fell, before.faults);
     }
 
@@ -56,6 +70,15 @@ returns-clause-only g c = record {
   others = λ t m away. (c.loop-at.invariant.files t).others m (λ j l. away j (omega arith));
   opened = c.loop-at.invariant.opened;
 }
+
+pub returns-clause-made : goal.returns-clause-made
+returns-clause-made g c = makes_all c.args.plan.now c.loop-at.at _ _ _ c.loop-at.invariant.made (omega arith)
+
+pub returns-in_err-create_one-clause-made : goal.returns-in_err-create_one-clause-made
+returns-in_err-create_one-clause-made g c =
+    let e = err_from_is_err_and c.from_residual.result c.from_residual.ensures.1 in
+    let inv = c.loop-at.invariant in
+    rw (e.1, e.2) (makes_some c.args.plan.now c.loop-at.at _ _ _ _ inv.made inv.opened.kept (omega arith) c.in_err-create_one.ensures.may_make c.in_err-create_one.ensures.causes)
 
 pub returns-in_err-create_one-clause-cut : goal.returns-in_err-create_one-clause-cut
 returns-in_err-create_one-clause-cut g c = λ t.

@@ -1,6 +1,7 @@
 use Rattle.std.proofs.Common.{◌≡◌, ◌<◌, ℕ, [], length, slice_index, slice_index_or}
 use Rattle.exb_shelf.specs.Files.{Filled}
 use Rattle.exb_shelf.specs.Shelf.{NoFewer, Opens, writing}
+use Rattle.exb_run.specs.Order.{MadeInOrder}
 use Rattle.exb_run.specs.Outputs.{output_name}
 use Rattle.exb_run.specs.Plans.{kind_at}
 use Rattle.exb_run.specs.Shelving.{WritesPlanned}
@@ -17,5 +18,6 @@ invariant-loop-at g l =
       texts : (j : ℕ) → j < l.at → slice_index_or (pieces_of l.outputs) j [] ≡ first_text (kind_at l.plan j);
       files : S.tells → Filled (S.file l.fn.shelf) (S.file l.shelf) l.at (output_name l.plan) (λ j bytes. bytes ≡ []);
       opened : Opens (WritesPlanned l.plan) (S.ids l.fn.shelf) (S.ids l.shelf);
+      made : MadeInOrder l.plan l.at (S.ids l.fn.shelf) (S.ids l.shelf);
       faults : NoFewer (S.faults l.fn.shelf) (S.faults l.shelf);
     }

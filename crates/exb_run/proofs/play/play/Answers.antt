@@ -1,11 +1,14 @@
 use Rattle.std.proofs.Common.{◌≡◌, inl, inr, sym, subst, ◌∙◌}
 use Rattle.std.specs.Prelude.{string_bytes}
 use Rattle.exb_model.specs.Input.{Input}
+use Rattle.std.proofs.lemmas.Result.{err_from_is_err_and}
+use Rattle.exb_inputs.specs.Shelving.{ReadsCapture}
 use Rattle.exb_shelf.proofs.IdLemmas.{opens_then, opens_weaker}
 use Rattle.exb_run.specs.Outputs.{AreCutEagerly, HasPlayed}
 use Rattle.exb_run.specs.Playing.{mode_of}
 use Rattle.exb_run.proofs.Beginning.{can-read-on, input-stays}
 use Rattle.exb_run.proofs.CuttingOff.{made_eagerly}
+use Rattle.exb_run.proofs.Orders.{makes_as, makes_then_read}
 use Rattle.exb_run.proofs.Running.{if_ok_map}
 use Rattle.exb_inputs.proofs.ShelvingLemmas.{counts_after}
 use Rattle.exb_run.proofs.play.play.Goals as goal
@@ -43,11 +46,18 @@ returns-in_err-outputs-clause-fronts g c tells eager = made_eagerly _ c.args.pla
 pub returns-clause-only : goal.returns-clause-only
 returns-clause-only g c =
     let made = c.create_all.ensures.only in
-    let played = c.play_into.ensures.only in
     record {
-      others = λ t m away. played.others t m away ∙ made.others t m away;
-      opened = opens_then _ _ _ _ (opens_weaker _ _ _ _ (λ i writes. inr writes) made.opened) played.opened;
+      others = λ t m away. c.play_into.ensures.others t m away ∙ made.others t m away;
+      opened = opens_then _ _ _ _ (opens_weaker _ _ _ _ (λ i writes. inr writes) made.opened) (opens_weaker _ _ _ _ (λ i reads. inl reads) c.play_into.ensures.opens);
     }
+
+pub returns-clause-made : goal.returns-clause-made
+returns-clause-made g c = makes_then_read (ReadsCapture c.args.names.now) c.args.plan.now _ c.play_into.result _ _ _ (λ i r. r.reads.reads) c.in_ok-outputs.ensures.made c.play_into.ensures.opens
+
+pub returns-in_err-outputs-clause-made : goal.returns-in_err-outputs-clause-made
+returns-in_err-outputs-clause-made g c =
+    let e = err_from_is_err_and c.from_residual.result c.from_residual.ensures.1 in
+    rw (e.1, e.2) (makes_as c.args.plan.now c.in_err-outputs.field-0.0 _ _ c.in_err-outputs.ensures.made)
 
 pub returns-in_err-outputs-clause-only : goal.returns-in_err-outputs-clause-only
 returns-in_err-outputs-clause-only g c =

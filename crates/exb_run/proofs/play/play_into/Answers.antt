@@ -2,7 +2,7 @@ use Rattle.std.proofs.Common.{◌≡◌, ◌<◌, ◌^◌, ℕ, false, List, len
 use Rattle.std.specs.List.{AllByRecursion}
 use Rattle.std.specs.Vec.{with_items}
 use Rattle.exb_merge.specs.Replays.{ids_in}
-use Rattle.exb_shelf.proofs.IdLemmas.{opens_none, opens_weaker}
+use Rattle.exb_shelf.proofs.IdLemmas.{opens_none}
 use Rattle.exb_shelf.specs.Files.{Files}
 use Rattle.exb_inputs.specs.Inputs.{input_from}
 use Rattle.exb_inputs.specs.Shelving.{ReadsCapture}
@@ -99,27 +99,22 @@ returns-in_err-captures-clause-fronts g c tells eager before held =
     begun_eagerly _ c.args.plan.now before _ (pieces_of c.args.outputs)
     (subst (λ (f : Files). HasTexts c.args.plan.now (pieces_of c.args.outputs) before f first_text) (sym (files_same (S.file c.args.shelf.now) (S.file c.open_all.new.shelf) c.open_all.ensures.files)) held)
 
-pub returns-clause-only : goal.returns-clause-only
-returns-clause-only g c =
+pub returns-clause-others : goal.returns-clause-others
+returns-clause-others g c = λ t m away. c.play_feed.ensures.only.others t m away ∙ c.open_all.ensures.files m
+
+pub returns-in_err-captures-clause-others : goal.returns-in_err-captures-clause-others
+returns-in_err-captures-clause-others g c = λ t m away. c.open_all.ensures.files m
+
+pub returns-clause-opens : goal.returns-clause-opens
+returns-clause-opens g c =
     let S = g.S.Shelf in
-    let only = c.play_feed.ensures.only in
-    record {
-      others = λ t m away. only.others t m away ∙ c.open_all.ensures.files m;
-      opened =
-          plays-opened c.args.names.now c.args.plan.now (S.ids c.args.shelf.now) (S.ids c.open_all.new.shelf) (S.ids c.play_feed.new.shelf) (ids_in c.new-programme.result.captures) c.open_all.ensures.opens
-          (subst (λ r. AllByRecursion (λ k. (S.ids c.args.shelf.now k).given ≡ false) (ids_in r)) (sym c.new-programme.ensures.captures) c.in_ok-captures.ensures.fresh)
-          (subst (λ r. AllByRecursion (λ k. ReadsCapture c.args.names.now (S.ids c.open_all.new.shelf k)) (ids_in r)) (sym c.new-programme.ensures.captures) c.in_ok-captures.ensures.named)
-          only.reads;
-    }
+    plays-opened c.args.names.now (S.ids c.args.shelf.now) (S.ids c.open_all.new.shelf) (S.ids c.play_feed.new.shelf) (ids_in c.new-programme.result.captures) c.open_all.ensures.opens
+    (subst (λ r. AllByRecursion (λ k. (S.ids c.args.shelf.now k).given ≡ false) (ids_in r)) (sym c.new-programme.ensures.captures) c.in_ok-captures.ensures.fresh)
+    (subst (λ r. AllByRecursion (λ k. ReadsCapture c.args.names.now (S.ids c.open_all.new.shelf k)) (ids_in r)) (sym c.new-programme.ensures.captures) c.in_ok-captures.ensures.named)
+    c.play_feed.ensures.only.reads
 
-pub returns-in_err-captures-clause-only : goal.returns-in_err-captures-clause-only
-returns-in_err-captures-clause-only g c = record {
-  others = λ t m away. c.open_all.ensures.files m;
-  opened = opens_weaker _ _ _ _ (λ i reads. inl reads) c.open_all.ensures.opens;
-}
-
-pub returns-in_default-clause-only : goal.returns-in_default-clause-only
-returns-in_default-clause-only g c = record { others = λ t m away. refl; opened = opens_none _ _ }
+pub returns-in_default-clause-opens : goal.returns-in_default-clause-opens
+returns-in_default-clause-opens g c = opens_none _ _
 
 pub returns-clause-faults : goal.returns-clause-faults
 returns-clause-faults g c = counts_after c.play_feed.result _ _ _ c.open_all.ensures.faults.none_fell c.play_feed.ensures.faults

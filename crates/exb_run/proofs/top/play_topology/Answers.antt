@@ -14,13 +14,18 @@ use Rattle.exb_inputs.specs.Checks.{AreAllGood, AreChecked, FirstFault}
 use Rattle.exb_run.specs.Checks.{CanBeRead}
 use Rattle.exb_inputs.specs.Inputs.{input_from, input_of}
 use Rattle.exb_run.specs.Outputs.{AreCutEagerly, HasPlayed, IsPlayed, OnlyOutputs, OnlyPlanned}
-use Rattle.exb_inputs.specs.Shelving.{ReadsCapture}
+use Rattle.exb_inputs.specs.Shelving.{EndsAt, ReadsCapture}
 use Rattle.exb_run.specs.Playing.{IsScript, mode_of}
+use Rattle.exb_run.specs.Order.{MakesInOrder}
+use Rattle.exb_run.specs.Plans.{Planned}
 use Rattle.exb_run.specs.Shelving.{IsOfRun}
 use Rattle.exb_run.specs.Answers.{mode_for}
 use Rattle.exb_inputs.proofs.FaultLemmas.{first_none, first_once}
 use Rattle.exb_run.proofs.Handing.{sound_captures, sound_script}
+use Rattle.exb_run.proofs.Orders.{makes_none, read_then_makes}
 use Rattle.exb_run.proofs.OpenLemmas.{opened_for}
+use Rattle.exb_run.proofs.Ordered.{captures_are_files, ends_own, err_is, ends_upto, files_for, plan_is, play_own}
+use Rattle.exb_run.specs.Opening.{plan_for}
 use Rattle.exb_run.proofs.Running.{files_same, fronts_by, only_by, played_by, if_ok_map}
 use Rattle.exb_run.proofs.top.play_topology.Goals as goal
 
@@ -56,6 +61,60 @@ returns-in_err-checked-clause-stops g c tells p fault first =
       | inr (inl read) ↦ inr (inl (ap Err read))
       | inr (inr memory) ↦ inr (inr (ap Err memory))
     ])
+
+-- ---- where a capture is at fault
+pub returns-in_err-checked-clause-files : goal.returns-in_err-checked-clause-files
+returns-in_err-checked-clause-files g c =
+    let S = g.S.Shelf in
+    captures_are_files c.args.options c.args.topology.now _ _
+    (subst (λ (names : List Named). Opens (ReadsCapture names) (S.ids c.args.shelf.now) (S.ids c.check_captures.new.shelf)) c.as_slice.ensures c.in_err-checked.ensures.opened)
+
+pub returns-in_err-checked-clause-made : goal.returns-in_err-checked-clause-made
+returns-in_err-checked-clause-made g c =
+    let x = c.in_err-checked.field-0.0 in
+    let made = err_from_is_err_and c.from_residual.result c.from_residual.ensures.1 in
+    rw (made.1, made.2) (makes_none (ReadsCapture c.as_slice.result.now) (plan_for c.args.topology.now c.args.options) x _ _ (λ i r. r.reads.reads) c.in_err-checked.ensures.opened c.in_err-checked.ensures.causes)
+
+pub returns-in_err-checked-clause-own : goal.returns-in_err-checked-clause-own
+returns-in_err-checked-clause-own g c =
+    let S = g.S.Shelf in
+    let file = S.file c.args.shelf.now in
+    let x = c.in_err-checked.field-0.0 in
+    let made = err_from_is_err_and c.from_residual.result c.from_residual.ensures.1 in
+    let ends = subst (λ (names : List Named). EndsAt S.tells names file (S.ids c.args.shelf.now) (S.ids c.check_captures.new.shelf) x) c.as_slice.ensures c.in_err-checked.ensures.ends in
+    rw (made.1, made.2) (λ p flaw is. ends_own S.tells c.args.topology.now.captures file _ _ x ends p flaw (err_is x _ is))
+
+pub returns-in_err-checked-clause-upto : goal.returns-in_err-checked-clause-upto
+returns-in_err-checked-clause-upto g c =
+    let S = g.S.Shelf in
+    let file = S.file c.args.shelf.now in
+    let x = c.in_err-checked.field-0.0 in
+    ends_upto S.tells c.args.topology.now.captures file _ _ x
+    (subst (λ (names : List Named). EndsAt S.tells names file (S.ids c.args.shelf.now) (S.ids c.check_captures.new.shelf) x) c.as_slice.ensures c.in_err-checked.ensures.ends)
+
+pub returns-in_err-plan-clause-files : goal.returns-in_err-plan-clause-files
+returns-in_err-plan-clause-files g c =
+    let S = g.S.Shelf in
+    captures_are_files c.args.options c.args.topology.now _ _
+    (subst (λ (names : List Named). Opens (ReadsCapture names) (S.ids c.args.shelf.now) (S.ids c.check_captures.new.shelf)) c.as_slice.ensures c.in_ok-checked.ensures.opened)
+
+pub returns-in_err-plan-clause-made : goal.returns-in_err-plan-clause-made
+returns-in_err-plan-clause-made g c = ?
+
+pub returns-in_err-plan-clause-upto : goal.returns-in_err-plan-clause-upto
+returns-in_err-plan-clause-upto g c tells p fault first =
+    let file = g.S.Shelf.file c.args.shelf.now in
+    let good : AreAllGood c.args.topology.now.captures file = subst (λ (names : List Named). AreAllGood names file) c.as_slice.ensures (c.in_ok-checked.ensures.good tells) in
+    absurd (first_none c.args.topology.now.captures file p fault good first)
+
+pub returns-clause-own : goal.returns-clause-own
+returns-clause-own g c = λ p flaw is. absurd (play_own c.play.result c.play.ensures.causes p flaw is)
+
+pub returns-clause-upto : goal.returns-clause-upto
+returns-clause-upto g c tells p fault first =
+    let file = g.S.Shelf.file c.args.shelf.now in
+    let good : AreAllGood c.args.topology.now.captures file = subst (λ (names : List Named). AreAllGood names file) c.as_slice.ensures (c.in_ok-checked.ensures.good tells) in
+    absurd (first_none c.args.topology.now.captures file p fault good first)
 
 pub returns-clause-stops : goal.returns-clause-stops
 returns-clause-stops g c tells p fault first =
@@ -110,6 +169,23 @@ returns-clause-played g c tells =
     (subst (λ (names : List Named). AreAllGood names file) c.as_slice.ensures (c.in_ok-checked.ensures.good tells))
     (subst (λ (names : List Named). Opens (ReadsCapture names) (S.ids c.args.shelf.now) (S.ids c.check_captures.new.shelf)) c.as_slice.ensures c.in_ok-checked.ensures.opened)
     (subst (λ (names : List Named). Opens (IsOfRun names plan) (S.ids c.check_captures.new.shelf) (S.ids c.play.new.shelf)) c.as_slice-4.ensures c.play.ensures.only.opened)
+
+pub returns-clause-files : goal.returns-clause-files
+returns-clause-files g c =
+    let S = g.S.Shelf in
+    let t = c.args.topology.now in
+    let plan = c.in_ok-plan.plan in
+    files_for plan c.args.options t _ _ _ c.in_ok-plan.ensures.options (c.in_ok-plan.ensures.prefix ∙ c.as_str.ensures) c.in_ok-plan.ensures.tree
+    (subst (λ (names : List Named). Opens (ReadsCapture names) (S.ids c.args.shelf.now) (S.ids c.check_captures.new.shelf)) c.as_slice.ensures c.in_ok-checked.ensures.opened)
+    (subst (λ (names : List Named). Opens (IsOfRun names plan) (S.ids c.check_captures.new.shelf) (S.ids c.play.new.shelf)) c.as_slice-4.ensures c.play.ensures.only.opened)
+
+pub returns-clause-made : goal.returns-clause-made
+returns-clause-made g c =
+    let S = g.S.Shelf in
+    let t = c.args.topology.now in
+    let plan = c.in_ok-plan.plan in
+    subst (λ (p : Planned). MakesInOrder p c.play.result (S.ids c.args.shelf.now) (S.ids c.play.new.shelf)) (plan_is plan c.args.options t c.in_ok-plan.ensures.options (c.in_ok-plan.ensures.prefix ∙ c.as_str.ensures) c.in_ok-plan.ensures.tree)
+    (read_then_makes (ReadsCapture c.as_slice.result.now) plan c.play.result _ _ _ (λ i r. r.reads.reads) c.in_ok-checked.ensures.opened c.play.ensures.only.opened.kept c.play.ensures.made)
 
 -- ---- where it ended early
 pub returns-clause-fronts : goal.returns-clause-fronts

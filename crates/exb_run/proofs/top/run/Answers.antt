@@ -3,8 +3,12 @@ use Rattle.std.specs.Prelude.{IfErr}
 use Rattle.exb_words.specs.Words.{Ask}
 use Rattle.exb_run.specs.Answers.{asked}
 use Rattle.exb_inputs.specs.Answers.{status_of, line_of}
+use Rattle.exb_run.specs.Opening.{OpensInOrder}
 use Rattle.exb_run.specs.Outcomes.{CanCome}
+use Rattle.exb_run.proofs.Headlines.{headline_by}
 use Rattle.exb_run.proofs.OpenLemmas.{opens_by_status}
+use Rattle.exb_run.proofs.Ordered.{opened_by_run}
+use Rattle.exb_run.proofs.Printing.{memory_is_one, prints_by}
 use Rattle.exb_run.proofs.Reporting.{can_be, cause_of, done_by, early_end, fault_says, front_by, is_missing, is_read, is_usage, made_is, none_by_usage, not_ten, of_input, read_line, run_by_write, status_cases, status_is, stop_not_one, stop_not_seven, stop_not_six, stops_with, text_by, usage_line, write_line, write_or_not}
 use Rattle.exb_run.proofs.Running.{Outcome}
 use Rattle.exb_run.proofs.Stopping.{can_not, failure_is}
@@ -17,7 +21,15 @@ returns-clause-ran g c = λ t e.
     (found.0, found.1)
 
 pub returns-clause-headline : goal.returns-clause-headline
-returns-clause-headline g c = λ t o e.
+returns-clause-headline g c = λ name options a t o e.
+    let n1 : c.report.result ≢ 1 = λ h. omega arith in
+    let n7 : c.report.result ≢ 7 = λ h. omega arith in
+    let found = done_by c.work-outcome.result (asked c.args.words.now) (g.S.Shelf.file c.args.shelf.now) (g.S.Shelf.file c.work-outcome.new.shelf) (c.work-outcome.ensures.came.done t) (sym (c.report.ensures.status n1 n7) ∙ e) in
+    headline_by (asked c.args.words.now) name options (g.S.Shelf.file c.args.shelf.now) (g.S.Shelf.file c.work-outcome.new.shelf) found.0 (g.O.Sink.text c.args.out.now) (g.O.Sink.text c.report.new.out) a found.1
+    (c.report.ensures.whole o n1 n7 ∙ ap (λ (xs : List ℕ). g.O.Sink.text c.args.out.now ++ xs) (sym found.2))
+
+pub returns-clause-done : goal.returns-clause-done
+returns-clause-done g c = λ t o e.
     let n1 : c.report.result ≢ 1 = λ h. omega arith in
     let n7 : c.report.result ≢ 7 = λ h. omega arith in
     let found = done_by c.work-outcome.result (asked c.args.words.now) (g.S.Shelf.file c.args.shelf.now) (g.S.Shelf.file c.work-outcome.new.shelf) (c.work-outcome.ensures.came.done t) (sym (c.report.ensures.status n1 n7) ∙ e) in
@@ -150,6 +162,15 @@ returns-clause-front g c = λ t o.
     front_by c.work-outcome.result (asked c.args.words.now) (g.S.Shelf.file c.args.shelf.now) (g.S.Shelf.file c.work-outcome.new.shelf) (g.S.Shelf.faults c.args.shelf.now) (g.S.Shelf.faults c.work-outcome.new.shelf) _ _ (c.work-outcome.ensures.came.done t)
     (c.work-outcome.ensures.came.cause t) c.work-outcome.ensures.faults.read c.work-outcome.ensures.faults.write (c.report.ensures.front o)
 
+pub returns-clause-prints : goal.returns-clause-prints
+returns-clause-prints g c = λ o.
+    prints_by c.work-outcome.result (asked c.args.words.now) (g.S.Shelf.faults c.args.shelf.now) (g.S.Shelf.faults c.work-outcome.new.shelf) c.report.result _ _ c.work-outcome.ensures.came.can_come c.work-outcome.ensures.came.says
+    c.work-outcome.ensures.faults c.report.ensures.status (c.report.ensures.whole o) (c.report.ensures.front o) (c.report.ensures.short o)
+
+pub returns-clause-out_of_memory : goal.returns-clause-out_of_memory
+returns-clause-out_of_memory g c = λ o.
+    memory_is_one c.work-outcome.result (asked c.args.words.now) c.report.result (g.O.Sink.text c.args.out.now) (g.O.Sink.text c.report.new.out) c.work-outcome.ensures.came.says (c.report.ensures.front o) (c.report.ensures.short o)
+
 -- ---- what stays, and what is opened
 pub returns-clause-early : goal.returns-clause-early
 returns-clause-early g c = λ n0 n1 n6 n7 n10.
@@ -158,6 +179,14 @@ returns-clause-early g c = λ n0 n1 n6 n7 n10.
 
 pub returns-clause-opens : goal.returns-clause-opens
 returns-clause-opens g c = opens_by_status _ (asked c.args.words.now) (g.S.Shelf.file c.args.shelf.now) c.report.result c.work-outcome.result _ _ c.report.ensures.status c.work-outcome.ensures.opens
+
+pub returns-clause-order : goal.returns-clause-order
+returns-clause-order g c = λ name options a.
+    let o = c.work-outcome.result in
+    opened_by_run g.S.Shelf.tells g.O.Sink.tells name options o c.report.result (g.S.Shelf.file c.args.shelf.now) _ _ (g.O.Sink.text c.args.out.now) (g.O.Sink.text c.report.new.out) c.report.ensures.status
+    (λ p n1 n7. c.report.ensures.whole p n1 n7) (subst (λ (b : Option Ask). IfErr o (CanCome b)) a c.work-outcome.ensures.came.can_come)
+    (can_be (asked c.args.words.now) o c.work-outcome.ensures.came.can_come)
+    (subst (λ (b : Option Ask). OpensInOrder g.S.Shelf.tells b o (g.S.Shelf.file c.args.shelf.now) (g.S.Shelf.ids c.args.shelf.now) (g.S.Shelf.ids c.work-outcome.new.shelf)) a c.work-outcome.ensures.order)
 
 -- ---- completeness
 pub returns-clause-complete : goal.returns-clause-complete

@@ -1,8 +1,12 @@
-use Rattle.std.proofs.Common.{subst}
+use Rattle.std.proofs.Common.{◌+◌, inl, inr, ℕ, subst}
 use Rattle.std.proofs.lemmas.Result.{err_from_is_err_and}
 use Rattle.exb_shelf.specs.Files.{Files}
 use Rattle.exb_inputs.specs.declared.fault.Fault.{Fault}
+use Rattle.exb_shelf.specs.Shelf.{Opens}
+use Rattle.exb_inputs.specs.Checks.{FirstFault}
+use Rattle.exb_inputs.specs.Shelving.{ReadsBelow}
 use Rattle.exb_run.proofs.OpenLemmas.{run_refused_opens, opens_by_run}
+use Rattle.exb_run.proofs.Ordered.{run_opens}
 use Rattle.exb_run.proofs.RunLemmas.{PlaysOut, came_run_refused, came_played}
 use Rattle.exb_run.proofs.Running.{files_same}
 use Rattle.exb_run.proofs.top.run_topology.Goals as goal
@@ -32,6 +36,7 @@ returns-clause-came g c =
     (subst (λ (k : Files). PlaysOut S.tells c.args.options t o k h) (files_same f (S.file c.read_topology.new.shelf) found.files) (record {
       good = is.good;
       done = is.done;
+      says = is.says;
       cause = is.cause;
       stops = is.stops;
       causes = is.causes;
@@ -49,3 +54,18 @@ returns-clause-opens g c =
     let read = S.file c.read_topology.new.shelf in
     opens_by_run S.tells f c.args.name.now _ _ found.opened c.args.options c.play_topology.result c.in_ok-topology.topology read _ found.read
     (files_same f read found.files) c.play_topology.ensures.causes c.play_topology.ensures.opened c.play_topology.ensures.played
+
+pub returns-in_err-topology-clause-order : goal.returns-in_err-topology-clause-order
+returns-in_err-topology-clause-order g c =
+    let p = err_from_is_err_and c.from_residual.result c.from_residual.ensures.1 in
+    rw (p.1, p.2) (inl (c.in_err-topology.ensures.causes, c.in_err-topology.ensures.opened))
+
+pub returns-clause-order : goal.returns-clause-order
+returns-clause-order g c =
+    let S = g.S.Shelf in
+    let t = c.in_ok-topology.topology in
+    let found = c.in_ok-topology.ensures in
+    let is = c.play_topology.ensures in
+    inr (run_opens S.tells c.args.name.now c.args.options c.play_topology.result t (S.file c.args.shelf.now) _ _ _ found.opened found.read is.files is.made is.own
+    (subst (λ (k : Files). S.tells → (p : ℕ) (fault : Fault) → FirstFault t.captures k p fault → Opens (ReadsBelow t.captures (p + 1)) (S.ids c.read_topology.new.shelf) (S.ids c.play_topology.new.shelf))
+    (files_same (S.file c.args.shelf.now) (S.file c.read_topology.new.shelf) found.files) is.upto))

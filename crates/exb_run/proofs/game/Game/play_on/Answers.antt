@@ -4,6 +4,7 @@ use Rattle.exb_model.specs.History.{◌then◌}
 use Rattle.exb_model.specs.Texts.{summary_line}
 use Rattle.exb_schedule.specs.Worlds.{network_of}
 use Rattle.exb_text.specs.declared.output.Output.TheVariants as output
+use Rattle.exb_text.specs.Tallies.{counts_of}
 use Rattle.exb_run.specs.Outputs.{output_name, output_text}
 use Rattle.exb_run.specs.Plans.{kind_at, output_count}
 use Rattle.exb_run.specs.Playing.{counts_text, mode_of, text_so_far}
@@ -12,6 +13,7 @@ use Rattle.exb_run.proofs.Ending.{counts-end, eagerly, legal, texts-whole, trace
 use Rattle.exb_run.proofs.Filling.{weaker}
 use Rattle.exb_run.proofs.Telling.{counts_written, if_ok_both}
 use Rattle.exb_run.proofs.Keeping.{goes-writing}
+use Rattle.exb_run.proofs.Running.{if_ok_map}
 use Rattle.exb_run.proofs.CuttingOff.{cut_at_end}
 use Rattle.exb_run.proofs.game.Game.play_on.Goals as goal
 
@@ -56,3 +58,6 @@ pub returns-in_err-play_all-clause-never : goal.returns-in_err-play_all-clause-n
 returns-in_err-play_all-clause-never g c t =
     let e = err_from_is_err_and c.from_residual.result c.from_residual.ensures.1 in
     rw (e.1, e.2) (c.in_err-play_all.ensures.never t)
+
+pub returns-clause-says : goal.returns-clause-says
+returns-clause-says g c = if_ok_map c.end.result (λ line says. (counts_of c.play_all.new.self.counted.tally, says)) c.end.ensures.line

@@ -1,0 +1,5 @@
+use Rattle.exb_inputs.proofs.LineLemmas.{none_printed, some_line}
+use Rattle.exb_inputs.proofs.reporting.print_fault.Goals as goal
+
+pub returns-in-Err-clause-short : goal.returns-in-Err-clause-short
+returns-in-Err-clause-short g c = λ t. (0, some_line c.args.fault.now, none_printed _ _)

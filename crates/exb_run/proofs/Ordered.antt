@@ -1,0 +1,194 @@
+-- What a run opened and made, in order.
+use Rattle.std.proofs.Common.{◌≡◌, ◌≢◌, ◌<◌, ◌≤◌, ◌+◌, ◌++◌, ◌∙◌, ◌⊎◌, inl, inr, ℕ, true, List, Option, Some, None, Result, Ok, Err, ap, sym, refl, arith, subst}
+use Rattle.std.proofs.lemmas.Bool.{cases_lt}
+use Rattle.std.specs.Prelude.{IfErr, IsErrOf}
+use Rattle.exb_model.specs.Setup.{shape_of}
+use Rattle.exb_model.specs.Tree.{Shape}
+use Rattle.exb_shelf.specs.Files.{Files}
+use Rattle.exb_shelf.specs.Shelf.{Id, IsReadingOf, Opens}
+use Rattle.exb_shelf.proofs.IdLemmas.{opens_then, opens_weaker}
+use Rattle.exb_tables.specs.declared.rows.Named.{Named}
+use Rattle.exb_topology.specs.declared.topology.Topology.{Topology}
+use Rattle.exb_words.specs.declared.asked.Options.{Options}
+use Rattle.exb_words.specs.Words.{Ask, Run, Check, Make}
+use Rattle.exb_inputs.specs.declared.fault.Fault.{Fault}
+use Rattle.exb_inputs.specs.declared.fault.Fault.TheVariants.{Usage, Missing, Topology as BadTopology, Capture, Changed, Output, TooLarge, BadLine, Illegal, Read, Write, Memory}
+use Rattle.exb_inputs.specs.declared.fault.Flaw.{Flaw}
+use Rattle.exb_inputs.specs.Answers.{CanBe, HoldsTopology, fault_line, fault_status, line_of, status_of}
+use Rattle.exb_inputs.specs.Checks.{FirstFault, IsGoodNamed}
+use Rattle.exb_inputs.specs.Inputs.{is_named, name_of}
+use Rattle.exb_inputs.specs.Reading.{IsOfPlaying, IsOfTopology}
+use Rattle.exb_inputs.specs.Shelving.{EndsAt, ReadsBelow, ReadsCapture}
+use Rattle.exb_inputs.proofs.EndingAt.{opened_higher}
+use Rattle.exb_inputs.proofs.FaultLemmas.{named_not}
+use Rattle.exb_run.specs.Order.{IsLate, MakesInOrder}
+use Rattle.exb_run.specs.Opening.{IsFileOf, IsRefusedEarly, OpenedInOrder, OpensInOrder, ReadsUpTo, RunOpened, RunOpens, WritesOutput, plan_for}
+use Rattle.exb_run.specs.Plans.{Planned, output_count}
+use Rattle.exb_run.specs.Shelving.{IsOfPlay, IsOfRun, WritesPlanned}
+use Rattle.exb_run.proofs.Orders.{read_then_makes}
+use Rattle.exb_run.proofs.OpenLemmas.{planned_is_output}
+use Rattle.exb_run.proofs.Running.{Outcome}
+
+-- ---- one topology
+pub plan_is : (plan : Planned) (options : Options) (t : Topology) → plan.options ≡ options → plan.prefix ≡ t.prefix → plan.tree ≡ shape_of t.setup → plan ≡ plan_for t options
+plan_is plan options t same prefix tree =
+    ap (λ (o : Options). record { tree = plan.tree; prefix = plan.prefix; options = o }) same
+    ∙ ap (λ (p : List ℕ). record { tree = plan.tree; prefix = p; options = options }) prefix
+    ∙ ap (λ (s : Shape). record { tree = s; prefix = t.prefix; options = options }) tree
+
+-- captures are opened, and then these again and outputs
+pub files_for : (plan : Planned) (options : Options) (t : Topology) (a b c : ℕ → Id) → plan.options ≡ options → plan.prefix ≡ t.prefix → plan.tree ≡ shape_of t.setup
+    → Opens (ReadsCapture t.captures) a b → Opens (IsOfRun t.captures plan) b c → Opens (IsFileOf options t) a c
+files_for plan options t a b c same prefix tree read played =
+    opens_then (IsFileOf options t) a b c
+    (opens_weaker (ReadsCapture t.captures) (IsFileOf options t) a b (λ i reads. inl reads) read)
+    (opens_weaker (IsOfRun t.captures plan) (IsFileOf options t) b c (λ i opened. elim opened [
+      | inl reads ↦ inl reads
+      | inr writes ↦ inr (planned_is_output plan options t same prefix tree i writes)
+    ]) played)
+
+pub captures_are_files : (options : Options) (t : Topology) (a b : ℕ → Id) → Opens (ReadsCapture t.captures) a b → Opens (IsFileOf options t) a b
+captures_are_files options t a b opens = opens_weaker (ReadsCapture t.captures) (IsFileOf options t) a b (λ i reads. inl reads) opens
+
+-- the fault of a result
+pub err_is : (x y : Fault) → ◌≡◌ {A = Outcome} (Err x) (Err y) → x ≡ y
+err_is x y e = cc
+
+-- checking ends no later than at the first fault
+pub ends_upto : (tells : Type 0) (names : List Named) (file : Files) (a b : ℕ → Id) (x : Fault) → EndsAt tells names file a b x → tells → (p : ℕ) (fault : Fault) → FirstFault names file p fault → Opens (ReadsBelow names (p + 1)) a b
+ends_upto tells names file a b x ends told p fault first = elim (cases_lt p ends.port) [
+  | inl low ↦ absurd (named_not p (name_of names p) file fault (ends.before told p low) first.here)
+  | inr high ↦ opened_higher names (ends.port + 1) (p + 1) a b (omega arith) ends.opened
+]
+
+pub ends_own : (tells : Type 0) (names : List Named) (file : Files) (a b : ℕ → Id) (x : Fault) → EndsAt tells names file a b x → (p : ℕ) (flaw : Flaw) → x ≡ Capture p flaw → (is_named names p ≡ true) × Opens (ReadsBelow names (p + 1)) a b
+ends_own tells names file a b x ends p flaw is =
+    let own = ends.own p flaw is in
+    (ap (is_named names) own.0 ∙ own.1, subst (λ (n : ℕ). Opens (ReadsBelow names (n + 1)) a b) (sym own.0) ends.opened)
+
+-- none is one of a capture, where captures are played
+pub play_own : (o : Outcome) → IfErr o IsOfPlay → (p : ℕ) (flaw : Flaw) → IsErrOf o (Capture p flaw) → ⊥
+play_own o is p flaw e = subst (λ (q : Outcome). IfErr q IsOfPlay) e is
+
+-- ---- the whole
+module _ (tells : Type 0) (name : List ℕ) (options : Options) (o : Outcome) (t : Topology) (file : Files) (a b c : ℕ → Id) (read : Opens (IsReadingOf name) a b) where
+  upto : (p : ℕ) → Opens (ReadsBelow t.captures (p + 1)) b c → Opens (ReadsUpTo name t p) a c
+  upto p opens =
+      opens_then (ReadsUpTo name t p) a b c (opens_weaker (IsReadingOf name) (ReadsUpTo name t p) a b (λ i reads. inl reads) read)
+      (opens_weaker (ReadsBelow t.captures (p + 1)) (ReadsUpTo name t p) b c (λ i reads. inr reads) opens)
+
+  pub run_opens : (tells → HoldsTopology name file t) → Opens (IsFileOf options t) b c → MakesInOrder (plan_for t options) o b c
+      → ((p : ℕ) (flaw : Flaw) → IsErrOf o (Capture p flaw) → (is_named t.captures p ≡ true) × Opens (ReadsBelow t.captures (p + 1)) b c)
+      → (tells → (p : ℕ) (fault : Fault) → FirstFault t.captures file p fault → Opens (ReadsBelow t.captures (p + 1)) b c)
+      → RunOpens tells name options o file a c
+  run_opens holds opened made own first = record {
+    topology = t;
+    holds = holds;
+    opened =
+        opens_then (λ i. IsReadingOf name i ⊎ IsFileOf options t i) a b c (opens_weaker (IsReadingOf name) (λ i. IsReadingOf name i ⊎ IsFileOf options t i) a b (λ i reads. inl reads) read)
+        (opens_weaker (IsFileOf options t) (λ i. IsReadingOf name i ⊎ IsFileOf options t i) b c (λ i is. inr is) opened);
+    made = read_then_makes (IsReadingOf name) (plan_for t options) o a b c (λ i r. r.reads) read opened.kept made;
+    own = λ p flaw is. let found = own p flaw is in (found.0, upto p found.1);
+    first = λ told p fault is. upto p (first told p fault is);
+  }
+
+-- ---- by the status
+topology_status : (x : Fault) → IsOfTopology x → (fault_status x ≢ 0) × (fault_status x ≢ 4) × (fault_status x ≢ 10)
+topology_status Usage is = absurd is
+topology_status (Missing name) is = (λ e. omega arith, λ e. omega arith, λ e. omega arith)
+topology_status (BadTopology fault) is = (λ e. omega arith, λ e. omega arith, λ e. omega arith)
+topology_status (Capture p flaw) is = absurd is
+topology_status (Changed p at) is = absurd is
+topology_status (Output p broke) is = absurd is
+topology_status (TooLarge what) is = absurd is
+topology_status (BadLine what n) is = absurd is
+topology_status (Illegal r) is = absurd is
+topology_status Read is = (λ e. omega arith, λ e. omega arith, λ e. omega arith)
+topology_status Write is = absurd is
+topology_status Memory is = (λ e. omega arith, λ e. omega arith, λ e. omega arith)
+
+early_status : (o : Outcome) → IsRefusedEarly o → (status_of o ≢ 0) × (status_of o ≢ 4) × (status_of o ≢ 10)
+early_status (Ok line) early = absurd early
+early_status (Err x) early = topology_status x early
+
+late_of : (o : Outcome) → (status_of o ≡ 0) ⊎ (status_of o ≡ 10) → IsLate o
+late_of (Ok line) is = tt
+late_of (Err Usage) is = elim is [ inl e ↦ omega arith | inr e ↦ omega arith ]
+late_of (Err (Missing name)) is = elim is [ inl e ↦ omega arith | inr e ↦ omega arith ]
+late_of (Err (BadTopology fault)) is = elim is [ inl e ↦ omega arith | inr e ↦ omega arith ]
+late_of (Err (Capture p flaw)) is = elim is [ inl e ↦ omega arith | inr e ↦ omega arith ]
+late_of (Err (Changed p at)) is = tt
+late_of (Err (Output p broke)) is = elim is [ inl e ↦ omega arith | inr e ↦ omega arith ]
+late_of (Err (TooLarge what)) is = elim is [ inl e ↦ omega arith | inr e ↦ omega arith ]
+late_of (Err (BadLine what n)) is = elim is [ inl e ↦ omega arith | inr e ↦ omega arith ]
+late_of (Err (Illegal r)) is = elim is [ inl e ↦ omega arith | inr e ↦ omega arith ]
+late_of (Err Read) is = elim is [ inl e ↦ omega arith | inr e ↦ omega arith ]
+late_of (Err Write) is = elim is [ inl e ↦ omega arith | inr e ↦ omega arith ]
+late_of (Err Memory) is = elim is [ inl e ↦ omega arith | inr e ↦ omega arith ]
+
+is_capture : (o : Outcome) → IfErr o (λ x. IsOfTopology x ⊎ IsOfPlaying x) → status_of o ≡ 4 → (p : ℕ) × (flaw : Flaw) × (o ≡ Err (Capture p flaw))
+is_capture (Ok line) come e = absurd (omega arith)
+is_capture (Err Usage) come e = absurd (omega arith)
+is_capture (Err (Missing name)) come e = absurd (omega arith)
+is_capture (Err (BadTopology fault)) come e = absurd (omega arith)
+is_capture (Err (Capture p flaw)) come e = (p, flaw, refl)
+is_capture (Err (Changed p at)) come e = absurd (omega arith)
+is_capture (Err (Output p broke)) (inl is) e = absurd is
+is_capture (Err (Output p broke)) (inr is) e = absurd is
+is_capture (Err (TooLarge what)) (inl is) e = absurd is
+is_capture (Err (TooLarge what)) (inr is) e = absurd is
+is_capture (Err (BadLine what n)) come e = absurd (omega arith)
+is_capture (Err (Illegal r)) come e = absurd (omega arith)
+is_capture (Err Read) come e = absurd (omega arith)
+is_capture (Err Write) come e = absurd (omega arith)
+is_capture (Err Memory) come e = absurd (omega arith)
+
+is_changed : (o : Outcome) → status_of o ≡ 10 → (p : ℕ) × (at : ℕ) × (o ≡ Err (Changed p at))
+is_changed (Ok line) e = absurd (omega arith)
+is_changed (Err Usage) e = absurd (omega arith)
+is_changed (Err (Missing name)) e = absurd (omega arith)
+is_changed (Err (BadTopology fault)) e = absurd (omega arith)
+is_changed (Err (Capture p flaw)) e = absurd (omega arith)
+is_changed (Err (Changed p at)) e = (p, at, refl)
+is_changed (Err (Output p broke)) e = absurd (omega arith)
+is_changed (Err (TooLarge what)) e = absurd (omega arith)
+is_changed (Err (BadLine what n)) e = absurd (omega arith)
+is_changed (Err (Illegal r)) e = absurd (omega arith)
+is_changed (Err Read) e = absurd (omega arith)
+is_changed (Err Write) e = absurd (omega arith)
+is_changed (Err Memory) e = absurd (omega arith)
+
+module _ (tells printing : Type 0) (name : List ℕ) (options : Options) (o : Outcome) (status : ℕ) (file : Files) (given ids : ℕ → Id) (before after : List ℕ) (is : status ≢ 1 → status ≢ 7 → status ≡ status_of o)
+    (says : printing → status ≢ 1 → status ≢ 7 → after ≡ before ++ line_of o) (come : IfErr o (λ x. IsOfTopology x ⊎ IsOfPlaying x)) (can : (x : Fault) → o ≡ Err x → CanBe x) where
+  own_status : (n : ℕ) → n ≢ 1 → n ≢ 7 → status ≡ n → status_of o ≡ n
+  own_status n n1 n7 e = sym (is (λ h. n1 (sym e ∙ h)) (λ h. n7 (sym e ∙ h))) ∙ e
+
+  all_said : (n : ℕ) → n ≢ 1 → n ≢ 7 → status ≡ n → printing → after ≡ before ++ line_of o
+  all_said n n1 n7 e p = says p (λ h. n1 (sym e ∙ h)) (λ h. n7 (sym e ∙ h))
+
+  by_run : RunOpens tells name options o file given ids → RunOpened tells printing name options status file given ids before after
+  by_run r = record {
+    topology = r.topology;
+    holds = r.holds;
+    opened = r.opened;
+    count = r.made.count;
+    made = r.made.made;
+    all = λ which. r.made.all (late_of o (elim which [
+      | inl e ↦ inl (own_status 0 (λ h. omega arith) (λ h. omega arith) e)
+      | inr e ↦ inr (own_status 10 (λ h. omega arith) (λ h. omega arith) e)
+    ]));
+    four = λ e.
+        let found = is_capture o come (own_status 4 (λ h. omega arith) (λ h. omega arith) e) in
+        let own = r.own found.0 found.1 found.2 in
+        (found.0, found.1, own.0, own.1, λ p. all_said 4 (λ h. omega arith) (λ h. omega arith) e p ∙ ap (λ (q : Outcome). before ++ line_of q) found.2);
+    ten = λ e.
+        let found = is_changed o (own_status 10 (λ h. omega arith) (λ h. omega arith) e) in
+        (found.0, found.1, can (Changed found.0 found.1) found.2, λ p. all_said 10 (λ h. omega arith) (λ h. omega arith) e p ∙ ap (λ (q : Outcome). before ++ line_of q) found.2);
+    first = r.first;
+  }
+
+  pub opened_by_run : (IsRefusedEarly o × Opens (IsReadingOf name) given ids) ⊎ RunOpens tells name options o file given ids → OpenedInOrder tells printing name options status file given ids before after
+  opened_by_run (inl (early, opens)) =
+      let other = early_status o early in
+      inl ((λ e. other.0 (own_status 0 (λ h. omega arith) (λ h. omega arith) e)), (λ e. other.1 (own_status 4 (λ h. omega arith) (λ h. omega arith) e)), (λ e. other.2 (own_status 10 (λ h. omega arith) (λ h. omega arith) e)), opens)
+  opened_by_run (inr r) = inr (by_run r)
