@@ -311,10 +311,10 @@ module _ (s : ℕ) (two : s ≢ 2) (three : s ≢ 3) (four : s ≢ 4) (five : s 
   lines_status read file what name (lines.Bad n) x bad is h = twelve (sym h ∙ ap fault_status is)
 
   audit_stop_status : (c : Scope) (file : Files) (x : Fault) → StopsAudit c file x → fault_status x ≢ s
-  audit_stop_status c file x (inl (f, first, is)) = frames_status f x (first_of_files _ file most _ f first) (inl is)
-  audit_stop_status c file x (inr (captures, inl (f, first, is))) = frames_status f x (first_of_files _ file most _ f first) (inr is)
-  audit_stop_status c file x (inr (captures, inr (outputs, inl (f, bad, is)))) = lines_status entry_in (file (journal_name c.prefix)) part.Journal (journal_name c.prefix) f x bad is
-  audit_stop_status c file x (inr (captures, inr (outputs, inr (entries, inl (f, bad, is))))) = lines_status line_in (file (trace_name c.prefix)) part.Trace (trace_name c.prefix) f x bad is
+  audit_stop_status c file x (inl (f, first, is)) h = frames_status f x (first_of_files _ file most _ f first) (inl is) h
+  audit_stop_status c file x (inr (captures, inl (f, first, is))) h = frames_status f x (first_of_files _ file most _ f first) (inr is) h
+  audit_stop_status c file x (inr (captures, inr (outputs, inl (f, bad, is)))) h = lines_status entry_in (file (journal_name c.prefix)) part.Journal (journal_name c.prefix) f x bad is h
+  audit_stop_status c file x (inr (captures, inr (outputs, inr (entries, inl (f, bad, is))))) h = lines_status line_in (file (trace_name c.prefix)) part.Trace (trace_name c.prefix) f x bad is h
   audit_stop_status c file x (inr (captures, inr (outputs, inr (entries, inr (seen, is_seen, r, lowest, is))))) h = eleven (sym h ∙ ap fault_status is)
 
   pub stop_status : (a : Option Ask) (f : Files) (x : Fault) → Stops a f x → fault_status x ≢ s

@@ -87,6 +87,7 @@ module _ (tells : Type 0) (name : List ℕ) (f g : Files) (x : Fault) (is : tell
   came_audit_refused = record {
     unaccepted = λ none. absurd (cc);
     done = λ t. tt;
+    says = tt;
     cause = λ t. elim (is t) [
       | inl refused ↦ inl (inl refused)
       | inr other ↦ inr other
