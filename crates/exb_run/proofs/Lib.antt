@@ -31,3 +31,4 @@ pub mod ShelvingLemmas
 pub mod Orders
 pub mod OpenLemmas
 pub mod Ordered
+pub mod SummingUp

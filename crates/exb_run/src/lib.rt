@@ -8,6 +8,7 @@ mod check;
 mod counted;
 mod feed;
 mod game;
+pub mod laws;
 mod making;
 mod outputs;
 mod plan;

@@ -1,0 +1,14 @@
+//! What the outputs of a run say together. A law is a function that does nothing and ensures it.
+ghost use Rattle.exb_run.specs.Laws.{CountersSumUp};
+
+use exb_counters::laws::counts_of_inputs_are_the_summary;
+use exb_topology::laws::read_is_sound;
+
+/// The counters of a run sum up to its summary: relayed and ignored of all external ports together are its arrivals, and left of
+/// all ports its left. It is said of what status 0 names: a topology that was read, and a history that its input allows.
+pub fn counters_sum_up()
+    ensures { CountersSumUp }
+{
+    read_is_sound();
+    counts_of_inputs_are_the_summary();
+}
