@@ -26,6 +26,7 @@ use Rattle.exb_run.proofs.Orders.{makes_none, read_then_makes}
 use Rattle.exb_run.proofs.OpenLemmas.{opened_for}
 use Rattle.exb_run.proofs.Ordered.{captures_are_files, ends_own, err_is, ends_upto, files_for, plan_is, play_own}
 use Rattle.exb_run.specs.Opening.{plan_for}
+use Rattle.exb_inputs.specs.declared.fault.Fault.TheVariants.{Memory}
 use Rattle.exb_run.proofs.Running.{files_same, fronts_by, only_by, played_by, if_ok_map}
 use Rattle.exb_run.proofs.top.play_topology.Goals as goal
 
@@ -99,7 +100,9 @@ returns-in_err-plan-clause-files g c =
     (subst (λ (names : List Named). Opens (ReadsCapture names) (S.ids c.args.shelf.now) (S.ids c.check_captures.new.shelf)) c.as_slice.ensures c.in_ok-checked.ensures.opened)
 
 pub returns-in_err-plan-clause-made : goal.returns-in_err-plan-clause-made
-returns-in_err-plan-clause-made g c = ?
+returns-in_err-plan-clause-made g c =
+    let made = err_from_is_err_and c.from_residual-in_err-plan.result c.from_residual-in_err-plan.ensures.1 in
+    rw (made.1, made.2) (makes_none (ReadsCapture c.as_slice.result.now) (plan_for c.args.topology.now c.args.options) Memory _ _ (λ i r. r.reads.reads) c.in_ok-checked.ensures.opened tt)
 
 pub returns-in_err-plan-clause-upto : goal.returns-in_err-plan-clause-upto
 returns-in_err-plan-clause-upto g c tells p fault first =
