@@ -74,7 +74,7 @@ def spoken(part):
 
 def promises(crates):
     """Each paragraph that begins with crates in bold speaks of them and of what it names beside them."""
-    page = text('docs/PROMISES.md')
+    page = text('docs/PROMISES.md') + '\n' + text('docs/promises-of-parts.md')
     everything = set().union(*map(sources, crates))
     for part in re.split(r'\n(?=\*\*`|#)', page):
         mine = [it for it in re.findall(r'`(\w+)`', part) if it in crates]
@@ -92,7 +92,7 @@ def promises(crates):
 
 def definitions(crates):
     everything = set().union(*map(sources, crates)) | {'specs', 'src', 'proofs', 'antt', 'must', 'fail', 'MODULE', 'FUNCTION'}
-    for page in 'docs/DEFINITIONS.md', 'docs/ARCHITECTURE.md', 'docs/SETTLING.md':
+    for page in 'docs/DEFINITIONS.md', 'docs/definitions-of-the-tree.md', 'docs/glossary.md', 'docs/ARCHITECTURE.md', 'docs/SETTLING.md':
         yield from (f'{page}: no {it} anywhere' for it in spoken(text(page)) if it not in everything)
 
 

@@ -69,7 +69,7 @@ const CASES: [Case; 4] = [
 ];
 
 /// Numbers and names at their limits, and beyond.
-const LIMITS: [(&str, &str); 27] = [
+const LIMITS: [(&str, &str); 32] = [
     ("make 0", "make 0"),
     ("make 00000000000000000000", "make 0"),
     ("make 000000000000000000000", "none"),
@@ -96,6 +96,11 @@ const LIMITS: [(&str, &str); 27] = [
     ("run --counters t --counters", "none"),
     ("run t --counters=1", "none"),
     ("check --counters t", "none"),
+    ("audit t", "audit <t>"),
+    ("audit -- -t", "audit <-t>"),
+    ("audit", "none"),
+    ("audit t t", "none"),
+    ("audit --trace t", "none"),
     ("run t --seed=--trace", "none"),
     ("run \u{2d}\u{301}", "none"),
     ("run \u{2212}t", "run <\u{2212}t>"),
@@ -131,6 +136,9 @@ fn asked_text(rt: &impl Abort, alloc: Global, asked: Option<Asked<'_>>) -> Strin
             format!(in alloc; "check <{topology}>").expect(rt, "memory")
         }
         Some(Asked::Make { number }) => format!(in alloc; "make {number}").expect(rt, "memory"),
+        Some(Asked::Audit { topology }) => {
+            format!(in alloc; "audit <{topology}>").expect(rt, "memory")
+        }
         Some(Asked::Run { topology, options }) => run_text(rt, alloc, topology, options),
     }
 }

@@ -1,0 +1,68 @@
+-- What a frame that arrives leaves.
+use Rattle.std.proofs.Common.{◌≡◌, ℕ, ◌-◌, ◌≤◌, ◌++◌, ◌==◌, List, [], ◌∷◌, length, take, drop, map, Some, refl, ap, sym, ◌∙◌, subst, arith, inl, inr}
+use Rattle.std.specs.Prelude.{Result, Ok, Err, OnOk}
+use Rattle.std.proofs.lemmas.Bool.{cases_Bool}
+use Rattle.std.proofs.lemmas.List.{length-drop, take_all}
+use Rattle.exb_resting.specs.Flight.Showing.{left_at}
+use Rattle.exb_nets.specs.NetHistory.{Crossing, crosses}
+use Rattle.exb_model.specs.Input.{Arrival}
+use Rattle.exb_machine.specs.Worlds.{Arrive, Left}
+use Rattle.exb_network.specs.declared.log.Left.{Left as Leaving}
+use Rattle.exb_network.specs.Networks.{Network}
+use Rattle.exb_network.specs.Worlds.{all_left}
+use Rattle.exb_schedule.specs.Segments.{IsPlayedOut}
+use Rattle.exb_net.specs.declared.crossing.Crossing.{Crossing as Queued}
+use Rattle.exb_net.specs.declared.ends.WiredEnd.{WiredEnd}
+use Rattle.exb_net.specs.Crossings.{all_crossing}
+use Rattle.exb_net.specs.Ends.{next_in, sent_over, with_next}
+use Rattle.exb_net.specs.Nodes.{HasEntered}
+
+tail : List Left → List Left
+tail [] = []
+tail (x ∷ xs) = xs
+
+nil_cons : {A : Type 0} {x : A} {xs : List A} → [] ≡ x ∷ xs → ⊥
+nil_cons e = cc
+
+since : (xs ys : List Leaving) (gone : List Left) → all_left ys ≡ all_left xs ++ gone → all_left (drop (length xs) ys) ≡ gone
+unfolding tail
+since [] ys gone e = e
+since (x ∷ xs) [] gone e = absurd (nil_cons e)
+since (x ∷ xs) (y ∷ ys) gone e = since xs ys gone (ap tail e)
+
+pub entered : (a : Arrival) (ends : List WiredEnd) (old new : Network) (before after : List Queued) → IsPlayedOut (Arrive a ∷ []) old new → all_crossing after ≡ all_crossing before ++ sent_over (all_left (drop (length old.log.left) new.log.left)) ends →
+    HasEntered a ends old new before after
+entered a ends old new before after played sent = record { played = played; sent = λ gone e. sent ∙ ap (λ (xs : List Left). all_crossing before ++ sent_over xs ends) (since old.log.left new.log.left gone e) }
+
+rest_of : (n : ℕ) (xs : List Leaving) → take (length xs - n) (drop n xs) ≡ drop n xs
+rest_of n xs = take_all (length xs - n) (drop n xs) (let e = length-drop n xs in omega (arith, e))
+
+pub entered_so : (a : Arrival) (ends now : List WiredEnd) (old new : Network) (was is : List Leaving) (before after : List Queued) → was ≡ old.log.left → is ≡ new.log.left → now ≡ ends → IsPlayedOut (Arrive a ∷ []) old new →
+    all_crossing after ≡ all_crossing before ++ sent_over (all_left (take (length is - length was) (drop (length was) is))) now → HasEntered a ends old new before after
+entered_so a ends now old new was is before after e f g played sent =
+    entered a ends old new before after played
+    (sent
+    ∙ (ap (λ (xs : List Leaving). all_crossing before ++ sent_over (all_left xs) now) (rest_of (length was) is)
+    ∙ (ap (λ (xs : List WiredEnd). all_crossing before ++ sent_over (all_left (drop (length was) is)) xs) g
+    ∙ (ap (λ (xs : List Leaving). all_crossing before ++ sent_over (all_left (drop (length xs) is)) ends) e
+    ∙ ap (λ (xs : List Leaving). all_crossing before ++ sent_over (all_left (drop (length old.log.left) xs)) ends) f))))
+
+-- what goes over the ends doesn't depend on their indices
+renumbered : (p k : ℕ) (left : List Left) (ends : List WiredEnd) → sent_over left (map (with_next p k) ends) ≡ sent_over left ends
+renumbered p k left [] = refl
+renumbered p k left (x ∷ xs) = elim (cases_Bool (x.port == p)) [
+  | inl e ↦ rw e (ap (λ (zs : List Crossing). crosses (Some x.far) (left_at x.port left) ++ zs) (renumbered p k left xs))
+  | inr e ↦ rw e (ap (λ (zs : List Crossing). crosses (Some x.far) (left_at x.port left) ++ zs) (renumbered p k left xs))
+]
+
+pub came_so : (p k i moment : ℕ) (bytes : List ℕ) (ends more : List WiredEnd) (old new : Network) (before after : List Queued) → more ≡ map (with_next p k) ends → i ≡ next_in ends p →
+    HasEntered (record { port = p; index = i; moment = moment; bytes = bytes }) more old new before after → HasEntered (record { port = p; index = next_in ends p; moment = moment; bytes = bytes }) ends old new before after
+came_so p k i moment bytes ends more old new before after e f h =
+    record {
+      played = subst (λ (j : ℕ). IsPlayedOut (Arrive (record { port = p; index = j; moment = moment; bytes = bytes }) ∷ []) old new) f h.played;
+      sent = λ gone g. h.sent gone g ∙ ap (λ (xs : List Crossing). all_crossing before ++ xs) (ap (sent_over gone) e ∙ renumbered p k gone ends);
+    }
+
+pub when_ok : {A E P Q : Type 0} (r : Result A E) → (P → Q) → OnOk r P → OnOk r Q
+when_ok (Ok x) f p = f p
+when_ok (Err e) f p = p

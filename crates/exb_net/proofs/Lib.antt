@@ -1,0 +1,3 @@
+mod Wired
+mod Sending
+mod Entering

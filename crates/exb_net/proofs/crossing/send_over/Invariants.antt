@@ -1,0 +1,12 @@
+use Rattle.std.proofs.Common.{Some, drop}
+use Rattle.exb_resting.specs.Flight.Showing.{left_at}
+use Rattle.exb_network.specs.Worlds.{all_left}
+use Rattle.exb_nets.specs.NetHistory.{crosses}
+use Rattle.exb_net.specs.Crossings.{all_crossing}
+use Rattle.exb_net.proofs.Sending.{LeadsTo}
+use Rattle.exb_net.proofs.crossing.send_over.Given as goal
+
+-- What is left of the frames leads to the whole.
+abbrev pub invariant-loop-frame : goal.invariant-loop-frame
+invariant-loop-frame l =
+    LeadsTo (all_crossing l.queue.items) (crosses (Some l.end.far) (left_at l.end.port (all_left (drop l.frame-index l.left)))) (all_crossing l.fn.queue.items) (crosses (Some l.end.far) (left_at l.end.port (all_left l.left)))
