@@ -1,0 +1,14 @@
+-- What reading captures again counts at the shelf.
+use Rattle.std.specs.Prelude.{◌≡◌, ◌⊎◌, Result, Ok, Err}
+use Rattle.exb_shelf.specs.Shelf.{Faults}
+use Rattle.exb_shelf.specs.Counting.{missing_more, reads_more}
+use Rattle.exb_merge.specs.declared.replays.CaptureFault.{CaptureFault}
+use Rattle.exb_merge.specs.declared.replays.CaptureFault.TheVariants.{Memory, Read, Changed}
+
+-- The counts before and after a call, by its answer: a read that failed is counted where that is the answer, and nothing else of reads. A
+-- capture that has changed may be a file that is missing, which is counted.
+abbrev pub CountsAgain : {X : Type 0} → Result X CaptureFault → Faults → Faults → Type 0
+CountsAgain (Ok x) old new = new ≡ old
+CountsAgain (Err Memory) old new = new ≡ old
+CountsAgain (Err Read) old new = new ≡ reads_more old
+CountsAgain (Err (Changed p at)) old new = (new ≡ old) ⊎ (new ≡ missing_more old)
