@@ -7,7 +7,7 @@ use Rattle.exb_evidence.specs.declared.frames.FramesFault.TheVariants as frames
 use Rattle.exb_evidence.specs.declared.texts.LinesFault.{LinesFault}
 use Rattle.exb_evidence.specs.declared.texts.LinesFault.TheVariants as lines
 use Rattle.exb_evidence.specs.Frames.{CountsFrame, CountsFrames}
-use Rattle.exb_evidence.specs.Lines.{CountsLines, after_lines}
+use Rattle.exb_evidence.specs.Lines.{CountsLines, after_lines_fault}
 use Rattle.exb_inputs.specs.Answers.{IsRule}
 use Rattle.exb_inputs.specs.Counting.{CountsFault}
 use Rattle.exb_inputs.specs.Shelving.{CountsFaults}
@@ -39,18 +39,18 @@ pub outputs_counted : {X Y : Type 0} (x : FramesFault) (y : Fault) (a b : Faults
 outputs_counted x y a b is counts = counted_once (Err y) a b counts.none_fell (subst (λ (z : Fault). CountsFault z a b) (sym is) (outputs_once x a b counts.once))
 
 -- ---- faults of texts
-lines_once : {X : Type 0} (what : Part) (name : List ℕ) (x : LinesFault) (a b : Faults) → b ≡ after_lines {X = X} (Err x) a → CountsFault (lines_fault what name x) a b
+lines_once : (what : Part) (name : List ℕ) (x : LinesFault) (a b : Faults) → b ≡ after_lines_fault x a → CountsFault (lines_fault what name x) a b
 lines_once what name lines.Memory a b is = inl is
 lines_once what name lines.Read a b is = is
 lines_once what name lines.Missing a b is = is
 lines_once what name lines.Large a b is = is
 lines_once what name (lines.Bad n) a b is = is
 
-lines_again : {X : Type 0} (x z : LinesFault) (a b : Faults) → x ≡ z → b ≡ after_lines {X = X} (Err x) a → b ≡ after_lines {X = X} (Err z) a
-lines_again x z a b same is = subst (λ (k : LinesFault). b ≡ after_lines {X = _} (Err k) a) same is
+lines_again : (x z : LinesFault) (a b : Faults) → x ≡ z → b ≡ after_lines_fault x a → b ≡ after_lines_fault z a
+lines_again x z a b same is = subst (λ (k : LinesFault). b ≡ after_lines_fault k a) same is
 
 -- memory may have run out while the fault of a missing file was made
-memory_once : {X : Type 0} (x : LinesFault) (a b : Faults) → (x ≡ lines.Memory) ⊎ (x ≡ lines.Missing) → b ≡ after_lines {X = X} (Err x) a → CountsFault Memory a b
+memory_once : (x : LinesFault) (a b : Faults) → (x ≡ lines.Memory) ⊎ (x ≡ lines.Missing) → b ≡ after_lines_fault x a → CountsFault Memory a b
 memory_once x a b (inl memory) is = inl (lines_again x lines.Memory a b memory is)
 memory_once x a b (inr missing) is = inr (lines_again x lines.Missing a b missing is)
 

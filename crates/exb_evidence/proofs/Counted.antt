@@ -8,7 +8,7 @@ use Rattle.exb_evidence.specs.declared.frames.FramesFault.TheVariants as frames
 use Rattle.exb_evidence.specs.declared.texts.LinesFault.{LinesFault}
 use Rattle.exb_evidence.specs.declared.texts.LinesFault.TheVariants as lines
 use Rattle.exb_evidence.specs.Frames.{CountsFrame, CountsFrames, CountsFramesOnce}
-use Rattle.exb_evidence.specs.Lines.{CountsLines, after_lines}
+use Rattle.exb_evidence.specs.Lines.{CountsLines, after_lines, after_lines_fault}
 
 more_rises : (n : ℕ) → Rose n (one_more n)
 more_rises n low = omega (arith, low)
@@ -27,9 +27,7 @@ counted_frames result a b fewer once = record {
 
 -- the fault of a later call
 pub frames_from : {X Y : Type 0} (x : FramesFault) (a b c : Faults) → b ≡ a → CountsFrames {X = X} (Err x) b c → CountsFrames {X = Y} (Err x) a c
-frames_from x a b c same counts =
-    let now = subst (λ (f : Faults). CountsFrames {X = _} (Err x) f c) same counts in
-    counted_frames (Err x) a c now.none_fell now.once
+frames_from x a b c same counts = counted_frames (Err x) a c (subst (λ (f : Faults). NoFewer f c) same counts.none_fell) (subst (λ (f : Faults). CountsFrame x f c) same counts.once)
 
 pub counted_lines : {X : Type 0} (result : Result X LinesFault) (a b : Faults) → NoFewer a b → b ≡ after_lines result a → CountsLines result a b
 counted_lines result a b fewer once = record {
@@ -39,25 +37,13 @@ counted_lines result a b fewer once = record {
   once = once;
 }
   where
-    by_fault : (x : LinesFault) → result ≡ Err x → b ≡ after_lines {X = Unit {0}} (Err x) a
-    by_fault lines.Missing e = once ∙ ap (λ (r : Result _ LinesFault). after_lines r a) e
-    by_fault lines.Read e = once ∙ ap (λ (r : Result _ LinesFault). after_lines r a) e
-    by_fault lines.Large e = once ∙ ap (λ (r : Result _ LinesFault). after_lines r a) e
-    by_fault (lines.Bad n) e = once ∙ ap (λ (r : Result _ LinesFault). after_lines r a) e
-    by_fault lines.Memory e = once ∙ ap (λ (r : Result _ LinesFault). after_lines r a) e
+    by_fault : (x : LinesFault) → result ≡ Err x → b ≡ after_lines_fault x a
+    by_fault x e = subst (λ (r : Result _ LinesFault). b ≡ after_lines r a) e once
 
--- the counts after a fault, whatever else the answer could be
-lines_same : {X Y : Type 0} (x : LinesFault) (a : Faults) → after_lines {X = X} (Err x) a ≡ after_lines {X = Y} (Err x) a
-lines_same lines.Missing a = refl
-lines_same lines.Read a = refl
-lines_same lines.Large a = refl
-lines_same (lines.Bad n) a = refl
-lines_same lines.Memory a = refl
-
-pub lines_from : {X Y : Type 0} (x : LinesFault) (a b c : Faults) → NoFewer a c → b ≡ a → c ≡ after_lines {X = X} (Err x) b → CountsLines {X = Y} (Err x) a c
-lines_from x a b c fewer same is = counted_lines (Err x) a c fewer (is ∙ lines_same x b ∙ ap (after_lines (Err x)) same)
+pub lines_from : {X : Type 0} (x : LinesFault) (a b c : Faults) → NoFewer a c → b ≡ a → c ≡ after_lines_fault x b → CountsLines {X = X} (Err x) a c
+lines_from x a b c fewer same is = counted_lines (Err x) a c fewer (is ∙ ap (after_lines_fault x) same)
 
 -- a line that can't be read is no fault of the shelf
 pub finish_counts : {X : Type 0} (P : ℕ → Type 0) (result : Result X LinesFault) (a b : Faults) → NoFewer a b → b ≡ a → IfErr result (λ fault. (n : ℕ) × (fault ≡ lines.Bad n) × P n) → CountsLines result a b
 finish_counts P (Ok x) a b fewer same bad = counted_lines (Ok x) a b fewer same
-finish_counts P (Err x) a b fewer same (n, is, told) = counted_lines (Err x) a b fewer (same ∙ ap (λ (y : LinesFault). after_lines {X = _} (Err y) a) (sym is))
+finish_counts P (Err x) a b fewer same (n, is, told) = counted_lines (Err x) a b fewer (same ∙ ap (λ (y : LinesFault). after_lines_fault y a) (sym is))

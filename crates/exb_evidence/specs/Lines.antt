@@ -61,13 +61,16 @@ IsLinesFault read limit file Memory = ⊥
 
 -- ---- the shelf
 -- the counts after a text was read, by the answer
+abbrev pub after_lines_fault : LinesFault → Faults → Faults
+after_lines_fault Missing f = missing_more f
+after_lines_fault Read f = reads_more f
+after_lines_fault Large f = f
+after_lines_fault (Bad number) f = f
+after_lines_fault Memory f = f
+
 abbrev pub after_lines : {X : Type 0} → Result X LinesFault → Faults → Faults
 after_lines (Ok x) f = f
-after_lines (Err Missing) f = missing_more f
-after_lines (Err Read) f = reads_more f
-after_lines (Err Large) f = f
-after_lines (Err (Bad number)) f = f
-after_lines (Err Memory) f = f
+after_lines (Err fault) f = after_lines_fault fault f
 
 -- no count has fallen, and a fault of the shelf came only where its count rose: once, and no other did
 pub record CountsLines {X : Type 0} (result : Result X LinesFault) (old new : Faults) : Type 0 where

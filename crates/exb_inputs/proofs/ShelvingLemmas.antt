@@ -1,5 +1,6 @@
 -- What calls say of the shelf, one after the other.
 use Rattle.std.proofs.Common.{◌≡◌, ◌≢◌, ◌≤◌, ◌<◌, ◌+◌, ◌^◌, ◌∙◌, ◌⊎◌, inl, inr, ℕ, List, Bool, true, false, Option, Some, Result, Ok, Err, ap, arith, refl, sym, subst}
+use Rattle.std.specs.Prelude.{IfErr}
 use Rattle.std.proofs.lemmas.Bool.{cases_lt, cases_Bool, cases_eq, false≢true}
 use Rattle.exb_shelf.specs.Counting.{missing_more, one_more, reads_more, writes_more, after_write}
 use Rattle.exb_shelf.specs.Shelf.{Faults, Id, IsReadingOf, Opens, Rose, NoFewer}
@@ -81,6 +82,10 @@ refusal_counts (at fault key) a = refl
 pub refused_counts : (bytes : List ℕ) (x : Fault) (a : Faults) → IsRefusal bytes x ⊎ (x ≡ Memory) → CountsFault x a a
 refused_counts bytes x a (inl (refusal, read, is)) = subst (λ (y : Fault). CountsFault y a a) (sym is) (refusal_counts refusal a)
 refused_counts bytes x a (inr memory) = subst (λ (y : Fault). CountsFault y a a) (sym memory) (inl refl)
+
+pub parsed_counts : {X : Type 0} (bytes : List ℕ) (result : Result X Fault) (a b : Faults) → b ≡ a → IfErr result (λ (x : Fault). IsRefusal bytes x ⊎ (x ≡ Memory)) → CountsFaults result a b
+parsed_counts bytes (Ok x) a b same refused = counts_ok x a b same
+parsed_counts bytes (Err x) a b same refused = counted_once (Err x) a b (fewer_same a b same) (subst (λ (f : Faults). CountsFault x a f) (sym same) (refused_counts bytes x a refused))
 
 -- the fault of a file that is missing
 pub missing_counts : (name : List ℕ) (x : Fault) (a b : Faults) → (x ≡ Missing name) ⊎ (x ≡ Memory) → b ≡ missing_more a → CountsFault x a b

@@ -1,6 +1,7 @@
 use Rattle.std.proofs.Common.{rules, ◌≡◌, ◌<◌, ◌+◌, ◌∙◌, ℕ, List, [], ap, refl, get_or, length, arith, subst}
 use Rattle.std.proofs.lemmas.List.{length-map, length_push}
 use Rattle.std.proofs.lemmas.Result.{err_from_is_err_and}
+use Rattle.exb_inputs.proofs.ShelvingLemmas.{counts_as, counts_from}
 use Rattle.exb_shelf.specs.Files.{Filled}
 use Rattle.exb_shelf.proofs.FileLemmas.{filled_none, filled_one}
 use Rattle.exb_shelf.proofs.IdLemmas.{opens_none, opens_then}
@@ -21,6 +22,7 @@ loop-at-init g c = record {
   opened = opens_none _ _;
   made = made_none c.args.plan.now _;
   faults = search rules;
+  counted = refl;
 }
 
 pub loop-at-preserved : goal.loop-at-preserved
@@ -48,6 +50,7 @@ loop-at-preserved g c =
       opened = opens_then _ _ _ _ before.opened made.opened;
       made = made_more c.args.plan.now c.loop-at.at _ _ _ before.made before.opened.kept lt made.makes.0 made.makes.1;
       faults = search (arith, made.faults.none_fell, before.faults);
+      counted = made.faults.once ∙ before.counted;
     }
 
 pub returns-clause-texts : goal.returns-clause-texts
@@ -88,3 +91,8 @@ returns-in_err-create_one-clause-cut g c = λ t.
     let plan = c.args.plan.now in
     cut_made plan (S.file c.args.shelf.now) (S.file c.loop-at.shelf) (S.file c.create_one.new.shelf) c.loop-at.at (c.output_names_differ.ensures plan) (omega arith)
     (c.loop-at.invariant.files t) (c.in_err-create_one.ensures.stays t) text)
+
+pub returns-in_err-create_one-clause-faults : goal.returns-in_err-create_one-clause-faults
+returns-in_err-create_one-clause-faults g c =
+    let e = err_from_is_err_and c.from_residual.result c.from_residual.ensures.1 in
+    rw (e.1, e.2) (counts_from _ _ _ _ c.loop-at.invariant.counted (counts_as c.in_err-create_one.field-0.0 _ _ c.in_err-create_one.ensures.faults))

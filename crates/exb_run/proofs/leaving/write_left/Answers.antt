@@ -1,6 +1,7 @@
-use Rattle.std.proofs.Common.{rules, ◌<◌, take, length, arith, ◌≤◌, List, subst}
+use Rattle.std.proofs.Common.{rules, ◌<◌, take, length, arith, ◌≤◌, List, subst, ◌∙◌, refl}
 use Rattle.std.proofs.lemmas.List.{take_all}
 use Rattle.std.proofs.lemmas.Result.{err_from_is_err_and}
+use Rattle.exb_inputs.proofs.ShelvingLemmas.{counts_as, counts_from}
 use Rattle.exb_network.specs.declared.log.Left.{Left}
 use Rattle.exb_outputs.specs.Writing.{HasTexts, pieces_of}
 use Rattle.exb_run.specs.Leaving.{with_left_frames}
@@ -16,6 +17,7 @@ loop-frame-init g c =
       texts = λ t orig text p. no_frames c.args.plan.now orig file (pieces_of c.args.outputs.now) text p;
       only = writes_none _ _ _ _;
       faults = search rules;
+      counted = refl;
     }
 
 pub loop-frame-preserved : goal.loop-frame-preserved
@@ -32,6 +34,7 @@ loop-frame-preserved g c =
           (added.texts t orig (with_left_frames text (take c.loop-frame.frame-index left)) (before.texts t orig text p));
       only = writes_then _ _ _ _ _ _ _ _ before.only added.only;
       faults = search (arith, added.faults.none_fell, before.faults);
+      counted = added.faults.once ∙ before.counted;
     }
 
 pub returns-in_err-add_left-clause-only : goal.returns-in_err-add_left-clause-only
@@ -53,3 +56,8 @@ returns-clause-texts g c = λ t orig text p.
     let end : length all ≤ c.loop-frame.frame-index = omega arith in
     subst (λ (xs : List Left). HasTexts c.args.plan.now (pieces_of c.loop-frame.outputs) orig (g.S.Shelf.file c.loop-frame.shelf) (with_left_frames text xs))
     (take_all c.loop-frame.frame-index all end) (c.loop-frame.invariant.texts t orig text p)
+
+pub returns-in_err-add_left-clause-faults : goal.returns-in_err-add_left-clause-faults
+returns-in_err-add_left-clause-faults g c =
+    let e = err_from_is_err_and c.from_residual.result c.from_residual.ensures.1 in
+    rw (e.1, e.2) (counts_from _ _ _ _ c.loop-frame.invariant.counted (counts_as c.in_err-add_left.field-0.0 _ _ c.in_err-add_left.ensures.faults))

@@ -1,5 +1,6 @@
 use Rattle.std.proofs.Common.{rules, ◌≡◌, ◌<◌, ◌∙◌, length, arith}
 use Rattle.std.proofs.lemmas.Result.{err_from_is_err_and}
+use Rattle.exb_inputs.proofs.ShelvingLemmas.{counts_as, counts_from}
 use Rattle.exb_outputs.specs.Plans.{output_count, output_name}
 use Rattle.exb_outputs.specs.Writing.{pieces_of}
 use Rattle.exb_outputs.proofs.OutputLemmas.{name_of_id, is_flushed, more_empty, all_written, of_kind}
@@ -31,6 +32,7 @@ loop-at-preserved g c =
         kept = λ j. c.in_ok-flush.ensures.kept j ∙ before.only.kept j;
       };
       faults = search (arith, c.in_ok-flush.ensures.faults.none_fell, before.faults);
+      counted = c.in_ok-flush.ensures.faults.once ∙ before.counted;
     }
 
 pub returns-clause-texts : goal.returns-clause-texts
@@ -55,3 +57,8 @@ returns-in_err-flush-clause-cut g c = λ t.
     in
     cut_piece (λ v. v.items) c.args.plan.now orig (S.file c.loop-at.shelf) (S.file c.flush.new.shelf) pieces text c.loop-at.at c.index_mut.result.now _
     (c.output_names_differ.ensures c.args.plan.now) lt before.ready.pieces c.index_mut.ensures.value named (before.texts t orig text p) (c.in_err-flush.ensures.front t))
+
+pub returns-in_err-flush-clause-faults : goal.returns-in_err-flush-clause-faults
+returns-in_err-flush-clause-faults g c =
+    let e = err_from_is_err_and c.from_residual.result c.from_residual.ensures.1 in
+    rw (e.1, e.2) (counts_from _ _ _ _ c.loop-at.invariant.counted (counts_as c.in_err-flush.field-0.0 _ _ c.in_err-flush.ensures.faults))

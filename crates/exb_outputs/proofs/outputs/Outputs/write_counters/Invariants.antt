@@ -1,4 +1,4 @@
-use Rattle.std.proofs.Common.{ℕ, List, take}
+use Rattle.std.proofs.Common.{ℕ, List, take, ◌≡◌}
 use Rattle.exb_counters.specs.Counters.{count_lines}
 use Rattle.exb_counters.specs.Counting.{counts_at}
 use Rattle.exb_model.specs.Tree.{external_ports}
@@ -19,4 +19,5 @@ invariant-loop-at g l =
           → HasTexts l.plan (pieces_of l.self) orig (S.file l.shelf) (with_more text output.Counters (count_lines (counts_at l.counters) (take l.at (external_ports l.plan.tree))));
       only : OnlyWrites S.tells l.plan (S.file l.fn.shelf) (S.file l.shelf) (S.ids l.fn.shelf) (S.ids l.shelf);
       faults : NoFewer (S.faults l.fn.shelf) (S.faults l.shelf);
+      counted : S.faults l.shelf ≡ S.faults l.fn.shelf;
     }

@@ -1,4 +1,4 @@
-use Rattle.std.proofs.Common.{ℕ, List, take}
+use Rattle.std.proofs.Common.{ℕ, List, take, ◌≡◌}
 use Rattle.exb_shelf.specs.Files.{Files}
 use Rattle.exb_shelf.specs.Shelf.{NoFewer}
 use Rattle.exb_text.specs.declared.output.Output.TheVariants as output
@@ -16,4 +16,5 @@ invariant-loop-event g l =
           → HasTexts l.plan (pieces_of l.self) orig (S.file l.shelf) (with_more text output.Journal (lines_of (take l.event-index l.events)));
       only : OnlyWrites S.tells l.plan (S.file l.fn.shelf) (S.file l.shelf) (S.ids l.fn.shelf) (S.ids l.shelf);
       faults : NoFewer (S.faults l.fn.shelf) (S.faults l.shelf);
+      counted : S.faults l.shelf ≡ S.faults l.fn.shelf;
     }
