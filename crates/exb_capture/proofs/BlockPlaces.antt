@@ -60,7 +60,9 @@ option_within n None order at block there h = by_nine (half_word order block at 
 options_within : (n : ℕ) (order : ByteOrder) (first : Option (Result ℕ Fault)) (at to : ℕ) (block : List ℕ) → IsFirstWithin to first → LiesWithin to (resolution_within n order first at to block)
 unfolding resolution_within
 options_within zero order first at to block h = six_within to first h
-options_within (suc n) order first at to block h = by_end (nat_le to at) refl
+options_within (suc n) order first at to block h =
+    by_end (nat_le to at) refl
+    (λ there. options_within n order (or_option first order at block) (at + 4 + padded (half_word order block (at + 2))) to block (option_within to first order at block there h))
   where
     rest : Result ℕ Fault
     rest = resolution_within n order (or_option first order at block) (at + 4 + padded (half_word order block (at + 2))) to block
@@ -68,14 +70,13 @@ options_within (suc n) order first at to block h = by_end (nat_le to at) refl
     past : Result ℕ Fault
     past = cond (nat_lt to (at + 4 + half_word order block (at + 2))) (Err (fault Length at)) rest
 
-    by_end : (b : Bool) → nat_le to at ≡ b → LiesWithin to (cond b (or_six first) (cond (half_word order block at == 0) (or_six first) past))
-    by_end true e = six_within to first h
-    by_end false e =
+    by_end : (b : Bool) → nat_le to at ≡ b → (at ≤ to → LiesWithin to rest) → LiesWithin to (cond b (or_six first) (cond (half_word order block at == 0) (or_six first) past))
+    by_end true e later = six_within to first h
+    by_end false e later =
         let before = leb-false to at e in
         let there : at ≤ to = omega (arith, before) in
         chosen_within to (half_word order block at == 0) (or_six first) past (six_within to first h)
-        (chosen_within to (nat_lt to (at + 4 + half_word order block (at + 2))) (Err (fault Length at)) rest there
-        (options_within n order (or_option first order at block) (at + 4 + padded (half_word order block (at + 2))) to block (option_within to first order at block there h)))
+        (chosen_within to (nat_lt to (at + 4 + half_word order block (at + 2))) (Err (fault Length at)) rest there (later there))
 
 resolution_lies : (order : ByteOrder) (to : ℕ) (block : List ℕ) → LiesWithin to (resolution_from order None 16 to block)
 unfolding resolution_from

@@ -1,6 +1,6 @@
 -- What a look ahead says of a file that is read.
 use Rattle.std.proofs.Common.{◌≡◌, ◌≤◌, ◌<◌, ◌+◌, ◌-◌, ℕ, Bool, true, false, List, length, take, drop, Option, Some, None, Result, Ok, Err, cond, refl, ap, sym, subst, inl, inr, ◌∙◌, arith}
-use Rattle.std.specs.Prelude.{◌⊎◌}
+use Rattle.std.specs.Prelude.{◌⊎◌, IsErrOf}
 use Rattle.std.proofs.lemmas.Bool.{cases_lt}
 use Rattle.exb_model.specs.Input.{Record}
 use Rattle.exb_capture.specs.declared.fault.Fault.{Fault}
@@ -99,6 +99,9 @@ module _ (f : CaptureFile) (reader : Reading State) (answer : Result Ahead Fault
   halts_on bytes xs Failed e s h unbroken large = tt
   halts_on bytes xs (Broken fault) e s h unbroken large = absurd (unbroken fault refl)
   halts_on bytes xs Large e s h unbroken large = let full = large refl in looked_large bytes xs e s h full.0 full.1
+
+pub halt_is : {X : Type 0} (why other : Halt) → IsErrOf {T = X} {E = Halt} (Err why) other → why ≡ other
+halt_is why other e = cc
 
 -- reading on brings it nearer to its end
 pub smaller : (limit got most next : ℕ) (ended told : Bool) → ended ≡ false → most ≡ limit → got ≤ next → next ≤ most → (told ≡ true) ⊎ (got < next)
