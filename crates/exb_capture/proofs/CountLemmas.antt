@@ -2,39 +2,19 @@
 use Rattle.std.proofs.Common.{◌≡◌, ℕ, Option, Result, Ok, Err, refl}
 use Rattle.std.specs.Prelude.{IsErrOf}
 use Rattle.exb_shelf.specs.Shelf.{Faults}
-use Rattle.exb_shelf.specs.Counting.{after_open, after_read}
-use Rattle.exb_shelf.specs.declared.shelf.OpenFault.{OpenFault}
-use Rattle.exb_shelf.specs.declared.shelf.OpenFault.TheVariants as opening
-use Rattle.exb_shelf.specs.declared.shelf.ShelfFault.{ShelfFault}
-use Rattle.exb_shelf.specs.declared.shelf.ShelfFault.TheVariants as shelf
 use Rattle.exb_capture.specs.declared.file.Halt.{Halt}
 use Rattle.exb_capture.specs.declared.file.Halt.TheVariants as halt
 use Rattle.exb_capture.specs.declared.replay.ReplayFault.{ReplayFault}
 use Rattle.exb_capture.specs.declared.replay.ReplayFault.TheVariants as replay
-use Rattle.exb_capture.specs.Counts.{after_halt, after_looking, after_scan, after_opening, after_fault, after_replay}
-use Rattle.exb_capture.specs.Reading.{halted}
-use Rattle.exb_capture.specs.Replaying.{stopped, unopened as not_again, unread}
-use Rattle.exb_capture.specs.Scans.{refused, unopened}
+use Rattle.exb_capture.specs.Counts.{after_halt, after_scan, after_fault, after_replay}
+use Rattle.exb_capture.specs.Replaying.{stopped, unread}
+use Rattle.exb_capture.specs.Scans.{refused}
 
-pub read_halted : {X Y : Type 0} (why : ShelfFault) (f : Faults) → after_read {X} (Err why) f ≡ after_looking {Y} (Err (halted why)) f
-read_halted shelf.Failed f = refl
-read_halted shelf.Memory f = refl
-
-pub open_scanned : {X Y : Type 0} (why : OpenFault) (f : Faults) → after_open {X} (Err why) f ≡ after_scan {Y} (Err (unopened why)) f
-open_scanned opening.Missing f = refl
-open_scanned opening.Failed f = refl
-open_scanned opening.Memory f = refl
-
-pub halt_scanned : {X : Type 0} (limit : ℕ) (why : Halt) (f : Faults) → after_halt why f ≡ after_scan {X} (Err (refused limit why)) f
+pub halt_scanned : {X : Type 0} (limit : ℕ) (why : Halt) (f : Faults) → after_halt why f ≡ after_scan {X = X} (Err (refused limit why)) f
 halt_scanned limit halt.Memory f = refl
 halt_scanned limit halt.Failed f = refl
 halt_scanned limit (halt.Broken fault) f = refl
 halt_scanned limit halt.Large f = refl
-
-pub open_replayed : {X Y : Type 0} (why : OpenFault) (f : Faults) → after_open {X} (Err why) f ≡ after_opening {Y} (Err (not_again why)) f
-open_replayed opening.Missing f = refl
-open_replayed opening.Failed f = refl
-open_replayed opening.Memory f = refl
 
 pub halt_replayed : (bytes : ℕ) (why : Halt) (f : Faults) → after_halt why f ≡ after_fault (unread bytes why) f
 halt_replayed bytes halt.Memory f = refl

@@ -1,6 +1,7 @@
 pub mod AgreeLemmas
 pub mod BlockLemmas
 pub mod BlockOpen
+pub mod BlockPlaces
 pub mod BlockSizes
 pub mod BufferLemmas
 pub mod CaptureLemmas
@@ -17,6 +18,7 @@ pub mod OneAnswer
 pub mod OpenLaws
 pub mod OptionLemmas
 pub mod PieceLaws
+pub mod Placing
 pub mod ReaderLemmas
 pub mod Replaying
 pub mod RowLemmas

@@ -20,7 +20,7 @@ use Rattle.exb_capture.specs.Blocks.{most_held}
 use Rattle.exb_capture.specs.Captures.{capture_front}
 use Rattle.exb_capture.proofs.CaptureLemmas.{captures_are_a_format}
 use Rattle.exb_capture.proofs.PieceLaws.{asked_roomy}
-use Rattle.exb_capture.proofs.Going.{asked_of, with_seen, found_in, asked_sound, asked_less, more_read, end_read, seen_sound, seen_less, seen_read, end_told, fault_told, large_told}
+use Rattle.exb_capture.proofs.Going.{asked_of, with_seen, found_in, asked_sound, asked_less, more_read, end_read, seen_sound, seen_less, seen_read, end_told, fault_place, fault_told, large_told}
 
 -- a file that was asked what comes next, and answered this
 module _ (f : CaptureFile) (reader : Reading State) (answer : Result Ahead Fault) (none : f.next ≡ None) (told : seen answer reader.held ≡ (asked_of f).answer) (is : reader ≡ (asked_of f).left) where
@@ -83,6 +83,9 @@ module _ (f : CaptureFile) (reader : Reading State) (answer : Result Ahead Fault
   more_room e = let some = (roomy e).1 in let same = ap (λ (r : Reading State). r.room) is in omega (arith, some, same)
 
   -- ---- why it isn't read on
+  pub looked_place : (fault : Fault) → answer ≡ Err fault → IsSound f → fault.at ≤ f.got
+  looked_place fault e s = fault_place f fault s (sym (answered (Err fault) e))
+
   pub looked_fault : (bytes : List ℕ) (xs : List Record) (fault : Fault) → answer ≡ Err fault → IsSound f → HasRead bytes xs f → HaltsBy bytes f.limit (Broken fault)
   looked_fault bytes xs fault e s h = fault_told bytes xs f fault none s h (sym (answered (Err fault) e))
 

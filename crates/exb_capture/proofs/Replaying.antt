@@ -138,6 +138,16 @@ stopped_read begin halt.Failed e = refl
 stopped_read begin (halt.Broken fault) e = absurd (cc)
 stopped_read begin halt.Large e = absurd (cc)
 
+-- ---- where it has changed
+pub place_of : (n at most : ℕ) → Changed n ≡ Changed at → n ≤ most → at ≤ most
+place_of n at most e h = let same : n ≡ at = cc in omega (arith, same, h)
+
+pub halted_place : (bytes got : ℕ) (h : Halt) (at : ℕ) → ((fault : Fault) → h ≡ halt.Broken fault → fault.at ≤ got) → got ≤ bytes + 1 → unread bytes h ≡ Changed at → at ≤ bytes + 1
+halted_place bytes got halt.Memory at place fits e = absurd (cc)
+halted_place bytes got halt.Failed at place fits e = absurd (cc)
+halted_place bytes got (halt.Broken fault) at place fits e = let there = place fault refl in place_of fault.at at (bytes + 1) e (omega (arith, there, fits))
+halted_place bytes got halt.Large at place fits e = place_of bytes at (bytes + 1) e (omega arith)
+
 pub fault_is : {X : Type 0} (fault : ReplayFault) (at : ℕ) → IsErrOf {T = X} {E = ReplayFault} (Err fault) (Changed at) → fault ≡ Changed at
 fault_is fault at e = cc
 

@@ -244,6 +244,9 @@ impl CaptureFile {
         ensures halts { S.tells → IfErr result (λ halt. (xs : List Record) → HasRead (bytes_of (S.file shelf.old (S.ids shelf.old self.old.id).name)) xs self.old
             → HaltsBy (bytes_of (S.file shelf.old (S.ids shelf.old self.old.id).name)) self.old.limit halt) }
 
+        // Whatever the files hold, a fault lies within what was read.
+        ensures place { (fault : Fault) → IsErrOf result (Halt.Broken fault) → fault.at ≤ self.new.got }
+
         ensures moves { MovesOn self.old.id (S.ids shelf.old) (S.ids shelf.new) }
         ensures files { SameFiles (S.file shelf.old) (S.file shelf.new) }
         ensures counts { S.faults shelf.new ≡ after_looking result (S.faults shelf.old) }

@@ -175,6 +175,7 @@ impl Replay {
         ensures same { IsSameReplay self.old self.new }
         ensures changed { S.tells → (at : ℕ) → result ≡ ReplayFault.Changed at → (xs : List Record) → HasGiven (bytes_of (S.file shelf.old (S.ids shelf.old self.old.file.id).name)) xs self.old
             → Disagrees self.old.told (bytes_of (S.file shelf.old (S.ids shelf.old self.old.file.id).name)) at }
+        ensures place { (at : ℕ) → result ≡ ReplayFault.Changed at → at ≤ self.old.told.bytes + 1 }
         ensures before { IsAsBefore self.old self.new }
         ensures moves { MovesOn self.old.file.id (S.ids shelf.old) (S.ids shelf.new) }
         ensures files { SameFiles (S.file shelf.old) (S.file shelf.new) }
@@ -232,6 +233,9 @@ impl Replay {
             → IsPlayed self.old.told (bytes_of (S.file shelf.old (S.ids shelf.old self.old.file.id).name)) xs)) }
         ensures changed { S.tells → (at : ℕ) → IsErrOf result (ReplayFault.Changed at) → (xs : List Record) → HasGiven (bytes_of (S.file shelf.old (S.ids shelf.old self.old.file.id).name)) xs self.old
             → Disagrees self.old.told (bytes_of (S.file shelf.old (S.ids shelf.old self.old.file.id).name)) at }
+
+        // Whatever the files hold, it has changed within the bytes that were told and one more.
+        ensures place { (at : ℕ) → IsErrOf result (ReplayFault.Changed at) → at ≤ self.old.told.bytes + 1 }
 
         ensures moves { MovesOn self.old.file.id (S.ids shelf.old) (S.ids shelf.new) }
         ensures files { SameFiles (S.file shelf.old) (S.file shelf.new) }
@@ -298,6 +302,9 @@ impl Replay {
         ensures order { S.tells → IfOk result (λ next. (left : List Record) → IsReplaying (bytes_of (S.file shelf.old (S.ids shelf.old self.old.file.id).name)) left self.old
             → IsFirstOf left self.old.least next (λ rest. IsReplaying (bytes_of (S.file shelf.old (S.ids shelf.old self.old.file.id).name)) rest self.new)) }
         ensures never { S.tells → (at : ℕ) → IsErrOf result (ReplayFault.Changed at) → (left : List Record) → IsReplaying (bytes_of (S.file shelf.old (S.ids shelf.old self.old.file.id).name)) left self.old → ⊥ }
+
+        // Whatever the files hold, it has changed within the bytes that were told and one more.
+        ensures place { (at : ℕ) → IsErrOf result (ReplayFault.Changed at) → at ≤ self.old.told.bytes + 1 }
 
         ensures moves { MovesOn self.old.file.id (S.ids shelf.old) (S.ids shelf.new) }
         ensures files { SameFiles (S.file shelf.old) (S.file shelf.new) }

@@ -1,4 +1,4 @@
-use Rattle.std.proofs.Common.{ℕ, List, [], ◌∷◌, Option, Err, sym, ap, subst, ◌∙◌}
+use Rattle.std.proofs.Common.{◌+◌, ℕ, List, [], ◌∷◌, Option, Err, sym, ap, subst, ◌∙◌, arith}
 use Rattle.std.specs.Prelude.{IfNone}
 use Rattle.exb_model.specs.Input.{Record}
 use Rattle.exb_shelf.specs.Files.{bytes_of}
@@ -6,7 +6,7 @@ use Rattle.exb_capture.specs.Counts.{after_fault}
 use Rattle.exb_capture.specs.declared.replay.ReplayFault.{ReplayFault}
 use Rattle.exb_capture.specs.Reading.{HasRead, IsWhole}
 use Rattle.exb_capture.proofs.CountLemmas.{halt_stopped}
-use Rattle.exb_capture.proofs.Replaying.{begins, early_goes_on, early_ends, early_comes, stopped_begin, stopped_read}
+use Rattle.exb_capture.proofs.Replaying.{begins, early_goes_on, early_ends, early_comes, place_of, stopped_begin, stopped_read}
 use Rattle.exb_capture.proofs.replay.Replay.early.Goals as goal
 
 pub returns-then-bytes-end-clause-changed : goal.returns-then-bytes-end-clause-changed
@@ -67,3 +67,25 @@ returns-in-Err-clause-counts g c =
 
 pub returns-in-Err-clause-failed : goal.returns-in-Err-clause-failed
 returns-in-Err-clause-failed g c = λ e. c.in-Err.ensures.failed (ap Err (stopped_read c.begun-begin.result c.in-Err.halt (sym c.stopped.ensures ∙ e)))
+
+pub returns-then-bytes-end-clause-place : goal.returns-then-bytes-end-clause-place
+returns-then-bytes-end-clause-place g c = λ at e. place_of c.args.self.now.told.bytes at (c.args.self.now.told.bytes + 1) e (omega arith)
+
+pub returns-then-ends_short-clause-place : goal.returns-then-ends_short-clause-place
+returns-then-ends_short-clause-place g c = λ at e.
+    let short = c.ends_short.ensures c.if-ends_short.true in place_of c.got-got.result at (c.args.self.now.told.bytes + 1) e (omega (arith, short))
+
+pub returns-else-ends_short-clause-place : goal.returns-else-ends_short-clause-place
+returns-else-ends_short-clause-place g c = λ at e.
+    let kept = c.requires.kept in
+    place_of c.begun-begin.result at (c.args.self.now.told.bytes + 1) e (omega (arith, kept.sound.begun, kept.sound.most, kept.limit, c.begun-begin.ensures))
+
+pub returns-in-Ok-Some-clause-place : goal.returns-in-Ok-Some-clause-place
+returns-in-Ok-Some-clause-place g c = λ at e.
+    let kept = c.requires.kept in
+    place_of c.begun-begin.result at (c.args.self.now.told.bytes + 1) e (omega (arith, kept.sound.begun, kept.sound.most, kept.limit, c.begun-begin.ensures))
+
+pub returns-in-Err-clause-place : goal.returns-in-Err-clause-place
+returns-in-Err-clause-place g c = λ at e.
+    let kept = c.requires.kept in
+    place_of c.begun-begin.result at (c.args.self.now.told.bytes + 1) (stopped_begin c.begun-begin.result at c.in-Err.halt (sym c.stopped.ensures ∙ e)) (omega (arith, kept.sound.begun, kept.sound.most, kept.limit, c.begun-begin.ensures))
