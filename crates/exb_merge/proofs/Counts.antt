@@ -1,5 +1,5 @@
 -- What is counted where a capture can't be opened or read again, and of which port that is told.
-use Rattle.std.proofs.Common.{◌≡◌, ℕ, List, map, sym, subst, inl, inr}
+use Rattle.std.proofs.Common.{◌≡◌, ℕ, ◌+◌, ◌≤◌, List, [], ◌∷◌, ◌++◌, map, sym, subst, inl, inr}
 use Rattle.std.specs.Prelude.{Err}
 use Rattle.exb_shelf.specs.Shelf.{Faults}
 use Rattle.exb_capture.specs.Counts.{after_fault, after_opening}
@@ -10,7 +10,7 @@ use Rattle.exb_merge.specs.declared.replays.Again.{Again}
 use Rattle.exb_merge.specs.declared.replays.CaptureFault.{CaptureFault}
 use Rattle.exb_merge.specs.declared.replays.CaptureFault.TheVariants.{Changed}
 use Rattle.exb_merge.specs.Counting.{CountsFault}
-use Rattle.exb_merge.specs.Replays.{HasPort, fault_at, standing_of}
+use Rattle.exb_merge.specs.Replays.{HasPort, IsWithin, fault_at, standing_of}
 use Rattle.exb_merge.proofs.Seen.{IsNext}
 use Rattle.exb_merge.proofs.Standing.{has_port}
 
@@ -45,3 +45,11 @@ port_at port p at (replay.Changed n) e = cc
 pub turn_port : (xs : List Again) (m place : ℕ) (s : Again) → IsNext xs m place s → (p : ℕ) → p ≡ s.port → HasPort p (map standing_of xs)
 turn_port xs m place s h p is =
     subst (λ (k : ℕ). HasPort k (map standing_of xs)) (sym is) (subst (λ ys. HasPort s.port (map standing_of ys)) (sym h.at.split) (has_port h.at.before h.at.after s))
+
+within_of : (before after : List Again) (s : Again) (p at : ℕ) → s.port ≡ p → at ≤ s.replay.told.bytes + 1 → IsWithin p at (before ++ s ∷ after)
+within_of [] after s p at is low = inl (is, low)
+within_of (t ∷ before) after s p at is low = inr (within_of before after s p at is low)
+
+-- and the byte lies within it
+pub turn_within : (xs : List Again) (m place : ℕ) (s : Again) → IsNext xs m place s → (p at : ℕ) → p ≡ s.port → at ≤ s.replay.told.bytes + 1 → IsWithin p at xs
+turn_within xs m place s h p at is low = subst (IsWithin p at) (sym h.at.split) (within_of h.at.before h.at.after s p at (sym is) low)
