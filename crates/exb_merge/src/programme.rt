@@ -6,7 +6,7 @@ ghost use Rattle.exb_shelf.specs.Shelf.{Id, Rose, NoFewer};
 ghost use Rattle.exb_merge.specs.Counting.{CountsAgain};
 ghost use Rattle.exb_merge.specs.Agendas.{begins_in, comes_first, commands_left, first_moment, still_to_come};
 ghost use Rattle.exb_merge.specs.Programmes.{IsComing, IsProgramme, IsSoonest, IsTakenOf, moment_in, played_with, what};
-ghost use Rattle.exb_merge.specs.Replays.{AreOpened, AreReplays, AreToldSince, HasPort, IsEarliest, NoneIsBefore, ReadsOn, ids_in, standings};
+ghost use Rattle.exb_merge.specs.Replays.{AreOpened, AreReplays, AreToldSince, HasPort, IsEarliest, IsWithin, NoneIsBefore, ReadsOn, ids_in, standings};
 ghost use Rattle.exb_merge.specs.Streams.{Stream, to_come};
 
 use crate::moments::{comes_first, is_of, moment_after};
@@ -159,6 +159,7 @@ impl<'a> Programme<'a> {
         ensures reads { ReadsOn (ids_in self.old.captures) (S.ids shelf.old) (S.ids shelf.new) }
         ensures files { SameFiles (S.file shelf.old) (S.file shelf.new) }
         ensures port { (p at : ℕ) → IsErrOf result (CaptureFault.Changed p at) → HasPort p (standings self.old.captures) }
+        ensures place { (p at : ℕ) → IsErrOf result (CaptureFault.Changed p at) → IsWithin p at self.old.captures.sources.items }
         ensures counts { CountsAgain result (S.faults shelf.old) (S.faults shelf.new) }
         ensures faults { NoFewer (S.faults shelf.old) (S.faults shelf.new) }
         ensures failed { IsErrOf result CaptureFault.Read → Rose (S.faults shelf.old).reads (S.faults shelf.new).reads }
@@ -197,6 +198,7 @@ impl<'a> Programme<'a> {
         ensures reads { ReadsOn (ids_in self.old.captures) (S.ids shelf.old) (S.ids shelf.new) }
         ensures files { SameFiles (S.file shelf.old) (S.file shelf.new) }
         ensures port { (p at : ℕ) → IsErrOf result (CaptureFault.Changed p at) → HasPort p (standings self.old.captures) }
+        ensures place { (p at : ℕ) → IsErrOf result (CaptureFault.Changed p at) → IsWithin p at self.old.captures.sources.items }
         ensures counts { CountsAgain result (S.faults shelf.old) (S.faults shelf.new) }
         ensures faults { NoFewer (S.faults shelf.old) (S.faults shelf.new) }
         ensures failed { IsErrOf result CaptureFault.Read → Rose (S.faults shelf.old).reads (S.faults shelf.new).reads }

@@ -80,3 +80,16 @@ pub returns-in-Err-ahead-clause-counts : goal.returns-in-Err-ahead-clause-counts
 returns-in-Err-ahead-clause-counts g c =
     not_read c.args.port c.in-Err-ahead.fault c.fault_at-in-Err-ahead.result _ _ c.fault_at-in-Err-ahead.ensures
     (c.in-Err-ahead.ensures.counts ∙ ap (after_fault c.in-Err-ahead.fault) c.in-Ok.ensures.counts)
+
+pub returns-in-Err-clause-place : goal.returns-in-Err-clause-place
+returns-in-Err-clause-place g c = λ p at e.
+    let fault = changed_at c.args.port p at c.in-Err.fault (sym c.fault_at.ensures ∙ own_fault c.fault_at.result (Changed p at) e) in
+    let first = (c.in-Err.ensures.changed at (ap Err fault)).0 in
+    omega (arith, first)
+
+pub returns-in-Err-ahead-clause-place : goal.returns-in-Err-ahead-clause-place
+returns-in-Err-ahead-clause-place g c = λ p at e.
+    let fault = changed_at c.args.port p at c.in-Err-ahead.fault (sym c.fault_at-in-Err-ahead.ensures ∙ own_fault c.fault_at-in-Err-ahead.result (Changed p at) e) in
+    let low = c.in-Err-ahead.ensures.place at (ap Err fault) in
+    let told : c.in-Ok.replay.told.bytes ≡ c.args.told.bytes = ap (λ t. t.bytes) c.in-Ok.ensures.told.0 in
+    omega (arith, low, told)
