@@ -25,7 +25,8 @@ use Rattle.exb_inputs.proofs.ShelvingLemmas.{counted_once, counts_ok, fewer_same
 use Rattle.exb_outputs.specs.Shelving.{IsOfWriting}
 use Rattle.exb_run.specs.Checks.{first_standing}
 use Rattle.exb_run.specs.UnderWay.{ComeAll}
-use Rattle.exb_run.proofs.Beginning.{has-named, passing, ports_in}
+use Rattle.exb_run.proofs.Beginning.{has-named, ports_in}
+use Rattle.exb_run.proofs.Counting.{passing}
 use Rattle.exb_run.proofs.Running.{Outcome}
 use Rattle.exb_run.proofs.Taking.{has-before}
 
