@@ -1,5 +1,5 @@
 -- A fault of a block lies within it.
-use Rattle.std.proofs.Common.{◌≡◌, ◌≤◌, ◌<◌, ◌+◌, ◌-◌, ℕ, zero, suc, Bool, true, false, List, length, Option, Some, None, Result, Ok, Err, cond, refl, arith}
+use Rattle.std.proofs.Common.{◌≡◌, ◌≤◌, ◌+◌, ◌-◌, ℕ, zero, suc, Bool, true, false, List, length, Option, Some, None, Result, Ok, Err, cond, refl, arith}
 use Rattle.std.specs.Prelude.{nat_lt, nat_le, get_or, slice_index, ◌&&◌, not, ◌==◌, ◌^◌, ◌*◌}
 use Rattle.std.proofs.lemmas.Bool.{leb-false}
 use Rattle.exb_capture.specs.declared.fault.Fault.{Fault}
@@ -11,7 +11,7 @@ use Rattle.exb_capture.specs.declared.block.Kind.{Kind}
 use Rattle.exb_capture.specs.declared.block.Kind.TheVariants.{SectionHeader, InterfaceBlock, EnhancedPacket, SimplePacket, Other}
 use Rattle.exb_capture.specs.declared.block.Head.{Head}
 use Rattle.exb_capture.specs.declared.block.Content.{Content}
-use Rattle.exb_capture.specs.declared.block.Content.TheVariants.{Skipped, NewSection, NewInterface, Packet}
+use Rattle.exb_capture.specs.declared.block.Content.TheVariants.{NewSection, NewInterface, Packet}
 use Rattle.exb_capture.specs.Formats.{fault}
 use Rattle.exb_capture.specs.Fields.{◌>>=◌, refuse, word, half_word, nanoseconds}
 use Rattle.exb_capture.specs.Blocks.{is_header, new_order, old_order, order_at, kind_of, is_no_size, head_at, digits_at, or_option, or_six, padded, resolution_within, resolution_from, section_at, interface_at, interface_number, no_interface, units_at, is_no_frame, enhanced_at, snapped, simple_at, content_at, block_at}
@@ -60,7 +60,9 @@ option_within n None order at block there h = by_nine (half_word order block at 
 options_within : (n : ℕ) (order : ByteOrder) (first : Option (Result ℕ Fault)) (at to : ℕ) (block : List ℕ) → IsFirstWithin to first → LiesWithin to (resolution_within n order first at to block)
 unfolding resolution_within
 options_within zero order first at to block h = six_within to first h
-options_within (suc n) order first at to block h = by_end (nat_le to at) refl
+options_within (suc n) order first at to block h =
+    by_end (nat_le to at) refl
+    (λ there. options_within n order (or_option first order at block) (at + 4 + padded (half_word order block (at + 2))) to block (option_within to first order at block there h))
   where
     rest : Result ℕ Fault
     rest = resolution_within n order (or_option first order at block) (at + 4 + padded (half_word order block (at + 2))) to block
@@ -68,14 +70,13 @@ options_within (suc n) order first at to block h = by_end (nat_le to at) refl
     past : Result ℕ Fault
     past = cond (nat_lt to (at + 4 + half_word order block (at + 2))) (Err (fault Length at)) rest
 
-    by_end : (b : Bool) → nat_le to at ≡ b → LiesWithin to (cond b (or_six first) (cond (half_word order block at == 0) (or_six first) past))
-    by_end true e = six_within to first h
-    by_end false e =
+    by_end : (b : Bool) → nat_le to at ≡ b → (at ≤ to → LiesWithin to rest) → LiesWithin to (cond b (or_six first) (cond (half_word order block at == 0) (or_six first) past))
+    by_end true e later = six_within to first h
+    by_end false e later =
         let before = leb-false to at e in
         let there : at ≤ to = omega (arith, before) in
         chosen_within to (half_word order block at == 0) (or_six first) past (six_within to first h)
-        (chosen_within to (nat_lt to (at + 4 + half_word order block (at + 2))) (Err (fault Length at)) rest there
-        (options_within n order (or_option first order at block) (at + 4 + padded (half_word order block (at + 2))) to block (option_within to first order at block there h)))
+        (chosen_within to (nat_lt to (at + 4 + half_word order block (at + 2))) (Err (fault Length at)) rest there (later there))
 
 resolution_lies : (order : ByteOrder) (to : ℕ) (block : List ℕ) → LiesWithin to (resolution_from order None 16 to block)
 unfolding resolution_from

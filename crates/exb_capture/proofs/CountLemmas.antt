@@ -10,11 +10,11 @@ use Rattle.exb_capture.specs.Counts.{after_halt, after_scan, after_fault, after_
 use Rattle.exb_capture.specs.Replaying.{stopped, unread}
 use Rattle.exb_capture.specs.Scans.{refused}
 
-pub halt_scanned : {X : Type 0} (limit : ℕ) (why : Halt) (f : Faults) → after_halt why f ≡ after_scan {X = X} (Err (refused limit why)) f
-halt_scanned limit halt.Memory f = refl
-halt_scanned limit halt.Failed f = refl
-halt_scanned limit (halt.Broken fault) f = refl
-halt_scanned limit halt.Large f = refl
+pub halt_scanned : (X : Type 0) (limit : ℕ) (why : Halt) (f : Faults) → after_halt why f ≡ after_scan {X = X} (Err (refused limit why)) f
+halt_scanned X limit halt.Memory f = refl
+halt_scanned X limit halt.Failed f = refl
+halt_scanned X limit (halt.Broken fault) f = refl
+halt_scanned X limit halt.Large f = refl
 
 pub halt_replayed : (bytes : ℕ) (why : Halt) (f : Faults) → after_halt why f ≡ after_fault (unread bytes why) f
 halt_replayed bytes halt.Memory f = refl

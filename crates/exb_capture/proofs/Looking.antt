@@ -1,14 +1,14 @@
 -- What a look ahead says of a file that is read.
-use Rattle.std.proofs.Common.{◌≡◌, ◌≤◌, ◌<◌, ◌+◌, ◌-◌, ℕ, Bool, true, false, List, length, take, drop, Option, Some, None, Result, Ok, Err, cond, refl, ap, sym, subst, inl, inr, ◌∙◌, arith}
-use Rattle.std.specs.Prelude.{◌⊎◌}
+use Rattle.std.proofs.Common.{◌≡◌, ◌≤◌, ◌<◌, ◌+◌, ◌-◌, ℕ, Bool, true, false, List, length, take, drop, None, Result, Ok, Err, cond, refl, ap, sym, subst, inl, inr, ◌∙◌, arith}
+use Rattle.std.specs.Prelude.{◌⊎◌, IsErrOf}
 use Rattle.std.proofs.lemmas.Bool.{cases_lt}
 use Rattle.exb_model.specs.Input.{Record}
 use Rattle.exb_capture.specs.declared.fault.Fault.{Fault}
 use Rattle.exb_capture.specs.declared.capture.Capture.{Capture as State}
 use Rattle.exb_capture.specs.declared.reader.Ahead.{Ahead}
 use Rattle.exb_capture.specs.declared.reader.Ahead.TheVariants as ahead
-use Rattle.exb_capture.specs.Asked.{seen, IsAhead, IsAheadIn}
-use Rattle.exb_capture.specs.Pieces.{Reading, Found, More, End, Faulty}
+use Rattle.exb_capture.specs.Asked.{seen, IsAheadIn}
+use Rattle.exb_capture.specs.Pieces.{Reading, Found}
 use Rattle.exb_capture.specs.declared.file.CaptureFile.{CaptureFile}
 use Rattle.exb_capture.specs.declared.file.Seen.{Seen}
 use Rattle.exb_capture.specs.declared.file.Halt.{Halt}
@@ -99,6 +99,9 @@ module _ (f : CaptureFile) (reader : Reading State) (answer : Result Ahead Fault
   halts_on bytes xs Failed e s h unbroken large = tt
   halts_on bytes xs (Broken fault) e s h unbroken large = absurd (unbroken fault refl)
   halts_on bytes xs Large e s h unbroken large = let full = large refl in looked_large bytes xs e s h full.0 full.1
+
+pub halt_is : {X : Type 0} (why other : Halt) → IsErrOf {T = X} {E = Halt} (Err why) other → why ≡ other
+halt_is why other e = cc
 
 -- reading on brings it nearer to its end
 pub smaller : (limit got most next : ℕ) (ended told : Bool) → ended ≡ false → most ≡ limit → got ≤ next → next ≤ most → (told ≡ true) ⊎ (got < next)

@@ -26,4 +26,4 @@ pub returns-clause-counts : goal.returns-clause-counts
 returns-clause-counts g c =
     let old = g.S.Shelf.faults c.args.shelf.now in
     c.in-Err-scan_on.ensures.counts ∙ ap (after_halt c.in-Err-scan_on.halt) c.in-Ok-open.ensures.counts
-    ∙ halt_scanned c.args.limit c.in-Err-scan_on.halt old ∙ ap (λ (r : ScanFault). after_scan {X = Scanned} (Err r) old) (sym c.refused.ensures)
+    ∙ halt_scanned Scanned c.args.limit c.in-Err-scan_on.halt old ∙ ap (λ (r : ScanFault). after_scan {X = Scanned} (Err r) old) (sym c.refused.ensures)

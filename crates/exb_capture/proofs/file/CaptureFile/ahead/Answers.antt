@@ -1,6 +1,5 @@
 use Rattle.std.proofs.Common.{◌≡◌, ◌<◌, ◌≤◌, ℕ, List, length, Ok, Err, refl, sym, ap, subst, ◌∙◌, arith}
 use Rattle.std.proofs.lemmas.Result.{err_from_is_err_and}
-use Rattle.exb_capture.specs.declared.reader.Ahead.{Ahead}
 use Rattle.exb_capture.specs.declared.fault.Fault.{Fault}
 use Rattle.exb_capture.specs.Asked.{IsAhead}
 use Rattle.exb_shelf.specs.Files.{bytes_of}
@@ -8,7 +7,7 @@ use Rattle.exb_capture.specs.declared.file.Halt.TheVariants.{Broken}
 use Rattle.exb_capture.specs.Counts.{after_halt}
 use Rattle.exb_capture.specs.Reading.{HasRead, HaltsBy}
 use Rattle.exb_capture.proofs.Going.{none_seen, seen_next, seen_held}
-use Rattle.exb_capture.proofs.Looking.{looked, looked_sound, looked_left, looked_more, looked_end, ended_whole, found_sound, found_left, found_read, found_next, looked_fault, looked_place, halts_on, more_open, more_room, smaller, kept_bytes, moves_then, fewer_then}
+use Rattle.exb_capture.proofs.Looking.{looked, looked_sound, looked_left, looked_more, looked_end, ended_whole, found_sound, found_left, found_read, found_next, looked_fault, looked_place, halts_on, halt_is, more_open, more_room, smaller, kept_bytes, moves_then, fewer_then}
 use Rattle.exb_capture.proofs.file.CaptureFile.ahead.Goals as goal
 
 pub returns-in-Some-clause-found : goal.returns-in-Some-clause-found
@@ -119,7 +118,7 @@ returns-in-Err-clause-place g c = λ fault e.
 pub returns-in_err-read_on-in-Ok-More-clause-place : goal.returns-in_err-read_on-in-Ok-More-clause-place
 returns-in_err-read_on-in-Ok-More-clause-place g c =
     let p = err_from_is_err_and c.from_residual.result c.from_residual.ensures.1 in
-    rw (p.1, p.2) (λ fault e. absurd (c.in_err-read_on-in-Ok-More.ensures.unbroken fault e))
+    rw (p.1, p.2) (λ fault e. absurd (c.in_err-read_on-in-Ok-More.ensures.unbroken fault (ap Err (halt_is c.in_err-read_on-in-Ok-More.field-0.0 (Broken fault) e))))
 
 pub looking-smaller : goal.looking-smaller
 looking-smaller g c =
