@@ -25,10 +25,11 @@ returns-clause-done g c tells =
     let n = network_of c.play_all.new.self.world in
     if_ok_both c.end.result (λ line says texts run timely start.
     let i = run.input in
-    let t = c.in_ok-play_all.ensures.told tells run start in
+    let all = c.in_ok-play_all.ensures.told tells run start in
+    let t = all.is in
     let way = c.runs_are_under_way.ensures in
     let law = c.runs_write_legally.ensures in
-    let counts : List ℕ = counts_text plan c.play_all.new.self.counted.ports in
+    let counts : List ℕ = counts_text plan c.play_all.new.self.counted.ports c.play_all.new.self.outputs in
     record {
       history = [] then t.told;
       lines = t.lines;
@@ -39,7 +40,7 @@ returns-clause-done g c tells =
           (λ j bytes. bytes ≡ output_text i ([] then t.told) t.lines (kind_at plan j)) (texts run.before (text_so_far t.told t.gone t.lines []) (t.texts tells))
           (λ j bytes low is.
           is ∙ counts_written t.told t.gone t.lines counts (kind_at plan j)
-          ∙ texts-whole m i plan t.tree c.is_tree.ensures timely way law n t.told t.passed t.gone t.lines t.played c.play_all.new.self.counted.ports t.counted.ports c.counts_go_on.ensures c.runs_say_passed.ensures j low);
+          ∙ texts-whole m i plan t.tree c.is_tree.ensures timely way law n t.told t.passed t.gone t.lines t.played c.play_all.new.self.counted.ports c.play_all.new.self.outputs t.counted.ports t.sent all.room c.counts_go_on.ensures c.runs_say_passed.ensures j low);
       says = says ∙ ap summary_line (t.counted.tally ∙ counts-end m i plan t.tree c.is_tree.ensures timely way law n t.told t.passed t.gone t.lines t.played);
     }) c.end.ensures.line (c.end.ensures.texts tells)
 
@@ -51,7 +52,7 @@ returns-clause-cut g c = λ t. on_err_weaker c.end.result
     (λ cut run start.
     let S = g.S.Shelf in
     cut_at_end S.tells (mode_of c.args.schedule) run c.args.plan.now (S.file c.play_all.new.shelf) (S.file c.end.new.shelf) (network_of c.play_all.new.self.world) c.play_all.new.self.counted c.play_all.new.self.outputs t
-    (c.in_ok-play_all.ensures.told t run start) (counts_text c.args.plan.now c.play_all.new.self.counted.ports) cut)
+    (c.in_ok-play_all.ensures.told t run start).is (counts_text c.args.plan.now c.play_all.new.self.counted.ports c.play_all.new.self.outputs) cut)
     (c.end.ensures.cut t)
 
 pub returns-in_err-play_all-clause-never : goal.returns-in_err-play_all-clause-never
