@@ -2,3 +2,4 @@ pub mod Told
 pub mod Once
 pub mod Steps
 pub mod Ports
+pub mod Counted

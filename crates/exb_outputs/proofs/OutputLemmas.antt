@@ -8,7 +8,7 @@ use Rattle.exb_model.specs.declared.event.Event.{Event}
 use Rattle.exb_model.specs.Texts.{line_of}
 use Rattle.exb_model.specs.Traces.{TraceLine, trace_line, trace_text}
 use Rattle.exb_shelf.specs.Files.{Files, SameFiles, Adds, Filled}
-use Rattle.exb_shelf.specs.Shelf.{Id, writing}
+use Rattle.exb_shelf.specs.Shelf.{Id, IsWriting, writing}
 use Rattle.exb_shelf.proofs.FileLemmas.{Apart}
 use Rattle.exb_text.specs.declared.output.Output.{Output}
 use Rattle.exb_text.specs.declared.output.Output.TheVariants as output
@@ -70,11 +70,20 @@ has_more plan f g h pieces text j piece more apart lt in_pieces p (inr written) 
     ∙ ap (λ (xs : List ℕ). xs ++ more) held
     ∙ sym (more_at_here text j more))
 
--- the name of the id of a file that was read
+-- the id of a file that was read
+file_is : (given : ℕ → Id) (all : List Unfinished) (at : ℕ) (file : Unfinished) (name : List ℕ)
+    → file ≡ get_or all at file → at < length all → given (get_or (map (λ f. f.id) all) at 0) ≡ writing name → given file.id ≡ writing name
+file_is given all at file name read inside is = ap given (ap (λ (f : Unfinished). f.id) read ∙ sym (get_or-map (λ f. f.id) all at file 0 inside)) ∙ is
+
 pub name_of_file : (given : ℕ → Id) (all : List Unfinished) (at : ℕ) (file : Unfinished) (name : List ℕ)
     → file ≡ get_or all at file → at < length all → given (get_or (map (λ f. f.id) all) at 0) ≡ writing name → (given file.id).name ≡ name
-name_of_file given all at file name read inside is =
-    ap (λ (i : ℕ). (given i).name) (ap (λ (f : Unfinished). f.id) read ∙ sym (get_or-map (λ f. f.id) all at 0 file inside)) ∙ ap (λ (i : Id). i.name) is
+name_of_file given all at file name read inside is = ap (λ (i : Id). i.name) (file_is given all at file name read inside is)
+
+pub can_be_written : (given : ℕ → Id) (all : List Unfinished) (at : ℕ) (file : Unfinished) (name : List ℕ)
+    → file ≡ get_or all at file → at < length all → given (get_or (map (λ f. f.id) all) at 0) ≡ writing name → IsWriting (given file.id)
+can_be_written given all at file name read inside is =
+    let own = file_is given all at file name read inside is in
+    record { given = ap (λ (i : Id). i.given) own; writes = ap (λ (i : Id). i.reads) own }
 
 -- the same of the pieces of values, where one is read and written
 pub has_more_of : {X : Type 0} (of : X → List ℕ) (plan : Planned) (f g h : Files) (all : List X) (text : ℕ → List ℕ) (j : ℕ) (was now : X) (name more : List ℕ)

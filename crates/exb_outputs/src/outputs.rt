@@ -30,9 +30,10 @@ use exb_text::laws::file_names_differ;
 use exb_text::{Output, file_name, write_line, write_trace_line};
 use std::alloc::Global;
 
-/// How many bytes a capture has before its first record, and before the frame of each record.
+/// How many bytes a capture has before its first record.
 const HEADER: u64 = 24;
 
+/// How many bytes a record has before its frame.
 const RECORD: u64 = 16;
 
 /// An output while it is written.
@@ -113,7 +114,9 @@ fn create_one<S: Shelf>(
         written: 0,
         records: 0,
     };
-    outputs.files.push(file)?;
+    if outputs.files.push(file).is_err() {
+        return Err(Fault::Memory);
+    }
     Ok(())
 }
 

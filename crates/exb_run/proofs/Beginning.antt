@@ -80,7 +80,7 @@ unfolding below
 few-ports test = few-range test 0 4160
 
 -- ---- the captures at their first records
-abbrev ports_in : List Checked → List ℕ
+abbrev pub ports_in : List Checked → List ℕ
 ports_in cs = map (λ c. c.port) cs
 
 told-streams : (i : Input) (names : List Named) (file : Files) (cs : List Checked) → i.records ≡ records_at names file → map (stream_told names file) cs ≡ map (stream_at i) (ports_in cs)
@@ -171,7 +171,7 @@ numbers-one (c ∷ cs) q = by_port (c.port == q) (numbers-one cs q)
     by_port true rest = refl
     by_port false rest = rest
 
-has-named : (P : ℕ → Type 0) (cs : List Checked) (q : ℕ) → AllByRecursion P (ports_in cs) → HasPort q (map first_standing cs) → P q
+pub has-named : (P : ℕ → Type 0) (cs : List Checked) (q : ℕ) → AllByRecursion P (ports_in cs) → HasPort q (map first_standing cs) → P q
 has-named P [] q all has = absurd has
 has-named P (c ∷ cs) q all (inl same) = subst P same all.0
 has-named P (c ∷ cs) q all (inr later) = has-named P cs q all.1 later

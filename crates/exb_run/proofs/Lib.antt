@@ -25,3 +25,4 @@ pub mod Scratching
 pub mod OpenLemmas
 pub mod Ordered
 pub mod SummingUp
+pub mod Ports

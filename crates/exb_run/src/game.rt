@@ -7,7 +7,7 @@ ghost use Rattle.exb_model.specs.Setup.{IsValid, shape_of};
 ghost use Rattle.exb_model.specs.Texts.{counted, with_left, summary_line};
 ghost use Rattle.exb_model.specs.Traces.{TraceLine, trace_text};
 ghost use Rattle.exb_machine.specs.Worlds.{Left as Leaving};
-ghost use Rattle.exb_merge.specs.Replays.{ids_in};
+ghost use Rattle.exb_merge.specs.Replays.{ids_in, HasPort, standings};
 ghost use Rattle.exb_resting.specs.Motion.Playing.{IsTimely};
 ghost use Rattle.exb_network.specs.Networks.{world_of, IsQuiet, IsSame};
 ghost use Rattle.exb_network.specs.Worlds.{all_left};
@@ -279,6 +279,7 @@ impl Game {
         ensures never { S.tells → IfErr result (λ fault. IsChange fault → (run : Run)
             → IsPlaying S.tells (mode_of schedule) run plan.now (S.file shelf.old) (S.ids shelf.old) (network_of self.old.world) self.old.counted self.old.outputs None feed.old.programme → ⊥) }
         ensures only { OnlyGoesOn S.tells plan.now (ids_in feed.old.programme.captures) (S.file shelf.old) (S.file shelf.new) (S.ids shelf.old) (S.ids shelf.new) }
+        ensures port { IfErr result (λ fault. (p at : ℕ) → fault ≡ Fault.Changed p at → HasPort p (standings feed.old.programme.captures)) }
         ensures causes { IfErr result IsOfPlay }
         ensures faults { CountsFaults result (S.faults shelf.old) (S.faults shelf.new) }
     {
@@ -362,6 +363,7 @@ impl Game {
         ensures never { S.tells → IfErr result (λ fault. IsChange fault → (run : Run)
             → IsPlaying S.tells (mode_of schedule) run plan.now (S.file shelf.old) (S.ids shelf.old) (network_of self.old.world) self.old.counted self.old.outputs None feed.old.programme → ⊥) }
         ensures only { OnlyGoesOn S.tells plan.now (ids_in feed.old.programme.captures) (S.file shelf.old) (S.file shelf.new) (S.ids shelf.old) (S.ids shelf.new) }
+        ensures port { IfErr result (λ fault. (p at : ℕ) → fault ≡ Fault.Changed p at → HasPort p (standings feed.old.programme.captures)) }
         ensures causes { IfErr result IsOfPlay }
         ensures faults { CountsFaults result (S.faults shelf.old) (S.faults shelf.new) }
     {
@@ -399,6 +401,7 @@ impl Game {
         ensures never { S.tells → IfErr result (λ fault. IsChange fault → (run : Run)
             → IsOpened S.tells (mode_of schedule) run plan.now (S.file shelf.old) (S.ids shelf.old) (network_of self.old.world) self.old.counted self.old.outputs feed.old.programme → ⊥) }
         ensures only { OnlyGoesOn S.tells plan.now (ids_in feed.old.programme.captures) (S.file shelf.old) (S.file shelf.new) (S.ids shelf.old) (S.ids shelf.new) }
+        ensures port { IfErr result (λ fault. (p at : ℕ) → fault ≡ Fault.Changed p at → HasPort p (standings feed.old.programme.captures)) }
         ensures causes { IfErr result IsOfPlay }
         ensures faults { CountsFaults result (S.faults shelf.old) (S.faults shelf.new) }
     {
@@ -436,6 +439,7 @@ fn play_world<S: Shelf>(
     ensures never { S.tells → IfErr result (λ fault. IsChange fault → (run : Run)
         → IsOpened S.tells (mode_of schedule) run plan.now (S.file shelf.old) (S.ids shelf.old) (network_of world) counted outputs feed.old.programme → ⊥) }
     ensures only { OnlyGoesOn S.tells plan.now (ids_in feed.old.programme.captures) (S.file shelf.old) (S.file shelf.new) (S.ids shelf.old) (S.ids shelf.new) }
+    ensures port { IfErr result (λ fault. (p at : ℕ) → fault ≡ Fault.Changed p at → HasPort p (standings feed.old.programme.captures)) }
     ensures causes { IfErr result IsOfPlay }
     ensures faults { CountsFaults result (S.faults shelf.old) (S.faults shelf.new) }
 {
@@ -482,6 +486,7 @@ pub(crate) fn play_feed<S: Shelf>(
     ensures never { S.tells → IfErr result (λ fault. IsChange fault → (run : Run)
         → CanBegin S.tells (mode_of schedule) run script.now.setup.now plan.now (S.file shelf.old) (S.ids shelf.old) outputs feed.old.programme → ⊥) }
     ensures only { OnlyGoesOn S.tells plan.now (ids_in feed.old.programme.captures) (S.file shelf.old) (S.file shelf.new) (S.ids shelf.old) (S.ids shelf.new) }
+    ensures port { IfErr result (λ fault. (p at : ℕ) → fault ≡ Fault.Changed p at → HasPort p (standings feed.old.programme.captures)) }
     ensures causes { IfErr result IsOfPlay }
     ensures faults { CountsFaults result (S.faults shelf.old) (S.faults shelf.new) }
 {

@@ -84,6 +84,7 @@ fn open_one<S: Shelf>(
     ensures id { OnOk result ((id : ℕ) × (ids_in captures.new ≡ ids_in captures.old ++ id ∷ []) × ((S.ids shelf.old id).given ≡ false)) }
     ensures opens { Opens (ReadsCapture names.now) (S.ids shelf.old) (S.ids shelf.new) }
     ensures files { SameFiles (S.file shelf.old) (S.file shelf.new) }
+    ensures port { IfErr result (λ fault. (p at : ℕ) → fault ≡ Fault.Changed p at → is_named names.now p ≡ true) }
     ensures causes { IfErr result IsOfPlay }
     ensures faults { CountsFaults result (S.faults shelf.old) (S.faults shelf.new) }
 {
@@ -113,6 +114,7 @@ fn open_all<S: Shelf>(
     ensures never { S.tells → IfErr result (λ fault. IsChange fault → ⊥) }
     ensures opens { Opens (ReadsCapture names.now) (S.ids shelf.old) (S.ids shelf.new) }
     ensures files { SameFiles (S.file shelf.old) (S.file shelf.new) }
+    ensures port { IfErr result (λ fault. (p at : ℕ) → fault ≡ Fault.Changed p at → is_named names.now p ≡ true) }
     ensures causes { IfErr result IsOfPlay }
     ensures faults { CountsFaults result (S.faults shelf.old) (S.faults shelf.new) }
 {
@@ -151,6 +153,7 @@ fn play_into<S: Shelf>(
     ensures never { S.tells → IfErr result (λ fault. IsChange fault → ⊥) }
     ensures others { S.tells → OnlyPlanned plan.now (S.file shelf.old) (S.file shelf.new) }
     ensures opens { Opens (ReadsCapture names.now) (S.ids shelf.old) (S.ids shelf.new) }
+    ensures port { IfErr result (λ fault. (p at : ℕ) → fault ≡ Fault.Changed p at → is_named names.now p ≡ true) }
     ensures causes { IfErr result IsOfPlay }
     ensures faults { CountsFaults result (S.faults shelf.old) (S.faults shelf.new) }
 {
@@ -195,6 +198,7 @@ pub(crate) fn play<S: Shelf>(
     ensures never { S.tells → IfErr result (λ fault. IsChange fault → ⊥) }
     ensures only { OnlyPlays S.tells names.now plan.now (S.file shelf.old) (S.file shelf.new) (S.ids shelf.old) (S.ids shelf.new) }
     ensures made { MakesInOrder plan.now result (S.ids shelf.old) (S.ids shelf.new) }
+    ensures port { IfErr result (λ fault. (p at : ℕ) → fault ≡ Fault.Changed p at → is_named names.now p ≡ true) }
     ensures causes { IfErr result IsOfPlay }
     ensures faults { CountsFaults result (S.faults shelf.old) (S.faults shelf.new) }
 {

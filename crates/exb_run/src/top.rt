@@ -15,7 +15,7 @@ ghost use Rattle.exb_run.specs.Outputs.{AreFrontsOf, IsPlayed, OnlyOutputs};
 ghost use Rattle.exb_inputs.specs.Checks.{AreAllGood, FirstFault};
 ghost use Rattle.exb_inputs.specs.Shelving.{ReadsBelow, ReadsCapture, CountsFaults};
 ghost use Rattle.exb_outputs.specs.Order.{MakesInOrder};
-ghost use Rattle.exb_run.specs.Opening.{IsFileOf, IsOpenedFor, OpenedInOrder, OpensBy, OpensInOrder, plan_for};
+ghost use Rattle.exb_run.specs.Opening.{IsFileOf, IsOpenedFor, MadeBehind, OpenedInOrder, OpensBy, OpensInOrder, plan_for};
 ghost use Rattle.exb_run.specs.Shelving.{IsOfPlay};
 ghost use Rattle.exb_inputs.specs.Reading.{IsOfPlaying};
 ghost use Rattle.exb_run.specs.Answers.{asked, mode_for, AreFronts, eager_summary, IsDone, IsRun, CanBeDone, OnlyAsked, Stops, StopsWith, IsText, IsOfInput, RoseBy, IsStatus};
@@ -84,6 +84,8 @@ fn play_topology<S: Shelf>(
     ensures played { S.tells → Opens (IsOpenedFor options topology.now (S.file shelf.old)) (S.ids shelf.old) (S.ids shelf.new) }
     ensures files { Opens (IsFileOf options topology.now) (S.ids shelf.old) (S.ids shelf.new) }
     ensures made { MakesInOrder (plan_for topology.now options) result (S.ids shelf.old) (S.ids shelf.new) }
+    ensures behind { MadeBehind topology.now.captures (S.ids shelf.old) (S.ids shelf.new) }
+    ensures port { IfErr result (λ fault. (p at : ℕ) → fault ≡ Fault.Changed p at → is_named topology.now.captures p ≡ true) }
     ensures own { (p : ℕ) (flaw : Flaw) → IsErrOf result (Fault.Capture p flaw) → (is_named topology.now.captures p ≡ true)
         × Opens (ReadsBelow topology.now.captures (p + 1)) (S.ids shelf.old) (S.ids shelf.new) }
     ensures upto { S.tells → (p : ℕ) (fault : Fault) → FirstFault topology.now.captures (S.file shelf.old) p fault

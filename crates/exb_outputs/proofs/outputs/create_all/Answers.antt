@@ -1,6 +1,7 @@
 use Rattle.std.proofs.Common.{rules, ◌≡◌, ◌<◌, ◌∙◌, ℕ, List, [], ap, refl, get_or, slice_index, length, arith, subst}
 use Rattle.std.proofs.lemmas.List.{length-map}
 use Rattle.std.proofs.lemmas.Result.{err_from_is_err_and}
+use Rattle.exb_inputs.proofs.ShelvingLemmas.{counts_as, counts_from}
 use Rattle.exb_shelf.specs.Files.{Filled}
 use Rattle.exb_shelf.proofs.FileLemmas.{filled_none, filled_one}
 use Rattle.exb_shelf.proofs.IdLemmas.{opens_none, opens_then}
@@ -24,6 +25,7 @@ loop-at-init g c = record {
   opened = opens_none _ _;
   made = made_none c.args.plan.now _;
   faults = search rules;
+  counted = refl;
 }
 
 pub loop-at-preserved : goal.loop-at-preserved
@@ -57,6 +59,7 @@ loop-at-preserved g c =
       opened = opens_then _ _ _ _ before.opened made.opened;
       made = made_more c.args.plan.now c.loop-at.at _ _ _ before.made before.opened.kept lt made.makes.0 made.makes.1;
       faults = search (arith, made.faults.none_fell, before.faults);
+      counted = made.faults.once ∙ before.counted;
     }
 
 pub returns-clause-texts : goal.returns-clause-texts
@@ -101,3 +104,8 @@ returns-in_err-create_one-clause-cut g c = λ t.
 pub returns-clause-sent : goal.returns-clause-sent
 returns-clause-sent g c =
     first_sent c.args.plan.now c.loop-at.outputs (λ j l. c.loop-at.invariant.records j (omega arith)) (λ j l. c.loop-at.invariant.sizes j (omega arith))
+
+pub returns-in_err-create_one-clause-faults : goal.returns-in_err-create_one-clause-faults
+returns-in_err-create_one-clause-faults g c =
+    let e = err_from_is_err_and c.from_residual.result c.from_residual.ensures.1 in
+    rw (e.1, e.2) (counts_from _ _ _ _ c.loop-at.invariant.counted (counts_as c.in_err-create_one.field-0.0 _ _ c.in_err-create_one.ensures.faults))

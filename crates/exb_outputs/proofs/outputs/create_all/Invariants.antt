@@ -21,4 +21,5 @@ invariant-loop-at g l =
       opened : Opens (WritesPlanned l.plan) (S.ids l.fn.shelf) (S.ids l.shelf);
       made : MadeInOrder l.plan l.at (S.ids l.fn.shelf) (S.ids l.shelf);
       faults : NoFewer (S.faults l.fn.shelf) (S.faults l.shelf);
+      counted : S.faults l.shelf ≡ S.faults l.fn.shelf;
     }

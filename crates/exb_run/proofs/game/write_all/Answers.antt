@@ -1,5 +1,6 @@
-use Rattle.std.proofs.Common.{◌+◌, List, subst}
+use Rattle.std.proofs.Common.{◌+◌, List, subst, ◌∙◌}
 use Rattle.std.proofs.lemmas.Result.{err_from_is_err_and, on_err_weaker, on_ok_weaker}
+use Rattle.exb_inputs.proofs.ShelvingLemmas.{counts_as, counts_from}
 use Rattle.exb_model.specs.declared.event.Event.{Event}
 use Rattle.exb_model.specs.Traces.{TraceLine, trace_text}
 use Rattle.exb_network.specs.declared.log.Left.{Left}
@@ -91,3 +92,11 @@ returns-clause-sent g c =
     let third = sent_same plan c.write_left.new.outputs c.write_trace.new.self (sent_with sent c.left.result.now) same second in
     subst (λ (xs : List Left). HasSent plan c.write_trace.new.self (sent_with sent xs)) c.left.ensures third)
     c.write_trace.ensures.same
+
+pub returns-in_err-write_left-clause-faults : goal.returns-in_err-write_left-clause-faults
+returns-in_err-write_left-clause-faults g c =
+    let e = err_from_is_err_and c.from_residual-in_err-write_left.result c.from_residual-in_err-write_left.ensures.1 in
+    rw (e.1, e.2) (counts_from _ _ _ _ c.in_ok-write_events.ensures.faults.once (counts_as c.in_err-write_left.field-0.0 _ _ c.in_err-write_left.ensures.faults))
+
+pub returns-clause-faults : goal.returns-clause-faults
+returns-clause-faults g c = counts_from c.write_trace.result _ _ _ (c.in_ok-write_left.ensures.faults.once ∙ c.in_ok-write_events.ensures.faults.once) c.write_trace.ensures.faults

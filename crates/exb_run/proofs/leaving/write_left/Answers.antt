@@ -1,6 +1,7 @@
-use Rattle.std.proofs.Common.{rules, ◌<◌, take, length, arith, ◌≤◌, List, subst}
+use Rattle.std.proofs.Common.{rules, ◌<◌, take, length, arith, ◌≤◌, List, subst, ◌∙◌, refl}
 use Rattle.std.proofs.lemmas.List.{take_all}
 use Rattle.std.proofs.lemmas.Result.{err_from_is_err_and}
+use Rattle.exb_inputs.proofs.ShelvingLemmas.{counts_as, counts_from}
 use Rattle.exb_network.specs.declared.log.Left.{Left}
 use Rattle.exb_outputs.specs.Sent.{HasSent}
 use Rattle.exb_outputs.specs.Writing.{HasTexts, pieces_of}
@@ -19,6 +20,7 @@ loop-frame-init g c =
       sent = λ sent has. sent_as c.args.plan.now c.args.outputs.now sent (sent_with sent []) (sent_none sent) has;
       only = writes_none _ _ _ _;
       faults = search rules;
+      counted = refl;
     }
 
 pub loop-frame-preserved : goal.loop-frame-preserved
@@ -38,6 +40,7 @@ loop-frame-preserved g c =
           (added.sent (sent_with sent (take c.loop-frame.frame-index left)) (before.sent sent has));
       only = writes_then _ _ _ _ _ _ _ _ before.only added.only;
       faults = search (arith, added.faults.none_fell, before.faults);
+      counted = added.faults.once ∙ before.counted;
     }
 
 pub returns-in_err-add_left-clause-only : goal.returns-in_err-add_left-clause-only
@@ -65,3 +68,8 @@ returns-clause-sent g c = λ sent has.
     let all : List Left = c.args.left.now in
     let end : length all ≤ c.loop-frame.frame-index = omega arith in
     subst (λ (xs : List Left). HasSent c.args.plan.now c.loop-frame.outputs (sent_with sent xs)) (take_all c.loop-frame.frame-index all end) (c.loop-frame.invariant.sent sent has)
+
+pub returns-in_err-add_left-clause-faults : goal.returns-in_err-add_left-clause-faults
+returns-in_err-add_left-clause-faults g c =
+    let e = err_from_is_err_and c.from_residual.result c.from_residual.ensures.1 in
+    rw (e.1, e.2) (counts_from _ _ _ _ c.loop-frame.invariant.counted (counts_as c.in_err-add_left.field-0.0 _ _ c.in_err-add_left.ensures.faults))

@@ -1,4 +1,4 @@
-use Rattle.std.proofs.Common.{ℕ, List, take}
+use Rattle.std.proofs.Common.{ℕ, List, take, ◌≡◌}
 use Rattle.exb_shelf.specs.Files.{Files}
 use Rattle.exb_shelf.specs.Shelf.{NoFewer}
 use Rattle.exb_text.specs.declared.output.Output.{Output}
@@ -19,4 +19,5 @@ invariant-loop-frame g l =
       sent : (sent : ℕ → List Sent) → HasSent l.plan l.fn.outputs sent → HasSent l.plan l.outputs (sent_with sent (take l.frame-index l.left));
       only : OnlyWrites S.tells l.plan (S.file l.fn.shelf) (S.file l.shelf) (S.ids l.fn.shelf) (S.ids l.shelf);
       faults : NoFewer (S.faults l.fn.shelf) (S.faults l.shelf);
+      counted : S.faults l.shelf ≡ S.faults l.fn.shelf;
     }

@@ -1,7 +1,9 @@
 use Rattle.std.proofs.Common.{◌≡◌, ◌<◌, ◌^◌, ℕ, false, List, length, refl, ap, sym, subst, inl, ◌∙◌, arith}
 use Rattle.std.specs.List.{AllByRecursion}
 use Rattle.std.specs.Vec.{with_items}
-use Rattle.exb_merge.specs.Replays.{ids_in}
+use Rattle.std.proofs.lemmas.Result.{err_from_is_err_and}
+use Rattle.exb_run.proofs.Ports.{named-port}
+use Rattle.exb_merge.specs.Replays.{ids_in, HasPort, standings}
 use Rattle.exb_shelf.proofs.IdLemmas.{opens_none}
 use Rattle.exb_shelf.specs.Files.{Files}
 use Rattle.exb_inputs.specs.Inputs.{input_from}
@@ -13,7 +15,7 @@ use Rattle.exb_run.proofs.CuttingOff.{begun_eagerly}
 use Rattle.exb_run.proofs.Keeping.{ready-opened}
 use Rattle.exb_run.proofs.Reopening.{plays-opened}
 use Rattle.exb_run.proofs.Running.{files_same, if_err_map, if_ok_map}
-use Rattle.exb_inputs.proofs.ShelvingLemmas.{counts_after}
+use Rattle.exb_inputs.proofs.ShelvingLemmas.{counts_from}
 use Rattle.exb_run.proofs.play.play_into.Goals as goal
 
 pub new-programme-requires-clause-start : goal.new-programme-requires-clause-start
@@ -117,4 +119,18 @@ pub returns-in_default-clause-opens : goal.returns-in_default-clause-opens
 returns-in_default-clause-opens g c = opens_none _ _
 
 pub returns-clause-faults : goal.returns-clause-faults
-returns-clause-faults g c = counts_after c.play_feed.result _ _ _ c.open_all.ensures.faults.none_fell c.play_feed.ensures.faults
+returns-clause-faults g c = counts_from c.play_feed.result _ _ _ c.in_ok-captures.ensures.faults.once c.play_feed.ensures.faults
+
+pub returns-clause-port : goal.returns-clause-port
+returns-clause-port g c =
+    let names = c.args.names.now in
+    if_err_map c.play_feed.result
+    (λ x port p at is.
+    named-port names c.args.checked.now c.requires.captures.checked.ports p
+    (subst (HasPort p) (ap standings c.new-programme.ensures.captures ∙ c.in_ok-captures.ensures.standings) (port p at is)))
+    c.play_feed.ensures.port
+
+pub returns-in_err-captures-clause-port : goal.returns-in_err-captures-clause-port
+returns-in_err-captures-clause-port g c =
+    let e = err_from_is_err_and c.from_residual.result c.from_residual.ensures.1 in
+    rw (e.1, e.2) c.in_err-captures.ensures.port

@@ -1,10 +1,16 @@
 use Rattle.std.proofs.Common.{◌≡◌, ◌<◌, length, refl, arith}
 use Rattle.std.proofs.lemmas.Result.{on_err_weaker, on_ok_weaker}
 use Rattle.exb_outputs.specs.Plans.{kind_at, output_count, output_name}
-use Rattle.exb_outputs.proofs.OutputLemmas.{by_kind, name_of_file, has_more_of, of_kind}
+use Rattle.exb_outputs.proofs.OutputLemmas.{by_kind, can_be_written, name_of_file, has_more_of, of_kind}
 use Rattle.exb_outputs.proofs.Cutting.{cut_at, cut_kind}
 use Rattle.exb_outputs.proofs.Sizes.{grows_at, ready_with}
 use Rattle.exb_outputs.proofs.outputs.Outputs.add_to.Goals as goal
+
+pub add-requires : goal.add-requires
+add-requires g c =
+    let lt : c.args.at < output_count c.args.plan.now = c.requires.within in
+    let inside : c.args.at < length c.args.self.now.files.items = (let all = c.requires.ready.files in omega (arith, lt, all)) in
+    can_be_written (g.S.Shelf.ids c.args.shelf.now) c.args.self.now.files.items c.args.at c.index_mut.result.now _ c.index_mut.ensures.value inside (c.requires.ready.named c.args.at lt)
 
 pub returns-clause-texts : goal.returns-clause-texts
 returns-clause-texts g c = λ t.

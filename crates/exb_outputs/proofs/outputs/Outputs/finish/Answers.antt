@@ -1,11 +1,19 @@
 use Rattle.std.proofs.Common.{◌≡◌, ◌<◌, ◌∙◌, length, refl, arith}
 use Rattle.std.proofs.lemmas.Result.{err_from_is_err_and}
+use Rattle.exb_inputs.proofs.ShelvingLemmas.{counts_as, counts_from}
 use Rattle.exb_outputs.specs.Plans.{output_count, output_name}
 use Rattle.exb_outputs.specs.Writing.{pieces_of}
-use Rattle.exb_outputs.proofs.OutputLemmas.{name_of_file, is_flushed, more_empty, all_written, of_kind}
+use Rattle.exb_outputs.proofs.OutputLemmas.{can_be_written, name_of_file, is_flushed, more_empty, all_written, of_kind}
 use Rattle.exb_outputs.proofs.Cutting.{cut_piece}
 use Rattle.exb_outputs.proofs.Sizes.{ready_with}
 use Rattle.exb_outputs.proofs.outputs.Outputs.finish.Goals as goal
+
+pub flush-requires : goal.flush-requires
+flush-requires g c =
+    let ready = c.loop-at.invariant.ready in
+    let lt : c.loop-at.at < output_count c.args.plan.now = omega arith in
+    let inside : c.loop-at.at < length c.loop-at.self.files.items = omega arith in
+    can_be_written (g.S.Shelf.ids c.loop-at.shelf) c.loop-at.self.files.items c.loop-at.at c.index_mut.result.now _ c.index_mut.ensures.value inside (ready.named c.loop-at.at lt)
 
 pub loop-at-preserved : goal.loop-at-preserved
 loop-at-preserved g c =
@@ -29,6 +37,7 @@ loop-at-preserved g c =
         kept = λ j. c.in_ok-flush.ensures.kept j ∙ before.only.kept j;
       };
       faults = search (arith, c.in_ok-flush.ensures.faults.none_fell, before.faults);
+      counted = c.in_ok-flush.ensures.faults.once ∙ before.counted;
     }
 
 pub returns-clause-texts : goal.returns-clause-texts
@@ -51,3 +60,8 @@ returns-in_err-flush-clause-cut g c = λ t.
     let named : (given was.id).name ≡ output_name c.args.plan.now c.loop-at.at = name_of_file given all c.loop-at.at was _ c.index_mut.ensures.value inside (before.ready.named c.loop-at.at lt) in
     cut_piece (λ f. f.piece.items) c.args.plan.now orig (S.file c.loop-at.shelf) (S.file c.flush.new.shelf) all text c.loop-at.at was _
     (c.output_names_differ.ensures c.args.plan.now) lt before.ready.files c.index_mut.ensures.value named (before.texts t orig text p) (c.in_err-flush.ensures.front t))
+
+pub returns-in_err-flush-clause-faults : goal.returns-in_err-flush-clause-faults
+returns-in_err-flush-clause-faults g c =
+    let e = err_from_is_err_and c.from_residual.result c.from_residual.ensures.1 in
+    rw (e.1, e.2) (counts_from _ _ _ _ c.loop-at.invariant.counted (counts_as c.in_err-flush.field-0.0 _ _ c.in_err-flush.ensures.faults))

@@ -1,7 +1,8 @@
-use Rattle.std.proofs.Common.{rules, ◌≡◌, ◌<◌, ◌≤◌, ℕ, List, get_or, take, length, ap, sym, subst, ◌∙◌, arith}
+use Rattle.std.proofs.Common.{rules, ◌≡◌, ◌<◌, ◌≤◌, ℕ, List, get_or, take, length, ap, sym, subst, ◌∙◌, arith, refl}
 use Rattle.std.proofs.lemmas.Grind.{get_or_default_zero}
 use Rattle.std.proofs.lemmas.List.{take_all}
 use Rattle.std.proofs.lemmas.Result.{err_from_is_err_and}
+use Rattle.exb_inputs.proofs.ShelvingLemmas.{counts_as, counts_from}
 use Rattle.exb_counters.specs.declared.counters.Counts5.{Counts5}
 use Rattle.exb_counters.specs.Counters.{count_line, count_lines}
 use Rattle.exb_model.specs.Tree.{external_ports}
@@ -25,6 +26,7 @@ loop-at-init g c =
       same = same_none _ _;
       only = writes_none _ _ _ _;
       faults = search rules;
+      counted = refl;
     }
 
 pub counts_of-counts-requires-clause-files : goal.counts_of-counts-requires-clause-files
@@ -65,6 +67,7 @@ loop-at-preserved g c =
       same = same_then _ _ _ _ before.same added.same;
       only = writes_then _ _ _ _ _ _ _ _ before.only added.only;
       faults = search (arith, added.faults.none_fell, before.faults);
+      counted = added.faults.once ∙ before.counted;
     }
 
 pub returns-clause-texts : goal.returns-clause-texts
@@ -94,3 +97,8 @@ returns-in_err-add_count-clause-cut g c = λ t.
     cut_counts plan orig (g.S.Shelf.file c.add_count.new.shelf) text counts ports c.loop-at.at c.port.result inside is
     (subst (λ (k : Counts5). AreCut plan orig (g.S.Shelf.file c.add_count.new.shelf) (with_more (with_more text output.Counters (count_lines counts (take c.loop-at.at ports))) output.Counters (count_line c.port.result k))) line
     (c.in_err-add_count.ensures.cut t orig (with_more text output.Counters (count_lines counts (take c.loop-at.at ports))) (before.texts t orig text p))))
+
+pub returns-in_err-add_count-clause-faults : goal.returns-in_err-add_count-clause-faults
+returns-in_err-add_count-clause-faults g c =
+    let e = err_from_is_err_and c.from_residual.result c.from_residual.ensures.1 in
+    rw (e.1, e.2) (counts_from _ _ _ _ c.loop-at.invariant.counted (counts_as c.in_err-add_count.field-0.0 _ _ c.in_err-add_count.ensures.faults))

@@ -1,4 +1,4 @@
-use Rattle.std.proofs.Common.{ℕ, List, take}
+use Rattle.std.proofs.Common.{ℕ, List, take, ◌≡◌}
 use Rattle.exb_counters.specs.Counters.{count_lines}
 use Rattle.exb_model.specs.Tree.{external_ports}
 use Rattle.exb_shelf.specs.Files.{Files}
@@ -20,4 +20,5 @@ invariant-loop-at g l =
       same : SameCaptures l.plan l.fn.self l.self;
       only : OnlyWrites S.tells l.plan (S.file l.fn.shelf) (S.file l.shelf) (S.ids l.fn.shelf) (S.ids l.shelf);
       faults : NoFewer (S.faults l.fn.shelf) (S.faults l.shelf);
+      counted : S.faults l.shelf ≡ S.faults l.fn.shelf;
     }

@@ -4,11 +4,20 @@ use Rattle.exb_model.specs.Texts.{record_text}
 use Rattle.exb_text.specs.declared.output.Output.TheVariants as output
 use Rattle.exb_outputs.specs.Plans.{kind_at, output_count, output_name, place_in}
 use Rattle.exb_outputs.specs.Writing.{AreCut, HasTexts, with_more}
-use Rattle.exb_outputs.proofs.OutputLemmas.{by_kind, has_more_of, name_of_file, of_kind}
+use Rattle.exb_outputs.proofs.OutputLemmas.{by_kind, can_be_written, has_more_of, name_of_file, of_kind}
 use Rattle.exb_outputs.proofs.ByKind.{placed}
 use Rattle.exb_outputs.proofs.Cutting.{cut_at, cut_kind}
 use Rattle.exb_outputs.proofs.Sizes.{frame_sent, ready_with, record_size}
 use Rattle.exb_outputs.proofs.outputs.Outputs.write_frame.Goals as goal
+
+pub add-requires : goal.add-requires
+add-requires g c =
+    let can = c.requires.frame in
+    let at = c.place-at.result in
+    let place = placed c.args.plan.now (output.Capture c.args.port) can.port can.low in
+    let lt : at < output_count c.args.plan.now = (let low = place.low in let same = c.place-at.ensures in omega (arith, low, same)) in
+    let inside : at < length c.args.self.now.files.items = (let all = c.requires.ready.files in omega (arith, lt, all)) in
+    can_be_written (g.S.Shelf.ids c.args.shelf.now) c.args.self.now.files.items at c.index_mut-file.result.now _ c.index_mut-file.ensures.value inside (c.requires.ready.named at lt)
 
 pub returns-clause-ready : goal.returns-clause-ready
 returns-clause-ready g c =

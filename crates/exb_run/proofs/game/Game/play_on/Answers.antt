@@ -1,5 +1,8 @@
 use Rattle.std.proofs.Common.{◌≡◌, ◌∙◌, ℕ, List, [], ap}
 use Rattle.std.proofs.lemmas.Result.{err_from_is_err_and, on_err_weaker}
+use Rattle.exb_run.proofs.Ports.{writing-port}
+use Rattle.exb_merge.specs.Replays.{HasPort, standings}
+use Rattle.exb_inputs.proofs.ShelvingLemmas.{counts_from}
 use Rattle.exb_model.specs.History.{◌then◌}
 use Rattle.exb_model.specs.Texts.{summary_line}
 use Rattle.exb_schedule.specs.Worlds.{network_of}
@@ -13,7 +16,7 @@ use Rattle.exb_run.proofs.Ending.{counts-end, eagerly, legal, texts-whole, trace
 use Rattle.exb_outputs.proofs.Filling.{weaker}
 use Rattle.exb_run.proofs.Telling.{counts_written, if_ok_both}
 use Rattle.exb_run.proofs.Keeping.{goes-writing}
-use Rattle.exb_run.proofs.Running.{if_ok_map}
+use Rattle.exb_run.proofs.Running.{if_ok_map, if_err_map}
 use Rattle.exb_run.proofs.CuttingOff.{cut_at_end}
 use Rattle.exb_run.proofs.game.Game.play_on.Goals as goal
 
@@ -62,3 +65,14 @@ returns-in_err-play_all-clause-never g c t =
 
 pub returns-clause-says : goal.returns-clause-says
 returns-clause-says g c = if_ok_map c.end.result (λ line says. (counts_of c.play_all.new.self.counted.tally, says)) c.end.ensures.line
+
+pub returns-clause-faults : goal.returns-clause-faults
+returns-clause-faults g c = counts_from c.end.result _ _ _ c.in_ok-play_all.ensures.faults.once c.end.ensures.faults
+
+pub returns-in_err-play_all-clause-port : goal.returns-in_err-play_all-clause-port
+returns-in_err-play_all-clause-port g c =
+    let e = err_from_is_err_and c.from_residual.result c.from_residual.ensures.1 in
+    rw (e.1, e.2) c.in_err-play_all.ensures.port
+
+pub returns-clause-port : goal.returns-clause-port
+returns-clause-port g c = if_err_map c.end.result (λ x causes. writing-port (λ (q : ℕ). HasPort q (standings c.args.feed.now.programme.captures)) x causes) c.end.ensures.causes

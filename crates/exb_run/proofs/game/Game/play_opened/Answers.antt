@@ -1,5 +1,7 @@
-use Rattle.std.proofs.Common.{[], refl, arith}
+use Rattle.std.proofs.Common.{[], refl, arith, ℕ}
 use Rattle.std.proofs.lemmas.Result.{err_from_is_err_and, on_err_weaker}
+use Rattle.exb_run.proofs.Ports.{writing-port}
+use Rattle.exb_merge.specs.Replays.{HasPort, standings}
 use Rattle.exb_model.specs.Input.{segments}
 use Rattle.exb_schedule.specs.Worlds.{network_of}
 use Rattle.exb_run.specs.Playing.{mode_of, text_so_far}
@@ -11,7 +13,7 @@ use Rattle.exb_run.proofs.PortCounts.{can-count, none_together}
 use Rattle.exb_run.proofs.Going.{opened-playing}
 use Rattle.exb_run.proofs.Keeping.{feed-written, goes-none, goes-then, goes-writing}
 use Rattle.exb_run.proofs.Running.{if_err_map, if_ok_map}
-use Rattle.exb_inputs.proofs.ShelvingLemmas.{counts_after}
+use Rattle.exb_inputs.proofs.ShelvingLemmas.{counts_from}
 use Rattle.exb_run.proofs.Telling.{text-first, frames-fit}
 use Rattle.exb_run.proofs.game.Game.play_opened.Goals as goal
 
@@ -98,4 +100,9 @@ returns-clause-only g c =
     goes-then S.tells c.args.plan.now _ _ _ _ _ _ _ (goes-writing S.tells c.args.plan.now _ _ _ _ _ _ _ (goes-none S.tells c.args.plan.now _ (S.file c.args.shelf.now) (S.ids c.args.shelf.now)) c.in_ok-note.ensures.only) c.play_on.ensures.only
 
 pub returns-clause-faults : goal.returns-clause-faults
-returns-clause-faults g c = counts_after c.play_on.result _ _ _ c.in_ok-note.ensures.faults.none_fell c.play_on.ensures.faults
+returns-clause-faults g c = counts_from c.play_on.result _ _ _ c.in_ok-note.ensures.faults.once c.play_on.ensures.faults
+
+pub returns-in_err-note-clause-port : goal.returns-in_err-note-clause-port
+returns-in_err-note-clause-port g c =
+    let e = err_from_is_err_and c.from_residual.result c.from_residual.ensures.1 in
+    rw (e.1, e.2) (writing-port (λ (q : ℕ). HasPort q (standings c.args.feed.now.programme.captures)) c.in_err-note.field-0.0 c.in_err-note.ensures.causes)
