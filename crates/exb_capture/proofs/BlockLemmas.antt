@@ -1,14 +1,13 @@
 -- pcapng is a format: what stands at a front stands whatever follows.
-use Rattle.std.proofs.Common.{◌≡◌, ◌<◌, ◌≤◌, ◌+◌, ◌-◌, ℕ, Bool, true, false, List, [], ◌++◌, length, take, drop, Option, Some, None, Result, Ok, Err, cond, refl, ap, sym, subst, ◌∙◌, arith}
-use Rattle.std.specs.Prelude.{nat_lt, nat_eq, ◌||◌, ◌&&◌, not, ◌==◌, ◌%◌}
+use Rattle.std.proofs.Common.{◌≡◌, ◌<◌, ◌≤◌, ◌+◌, ◌-◌, ℕ, Bool, true, false, List, [], ◌++◌, length, take, drop, Option, Some, None, Result, Ok, Err, cond, refl, ap, sym, ◌∙◌, arith}
+use Rattle.std.specs.Prelude.{nat_lt, nat_eq}
 use Rattle.std.proofs.lemmas.Bool.{ltb-false, ltb-true, le-ltb, eqb-true}
 use Rattle.std.proofs.lemmas.List.{take-append-le, take-take, drop-take}
 use Rattle.exb_capture.specs.declared.fault.Fault.{Fault}
-use Rattle.exb_capture.specs.declared.fault.Flaw.TheVariants.{Cut, Length}
+use Rattle.exb_capture.specs.declared.fault.Flaw.TheVariants.{Cut}
 use Rattle.exb_capture.specs.declared.order.ByteOrder.{ByteOrder}
 use Rattle.exb_capture.specs.declared.interface.Interface.{Interface}
 use Rattle.exb_capture.specs.Within.{section_of}
-use Rattle.exb_capture.specs.declared.block.Kind.{Kind}
 use Rattle.exb_capture.specs.declared.block.Head.{Head}
 use Rattle.exb_capture.specs.declared.block.Content.{Content}
 use Rattle.exb_capture.specs.declared.block.Content.TheVariants.{Skipped, NewSection, NewInterface, Packet}
@@ -18,8 +17,7 @@ use Rattle.exb_capture.proofs.FormatLemmas.{IsDecided, longer, IsMeasured, LiesW
 use Rattle.exb_capture.proofs.BlockSizes.{head_sized, IsSized, IsLong, block_long}
 use Rattle.exb_capture.proofs.BlockOpen.{block_undecided, block_blank}
 use Rattle.exb_capture.proofs.BlockPlaces.{block_within, head_within}
-use Rattle.exb_capture.specs.Fields.{◌>>=◌, refuse, word}
-use Rattle.exb_capture.specs.Blocks.{Sections, order_of, interfaces_of, kind_of, is_read, is_no_size, order_at, head_at, block_at, shown, whole_front, headed_front, block_front, most_held}
+use Rattle.exb_capture.specs.Blocks.{Sections, order_of, interfaces_of, is_read, head_at, block_at, shown, whole_front, headed_front, block_front, most_held}
 
 -- a block that is there
 abbrev pub block : Sections → Head → List ℕ → Front Sections

@@ -1,5 +1,5 @@
 -- A fault of a block lies within it.
-use Rattle.std.proofs.Common.{◌≡◌, ◌≤◌, ◌<◌, ◌+◌, ◌-◌, ℕ, zero, suc, Bool, true, false, List, length, Option, Some, None, Result, Ok, Err, cond, refl, arith}
+use Rattle.std.proofs.Common.{◌≡◌, ◌≤◌, ◌+◌, ◌-◌, ℕ, zero, suc, Bool, true, false, List, length, Option, Some, None, Result, Ok, Err, cond, refl, arith}
 use Rattle.std.specs.Prelude.{nat_lt, nat_le, get_or, slice_index, ◌&&◌, not, ◌==◌, ◌^◌, ◌*◌}
 use Rattle.std.proofs.lemmas.Bool.{leb-false}
 use Rattle.exb_capture.specs.declared.fault.Fault.{Fault}
@@ -11,7 +11,7 @@ use Rattle.exb_capture.specs.declared.block.Kind.{Kind}
 use Rattle.exb_capture.specs.declared.block.Kind.TheVariants.{SectionHeader, InterfaceBlock, EnhancedPacket, SimplePacket, Other}
 use Rattle.exb_capture.specs.declared.block.Head.{Head}
 use Rattle.exb_capture.specs.declared.block.Content.{Content}
-use Rattle.exb_capture.specs.declared.block.Content.TheVariants.{Skipped, NewSection, NewInterface, Packet}
+use Rattle.exb_capture.specs.declared.block.Content.TheVariants.{NewSection, NewInterface, Packet}
 use Rattle.exb_capture.specs.Formats.{fault}
 use Rattle.exb_capture.specs.Fields.{◌>>=◌, refuse, word, half_word, nanoseconds}
 use Rattle.exb_capture.specs.Blocks.{is_header, new_order, old_order, order_at, kind_of, is_no_size, head_at, digits_at, or_option, or_six, padded, resolution_within, resolution_from, section_at, interface_at, interface_number, no_interface, units_at, is_no_frame, enhanced_at, snapped, simple_at, content_at, block_at}

@@ -5,8 +5,6 @@ use Rattle.std.proofs.lemmas.Bool.{ltb-false, ltb-true, le-ltb, ne_eqb, eqb-true
 use Rattle.std.proofs.lemmas.List.{take-append-le}
 use Rattle.exb_capture.specs.declared.fault.Fault.{Fault}
 use Rattle.exb_capture.specs.declared.fault.Flaw.TheVariants.{NotPcap, Version, LinkType, Cut, Length, Time}
-use Rattle.exb_capture.specs.declared.order.ByteOrder.TheVariants.{Big, Little}
-use Rattle.exb_capture.specs.declared.classic.Resolution.TheVariants.{Micros, Nanos}
 use Rattle.exb_capture.specs.declared.classic.Form.{Form}
 use Rattle.exb_capture.specs.declared.classic.Reached.{Reached}
 use Rattle.exb_capture.specs.declared.classic.Reached.TheVariants.{Start, Behind}
@@ -14,10 +12,10 @@ use Rattle.exb_capture.specs.Fields.{◌>>=◌, refuse, word, half_word, agrees}
 use Rattle.exb_capture.specs.Formats.{Front, Nothing, Short, Holds, fault}
 use Rattle.exb_capture.specs.Pieces.{IsFormat}
 use Rattle.exb_capture.specs.Blocks.{most_held}
-use Rattle.exb_capture.specs.Classic.{form, digits, form_of, header_at, shown_header, magic_front, head_at, time_at, stored_front, record_front, classic_front}
+use Rattle.exb_capture.specs.Classic.{digits, form_of, header_at, shown_header, magic_front, head_at, time_at, stored_front, record_front, classic_front}
 use Rattle.exb_capture.proofs.BlockLemmas.{part_of}
 use Rattle.exb_capture.proofs.ClassicOpen.{form_by, same_by, form_more, record_in, classic_undecided, classic_blank}
-use Rattle.exb_capture.proofs.FormatLemmas.{IsDecided, longer, not_empty, IsMeasured, LiesWithin, then_within, refused_within, format_by, differs_on, agrees_whole}
+use Rattle.exb_capture.proofs.FormatLemmas.{IsDecided, longer, not_empty, IsMeasured, LiesWithin, then_within, refused_within, format_by, differs_on}
 
 -- ---- the magic number
 none_by : (a b c d : Bool) → form_by a b c d ≡ None → (a ≡ false) × (b ≡ false) × (c ≡ false) × (d ≡ false)

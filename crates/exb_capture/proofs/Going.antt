@@ -1,5 +1,5 @@
 -- What was read of a file, as more of it is read and taken.
-use Rattle.std.proofs.Common.{◌≡◌, ◌≢◌, ◌<◌, ◌≤◌, ◌+◌, ◌-◌, ◌^◌, ◌*◌, ℕ, Bool, true, false, List, [], ◌∷◌, ◌++◌, length, take, drop, Option, Some, None, Result, Ok, Err, refl, ap, sym, subst, ◌∙◌, arith, length-append, length-drop, length-take, append_assoc, take-add}
+use Rattle.std.proofs.Common.{◌≡◌, ◌<◌, ◌≤◌, ◌+◌, ◌-◌, ◌^◌, ℕ, Bool, true, false, List, [], ◌∷◌, ◌++◌, length, take, drop, Option, Some, None, Ok, Err, refl, ap, sym, subst, ◌∙◌, arith, length-append, length-drop, length-take, append_assoc, take-add}
 use Rattle.std.specs.Prelude.{IfSome}
 use Rattle.std.proofs.Math.Seq.{take-length}
 use Rattle.std.proofs.lemmas.Bool.{false≢true}
@@ -9,7 +9,6 @@ use Rattle.exb_capture.specs.Formats.{Capture, before, at_end, at_fault, whole}
 use Rattle.exb_capture.specs.declared.fault.Fault.{Fault}
 use Rattle.exb_capture.specs.declared.capture.Capture.{Capture as State}
 use Rattle.exb_capture.specs.declared.capture.Capture.TheVariants.{Unknown}
-use Rattle.exb_model.specs.Frames.{IsBytes}
 use Rattle.exb_capture.specs.Blocks.{most_held}
 use Rattle.exb_capture.specs.Captures.{capture_front, capture_of, capture_records}
 use Rattle.exb_capture.specs.Pieces.{Reading, Step, Answer, Found, More, End, Faulty, unread, fed, asked, to_come, IsFirst}
@@ -23,7 +22,7 @@ use Rattle.exb_capture.proofs.OpenLaws.{asked_unsettled, asked_left, IsLeft, IsH
 use Rattle.exb_capture.specs.declared.file.CaptureFile.{CaptureFile}
 use Rattle.exb_capture.specs.declared.file.Seen.{Seen}
 use Rattle.exb_capture.specs.declared.file.Halt.TheVariants.{Broken, Large}
-use Rattle.exb_capture.specs.Reading.{IsSound, IsHeldIn, HasRead, IsWhole, HaltsBy, after, coming, next_of, seen_in, with_next, left_held, left_to_read}
+use Rattle.exb_capture.specs.Reading.{IsSound, IsHeldIn, HasRead, IsWhole, HaltsBy, after, coming, next_of, seen_in, with_next, left_to_read}
 
 -- ---- what a question answers of a capture
 abbrev pub asked_of : CaptureFile → Step State

@@ -1,5 +1,5 @@
 -- What a look ahead says of a file that is read.
-use Rattle.std.proofs.Common.{◌≡◌, ◌≤◌, ◌<◌, ◌+◌, ◌-◌, ℕ, Bool, true, false, List, length, take, drop, Option, Some, None, Result, Ok, Err, cond, refl, ap, sym, subst, inl, inr, ◌∙◌, arith}
+use Rattle.std.proofs.Common.{◌≡◌, ◌≤◌, ◌<◌, ◌+◌, ◌-◌, ℕ, Bool, true, false, List, length, take, drop, None, Result, Ok, Err, cond, refl, ap, sym, subst, inl, inr, ◌∙◌, arith}
 use Rattle.std.specs.Prelude.{◌⊎◌, IsErrOf}
 use Rattle.std.proofs.lemmas.Bool.{cases_lt}
 use Rattle.exb_model.specs.Input.{Record}
@@ -7,8 +7,8 @@ use Rattle.exb_capture.specs.declared.fault.Fault.{Fault}
 use Rattle.exb_capture.specs.declared.capture.Capture.{Capture as State}
 use Rattle.exb_capture.specs.declared.reader.Ahead.{Ahead}
 use Rattle.exb_capture.specs.declared.reader.Ahead.TheVariants as ahead
-use Rattle.exb_capture.specs.Asked.{seen, IsAhead, IsAheadIn}
-use Rattle.exb_capture.specs.Pieces.{Reading, Found, More, End, Faulty}
+use Rattle.exb_capture.specs.Asked.{seen, IsAheadIn}
+use Rattle.exb_capture.specs.Pieces.{Reading, Found}
 use Rattle.exb_capture.specs.declared.file.CaptureFile.{CaptureFile}
 use Rattle.exb_capture.specs.declared.file.Seen.{Seen}
 use Rattle.exb_capture.specs.declared.file.Halt.{Halt}

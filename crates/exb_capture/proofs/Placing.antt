@@ -1,8 +1,7 @@
 -- Where a fault lies that a reader answers: within what it was fed.
-use Rattle.std.proofs.Common.{◌≡◌, ◌<◌, ◌≤◌, ◌+◌, ◌-◌, ℕ, zero, suc, Bool, true, false, List, length, drop, cond, refl, arith, length-drop}
+use Rattle.std.proofs.Common.{◌≡◌, ◌≤◌, ◌+◌, ◌-◌, ℕ, zero, suc, Bool, true, false, List, length, drop, cond, refl, arith, length-drop}
 use Rattle.std.specs.Prelude.{nat_lt}
 use Rattle.std.proofs.lemmas.Bool.{ltb-false, ltb-true}
-use Rattle.exb_capture.specs.declared.fault.Fault.{Fault}
 use Rattle.exb_capture.specs.declared.fault.Flaw.TheVariants.{Cut}
 use Rattle.exb_capture.specs.Formats.{Front, Nothing, Short, Bad, Over, Holds, fault}
 use Rattle.exb_capture.specs.Pieces.{IsFormat, Stage, At, Failed, Reading, Step, Answer, Found, More, End, Faulty, Turn, Answers, GoesOn, gone, at_last, turn_at, turn, settled, asked_within, asked}

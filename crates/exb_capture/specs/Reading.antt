@@ -1,5 +1,5 @@
 -- A capture on a shelf while it is read in pieces.
-use Rattle.std.specs.Prelude.{⊤, ◌≡◌, ◌≢◌, ◌<◌, ◌≤◌, ◌+◌, ◌-◌, ◌*◌, ◌^◌, ℕ, true, false, List, [], ◌∷◌, ◌++◌, length, take, drop, Option, Some, None, IfSome, Ok, Err}
+use Rattle.std.specs.Prelude.{⊤, ◌≡◌, ◌≢◌, ◌<◌, ◌≤◌, ◌+◌, ◌-◌, ◌*◌, ◌^◌, ℕ, true, false, List, [], ◌++◌, length, take, drop, Option, Some, None, IfSome, Ok, Err}
 use Rattle.exb_model.specs.Input.{Record}
 use Rattle.exb_capture.specs.Formats.{Capture, before}
 use Rattle.exb_capture.specs.Captures.{capture_front, capture_of, capture_records}

@@ -26,3 +26,5 @@ pub mod OpenLemmas
 pub mod Ordered
 pub mod SummingUp
 pub mod Ports
+pub mod ByStatus
+pub mod Parts

@@ -7,11 +7,11 @@ use Rattle.exb_merge.specs.declared.programme.Next.TheVariants as next
 use Rattle.exb_merge.specs.declared.programme.Programme.{Programme}
 use Rattle.exb_merge.specs.declared.replays.CaptureFault.{CaptureFault}
 use Rattle.exb_merge.specs.declared.replays.CaptureFault.TheVariants as again
-use Rattle.exb_merge.specs.Counting.{CountsAgain}
+use Rattle.exb_merge.specs.Counting.{CountsFault as CountsAgain}
 use Rattle.exb_merge.specs.Programmes.{IsOf}
 use Rattle.exb_merge.specs.Replays.{HasPort, standings}
 use Rattle.exb_model.specs.Ports.{all_ports}
-use Rattle.exb_shelf.specs.Shelf.{Faults}
+use Rattle.exb_shelf.specs.Shelf.{Faults, NoFewer}
 use Rattle.exb_tables.specs.declared.rows.Named.{Named}
 use Rattle.exb_inputs.specs.declared.checked.Checked.{Checked}
 use Rattle.exb_inputs.specs.declared.fault.Fault.{Fault}
@@ -21,11 +21,12 @@ use Rattle.exb_inputs.specs.Counting.{CountsFault}
 use Rattle.exb_inputs.specs.Inputs.{is_named}
 use Rattle.exb_inputs.specs.Reading.{IsOfCapture}
 use Rattle.exb_inputs.specs.Shelving.{CountsFaults}
-use Rattle.exb_inputs.proofs.ShelvingLemmas.{counts_memory, counts_ok}
+use Rattle.exb_inputs.proofs.ShelvingLemmas.{counted_once, counts_ok, fewer_same}
 use Rattle.exb_outputs.specs.Shelving.{IsOfWriting}
 use Rattle.exb_run.specs.Checks.{first_standing}
 use Rattle.exb_run.specs.UnderWay.{ComeAll}
-use Rattle.exb_run.proofs.Beginning.{has-named, passing, ports_in}
+use Rattle.exb_run.proofs.Beginning.{has-named, ports_in}
+use Rattle.exb_run.proofs.Counting.{passing}
 use Rattle.exb_run.proofs.Running.{Outcome}
 use Rattle.exb_run.proofs.Taking.{has-before}
 
@@ -60,15 +61,18 @@ checking-port P x is p at e = absurd (subst IsOfCapture e is)
 
 -- ---- counts
 -- those of a capture that isn't read again
-pub again-counts : (failure : CaptureFault) (a b : Faults) → CountsAgain {X = Unit {0}} (Err failure) a b → CountsFault (fault_again failure) a b
-again-counts again.Memory a b is = inl is
-again-counts again.Read a b is = is
-again-counts (again.Changed p at) a b is = is
+again-once : (failure : CaptureFault) (a b : Faults) → CountsAgain failure a b → CountsFault (fault_again failure) a b
+again-once again.Memory a b is = inl is
+again-once again.Read a b is = is
+again-once (again.Changed p at) a b is = is
+
+pub again-counts : {X : Type 0} (failure : CaptureFault) (a b : Faults) → NoFewer a b → CountsAgain failure a b → CountsFaults {X = X} (Err (fault_again failure)) a b
+again-counts failure a b fewer is = counted_once (Err (fault_again failure)) a b fewer (again-once failure a b is)
 
 -- where nothing is asked of the shelf
 pub made-counts : (o : Outcome) (a : Faults) → IfErr o (λ (x : Fault). x ≡ Memory) → CountsFaults o a a
 made-counts (Ok line) a memory = counts_ok line a a refl
-made-counts (Err x) a memory = subst (λ (y : Fault). CountsFaults {X = _} (Err y) a a) (sym memory) (counts_memory a a refl)
+made-counts (Err x) a memory = counted_once (Err x) a a (fewer_same a a refl) (subst (λ (y : Fault). CountsFault y a a) (sym memory) (inl refl))
 
 pub made-later : (o : Outcome) (a b : Faults) → b ≡ a → IfErr o (λ (x : Fault). x ≡ Memory) → CountsFaults o a b
 made-later o a b same memory = subst (λ (f : Faults). CountsFaults o a f) (sym same) (made-counts o a memory)

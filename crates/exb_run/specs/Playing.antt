@@ -147,6 +147,7 @@ pub record IsCutOff (m : Mode) (r : Run) (plan : Planned) (now : Files) : Type 0
   pub lines : List TraceLine
   pub counts : List ℕ
   pub played : IsPlayedBy m r.input so_far network told passed gone lines
+  pub tracing : network.log.tracing ≡ plan.options.trace
   pub cut : AreCut plan r.before now (text_so_far told gone lines counts)
 
 -- ---- what comes

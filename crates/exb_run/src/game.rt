@@ -20,6 +20,7 @@ ghost use Rattle.exb_text.specs.Tallies.{counts_of};
 ghost use Rattle.exb_outputs.specs.Plans.{kind_at, output_count, output_name};
 ghost use Rattle.exb_run.specs.Playing.{AreCountsOf, CanCount, CountsOn, Run, IsAllTold, IsCutOff, IsTold, counts_text, mode_of};
 ghost use Rattle.exb_run.specs.UnderWay.{CanBegin, CanBePlayed, CanFeed, CanGoOn, IsOpened, IsPlaying};
+ghost use Rattle.exb_run.specs.Parts.{AreCutSoFar};
 ghost use Rattle.exb_run.specs.Outputs.{AreCutEagerly, HasPlayed};
 ghost use Rattle.exb_inputs.specs.Shelving.{CountsFaults};
 ghost use Rattle.exb_run.specs.Saying.{IsSummary};
@@ -44,7 +45,7 @@ use exb_resting::laws::rest::{
 };
 use exb_schedule::{Arrival, World, WorldFault, eager, open, seeded};
 use exb_shelf::Shelf;
-use exb_tracing::laws::runs_tell_legally;
+use exb_tracing::laws::{runs_tell_legally, runs_tell_so_far};
 use exb_wiring::laws::counts_go_on;
 use rand_core::SeedableRng;
 use rand_pcg::Lcg64Xsh32;
@@ -483,6 +484,9 @@ pub(crate) fn play_feed<S: Shelf>(
     ensures fronts { S.tells → mode_of schedule ≡ Eager → (run : Run)
         → CanBegin S.tells (mode_of schedule) run script.now.setup.now plan.now (S.file shelf.old) (S.ids shelf.old) outputs feed.old.programme
         → AreCutEagerly run.input plan.now run.before (S.file shelf.new) }
+    ensures so_far { S.tells → (run : Run)
+        → CanBegin S.tells (mode_of schedule) run script.now.setup.now plan.now (S.file shelf.old) (S.ids shelf.old) outputs feed.old.programme
+        → AreCutSoFar (mode_of schedule) run.input plan.now run.before (S.file shelf.new) }
     ensures never { S.tells → IfErr result (λ fault. IsChange fault → (run : Run)
         → CanBegin S.tells (mode_of schedule) run script.now.setup.now plan.now (S.file shelf.old) (S.ids shelf.old) outputs feed.old.programme → ⊥) }
     ensures only { OnlyGoesOn S.tells plan.now (ids_in feed.old.programme.captures) (S.file shelf.old) (S.file shelf.new) (S.ids shelf.old) (S.ids shelf.new) }
@@ -491,6 +495,7 @@ pub(crate) fn play_feed<S: Shelf>(
     ensures faults { CountsFaults result (S.faults shelf.old) (S.faults shelf.new) }
 {
     runs_write_fronts();
+    runs_tell_so_far();
     let Ok(counted) = Counted::new(alloc, script.setup, plan) else {
         return Err(Fault::Memory);
     };

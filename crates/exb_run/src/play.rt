@@ -10,6 +10,7 @@ ghost use Rattle.exb_run.specs.Checks.{CanBeRead, earlier, first_standing, start
 ghost use Rattle.exb_inputs.specs.Inputs.{input_from, is_named};
 ghost use Rattle.exb_inputs.specs.Shelving.{ReadsCapture, CountsFaults};
 ghost use Rattle.exb_outputs.specs.Order.{MakesInOrder};
+ghost use Rattle.exb_run.specs.Parts.{AreCutSoFar};
 ghost use Rattle.exb_run.specs.Outputs.{AreCutEagerly, HasPlayed};
 ghost use Rattle.exb_outputs.specs.Plans.{OnlyPlanned};
 ghost use Rattle.exb_run.specs.Playing.{IsScript, mode_of};
@@ -150,6 +151,8 @@ fn play_into<S: Shelf>(
     ensures says { IfOk result (λ line. IsSummary (string_bytes line)) }
     ensures fronts { S.tells → mode_of schedule ≡ Eager → (before : Files) → HasTexts plan.now (pieces_of outputs) before (S.file shelf.old) first_text
         → AreCutEagerly (input_from script.now.setup.now script.now.commands.now names.now (S.file shelf.old)) plan.now before (S.file shelf.new) }
+    ensures so_far { S.tells → (before : Files) → HasTexts plan.now (pieces_of outputs) before (S.file shelf.old) first_text
+        → AreCutSoFar (mode_of schedule) (input_from script.now.setup.now script.now.commands.now names.now (S.file shelf.old)) plan.now before (S.file shelf.new) }
     ensures never { S.tells → IfErr result (λ fault. IsChange fault → ⊥) }
     ensures others { S.tells → OnlyPlanned plan.now (S.file shelf.old) (S.file shelf.new) }
     ensures opens { Opens (ReadsCapture names.now) (S.ids shelf.old) (S.ids shelf.new) }
@@ -195,6 +198,7 @@ pub(crate) fn play<S: Shelf>(
     ensures done { S.tells → IfOk result (λ line. HasPlayed (mode_of schedule) (input_from script.now.setup.now script.now.commands.now names.now (S.file shelf.old)) plan.now (S.file shelf.old) (S.file shelf.new) (string_bytes line)) }
     ensures says { IfOk result (λ line. IsSummary (string_bytes line)) }
     ensures fronts { S.tells → mode_of schedule ≡ Eager → AreCutEagerly (input_from script.now.setup.now script.now.commands.now names.now (S.file shelf.old)) plan.now (S.file shelf.old) (S.file shelf.new) }
+    ensures so_far { S.tells → AreCutSoFar (mode_of schedule) (input_from script.now.setup.now script.now.commands.now names.now (S.file shelf.old)) plan.now (S.file shelf.old) (S.file shelf.new) }
     ensures never { S.tells → IfErr result (λ fault. IsChange fault → ⊥) }
     ensures only { OnlyPlays S.tells names.now plan.now (S.file shelf.old) (S.file shelf.new) (S.ids shelf.old) (S.ids shelf.new) }
     ensures made { MakesInOrder plan.now result (S.ids shelf.old) (S.ids shelf.new) }

@@ -2,6 +2,8 @@ use Rattle.std.proofs.Common.{◌≡◌, inl, inr, sym, subst, ◌∙◌, ℕ, t
 use Rattle.std.specs.Prelude.{string_bytes}
 use Rattle.exb_model.specs.Input.{Input}
 use Rattle.std.proofs.lemmas.Result.{err_from_is_err_and}
+use Rattle.exb_run.specs.Parts.{AreCutSoFar}
+use Rattle.exb_run.proofs.Parts.{made-so-far}
 use Rattle.exb_run.proofs.Ports.{writing-port}
 use Rattle.exb_inputs.specs.Inputs.{is_named}
 use Rattle.exb_inputs.specs.Shelving.{ReadsCapture}
@@ -73,3 +75,15 @@ pub returns-in_err-outputs-clause-port : goal.returns-in_err-outputs-clause-port
 returns-in_err-outputs-clause-port g c =
     let e = err_from_is_err_and c.from_residual.result c.from_residual.ensures.1 in
     rw (e.1, e.2) (writing-port (λ (q : ℕ). is_named c.args.names.now q ≡ true) c.in_err-outputs.field-0.0 c.in_err-outputs.ensures.causes)
+
+-- ---- what it leaves, however it ended
+pub returns-clause-so_far : goal.returns-clause-so_far
+returns-clause-so_far g c tells =
+    let S = g.S.Shelf in
+    let s = c.args.script.now in
+    let same = input-stays s.setup.now s.commands.now c.args.plan.now c.args.names.now (S.file c.args.shelf.now) (S.file c.create_all.new.shelf) c.args.checked.now S.tells (c.create_all.ensures.only.others tells) c.requires.captures in
+    subst (λ (i : Input). AreCutSoFar (mode_of c.args.schedule) i c.args.plan.now (S.file c.args.shelf.now) (S.file c.play_into.new.shelf)) same
+    (c.play_into.ensures.so_far tells (S.file c.args.shelf.now) (c.in_ok-outputs.ensures.texts tells))
+
+pub returns-in_err-outputs-clause-so_far : goal.returns-in_err-outputs-clause-so_far
+returns-in_err-outputs-clause-so_far g c tells = made-so-far (mode_of c.args.schedule) _ c.args.plan.now _ _ (c.in_err-outputs.ensures.cut tells)

@@ -2,6 +2,7 @@ use Rattle.std.proofs.Common.{◌≡◌, ◌<◌, ◌^◌, ℕ, false, List, len
 use Rattle.std.specs.List.{AllByRecursion}
 use Rattle.std.specs.Vec.{with_items}
 use Rattle.std.proofs.lemmas.Result.{err_from_is_err_and}
+use Rattle.exb_run.proofs.Parts.{begun-so-far}
 use Rattle.exb_run.proofs.Ports.{named-port}
 use Rattle.exb_merge.specs.Replays.{ids_in, HasPort, standings}
 use Rattle.exb_shelf.proofs.IdLemmas.{opens_none}
@@ -134,3 +135,25 @@ pub returns-in_err-captures-clause-port : goal.returns-in_err-captures-clause-po
 returns-in_err-captures-clause-port g c =
     let e = err_from_is_err_and c.from_residual.result c.from_residual.ensures.1 in
     rw (e.1, e.2) c.in_err-captures.ensures.port
+
+-- ---- what it leaves, however it ended
+pub returns-clause-so_far : goal.returns-clause-so_far
+returns-clause-so_far g c tells before held =
+    let S = g.S.Shelf in
+    let s = c.args.script.now in
+    let run : Run = record { input = input_from s.setup.now s.commands.now c.args.names.now (S.file c.args.shelf.now); before = before } in
+    c.play_feed.ensures.so_far tells run
+    (can-begin-of S.tells (mode_of c.args.schedule) s.setup.now s.commands.now s.fate.now c.args.plan.now c.args.names.now (S.file c.args.shelf.now) (S.file c.open_all.new.shelf) c.args.checked.now (S.ids c.open_all.new.shelf)
+    c.args.outputs before c.new-programme.result c.in_ok-captures.captures c.merge_of_all.ensures c.start_is_least.ensures c.requires.script c.requires.tree c.requires.captures
+    (c.new-programme.ensures.start ∙ c.start_of-start.ensures) c.new-programme.ensures.commands c.new-programme.ensures.taken c.new-programme.ensures.captures c.in_ok-captures.ensures.standings c.in_ok-captures.ensures.left
+    c.in_ok-captures.ensures.named c.in_ok-captures.ensures.streams
+    (λ t. subst (λ (f : Files). HasTexts c.args.plan.now (pieces_of c.args.outputs) before f first_text) (sym (files_same (S.file c.args.shelf.now) (S.file c.open_all.new.shelf) c.open_all.ensures.files)) held))
+
+pub returns-in_default-clause-so_far : goal.returns-in_default-clause-so_far
+returns-in_default-clause-so_far g c tells before held = begun-so-far (mode_of c.args.schedule) _ c.args.plan.now before _ (pieces_of c.args.outputs) held
+
+pub returns-in_err-captures-clause-so_far : goal.returns-in_err-captures-clause-so_far
+returns-in_err-captures-clause-so_far g c tells before held =
+    let S = g.S.Shelf in
+    begun-so-far (mode_of c.args.schedule) _ c.args.plan.now before _ (pieces_of c.args.outputs)
+    (subst (λ (f : Files). HasTexts c.args.plan.now (pieces_of c.args.outputs) before f first_text) (sym (files_same (S.file c.args.shelf.now) (S.file c.open_all.new.shelf) c.open_all.ensures.files)) held)

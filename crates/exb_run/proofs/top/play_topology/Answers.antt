@@ -1,6 +1,8 @@
 use Rattle.std.proofs.Common.{◌≡◌, List, Err, ap, sym, subst, ◌∙◌, inl, inr, true, ℕ}
 use Rattle.std.proofs.lemmas.Result.{err_from_is_err_and}
 use Rattle.std.specs.Prelude.{string_bytes}
+use Rattle.exb_run.specs.Parts.{AreCutSoFar}
+use Rattle.exb_run.proofs.Parts.{parts-by}
 use Rattle.exb_run.proofs.Ports.{checking-port}
 use Rattle.exb_inputs.proofs.ShelvingLemmas.{counts_from, counts_memory}
 use Rattle.exb_model.specs.declared.setup.Timed.{Timed}
@@ -248,3 +250,27 @@ returns-clause-behind g c =
     behind_checks (IsOfRun c.as_slice-4.result.now c.in_ok-plan.plan) names (S.ids c.args.shelf.now) (S.ids c.check_captures.new.shelf) (S.ids c.play.new.shelf)
     (subst (λ (ns : List Named). Opens (ReadsCapture ns) (S.ids c.args.shelf.now) (S.ids c.check_captures.new.shelf)) c.as_slice.ensures c.in_ok-checked.ensures.opened)
     (subst (λ (ns : List Named). OpensEach ns 4160 (S.ids c.args.shelf.now) (S.ids c.check_captures.new.shelf)) c.as_slice.ensures c.in_ok-checked.ensures.each) c.play.ensures.only.opened
+
+-- ---- what it leaves, however it ended
+pub returns-in_err-checked-clause-parts : goal.returns-in_err-checked-clause-parts
+returns-in_err-checked-clause-parts g c tells = inl c.in_err-checked.ensures.files
+
+pub returns-in_err-plan-clause-parts : goal.returns-in_err-plan-clause-parts
+returns-in_err-plan-clause-parts g c tells = inl c.in_ok-checked.ensures.files
+
+pub returns-clause-parts : goal.returns-clause-parts
+returns-clause-parts g c tells =
+    let S = g.S.Shelf in
+    let t = c.args.topology.now in
+    let plan = c.in_ok-plan.plan in
+    let before = S.file c.args.shelf.now in
+    let read = S.file c.check_captures.new.shelf in
+    let after = S.file c.play.new.shelf in
+    let i : Input = input_of t before in
+    let m = mode_of c.schedule_of-schedule.result in
+    let unchanged : read ≡ before = files_same before read c.in_ok-checked.ensures.files in
+    let same : input_from t.setup c.as_slice-2.result.now c.as_slice-4.result.now read ≡ i =
+    ap (λ (xs : List Timed). input_from t.setup xs c.as_slice-4.result.now read) c.as_slice-2.ensures ∙ ap (λ (names : List Named). input_from t.setup t.commands names read) c.as_slice-4.ensures
+    ∙ ap (input_of t) unchanged in
+    inr (parts-by c.args.options t plan m before after c.in_ok-plan.ensures.options (c.in_ok-plan.ensures.prefix ∙ c.as_str.ensures) c.in_ok-plan.ensures.tree c.schedule_of-schedule.ensures c.requires.valid.tree
+    (subst (λ (f : Files). AreCutSoFar m i plan f after) unchanged (subst (λ (j : Input). AreCutSoFar m j plan read after) same (c.play.ensures.so_far tells))))

@@ -45,6 +45,7 @@ returns-clause-came g c =
       stopped = is.stopped;
       others = is.others;
       fronts = is.fronts;
+      parts = is.parts;
     }))
 
 pub returns-clause-opens : goal.returns-clause-opens

@@ -51,7 +51,7 @@ pub returns-in_err-take_second-in-Seeded-clause-port : goal.returns-in_err-take_
 returns-in_err-take_second-in-Seeded-clause-port g c =
     let e = err_from_is_err_and c.from_residual-in_err-take_second-in-Seeded.result c.from_residual-in_err-take_second-in-Seeded.ensures.1 in
     let (d, one, is) = some_at _ c.in_ok-second.field-0 c.in-Some.second c.in-Some.is c.in_ok-second.ensures.taken in
-    rw (e.1, e.2) (λ p at same. ports-before c.clear.new.self.programme d c.take_first.new.self.programme one.coming.is p (c.in_err-take_second-in-Seeded.ensures.port p at same))
+    rw (e.1, e.2) (λ p at same. ports-before c.args.self.now.programme d c.take_first.new.self.programme one.coming.is p (c.in_err-take_second-in-Seeded.ensures.port p at same))
 
 pub returns-in_err-take_second-in-Seeded-clause-faults : goal.returns-in_err-take_second-in-Seeded-clause-faults
 returns-in_err-take_second-in-Seeded-clause-faults g c =

@@ -68,7 +68,7 @@ returns-in_err-note-clause-cut g c = λ t.
     let plan = c.args.plan.now in
     let m = mode_of c.args.schedule in
     let n = network_of c.args.self.now.world in
-    cut_amid m run plan (S.file c.note.new.shelf) [] (segments m run.input) n [] n.log.events n.log.passed [] n.log.left [] n.log.lines is.tree refl is.played
+    cut_amid m run plan (S.file c.note.new.shelf) [] (segments m run.input) n [] n.log.events n.log.passed [] n.log.left [] n.log.lines is.tree refl is.tracing is.played
     (c.in_err-note.ensures.cut t run.before (text_so_far [] [] [] [])
     (kinds_same plan run.before (S.file c.args.shelf.now) (pieces_of c.args.self.now.outputs) first_text (text_so_far [] [] [] []) text-first (is.texts t))))
 

@@ -84,5 +84,5 @@ returns-clause-cut g c = λ t. on_err_weaker c.note.result
     let v = network_of c.play_segment.new.world in
     let after = when_ok c.play_segment.result ok c.play_segment.ensures.plays run.input so_far s is.told is.passed is.gone is.lines segment (quiet-played m run.input so_far n is.told is.passed is.gone is.lines is.quiet is.played) in
     cut_amid m run plan (g.S.Shelf.file c.note.new.shelf) (so_far ++ s ∷ []) rest v is.told v.log.events (is.passed ++ v.log.passed) is.gone v.log.left is.lines v.log.lines is.tree
-    (segments_are ∙ sym (append_assoc so_far (s ∷ []) rest)) after (cut run.before (text_so_far is.told is.gone is.lines []) (is.texts t)))
+    (segments_are ∙ sym (append_assoc so_far (s ∷ []) rest)) ((when_ok c.play_segment.result ok c.play_segment.ensures.same).tracing ∙ is.tracing) after (cut run.before (text_so_far is.told is.gone is.lines []) (is.texts t)))
     (c.note.ensures.cut t)
