@@ -2,3 +2,5 @@ pub mod Told
 pub mod Once
 pub mod Steps
 pub mod Ports
+pub mod Given
+pub mod Found
