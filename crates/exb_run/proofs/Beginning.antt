@@ -28,16 +28,15 @@ use Rattle.exb_shelf.specs.Files.{Files, bytes_of}
 use Rattle.exb_shelf.specs.Shelf.{Id}
 use Rattle.exb_tables.specs.declared.rows.Named.{Named}
 use Rattle.exb_inputs.specs.declared.checked.Checked.{Checked}
-use Rattle.exb_run.specs.declared.outputs.Outputs.{Outputs}
+use Rattle.exb_outputs.specs.declared.outputs.Outputs.{Outputs}
 use Rattle.exb_run.specs.Checks.{CanBeRead, earlier, first_standing, start_told, stream_told}
 use Rattle.exb_inputs.specs.Checks.{IsGood, IsToldOf, most_bytes}
 use Rattle.exb_inputs.specs.Inputs.{bytes_at, bytes_named, input_from, is_named, name_of, records_at}
 use Rattle.exb_inputs.specs.Shelving.{ReadsCapture}
-use Rattle.exb_run.specs.Outputs.{OnlyPlanned, output_name}
-use Rattle.exb_run.specs.Plans.{Planned, output_count}
+use Rattle.exb_outputs.specs.Plans.{OnlyPlanned, output_name, Planned, output_count}
 use Rattle.exb_run.specs.Playing.{IsScript, Run}
 use Rattle.exb_run.specs.UnderWay.{AreApart, CanBegin}
-use Rattle.exb_run.specs.Writing.{HasTexts, first_text, pieces_of}
+use Rattle.exb_outputs.specs.Writing.{HasTexts, first_text, pieces_of}
 use Rattle.exb_run.proofs.Counting.{passing}
 use Rattle.exb_run.proofs.Segmenting.{segments-begin}
 

@@ -28,16 +28,16 @@ use Rattle.exb_text.specs.Names.{capture_name, journal_name}
 use Rattle.exb_counters.specs.Counters.{count_text}
 use Rattle.exb_inputs.specs.declared.fault.Fault.{Fault}
 use Rattle.exb_run.specs.declared.counted.Counted.{Counted}
-use Rattle.exb_run.specs.declared.outputs.Outputs.{Outputs}
-use Rattle.exb_run.specs.Outputs.{AreCutEagerly, AreFrontsOf, GrowsEagerly, HasPlayed, IsCut, output_name, output_text}
-use Rattle.exb_run.specs.Plans.{Planned, IsMade, kind_at, output_count}
+use Rattle.exb_outputs.specs.declared.outputs.Outputs.{Outputs}
+use Rattle.exb_run.specs.Outputs.{AreCutEagerly, AreFrontsOf, GrowsEagerly, HasPlayed, IsCut, output_text}
+use Rattle.exb_outputs.specs.Plans.{output_name, Planned, IsMade, kind_at, output_count}
 use Rattle.exb_run.specs.Playing.{IsCutOff, IsTold, Run, text_so_far}
-use Rattle.exb_run.specs.Writing.{AreCut, HasTexts, first_text, lines_of, pieces_of, with_more}
-use Rattle.exb_run.proofs.Cutting.{GoesOnAs, cut_longer, cut_now, cut_same, cut_whole, longer}
-use Rattle.exb_run.proofs.Filling.{weaker}
-use Rattle.exb_run.proofs.ByKind.{kind_is}
+use Rattle.exb_outputs.specs.Writing.{AreCut, HasTexts, first_text, lines_of, pieces_of, with_more}
+use Rattle.exb_outputs.proofs.Cutting.{GoesOnAs, cut_longer, cut_now, cut_same, cut_whole, longer}
+use Rattle.exb_outputs.proofs.Filling.{weaker}
+use Rattle.exb_outputs.proofs.ByKind.{kind_is}
 use Rattle.exb_run.proofs.Telling.{counts_written, text-more, texts-with}
-use Rattle.exb_run.proofs.Texts.{capture_text-append, capture_text-nil, journal_text-then}
+use Rattle.exb_outputs.proofs.Texts.{capture_text-append, capture_text-nil, journal_text-then}
 
 -- ---- where it ends
 -- before the next segment is played

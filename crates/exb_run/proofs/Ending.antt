@@ -26,12 +26,12 @@ use Rattle.exb_schedule.specs.Playing.{HasPlayed}
 use Rattle.exb_resting.specs.Flight.Showing.{left_at}
 use Rattle.exb_tracing.specs.Runs.{RunsTellLegally}
 use Rattle.exb_run.specs.Outputs.{IsTraceOf, output_text}
-use Rattle.exb_run.specs.Plans.{Planned, IsMade, kind_at, output_count}
+use Rattle.exb_outputs.specs.Plans.{Planned, IsMade, kind_at, output_count}
 use Rattle.exb_run.specs.Playing.{AreCounted, counts_so_far, counts_text, text_so_far}
 use Rattle.exb_run.proofs.PortCounts.{counts_end}
-use Rattle.exb_run.proofs.ByKind.{kind_is}
+use Rattle.exb_outputs.proofs.ByKind.{kind_is}
 use Rattle.exb_run.proofs.Counting.{LeftExternal, counts-whole}
-use Rattle.exb_run.proofs.Places.{external_low}
+use Rattle.exb_outputs.proofs.Places.{external_low}
 
 module _ (m : Mode) (i : Input) (plan : Planned) (tree : plan.tree ≡ tree_of i) (is_tree : IsTree plan.tree) (timely : IsTimely i) (under_way : RunsAreUnderWay) (legally : RunsWriteLegally)
     (n : Network) (told : List Event) (passed : List Bool) (gone : List Left) (lines : List TraceLine) (played : HasPlayed m i (segments m i) n told passed gone lines) where

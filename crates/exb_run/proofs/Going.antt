@@ -25,20 +25,20 @@ use Rattle.exb_text.specs.declared.output.Output.TheVariants as output
 use Rattle.exb_text.specs.Tallies.{counts_of}
 use Rattle.exb_run.specs.declared.feed.Feed.{Feed}
 use Rattle.exb_run.specs.declared.counted.Counted.{Counted}
-use Rattle.exb_run.specs.declared.outputs.Outputs.{Outputs}
-use Rattle.exb_run.specs.Outputs.{OnlyPlanned}
-use Rattle.exb_run.specs.Plans.{Planned, port_count}
+use Rattle.exb_outputs.specs.declared.outputs.Outputs.{Outputs}
+use Rattle.exb_outputs.specs.Plans.{OnlyPlanned, Planned, port_count}
 use Rattle.exb_run.specs.Shelving.{OnlyReads}
 use Rattle.exb_run.specs.Playing.{CountsOn, Run, IsCounted, IsCutOff, IsTold, text_so_far}
 use Rattle.exb_run.specs.UnderWay.{AreApart, CanBegin, CanBePlayed, CanGoOn, IsGathered, IsOpened, IsPlaying, LeadsOn, NothingIsLeft}
-use Rattle.exb_run.specs.Writing.{HasTexts, first_text, lines_of, pieces_of, with_left_frames, with_more}
+use Rattle.exb_outputs.specs.Writing.{HasTexts, first_text, lines_of, pieces_of, with_more}
+use Rattle.exb_run.specs.Leaving.{with_left_frames}
 use Rattle.exb_run.proofs.Counting.{count_events}
 use Rattle.exb_run.proofs.CuttingOff.{cut_before}
 use Rattle.exb_run.proofs.Following.{can-play, commands-are, follows, going-on, is-segment, leading-on, letters-are, short, taken}
 use Rattle.exb_run.proofs.Keeping.{apart-read, ids-same, leads-written}
 use Rattle.exb_run.proofs.Segmenting.{segments_after-end}
 use Rattle.exb_run.proofs.Taking.{HasCommands, came_by, comes-ids}
-use Rattle.exb_run.proofs.OutputLemmas.{kinds_same}
+use Rattle.exb_outputs.proofs.OutputLemmas.{kinds_same}
 use Rattle.exb_run.proofs.PortCounts.{counted-on, none_together}
 use Rattle.exb_run.proofs.Telling.{cleared-played, text-first, text-more}
 

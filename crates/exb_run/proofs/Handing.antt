@@ -19,11 +19,10 @@ use Rattle.exb_topology.specs.Sound.{IsApart, IsSound}
 use Rattle.exb_inputs.specs.declared.checked.Checked.{Checked}
 use Rattle.exb_inputs.specs.Checks.{AreChecked}
 use Rattle.exb_run.specs.Checks.{CanBeRead}
-use Rattle.exb_run.specs.Outputs.{output_name}
-use Rattle.exb_run.specs.Plans.{Planned, IsMade, kind_at, output_count, place_in}
+use Rattle.exb_outputs.specs.Plans.{output_name, Planned, IsMade, kind_at, output_count, place_in}
 use Rattle.exb_run.specs.Playing.{IsScript}
-use Rattle.exb_run.proofs.ByKind.{kind_is}
-use Rattle.exb_run.proofs.Places.{place_low, port_of_place}
+use Rattle.exb_outputs.proofs.ByKind.{kind_is}
+use Rattle.exb_outputs.proofs.Places.{place_low, port_of_place}
 use Rattle.exb_run.proofs.Running.{name_by, named_by}
 
 -- ---- a topology

@@ -12,13 +12,13 @@ use Rattle.exb_capture.specs.Reading.{IsAt}
 use Rattle.exb_capture.specs.Replaying.{IsReplaying}
 use Rattle.exb_shelf.specs.Files.{Files, SameFiles, bytes_of}
 use Rattle.exb_shelf.specs.Shelf.{Id, IsReadingOf, Opens, writing}
-use Rattle.exb_run.specs.declared.outputs.Outputs.{Outputs}
-use Rattle.exb_run.specs.Outputs.{OnlyPlanned, output_name}
-use Rattle.exb_run.specs.Plans.{Planned, output_count}
-use Rattle.exb_run.specs.Shelving.{OnlyGoesOn, OnlyReads, OnlyWrites}
+use Rattle.exb_outputs.specs.declared.outputs.Outputs.{Outputs}
+use Rattle.exb_outputs.specs.Plans.{OnlyPlanned, output_name, Planned, output_count}
+use Rattle.exb_run.specs.Shelving.{OnlyGoesOn, OnlyReads}
+use Rattle.exb_outputs.specs.Shelving.{OnlyWrites}
 use Rattle.exb_run.specs.declared.feed.Feed.{Feed}
 use Rattle.exb_run.specs.UnderWay.{AreApart, CanFeed, LeadsOn}
-use Rattle.exb_run.specs.Writing.{IsReady}
+use Rattle.exb_outputs.specs.Writing.{IsReady}
 
 -- ---- captures while outputs are written
 -- a capture stays as it is, where no output has its name

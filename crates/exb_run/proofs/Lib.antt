@@ -1,4 +1,3 @@
-pub mod Texts
 pub mod Counting
 pub mod Segmenting
 pub mod Taking
@@ -8,16 +7,12 @@ pub mod Counters
 pub mod Following
 pub mod Going
 pub mod Tallying
-pub mod Places
+pub mod Frames
 pub mod Telling
 pub mod Ending
 pub mod Beginning
 pub mod Reopening
-pub mod Filling
-pub mod ByKind
-pub mod OutputLemmas
 pub mod PortCounts
-pub mod Cutting
 pub mod CuttingOff
 pub mod Stopping
 pub mod Running
@@ -27,8 +22,6 @@ pub mod Headlines
 pub mod Printing
 pub mod Handing
 pub mod Scratching
-pub mod ShelvingLemmas
-pub mod Orders
 pub mod OpenLemmas
 pub mod Ordered
 pub mod SummingUp

@@ -21,11 +21,12 @@ use Rattle.exb_inputs.specs.Reading.{IsOfPlaying, IsOfTopology}
 use Rattle.exb_inputs.specs.Shelving.{EndsAt, ReadsBelow, ReadsCapture}
 use Rattle.exb_inputs.proofs.EndingAt.{opened_higher}
 use Rattle.exb_inputs.proofs.FaultLemmas.{named_not}
-use Rattle.exb_run.specs.Order.{IsLate, MakesInOrder}
+use Rattle.exb_outputs.specs.Order.{IsLate, MakesInOrder}
 use Rattle.exb_run.specs.Opening.{IsFileOf, IsRefusedEarly, OpenedInOrder, OpensInOrder, ReadsUpTo, RunOpened, RunOpens, WritesOutput, plan_for}
-use Rattle.exb_run.specs.Plans.{Planned, output_count}
-use Rattle.exb_run.specs.Shelving.{IsOfPlay, IsOfRun, WritesPlanned}
-use Rattle.exb_run.proofs.Orders.{read_then_makes}
+use Rattle.exb_outputs.specs.Plans.{Planned, output_count}
+use Rattle.exb_run.specs.Shelving.{IsOfPlay, IsOfRun}
+use Rattle.exb_outputs.specs.Shelving.{WritesPlanned}
+use Rattle.exb_outputs.proofs.Orders.{read_then_makes}
 use Rattle.exb_run.proofs.OpenLemmas.{planned_is_output}
 use Rattle.exb_run.proofs.Running.{Outcome}
 

@@ -34,8 +34,8 @@ use Rattle.exb_text.specs.Tallies.{counts_of, nothing_counted}
 use Rattle.exb_wiring.specs.Counting.{CountsGoOn}
 use Rattle.exb_run.specs.declared.counted.Counted.{Counted}
 use Rattle.exb_run.specs.Playing.{AreCounted, AreCountsOf, CanCount, CanCountAt, CountsOn, GoTogether, IsCounted, counts_so_far, port_counts_so_far, with_frames}
-use Rattle.exb_run.specs.Writing.{CanBeWritten}
-use Rattle.exb_run.specs.Plans.{Planned}
+use Rattle.exb_run.specs.Leaving.{CanBeWritten}
+use Rattle.exb_outputs.specs.Plans.{Planned}
 use Rattle.exb_run.specs.UnderWay.{CanFollow}
 use Rattle.exb_run.proofs.Counting.{count_events}
 use Rattle.exb_run.proofs.Telling.{counts-more, tally-fits}

@@ -17,11 +17,11 @@ use Rattle.exb_text.specs.declared.output.Output.TheVariants as output
 use Rattle.exb_text.specs.Names.{IsOfPort, file_name}
 use Rattle.exb_tables.specs.declared.rows.Named.{Named}
 use Rattle.exb_inputs.specs.declared.fault.Fault.{Fault}
-use Rattle.exb_run.specs.Plans.{Planned, IsMade, kind_at, output_count, place_of}
+use Rattle.exb_outputs.specs.Plans.{Planned, IsMade, kind_at, output_count, place_of, OnlyPlanned, output_name}
 use Rattle.exb_inputs.specs.Inputs.{is_named, name_of}
-use Rattle.exb_run.specs.Outputs.{AreCutEagerly, AreFrontsOf, GrowsEagerly, IsCut, OnlyOutputs, OnlyPlanned, IsPlayed, HasPlayed, output_name, output_text}
-use Rattle.exb_run.proofs.ByKind.{kind_is, placed}
-use Rattle.exb_run.proofs.Places.{external_low}
+use Rattle.exb_run.specs.Outputs.{AreCutEagerly, AreFrontsOf, GrowsEagerly, IsCut, OnlyOutputs, IsPlayed, HasPlayed, output_text}
+use Rattle.exb_outputs.proofs.ByKind.{kind_is, placed}
+use Rattle.exb_outputs.proofs.Places.{external_low}
 
 pub files_same : (f g : Files) → SameFiles f g → g ≡ f
 files_same f g same = fun_ext λ n. same n

@@ -35,13 +35,13 @@ use Rattle.exb_run.specs.Answers.{eager_summary}
 use Rattle.exb_inputs.specs.Checks.{AreAllGood, AreChecked, FirstFault, IsGood, IsGoodNamed, most_bytes}
 use Rattle.exb_run.specs.Checks.{CanBeRead}
 use Rattle.exb_inputs.specs.Inputs.{bytes_named, input_from, is_named, name_of, records_at}
-use Rattle.exb_run.specs.Outputs.{HasPlayed, output_name}
-use Rattle.exb_run.specs.Plans.{Planned, kind_at}
+use Rattle.exb_run.specs.Outputs.{HasPlayed}
+use Rattle.exb_outputs.specs.Plans.{output_name, Planned, kind_at}
 use Rattle.exb_run.specs.Scratch.{AreKept, IsKept, IsReadAs, KeepsFirst, KeepsMore, name_made}
 use Rattle.exb_inputs.specs.Shelving.{CountsFaults}
 use Rattle.exb_run.specs.Shelving.{IsChange, IsOfPlay}
 use Rattle.exb_inputs.proofs.FaultLemmas.{first_none}
-use Rattle.exb_run.proofs.Places.{external_low}
+use Rattle.exb_outputs.proofs.Places.{external_low}
 use Rattle.exb_run.proofs.Running.{Outcome}
 
 -- ---- one capture more

@@ -26,16 +26,16 @@ use Rattle.exb_resting.specs.Flight.Showing.{left_at}
 use Rattle.exb_text.specs.declared.output.Output.{Output}
 use Rattle.exb_text.specs.declared.output.Output.TheVariants as output
 use Rattle.exb_text.specs.Tallies.{FitsTally, nothing_counted}
-use Rattle.exb_run.specs.Outputs.{output_name}
-use Rattle.exb_run.specs.Plans.{Planned}
+use Rattle.exb_outputs.specs.Plans.{output_name, Planned}
 use Rattle.exb_run.specs.Playing.{CanBeKept, counts_so_far, text_so_far}
 use Rattle.exb_run.specs.UnderWay.{CanFollow}
-use Rattle.exb_run.specs.Writing.{HasTexts, Holds, CanBeWritten, first_text, lines_of, with_more, with_left_frames}
+use Rattle.exb_outputs.specs.Writing.{HasTexts, Holds, first_text, lines_of, with_more}
+use Rattle.exb_run.specs.Leaving.{CanBeWritten, with_left_frames}
 use Rattle.exb_run.proofs.Counting.{count_events, count_events-left}
-use Rattle.exb_run.proofs.Filling.{weaker}
-use Rattle.exb_run.proofs.OutputLemmas.{no_trace}
-use Rattle.exb_run.proofs.Places.{external_low}
-use Rattle.exb_run.proofs.Texts.{capture_text-append, capture_text-nil, journal_text-then}
+use Rattle.exb_outputs.proofs.Filling.{weaker}
+use Rattle.exb_outputs.proofs.OutputLemmas.{no_trace}
+use Rattle.exb_outputs.proofs.Places.{external_low}
+use Rattle.exb_outputs.proofs.Texts.{capture_text-append, capture_text-nil, journal_text-then}
 
 pub when_ok : {T E P : Type 0} (r : Result T E) → is_err r ≡ false → OnOk r P → P
 when_ok (Ok v) e p = p

@@ -9,8 +9,7 @@ use Rattle.exb_tables.specs.declared.rows.Named.{Named}
 use Rattle.exb_inputs.specs.declared.checked.Checked.{Checked}
 use Rattle.exb_inputs.specs.Checks.{AreChecked}
 use Rattle.exb_inputs.specs.Inputs.{is_named, name_of, records_at}
-use Rattle.exb_run.specs.Outputs.{output_name}
-use Rattle.exb_run.specs.Plans.{Planned, output_count}
+use Rattle.exb_outputs.specs.Plans.{output_name, Planned, output_count}
 
 -- The second from which commands count: the least whole second of the first record of any capture, or 0. It is that of the input, since the
 -- moments of a port never fall.

@@ -12,8 +12,8 @@ use Rattle.exb_words.specs.declared.asked.Options.{Options}
 use Rattle.exb_words.specs.Words.{Ask, Run, Check, Make, Audit}
 use Rattle.exb_auditing.specs.Reads.{ReadsEvidence}
 use Rattle.exb_auditing.specs.Scopes.{scope_of}
-use Rattle.exb_run.specs.Order.{MadeInOrder, MakesInOrder}
-use Rattle.exb_run.specs.Plans.{IsMade, Planned, output_count}
+use Rattle.exb_outputs.specs.Order.{MadeInOrder, MakesInOrder}
+use Rattle.exb_outputs.specs.Plans.{IsMade, Planned, output_count}
 use Rattle.exb_inputs.specs.declared.fault.Fault.{Fault}
 use Rattle.exb_inputs.specs.declared.fault.Fault.TheVariants.{Capture, Changed}
 use Rattle.exb_inputs.specs.declared.fault.Flaw.{Flaw}

@@ -18,7 +18,7 @@ use Rattle.exb_words.specs.declared.asked.Options.{Options}
 use Rattle.exb_legal.specs.LegalTrace.{LegalTrace}
 use Rattle.exb_legal.specs.Inputs.{frames_in, frames_out}
 use Rattle.exb_legal.specs.Entries.{journal_of}
-use Rattle.exb_run.specs.Plans.{Planned, IsMade, kind_at, output_count}
+use Rattle.exb_outputs.specs.Plans.{Planned, IsMade, kind_at, output_count, output_name}
 
 -- no file but those of the kinds that are made has changed
 abbrev pub OnlyOutputs : Options → Shape → List ℕ → Files → Files → Type 0
@@ -59,10 +59,6 @@ pub record AreFrontsOf (i : Input) (prefix : List ℕ) (old new : Files) : Type 
   pub journal : IsCut (old (journal_name prefix)) (new (journal_name prefix)) (journal_text (eager_history i))
 
 -- ---- the outputs of a plan
--- the name of file j, counted from 0
-abbrev pub output_name : Planned → ℕ → List ℕ
-output_name plan j = file_name plan.prefix (kind_at plan j)
-
 -- what a file holds over a history, by its kind, with these lines of the trace
 abbrev pub output_text : Input → History → List TraceLine → Output → List ℕ
 output_text i h lines (output.Capture q) = capture_text (flat (basis_of i) h q)
@@ -91,7 +87,3 @@ GrowsEagerly output.Counters = ⊥
 abbrev pub AreCutEagerly : Input → Planned → Files → Files → Type 0
 AreCutEagerly i plan old new =
     (j : ℕ) → j < output_count plan → GrowsEagerly (kind_at plan j) → IsCut (old (output_name plan j)) (new (output_name plan j)) (output_text i (eager_history i) [] (kind_at plan j))
-
--- no file but the outputs has changed
-abbrev pub OnlyPlanned : Planned → Files → Files → Type 0
-OnlyPlanned plan old new = (m : List ℕ) → ((j : ℕ) → j < output_count plan → m ≢ output_name plan j) → new m ≡ old m

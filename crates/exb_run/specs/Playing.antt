@@ -30,11 +30,11 @@ use Rattle.exb_counters.specs.declared.counters.Counts5.{Counts5}
 use Rattle.exb_counters.specs.Counters.{count_lines, octets_of}
 use Rattle.exb_counters.specs.Counting.{FitsCounts, HasPort, counts_at, drops_in, nothing, plus_events}
 use Rattle.exb_run.specs.declared.counted.Counted.{Counted}
-use Rattle.exb_run.specs.declared.outputs.Outputs.{Outputs}
+use Rattle.exb_outputs.specs.declared.outputs.Outputs.{Outputs}
 use Rattle.exb_run.specs.declared.script.Schedule.{Schedule}
 use Rattle.exb_run.specs.declared.script.Schedule.TheVariants as schedule
-use Rattle.exb_run.specs.Plans.{Planned}
-use Rattle.exb_run.specs.Writing.{AreCut, HasTexts, pieces_of}
+use Rattle.exb_outputs.specs.Plans.{Planned}
+use Rattle.exb_outputs.specs.Writing.{AreCut, HasTexts, pieces_of}
 
 -- ---- what is asked for
 abbrev pub mode_of : Schedule → Mode

@@ -23,11 +23,10 @@ use Rattle.exb_shelf.specs.Files.{Files}
 use Rattle.exb_shelf.specs.Shelf.{Id, IsReadingOf}
 use Rattle.exb_run.specs.declared.counted.Counted.{Counted}
 use Rattle.exb_run.specs.declared.feed.Feed.{Feed}
-use Rattle.exb_run.specs.declared.outputs.Outputs.{Outputs}
-use Rattle.exb_run.specs.Outputs.{output_name}
-use Rattle.exb_run.specs.Plans.{Planned, output_count}
+use Rattle.exb_outputs.specs.declared.outputs.Outputs.{Outputs}
+use Rattle.exb_outputs.specs.Plans.{output_name, Planned, output_count}
 use Rattle.exb_run.specs.Playing.{CanBeKept, IsCounted, IsTold, Run}
-use Rattle.exb_run.specs.Writing.{HasTexts, first_text, pieces_of}
+use Rattle.exb_outputs.specs.Writing.{HasTexts, first_text, pieces_of}
 
 -- ---- whatever the captures give
 -- how many commands of an input were played

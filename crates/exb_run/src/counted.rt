@@ -8,11 +8,11 @@ ghost use Rattle.exb_resting.specs.Flight.Showing.{left_at};
 ghost use Rattle.exb_text.specs.Tallies.{counts_of, FitsTally};
 ghost use Rattle.exb_run.specs.Playing.{with_frames, CanCount, CanCountAt, CountsOn, IsCounted};
 
-use crate::plan::Plan;
 use exb_counters::Counters;
 use exb_model::event::Event;
 use exb_model::memory::NoMemory;
 use exb_model::setup::Setup;
+use exb_outputs::Plan;
 use exb_schedule::Left;
 use exb_text::Tally;
 use std::alloc::Global;

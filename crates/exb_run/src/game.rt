@@ -16,24 +16,26 @@ ghost use Rattle.exb_shelf.specs.Files.{Files, Filled};
 ghost use Rattle.exb_text.specs.declared.output.Output.{Output};
 ghost use Rattle.exb_text.specs.declared.output.Output.TheVariants as output;
 ghost use Rattle.exb_text.specs.Tallies.{counts_of};
-ghost use Rattle.exb_run.specs.Plans.{kind_at, output_count};
+ghost use Rattle.exb_outputs.specs.Plans.{kind_at, output_count, output_name};
 ghost use Rattle.exb_run.specs.Playing.{AreCountsOf, CanCount, CountsOn, Run, IsCutOff, IsTold, counts_text, mode_of};
 ghost use Rattle.exb_run.specs.UnderWay.{CanBegin, CanBePlayed, CanFeed, CanGoOn, IsOpened, IsPlaying};
-ghost use Rattle.exb_run.specs.Outputs.{AreCutEagerly, HasPlayed, output_name};
+ghost use Rattle.exb_run.specs.Outputs.{AreCutEagerly, HasPlayed};
 ghost use Rattle.exb_inputs.specs.Shelving.{CountsFaults};
 ghost use Rattle.exb_run.specs.Saying.{IsSummary};
-ghost use Rattle.exb_run.specs.Shelving.{IsChange, IsOfPlay, IsOfWriting, OnlyGoesOn, OnlyWrites};
-ghost use Rattle.exb_run.specs.Writing.{AreCut, HasTexts, IsReady, pieces_of, lines_of, with_more, with_left_frames, CanBeWritten};
+ghost use Rattle.exb_run.specs.Shelving.{IsChange, IsOfPlay, OnlyGoesOn};
+ghost use Rattle.exb_outputs.specs.Shelving.{IsOfWriting, OnlyWrites};
+ghost use Rattle.exb_outputs.specs.Writing.{AreCut, HasTexts, IsReady, pieces_of, lines_of, with_more};
+ghost use Rattle.exb_run.specs.Leaving.{with_left_frames, CanBeWritten};
 
 use crate::counted::Counted;
 use crate::feed::Feed;
-use crate::outputs::Outputs;
-use crate::plan::Plan;
+use crate::leaving::write_left;
 use crate::script::{Schedule, Script};
 use exb_fate::Fate;
 use exb_inputs::Fault;
 use exb_machine::laws::steps_tell_passed;
 use exb_model::setup::Timed;
+use exb_outputs::{Outputs, Plan};
 use exb_resting::laws::rest::{
     runs_are_few, runs_are_under_way, runs_say_passed, runs_write_eagerly, runs_write_fronts,
     runs_write_legally,
@@ -96,7 +98,7 @@ fn write_all<S: Shelf>(
     ensures faults { CountsFaults result (S.faults shelf.old) (S.faults shelf.new) }
 {
     outputs.write_events(shelf, plan, &mut room.line, world.events())?;
-    outputs.write_left(shelf, plan, world.left())?;
+    write_left(shelf, plan, outputs, world.left())?;
     outputs.write_trace(shelf, plan, &mut room.text, world.trace())
 }
 

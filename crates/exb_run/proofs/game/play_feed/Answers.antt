@@ -3,7 +3,7 @@ use Rattle.std.proofs.lemmas.Result.{on_err_weaker}
 use Rattle.exb_schedule.specs.Worlds.{network_of}
 use Rattle.exb_words.specs.declared.asked.Options.{Options}
 use Rattle.exb_run.specs.Playing.{mode_of}
-use Rattle.exb_run.specs.Writing.{pieces_of}
+use Rattle.exb_outputs.specs.Writing.{pieces_of}
 use Rattle.exb_run.proofs.CuttingOff.{begun_eagerly, ended_eagerly}
 use Rattle.exb_run.proofs.Going.{begins-opened}
 use Rattle.exb_run.proofs.Running.{if_err_map, if_ok_map}

@@ -5,9 +5,11 @@ use Rattle.exb_model.specs.Traces.{TraceLine, trace_text}
 use Rattle.exb_network.specs.declared.log.Left.{Left}
 use Rattle.exb_schedule.specs.Worlds.{network_of}
 use Rattle.exb_text.specs.declared.output.Output.TheVariants as output
-use Rattle.exb_run.specs.Writing.{AreCut, HasTexts, pieces_of, lines_of, with_more, with_left_frames}
-use Rattle.exb_run.proofs.ShelvingLemmas.{writes_then}
-use Rattle.exb_run.proofs.Cutting.{cut_frames, cut_more}
+use Rattle.exb_outputs.specs.Writing.{AreCut, HasTexts, pieces_of, lines_of, with_more}
+use Rattle.exb_run.specs.Leaving.{with_left_frames}
+use Rattle.exb_outputs.proofs.ShelvingLemmas.{writes_then}
+use Rattle.exb_run.proofs.Frames.{cut_frames}
+use Rattle.exb_outputs.proofs.Cutting.{cut_more}
 use Rattle.exb_run.proofs.game.write_all.Goals as goal
 
 pub returns-clause-texts : goal.returns-clause-texts

@@ -8,7 +8,7 @@ use Rattle.exb_run.specs.Outputs.{AreCutEagerly, HasPlayed}
 use Rattle.exb_run.specs.Playing.{mode_of}
 use Rattle.exb_run.proofs.Beginning.{can-read-on, input-stays}
 use Rattle.exb_run.proofs.CuttingOff.{made_eagerly}
-use Rattle.exb_run.proofs.Orders.{makes_as, makes_then_read}
+use Rattle.exb_outputs.proofs.Orders.{makes_as, makes_then_read}
 use Rattle.exb_run.proofs.Running.{if_ok_map}
 use Rattle.exb_inputs.proofs.ShelvingLemmas.{counts_after}
 use Rattle.exb_run.proofs.play.play.Goals as goal

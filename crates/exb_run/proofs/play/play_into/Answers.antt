@@ -7,7 +7,7 @@ use Rattle.exb_shelf.specs.Files.{Files}
 use Rattle.exb_inputs.specs.Inputs.{input_from}
 use Rattle.exb_inputs.specs.Shelving.{ReadsCapture}
 use Rattle.exb_run.specs.Playing.{Run, mode_of}
-use Rattle.exb_run.specs.Writing.{HasTexts, first_text, pieces_of}
+use Rattle.exb_outputs.specs.Writing.{HasTexts, first_text, pieces_of}
 use Rattle.exb_run.proofs.Beginning.{can-begin-of, has-budget, start-fits}
 use Rattle.exb_run.proofs.CuttingOff.{begun_eagerly}
 use Rattle.exb_run.proofs.Keeping.{ready-opened}

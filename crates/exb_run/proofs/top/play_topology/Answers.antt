@@ -13,16 +13,16 @@ use Rattle.exb_inputs.specs.declared.checked.Checked.{Checked}
 use Rattle.exb_inputs.specs.Checks.{AreAllGood, AreChecked, FirstFault}
 use Rattle.exb_run.specs.Checks.{CanBeRead}
 use Rattle.exb_inputs.specs.Inputs.{input_from, input_of}
-use Rattle.exb_run.specs.Outputs.{AreCutEagerly, HasPlayed, IsPlayed, OnlyOutputs, OnlyPlanned}
+use Rattle.exb_run.specs.Outputs.{AreCutEagerly, HasPlayed, IsPlayed, OnlyOutputs}
+use Rattle.exb_outputs.specs.Plans.{OnlyPlanned, Planned}
 use Rattle.exb_inputs.specs.Shelving.{EndsAt, ReadsCapture}
 use Rattle.exb_run.specs.Playing.{IsScript, mode_of}
-use Rattle.exb_run.specs.Order.{MakesInOrder}
-use Rattle.exb_run.specs.Plans.{Planned}
+use Rattle.exb_outputs.specs.Order.{MakesInOrder}
 use Rattle.exb_run.specs.Shelving.{IsOfRun}
 use Rattle.exb_run.specs.Answers.{mode_for}
 use Rattle.exb_inputs.proofs.FaultLemmas.{first_none, first_once}
 use Rattle.exb_run.proofs.Handing.{sound_captures, sound_script}
-use Rattle.exb_run.proofs.Orders.{makes_none, read_then_makes}
+use Rattle.exb_outputs.proofs.Orders.{makes_none, read_then_makes}
 use Rattle.exb_run.proofs.OpenLemmas.{opened_for}
 use Rattle.exb_run.proofs.Ordered.{captures_are_files, ends_own, err_is, ends_upto, files_for, plan_is, play_own}
 use Rattle.exb_run.specs.Opening.{plan_for}

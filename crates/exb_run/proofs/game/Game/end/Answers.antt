@@ -2,8 +2,8 @@ use Rattle.std.proofs.Common.{ℕ, List}
 use Rattle.std.proofs.lemmas.Result.{err_from_is_err_and}
 use Rattle.exb_text.specs.declared.output.Output.TheVariants as output
 use Rattle.exb_run.specs.Playing.{counts_text}
-use Rattle.exb_run.specs.Writing.{with_more}
-use Rattle.exb_run.proofs.Cutting.{cut_whole}
+use Rattle.exb_outputs.specs.Writing.{with_more}
+use Rattle.exb_outputs.proofs.Cutting.{cut_whole}
 use Rattle.exb_run.proofs.game.Game.end.Goals as goal
 
 pub returns-in_err-line-clause-cut : goal.returns-in_err-line-clause-cut

@@ -8,7 +8,7 @@ use Rattle.exb_text.specs.Tallies.{counts_of}
 use Rattle.exb_run.specs.Playing.{Run, mode_of}
 use Rattle.exb_run.specs.Shelving.{OnlyGoesOn}
 use Rattle.exb_run.specs.UnderWay.{CanFeed, IsPlaying}
-use Rattle.exb_run.specs.Writing.{IsReady}
+use Rattle.exb_outputs.specs.Writing.{IsReady}
 use Rattle.exb_run.proofs.game.Game.play_all.Given as goal
 
 abbrev pub invariant-events : goal.invariant-events

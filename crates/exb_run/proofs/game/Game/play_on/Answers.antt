@@ -5,12 +5,12 @@ use Rattle.exb_model.specs.Texts.{summary_line}
 use Rattle.exb_schedule.specs.Worlds.{network_of}
 use Rattle.exb_text.specs.declared.output.Output.TheVariants as output
 use Rattle.exb_text.specs.Tallies.{counts_of}
-use Rattle.exb_run.specs.Outputs.{output_name, output_text}
-use Rattle.exb_run.specs.Plans.{kind_at, output_count}
+use Rattle.exb_outputs.specs.Plans.{output_name, kind_at, output_count}
+use Rattle.exb_run.specs.Outputs.{output_text}
 use Rattle.exb_run.specs.Playing.{counts_text, mode_of, text_so_far}
-use Rattle.exb_run.specs.Writing.{with_more}
+use Rattle.exb_outputs.specs.Writing.{with_more}
 use Rattle.exb_run.proofs.Ending.{counts-end, eagerly, legal, texts-whole, trace}
-use Rattle.exb_run.proofs.Filling.{weaker}
+use Rattle.exb_outputs.proofs.Filling.{weaker}
 use Rattle.exb_run.proofs.Telling.{counts_written, if_ok_both}
 use Rattle.exb_run.proofs.Keeping.{goes-writing}
 use Rattle.exb_run.proofs.Running.{if_ok_map}

@@ -4,9 +4,9 @@ use Rattle.exb_model.specs.Input.{segments}
 use Rattle.exb_schedule.specs.Worlds.{network_of}
 use Rattle.exb_run.specs.Playing.{mode_of, text_so_far}
 use Rattle.exb_run.specs.UnderWay.{CanFollow}
-use Rattle.exb_run.specs.Writing.{first_text, pieces_of}
+use Rattle.exb_outputs.specs.Writing.{first_text, pieces_of}
 use Rattle.exb_run.proofs.CuttingOff.{cut_amid}
-use Rattle.exb_run.proofs.OutputLemmas.{kinds_same}
+use Rattle.exb_outputs.proofs.OutputLemmas.{kinds_same}
 use Rattle.exb_run.proofs.PortCounts.{can-count, none_together}
 use Rattle.exb_run.proofs.Going.{opened-playing}
 use Rattle.exb_run.proofs.Keeping.{feed-written, goes-none, goes-then, goes-writing}

@@ -3,8 +3,8 @@ use Rattle.std.proofs.lemmas.Result.{on_err_weaker}
 use Rattle.exb_network.specs.Worlds.{all_left}
 use Rattle.exb_schedule.specs.Worlds.{network_of}
 use Rattle.exb_run.specs.Playing.{mode_of, text_so_far}
-use Rattle.exb_run.specs.Writing.{pieces_of}
-use Rattle.exb_run.proofs.OutputLemmas.{kinds_same}
+use Rattle.exb_outputs.specs.Writing.{pieces_of}
+use Rattle.exb_outputs.proofs.OutputLemmas.{kinds_same}
 use Rattle.exb_run.proofs.PortCounts.{can-count, counted-on, played_together}
 use Rattle.exb_run.proofs.Telling.{when_ok, on_ok_by, text-more, quiet-played, cleared-played, frames-fit}
 use Rattle.exb_run.proofs.CuttingOff.{cut_amid, cut_before}

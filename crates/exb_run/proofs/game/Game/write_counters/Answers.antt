@@ -1,8 +1,8 @@
 use Rattle.std.proofs.Common.{◌≡◌, ℕ, List, [], ap, sym, subst}
 use Rattle.exb_text.specs.declared.output.Output.TheVariants as output
 use Rattle.exb_run.specs.Playing.{counts_text}
-use Rattle.exb_run.specs.Writing.{HasTexts, pieces_of, with_more}
-use Rattle.exb_run.proofs.OutputLemmas.{no_more}
+use Rattle.exb_outputs.specs.Writing.{HasTexts, pieces_of, with_more}
+use Rattle.exb_outputs.proofs.OutputLemmas.{no_more}
 use Rattle.exb_run.proofs.game.Game.write_counters.Goals as goal
 
 pub returns-in-None-clause-texts : goal.returns-in-None-clause-texts

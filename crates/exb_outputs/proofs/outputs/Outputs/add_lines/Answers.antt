@@ -1,0 +1,58 @@
+use Rattle.std.proofs.Common.{rules, ◌<◌, take, length, arith, ◌≤◌, List, subst}
+use Rattle.std.proofs.lemmas.List.{take_all}
+use Rattle.std.proofs.lemmas.Result.{err_from_is_err_and}
+use Rattle.exb_model.specs.Traces.{TraceLine}
+use Rattle.exb_model.specs.Traces.{trace_text}
+use Rattle.exb_text.specs.declared.output.Output.TheVariants as output
+use Rattle.exb_outputs.specs.Writing.{HasTexts, pieces_of, with_more}
+use Rattle.exb_outputs.proofs.OutputLemmas.{no_more, more_trace}
+use Rattle.exb_outputs.proofs.ShelvingLemmas.{writes_none, writes_then}
+use Rattle.exb_outputs.proofs.Cutting.{cut_trace}
+use Rattle.exb_outputs.proofs.outputs.Outputs.add_lines.Goals as goal
+
+pub loop-one-init : goal.loop-one-init
+unfolding trace_text
+loop-one-init g c =
+    let file = g.S.Shelf.file c.args.shelf.now in
+    record {
+      ready = c.requires.ready;
+      texts = λ t orig text p. no_more c.args.plan.now orig file (pieces_of c.args.self.now) text output.Trace p;
+      only = writes_none _ _ _ _;
+      faults = search rules;
+    }
+
+pub loop-one-preserved : goal.loop-one-preserved
+loop-one-preserved g c =
+    let before = c.loop-one.invariant in
+    let added = c.in_ok-add_line.ensures in
+    let lines = c.args.lines.now in
+    let inside : c.loop-one.one-index < length lines = omega arith in
+    record {
+      ready = added.ready;
+      texts = λ t orig text p.
+          more_trace c.args.plan.now orig (g.S.Shelf.file c.add_line.new.shelf) (pieces_of c.add_line.new.self) text lines c.loop-one.one-index c.one-item.result
+          inside c.one-item.is
+          (added.texts t orig (with_more text output.Trace (trace_text (take c.loop-one.one-index lines))) (before.texts t orig text p));
+      only = writes_then _ _ _ _ _ _ _ _ before.only added.only;
+      faults = search (arith, added.faults.none_fell, before.faults);
+    }
+
+pub returns-in_err-add_line-clause-only : goal.returns-in_err-add_line-clause-only
+returns-in_err-add_line-clause-only g c = writes_then _ _ _ _ _ _ _ _ c.loop-one.invariant.only c.in_err-add_line.ensures.only
+
+pub returns-in_err-add_line-clause-cut : goal.returns-in_err-add_line-clause-cut
+returns-in_err-add_line-clause-cut g c = λ t.
+    let e = err_from_is_err_and c.from_residual.result c.from_residual.ensures.1 in
+    rw e.1
+    (λ orig text p.
+    let before = c.loop-one.invariant in
+    let lines = c.args.lines.now in
+    cut_trace c.args.plan.now orig (g.S.Shelf.file c.add_line.new.shelf) text lines c.loop-one.one-index c.one-item.result (omega arith) c.one-item.is
+    (c.in_err-add_line.ensures.cut t orig (with_more text output.Trace (trace_text (take c.loop-one.one-index lines))) (before.texts t orig text p)))
+
+pub returns-clause-texts : goal.returns-clause-texts
+returns-clause-texts g c = λ t orig text p.
+    let all : List TraceLine = c.args.lines.now in
+    let end : length all ≤ c.loop-one.one-index = omega arith in
+    subst (λ (xs : List TraceLine). HasTexts c.args.plan.now (pieces_of c.loop-one.self) orig (g.S.Shelf.file c.loop-one.shelf) (with_more text output.Trace (trace_text xs)))
+    (take_all c.loop-one.one-index all end) (c.loop-one.invariant.texts t orig text p)

@@ -1,0 +1,19 @@
+use Rattle.std.proofs.Common.{◌≡◌, ◌<◌, ℕ, List, [], slice_index_or}
+use Rattle.exb_shelf.specs.Files.{Files}
+use Rattle.exb_shelf.specs.Shelf.{NoFewer}
+use Rattle.exb_text.specs.declared.output.Output.{Output}
+use Rattle.exb_outputs.specs.Shelving.{OnlyWrites}
+use Rattle.exb_outputs.specs.Writing.{pieces_of, HasTexts, IsReady}
+use Rattle.exb_outputs.proofs.outputs.Outputs.finish.Given as goal
+
+abbrev pub invariant-loop-at : goal.invariant-loop-at
+invariant-loop-at g l =
+    let S = g.S.Shelf in
+    record {
+      ready : IsReady l.plan (S.ids l.shelf) l.self;
+      empty : (j : ℕ) → j < l.at → slice_index_or (pieces_of l.self) j [] ≡ [];
+      texts : S.tells → (orig : Files) (text : Output → List ℕ) → HasTexts l.plan (pieces_of l.fn.self) orig (S.file l.fn.shelf) text
+          → HasTexts l.plan (pieces_of l.self) orig (S.file l.shelf) text;
+      only : OnlyWrites S.tells l.plan (S.file l.fn.shelf) (S.file l.shelf) (S.ids l.fn.shelf) (S.ids l.shelf);
+      faults : NoFewer (S.faults l.fn.shelf) (S.faults l.shelf);
+    }

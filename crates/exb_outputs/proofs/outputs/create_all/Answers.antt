@@ -1,0 +1,90 @@
+use Rattle.std.proofs.Common.{rules, ◌≡◌, ◌<◌, ◌+◌, ◌∙◌, ℕ, List, [], ap, refl, get_or, length, arith, subst}
+use Rattle.std.proofs.lemmas.List.{length-map, length_push}
+use Rattle.std.proofs.lemmas.Result.{err_from_is_err_and}
+use Rattle.exb_shelf.specs.Files.{Filled}
+use Rattle.exb_shelf.proofs.FileLemmas.{filled_none, filled_one}
+use Rattle.exb_shelf.proofs.IdLemmas.{opens_none, opens_then}
+use Rattle.exb_outputs.specs.Plans.{kind_at, output_count, output_name}
+use Rattle.exb_outputs.specs.Writing.{pieces_of, first_text}
+use Rattle.exb_outputs.proofs.OutputLemmas.{more_named, more_texts, none_written}
+use Rattle.exb_outputs.proofs.Cutting.{cut_made}
+use Rattle.exb_outputs.proofs.Orders.{made_more, made_none, makes_all, makes_some}
+use Rattle.exb_outputs.proofs.outputs.create_all.Goals as goal
+
+pub loop-at-init : goal.loop-at-init
+loop-at-init g c = record {
+  ids = search rules;
+  pieces = search rules;
+  named = λ j l. absurd (omega arith);
+  texts = λ j l. absurd (omega arith);
+  files = λ t. filled_none _ _ _;
+  opened = opens_none _ _;
+  made = made_none c.args.plan.now _;
+  faults = search rules;
+}
+
+pub loop-at-preserved : goal.loop-at-preserved
+loop-at-preserved g c =
+    let S = g.S.Shelf in
+    let before = c.loop-at.invariant in
+    let made = c.in_ok-create_one.ensures in
+    let name = output_name c.args.plan.now in
+    let ids = c.loop-at.outputs.ids.items in
+    let pieces = pieces_of c.loop-at.outputs in
+    let lt : c.loop-at.at < output_count c.args.plan.now = omega arith in
+    record {
+      ids = ap length made.ids.1 ∙ length_push ids made.ids.0 ∙ ap (λ (n : ℕ). n + 1) before.ids;
+      pieces = made.count;
+      named = λ j l.
+          ap (λ (xs : List ℕ). S.ids c.create_one.new.shelf (get_or xs j 0)) made.ids.1
+          ∙ more_named (S.ids c.loop-at.shelf) (S.ids c.create_one.new.shelf) ids made.ids.0 c.loop-at.at name before.ids before.named made.opened.kept made.ids.2 j l;
+      texts = λ j l.
+          ap (λ (ps : List (List ℕ)). get_or ps j []) made.pieces
+          ∙ more_texts pieces (first_text (kind_at c.args.plan.now c.loop-at.at)) c.loop-at.at (λ k. first_text (kind_at c.args.plan.now k)) (length-map c.loop-at.outputs.pieces.items (λ v. v.items) ∙ before.pieces)
+          before.texts refl j l;
+      files = λ t.
+          filled_one (S.file c.args.shelf.now) (S.file c.loop-at.shelf) (S.file c.create_one.new.shelf) (output_count c.args.plan.now) c.loop-at.at name (λ j bytes. bytes ≡ [])
+          [] (c.output_names_differ.ensures c.args.plan.now) lt (before.files t) (made.empty t) refl;
+      opened = opens_then _ _ _ _ before.opened made.opened;
+      made = made_more c.args.plan.now c.loop-at.at _ _ _ before.made before.opened.kept lt made.makes.0 made.makes.1;
+      faults = search (arith, made.faults.none_fell, before.faults);
+    }
+
+pub returns-clause-texts : goal.returns-clause-texts
+returns-clause-texts g c = λ t.
+    let S = g.S.Shelf in
+    let all : c.loop-at.at ≡ output_count c.args.plan.now = omega arith in
+    none_written c.args.plan.now (S.file c.args.shelf.now) (S.file c.loop-at.shelf) (pieces_of c.loop-at.outputs) (λ k. first_text (kind_at c.args.plan.now k))
+    (λ j l. c.loop-at.invariant.texts j (omega arith))
+    (subst (λ (n : ℕ). Filled (S.file c.args.shelf.now) (S.file c.loop-at.shelf) n (output_name c.args.plan.now) (λ j bytes. bytes ≡ [])) all (c.loop-at.invariant.files t))
+
+pub returns-in_err-create_one-clause-only : goal.returns-in_err-create_one-clause-only
+returns-in_err-create_one-clause-only g c = record {
+  others = λ t m away. c.in_err-create_one.ensures.others t m (λ e. away c.loop-at.at (omega arith) e) ∙ (c.loop-at.invariant.files t).others m (λ j l. away j (omega arith));
+  opened = opens_then _ _ _ _ c.loop-at.invariant.opened c.in_err-create_one.ensures.opened;
+}
+
+pub returns-clause-only : goal.returns-clause-only
+returns-clause-only g c = record {
+  others = λ t m away. (c.loop-at.invariant.files t).others m (λ j l. away j (omega arith));
+  opened = c.loop-at.invariant.opened;
+}
+
+pub returns-clause-made : goal.returns-clause-made
+returns-clause-made g c = makes_all c.args.plan.now c.loop-at.at _ _ _ c.loop-at.invariant.made (omega arith)
+
+pub returns-in_err-create_one-clause-made : goal.returns-in_err-create_one-clause-made
+returns-in_err-create_one-clause-made g c =
+    let e = err_from_is_err_and c.from_residual.result c.from_residual.ensures.1 in
+    let inv = c.loop-at.invariant in
+    rw (e.1, e.2) (makes_some c.args.plan.now c.loop-at.at _ _ _ _ inv.made inv.opened.kept (omega arith) c.in_err-create_one.ensures.may_make c.in_err-create_one.ensures.causes)
+
+pub returns-in_err-create_one-clause-cut : goal.returns-in_err-create_one-clause-cut
+returns-in_err-create_one-clause-cut g c = λ t.
+    let e = err_from_is_err_and c.from_residual.result c.from_residual.ensures.1 in
+    rw e.1
+    (λ text.
+    let S = g.S.Shelf in
+    let plan = c.args.plan.now in
+    cut_made plan (S.file c.args.shelf.now) (S.file c.loop-at.shelf) (S.file c.create_one.new.shelf) c.loop-at.at (c.output_names_differ.ensures plan) (omega arith)
+    (c.loop-at.invariant.files t) (c.in_err-create_one.ensures.stays t) text)

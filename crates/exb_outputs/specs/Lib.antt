@@ -1,0 +1,4 @@
+pub mod Plans
+pub mod Order
+pub mod Shelving
+pub mod Writing

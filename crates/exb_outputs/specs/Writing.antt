@@ -1,0 +1,64 @@
+-- The outputs while they are written: each file, followed by the piece that is not written yet, is its
+-- text so far.
+use Rattle.std.specs.Prelude.{◌≡◌, ◌<◌, ◌*◌, ◌^◌, ◌==◌, ◌++◌, Bool, true, false, ℕ, List, [], ◌∷◌, map, flat_map, length, if◌then◌else◌, slice_index, slice_index_or}
+use Rattle.exb_model.specs.declared.event.Event.{Event}
+use Rattle.exb_model.specs.Tree.{is_external}
+use Rattle.exb_model.specs.Texts.{capture_header, line_of}
+use Rattle.exb_shelf.specs.Files.{Files, Cut, Filled}
+use Rattle.exb_text.specs.declared.output.Output.{Output}
+use Rattle.exb_text.specs.declared.output.Output.TheVariants as output
+use Rattle.exb_shelf.specs.Shelf.{Id, writing}
+use Rattle.exb_outputs.specs.declared.outputs.Outputs.{Outputs}
+use Rattle.exb_outputs.specs.Plans.{Planned, kind_at, output_count, output_name}
+
+-- the pieces that are not written yet
+abbrev pub pieces_of : Outputs → List (List ℕ)
+pieces_of o = map (λ v. v.items) o.pieces.items
+
+-- the file of output j, followed by its piece, is its text
+abbrev pub Holds : List (List ℕ) → (ℕ → List ℕ) → ℕ → List ℕ → Type 0
+Holds pieces text j bytes = bytes ++ slice_index_or pieces j [] ≡ text j
+
+-- each output has the text of its kind, and no other file has changed
+abbrev pub HasTexts : Planned → List (List ℕ) → Files → Files → (Output → List ℕ) → Type 0
+HasTexts plan pieces old new text = Filled old new (output_count plan) (output_name plan) (Holds pieces (λ j. text (kind_at plan j)))
+
+-- each output is as it was or holds a front of the text of its kind, and no other file has changed
+abbrev pub AreCut : Planned → Files → Files → (Output → List ℕ) → Type 0
+AreCut plan old new text = Cut old new (output_count plan) (output_name plan) (λ j. text (kind_at plan j))
+
+-- the outputs of a plan: each has an id of its file, and a piece
+pub record IsReady (plan : Planned) (given : ℕ → Id) (o : Outputs) : Type 0 where
+  pub ids : length o.ids.items ≡ output_count plan
+  pub pieces : length o.pieces.items ≡ output_count plan
+  pub named : (j : ℕ) → j < output_count plan → given (slice_index o.ids.items j) ≡ writing (output_name plan j)
+
+-- what the outputs begin with: captures with their header
+abbrev pub first_text : Output → List ℕ
+first_text (output.Capture q) = capture_header
+first_text output.Journal = []
+first_text output.Trace = []
+first_text output.Counters = []
+
+-- they are of one kind, and of one port
+abbrev pub is_same : Output → Output → Bool
+is_same (output.Capture p) (output.Capture q) = p == q
+is_same output.Journal output.Journal = true
+is_same output.Trace output.Trace = true
+is_same output.Counters output.Counters = true
+is_same _ _ = false
+
+-- the texts, where that of one kind has this more
+abbrev pub with_more : (Output → List ℕ) → Output → List ℕ → Output → List ℕ
+with_more text o more k = if is_same o k then text k ++ more else text k
+
+-- the lines of events, in order
+abbrev pub lines_of : List Event → List ℕ
+lines_of events = flat_map (λ e. line_of e ++ 10 ∷ []) events
+
+-- a frame whose record can be written in a capture: it left an external port, below 2^32 seconds
+pub record CanBeRecorded (plan : Planned) (port moment : ℕ) (bytes : List ℕ) : Type 0 where
+  pub port : is_external plan.tree port ≡ true
+  pub low : port < 4160
+  pub moment : moment < 2 ^ 32 * 1_000_000_000
+  pub bytes : length bytes < 2 ^ 32

@@ -1,0 +1,407 @@
+//! The output files while they are written.
+ghost use Rattle.std.specs.Prelude.{◌≡◌, ◌≢◌, true, ◌≤◌, ◌<◌, ◌+◌, ◌-◌, ◌*◌, ◌++◌, ℕ, List, [], length, IfOk, OnOk, OnErr, IfErr, string_bytes, ◌∷◌, ◌⊎◌, All};
+ghost use Rattle.exb_shelf.specs.Files.{Files, SameFiles, Puts, Adds, AddsFront, Filled};
+ghost use Rattle.exb_shelf.specs.Shelf.{IsWriting, Opens, writing};
+ghost use Rattle.exb_outputs.specs.Plans.{Planned, kind_at, output_count, output_name};
+ghost use Rattle.exb_outputs.specs.Order.{MakesFile, MakesInOrder};
+ghost use Rattle.exb_inputs.specs.Shelving.{CountsFaults};
+ghost use Rattle.exb_outputs.specs.Shelving.{IsOfWriting, OnlyMakes, OnlyWrites, WritesPlanned};
+ghost use Rattle.exb_counters.specs.Counters.{count_line, count_lines};
+ghost use Rattle.exb_counters.specs.Counting.{counts_at, HasPort};
+ghost use Rattle.exb_model.specs.Texts.{line_of, record_text as record_of};
+ghost use Rattle.exb_model.specs.Traces.{trace_line, trace_text};
+ghost use Rattle.exb_model.specs.Tree.{external_ports, is_external};
+ghost use Rattle.exb_text.specs.declared.output.Output.{Output};
+ghost use Rattle.exb_text.specs.declared.output.Output.TheVariants as output;
+ghost use Rattle.exb_outputs.specs.Writing.{pieces_of, AreCut, Holds, HasTexts, IsReady, first_text, with_more, lines_of};
+
+use crate::plan::Plan;
+use exb_capture::{header_text, record_text};
+use exb_counters::{Counters, write_count_line};
+use exb_inputs::Fault;
+use exb_model::event::Event;
+use exb_model::memory::NoMemory;
+use exb_model::port::PortId;
+use exb_model::trace::TraceLine;
+use exb_shelf::{PIECE, Shelf, write_text};
+use exb_text::laws::file_names_differ;
+use exb_text::{Output, file_name, write_line, write_trace_line};
+use std::alloc::Global;
+
+/// The outputs in the order in which they are made. Each has the id of its file and a piece of its text that is not written yet.
+#[derive(Drop)]
+pub struct Outputs {
+    ids: Vec<u32>,
+    pieces: Vec<Vec<u8>>,
+}
+
+/// The name of output `at`.
+fn output_name(alloc: Global, plan: &Plan, at: u16) -> Result<String, NoMemory>
+    requires { at < output_count plan.now }
+    ensures { IfOk result (λ name. string_bytes name ≡ output_name plan.now at) }
+{
+    file_name(alloc, plan.prefix(), &plan.kind(at))
+}
+
+/// The outputs of a plan have different names.
+fn output_names_differ()
+    ensures { (plan : Planned) (i j : ℕ) → i < output_count plan → j < output_count plan → i ≢ j → output_name plan i ≢ output_name plan j }
+{
+    file_names_differ();
+}
+
+/// What output `at` begins with.
+fn first_piece(alloc: Global, plan: &Plan, at: u16) -> Result<Vec<u8>, NoMemory>
+    requires { at < output_count plan.now }
+    ensures { IfOk result (λ piece. piece.items ≡ first_text (kind_at plan.now at)) }
+{
+    match plan.kind(at) {
+        Output::Capture(_) => Ok(header_text().to_vec(alloc)?),
+        _ => Ok(Vec::new(alloc)),
+    }
+}
+
+/// Makes output `at`, and puts its id and first piece behind the others.
+fn create_one<S: Shelf>(
+    alloc: Global,
+    shelf: &mut S,
+    plan: &Plan,
+    at: u16,
+    outputs: &mut Outputs,
+) -> Result<(), Fault>
+    requires within { at < output_count plan.now }
+    requires ids { length outputs.old.ids.items ≡ at }
+    requires pieces { length outputs.old.pieces.items ≡ at }
+    ensures ids { OnOk result ((id : ℕ) × (outputs.new.ids.items ≡ outputs.old.ids.items ++ id ∷ []) × (S.ids shelf.new id ≡ writing (output_name plan.now at))) }
+    ensures pieces { OnOk result (pieces_of outputs.new ≡ pieces_of outputs.old ++ first_text (kind_at plan.now at) ∷ []) }
+    ensures count { OnOk result (length outputs.new.pieces.items ≡ at + 1) }
+    ensures opened { Opens (WritesPlanned plan.now) (S.ids shelf.old) (S.ids shelf.new) }
+    ensures makes { OnOk result ((id : ℕ) × MakesFile id (output_name plan.now at) (S.ids shelf.old) (S.ids shelf.new)) }
+    ensures may_make { OnErr result (((j : ℕ) → S.ids shelf.new j ≡ S.ids shelf.old j) ⊎ ((id : ℕ) × MakesFile id (output_name plan.now at) (S.ids shelf.old) (S.ids shelf.new))) }
+    ensures empty { S.tells → OnOk result (Puts (S.file shelf.old) (S.file shelf.new) (output_name plan.now at) []) }
+    ensures others { S.tells → OnErr result ((m : List ℕ) → m ≢ output_name plan.now at → S.file shelf.new m ≡ S.file shelf.old m) }
+    ensures stays { S.tells → OnErr result (SameFiles (S.file shelf.old) (S.file shelf.new) ⊎ Puts (S.file shelf.old) (S.file shelf.new) (output_name plan.now at) []) }
+    ensures causes { IfErr result IsOfWriting }
+    ensures faults { CountsFaults result (S.faults shelf.old) (S.faults shelf.new) }
+{
+    let name = output_name(alloc, plan, at)?;
+    let piece = first_piece(alloc, plan, at)?;
+    let id = shelf.create(name.as_str())?;
+    if outputs.ids.push(id).is_err() || outputs.pieces.push(piece).is_err() {
+        return Err(Fault::Memory);
+    }
+    Ok(())
+}
+
+/// Makes all outputs, each empty, with the piece that it begins with.
+pub fn create_all<S: Shelf>(alloc: Global, shelf: &mut S, plan: &Plan) -> Result<Outputs, Fault>
+    ensures ready { IfOk result (λ outputs. IsReady plan.now (S.ids shelf.new) outputs) }
+    ensures texts { S.tells → IfOk result (λ outputs. HasTexts plan.now (pieces_of outputs) (S.file shelf.old) (S.file shelf.new) first_text) }
+    ensures cut { S.tells → OnErr result ((text : Output → List ℕ) → AreCut plan.now (S.file shelf.old) (S.file shelf.new) text) }
+    ensures only { OnlyMakes S.tells plan.now (S.file shelf.old) (S.file shelf.new) (S.ids shelf.old) (S.ids shelf.new) }
+    ensures made { MakesInOrder plan.now result (S.ids shelf.old) (S.ids shelf.new) }
+    ensures causes { IfErr result IsOfWriting }
+    ensures faults { CountsFaults result (S.faults shelf.old) (S.faults shelf.new) }
+{
+    let mut outputs = Outputs {
+        ids: Vec::new(alloc),
+        pieces: Vec::new(alloc),
+    };
+    output_names_differ();
+    for at in 0..plan.outputs() {
+        create_one(alloc, shelf, plan, at, &mut outputs)?;
+    }
+    Ok(outputs)
+}
+
+/// Writes what is not written yet of one output.
+fn flush<S: Shelf>(shelf: &mut S, id: u32, piece: &mut Vec<u8>) -> Result<(), Fault>
+    requires { IsWriting (S.ids shelf.old id) }
+    ensures written { S.tells → OnOk result (Adds (S.file shelf.old) (S.file shelf.new) (S.ids shelf.old id).name piece.old.items) }
+    ensures front { S.tells → OnErr result (AddsFront (S.file shelf.old) (S.file shelf.new) (S.ids shelf.old id).name piece.old.items) }
+    ensures empty { OnOk result (piece.new.items ≡ []) }
+    ensures others { S.tells → (m : List ℕ) → m ≢ (S.ids shelf.old id).name → S.file shelf.new m ≡ S.file shelf.old m }
+    ensures kept { (j : ℕ) → S.ids shelf.new j ≡ S.ids shelf.old j }
+    ensures causes { IfErr result IsOfWriting }
+    ensures faults { CountsFaults result (S.faults shelf.old) (S.faults shelf.new) }
+{
+    write_text(shelf, id, piece.as_slice())?;
+    piece.clear();
+    Ok(())
+}
+
+/// Puts bytes behind a piece, and writes the piece where it is full.
+fn add<S: Shelf>(
+    shelf: &mut S,
+    id: u32,
+    piece: &mut Vec<u8>,
+    head: &[u8],
+    bytes: &[u8],
+) -> Result<(), Fault>
+    requires { IsWriting (S.ids shelf.old id) }
+    ensures kept_or_written { S.tells → OnOk result (
+        (SameFiles (S.file shelf.old) (S.file shelf.new) × (piece.new.items ≡ piece.old.items ++ (head.now ++ bytes.now)))
+        ⊎ (Adds (S.file shelf.old) (S.file shelf.new) (S.ids shelf.old id).name (piece.old.items ++ (head.now ++ bytes.now)) × (piece.new.items ≡ []))) }
+    ensures front { S.tells → OnErr result (AddsFront (S.file shelf.old) (S.file shelf.new) (S.ids shelf.old id).name (piece.old.items ++ (head.now ++ bytes.now))) }
+    ensures others { S.tells → (m : List ℕ) → m ≢ (S.ids shelf.old id).name → S.file shelf.new m ≡ S.file shelf.old m }
+    ensures kept { (j : ℕ) → S.ids shelf.new j ≡ S.ids shelf.old j }
+    ensures causes { IfErr result IsOfWriting }
+    ensures faults { CountsFaults result (S.faults shelf.old) (S.faults shelf.new) }
+{
+    if piece.extend_from_slice(head).is_err() || piece.extend_from_slice(bytes).is_err() {
+        return Err(Fault::Memory);
+    }
+    if piece.len() < PIECE {
+        return Ok(());
+    }
+    flush(shelf, id, piece)
+}
+
+impl Outputs {
+    /// Puts the lines of events behind the journal. `line` is room for one line.
+    pub fn write_events<S: Shelf>(
+        &mut self,
+        shelf: &mut S,
+        plan: &Plan,
+        line: &mut String,
+        events: &[Event],
+    ) -> Result<(), Fault>
+        requires ready { IsReady plan.now (S.ids shelf.old) self.old }
+        ensures ready { IsReady plan.now (S.ids shelf.new) self.new }
+        ensures texts { S.tells → OnOk result ((orig : Files) (text : Output → List ℕ) → HasTexts plan.now (pieces_of self.old) orig (S.file shelf.old) text
+            → HasTexts plan.now (pieces_of self.new) orig (S.file shelf.new) (with_more text output.Journal (lines_of events.now))) }
+        ensures cut { S.tells → OnErr result ((orig : Files) (text : Output → List ℕ) → HasTexts plan.now (pieces_of self.old) orig (S.file shelf.old) text
+            → AreCut plan.now orig (S.file shelf.new) (with_more text output.Journal (lines_of events.now))) }
+        ensures only { OnlyWrites S.tells plan.now (S.file shelf.old) (S.file shelf.new) (S.ids shelf.old) (S.ids shelf.new) }
+        ensures causes { IfErr result IsOfWriting }
+        ensures faults { CountsFaults result (S.faults shelf.old) (S.faults shelf.new) }
+    {
+        for event in events {
+            self.add_event(shelf, plan, line, event)?;
+        }
+        Ok(())
+    }
+
+    /// Puts a frame that left a port behind the port's capture, with the moment of its record in nanoseconds.
+    pub fn write_frame<S: Shelf>(
+        &mut self,
+        shelf: &mut S,
+        plan: &Plan,
+        port: PortId,
+        moment: u64,
+        bytes: &[u8],
+    ) -> Result<(), Fault>
+        requires ready { IsReady plan.now (S.ids shelf.old) self.old }
+        requires frame { CanBeRecorded plan.now port moment bytes.now }
+        ensures ready { IsReady plan.now (S.ids shelf.new) self.new }
+        ensures texts { S.tells → OnOk result ((orig : Files) (text : Output → List ℕ) → HasTexts plan.now (pieces_of self.old) orig (S.file shelf.old) text
+            → HasTexts plan.now (pieces_of self.new) orig (S.file shelf.new) (with_more text (output.Capture port) (record_of (moment, bytes.now)))) }
+        ensures cut { S.tells → OnErr result ((orig : Files) (text : Output → List ℕ) → HasTexts plan.now (pieces_of self.old) orig (S.file shelf.old) text
+            → AreCut plan.now orig (S.file shelf.new) (with_more text (output.Capture port) (record_of (moment, bytes.now)))) }
+        ensures only { OnlyWrites S.tells plan.now (S.file shelf.old) (S.file shelf.new) (S.ids shelf.old) (S.ids shelf.new) }
+        ensures causes { IfErr result IsOfWriting }
+        ensures faults { CountsFaults result (S.faults shelf.old) (S.faults shelf.new) }
+    {
+        let at = plan.place(port);
+        let head = record_text(moment, bytes.len() as u32);
+        self.add_to(shelf, plan, at, &head, bytes)
+    }
+
+    /// Puts lines behind the trace, where it is asked for. `line` is room for one line.
+    pub fn write_trace<S: Shelf>(
+        &mut self,
+        shelf: &mut S,
+        plan: &Plan,
+        line: &mut Vec<u8>,
+        lines: &[TraceLine],
+    ) -> Result<(), Fault>
+        requires ready { IsReady plan.now (S.ids shelf.old) self.old }
+        ensures ready { IsReady plan.now (S.ids shelf.new) self.new }
+        ensures texts { S.tells → OnOk result ((orig : Files) (text : Output → List ℕ) → HasTexts plan.now (pieces_of self.old) orig (S.file shelf.old) text
+            → HasTexts plan.now (pieces_of self.new) orig (S.file shelf.new) (with_more text output.Trace (trace_text lines.now))) }
+        ensures cut { S.tells → OnErr result ((orig : Files) (text : Output → List ℕ) → HasTexts plan.now (pieces_of self.old) orig (S.file shelf.old) text
+            → AreCut plan.now orig (S.file shelf.new) (with_more text output.Trace (trace_text lines.now))) }
+        ensures only { OnlyWrites S.tells plan.now (S.file shelf.old) (S.file shelf.new) (S.ids shelf.old) (S.ids shelf.new) }
+        ensures causes { IfErr result IsOfWriting }
+        ensures faults { CountsFaults result (S.faults shelf.old) (S.faults shelf.new) }
+    {
+        if plan.options().trace {
+            self.add_lines(shelf, plan, line, lines)
+        } else {
+            Ok(())
+        }
+    }
+
+    /// Puts lines behind the trace, which is asked for.
+    fn add_lines<S: Shelf>(
+        &mut self,
+        shelf: &mut S,
+        plan: &Plan,
+        line: &mut Vec<u8>,
+        lines: &[TraceLine],
+    ) -> Result<(), Fault>
+        requires traced { plan.now.options.trace ≡ true }
+        requires ready { IsReady plan.now (S.ids shelf.old) self.old }
+        ensures ready { IsReady plan.now (S.ids shelf.new) self.new }
+        ensures texts { S.tells → OnOk result ((orig : Files) (text : Output → List ℕ) → HasTexts plan.now (pieces_of self.old) orig (S.file shelf.old) text
+            → HasTexts plan.now (pieces_of self.new) orig (S.file shelf.new) (with_more text output.Trace (trace_text lines.now))) }
+        ensures cut { S.tells → OnErr result ((orig : Files) (text : Output → List ℕ) → HasTexts plan.now (pieces_of self.old) orig (S.file shelf.old) text
+            → AreCut plan.now orig (S.file shelf.new) (with_more text output.Trace (trace_text lines.now))) }
+        ensures only { OnlyWrites S.tells plan.now (S.file shelf.old) (S.file shelf.new) (S.ids shelf.old) (S.ids shelf.new) }
+        ensures causes { IfErr result IsOfWriting }
+        ensures faults { CountsFaults result (S.faults shelf.old) (S.faults shelf.new) }
+    {
+        for one in lines {
+            self.add_line(shelf, plan, line, one)?;
+        }
+        Ok(())
+    }
+
+    /// Puts the lines of all counts behind the counters, which are asked for. `line` is room for one line.
+    pub fn write_counters<S: Shelf>(
+        &mut self,
+        shelf: &mut S,
+        plan: &Plan,
+        line: &mut Vec<u8>,
+        counters: &Counters,
+    ) -> Result<(), Fault>
+        requires asked { plan.now.options.counters ≡ true }
+        requires ports { (q : ℕ) → q < 4160 → is_external plan.now.tree q ≡ true → HasPort counters.now q }
+        requires ready { IsReady plan.now (S.ids shelf.old) self.old }
+        ensures ready { IsReady plan.now (S.ids shelf.new) self.new }
+        ensures texts { S.tells → OnOk result ((orig : Files) (text : Output → List ℕ) → HasTexts plan.now (pieces_of self.old) orig (S.file shelf.old) text
+            → HasTexts plan.now (pieces_of self.new) orig (S.file shelf.new) (with_more text output.Counters (count_lines (counts_at counters.now) (external_ports plan.now.tree)))) }
+        ensures cut { S.tells → OnErr result ((orig : Files) (text : Output → List ℕ) → HasTexts plan.now (pieces_of self.old) orig (S.file shelf.old) text
+            → AreCut plan.now orig (S.file shelf.new) (with_more text output.Counters (count_lines (counts_at counters.now) (external_ports plan.now.tree)))) }
+        ensures only { OnlyWrites S.tells plan.now (S.file shelf.old) (S.file shelf.new) (S.ids shelf.old) (S.ids shelf.new) }
+        ensures causes { IfErr result IsOfWriting }
+        ensures faults { CountsFaults result (S.faults shelf.old) (S.faults shelf.new) }
+    {
+        for at in 0..plan.count() {
+            self.add_count(shelf, plan, line, plan.port(at), counters)?;
+        }
+        Ok(())
+    }
+
+    /// Writes all that is not written yet.
+    pub fn finish<S: Shelf>(&mut self, shelf: &mut S, plan: &Plan) -> Result<(), Fault>
+        requires ready { IsReady plan.now (S.ids shelf.old) self.old }
+        ensures texts { S.tells → OnOk result ((orig : Files) (text : Output → List ℕ) → HasTexts plan.now (pieces_of self.old) orig (S.file shelf.old) text
+            → Filled orig (S.file shelf.new) (output_count plan.now) (output_name plan.now) (λ j bytes. bytes ≡ text (kind_at plan.now j))) }
+        ensures cut { S.tells → OnErr result ((orig : Files) (text : Output → List ℕ) → HasTexts plan.now (pieces_of self.old) orig (S.file shelf.old) text
+            → AreCut plan.now orig (S.file shelf.new) text) }
+        ensures only { OnlyWrites S.tells plan.now (S.file shelf.old) (S.file shelf.new) (S.ids shelf.old) (S.ids shelf.new) }
+        ensures causes { IfErr result IsOfWriting }
+        ensures faults { CountsFaults result (S.faults shelf.old) (S.faults shelf.new) }
+    {
+        output_names_differ();
+        for at in 0..self.ids.len() {
+            flush(shelf, self.ids[at], &mut self.pieces[at])?;
+        }
+        Ok(())
+    }
+
+    /// Puts the line of an event behind the journal.
+    fn add_event<S: Shelf>(
+        &mut self,
+        shelf: &mut S,
+        plan: &Plan,
+        line: &mut String,
+        event: &Event,
+    ) -> Result<(), Fault>
+        requires ready { IsReady plan.now (S.ids shelf.old) self.old }
+        ensures ready { IsReady plan.now (S.ids shelf.new) self.new }
+        ensures texts { S.tells → OnOk result ((orig : Files) (text : Output → List ℕ) → HasTexts plan.now (pieces_of self.old) orig (S.file shelf.old) text
+            → HasTexts plan.now (pieces_of self.new) orig (S.file shelf.new) (with_more text output.Journal (line_of event.now ++ 10 ∷ []))) }
+        ensures cut { S.tells → OnErr result ((orig : Files) (text : Output → List ℕ) → HasTexts plan.now (pieces_of self.old) orig (S.file shelf.old) text
+            → AreCut plan.now orig (S.file shelf.new) (with_more text output.Journal (line_of event.now ++ 10 ∷ []))) }
+        ensures only { OnlyWrites S.tells plan.now (S.file shelf.old) (S.file shelf.new) (S.ids shelf.old) (S.ids shelf.new) }
+        ensures causes { IfErr result IsOfWriting }
+        ensures faults { CountsFaults result (S.faults shelf.old) (S.faults shelf.new) }
+    {
+        line.clear();
+        if write_line(line, event).is_err() {
+            return Err(Fault::Memory);
+        }
+        self.add_to(shelf, plan, plan.journal(), &[], line.as_bytes())
+    }
+
+    /// Puts a line behind the trace, which is asked for.
+    fn add_line<S: Shelf>(
+        &mut self,
+        shelf: &mut S,
+        plan: &Plan,
+        line: &mut Vec<u8>,
+        one: &TraceLine,
+    ) -> Result<(), Fault>
+        requires traced { plan.now.options.trace ≡ true }
+        requires ready { IsReady plan.now (S.ids shelf.old) self.old }
+        ensures ready { IsReady plan.now (S.ids shelf.new) self.new }
+        ensures texts { S.tells → OnOk result ((orig : Files) (text : Output → List ℕ) → HasTexts plan.now (pieces_of self.old) orig (S.file shelf.old) text
+            → HasTexts plan.now (pieces_of self.new) orig (S.file shelf.new) (with_more text output.Trace (trace_line one.now ++ 10 ∷ []))) }
+        ensures cut { S.tells → OnErr result ((orig : Files) (text : Output → List ℕ) → HasTexts plan.now (pieces_of self.old) orig (S.file shelf.old) text
+            → AreCut plan.now orig (S.file shelf.new) (with_more text output.Trace (trace_line one.now ++ 10 ∷ []))) }
+        ensures only { OnlyWrites S.tells plan.now (S.file shelf.old) (S.file shelf.new) (S.ids shelf.old) (S.ids shelf.new) }
+        ensures causes { IfErr result IsOfWriting }
+        ensures faults { CountsFaults result (S.faults shelf.old) (S.faults shelf.new) }
+    {
+        line.clear();
+        if write_trace_line(line, one).is_err() {
+            return Err(Fault::Memory);
+        }
+        self.add_to(shelf, plan, plan.trace(), &[], line.as_slice())
+    }
+
+    /// Puts the line of a port's counts behind the counters, which are asked for.
+    fn add_count<S: Shelf>(
+        &mut self,
+        shelf: &mut S,
+        plan: &Plan,
+        line: &mut Vec<u8>,
+        port: PortId,
+        counters: &Counters,
+    ) -> Result<(), Fault>
+        requires asked { plan.now.options.counters ≡ true }
+        requires port { HasPort counters.now port }
+        requires ready { IsReady plan.now (S.ids shelf.old) self.old }
+        ensures ready { IsReady plan.now (S.ids shelf.new) self.new }
+        ensures texts { S.tells → OnOk result ((orig : Files) (text : Output → List ℕ) → HasTexts plan.now (pieces_of self.old) orig (S.file shelf.old) text
+            → HasTexts plan.now (pieces_of self.new) orig (S.file shelf.new) (with_more text output.Counters (count_line port (counts_at counters.now port)))) }
+        ensures cut { S.tells → OnErr result ((orig : Files) (text : Output → List ℕ) → HasTexts plan.now (pieces_of self.old) orig (S.file shelf.old) text
+            → AreCut plan.now orig (S.file shelf.new) (with_more text output.Counters (count_line port (counts_at counters.now port)))) }
+        ensures only { OnlyWrites S.tells plan.now (S.file shelf.old) (S.file shelf.new) (S.ids shelf.old) (S.ids shelf.new) }
+        ensures causes { IfErr result IsOfWriting }
+        ensures faults { CountsFaults result (S.faults shelf.old) (S.faults shelf.new) }
+    {
+        line.clear();
+        if write_count_line(line, port, &counters.line(port)).is_err() {
+            return Err(Fault::Memory);
+        }
+        self.add_to(shelf, plan, plan.counters(), &[], line.as_slice())
+    }
+
+    /// Puts bytes behind output `at`.
+    fn add_to<S: Shelf>(
+        &mut self,
+        shelf: &mut S,
+        plan: &Plan,
+        at: u16,
+        head: &[u8],
+        bytes: &[u8],
+    ) -> Result<(), Fault>
+        requires ready { IsReady plan.now (S.ids shelf.old) self.old }
+        requires within { at < output_count plan.now }
+        ensures ready { IsReady plan.now (S.ids shelf.new) self.new }
+        ensures texts { S.tells → OnOk result ((orig : Files) (text : Output → List ℕ) → HasTexts plan.now (pieces_of self.old) orig (S.file shelf.old) text
+            → HasTexts plan.now (pieces_of self.new) orig (S.file shelf.new) (with_more text (kind_at plan.now at) (head.now ++ bytes.now))) }
+        ensures cut { S.tells → OnErr result ((orig : Files) (text : Output → List ℕ) → HasTexts plan.now (pieces_of self.old) orig (S.file shelf.old) text
+            → AreCut plan.now orig (S.file shelf.new) (with_more text (kind_at plan.now at) (head.now ++ bytes.now))) }
+        ensures only { OnlyWrites S.tells plan.now (S.file shelf.old) (S.file shelf.new) (S.ids shelf.old) (S.ids shelf.new) }
+        ensures causes { IfErr result IsOfWriting }
+        ensures faults { CountsFaults result (S.faults shelf.old) (S.faults shelf.new) }
+    {
+        output_names_differ();
+        let at = at as usize;
+        add(shelf, self.ids[at], &mut self.pieces[at], head, bytes)
+    }
+}

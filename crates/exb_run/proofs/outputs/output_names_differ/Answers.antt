@@ -1,5 +1,0 @@
-use Rattle.exb_run.proofs.ByKind.{names_apart}
-use Rattle.exb_run.proofs.outputs.output_names_differ.Goals as goal
-
-pub returns : goal.returns
-returns c = names_apart c.file_names_differ.ensures

@@ -1,5 +1,0 @@
-use Rattle.exb_run.proofs.Places.{ArePlacedBelow}
-use Rattle.exb_run.proofs.plan.places_of.Given as goal
-
-abbrev pub invariant-ports : goal.invariant-ports
-invariant-ports l = ArePlacedBelow l.tree l.number l.ports.items l.places.items
