@@ -25,3 +25,5 @@ pub mod Scratching
 pub mod OpenLemmas
 pub mod Ordered
 pub mod SummingUp
+pub mod ReadBack
+pub mod AfterRuns

@@ -8,7 +8,7 @@ use Rattle.exb_schedule.specs.Worlds.{network_of}
 use Rattle.exb_run.specs.Playing.{mode_of}
 use Rattle.exb_run.specs.Shelving.{OnlyReads}
 use Rattle.exb_run.proofs.PortCounts.{counts-of}
-use Rattle.exb_run.proofs.Going.{all-played, can-go-on, cut-reading, seconds-fit}
+use Rattle.exb_run.proofs.Going.{all-kept, all-played, can-go-on, cut-reading, seconds-fit}
 use Rattle.exb_run.proofs.Keeping.{feed-written, goes-reading, goes-writing, ready-read}
 use Rattle.exb_inputs.proofs.ShelvingLemmas.{fewer_then}
 use Rattle.exb_run.proofs.Taking.{comes-commands, comes-fewer, comes-ids}
@@ -108,6 +108,12 @@ returns-clause-told g c t run start =
     let S = g.S.Shelf in
     all-played S.tells (mode_of c.args.schedule) run c.args.plan.now (S.file c.events.shelf) (S.file c.gather.new.shelf) (S.ids c.events.shelf) (network_of c.events.self.world) c.events.self.counted c.events.self.outputs c.events.last
     c.events.feed.programme t (c.events.invariant.goes_on run start) (none_at c.in_ok-second.field-0 c.in_default.is (c.in_ok-second.ensures.end t)) c.gather.ensures.reads.files
+
+pub returns-clause-kept : goal.returns-clause-kept
+returns-clause-kept g c t run start =
+    let S = g.S.Shelf in
+    all-kept S.tells (mode_of c.args.schedule) run c.args.plan.now (S.file c.events.shelf) (S.ids c.events.shelf) (network_of c.events.self.world) c.events.self.counted c.events.self.outputs c.events.last
+    c.events.feed.programme t (c.events.invariant.goes_on run start) (none_at c.in_ok-second.field-0 c.in_default.is (c.in_ok-second.ensures.end t))
 
 pub returns-in_err-second-clause-cut : goal.returns-in_err-second-clause-cut
 returns-in_err-second-clause-cut g c = λ t.
