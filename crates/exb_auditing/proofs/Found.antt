@@ -7,6 +7,7 @@ use Rattle.std.proofs.lemmas.List.Elements.{All-head, All-tail}
 use Rattle.exb_model.specs.FlatBridge.{Sent, flat}
 use Rattle.exb_model.specs.History.{History}
 use Rattle.exb_model.specs.Input.{Record, basis_of}
+use Rattle.exb_model.specs.Ports.{all_ports}
 use Rattle.exb_model.specs.Setup.{shape_of}
 use Rattle.exb_model.specs.Texts.{capture_text, journal_text}
 use Rattle.exb_model.specs.Traces.{TraceLine, trace_text}
@@ -22,6 +23,7 @@ use Rattle.exb_capture.specs.Written.{CanBeWritten, in_microseconds}
 use Rattle.exb_audit.specs.declared.frames.PortFrames.{PortFrames}
 use Rattle.exb_audit.specs.Frames.{frames_by}
 use Rattle.exb_audit.specs.Written.{FlatCanBeWritten}
+use Rattle.exb_evidence.specs.declared.frames.PortFile.{PortFile}
 use Rattle.exb_evidence.specs.Frames.{EachIsRead}
 use Rattle.exb_evidence.specs.Lines.{HoldsLines, IsJournal, IsTrace}
 use Rattle.exb_legal.specs.Entries.{journal_of}
@@ -106,7 +108,7 @@ module _ (t : Topology) (file : Files) (tree : IsTree (shape_of t.setup)) (sound
           (held p name e told (file name) refl is, tt)
 
   captures_give : AllGive capture_records file (frames_in (input_of t file)) (capture_files t.captures)
-  captures_give = each_flat _ (capture_file t.captures) _ capture_gives
+  captures_give = each_flat (λ (x : PortFile). Gives capture_records file x (frames_in (input_of t file) x.port)) (capture_file t.captures) all_ports capture_gives
 
   captures_are : (fs : List PortFrames) → EachIsRead capture_records file (capture_files t.captures) fs → (p : ℕ) → frames_by fs p ≡ frames_in (input_of t file) p
   captures_are fs read p = frames_are capture_records file (frames_in (input_of t file)) (capture_files t.captures) fs read captures_give p (by_name (name_of t.captures p) refl)
@@ -139,7 +141,7 @@ module _ (t : Topology) (file : Files) (tree : IsTree (shape_of t.setup)) (sound
         )
 
     outputs_give : AllGive pcap_records file (frames_out (input_of t file) h) (output_files (shape_of t.setup) t.prefix)
-    outputs_give = each_flat _ (output_file (shape_of t.setup) t.prefix) _ output_gives
+    outputs_give = each_flat (λ (x : PortFile). Gives pcap_records file x (frames_out (input_of t file) h x.port)) (output_file (shape_of t.setup) t.prefix) all_ports output_gives
 
     outputs_are : (fs : List PortFrames) → EachIsRead pcap_records file (output_files (shape_of t.setup) t.prefix) fs → (q : ℕ) → is_external (shape_of t.setup) q ≡ true
         → frames_by fs q ≡ frames_out (input_of t file) h q

@@ -68,7 +68,7 @@ module _ (t : Topology) (options : Options) (old new : Files) (line : List ℕ) 
   records_same : (q : ℕ) → records_at t.captures new q ≡ records_at t.captures old q
   records_same q = records_by q (name_of t.captures q) refl
 
-  input_by : (ℕ → List Record) → Input
+  abbrev input_by : (ℕ → List Record) → Input
   input_by records = record { setup = t.setup; commands = map given_by t.commands; records = records }
 
   input_same : input_of t old ≡ input_of t new
@@ -119,6 +119,10 @@ module _ (name : List ℕ) (file : Files) (never : (fault : Fault) → Stops (So
         | inr failed ↦ sink failed
       ]) (λ e. not (subst IsOfInput (sym e) refl)) (λ e. not (subst IsOfInput (sym e) refl))
 
+stops_not : (name : List ℕ) (file : Files) (t : Topology) → HoldsTopology name file t → FindsLegal (scope_of t) file → (fault : Fault) → Stops (Some (Audit name)) file fault → ⊥
+stops_not name file t holds legal fault (inl refused) = held_not name file t fault holds refused
+stops_not name file t holds legal fault (inr stopped) = legal.never fault (stops_of name file t fault holds stopped)
+
 pub audits_follow_runs : ReadIsSound → RunsAreFoundLegal → AuditsFollowRuns
 audits_follow_runs sound_law found name options old new file run same =
     let t = run.done.topology in
@@ -127,11 +131,6 @@ audits_follow_runs sound_law found name options old new file run same =
     let sound : IsSound t = sound_law held.bytes t held.read in
     let holds : HoldsTopology name new t = record { bytes = held.bytes; there = p.others name (λ o made e. run.apart (o, made, e)) ∙ held.there; read = held.read } in
     let legal : FindsLegal (scope_of t) new = finds t options old new run.text sound p found run.traced run.done.ready.good run.within in
-    subst (λ (x : Files). AuditsWell name x) (sym (fun_ext λ n. same n)) (well name new (stops_not name new t holds legal))
-  where
-    stops_not : (name : List ℕ) (new : Files) (t : Topology) → HoldsTopology name new t → FindsLegal (scope_of t) new → (fault : Fault) → Stops (Some (Audit name)) new fault → ⊥
-    stops_not name new t holds legal fault (inl refused) = held_not name new t fault holds refused
-    stops_not name new t holds legal fault (inr stopped) = legal.never fault (stops_of name new t fault holds stopped)
-
-    well : (name : List ℕ) (new : Files) → ((fault : Fault) → Stops (Some (Audit name)) new fault → ⊥) → AuditsWell name new
-    well name new never = record { never = never; ends = ends name new never }
+    let never = stops_not name new t holds legal in
+    let well : AuditsWell name new = record { never = never; ends = ends name new never } in
+    subst (λ (x : Files). AuditsWell name x) (sym (fun_ext λ n. same n)) well
