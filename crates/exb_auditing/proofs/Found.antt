@@ -85,9 +85,9 @@ module _ (t : Topology) (file : Files) (tree : IsTree (shape_of t.setup)) (sound
 
   held : (p : ℕ) (name : List ℕ) → name_of t.captures p ≡ Some name → (told : Scanned) (o : Option (List ℕ)) → file name ≡ o → IsScan most_bytes o (Ok told)
       → Gives capture_records file (record { port = p; name = name }) (frames_in (input_of t file) p)
-  held p name e told None there (inl no) = absurd (not_err no)
-  held p name e told None there (inr (inl no)) = absurd (not_err no)
-  held p name e told None there (inr (inr no)) = absurd (not_err no)
+  held p name e told None there (inl e1) = absurd (not_err e1)
+  held p name e told None there (inr (inl e1)) = absurd (not_err e1)
+  held p name e told None there (inr (inr e1)) = absurd (not_err e1)
   held p name e told (Some bytes) there scanned = record {
     bytes = bytes;
     there = there;
