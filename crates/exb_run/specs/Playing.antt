@@ -23,6 +23,8 @@ use Rattle.exb_resting.specs.Flight.Showing.{left_at}
 use Rattle.exb_text.specs.declared.output.Output.{Output}
 use Rattle.exb_text.specs.declared.output.Output.TheVariants as output
 use Rattle.exb_text.specs.Tallies.{FitsTally, counts_of, nothing_counted}
+use Rattle.exb_legal.specs.Spelled.{HasBytes}
+use Rattle.exb_legal.specs.TextLaws.{IsOfNumbers}
 use Rattle.exb_counters.specs.declared.counters.Counters.{Counters}
 use Rattle.exb_counters.specs.declared.counters.Counts5.{Counts5}
 use Rattle.exb_counters.specs.Counters.{count_lines, octets_of}
@@ -114,8 +116,8 @@ pub record Run : Type 0 where
   pub input : Input
   pub before : Files
 
--- The network has played these segments of the input, what is written and counted are those of what it told, and nothing is
--- still to be written.
+-- The network has played these segments of the input, what is written and counted are those of what it told, whose numbers have 64 bits
+-- and whose frames are bytes, and nothing is still to be written.
 pub record IsTold (tells : Type 0) (m : Mode) (r : Run) (plan : Planned) (now : Files) (n : Network) (c : Counted) (o : Outputs) (so_far : List Segment) : Type 0 where
   pub tree : plan.tree ≡ tree_of r.input
   pub told : List Event
@@ -124,6 +126,8 @@ pub record IsTold (tells : Type 0) (m : Mode) (r : Run) (plan : Planned) (now : 
   pub lines : List TraceLine
   pub played : IsPlayedBy m r.input so_far n told passed gone lines
   pub tracing : n.log.tracing ≡ plan.options.trace
+  pub numbers : All IsOfNumbers told
+  pub bytes : All HasBytes lines
   pub counted : IsCounted plan c told passed gone
   pub texts : tells → HasTexts plan (pieces_of o) r.before now (text_so_far told gone lines [])
   pub sent : HasSent plan o (λ q. left_at q gone)

@@ -6,6 +6,8 @@ ghost use Rattle.exb_model.specs.FlatBridge.{Sent};
 ghost use Rattle.exb_model.specs.Setup.{IsValid, shape_of};
 ghost use Rattle.exb_model.specs.Texts.{counted, with_left, summary_line};
 ghost use Rattle.exb_model.specs.Traces.{TraceLine, trace_text};
+ghost use Rattle.exb_legal.specs.Spelled.{HasBytes};
+ghost use Rattle.exb_legal.specs.TextLaws.{IsOfNumbers};
 ghost use Rattle.exb_machine.specs.Worlds.{Left as Leaving};
 ghost use Rattle.exb_merge.specs.Replays.{ids_in, HasPort, standings};
 ghost use Rattle.exb_resting.specs.Motion.Playing.{IsTimely};
@@ -18,7 +20,7 @@ ghost use Rattle.exb_text.specs.declared.output.Output.{Output};
 ghost use Rattle.exb_text.specs.declared.output.Output.TheVariants as output;
 ghost use Rattle.exb_text.specs.Tallies.{counts_of};
 ghost use Rattle.exb_outputs.specs.Plans.{kind_at, output_count, output_name};
-ghost use Rattle.exb_run.specs.Playing.{AreCountsOf, CanCount, CountsOn, Run, IsAllTold, IsCutOff, IsTold, counts_text, mode_of};
+ghost use Rattle.exb_run.specs.Playing.{AreCountsOf, CanBeKept, CanCount, CountsOn, Run, IsAllTold, IsCutOff, IsTold, counts_text, mode_of};
 ghost use Rattle.exb_run.specs.UnderWay.{CanBegin, CanBePlayed, CanFeed, CanGoOn, IsOpened, IsPlaying};
 ghost use Rattle.exb_run.specs.Parts.{AreCutSoFar};
 ghost use Rattle.exb_run.specs.Outputs.{AreCutEagerly, HasPlayed};
@@ -34,6 +36,7 @@ use crate::counted::Counted;
 use crate::feed::Feed;
 use crate::leaving::write_left;
 use crate::script::{Schedule, Script};
+use exb_audit::facts::{events_numbers, lines_bytes};
 use exb_fate::Fate;
 use exb_inputs::Fault;
 use exb_machine::laws::steps_tell_passed;
@@ -129,6 +132,15 @@ fn play_segment(
     }
 }
 
+/// That the numbers of what a world told have 64 bits and the frames of its lines are bytes, by their types. It does nothing.
+fn told_by_types(world: &World)
+    ensures numbers { All IsOfNumbers (network_of world.now).log.events }
+    ensures bytes { All HasBytes (network_of world.now).log.lines }
+{
+    events_numbers(world.events());
+    lines_bytes(world.trace());
+}
+
 /// The seconds from what came before to what comes at `second`, 0 for what comes first.
 fn seconds_since(last: Option<u64>, second: u64) -> u32
     requires { seconds_after last second < 2 ^ 32 }
@@ -219,6 +231,7 @@ impl Game {
         {
             return Err(Fault::Memory);
         }
+        told_by_types(&self.world);
         self.note(shelf, plan)
     }
 
@@ -274,6 +287,9 @@ impl Game {
         ensures told { S.tells → OnOk result ((run : Run)
             → IsPlaying S.tells (mode_of schedule) run plan.now (S.file shelf.old) (S.ids shelf.old) (network_of self.old.world) self.old.counted self.old.outputs None feed.old.programme
             → IsAllTold S.tells (mode_of schedule) run plan.now (S.file shelf.new) (network_of self.new.world) self.new.counted self.new.outputs) }
+        ensures kept { S.tells → OnOk result ((run : Run)
+            → IsPlaying S.tells (mode_of schedule) run plan.now (S.file shelf.old) (S.ids shelf.old) (network_of self.old.world) self.old.counted self.old.outputs None feed.old.programme
+            → CanBeKept (segments (mode_of schedule) run.input)) }
         ensures cut { S.tells → OnErr result ((run : Run)
             → IsPlaying S.tells (mode_of schedule) run plan.now (S.file shelf.old) (S.ids shelf.old) (network_of self.old.world) self.old.counted self.old.outputs None feed.old.programme
             → IsCutOff (mode_of schedule) run plan.now (S.file shelf.new)) }
@@ -410,6 +426,7 @@ impl Game {
         runs_are_few();
         steps_tell_passed();
         plan.is_tree();
+        told_by_types(&self.world);
         self.note(shelf, plan)?;
         self.play_on(alloc, shelf, plan, schedule, feed)
     }

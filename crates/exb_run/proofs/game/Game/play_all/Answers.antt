@@ -11,7 +11,7 @@ use Rattle.exb_run.specs.Shelving.{OnlyReads}
 use Rattle.exb_resting.specs.Flight.Showing.{left_at}
 use Rattle.exb_outputs.proofs.Sizes.{counted_of}
 use Rattle.exb_run.proofs.PortCounts.{counts-of, sizes-fit}
-use Rattle.exb_run.proofs.Going.{all-played, can-go-on, cut-reading, seconds-fit}
+use Rattle.exb_run.proofs.Going.{all-kept, all-played, can-go-on, cut-reading, seconds-fit}
 use Rattle.exb_run.proofs.Keeping.{feed-written, goes-reading, goes-writing, ready-read}
 use Rattle.exb_inputs.proofs.ShelvingLemmas.{fewer_then, counts_as, counts_from}
 use Rattle.exb_run.proofs.Taking.{comes-commands, comes-fewer, comes-ids}
@@ -122,6 +122,12 @@ returns-clause-told g c t run start =
     all-played S.tells (mode_of c.args.schedule) run c.args.plan.now (S.file c.events.shelf) (S.file c.gather.new.shelf) (S.ids c.events.shelf) (network_of c.events.self.world) c.events.self.counted c.events.self.outputs c.events.last
     c.events.feed.programme t (c.events.invariant.goes_on run start) (none_at c.in_ok-second.field-0 c.in_default.is (c.in_ok-second.ensures.end t)) c.gather.ensures.reads.files
     c.runs_are_few.ensures c.runs_are_under_way.ensures
+
+pub returns-clause-kept : goal.returns-clause-kept
+returns-clause-kept g c t run start =
+    let S = g.S.Shelf in
+    all-kept S.tells (mode_of c.args.schedule) run c.args.plan.now (S.file c.events.shelf) (S.ids c.events.shelf) (network_of c.events.self.world) c.events.self.counted c.events.self.outputs c.events.last
+    c.events.feed.programme t (c.events.invariant.goes_on run start) (none_at c.in_ok-second.field-0 c.in_default.is (c.in_ok-second.ensures.end t))
 
 pub returns-in_err-second-clause-cut : goal.returns-in_err-second-clause-cut
 returns-in_err-second-clause-cut g c = λ t.

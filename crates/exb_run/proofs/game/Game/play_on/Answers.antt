@@ -18,6 +18,7 @@ use Rattle.exb_run.proofs.Telling.{counts_written, if_ok_both}
 use Rattle.exb_run.proofs.Keeping.{goes-writing}
 use Rattle.exb_run.proofs.Running.{if_ok_map, if_err_map}
 use Rattle.exb_run.proofs.CuttingOff.{cut_at_end}
+use Rattle.exb_run.proofs.ReadBack.{moments-fit, numbers-then}
 use Rattle.exb_run.proofs.game.Game.play_on.Goals as goal
 
 pub returns-clause-done : goal.returns-clause-done
@@ -37,6 +38,12 @@ returns-clause-done g c tells =
       history = [] then t.told;
       lines = t.lines;
       legal = legal m i plan t.tree c.is_tree.ensures timely way law n t.told t.passed t.gone t.lines t.played;
+      back = record {
+        valid = t.played.plays.valid;
+        numbers = numbers-then t.told t.numbers;
+        moments = moments-fit m i ([] then t.told) (legal m i plan t.tree c.is_tree.ensures timely way law n t.told t.passed t.gone t.lines t.played) (c.in_ok-play_all.ensures.kept tells run start);
+      };
+      bytes = t.bytes;
       eager = eagerly m i plan t.tree c.is_tree.ensures timely way law n t.told t.passed t.gone t.lines t.played c.runs_write_eagerly.ensures;
       trace = λ on. trace m i plan t.tree c.is_tree.ensures timely way law n t.told t.passed t.gone t.lines t.played c.runs_tell_legally.ensures (t.tracing ∙ on);
       outputs = weaker run.before (S.file c.end.new.shelf) (output_count plan) (output_name plan) (λ j bytes. bytes ≡ with_more (text_so_far t.told t.gone t.lines []) output.Counters counts (kind_at plan j))

@@ -45,7 +45,7 @@ play_on-requires-clause-playing g c =
       run,
       opened-playing S.tells (mode_of c.args.schedule) run c.args.plan.now (S.file c.args.shelf.now) (S.ids c.args.shelf.now) (network_of c.args.self.now.world) c.args.self.now.counted c.args.self.now.outputs c.args.feed.now.programme c.requires.opened.1
           (S.file c.note.new.shelf) (S.ids c.note.new.shelf) (network_of c.note.new.self.world) c.note.new.self.counted c.note.new.self.outputs note.world note.same note.quiet note.tally note.ports note.texts note.sent
-          note.only.others note.only.kept,
+          note.only.others note.only.kept c.told_by_types.ensures.numbers c.told_by_types.ensures.bytes,
     )
 
 pub returns-clause-done : goal.returns-clause-done
@@ -56,7 +56,7 @@ returns-clause-done g c tells = if_ok_map c.play_on.result
     played run is.timely
     (opened-playing S.tells (mode_of c.args.schedule) run c.args.plan.now (S.file c.args.shelf.now) (S.ids c.args.shelf.now) (network_of c.args.self.now.world) c.args.self.now.counted c.args.self.now.outputs c.args.feed.now.programme is
     (S.file c.note.new.shelf) (S.ids c.note.new.shelf) (network_of c.note.new.self.world) c.note.new.self.counted c.note.new.self.outputs note.world note.same note.quiet note.tally note.ports note.texts note.sent
-    note.only.others note.only.kept))
+    note.only.others note.only.kept c.told_by_types.ensures.numbers c.told_by_types.ensures.bytes))
     (c.play_on.ensures.done tells)
 
 pub returns-in_err-note-clause-cut : goal.returns-in_err-note-clause-cut
@@ -80,7 +80,7 @@ returns-clause-cut g c = λ t. on_err_weaker c.play_on.result
     cut run
     (opened-playing S.tells (mode_of c.args.schedule) run c.args.plan.now (S.file c.args.shelf.now) (S.ids c.args.shelf.now) (network_of c.args.self.now.world) c.args.self.now.counted c.args.self.now.outputs c.args.feed.now.programme is
     (S.file c.note.new.shelf) (S.ids c.note.new.shelf) (network_of c.note.new.self.world) c.note.new.self.counted c.note.new.self.outputs note.world note.same note.quiet note.tally note.ports note.texts note.sent
-    note.only.others note.only.kept))
+    note.only.others note.only.kept c.told_by_types.ensures.numbers c.told_by_types.ensures.bytes))
     (c.play_on.ensures.cut t)
 
 pub returns-clause-never : goal.returns-clause-never
@@ -91,7 +91,7 @@ returns-clause-never g c tells = if_err_map c.play_on.result
     never change run
     (opened-playing S.tells (mode_of c.args.schedule) run c.args.plan.now (S.file c.args.shelf.now) (S.ids c.args.shelf.now) (network_of c.args.self.now.world) c.args.self.now.counted c.args.self.now.outputs c.args.feed.now.programme is
     (S.file c.note.new.shelf) (S.ids c.note.new.shelf) (network_of c.note.new.self.world) c.note.new.self.counted c.note.new.self.outputs note.world note.same note.quiet note.tally note.ports note.texts note.sent
-    note.only.others note.only.kept))
+    note.only.others note.only.kept c.told_by_types.ensures.numbers c.told_by_types.ensures.bytes))
     (c.play_on.ensures.never tells)
 
 pub returns-clause-only : goal.returns-clause-only

@@ -1,5 +1,8 @@
 use Rattle.std.proofs.Common.{◌++◌, ◌∷◌, [], length, ap, sym, ◌∙◌, append_assoc}
+use Rattle.std.proofs.lemmas.List.Elements.{All-append}
 use Rattle.std.proofs.lemmas.Result.{on_err_weaker}
+use Rattle.exb_legal.specs.Spelled.{HasBytes}
+use Rattle.exb_legal.specs.TextLaws.{IsOfNumbers}
 use Rattle.exb_network.specs.Worlds.{all_left}
 use Rattle.exb_schedule.specs.Worlds.{network_of}
 use Rattle.exb_run.specs.Playing.{mode_of, text_so_far}
@@ -60,6 +63,8 @@ returns-clause-told g c = on_ok_by c.note.result (λ get run so_far s segment is
       played = cleared-played m run.input (so_far ++ s ∷ []) v (network_of c.note.new.self.world) (is.told ++ more) (is.passed ++ v.log.passed) (is.gone ++ all_left left) (is.lines ++ new)
           (get _ c.note.ensures.world) (get _ c.note.ensures.same) after;
       tracing = (get _ c.note.ensures.same).tracing ∙ (when_ok c.play_segment.result ok c.play_segment.ensures.same).tracing ∙ is.tracing;
+      numbers = All-append IsOfNumbers is.told more is.numbers c.told_by_types.ensures.numbers;
+      bytes = All-append HasBytes is.lines new is.bytes c.told_by_types.ensures.bytes;
       counted = counted-on plan c.args.self.now.counted c.note.new.self.counted is.told more is.passed v.log.passed is.gone left (get _ c.note.ensures.tally) (get _ c.note.ensures.ports)
           (played_together c.steps_tell_passed.ensures m run.input so_far n is.told is.passed is.gone is.lines is.played) is.counted;
       texts = λ tells.
