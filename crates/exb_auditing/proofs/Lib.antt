@@ -3,3 +3,5 @@ pub mod Once
 pub mod Steps
 pub mod Ports
 pub mod Counted
+pub mod Given
+pub mod Found

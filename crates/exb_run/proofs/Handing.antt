@@ -38,7 +38,7 @@ by_kinds P (p ∷ ports) all =
     (all-cons (λ q. P (output.Capture q)) p ports (all 0 output.Journal (omega arith)) rest.0, rest.1)
 
 -- no output has a name that is apart
-of_kind : (plan : Planned) (P : Output → Type 0) → All P (all_outputs plan.tree) → (o : Output) → IsMade plan.options plan.tree o → IsOfPort o → P o
+pub of_kind : (plan : Planned) (P : Output → Type 0) → All P (all_outputs plan.tree) → (o : Output) → IsMade plan.options plan.tree o → IsOfPort o → P o
 of_kind plan P all (output.Capture q) made low =
     subst (λ (k : ℕ). P (output.Capture k)) (port_of_place plan q low made) ((by_kinds P (external_ports plan.tree) all).0 (place_in plan.tree q) 0 (place_low plan q low made))
 of_kind plan P all output.Journal made low = (by_kinds P (external_ports plan.tree) all).1.0

@@ -28,3 +28,5 @@ pub mod SummingUp
 pub mod Ports
 pub mod ByStatus
 pub mod Parts
+pub mod ReadBack
+pub mod AfterRuns

@@ -50,7 +50,8 @@ module _ (i : Input) (plan : Planned) (prefix : List ℕ) (same : plan.prefix �
     eager = played.eager;
     captures = λ q is. holds (output.Capture q) (ap (λ (t : Shape). is_external t q) tree ∙ is) (external_low (tree_of i) q is_tree is);
     journal = holds output.Journal tt tt;
-    trace = λ traced. record { lines = played.lines; is = holds output.Trace traced tt; legal = played.trace traced };
+    back = played.back;
+    trace = λ traced. record { lines = played.lines; is = holds output.Trace traced tt; legal = played.trace traced; bytes = played.bytes };
     counters = λ counted. holds output.Counters counted tt;
     others = only_by f g played.outputs.others;
     says = played.says;

@@ -1,11 +1,12 @@
 -- What a run writes: the capture of each external port, the journal, the trace and the counters where they are asked for, and the
 -- summary line.
-use Rattle.std.specs.Prelude.{◌≡◌, ◌≢◌, ◌<◌, ◌⊎◌, ℕ, true, List, [], Option, Some, take}
+use Rattle.std.specs.Prelude.{◌≡◌, ◌≢◌, ◌<◌, ◌⊎◌, ℕ, true, List, [], Option, Some, take, All}
 use Rattle.exb_model.specs.EagerHistory.{eager as eager_history}
 use Rattle.exb_model.specs.FlatBridge.{flat}
 use Rattle.exb_model.specs.History.{History}
 use Rattle.exb_model.specs.Input.{Input, Mode, Eager, basis_of, tree_of}
-use Rattle.exb_model.specs.LegalHistory.{Legal}
+use Rattle.exb_model.specs.LegalHistory.{EachEvent, Legal}
+use Rattle.exb_model.specs.Setup.{IsValid}
 use Rattle.exb_model.specs.Texts.{capture_text, journal_text, summary}
 use Rattle.exb_model.specs.Traces.{TraceLine, trace_text}
 use Rattle.exb_model.specs.Tree.{Shape, is_external}
@@ -16,7 +17,9 @@ use Rattle.exb_text.specs.Names.{capture_name, counters_name, file_name, journal
 use Rattle.exb_counters.specs.Counters.{count_text}
 use Rattle.exb_words.specs.declared.asked.Options.{Options}
 use Rattle.exb_legal.specs.LegalTrace.{LegalTrace}
-use Rattle.exb_legal.specs.Inputs.{frames_in, frames_out}
+use Rattle.exb_legal.specs.Inputs.{RelayFits, frames_in, frames_out}
+use Rattle.exb_legal.specs.Spelled.{HasBytes}
+use Rattle.exb_legal.specs.TextLaws.{IsOfNumbers}
 use Rattle.exb_legal.specs.Entries.{journal_of}
 use Rattle.exb_outputs.specs.Plans.{Planned, IsMade, kind_at, output_count, output_name}
 
@@ -28,11 +31,19 @@ OnlyOutputs options tree prefix old new = (m : List ℕ) → ((o : Output) → I
 abbrev pub IsTraceOf : Input → History → List TraceLine → Type 0
 IsTraceOf i h lines = LegalTrace (tree_of i) (journal_of h) (frames_in i) (frames_out i h) lines
 
--- a file holds such a trace
+-- a file holds such a trace, whose frames are bytes
 pub record IsTraced (i : Input) (h : History) (file : Option (List ℕ)) : Type 0 where
   pub lines : List TraceLine
   pub is : file ≡ Some (trace_text lines)
   pub legal : IsTraceOf i h lines
+  pub bytes : All HasBytes lines
+
+-- What else is known of a history that was played: its setup is valid, its ports are ports and its numbers have 64 bits, and the moments
+-- of its Relays are such as a capture can hold. So what was written of it can be read back.
+pub record CanBeReadBack (i : Input) (h : History) : Type 0 where
+  pub valid : IsValid i.setup
+  pub numbers : All IsOfNumbers h
+  pub moments : EachEvent RelayFits h
 
 -- All was played and written under a prefix, and this line sums it up: the file of each external port is what the one flat bridge
 -- sends at it over a history that the input allows, which in an eager run is the eager history; the journal is that history, the
@@ -43,6 +54,7 @@ pub record IsPlayed (m : Mode) (options : Options) (i : Input) (prefix : List �
   pub eager : m ≡ Eager → history ≡ eager_history i
   pub captures : (q : ℕ) → is_external (tree_of i) q ≡ true → new (capture_name prefix q) ≡ Some (capture_text (flat (basis_of i) history q))
   pub journal : new (journal_name prefix) ≡ Some (journal_text history)
+  pub back : CanBeReadBack i history
   pub trace : options.trace ≡ true → IsTraced i history (new (trace_name prefix))
   pub counters : options.counters ≡ true → new (counters_name prefix) ≡ Some (count_text (tree_of i) (basis_of i) history)
   pub others : OnlyOutputs options (tree_of i) prefix old new
@@ -72,7 +84,9 @@ pub record HasPlayed (m : Mode) (i : Input) (plan : Planned) (old new : Files) (
   pub lines : List TraceLine
   pub legal : Legal m i history
   pub eager : m ≡ Eager → history ≡ eager_history i
+  pub back : CanBeReadBack i history
   pub trace : plan.options.trace ≡ true → IsTraceOf i history lines
+  pub bytes : All HasBytes lines
   pub outputs : Filled old new (output_count plan) (output_name plan) (λ j bytes. bytes ≡ output_text i history lines (kind_at plan j))
   pub says : line ≡ summary (tree_of i) (basis_of i) history
 

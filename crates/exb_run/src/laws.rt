@@ -1,6 +1,8 @@
-//! What the outputs of a run say together. A law is a function that does nothing and ensures it.
+//! What the outputs of a run say together, and what an audit says of them. A law is a function that does nothing and ensures it.
+ghost use Rattle.exb_run.specs.AfterRuns.{AuditsFollowRuns};
 ghost use Rattle.exb_run.specs.Laws.{CountersSumUp};
 
+use exb_auditing::laws::runs_are_found_legal;
 use exb_counters::laws::counts_of_inputs_are_the_summary;
 use exb_topology::laws::read_is_sound;
 
@@ -11,4 +13,13 @@ pub fn counters_sum_up()
 {
     read_is_sound();
     counts_of_inputs_are_the_summary();
+}
+
+/// After a run with its trace, nothing but want of memory and a failure of shelf or sink stops the audit of what it wrote: over files as
+/// the run left them, none of which passes a limit, it answers 0, or 1 for want of memory.
+pub fn audits_follow_runs()
+    ensures { AuditsFollowRuns }
+{
+    read_is_sound();
+    runs_are_found_legal();
 }

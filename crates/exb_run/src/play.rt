@@ -16,6 +16,7 @@ ghost use Rattle.exb_outputs.specs.Plans.{OnlyPlanned};
 ghost use Rattle.exb_run.specs.Playing.{IsScript, mode_of};
 ghost use Rattle.exb_run.specs.Saying.{IsSummary};
 ghost use Rattle.exb_run.specs.Shelving.{IsChange, IsOfPlay, OnlyPlays};
+ghost use Rattle.exb_outputs.specs.Sent.{HasSent};
 ghost use Rattle.exb_outputs.specs.Writing.{HasTexts, IsReady, first_text, pieces_of};
 ghost use Rattle.exb_shelf.specs.Files.{Files, SameFiles};
 ghost use Rattle.exb_shelf.specs.Shelf.{Opens};
@@ -144,6 +145,7 @@ fn play_into<S: Shelf>(
     requires fate { left fate < 2 ^ 56 }
     requires ready { IsReady plan.now (S.ids shelf.old) outputs }
     requires texts { (before : Files) × (S.tells → HasTexts plan.now (pieces_of outputs) before (S.file shelf.old) first_text) }
+    requires sent { HasSent plan.now outputs (λ q. []) }
     ensures done { S.tells → IfOk result (λ line. (before : Files) → HasTexts plan.now (pieces_of outputs) before (S.file shelf.old) first_text
         → HasPlayed (mode_of schedule) (input_from script.now.setup.now script.now.commands.now names.now (S.file shelf.old)) plan.now before (S.file shelf.new) (string_bytes line)) }
     ensures says { IfOk result (λ line. IsSummary (string_bytes line)) }

@@ -45,7 +45,7 @@ play_feed-requires-clause-begins g c =
           c.args.outputs run.before c.new-programme.result c.in_ok-captures.captures c.merge_of_all.ensures c.start_is_least.ensures c.requires.script c.requires.tree c.requires.captures
           (c.new-programme.ensures.start ∙ c.start_of-start.ensures) c.new-programme.ensures.commands c.new-programme.ensures.taken c.new-programme.ensures.captures c.in_ok-captures.ensures.standings c.in_ok-captures.ensures.left
           c.in_ok-captures.ensures.named c.in_ok-captures.ensures.streams
-          (λ t. subst (λ (f : Files). HasTexts c.args.plan.now (pieces_of c.args.outputs) run.before f first_text) (sym (files_same (S.file c.args.shelf.now) (S.file c.open_all.new.shelf) c.open_all.ensures.files)) (c.requires.texts.1 t)),
+          (λ t. subst (λ (f : Files). HasTexts c.args.plan.now (pieces_of c.args.outputs) run.before f first_text) (sym (files_same (S.file c.args.shelf.now) (S.file c.open_all.new.shelf) c.open_all.ensures.files)) (c.requires.texts.1 t)) c.requires.sent,
     )
 
 pub play_feed-requires-clause-budget : goal.play_feed-requires-clause-budget
@@ -64,7 +64,7 @@ returns-clause-done g c tells =
     c.args.outputs before c.new-programme.result c.in_ok-captures.captures c.merge_of_all.ensures c.start_is_least.ensures c.requires.script c.requires.tree c.requires.captures
     (c.new-programme.ensures.start ∙ c.start_of-start.ensures) c.new-programme.ensures.commands c.new-programme.ensures.taken c.new-programme.ensures.captures c.in_ok-captures.ensures.standings c.in_ok-captures.ensures.left
     c.in_ok-captures.ensures.named c.in_ok-captures.ensures.streams
-    (λ t. subst (λ (f : Files). HasTexts c.args.plan.now (pieces_of c.args.outputs) before f first_text) (sym (files_same (S.file c.args.shelf.now) (S.file c.open_all.new.shelf) c.open_all.ensures.files)) held)))
+    (λ t. subst (λ (f : Files). HasTexts c.args.plan.now (pieces_of c.args.outputs) before f first_text) (sym (files_same (S.file c.args.shelf.now) (S.file c.open_all.new.shelf) c.open_all.ensures.files)) held) c.requires.sent))
     (c.play_feed.ensures.done tells)
 
 pub returns-clause-never : goal.returns-clause-never
@@ -78,7 +78,7 @@ returns-clause-never g c tells =
     c.args.outputs run.before c.new-programme.result c.in_ok-captures.captures c.merge_of_all.ensures c.start_is_least.ensures c.requires.script c.requires.tree c.requires.captures
     (c.new-programme.ensures.start ∙ c.start_of-start.ensures) c.new-programme.ensures.commands c.new-programme.ensures.taken c.new-programme.ensures.captures c.in_ok-captures.ensures.standings c.in_ok-captures.ensures.left
     c.in_ok-captures.ensures.named c.in_ok-captures.ensures.streams
-    (λ t. subst (λ (f : Files). HasTexts c.args.plan.now (pieces_of c.args.outputs) run.before f first_text) (sym (files_same (S.file c.args.shelf.now) (S.file c.open_all.new.shelf) c.open_all.ensures.files)) (c.requires.texts.1 t))))
+    (λ t. subst (λ (f : Files). HasTexts c.args.plan.now (pieces_of c.args.outputs) run.before f first_text) (sym (files_same (S.file c.args.shelf.now) (S.file c.open_all.new.shelf) c.open_all.ensures.files)) (c.requires.texts.1 t)) c.requires.sent))
     (c.play_feed.ensures.never tells)
 
 pub returns-clause-fronts : goal.returns-clause-fronts
@@ -91,7 +91,7 @@ returns-clause-fronts g c tells eager before held =
     c.args.outputs before c.new-programme.result c.in_ok-captures.captures c.merge_of_all.ensures c.start_is_least.ensures c.requires.script c.requires.tree c.requires.captures
     (c.new-programme.ensures.start ∙ c.start_of-start.ensures) c.new-programme.ensures.commands c.new-programme.ensures.taken c.new-programme.ensures.captures c.in_ok-captures.ensures.standings c.in_ok-captures.ensures.left
     c.in_ok-captures.ensures.named c.in_ok-captures.ensures.streams
-    (λ t. subst (λ (f : Files). HasTexts c.args.plan.now (pieces_of c.args.outputs) before f first_text) (sym (files_same (S.file c.args.shelf.now) (S.file c.open_all.new.shelf) c.open_all.ensures.files)) held))
+    (λ t. subst (λ (f : Files). HasTexts c.args.plan.now (pieces_of c.args.outputs) before f first_text) (sym (files_same (S.file c.args.shelf.now) (S.file c.open_all.new.shelf) c.open_all.ensures.files)) held) c.requires.sent)
 
 pub returns-in_default-clause-fronts : goal.returns-in_default-clause-fronts
 returns-in_default-clause-fronts g c tells eager before held = begun_eagerly _ c.args.plan.now before _ (pieces_of c.args.outputs) held

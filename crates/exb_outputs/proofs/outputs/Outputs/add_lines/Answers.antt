@@ -7,6 +7,7 @@ use Rattle.exb_model.specs.Traces.{trace_text}
 use Rattle.exb_text.specs.declared.output.Output.TheVariants as output
 use Rattle.exb_outputs.specs.Writing.{HasTexts, pieces_of, with_more}
 use Rattle.exb_outputs.proofs.OutputLemmas.{no_more, more_trace}
+use Rattle.exb_outputs.proofs.Sizes.{same_none, same_then}
 use Rattle.exb_outputs.proofs.ShelvingLemmas.{writes_none, writes_then}
 use Rattle.exb_outputs.proofs.Cutting.{cut_trace}
 use Rattle.exb_outputs.proofs.outputs.Outputs.add_lines.Goals as goal
@@ -18,6 +19,7 @@ loop-one-init g c =
     record {
       ready = c.requires.ready;
       texts = λ t orig text p. no_more c.args.plan.now orig file (pieces_of c.args.self.now) text output.Trace p;
+      same = same_none _ _;
       only = writes_none _ _ _ _;
       faults = search rules;
       counted = refl;
@@ -35,6 +37,7 @@ loop-one-preserved g c =
           more_trace c.args.plan.now orig (g.S.Shelf.file c.add_line.new.shelf) (pieces_of c.add_line.new.self) text lines c.loop-one.one-index c.one-item.result
           inside c.one-item.is
           (added.texts t orig (with_more text output.Trace (trace_text (take c.loop-one.one-index lines))) (before.texts t orig text p));
+      same = same_then _ _ _ _ before.same added.same;
       only = writes_then _ _ _ _ _ _ _ _ before.only added.only;
       faults = search (arith, added.faults.none_fell, before.faults);
       counted = added.faults.once ∙ before.counted;

@@ -6,6 +6,7 @@ use Rattle.exb_model.specs.declared.event.Event.{Event}
 use Rattle.exb_text.specs.declared.output.Output.TheVariants as output
 use Rattle.exb_outputs.specs.Writing.{HasTexts, pieces_of, with_more, lines_of}
 use Rattle.exb_outputs.proofs.OutputLemmas.{no_more, more_lines}
+use Rattle.exb_outputs.proofs.Sizes.{same_none, same_then}
 use Rattle.exb_outputs.proofs.ShelvingLemmas.{writes_none, writes_then}
 use Rattle.exb_outputs.proofs.Cutting.{cut_lines}
 use Rattle.exb_outputs.proofs.outputs.Outputs.write_events.Goals as goal
@@ -16,6 +17,7 @@ loop-event-init g c =
     record {
       ready = c.requires.ready;
       texts = λ t orig text p. no_more c.args.plan.now orig file (pieces_of c.args.self.now) text output.Journal p;
+      same = same_none _ _;
       only = writes_none _ _ _ _;
       faults = search rules;
       counted = refl;
@@ -33,6 +35,7 @@ loop-event-preserved g c =
           more_lines c.args.plan.now orig (g.S.Shelf.file c.add_event.new.shelf) (pieces_of c.add_event.new.self) text events c.loop-event.event-index c.event-item.result
           inside c.event-item.is
           (added.texts t orig (with_more text output.Journal (lines_of (take c.loop-event.event-index events))) (before.texts t orig text p));
+      same = same_then _ _ _ _ before.same added.same;
       only = writes_then _ _ _ _ _ _ _ _ before.only added.only;
       faults = search (arith, added.faults.none_fell, before.faults);
       counted = added.faults.once ∙ before.counted;

@@ -12,7 +12,7 @@ returns-in_err-line-clause-cut g c = λ t.
     let e = err_from_is_err_and c.from_residual-in_err-line.result c.from_residual-in_err-line.ensures.1 in
     rw e.1
     (λ orig text p.
-    let counts : List ℕ = counts_text c.args.plan.now c.args.self.now.counted.ports in
+    let counts : List ℕ = counts_text c.args.plan.now c.args.self.now.counted.ports c.args.self.now.outputs in
     cut_whole c.args.plan.now orig (g.S.Shelf.file c.finish.new.shelf) (with_more text output.Counters counts)
     (c.in_ok-finish.ensures.texts t orig (with_more text output.Counters counts) (c.in_ok-write_counters.ensures.texts t orig text p)))
 

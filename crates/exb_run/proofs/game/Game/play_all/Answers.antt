@@ -8,8 +8,10 @@ use Rattle.exb_schedule.specs.Playing.{letters_in}
 use Rattle.exb_schedule.specs.Worlds.{network_of}
 use Rattle.exb_run.specs.Playing.{mode_of}
 use Rattle.exb_run.specs.Shelving.{OnlyReads}
-use Rattle.exb_run.proofs.PortCounts.{counts-of}
-use Rattle.exb_run.proofs.Going.{all-played, can-go-on, cut-reading, seconds-fit}
+use Rattle.exb_resting.specs.Flight.Showing.{left_at}
+use Rattle.exb_outputs.proofs.Sizes.{counted_of}
+use Rattle.exb_run.proofs.PortCounts.{counts-of, sizes-fit}
+use Rattle.exb_run.proofs.Going.{all-kept, all-played, can-go-on, cut-reading, seconds-fit}
 use Rattle.exb_run.proofs.Keeping.{feed-written, goes-reading, goes-writing, ready-read}
 use Rattle.exb_inputs.proofs.ShelvingLemmas.{fewer_then, counts_as, counts_from}
 use Rattle.exb_run.proofs.Taking.{comes-commands, comes-fewer, comes-ids}
@@ -104,13 +106,28 @@ returns-clause-few g c =
 pub returns-clause-counted : goal.returns-clause-counted
 returns-clause-counted g c =
     let p = c.events.invariant.goes_on c.requires.playing.0 c.requires.playing.1 in
-    counts-of c.args.plan.now c.events.self.counted.ports p.is.told p.is.passed p.is.gone p.is.counted.ports
+    counts-of c.args.plan.now c.events.self.counted.ports p.is.told p.is.passed p.is.counted.ports
+
+pub returns-clause-sent : goal.returns-clause-sent
+returns-clause-sent g c =
+    let run = c.requires.playing.0 in
+    let p = c.events.invariant.goes_on run c.requires.playing.1 in
+    counted_of c.args.plan.now c.events.self.outputs (λ q. left_at q p.is.gone)
+    (sizes-fit (mode_of c.args.schedule) run.input p.so_far (network_of c.events.self.world) p.is.told p.is.passed p.is.gone p.is.lines c.runs_are_few.ensures c.runs_are_under_way.ensures
+    (let most = p.next.few_bytes in omega (arith, most)) p.is.played) p.is.sent
 
 pub returns-clause-told : goal.returns-clause-told
 returns-clause-told g c t run start =
     let S = g.S.Shelf in
     all-played S.tells (mode_of c.args.schedule) run c.args.plan.now (S.file c.events.shelf) (S.file c.gather.new.shelf) (S.ids c.events.shelf) (network_of c.events.self.world) c.events.self.counted c.events.self.outputs c.events.last
     c.events.feed.programme t (c.events.invariant.goes_on run start) (none_at c.in_ok-second.field-0 c.in_default.is (c.in_ok-second.ensures.end t)) c.gather.ensures.reads.files
+    c.runs_are_few.ensures c.runs_are_under_way.ensures
+
+pub returns-clause-kept : goal.returns-clause-kept
+returns-clause-kept g c t run start =
+    let S = g.S.Shelf in
+    all-kept S.tells (mode_of c.args.schedule) run c.args.plan.now (S.file c.events.shelf) (S.ids c.events.shelf) (network_of c.events.self.world) c.events.self.counted c.events.self.outputs c.events.last
+    c.events.feed.programme t (c.events.invariant.goes_on run start) (none_at c.in_ok-second.field-0 c.in_default.is (c.in_ok-second.ensures.end t))
 
 pub returns-in_err-second-clause-cut : goal.returns-in_err-second-clause-cut
 returns-in_err-second-clause-cut g c = λ t.

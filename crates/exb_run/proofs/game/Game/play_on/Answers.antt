@@ -18,6 +18,7 @@ use Rattle.exb_run.proofs.Telling.{counts_written, if_ok_both}
 use Rattle.exb_run.proofs.Keeping.{goes-writing}
 use Rattle.exb_run.proofs.Running.{if_ok_map, if_err_map}
 use Rattle.exb_run.proofs.CuttingOff.{cut_at_end}
+use Rattle.exb_run.proofs.ReadBack.{moments-fit, numbers-then}
 use Rattle.exb_run.proofs.game.Game.play_on.Goals as goal
 
 pub returns-clause-done : goal.returns-clause-done
@@ -28,21 +29,28 @@ returns-clause-done g c tells =
     let n = network_of c.play_all.new.self.world in
     if_ok_both c.end.result (λ line says texts run timely start.
     let i = run.input in
-    let t = c.in_ok-play_all.ensures.told tells run start in
+    let all = c.in_ok-play_all.ensures.told tells run start in
+    let t = all.is in
     let way = c.runs_are_under_way.ensures in
     let law = c.runs_write_legally.ensures in
-    let counts : List ℕ = counts_text plan c.play_all.new.self.counted.ports in
+    let counts : List ℕ = counts_text plan c.play_all.new.self.counted.ports c.play_all.new.self.outputs in
     record {
       history = [] then t.told;
       lines = t.lines;
       legal = legal m i plan t.tree c.is_tree.ensures timely way law n t.told t.passed t.gone t.lines t.played;
+      back = record {
+        valid = t.played.plays.valid;
+        numbers = numbers-then t.told t.numbers;
+        moments = moments-fit m i ([] then t.told) (legal m i plan t.tree c.is_tree.ensures timely way law n t.told t.passed t.gone t.lines t.played) (c.in_ok-play_all.ensures.kept tells run start);
+      };
+      bytes = t.bytes;
       eager = eagerly m i plan t.tree c.is_tree.ensures timely way law n t.told t.passed t.gone t.lines t.played c.runs_write_eagerly.ensures;
       trace = λ on. trace m i plan t.tree c.is_tree.ensures timely way law n t.told t.passed t.gone t.lines t.played c.runs_tell_legally.ensures (t.tracing ∙ on);
       outputs = weaker run.before (S.file c.end.new.shelf) (output_count plan) (output_name plan) (λ j bytes. bytes ≡ with_more (text_so_far t.told t.gone t.lines []) output.Counters counts (kind_at plan j))
           (λ j bytes. bytes ≡ output_text i ([] then t.told) t.lines (kind_at plan j)) (texts run.before (text_so_far t.told t.gone t.lines []) (t.texts tells))
           (λ j bytes low is.
           is ∙ counts_written t.told t.gone t.lines counts (kind_at plan j)
-          ∙ texts-whole m i plan t.tree c.is_tree.ensures timely way law n t.told t.passed t.gone t.lines t.played c.play_all.new.self.counted.ports t.counted.ports c.counts_go_on.ensures c.runs_say_passed.ensures j low);
+          ∙ texts-whole m i plan t.tree c.is_tree.ensures timely way law n t.told t.passed t.gone t.lines t.played c.play_all.new.self.counted.ports c.play_all.new.self.outputs t.counted.ports t.sent all.room c.counts_go_on.ensures c.runs_say_passed.ensures j low);
       says = says ∙ ap summary_line (t.counted.tally ∙ counts-end m i plan t.tree c.is_tree.ensures timely way law n t.told t.passed t.gone t.lines t.played);
     }) c.end.ensures.line (c.end.ensures.texts tells)
 
@@ -54,7 +62,7 @@ returns-clause-cut g c = λ t. on_err_weaker c.end.result
     (λ cut run start.
     let S = g.S.Shelf in
     cut_at_end S.tells (mode_of c.args.schedule) run c.args.plan.now (S.file c.play_all.new.shelf) (S.file c.end.new.shelf) (network_of c.play_all.new.self.world) c.play_all.new.self.counted c.play_all.new.self.outputs t
-    (c.in_ok-play_all.ensures.told t run start) (counts_text c.args.plan.now c.play_all.new.self.counted.ports) cut)
+    (c.in_ok-play_all.ensures.told t run start).is (counts_text c.args.plan.now c.play_all.new.self.counted.ports c.play_all.new.self.outputs) cut)
     (c.end.ensures.cut t)
 
 pub returns-in_err-play_all-clause-never : goal.returns-in_err-play_all-clause-never

@@ -31,9 +31,8 @@ note-requires-clause-can g c =
     let i = c.requires.opened.0.input in
     let is = c.requires.opened.1 in
     let follows : CanFollow i [] = record { kept = tt; few_arrivals = omega arith; few_commands = omega arith } in
-    let frames = frames-fit m i c.args.plan.now [] n n.log.events n.log.passed [] n.log.left n.log.lines c.runs_are_under_way.ensures is.tree c.is_tree.ensures tt is.played in
-    can-count m i c.args.plan.now [] n c.args.self.now.counted [] n.log.events [] n.log.passed [] n.log.left n.log.lines c.steps_tell_passed.ensures c.runs_are_few.ensures c.runs_are_under_way.ensures follows is.played is.counted
-    none_together frames
+    can-count m i c.args.plan.now [] n c.args.self.now.counted [] n.log.events [] n.log.passed [] n.log.left n.log.lines c.steps_tell_passed.ensures c.runs_are_few.ensures follows is.played is.counted
+    none_together
 
 pub play_on-requires-clause-feed : goal.play_on-requires-clause-feed
 play_on-requires-clause-feed g c = feed-written (g.S.Shelf.ids c.args.shelf.now) (g.S.Shelf.ids c.note.new.shelf) c.args.feed.now c.note.ensures.only.kept c.requires.feed
@@ -45,8 +44,8 @@ play_on-requires-clause-playing g c =
     let run = c.requires.opened.0 in (
       run,
       opened-playing S.tells (mode_of c.args.schedule) run c.args.plan.now (S.file c.args.shelf.now) (S.ids c.args.shelf.now) (network_of c.args.self.now.world) c.args.self.now.counted c.args.self.now.outputs c.args.feed.now.programme c.requires.opened.1
-          (S.file c.note.new.shelf) (S.ids c.note.new.shelf) (network_of c.note.new.self.world) c.note.new.self.counted c.note.new.self.outputs note.world note.same note.quiet note.tally note.ports note.texts
-          note.only.others note.only.kept,
+          (S.file c.note.new.shelf) (S.ids c.note.new.shelf) (network_of c.note.new.self.world) c.note.new.self.counted c.note.new.self.outputs note.world note.same note.quiet note.tally note.ports note.texts note.sent
+          note.only.others note.only.kept c.told_by_types.ensures.numbers c.told_by_types.ensures.bytes,
     )
 
 pub returns-clause-done : goal.returns-clause-done
@@ -56,8 +55,8 @@ returns-clause-done g c tells = if_ok_map c.play_on.result
     let note = c.in_ok-note.ensures in
     played run is.timely
     (opened-playing S.tells (mode_of c.args.schedule) run c.args.plan.now (S.file c.args.shelf.now) (S.ids c.args.shelf.now) (network_of c.args.self.now.world) c.args.self.now.counted c.args.self.now.outputs c.args.feed.now.programme is
-    (S.file c.note.new.shelf) (S.ids c.note.new.shelf) (network_of c.note.new.self.world) c.note.new.self.counted c.note.new.self.outputs note.world note.same note.quiet note.tally note.ports note.texts
-    note.only.others note.only.kept))
+    (S.file c.note.new.shelf) (S.ids c.note.new.shelf) (network_of c.note.new.self.world) c.note.new.self.counted c.note.new.self.outputs note.world note.same note.quiet note.tally note.ports note.texts note.sent
+    note.only.others note.only.kept c.told_by_types.ensures.numbers c.told_by_types.ensures.bytes))
     (c.play_on.ensures.done tells)
 
 pub returns-in_err-note-clause-cut : goal.returns-in_err-note-clause-cut
@@ -80,8 +79,8 @@ returns-clause-cut g c = λ t. on_err_weaker c.play_on.result
     let note = c.in_ok-note.ensures in
     cut run
     (opened-playing S.tells (mode_of c.args.schedule) run c.args.plan.now (S.file c.args.shelf.now) (S.ids c.args.shelf.now) (network_of c.args.self.now.world) c.args.self.now.counted c.args.self.now.outputs c.args.feed.now.programme is
-    (S.file c.note.new.shelf) (S.ids c.note.new.shelf) (network_of c.note.new.self.world) c.note.new.self.counted c.note.new.self.outputs note.world note.same note.quiet note.tally note.ports note.texts
-    note.only.others note.only.kept))
+    (S.file c.note.new.shelf) (S.ids c.note.new.shelf) (network_of c.note.new.self.world) c.note.new.self.counted c.note.new.self.outputs note.world note.same note.quiet note.tally note.ports note.texts note.sent
+    note.only.others note.only.kept c.told_by_types.ensures.numbers c.told_by_types.ensures.bytes))
     (c.play_on.ensures.cut t)
 
 pub returns-clause-never : goal.returns-clause-never
@@ -91,8 +90,8 @@ returns-clause-never g c tells = if_err_map c.play_on.result
     let note = c.in_ok-note.ensures in
     never change run
     (opened-playing S.tells (mode_of c.args.schedule) run c.args.plan.now (S.file c.args.shelf.now) (S.ids c.args.shelf.now) (network_of c.args.self.now.world) c.args.self.now.counted c.args.self.now.outputs c.args.feed.now.programme is
-    (S.file c.note.new.shelf) (S.ids c.note.new.shelf) (network_of c.note.new.self.world) c.note.new.self.counted c.note.new.self.outputs note.world note.same note.quiet note.tally note.ports note.texts
-    note.only.others note.only.kept))
+    (S.file c.note.new.shelf) (S.ids c.note.new.shelf) (network_of c.note.new.self.world) c.note.new.self.counted c.note.new.self.outputs note.world note.same note.quiet note.tally note.ports note.texts note.sent
+    note.only.others note.only.kept c.told_by_types.ensures.numbers c.told_by_types.ensures.bytes))
     (c.play_on.ensures.never tells)
 
 pub returns-clause-only : goal.returns-clause-only
