@@ -57,8 +57,8 @@ abbrev pub lines_of : List Event → List ℕ
 lines_of events = flat_map (λ e. line_of e ++ 10 ∷ []) events
 
 -- a frame whose record can be written in a capture: it left an external port, below 2^32 seconds
-pub record CanBeRecorded (plan : Planned) (port moment : ℕ) (bytes : List ℕ) : Type 0 where
-  pub port : is_external plan.tree port ≡ true
-  pub low : port < 4160
-  pub moment : moment < 2 ^ 32 * 1_000_000_000
-  pub bytes : length bytes < 2 ^ 32
+pub record CanBeRecorded (plan : Planned) (q time : ℕ) (frame : List ℕ) : Type 0 where
+  pub port : is_external plan.tree q ≡ true
+  pub low : q < 4160
+  pub moment : time < 2 ^ 32 * 1_000_000_000
+  pub bytes : length frame < 2 ^ 32

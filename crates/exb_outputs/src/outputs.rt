@@ -1,5 +1,5 @@
 //! The output files while they are written.
-ghost use Rattle.std.specs.Prelude.{◌≡◌, ◌≢◌, true, ◌≤◌, ◌<◌, ◌+◌, ◌-◌, ◌*◌, ◌++◌, ℕ, List, [], length, IfOk, OnOk, OnErr, IfErr, string_bytes, ◌∷◌, ◌⊎◌, All};
+ghost use Rattle.std.specs.Prelude.{◌≡◌, ◌≢◌, true, ◌≤◌, ◌<◌, ◌+◌, ◌++◌, ℕ, List, [], length, IfOk, OnOk, OnErr, IfErr, string_bytes, ◌∷◌, ◌⊎◌};
 ghost use Rattle.exb_shelf.specs.Files.{Files, SameFiles, Puts, Adds, AddsFront, Filled};
 ghost use Rattle.exb_shelf.specs.Shelf.{IsWriting, Opens, writing};
 ghost use Rattle.exb_outputs.specs.Plans.{Planned, kind_at, output_count, output_name};
@@ -13,7 +13,7 @@ ghost use Rattle.exb_model.specs.Traces.{trace_line, trace_text};
 ghost use Rattle.exb_model.specs.Tree.{external_ports, is_external};
 ghost use Rattle.exb_text.specs.declared.output.Output.{Output};
 ghost use Rattle.exb_text.specs.declared.output.Output.TheVariants as output;
-ghost use Rattle.exb_outputs.specs.Writing.{pieces_of, AreCut, Holds, HasTexts, IsReady, first_text, with_more, lines_of};
+ghost use Rattle.exb_outputs.specs.Writing.{pieces_of, AreCut, CanBeRecorded, HasTexts, IsReady, first_text, with_more, lines_of};
 
 use crate::plan::Plan;
 use exb_capture::{header_text, record_text};
