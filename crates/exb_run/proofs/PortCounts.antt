@@ -194,7 +194,7 @@ module _ (t : Shape) (b : Basis) (told : List Event) (passed : List Bool) (gone 
 pub port_whole : (plan : Planned) (o : Outputs) (c : Counters) (told : List Event) (passed : List Bool) (gone : List Leaving) (q : ℕ) → q < 4160 → is_external plan.tree q ≡ true → counts_at c q ≡ plus_events told passed q nothing
     → HasSent plan o (λ p. left_at p gone) → capture_size (left_at q gone) < 2 ^ 64 → counts_with plan o c q ≡ port_counts_so_far told passed gone q
 port_whole plan o c told passed gone q low out came sent room =
-    let own = sent q low out room in
+    let own = sent.each q low out room in
     let frames = own.0 in
     let size = own.1 in
     fives (counts_with plan o c q) (port_counts_so_far told passed gone q) (ap (λ (k : Counts5). k.relayed) came) (ap (λ (k : Counts5). k.dropped) came) (ap (λ (k : Counts5). k.ignored) came)
