@@ -1,6 +1,6 @@
 -- What reading counts, one call after the other.
-use Rattle.std.proofs.Common.{◌≡◌, ◌≢◌, ◌≤◌, ◌<◌, ◌+◌, ◌^◌, ◌∙◌, ◌⊎◌, ℕ, List, Result, Ok, Err, ap, arith, refl, sym, subst}
-use Rattle.std.specs.Prelude.{IfErr, min}
+use Rattle.std.proofs.Common.{◌≡◌, ◌∙◌, ℕ, List, Result, Ok, Err, ap, arith, sym, subst}
+use Rattle.std.specs.Prelude.{IfErr}
 use Rattle.exb_shelf.specs.Counting.{one_more}
 use Rattle.exb_shelf.specs.Shelf.{Faults, NoFewer, Rose}
 use Rattle.exb_evidence.specs.declared.frames.FramesFault.{FramesFault}

@@ -1,16 +1,14 @@
 -- What calls say of the shelf, one after the other.
-use Rattle.std.proofs.Common.{◌≡◌, ◌≢◌, ◌≤◌, ◌<◌, ◌+◌, ◌^◌, ◌∙◌, ◌⊎◌, inl, inr, ℕ, List, Bool, true, false, Option, Some, Result, Ok, Err, ap, arith, refl, sym, subst}
+use Rattle.std.proofs.Common.{◌≡◌, ◌<◌, ◌+◌, ◌∙◌, ◌⊎◌, inl, inr, ℕ, List, Some, Result, Ok, Err, ap, arith, refl, sym, subst}
 use Rattle.std.specs.Prelude.{IfErr}
-use Rattle.std.proofs.lemmas.Bool.{cases_lt, cases_Bool, cases_eq, false≢true}
-use Rattle.exb_shelf.specs.Counting.{missing_more, one_more, reads_more, writes_more, after_write}
+use Rattle.std.proofs.lemmas.Bool.{cases_Bool, cases_eq, false≢true}
+use Rattle.exb_shelf.specs.Counting.{one_more}
 use Rattle.exb_shelf.specs.Shelf.{Faults, Id, IsReadingOf, Opens, Rose, NoFewer}
-use Rattle.exb_shelf.specs.declared.shelf.ShelfFault.{ShelfFault}
-use Rattle.exb_shelf.specs.declared.shelf.ShelfFault.TheVariants as shelf
 use Rattle.exb_keys.specs.Faults.{Refusal, not_toml, large, at}
 use Rattle.exb_tables.specs.declared.rows.Named.{Named}
 use Rattle.exb_inputs.specs.declared.fault.Fault.{Fault}
-use Rattle.exb_inputs.specs.declared.fault.Fault.TheVariants.{Usage, Missing, Topology as BadTopology, Capture, Changed, Output, TooLarge, BadLine, Illegal, Read, Write, Memory}
-use Rattle.exb_inputs.specs.Answers.{fault_of, IsRefusal, refused_by}
+use Rattle.exb_inputs.specs.declared.fault.Fault.TheVariants.{Missing, Read, Write, Memory}
+use Rattle.exb_inputs.specs.Answers.{IsRefusal, refused_by}
 use Rattle.exb_inputs.specs.Counting.{CountsFault, CountsOnce}
 use Rattle.exb_inputs.specs.Inputs.{name_of}
 use Rattle.exb_inputs.specs.Shelving.{CountsFaults, OpensEach, OpensNew}
@@ -22,15 +20,6 @@ fewer_then a b c h k = record {
   reads = let x = h.reads in let y = k.reads in omega arith;
   writes = let x = h.writes in let y = k.writes in omega arith;
 }
-
-rose_after : (a b c : ℕ) → a ≤ b → Rose b c → b ≤ c → Rose a c
-rose_after a b c before rose after low = elim (cases_lt (b + 1) (2 ^ 64)) [
-  | inl more ↦ let h : b < c = rose more in omega arith
-  | inr last ↦ omega arith
-]
-
-same_fault : {X Y : Type 0} (x y : Fault) → ◌≡◌ {A = Result Y Fault} (Err x) (Err y) → ◌≡◌ {A = Result X Fault} (Err x) (Err y)
-same_fault x y e = let is : x ≡ y = cc in ap Err is
 
 -- ---- each fault once
 more_rises : (n : ℕ) → Rose n (one_more n)
@@ -52,14 +41,7 @@ counted_once result a b fewer once = record {
 pub counts_as : {X Y : Type 0} (x : Fault) (a b : Faults) → CountsFaults {X = X} (Err x) a b → CountsFaults {X = Y} (Err x) a b
 counts_as x a b counts = counted_once (Err x) a b counts.none_fell counts.once
 
--- after a call that did its work
-pub counts_then : {X Y : Type 0} (y : Y) (result : Result X Fault) (a b c : Faults) → CountsFaults (Ok y) a b → CountsFaults result b c → CountsFaults result a c
-counts_then y result a b c before counts = subst (λ (f : Faults). CountsFaults result f c) before.once counts
-
--- so a fault of the later one
-pub counts_on : {X Y Z : Type 0} (y : Y) (x : Fault) (a b c : Faults) → CountsFaults (Ok y) a b → CountsFaults {X = X} (Err x) b c → CountsFaults {X = Z} (Err x) a c
-counts_on y x a b c before counts = counts_then y (Err x) a b c before (counts_as x b c counts)
-
+-- after a call that counted nothing
 pub counts_from : {X : Type 0} (result : Result X Fault) (a b c : Faults) → b ≡ a → CountsFaults result b c → CountsFaults result a c
 counts_from result a b c same counts = subst (λ (f : Faults). CountsFaults result f c) same counts
 
@@ -86,16 +68,6 @@ refused_counts bytes x a (inr memory) = subst (λ (y : Fault). CountsFault y a a
 pub parsed_counts : {X : Type 0} (bytes : List ℕ) (result : Result X Fault) (a b : Faults) → b ≡ a → IfErr result (λ (x : Fault). IsRefusal bytes x ⊎ (x ≡ Memory)) → CountsFaults result a b
 parsed_counts bytes (Ok x) a b same refused = counts_ok x a b same
 parsed_counts bytes (Err x) a b same refused = counted_once (Err x) a b (fewer_same a b same) (subst (λ (f : Faults). CountsFault x a f) (sym same) (refused_counts bytes x a refused))
-
--- the fault of a file that is missing
-pub missing_counts : (name : List ℕ) (x : Fault) (a b : Faults) → (x ≡ Missing name) ⊎ (x ≡ Memory) → b ≡ missing_more a → CountsFault x a b
-missing_counts name x a b (inl missing) is = subst (λ (y : Fault). CountsFault y a b) (sym missing) is
-missing_counts name x a b (inr memory) is = subst (λ (y : Fault). CountsFault y a b) (sym memory) (inr is)
-
--- a failure to make or to write
-pub written_counts : (failure : ShelfFault) (a b : Faults) → b ≡ after_write {X = Unit {0}} (Err failure) a → CountsFault (fault_of failure) a b
-written_counts shelf.Failed a b is = is
-written_counts shelf.Memory a b is = inl is
 
 -- ---- what is opened
 -- what was opened stays

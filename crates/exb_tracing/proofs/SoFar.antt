@@ -1,5 +1,5 @@
 -- A run that has played the first segments of an input has told a history, files and a trace that are legal so far.
-use Rattle.std.proofs.Common.{◌≡◌, ℕ, zero, suc, ◌+◌, ◌<◌, ◌==◌, ◌++◌, Bool, true, false, List, [], ◌∷◌, Option, Some, None, length, map, filter, take, drop, refl, ap, sym, ◌∙◌, subst, inl, inr}
+use Rattle.std.proofs.Common.{◌≡◌, ℕ, zero, suc, ◌+◌, ◌<◌, ◌==◌, ◌++◌, Bool, true, false, List, [], ◌∷◌, Option, Some, None, length, map, filter, take, drop, refl, ap, sym, ◌∙◌, subst, inl, inr, add-one}
 use Rattle.std.specs.Prelude.{filter_map, flat_map, All, slice_get, if◌then◌else◌}
 use Rattle.std.specs.List.{range_with_len}
 use Rattle.std.proofs.lemmas.Bool.{cases_Bool, eqb-true}
@@ -44,7 +44,8 @@ use Rattle.exb_resting.proofs.Motion.Numbers.{Front, HasCommand, GoOn, go_on, fr
 use Rattle.exb_resting.proofs.Motion.Playing.{IsLegal, legal, mapped}
 use Rattle.exb_resting.proofs.Motion.Setups.{setups_may_start}
 use Rattle.exb_resting.proofs.Motion.Standing.{begins_kept, runs_kept, settled_owes_nothing}
-use Rattle.exb_resting.proofs.Rest.Playing.{kept, low, settled, start as begun_of}
+use Rattle.exb_resting.proofs.Rest.Playing.{kept, settled, start as begun_of}
+use Rattle.exb_resting.proofs.Rest.Settles.{runs_stay_low}
 use Rattle.exb_tracing.specs.Laws.{given_in as came_in}
 use Rattle.exb_tracing.specs.Runs.{SetupsTellLegally}
 use Rattle.exb_tracing.specs.SoFar.{HasToldSoFar, IsHistorySoFar, IsTraceSoFar, LegalUpTo, RunsTellSoFar}
@@ -139,11 +140,11 @@ module _ (round : TagRoundTrip) (words : SendsAreWords) (leave : SendsLeaveAsFla
 -- ---- the first records of a port
 given_of_port : (p : ℕ) (g : List Given) → given_at p g ≡ filter (λ (a : Arrival). a.port == p) (arrivals_of g)
 given_of_port p [] = refl
-given_of_port p (Came a ∷ g) = by_test (a.port == p)
+given_of_port p (Came a ∷ g) = by_test (a.port == p) (given_of_port p g)
   where
-    by_test : (b : Bool) → (if b then a ∷ given_at p g else given_at p g) ≡ (if b then a ∷ filter (λ (x : Arrival). x.port == p) (arrivals_of g) else filter (λ (x : Arrival). x.port == p) (arrivals_of g))
-    by_test true = ap (λ (xs : List Arrival). a ∷ xs) (given_of_port p g)
-    by_test false = given_of_port p g
+    by_test : (b : Bool) → given_at p g ≡ filter (λ (x : Arrival). x.port == p) (arrivals_of g) → (if b then a ∷ given_at p g else given_at p g) ≡ (if b then a ∷ filter (λ (x : Arrival). x.port == p) (arrivals_of g) else filter (λ (x : Arrival). x.port == p) (arrivals_of g))
+    by_test true rest = ap (λ (xs : List Arrival). a ∷ xs) rest
+    by_test false rest = rest
 given_of_port p (Told c ∷ g) = given_of_port p g
 
 own_numbers : (i : Input) (p : ℕ) (xs : List Arrival) → Each (IsNumberedIn i) xs → Each (λ (a : Arrival). numbered (arrivals_in i p) a.index ≡ Some a) (filter (λ (a : Arrival). a.port == p) xs)
@@ -160,15 +161,22 @@ get_drop [] (suc n) x e = absurd (cc)
 get_drop (y ∷ ys) zero x e = (let same : y ≡ x = cc in ap (λ (z : Arrival). z ∷ ys) same)
 get_drop (y ∷ ys) (suc n) x e = get_drop ys n x e
 
+head_same : (a b : ℕ) (xs ys : List ℕ) → a ∷ xs ≡ b ∷ ys → a ≡ b
+head_same a b xs ys e = cc
+
+tail_same : (a b : ℕ) (xs ys : List ℕ) → a ∷ xs ≡ b ∷ ys → xs ≡ ys
+tail_same a b xs ys e = cc
+
 -- arrivals that are numbered one after the other are those of these numbers
-firsts_from : (ys xs : List Arrival) (n : ℕ) → indices_of xs ≡ range_with_len (suc n) (length xs) → Each (λ (a : Arrival). numbered ys a.index ≡ Some a) xs → (k : ℕ) × (xs ≡ take k (drop n ys))
+firsts_from : (ys xs : List Arrival) (n : ℕ) → indices_of xs ≡ range_with_len (n + 1) (length xs) → Each (λ (a : Arrival). numbered ys a.index ≡ Some a) xs → (k : ℕ) × (xs ≡ take k (drop n ys))
 firsts_from ys [] n rises all = (0, refl)
 firsts_from ys (x ∷ xs) n rises all =
-    let index : x.index ≡ suc n = cc in
-    let more : indices_of xs ≡ range_with_len (suc (suc n)) (length xs) = cc in
+    let index : x.index ≡ suc n = head_same x.index (n + 1) (indices_of xs) (range_with_len ((n + 1) + 1) (length xs)) rises ∙ add-one n in
     let here : drop n ys ≡ x ∷ drop (suc n) ys = get_drop ys n x (subst (λ (k : ℕ). numbered ys k ≡ Some x) index all.0) in
-    let later = firsts_from ys xs (suc n) more all.1 in
-    (suc later.0, ap (λ (zs : List Arrival). x ∷ zs) later.1 ∙ ap (take (suc later.0)) (sym here))
+    let later = firsts_from ys xs (n + 1) (tail_same x.index (n + 1) (indices_of xs) (range_with_len ((n + 1) + 1) (length xs)) rises) all.1 in (
+      suc later.0,
+      ap (λ (zs : List Arrival). x ∷ zs) (later.1 ∙ ap (λ (k : ℕ). take later.0 (drop k ys)) (add-one n)) ∙ ap (take (suc later.0)) (sym here),
+    )
 
 bytes_taken : (k : ℕ) (xs : List Arrival) → map (λ (a : Arrival). a.bytes) (take k xs) ≡ take k (map (λ (a : Arrival). a.bytes) xs)
 bytes_taken zero xs = refl
@@ -221,7 +229,7 @@ module _ (round : TagRoundTrip) (words : SendsAreWords) (leave : SendsLeaveAsFla
       h = [] then done.events
 
       go : MayGoAll (tree_of i) (bounds_of i) (begin_of i) (marked_each (k.first ∷ k.plays))
-      go = low round words leave law stay m i so_far done k
+      go = runs_stay_low round words leave law stay i.setup (marked_each (k.first ∷ k.plays)) k.valid k.vids k.may
 
       rests : IsSettled (tree_of i) done.world
       rests = settled round words leave law stay m i so_far done k
