@@ -65,7 +65,8 @@ fn outputs_fault(fault: FramesFault) -> Fault
 
 /// What is wrong with a file of lines of this name.
 fn lines_fault(alloc: Global, what: Part, name: &str, fault: LinesFault) -> Fault
-    ensures { (result ≡ lines_fault what name.now fault) ⊎ (result ≡ Fault.Memory) }
+    ensures is { (result ≡ lines_fault what name.now fault) ⊎ (result ≡ Fault.Memory) }
+    ensures memory { result ≡ Fault.Memory → (fault ≡ LinesFault.Memory) ⊎ (fault ≡ LinesFault.Missing) }
 {
     match fault {
         LinesFault::Memory => Fault::Memory,

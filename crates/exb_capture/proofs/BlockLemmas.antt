@@ -1,24 +1,23 @@
 -- pcapng is a format: what stands at a front stands whatever follows.
-use Rattle.std.proofs.Common.{◌≡◌, ◌<◌, ◌≤◌, ◌+◌, ◌-◌, ℕ, Bool, true, false, List, [], ◌++◌, length, take, drop, Option, Some, None, Result, Ok, Err, cond, refl, ap, sym, subst, ◌∙◌, arith}
-use Rattle.std.specs.Prelude.{nat_lt, nat_eq, ◌||◌, ◌&&◌, not, ◌==◌, ◌%◌}
+use Rattle.std.proofs.Common.{◌≡◌, ◌<◌, ◌≤◌, ◌+◌, ◌-◌, ℕ, Bool, true, false, List, [], ◌++◌, length, take, drop, Option, Some, None, Result, Ok, Err, cond, refl, ap, sym, ◌∙◌, arith}
+use Rattle.std.specs.Prelude.{nat_lt, nat_eq}
 use Rattle.std.proofs.lemmas.Bool.{ltb-false, ltb-true, le-ltb, eqb-true}
 use Rattle.std.proofs.lemmas.List.{take-append-le, take-take, drop-take}
 use Rattle.exb_capture.specs.declared.fault.Fault.{Fault}
-use Rattle.exb_capture.specs.declared.fault.Flaw.TheVariants.{Cut, Length}
+use Rattle.exb_capture.specs.declared.fault.Flaw.TheVariants.{Cut}
 use Rattle.exb_capture.specs.declared.order.ByteOrder.{ByteOrder}
 use Rattle.exb_capture.specs.declared.interface.Interface.{Interface}
 use Rattle.exb_capture.specs.Within.{section_of}
-use Rattle.exb_capture.specs.declared.block.Kind.{Kind}
 use Rattle.exb_capture.specs.declared.block.Head.{Head}
 use Rattle.exb_capture.specs.declared.block.Content.{Content}
 use Rattle.exb_capture.specs.declared.block.Content.TheVariants.{Skipped, NewSection, NewInterface, Packet}
 use Rattle.exb_capture.specs.Formats.{Front, Nothing, Short, Over, Holds, fault}
 use Rattle.exb_capture.specs.Pieces.{IsFormat}
-use Rattle.exb_capture.proofs.FormatLemmas.{IsDecided, longer, IsMeasured, format_by, not_empty}
+use Rattle.exb_capture.proofs.FormatLemmas.{IsDecided, longer, IsMeasured, LiesWithin, format_by, not_empty}
 use Rattle.exb_capture.proofs.BlockSizes.{head_sized, IsSized, IsLong, block_long}
 use Rattle.exb_capture.proofs.BlockOpen.{block_undecided, block_blank}
-use Rattle.exb_capture.specs.Fields.{◌>>=◌, refuse, word}
-use Rattle.exb_capture.specs.Blocks.{Sections, order_of, interfaces_of, kind_of, is_read, is_no_size, order_at, head_at, block_at, shown, whole_front, headed_front, block_front, most_held}
+use Rattle.exb_capture.proofs.BlockPlaces.{block_within, head_within}
+use Rattle.exb_capture.specs.Blocks.{Sections, order_of, interfaces_of, is_read, head_at, block_at, shown, whole_front, headed_front, block_front, most_held}
 
 -- a block that is there
 abbrev pub block : Sections → Head → List ℕ → Front Sections
@@ -65,20 +64,20 @@ block_stands s h more = by_none (nat_eq (length h) 0)
     by_none false is = by_head (nat_lt (length h) 12) refl is
 
 -- ---- sizes
-shown_measured : (s : Sections) (head : Head) (b : List ℕ) (x : Result Content Fault) (h : List ℕ) → IsLong head.size x → 0 < head.size → head.size ≤ length h → IsMeasured most_held h (shown s head b x)
-shown_measured s head b (Ok Skipped) h long some fits = some
-shown_measured s head b (Ok NewSection) h long some fits = some
-shown_measured s head b (Ok (NewInterface i)) h long some fits = some
-shown_measured s head b (Ok (Packet moment from n)) h long some fits = (long, fits)
-shown_measured s head b (Err f) h long some fits = tt
+shown_measured : (s : Sections) (head : Head) (b : List ℕ) (x : Result Content Fault) (h : List ℕ) → IsLong head.size x → LiesWithin head.size x → 0 < head.size → head.size ≤ length h → IsMeasured most_held h (shown s head b x)
+shown_measured s head b (Ok Skipped) h long lies some fits = some
+shown_measured s head b (Ok NewSection) h long lies some fits = some
+shown_measured s head b (Ok (NewInterface i)) h long lies some fits = some
+shown_measured s head b (Ok (Packet moment from n)) h long lies some fits = (long, fits)
+shown_measured s head b (Err f) h long lies some fits = omega (arith, lies, fits)
 
-headed_measured : (s : Sections) (x : Result Head Fault) (h : List ℕ) → ((head : Head) → x ≡ Ok head → IsSized head) → IsMeasured most_held h (headed_front s x h)
-headed_measured s (Err f) h sized = tt
-headed_measured s (Ok head) h sized = by_kind (is_read head.kind) refl
+headed_measured : (s : Sections) (x : Result Head Fault) (h : List ℕ) → ((head : Head) → x ≡ Ok head → IsSized head) → 12 ≤ length h → LiesWithin 12 x → IsMeasured most_held h (headed_front s x h)
+headed_measured s (Err f) h sized twelve lies = omega (arith, twelve, lies)
+headed_measured s (Ok head) h sized twelve lies = by_kind (is_read head.kind) refl
   where
     by_size : (b : Bool) → nat_lt (length h) head.size ≡ b → is_read head.kind ≡ true → IsMeasured most_held h (cond b (Short (fault Cut 0)) (block s head h))
-    by_size true e read = let few = ltb-true (length h) head.size e in let most = (sized head refl).most read in omega (arith, few, most)
-    by_size false e read = shown_measured s head (take head.size h) (block_at head (interfaces_of s.section) s.last (take head.size h)) h (block_long head (interfaces_of s.section) s.last (take head.size h)) (let some = (sized head refl).some in omega (arith, some)) (ltb-false (length h) head.size e)
+    by_size true e read = let few = ltb-true (length h) head.size e in let most = (sized head refl).most read in (omega (arith, few, most), omega arith)
+    by_size false e read = shown_measured s head (take head.size h) (block_at head (interfaces_of s.section) s.last (take head.size h)) h (block_long head (interfaces_of s.section) s.last (take head.size h)) (block_within head (interfaces_of s.section) s.last (take head.size h) (sized head refl).some) (let some = (sized head refl).some in omega (arith, some)) (ltb-false (length h) head.size e)
 
     by_kind : (b : Bool) → is_read head.kind ≡ b → IsMeasured most_held h (cond b (whole_front s head h) (Over head.size s))
     by_kind true read = by_size (nat_lt (length h) head.size) refl read
@@ -89,8 +88,9 @@ unfolding block_front
 block_measured s h = by_none (nat_eq (length h) 0) refl
   where
     by_head : (b : Bool) → nat_lt (length h) 12 ≡ b → IsMeasured most_held h (cond b (Short (fault Cut 0)) (headed_front s (head_at (order_of s.section) (take 12 h)) h))
-    by_head true e = let few = ltb-true (length h) 12 e in omega (arith, few)
-    by_head false e = headed_measured s (head_at (order_of s.section) (take 12 h)) h (head_sized (order_of s.section) (take 12 h))
+    by_head true e = let few = ltb-true (length h) 12 e in (omega (arith, few), omega arith)
+    by_head false e =
+        headed_measured s (head_at (order_of s.section) (take 12 h)) h (head_sized (order_of s.section) (take 12 h)) (ltb-false (length h) 12 e) (head_within (order_of s.section) (take 12 h))
 
     by_none : (b : Bool) → nat_eq (length h) 0 ≡ b
         → IsMeasured most_held h (cond b Nothing (cond (nat_lt (length h) 12) (Short (fault Cut 0)) (headed_front s (head_at (order_of s.section) (take 12 h)) h)))

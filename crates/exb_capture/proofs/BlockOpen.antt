@@ -1,9 +1,8 @@
 -- A block that isn't all there can be filled up to one that is none of being cut off.
-use Rattle.std.proofs.Common.{◌≡◌, ◌<◌, ◌≤◌, ◌+◌, ◌-◌, ℕ, zero, suc, Bool, true, false, List, [], ◌∷◌, ◌++◌, length, take, drop, Option, Some, None, Result, Ok, Err, cond, refl, ap, sym, subst, ◌∙◌, arith, length-append, append_assoc}
-use Rattle.std.specs.Prelude.{nat_lt, nat_le, nat_eq, replicate, get_or, slice_index, ◌||◌, ◌&&◌, not, ◌==◌, ◌%◌, ◌^◌, ◌*◌}
+use Rattle.std.proofs.Common.{◌≡◌, ◌<◌, ◌≤◌, ◌+◌, ◌-◌, ℕ, zero, suc, Bool, true, false, List, [], ◌++◌, length, take, Option, Some, None, Result, Ok, Err, cond, refl, ap, sym, subst, ◌∙◌, arith, length-append, append_assoc}
+use Rattle.std.specs.Prelude.{nat_lt, nat_le, nat_eq, replicate, get_or, slice_index, ◌&&◌, not, ◌==◌, ◌^◌, ◌*◌}
 use Rattle.std.proofs.lemmas.Bool.{ltb-false, ltb-true, le-ltb, ne_eqb}
 use Rattle.std.proofs.lemmas.List.{take-append-le, length-replicate}
-use Rattle.exb_model.specs.Frames.{IsBytes}
 use Rattle.exb_capture.specs.declared.fault.Fault.{Fault}
 use Rattle.exb_capture.specs.declared.fault.Flaw.TheVariants.{Version, LinkType, Cut, Length, Time, Magic, TooMany, Resolution, Interface as NoInterface}
 use Rattle.exb_capture.specs.declared.order.ByteOrder.{ByteOrder}
@@ -14,7 +13,7 @@ use Rattle.exb_capture.specs.declared.block.Kind.TheVariants.{SectionHeader, Int
 use Rattle.exb_capture.specs.declared.block.Head.{Head}
 use Rattle.exb_capture.specs.declared.block.Content.{Content}
 use Rattle.exb_capture.specs.declared.block.Content.TheVariants.{Skipped, NewSection, NewInterface, Packet}
-use Rattle.exb_capture.specs.Formats.{Front, Nothing, Short, Bad, Over, Holds, fault}
+use Rattle.exb_capture.specs.Formats.{Front, Nothing, Short, Over, fault}
 use Rattle.exb_capture.specs.Fields.{◌>>=◌, refuse, word, half_word, nanoseconds}
 use Rattle.exb_capture.specs.Pieces.{IsOther, IsUndecided, IsNotCut}
 use Rattle.exb_capture.specs.Blocks.{Sections, order_of, interfaces_of, is_header, new_order, old_order, order_at, kind_of, is_read, is_no_size, head_at, digits_at, or_option, or_six, padded, resolution_within, resolution_from, section_at, interface_at, interface_number, no_interface, units_at, is_no_frame, enhanced_at, snapped, simple_at, content_at, block_at, shown, whole_front, headed_front, block_front}

@@ -13,7 +13,7 @@ use Rattle.exb_capture.specs.declared.interface.Interface.{Interface}
 use Rattle.exb_capture.specs.declared.block.Kind.TheVariants.{SectionHeader, InterfaceBlock, EnhancedPacket, SimplePacket, Other}
 use Rattle.exb_capture.specs.declared.block.Content.{Content}
 use Rattle.exb_capture.specs.declared.block.Content.TheVariants.{Skipped, NewSection, NewInterface, Packet}
-use Rattle.exb_capture.specs.Blocks.{kind_of, is_read, is_no_size, order_at, head_at, section_at, interface_at, resolution_from, enhanced_at, simple_at, content_at, block_at}
+use Rattle.exb_capture.specs.Blocks.{kind_of, is_read, is_no_size, order_at, head_at, content_at, block_at}
 
 -- what a head that is read tells of the size
 pub record IsSized (head : Head) : Type 0 where

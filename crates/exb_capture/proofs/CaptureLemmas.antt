@@ -44,7 +44,7 @@ unknown_measured h false = mapped_measured Classic most_held h (classic_front St
 unknown_measured h true = by_four (nat_lt (length h) 4) refl
   where
     by_four : (b : Bool) → nat_lt (length h) 4 ≡ b → IsMeasured most_held h (cond b (Short (fault NotPcap 0)) (mapped Blocks (block_front no_section h)))
-    by_four true t = let few = ltb-true (length h) 4 t in omega (arith, few)
+    by_four true t = let few = ltb-true (length h) 4 t in (omega (arith, few), omega arith)
     by_four false t = mapped_measured Blocks most_held h (block_front no_section h) (block_measured no_section h)
 
 pub capture_measured : (s : State) (h : List ℕ) → IsMeasured most_held h (capture_front s h)

@@ -1,23 +1,21 @@
 -- Classic pcap is a format.
 use Rattle.std.proofs.Common.{◌≡◌, ◌≤◌, ◌+◌, ℕ, Bool, true, false, List, ◌++◌, length, take, drop, Option, Some, None, Result, Ok, Err, cond, refl, ap, sym, ◌∙◌, arith}
-use Rattle.std.specs.Prelude.{nat_lt, nat_le, nat_eq, ◌^◌}
+use Rattle.std.specs.Prelude.{nat_lt, nat_le, nat_eq, not, ◌&&◌, ◌==◌, ◌^◌}
 use Rattle.std.proofs.lemmas.Bool.{ltb-false, ltb-true, le-ltb, ne_eqb, eqb-true}
 use Rattle.std.proofs.lemmas.List.{take-append-le}
 use Rattle.exb_capture.specs.declared.fault.Fault.{Fault}
-use Rattle.exb_capture.specs.declared.fault.Flaw.TheVariants.{NotPcap, Cut, Length, Time}
-use Rattle.exb_capture.specs.declared.order.ByteOrder.TheVariants.{Big, Little}
-use Rattle.exb_capture.specs.declared.classic.Resolution.TheVariants.{Micros, Nanos}
+use Rattle.exb_capture.specs.declared.fault.Flaw.TheVariants.{NotPcap, Version, LinkType, Cut, Length, Time}
 use Rattle.exb_capture.specs.declared.classic.Form.{Form}
 use Rattle.exb_capture.specs.declared.classic.Reached.{Reached}
 use Rattle.exb_capture.specs.declared.classic.Reached.TheVariants.{Start, Behind}
-use Rattle.exb_capture.specs.Fields.{◌>>=◌, refuse, word, agrees}
+use Rattle.exb_capture.specs.Fields.{◌>>=◌, refuse, word, half_word, agrees}
 use Rattle.exb_capture.specs.Formats.{Front, Nothing, Short, Holds, fault}
 use Rattle.exb_capture.specs.Pieces.{IsFormat}
 use Rattle.exb_capture.specs.Blocks.{most_held}
-use Rattle.exb_capture.specs.Classic.{form, digits, form_of, header_at, shown_header, magic_front, head_at, time_at, stored_front, record_front, classic_front}
+use Rattle.exb_capture.specs.Classic.{digits, form_of, header_at, shown_header, magic_front, head_at, time_at, stored_front, record_front, classic_front}
 use Rattle.exb_capture.proofs.BlockLemmas.{part_of}
 use Rattle.exb_capture.proofs.ClassicOpen.{form_by, same_by, form_more, record_in, classic_undecided, classic_blank}
-use Rattle.exb_capture.proofs.FormatLemmas.{IsDecided, longer, not_empty, IsMeasured, format_by, differs_on, agrees_whole}
+use Rattle.exb_capture.proofs.FormatLemmas.{IsDecided, longer, not_empty, IsMeasured, LiesWithin, then_within, refused_within, format_by, differs_on}
 
 -- ---- the magic number
 none_by : (a b c d : Bool) → form_by a b c d ≡ None → (a ≡ false) × (b ≡ false) × (c ≡ false) × (d ≡ false)
@@ -104,37 +102,50 @@ stored_few f head n = by_time (nat_le (10 ^ digits f.resolution) (word f.order h
     by_time true e = absurd (cc)
     by_time false e = by_size (nat_lt 262_144 (word f.order head 8)) refl e
 
-header_measured : (f : Form) (x : Result (Unit {0}) Fault) (h : List ℕ) → IsMeasured most_held h (shown_header f x)
-header_measured f (Ok u) h = omega arith
-header_measured f (Err x) h = tt
+header_within : (f : Form) (header : List ℕ) → LiesWithin 24 (header_at f header)
+header_within f header =
+    then_within 24 (refuse (not (half_word f.order header 4 == 2 && half_word f.order header 6 == 4)) (fault Version 4)) (λ known. refuse (not (word f.order header 20 == 1)) (fault LinkType 20))
+    (refused_within 24 (not (half_word f.order header 4 == 2 && half_word f.order header 6 == 4)) (fault Version 4) (omega arith))
+    (λ known. refused_within 24 (not (word f.order header 20 == 1)) (fault LinkType 20) (omega arith))
+
+head_within : (f : Form) (head : List ℕ) → LiesWithin 16 (head_at f head)
+head_within f head =
+    then_within 16 (refuse (nat_le (10 ^ digits f.resolution) (word f.order head 4)) (fault Time 4)) (λ early. refuse (nat_lt 262_144 (word f.order head 8)) (fault Length 8) >>= (λ short. Ok (word f.order head 8)))
+    (refused_within 16 (nat_le (10 ^ digits f.resolution) (word f.order head 4)) (fault Time 4) (omega arith))
+    (λ early. then_within 16 (refuse (nat_lt 262_144 (word f.order head 8)) (fault Length 8)) (λ short. Ok (word f.order head 8))
+    (refused_within 16 (nat_lt 262_144 (word f.order head 8)) (fault Length 8) (omega arith)) (λ short. tt))
+
+header_measured : (f : Form) (x : Result (Unit {0}) Fault) (h : List ℕ) → 24 ≤ length h → LiesWithin 24 x → IsMeasured most_held h (shown_header f x)
+header_measured f (Ok u) h long lies = omega arith
+header_measured f (Err x) h long lies = omega (arith, long, lies)
 
 magic_measured : (o : Option Form) (h : List ℕ) → IsMeasured most_held h (magic_front o h)
-magic_measured None h = tt
+magic_measured None h = omega arith
 magic_measured (Some f) h = by_four (nat_lt (length h) 4) refl
   where
     by_head : (b : Bool) → nat_lt (length h) 24 ≡ b → IsMeasured most_held h (cond b (Short (fault Cut 0)) (shown_header f (header_at f (take 24 h))))
-    by_head true t = let few = ltb-true (length h) 24 t in omega (arith, few)
-    by_head false t = header_measured f (header_at f (take 24 h)) h
+    by_head true t = let few = ltb-true (length h) 24 t in (omega (arith, few), omega arith)
+    by_head false t = header_measured f (header_at f (take 24 h)) h (ltb-false (length h) 24 t) (header_within f (take 24 h))
 
     by_four : (b : Bool) → nat_lt (length h) 4 ≡ b
         → IsMeasured most_held h (cond b (Short (fault NotPcap 0)) (cond (nat_lt (length h) 24) (Short (fault Cut 0)) (shown_header f (header_at f (take 24 h)))))
-    by_four true t = let few = ltb-true (length h) 4 t in omega (arith, few)
+    by_four true t = let few = ltb-true (length h) 4 t in (omega (arith, few), omega arith)
     by_four false t = by_head (nat_lt (length h) 24) refl
 
-stored_measured : (f : Form) (x : Result ℕ Fault) (h : List ℕ) → ((n : ℕ) → x ≡ Ok n → n ≤ 262_144) → IsMeasured most_held h (stored_front f x h)
-stored_measured f (Err x) h few = tt
-stored_measured f (Ok n) h few = by_size (nat_lt (length h) (16 + n)) refl
+stored_measured : (f : Form) (x : Result ℕ Fault) (h : List ℕ) → ((n : ℕ) → x ≡ Ok n → n ≤ 262_144) → 16 ≤ length h → LiesWithin 16 x → IsMeasured most_held h (stored_front f x h)
+stored_measured f (Err x) h few long lies = omega (arith, long, lies)
+stored_measured f (Ok n) h few long lies = by_size (nat_lt (length h) (16 + n)) refl
   where
     by_size : (b : Bool) → nat_lt (length h) (16 + n) ≡ b → IsMeasured most_held h (cond b (Short (fault Cut 0)) (record_in f n h))
-    by_size true t = let short = ltb-true (length h) (16 + n) t in let most = few n refl in omega (arith, short, most)
+    by_size true t = let short = ltb-true (length h) (16 + n) t in let most = few n refl in (omega (arith, short, most), omega arith)
     by_size false t = let fits = ltb-false (length h) (16 + n) t in (omega arith, omega (arith, fits))
 
 record_measured : (f : Form) (h : List ℕ) → IsMeasured most_held h (record_front f h)
 record_measured f h = by_none (nat_eq (length h) 0) refl
   where
     by_head : (b : Bool) → nat_lt (length h) 16 ≡ b → IsMeasured most_held h (cond b (Short (fault Cut 0)) (stored_front f (head_at f (take 16 h)) h))
-    by_head true t = let few = ltb-true (length h) 16 t in omega (arith, few)
-    by_head false t = stored_measured f (head_at f (take 16 h)) h (stored_few f (take 16 h))
+    by_head true t = let few = ltb-true (length h) 16 t in (omega (arith, few), omega arith)
+    by_head false t = stored_measured f (head_at f (take 16 h)) h (stored_few f (take 16 h)) (ltb-false (length h) 16 t) (head_within f (take 16 h))
 
     by_none : (b : Bool) → nat_eq (length h) 0 ≡ b → IsMeasured most_held h (cond b Nothing (cond (nat_lt (length h) 16) (Short (fault Cut 0)) (stored_front f (head_at f (take 16 h)) h)))
     by_none true t = let none = eqb-true (length h) 0 t in omega (arith, none)

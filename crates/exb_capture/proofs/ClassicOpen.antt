@@ -12,7 +12,7 @@ use Rattle.exb_capture.specs.declared.classic.Form.{Form}
 use Rattle.exb_capture.specs.declared.classic.Reached.{Reached}
 use Rattle.exb_capture.specs.declared.classic.Reached.TheVariants.{Start, Behind}
 use Rattle.exb_capture.specs.Fields.{◌>>=◌, refuse, word, half_word, agrees}
-use Rattle.exb_capture.specs.Formats.{Front, Nothing, Short, Bad, Over, Holds, fault}
+use Rattle.exb_capture.specs.Formats.{Front, Nothing, Short, Holds, fault}
 use Rattle.exb_capture.specs.Pieces.{IsOther, IsUndecided, IsNotCut}
 use Rattle.exb_capture.specs.Classic.{form, digits, form_of, header_at, shown_header, magic_front, head_at, time_at, stored_front, record_front, classic_front}
 use Rattle.exb_capture.proofs.FormatLemmas.{agrees_whole}

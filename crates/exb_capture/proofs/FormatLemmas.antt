@@ -1,8 +1,8 @@
 -- What makes a format.
-use Rattle.std.proofs.Common.{◌≡◌, ◌<◌, ◌≤◌, ℕ, Bool, true, false, List, [], ◌∷◌, ◌++◌, length, refl, ap, sym, subst, ◌∙◌, arith, length-append}
+use Rattle.std.proofs.Common.{◌≡◌, ◌<◌, ◌≤◌, ℕ, Bool, true, false, List, [], ◌∷◌, ◌++◌, length, Result, Ok, Err, cond, refl, ap, sym, subst, ◌∙◌, arith, length-append}
 use Rattle.std.specs.Prelude.{nat_lt, nat_eq, ◌==◌, ◌&&◌}
-use Rattle.std.proofs.lemmas.Bool.{le-ltb, ne_eqb, false≢true, false_from_ne_true}
-use Rattle.exb_capture.specs.Fields.{agrees}
+use Rattle.std.proofs.lemmas.Bool.{ltb-false, le-ltb, ne_eqb, false≢true, false_from_ne_true}
+use Rattle.exb_capture.specs.Fields.{◌>>=◌, refuse, agrees}
 use Rattle.exb_capture.specs.Formats.{Front, Nothing, Short, Bad, Over, Holds}
 use Rattle.exb_capture.specs.Captures.{mapped}
 use Rattle.exb_capture.specs.declared.fault.Fault.{Fault}
@@ -26,10 +26,37 @@ not_empty h more some = ne_eqb (length (h ++ more)) 0 (λ none. omega (arith, no
 -- what the bytes at the front are to what is there
 abbrev pub IsMeasured : {S : Type 0} → ℕ → List ℕ → Front S → Type 0
 IsMeasured most h Nothing = length h < most
-IsMeasured most h (Short f) = length h < most
-IsMeasured most h (Bad f) = Unit {0}
+IsMeasured most h (Short f) = (length h < most) × (f.at ≤ length h)
+IsMeasured most h (Bad f) = f.at ≤ length h
 IsMeasured most h (Over n t) = 0 < n
 IsMeasured most h (Holds x n t) = (16 ≤ n) × (n ≤ length h)
+
+-- ---- where a fault lies
+-- its fault, if it has one, lies within so many bytes
+abbrev pub LiesWithin : {X : Type 0} → ℕ → Result X Fault → Type 0
+LiesWithin n (Ok x) = Unit {0}
+LiesWithin n (Err f) = f.at ≤ n
+
+pub then_within : {X Y : Type 0} (n : ℕ) (r : Result X Fault) (k : X → Result Y Fault) → LiesWithin n r → ((x : X) → LiesWithin n (k x)) → LiesWithin n (r >>= k)
+then_within n (Ok x) k h j = j x
+then_within n (Err f) k h j = h
+
+pub refused_within : (n : ℕ) (b : Bool) (f : Fault) → f.at ≤ n → LiesWithin n (refuse b f)
+refused_within n true f h = h
+refused_within n false f h = tt
+
+-- what isn't refused has at least this size
+pub sized_within : {X : Type 0} (n least : ℕ) (b : Bool) (f : Fault) (k : Unit {0} → Result X Fault) → nat_lt n least ≡ b → f.at ≤ n → (least ≤ n → LiesWithin n (k tt)) → LiesWithin n (refuse b f >>= k)
+sized_within n least true f k e h j = h
+sized_within n least false f k e h j = j (ltb-false n least e)
+
+pub chosen_within : {X : Type 0} (n : ℕ) (b : Bool) (x y : Result X Fault) → LiesWithin n x → LiesWithin n y → LiesWithin n (cond b x y)
+chosen_within n true x y h k = h
+chosen_within n false x y h k = k
+
+pub further_within : {X : Type 0} (n m : ℕ) (r : Result X Fault) → n ≤ m → LiesWithin n r → LiesWithin m r
+further_within n m (Ok x) less h = tt
+further_within n m (Err f) less h = omega (arith, less, h)
 
 -- ---- the format, by the two laws
 pub format_by : {S : Type 0} (most : ℕ) (front : S → List ℕ → Front S)
@@ -44,7 +71,9 @@ format_by most front stands measured undecided blank = record {
   holds_some = λ s h x n t e. (subst (IsMeasured most h) e (measured s h)).0;
   there = λ s h x n t e. (subst (IsMeasured most h) e (measured s h)).1;
   nothing = λ s h e. subst (IsMeasured most h) e (measured s h);
-  short = λ s h f e. subst (IsMeasured most h) e (measured s h);
+  short = λ s h f e. (subst (IsMeasured most h) e (measured s h)).0;
+  bad_there = λ s h f e. subst (IsMeasured most h) e (measured s h);
+  short_there = λ s h f e. (subst (IsMeasured most h) e (measured s h)).1;
   open_end = undecided;
   blank = blank;
 }

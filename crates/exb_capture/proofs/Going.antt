@@ -1,5 +1,5 @@
 -- What was read of a file, as more of it is read and taken.
-use Rattle.std.proofs.Common.{◌≡◌, ◌≢◌, ◌<◌, ◌≤◌, ◌+◌, ◌-◌, ◌^◌, ◌*◌, ℕ, Bool, true, false, List, [], ◌∷◌, ◌++◌, length, take, drop, Option, Some, None, Result, Ok, Err, refl, ap, sym, subst, ◌∙◌, arith, length-append, length-drop, length-take, append_assoc, take-add}
+use Rattle.std.proofs.Common.{◌≡◌, ◌<◌, ◌≤◌, ◌+◌, ◌-◌, ◌^◌, ℕ, Bool, true, false, List, [], ◌∷◌, ◌++◌, length, take, drop, Option, Some, None, Ok, Err, refl, ap, sym, subst, ◌∙◌, arith, length-append, length-drop, length-take, append_assoc, take-add}
 use Rattle.std.specs.Prelude.{IfSome}
 use Rattle.std.proofs.Math.Seq.{take-length}
 use Rattle.std.proofs.lemmas.Bool.{false≢true}
@@ -9,7 +9,6 @@ use Rattle.exb_capture.specs.Formats.{Capture, before, at_end, at_fault, whole}
 use Rattle.exb_capture.specs.declared.fault.Fault.{Fault}
 use Rattle.exb_capture.specs.declared.capture.Capture.{Capture as State}
 use Rattle.exb_capture.specs.declared.capture.Capture.TheVariants.{Unknown}
-use Rattle.exb_model.specs.Frames.{IsBytes}
 use Rattle.exb_capture.specs.Blocks.{most_held}
 use Rattle.exb_capture.specs.Captures.{capture_front, capture_of, capture_records}
 use Rattle.exb_capture.specs.Pieces.{Reading, Step, Answer, Found, More, End, Faulty, unread, fed, asked, to_come, IsFirst}
@@ -17,12 +16,13 @@ use Rattle.exb_capture.specs.Asked.{IsAheadIn}
 use Rattle.exb_capture.proofs.CaptureLemmas.{captures_are_a_format}
 use Rattle.exb_capture.proofs.FrontLemmas.{over_there}
 use Rattle.exb_capture.proofs.PieceLaws.{same_coming}
+use Rattle.exb_capture.proofs.Placing.{AnswersBy, IsAskedBy, asked_by, fails_on}
 use Rattle.exb_capture.proofs.TurnLemmas.{asked_reads}
 use Rattle.exb_capture.proofs.OpenLaws.{asked_unsettled, asked_left, IsLeft, IsHeld, taken_by}
 use Rattle.exb_capture.specs.declared.file.CaptureFile.{CaptureFile}
 use Rattle.exb_capture.specs.declared.file.Seen.{Seen}
 use Rattle.exb_capture.specs.declared.file.Halt.TheVariants.{Broken, Large}
-use Rattle.exb_capture.specs.Reading.{IsSound, IsHeldIn, HasRead, IsWhole, HaltsBy, after, coming, next_of, seen_in, with_next, left_held, left_to_read}
+use Rattle.exb_capture.specs.Reading.{IsSound, IsHeldIn, HasRead, IsWhole, HaltsBy, after, coming, next_of, seen_in, with_next, left_to_read}
 
 -- ---- what a question answers of a capture
 abbrev pub asked_of : CaptureFile → Step State
@@ -37,7 +37,7 @@ leaves f = asked_left most_held capture_front captures_are_a_format f.ended f.re
 
 -- ---- nothing was read
 pub begun_sound : (id limit : ℕ) → limit < 2 ^ 64 → IsSound (record { id = id; reader = unread most_held Unknown; next = None; got = 0; limit = limit; ended = false })
-begun_sound id limit small = record { most = omega arith; small = small; fits = omega arith; seen = tt }
+begun_sound id limit small = record { most = omega arith; small = small; fits = omega arith; seen = tt; begun = omega arith; fails = tt }
 
 pub begun_read : (bytes : List ℕ) (id limit : ℕ) → HasRead bytes [] (record { id = id; reader = unread most_held Unknown; next = None; got = 0; limit = limit; ended = false })
 begun_read bytes id limit = record {
@@ -67,6 +67,8 @@ fed_sound f n piece none s there fits = record {
   small = s.small;
   fits = omega (arith, s.fits, length-append f.reader.held (take n piece), length-take n piece);
   seen = unseen_held f.next f.reader.owing (f.reader.held ++ take n piece) none;
+  begun = omega (arith, s.begun);
+  fails = fails_on f.got (f.got + n) f.reader.stage (omega arith) s.fails;
 }
 
 pub fed_read : (bytes : List ℕ) (xs : List Record) (f : CaptureFile) (n : ℕ) (piece : List ℕ) → f.next ≡ None → f.ended ≡ false → n ≤ length piece → take n piece ≡ take n (drop f.got bytes)
@@ -118,12 +120,21 @@ fault_left a fault p left coming e first = let both = subst (λ b. IsFirst b p l
 abbrev pub left_of : CaptureFile → CaptureFile
 left_of f = record f { reader = (asked_of f).left }
 
+placed : (f : CaptureFile) → IsSound f → IsAskedBy f.got (asked_of f)
+placed f s = asked_by most_held capture_front captures_are_a_format f.ended f.got f.reader (record { fits = s.fits; begun = s.begun; fails = s.fails })
+
+-- a fault lies within what was read
+pub fault_place : (f : CaptureFile) (fault : Fault) → IsSound f → (asked_of f).answer ≡ Faulty fault → fault.at ≤ f.got
+fault_place f fault s e = subst (AnswersBy f.got) e (placed f s).0
+
 pub asked_sound : (f : CaptureFile) → f.next ≡ None → IsSound f → IsSound (left_of f)
 asked_sound f none s = record {
   most = s.most;
   small = s.small;
   fits = (leaves f).1 f.got s.fits;
   seen = unseen_held f.next (asked_of f).left.owing (asked_of f).left.held none;
+  begun = (placed f s).1.begun;
+  fails = (placed f s).1.fails;
 }
 
 pub asked_less : (f : CaptureFile) → left_to_read (left_of f) ≤ left_to_read f
@@ -169,6 +180,8 @@ seen_sound f s sound e ahead = record {
   small = sound.small;
   fits = (leaves f).1 f.got sound.fits;
   seen = record { there = ahead.there; in_time = ahead.in_time; short = ahead.short; whole = found_held (asked_of f).answer (found_in s (asked_of f).left.held) (asked_of f).left e (leaves f).2 };
+  begun = (placed f sound).1.begun;
+  fails = (placed f sound).1.fails;
 }
 
 taken_one : (a : Answer) (x : Record) → a ≡ Found x → taken_by a ≡ 16
@@ -195,7 +208,7 @@ abbrev pub taken : CaptureFile → CaptureFile
 taken f = record f { next = None }
 
 pub taken_sound : (f : CaptureFile) → IsSound f → IsSound (taken f)
-taken_sound f s = record { most = s.most; small = s.small; fits = s.fits; seen = tt }
+taken_sound f s = record { most = s.most; small = s.small; fits = s.fits; seen = tt; begun = s.begun; fails = s.fails }
 
 pub taken_less : (f : CaptureFile) (x : Record) → next_of f ≡ Some x → left_to_read (taken f) + 16 ≤ left_to_read f
 taken_less f x e = by_next f.next e

@@ -1,6 +1,7 @@
 pub mod AgreeLemmas
 pub mod BlockLemmas
 pub mod BlockOpen
+pub mod BlockPlaces
 pub mod BlockSizes
 pub mod BufferLemmas
 pub mod CaptureLemmas
@@ -8,6 +9,7 @@ pub mod CaptureOpen
 pub mod ClassicLemmas
 pub mod ClassicOpen
 pub mod Counting
+pub mod CountLemmas
 pub mod FormatLemmas
 pub mod FrontLemmas
 pub mod Going
@@ -16,6 +18,7 @@ pub mod OneAnswer
 pub mod OpenLaws
 pub mod OptionLemmas
 pub mod PieceLaws
+pub mod Placing
 pub mod ReaderLemmas
 pub mod Replaying
 pub mod RowLemmas

@@ -1,14 +1,14 @@
 -- What a look ahead says of a file that is read.
-use Rattle.std.proofs.Common.{◌≡◌, ◌≤◌, ◌<◌, ◌+◌, ◌-◌, ℕ, Bool, true, false, List, length, take, drop, Option, Some, None, Result, Ok, Err, cond, refl, ap, sym, subst, inl, inr, ◌∙◌, arith}
-use Rattle.std.specs.Prelude.{◌⊎◌}
+use Rattle.std.proofs.Common.{◌≡◌, ◌≤◌, ◌<◌, ◌+◌, ◌-◌, ℕ, Bool, true, false, List, length, take, drop, None, Result, Ok, Err, cond, refl, ap, sym, subst, inl, inr, ◌∙◌, arith}
+use Rattle.std.specs.Prelude.{◌⊎◌, IsErrOf}
 use Rattle.std.proofs.lemmas.Bool.{cases_lt}
 use Rattle.exb_model.specs.Input.{Record}
 use Rattle.exb_capture.specs.declared.fault.Fault.{Fault}
 use Rattle.exb_capture.specs.declared.capture.Capture.{Capture as State}
 use Rattle.exb_capture.specs.declared.reader.Ahead.{Ahead}
 use Rattle.exb_capture.specs.declared.reader.Ahead.TheVariants as ahead
-use Rattle.exb_capture.specs.Asked.{seen, IsAhead, IsAheadIn}
-use Rattle.exb_capture.specs.Pieces.{Reading, Found, More, End, Faulty}
+use Rattle.exb_capture.specs.Asked.{seen, IsAheadIn}
+use Rattle.exb_capture.specs.Pieces.{Reading, Found}
 use Rattle.exb_capture.specs.declared.file.CaptureFile.{CaptureFile}
 use Rattle.exb_capture.specs.declared.file.Seen.{Seen}
 use Rattle.exb_capture.specs.declared.file.Halt.{Halt}
@@ -20,7 +20,7 @@ use Rattle.exb_capture.specs.Blocks.{most_held}
 use Rattle.exb_capture.specs.Captures.{capture_front}
 use Rattle.exb_capture.proofs.CaptureLemmas.{captures_are_a_format}
 use Rattle.exb_capture.proofs.PieceLaws.{asked_roomy}
-use Rattle.exb_capture.proofs.Going.{asked_of, with_seen, found_in, asked_sound, asked_less, more_read, end_read, seen_sound, seen_less, seen_read, end_told, fault_told, large_told}
+use Rattle.exb_capture.proofs.Going.{asked_of, with_seen, found_in, asked_sound, asked_less, more_read, end_read, seen_sound, seen_less, seen_read, end_told, fault_place, fault_told, large_told}
 
 -- a file that was asked what comes next, and answered this
 module _ (f : CaptureFile) (reader : Reading State) (answer : Result Ahead Fault) (none : f.next ≡ None) (told : seen answer reader.held ≡ (asked_of f).answer) (is : reader ≡ (asked_of f).left) where
@@ -83,6 +83,9 @@ module _ (f : CaptureFile) (reader : Reading State) (answer : Result Ahead Fault
   more_room e = let some = (roomy e).1 in let same = ap (λ (r : Reading State). r.room) is in omega (arith, some, same)
 
   -- ---- why it isn't read on
+  pub looked_place : (fault : Fault) → answer ≡ Err fault → IsSound f → fault.at ≤ f.got
+  looked_place fault e s = fault_place f fault s (sym (answered (Err fault) e))
+
   pub looked_fault : (bytes : List ℕ) (xs : List Record) (fault : Fault) → answer ≡ Err fault → IsSound f → HasRead bytes xs f → HaltsBy bytes f.limit (Broken fault)
   looked_fault bytes xs fault e s h = fault_told bytes xs f fault none s h (sym (answered (Err fault) e))
 
@@ -96,6 +99,9 @@ module _ (f : CaptureFile) (reader : Reading State) (answer : Result Ahead Fault
   halts_on bytes xs Failed e s h unbroken large = tt
   halts_on bytes xs (Broken fault) e s h unbroken large = absurd (unbroken fault refl)
   halts_on bytes xs Large e s h unbroken large = let full = large refl in looked_large bytes xs e s h full.0 full.1
+
+pub halt_is : {X : Type 0} (why other : Halt) → IsErrOf {T = X} {E = Halt} (Err why) other → why ≡ other
+halt_is why other e = cc
 
 -- reading on brings it nearer to its end
 pub smaller : (limit got most next : ℕ) (ended told : Bool) → ended ≡ false → most ≡ limit → got ≤ next → next ≤ most → (told ≡ true) ⊎ (got < next)

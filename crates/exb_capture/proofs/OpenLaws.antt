@@ -1,7 +1,7 @@
 -- More is answered exactly where no record and no fault stands whatever follows: over any format. And what a question leaves of what is held.
-use Rattle.std.proofs.Common.{◌≡◌, ◌<◌, ◌≤◌, ◌+◌, ◌-◌, ℕ, zero, suc, Bool, true, false, List, [], ◌∷◌, ◌++◌, length, take, drop, Option, Some, None, cond, refl, ap, sym, subst, inl, inr, ◌∙◌, arith, length-append, length-drop, append_assoc}
-use Rattle.std.specs.Prelude.{nat_lt, replicate, min, ◌⊎◌, ◌↔◌, All}
-use Rattle.std.proofs.lemmas.Bool.{ltb-false, ltb-true, cases_lt, false≢true}
+use Rattle.std.proofs.Common.{◌≡◌, ◌<◌, ◌≤◌, ◌+◌, ◌-◌, ℕ, zero, suc, Bool, true, false, List, [], ◌∷◌, ◌++◌, length, drop, Option, Some, None, cond, refl, ap, sym, subst, inl, inr, ◌∙◌, arith, length-append, length-drop}
+use Rattle.std.specs.Prelude.{nat_lt, replicate, All}
+use Rattle.std.proofs.lemmas.Bool.{ltb-false, ltb-true, false≢true}
 use Rattle.std.proofs.lemmas.List.{append-nil, append_cancel_left, drop_all, length-replicate}
 use Rattle.std.proofs.lemmas.List.Elements.{All-tail, All-head}
 use Rattle.exb_model.specs.Frames.{IsBytes}
@@ -9,12 +9,12 @@ use Rattle.exb_model.specs.Input.{Record}
 use Rattle.exb_capture.specs.declared.fault.Fault.{Fault}
 use Rattle.exb_capture.specs.declared.fault.Flaw.{Flaw}
 use Rattle.exb_capture.specs.declared.fault.Flaw.TheVariants.{Cut}
-use Rattle.exb_capture.specs.Formats.{Front, Nothing, Short, Bad, Over, Holds, Capture, at_end, at_fault, before, fault, behind, at_place, reading_from}
-use Rattle.exb_capture.specs.Pieces.{IsFormat, IsOther, IsNotCut, Stage, At, Failed, Reading, Answer, Found, More, End, Faulty, Step, Turn, Answers, GoesOn, unread, gone, over, at_last, turn_at, turn, settled, asked_within, asked, reading_over, to_come, IsFirst}
+use Rattle.exb_capture.specs.Formats.{Front, Nothing, Short, Bad, Over, Holds, Capture, at_end, at_fault, fault, behind, at_place, reading_from}
+use Rattle.exb_capture.specs.Pieces.{IsFormat, IsOther, IsNotCut, Stage, At, Failed, Reading, Answer, Found, More, End, Faulty, Step, Turn, Answers, GoesOn, unread, gone, at_last, turn_at, turn, settled, asked_within, asked, reading_over, to_come, IsFirst}
 use Rattle.exb_capture.specs.Cutting.{Call, Feed, Ask, Feeding, begun, after_call, after_calls, answers, IsOpen, IsRecordOrFault, Stands, MoreIsOpen, in_turn, first_answers}
 use Rattle.exb_capture.proofs.FrontLemmas.{from_nothing, from_short, from_bad, from_over, from_holds, over_there}
-use Rattle.exb_capture.proofs.TurnLemmas.{reading, IsTurn, gone_reads, turn_reads_at, asked_reads, same_room}
-use Rattle.exb_capture.proofs.PieceLaws.{Enough, turn_counts_at, asked_roomy, all_read, EndAtEnd}
+use Rattle.exb_capture.proofs.TurnLemmas.{reading, IsTurn, gone_reads, turn_reads_at, asked_reads}
+use Rattle.exb_capture.proofs.PieceLaws.{Enough, turn_counts_at, all_read, EndAtEnd}
 use Rattle.exb_capture.proofs.UndecidedLemmas.{zeros_are_bytes}
 
 -- neither an answer nor a fault is that of what comes whatever follows

@@ -1,6 +1,6 @@
 -- An output capture is read as what was written.
-use Rattle.std.proofs.Common.{◌≡◌, ◌<◌, ◌≤◌, ◌+◌, ◌*◌, ◌/◌, ◌%◌, ◌^◌, ℕ, Bool, true, false, List, [], ◌∷◌, ◌++◌, length, take, drop, map, Option, Some, None, Result, Ok, Err, cond, refl, ap, sym, subst, ◌∙◌, arith, length-append}
-use Rattle.std.specs.Prelude.{All, nat_lt, nat_le, nat_eq}
+use Rattle.std.proofs.Common.{◌≡◌, ◌<◌, ◌≤◌, ◌+◌, ◌*◌, ◌/◌, ◌%◌, ◌^◌, ℕ, Bool, false, List, [], ◌∷◌, ◌++◌, length, take, drop, map, Option, Some, None, Ok, cond, refl, ap, sym, subst, ◌∙◌, arith, length-append}
+use Rattle.std.specs.Prelude.{All, nat_lt, nat_le}
 use Rattle.std.specs.List.{flat_map}
 use Rattle.std.proofs.lemmas.Nat.{from_le_bytes-to_le_bytes_4}
 use Rattle.std.proofs.lemmas.Bool.{lt-leb, le-ltb}
@@ -14,13 +14,11 @@ use Rattle.exb_capture.specs.declared.fault.Flaw.TheVariants.{NotPcap, Cut, Time
 use Rattle.exb_capture.specs.declared.order.ByteOrder.TheVariants.{Little}
 use Rattle.exb_capture.specs.declared.classic.Resolution.TheVariants.{Micros}
 use Rattle.exb_capture.specs.declared.classic.Form.{Form}
-use Rattle.exb_capture.specs.declared.classic.Reached.{Reached}
 use Rattle.exb_capture.specs.declared.classic.Reached.TheVariants.{Start, Behind}
 use Rattle.exb_capture.specs.Blocks.{most_held}
 use Rattle.exb_capture.specs.Fields.{◌>>=◌, refuse, word, agrees}
-use Rattle.exb_capture.specs.Formats.{Front, Nothing, Short, Over, Holds, fault, behind, Capture, before, reading_from, whole}
-use Rattle.exb_capture.specs.Pieces.{reading_over}
-use Rattle.exb_capture.specs.Classic.{form, digits, header_at, shown_header, head_at, time_at, record_front, classic_front, pcap_records}
+use Rattle.exb_capture.specs.Formats.{Short, Over, Holds, fault, behind, Capture, before, reading_from, whole}
+use Rattle.exb_capture.specs.Classic.{form, header_at, shown_header, head_at, time_at, classic_front, pcap_records}
 use Rattle.exb_capture.specs.Captures.{first_bytes, capture_records}
 use Rattle.exb_capture.specs.Written.{CanBeWritten, in_microseconds}
 use Rattle.exb_capture.proofs.ClassicLemmas.{classic_is_a_format, record_is}

@@ -2,6 +2,7 @@ pub mod Asked
 pub mod Blocks
 pub mod Captures
 pub mod Classic
+pub mod Counts
 pub mod Cutting
 pub mod Fields
 pub mod Formats

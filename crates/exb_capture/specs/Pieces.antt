@@ -31,7 +31,7 @@ IsNotCut (Over n s) = ⊥
 IsNotCut (Holds x n s) = ⊥
 
 -- What stands at a front stands whatever follows, but where nothing is there or more decides; and of the bytes of a record all are there.
--- A record takes at least 16. A reader whose buffer has so many bytes can then hold whatever is not decided yet. Where more decides, there are bytes that decide
+-- A record takes at least 16. A fault lies within what is there. A reader whose buffer has so many bytes can then hold whatever is not decided yet. Where more decides, there are bytes that decide
 -- otherwise than the end.
 pub record IsFormat {S : Type 0} (most : ℕ) (front : S → List ℕ → Front S) : Type 0 where
   pub bad : (s : S) (held more : List ℕ) (f : Fault) → front s held ≡ Bad f → front s (held ++ more) ≡ Bad f
@@ -42,6 +42,8 @@ pub record IsFormat {S : Type 0} (most : ℕ) (front : S → List ℕ → Front 
   pub there : (s : S) (held : List ℕ) (x : Record) (n : ℕ) (t : S) → front s held ≡ Holds x n t → n ≤ length held
   pub nothing : (s : S) (held : List ℕ) → front s held ≡ Nothing → length held < most
   pub short : (s : S) (held : List ℕ) (f : Fault) → front s held ≡ Short f → length held < most
+  pub bad_there : (s : S) (held : List ℕ) (f : Fault) → front s held ≡ Bad f → f.at ≤ length held
+  pub short_there : (s : S) (held : List ℕ) (f : Fault) → front s held ≡ Short f → f.at ≤ length held
   pub open_end : (s : S) (held : List ℕ) (f : Fault) → front s held ≡ Short f → IsUndecided front s held f.flaw
   pub blank : (s : S) → IsNotCut (front s [])
 

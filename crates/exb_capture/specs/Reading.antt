@@ -1,5 +1,5 @@
 -- A capture on a shelf while it is read in pieces.
-use Rattle.std.specs.Prelude.{⊤, ◌≡◌, ◌≢◌, ◌<◌, ◌≤◌, ◌+◌, ◌-◌, ◌*◌, ◌^◌, ℕ, true, false, List, [], ◌∷◌, ◌++◌, length, take, drop, Option, Some, None, IfSome, Ok, Err}
+use Rattle.std.specs.Prelude.{⊤, ◌≡◌, ◌≢◌, ◌<◌, ◌≤◌, ◌+◌, ◌-◌, ◌*◌, ◌^◌, ℕ, true, false, List, [], ◌++◌, length, take, drop, Option, Some, None, IfSome, Ok, Err}
 use Rattle.exb_model.specs.Input.{Record}
 use Rattle.exb_capture.specs.Formats.{Capture, before}
 use Rattle.exb_capture.specs.Captures.{capture_front, capture_of, capture_records}
@@ -7,7 +7,7 @@ use Rattle.exb_capture.specs.declared.fault.Fault.{Fault}
 use Rattle.exb_model.specs.Frames.{IsBytes}
 use Rattle.exb_capture.specs.declared.capture.Capture.TheVariants.{Unknown}
 use Rattle.exb_capture.specs.Blocks.{most_held}
-use Rattle.exb_capture.specs.Pieces.{Reading, to_come, unread, fed}
+use Rattle.exb_capture.specs.Pieces.{Stage, At, Failed, Reading, to_come, unread, fed}
 use Rattle.exb_shelf.specs.declared.shelf.ShelfFault.{ShelfFault}
 use Rattle.exb_shelf.specs.declared.shelf.ShelfFault.TheVariants as shelf
 use Rattle.exb_shelf.specs.Shelf.{Id, IsReadingOf}
@@ -53,12 +53,20 @@ pub record IsHeldIn (owing : ℕ) (held : List ℕ) (s : Seen) : Type 0 where
   pub short : s.bytes ≤ 262_144
   pub whole : owing ≤ length held
 
--- No more was read than may be, and what the reader holds is of what was read.
+-- a fault that was met lies within so many bytes
+abbrev pub FailsBy : {S : Type 0} → ℕ → Stage S → Type 0
+FailsBy most (At s) = Unit {0}
+FailsBy most (Failed fault) = fault.at ≤ most
+
+-- No more was read than may be, and what the reader holds is of what was read; so are the place where what was read last begins and
+-- that of a fault.
 pub record IsSound (f : CaptureFile) : Type 0 where
   pub most : f.got ≤ f.limit
   pub small : f.limit < 2 ^ 64
   pub fits : f.reader.place + length f.reader.held ≤ f.got + f.reader.owing
   pub seen : IfSome f.next (IsHeldIn f.reader.owing f.reader.held)
+  pub begun : f.reader.begun ≤ f.got
+  pub fails : FailsBy f.got f.reader.stage
 
 -- it is the same file, read up to the same limit
 pub record IsSameFile (old new : CaptureFile) : Type 0 where

@@ -34,6 +34,14 @@ unread bytes halt.Failed = Read
 unread bytes (halt.Broken fault) = Changed fault.at
 unread bytes halt.Large = Changed bytes
 
+-- why a capture whose first record comes early, and begins here, isn't read on: what stands behind that record says nothing of it, but
+-- a read that failed, or want of memory
+abbrev pub stopped : ℕ → Halt → ReplayFault
+stopped begin halt.Memory = Memory
+stopped begin halt.Failed = Read
+stopped begin (halt.Broken fault) = Changed begin
+stopped begin halt.Large = Changed begin
+
 -- this record comes first in a file of these bytes, whatever stands behind it, and begins at this place
 pub record BeginsWith (x : Record) (at : ℕ) (bytes : List ℕ) : Type 0 where
   pub others : List Record

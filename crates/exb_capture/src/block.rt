@@ -106,7 +106,10 @@ fn order_at(old: Option<ByteOrder>, twelve: &[u8]) -> Result<ByteOrder, Fault>
     ensures { result ≡ order_at old twelve.now }
 {
     if word_at(ByteOrder::Big, twelve, 0) == SECTION_HEADER {
-        return new_order(twelve);
+        return match new_order(twelve) {
+            Ok(order) => Ok(order),
+            Err(fault) => Err(fault),
+        };
     }
     match old {
         Some(order) => Ok(order),
@@ -198,8 +201,6 @@ fn snapped(snap: u32, n: u32) -> u32
     if snap == 0 { n } else { n.min(snap) }
 }
 
-#[cold]
-#[inline(never)]
 fn section(head: Head, block: &[u8]) -> Result<Content, Fault>
     requires { length block.now ≡ head.size }
     ensures value { result ≡ section_at head block.now }
@@ -305,8 +306,6 @@ fn numbered(interfaces: &[Interface], number: u32, none: Fault) -> Result<Interf
     }
 }
 
-#[cold]
-#[inline(never)]
 fn interface(head: Head, interfaces: &[Interface], block: &[u8]) -> Result<Content, Fault>
     requires whole { length block.now ≡ head.size }
     requires fours { head.size % 4 ≡ 0 }
@@ -391,8 +390,10 @@ fn simple(head: Head, interfaces: &[Interface], last: u64, block: &[u8]) -> Resu
     })
 }
 
-#[inline(always)]
-fn content_of(
+// What a block says, whichever its kind.
+#[cold]
+#[inline(never)]
+fn other_content(
     head: Head,
     interfaces: &[Interface],
     last: u64,
@@ -412,6 +413,45 @@ fn content_of(
         Kind::EnhancedPacket => enhanced(head, interfaces, block),
         Kind::SimplePacket => simple(head, interfaces, last, block),
         Kind::Other => Ok(Content::Skipped),
+    }
+}
+
+// The same. What another block than an enhanced packet says is taken from where that call leaves it, so that what
+// a packet says stays in registers.
+#[inline(always)]
+fn content_of(
+    head: Head,
+    interfaces: &[Interface],
+    last: u64,
+    block: &[u8],
+) -> Result<Content, Fault>
+    requires whole { length block.now ≡ head.size }
+    requires fours { head.size % 4 ≡ 0 }
+    requires most { head.size ≤ 327_680 }
+    requires digits { All HasResolution interfaces.now }
+    requires last { last < 2 ^ 32 * 1_000_000_000 }
+    ensures value { result ≡ content_at head.kind head interfaces.now last block.now }
+    ensures within { IfOk result (IsIn head.size (length interfaces.now)) }
+{
+    if let Kind::EnhancedPacket = head.kind {
+        return enhanced(head, interfaces, block);
+    }
+    match other_content(head, interfaces, last, block) {
+        Ok(Content::Skipped) => Ok(Content::Skipped),
+        Ok(Content::NewSection) => Ok(Content::NewSection),
+        Ok(Content::NewInterface(interface)) => Ok(Content::NewInterface(interface)),
+        Ok(
+            Content::Packet {
+                moment,
+                from,
+                bytes,
+            },
+        ) => Ok(Content::Packet {
+            moment,
+            from,
+            bytes,
+        }),
+        Err(fault) => Err(fault),
     }
 }
 

@@ -46,7 +46,7 @@ impl Blocks {
 
     // What stands there, where it is a block that is looked into.
     #[inline(always)]
-    fn whole(&mut self, head: Head, held: &[u8]) -> Front
+    fn whole_of(&mut self, head: Head, held: &[u8]) -> Front
         requires sized { IsHead head }
         requires most { head.size ≤ 327_680 }
         ensures value { told result self.new held.now ≡ whole_front self.old head held.now }
@@ -88,6 +88,38 @@ impl Blocks {
                 }
             }
             Err(fault) => Front::Bad(fault),
+        }
+    }
+}
+
+impl Blocks {
+    // The same, where the order of the bytes is asked once for all fields.
+    #[inline(always)]
+    fn whole(&mut self, head: Head, held: &[u8]) -> Front
+        requires sized { IsHead head }
+        requires most { head.size ≤ 327_680 }
+        ensures value { told result self.new held.now ≡ whole_front self.old head held.now }
+        ensures same { Keeps result (self.new ≡ self.old) }
+        ensures within { IsWithin held.now result }
+    {
+        let Head { order, kind, size } = head;
+        match order {
+            ByteOrder::Little => self.whole_of(
+                Head {
+                    order: ByteOrder::Little,
+                    kind,
+                    size,
+                },
+                held,
+            ),
+            ByteOrder::Big => self.whole_of(
+                Head {
+                    order: ByteOrder::Big,
+                    kind,
+                    size,
+                },
+                held,
+            ),
         }
     }
 }

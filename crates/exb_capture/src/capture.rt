@@ -51,6 +51,33 @@ impl Capture {
         }
         front
     }
+
+    // The same, apart from where that call leaves it: what stands at all other fronts then stays in registers.
+    #[inline(always)]
+    fn begun(&mut self, held: &[u8]) -> Front
+        requires { self.old ≡ Unknown }
+        ensures value { told result self.new held.now ≡ unknown_front held.now }
+        ensures same { Keeps result (self.new ≡ self.old) }
+        ensures within { IsWithin held.now result }
+    {
+        match self.begin(held) {
+            Front::Nothing => Front::Nothing,
+            Front::Short(fault) => Front::Short(fault),
+            Front::Bad(fault) => Front::Bad(fault),
+            Front::Over(n) => Front::Over(n),
+            Front::Holds {
+                moment,
+                from,
+                bytes,
+                size,
+            } => Front::Holds {
+                moment,
+                from,
+                bytes,
+                size,
+            },
+        }
+    }
 }
 
 impl Format for Capture {
@@ -62,7 +89,7 @@ impl Format for Capture {
     #[inline(always)]
     fn front(&mut self, held: &[u8]) -> Front {
         match self {
-            Capture::Unknown => self.begin(held),
+            Capture::Unknown => self.begun(held),
             Capture::Classic(reached) => reached.front(held),
             Capture::Blocks(blocks) => blocks.front(held),
         }

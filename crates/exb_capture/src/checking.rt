@@ -1,7 +1,8 @@
 //! Checking a capture from front to end.
-ghost use Rattle.std.specs.Prelude.{◌≡◌, ◌≤◌, ◌<◌, ◌+◌, ◌-◌, ◌*◌, ◌^◌, [], min, length, IfOk, IfErr, IsErrOf, IfSome};
+ghost use Rattle.std.specs.Prelude.{◌≡◌, ◌≤◌, ◌<◌, ◌+◌, ◌-◌, ◌*◌, ◌^◌, [], ℕ, false, min, length, IfOk, OnOk, IfErr, IsErrOf, IfSome};
 ghost use Rattle.exb_shelf.specs.Files.{SameFiles, bytes_of};
 ghost use Rattle.exb_shelf.specs.Shelf.{IsReadingOf, Opens, Rose, NoFewer};
+ghost use Rattle.exb_capture.specs.Counts.{after_looking, after_scan};
 ghost use Rattle.exb_capture.specs.Reading.{IsAt, IsSound, HasRead, HaltsBy, MovesOn};
 ghost use Rattle.exb_capture.specs.Scans.{IsScan, IsScanned, or_this, refused, unopened};
 
@@ -91,6 +92,7 @@ fn scan_on<S: Shelf>(
     ensures first { IfOk result (λ scanned. IfSome scanned.first (λ first. first < 2 ^ 32 * 1_000_000_000)) }
     ensures moves { MovesOn file.old.id (S.ids shelf.old) (S.ids shelf.new) }
     ensures files { SameFiles (S.file shelf.old) (S.file shelf.new) }
+    ensures counts { S.faults shelf.new ≡ after_looking result (S.faults shelf.old) }
     ensures faults { NoFewer (S.faults shelf.old) (S.faults shelf.new) }
     ensures failed { IsErrOf result Halt.Failed → Rose (S.faults shelf.old).reads (S.faults shelf.new).reads }
 {
@@ -123,9 +125,11 @@ pub fn scan<S: Shelf>(
     ensures first { IfOk result (λ scanned. IfSome scanned.first (λ first. first < 2 ^ 32 * 1_000_000_000)) }
 
     // What is opened, and what stays.
+    ensures id { OnOk result ((id : ℕ) × ((S.ids shelf.old id).given ≡ false) × IsReadingOf name.now (S.ids shelf.new id)) }
     ensures opened { Opens (IsReadingOf name.now) (S.ids shelf.old) (S.ids shelf.new) }
     ensures files { SameFiles (S.file shelf.old) (S.file shelf.new) }
 
+    ensures counts { S.faults shelf.new ≡ after_scan result (S.faults shelf.old) }
     ensures faults { NoFewer (S.faults shelf.old) (S.faults shelf.new) }
     ensures missing { IsErrOf result ScanFault.Missing → Rose (S.faults shelf.old).missing (S.faults shelf.new).missing }
     ensures failed { IsErrOf result ScanFault.Read → Rose (S.faults shelf.old).reads (S.faults shelf.new).reads }

@@ -161,7 +161,7 @@ fn time_at(form: Form, head: &[u8]) -> u64
 // The record at the front of what is left.
 #[tactic(auto, using(crate::proofs::ClassicLemmas::record_is))]
 #[inline(always)]
-fn record(form: Form, held: &[u8]) -> Front
+fn record_of(form: Form, held: &[u8]) -> Front
     ensures value { told result (Reached.Behind form) held.now ≡ record_front form held.now }
     ensures within { IsWithin held.now result }
 {
@@ -186,6 +186,31 @@ fn record(form: Form, held: &[u8]) -> Front
             }
         }
         Err(fault) => Front::Bad(fault),
+    }
+}
+
+// The same, where the order of the bytes is asked once for all fields.
+#[inline(always)]
+fn record(form: Form, held: &[u8]) -> Front
+    ensures value { told result (Reached.Behind form) held.now ≡ record_front form held.now }
+    ensures within { IsWithin held.now result }
+{
+    let Form { order, resolution } = form;
+    match order {
+        ByteOrder::Little => record_of(
+            Form {
+                order: ByteOrder::Little,
+                resolution,
+            },
+            held,
+        ),
+        ByteOrder::Big => record_of(
+            Form {
+                order: ByteOrder::Big,
+                resolution,
+            },
+            held,
+        ),
     }
 }
 

@@ -3,7 +3,9 @@ ghost use Rattle.std.specs.Prelude.{◌≡◌, ◌≢◌, ◌<◌, ◌≤◌, �
 ghost use Rattle.exb_model.specs.Input.{Record};
 ghost use Rattle.exb_capture.specs.Captures.{capture_records};
 ghost use Rattle.exb_shelf.specs.Files.{SameFiles, bytes_of};
+ghost use Rattle.exb_shelf.specs.Counting.{after_open};
 ghost use Rattle.exb_shelf.specs.Shelf.{IsReadingOf, Opens, reading, Rose, NoFewer};
+ghost use Rattle.exb_capture.specs.Counts.{after_looking};
 ghost use Rattle.exb_capture.specs.Reading.{IsAt, IsBegun, IsSameFile, IsSound, IsWhole, HasRead, HaltsBy, ComesNext, MovesOn, left_to_read, next_of};
 
 use crate::capture::Capture;
@@ -96,6 +98,7 @@ impl CaptureFile {
         ensures opened { Opens (IsReadingOf name.now) (S.ids shelf.old) (S.ids shelf.new) }
         ensures files { SameFiles (S.file shelf.old) (S.file shelf.new) }
 
+        ensures counts { S.faults shelf.new ≡ after_open result (S.faults shelf.old) }
         ensures faults { NoFewer (S.faults shelf.old) (S.faults shelf.new) }
         ensures missing { IsErrOf result OpenFault.Missing → Rose (S.faults shelf.old).missing (S.faults shelf.new).missing }
         ensures failed { IsErrOf result OpenFault.Failed → Rose (S.faults shelf.old).reads (S.faults shelf.new).reads }
@@ -165,6 +168,7 @@ impl CaptureFile {
         ensures whole { (fault : Fault) → IsErrOf result (Halt.Broken fault) → ⊥ }
         ensures moves { MovesOn self.old.id (S.ids shelf.old) (S.ids shelf.new) }
         ensures files { SameFiles (S.file shelf.old) (S.file shelf.new) }
+        ensures counts { S.faults shelf.new ≡ after_looking result (S.faults shelf.old) }
         ensures faults { NoFewer (S.faults shelf.old) (S.faults shelf.new) }
         ensures failed { IsErrOf result Halt.Failed → Rose (S.faults shelf.old).reads (S.faults shelf.new).reads }
     {
@@ -201,6 +205,7 @@ impl CaptureFile {
         ensures unbroken { (fault : Fault) → IsErrOf result (Halt.Broken fault) → ⊥ }
         ensures moves { MovesOn self.old.id (S.ids shelf.old) (S.ids shelf.new) }
         ensures files { SameFiles (S.file shelf.old) (S.file shelf.new) }
+        ensures counts { S.faults shelf.new ≡ after_looking result (S.faults shelf.old) }
         ensures faults { NoFewer (S.faults shelf.old) (S.faults shelf.new) }
         ensures failed { IsErrOf result Halt.Failed → Rose (S.faults shelf.old).reads (S.faults shelf.new).reads }
     {
@@ -239,8 +244,12 @@ impl CaptureFile {
         ensures halts { S.tells → IfErr result (λ halt. (xs : List Record) → HasRead (bytes_of (S.file shelf.old (S.ids shelf.old self.old.id).name)) xs self.old
             → HaltsBy (bytes_of (S.file shelf.old (S.ids shelf.old self.old.id).name)) self.old.limit halt) }
 
+        // Whatever the files hold, a fault lies within what was read.
+        ensures place { (fault : Fault) → IsErrOf result (Halt.Broken fault) → fault.at ≤ self.new.got }
+
         ensures moves { MovesOn self.old.id (S.ids shelf.old) (S.ids shelf.new) }
         ensures files { SameFiles (S.file shelf.old) (S.file shelf.new) }
+        ensures counts { S.faults shelf.new ≡ after_looking result (S.faults shelf.old) }
         ensures faults { NoFewer (S.faults shelf.old) (S.faults shelf.new) }
         ensures failed { IsErrOf result Halt.Failed → Rose (S.faults shelf.old).reads (S.faults shelf.new).reads }
     {

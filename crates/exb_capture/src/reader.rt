@@ -1,6 +1,7 @@
 //! Reading a capture that is fed in pieces, in any format.
 ghost use Rattle.std.specs.Prelude.{◌≡◌, ◌≢◌, ◌<◌, ◌≤◌, ◌+◌, ◌-◌, ◌^◌, ℕ, [], false, true, length, drop, take, Ok, None, IfOk, OnErr, IsErrOf, IfSome, min};
 ghost use Rattle.exb_shelf.specs.Files.{SameFiles, bytes_of};
+ghost use Rattle.exb_shelf.specs.Counting.{after_read};
 ghost use Rattle.exb_shelf.specs.Shelf.{IsReading, moved, Rose, NoFewer};
 ghost use Rattle.exb_capture.specs.Blocks.{most_held};
 ghost use Rattle.exb_capture.specs.Formats.{at_place};
@@ -135,6 +136,8 @@ impl<F: Format> Reader<F> {
     }
 
     // Moves what is held to the buffer's front.
+    #[cold]
+    #[inline(never)]
     fn make_room(&mut self)
         ensures { self.new ≡ roomy most_held self.old }
     {
@@ -183,6 +186,7 @@ impl<F: Format> Reader<F> {
         ensures others { (j : ℕ) → j ≢ id → S.ids shelf.new j ≡ S.ids shelf.old j }
         ensures id_err { OnErr result (S.ids shelf.new id ≡ S.ids shelf.old id) }
         ensures files { SameFiles (S.file shelf.old) (S.file shelf.new) }
+        ensures counts { S.faults shelf.new ≡ after_read result (S.faults shelf.old) }
         ensures faults { NoFewer (S.faults shelf.old) (S.faults shelf.new) }
         ensures failed { IsErrOf result ShelfFault.Failed → Rose (S.faults shelf.old).reads (S.faults shelf.new).reads }
     {
@@ -193,8 +197,7 @@ impl<F: Format> Reader<F> {
     }
 
     // That more is needed, or at the file's end this fault.
-    #[cold]
-    #[inline(never)]
+    #[inline(always)]
     fn at_last(&mut self, ended: bool, fault: Fault) -> Option<Result<Ahead, Fault>>
         ensures value { turned result self.new ≡ at_last most_held ended fault self.old }
         ensures held { IsSeen self.new.held result }
@@ -209,8 +212,7 @@ impl<F: Format> Reader<F> {
     }
 
     // That more is needed, or the end.
-    #[cold]
-    #[inline(never)]
+    #[inline(always)]
     fn at_nothing(&mut self, ended: bool) -> Option<Result<Ahead, Fault>>
         ensures value { turned result self.new ≡ at_nothing most_held ended self.old }
         ensures held { IsSeen self.new.held result }

@@ -3,8 +3,9 @@ ghost use Rattle.std.specs.Prelude.{◌≡◌, ◌≢◌, ◌<◌, ◌≤◌, �
 ghost use Rattle.exb_model.specs.Input.{Record};
 ghost use Rattle.exb_shelf.specs.Files.{SameFiles, bytes_of};
 ghost use Rattle.exb_shelf.specs.Shelf.{IsReadingOf, Opens, reading, Rose, NoFewer};
+ghost use Rattle.exb_capture.specs.Counts.{after_fault, after_opening, after_replay};
 ghost use Rattle.exb_capture.specs.Reading.{IsAt, IsBegun, ComesNext, MovesOn, left_to_read, next_of};
-ghost use Rattle.exb_capture.specs.Replaying.{comes_early, Disagrees, IsKept, IsSameReplay, IsAsBefore, ComesAt, IsReplayed, HasGiven, IsPlayed, IsReplaying, unopened, unread, IsFirstOf};
+ghost use Rattle.exb_capture.specs.Replaying.{comes_early, Disagrees, IsKept, IsSameReplay, IsAsBefore, ComesAt, IsReplayed, HasGiven, IsPlayed, IsReplaying, stopped, unopened, unread, IsFirstOf};
 
 use crate::checking::Scanned;
 use crate::file::{CaptureFile, Halt};
@@ -84,6 +85,18 @@ fn at_end(got: u64, bytes: u64) -> Result<Option<u64>, ReplayFault>
     }
 }
 
+/// Why a capture whose first record comes early, and begins here, isn't read on.
+fn stopped(halt: Halt, begin: u64) -> ReplayFault
+    ensures { result ≡ stopped begin halt }
+{
+    match halt {
+        Halt::Memory => ReplayFault::Memory,
+        Halt::Failed => ReplayFault::Read,
+        Halt::Broken { .. } => ReplayFault::Changed { at: begin },
+        Halt::Large => ReplayFault::Changed { at: begin },
+    }
+}
+
 /// Whether a file of so many bytes ends with its first record, before what was told.
 fn ends_short(got: u64, end: u64, bytes: u64) -> bool
     ensures { result ≡ true → got < bytes }
@@ -130,6 +143,7 @@ impl Replay {
         ensures opened { Opens (IsReadingOf name.now) (S.ids shelf.old) (S.ids shelf.new) }
         ensures files { SameFiles (S.file shelf.old) (S.file shelf.new) }
 
+        ensures counts { S.faults shelf.new ≡ after_opening result (S.faults shelf.old) }
         ensures faults { NoFewer (S.faults shelf.old) (S.faults shelf.new) }
         ensures failed { IsErrOf result ReplayFault.Read → Rose (S.faults shelf.old).reads (S.faults shelf.new).reads }
     {
@@ -146,7 +160,8 @@ impl Replay {
 
     /// At which byte a capture is another one, whose first record comes early. Where that record ends only
     /// behind what was told, the file goes on there; and where it ends with the file, it ends too soon.
-    /// Else it is where that record begins.
+    /// Else it is where that record begins. Where it can't be seen whether the file ends, since a read
+    /// failed or memory ran out, that is the answer.
     #[cold]
     #[inline(never)]
     fn early<S: Shelf>(&mut self, shelf: &mut S, piece: &mut [u8]) -> ReplayFault
@@ -160,11 +175,13 @@ impl Replay {
         ensures same { IsSameReplay self.old self.new }
         ensures changed { S.tells → (at : ℕ) → result ≡ ReplayFault.Changed at → (xs : List Record) → HasGiven (bytes_of (S.file shelf.old (S.ids shelf.old self.old.file.id).name)) xs self.old
             → Disagrees self.old.told (bytes_of (S.file shelf.old (S.ids shelf.old self.old.file.id).name)) at }
+        ensures place { (at : ℕ) → result ≡ ReplayFault.Changed at → at ≤ self.old.told.bytes + 1 }
         ensures before { IsAsBefore self.old self.new }
-        ensures unread { result ≢ ReplayFault.Read }
         ensures moves { MovesOn self.old.file.id (S.ids shelf.old) (S.ids shelf.new) }
         ensures files { SameFiles (S.file shelf.old) (S.file shelf.new) }
+        ensures counts { S.faults shelf.new ≡ after_fault result (S.faults shelf.old) }
         ensures faults { NoFewer (S.faults shelf.old) (S.faults shelf.new) }
+        ensures failed { result ≡ ReplayFault.Read → Rose (S.faults shelf.old).reads (S.faults shelf.new).reads }
     {
         let bytes = self.told.bytes;
         let begin = self.file.begun();
@@ -173,13 +190,17 @@ impl Replay {
             return ReplayFault::Changed { at: bytes };
         }
         self.file.pass();
-        if let Ok(None) = self.file.ahead(shelf, piece) {
-            let got = self.file.got();
-            if ends_short(got, end, bytes) {
-                return ReplayFault::Changed { at: got };
+        match self.file.ahead(shelf, piece) {
+            Ok(Some(_)) => ReplayFault::Changed { at: begin },
+            Ok(None) => {
+                let got = self.file.got();
+                if ends_short(got, end, bytes) {
+                    return ReplayFault::Changed { at: got };
+                }
+                ReplayFault::Changed { at: begin }
             }
+            Err(halt) => stopped(halt, begin),
         }
-        ReplayFault::Changed { at: begin }
     }
 
     /// Reads on until it is known what comes next, and answers the moment of the record, or None at the end.
@@ -213,8 +234,12 @@ impl Replay {
         ensures changed { S.tells → (at : ℕ) → IsErrOf result (ReplayFault.Changed at) → (xs : List Record) → HasGiven (bytes_of (S.file shelf.old (S.ids shelf.old self.old.file.id).name)) xs self.old
             → Disagrees self.old.told (bytes_of (S.file shelf.old (S.ids shelf.old self.old.file.id).name)) at }
 
+        // Whatever the files hold, it has changed within the bytes that were told and one more.
+        ensures place { (at : ℕ) → IsErrOf result (ReplayFault.Changed at) → at ≤ self.old.told.bytes + 1 }
+
         ensures moves { MovesOn self.old.file.id (S.ids shelf.old) (S.ids shelf.new) }
         ensures files { SameFiles (S.file shelf.old) (S.file shelf.new) }
+        ensures counts { S.faults shelf.new ≡ after_replay result (S.faults shelf.old) }
         ensures faults { NoFewer (S.faults shelf.old) (S.faults shelf.new) }
         ensures failed { IsErrOf result ReplayFault.Read → Rose (S.faults shelf.old).reads (S.faults shelf.new).reads }
     {
@@ -278,8 +303,12 @@ impl Replay {
             → IsFirstOf left self.old.least next (λ rest. IsReplaying (bytes_of (S.file shelf.old (S.ids shelf.old self.old.file.id).name)) rest self.new)) }
         ensures never { S.tells → (at : ℕ) → IsErrOf result (ReplayFault.Changed at) → (left : List Record) → IsReplaying (bytes_of (S.file shelf.old (S.ids shelf.old self.old.file.id).name)) left self.old → ⊥ }
 
+        // Whatever the files hold, it has changed within the bytes that were told and one more.
+        ensures place { (at : ℕ) → IsErrOf result (ReplayFault.Changed at) → at ≤ self.old.told.bytes + 1 }
+
         ensures moves { MovesOn self.old.file.id (S.ids shelf.old) (S.ids shelf.new) }
         ensures files { SameFiles (S.file shelf.old) (S.file shelf.new) }
+        ensures counts { S.faults shelf.new ≡ after_replay result (S.faults shelf.old) }
         ensures faults { NoFewer (S.faults shelf.old) (S.faults shelf.new) }
         ensures failed { IsErrOf result ReplayFault.Read → Rose (S.faults shelf.old).reads (S.faults shelf.new).reads }
     {

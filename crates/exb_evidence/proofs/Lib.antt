@@ -3,3 +3,4 @@ pub mod Taking
 pub mod Cutting
 pub mod Exact
 pub mod Loading
+pub mod Counted

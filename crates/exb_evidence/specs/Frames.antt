@@ -1,11 +1,12 @@
 -- Files of captured frames: which frames they give, and what is the first fault of several.
-use Rattle.std.specs.Prelude.{◌≡◌, ◌<◌, ◌≤◌, ◌-◌, ◌+◌, ℕ, List, [], ◌∷◌, ◌++◌, length, take, map, slice_get, Option, Some, None, Result, Ok, Err, IsErrOf}
+use Rattle.std.specs.Prelude.{◌≡◌, ◌<◌, ◌≤◌, ◌-◌, ◌+◌, ◌⊎◌, ℕ, List, [], ◌∷◌, ◌++◌, length, take, map, slice_get, Option, Some, None, Result, Ok, Err, IsErrOf}
 use Rattle.exb_model.specs.Frames.{IsBytes}
 use Rattle.exb_model.specs.Input.{Record}
 use Rattle.exb_capture.specs.declared.fault.Fault.{Fault}
 use Rattle.exb_capture.specs.Captures.{capture_records}
 use Rattle.exb_capture.specs.Classic.{pcap_records}
 use Rattle.exb_shelf.specs.Files.{Files, bytes_of}
+use Rattle.exb_shelf.specs.Counting.{missing_more, reads_more}
 use Rattle.exb_shelf.specs.Shelf.{Id, Faults, IsReadingOf, NoFewer, Rose}
 use Rattle.exb_legal.specs.Reading.{Each}
 use Rattle.exb_audit.specs.declared.frames.PortFrames.{PortFrames}
@@ -97,8 +98,21 @@ pub record ReadsOneOf (files : List PortFile) (i : Id) : Type 0 where
   pub is : slice_get files at ≡ Some one
   pub reads : IsReadingOf one.name i
 
--- no count has fallen, and a fault of the shelf came only where its count rose
+-- a fault of the shelf was counted once, and no other; memory may run out while the fault of a missing file is made
+abbrev pub CountsFrame : FramesFault → Faults → Faults → Type 0
+CountsFrame (Missing name) old new = new ≡ missing_more old
+CountsFrame Read old new = new ≡ reads_more old
+CountsFrame Memory old new = (new ≡ old) ⊎ (new ≡ missing_more old)
+CountsFrame (Broken port fault) old new = new ≡ old
+CountsFrame Large old new = new ≡ old
+
+abbrev pub CountsFramesOnce : {X : Type 0} → Result X FramesFault → Faults → Faults → Type 0
+CountsFramesOnce (Ok x) old new = new ≡ old
+CountsFramesOnce (Err fault) old new = CountsFrame fault old new
+
+-- no count has fallen, and a fault of the shelf came only where its count rose: once, and no other did
 pub record CountsFrames {X : Type 0} (result : Result X FramesFault) (old new : Faults) : Type 0 where
   pub none_fell : NoFewer old new
   pub missing : (name : List ℕ) → result ≡ Err (Missing name) → Rose old.missing new.missing
   pub read : IsErrOf result Read → Rose old.reads new.reads
+  pub once : CountsFramesOnce result old new

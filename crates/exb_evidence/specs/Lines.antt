@@ -2,6 +2,7 @@
 use Rattle.std.specs.Prelude.{◌≡◌, ◌≢◌, ◌<◌, ◌≤◌, ◌+◌, ◌==◌, ℕ, true, is_some, List, [], ◌∷◌, ◌++◌, length, Option, Some, None, option_map, Result, Ok, Err, IsErrOf}
 use Rattle.std.specs.List.{slice_split}
 use Rattle.exb_model.specs.Traces.{TraceLine}
+use Rattle.exb_shelf.specs.Counting.{missing_more, reads_more}
 use Rattle.exb_shelf.specs.Shelf.{Faults, NoFewer, Rose}
 use Rattle.exb_legal.specs.Entries.{entry_in}
 use Rattle.exb_legal.specs.LineTexts.{read_trace}
@@ -59,8 +60,21 @@ IsLinesFault read limit file Read = ⊥
 IsLinesFault read limit file Memory = ⊥
 
 -- ---- the shelf
--- no count has fallen, and a fault of the shelf came only where its count rose
+-- the counts after a text was read, by the answer
+abbrev pub after_lines_fault : LinesFault → Faults → Faults
+after_lines_fault Missing f = missing_more f
+after_lines_fault Read f = reads_more f
+after_lines_fault Large f = f
+after_lines_fault (Bad number) f = f
+after_lines_fault Memory f = f
+
+abbrev pub after_lines : {X : Type 0} → Result X LinesFault → Faults → Faults
+after_lines (Ok x) f = f
+after_lines (Err fault) f = after_lines_fault fault f
+
+-- no count has fallen, and a fault of the shelf came only where its count rose: once, and no other did
 pub record CountsLines {X : Type 0} (result : Result X LinesFault) (old new : Faults) : Type 0 where
   pub none_fell : NoFewer old new
   pub missing : IsErrOf result Missing → Rose old.missing new.missing
   pub read : IsErrOf result Read → Rose old.reads new.reads
+  pub once : new ≡ after_lines result old

@@ -1,6 +1,7 @@
 //! The frames of one file.
 ghost use Rattle.std.specs.Prelude.{◌≡◌, ◌<◌, ◌≤◌, ◌⊎◌, [], None, length, IfOk, IfErr, IsErrOf};
 ghost use Rattle.exb_capture.specs.Captures.{capture_records};
+ghost use Rattle.exb_capture.specs.Counts.{after_looking};
 ghost use Rattle.exb_capture.specs.Classic.{pcap_records};
 ghost use Rattle.exb_capture.specs.Formats.{fault as fault_at};
 ghost use Rattle.exb_capture.specs.Reading.{IsAt, IsSound, HasRead, HaltsBy, MovesOn};
@@ -83,6 +84,7 @@ fn take_frames<S: Shelf>(
     ensures bytes { IfOk result (λ taken. taken.bytes ≤ file.old.limit) }
     ensures moves { MovesOn file.old.id (S.ids shelf.old) (S.ids shelf.new) }
     ensures files { SameFiles (S.file shelf.old) (S.file shelf.new) }
+    ensures counts { S.faults shelf.new ≡ after_looking result (S.faults shelf.old) }
     ensures faults { NoFewer (S.faults shelf.old) (S.faults shelf.new) }
     ensures failed { IsErrOf result Halt.Failed → Rose (S.faults shelf.old).reads (S.faults shelf.new).reads }
 {

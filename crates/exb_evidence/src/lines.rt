@@ -4,7 +4,7 @@ ghost use Rattle.std.specs.Prelude.{◌≡◌, ◌≢◌, ◌<◌, ◌≤◌, �
 ghost use Rattle.exb_shelf.specs.Files.{SameFiles, bytes_of};
 ghost use Rattle.exb_shelf.specs.Shelf.{IsReading, IsReadingOf, Opens, NoFewer, Rose, moved};
 ghost use Rattle.exb_evidence.specs.Feeding.{CutsOn, HasCut, IsOneLine, unopened, unread};
-ghost use Rattle.exb_evidence.specs.Lines.{AreLines, CountsLines, FirstBadLine, HoldsLines, IsLinesFault};
+ghost use Rattle.exb_evidence.specs.Lines.{AreLines, CountsLines, FirstBadLine, HoldsLines, IsLinesFault, after_lines};
 
 use crate::line::Line;
 use crate::texts::LinesFault;
@@ -145,6 +145,7 @@ fn read_on<S: Shelf, L: Line>(
     ensures file { (name : List ℕ) → IsReadingOf name (S.ids shelf.old id) → IsReadingOf name (S.ids shelf.new id) }
     ensures others { (j : ℕ) → j ≢ id → S.ids shelf.new j ≡ S.ids shelf.old j }
     ensures files { SameFiles (S.file shelf.old) (S.file shelf.new) }
+    ensures counts { S.faults shelf.new ≡ after_lines result (S.faults shelf.old) }
     ensures faults { NoFewer (S.faults shelf.old) (S.faults shelf.new) }
     ensures failed { IsErrOf result LinesFault.Read → Rose (S.faults shelf.old).reads (S.faults shelf.new).reads }
 {

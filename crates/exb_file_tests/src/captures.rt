@@ -124,13 +124,21 @@ fn judge_chunks(rt: &impl Abort, alloc: Global, file: &[u8], size: usize, wanted
     same_at(rt, text.as_str(), wanted, "pieces cut", size);
 }
 
-// Asserts that of a file that is cut at each place in turn, and into single bytes, is read what is read of the whole.
+// The same in pieces of each size.
+fn judge_sizes(rt: &impl Abort, alloc: Global, file: &[u8], wanted: &str) {
+    for size in 1..101usize {
+        judge_chunks(rt, alloc, file, size, wanted);
+    }
+}
+
+// Asserts that of a file that is cut at each place in turn, and into pieces of each size, is read what is read of the
+// whole.
 fn judge_pieces(rt: &impl Abort, alloc: Global, file: &[u8]) {
     let whole = whole_text(rt, alloc, file);
     for cut in 0..file.len() {
         judge_cut(rt, alloc, file, cut, whole.as_str());
     }
-    judge_chunks(rt, alloc, file, 1, whole.as_str());
+    judge_sizes(rt, alloc, file, whole.as_str());
 }
 
 #[test]

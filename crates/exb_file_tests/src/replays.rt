@@ -322,6 +322,13 @@ const BROADCAST: Scanned = Scanned {
     first: TIME,
 };
 
+/// The same, but that its record came later.
+const LATE: Scanned = Scanned {
+    bytes: 100,
+    records: 1,
+    first: LATER,
+};
+
 #[test]
 fn a_capture_may_be_gone(rt: HostRuntime) {
     let mut gone = FaultyShelf::new(rt.alloc(), Disturbance::Quiet);
@@ -334,22 +341,28 @@ fn a_capture_may_be_gone(rt: HostRuntime) {
     );
 }
 
-// Asserts what comes of the broadcast's capture where that call fails.
-fn judge_failing(rt: &impl Abort, alloc: Global, at: usize, wanted: &str) {
+// Asserts what comes of the broadcast's capture, of which this was told, where that call fails.
+fn judge_failing(rt: &impl Abort, alloc: Global, scanned: Scanned, at: usize, wanted: &str) {
     let file = capture(rt, alloc, 1);
     let text = played(
         rt,
         alloc,
         file.as_slice(),
         Disturbance::Fails { at },
-        BROADCAST,
+        scanned,
     );
     same(rt, text.as_str(), wanted, "a call that fails");
 }
 
 #[test]
 fn a_read_may_fail(rt: HostRuntime) {
-    judge_failing(&rt, rt.alloc(), 1, "Read");
-    judge_failing(&rt, rt.alloc(), 2, "Read");
-    judge_failing(&rt, rt.alloc(), 3, "100000000000 60; Read");
+    judge_failing(&rt, rt.alloc(), BROADCAST, 1, "Read");
+    judge_failing(&rt, rt.alloc(), BROADCAST, 2, "Read");
+    judge_failing(&rt, rt.alloc(), BROADCAST, 3, "100000000000 60; Read");
+}
+
+#[test]
+fn a_read_may_fail_behind_an_early_record(rt: HostRuntime) {
+    judge_failing(&rt, rt.alloc(), LATE, 3, "Read");
+    judge_failing(&rt, rt.alloc(), LATE, 4, "Changed { at: 24 }");
 }

@@ -1,9 +1,17 @@
 -- What calls say of the shelf, one after the other.
-use Rattle.std.proofs.Common.{◌≡◌, ◌≤◌, ◌<◌, ◌+◌, ◌^◌, inl, inr, ℕ, Result, Err, ap, arith}
-use Rattle.std.proofs.lemmas.Bool.{cases_lt}
-use Rattle.exb_shelf.specs.Shelf.{Faults, Rose, NoFewer}
+use Rattle.std.proofs.Common.{◌≡◌, ◌<◌, ◌+◌, ◌∙◌, ◌⊎◌, inl, inr, ℕ, List, Some, Result, Ok, Err, ap, arith, refl, sym, subst}
+use Rattle.std.specs.Prelude.{IfErr}
+use Rattle.std.proofs.lemmas.Bool.{cases_Bool, cases_eq, false≢true}
+use Rattle.exb_shelf.specs.Counting.{one_more}
+use Rattle.exb_shelf.specs.Shelf.{Faults, Id, IsReadingOf, Opens, Rose, NoFewer}
+use Rattle.exb_keys.specs.Faults.{Refusal, not_toml, large, at}
+use Rattle.exb_tables.specs.declared.rows.Named.{Named}
 use Rattle.exb_inputs.specs.declared.fault.Fault.{Fault}
-use Rattle.exb_inputs.specs.Shelving.{CountsFaults}
+use Rattle.exb_inputs.specs.declared.fault.Fault.TheVariants.{Missing, Read, Write, Memory}
+use Rattle.exb_inputs.specs.Answers.{IsRefusal, refused_by}
+use Rattle.exb_inputs.specs.Counting.{CountsFault, CountsOnce}
+use Rattle.exb_inputs.specs.Inputs.{name_of}
+use Rattle.exb_inputs.specs.Shelving.{CountsFaults, OpensEach, OpensNew}
 
 -- ---- what is counted
 pub fewer_then : (a b c : Faults) → NoFewer a b → NoFewer b c → NoFewer a c
@@ -13,32 +21,76 @@ fewer_then a b c h k = record {
   writes = let x = h.writes in let y = k.writes in omega arith;
 }
 
-rose_after : (a b c : ℕ) → a ≤ b → Rose b c → b ≤ c → Rose a c
-rose_after a b c before rose after low = elim (cases_lt (b + 1) (2 ^ 64)) [
-  | inl more ↦ let h : b < c = rose more in omega arith
-  | inr last ↦ omega arith
-]
+-- ---- each fault once
+more_rises : (n : ℕ) → Rose n (one_more n)
+more_rises n low = omega (arith, low)
 
-same_fault : {X Y : Type 0} (x y : Fault) → ◌≡◌ {A = Result Y Fault} (Err x) (Err y) → ◌≡◌ {A = Result X Fault} (Err x) (Err y)
-same_fault x y e = let is : x ≡ y = cc in ap Err is
-
--- after another call
-pub counts_after : {X : Type 0} (result : Result X Fault) (a b c : Faults) → NoFewer a b → CountsFaults result b c → CountsFaults result a c
-counts_after result a b c before counts = record {
-  none_fell = fewer_then a b c before counts.none_fell;
-  missing = λ name e. rose_after a.missing b.missing c.missing before.missing (counts.missing name e) counts.none_fell.missing;
-  read = λ e. rose_after a.reads b.reads c.reads before.reads (counts.read e) counts.none_fell.reads;
-  write = λ e. rose_after a.writes b.writes c.writes before.writes (counts.write e) counts.none_fell.writes;
+-- a count that rose did so for this fault
+pub counted_once : {X : Type 0} (result : Result X Fault) (a b : Faults) → NoFewer a b → CountsOnce result a b → CountsFaults result a b
+counted_once result a b fewer once = record {
+  none_fell = fewer;
+  missing = λ name e. subst (Rose a.missing) (sym (ap (λ (f : Faults). f.missing) (by_fault (Missing name) e))) (more_rises a.missing);
+  read = λ e. subst (Rose a.reads) (sym (ap (λ (f : Faults). f.reads) (by_fault Read e))) (more_rises a.reads);
+  write = λ e. subst (Rose a.writes) (sym (ap (λ (f : Faults). f.writes) (by_fault Write e))) (more_rises a.writes);
+  once = once;
 }
+  where
+    by_fault : (x : Fault) → result ≡ Err x → CountsFault x a b
+    by_fault x e = subst (λ (r : Result _ Fault). CountsOnce r a b) e once
 
--- the fault of another call
 pub counts_as : {X Y : Type 0} (x : Fault) (a b : Faults) → CountsFaults {X = X} (Err x) a b → CountsFaults {X = Y} (Err x) a b
-counts_as x a b counts = record {
-  none_fell = counts.none_fell;
-  missing = λ name e. counts.missing name (same_fault x _ e);
-  read = λ e. counts.read (same_fault x _ e);
-  write = λ e. counts.write (same_fault x _ e);
-}
+counts_as x a b counts = counted_once (Err x) a b counts.none_fell counts.once
 
-pub counts_on : {X Y : Type 0} (x : Fault) (a b c : Faults) → NoFewer a b → CountsFaults {X = X} (Err x) b c → CountsFaults {X = Y} (Err x) a c
-counts_on x a b c before counts = counts_after (Err x) a b c before (counts_as x b c counts)
+-- after a call that counted nothing
+pub counts_from : {X : Type 0} (result : Result X Fault) (a b c : Faults) → b ≡ a → CountsFaults result b c → CountsFaults result a c
+counts_from result a b c same counts = subst (λ (f : Faults). CountsFaults result f c) same counts
+
+-- where nothing was counted
+pub fewer_same : (a b : Faults) → b ≡ a → NoFewer a b
+fewer_same a b same = subst (λ (f : Faults). NoFewer a f) (sym same) (record { missing = omega arith; reads = omega arith; writes = omega arith })
+
+pub counts_ok : {X : Type 0} (x : X) (a b : Faults) → b ≡ a → CountsFaults (Ok x) a b
+counts_ok x a b same = counted_once (Ok x) a b (fewer_same a b same) same
+
+pub counts_memory : {X : Type 0} (a b : Faults) → b ≡ a → CountsFaults {X = X} (Err Memory) a b
+counts_memory a b same = counted_once (Err Memory) a b (fewer_same a b same) (inl same)
+
+-- why a topology is refused is no fault of the shelf
+refusal_counts : (refusal : Refusal) (a : Faults) → CountsFault (refused_by refusal) a a
+refusal_counts not_toml a = refl
+refusal_counts large a = refl
+refusal_counts (at fault key) a = refl
+
+pub refused_counts : (bytes : List ℕ) (x : Fault) (a : Faults) → IsRefusal bytes x ⊎ (x ≡ Memory) → CountsFault x a a
+refused_counts bytes x a (inl (refusal, read, is)) = subst (λ (y : Fault). CountsFault y a a) (sym is) (refusal_counts refusal a)
+refused_counts bytes x a (inr memory) = subst (λ (y : Fault). CountsFault y a a) (sym memory) (inl refl)
+
+pub parsed_counts : {X : Type 0} (bytes : List ℕ) (result : Result X Fault) (a b : Faults) → b ≡ a → IfErr result (λ (x : Fault). IsRefusal bytes x ⊎ (x ≡ Memory)) → CountsFaults result a b
+parsed_counts bytes (Ok x) a b same refused = counts_ok x a b same
+parsed_counts bytes (Err x) a b same refused = counted_once (Err x) a b (fewer_same a b same) (subst (λ (f : Faults). CountsFault x a f) (sym same) (refused_counts bytes x a refused))
+
+-- ---- what is opened
+-- what was opened stays
+pub new_stays : (P : Id → Type 0) (name : List ℕ) (a b c : ℕ → Id) → OpensNew name a b → Opens P b c → OpensNew name a c
+new_stays P name a b c (id, fresh, reads) opens = (id, fresh, subst (IsReadingOf name) (sym (opens.kept id reads.given)) reads)
+
+-- what is opened later is new too
+pub new_later : (P : Id → Type 0) (name : List ℕ) (a b c : ℕ → Id) → Opens P a b → OpensNew name b c → OpensNew name a c
+new_later P name a b c opens (id, fresh, reads) = (
+  id,
+  elim (cases_Bool (a id).given) [
+    | inl given ↦ absurd (false≢true (sym fresh ∙ ap (λ (i : Id). i.given) (opens.kept id given) ∙ given))
+    | inr free ↦ free
+  ],
+  reads,
+)
+
+pub each_none : (names : List Named) (a : ℕ → Id) → OpensEach names 0 a a
+each_none names a q name low named = absurd (omega (arith, low))
+
+-- a port more, whose capture was opened if it has one
+pub each_next : (P Q : Id → Type 0) (names : List Named) (n : ℕ) (a b c : ℕ → Id) → OpensEach names n a b → Opens P a b → Opens Q b c → ((name : List ℕ) → name_of names n ≡ Some name → OpensNew name b c) → OpensEach names (n + 1) a c
+each_next P Q names n a b c each before opens one q name low named = elim (cases_eq q n) [
+  | inl same ↦ new_later P name a b c before (one name (ap (name_of names) (sym same) ∙ named))
+  | inr other ↦ new_stays Q name a b c (each q name (omega (arith, low, other)) named) opens
+]

@@ -2,4 +2,5 @@ pub mod Inputs
 pub mod Checks
 pub mod Answers
 pub mod Reading
+pub mod Counting
 pub mod Shelving

@@ -4,7 +4,7 @@ ghost use Rattle.exb_shelf.specs.Files.{SameFiles};
 ghost use Rattle.exb_shelf.specs.Shelf.{IsReadingOf, Opens};
 ghost use Rattle.exb_inputs.specs.Checks.{AreAllGood, AreChecked, FirstFault, HasFault, IsGood, most_bytes};
 ghost use Rattle.exb_inputs.specs.Inputs.{name_of};
-ghost use Rattle.exb_inputs.specs.Shelving.{EndsAt, ReadsCapture, CountsFaults};
+ghost use Rattle.exb_inputs.specs.Shelving.{EndsAt, OpensEach, OpensNew, ReadsCapture, CountsFaults};
 ghost use Rattle.exb_inputs.specs.declared.fault.Flaw.{Flaw};
 ghost use Rattle.exb_inputs.specs.Reading.{IsOfCapture};
 
@@ -77,6 +77,7 @@ fn check_capture<S: Shelf>(
     ensures flaw { S.tells → IfErr result (λ fault. HasFault port name.now (S.file shelf.old name.now) fault ⊎ (fault ≡ Fault.Read) ⊎ (fault ≡ Fault.Memory)) }
     ensures causes { IfErr result IsOfCapture }
     ensures own { IfErr result (λ fault. (q : ℕ) (flaw : Flaw) → fault ≡ Fault.Capture q flaw → q ≡ port) }
+    ensures scanned { OnOk result (OpensNew name.now (S.ids shelf.old) (S.ids shelf.new)) }
     ensures opened { Opens (IsReadingOf name.now) (S.ids shelf.old) (S.ids shelf.new) }
     ensures files { SameFiles (S.file shelf.old) (S.file shelf.new) }
     ensures faults { CountsFaults result (S.faults shelf.old) (S.faults shelf.new) }
@@ -108,6 +109,7 @@ pub fn check_captures<S: Shelf>(
     ensures flaw { S.tells → IfErr result (λ fault. ((p : ℕ) × FirstFault names.now (S.file shelf.old) p fault) ⊎ (fault ≡ Fault.Read) ⊎ (fault ≡ Fault.Memory)) }
     ensures causes { IfErr result IsOfCapture }
     ensures ends { IfErr result (EndsAt S.tells names.now (S.file shelf.old) (S.ids shelf.old) (S.ids shelf.new)) }
+    ensures each { OnOk result (OpensEach names.now 4160 (S.ids shelf.old) (S.ids shelf.new)) }
     ensures opened { Opens (ReadsCapture names.now) (S.ids shelf.old) (S.ids shelf.new) }
     ensures files { SameFiles (S.file shelf.old) (S.file shelf.new) }
     ensures faults { CountsFaults result (S.faults shelf.old) (S.faults shelf.new) }

@@ -14,3 +14,4 @@ pub mod Told
 pub mod Moving
 pub mod Adding
 pub mod Playing
+mod Counts

@@ -4,3 +4,4 @@ pub mod Turns
 pub mod Agendas
 pub mod Programmes
 pub mod Replays
+pub mod Counting

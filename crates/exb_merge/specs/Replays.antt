@@ -94,6 +94,11 @@ abbrev pub HasPort : ℕ → List Standing → Type 0
 HasPort p [] = ⊥
 HasPort p (s ∷ rest) = (s.port ≡ p) ⊎ HasPort p rest
 
+-- a byte lies within what is read of the capture of a port: it is at most one behind the bytes that were told of that capture
+abbrev pub IsWithin : ℕ → ℕ → List Again → Type 0
+IsWithin p at [] = ⊥
+IsWithin p at (s ∷ rest) = ((s.port ≡ p) × (at ≤ s.replay.told.bytes + 1)) ⊎ IsWithin p at rest
+
 -- A record came: it is the next one of its port, whose moments never fall, and within its limits.
 pub record HasCome (old : List Standing) (c : Came) (new : List Standing) : Type 0 where
   pub port : HasPort c.port old

@@ -3,9 +3,10 @@ ghost use Rattle.std.specs.Prelude.{◌≡◌, ◌-◌, ◌^◌, ◌<◌, ◌≤
 ghost use Rattle.exb_model.specs.Input.{moment_of, second_of};
 ghost use Rattle.exb_shelf.specs.Files.{SameFiles};
 ghost use Rattle.exb_shelf.specs.Shelf.{Id, Rose, NoFewer};
+ghost use Rattle.exb_merge.specs.Counting.{CountsAgain};
 ghost use Rattle.exb_merge.specs.Agendas.{begins_in, comes_first, commands_left, first_moment, still_to_come};
 ghost use Rattle.exb_merge.specs.Programmes.{IsComing, IsProgramme, IsSoonest, IsTakenOf, moment_in, played_with, what};
-ghost use Rattle.exb_merge.specs.Replays.{AreOpened, AreReplays, AreToldSince, IsEarliest, NoneIsBefore, ReadsOn, ids_in};
+ghost use Rattle.exb_merge.specs.Replays.{AreOpened, AreReplays, AreToldSince, HasPort, IsEarliest, IsWithin, NoneIsBefore, ReadsOn, ids_in, standings};
 ghost use Rattle.exb_merge.specs.Streams.{Stream, to_come};
 
 use crate::moments::{comes_first, is_of, moment_after};
@@ -134,6 +135,7 @@ impl<'a> Programme<'a> {
     }
 
     /// Takes what comes next; None exactly where nothing is left. `piece` has room for what is read at once.
+    #[inline(always)]
     pub fn next<S: Shelf>(
         &mut self,
         alloc: Global,
@@ -156,6 +158,9 @@ impl<'a> Programme<'a> {
 
         ensures reads { ReadsOn (ids_in self.old.captures) (S.ids shelf.old) (S.ids shelf.new) }
         ensures files { SameFiles (S.file shelf.old) (S.file shelf.new) }
+        ensures port { (p at : ℕ) → IsErrOf result (CaptureFault.Changed p at) → HasPort p (standings self.old.captures) }
+        ensures place { (p at : ℕ) → IsErrOf result (CaptureFault.Changed p at) → IsWithin p at self.old.captures.sources.items }
+        ensures counts { CountsAgain result (S.faults shelf.old) (S.faults shelf.new) }
         ensures faults { NoFewer (S.faults shelf.old) (S.faults shelf.new) }
         ensures failed { IsErrOf result CaptureFault.Read → Rose (S.faults shelf.old).reads (S.faults shelf.new).reads }
     {
@@ -192,6 +197,9 @@ impl<'a> Programme<'a> {
 
         ensures reads { ReadsOn (ids_in self.old.captures) (S.ids shelf.old) (S.ids shelf.new) }
         ensures files { SameFiles (S.file shelf.old) (S.file shelf.new) }
+        ensures port { (p at : ℕ) → IsErrOf result (CaptureFault.Changed p at) → HasPort p (standings self.old.captures) }
+        ensures place { (p at : ℕ) → IsErrOf result (CaptureFault.Changed p at) → IsWithin p at self.old.captures.sources.items }
+        ensures counts { CountsAgain result (S.faults shelf.old) (S.faults shelf.new) }
         ensures faults { NoFewer (S.faults shelf.old) (S.faults shelf.new) }
         ensures failed { IsErrOf result CaptureFault.Read → Rose (S.faults shelf.old).reads (S.faults shelf.new).reads }
     {

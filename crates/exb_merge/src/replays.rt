@@ -7,7 +7,8 @@ ghost use Rattle.exb_shelf.specs.Shelf.{Id, IsReadingOf, Opens, Rose, NoFewer};
 ghost use Rattle.exb_capture.specs.Reading.{left_to_read, next_of};
 ghost use Rattle.exb_capture.specs.Replaying.{ComesAt, HasGiven, IsKept, IsSameReplay, IsSince};
 ghost use Rattle.exb_capture.specs.Scans.{scanned_of};
-ghost use Rattle.exb_merge.specs.Replays.{fault_at, AreOpened, AreReplays, AreToldSince, ComesFirst, HasCome, HasPort, IsEarliest, NoneIsBefore, ReadsOn, ids_in, left_in, standings};
+ghost use Rattle.exb_merge.specs.Counting.{CountsAgain};
+ghost use Rattle.exb_merge.specs.Replays.{fault_at, AreOpened, AreReplays, AreToldSince, ComesFirst, HasCome, HasPort, IsEarliest, IsWithin, NoneIsBefore, ReadsOn, ids_in, left_in, standings};
 ghost use Rattle.exb_merge.specs.Streams.{Stream, stream_of};
 
 use crate::turns::{Turn, first_turn, put_turn, turn_on};
@@ -156,6 +157,9 @@ impl Replays {
         ensures id { OnOk result ((id : ℕ) × (ids_in self.new ≡ ids_in self.old ++ id ∷ []) × ((S.ids shelf.old id).given ≡ false)) }
         ensures opens { Opens (IsReadingOf name.now) (S.ids shelf.old) (S.ids shelf.new) }
         ensures files { SameFiles (S.file shelf.old) (S.file shelf.new) }
+        ensures port_is { (p at : ℕ) → IsErrOf result (CaptureFault.Changed p at) → p ≡ port }
+        ensures place { (p at : ℕ) → IsErrOf result (CaptureFault.Changed p at) → at ≤ told.bytes + 1 }
+        ensures counts { CountsAgain result (S.faults shelf.old) (S.faults shelf.new) }
         ensures faults { NoFewer (S.faults shelf.old) (S.faults shelf.new) }
         ensures failed { IsErrOf result CaptureFault.Read → Rose (S.faults shelf.old).reads (S.faults shelf.new).reads }
     {
@@ -232,6 +236,9 @@ impl Replays {
         ensures ids { OnOk result (ids_in self.new ≡ ids_in self.old) }
         ensures reads { ReadsOn (ids_in self.old) (S.ids shelf.old) (S.ids shelf.new) }
         ensures files { SameFiles (S.file shelf.old) (S.file shelf.new) }
+        ensures port { (p at : ℕ) → IsErrOf result (CaptureFault.Changed p at) → HasPort p (standings self.old) }
+        ensures place { (p at : ℕ) → IsErrOf result (CaptureFault.Changed p at) → IsWithin p at self.old.sources.items }
+        ensures counts { CountsAgain result (S.faults shelf.old) (S.faults shelf.new) }
         ensures faults { NoFewer (S.faults shelf.old) (S.faults shelf.new) }
         ensures failed { IsErrOf result CaptureFault.Read → Rose (S.faults shelf.old).reads (S.faults shelf.new).reads }
     {

@@ -2,6 +2,7 @@ pub mod Texts
 pub mod Places
 pub mod Filling
 pub mod ByKind
+pub mod Sizes
 pub mod OutputLemmas
 pub mod Cutting
 pub mod ShelvingLemmas

@@ -1,19 +1,20 @@
 -- The outputs as they fill: their names differ, and each file followed by its piece is its text.
 use Rattle.std.proofs.Common.{◌≡◌, ◌≢◌, ◌<◌, ◌+◌, ◌++◌, ◌⊎◌, inl, inr, ℕ, Bool, true, false, if◌then◌else◌, ◌==◌, List, [], ◌∷◌, length, take, get_or, set, map, ap, sym, ◌∙◌, refl, arith, subst, append_assoc, eq-eqb, get_or-set_same, get_or-set_other, flat_map}
 use Rattle.std.proofs.lemmas.Bool.{cases_lt, cases_eq, ne_eqb}
-use Rattle.std.proofs.lemmas.List.{append-nil, map-set, get_or-map, get_or_read_under, get_or_append_left, length-map, take_more}
+use Rattle.std.proofs.lemmas.List.{append-nil, map-set, get_or-map, get_or_append_left, length-map, take_more}
 use Rattle.std.proofs.lemmas.Grind.{flat_map-append}
 use Rattle.std.proofs.Math.Seq.{get_or-append_seam}
 use Rattle.exb_model.specs.declared.event.Event.{Event}
 use Rattle.exb_model.specs.Texts.{line_of}
 use Rattle.exb_model.specs.Traces.{TraceLine, trace_line, trace_text}
 use Rattle.exb_shelf.specs.Files.{Files, SameFiles, Adds, Filled}
-use Rattle.exb_shelf.specs.Shelf.{Id, writing}
+use Rattle.exb_shelf.specs.Shelf.{Id, IsWriting, writing}
 use Rattle.exb_shelf.proofs.FileLemmas.{Apart}
 use Rattle.exb_text.specs.declared.output.Output.{Output}
 use Rattle.exb_text.specs.declared.output.Output.TheVariants as output
 use Rattle.exb_counters.specs.declared.counters.Counts5.{Counts5}
 use Rattle.exb_counters.specs.Counters.{count_line, count_lines}
+use Rattle.exb_outputs.specs.declared.outputs.Unfinished.{Unfinished}
 use Rattle.exb_outputs.specs.Plans.{Planned, IsMade, kind_at, output_count, output_name}
 use Rattle.exb_outputs.specs.Writing.{Holds, HasTexts, is_same, with_more, lines_of}
 use Rattle.exb_outputs.proofs.Filling.{weaker, still_filled, one_more}
@@ -69,11 +70,20 @@ has_more plan f g h pieces text j piece more apart lt in_pieces p (inr written) 
     ∙ ap (λ (xs : List ℕ). xs ++ more) held
     ∙ sym (more_at_here text j more))
 
--- the name of an id that was read from the ids
-pub name_of_id : (given : ℕ → Id) (ids : List ℕ) (at id : ℕ) (name : List ℕ)
-    → id ≡ get_or ids at id → at < length ids → given (get_or ids at 0) ≡ writing name → (given id).name ≡ name
-name_of_id given ids at id name read inside is =
-    ap (λ (i : ℕ). (given i).name) (get_or_read_under ids at (length ids) id 0 read inside refl) ∙ ap (λ (i : Id). i.name) is
+-- the id of a file that was read
+file_is : (given : ℕ → Id) (all : List Unfinished) (at : ℕ) (file : Unfinished) (name : List ℕ)
+    → file ≡ get_or all at file → at < length all → given (get_or (map (λ f. f.id) all) at 0) ≡ writing name → given file.id ≡ writing name
+file_is given all at file name read inside is = ap given (ap (λ (f : Unfinished). f.id) read ∙ sym (get_or-map (λ f. f.id) all at file 0 inside)) ∙ is
+
+pub name_of_file : (given : ℕ → Id) (all : List Unfinished) (at : ℕ) (file : Unfinished) (name : List ℕ)
+    → file ≡ get_or all at file → at < length all → given (get_or (map (λ f. f.id) all) at 0) ≡ writing name → (given file.id).name ≡ name
+name_of_file given all at file name read inside is = ap (λ (i : Id). i.name) (file_is given all at file name read inside is)
+
+pub can_be_written : (given : ℕ → Id) (all : List Unfinished) (at : ℕ) (file : Unfinished) (name : List ℕ)
+    → file ≡ get_or all at file → at < length all → given (get_or (map (λ f. f.id) all) at 0) ≡ writing name → IsWriting (given file.id)
+can_be_written given all at file name read inside is =
+    let own = file_is given all at file name read inside is in
+    record { given = ap (λ (i : Id). i.given) own; writes = ap (λ (i : Id). i.reads) own }
 
 -- the same of the pieces of values, where one is read and written
 pub has_more_of : {X : Type 0} (of : X → List ℕ) (plan : Planned) (f g h : Files) (all : List X) (text : ℕ → List ℕ) (j : ℕ) (was now : X) (name more : List ℕ)

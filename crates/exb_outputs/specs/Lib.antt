@@ -2,3 +2,4 @@ pub mod Plans
 pub mod Order
 pub mod Shelving
 pub mod Writing
+pub mod Sent

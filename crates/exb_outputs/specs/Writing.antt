@@ -11,9 +11,13 @@ use Rattle.exb_shelf.specs.Shelf.{Id, writing}
 use Rattle.exb_outputs.specs.declared.outputs.Outputs.{Outputs}
 use Rattle.exb_outputs.specs.Plans.{Planned, kind_at, output_count, output_name}
 
+-- the ids of their files
+abbrev pub ids_of : Outputs → List ℕ
+ids_of o = map (λ f. f.id) o.files.items
+
 -- the pieces that are not written yet
 abbrev pub pieces_of : Outputs → List (List ℕ)
-pieces_of o = map (λ v. v.items) o.pieces.items
+pieces_of o = map (λ f. f.piece.items) o.files.items
 
 -- the file of output j, followed by its piece, is its text
 abbrev pub Holds : List (List ℕ) → (ℕ → List ℕ) → ℕ → List ℕ → Type 0
@@ -27,11 +31,10 @@ HasTexts plan pieces old new text = Filled old new (output_count plan) (output_n
 abbrev pub AreCut : Planned → Files → Files → (Output → List ℕ) → Type 0
 AreCut plan old new text = Cut old new (output_count plan) (output_name plan) (λ j. text (kind_at plan j))
 
--- the outputs of a plan: each has an id of its file, and a piece
+-- the outputs of a plan, each with an id of its file
 pub record IsReady (plan : Planned) (given : ℕ → Id) (o : Outputs) : Type 0 where
-  pub ids : length o.ids.items ≡ output_count plan
-  pub pieces : length o.pieces.items ≡ output_count plan
-  pub named : (j : ℕ) → j < output_count plan → given (slice_index o.ids.items j) ≡ writing (output_name plan j)
+  pub files : length o.files.items ≡ output_count plan
+  pub named : (j : ℕ) → j < output_count plan → given (slice_index (ids_of o) j) ≡ writing (output_name plan j)
 
 -- what the outputs begin with: captures with their header
 abbrev pub first_text : Output → List ℕ

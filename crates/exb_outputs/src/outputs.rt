@@ -1,23 +1,25 @@
 //! The output files while they are written.
-ghost use Rattle.std.specs.Prelude.{◌≡◌, ◌≢◌, true, ◌≤◌, ◌<◌, ◌+◌, ◌++◌, ℕ, List, [], length, IfOk, OnOk, OnErr, IfErr, string_bytes, ◌∷◌, ◌⊎◌};
+ghost use Rattle.std.specs.Prelude.{◌≡◌, ◌≢◌, true, ◌≤◌, ◌<◌, ◌+◌, ◌*◌, ◌^◌, ◌++◌, ℕ, List, [], length, IfOk, OnOk, OnErr, IfErr, string_bytes, ◌∷◌, ◌⊎◌};
 ghost use Rattle.exb_shelf.specs.Files.{Files, SameFiles, Puts, Adds, AddsFront, Filled};
 ghost use Rattle.exb_shelf.specs.Shelf.{IsWriting, Opens, writing};
-ghost use Rattle.exb_outputs.specs.Plans.{Planned, kind_at, output_count, output_name};
+ghost use Rattle.exb_outputs.specs.Plans.{Planned, kind_at, output_count, output_name, port_at, port_count};
 ghost use Rattle.exb_outputs.specs.Order.{MakesFile, MakesInOrder};
 ghost use Rattle.exb_inputs.specs.Shelving.{CountsFaults};
 ghost use Rattle.exb_outputs.specs.Shelving.{IsOfWriting, OnlyMakes, OnlyWrites, WritesPlanned};
 ghost use Rattle.exb_counters.specs.Counters.{count_line, count_lines};
-ghost use Rattle.exb_counters.specs.Counting.{counts_at, HasPort};
+ghost use Rattle.exb_counters.specs.Counting.{HasPort};
+ghost use Rattle.exb_model.specs.FlatBridge.{Sent};
 ghost use Rattle.exb_model.specs.Texts.{line_of, record_text as record_of};
 ghost use Rattle.exb_model.specs.Traces.{trace_line, trace_text};
 ghost use Rattle.exb_model.specs.Tree.{external_ports, is_external};
 ghost use Rattle.exb_text.specs.declared.output.Output.{Output};
 ghost use Rattle.exb_text.specs.declared.output.Output.TheVariants as output;
-ghost use Rattle.exb_outputs.specs.Writing.{pieces_of, AreCut, CanBeRecorded, HasTexts, IsReady, first_text, with_more, lines_of};
+ghost use Rattle.exb_outputs.specs.Sent.{AreCountedAt, GrowsAt, HasSent, IsCountedAt, SameCaptures, counts_with, records_of, sent_more, sizes_of};
+ghost use Rattle.exb_outputs.specs.Writing.{ids_of, pieces_of, AreCut, CanBeRecorded, HasTexts, IsReady, first_text, with_more, lines_of};
 
 use crate::plan::Plan;
 use exb_capture::{header_text, record_text};
-use exb_counters::{Counters, write_count_line};
+use exb_counters::{Counters, Counts5, write_count_line};
 use exb_inputs::Fault;
 use exb_model::event::Event;
 use exb_model::memory::NoMemory;
@@ -28,11 +30,29 @@ use exb_text::laws::file_names_differ;
 use exb_text::{Output, file_name, write_line, write_trace_line};
 use std::alloc::Global;
 
-/// The outputs in the order in which they are made. Each has the id of its file and a piece of its text that is not written yet.
+/// How many bytes a capture has before its first record.
+const HEADER: u64 = 24;
+
+/// How many bytes a record has before its frame.
+const RECORD: u64 = 16;
+
+/// An output while it is written.
+#[derive(Drop)]
+struct Unfinished {
+    /// The id of its file.
+    id: u32,
+    /// What of its text is not written yet.
+    piece: Vec<u8>,
+    /// How many bytes of its text are written, as far as 64 bits count.
+    written: u64,
+    /// How many records were put behind it, as far as 64 bits count.
+    records: u64,
+}
+
+/// The outputs in the order in which they are made.
 #[derive(Drop)]
 pub struct Outputs {
-    ids: Vec<u32>,
-    pieces: Vec<Vec<u8>>,
+    files: Vec<Unfinished>,
 }
 
 /// The name of output `at`.
@@ -70,11 +90,12 @@ fn create_one<S: Shelf>(
     outputs: &mut Outputs,
 ) -> Result<(), Fault>
     requires within { at < output_count plan.now }
-    requires ids { length outputs.old.ids.items ≡ at }
-    requires pieces { length outputs.old.pieces.items ≡ at }
-    ensures ids { OnOk result ((id : ℕ) × (outputs.new.ids.items ≡ outputs.old.ids.items ++ id ∷ []) × (S.ids shelf.new id ≡ writing (output_name plan.now at))) }
+    requires files { length outputs.old.files.items ≡ at }
+    ensures ids { OnOk result ((id : ℕ) × (ids_of outputs.new ≡ ids_of outputs.old ++ id ∷ []) × (S.ids shelf.new id ≡ writing (output_name plan.now at))) }
     ensures pieces { OnOk result (pieces_of outputs.new ≡ pieces_of outputs.old ++ first_text (kind_at plan.now at) ∷ []) }
-    ensures count { OnOk result (length outputs.new.pieces.items ≡ at + 1) }
+    ensures records { OnOk result (records_of outputs.new ≡ records_of outputs.old ++ 0 ∷ []) }
+    ensures sizes { OnOk result (sizes_of outputs.new ≡ sizes_of outputs.old ++ length (first_text (kind_at plan.now at)) ∷ []) }
+    ensures count { OnOk result (length outputs.new.files.items ≡ at + 1) }
     ensures opened { Opens (WritesPlanned plan.now) (S.ids shelf.old) (S.ids shelf.new) }
     ensures makes { OnOk result ((id : ℕ) × MakesFile id (output_name plan.now at) (S.ids shelf.old) (S.ids shelf.new)) }
     ensures may_make { OnErr result (((j : ℕ) → S.ids shelf.new j ≡ S.ids shelf.old j) ⊎ ((id : ℕ) × MakesFile id (output_name plan.now at) (S.ids shelf.old) (S.ids shelf.new))) }
@@ -87,7 +108,13 @@ fn create_one<S: Shelf>(
     let name = output_name(alloc, plan, at)?;
     let piece = first_piece(alloc, plan, at)?;
     let id = shelf.create(name.as_str())?;
-    if outputs.ids.push(id).is_err() || outputs.pieces.push(piece).is_err() {
+    let file = Unfinished {
+        id,
+        piece,
+        written: 0,
+        records: 0,
+    };
+    if outputs.files.push(file).is_err() {
         return Err(Fault::Memory);
     }
     Ok(())
@@ -97,6 +124,7 @@ fn create_one<S: Shelf>(
 pub fn create_all<S: Shelf>(alloc: Global, shelf: &mut S, plan: &Plan) -> Result<Outputs, Fault>
     ensures ready { IfOk result (λ outputs. IsReady plan.now (S.ids shelf.new) outputs) }
     ensures texts { S.tells → IfOk result (λ outputs. HasTexts plan.now (pieces_of outputs) (S.file shelf.old) (S.file shelf.new) first_text) }
+    ensures sent { IfOk result (λ outputs. HasSent plan.now outputs (λ q. [])) }
     ensures cut { S.tells → OnErr result ((text : Output → List ℕ) → AreCut plan.now (S.file shelf.old) (S.file shelf.new) text) }
     ensures only { OnlyMakes S.tells plan.now (S.file shelf.old) (S.file shelf.new) (S.ids shelf.old) (S.ids shelf.new) }
     ensures made { MakesInOrder plan.now result (S.ids shelf.old) (S.ids shelf.new) }
@@ -104,8 +132,7 @@ pub fn create_all<S: Shelf>(alloc: Global, shelf: &mut S, plan: &Plan) -> Result
     ensures faults { CountsFaults result (S.faults shelf.old) (S.faults shelf.new) }
 {
     let mut outputs = Outputs {
-        ids: Vec::new(alloc),
-        pieces: Vec::new(alloc),
+        files: Vec::new(alloc),
     };
     output_names_differ();
     for at in 0..plan.outputs() {
@@ -115,46 +142,53 @@ pub fn create_all<S: Shelf>(alloc: Global, shelf: &mut S, plan: &Plan) -> Result
 }
 
 /// Writes what is not written yet of one output.
-fn flush<S: Shelf>(shelf: &mut S, id: u32, piece: &mut Vec<u8>) -> Result<(), Fault>
-    requires { IsWriting (S.ids shelf.old id) }
-    ensures written { S.tells → OnOk result (Adds (S.file shelf.old) (S.file shelf.new) (S.ids shelf.old id).name piece.old.items) }
-    ensures front { S.tells → OnErr result (AddsFront (S.file shelf.old) (S.file shelf.new) (S.ids shelf.old id).name piece.old.items) }
-    ensures empty { OnOk result (piece.new.items ≡ []) }
-    ensures others { S.tells → (m : List ℕ) → m ≢ (S.ids shelf.old id).name → S.file shelf.new m ≡ S.file shelf.old m }
+fn flush<S: Shelf>(shelf: &mut S, file: &mut Unfinished) -> Result<(), Fault>
+    requires { IsWriting (S.ids shelf.old file.old.id) }
+    ensures written { S.tells → OnOk result (Adds (S.file shelf.old) (S.file shelf.new) (S.ids shelf.old file.old.id).name file.old.piece.items) }
+    ensures front { S.tells → OnErr result (AddsFront (S.file shelf.old) (S.file shelf.new) (S.ids shelf.old file.old.id).name file.old.piece.items) }
+    ensures empty { OnOk result (file.new.piece.items ≡ []) }
+    ensures id { file.new.id ≡ file.old.id }
+    ensures records { file.new.records ≡ file.old.records }
+    ensures counted { OnOk result (file.old.written + length file.old.piece.items < 2 ^ 64 → file.new.written ≡ file.old.written + length file.old.piece.items) }
+    ensures others { S.tells → (m : List ℕ) → m ≢ (S.ids shelf.old file.old.id).name → S.file shelf.new m ≡ S.file shelf.old m }
     ensures kept { (j : ℕ) → S.ids shelf.new j ≡ S.ids shelf.old j }
     ensures causes { IfErr result IsOfWriting }
     ensures faults { CountsFaults result (S.faults shelf.old) (S.faults shelf.new) }
 {
-    write_text(shelf, id, piece.as_slice())?;
-    piece.clear();
+    write_text(shelf, file.id, file.piece.as_slice())?;
+    file.written = file.written.wrapping_add(file.piece.len() as u64);
+    file.piece.clear();
     Ok(())
 }
 
 /// Puts bytes behind a piece, and writes the piece where it is full.
 fn add<S: Shelf>(
     shelf: &mut S,
-    id: u32,
-    piece: &mut Vec<u8>,
+    file: &mut Unfinished,
     head: &[u8],
     bytes: &[u8],
 ) -> Result<(), Fault>
-    requires { IsWriting (S.ids shelf.old id) }
+    requires { IsWriting (S.ids shelf.old file.old.id) }
     ensures kept_or_written { S.tells → OnOk result (
-        (SameFiles (S.file shelf.old) (S.file shelf.new) × (piece.new.items ≡ piece.old.items ++ (head.now ++ bytes.now)))
-        ⊎ (Adds (S.file shelf.old) (S.file shelf.new) (S.ids shelf.old id).name (piece.old.items ++ (head.now ++ bytes.now)) × (piece.new.items ≡ []))) }
-    ensures front { S.tells → OnErr result (AddsFront (S.file shelf.old) (S.file shelf.new) (S.ids shelf.old id).name (piece.old.items ++ (head.now ++ bytes.now))) }
-    ensures others { S.tells → (m : List ℕ) → m ≢ (S.ids shelf.old id).name → S.file shelf.new m ≡ S.file shelf.old m }
+        (SameFiles (S.file shelf.old) (S.file shelf.new) × (file.new.piece.items ≡ file.old.piece.items ++ (head.now ++ bytes.now)))
+        ⊎ (Adds (S.file shelf.old) (S.file shelf.new) (S.ids shelf.old file.old.id).name (file.old.piece.items ++ (head.now ++ bytes.now)) × (file.new.piece.items ≡ []))) }
+    ensures front { S.tells → OnErr result (AddsFront (S.file shelf.old) (S.file shelf.new) (S.ids shelf.old file.old.id).name (file.old.piece.items ++ (head.now ++ bytes.now))) }
+    ensures id { file.new.id ≡ file.old.id }
+    ensures records { file.new.records ≡ file.old.records }
+    ensures counted { OnOk result (file.old.written + length file.old.piece.items + length (head.now ++ bytes.now) < 2 ^ 64
+        → file.new.written + length file.new.piece.items ≡ file.old.written + length file.old.piece.items + length (head.now ++ bytes.now)) }
+    ensures others { S.tells → (m : List ℕ) → m ≢ (S.ids shelf.old file.old.id).name → S.file shelf.new m ≡ S.file shelf.old m }
     ensures kept { (j : ℕ) → S.ids shelf.new j ≡ S.ids shelf.old j }
     ensures causes { IfErr result IsOfWriting }
     ensures faults { CountsFaults result (S.faults shelf.old) (S.faults shelf.new) }
 {
-    if piece.extend_from_slice(head).is_err() || piece.extend_from_slice(bytes).is_err() {
+    if file.piece.extend_from_slice(head).is_err() || file.piece.extend_from_slice(bytes).is_err() {
         return Err(Fault::Memory);
     }
-    if piece.len() < PIECE {
+    if file.piece.len() < PIECE {
         return Ok(());
     }
-    flush(shelf, id, piece)
+    flush(shelf, file)
 }
 
 impl Outputs {
@@ -172,6 +206,7 @@ impl Outputs {
             → HasTexts plan.now (pieces_of self.new) orig (S.file shelf.new) (with_more text output.Journal (lines_of events.now))) }
         ensures cut { S.tells → OnErr result ((orig : Files) (text : Output → List ℕ) → HasTexts plan.now (pieces_of self.old) orig (S.file shelf.old) text
             → AreCut plan.now orig (S.file shelf.new) (with_more text output.Journal (lines_of events.now))) }
+        ensures same { OnOk result (SameCaptures plan.now self.old self.new) }
         ensures only { OnlyWrites S.tells plan.now (S.file shelf.old) (S.file shelf.new) (S.ids shelf.old) (S.ids shelf.new) }
         ensures causes { IfErr result IsOfWriting }
         ensures faults { CountsFaults result (S.faults shelf.old) (S.faults shelf.new) }
@@ -198,13 +233,17 @@ impl Outputs {
             → HasTexts plan.now (pieces_of self.new) orig (S.file shelf.new) (with_more text (output.Capture port) (record_of (moment, bytes.now)))) }
         ensures cut { S.tells → OnErr result ((orig : Files) (text : Output → List ℕ) → HasTexts plan.now (pieces_of self.old) orig (S.file shelf.old) text
             → AreCut plan.now orig (S.file shelf.new) (with_more text (output.Capture port) (record_of (moment, bytes.now)))) }
+        ensures sent { OnOk result ((sent : ℕ → List Sent) → HasSent plan.now self.old sent → HasSent plan.now self.new (sent_more sent port (moment, bytes.now))) }
         ensures only { OnlyWrites S.tells plan.now (S.file shelf.old) (S.file shelf.new) (S.ids shelf.old) (S.ids shelf.new) }
         ensures causes { IfErr result IsOfWriting }
         ensures faults { CountsFaults result (S.faults shelf.old) (S.faults shelf.new) }
     {
-        let at = plan.place(port);
+        output_names_differ();
+        let at = plan.place(port) as usize;
         let head = record_text(moment, bytes.len() as u32);
-        self.add_to(shelf, plan, at, &head, bytes)
+        let file = &mut self.files[at];
+        file.records = file.records.wrapping_add(1);
+        add(shelf, file, &head, bytes)
     }
 
     /// Puts lines behind the trace, where it is asked for. `line` is room for one line.
@@ -221,6 +260,7 @@ impl Outputs {
             → HasTexts plan.now (pieces_of self.new) orig (S.file shelf.new) (with_more text output.Trace (trace_text lines.now))) }
         ensures cut { S.tells → OnErr result ((orig : Files) (text : Output → List ℕ) → HasTexts plan.now (pieces_of self.old) orig (S.file shelf.old) text
             → AreCut plan.now orig (S.file shelf.new) (with_more text output.Trace (trace_text lines.now))) }
+        ensures same { OnOk result (SameCaptures plan.now self.old self.new) }
         ensures only { OnlyWrites S.tells plan.now (S.file shelf.old) (S.file shelf.new) (S.ids shelf.old) (S.ids shelf.new) }
         ensures causes { IfErr result IsOfWriting }
         ensures faults { CountsFaults result (S.faults shelf.old) (S.faults shelf.new) }
@@ -247,6 +287,7 @@ impl Outputs {
             → HasTexts plan.now (pieces_of self.new) orig (S.file shelf.new) (with_more text output.Trace (trace_text lines.now))) }
         ensures cut { S.tells → OnErr result ((orig : Files) (text : Output → List ℕ) → HasTexts plan.now (pieces_of self.old) orig (S.file shelf.old) text
             → AreCut plan.now orig (S.file shelf.new) (with_more text output.Trace (trace_text lines.now))) }
+        ensures same { OnOk result (SameCaptures plan.now self.old self.new) }
         ensures only { OnlyWrites S.tells plan.now (S.file shelf.old) (S.file shelf.new) (S.ids shelf.old) (S.ids shelf.new) }
         ensures causes { IfErr result IsOfWriting }
         ensures faults { CountsFaults result (S.faults shelf.old) (S.faults shelf.new) }
@@ -257,7 +298,8 @@ impl Outputs {
         Ok(())
     }
 
-    /// Puts the lines of all counts behind the counters, which are asked for. `line` is room for one line.
+    /// Puts the lines of all counts behind the counters, which are asked for: what came in, by these counters, and what left, by the
+    /// captures. `line` is room for one line.
     pub fn write_counters<S: Shelf>(
         &mut self,
         shelf: &mut S,
@@ -267,18 +309,21 @@ impl Outputs {
     ) -> Result<(), Fault>
         requires asked { plan.now.options.counters ≡ true }
         requires ports { (q : ℕ) → q < 4160 → is_external plan.now.tree q ≡ true → HasPort counters.now q }
+        requires counted { AreCountedAt plan.now self.old }
         requires ready { IsReady plan.now (S.ids shelf.old) self.old }
         ensures ready { IsReady plan.now (S.ids shelf.new) self.new }
         ensures texts { S.tells → OnOk result ((orig : Files) (text : Output → List ℕ) → HasTexts plan.now (pieces_of self.old) orig (S.file shelf.old) text
-            → HasTexts plan.now (pieces_of self.new) orig (S.file shelf.new) (with_more text output.Counters (count_lines (counts_at counters.now) (external_ports plan.now.tree)))) }
+            → HasTexts plan.now (pieces_of self.new) orig (S.file shelf.new) (with_more text output.Counters (count_lines (counts_with plan.now self.old counters.now) (external_ports plan.now.tree)))) }
         ensures cut { S.tells → OnErr result ((orig : Files) (text : Output → List ℕ) → HasTexts plan.now (pieces_of self.old) orig (S.file shelf.old) text
-            → AreCut plan.now orig (S.file shelf.new) (with_more text output.Counters (count_lines (counts_at counters.now) (external_ports plan.now.tree)))) }
+            → AreCut plan.now orig (S.file shelf.new) (with_more text output.Counters (count_lines (counts_with plan.now self.old counters.now) (external_ports plan.now.tree)))) }
+        ensures same { OnOk result (SameCaptures plan.now self.old self.new) }
         ensures only { OnlyWrites S.tells plan.now (S.file shelf.old) (S.file shelf.new) (S.ids shelf.old) (S.ids shelf.new) }
         ensures causes { IfErr result IsOfWriting }
         ensures faults { CountsFaults result (S.faults shelf.old) (S.faults shelf.new) }
     {
         for at in 0..plan.count() {
-            self.add_count(shelf, plan, line, plan.port(at), counters)?;
+            let counts = self.counts_of(plan, at, counters);
+            self.add_count(shelf, plan, line, plan.port(at), &counts)?;
         }
         Ok(())
     }
@@ -295,8 +340,8 @@ impl Outputs {
         ensures faults { CountsFaults result (S.faults shelf.old) (S.faults shelf.new) }
     {
         output_names_differ();
-        for at in 0..self.ids.len() {
-            flush(shelf, self.ids[at], &mut self.pieces[at])?;
+        for at in 0..self.files.len() {
+            flush(shelf, &mut self.files[at])?;
         }
         Ok(())
     }
@@ -315,6 +360,7 @@ impl Outputs {
             → HasTexts plan.now (pieces_of self.new) orig (S.file shelf.new) (with_more text output.Journal (line_of event.now ++ 10 ∷ []))) }
         ensures cut { S.tells → OnErr result ((orig : Files) (text : Output → List ℕ) → HasTexts plan.now (pieces_of self.old) orig (S.file shelf.old) text
             → AreCut plan.now orig (S.file shelf.new) (with_more text output.Journal (line_of event.now ++ 10 ∷ []))) }
+        ensures same { OnOk result (SameCaptures plan.now self.old self.new) }
         ensures only { OnlyWrites S.tells plan.now (S.file shelf.old) (S.file shelf.new) (S.ids shelf.old) (S.ids shelf.new) }
         ensures causes { IfErr result IsOfWriting }
         ensures faults { CountsFaults result (S.faults shelf.old) (S.faults shelf.new) }
@@ -341,6 +387,7 @@ impl Outputs {
             → HasTexts plan.now (pieces_of self.new) orig (S.file shelf.new) (with_more text output.Trace (trace_line one.now ++ 10 ∷ []))) }
         ensures cut { S.tells → OnErr result ((orig : Files) (text : Output → List ℕ) → HasTexts plan.now (pieces_of self.old) orig (S.file shelf.old) text
             → AreCut plan.now orig (S.file shelf.new) (with_more text output.Trace (trace_line one.now ++ 10 ∷ []))) }
+        ensures same { OnOk result (SameCaptures plan.now self.old self.new) }
         ensures only { OnlyWrites S.tells plan.now (S.file shelf.old) (S.file shelf.new) (S.ids shelf.old) (S.ids shelf.new) }
         ensures causes { IfErr result IsOfWriting }
         ensures faults { CountsFaults result (S.faults shelf.old) (S.faults shelf.new) }
@@ -352,6 +399,26 @@ impl Outputs {
         self.add_to(shelf, plan, plan.trace(), &[], line.as_slice())
     }
 
+    /// The counts of the port of capture `at`.
+    fn counts_of(&self, plan: &Plan, at: u16, counters: &Counters) -> Counts5
+        requires within { at < port_count plan.now }
+        requires files { port_count plan.now ≤ length self.now.files.items }
+        requires port { HasPort counters.now (port_at plan.now at) }
+        requires counted { IsCountedAt plan.now self.now (port_at plan.now at) }
+        ensures { result ≡ counts_with plan.now self.now counters.now (port_at plan.now at) }
+    {
+        let file = &self.files[at as usize];
+        let size = file.written + file.piece.len() as u64;
+        let came = counters.line(plan.port(at));
+        Counts5 {
+            relayed: came.relayed,
+            dropped: came.dropped,
+            ignored: came.ignored,
+            left: file.records,
+            octets: size - HEADER - RECORD * file.records,
+        }
+    }
+
     /// Puts the line of a port's counts behind the counters, which are asked for.
     fn add_count<S: Shelf>(
         &mut self,
@@ -359,22 +426,22 @@ impl Outputs {
         plan: &Plan,
         line: &mut Vec<u8>,
         port: PortId,
-        counters: &Counters,
+        counts: &Counts5,
     ) -> Result<(), Fault>
         requires asked { plan.now.options.counters ≡ true }
-        requires port { HasPort counters.now port }
         requires ready { IsReady plan.now (S.ids shelf.old) self.old }
         ensures ready { IsReady plan.now (S.ids shelf.new) self.new }
         ensures texts { S.tells → OnOk result ((orig : Files) (text : Output → List ℕ) → HasTexts plan.now (pieces_of self.old) orig (S.file shelf.old) text
-            → HasTexts plan.now (pieces_of self.new) orig (S.file shelf.new) (with_more text output.Counters (count_line port (counts_at counters.now port)))) }
+            → HasTexts plan.now (pieces_of self.new) orig (S.file shelf.new) (with_more text output.Counters (count_line port counts.now))) }
         ensures cut { S.tells → OnErr result ((orig : Files) (text : Output → List ℕ) → HasTexts plan.now (pieces_of self.old) orig (S.file shelf.old) text
-            → AreCut plan.now orig (S.file shelf.new) (with_more text output.Counters (count_line port (counts_at counters.now port)))) }
+            → AreCut plan.now orig (S.file shelf.new) (with_more text output.Counters (count_line port counts.now))) }
+        ensures same { OnOk result (SameCaptures plan.now self.old self.new) }
         ensures only { OnlyWrites S.tells plan.now (S.file shelf.old) (S.file shelf.new) (S.ids shelf.old) (S.ids shelf.new) }
         ensures causes { IfErr result IsOfWriting }
         ensures faults { CountsFaults result (S.faults shelf.old) (S.faults shelf.new) }
     {
         line.clear();
-        if write_count_line(line, port, &counters.line(port)).is_err() {
+        if write_count_line(line, port, counts).is_err() {
             return Err(Fault::Memory);
         }
         self.add_to(shelf, plan, plan.counters(), &[], line.as_slice())
@@ -396,12 +463,13 @@ impl Outputs {
             → HasTexts plan.now (pieces_of self.new) orig (S.file shelf.new) (with_more text (kind_at plan.now at) (head.now ++ bytes.now))) }
         ensures cut { S.tells → OnErr result ((orig : Files) (text : Output → List ℕ) → HasTexts plan.now (pieces_of self.old) orig (S.file shelf.old) text
             → AreCut plan.now orig (S.file shelf.new) (with_more text (kind_at plan.now at) (head.now ++ bytes.now))) }
+        ensures grows { OnOk result (GrowsAt at (length (head.now ++ bytes.now)) self.old self.new) }
         ensures only { OnlyWrites S.tells plan.now (S.file shelf.old) (S.file shelf.new) (S.ids shelf.old) (S.ids shelf.new) }
         ensures causes { IfErr result IsOfWriting }
         ensures faults { CountsFaults result (S.faults shelf.old) (S.faults shelf.new) }
     {
         output_names_differ();
         let at = at as usize;
-        add(shelf, self.ids[at], &mut self.pieces[at], head, bytes)
+        add(shelf, &mut self.files[at], head, bytes)
     }
 }

@@ -36,6 +36,7 @@ use Rattle.exb_inputs.specs.Shelving.{ReadsCapture}
 use Rattle.exb_outputs.specs.Plans.{OnlyPlanned, output_name, Planned, output_count}
 use Rattle.exb_run.specs.Playing.{IsScript, Run}
 use Rattle.exb_run.specs.UnderWay.{AreApart, CanBegin}
+use Rattle.exb_outputs.specs.Sent.{HasSent}
 use Rattle.exb_outputs.specs.Writing.{HasTexts, first_text, pieces_of}
 use Rattle.exb_run.proofs.Counting.{passing}
 use Rattle.exb_run.proofs.Segmenting.{segments-begin}
@@ -79,7 +80,7 @@ unfolding below
 few-ports test = few-range test 0 4160
 
 -- ---- the captures at their first records
-abbrev ports_in : List Checked → List ℕ
+abbrev pub ports_in : List Checked → List ℕ
 ports_in cs = map (λ c. c.port) cs
 
 told-streams : (i : Input) (names : List Named) (file : Files) (cs : List Checked) → i.records ≡ records_at names file → map (stream_told names file) cs ≡ map (stream_at i) (ports_in cs)
@@ -170,7 +171,7 @@ numbers-one (c ∷ cs) q = by_port (c.port == q) (numbers-one cs q)
     by_port true rest = refl
     by_port false rest = rest
 
-has-named : (P : ℕ → Type 0) (cs : List Checked) (q : ℕ) → AllByRecursion P (ports_in cs) → HasPort q (map first_standing cs) → P q
+pub has-named : (P : ℕ → Type 0) (cs : List Checked) (q : ℕ) → AllByRecursion P (ports_in cs) → HasPort q (map first_standing cs) → P q
 has-named P [] q all has = absurd has
 has-named P (c ∷ cs) q all (inl same) = subst P same all.0
 has-named P (c ∷ cs) q all (inr later) = has-named P cs q all.1 later
@@ -241,9 +242,9 @@ pub can-begin : (tells : Type 0) (m : Mode) (setup : Setup) (commands : List Tim
     (before : Files) (p : Programme) → MergeOfAll → StartIsLeast → IsScript (shape_of setup) commands fate → plan.tree ≡ shape_of setup → CanBeRead tells plan names file cs →
     p.start ≡ start_told cs → p.commands.now ≡ commands → p.taken ≡ 0 → standings p.captures ≡ map first_standing cs → left_in p.captures ≤ sum_by (λ c. c.told.bytes + 1) cs →
     AllByRecursion (λ k. ReadsCapture names (ids k)) (ids_in p.captures) → (tells → AreReplays now ids p.captures.sources.items (map (stream_told names file) cs)) →
-    (tells → HasTexts plan (pieces_of o) before now first_text) →
+    (tells → HasTexts plan (pieces_of o) before now first_text) → HasSent plan o (λ q. []) →
     CanBegin tells m (record { input = input_from setup commands names file; before = before }) setup plan now ids o p
-can-begin tells m setup commands fate plan names file now cs ids o before p law least script tree can start same none standing left named replays texts =
+can-begin tells m setup commands fate plan names file now cs ids o before p law least script tree can start same none standing left named replays texts sent =
     let i : Input = input_from setup commands names file in
     let t : Shape = shape_of setup in
     let ports : ports_in cs ≡ filter (is_named names) all_ports = can.checked.ports in
@@ -251,6 +252,7 @@ can-begin tells m setup commands fate plan names file now cs ids o before p law 
     record {
       setup = refl;
       texts = texts;
+      sent = sent;
       timely = timely t commands fate i script refl;
       next = record {
         given = ap (map given_by) (sym same);
@@ -279,15 +281,15 @@ pub can-begin-of : (tells : Type 0) (m : Mode) (setup : Setup) (commands : List 
     (before : Files) (p : Programme) (captures : Replays) → MergeOfAll → StartIsLeast → IsScript (shape_of setup) commands fate → plan.tree ≡ shape_of setup → CanBeRead tells plan names file cs →
     p.start ≡ start_told cs → p.commands.now ≡ commands → p.taken ≡ 0 → p.captures ≡ captures → standings captures ≡ map first_standing cs → left_in captures ≤ sum_by (λ c. c.told.bytes + 1) cs →
     AllByRecursion (λ k. ReadsCapture names (ids k)) (ids_in captures) → (tells → AreReplays now ids captures.sources.items (map (stream_told names file) cs)) →
-    (tells → HasTexts plan (pieces_of o) before now first_text) →
+    (tells → HasTexts plan (pieces_of o) before now first_text) → HasSent plan o (λ q. []) →
     CanBegin tells m (record { input = input_from setup commands names file; before = before }) setup plan now ids o p
-can-begin-of tells m setup commands fate plan names file now cs ids o before p captures law least script tree can start same none are standing left named replays texts =
+can-begin-of tells m setup commands fate plan names file now cs ids o before p captures law least script tree can start same none are standing left named replays texts sent =
     can-begin tells m setup commands fate plan names file now cs ids o before p law least script tree can start same none
     (ap standings are ∙ standing)
     (let size = ap left_in are in omega (arith, size, left))
     (subst (λ (r : Replays). AllByRecursion (λ k. ReadsCapture names (ids k)) (ids_in r)) (sym are) named)
     (λ t. subst (λ (r : Replays). AreReplays now ids r.sources.items (map (stream_told names file) cs)) (sym are) (replays t))
-    texts
+    texts sent
 
 -- the budget has room for all fates
 pub has-budget : (t : Shape) (given : List Timed) (fate : List Verdict) (p : Programme) (left : ℕ) → IsScript t given fate → p.commands.now ≡ given → p.taken ≡ 0 → left < 2 ^ 56 →

@@ -54,15 +54,16 @@ cut_before tells m r plan now n c o so_far rest t is segments_are = record {
   gone = is.gone;
   lines = is.lines;
   played = is.played;
+  tracing = is.tracing;
   counts = [];
   cut = cut_now plan r.before now (pieces_of o) (text_so_far is.told is.gone is.lines []) (is.texts t);
 }
 
 -- while what it told is written
 pub cut_amid : (m : Mode) (r : Run) (plan : Planned) (now : Files) (so_far rest : List Segment) (v : Network) (told more : List Event) (passed : List Bool) (gone : List Leaving) (left : List Left) (lines new : List TraceLine)
-    → plan.tree ≡ tree_of r.input → segments m r.input ≡ so_far ++ rest → IsPlayedBy m r.input so_far v (told ++ more) passed (gone ++ all_left left) (lines ++ new)
+    → plan.tree ≡ tree_of r.input → segments m r.input ≡ so_far ++ rest → v.log.tracing ≡ plan.options.trace → IsPlayedBy m r.input so_far v (told ++ more) passed (gone ++ all_left left) (lines ++ new)
     → AreCut plan r.before now (texts-with told more gone left lines new) → IsCutOff m r plan now
-cut_amid m r plan now so_far rest v told more passed gone left lines new tree segments_are played cut = record {
+cut_amid m r plan now so_far rest v told more passed gone left lines new tree segments_are tracing played cut = record {
   tree = tree;
   so_far = so_far;
   rest = rest;
@@ -73,6 +74,7 @@ cut_amid m r plan now so_far rest v told more passed gone left lines new tree se
   gone = gone ++ all_left left;
   lines = lines ++ new;
   played = played;
+  tracing = tracing;
   counts = [];
   cut = cut_same plan r.before now (texts-with told more gone left lines new) (text_so_far (told ++ more) (gone ++ all_left left) (lines ++ new) []) (text-more told more gone left lines new) cut;
 }
@@ -92,6 +94,7 @@ cut_at_end tells m r plan old now n c o t is counts cut = record {
   lines = is.lines;
   counts = counts;
   played = is.played;
+  tracing = is.tracing;
   cut = cut_same plan r.before now (with_more (text_so_far is.told is.gone is.lines []) output.Counters counts) (text_so_far is.told is.gone is.lines counts)
       (counts_written is.told is.gone is.lines counts) (cut r.before (text_so_far is.told is.gone is.lines []) (is.texts t));
 }

@@ -1,5 +1,5 @@
 -- The end of a run: what it wrote and counted is what the input calls for.
-use Rattle.std.proofs.Common.{◌≡◌, ℕ, ◌<◌, Bool, true, false, List, [], Option, Some, None, length, All, get_or, refl, ap, sym, subst, ◌∙◌, arith}
+use Rattle.std.proofs.Common.{◌≡◌, ℕ, ◌<◌, ◌^◌, Bool, true, false, List, [], Option, Some, None, length, All, get_or, refl, ap, sym, subst, ◌∙◌, arith}
 use Rattle.std.proofs.lemmas.Bool.{false≢true}
 use Rattle.exb_model.specs.declared.event.Event.{Event}
 use Rattle.exb_model.specs.EagerHistory.{eager}
@@ -14,7 +14,6 @@ use Rattle.exb_text.specs.declared.output.Output.{Output}
 use Rattle.exb_text.specs.declared.output.Output.TheVariants as output
 use Rattle.exb_counters.specs.declared.counters.Counters.{Counters}
 use Rattle.exb_counters.specs.Counters.{count_text}
-use Rattle.exb_counters.specs.Counting.{counts_at}
 use Rattle.exb_machine.specs.Runs.Passed.{passed_over}
 use Rattle.exb_wiring.specs.Counting.{CountsGoOn}
 use Rattle.exb_machine.specs.Telling.{all_told}
@@ -26,9 +25,11 @@ use Rattle.exb_schedule.specs.Playing.{HasPlayed}
 use Rattle.exb_resting.specs.Flight.Showing.{left_at}
 use Rattle.exb_tracing.specs.Runs.{RunsTellLegally}
 use Rattle.exb_run.specs.Outputs.{IsTraceOf, output_text}
+use Rattle.exb_outputs.specs.declared.outputs.Outputs.{Outputs}
+use Rattle.exb_outputs.specs.Sent.{HasSent, capture_size, counts_with}
 use Rattle.exb_outputs.specs.Plans.{Planned, IsMade, kind_at, output_count}
 use Rattle.exb_run.specs.Playing.{AreCounted, counts_so_far, counts_text, text_so_far}
-use Rattle.exb_run.proofs.PortCounts.{counts_end}
+use Rattle.exb_run.proofs.PortCounts.{counts_end, port_whole}
 use Rattle.exb_outputs.proofs.ByKind.{kind_is}
 use Rattle.exb_run.proofs.Counting.{LeftExternal, counts-whole}
 use Rattle.exb_outputs.proofs.Places.{external_low}
@@ -59,22 +60,22 @@ module _ (m : Mode) (i : Input) (plan : Planned) (tree : plan.tree ≡ tree_of i
   sent q is = ap (left_at q) played.gone ∙ written.captures q is ∙ ap (λ (g : History). flat (basis_of i) g q) (sym same-history)
 
   -- the text of its counters
-  counters-whole : (ports : Option Counters) → AreCounted plan ports told passed gone → CountsGoOn → RunsSayPassed → plan.options.counters ≡ true → counts_text plan ports ≡ count_text (tree_of i) (basis_of i) ([] then told)
-  counters-whole None are go_on says asked = absurd (false≢true (sym are ∙ asked))
-  counters-whole (Some c) are go_on says asked =
-      counts_end (tree_of i) (basis_of i) told passed gone go_on (played.said ∙ says m i played.done timely played.plays ∙ ap (passed_over (basis_of i) []) (sym played.told)) sent plan.tree tree (counts_at c)
-      (λ q low out. are.2 q (are.1 q low out))
+  counters-whole : (ports : Option Counters) (o : Outputs) → AreCounted plan ports told passed → HasSent plan o (λ q. left_at q gone) → ((q : ℕ) → capture_size (left_at q gone) < 2 ^ 64) → CountsGoOn → RunsSayPassed → plan.options.counters ≡ true → counts_text plan ports o ≡ count_text (tree_of i) (basis_of i) ([] then told)
+  counters-whole None o are has room go_on says asked = absurd (false≢true (sym are ∙ asked))
+  counters-whole (Some c) o are has room go_on says asked =
+      counts_end (tree_of i) (basis_of i) told passed gone go_on (played.said ∙ says m i played.done timely played.plays ∙ ap (passed_over (basis_of i) []) (sym played.told)) sent plan.tree tree (counts_with plan o c)
+      (λ q low out. port_whole plan o c told passed gone q low out (are.2 q (are.1 q low out)) has (room q))
 
   -- its texts
-  pub texts-whole : (ports : Option Counters) → AreCounted plan ports told passed gone → CountsGoOn → RunsSayPassed →
-      (j : ℕ) → j < output_count plan → text_so_far told gone lines (counts_text plan ports) (kind_at plan j) ≡ output_text i ([] then told) lines (kind_at plan j)
-  texts-whole ports are go_on says j low = by_kind (kind_at plan j) (kind_is plan j low).made
+  pub texts-whole : (ports : Option Counters) (o : Outputs) → AreCounted plan ports told passed → HasSent plan o (λ q. left_at q gone) → ((q : ℕ) → capture_size (left_at q gone) < 2 ^ 64) → CountsGoOn → RunsSayPassed →
+      (j : ℕ) → j < output_count plan → text_so_far told gone lines (counts_text plan ports o) (kind_at plan j) ≡ output_text i ([] then told) lines (kind_at plan j)
+  texts-whole ports o are has room go_on says j low = by_kind (kind_at plan j) (kind_is plan j low).made
     where
-      by_kind : (o : Output) → IsMade plan.options plan.tree o → text_so_far told gone lines (counts_text plan ports) o ≡ output_text i ([] then told) lines o
+      by_kind : (k : Output) → IsMade plan.options plan.tree k → text_so_far told gone lines (counts_text plan ports o) k ≡ output_text i ([] then told) lines k
       by_kind (output.Capture q) made = ap capture_text (sent q (ap (λ (t : Shape). is_external t q) (sym tree) ∙ made))
       by_kind output.Journal made = refl
       by_kind output.Trace made = refl
-      by_kind output.Counters made = counters-whole ports are go_on says made
+      by_kind output.Counters made = counters-whole ports o are has room go_on says made
 
   own : All (LeftExternal (tree_of i)) gone
   own k d low =

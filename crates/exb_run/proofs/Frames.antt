@@ -11,10 +11,13 @@ use Rattle.exb_shelf.specs.Files.{Files}
 use Rattle.exb_text.specs.declared.output.Output.{Output}
 use Rattle.exb_text.specs.declared.output.Output.TheVariants as output
 use Rattle.exb_outputs.specs.Plans.{Planned, kind_at}
+use Rattle.exb_outputs.specs.declared.outputs.Outputs.{Outputs}
+use Rattle.exb_outputs.specs.Sent.{HasSent, sent_more}
 use Rattle.exb_outputs.specs.Writing.{AreCut, HasTexts, with_more}
 use Rattle.exb_outputs.proofs.OutputLemmas.{kinds_same}
+use Rattle.exb_outputs.proofs.Sizes.{sent_as}
 use Rattle.exb_outputs.proofs.Cutting.{GoesOnAs, both_parts, cut_longer, goes_same}
-use Rattle.exb_run.specs.Leaving.{with_left_frames}
+use Rattle.exb_run.specs.Leaving.{sent_with, with_left_frames}
 
 -- what left a port
 abbrev pub sent_at : List Left → ℕ → List Sent
@@ -117,3 +120,23 @@ cut_left plan f g text left i x inside is =
       on.0,
       ap (λ (ys : List Left). with_left_frames text ys o) (sym (both_parts (i + 1) left)) ∙ on.1 ∙ ap (λ (xs : List ℕ). xs ++ on.0) (sym same),
     ))
+
+-- ---- what was counted
+pub sent_none : (sent : ℕ → List Sent) (q : ℕ) → sent q ≡ sent_with sent [] q
+sent_none sent q = sym (append-nil (sent q))
+
+-- one frame more
+pub sent_next : (sent : ℕ → List Sent) (left : List Left) (x : Left) (q : ℕ) → sent_more (sent_with sent left) x.port (x.moment, x.bytes) q ≡ sent_with sent (left ++ x ∷ []) q
+sent_next sent left x q = by_port (x.port == q) ∙ ap (λ (xs : List Sent). sent q ++ xs) (sym (sent_at-append left (x ∷ []) q))
+  where
+    by_port : (b : Bool) → (if b then (sent q ++ sent_at left q) ++ (x.moment, x.bytes) ∷ [] else sent q ++ sent_at left q) ≡ sent q ++ (sent_at left q ++ (if b then (x.moment, x.bytes) ∷ [] else []))
+    by_port true = append_assoc (sent q) (sent_at left q) ((x.moment, x.bytes) ∷ [])
+    by_port false = ap (λ (xs : List Sent). sent q ++ xs) (sym (append-nil (sent_at left q)))
+
+pub frames_sent : (plan : Planned) (o : Outputs) (sent : ℕ → List Sent) (left : List Left) (i : ℕ) (x : Left) → i < length left → x ≡ get_or left i x
+    → HasSent plan o (sent_more (sent_with sent (take i left)) x.port (x.moment, x.bytes)) → HasSent plan o (sent_with sent (take (i + 1) left))
+frames_sent plan o sent left i x inside is =
+    sent_as plan o (sent_more (sent_with sent (take i left)) x.port (x.moment, x.bytes)) (sent_with sent (take (i + 1) left))
+    (λ q. sent_next sent (take i left) x q
+    ∙ ap (λ (y : Left). sent_with sent (take i left ++ y ∷ []) q) is
+    ∙ ap (λ (ys : List Left). sent_with sent ys q) (sym (take_more left i x inside)))

@@ -5,6 +5,7 @@ use Rattle.std.specs.Prelude.{Option, None, Some, All}
 use Rattle.std.proofs.lemmas.List.{append-nil}
 use Rattle.exb_model.specs.declared.setup.Setup.{Setup}
 use Rattle.exb_model.specs.declared.setup.Timed.{Timed}
+use Rattle.exb_model.specs.FlatBridge.{Sent}
 use Rattle.exb_model.specs.Input.{Input, Coming, Segment, Mode, segment_of, seconds_after, segments, segments_after}
 use Rattle.exb_model.specs.Setup.{shape_of}
 use Rattle.exb_model.specs.Texts.{with_left}
@@ -17,7 +18,7 @@ use Rattle.exb_merge.specs.Programmes.{IsProgramme, played_with}
 use Rattle.exb_merge.specs.Replays.{ids_in}
 use Rattle.exb_network.specs.Networks.{Network, world_of, IsQuiet, IsSame}
 use Rattle.exb_network.specs.Worlds.{all_left}
-use Rattle.exb_resting.specs.Rest.Playing.{RunsAreUnderWay}
+use Rattle.exb_resting.specs.Rest.Playing.{RunsAreFew, RunsAreUnderWay}
 use Rattle.exb_schedule.specs.declared.segment.Arrival.{Arrival}
 use Rattle.exb_schedule.specs.Playing.{HasPlayed, IsSegment, letters_in}
 use Rattle.exb_shelf.specs.Files.{Files, SameFiles}
@@ -28,12 +29,13 @@ use Rattle.exb_text.specs.Tallies.{counts_of}
 use Rattle.exb_run.specs.declared.feed.Feed.{Feed}
 use Rattle.exb_run.specs.declared.counted.Counted.{Counted}
 use Rattle.exb_outputs.specs.declared.outputs.Outputs.{Outputs}
-use Rattle.exb_outputs.specs.Plans.{OnlyPlanned, Planned, port_count}
+use Rattle.exb_outputs.specs.Plans.{OnlyPlanned, Planned}
 use Rattle.exb_run.specs.Shelving.{OnlyReads}
-use Rattle.exb_run.specs.Playing.{CanBeKept, CountsOn, Run, IsCounted, IsCutOff, IsTold, text_so_far}
+use Rattle.exb_run.specs.Playing.{CanBeKept, CountsOn, Run, IsAllTold, IsCounted, IsCutOff, IsTold, text_so_far}
 use Rattle.exb_run.specs.UnderWay.{AreApart, CanBegin, CanBePlayed, CanGoOn, IsGathered, IsOpened, IsPlaying, LeadsOn, NothingIsLeft}
+use Rattle.exb_outputs.specs.Sent.{HasSent}
 use Rattle.exb_outputs.specs.Writing.{HasTexts, first_text, lines_of, pieces_of, with_more}
-use Rattle.exb_run.specs.Leaving.{with_left_frames}
+use Rattle.exb_run.specs.Leaving.{sent_with, with_left_frames}
 use Rattle.exb_run.proofs.Counting.{count_events}
 use Rattle.exb_run.proofs.CuttingOff.{cut_before}
 use Rattle.exb_run.proofs.Following.{can-play, commands-are, follows, going-on, is-segment, leading-on, letters-are, short, taken}
@@ -41,7 +43,7 @@ use Rattle.exb_run.proofs.Keeping.{apart-read, ids-same, leads-written}
 use Rattle.exb_run.proofs.Segmenting.{segments_after-end}
 use Rattle.exb_run.proofs.Taking.{HasCommands, came_by, comes-ids}
 use Rattle.exb_outputs.proofs.OutputLemmas.{kinds_same}
-use Rattle.exb_run.proofs.PortCounts.{counted-on, none_together}
+use Rattle.exb_run.proofs.PortCounts.{counted-on, none_together, sizes-fit}
 use Rattle.exb_run.proofs.Telling.{cleared-played, text-first, text-more}
 
 module _ (tells : Type 0) (m : Mode) (r : Run) (plan : Planned) (now : Files) (ids : ℕ → Id) (net : Network) (c : Counted) (o : Outputs) (seconds from second : ℕ) (f : Feed)
@@ -118,12 +120,13 @@ module _ (tells : Type 0) (m : Mode) (r : Run) (plan : Planned) (now : Files) (i
 -- A run that is opened goes on once what the opening told is written and counted.
 pub opened-playing : (tells : Type 0) (m : Mode) (r : Run) (plan : Planned) (now : Files) (ids : ℕ → Id) (n : Network) (c : Counted) (o : Outputs) (p : Programme) → IsOpened tells m r plan now ids n c o p
     → (now' : Files) (ids' : ℕ → Id) (v : Network) (c' : Counted) (o' : Outputs) → world_of v ≡ world_of n → IsSame n v → IsQuiet v
-    → counts_of c'.tally ≡ with_left (length n.log.left) (count_events (counts_of c.tally) n.log.events) → CountsOn c.ports c'.ports n.log.events n.log.passed n.log.left
+    → counts_of c'.tally ≡ with_left (length n.log.left) (count_events (counts_of c.tally) n.log.events) → CountsOn c.ports c'.ports n.log.events n.log.passed
     → (tells → (orig : Files) (text : Output → List ℕ) → HasTexts plan (pieces_of o) orig now text
     → HasTexts plan (pieces_of o') orig now' (with_more (with_left_frames (with_more text output.Journal (lines_of n.log.events)) n.log.left) output.Trace (trace_text n.log.lines)))
+    → ((sent : ℕ → List Sent) → HasSent plan o sent → HasSent plan o' (sent_with sent n.log.left))
     → (tells → OnlyPlanned plan now now') → ((j : ℕ) → ids' j ≡ ids j) → All IsOfNumbers n.log.events → All HasBytes n.log.lines
     → IsPlaying tells m r plan now' ids' v c' o' None p
-opened-playing tells m r plan now ids n c o p is now' ids' v c' o' world same quiet tally ports texts only kept numbers bytes =
+opened-playing tells m r plan now ids n c o p is now' ids' v c' o' world same quiet tally ports texts sent only kept numbers bytes =
     let told = n.log.events in
     let left = n.log.left in
     let lines = n.log.lines in
@@ -145,6 +148,7 @@ opened-playing tells m r plan now ids n c o p is now' ids' v c' o' world same qu
             kinds_same plan r.before now' (pieces_of o') _ (text_so_far told (all_left left) lines []) (text-more [] told [] left [] lines)
             (texts t r.before (text_so_far [] [] [] [])
             (kinds_same plan r.before now (pieces_of o) first_text (text_so_far [] [] [] []) text-first (is.texts t)));
+        sent = sent (λ q. []) is.sent;
         quiet = quiet;
       };
       next = is.next;
@@ -162,6 +166,7 @@ begins-opened tells m r s plan now ids n o p b tree plays tracing c none = recor
   tracing = tracing;
   counted = none;
   texts = b.texts;
+  sent = b.sent;
   timely = b.timely;
   next = b.next;
   apart = b.apart;
@@ -210,11 +215,13 @@ all-kept tells m r plan file given net c o last old t playing none =
 
 -- so all was played
 pub all-played : (tells : Type 0) (m : Mode) (r : Run) (plan : Planned) (file now : Files) (given : ℕ → Id) (net : Network) (c : Counted) (o : Outputs) (last : Option ℕ) (old : Programme) → tells →
-    IsPlaying tells m r plan file given net c o last old → NothingIsLeft file given old → SameFiles file now → IsTold tells m r plan now net c o (segments m r.input)
-all-played tells m r plan file now given net c o last old t playing none files =
+    IsPlaying tells m r plan file given net c o last old → NothingIsLeft file given old → SameFiles file now → RunsAreFew → RunsAreUnderWay → IsAllTold tells m r plan now net c o
+all-played tells m r plan file now given net c o last old t playing none files few way =
     let same : now ≡ file = fun_ext λ n. files n in
+    let is : IsTold tells m r plan now net c o (segments m r.input) =
     subst (λ (x : Files). IsTold tells m r plan x net c o (segments m r.input)) (sym same)
-    (subst (λ (ss : List Segment). IsTold tells m r plan file net c o ss) (sym (all-segments tells m r plan file given net c o last old t playing none)) playing.is)
+    (subst (λ (ss : List Segment). IsTold tells m r plan file net c o ss) (sym (all-segments tells m r plan file given net c o last old t playing none)) playing.is) in
+    record { is = is; room = sizes-fit m r.input playing.so_far net playing.is.told playing.is.passed playing.is.gone playing.is.lines few way (let most = playing.next.few_bytes in omega (arith, most)) playing.is.played }
 
 -- the seconds that pass before what was gathered fit 32 bits
 pub seconds-fit : (tells : Type 0) (m : Mode) (r : Run) (plan : Planned) (file now : Files) (given ids : ℕ → Id) (net : Network) (c : Counted) (o : Outputs) (last : Option ℕ) (old : Programme) (second : ℕ) (f : Feed) →

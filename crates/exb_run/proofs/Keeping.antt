@@ -18,7 +18,7 @@ use Rattle.exb_run.specs.Shelving.{OnlyGoesOn, OnlyReads}
 use Rattle.exb_outputs.specs.Shelving.{OnlyWrites}
 use Rattle.exb_run.specs.declared.feed.Feed.{Feed}
 use Rattle.exb_run.specs.UnderWay.{AreApart, CanFeed, LeadsOn}
-use Rattle.exb_outputs.specs.Writing.{IsReady}
+use Rattle.exb_outputs.specs.Writing.{IsReady, ids_of}
 
 -- ---- captures while outputs are written
 -- a capture stays as it is, where no output has its name
@@ -71,10 +71,9 @@ opened-at given (s ∷ ss) all = (all.0.at, opened-at given ss all.1)
 pub ready-read : (plan : Planned) (given ids : ℕ → Id) (o : Outputs) (ss : List Again) → IsReady plan given o → AllByRecursion (IsOpened given) ss →
     ReadsOn (map (λ (s : Again). s.replay.file.id) ss) given ids → IsReady plan ids o
 ready-read plan given ids o ss ready opened reads = record {
-  ids = ready.ids;
-  pieces = ready.pieces;
+  files = ready.files;
   named = λ j low.
-      reads.others (slice_index o.ids.items j) (differ given (slice_index o.ids.items j) (output_name plan j) ss (ready.named j low) (opened-at given ss opened))
+      reads.others (slice_index (ids_of o) j) (differ given (slice_index (ids_of o) j) (output_name plan j) ss (ready.named j low) (opened-at given ss opened))
       ∙ ready.named j low;
 }
 
@@ -165,7 +164,6 @@ feed-written given ids f same can = subst (λ (i : ℕ → Id). CanFeed i f) (sy
 -- outputs while captures are opened
 pub ready-opened : (P : Id → Type 0) (plan : Planned) (given ids : ℕ → Id) (o : Outputs) → IsReady plan given o → Opens P given ids → IsReady plan ids o
 ready-opened P plan given ids o ready opens = record {
-  ids = ready.ids;
-  pieces = ready.pieces;
-  named = λ j low. opens.kept (slice_index o.ids.items j) (ap (λ (i : Id). i.given) (ready.named j low)) ∙ ready.named j low;
+  files = ready.files;
+  named = λ j low. opens.kept (slice_index (ids_of o) j) (ap (λ (i : Id). i.given) (ready.named j low)) ∙ ready.named j low;
 }

@@ -25,5 +25,8 @@ pub mod Scratching
 pub mod OpenLemmas
 pub mod Ordered
 pub mod SummingUp
+pub mod Ports
+pub mod ByStatus
+pub mod Parts
 pub mod ReadBack
 pub mod AfterRuns

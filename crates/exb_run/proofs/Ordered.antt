@@ -1,6 +1,6 @@
 -- What a run opened and made, in order.
-use Rattle.std.proofs.Common.{◌≡◌, ◌≢◌, ◌<◌, ◌≤◌, ◌+◌, ◌++◌, ◌∙◌, ◌⊎◌, inl, inr, ℕ, true, List, Option, Some, None, Result, Ok, Err, ap, sym, refl, arith, subst}
-use Rattle.std.proofs.lemmas.Bool.{cases_lt}
+use Rattle.std.proofs.Common.{◌≡◌, ◌≢◌, ◌<◌, ◌≤◌, ◌+◌, ◌++◌, ◌∙◌, ◌⊎◌, inl, inr, ℕ, true, List, Option, Some, None, Result, Ok, Err, ap, sym, refl, arith, subst, false}
+use Rattle.std.proofs.lemmas.Bool.{cases_Bool, cases_lt, false≢true}
 use Rattle.std.specs.Prelude.{IfErr, IsErrOf}
 use Rattle.exb_model.specs.Setup.{shape_of}
 use Rattle.exb_model.specs.Tree.{Shape}
@@ -18,11 +18,11 @@ use Rattle.exb_inputs.specs.Answers.{CanBe, HoldsTopology, fault_line, fault_sta
 use Rattle.exb_inputs.specs.Checks.{FirstFault, IsGoodNamed}
 use Rattle.exb_inputs.specs.Inputs.{is_named, name_of}
 use Rattle.exb_inputs.specs.Reading.{IsOfPlaying, IsOfTopology}
-use Rattle.exb_inputs.specs.Shelving.{EndsAt, ReadsBelow, ReadsCapture}
+use Rattle.exb_inputs.specs.Shelving.{EndsAt, OpensEach, ReadsBelow, ReadsCapture}
 use Rattle.exb_inputs.proofs.EndingAt.{opened_higher}
 use Rattle.exb_inputs.proofs.FaultLemmas.{named_not}
 use Rattle.exb_outputs.specs.Order.{IsLate, MakesInOrder}
-use Rattle.exb_run.specs.Opening.{IsFileOf, IsRefusedEarly, OpenedInOrder, OpensInOrder, ReadsUpTo, RunOpened, RunOpens, WritesOutput, plan_for}
+use Rattle.exb_run.specs.Opening.{IsFileOf, IsRefusedEarly, MadeBehind, OpenedInOrder, OpensInOrder, ReadsUpTo, RunOpened, RunOpens, WritesOutput, plan_for}
 use Rattle.exb_outputs.specs.Plans.{Planned, output_count}
 use Rattle.exb_run.specs.Shelving.{IsOfPlay, IsOfRun}
 use Rattle.exb_outputs.specs.Shelving.{WritesPlanned}
@@ -71,6 +71,35 @@ ends_own tells names file a b x ends p flaw is =
 pub play_own : (o : Outcome) → IfErr o IsOfPlay → (p : ℕ) (flaw : Flaw) → IsErrOf o (Capture p flaw) → ⊥
 play_own o is p flaw e = subst (λ (q : Outcome). IfErr q IsOfPlay) e is
 
+-- ---- what is made is made behind all captures
+-- where nothing was made
+pub behind_none : (names : List Named) (a b : ℕ → Id) → Opens (ReadsCapture names) a b → MadeBehind names a b
+behind_none names a b opens i was now writes = absurd (false≢true (sym writes ∙ (opens.fresh i was now).reads.reads))
+
+-- captures are checked, and then outputs are made
+pub behind_checks : (P : Id → Type 0) (names : List Named) (a b c : ℕ → Id) → Opens (ReadsCapture names) a b → OpensEach names 4160 a b → Opens P b c → MadeBehind names a c
+behind_checks P names a b c read each played i was now writes = elim (cases_Bool (b i).given) [
+  | inl given ↦ absurd (false≢true (sym writes ∙ ap (λ (k : Id). k.reads) (played.kept i given) ∙ (read.fresh i was given).reads.reads))
+  | inr free ↦ λ q name low named.
+      let found = each q name low named in
+      (found.0, found.1, subst (IsReadingOf name) (sym (played.kept found.0 found.2.given)) found.2, played.rises found.0 i found.2.given free now)
+]
+
+-- the topology is read before
+pub behind_later : (P : Id → Type 0) (name : List ℕ) (names : List Named) (a b c : ℕ → Id) → Opens (IsReadingOf name) a b → Opens P b c → MadeBehind names b c → MadeBehind names a c
+behind_later P name names a b c read played behind i was now writes = elim (cases_Bool (b i).given) [
+  | inl given ↦ absurd (false≢true (sym writes ∙ ap (λ (k : Id). k.reads) (played.kept i given) ∙ (read.fresh i was given).reads))
+  | inr free ↦ λ q own low named.
+      let found = behind i free now writes q own low named in
+      (found.0, still_free found.0 found.1, found.2, found.3)
+]
+  where
+    still_free : (j : ℕ) → (b j).given ≡ false → (a j).given ≡ false
+    still_free j free = elim (cases_Bool (a j).given) [
+      | inl given ↦ absurd (false≢true (sym free ∙ ap (λ (k : Id). k.given) (read.kept j given) ∙ given))
+      | inr none ↦ none
+    ]
+
 -- ---- the whole
 module _ (tells : Type 0) (name : List ℕ) (options : Options) (o : Outcome) (t : Topology) (file : Files) (a b c : ℕ → Id) (read : Opens (IsReadingOf name) a b) where
   upto : (p : ℕ) → Opens (ReadsBelow t.captures (p + 1)) b c → Opens (ReadsUpTo name t p) a c
@@ -78,17 +107,19 @@ module _ (tells : Type 0) (name : List ℕ) (options : Options) (o : Outcome) (t
       opens_then (ReadsUpTo name t p) a b c (opens_weaker (IsReadingOf name) (ReadsUpTo name t p) a b (λ i reads. inl reads) read)
       (opens_weaker (ReadsBelow t.captures (p + 1)) (ReadsUpTo name t p) b c (λ i reads. inr reads) opens)
 
-  pub run_opens : (tells → HoldsTopology name file t) → Opens (IsFileOf options t) b c → MakesInOrder (plan_for t options) o b c
-      → ((p : ℕ) (flaw : Flaw) → IsErrOf o (Capture p flaw) → (is_named t.captures p ≡ true) × Opens (ReadsBelow t.captures (p + 1)) b c)
+  pub run_opens : (tells → HoldsTopology name file t) → Opens (IsFileOf options t) b c → MakesInOrder (plan_for t options) o b c → MadeBehind t.captures b c
+      → IfErr o (λ x. (p at : ℕ) → x ≡ Changed p at → is_named t.captures p ≡ true) → ((p : ℕ) (flaw : Flaw) → IsErrOf o (Capture p flaw) → (is_named t.captures p ≡ true) × Opens (ReadsBelow t.captures (p + 1)) b c)
       → (tells → (p : ℕ) (fault : Fault) → FirstFault t.captures file p fault → Opens (ReadsBelow t.captures (p + 1)) b c)
       → RunOpens tells name options o file a c
-  run_opens holds opened made own first = record {
+  run_opens holds opened made behind port own first = record {
     topology = t;
     holds = holds;
     opened =
         opens_then (λ i. IsReadingOf name i ⊎ IsFileOf options t i) a b c (opens_weaker (IsReadingOf name) (λ i. IsReadingOf name i ⊎ IsFileOf options t i) a b (λ i reads. inl reads) read)
         (opens_weaker (IsFileOf options t) (λ i. IsReadingOf name i ⊎ IsFileOf options t i) b c (λ i is. inr is) opened);
     made = read_then_makes (IsReadingOf name) (plan_for t options) o a b c (λ i r. r.reads) read opened.kept made;
+    behind = behind_later (IsFileOf options t) name t.captures a b c read opened behind;
+    changed = λ p at is. (subst (λ (q : Outcome). IfErr q (λ x. (p at : ℕ) → x ≡ Changed p at → is_named t.captures p ≡ true)) is port) p at refl;
     own = λ p flaw is. let found = own p flaw is in (found.0, upto p found.1);
     first = λ told p fault is. upto p (first told p fault is);
   }
@@ -174,6 +205,7 @@ module _ (tells printing : Type 0) (name : List ℕ) (options : Options) (o : Ou
     opened = r.opened;
     count = r.made.count;
     made = r.made.made;
+    behind = r.behind;
     all = λ which. r.made.all (late_of o (elim which [
       | inl e ↦ inl (own_status 0 (λ h. omega arith) (λ h. omega arith) e)
       | inr e ↦ inr (own_status 10 (λ h. omega arith) (λ h. omega arith) e)
@@ -184,7 +216,7 @@ module _ (tells printing : Type 0) (name : List ℕ) (options : Options) (o : Ou
         (found.0, found.1, own.0, own.1, λ p. all_said 4 (λ h. omega arith) (λ h. omega arith) e p ∙ ap (λ (q : Outcome). before ++ line_of q) found.2);
     ten = λ e.
         let found = is_changed o (own_status 10 (λ h. omega arith) (λ h. omega arith) e) in
-        (found.0, found.1, can (Changed found.0 found.1) found.2, λ p. all_said 10 (λ h. omega arith) (λ h. omega arith) e p ∙ ap (λ (q : Outcome). before ++ line_of q) found.2);
+        (found.0, found.1, can (Changed found.0 found.1) found.2, r.changed found.0 found.1 found.2, λ p. all_said 10 (λ h. omega arith) (λ h. omega arith) e p ∙ ap (λ (q : Outcome). before ++ line_of q) found.2);
     first = r.first;
   }
 

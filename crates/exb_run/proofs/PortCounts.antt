@@ -1,9 +1,7 @@
 -- Counts by port: of a run so far, with a segment more, and at its end.
-use Rattle.std.proofs.Common.{◌≡◌, ℕ, zero, suc, ◌+◌, ◌*◌, ◌^◌, ◌<◌, ◌≤◌, ◌==◌, ◌&&◌, not, Bool, true, false, cond, List, [], ◌∷◌, ◌++◌, length, drop, get_or, fold, filter, All, Option, Some, None, IfSome, refl, ap, sym, subst, ◌∙◌, arith, append_assoc, eq-eqb, inl, inr, length-append}
+use Rattle.std.proofs.Common.{◌≡◌, ℕ, zero, suc, ◌+◌, ◌*◌, ◌^◌, ◌<◌, ◌≤◌, ◌==◌, ◌&&◌, not, Bool, true, false, cond, List, [], ◌∷◌, ◌++◌, length, get_or, filter, Option, Some, None, IfSome, refl, ap, sym, subst, ◌∙◌, arith, append_assoc}
 use Rattle.std.specs.Prelude.{sum_by, if◌then◌else◌}
 use Rattle.std.specs.List.{AllByRecursion, range_with_len}
-use Rattle.std.proofs.lemmas.Bool.{cases_eq, ne_eqb}
-use Rattle.std.proofs.lemmas.List.{drop_more, drop_all}
 use Rattle.std.proofs.lemmas.List.Sums.{sum_by-append, sum_by-cons}
 use Rattle.exb_model.specs.declared.event.Event.{Event}
 use Rattle.exb_model.specs.declared.event.Event.TheVariants as event
@@ -19,29 +17,28 @@ use Rattle.exb_model.specs.Tree.{Shape, external_ports, is_external}
 use Rattle.exb_counters.specs.declared.counters.Counters.{Counters}
 use Rattle.exb_counters.specs.declared.counters.Counts5.{Counts5}
 use Rattle.exb_counters.specs.Counters.{count_line, count_lines, count_text, dropped_at, ignored_at, ignored_by, octets_of, port_counts, relayed_at, relayed_by}
-use Rattle.exb_counters.specs.Counting.{HasPort, FitsCounts, counts_at, drop_in, drops_in, first_or_true, nothing, plus_events, rest_after, with_left, SameButAt}
+use Rattle.exb_counters.specs.Counting.{HasPort, FitsCounts, counts_at, drops_in, first_or_true, nothing, plus_events, rest_after}
 use Rattle.exb_machine.specs.Runs.Passed.{StepsTellPassed, passed_by, passed_in, passed_over}
 use Rattle.exb_machine.specs.Settling.{run}
 use Rattle.exb_machine.specs.Stepping.{Stepped, stepped}
 use Rattle.exb_machine.specs.Worlds.{World, Step, Left as Leaving}
 use Rattle.exb_network.specs.declared.log.Left.{Left}
 use Rattle.exb_network.specs.Networks.{Network}
-use Rattle.exb_network.specs.Worlds.{all_left, left_of}
+use Rattle.exb_network.specs.Worlds.{all_left}
 use Rattle.exb_resting.specs.Flight.Showing.{left_at}
-use Rattle.exb_resting.specs.Rest.Playing.{IsCopyOfAny, PlaysIn, RunsAreFew, RunsAreUnderWay, arrivals_in}
+use Rattle.exb_resting.specs.Rest.Playing.{RunsAreFew, RunsAreUnderWay, arrivals_in}
 use Rattle.exb_schedule.specs.Playing.{HasPlayed}
 use Rattle.exb_text.specs.Tallies.{counts_of, nothing_counted}
 use Rattle.exb_wiring.specs.Counting.{CountsGoOn}
 use Rattle.exb_run.specs.declared.counted.Counted.{Counted}
-use Rattle.exb_run.specs.Playing.{AreCounted, AreCountsOf, CanCount, CanCountAt, CountsOn, GoTogether, IsCounted, counts_so_far, port_counts_so_far, with_frames}
-use Rattle.exb_run.specs.Leaving.{CanBeWritten}
+use Rattle.exb_run.specs.Playing.{AreCounted, AreCountsOf, CanCount, CanCountAt, CountsOn, GoTogether, IsCounted, port_counts_so_far}
+use Rattle.exb_outputs.specs.declared.outputs.Outputs.{Outputs}
 use Rattle.exb_outputs.specs.Plans.{Planned}
+use Rattle.exb_outputs.specs.Sent.{HasSent, capture_size, counts_with}
+use Rattle.exb_outputs.proofs.Sizes.{fives}
 use Rattle.exb_run.specs.UnderWay.{CanFollow}
 use Rattle.exb_run.proofs.Counting.{count_events}
 use Rattle.exb_run.proofs.Telling.{counts-more, tally-fits}
-
-pub fives : (c d : Counts5) → c.relayed ≡ d.relayed → c.dropped ≡ d.dropped → c.ignored ≡ d.ignored → c.left ≡ d.left → c.octets ≡ d.octets → c ≡ d
-fives c d r p g l o = λ i. record { relayed = r i; dropped = p i; ignored = g i; left = l i; octets = o i }
 
 -- ---- what was said goes with what was told
 pub none_together : GoTogether [] []
@@ -88,107 +85,18 @@ played_together law m i so_far n told passed gone lines p =
     subst (λ (es : List Event). GoTogether es passed) (sym p.told) (subst (GoTogether p.done.events) (sym p.said) of_run)
 
 -- ---- a segment more
-left_at-append : (q : ℕ) (xs ys : List Leaving) → left_at q (xs ++ ys) ≡ left_at q xs ++ left_at q ys
-left_at-append q [] ys = refl
-left_at-append q (x ∷ xs) ys = by_port (x.port == q) (left_at-append q xs ys)
-  where
-    by_port : (b : Bool) → left_at q (xs ++ ys) ≡ left_at q xs ++ left_at q ys →
-        (if b then (x.moment, x.bytes) ∷ left_at q (xs ++ ys) else left_at q (xs ++ ys)) ≡ (if b then (x.moment, x.bytes) ∷ left_at q xs else left_at q xs) ++ left_at q ys
-    by_port true rest = ap (λ (ss : List Sent). (x.moment, x.bytes) ∷ ss) rest
-    by_port false rest = rest
-
-pub port_more : (told more : List Event) (passed said : List Bool) (gone new : List Leaving) (q : ℕ) → GoTogether told passed →
-    with_frames (left_at q new) (plus_events more said q (port_counts_so_far told passed gone q)) ≡ port_counts_so_far (told ++ more) (passed ++ said) (gone ++ new) q
-port_more told more passed said gone new q together =
-    let at = left_at-append q gone new in
-    let frames = length-append (left_at q gone) (left_at q new) in
-    let size = ap (λ (xs : List Sent). length xs) at in
-    let bytes = ap octets_of at in
-    let sums = sum_by-append (λ (x : Sent). length x.1) (left_at q gone) (left_at q new) in
-    fives (with_frames (left_at q new) (plus_events more said q (port_counts_so_far told passed gone q))) (port_counts_so_far (told ++ more) (passed ++ said) (gone ++ new) q)
+pub port_more : (told more : List Event) (passed said : List Bool) (q : ℕ) → GoTogether told passed →
+    plus_events more said q (plus_events told passed q nothing) ≡ plus_events (told ++ more) (passed ++ said) q nothing
+port_more told more passed said q together =
+    fives (plus_events more said q (plus_events told passed q nothing)) (plus_events (told ++ more) (passed ++ said) q nothing)
     (let s = sum_by-append (λ (e : Event). relayed_by e q) told more in omega (arith, s))
     (let s = together more said q in omega (arith, s))
     (let s = sum_by-append (λ (e : Event). ignored_by e q) told more in omega (arith, s))
-    (omega (arith, size, frames))
-    (omega (arith, bytes, sums))
+    refl refl
 
-pub port_none : (q : ℕ) → port_counts_so_far [] [] [] q ≡ nothing
+pub port_none : (q : ℕ) → plus_events [] [] q nothing ≡ nothing
 unfolding drops_in
-port_none q = fives (port_counts_so_far [] [] [] q) nothing refl refl refl refl refl
-
--- ---- frames, one after another
-frame_more : (x : Leaving) (xs : List Leaving) (q : ℕ) (c : Counts5) →
-    with_frames (left_at q (x ∷ xs)) c ≡ with_frames (left_at q xs) (if x.port == q then with_left (length x.bytes) c else c)
-frame_more x xs q c = by_port (x.port == q)
-  where
-    here : with_frames ((x.moment, x.bytes) ∷ left_at q xs) c ≡ with_frames (left_at q xs) (with_left (length x.bytes) c)
-    here =
-        let s = sum_by-cons (λ (y : Sent). length y.1) (x.moment, x.bytes) (left_at q xs) in
-        fives (with_frames ((x.moment, x.bytes) ∷ left_at q xs) c) (with_frames (left_at q xs) (with_left (length x.bytes) c)) refl refl refl (omega arith) (omega (arith, s))
-
-    by_port : (b : Bool) → with_frames (if b then (x.moment, x.bytes) ∷ left_at q xs else left_at q xs) c ≡ with_frames (left_at q xs) (if b then with_left (length x.bytes) c else c)
-    by_port true = here
-    by_port false = refl
-
-frames_none : (q : ℕ) (c : Counts5) → with_frames [] c ≡ c
-frames_none q c = fives (with_frames [] c) c refl refl refl (omega arith) (omega arith)
-
--- a call that counts one
-pub one_frame : (old next : Counters) (p n : ℕ) → SameButAt p (with_left n (counts_at old p)) old next →
-    (q : ℕ) → HasPort old q → counts_at next q ≡ (if p == q then with_left n (counts_at old q) else counts_at old q)
-one_frame old next p n only q there = elim (cases_eq p q) [
-  | inl same ↦ rw (eq-eqb p q same) (subst (λ (k : ℕ). HasPort old k → counts_at next k ≡ with_left n (counts_at old k)) same only.here there)
-  | inr other ↦ rw (ne_eqb p q other) (only.others q other)
-]
-
--- where the counts fit after frames, they did before
-fits_frames : (xs : List Sent) (c : Counts5) → FitsCounts (with_frames xs c) → FitsCounts c
-fits_frames xs c f =
-    record {
-      relayed = f.relayed;
-      dropped = f.dropped;
-      ignored = f.ignored;
-      left = (let n = f.left in omega (arith, n));
-      octets = (let n = f.octets in omega (arith, n));
-    }
-
-pub fits_events : (xs : List Sent) (es : List Event) (said : List Bool) (q : ℕ) (c : Counts5) → FitsCounts (with_frames xs (plus_events es said q c)) → FitsCounts (plus_events es said q c)
-fits_events xs es said q c = fits_frames xs (plus_events es said q c)
-
-pub record FramesLead (start now : Counters) (left : List Left) (k : ℕ) : Type 0 where
-  pub ports : length now.counts.items ≡ length start.counts.items
-  pub counts : (q : ℕ) → HasPort start q → with_frames (left_at q (all_left (drop k left))) (counts_at now q) ≡ with_frames (left_at q (all_left left)) (counts_at start q)
-
-pub frames_first : (start : Counters) (left : List Left) → FramesLead start start left 0
-frames_first start left = record { ports = refl; counts = λ q h. refl }
-
-module _ (start now : Counters) (left : List Left) (k : ℕ) (x : Left) (low : k < length left) (is : x ≡ get_or left k x) (lead : FramesLead start now left k) where
-  next_frame : drop k left ≡ x ∷ drop (k + 1) left
-  next_frame = drop_more left k x low ∙ ap (λ (y : Left). y ∷ drop (k + 1) left) (sym is)
-
-  after_frame : (q : ℕ) → with_frames (left_at q (all_left (drop k left))) (counts_at now q)
-      ≡ with_frames (left_at q (all_left (drop (k + 1) left))) (if x.port == q then with_left (length x.bytes) (counts_at now q) else counts_at now q)
-  after_frame q = ap (λ (xs : List Left). with_frames (left_at q (all_left xs)) (counts_at now q)) next_frame ∙ frame_more (left_of x) (all_left (drop (k + 1) left)) q (counts_at now q)
-
-  pub frames_more : (next : Counters) → length next.counts.items ≡ length now.counts.items → ((q : ℕ) → HasPort now q → counts_at next q ≡ (if x.port == q then with_left (length x.bytes) (counts_at now q) else counts_at now q)) →
-      FramesLead start next left (k + 1)
-  frames_more next ports counts = record {
-    ports = ports ∙ lead.ports;
-    counts = λ q h.
-        let there : HasPort now q = (let same = lead.ports in omega (arith, same, h)) in
-        ap (with_frames (left_at q (all_left (drop (k + 1) left)))) (counts q there) ∙ sym (after_frame q) ∙ lead.counts q h;
-  }
-
-  pub frame_fits : ((q : ℕ) → HasPort start q → FitsCounts (with_frames (left_at q (all_left left)) (counts_at start q))) → HasPort now x.port → FitsCounts (with_left (length x.bytes) (counts_at now x.port))
-  frame_fits fits h =
-      let back : HasPort start x.port = (let same = lead.ports in omega (arith, same, h)) in
-      let whole = subst FitsCounts (sym (lead.counts x.port back) ∙ after_frame x.port) (fits x.port back) in
-      let own = fits_frames (left_at x.port (all_left (drop (k + 1) left))) (if x.port == x.port then with_left (length x.bytes) (counts_at now x.port) else counts_at now x.port) whole in
-      subst (λ (b : Bool). FitsCounts (if b then with_left (length x.bytes) (counts_at now x.port) else counts_at now x.port)) (eq-eqb x.port x.port refl) own
-
-pub frames_last : (start now : Counters) (left : List Left) (k : ℕ) → length left ≤ k → FramesLead start now left k → (q : ℕ) → HasPort start q → counts_at now q ≡ with_frames (left_at q (all_left left)) (counts_at start q)
-frames_last start now left k end lead q h =
-    sym (frames_none q (counts_at now q)) ∙ ap (λ (xs : List Left). with_frames (left_at q (all_left xs)) (counts_at now q)) (sym (drop_all k left end)) ∙ lead.counts q h
+port_none q = fives (plus_events [] [] q nothing) nothing refl refl refl refl refl
 
 -- ---- how much
 at_most : (b : Bool) → cond b 1 0 ≤ 1
@@ -282,10 +190,20 @@ module _ (t : Shape) (b : Basis) (told : List Event) (passed : List Bool) (gone 
       (in_range (λ q. ports q ≡ port_counts b ([] then told) q) (is_external tree) 0 4160 (λ q low out. are q low out ∙ port_end q (ap (λ (s : Shape). is_external s q) (sym same) ∙ out)))
       ∙ ap (λ (s : Shape). count_lines (port_counts b ([] then told)) (filter (is_external s) (below 4160))) same
 
+-- a port of which counters and captures have counted all
+pub port_whole : (plan : Planned) (o : Outputs) (c : Counters) (told : List Event) (passed : List Bool) (gone : List Leaving) (q : ℕ) → q < 4160 → is_external plan.tree q ≡ true → counts_at c q ≡ plus_events told passed q nothing
+    → HasSent plan o (λ p. left_at p gone) → capture_size (left_at q gone) < 2 ^ 64 → counts_with plan o c q ≡ port_counts_so_far told passed gone q
+port_whole plan o c told passed gone q low out came sent room =
+    let own = sent.each q low out room in
+    let frames = own.0 in
+    let size = own.1 in
+    fives (counts_with plan o c q) (port_counts_so_far told passed gone q) (ap (λ (k : Counts5). k.relayed) came) (ap (λ (k : Counts5). k.dropped) came) (ap (λ (k : Counts5). k.ignored) came)
+    (omega (arith, frames)) (omega (arith, frames, size))
+
 -- ---- all fits
-pub ports-fit : (m : Mode) (i : Input) (so_far : List Segment) (n : Network) (told : List Event) (passed : List Bool) (gone : List Leaving) (lines : List TraceLine) → RunsAreFew → RunsAreUnderWay → CanFollow i so_far →
-    HasPlayed m i so_far n told passed gone lines → (q : ℕ) → FitsCounts (port_counts_so_far told passed gone q)
-ports-fit m i so_far n told passed gone lines law way follows p q =
+pub ports-fit : (m : Mode) (i : Input) (so_far : List Segment) (n : Network) (told : List Event) (passed : List Bool) (gone : List Leaving) (lines : List TraceLine) → RunsAreFew → CanFollow i so_far →
+    HasPlayed m i so_far n told passed gone lines → (q : ℕ) → FitsCounts (plus_events told passed q nothing)
+ports-fit m i so_far n told passed gone lines law follows p q =
     let few = law m i so_far p.done p.plays in
     let relays = ap (λ (es : List Event). (count_events nothing_counted es).relayed) p.told in
     let ignores = ap (λ (es : List Event). (count_events nothing_counted es).ignored) p.told in
@@ -294,73 +212,75 @@ ports-fit m i so_far n told passed gone lines law way follows p q =
     let all = relayed_few told q nothing_counted in
     let drops = drops_few told passed q in
     let others = ignored_few told q nothing_counted in
+    record {
+      relayed = omega (arith, relays, entered, arrivals, all);
+      dropped = omega (arith, relays, entered, arrivals, all, drops);
+      ignored = omega (arith, ignores, entered, arrivals, others);
+      left = omega arith;
+      octets = omega arith;
+    }
+
+-- and the bytes of each capture
+pub sizes-fit : (m : Mode) (i : Input) (so_far : List Segment) (n : Network) (told : List Event) (passed : List Bool) (gone : List Leaving) (lines : List TraceLine) → RunsAreFew → RunsAreUnderWay → length (arrivals_in so_far) ≤ 2 ^ 49 →
+    HasPlayed m i so_far n told passed gone lines → (q : ℕ) → capture_size (left_at q gone) < 2 ^ 64
+sizes-fit m i so_far n told passed gone lines law way arrivals p q =
+    let few = law m i so_far p.done p.plays in
     let at = ap (λ (xs : List Leaving). length (left_at q xs)) p.gone in
     let frames = few.left_each q in
     let copies = (way m i so_far p.done p.plays).copies in
     let short = octets_few q p.done.left (λ k d low. (copies k d low).short) in
     let bytes = ap (λ (xs : List Leaving). octets_of (left_at q xs)) p.gone in
-    record {
-      relayed = omega (arith, relays, entered, arrivals, all);
-      dropped = omega (arith, relays, entered, arrivals, all, drops);
-      ignored = omega (arith, ignores, entered, arrivals, others);
-      left = omega (arith, at, frames, arrivals);
-      octets = omega (arith, bytes, short, frames, arrivals);
-    }
+    omega (arith, at, bytes, short, frames, arrivals)
 
 -- ---- what a run tells can be counted, and is
-ports-can : (plan : Planned) (ports : Option Counters) (told more : List Event) (passed said : List Bool) (gone : List Leaving) (xs : List Left) → AreCounted plan ports told passed gone → GoTogether told passed →
-    All (λ (x : Left). CanBeWritten plan x) xs → ((q : ℕ) → FitsCounts (port_counts_so_far (told ++ more) (passed ++ said) (gone ++ all_left xs) q)) → IfSome ports (CanCountAt more said xs)
-ports-can plan None told more passed said gone xs are together frames fits = tt
-ports-can plan (Some c) told more passed said gone xs are together frames fits = (
-  λ k d low. are.1 (get_or xs k d).port (frames k d low).low (frames k d low).port,
-  λ q there.
-      subst FitsCounts
-      (sym (ap (λ (z : Counts5). with_frames (left_at q (all_left xs)) (plus_events more said q z)) (are.2 q there) ∙ port_more told more passed said gone (all_left xs) q together))
-      (fits q),
-)
+ports-can : (plan : Planned) (ports : Option Counters) (told more : List Event) (passed said : List Bool) → AreCounted plan ports told passed → GoTogether told passed →
+    ((q : ℕ) → FitsCounts (plus_events (told ++ more) (passed ++ said) q nothing)) → IfSome ports (CanCountAt more said)
+ports-can plan None told more passed said are together fits = tt
+ports-can plan (Some c) told more passed said are together fits q there =
+    subst FitsCounts (sym (ap (plus_events more said q) (are.2 q there) ∙ port_more told more passed said q together)) (fits q)
 
 pub can-count : (m : Mode) (i : Input) (plan : Planned) (so_far : List Segment) (n : Network) (c : Counted) (told more : List Event) (passed said : List Bool) (gone : List Leaving) (xs : List Left) (lines : List TraceLine) →
-    StepsTellPassed → RunsAreFew → RunsAreUnderWay → CanFollow i so_far → HasPlayed m i so_far n (told ++ more) (passed ++ said) (gone ++ all_left xs) lines → IsCounted plan c told passed gone → GoTogether told passed →
-    All (λ (x : Left). CanBeWritten plan x) xs → CanCount c more said xs
-can-count m i plan so_far n c told more passed said gone xs lines steps few way follows played are together frames = record {
+    StepsTellPassed → RunsAreFew → CanFollow i so_far → HasPlayed m i so_far n (told ++ more) (passed ++ said) (gone ++ all_left xs) lines → IsCounted plan c told passed gone → GoTogether told passed →
+    CanCount c more said (length xs)
+can-count m i plan so_far n c told more passed said gone xs lines steps few follows played are together = record {
   tally = tally-fits m i so_far n told more (passed ++ said) gone xs lines (counts_of c.tally) few follows played are.tally;
-  ports = ports-can plan c.ports told more passed said gone xs are.ports together frames (ports-fit m i so_far n (told ++ more) (passed ++ said) (gone ++ all_left xs) lines few way follows played);
+  ports = ports-can plan c.ports told more passed said are.ports together (ports-fit m i so_far n (told ++ more) (passed ++ said) (gone ++ all_left xs) lines few follows played);
 }
 
-ports-on : (plan : Planned) (old new : Option Counters) (told more : List Event) (passed said : List Bool) (gone : List Leaving) (xs : List Left) → CountsOn old new more said xs → GoTogether told passed →
-    AreCounted plan old told passed gone → AreCounted plan new (told ++ more) (passed ++ said) (gone ++ all_left xs)
-ports-on plan None None told more passed said gone xs on together are = are
-ports-on plan None (Some d) told more passed said gone xs on together are = absurd on
-ports-on plan (Some c) None told more passed said gone xs on together are = absurd on
-ports-on plan (Some c) (Some d) told more passed said gone xs on together are =
+ports-on : (plan : Planned) (old new : Option Counters) (told more : List Event) (passed said : List Bool) → CountsOn old new more said → GoTogether told passed →
+    AreCounted plan old told passed → AreCounted plan new (told ++ more) (passed ++ said)
+ports-on plan None None told more passed said on together are = are
+ports-on plan None (Some d) told more passed said on together are = absurd on
+ports-on plan (Some c) None told more passed said on together are = absurd on
+ports-on plan (Some c) (Some d) told more passed said on together are =
     let same = on.0 in (
       are.0,
       (λ q low out. (let h = are.1 q low out in omega (arith, h, same))),
       (λ q there.
           let was : HasPort c q = omega (arith, there, same) in
-          on.1 q was ∙ ap (λ (z : Counts5). with_frames (left_at q (all_left xs)) (plus_events more said q z)) (are.2 q was) ∙ port_more told more passed said gone (all_left xs) q together),
+          on.1 q was ∙ ap (plus_events more said q) (are.2 q was) ∙ port_more told more passed said q together),
     )
 
 pub counted-on : (plan : Planned) (c d : Counted) (told more : List Event) (passed said : List Bool) (gone : List Leaving) (xs : List Left) →
-    counts_of d.tally ≡ frames_more_in_all (length xs) (count_events (counts_of c.tally) more) → CountsOn c.ports d.ports more said xs → GoTogether told passed →
+    counts_of d.tally ≡ frames_more_in_all (length xs) (count_events (counts_of c.tally) more) → CountsOn c.ports d.ports more said → GoTogether told passed →
     IsCounted plan c told passed gone → IsCounted plan d (told ++ more) (passed ++ said) (gone ++ all_left xs)
 counted-on plan c d told more passed said gone xs tally ports together are = record {
   tally = tally ∙ ap (λ (b : Counts). frames_more_in_all (length xs) (count_events b more)) are.tally ∙ counts-more told more gone xs;
-  ports = ports-on plan c.ports d.ports told more passed said gone xs ports together are.ports;
+  ports = ports-on plan c.ports d.ports told more passed said ports together are.ports;
 }
 
 -- before anything is told
-pub counted-none : (plan : Planned) (c : Counted) → counts_of c.tally ≡ nothing_counted → AreCounted plan c.ports [] [] [] → IsCounted plan c [] [] []
+pub counted-none : (plan : Planned) (c : Counted) → counts_of c.tally ≡ nothing_counted → AreCounted plan c.ports [] [] → IsCounted plan c [] [] []
 counted-none plan c tally ports = record { tally = tally; ports = ports }
 
 pub asked_for : (b : Bool) → not b ≡ false → b ≡ true
 asked_for true e = refl
 asked_for false e = sym e
 
-pub counts-of : (plan : Planned) (ports : Option Counters) (told : List Event) (passed : List Bool) (gone : List Leaving) → AreCounted plan ports told passed gone → AreCountsOf plan ports
-counts-of plan None told passed gone are = are
-counts-of plan (Some c) told passed gone are = (are.0, are.1)
+pub counts-of : (plan : Planned) (ports : Option Counters) (told : List Event) (passed : List Bool) → AreCounted plan ports told passed → AreCountsOf plan ports
+counts-of plan None told passed are = are
+counts-of plan (Some c) told passed are = (are.0, are.1)
 
 pub ports-new : (plan : Planned) (made : Counters) → plan.options.counters ≡ true → ((q : ℕ) → q < 4160 → is_external plan.tree q ≡ true → HasPort made q) → ((q : ℕ) → counts_at made q ≡ nothing) →
-    AreCounted plan (Some made) [] [] []
+    AreCounted plan (Some made) [] []
 ports-new plan made asked ports none = (asked, ports, λ q there. none q ∙ sym (port_none q))

@@ -17,6 +17,7 @@ use Rattle.exb_inputs.specs.Inputs.{input_of}
 use Rattle.exb_run.specs.Outputs.{AreFrontsOf, IsPlayed, OnlyOutputs}
 use Rattle.exb_inputs.specs.Checks.{AreAllGood, FirstFault}
 use Rattle.exb_inputs.specs.Reading.{IsOfAudit, IsOfTopology, IsOfPlaying}
+use Rattle.exb_run.specs.Parts.{LeavesParts}
 use Rattle.exb_run.specs.Shelving.{IsOfPlay}
 use Rattle.exb_run.specs.Answers.{AreFronts, AreFrontsIn, IsDone, IsFailure, OnlyAsked, Stops, eager_summary, mode_for}
 use Rattle.exb_inputs.specs.Answers.{HoldsTopology, IsRefused}
@@ -44,6 +45,7 @@ came_unaccepted tells f = record {
   stopped = λ t fault is n. refl;
   others = λ t n. refl;
   fronts = λ t. tt;
+  parts = λ t n. refl;
 }
 
 -- ---- the topology is not taken
@@ -81,6 +83,7 @@ module _ (tells : Type 0) (name : List ℕ) (f g : Files) (x : Fault) (is : tell
     stopped = λ t fault stops. same;
     others = λ t u holds m none. same m;
     fronts = λ t. fronts_same name options.seed f g same;
+    parts = λ t. inl same;
   }
 
   pub came_audit_refused : CameOut tells (Some (Audit name)) (Err x) f g
@@ -102,6 +105,7 @@ module _ (tells : Type 0) (name : List ℕ) (f g : Files) (x : Fault) (is : tell
     stopped = λ t fault stops. same;
     others = λ t. same;
     fronts = λ t. tt;
+    parts = λ t. same;
   }
 
   pub came_check_refused : CameOut tells (Some (Check name)) (Err x) f g
@@ -120,6 +124,7 @@ module _ (tells : Type 0) (name : List ℕ) (f g : Files) (x : Fault) (is : tell
     stopped = λ t fault stops. same;
     others = λ t. same;
     fronts = λ t. tt;
+    parts = λ t. same;
   }
 
 -- ---- the topology is checked
@@ -137,6 +142,7 @@ came_checked tells name f g t (Ok lines) holds same says memory = record {
   stopped = λ told fault stops. same;
   others = λ told. same;
   fronts = λ told. tt;
+  parts = λ told. same;
 }
 came_checked tells name f g t (Err x) holds same says memory = record {
   unaccepted = λ none. absurd (cc);
@@ -150,6 +156,7 @@ came_checked tells name f g t (Err x) holds same says memory = record {
   stopped = λ told fault stops. same;
   others = λ told. same;
   fronts = λ told. tt;
+  parts = λ told. same;
 }
 
 -- ---- what a run wrote is audited
@@ -198,6 +205,7 @@ module _ (tells : Type 0) (name : List ℕ) (f g : Files) (t : Topology) (holds 
     stopped = λ told y stops. same;
     others = λ told. same;
     fronts = λ told. tt;
+    parts = λ told. same;
   }
 
 -- ---- an input is made
@@ -215,6 +223,7 @@ came_made tells number f (Ok line) says memory = record {
   stopped = λ told fault stops n. refl;
   others = λ told n. refl;
   fronts = λ told. tt;
+  parts = λ told n. refl;
 }
 came_made tells number f (Err x) says memory = record {
   unaccepted = λ none. absurd (cc);
@@ -228,6 +237,7 @@ came_made tells number f (Err x) says memory = record {
   stopped = λ told fault stops n. refl;
   others = λ told n. refl;
   fronts = λ told. tt;
+  parts = λ told n. refl;
 }
 
 -- ---- the topology is played
@@ -243,6 +253,7 @@ pub record PlaysOut (tells : Type 0) (options : Options) (t : Topology) (o : Out
   pub stopped : tells → (p : ℕ) (x : Fault) → FirstFault t.captures old p x → SameFiles old new
   pub others : tells → OnlyOutputs options (shape_of t.setup) t.prefix old new
   pub fronts : tells → mode_for options.seed ≡ Eager → AreFrontsOf (input_of t old) t.prefix old new
+  pub parts : tells → LeavesParts options t old new
 
 module _ (tells : Type 0) (name : List ℕ) (options : Options) (t : Topology) (f h : Files) (holds : tells → HoldsTopology name f t) where
   done-by : (o : Outcome) → IfOk o (λ line. AreAllGood t.captures f) → IfOk o (λ line. IsPlayed (mode_for options.seed) options (input_of t f) t.prefix f h (string_bytes line)) → HoldsTopology name f t
@@ -288,4 +299,5 @@ module _ (tells : Type 0) (name : List ℕ) (options : Options) (t : Topology) (
     stopped = λ told x stops. let found = first-by x (holds told) stops in out.stopped told found.0 x found.1;
     others = λ told. others-by (out.others told) (holds told);
     fronts = λ told. fronts-by options.seed (out.fronts told) (holds told);
+    parts = λ told. inr (t, holds told, out.parts told);
   }

@@ -219,7 +219,7 @@ number-other p m q (s ∷ ss) differ = by_test (s.port == p) refl (number-other 
         ap (λ (b : Bool). if b then suc s.index else number_of ss q) other ∙ sym (ap (λ (b : Bool). if b then s.index else number_of ss q) other)
     by_test false e rest = ap (λ (n : ℕ). if s.port == q then s.index else n) rest
 
-has-before : (p m q : ℕ) (ss : List Standing) → HasPort q (gone_on p m ss) → HasPort q ss
+pub has-before : (p m q : ℕ) (ss : List Standing) → HasPort q (gone_on p m ss) → HasPort q ss
 has-before p m q [] has = absurd has
 has-before p m q (s ∷ ss) has = by_test (s.port == p) (has-before p m q ss) has
   where

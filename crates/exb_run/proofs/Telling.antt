@@ -63,7 +63,7 @@ then-append : (h : History) (xs ys : List Event) → (h then (xs ++ ys)) ≡ ((h
 then-append h [] ys = refl
 then-append h (x ∷ xs) ys = then-append (x ∷ h) xs ys
 
-left_at-append : (q : ℕ) (xs ys : List Leaving) → left_at q (xs ++ ys) ≡ left_at q xs ++ left_at q ys
+pub left_at-append : (q : ℕ) (xs ys : List Leaving) → left_at q (xs ++ ys) ≡ left_at q xs ++ left_at q ys
 left_at-append q [] ys = refl
 left_at-append q (x ∷ xs) ys = by_port (x.port == q) (left_at-append q xs ys)
   where

@@ -1,5 +1,6 @@
 -- What leaves, into the captures of its ports.
 use Rattle.std.specs.Prelude.{ℕ, List, ◌++◌, flat_map}
+use Rattle.exb_model.specs.FlatBridge.{Sent}
 use Rattle.exb_model.specs.Texts.{record_text}
 use Rattle.exb_network.specs.declared.log.Left.{Left}
 use Rattle.exb_network.specs.Worlds.{all_left}
@@ -15,6 +16,10 @@ with_left_frames text left (output.Capture q) = text (output.Capture q) ++ flat_
 with_left_frames text left output.Journal = text output.Journal
 with_left_frames text left output.Trace = text output.Trace
 with_left_frames text left output.Counters = text output.Counters
+
+-- the frames that were put into each capture, with what left its port
+abbrev pub sent_with : (ℕ → List Sent) → List Left → ℕ → List Sent
+sent_with sent left q = sent q ++ left_at q (all_left left)
 
 -- a frame that can be written: it left an external port, below 2^32 seconds
 abbrev pub CanBeWritten : Planned → Left → Type 0

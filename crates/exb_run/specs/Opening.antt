@@ -1,5 +1,5 @@
 -- Which files are opened.
-use Rattle.std.specs.Prelude.{⊤, ◌≡◌, ◌≢◌, ◌<◌, ◌+◌, ◌++◌, ◌⊎◌, ℕ, true, List, Option, Some, None, Result, Ok, Err, IsErrOf, String}
+use Rattle.std.specs.Prelude.{⊤, ◌≡◌, ◌≢◌, ◌<◌, ◌+◌, ◌++◌, ◌⊎◌, ℕ, true, false, List, Option, Some, None, Result, Ok, Err, IsErrOf, String}
 use Rattle.std.specs.declared.alloc.Global.{Global}
 use Rattle.exb_model.specs.Setup.{shape_of}
 use Rattle.exb_model.specs.Tree.{Shape}
@@ -7,6 +7,7 @@ use Rattle.exb_shelf.specs.Files.{Files}
 use Rattle.exb_shelf.specs.Shelf.{Id, IsReading, IsReadingOf, Opens, writing}
 use Rattle.exb_text.specs.declared.output.Output.{Output}
 use Rattle.exb_text.specs.Names.{file_name}
+use Rattle.exb_tables.specs.declared.rows.Named.{Named}
 use Rattle.exb_topology.specs.declared.topology.Topology.{Topology}
 use Rattle.exb_words.specs.declared.asked.Options.{Options}
 use Rattle.exb_words.specs.Words.{Ask, Run, Check, Make, Audit}
@@ -17,7 +18,7 @@ use Rattle.exb_outputs.specs.Plans.{IsMade, Planned, output_count}
 use Rattle.exb_inputs.specs.declared.fault.Fault.{Fault}
 use Rattle.exb_inputs.specs.declared.fault.Fault.TheVariants.{Capture, Changed}
 use Rattle.exb_inputs.specs.declared.fault.Flaw.{Flaw}
-use Rattle.exb_inputs.specs.Inputs.{is_named}
+use Rattle.exb_inputs.specs.Inputs.{is_named, name_of}
 use Rattle.exb_inputs.specs.Checks.{AreAllGood, FirstFault}
 use Rattle.exb_inputs.specs.Reading.{IsOfTopology}
 use Rattle.exb_inputs.specs.Shelving.{ReadsBelow, ReadsCapture}
@@ -105,14 +106,25 @@ IsFileOf options t i = ReadsCapture t.captures i ⊎ WritesOutput options t i
 abbrev pub ReadsUpTo : List ℕ → Topology → ℕ → Id → Type 0
 ReadsUpTo name t p i = IsReadingOf name i ⊎ ReadsBelow t.captures (p + 1) i
 
+-- the capture of each port that is named was opened before this id was given
+abbrev pub EachBefore : List Named → ℕ → (ℕ → Id) → (ℕ → Id) → Type 0
+EachBefore names i given ids = (q : ℕ) (name : List ℕ) → q < 4160 → name_of names q ≡ Some name → (j : ℕ) × ((given j).given ≡ false) × IsReadingOf name (ids j) × (j < i)
+
+-- so before each file that was made
+abbrev pub MadeBehind : List Named → (ℕ → Id) → (ℕ → Id) → Type 0
+MadeBehind names given ids = (i : ℕ) → (given i).given ≡ false → (ids i).given ≡ true → (ids i).reads ≡ false → EachBefore names i given ids
+
 -- What a run of a topology opened, whatever the shelf tells: the topology, its captures, and its outputs, which were made in order,
--- each once, and all of them where all went well or a capture turned out to be another one. Where the fault is one of a capture no
--- capture of a later port was opened; nor was one, or an output made, where files are told and a capture has a fault.
+-- each once and behind all captures, and all of them where all went well or a capture turned out to be another one, which is that of a
+-- port that is named. Where the fault is one of a capture no capture of a later port was opened; nor was one, or an output made, where
+-- files are told and a capture has a fault.
 pub record RunOpens (tells : Type 0) (name : List ℕ) (options : Options) (o : Result (String Global) Fault) (file : Files) (given ids : ℕ → Id) : Type 0 where
   pub topology : Topology
   pub holds : tells → HoldsTopology name file topology
   pub opened : Opens (λ i. IsReadingOf name i ⊎ IsFileOf options topology i) given ids
   pub made : MakesInOrder (plan_for topology options) o given ids
+  pub behind : MadeBehind topology.captures given ids
+  pub changed : (p at : ℕ) → IsErrOf o (Changed p at) → is_named topology.captures p ≡ true
   pub own : (p : ℕ) (flaw : Flaw) → IsErrOf o (Capture p flaw) → (is_named topology.captures p ≡ true) × Opens (ReadsUpTo name topology p) given ids
   pub first : tells → (p : ℕ) (fault : Fault) → FirstFault topology.captures file p fault → Opens (ReadsUpTo name topology p) given ids
 
@@ -127,16 +139,17 @@ OpensInOrder tells (Some (Run name options)) o file given ids = (IsRefusedEarly 
 OpensInOrder tells a o file given ids = ⊤
 
 -- The same by the status, with the line that was printed: at 4 that of the last port of which a capture was opened, and at 10 that of a
--- port.
+-- port whose capture is named.
 pub record RunOpened (tells printing : Type 0) (name : List ℕ) (options : Options) (status : ℕ) (file : Files) (given ids : ℕ → Id) (before after : List ℕ) : Type 0 where
   pub topology : Topology
   pub holds : tells → HoldsTopology name file topology
   pub opened : Opens (λ i. IsReadingOf name i ⊎ IsFileOf options topology i) given ids
   pub count : ℕ
   pub made : MadeInOrder (plan_for topology options) count given ids
+  pub behind : MadeBehind topology.captures given ids
   pub all : (status ≡ 0) ⊎ (status ≡ 10) → count ≡ output_count (plan_for topology options)
   pub four : status ≡ 4 → (p : ℕ) × (flaw : Flaw) × (is_named topology.captures p ≡ true) × Opens (ReadsUpTo name topology p) given ids × (printing → after ≡ before ++ fault_line (Capture p flaw))
-  pub ten : status ≡ 10 → (p : ℕ) × (byte : ℕ) × (p < 4160) × (printing → after ≡ before ++ fault_line (Changed p byte))
+  pub ten : status ≡ 10 → (p : ℕ) × (byte : ℕ) × (p < 4160) × (is_named topology.captures p ≡ true) × (printing → after ≡ before ++ fault_line (Changed p byte))
   pub first : tells → (p : ℕ) (fault : Fault) → FirstFault topology.captures file p fault → Opens (ReadsUpTo name topology p) given ids
 
 -- what a run opened, or the topology alone, at 1, 3, 5, 6 and 7

@@ -6,6 +6,7 @@ use Rattle.exb_words.specs.Words.{Ask, Run, Check, Make, Audit}
 use Rattle.exb_inputs.specs.declared.fault.Fault.{Fault}
 use Rattle.exb_inputs.specs.declared.fault.Fault.TheVariants.{Usage, Read, Memory}
 use Rattle.exb_run.specs.Answers.{AreFronts, IsDone, IsFailure, IsRun, OnlyAsked, Stops}
+use Rattle.exb_run.specs.Parts.{AreParts}
 use Rattle.exb_inputs.specs.Reading.{IsOfAudit, IsOfTopology, IsOfPlaying}
 use Rattle.exb_run.specs.Saying.{SaysDone}
 use Rattle.exb_run.specs.Shelving.{IsOfPlay}
@@ -31,3 +32,4 @@ pub record CameOut (tells : Type 0) (a : Option Ask) (o : Result (String Global)
   pub stopped : tells → (fault : Fault) → Stops a old fault → SameFiles old new
   pub others : tells → OnlyAsked a old new
   pub fronts : tells → AreFronts a old new
+  pub parts : tells → AreParts a old new

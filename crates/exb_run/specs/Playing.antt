@@ -14,9 +14,7 @@ use Rattle.exb_model.specs.Traces.{TraceLine, trace_text}
 use Rattle.exb_model.specs.Tree.{Shape, external_ports, is_external}
 use Rattle.exb_machine.specs.Worlds.{Left}
 use Rattle.exb_resting.specs.Motion.Playing.{IsTimely}
-use Rattle.exb_network.specs.declared.log.Left.{Left as Leaving}
 use Rattle.exb_network.specs.Networks.{Network, IsQuiet}
-use Rattle.exb_network.specs.Worlds.{all_left}
 use Rattle.exb_resting.specs.Rest.Playing.{arrivals_in}
 use Rattle.exb_schedule.specs.declared.segment.Arrival.{Arrival}
 use Rattle.exb_schedule.specs.Playing.{CanAll, HasPlayed as IsPlayedBy, IsSegment, arrived, gives}
@@ -36,6 +34,7 @@ use Rattle.exb_outputs.specs.declared.outputs.Outputs.{Outputs}
 use Rattle.exb_run.specs.declared.script.Schedule.{Schedule}
 use Rattle.exb_run.specs.declared.script.Schedule.TheVariants as schedule
 use Rattle.exb_outputs.specs.Plans.{Planned}
+use Rattle.exb_outputs.specs.Sent.{HasSent, capture_size, counts_with}
 use Rattle.exb_outputs.specs.Writing.{AreCut, HasTexts, pieces_of}
 
 -- ---- what is asked for
@@ -71,48 +70,46 @@ with_frames xs c =
 abbrev pub port_counts_so_far : List Event → List Bool → List Left → ℕ → Counts5
 port_counts_so_far told passed gone q = with_frames (left_at q gone) (plus_events told passed q nothing)
 
--- there are counts by port where they are asked for, and they are these
-abbrev pub AreCounted : Planned → Option Counters → List Event → List Bool → List Left → Type 0
-AreCounted plan None told passed gone = plan.options.counters ≡ false
-AreCounted plan (Some c) told passed gone =
-    (plan.options.counters ≡ true) × ((q : ℕ) → q < 4160 → is_external plan.tree q ≡ true → HasPort c q) × ((q : ℕ) → HasPort c q → counts_at c q ≡ port_counts_so_far told passed gone q)
+-- there are counts by port where they are asked for, and they are those of what came in
+abbrev pub AreCounted : Planned → Option Counters → List Event → List Bool → Type 0
+AreCounted plan None told passed = plan.options.counters ≡ false
+AreCounted plan (Some c) told passed =
+    (plan.options.counters ≡ true) × ((q : ℕ) → q < 4160 → is_external plan.tree q ≡ true → HasPort c q) × ((q : ℕ) → HasPort c q → counts_at c q ≡ plus_events told passed q nothing)
 
 -- there are counts by port exactly where they are asked for, and of each external port
 abbrev pub AreCountsOf : Planned → Option Counters → Type 0
 AreCountsOf plan None = plan.options.counters ≡ false
 AreCountsOf plan (Some c) = (plan.options.counters ≡ true) × ((q : ℕ) → q < 4160 → is_external plan.tree q ≡ true → HasPort c q)
 
--- the text of the counters
-abbrev pub counts_text : Planned → Option Counters → List ℕ
-counts_text plan None = []
-counts_text plan (Some c) = count_lines (counts_at c) (external_ports plan.tree)
+-- the text of the counters, with what the captures have counted
+abbrev pub counts_text : Planned → Option Counters → Outputs → List ℕ
+counts_text plan None o = []
+counts_text plan (Some c) o = count_lines (counts_with plan o c) (external_ports plan.tree)
 
 -- what is counted is what was told and has left
 pub record IsCounted (plan : Planned) (c : Counted) (told : List Event) (passed : List Bool) (gone : List Left) : Type 0 where
   pub tally : counts_of c.tally ≡ counts_so_far told gone
-  pub ports : AreCounted plan c.ports told passed gone
+  pub ports : AreCounted plan c.ports told passed
 
 -- what was said of Relays goes with what was told: the drops of more are those of what comes more
 abbrev pub GoTogether : List Event → List Bool → Type 0
 GoTogether told passed = (more : List Event) (said : List Bool) (q : ℕ) → drops_in (told ++ more) (passed ++ said) q ≡ drops_in told passed q + drops_in more said q
 
--- events and frames more can be counted
-abbrev pub CanCountAt : List Event → List Bool → List Leaving → Counters → Type 0
-CanCountAt events passed left c =
-    All (λ (x : Leaving). HasPort c x.port) left
-    × ((q : ℕ) → HasPort c q → FitsCounts (with_frames (left_at q (all_left left)) (plus_events events passed q (counts_at c q))))
+-- events more can be counted
+abbrev pub CanCountAt : List Event → List Bool → Counters → Type 0
+CanCountAt events passed c = (q : ℕ) → HasPort c q → FitsCounts (plus_events events passed q (counts_at c q))
 
-pub record CanCount (c : Counted) (events : List Event) (passed : List Bool) (left : List Leaving) : Type 0 where
-  pub tally : FitsTally (with_left (length left) (fold (λ k e. counted e k) (counts_of c.tally) events))
-  pub ports : IfSome c.ports (CanCountAt events passed left)
+-- and so many frames that left
+pub record CanCount (c : Counted) (events : List Event) (passed : List Bool) (left : ℕ) : Type 0 where
+  pub tally : FitsTally (with_left left (fold (λ k e. counted e k) (counts_of c.tally) events))
+  pub ports : IfSome c.ports (CanCountAt events passed)
 
 -- and they are
-abbrev pub CountsOn : Option Counters → Option Counters → List Event → List Bool → List Leaving → Type 0
-CountsOn None None events passed left = Unit {0}
-CountsOn (Some c) (Some d) events passed left =
-    (length d.counts.items ≡ length c.counts.items)
-    × ((q : ℕ) → HasPort c q → counts_at d q ≡ with_frames (left_at q (all_left left)) (plus_events events passed q (counts_at c q)))
-CountsOn _ _ events passed left = ⊥
+abbrev pub CountsOn : Option Counters → Option Counters → List Event → List Bool → Type 0
+CountsOn None None events passed = Unit {0}
+CountsOn (Some c) (Some d) events passed =
+    (length d.counts.items ≡ length c.counts.items) × ((q : ℕ) → HasPort c q → counts_at d q ≡ plus_events events passed q (counts_at c q))
+CountsOn _ _ events passed = ⊥
 
 -- an input, and the files before its run
 pub record Run : Type 0 where
@@ -133,7 +130,13 @@ pub record IsTold (tells : Type 0) (m : Mode) (r : Run) (plan : Planned) (now : 
   pub bytes : All HasBytes lines
   pub counted : IsCounted plan c told passed gone
   pub texts : tells → HasTexts plan (pieces_of o) r.before now (text_so_far told gone lines [])
+  pub sent : HasSent plan o (λ q. left_at q gone)
   pub quiet : IsQuiet n
+
+-- All segments were played, and the bytes of each capture are few enough that all are counted.
+pub record IsAllTold (tells : Type 0) (m : Mode) (r : Run) (plan : Planned) (now : Files) (n : Network) (c : Counted) (o : Outputs) : Type 0 where
+  pub is : IsTold tells m r plan now n c o (segments m r.input)
+  pub room : (q : ℕ) → capture_size (left_at q is.gone) < 2 ^ 64
 
 -- The run ended early, after some of its segments: each output is as it was, or holds a front of its text over what these told.
 pub record IsCutOff (m : Mode) (r : Run) (plan : Planned) (now : Files) : Type 0 where
@@ -148,6 +151,7 @@ pub record IsCutOff (m : Mode) (r : Run) (plan : Planned) (now : Files) : Type 0
   pub lines : List TraceLine
   pub counts : List ℕ
   pub played : IsPlayedBy m r.input so_far network told passed gone lines
+  pub tracing : network.log.tracing ≡ plan.options.trace
   pub cut : AreCut plan r.before now (text_so_far told gone lines counts)
 
 -- ---- what comes

@@ -26,6 +26,7 @@ use Rattle.exb_run.specs.declared.feed.Feed.{Feed}
 use Rattle.exb_outputs.specs.declared.outputs.Outputs.{Outputs}
 use Rattle.exb_outputs.specs.Plans.{output_name, Planned, output_count}
 use Rattle.exb_run.specs.Playing.{CanBeKept, IsCounted, IsTold, Run}
+use Rattle.exb_outputs.specs.Sent.{HasSent}
 use Rattle.exb_outputs.specs.Writing.{HasTexts, first_text, pieces_of}
 
 -- ---- whatever the captures give
@@ -88,6 +89,7 @@ pub record IsPlaying (tells : Type 0) (m : Mode) (r : Run) (plan : Planned) (now
 pub record CanBegin (tells : Type 0) (m : Mode) (r : Run) (s : Setup) (plan : Planned) (now : Files) (ids : ℕ → Id) (o : Outputs) (p : Programme) : Type 0 where
   pub setup : r.input.setup ≡ s
   pub texts : tells → HasTexts plan (pieces_of o) r.before now first_text
+  pub sent : HasSent plan o (λ q. [])
   pub timely : IsTimely r.input
   pub next : IsGoingOn r.input [] None p
   pub apart : AreApart plan ids (ids_in p.captures)
@@ -100,6 +102,7 @@ pub record IsOpened (tells : Type 0) (m : Mode) (r : Run) (plan : Planned) (now 
   pub tracing : n.log.tracing ≡ plan.options.trace
   pub counted : IsCounted plan c [] [] []
   pub texts : tells → HasTexts plan (pieces_of o) r.before now first_text
+  pub sent : HasSent plan o (λ q. [])
   pub timely : IsTimely r.input
   pub next : IsGoingOn r.input [] None p
   pub apart : AreApart plan ids (ids_in p.captures)

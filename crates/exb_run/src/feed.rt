@@ -1,9 +1,9 @@
 //! What comes in one segment: one event, or all of one second.
-ghost use Rattle.std.specs.Prelude.{◌≡◌, ◌++◌, ◌∷◌, [], true, false, map, length, IfOk, OnOk, IfErr, IfSome, IfNone};
+ghost use Rattle.std.specs.Prelude.{◌≡◌, ◌++◌, ◌∷◌, [], true, false, map, length, IfOk, OnOk, IfErr, IfSome, IfNone, ℕ};
 ghost use Rattle.exb_model.specs.Input.{Captured, Eager};
 ghost use Rattle.exb_merge.specs.Arrivals.{arrival_with};
 ghost use Rattle.exb_merge.specs.declared.programme.Next.{Next as Coming};
-ghost use Rattle.exb_merge.specs.Replays.{ids_in};
+ghost use Rattle.exb_merge.specs.Replays.{ids_in, HasPort, standings};
 ghost use Rattle.exb_schedule.specs.Playing.{arrived};
 ghost use Rattle.exb_run.specs.Playing.{mode_of};
 ghost use Rattle.exb_inputs.specs.Shelving.{CountsFaults};
@@ -58,6 +58,7 @@ impl Feed<'_> {
         ensures end { S.tells → IfOk result (λ next. IfNone next (NothingIsLeft (S.file shelf.old) (S.ids shelf.old) self.old.programme)) }
         ensures never { S.tells → IfErr result (λ fault. IsChange fault → AreOthers (S.file shelf.old) (S.ids shelf.old) self.old.programme) }
         ensures reads { OnlyReads (ids_in self.old.programme.captures) (S.file shelf.old) (S.file shelf.new) (S.ids shelf.old) (S.ids shelf.new) }
+        ensures port { IfErr result (λ fault. (p at : ℕ) → fault ≡ Fault.Changed p at → HasPort p (standings self.old.programme.captures)) }
         ensures causes { IfErr result IsOfPlay }
         ensures faults { CountsFaults result (S.faults shelf.old) (S.faults shelf.new) }
     {
@@ -89,6 +90,7 @@ impl Feed<'_> {
         ensures end { S.tells → IfOk result (λ came. came ≡ false → NoMoreIn second (S.file shelf.new) (S.ids shelf.new) self.new.programme) }
         ensures never { S.tells → IfErr result (λ fault. IsChange fault → AreOthers (S.file shelf.old) (S.ids shelf.old) self.old.programme) }
         ensures reads { OnlyReads (ids_in self.old.programme.captures) (S.file shelf.old) (S.file shelf.new) (S.ids shelf.old) (S.ids shelf.new) }
+        ensures port { IfErr result (λ fault. (p at : ℕ) → fault ≡ Fault.Changed p at → HasPort p (standings self.old.programme.captures)) }
         ensures causes { IfErr result IsOfPlay }
         ensures faults { CountsFaults result (S.faults shelf.old) (S.faults shelf.new) }
     {
@@ -116,6 +118,7 @@ impl Feed<'_> {
         ensures end { S.tells → OnOk result (NoMoreIn second (S.file shelf.new) (S.ids shelf.new) self.new.programme) }
         ensures never { S.tells → IfErr result (λ fault. IsChange fault → AreOthers (S.file shelf.old) (S.ids shelf.old) self.old.programme) }
         ensures reads { OnlyReads (ids_in self.old.programme.captures) (S.file shelf.old) (S.file shelf.new) (S.ids shelf.old) (S.ids shelf.new) }
+        ensures port { IfErr result (λ fault. (p at : ℕ) → fault ≡ Fault.Changed p at → HasPort p (standings self.old.programme.captures)) }
         ensures causes { IfErr result IsOfPlay }
         ensures faults { CountsFaults result (S.faults shelf.old) (S.faults shelf.new) }
     {
@@ -137,6 +140,7 @@ impl Feed<'_> {
         ensures end { S.tells → IfOk result (λ next. IfNone next (NothingIsLeft (S.file shelf.old) (S.ids shelf.old) self.old.programme)) }
         ensures never { S.tells → IfErr result (λ fault. IsChange fault → AreOthers (S.file shelf.old) (S.ids shelf.old) self.old.programme) }
         ensures reads { OnlyReads (ids_in self.old.programme.captures) (S.file shelf.old) (S.file shelf.new) (S.ids shelf.old) (S.ids shelf.new) }
+        ensures port { IfErr result (λ fault. (p at : ℕ) → fault ≡ Fault.Changed p at → HasPort p (standings self.old.programme.captures)) }
         ensures causes { IfErr result IsOfPlay }
         ensures faults { CountsFaults result (S.faults shelf.old) (S.faults shelf.new) }
     {

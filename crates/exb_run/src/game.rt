@@ -2,13 +2,14 @@
 ghost use Rattle.std.specs.Prelude.{◌≡◌, ◌≤◌, ◌<◌, ◌+◌, ◌^◌, ◌++◌, ◌∷◌, [], ℕ, Bool, List, length, drop, All, fold, IsOk, IfOk, OnOk, OnErr, IfErr, None, Some, string_bytes};
 ghost use Rattle.exb_model.specs.declared.event.Event.{Event};
 ghost use Rattle.exb_model.specs.Input.{Input, Mode, Eager, Segment, segments, seconds_after};
+ghost use Rattle.exb_model.specs.FlatBridge.{Sent};
 ghost use Rattle.exb_model.specs.Setup.{IsValid, shape_of};
 ghost use Rattle.exb_model.specs.Texts.{counted, with_left, summary_line};
 ghost use Rattle.exb_model.specs.Traces.{TraceLine, trace_text};
 ghost use Rattle.exb_legal.specs.Spelled.{HasBytes};
 ghost use Rattle.exb_legal.specs.TextLaws.{IsOfNumbers};
 ghost use Rattle.exb_machine.specs.Worlds.{Left as Leaving};
-ghost use Rattle.exb_merge.specs.Replays.{ids_in};
+ghost use Rattle.exb_merge.specs.Replays.{ids_in, HasPort, standings};
 ghost use Rattle.exb_resting.specs.Motion.Playing.{IsTimely};
 ghost use Rattle.exb_network.specs.Networks.{world_of, IsQuiet, IsSame};
 ghost use Rattle.exb_network.specs.Worlds.{all_left};
@@ -19,15 +20,17 @@ ghost use Rattle.exb_text.specs.declared.output.Output.{Output};
 ghost use Rattle.exb_text.specs.declared.output.Output.TheVariants as output;
 ghost use Rattle.exb_text.specs.Tallies.{counts_of};
 ghost use Rattle.exb_outputs.specs.Plans.{kind_at, output_count, output_name};
-ghost use Rattle.exb_run.specs.Playing.{AreCountsOf, CanBeKept, CanCount, CountsOn, Run, IsCutOff, IsTold, counts_text, mode_of};
+ghost use Rattle.exb_run.specs.Playing.{AreCountsOf, CanBeKept, CanCount, CountsOn, Run, IsAllTold, IsCutOff, IsTold, counts_text, mode_of};
 ghost use Rattle.exb_run.specs.UnderWay.{CanBegin, CanBePlayed, CanFeed, CanGoOn, IsOpened, IsPlaying};
+ghost use Rattle.exb_run.specs.Parts.{AreCutSoFar};
 ghost use Rattle.exb_run.specs.Outputs.{AreCutEagerly, HasPlayed};
 ghost use Rattle.exb_inputs.specs.Shelving.{CountsFaults};
 ghost use Rattle.exb_run.specs.Saying.{IsSummary};
 ghost use Rattle.exb_run.specs.Shelving.{IsChange, IsOfPlay, OnlyGoesOn};
 ghost use Rattle.exb_outputs.specs.Shelving.{IsOfWriting, OnlyWrites};
+ghost use Rattle.exb_outputs.specs.Sent.{AreCountedAt, HasSent};
 ghost use Rattle.exb_outputs.specs.Writing.{AreCut, HasTexts, IsReady, pieces_of, lines_of, with_more};
-ghost use Rattle.exb_run.specs.Leaving.{with_left_frames, CanBeWritten};
+ghost use Rattle.exb_run.specs.Leaving.{sent_with, with_left_frames, CanBeWritten};
 
 use crate::counted::Counted;
 use crate::feed::Feed;
@@ -45,7 +48,7 @@ use exb_resting::laws::rest::{
 };
 use exb_schedule::{Arrival, World, WorldFault, eager, open, seeded};
 use exb_shelf::Shelf;
-use exb_tracing::laws::runs_tell_legally;
+use exb_tracing::laws::{runs_tell_legally, runs_tell_so_far};
 use exb_wiring::laws::counts_go_on;
 use rand_core::SeedableRng;
 use rand_pcg::Lcg64Xsh32;
@@ -96,6 +99,7 @@ fn write_all<S: Shelf>(
         → AreCut plan.now orig (S.file shelf.new)
         (with_more (with_left_frames (with_more text output.Journal (lines_of (network_of world.now).log.events)) (network_of world.now).log.left)
         output.Trace (trace_text (network_of world.now).log.lines))) }
+    ensures sent { OnOk result ((sent : ℕ → List Sent) → HasSent plan.now outputs.old sent → HasSent plan.now outputs.new (sent_with sent (network_of world.now).log.left)) }
     ensures only { OnlyWrites S.tells plan.now (S.file shelf.old) (S.file shelf.new) (S.ids shelf.old) (S.ids shelf.new) }
     ensures causes { IfErr result IsOfWriting }
     ensures faults { CountsFaults result (S.faults shelf.old) (S.faults shelf.new) }
@@ -153,7 +157,7 @@ impl Game {
     fn note<S: Shelf>(&mut self, shelf: &mut S, plan: &Plan) -> Result<(), Fault>
         requires ready { IsReady plan.now (S.ids shelf.old) self.old.outputs }
         requires frames { All (λ x. CanBeWritten plan.now x) (network_of self.old.world).log.left }
-        requires can { CanCount self.old.counted (network_of self.old.world).log.events (network_of self.old.world).log.passed (network_of self.old.world).log.left }
+        requires can { CanCount self.old.counted (network_of self.old.world).log.events (network_of self.old.world).log.passed (length (network_of self.old.world).log.left) }
         ensures ready { IsReady plan.now (S.ids shelf.new) self.new.outputs }
         ensures world { OnOk result (world_of (network_of self.new.world) ≡ world_of (network_of self.old.world)) }
         ensures same { OnOk result (IsSame (network_of self.old.world) (network_of self.new.world)) }
@@ -166,16 +170,21 @@ impl Game {
             → AreCut plan.now orig (S.file shelf.new)
             (with_more (with_left_frames (with_more text output.Journal (lines_of (network_of self.old.world).log.events)) (network_of self.old.world).log.left)
             output.Trace (trace_text (network_of self.old.world).log.lines))) }
+        ensures sent { OnOk result ((sent : ℕ → List Sent) → HasSent plan.now self.old.outputs sent → HasSent plan.now self.new.outputs (sent_with sent (network_of self.old.world).log.left)) }
         ensures tally { OnOk result (counts_of self.new.counted.tally
             ≡ with_left (length (network_of self.old.world).log.left) (fold (λ c e. counted e c) (counts_of self.old.counted.tally) (network_of self.old.world).log.events)) }
-        ensures ports { OnOk result (CountsOn self.old.counted.ports self.new.counted.ports (network_of self.old.world).log.events (network_of self.old.world).log.passed (network_of self.old.world).log.left) }
+        ensures ports { OnOk result (CountsOn self.old.counted.ports self.new.counted.ports (network_of self.old.world).log.events (network_of self.old.world).log.passed) }
         ensures fate { OnOk result (left (fate_in self.new.world) ≡ left (fate_in self.old.world)) }
         ensures only { OnlyWrites S.tells plan.now (S.file shelf.old) (S.file shelf.new) (S.ids shelf.old) (S.ids shelf.new) }
         ensures causes { IfErr result IsOfWriting }
         ensures faults { CountsFaults result (S.faults shelf.old) (S.faults shelf.new) }
     {
         write_all(shelf, plan, &mut self.outputs, &mut self.room, &self.world)?;
-        self.counted.note(self.world.events(), self.world.passed(), self.world.left());
+        self.counted.note(
+            self.world.events(),
+            self.world.passed(),
+            self.world.left().len(),
+        );
         self.world.clear();
         Ok(())
     }
@@ -274,9 +283,10 @@ impl Game {
         ensures ready { OnOk result (IsReady plan.now (S.ids shelf.new) self.new.outputs) }
         ensures few { OnOk result (self.new.counted.tally.relayed + self.new.counted.tally.ignored < 2 ^ 64) }
         ensures counted { OnOk result (AreCountsOf plan.now self.new.counted.ports) }
+        ensures sent { OnOk result (AreCountedAt plan.now self.new.outputs) }
         ensures told { S.tells → OnOk result ((run : Run)
             → IsPlaying S.tells (mode_of schedule) run plan.now (S.file shelf.old) (S.ids shelf.old) (network_of self.old.world) self.old.counted self.old.outputs None feed.old.programme
-            → IsTold S.tells (mode_of schedule) run plan.now (S.file shelf.new) (network_of self.new.world) self.new.counted self.new.outputs (segments (mode_of schedule) run.input)) }
+            → IsAllTold S.tells (mode_of schedule) run plan.now (S.file shelf.new) (network_of self.new.world) self.new.counted self.new.outputs) }
         ensures kept { S.tells → OnOk result ((run : Run)
             → IsPlaying S.tells (mode_of schedule) run plan.now (S.file shelf.old) (S.ids shelf.old) (network_of self.old.world) self.old.counted self.old.outputs None feed.old.programme
             → CanBeKept (segments (mode_of schedule) run.input)) }
@@ -286,9 +296,11 @@ impl Game {
         ensures never { S.tells → IfErr result (λ fault. IsChange fault → (run : Run)
             → IsPlaying S.tells (mode_of schedule) run plan.now (S.file shelf.old) (S.ids shelf.old) (network_of self.old.world) self.old.counted self.old.outputs None feed.old.programme → ⊥) }
         ensures only { OnlyGoesOn S.tells plan.now (ids_in feed.old.programme.captures) (S.file shelf.old) (S.file shelf.new) (S.ids shelf.old) (S.ids shelf.new) }
+        ensures port { IfErr result (λ fault. (p at : ℕ) → fault ≡ Fault.Changed p at → HasPort p (standings feed.old.programme.captures)) }
         ensures causes { IfErr result IsOfPlay }
         ensures faults { CountsFaults result (S.faults shelf.old) (S.faults shelf.new) }
     {
+        runs_are_under_way();
         runs_are_few();
         let mut last: Option<u64> = None;
         let mut taken = feed.programme.taken();
@@ -305,12 +317,13 @@ impl Game {
     fn write_counters<S: Shelf>(&mut self, shelf: &mut S, plan: &Plan) -> Result<(), Fault>
         requires ready { IsReady plan.now (S.ids shelf.old) self.old.outputs }
         requires counted { AreCountsOf plan.now self.old.counted.ports }
+        requires sent { AreCountedAt plan.now self.old.outputs }
         ensures ready { IsReady plan.now (S.ids shelf.new) self.new.outputs }
         ensures counted { self.new.counted ≡ self.old.counted }
         ensures texts { S.tells → OnOk result ((orig : Files) (text : Output → List ℕ) → HasTexts plan.now (pieces_of self.old.outputs) orig (S.file shelf.old) text
-            → HasTexts plan.now (pieces_of self.new.outputs) orig (S.file shelf.new) (with_more text output.Counters (counts_text plan.now self.old.counted.ports))) }
+            → HasTexts plan.now (pieces_of self.new.outputs) orig (S.file shelf.new) (with_more text output.Counters (counts_text plan.now self.old.counted.ports self.old.outputs))) }
         ensures cut { S.tells → OnErr result ((orig : Files) (text : Output → List ℕ) → HasTexts plan.now (pieces_of self.old.outputs) orig (S.file shelf.old) text
-            → AreCut plan.now orig (S.file shelf.new) (with_more text output.Counters (counts_text plan.now self.old.counted.ports))) }
+            → AreCut plan.now orig (S.file shelf.new) (with_more text output.Counters (counts_text plan.now self.old.counted.ports self.old.outputs))) }
         ensures only { OnlyWrites S.tells plan.now (S.file shelf.old) (S.file shelf.new) (S.ids shelf.old) (S.ids shelf.new) }
         ensures causes { IfErr result IsOfWriting }
         ensures faults { CountsFaults result (S.faults shelf.old) (S.faults shelf.new) }
@@ -328,11 +341,12 @@ impl Game {
     fn end<S: Shelf>(&mut self, alloc: Global, shelf: &mut S, plan: &Plan) -> Result<String, Fault>
         requires ready { IsReady plan.now (S.ids shelf.old) self.old.outputs }
         requires counted { AreCountsOf plan.now self.old.counted.ports }
+        requires sent { AreCountedAt plan.now self.old.outputs }
         requires few { self.old.counted.tally.relayed + self.old.counted.tally.ignored < 2 ^ 64 }
         ensures texts { S.tells → OnOk result ((orig : Files) (text : Output → List ℕ) → HasTexts plan.now (pieces_of self.old.outputs) orig (S.file shelf.old) text
-            → Filled orig (S.file shelf.new) (output_count plan.now) (output_name plan.now) (λ j bytes. bytes ≡ with_more text output.Counters (counts_text plan.now self.old.counted.ports) (kind_at plan.now j))) }
+            → Filled orig (S.file shelf.new) (output_count plan.now) (output_name plan.now) (λ j bytes. bytes ≡ with_more text output.Counters (counts_text plan.now self.old.counted.ports self.old.outputs) (kind_at plan.now j))) }
         ensures cut { S.tells → OnErr result ((orig : Files) (text : Output → List ℕ) → HasTexts plan.now (pieces_of self.old.outputs) orig (S.file shelf.old) text
-            → AreCut plan.now orig (S.file shelf.new) (with_more text output.Counters (counts_text plan.now self.old.counted.ports))) }
+            → AreCut plan.now orig (S.file shelf.new) (with_more text output.Counters (counts_text plan.now self.old.counted.ports self.old.outputs))) }
         ensures line { IfOk result (λ line. string_bytes line ≡ summary_line (counts_of self.old.counted.tally)) }
         ensures only { OnlyWrites S.tells plan.now (S.file shelf.old) (S.file shelf.new) (S.ids shelf.old) (S.ids shelf.new) }
         ensures causes { IfErr result IsOfWriting }
@@ -366,6 +380,7 @@ impl Game {
         ensures never { S.tells → IfErr result (λ fault. IsChange fault → (run : Run)
             → IsPlaying S.tells (mode_of schedule) run plan.now (S.file shelf.old) (S.ids shelf.old) (network_of self.old.world) self.old.counted self.old.outputs None feed.old.programme → ⊥) }
         ensures only { OnlyGoesOn S.tells plan.now (ids_in feed.old.programme.captures) (S.file shelf.old) (S.file shelf.new) (S.ids shelf.old) (S.ids shelf.new) }
+        ensures port { IfErr result (λ fault. (p at : ℕ) → fault ≡ Fault.Changed p at → HasPort p (standings feed.old.programme.captures)) }
         ensures causes { IfErr result IsOfPlay }
         ensures faults { CountsFaults result (S.faults shelf.old) (S.faults shelf.new) }
     {
@@ -403,6 +418,7 @@ impl Game {
         ensures never { S.tells → IfErr result (λ fault. IsChange fault → (run : Run)
             → IsOpened S.tells (mode_of schedule) run plan.now (S.file shelf.old) (S.ids shelf.old) (network_of self.old.world) self.old.counted self.old.outputs feed.old.programme → ⊥) }
         ensures only { OnlyGoesOn S.tells plan.now (ids_in feed.old.programme.captures) (S.file shelf.old) (S.file shelf.new) (S.ids shelf.old) (S.ids shelf.new) }
+        ensures port { IfErr result (λ fault. (p at : ℕ) → fault ≡ Fault.Changed p at → HasPort p (standings feed.old.programme.captures)) }
         ensures causes { IfErr result IsOfPlay }
         ensures faults { CountsFaults result (S.faults shelf.old) (S.faults shelf.new) }
     {
@@ -441,6 +457,7 @@ fn play_world<S: Shelf>(
     ensures never { S.tells → IfErr result (λ fault. IsChange fault → (run : Run)
         → IsOpened S.tells (mode_of schedule) run plan.now (S.file shelf.old) (S.ids shelf.old) (network_of world) counted outputs feed.old.programme → ⊥) }
     ensures only { OnlyGoesOn S.tells plan.now (ids_in feed.old.programme.captures) (S.file shelf.old) (S.file shelf.new) (S.ids shelf.old) (S.ids shelf.new) }
+    ensures port { IfErr result (λ fault. (p at : ℕ) → fault ≡ Fault.Changed p at → HasPort p (standings feed.old.programme.captures)) }
     ensures causes { IfErr result IsOfPlay }
     ensures faults { CountsFaults result (S.faults shelf.old) (S.faults shelf.new) }
 {
@@ -484,13 +501,18 @@ pub(crate) fn play_feed<S: Shelf>(
     ensures fronts { S.tells → mode_of schedule ≡ Eager → (run : Run)
         → CanBegin S.tells (mode_of schedule) run script.now.setup.now plan.now (S.file shelf.old) (S.ids shelf.old) outputs feed.old.programme
         → AreCutEagerly run.input plan.now run.before (S.file shelf.new) }
+    ensures so_far { S.tells → (run : Run)
+        → CanBegin S.tells (mode_of schedule) run script.now.setup.now plan.now (S.file shelf.old) (S.ids shelf.old) outputs feed.old.programme
+        → AreCutSoFar (mode_of schedule) run.input plan.now run.before (S.file shelf.new) }
     ensures never { S.tells → IfErr result (λ fault. IsChange fault → (run : Run)
         → CanBegin S.tells (mode_of schedule) run script.now.setup.now plan.now (S.file shelf.old) (S.ids shelf.old) outputs feed.old.programme → ⊥) }
     ensures only { OnlyGoesOn S.tells plan.now (ids_in feed.old.programme.captures) (S.file shelf.old) (S.file shelf.new) (S.ids shelf.old) (S.ids shelf.new) }
+    ensures port { IfErr result (λ fault. (p at : ℕ) → fault ≡ Fault.Changed p at → HasPort p (standings feed.old.programme.captures)) }
     ensures causes { IfErr result IsOfPlay }
     ensures faults { CountsFaults result (S.faults shelf.old) (S.faults shelf.new) }
 {
     runs_write_fronts();
+    runs_tell_so_far();
     let Ok(counted) = Counted::new(alloc, script.setup, plan) else {
         return Err(Fault::Memory);
     };

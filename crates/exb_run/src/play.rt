@@ -10,11 +10,13 @@ ghost use Rattle.exb_run.specs.Checks.{CanBeRead, earlier, first_standing, start
 ghost use Rattle.exb_inputs.specs.Inputs.{input_from, is_named};
 ghost use Rattle.exb_inputs.specs.Shelving.{ReadsCapture, CountsFaults};
 ghost use Rattle.exb_outputs.specs.Order.{MakesInOrder};
+ghost use Rattle.exb_run.specs.Parts.{AreCutSoFar};
 ghost use Rattle.exb_run.specs.Outputs.{AreCutEagerly, HasPlayed};
 ghost use Rattle.exb_outputs.specs.Plans.{OnlyPlanned};
 ghost use Rattle.exb_run.specs.Playing.{IsScript, mode_of};
 ghost use Rattle.exb_run.specs.Saying.{IsSummary};
 ghost use Rattle.exb_run.specs.Shelving.{IsChange, IsOfPlay, OnlyPlays};
+ghost use Rattle.exb_outputs.specs.Sent.{HasSent};
 ghost use Rattle.exb_outputs.specs.Writing.{HasTexts, IsReady, first_text, pieces_of};
 ghost use Rattle.exb_shelf.specs.Files.{Files, SameFiles};
 ghost use Rattle.exb_shelf.specs.Shelf.{Opens};
@@ -83,6 +85,7 @@ fn open_one<S: Shelf>(
     ensures id { OnOk result ((id : ℕ) × (ids_in captures.new ≡ ids_in captures.old ++ id ∷ []) × ((S.ids shelf.old id).given ≡ false)) }
     ensures opens { Opens (ReadsCapture names.now) (S.ids shelf.old) (S.ids shelf.new) }
     ensures files { SameFiles (S.file shelf.old) (S.file shelf.new) }
+    ensures port { IfErr result (λ fault. (p at : ℕ) → fault ≡ Fault.Changed p at → is_named names.now p ≡ true) }
     ensures causes { IfErr result IsOfPlay }
     ensures faults { CountsFaults result (S.faults shelf.old) (S.faults shelf.new) }
 {
@@ -112,6 +115,7 @@ fn open_all<S: Shelf>(
     ensures never { S.tells → IfErr result (λ fault. IsChange fault → ⊥) }
     ensures opens { Opens (ReadsCapture names.now) (S.ids shelf.old) (S.ids shelf.new) }
     ensures files { SameFiles (S.file shelf.old) (S.file shelf.new) }
+    ensures port { IfErr result (λ fault. (p at : ℕ) → fault ≡ Fault.Changed p at → is_named names.now p ≡ true) }
     ensures causes { IfErr result IsOfPlay }
     ensures faults { CountsFaults result (S.faults shelf.old) (S.faults shelf.new) }
 {
@@ -141,14 +145,18 @@ fn play_into<S: Shelf>(
     requires fate { left fate < 2 ^ 56 }
     requires ready { IsReady plan.now (S.ids shelf.old) outputs }
     requires texts { (before : Files) × (S.tells → HasTexts plan.now (pieces_of outputs) before (S.file shelf.old) first_text) }
+    requires sent { HasSent plan.now outputs (λ q. []) }
     ensures done { S.tells → IfOk result (λ line. (before : Files) → HasTexts plan.now (pieces_of outputs) before (S.file shelf.old) first_text
         → HasPlayed (mode_of schedule) (input_from script.now.setup.now script.now.commands.now names.now (S.file shelf.old)) plan.now before (S.file shelf.new) (string_bytes line)) }
     ensures says { IfOk result (λ line. IsSummary (string_bytes line)) }
     ensures fronts { S.tells → mode_of schedule ≡ Eager → (before : Files) → HasTexts plan.now (pieces_of outputs) before (S.file shelf.old) first_text
         → AreCutEagerly (input_from script.now.setup.now script.now.commands.now names.now (S.file shelf.old)) plan.now before (S.file shelf.new) }
+    ensures so_far { S.tells → (before : Files) → HasTexts plan.now (pieces_of outputs) before (S.file shelf.old) first_text
+        → AreCutSoFar (mode_of schedule) (input_from script.now.setup.now script.now.commands.now names.now (S.file shelf.old)) plan.now before (S.file shelf.new) }
     ensures never { S.tells → IfErr result (λ fault. IsChange fault → ⊥) }
     ensures others { S.tells → OnlyPlanned plan.now (S.file shelf.old) (S.file shelf.new) }
     ensures opens { Opens (ReadsCapture names.now) (S.ids shelf.old) (S.ids shelf.new) }
+    ensures port { IfErr result (λ fault. (p at : ℕ) → fault ≡ Fault.Changed p at → is_named names.now p ≡ true) }
     ensures causes { IfErr result IsOfPlay }
     ensures faults { CountsFaults result (S.faults shelf.old) (S.faults shelf.new) }
 {
@@ -190,9 +198,11 @@ pub(crate) fn play<S: Shelf>(
     ensures done { S.tells → IfOk result (λ line. HasPlayed (mode_of schedule) (input_from script.now.setup.now script.now.commands.now names.now (S.file shelf.old)) plan.now (S.file shelf.old) (S.file shelf.new) (string_bytes line)) }
     ensures says { IfOk result (λ line. IsSummary (string_bytes line)) }
     ensures fronts { S.tells → mode_of schedule ≡ Eager → AreCutEagerly (input_from script.now.setup.now script.now.commands.now names.now (S.file shelf.old)) plan.now (S.file shelf.old) (S.file shelf.new) }
+    ensures so_far { S.tells → AreCutSoFar (mode_of schedule) (input_from script.now.setup.now script.now.commands.now names.now (S.file shelf.old)) plan.now (S.file shelf.old) (S.file shelf.new) }
     ensures never { S.tells → IfErr result (λ fault. IsChange fault → ⊥) }
     ensures only { OnlyPlays S.tells names.now plan.now (S.file shelf.old) (S.file shelf.new) (S.ids shelf.old) (S.ids shelf.new) }
     ensures made { MakesInOrder plan.now result (S.ids shelf.old) (S.ids shelf.new) }
+    ensures port { IfErr result (λ fault. (p at : ℕ) → fault ≡ Fault.Changed p at → is_named names.now p ≡ true) }
     ensures causes { IfErr result IsOfPlay }
     ensures faults { CountsFaults result (S.faults shelf.old) (S.faults shelf.new) }
 {

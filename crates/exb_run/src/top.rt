@@ -15,13 +15,15 @@ ghost use Rattle.exb_run.specs.Outputs.{AreFrontsOf, IsPlayed, OnlyOutputs};
 ghost use Rattle.exb_inputs.specs.Checks.{AreAllGood, FirstFault};
 ghost use Rattle.exb_inputs.specs.Shelving.{ReadsBelow, ReadsCapture, CountsFaults};
 ghost use Rattle.exb_outputs.specs.Order.{MakesInOrder};
-ghost use Rattle.exb_run.specs.Opening.{IsFileOf, IsOpenedFor, OpenedInOrder, OpensBy, OpensInOrder, plan_for};
+ghost use Rattle.exb_run.specs.Opening.{IsFileOf, IsOpenedFor, MadeBehind, OpenedInOrder, OpensBy, OpensInOrder, plan_for};
 ghost use Rattle.exb_run.specs.Shelving.{IsOfPlay};
 ghost use Rattle.exb_inputs.specs.Reading.{IsOfPlaying};
 ghost use Rattle.exb_run.specs.Answers.{asked, mode_for, AreFronts, eager_summary, IsDone, IsRun, CanBeDone, OnlyAsked, Stops, StopsWith, IsText, IsOfInput, RoseBy, IsStatus};
 ghost use Rattle.exb_inputs.specs.Answers.{fault_status, status_of, fault_line, SaysBy};
+ghost use Rattle.exb_run.specs.ByStatus.{CountedBy};
 ghost use Rattle.exb_run.specs.Headline.{Headline};
 ghost use Rattle.exb_run.specs.Outcomes.{CameOut};
+ghost use Rattle.exb_run.specs.Parts.{AreParts, LeavesParts};
 ghost use Rattle.exb_run.specs.Playing.{mode_of};
 ghost use Rattle.exb_run.specs.Printing.{Prints};
 ghost use Rattle.exb_run.specs.Saying.{IsSummary};
@@ -67,6 +69,7 @@ fn play_topology<S: Shelf>(
     ensures says { IfOk result (λ line. IsSummary (string_bytes line)) }
     ensures fronts { S.tells → mode_for options.seed ≡ Eager
         → AreFrontsOf (input_of topology.now (S.file shelf.old)) topology.now.prefix (S.file shelf.old) (S.file shelf.new) }
+    ensures parts { S.tells → LeavesParts options topology.now (S.file shelf.old) (S.file shelf.new) }
 
     // Each fault has its cause.
     ensures cause { S.tells → IfErr result (λ fault.
@@ -84,6 +87,8 @@ fn play_topology<S: Shelf>(
     ensures played { S.tells → Opens (IsOpenedFor options topology.now (S.file shelf.old)) (S.ids shelf.old) (S.ids shelf.new) }
     ensures files { Opens (IsFileOf options topology.now) (S.ids shelf.old) (S.ids shelf.new) }
     ensures made { MakesInOrder (plan_for topology.now options) result (S.ids shelf.old) (S.ids shelf.new) }
+    ensures behind { MadeBehind topology.now.captures (S.ids shelf.old) (S.ids shelf.new) }
+    ensures port { IfErr result (λ fault. (p at : ℕ) → fault ≡ Fault.Changed p at → is_named topology.now.captures p ≡ true) }
     ensures own { (p : ℕ) (flaw : Flaw) → IsErrOf result (Fault.Capture p flaw) → (is_named topology.now.captures p ≡ true)
         × Opens (ReadsBelow topology.now.captures (p + 1)) (S.ids shelf.old) (S.ids shelf.new) }
     ensures upto { S.tells → (p : ℕ) (fault : Fault) → FirstFault topology.now.captures (S.file shelf.old) p fault
@@ -186,6 +191,8 @@ pub fn run<S: Shelf, O: Sink>(
         → result ≡ 7 → Rose (O.faults out.old) (O.faults out.new) }
     ensures ten_never { S.tells → result ≢ 10 }
     ensures rose { RoseBy (asked words.now) result (S.faults shelf.old) (S.faults shelf.new) (O.faults out.old) (O.faults out.new) }
+    // Each fault of the shelf is counted once, at its own status, and none behind it: a count of reading or writing that rose means 6 or 7.
+    ensures counts { CountedBy result (S.faults shelf.old) (S.faults shelf.new) (O.faults out.old) (O.faults out.new) }
     ensures status { IsStatus (asked words.now) result }
     // What is printed: the text of the status and nothing else, and a front of one text where printing ended early.
     ensures says { O.tells → SaysBy result (O.faults out.old) (O.faults out.new) (O.text out.old) (O.text out.new) }
@@ -204,6 +211,8 @@ pub fn run<S: Shelf, O: Sink>(
     ensures stopped { S.tells → (fault : Fault) → Stops (asked words.now) (S.file shelf.old) fault → SameFiles (S.file shelf.old) (S.file shelf.new) }
     ensures others { S.tells → OnlyAsked (asked words.now) (S.file shelf.old) (S.file shelf.new) }
     ensures fronts { S.tells → AreFronts (asked words.now) (S.file shelf.old) (S.file shelf.new) }
+    // In a drawn order too, and of the trace: these files hold fronts of the texts of what was told so far.
+    ensures parts { S.tells → AreParts (asked words.now) (S.file shelf.old) (S.file shelf.new) }
     ensures opens { OpensBy S.tells result (asked words.now) (S.file shelf.old) (S.ids shelf.old) (S.ids shelf.new) }
     ensures alone { (number : ℕ) → asked words.now ≡ Some (Make number) → shelf.new ≡ shelf.old }
     // What a run opened and made, and in which order, whatever the shelf tells; so status 10 is no way out, and none goes on behind a fault.

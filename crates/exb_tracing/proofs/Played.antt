@@ -76,7 +76,7 @@ module _ (t : Shape) (captures files : ℕ → List (List ℕ)) (same : (p : ℕ
       }
 
 -- ---- what was given
-given_is : (xs : List Step) → given_in xs ≡ arrivals_of (given_of xs)
+pub given_is : (xs : List Step) → given_in xs ≡ arrivals_of (given_of xs)
 given_is [] = refl
 given_is (Arrive a ∷ xs) = ap (λ (came : List Arrival). a ∷ came) (given_is xs)
 given_is (Carry n way ∷ xs) = given_is xs
@@ -122,12 +122,12 @@ bytes_from : (p n least : ℕ) (rs : List Record) → map (λ (a : Arrival). a.b
 bytes_from p n least [] = refl
 bytes_from p n least (r ∷ rs) = ap (λ (fs : List (List ℕ)). r.bytes ∷ fs) (bytes_from p (suc n) (max least r.time) rs)
 
-bytes_at : (i : Input) (p : ℕ) → map (λ (a : Arrival). a.bytes) (arrivals_at i p) ≡ frames_in i p
+pub bytes_at : (i : Input) (p : ℕ) → map (λ (a : Arrival). a.bytes) (arrivals_at i p) ≡ frames_in i p
 unfolding arrivals_at
 bytes_at i p = bytes_from p 1 0 (i.records p)
 
 -- ---- what has left
-outputs_are : (q : ℕ) (xs : List Left) → outputs_of xs q ≡ map (λ (x : Sent). x.1) (left_at q xs)
+pub outputs_are : (q : ℕ) (xs : List Left) → outputs_of xs q ≡ map (λ (x : Sent). x.1) (left_at q xs)
 outputs_are q [] = refl
 outputs_are q (x ∷ xs) = elim (cases_Bool (x.port == q)) [ inl e ↦ rw e (ap (λ (fs : List (List ℕ)). x.bytes ∷ fs) (outputs_are q xs)) | inr e ↦ rw e (outputs_are q xs) ]
 

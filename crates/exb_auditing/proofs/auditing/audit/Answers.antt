@@ -3,6 +3,8 @@ use Rattle.std.proofs.lemmas.Result.{err_from_is_err_and}
 use Rattle.exb_shelf.specs.Files.{Files, SameFiles}
 use Rattle.exb_auditing.specs.Audits.{IsSeen, Seen}
 use Rattle.exb_auditing.specs.Scopes.{Scope, scope_of}
+use Rattle.exb_inputs.proofs.ShelvingLemmas.{counts_as, counts_from}
+use Rattle.exb_auditing.proofs.Counted.{judged_counted}
 use Rattle.exb_auditing.proofs.Steps.{all_seen, broken_found, journal_cause, legal_found, outputs_cause, trace_cause}
 use Rattle.exb_auditing.proofs.auditing.audit.Goals as goal
 
@@ -65,3 +67,24 @@ returns-clause-cause g c t =
     last.trace.items (last.ensures.read t))
     c.as_slice.result.now c.as_slice-2.result.now c.as_slice-3.result.now c.as_slice-4.result.now c.as_slice.ensures.value c.as_slice-2.ensures.value c.as_slice-3.ensures.value c.as_slice-4.ensures.value
     c.judge_all.result c.judge_all.ensures.broken
+
+-- ---- what was counted
+pub returns-in_err-outputs-clause-faults : goal.returns-in_err-outputs-clause-faults
+returns-in_err-outputs-clause-faults g c =
+    let e = err_from_is_err_and c.from_residual-in_err-outputs.result c.from_residual-in_err-outputs.ensures.1 in
+    rw (e.1, e.2) (counts_from _ _ _ _ c.in_ok-captures.ensures.faults.once (counts_as c.in_err-outputs.field-0.0 _ _ c.in_err-outputs.ensures.faults))
+
+pub returns-in_err-journal-clause-faults : goal.returns-in_err-journal-clause-faults
+returns-in_err-journal-clause-faults g c =
+    let e = err_from_is_err_and c.from_residual-in_err-journal.result c.from_residual-in_err-journal.ensures.1 in
+    rw (e.1, e.2) (counts_from _ _ _ _ (c.in_ok-outputs.ensures.faults.once ∙ c.in_ok-captures.ensures.faults.once) (counts_as c.in_err-journal.field-0.0 _ _ c.in_err-journal.ensures.faults))
+
+pub returns-in_err-trace-clause-faults : goal.returns-in_err-trace-clause-faults
+returns-in_err-trace-clause-faults g c =
+    let e = err_from_is_err_and c.from_residual-in_err-trace.result c.from_residual-in_err-trace.ensures.1 in
+    rw (e.1, e.2) (counts_from _ _ _ _ (c.in_ok-journal.ensures.faults.once ∙ c.in_ok-outputs.ensures.faults.once ∙ c.in_ok-captures.ensures.faults.once)
+    (counts_as c.in_err-trace.field-0.0 _ _ c.in_err-trace.ensures.faults))
+
+pub returns-clause-faults : goal.returns-clause-faults
+returns-clause-faults g c =
+    judged_counted _ c.judge_all.result _ _ (c.in_ok-trace.ensures.faults.once ∙ c.in_ok-journal.ensures.faults.once ∙ c.in_ok-outputs.ensures.faults.once ∙ c.in_ok-captures.ensures.faults.once) c.judge_all.ensures.broken

@@ -1,9 +1,12 @@
 use Rattle.std.proofs.Common.{[], Err, sym, ap, subst, ◌∙◌}
 use Rattle.exb_shelf.specs.Files.{bytes_of}
 use Rattle.exb_shelf.specs.Shelf.{Id}
+use Rattle.exb_capture.specs.Counts.{after_halt, after_scan}
+use Rattle.exb_capture.specs.declared.checking.Scanned.{Scanned}
 use Rattle.exb_capture.specs.declared.checking.ScanFault.{ScanFault}
 use Rattle.exb_capture.specs.Reading.{HasRead, HaltsBy}
 use Rattle.exb_capture.specs.Scans.{IsScan}
+use Rattle.exb_capture.proofs.CountLemmas.{halt_scanned}
 use Rattle.exb_capture.proofs.Telling.{halt_told}
 use Rattle.exb_capture.proofs.checking.scan.Goals as goal
 
@@ -18,3 +21,9 @@ returns-clause-says g c = λ tells.
     let halts = c.in-Err-scan_on.ensures.halts tells (subst (λ b. HasRead b [] f) (sym same) (c.in-Ok-open.ensures.read tells)) in
     subst (λ (r : ScanFault). IsScan c.args.limit file (Err r)) (sym c.refused.ensures)
     (halt_told c.args.limit file bytes halt (c.in-Ok-open.ensures.there tells) same (subst (λ n. HaltsBy bytes n halt) c.in-Ok-open.ensures.begun.limit_is halts))
+
+pub returns-clause-counts : goal.returns-clause-counts
+returns-clause-counts g c =
+    let old = g.S.Shelf.faults c.args.shelf.now in
+    c.in-Err-scan_on.ensures.counts ∙ ap (after_halt c.in-Err-scan_on.halt) c.in-Ok-open.ensures.counts
+    ∙ halt_scanned Scanned c.args.limit c.in-Err-scan_on.halt old ∙ ap (λ (r : ScanFault). after_scan {X = Scanned} (Err r) old) (sym c.refused.ensures)

@@ -19,6 +19,7 @@ invariant-records g l =
       first : IfSome l.scanned.first (λ k. k < 2 ^ 32 * 1_000_000_000);
       moves : MovesOn l.fn.file.id (S.ids l.fn.shelf) (S.ids l.shelf);
       files : SameFiles (S.file l.fn.shelf) (S.file l.shelf);
+      faulted : S.faults l.shelf ≡ S.faults l.fn.shelf;
       faults : NoFewer (S.faults l.fn.shelf) (S.faults l.shelf);
     }
 

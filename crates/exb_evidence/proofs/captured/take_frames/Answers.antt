@@ -1,8 +1,9 @@
-use Rattle.std.proofs.Common.{rules, ◌≡◌, ◌++◌, ◌∷◌, [], ℕ, List, Option, sym, subst, ◌∙◌}
+use Rattle.std.proofs.Common.{rules, ◌≡◌, ◌++◌, ◌∷◌, [], ℕ, List, Option, sym, subst, ap, ◌∙◌}
 use Rattle.std.specs.Prelude.{IfSome, IfNone}
 use Rattle.std.proofs.lemmas.Result.{err_from_is_err_and}
 use Rattle.exb_model.specs.Input.{Record}
 use Rattle.exb_shelf.specs.Files.{bytes_of}
+use Rattle.exb_capture.specs.Counts.{after_halt}
 use Rattle.exb_capture.specs.Reading.{IsAt, IsWhole, HasRead, HaltsBy, ComesNext}
 use Rattle.exb_capture.proofs.Looking.{kept_bytes, moves_then, fewer_then}
 use Rattle.exb_evidence.proofs.Taking.{all_taken, one_taken}
@@ -23,6 +24,11 @@ returns-in_err-ahead-clause-halts g c =
     subst (λ (n : ℕ). HaltsBy bytes n halt) inv.same.limit_is
     (subst (λ (b : List ℕ). HaltsBy b f.limit halt) same
     (c.in_err-ahead.ensures.halts tells taken.taken (subst (λ (b : List ℕ). HasRead b taken.taken f) (sym same) taken.read))))
+
+pub returns-in_err-ahead-clause-counts : goal.returns-in_err-ahead-clause-counts
+returns-in_err-ahead-clause-counts g c =
+    let p = err_from_is_err_and c.from_residual.result c.from_residual.ensures.1 in
+    rw (p.1, p.2) (c.in_err-ahead.ensures.counts ∙ ap (after_halt c.in_err-ahead.field-0.0) c.records.invariant.counted)
 
 pub records-preserved : goal.records-preserved
 records-preserved g c =
@@ -61,6 +67,7 @@ records-preserved g c =
       moves = moves_then c.args.file.now.id f.id (S.ids c.args.shelf.now) (S.ids c.records.shelf) (S.ids c.ahead.new.shelf) inv.moves c.ahead.ensures.moves inv.same.id;
       files = λ n. c.ahead.ensures.files n ∙ inv.files n;
       faults = fewer_then (S.faults c.args.shelf.now) (S.faults c.records.shelf) (S.faults c.ahead.new.shelf) inv.faults c.ahead.ensures.faults;
+      counted = found.counts ∙ inv.counted;
     }
 
 pub returns-clause-whole : goal.returns-clause-whole

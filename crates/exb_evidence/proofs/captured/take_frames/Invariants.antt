@@ -18,6 +18,7 @@ invariant-records g l =
       moves : MovesOn l.fn.file.id (S.ids l.fn.shelf) (S.ids l.shelf);
       files : SameFiles (S.file l.fn.shelf) (S.file l.shelf);
       faults : NoFewer (S.faults l.fn.shelf) (S.faults l.shelf);
+      counted : S.faults l.shelf ≡ S.faults l.fn.shelf;
     }
 
 abbrev pub decreases-records : goal.decreases-records

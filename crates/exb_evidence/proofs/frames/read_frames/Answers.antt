@@ -6,6 +6,7 @@ use Rattle.exb_audit.proofs.Entered.{get_item}
 use Rattle.exb_audit.specs.declared.frames.PortFrames.{PortFrames}
 use Rattle.exb_evidence.specs.declared.frames.PortFile.{PortFile}
 use Rattle.exb_evidence.specs.Frames.{EachIsRead, IsFlaw, IsReadFrom, records_by, total}
+use Rattle.exb_evidence.proofs.Counted.{frames_from}
 use Rattle.exb_evidence.proofs.Filing.{all_good, each_more, rest_more}
 use Rattle.exb_evidence.proofs.frames.read_frames.Goals as goal
 
@@ -39,6 +40,11 @@ returns-in_err-taken-clause-opened g c =
     let i = c.files.one-index in
     opens_then _ _ _ _ c.files.invariant.opened
     (opens_weaker _ _ _ _ (λ k reads. record { at = i; one = one; is = get_item c.args.files.now i one c.one-item.is c.files-test.true; reads = reads }) c.in_err-taken.ensures.opened)
+
+pub returns-in_err-taken-clause-faults : goal.returns-in_err-taken-clause-faults
+returns-in_err-taken-clause-faults g c =
+    let made = err_from_is_err_and c.from_residual.result c.from_residual.ensures.1 in
+    rw (made.1, made.2) (frames_from c.in_err-taken.field-0.0 _ _ _ c.files.invariant.counted c.in_err-taken.ensures.faults)
 
 pub returns-then-is_err-clause-opened : goal.returns-then-is_err-clause-opened
 returns-then-is_err-clause-opened g c =
@@ -76,4 +82,5 @@ files-preserved g c =
           (opens_weaker _ _ _ _ (λ k reads. record { at = i; one = one; is = get_item files i one c.one-item.is c.files-test.true; reads = reads }) c.in_ok-taken.ensures.opened);
       kept = λ n. c.in_ok-taken.ensures.files n ∙ inv.kept n;
       faults = search (arith, c.in_ok-taken.ensures.faults.none_fell, inv.faults);
+      counted = c.in_ok-taken.ensures.faults.once ∙ inv.counted;
     }

@@ -14,4 +14,5 @@ invariant-files g l =
       opened : Opens (ReadsOneOf l.files) (S.ids l.fn.shelf) (S.ids l.shelf);
       kept : SameFiles (S.file l.fn.shelf) (S.file l.shelf);
       faults : NoFewer (S.faults l.fn.shelf) (S.faults l.shelf);
+      counted : S.faults l.shelf ≡ S.faults l.fn.shelf;
     }

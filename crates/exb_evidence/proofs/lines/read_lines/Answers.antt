@@ -1,6 +1,9 @@
 use Rattle.std.proofs.Common.{rules, ◌∙◌, arith}
+use Rattle.std.proofs.lemmas.Result.{err_from_is_err_and}
 use Rattle.exb_shelf.proofs.IdLemmas.{opens_one}
+use Rattle.exb_shelf.specs.Shelf.{NoFewer}
 use Rattle.exb_shelf.proofs.PieceLemmas.{given_apart, reads_of}
+use Rattle.exb_evidence.proofs.Counted.{finish_counts, lines_from}
 use Rattle.exb_evidence.proofs.Loading.{cut_on, within_on}
 use Rattle.exb_evidence.proofs.lines.read_lines.Goals as goal
 
@@ -31,4 +34,20 @@ pieces-preserved g c =
       fresh = search rules;
       files = search rules;
       faults = search rules;
+      counted = c.in_ok-n.ensures.counts ∙ inv.counted;
     }
+
+pub returns-in_err-n-clause-faults : goal.returns-in_err-n-clause-faults
+returns-in_err-n-clause-faults g c =
+    let S = g.S.Shelf in
+    let inv = c.pieces.invariant in
+    let made = err_from_is_err_and c.from_residual.result c.from_residual.ensures.1 in
+    let fewer : NoFewer (S.faults c.args.shelf.now) (S.faults c.read_on.new.shelf) = search (arith, inv.faults, c.read_on.ensures.faults) in
+    rw (made.1, made.2) (lines_from c.in_err-n.field-0.0 _ _ _ fewer inv.counted c.in_err-n.ensures.counts)
+
+pub returns-then-n-eq0-clause-faults : goal.returns-then-n-eq0-clause-faults
+returns-then-n-eq0-clause-faults g c =
+    let S = g.S.Shelf in
+    let inv = c.pieces.invariant in
+    let fewer : NoFewer (S.faults c.args.shelf.now) (S.faults c.read_on.new.shelf) = search (arith, inv.faults, c.read_on.ensures.faults) in
+    finish_counts _ c.finish.result _ _ fewer (c.in_ok-n.ensures.counts ∙ inv.counted) c.finish.ensures.bad

@@ -20,6 +20,7 @@ invariant-pieces g l =
       fresh : (S.ids l.fn.shelf l.id).given ≡ false;
       files : SameFiles (S.file l.fn.shelf) (S.file l.shelf);
       faults : NoFewer (S.faults l.fn.shelf) (S.faults l.shelf);
+      counted : S.faults l.shelf ≡ S.faults l.fn.shelf;
     }
 
 abbrev pub decreases-pieces : goal.decreases-pieces

@@ -4,12 +4,17 @@ use Rattle.std.proofs.lemmas.List.{map-append}
 use Rattle.std.proofs.lemmas.Result.{err_from_is_err_and}
 use Rattle.exb_model.specs.Ports.{below}
 use Rattle.exb_shelf.proofs.IdLemmas.{opens_none}
+use Rattle.exb_shelf.specs.Shelf.{IsReadingOf}
 use Rattle.exb_inputs.specs.declared.checked.Checked.{Checked}
+use Rattle.exb_inputs.specs.declared.fault.Fault.TheVariants.{Memory}
 use Rattle.exb_inputs.specs.Checks.{HasFault, HasFaultNamed, IsGood, IsGoodNamed, IsToldOf, most_bytes}
 use Rattle.exb_inputs.specs.Inputs.{name_of, is_named}
+use Rattle.exb_inputs.specs.Shelving.{OpensNew, ReadsBelow}
+use Rattle.exb_inputs.proofs.Asking.{none_or_some, some_once}
 use Rattle.exb_inputs.proofs.EndingAt.{ends_at, opened_any, opened_higher, opened_next}
 use Rattle.exb_inputs.proofs.FaultLemmas.{all_more}
 use Rattle.exb_inputs.proofs.Passing.{passed_none, passed_here, passed_not}
+use Rattle.exb_inputs.proofs.ShelvingLemmas.{counts_as, counts_from, counts_memory, each_next, each_none}
 use Rattle.exb_inputs.proofs.checked.check_captures.Goals as goal
 
 pub checking-init : goal.checking-init
@@ -23,7 +28,8 @@ checking-init g c =
       good = λ t q low. absurd (omega arith);
       opened = opens_none _ _;
       files = λ n. refl;
-      faults = search rules;
+      each = each_none c.args.names.now _;
+      same = refl;
     }
 
 pub checking-preserved-in_default : goal.checking-preserved-in_default
@@ -42,7 +48,8 @@ checking-preserved-in_default g c =
       good = λ t. below_more _ _ (inv.good t) (subst (λ (n : Option (List ℕ)). IsGoodNamed n f) (sym none) tt);
       opened = opened_higher names p (p + 1) _ _ (omega arith) inv.opened;
       files = inv.files;
-      faults = inv.faults;
+      each = each_next (ReadsBelow names p) (ReadsBelow names p) names p _ _ _ inv.each inv.opened (opens_none _ _) (λ name some. absurd (none_or_some (name_of names p) name none some));
+      same = inv.same;
     }
 
 pub returns-in_err-one-clause-flaw : goal.returns-in_err-one-clause-flaw
@@ -96,7 +103,9 @@ checking-preserved g c =
       good = λ t. below_more _ _ (inv.good t) (subst (λ (n : Option (List ℕ)). IsGoodNamed n f) (sym named) (one.told, good t));
       opened = opened_next names p name _ _ _ named inv.opened c.in_ok-one.ensures.opened;
       files = λ m. c.in_ok-one.ensures.files m ∙ inv.files m;
-      faults = search (arith, c.in_ok-one.ensures.faults.none_fell, inv.faults);
+      each = each_next (ReadsBelow names p) (IsReadingOf name) names p _ _ _ inv.each inv.opened c.in_ok-one.ensures.opened
+          (λ own is. subst (λ (n : List ℕ). OpensNew n (S.ids c.checking.shelf) (S.ids c.check_capture.new.shelf)) (some_once (name_of names p) name own named is) c.in_ok-one.ensures.scanned);
+      same = c.in_ok-one.ensures.faults.once ∙ inv.same;
     }
 
 pub returns-in_err-one-clause-opened : goal.returns-in_err-one-clause-opened
@@ -118,3 +127,21 @@ returns-in_err-one-clause-ends g c =
     let made = err_from_is_err_and c.from_residual.result c.from_residual.ensures.1 in
     rw (made.1, made.2) (ends_at S.tells names (S.file c.args.shelf.now) p c.in-Some.name.now _ _ _ x named inv.opened c.in_err-one.ensures.opened inv.good
     (λ q flaw e. c.in_err-one.ensures.own q flaw e ∙ c.port_of-port.ensures))
+
+pub returns-then-is_err-clause-ends : goal.returns-then-is_err-clause-ends
+returns-then-is_err-clause-ends g c =
+    let S = g.S.Shelf in
+    let inv = c.checking.invariant in
+    let names = c.args.names.now in
+    let p = c.checking.number in
+    let named : name_of names p ≡ Some c.in-Some.name.now = ap (name_of names) (sym c.port_of-port.ensures) ∙ c.in-Some.ensures.found in
+    ends_at S.tells names (S.file c.args.shelf.now) p c.in-Some.name.now _ _ _ Memory named inv.opened c.in_ok-one.ensures.opened inv.good (λ q flaw e. absurd (cc))
+
+-- ---- what was counted
+pub returns-in_err-one-clause-faults : goal.returns-in_err-one-clause-faults
+returns-in_err-one-clause-faults g c =
+    let made = err_from_is_err_and c.from_residual.result c.from_residual.ensures.1 in
+    rw (made.1, made.2) (counts_from _ _ _ _ c.checking.invariant.same (counts_as c.in_err-one.field-0.0 _ _ c.in_err-one.ensures.faults))
+
+pub returns-then-is_err-clause-faults : goal.returns-then-is_err-clause-faults
+returns-then-is_err-clause-faults g c = counts_memory _ _ (c.in_ok-one.ensures.faults.once ∙ c.checking.invariant.same)

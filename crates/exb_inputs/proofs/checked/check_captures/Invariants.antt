@@ -2,10 +2,10 @@ use Rattle.std.proofs.Common.{◌≡◌, ◌<◌, ◌≤◌, ◌*◌, ◌^◌, �
 use Rattle.std.specs.Prelude.{All, IfSome}
 use Rattle.exb_model.specs.Ports.{below}
 use Rattle.exb_shelf.specs.Files.{SameFiles}
-use Rattle.exb_shelf.specs.Shelf.{Opens, NoFewer}
+use Rattle.exb_shelf.specs.Shelf.{Opens}
 use Rattle.exb_inputs.specs.Checks.{IsGoodNamed, IsToldOf, most_bytes}
 use Rattle.exb_inputs.specs.Inputs.{is_named, name_of}
-use Rattle.exb_inputs.specs.Shelving.{ReadsBelow}
+use Rattle.exb_inputs.specs.Shelving.{OpensEach, ReadsBelow}
 use Rattle.exb_inputs.proofs.checked.check_captures.Given as goal
 
 abbrev pub invariant-checking : goal.invariant-checking
@@ -19,5 +19,6 @@ invariant-checking g l =
       good : S.tells → (q : ℕ) → q < l.number → IsGoodNamed (name_of l.names q) (S.file l.fn.shelf);
       opened : Opens (ReadsBelow l.names l.number) (S.ids l.fn.shelf) (S.ids l.shelf);
       files : SameFiles (S.file l.fn.shelf) (S.file l.shelf);
-      faults : NoFewer (S.faults l.fn.shelf) (S.faults l.shelf);
+      each : OpensEach l.names l.number (S.ids l.fn.shelf) (S.ids l.shelf);
+      same : S.faults l.shelf ≡ S.faults l.fn.shelf;
     }

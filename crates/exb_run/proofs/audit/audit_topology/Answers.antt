@@ -1,6 +1,7 @@
 use Rattle.std.proofs.Common.{◌⊎◌, ◌≡◌, ◌∙◌, subst}
 use Rattle.std.specs.Prelude.{IfErr, IfOk, string_bytes}
 use Rattle.std.proofs.lemmas.Result.{err_from_is_err_and}
+use Rattle.exb_inputs.proofs.ShelvingLemmas.{counts_from}
 use Rattle.exb_shelf.specs.Files.{Files}
 use Rattle.exb_inputs.specs.declared.fault.Fault.{Fault}
 use Rattle.exb_inputs.specs.declared.fault.Fault.TheVariants.{Read, Memory}
@@ -40,3 +41,6 @@ pub returns-clause-opens : goal.returns-clause-opens
 returns-clause-opens g c =
     let found = c.in_ok-topology.ensures in
     opens_by_audit g.S.Shelf.tells _ c.args.name.now _ _ found.opened c.audit.result c.in_ok-topology.topology _ found.read c.audit.ensures.causes c.audit.ensures.opened
+
+pub returns-clause-faults : goal.returns-clause-faults
+returns-clause-faults g c = counts_from c.audit.result _ _ _ c.in_ok-topology.ensures.faults.once c.audit.ensures.faults

@@ -1,4 +1,5 @@
 use Rattle.std.proofs.lemmas.Result.{err_from_is_err_and}
+use Rattle.exb_run.proofs.Ports.{made-later}
 use Rattle.exb_inputs.specs.declared.fault.Fault.{Fault}
 use Rattle.exb_run.proofs.OpenLemmas.{check_opens}
 use Rattle.exb_run.proofs.RunLemmas.{came_check_refused, came_checked}
@@ -25,3 +26,6 @@ returns-clause-came g c =
 
 pub returns-clause-opens : goal.returns-clause-opens
 returns-clause-opens g c = check_opens g.S.Shelf.tells _ c.args.name.now _ _ c.in_ok-topology.ensures.opened _
+
+pub returns-clause-faults : goal.returns-clause-faults
+returns-clause-faults g c = made-later c.lines_of.result _ _ c.in_ok-topology.ensures.faults.once c.lines_of.ensures.memory

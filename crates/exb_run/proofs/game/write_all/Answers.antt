@@ -1,12 +1,15 @@
-use Rattle.std.proofs.Common.{◌+◌, List, subst}
+use Rattle.std.proofs.Common.{◌+◌, List, subst, ◌∙◌}
 use Rattle.std.proofs.lemmas.Result.{err_from_is_err_and, on_err_weaker, on_ok_weaker}
+use Rattle.exb_inputs.proofs.ShelvingLemmas.{counts_as, counts_from}
 use Rattle.exb_model.specs.declared.event.Event.{Event}
 use Rattle.exb_model.specs.Traces.{TraceLine, trace_text}
 use Rattle.exb_network.specs.declared.log.Left.{Left}
 use Rattle.exb_schedule.specs.Worlds.{network_of}
 use Rattle.exb_text.specs.declared.output.Output.TheVariants as output
+use Rattle.exb_outputs.specs.Sent.{HasSent}
 use Rattle.exb_outputs.specs.Writing.{AreCut, HasTexts, pieces_of, lines_of, with_more}
-use Rattle.exb_run.specs.Leaving.{with_left_frames}
+use Rattle.exb_run.specs.Leaving.{sent_with, with_left_frames}
+use Rattle.exb_outputs.proofs.Sizes.{sent_same}
 use Rattle.exb_outputs.proofs.ShelvingLemmas.{writes_then}
 use Rattle.exb_run.proofs.Frames.{cut_frames}
 use Rattle.exb_outputs.proofs.Cutting.{cut_more}
@@ -78,3 +81,22 @@ returns-clause-cut g c tells =
     let two : P n.log.events n.log.left c.trace.result.now = subst (λ (xs : List Left). P n.log.events xs c.trace.result.now) c.left.ensures one in
     subst (λ (ls : List TraceLine). P n.log.events n.log.left ls) c.trace.ensures two)
     (c.write_trace.ensures.cut tells)
+
+pub returns-clause-sent : goal.returns-clause-sent
+returns-clause-sent g c =
+    on_ok_weaker c.write_trace.result
+    (λ same sent has.
+    let plan = c.args.plan.now in
+    let first = sent_same plan c.args.outputs.now c.write_events.new.self sent c.in_ok-write_events.ensures.same has in
+    let second = c.in_ok-write_left.ensures.sent sent first in
+    let third = sent_same plan c.write_left.new.outputs c.write_trace.new.self (sent_with sent c.left.result.now) same second in
+    subst (λ (xs : List Left). HasSent plan c.write_trace.new.self (sent_with sent xs)) c.left.ensures third)
+    c.write_trace.ensures.same
+
+pub returns-in_err-write_left-clause-faults : goal.returns-in_err-write_left-clause-faults
+returns-in_err-write_left-clause-faults g c =
+    let e = err_from_is_err_and c.from_residual-in_err-write_left.result c.from_residual-in_err-write_left.ensures.1 in
+    rw (e.1, e.2) (counts_from _ _ _ _ c.in_ok-write_events.ensures.faults.once (counts_as c.in_err-write_left.field-0.0 _ _ c.in_err-write_left.ensures.faults))
+
+pub returns-clause-faults : goal.returns-clause-faults
+returns-clause-faults g c = counts_from c.write_trace.result _ _ _ (c.in_ok-write_left.ensures.faults.once ∙ c.in_ok-write_events.ensures.faults.once) c.write_trace.ensures.faults

@@ -2,6 +2,7 @@ use Rattle.std.proofs.Common.{◌≡◌, refl, ap, subst}
 use Rattle.std.proofs.lemmas.Result.{on_err_weaker, on_ok_weaker}
 use Rattle.exb_model.specs.Texts.{record_text}
 use Rattle.exb_text.specs.declared.output.Output.TheVariants as output
+use Rattle.exb_outputs.specs.Sent.{HasSent, sent_more}
 use Rattle.exb_outputs.specs.Writing.{CanBeRecorded, pieces_of}
 use Rattle.exb_outputs.proofs.OutputLemmas.{more_spelled}
 use Rattle.exb_outputs.proofs.Cutting.{cut_spelled}
@@ -29,3 +30,10 @@ returns-clause-cut g c = λ t.
     cut_spelled c.args.plan.now orig (g.S.Shelf.file c.write_frame.new.shelf) text (output.Capture left.port) (output.Capture left.port) _ _
     refl (ap (λ xs. record_text (left.moment, xs)) c.as_slice-bytes.ensures) (cut orig text p))
     (c.write_frame.ensures.cut t)
+
+pub returns-clause-sent : goal.returns-clause-sent
+returns-clause-sent g c =
+    let left = c.args.left.now in
+    on_ok_weaker c.write_frame.result
+    (λ more sent has. subst (λ xs. HasSent c.args.plan.now c.write_frame.new.outputs (sent_more sent left.port (left.moment, xs))) c.as_slice-bytes.ensures (more sent has))
+    c.write_frame.ensures.sent

@@ -13,7 +13,7 @@ use Rattle.exb_inputs.specs.Shelving.{ReadsCapture}
 use Rattle.exb_run.proofs.Beginning.{told-since}
 use Rattle.exb_run.proofs.Reopening.{bytes-more, fresh-more, opened-so, port-named, port-new, since-none, standings-more, stream-told-same, streams-more}
 use Rattle.exb_run.proofs.Running.{files_same}
-use Rattle.exb_inputs.proofs.ShelvingLemmas.{fewer_then}
+use Rattle.exb_inputs.proofs.ShelvingLemmas.{fewer_then, counts_as, counts_from}
 use Rattle.exb_run.proofs.play.open_all.Goals as goal
 
 pub open_one-requires-clause-named : goal.open_one-requires-clause-named
@@ -45,6 +45,7 @@ opening-init g c =
       opens = opens_none _ _;
       files = λ n. refl;
       faults = search rules;
+      counted = refl;
     }
 
 pub returns-in_err-open_one-clause-never : goal.returns-in_err-open_one-clause-never
@@ -88,4 +89,15 @@ opening-preserved g c =
       opens = opens_then (ReadsCapture names) _ _ _ inv.opens c.open_one.ensures.opens;
       files = λ n. c.open_one.ensures.files n ∙ inv.files n;
       faults = fewer_then _ _ _ inv.faults c.open_one.ensures.faults.none_fell;
+      counted = ok.faults.once ∙ inv.counted;
     }
+
+pub returns-in_err-open_one-clause-faults : goal.returns-in_err-open_one-clause-faults
+returns-in_err-open_one-clause-faults g c =
+    let e = err_from_is_err_and c.from_residual.result c.from_residual.ensures.1 in
+    rw (e.1, e.2) (counts_from _ _ _ _ c.opening.invariant.counted (counts_as c.in_err-open_one.field-0.0 _ _ c.in_err-open_one.ensures.faults))
+
+pub returns-in_err-open_one-clause-port : goal.returns-in_err-open_one-clause-port
+returns-in_err-open_one-clause-port g c =
+    let e = err_from_is_err_and c.from_residual.result c.from_residual.ensures.1 in
+    rw (e.1, e.2) c.in_err-open_one.ensures.port

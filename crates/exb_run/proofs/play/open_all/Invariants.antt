@@ -22,4 +22,5 @@ invariant-opening g l =
       opens : Opens (ReadsCapture l.names) (S.ids l.fn.shelf) (S.ids l.shelf);
       files : SameFiles (S.file l.fn.shelf) (S.file l.shelf);
       faults : NoFewer (S.faults l.fn.shelf) (S.faults l.shelf);
+      counted : S.faults l.shelf ≡ S.faults l.fn.shelf;
     }

@@ -1,7 +1,11 @@
-use Rattle.std.proofs.Common.{◌≡◌, inl, inr, sym, subst, ◌∙◌}
+use Rattle.std.proofs.Common.{◌≡◌, inl, inr, sym, subst, ◌∙◌, ℕ, true}
 use Rattle.std.specs.Prelude.{string_bytes}
 use Rattle.exb_model.specs.Input.{Input}
 use Rattle.std.proofs.lemmas.Result.{err_from_is_err_and}
+use Rattle.exb_run.specs.Parts.{AreCutSoFar}
+use Rattle.exb_run.proofs.Parts.{made-so-far}
+use Rattle.exb_run.proofs.Ports.{writing-port}
+use Rattle.exb_inputs.specs.Inputs.{is_named}
 use Rattle.exb_inputs.specs.Shelving.{ReadsCapture}
 use Rattle.exb_shelf.proofs.IdLemmas.{opens_then, opens_weaker}
 use Rattle.exb_run.specs.Outputs.{AreCutEagerly, HasPlayed}
@@ -10,7 +14,7 @@ use Rattle.exb_run.proofs.Beginning.{can-read-on, input-stays}
 use Rattle.exb_run.proofs.CuttingOff.{made_eagerly}
 use Rattle.exb_outputs.proofs.Orders.{makes_as, makes_then_read}
 use Rattle.exb_run.proofs.Running.{if_ok_map}
-use Rattle.exb_inputs.proofs.ShelvingLemmas.{counts_after}
+use Rattle.exb_inputs.proofs.ShelvingLemmas.{counts_from}
 use Rattle.exb_run.proofs.play.play.Goals as goal
 
 pub play_into-requires-clause-captures : goal.play_into-requires-clause-captures
@@ -65,4 +69,21 @@ returns-in_err-outputs-clause-only g c =
     record { others = made.others; opened = opens_weaker _ _ _ _ (λ i writes. inr writes) made.opened }
 
 pub returns-clause-faults : goal.returns-clause-faults
-returns-clause-faults g c = counts_after c.play_into.result _ _ _ c.create_all.ensures.faults.none_fell c.play_into.ensures.faults
+returns-clause-faults g c = counts_from c.play_into.result _ _ _ c.in_ok-outputs.ensures.faults.once c.play_into.ensures.faults
+
+pub returns-in_err-outputs-clause-port : goal.returns-in_err-outputs-clause-port
+returns-in_err-outputs-clause-port g c =
+    let e = err_from_is_err_and c.from_residual.result c.from_residual.ensures.1 in
+    rw (e.1, e.2) (writing-port (λ (q : ℕ). is_named c.args.names.now q ≡ true) c.in_err-outputs.field-0.0 c.in_err-outputs.ensures.causes)
+
+-- ---- what it leaves, however it ended
+pub returns-clause-so_far : goal.returns-clause-so_far
+returns-clause-so_far g c tells =
+    let S = g.S.Shelf in
+    let s = c.args.script.now in
+    let same = input-stays s.setup.now s.commands.now c.args.plan.now c.args.names.now (S.file c.args.shelf.now) (S.file c.create_all.new.shelf) c.args.checked.now S.tells (c.create_all.ensures.only.others tells) c.requires.captures in
+    subst (λ (i : Input). AreCutSoFar (mode_of c.args.schedule) i c.args.plan.now (S.file c.args.shelf.now) (S.file c.play_into.new.shelf)) same
+    (c.play_into.ensures.so_far tells (S.file c.args.shelf.now) (c.in_ok-outputs.ensures.texts tells))
+
+pub returns-in_err-outputs-clause-so_far : goal.returns-in_err-outputs-clause-so_far
+returns-in_err-outputs-clause-so_far g c tells = made-so-far (mode_of c.args.schedule) _ c.args.plan.now _ _ (c.in_err-outputs.ensures.cut tells)

@@ -1,6 +1,10 @@
-use Rattle.std.proofs.Common.{◌≡◌, List, Err, ap, sym, subst, ◌∙◌, inl, inr}
+use Rattle.std.proofs.Common.{◌≡◌, List, Err, ap, sym, subst, ◌∙◌, inl, inr, true, ℕ}
 use Rattle.std.proofs.lemmas.Result.{err_from_is_err_and}
 use Rattle.std.specs.Prelude.{string_bytes}
+use Rattle.exb_run.specs.Parts.{AreCutSoFar}
+use Rattle.exb_run.proofs.Parts.{parts-by}
+use Rattle.exb_run.proofs.Ports.{checking-port}
+use Rattle.exb_inputs.proofs.ShelvingLemmas.{counts_from, counts_memory}
 use Rattle.exb_model.specs.declared.setup.Timed.{Timed}
 use Rattle.exb_model.specs.declared.setup.Verdict.{Verdict}
 use Rattle.exb_model.specs.Input.{Input, Mode}
@@ -12,10 +16,10 @@ use Rattle.exb_words.specs.declared.asked.Options.{Options}
 use Rattle.exb_inputs.specs.declared.checked.Checked.{Checked}
 use Rattle.exb_inputs.specs.Checks.{AreAllGood, AreChecked, FirstFault}
 use Rattle.exb_run.specs.Checks.{CanBeRead}
-use Rattle.exb_inputs.specs.Inputs.{input_from, input_of}
+use Rattle.exb_inputs.specs.Inputs.{input_from, input_of, is_named}
 use Rattle.exb_run.specs.Outputs.{AreCutEagerly, HasPlayed, IsPlayed, OnlyOutputs}
 use Rattle.exb_outputs.specs.Plans.{OnlyPlanned, Planned}
-use Rattle.exb_inputs.specs.Shelving.{EndsAt, ReadsCapture}
+use Rattle.exb_inputs.specs.Shelving.{EndsAt, ReadsCapture, OpensEach}
 use Rattle.exb_run.specs.Playing.{IsScript, mode_of}
 use Rattle.exb_outputs.specs.Order.{MakesInOrder}
 use Rattle.exb_run.specs.Shelving.{IsOfRun}
@@ -24,10 +28,10 @@ use Rattle.exb_inputs.proofs.FaultLemmas.{first_none, first_once}
 use Rattle.exb_run.proofs.Handing.{sound_captures, sound_script}
 use Rattle.exb_outputs.proofs.Orders.{makes_none, read_then_makes}
 use Rattle.exb_run.proofs.OpenLemmas.{opened_for}
-use Rattle.exb_run.proofs.Ordered.{captures_are_files, ends_own, err_is, ends_upto, files_for, plan_is, play_own}
+use Rattle.exb_run.proofs.Ordered.{captures_are_files, ends_own, err_is, ends_upto, files_for, plan_is, play_own, behind_checks, behind_none}
 use Rattle.exb_run.specs.Opening.{plan_for}
 use Rattle.exb_inputs.specs.declared.fault.Fault.TheVariants.{Memory}
-use Rattle.exb_run.proofs.Running.{files_same, fronts_by, only_by, played_by, if_ok_map}
+use Rattle.exb_run.proofs.Running.{files_same, fronts_by, only_by, played_by, if_ok_map, if_err_map}
 use Rattle.exb_run.proofs.top.play_topology.Goals as goal
 
 pub play-requires-clause-script : goal.play-requires-clause-script
@@ -207,3 +211,66 @@ returns-clause-fronts g c tells eager =
     fronts_by i plan t.prefix (c.in_ok-plan.ensures.prefix ∙ c.as_str.ensures) c.in_ok-plan.ensures.tree c.requires.valid.tree before after
     (subst (λ (f : Files). AreCutEagerly i plan f after) unchanged
     (subst (λ (j : Input). AreCutEagerly j plan read after) same (c.play.ensures.fronts tells (c.schedule_of-schedule.ensures ∙ eager))))
+
+-- ---- of which port a capture has changed, and what was counted
+pub returns-clause-port : goal.returns-clause-port
+returns-clause-port g c =
+    if_err_map c.play.result (λ x port p at is. subst (λ (names : List Named). is_named names p ≡ true) c.as_slice-4.ensures (port p at is)) c.play.ensures.port
+
+pub returns-in_err-plan-clause-faults : goal.returns-in_err-plan-clause-faults
+returns-in_err-plan-clause-faults g c =
+    let e = err_from_is_err_and c.from_residual-in_err-plan.result c.from_residual-in_err-plan.ensures.1 in
+    rw (e.1, e.2) (counts_memory _ _ c.in_ok-checked.ensures.faults.once)
+
+pub returns-clause-faults : goal.returns-clause-faults
+returns-clause-faults g c = counts_from c.play.result _ _ _ c.in_ok-checked.ensures.faults.once c.play.ensures.faults
+
+pub returns-in_err-checked-clause-port : goal.returns-in_err-checked-clause-port
+returns-in_err-checked-clause-port g c =
+    let e = err_from_is_err_and c.from_residual.result c.from_residual.ensures.1 in
+    rw (e.1, e.2) (checking-port (λ (q : ℕ). is_named c.args.topology.now.captures q ≡ true) c.in_err-checked.field-0.0 c.in_err-checked.ensures.causes)
+
+-- ---- what is made is made behind all captures
+pub returns-in_err-checked-clause-behind : goal.returns-in_err-checked-clause-behind
+returns-in_err-checked-clause-behind g c =
+    let S = g.S.Shelf in
+    behind_none c.args.topology.now.captures _ _
+    (subst (λ (names : List Named). Opens (ReadsCapture names) (S.ids c.args.shelf.now) (S.ids c.check_captures.new.shelf)) c.as_slice.ensures c.in_err-checked.ensures.opened)
+
+pub returns-in_err-plan-clause-behind : goal.returns-in_err-plan-clause-behind
+returns-in_err-plan-clause-behind g c =
+    let S = g.S.Shelf in
+    behind_none c.args.topology.now.captures _ _
+    (subst (λ (names : List Named). Opens (ReadsCapture names) (S.ids c.args.shelf.now) (S.ids c.check_captures.new.shelf)) c.as_slice.ensures c.in_ok-checked.ensures.opened)
+
+pub returns-clause-behind : goal.returns-clause-behind
+returns-clause-behind g c =
+    let S = g.S.Shelf in
+    let names = c.args.topology.now.captures in
+    behind_checks (IsOfRun c.as_slice-4.result.now c.in_ok-plan.plan) names (S.ids c.args.shelf.now) (S.ids c.check_captures.new.shelf) (S.ids c.play.new.shelf)
+    (subst (λ (ns : List Named). Opens (ReadsCapture ns) (S.ids c.args.shelf.now) (S.ids c.check_captures.new.shelf)) c.as_slice.ensures c.in_ok-checked.ensures.opened)
+    (subst (λ (ns : List Named). OpensEach ns 4160 (S.ids c.args.shelf.now) (S.ids c.check_captures.new.shelf)) c.as_slice.ensures c.in_ok-checked.ensures.each) c.play.ensures.only.opened
+
+-- ---- what it leaves, however it ended
+pub returns-in_err-checked-clause-parts : goal.returns-in_err-checked-clause-parts
+returns-in_err-checked-clause-parts g c tells = inl c.in_err-checked.ensures.files
+
+pub returns-in_err-plan-clause-parts : goal.returns-in_err-plan-clause-parts
+returns-in_err-plan-clause-parts g c tells = inl c.in_ok-checked.ensures.files
+
+pub returns-clause-parts : goal.returns-clause-parts
+returns-clause-parts g c tells =
+    let S = g.S.Shelf in
+    let t = c.args.topology.now in
+    let plan = c.in_ok-plan.plan in
+    let before = S.file c.args.shelf.now in
+    let read = S.file c.check_captures.new.shelf in
+    let after = S.file c.play.new.shelf in
+    let i : Input = input_of t before in
+    let m = mode_of c.schedule_of-schedule.result in
+    let unchanged : read ≡ before = files_same before read c.in_ok-checked.ensures.files in
+    let same : input_from t.setup c.as_slice-2.result.now c.as_slice-4.result.now read ≡ i =
+    ap (λ (xs : List Timed). input_from t.setup xs c.as_slice-4.result.now read) c.as_slice-2.ensures ∙ ap (λ (names : List Named). input_from t.setup t.commands names read) c.as_slice-4.ensures
+    ∙ ap (input_of t) unchanged in
+    inr (parts-by c.args.options t plan m before after c.in_ok-plan.ensures.options (c.in_ok-plan.ensures.prefix ∙ c.as_str.ensures) c.in_ok-plan.ensures.tree c.schedule_of-schedule.ensures c.requires.valid.tree
+    (subst (λ (f : Files). AreCutSoFar m i plan f after) unchanged (subst (λ (j : Input). AreCutSoFar m j plan read after) same (c.play.ensures.so_far tells))))

@@ -1,5 +1,6 @@
 use Rattle.std.proofs.Common.{◌≡◌, ◌≢◌, ◌++◌, ◌∙◌, inl, inr, ℕ, List, Option, Err, sym, ap, subst, arith}
 use Rattle.std.specs.Prelude.{IfErr}
+use Rattle.exb_run.proofs.ByStatus.{counted-by}
 use Rattle.exb_words.specs.Words.{Ask}
 use Rattle.exb_run.specs.Answers.{asked}
 use Rattle.exb_inputs.specs.Answers.{status_of, line_of}
@@ -219,3 +220,7 @@ returns-clause-complete_made g c = λ number a no_out n1.
 
 pub returns-clause-fronts : goal.returns-clause-fronts
 returns-clause-fronts g c = c.work-outcome.ensures.came.fronts
+
+pub returns-clause-counts : goal.returns-clause-counts
+returns-clause-counts g c =
+    counted-by c.work-outcome.result c.report.result (g.S.Shelf.faults c.args.shelf.now) (g.S.Shelf.faults c.work-outcome.new.shelf) _ _ c.report.ensures.status c.report.ensures.seven c.work-outcome.ensures.faults.once

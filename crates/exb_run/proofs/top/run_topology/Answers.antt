@@ -1,5 +1,6 @@
 use Rattle.std.proofs.Common.{◌+◌, inl, inr, ℕ, subst}
 use Rattle.std.proofs.lemmas.Result.{err_from_is_err_and}
+use Rattle.exb_inputs.proofs.ShelvingLemmas.{counts_from}
 use Rattle.exb_shelf.specs.Files.{Files}
 use Rattle.exb_inputs.specs.declared.fault.Fault.{Fault}
 use Rattle.exb_shelf.specs.Shelf.{Opens}
@@ -44,6 +45,7 @@ returns-clause-came g c =
       stopped = is.stopped;
       others = is.others;
       fronts = is.fronts;
+      parts = is.parts;
     }))
 
 pub returns-clause-opens : goal.returns-clause-opens
@@ -66,6 +68,9 @@ returns-clause-order g c =
     let t = c.in_ok-topology.topology in
     let found = c.in_ok-topology.ensures in
     let is = c.play_topology.ensures in
-    inr (run_opens S.tells c.args.name.now c.args.options c.play_topology.result t (S.file c.args.shelf.now) _ _ _ found.opened found.read is.files is.made is.own
+    inr (run_opens S.tells c.args.name.now c.args.options c.play_topology.result t (S.file c.args.shelf.now) _ _ _ found.opened found.read is.files is.made is.behind is.port is.own
     (subst (λ (k : Files). S.tells → (p : ℕ) (fault : Fault) → FirstFault t.captures k p fault → Opens (ReadsBelow t.captures (p + 1)) (S.ids c.read_topology.new.shelf) (S.ids c.play_topology.new.shelf))
     (files_same (S.file c.args.shelf.now) (S.file c.read_topology.new.shelf) found.files) is.upto))
+
+pub returns-clause-faults : goal.returns-clause-faults
+returns-clause-faults g c = counts_from c.play_topology.result _ _ _ c.in_ok-topology.ensures.faults.once c.play_topology.ensures.faults

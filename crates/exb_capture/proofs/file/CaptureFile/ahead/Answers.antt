@@ -1,12 +1,13 @@
-use Rattle.std.proofs.Common.{◌<◌, ℕ, List, length, Ok, Err, refl, sym, ap, subst, ◌∙◌, arith}
+use Rattle.std.proofs.Common.{◌≡◌, ◌<◌, ◌≤◌, ℕ, List, length, Ok, Err, refl, sym, ap, subst, ◌∙◌, arith}
 use Rattle.std.proofs.lemmas.Result.{err_from_is_err_and}
-use Rattle.exb_capture.specs.declared.reader.Ahead.{Ahead}
+use Rattle.exb_capture.specs.declared.fault.Fault.{Fault}
 use Rattle.exb_capture.specs.Asked.{IsAhead}
 use Rattle.exb_shelf.specs.Files.{bytes_of}
 use Rattle.exb_capture.specs.declared.file.Halt.TheVariants.{Broken}
+use Rattle.exb_capture.specs.Counts.{after_halt}
 use Rattle.exb_capture.specs.Reading.{HasRead, HaltsBy}
 use Rattle.exb_capture.proofs.Going.{none_seen, seen_next, seen_held}
-use Rattle.exb_capture.proofs.Looking.{looked, looked_sound, looked_left, looked_more, looked_end, ended_whole, found_sound, found_left, found_read, found_next, looked_fault, halts_on, more_open, more_room, smaller, kept_bytes, moves_then, fewer_then}
+use Rattle.exb_capture.proofs.Looking.{looked, looked_sound, looked_left, looked_more, looked_end, ended_whole, found_sound, found_left, found_read, found_next, looked_fault, looked_place, halts_on, halt_is, more_open, more_room, smaller, kept_bytes, moves_then, fewer_then}
 use Rattle.exb_capture.proofs.file.CaptureFile.ahead.Goals as goal
 
 pub returns-in-Some-clause-found : goal.returns-in-Some-clause-found
@@ -26,6 +27,7 @@ looking-init g c = record {
   read = λ tells xs h. h;
   moves = record { others = λ j other. refl; same = λ name reads. reads };
   files = λ n. refl;
+  counted = refl;
   faults = record { missing = omega arith; reads = omega arith; writes = omega arith };
 }
 
@@ -102,6 +104,22 @@ returns-in_err-read_on-in-Ok-More-clause-halts g c =
     let full = found.large tells (ap Err is) xs (subst (λ (b : List ℕ). HasRead b xs (looked c.looking.self c.advance.new.self (Ok c.in-Ok-More.field-0) c.looking.invariant.unseen c.in-Ok-More.ensures.answer c.advance.ensures.left)) (sym same) read) in
     (full.0, subst (λ (b : List ℕ). f.limit < length b) same full.1))))
 
+pub returns-in_err-read_on-in-Ok-More-clause-counts : goal.returns-in_err-read_on-in-Ok-More-clause-counts
+returns-in_err-read_on-in-Ok-More-clause-counts g c =
+    let p = err_from_is_err_and c.from_residual.result c.from_residual.ensures.1 in
+    rw (p.1, p.2) (c.in_err-read_on-in-Ok-More.ensures.counts ∙ ap (after_halt c.in_err-read_on-in-Ok-More.field-0.0) c.looking.invariant.counted)
+
+pub returns-in-Err-clause-place : goal.returns-in-Err-clause-place
+returns-in-Err-clause-place g c = λ fault e.
+    let same : c.in-Err.fault ≡ fault = cc in
+    subst (λ (x : Fault). x.at ≤ c.looking.self.got) same
+    (looked_place c.looking.self c.advance.new.self (Err c.in-Err.fault) c.looking.invariant.unseen c.in-Err.ensures.answer c.advance.ensures.left c.in-Err.fault refl c.looking.invariant.sound)
+
+pub returns-in_err-read_on-in-Ok-More-clause-place : goal.returns-in_err-read_on-in-Ok-More-clause-place
+returns-in_err-read_on-in-Ok-More-clause-place g c =
+    let p = err_from_is_err_and c.from_residual.result c.from_residual.ensures.1 in
+    rw (p.1, p.2) (λ fault e. absurd (c.in_err-read_on-in-Ok-More.ensures.unbroken fault (ap Err (halt_is c.in_err-read_on-in-Ok-More.field-0.0 (Broken fault) e))))
+
 pub looking-smaller : goal.looking-smaller
 looking-smaller g c =
     let f = c.looking.self in
@@ -132,5 +150,6 @@ looking-preserved g c =
           (looked_more c.looking.self c.advance.new.self (Ok c.in-Ok-More.field-0) c.looking.invariant.unseen c.in-Ok-More.ensures.answer c.advance.ensures.left bytes xs (ap Ok c.in-Ok-More.field-0-is) (inv.read tells xs h))));
       moves = moves_then c.args.self.now.id f.id (S.ids c.args.shelf.now) (S.ids c.looking.shelf) (S.ids c.read_on.new.shelf) inv.moves c.read_on.ensures.moves inv.same.id;
       files = λ n. c.read_on.ensures.files n ∙ inv.files n;
+      counted = found.counts ∙ inv.counted;
       faults = fewer_then (S.faults c.args.shelf.now) (S.faults c.looking.shelf) (S.faults c.read_on.new.shelf) inv.faults c.read_on.ensures.faults;
     }

@@ -19,6 +19,7 @@ invariant-looking g l =
       read : S.tells → (xs : List Record) → HasRead bytes xs l.fn.self → HasRead bytes xs l.self;
       moves : MovesOn l.fn.self.id (S.ids l.fn.shelf) (S.ids l.shelf);
       files : SameFiles (S.file l.fn.shelf) (S.file l.shelf);
+      counted : S.faults l.shelf ≡ S.faults l.fn.shelf;
       faults : NoFewer (S.faults l.fn.shelf) (S.faults l.shelf);
     }
 

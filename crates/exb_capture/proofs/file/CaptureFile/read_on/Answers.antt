@@ -1,4 +1,4 @@
-use Rattle.std.proofs.Common.{◌≡◌, ◌+◌, ◌<◌, ◌-◌, ℕ, List, length, take, drop, refl, ap, ◌∙◌, arith, length-drop}
+use Rattle.std.proofs.Common.{◌<◌, ◌-◌, length, take, drop, refl, ap, ◌∙◌, arith, length-drop}
 use Rattle.exb_shelf.specs.Files.{bytes_of}
 use Rattle.exb_capture.proofs.Going.{ended_read, fed_on}
 use Rattle.exb_capture.proofs.Looking.{below_by}

@@ -1,6 +1,7 @@
 use Rattle.std.proofs.Common.{◌≡◌, [], ◌∷◌, ◌++◌, map, Err, sym, ap, subst, ◌∙◌, arith}
 use Rattle.std.specs.List.{AllByRecursion}
 use Rattle.exb_shelf.specs.Files.{bytes_of}
+use Rattle.exb_capture.specs.Counts.{after_fault}
 use Rattle.exb_capture.proofs.Replaying.{never_replayed}
 use Rattle.exb_merge.specs.declared.replays.Again.{Again}
 use Rattle.exb_merge.specs.declared.replays.CaptureFault.TheVariants.{Changed}
@@ -8,6 +9,7 @@ use Rattle.exb_merge.specs.Replays.{Apart, AreReplays, IsOpened, seen}
 use Rattle.exb_merge.specs.Streams.{stream_of}
 use Rattle.exb_merge.specs.Turns.{IsInTurn}
 use Rattle.exb_merge.proofs.Adding.{apart_new, each_more, in_turn_more, one_more, opened_first, replay_first, replays_more, when_ok}
+use Rattle.exb_merge.proofs.Counts.{not_opened, not_read, port_at}
 use Rattle.exb_merge.proofs.Moving.{changed_at, own_fault}
 use Rattle.exb_merge.proofs.Told.{replaying_opened}
 use Rattle.exb_merge.proofs.replays.Replays.add.Goals as goal
@@ -62,3 +64,32 @@ returns-clause-streams g c = λ tells bytes records streams there whole told t.
     let all = replays_more given (S.ids c.open.new.shelf) ids xs s c.args.name.now opened.file.id c.in-Ok.ensures.new c.open.ensures.opened c.ahead.ensures.moves c.requires.opened.each
     (S.file c.args.shelf.now) (S.file c.open.new.shelf) (S.file c.ahead.new.shelf) streams (stream_of c.args.port records) c.open.ensures.files c.ahead.ensures.files own t in
     subst (λ ss. AreReplays (S.file c.ahead.new.shelf) ids ss (streams ++ stream_of c.args.port records ∷ [])) (sym items) all
+
+pub returns-in-Err-clause-port_is : goal.returns-in-Err-clause-port_is
+returns-in-Err-clause-port_is g c = λ p at e.
+    port_at c.args.port p at c.in-Err.fault (sym c.fault_at.ensures ∙ own_fault c.fault_at.result (Changed p at) e)
+
+pub returns-in-Err-ahead-clause-port_is : goal.returns-in-Err-ahead-clause-port_is
+returns-in-Err-ahead-clause-port_is g c = λ p at e.
+    port_at c.args.port p at c.in-Err-ahead.fault (sym c.fault_at-in-Err-ahead.ensures ∙ own_fault c.fault_at-in-Err-ahead.result (Changed p at) e)
+
+pub returns-in-Err-clause-counts : goal.returns-in-Err-clause-counts
+returns-in-Err-clause-counts g c = not_opened c.args.port c.in-Err.fault c.fault_at.result _ _ c.fault_at.ensures c.in-Err.ensures.counts
+
+pub returns-in-Err-ahead-clause-counts : goal.returns-in-Err-ahead-clause-counts
+returns-in-Err-ahead-clause-counts g c =
+    not_read c.args.port c.in-Err-ahead.fault c.fault_at-in-Err-ahead.result _ _ c.fault_at-in-Err-ahead.ensures
+    (c.in-Err-ahead.ensures.counts ∙ ap (after_fault c.in-Err-ahead.fault) c.in-Ok.ensures.counts)
+
+pub returns-in-Err-clause-place : goal.returns-in-Err-clause-place
+returns-in-Err-clause-place g c = λ p at e.
+    let fault = changed_at c.args.port p at c.in-Err.fault (sym c.fault_at.ensures ∙ own_fault c.fault_at.result (Changed p at) e) in
+    let first = (c.in-Err.ensures.changed at (ap Err fault)).0 in
+    omega (arith, first)
+
+pub returns-in-Err-ahead-clause-place : goal.returns-in-Err-ahead-clause-place
+returns-in-Err-ahead-clause-place g c = λ p at e.
+    let fault = changed_at c.args.port p at c.in-Err-ahead.fault (sym c.fault_at-in-Err-ahead.ensures ∙ own_fault c.fault_at-in-Err-ahead.result (Changed p at) e) in
+    let low = c.in-Err-ahead.ensures.place at (ap Err fault) in
+    let told : c.in-Ok.replay.told.bytes ≡ c.args.told.bytes = ap (λ t. t.bytes) c.in-Ok.ensures.told.0 in
+    omega (arith, low, told)

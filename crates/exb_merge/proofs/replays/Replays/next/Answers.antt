@@ -1,10 +1,11 @@
-use Rattle.std.proofs.Common.{Err, drop, sym, ap, ◌∙◌, arith}
+use Rattle.std.proofs.Common.{◌≡◌, Err, drop, sym, ap, ◌∙◌, arith}
 use Rattle.std.specs.BinaryHeap.{heap_items}
 use Rattle.exb_shelf.specs.Files.{bytes_of}
 use Rattle.exb_capture.proofs.Replaying.{never_replayed}
 use Rattle.exb_merge.specs.declared.replays.Again.{Again}
 use Rattle.exb_merge.specs.Replays.{IsOpened}
 use Rattle.exb_merge.specs.declared.replays.CaptureFault.TheVariants.{Changed}
+use Rattle.exb_merge.proofs.Counts.{not_read, port_at, turn_port, turn_within}
 use Rattle.exb_merge.proofs.Moving.{changed_at, opened_next, own_fault, rises_next}
 use Rattle.exb_merge.proofs.Playing.{at_taken, has_rest, in_turn_next, moves_taken, next_apart, next_come, next_each, next_earliest, next_ids, next_left, next_reads, next_rises, next_since, order_next}
 use Rattle.exb_merge.proofs.Seen.{is_there, none_earlier, none_next, own_comes, own_of, whose_turn}
@@ -280,3 +281,30 @@ returns-clause-reads g c =
     let taken = c.take.new.self in
     let ids = S.ids c.ahead.new.shelf in
     next_reads xs m place s h given ids (moves_taken given s taken.replay c.take.ensures.same ids c.ahead.ensures.moves)
+
+pub returns-in-Err-ahead-clause-port : goal.returns-in-Err-ahead-clause-port
+returns-in-Err-ahead-clause-port g c = λ p at e.
+    let r = c.args.self.now in
+    let xs = r.sources.items in
+    let x = c.in-Some.field-0 in
+    let s = c.index_mut-source.result.now in
+    let h = whose_turn xs r.turns (drop 1 (heap_items r.turns)) x.0.0 x.0.1 c.requires.opened.turns c.in-Some.ensures.first s c.index_mut-source.ensures.value in
+    let taken = c.take.new.self in
+    let is = port_at taken.port p at c.in-Err-ahead.fault (sym c.fault_at.ensures ∙ own_fault c.fault_at.result (Changed p at) e) in
+    turn_port xs x.0.0 x.0.1 s h p (is ∙ c.take.ensures.port)
+
+pub returns-in-Err-ahead-clause-counts : goal.returns-in-Err-ahead-clause-counts
+returns-in-Err-ahead-clause-counts g c = not_read c.take.new.self.port c.in-Err-ahead.fault c.fault_at.result _ _ c.fault_at.ensures c.in-Err-ahead.ensures.counts
+
+pub returns-in-Err-ahead-clause-place : goal.returns-in-Err-ahead-clause-place
+returns-in-Err-ahead-clause-place g c = λ p at e.
+    let r = c.args.self.now in
+    let xs = r.sources.items in
+    let x = c.in-Some.field-0 in
+    let s = c.index_mut-source.result.now in
+    let h = whose_turn xs r.turns (drop 1 (heap_items r.turns)) x.0.0 x.0.1 c.requires.opened.turns c.in-Some.ensures.first s c.index_mut-source.ensures.value in
+    let taken = c.take.new.self in
+    let told_at = sym c.fault_at.ensures ∙ own_fault c.fault_at.result (Changed p at) e in
+    let low = c.in-Err-ahead.ensures.place at (ap Err (changed_at taken.port p at c.in-Err-ahead.fault told_at)) in
+    let told : taken.replay.told.bytes ≡ s.replay.told.bytes = ap (λ t. t.bytes) c.take.ensures.same.told in
+    turn_within xs x.0.0 x.0.1 s h p at (port_at taken.port p at c.in-Err-ahead.fault told_at ∙ c.take.ensures.port) (omega (arith, low, told))

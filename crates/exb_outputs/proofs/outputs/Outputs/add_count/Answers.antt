@@ -1,10 +1,10 @@
-use Rattle.std.proofs.Common.{rules, ◌≡◌, ap, ◌∙◌, arith}
+use Rattle.std.proofs.Common.{rules, ◌≡◌, ap, ◌∙◌, arith, ◌≤◌}
 use Rattle.std.proofs.lemmas.Result.{on_err_weaker, on_ok_weaker}
 use Rattle.exb_counters.specs.Counters.{count_line}
-use Rattle.exb_counters.specs.Counting.{counts_at}
 use Rattle.exb_text.specs.declared.output.Output.TheVariants as output
-use Rattle.exb_outputs.specs.Plans.{kind_at}
+use Rattle.exb_outputs.specs.Plans.{kind_at, port_count}
 use Rattle.exb_outputs.specs.Writing.{pieces_of}
+use Rattle.exb_outputs.proofs.Sizes.{same_captures}
 use Rattle.exb_outputs.proofs.ByKind.{placed}
 use Rattle.exb_outputs.proofs.OutputLemmas.{more_spelled}
 use Rattle.exb_outputs.proofs.Cutting.{cut_more, cut_now, cut_spelled}
@@ -13,7 +13,7 @@ use Rattle.exb_outputs.proofs.outputs.Outputs.add_count.Goals as goal
 pub returns-then-is_err-clause-cut : goal.returns-then-is_err-clause-cut
 returns-then-is_err-clause-cut g c = λ t orig text p.
     let file = g.S.Shelf.file c.args.shelf.now in
-    cut_more c.args.plan.now orig file text output.Counters (count_line c.args.port (counts_at c.args.counters.now c.args.port))
+    cut_more c.args.plan.now orig file text output.Counters (count_line c.args.port c.args.counts.now)
     (cut_now c.args.plan.now orig file (pieces_of c.args.self.now) text p)
 
 pub add_to-requires-clause-within : goal.add_to-requires-clause-within
@@ -24,7 +24,7 @@ add_to-requires-clause-within g c =
 
 pub returns-clause-texts : goal.returns-clause-texts
 returns-clause-texts g c = λ t.
-    let written : c.as_slice.result.now ≡ count_line c.args.port (counts_at c.args.counters.now c.args.port) = search rules in
+    let written : c.as_slice.result.now ≡ count_line c.args.port c.args.counts.now = search rules in
     on_ok_weaker c.add_to.result
     (λ added orig text p.
     more_spelled c.args.plan.now orig (g.S.Shelf.file c.add_to.new.shelf) (pieces_of c.add_to.new.self) text (kind_at c.args.plan.now c.counters.result) output.Counters _ _
@@ -33,9 +33,14 @@ returns-clause-texts g c = λ t.
 
 pub returns-clause-cut : goal.returns-clause-cut
 returns-clause-cut g c = λ t.
-    let written : c.as_slice.result.now ≡ count_line c.args.port (counts_at c.args.counters.now c.args.port) = search rules in
+    let written : c.as_slice.result.now ≡ count_line c.args.port c.args.counts.now = search rules in
     on_err_weaker c.add_to.result
     (λ cut orig text p.
     cut_spelled c.args.plan.now orig (g.S.Shelf.file c.add_to.new.shelf) text (kind_at c.args.plan.now c.counters.result) output.Counters _ _
     (ap (kind_at c.args.plan.now) c.counters.ensures.value ∙ (placed c.args.plan.now output.Counters c.requires.asked tt).at) written (cut orig text p))
     (c.add_to.ensures.cut t)
+
+pub returns-clause-same : goal.returns-clause-same
+returns-clause-same g c =
+    let behind : port_count c.args.plan.now ≤ c.counters.result = (let is = c.counters.ensures.value in omega (arith, is)) in
+    on_ok_weaker c.add_to.result (λ grows. same_captures c.args.plan.now _ _ _ _ behind grows) c.add_to.ensures.grows

@@ -1,9 +1,10 @@
-use Rattle.std.proofs.Common.{rules, ◌≡◌, ◌++◌, ◌+◌, ◌∷◌, [], ap, ◌∙◌, arith}
+use Rattle.std.proofs.Common.{rules, ◌≡◌, ◌++◌, ◌+◌, ◌∷◌, [], ap, ◌∙◌, arith, ◌≤◌}
 use Rattle.std.proofs.lemmas.Result.{on_err_weaker, on_ok_weaker}
 use Rattle.exb_model.specs.Traces.{trace_line}
 use Rattle.exb_text.specs.declared.output.Output.TheVariants as output
-use Rattle.exb_outputs.specs.Plans.{kind_at}
+use Rattle.exb_outputs.specs.Plans.{kind_at, port_count}
 use Rattle.exb_outputs.specs.Writing.{pieces_of}
+use Rattle.exb_outputs.proofs.Sizes.{same_captures}
 use Rattle.exb_outputs.proofs.ByKind.{placed}
 use Rattle.exb_outputs.proofs.OutputLemmas.{more_spelled}
 use Rattle.exb_outputs.proofs.Cutting.{cut_more, cut_now, cut_spelled}
@@ -38,3 +39,8 @@ returns-clause-cut g c = λ t.
     cut_spelled c.args.plan.now orig (g.S.Shelf.file c.add_to.new.shelf) text (kind_at c.args.plan.now c.trace.result) output.Trace _ _
     (ap (kind_at c.args.plan.now) c.trace.ensures.value ∙ (placed c.args.plan.now output.Trace c.requires.traced tt).at) written (cut orig text p))
     (c.add_to.ensures.cut t)
+
+pub returns-clause-same : goal.returns-clause-same
+returns-clause-same g c =
+    let behind : port_count c.args.plan.now ≤ c.trace.result = (let is = c.trace.ensures.value in omega (arith, is)) in
+    on_ok_weaker c.add_to.result (λ grows. same_captures c.args.plan.now _ _ _ _ behind grows) c.add_to.ensures.grows

@@ -1,11 +1,13 @@
-use Rattle.std.proofs.Common.{rules, ◌<◌, take, length, arith, ◌≤◌, List, subst}
+use Rattle.std.proofs.Common.{rules, ◌<◌, take, length, arith, ◌≤◌, List, subst, ◌∙◌, refl}
 use Rattle.std.proofs.lemmas.List.{take_all}
 use Rattle.std.proofs.lemmas.Result.{err_from_is_err_and}
+use Rattle.exb_inputs.proofs.ShelvingLemmas.{counts_as, counts_from}
 use Rattle.exb_model.specs.Traces.{TraceLine}
 use Rattle.exb_model.specs.Traces.{trace_text}
 use Rattle.exb_text.specs.declared.output.Output.TheVariants as output
 use Rattle.exb_outputs.specs.Writing.{HasTexts, pieces_of, with_more}
 use Rattle.exb_outputs.proofs.OutputLemmas.{no_more, more_trace}
+use Rattle.exb_outputs.proofs.Sizes.{same_none, same_then}
 use Rattle.exb_outputs.proofs.ShelvingLemmas.{writes_none, writes_then}
 use Rattle.exb_outputs.proofs.Cutting.{cut_trace}
 use Rattle.exb_outputs.proofs.outputs.Outputs.add_lines.Goals as goal
@@ -17,8 +19,10 @@ loop-one-init g c =
     record {
       ready = c.requires.ready;
       texts = λ t orig text p. no_more c.args.plan.now orig file (pieces_of c.args.self.now) text output.Trace p;
+      same = same_none c.args.plan.now c.args.self.now;
       only = writes_none _ _ _ _;
       faults = search rules;
+      counted = refl;
     }
 
 pub loop-one-preserved : goal.loop-one-preserved
@@ -33,8 +37,10 @@ loop-one-preserved g c =
           more_trace c.args.plan.now orig (g.S.Shelf.file c.add_line.new.shelf) (pieces_of c.add_line.new.self) text lines c.loop-one.one-index c.one-item.result
           inside c.one-item.is
           (added.texts t orig (with_more text output.Trace (trace_text (take c.loop-one.one-index lines))) (before.texts t orig text p));
+      same = same_then c.args.plan.now c.args.self.now _ _ before.same added.same;
       only = writes_then _ _ _ _ _ _ _ _ before.only added.only;
       faults = search (arith, added.faults.none_fell, before.faults);
+      counted = added.faults.once ∙ before.counted;
     }
 
 pub returns-in_err-add_line-clause-only : goal.returns-in_err-add_line-clause-only
@@ -56,3 +62,8 @@ returns-clause-texts g c = λ t orig text p.
     let end : length all ≤ c.loop-one.one-index = omega arith in
     subst (λ (xs : List TraceLine). HasTexts c.args.plan.now (pieces_of c.loop-one.self) orig (g.S.Shelf.file c.loop-one.shelf) (with_more text output.Trace (trace_text xs)))
     (take_all c.loop-one.one-index all end) (c.loop-one.invariant.texts t orig text p)
+
+pub returns-in_err-add_line-clause-faults : goal.returns-in_err-add_line-clause-faults
+returns-in_err-add_line-clause-faults g c =
+    let e = err_from_is_err_and c.from_residual.result c.from_residual.ensures.1 in
+    rw (e.1, e.2) (counts_from _ _ _ _ c.loop-one.invariant.counted (counts_as c.in_err-add_line.field-0.0 _ _ c.in_err-add_line.ensures.faults))

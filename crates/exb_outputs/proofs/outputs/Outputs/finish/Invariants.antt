@@ -16,4 +16,5 @@ invariant-loop-at g l =
           → HasTexts l.plan (pieces_of l.self) orig (S.file l.shelf) text;
       only : OnlyWrites S.tells l.plan (S.file l.fn.shelf) (S.file l.shelf) (S.ids l.fn.shelf) (S.ids l.shelf);
       faults : NoFewer (S.faults l.fn.shelf) (S.faults l.shelf);
+      counted : S.faults l.shelf ≡ S.faults l.fn.shelf;
     }

@@ -1,11 +1,11 @@
-use Rattle.std.proofs.Common.{ℕ, List, take}
+use Rattle.std.proofs.Common.{ℕ, List, take, ◌≡◌}
 use Rattle.exb_counters.specs.Counters.{count_lines}
-use Rattle.exb_counters.specs.Counting.{counts_at}
 use Rattle.exb_model.specs.Tree.{external_ports}
 use Rattle.exb_shelf.specs.Files.{Files}
 use Rattle.exb_shelf.specs.Shelf.{NoFewer}
 use Rattle.exb_text.specs.declared.output.Output.{Output}
 use Rattle.exb_text.specs.declared.output.Output.TheVariants as output
+use Rattle.exb_outputs.specs.Sent.{SameCaptures, counts_with}
 use Rattle.exb_outputs.specs.Shelving.{OnlyWrites}
 use Rattle.exb_outputs.specs.Writing.{pieces_of, HasTexts, IsReady, with_more}
 use Rattle.exb_outputs.proofs.outputs.Outputs.write_counters.Given as goal
@@ -16,7 +16,9 @@ invariant-loop-at g l =
     record {
       ready : IsReady l.plan (S.ids l.shelf) l.self;
       texts : S.tells → (orig : Files) (text : Output → List ℕ) → HasTexts l.plan (pieces_of l.fn.self) orig (S.file l.fn.shelf) text
-          → HasTexts l.plan (pieces_of l.self) orig (S.file l.shelf) (with_more text output.Counters (count_lines (counts_at l.counters) (take l.at (external_ports l.plan.tree))));
+          → HasTexts l.plan (pieces_of l.self) orig (S.file l.shelf) (with_more text output.Counters (count_lines (counts_with l.plan l.fn.self l.counters) (take l.at (external_ports l.plan.tree))));
+      same : SameCaptures l.plan l.fn.self l.self;
       only : OnlyWrites S.tells l.plan (S.file l.fn.shelf) (S.file l.shelf) (S.ids l.fn.shelf) (S.ids l.shelf);
       faults : NoFewer (S.faults l.fn.shelf) (S.faults l.shelf);
+      counted : S.faults l.shelf ≡ S.faults l.fn.shelf;
     }

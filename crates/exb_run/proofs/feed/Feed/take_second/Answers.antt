@@ -1,9 +1,11 @@
 use Rattle.std.proofs.Common.{◌≡◌, ℕ, [], List, refl, sym, subst, ◌∙◌}
+use Rattle.std.proofs.lemmas.Result.{err_from_is_err_and}
+use Rattle.exb_run.proofs.Ports.{ports-before}
 use Rattle.exb_merge.specs.Replays.{ids_in}
 use Rattle.exb_run.specs.Shelving.{OnlyReads}
 use Rattle.exb_run.proofs.Gathering.{gathers-more, gathers-same}
 use Rattle.exb_run.proofs.Keeping.{only-reads-then, replays-read}
-use Rattle.exb_inputs.proofs.ShelvingLemmas.{fewer_then}
+use Rattle.exb_inputs.proofs.ShelvingLemmas.{fewer_then, counts_as, counts_from}
 use Rattle.exb_run.proofs.feed.Feed.take_second.Goals as goal
 
 pub returns-in_err-take_within-clause-reads : goal.returns-in_err-take_within-clause-reads
@@ -27,6 +29,8 @@ second-preserved g c =
       same = one.coming.ids ∙ inv.same;
       only = only-reads-then (ids_in c.args.self.now.programme.captures) _ _ _ _ _ _ inv.only read;
       faults = fewer_then _ _ _ inv.faults c.take_within.ensures.faults.none_fell;
+      counted = c.in_ok-take_within.ensures.faults.once ∙ inv.counted;
+      ports = λ q has. inv.ports q (ports-before c.second.self.programme d c.take_within.new.self.programme one.coming.is q has);
     }
 
 pub returns-clause-taken : goal.returns-clause-taken
@@ -42,3 +46,13 @@ returns-clause-taken g c =
       replays-read (S.file c.second.shelf) (S.file c.take_within.new.shelf) (S.ids c.second.shelf) (S.ids c.take_within.new.shelf) (ids_in c.second.self.programme.captures) c.second.self.programme.captures.sources.items
           streams inv.feed.programme.opened.each c.take_within.ensures.reads replays,
     ))
+
+pub returns-in_err-take_within-clause-faults : goal.returns-in_err-take_within-clause-faults
+returns-in_err-take_within-clause-faults g c =
+    let e = err_from_is_err_and c.from_residual.result c.from_residual.ensures.1 in
+    rw (e.1, e.2) (counts_from _ _ _ _ c.second.invariant.counted (counts_as c.in_err-take_within.field-0.0 _ _ c.in_err-take_within.ensures.faults))
+
+pub returns-in_err-take_within-clause-port : goal.returns-in_err-take_within-clause-port
+returns-in_err-take_within-clause-port g c =
+    let e = err_from_is_err_and c.from_residual.result c.from_residual.ensures.1 in
+    rw (e.1, e.2) (λ p at is. c.second.invariant.ports p (c.in_err-take_within.ensures.port p at is))

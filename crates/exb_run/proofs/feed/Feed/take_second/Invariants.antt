@@ -1,6 +1,6 @@
-use Rattle.std.proofs.Common.{◌≡◌}
+use Rattle.std.proofs.Common.{◌≡◌, ℕ}
 use Rattle.exb_merge.specs.Programmes.{left_of}
-use Rattle.exb_merge.specs.Replays.{ids_in}
+use Rattle.exb_merge.specs.Replays.{ids_in, HasPort, standings}
 use Rattle.exb_shelf.specs.Shelf.{NoFewer}
 use Rattle.exb_run.specs.Shelving.{OnlyReads}
 use Rattle.exb_run.specs.UnderWay.{CanFeed, HasTakenSecond}
@@ -15,6 +15,8 @@ invariant-second g l =
       same : ids_in l.self.programme.captures ≡ ids_in l.fn.self.programme.captures;
       only : OnlyReads (ids_in l.fn.self.programme.captures) (S.file l.fn.shelf) (S.file l.shelf) (S.ids l.fn.shelf) (S.ids l.shelf);
       faults : NoFewer (S.faults l.fn.shelf) (S.faults l.shelf);
+      counted : S.faults l.shelf ≡ S.faults l.fn.shelf;
+      ports : (q : ℕ) → HasPort q (standings l.self.programme.captures) → HasPort q (standings l.fn.self.programme.captures);
     }
 
 abbrev pub decreases-second : goal.decreases-second

@@ -1,16 +1,19 @@
 use Rattle.std.proofs.Common.{◌≡◌, ℕ, ◌<◌, ◌^◌, List, ◌∷◌, Some, drop, ap, sym, subst, ◌∙◌, arith}
 use Rattle.std.proofs.lemmas.Result.{err_from_is_err_and}
+use Rattle.exb_run.proofs.Ports.{ports-all, writing-port}
 use Rattle.exb_model.specs.Texts.{Counts}
 use Rattle.exb_model.specs.declared.setup.Timed.{Timed}
-use Rattle.exb_merge.specs.Replays.{ids_in}
+use Rattle.exb_merge.specs.Replays.{ids_in, HasPort, standings}
 use Rattle.exb_schedule.specs.Playing.{letters_in}
 use Rattle.exb_schedule.specs.Worlds.{network_of}
 use Rattle.exb_run.specs.Playing.{mode_of}
 use Rattle.exb_run.specs.Shelving.{OnlyReads}
-use Rattle.exb_run.proofs.PortCounts.{counts-of}
+use Rattle.exb_resting.specs.Flight.Showing.{left_at}
+use Rattle.exb_outputs.proofs.Sizes.{counted_of}
+use Rattle.exb_run.proofs.PortCounts.{counts-of, sizes-fit}
 use Rattle.exb_run.proofs.Going.{all-kept, all-played, can-go-on, cut-reading, seconds-fit}
 use Rattle.exb_run.proofs.Keeping.{feed-written, goes-reading, goes-writing, ready-read}
-use Rattle.exb_inputs.proofs.ShelvingLemmas.{fewer_then}
+use Rattle.exb_inputs.proofs.ShelvingLemmas.{fewer_then, counts_as, counts_from}
 use Rattle.exb_run.proofs.Taking.{comes-commands, comes-fewer, comes-ids}
 use Rattle.exb_run.proofs.Telling.{arrivals-low, none_at, some_at}
 use Rattle.exb_run.proofs.game.Game.play_all.Goals as goal
@@ -74,7 +77,9 @@ events-preserved g c =
           (goes-reading S.tells c.args.plan.now (ids_in c.args.feed.now.programme.captures) _ _ _ _ _ _ inv.only
           (subst (λ (mine : List ℕ). OnlyReads mine (S.file c.events.shelf) (S.file c.gather.new.shelf) (S.ids c.events.shelf) (S.ids c.gather.new.shelf)) inv.same c.gather.ensures.reads))
           c.go_on.ensures.only;
+      ports = λ q has. inv.ports q (ports-all c.events.feed.programme c.gather.new.self.programme (got.first ∷ got.more) got.comes q has);
       faults = fewer_then _ _ _ (fewer_then _ _ _ inv.faults c.gather.ensures.faults.none_fell) c.go_on.ensures.faults.none_fell;
+      none_counted = c.in_ok-go_on.ensures.faults.once ∙ c.in_ok-second.ensures.faults.once ∙ inv.none_counted;
     }
 
 pub events-smaller : goal.events-smaller
@@ -101,13 +106,22 @@ returns-clause-few g c =
 pub returns-clause-counted : goal.returns-clause-counted
 returns-clause-counted g c =
     let p = c.events.invariant.goes_on c.requires.playing.0 c.requires.playing.1 in
-    counts-of c.args.plan.now c.events.self.counted.ports p.is.told p.is.passed p.is.gone p.is.counted.ports
+    counts-of c.args.plan.now c.events.self.counted.ports p.is.told p.is.passed p.is.counted.ports
+
+pub returns-clause-sent : goal.returns-clause-sent
+returns-clause-sent g c =
+    let run = c.requires.playing.0 in
+    let p = c.events.invariant.goes_on run c.requires.playing.1 in
+    counted_of c.args.plan.now c.events.self.outputs (λ q. left_at q p.is.gone)
+    (sizes-fit (mode_of c.args.schedule) run.input p.so_far (network_of c.events.self.world) p.is.told p.is.passed p.is.gone p.is.lines c.runs_are_few.ensures c.runs_are_under_way.ensures
+    (let most = p.next.few_bytes in omega (arith, most)) p.is.played) p.is.sent
 
 pub returns-clause-told : goal.returns-clause-told
 returns-clause-told g c t run start =
     let S = g.S.Shelf in
     all-played S.tells (mode_of c.args.schedule) run c.args.plan.now (S.file c.events.shelf) (S.file c.gather.new.shelf) (S.ids c.events.shelf) (network_of c.events.self.world) c.events.self.counted c.events.self.outputs c.events.last
     c.events.feed.programme t (c.events.invariant.goes_on run start) (none_at c.in_ok-second.field-0 c.in_default.is (c.in_ok-second.ensures.end t)) c.gather.ensures.reads.files
+    c.runs_are_few.ensures c.runs_are_under_way.ensures
 
 pub returns-clause-kept : goal.returns-clause-kept
 returns-clause-kept g c t run start =
@@ -166,3 +180,24 @@ returns-clause-only g c =
     let inv = c.events.invariant in
     goes-reading S.tells c.args.plan.now (ids_in c.args.feed.now.programme.captures) _ _ _ _ _ _ inv.only
     (subst (λ (mine : List ℕ). OnlyReads mine (S.file c.events.shelf) (S.file c.gather.new.shelf) (S.ids c.events.shelf) (S.ids c.gather.new.shelf)) inv.same c.gather.ensures.reads)
+
+-- ---- of which port a capture has changed, and what was counted
+pub returns-in_err-second-clause-port : goal.returns-in_err-second-clause-port
+returns-in_err-second-clause-port g c =
+    let e = err_from_is_err_and c.from_residual.result c.from_residual.ensures.1 in
+    rw (e.1, e.2) (λ p at is. c.events.invariant.ports p (c.in_err-second.ensures.port p at is))
+
+pub returns-in_err-go_on-clause-port : goal.returns-in_err-go_on-clause-port
+returns-in_err-go_on-clause-port g c =
+    let e = err_from_is_err_and c.from_residual-in_err-go_on.result c.from_residual-in_err-go_on.ensures.1 in
+    rw (e.1, e.2) (writing-port (λ (q : ℕ). HasPort q (standings c.args.feed.now.programme.captures)) c.in_err-go_on.field-0.0 c.in_err-go_on.ensures.causes)
+
+pub returns-in_err-second-clause-faults : goal.returns-in_err-second-clause-faults
+returns-in_err-second-clause-faults g c =
+    let e = err_from_is_err_and c.from_residual.result c.from_residual.ensures.1 in
+    rw (e.1, e.2) (counts_from _ _ _ _ c.events.invariant.none_counted (counts_as c.in_err-second.field-0.0 _ _ c.in_err-second.ensures.faults))
+
+pub returns-in_err-go_on-clause-faults : goal.returns-in_err-go_on-clause-faults
+returns-in_err-go_on-clause-faults g c =
+    let e = err_from_is_err_and c.from_residual-in_err-go_on.result c.from_residual-in_err-go_on.ensures.1 in
+    rw (e.1, e.2) (counts_from _ _ _ _ (c.in_ok-second.ensures.faults.once ∙ c.events.invariant.none_counted) (counts_as c.in_err-go_on.field-0.0 _ _ c.in_err-go_on.ensures.faults))

@@ -1,6 +1,6 @@
-use Rattle.std.proofs.Common.{◌≡◌, ◌<◌, ◌+◌, ◌^◌, None, drop}
+use Rattle.std.proofs.Common.{◌≡◌, ◌<◌, ◌+◌, ◌^◌, None, drop, ℕ}
 use Rattle.exb_merge.specs.Programmes.{left_of}
-use Rattle.exb_merge.specs.Replays.{ids_in}
+use Rattle.exb_merge.specs.Replays.{ids_in, HasPort, standings}
 use Rattle.exb_schedule.specs.Playing.{letters_in}
 use Rattle.exb_schedule.specs.Worlds.{network_of}
 use Rattle.exb_shelf.specs.Shelf.{NoFewer}
@@ -24,7 +24,9 @@ invariant-events g l =
       budget : (goal.Fate-dyn g (l.self.world.fate.vtable, l.self.world.fate.value)).left l.self.world.fate.value + letters_in (drop l.feed.programme.taken l.feed.programme.commands.now) < 2 ^ 57;
       same : ids_in l.feed.programme.captures ≡ ids_in l.fn.feed.programme.captures;
       only : OnlyGoesOn S.tells l.plan (ids_in l.fn.feed.programme.captures) (S.file l.fn.shelf) (S.file l.shelf) (S.ids l.fn.shelf) (S.ids l.shelf);
+      ports : (q : ℕ) → HasPort q (standings l.feed.programme.captures) → HasPort q (standings l.fn.feed.programme.captures);
       faults : NoFewer (S.faults l.fn.shelf) (S.faults l.shelf);
+      none_counted : S.faults l.shelf ≡ S.faults l.fn.shelf;
     }
 
 abbrev pub decreases-events : goal.decreases-events

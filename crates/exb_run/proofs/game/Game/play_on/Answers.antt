@@ -1,5 +1,8 @@
 use Rattle.std.proofs.Common.{◌≡◌, ◌∙◌, ℕ, List, [], ap}
 use Rattle.std.proofs.lemmas.Result.{err_from_is_err_and, on_err_weaker}
+use Rattle.exb_run.proofs.Ports.{writing-port}
+use Rattle.exb_merge.specs.Replays.{HasPort, standings}
+use Rattle.exb_inputs.proofs.ShelvingLemmas.{counts_from}
 use Rattle.exb_model.specs.History.{◌then◌}
 use Rattle.exb_model.specs.Texts.{summary_line}
 use Rattle.exb_schedule.specs.Worlds.{network_of}
@@ -13,7 +16,7 @@ use Rattle.exb_run.proofs.Ending.{counts-end, eagerly, legal, texts-whole, trace
 use Rattle.exb_outputs.proofs.Filling.{weaker}
 use Rattle.exb_run.proofs.Telling.{counts_written, if_ok_both}
 use Rattle.exb_run.proofs.Keeping.{goes-writing}
-use Rattle.exb_run.proofs.Running.{if_ok_map}
+use Rattle.exb_run.proofs.Running.{if_ok_map, if_err_map}
 use Rattle.exb_run.proofs.CuttingOff.{cut_at_end}
 use Rattle.exb_run.proofs.ReadBack.{moments-fit, numbers-then}
 use Rattle.exb_run.proofs.game.Game.play_on.Goals as goal
@@ -26,10 +29,11 @@ returns-clause-done g c tells =
     let n = network_of c.play_all.new.self.world in
     if_ok_both c.end.result (λ line says texts run timely start.
     let i = run.input in
-    let t = c.in_ok-play_all.ensures.told tells run start in
+    let all = c.in_ok-play_all.ensures.told tells run start in
+    let t = all.is in
     let way = c.runs_are_under_way.ensures in
     let law = c.runs_write_legally.ensures in
-    let counts : List ℕ = counts_text plan c.play_all.new.self.counted.ports in
+    let counts : List ℕ = counts_text plan c.play_all.new.self.counted.ports c.play_all.new.self.outputs in
     record {
       history = [] then t.told;
       lines = t.lines;
@@ -46,7 +50,7 @@ returns-clause-done g c tells =
           (λ j bytes. bytes ≡ output_text i ([] then t.told) t.lines (kind_at plan j)) (texts run.before (text_so_far t.told t.gone t.lines []) (t.texts tells))
           (λ j bytes low is.
           is ∙ counts_written t.told t.gone t.lines counts (kind_at plan j)
-          ∙ texts-whole m i plan t.tree c.is_tree.ensures timely way law n t.told t.passed t.gone t.lines t.played c.play_all.new.self.counted.ports t.counted.ports c.counts_go_on.ensures c.runs_say_passed.ensures j low);
+          ∙ texts-whole m i plan t.tree c.is_tree.ensures timely way law n t.told t.passed t.gone t.lines t.played c.play_all.new.self.counted.ports c.play_all.new.self.outputs t.counted.ports t.sent all.room c.counts_go_on.ensures c.runs_say_passed.ensures j low);
       says = says ∙ ap summary_line (t.counted.tally ∙ counts-end m i plan t.tree c.is_tree.ensures timely way law n t.told t.passed t.gone t.lines t.played);
     }) c.end.ensures.line (c.end.ensures.texts tells)
 
@@ -58,7 +62,7 @@ returns-clause-cut g c = λ t. on_err_weaker c.end.result
     (λ cut run start.
     let S = g.S.Shelf in
     cut_at_end S.tells (mode_of c.args.schedule) run c.args.plan.now (S.file c.play_all.new.shelf) (S.file c.end.new.shelf) (network_of c.play_all.new.self.world) c.play_all.new.self.counted c.play_all.new.self.outputs t
-    (c.in_ok-play_all.ensures.told t run start) (counts_text c.args.plan.now c.play_all.new.self.counted.ports) cut)
+    (c.in_ok-play_all.ensures.told t run start).is (counts_text c.args.plan.now c.play_all.new.self.counted.ports c.play_all.new.self.outputs) cut)
     (c.end.ensures.cut t)
 
 pub returns-in_err-play_all-clause-never : goal.returns-in_err-play_all-clause-never
@@ -68,3 +72,14 @@ returns-in_err-play_all-clause-never g c t =
 
 pub returns-clause-says : goal.returns-clause-says
 returns-clause-says g c = if_ok_map c.end.result (λ line says. (counts_of c.play_all.new.self.counted.tally, says)) c.end.ensures.line
+
+pub returns-clause-faults : goal.returns-clause-faults
+returns-clause-faults g c = counts_from c.end.result _ _ _ c.in_ok-play_all.ensures.faults.once c.end.ensures.faults
+
+pub returns-in_err-play_all-clause-port : goal.returns-in_err-play_all-clause-port
+returns-in_err-play_all-clause-port g c =
+    let e = err_from_is_err_and c.from_residual.result c.from_residual.ensures.1 in
+    rw (e.1, e.2) c.in_err-play_all.ensures.port
+
+pub returns-clause-port : goal.returns-clause-port
+returns-clause-port g c = if_err_map c.end.result (λ x causes. writing-port (λ (q : ℕ). HasPort q (standings c.args.feed.now.programme.captures)) x causes) c.end.ensures.causes

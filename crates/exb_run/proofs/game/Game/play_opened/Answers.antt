@@ -1,5 +1,7 @@
-use Rattle.std.proofs.Common.{[], refl, arith}
+use Rattle.std.proofs.Common.{[], refl, arith, ℕ}
 use Rattle.std.proofs.lemmas.Result.{err_from_is_err_and, on_err_weaker}
+use Rattle.exb_run.proofs.Ports.{writing-port}
+use Rattle.exb_merge.specs.Replays.{HasPort, standings}
 use Rattle.exb_model.specs.Input.{segments}
 use Rattle.exb_schedule.specs.Worlds.{network_of}
 use Rattle.exb_run.specs.Playing.{mode_of, text_so_far}
@@ -11,7 +13,7 @@ use Rattle.exb_run.proofs.PortCounts.{can-count, none_together}
 use Rattle.exb_run.proofs.Going.{opened-playing}
 use Rattle.exb_run.proofs.Keeping.{feed-written, goes-none, goes-then, goes-writing}
 use Rattle.exb_run.proofs.Running.{if_err_map, if_ok_map}
-use Rattle.exb_inputs.proofs.ShelvingLemmas.{counts_after}
+use Rattle.exb_inputs.proofs.ShelvingLemmas.{counts_from}
 use Rattle.exb_run.proofs.Telling.{text-first, frames-fit}
 use Rattle.exb_run.proofs.game.Game.play_opened.Goals as goal
 
@@ -29,9 +31,8 @@ note-requires-clause-can g c =
     let i = c.requires.opened.0.input in
     let is = c.requires.opened.1 in
     let follows : CanFollow i [] = record { kept = tt; few_arrivals = omega arith; few_commands = omega arith } in
-    let frames = frames-fit m i c.args.plan.now [] n n.log.events n.log.passed [] n.log.left n.log.lines c.runs_are_under_way.ensures is.tree c.is_tree.ensures tt is.played in
-    can-count m i c.args.plan.now [] n c.args.self.now.counted [] n.log.events [] n.log.passed [] n.log.left n.log.lines c.steps_tell_passed.ensures c.runs_are_few.ensures c.runs_are_under_way.ensures follows is.played is.counted
-    none_together frames
+    can-count m i c.args.plan.now [] n c.args.self.now.counted [] n.log.events [] n.log.passed [] n.log.left n.log.lines c.steps_tell_passed.ensures c.runs_are_few.ensures follows is.played is.counted
+    none_together
 
 pub play_on-requires-clause-feed : goal.play_on-requires-clause-feed
 play_on-requires-clause-feed g c = feed-written (g.S.Shelf.ids c.args.shelf.now) (g.S.Shelf.ids c.note.new.shelf) c.args.feed.now c.note.ensures.only.kept c.requires.feed
@@ -43,7 +44,7 @@ play_on-requires-clause-playing g c =
     let run = c.requires.opened.0 in (
       run,
       opened-playing S.tells (mode_of c.args.schedule) run c.args.plan.now (S.file c.args.shelf.now) (S.ids c.args.shelf.now) (network_of c.args.self.now.world) c.args.self.now.counted c.args.self.now.outputs c.args.feed.now.programme c.requires.opened.1
-          (S.file c.note.new.shelf) (S.ids c.note.new.shelf) (network_of c.note.new.self.world) c.note.new.self.counted c.note.new.self.outputs note.world note.same note.quiet note.tally note.ports note.texts
+          (S.file c.note.new.shelf) (S.ids c.note.new.shelf) (network_of c.note.new.self.world) c.note.new.self.counted c.note.new.self.outputs note.world note.same note.quiet note.tally note.ports note.texts note.sent
           note.only.others note.only.kept c.told_by_types.ensures.numbers c.told_by_types.ensures.bytes,
     )
 
@@ -54,7 +55,7 @@ returns-clause-done g c tells = if_ok_map c.play_on.result
     let note = c.in_ok-note.ensures in
     played run is.timely
     (opened-playing S.tells (mode_of c.args.schedule) run c.args.plan.now (S.file c.args.shelf.now) (S.ids c.args.shelf.now) (network_of c.args.self.now.world) c.args.self.now.counted c.args.self.now.outputs c.args.feed.now.programme is
-    (S.file c.note.new.shelf) (S.ids c.note.new.shelf) (network_of c.note.new.self.world) c.note.new.self.counted c.note.new.self.outputs note.world note.same note.quiet note.tally note.ports note.texts
+    (S.file c.note.new.shelf) (S.ids c.note.new.shelf) (network_of c.note.new.self.world) c.note.new.self.counted c.note.new.self.outputs note.world note.same note.quiet note.tally note.ports note.texts note.sent
     note.only.others note.only.kept c.told_by_types.ensures.numbers c.told_by_types.ensures.bytes))
     (c.play_on.ensures.done tells)
 
@@ -67,7 +68,7 @@ returns-in_err-note-clause-cut g c = λ t.
     let plan = c.args.plan.now in
     let m = mode_of c.args.schedule in
     let n = network_of c.args.self.now.world in
-    cut_amid m run plan (S.file c.note.new.shelf) [] (segments m run.input) n [] n.log.events n.log.passed [] n.log.left [] n.log.lines is.tree refl is.played
+    cut_amid m run plan (S.file c.note.new.shelf) [] (segments m run.input) n [] n.log.events n.log.passed [] n.log.left [] n.log.lines is.tree refl is.tracing is.played
     (c.in_err-note.ensures.cut t run.before (text_so_far [] [] [] [])
     (kinds_same plan run.before (S.file c.args.shelf.now) (pieces_of c.args.self.now.outputs) first_text (text_so_far [] [] [] []) text-first (is.texts t))))
 
@@ -78,7 +79,7 @@ returns-clause-cut g c = λ t. on_err_weaker c.play_on.result
     let note = c.in_ok-note.ensures in
     cut run
     (opened-playing S.tells (mode_of c.args.schedule) run c.args.plan.now (S.file c.args.shelf.now) (S.ids c.args.shelf.now) (network_of c.args.self.now.world) c.args.self.now.counted c.args.self.now.outputs c.args.feed.now.programme is
-    (S.file c.note.new.shelf) (S.ids c.note.new.shelf) (network_of c.note.new.self.world) c.note.new.self.counted c.note.new.self.outputs note.world note.same note.quiet note.tally note.ports note.texts
+    (S.file c.note.new.shelf) (S.ids c.note.new.shelf) (network_of c.note.new.self.world) c.note.new.self.counted c.note.new.self.outputs note.world note.same note.quiet note.tally note.ports note.texts note.sent
     note.only.others note.only.kept c.told_by_types.ensures.numbers c.told_by_types.ensures.bytes))
     (c.play_on.ensures.cut t)
 
@@ -89,7 +90,7 @@ returns-clause-never g c tells = if_err_map c.play_on.result
     let note = c.in_ok-note.ensures in
     never change run
     (opened-playing S.tells (mode_of c.args.schedule) run c.args.plan.now (S.file c.args.shelf.now) (S.ids c.args.shelf.now) (network_of c.args.self.now.world) c.args.self.now.counted c.args.self.now.outputs c.args.feed.now.programme is
-    (S.file c.note.new.shelf) (S.ids c.note.new.shelf) (network_of c.note.new.self.world) c.note.new.self.counted c.note.new.self.outputs note.world note.same note.quiet note.tally note.ports note.texts
+    (S.file c.note.new.shelf) (S.ids c.note.new.shelf) (network_of c.note.new.self.world) c.note.new.self.counted c.note.new.self.outputs note.world note.same note.quiet note.tally note.ports note.texts note.sent
     note.only.others note.only.kept c.told_by_types.ensures.numbers c.told_by_types.ensures.bytes))
     (c.play_on.ensures.never tells)
 
@@ -99,4 +100,9 @@ returns-clause-only g c =
     goes-then S.tells c.args.plan.now _ _ _ _ _ _ _ (goes-writing S.tells c.args.plan.now _ _ _ _ _ _ _ (goes-none S.tells c.args.plan.now _ (S.file c.args.shelf.now) (S.ids c.args.shelf.now)) c.in_ok-note.ensures.only) c.play_on.ensures.only
 
 pub returns-clause-faults : goal.returns-clause-faults
-returns-clause-faults g c = counts_after c.play_on.result _ _ _ c.in_ok-note.ensures.faults.none_fell c.play_on.ensures.faults
+returns-clause-faults g c = counts_from c.play_on.result _ _ _ c.in_ok-note.ensures.faults.once c.play_on.ensures.faults
+
+pub returns-in_err-note-clause-port : goal.returns-in_err-note-clause-port
+returns-in_err-note-clause-port g c =
+    let e = err_from_is_err_and c.from_residual.result c.from_residual.ensures.1 in
+    rw (e.1, e.2) (writing-port (λ (q : ℕ). HasPort q (standings c.args.feed.now.programme.captures)) c.in_err-note.field-0.0 c.in_err-note.ensures.causes)

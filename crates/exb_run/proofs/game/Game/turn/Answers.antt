@@ -7,9 +7,12 @@ use Rattle.exb_network.specs.Worlds.{all_left}
 use Rattle.exb_schedule.specs.Worlds.{network_of}
 use Rattle.exb_run.specs.Playing.{mode_of, text_so_far}
 use Rattle.exb_outputs.specs.Writing.{pieces_of}
+use Rattle.exb_resting.specs.Flight.Showing.{left_at}
+use Rattle.exb_run.specs.Leaving.{sent_with}
+use Rattle.exb_outputs.proofs.Sizes.{sent_as}
 use Rattle.exb_outputs.proofs.OutputLemmas.{kinds_same}
 use Rattle.exb_run.proofs.PortCounts.{can-count, counted-on, played_together}
-use Rattle.exb_run.proofs.Telling.{when_ok, on_ok_by, text-more, quiet-played, cleared-played, frames-fit}
+use Rattle.exb_run.proofs.Telling.{when_ok, on_ok_by, left_at-append, text-more, quiet-played, cleared-played, frames-fit}
 use Rattle.exb_run.proofs.CuttingOff.{cut_amid, cut_before}
 use Rattle.exb_run.proofs.game.Game.turn.Goals as goal
 
@@ -36,11 +39,8 @@ note-requires-clause-can g c =
     let ok = sym c.is_err.ensures.value ∙ c.if-is_err.false in
     let v = network_of c.play_segment.new.world in
     let after = when_ok c.play_segment.result ok c.play_segment.ensures.plays i can.so_far can.next is.told is.passed is.gone is.lines can.segment (quiet-played m i can.so_far n is.told is.passed is.gone is.lines is.quiet is.played) in
-    let frames =
-    frames-fit m i c.args.plan.now (can.so_far ++ can.next ∷ []) v (is.told ++ v.log.events) (is.passed ++ v.log.passed) is.gone v.log.left (is.lines ++ v.log.lines)
-    c.runs_are_under_way.ensures is.tree c.is_tree.ensures can.follows.kept after in
     can-count m i c.args.plan.now (can.so_far ++ can.next ∷ []) v c.args.self.now.counted is.told v.log.events is.passed v.log.passed is.gone v.log.left (is.lines ++ v.log.lines)
-    c.steps_tell_passed.ensures c.runs_are_few.ensures c.runs_are_under_way.ensures can.follows after is.counted (played_together c.steps_tell_passed.ensures m i can.so_far n is.told is.passed is.gone is.lines is.played) frames
+    c.steps_tell_passed.ensures c.runs_are_few.ensures can.follows after is.counted (played_together c.steps_tell_passed.ensures m i can.so_far n is.told is.passed is.gone is.lines is.played)
 
 pub returns-clause-told : goal.returns-clause-told
 returns-clause-told g c = on_ok_by c.note.result (λ get run so_far s segment is.
@@ -70,6 +70,8 @@ returns-clause-told g c = on_ok_by c.note.result (λ get run so_far s segment is
       texts = λ tells.
           kinds_same plan run.before (S.file c.note.new.shelf) (pieces_of c.note.new.self.outputs) _ (text_so_far (is.told ++ more) (is.gone ++ all_left left) (is.lines ++ new) [])
           (text-more is.told more is.gone left is.lines new) (get _ (c.note.ensures.texts tells) run.before (text_so_far is.told is.gone is.lines []) (is.texts tells));
+      sent = sent_as plan c.note.new.self.outputs (sent_with (λ q. left_at q is.gone) left) (λ q. left_at q (is.gone ++ all_left left)) (λ q. sym (left_at-append q is.gone (all_left left)))
+          (get _ c.note.ensures.sent (λ q. left_at q is.gone) is.sent);
       quiet = get _ c.note.ensures.quiet;
     })
 
@@ -87,5 +89,5 @@ returns-clause-cut g c = λ t. on_err_weaker c.note.result
     let v = network_of c.play_segment.new.world in
     let after = when_ok c.play_segment.result ok c.play_segment.ensures.plays run.input so_far s is.told is.passed is.gone is.lines segment (quiet-played m run.input so_far n is.told is.passed is.gone is.lines is.quiet is.played) in
     cut_amid m run plan (g.S.Shelf.file c.note.new.shelf) (so_far ++ s ∷ []) rest v is.told v.log.events (is.passed ++ v.log.passed) is.gone v.log.left is.lines v.log.lines is.tree
-    (segments_are ∙ sym (append_assoc so_far (s ∷ []) rest)) after (cut run.before (text_so_far is.told is.gone is.lines []) (is.texts t)))
+    (segments_are ∙ sym (append_assoc so_far (s ∷ []) rest)) ((when_ok c.play_segment.result ok c.play_segment.ensures.same).tracing ∙ is.tracing) after (cut run.before (text_so_far is.told is.gone is.lines []) (is.texts t)))
     (c.note.ensures.cut t)

@@ -10,5 +10,5 @@ returns-in-None-clause-texts g c tells orig text held =
     let plan = c.args.plan.now in
     let file = g.S.Shelf.file c.args.shelf.now in
     let pieces = pieces_of c.args.self.now.outputs in
-    let none : [] ≡ counts_text plan c.args.self.now.counted.ports = sym (ap (counts_text plan) c.in-None.is) in
+    let none : [] ≡ counts_text plan c.args.self.now.counted.ports c.args.self.now.outputs = sym (ap (λ ports. counts_text plan ports c.args.self.now.outputs) c.in-None.is) in
     subst (λ (counts : List ℕ). HasTexts plan pieces orig file (with_more text output.Counters counts)) none (no_more plan orig file pieces text output.Counters held)

@@ -1,6 +1,6 @@
 use Rattle.std.proofs.Common.{◌≤◌, ◌+◌, length, rules}
 use Rattle.exb_capture.proofs.ClassicLemmas.{record_is}
-use Rattle.exb_capture.proofs.classic.record.Goals as goal
+use Rattle.exb_capture.proofs.classic.record_of.Goals as goal
 
 pub returns-else-held-size-clause-value : goal.returns-else-held-size-clause-value
 returns-else-held-size-clause-value c =

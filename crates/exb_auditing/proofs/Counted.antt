@@ -1,0 +1,15 @@
+-- What an audit counts, once all is read.
+use Rattle.std.proofs.Common.{◌≡◌, ◌⊎◌, inl, inr, ℕ, Result, Ok, Err, sym, subst}
+use Rattle.std.specs.Prelude.{IfErr}
+use Rattle.exb_shelf.specs.Shelf.{Faults}
+use Rattle.exb_inputs.specs.Answers.{IsRule}
+use Rattle.exb_inputs.specs.Counting.{CountsFault}
+use Rattle.exb_inputs.specs.Shelving.{CountsFaults}
+use Rattle.exb_inputs.specs.declared.fault.Fault.{Fault}
+use Rattle.exb_inputs.specs.declared.fault.Fault.TheVariants.{Illegal, Memory}
+use Rattle.exb_inputs.proofs.ShelvingLemmas.{counted_once, counts_ok, fewer_same}
+
+pub judged_counted : {Y : Type 0} (P : ℕ → Type 0) (result : Result Y Fault) (a b : Faults) → b ≡ a → IfErr result (λ (fault : Fault). ((r : ℕ) × IsRule r × P r × (fault ≡ Illegal r)) ⊎ (fault ≡ Memory)) → CountsFaults result a b
+judged_counted P (Ok y) a b same broken = counts_ok y a b same
+judged_counted P (Err x) a b same (inl (r, rule, lowest, is)) = counted_once (Err x) a b (fewer_same a b same) (subst (λ (z : Fault). CountsFault z a b) (sym is) same)
+judged_counted P (Err x) a b same (inr memory) = counted_once (Err x) a b (fewer_same a b same) (subst (λ (z : Fault). CountsFault z a b) (sym memory) (inl same))
