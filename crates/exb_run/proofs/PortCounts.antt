@@ -236,8 +236,8 @@ sizes-fit m i so_far n told passed gone lines law way arrivals p q =
 ports-can : (plan : Planned) (ports : Option Counters) (told more : List Event) (passed said : List Bool) → AreCounted plan ports told passed → GoTogether told passed →
     ((q : ℕ) → FitsCounts (plus_events (told ++ more) (passed ++ said) q nothing)) → IfSome ports (CanCountAt more said)
 ports-can plan None told more passed said are together fits = tt
-ports-can plan (Some c) told more passed said are together fits q there =
-    subst FitsCounts (sym (ap (plus_events more said q) (are.2 q there) ∙ port_more told more passed said q together)) (fits q)
+ports-can plan (Some c) told more passed said are together fits =
+    λ q there. subst FitsCounts (sym (ap (plus_events more said q) (are.2 q there) ∙ port_more told more passed said q together)) (fits q)
 
 pub can-count : (m : Mode) (i : Input) (plan : Planned) (so_far : List Segment) (n : Network) (c : Counted) (told more : List Event) (passed said : List Bool) (gone : List Leaving) (xs : List Left) (lines : List TraceLine) →
     StepsTellPassed → RunsAreFew → CanFollow i so_far → HasPlayed m i so_far n (told ++ more) (passed ++ said) (gone ++ all_left xs) lines → IsCounted plan c told passed gone → GoTogether told passed →
