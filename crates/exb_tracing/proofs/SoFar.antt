@@ -1,5 +1,5 @@
 -- A run that has played the first segments of an input has told a history, files and a trace that are legal so far.
-use Rattle.std.proofs.Common.{◌≡◌, ℕ, zero, suc, ◌+◌, ◌<◌, ◌==◌, ◌++◌, Bool, true, false, List, [], ◌∷◌, Option, Some, None, length, map, filter, take, drop, refl, ap, sym, ◌∙◌, subst, inl, inr, add-one}
+use Rattle.std.proofs.Common.{◌≡◌, ℕ, zero, suc, ◌+◌, ◌==◌, ◌++◌, Bool, true, false, List, [], ◌∷◌, Some, length, map, filter, take, drop, refl, ap, sym, ◌∙◌, subst, inl, inr, add-one}
 use Rattle.std.specs.Prelude.{filter_map, flat_map, All, slice_get, if◌then◌else◌}
 use Rattle.std.specs.List.{range_with_len}
 use Rattle.std.proofs.lemmas.Bool.{cases_Bool, eqb-true}
@@ -13,7 +13,7 @@ use Rattle.exb_model.specs.Input.{Input, Arrival, Segment, Mode, tree_of, bounds
 use Rattle.exb_model.specs.Input.{basis_of as basis_in, arrivals_at as arrivals_in}
 use Rattle.exb_model.specs.LegalHistory.{EachEvent, IsDecided, IsEntered, settled_each}
 use Rattle.exb_model.specs.Lists.{numbered}
-use Rattle.exb_model.specs.Setup.{Limits, IsValid, start_of}
+use Rattle.exb_model.specs.Setup.{Limits, IsValid}
 use Rattle.exb_model.specs.Tree.{Shape, is_external}
 use Rattle.exb_model.specs.Traces.{TraceLine}
 use Rattle.exb_frame.specs.TagValues.{TagRoundTrip}
@@ -23,7 +23,7 @@ use Rattle.exb_machine.specs.Allowing.{IsSettled}
 use Rattle.exb_machine.specs.Settling.{run}
 use Rattle.exb_machine.specs.Stepping.{Stepped}
 use Rattle.exb_machine.specs.Telling.{all_told}
-use Rattle.exb_machine.specs.Worlds.{Step, first_world}
+use Rattle.exb_machine.specs.Worlds.{Step}
 use Rattle.exb_machine.specs.Runs.Written.{StepsStayWritten}
 use Rattle.exb_flight.specs.Items.{Each}
 use Rattle.exb_legal.specs.Entries.{journal_of}
@@ -48,7 +48,7 @@ use Rattle.exb_resting.proofs.Rest.Playing.{kept, settled, start as begun_of}
 use Rattle.exb_resting.proofs.Rest.Settles.{runs_stay_low}
 use Rattle.exb_tracing.specs.Laws.{given_in as came_in}
 use Rattle.exb_tracing.specs.Runs.{SetupsTellLegally}
-use Rattle.exb_tracing.specs.SoFar.{HasToldSoFar, IsHistorySoFar, IsTraceSoFar, LegalUpTo, RunsTellSoFar}
+use Rattle.exb_tracing.specs.SoFar.{LegalUpTo, RunsTellSoFar}
 use Rattle.exb_tracing.specs.Traced.{captures_of, outputs_of}
 use Rattle.exb_tracing.proofs.Played.{bytes_at, given_is, outputs_are}
 
