@@ -17,7 +17,6 @@ use Rattle.exb_capture.specs.Captures.{capture_records, records_or_none}
 use Rattle.exb_capture.specs.Classic.{pcap_records}
 use Rattle.exb_capture.specs.declared.checking.Scanned.{Scanned}
 use Rattle.exb_capture.specs.declared.checking.ScanFault.{ScanFault}
-use Rattle.exb_capture.specs.declared.checking.ScanFault.TheVariants as scan
 use Rattle.exb_capture.specs.Scans.{IsScan}
 use Rattle.exb_capture.specs.Written.{CanBeWritten, in_microseconds}
 use Rattle.exb_audit.specs.declared.frames.PortFrames.{PortFrames}
@@ -43,7 +42,7 @@ use Rattle.exb_inputs.specs.Checks.{AreAllGood, IsGoodNamed, most_bytes}
 use Rattle.exb_inputs.specs.Inputs.{bytes_named, input_of, is_named, name_of}
 use Rattle.exb_auditing.specs.Audits.{IsSeen, Seen, StopsAudit, evidence_of, most}
 use Rattle.exb_auditing.specs.Scopes.{capture_file, capture_files, file_named, output_file, output_files, scope_of}
-use Rattle.exb_auditing.specs.Written.{AreWithin, FindsLegal, IsWritten, RunsAreFoundLegal}
+use Rattle.exb_auditing.specs.Written.{AreWithin, IsWritten, RunsAreFoundLegal}
 use Rattle.exb_auditing.proofs.Given.{AllGive, Gives, each_flat, first_not, frames_are, has_at, has_below, has_own}
 use Rattle.exb_auditing.proofs.Once.{holds_all}
 use Rattle.exb_auditing.proofs.Told.{entries_not, entries_same, lines_not, lines_same}

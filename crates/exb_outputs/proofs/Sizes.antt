@@ -1,5 +1,5 @@
 -- What is counted of outputs while they are written.
-use Rattle.std.proofs.Common.{◌≡◌, ◌≢◌, ◌<◌, ◌≤◌, ◌+◌, ◌-◌, ◌*◌, ◌^◌, ◌%◌, ◌==◌, ◌++◌, inl, inr, ℕ, true, if◌then◌else◌, List, [], ◌∷◌, length, get_or, set, map, slice_index, refl, ap, sym, ◌∙◌, arith, subst, eq-eqb, length-append, get_or-set_same, get_or-set_other}
+use Rattle.std.proofs.Common.{◌≡◌, ◌≢◌, ◌<◌, ◌≤◌, ◌+◌, ◌-◌, ◌*◌, ◌^◌, ◌%◌, ◌==◌, ◌++◌, inl, inr, ℕ, suc, true, if◌then◌else◌, List, [], ◌∷◌, length, get_or, set, map, slice_index, refl, ap, sym, ◌∙◌, arith, subst, eq-eqb, length-append, get_or-set_same, get_or-set_other}
 use Rattle.std.proofs.Math.Nat.{mod-eq_of_lt}
 use Rattle.std.proofs.Math.Seq.{get_or-append_seam}
 use Rattle.std.proofs.lemmas.Bool.{cases_eq, cases_lt, ne_eqb}
@@ -78,7 +78,10 @@ counts_more n m fits = mod-eq_of_lt fits
 
 -- a record has 16 bytes before its frame
 pub record_size : (m : ℕ) (bytes : List ℕ) → length (record_text (m, bytes)) ≡ 16 + length bytes
-record_size m bytes = refl
+record_size m bytes =
+    let n : ℕ = length bytes in
+    let e : length (record_text (m, bytes)) ≡ suc (suc (suc (suc (suc (suc (suc (suc (suc (suc (suc (suc (suc (suc (suc (suc n))))))))))))))) = refl in
+    omega (arith, e)
 
 -- an output that got bytes, and no record
 pub grows_at : (old new : Outputs) (at n : ℕ) (was now : Unfinished) → new.files.items ≡ set old.files.items at now → at < length old.files.items → was ≡ get_or old.files.items at was
@@ -98,19 +101,23 @@ grows_at old new at n was now is inside read records size =
 
 -- ---- captures
 pub same_none : (plan : Planned) (o : Outputs) → SameCaptures plan o o
-same_none plan o q low out = (refl, refl)
+same_none plan o = record { each = λ q low out. (refl, refl) }
 
 pub same_then : (plan : Planned) (a b c : Outputs) → SameCaptures plan a b → SameCaptures plan b c → SameCaptures plan a c
-same_then plan a b c first later q low out =
-    let x = first q low out in
-    let y = later q low out in
-    (y.0 ∙ x.0, y.1 ∙ x.1)
+same_then plan a b c first later = record {
+  each = λ q low out.
+      let x = first.each q low out in
+      let y = later.each q low out in
+      (y.0 ∙ x.0, y.1 ∙ x.1);
+}
 
 -- behind the captures something was written
 pub same_captures : (plan : Planned) (old new : Outputs) (at n : ℕ) → port_count plan ≤ at → GrowsAt at n old new → SameCaptures plan old new
-same_captures plan old new at n behind grows q low out =
-    let inside : place_in plan.tree q < port_count plan = place_low plan q low out in
-    (grows.records (place_in plan.tree q), grows.others (place_in plan.tree q) (λ e. omega (arith, inside, behind, e)))
+same_captures plan old new at n behind grows = record {
+  each = λ q low out.
+      let inside : place_in plan.tree q < port_count plan = place_low plan q low out in
+      (grows.records (place_in plan.tree q), grows.others (place_in plan.tree q) (λ e. omega (arith, inside, behind, e)));
+}
 
 -- ---- frames
 pub more_size : (xs : List Sent) (m : ℕ) (bytes : List ℕ) → capture_size (xs ++ (m, bytes) ∷ []) ≡ capture_size xs + (16 + length bytes)
@@ -134,7 +141,7 @@ module _ (plan : Planned) (old new : Outputs) (p m : ℕ) (bytes : List ℕ) (wa
       → (frames_at plan new p ≡ length (sent p ++ (m, bytes) ∷ [])) × (size_at plan new p ≡ capture_size (sent p ++ (m, bytes) ∷ []))
   here sent has fits =
       let more = more_size (sent p) m bytes in
-      let before = has p low out (omega (arith, fits, more)) in
+      let before = has.each p low out (omega (arith, fits, more)) in
       let frames : was.records ≡ length (sent p) = sym (value_at (λ f. f.records) old.files.items (place_in plan.tree p) was inside read) ∙ before.0 in
       let bytes_were : size_of was ≡ capture_size (sent p) = sym (value_at size_of old.files.items (place_in plan.tree p) was inside read) ∙ before.1 in
       let longer = length-append (sent p) ((m, bytes) ∷ []) in
@@ -150,44 +157,51 @@ module _ (plan : Planned) (old new : Outputs) (p m : ℕ) (bytes : List ℕ) (wa
       → (frames_at plan new q ≡ length (sent q)) × (size_at plan new q ≡ capture_size (sent q))
   other sent has q q_low q_out differ fits =
       let apart : place_in plan.tree q ≢ place_in plan.tree p = λ e. differ (sym (port_of_place plan q q_low q_out) ∙ ap (port_at plan) e ∙ port_of_place plan p low out) in
-      let before = has q q_low q_out fits in (
+      let before = has.each q q_low q_out fits in (
         spelled (λ f. f.records) (place_in plan.tree q) ∙ value_other (λ f. f.records) old.files.items (place_in plan.tree p) now (place_in plan.tree q) apart ∙ before.0,
         spelled size_of (place_in plan.tree q) ∙ value_other size_of old.files.items (place_in plan.tree p) now (place_in plan.tree q) apart ∙ before.1,
       )
 
   pub frame_sent : (sent : ℕ → List Sent) → HasSent plan old sent → HasSent plan new (sent_more sent p (m, bytes))
-  frame_sent sent has q q_low q_out = elim (cases_eq q p) [
-    | inl same ↦
-        rw (eq-eqb p q (sym same)) (subst (λ (k : ℕ). capture_size (sent k ++ (m, bytes) ∷ []) < 2 ^ 64 → (frames_at plan new k ≡ length (sent k ++ (m, bytes) ∷ [])) × (size_at plan new k ≡ capture_size (sent k ++ (m, bytes) ∷ []))) (sym same)
-        (here sent has))
-    | inr differ ↦ rw (ne_eqb p q (λ e. differ (sym e))) (other sent has q q_low q_out differ)
-  ]
+  frame_sent sent has = record {
+    each = λ q q_low q_out. elim (cases_eq q p) [
+      | inl same ↦
+          rw (eq-eqb p q (sym same)) (subst (λ (k : ℕ). capture_size (sent k ++ (m, bytes) ∷ []) < 2 ^ 64 → (frames_at plan new k ≡ length (sent k ++ (m, bytes) ∷ [])) × (size_at plan new k ≡ capture_size (sent k ++ (m, bytes) ∷ []))) (sym same)
+          (here sent has))
+      | inr differ ↦ rw (ne_eqb p q (λ e. differ (sym e))) (other sent has q q_low q_out differ)
+    ];
+  }
 
 -- before any frame
 pub first_sent : (plan : Planned) (o : Outputs) → ((j : ℕ) → j < output_count plan → slice_index (records_of o) j ≡ 0)
     → ((j : ℕ) → j < output_count plan → slice_index (sizes_of o) j ≡ length (first_text (kind_at plan j))) → HasSent plan o (λ q. [])
-first_sent plan o records sizes q low out fits =
-    let place = placed plan (output.Capture q) out low in (
-      records (place_in plan.tree q) place.low,
-      sizes (place_in plan.tree q) place.low ∙ ap (λ (k : Output). length (first_text k)) place.at,
-    )
+first_sent plan o records sizes = record {
+  each = λ q low out fits.
+      let place = placed plan (output.Capture q) out low in (
+        records (place_in plan.tree q) place.low,
+        sizes (place_in plan.tree q) place.low ∙ ap (λ (k : Output). length (first_text k)) place.at,
+      );
+}
 
 -- what was counted is that of the same frames yet
 pub sent_same : (plan : Planned) (old new : Outputs) (sent : ℕ → List Sent) → SameCaptures plan old new → HasSent plan old sent → HasSent plan new sent
-sent_same plan old new sent same has q low out fits =
-    let s = same q low out in
-    let before = has q low out fits in
-    (s.0 ∙ before.0, s.1 ∙ before.1)
+sent_same plan old new sent same has = record {
+  each = λ q low out fits.
+      let s = same.each q low out in
+      let before = has.each q low out fits in
+      (s.0 ∙ before.0, s.1 ∙ before.1);
+}
 
 -- and of frames that are the same
 pub sent_as : (plan : Planned) (o : Outputs) (sent other : ℕ → List Sent) → ((q : ℕ) → sent q ≡ other q) → HasSent plan o sent → HasSent plan o other
-sent_as plan o sent other same has q low out =
-    subst (λ (xs : List Sent). capture_size xs < 2 ^ 64 → (frames_at plan o q ≡ length xs) × (size_at plan o q ≡ capture_size xs)) (same q) (has q low out)
+sent_as plan o sent other same has = record {
+  each = λ q low out. subst (λ (xs : List Sent). capture_size xs < 2 ^ 64 → (frames_at plan o q ≡ length xs) × (size_at plan o q ≡ capture_size xs)) (same q) (has.each q low out);
+}
 
 -- where all bytes are counted
 pub counted_of : (plan : Planned) (o : Outputs) (sent : ℕ → List Sent) → ((q : ℕ) → capture_size (sent q) < 2 ^ 64) → HasSent plan o sent → AreCountedAt plan o
 counted_of plan o sent room has q low out =
-    let own = has q low out (room q) in
+    let own = has.each q low out (room q) in
     let frames = own.0 in
     let size = own.1 in
     let few = room q in
@@ -195,7 +209,7 @@ counted_of plan o sent room has q low out =
 
 pub counted_same : (plan : Planned) (old new : Outputs) (q : ℕ) → q < 4160 → is_external plan.tree q ≡ true → SameCaptures plan old new → IsCountedAt plan old q → IsCountedAt plan new q
 counted_same plan old new q low out same is =
-    let s = same q low out in
+    let s = same.each q low out in
     let frames = s.0 in
     let size = s.1 in
     let whole = is.whole in
@@ -208,7 +222,7 @@ fives c d r p g l o = λ i. record { relayed = r i; dropped = p i; ignored = g i
 
 pub counts_same : (plan : Planned) (old new : Outputs) (c : Counters) (q : ℕ) → q < 4160 → is_external plan.tree q ≡ true → SameCaptures plan old new → counts_with plan new c q ≡ counts_with plan old c q
 counts_same plan old new c q low out same =
-    let s = same q low out in
+    let s = same.each q low out in
     let frames = s.0 in
     let size = s.1 in
     fives (counts_with plan new c q) (counts_with plan old c q) refl refl refl frames (omega (arith, frames, size))

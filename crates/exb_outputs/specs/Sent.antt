@@ -32,9 +32,8 @@ pub record GrowsAt (at bytes : ℕ) (old new : Outputs) : Type 0 where
   pub here : slice_index (sizes_of old) at + bytes < 2 ^ 64 → slice_index (sizes_of new) at ≡ slice_index (sizes_of old) at + bytes
 
 -- what was counted of each capture is the same
-abbrev pub SameCaptures : Planned → Outputs → Outputs → Type 0
-SameCaptures plan old new =
-    (q : ℕ) → q < 4160 → is_external plan.tree q ≡ true → (frames_at plan new q ≡ frames_at plan old q) × (size_at plan new q ≡ size_at plan old q)
+pub record SameCaptures (plan : Planned) (old new : Outputs) : Type 0 where
+  pub each : (q : ℕ) → q < 4160 → is_external plan.tree q ≡ true → (frames_at plan new q ≡ frames_at plan old q) × (size_at plan new q ≡ size_at plan old q)
 
 -- ---- frames
 -- how many bytes a capture of these frames has: 24 before the first record, and 16 before each frame
@@ -42,9 +41,8 @@ abbrev pub capture_size : List Sent → ℕ
 capture_size xs = 24 + 16 * length xs + octets_of xs
 
 -- These frames were put into the capture of each external port: records and bytes are counted, as far as 64 bits do.
-abbrev pub HasSent : Planned → Outputs → (ℕ → List Sent) → Type 0
-HasSent plan o sent =
-    (q : ℕ) → q < 4160 → is_external plan.tree q ≡ true → capture_size (sent q) < 2 ^ 64 → (frames_at plan o q ≡ length (sent q)) × (size_at plan o q ≡ capture_size (sent q))
+pub record HasSent (plan : Planned) (o : Outputs) (sent : ℕ → List Sent) : Type 0 where
+  pub each : (q : ℕ) → q < 4160 → is_external plan.tree q ≡ true → capture_size (sent q) < 2 ^ 64 → (frames_at plan o q ≡ length (sent q)) × (size_at plan o q ≡ capture_size (sent q))
 
 -- with one frame more at port p
 abbrev pub sent_more : (ℕ → List Sent) → ℕ → Sent → ℕ → List Sent

@@ -1,6 +1,6 @@
 -- After a run with a trace nothing stops an audit of what it wrote.
 use mathlib.Core.Path.{fun_ext}
-use Rattle.std.proofs.Common.{◌≡◌, ◌≢◌, ◌⊎◌, ◌==◌, ◌||◌, if◌then◌else◌, inl, inr, ℕ, Bool, true, false, List, [], Option, Some, None, map, refl, ap, sym, subst, ◌∙◌}
+use Rattle.std.proofs.Common.{◌≡◌, ◌≢◌, ◌⊎◌, ◌==◌, ◌||◌, if◌then◌else◌, inl, inr, ℕ, true, false, List, [], Option, Some, None, map, refl, ap, sym, subst, ◌∙◌}
 use Rattle.std.specs.Prelude.{is_some}
 use Rattle.std.proofs.lemmas.Bool.{cases_eq, false≢true, ne_eqb}
 use Rattle.exb_model.specs.FlatBridge.{flat}
@@ -12,7 +12,7 @@ use Rattle.exb_capture.specs.Captures.{capture_records, records_or_none}
 use Rattle.exb_legal.specs.Entries.{journal_of}
 use Rattle.exb_legal.specs.Inputs.{frames_in, frames_out}
 use Rattle.exb_legal.specs.LegalTrace.{LegalTrace}
-use Rattle.exb_shelf.specs.Files.{Files, SameFiles, bytes_of}
+use Rattle.exb_shelf.specs.Files.{Files, bytes_of}
 use Rattle.exb_shelf.specs.Shelf.{Faults, Rose}
 use Rattle.exb_text.specs.declared.output.Output.{Output}
 use Rattle.exb_text.specs.declared.output.Output.TheVariants as output
@@ -30,7 +30,7 @@ use Rattle.exb_auditing.specs.Scopes.{scope_of}
 use Rattle.exb_auditing.specs.Written.{AreWithin, FindsLegal, IsWritten, RunsAreFoundLegal}
 use Rattle.exb_outputs.specs.Plans.{IsMade}
 use Rattle.exb_outputs.proofs.Places.{external_low}
-use Rattle.exb_run.specs.AfterRuns.{AuditsFollowRuns, AuditsWell, EndsBy, HasRun}
+use Rattle.exb_run.specs.AfterRuns.{AuditsFollowRuns, AuditsWell, EndsBy}
 use Rattle.exb_run.specs.Answers.{IsOfInput, Stops, mode_for}
 use Rattle.exb_run.specs.Opening.{plan_for}
 use Rattle.exb_run.specs.Outputs.{IsPlayed, IsTraced}

@@ -18,6 +18,7 @@ use Rattle.exb_merge.specs.Programmes.{IsProgramme, played_with}
 use Rattle.exb_merge.specs.Replays.{ids_in}
 use Rattle.exb_network.specs.Networks.{Network, world_of, IsQuiet, IsSame}
 use Rattle.exb_network.specs.Worlds.{all_left}
+use Rattle.exb_resting.specs.Flight.Showing.{left_at}
 use Rattle.exb_resting.specs.Rest.Playing.{RunsAreFew, RunsAreUnderWay}
 use Rattle.exb_schedule.specs.declared.segment.Arrival.{Arrival}
 use Rattle.exb_schedule.specs.Playing.{HasPlayed, IsSegment, letters_in}
@@ -33,7 +34,7 @@ use Rattle.exb_outputs.specs.Plans.{OnlyPlanned, Planned}
 use Rattle.exb_run.specs.Shelving.{OnlyReads}
 use Rattle.exb_run.specs.Playing.{CanBeKept, CountsOn, Run, IsAllTold, IsCounted, IsCutOff, IsTold, text_so_far}
 use Rattle.exb_run.specs.UnderWay.{AreApart, CanBegin, CanBePlayed, CanGoOn, IsGathered, IsOpened, IsPlaying, LeadsOn, NothingIsLeft}
-use Rattle.exb_outputs.specs.Sent.{HasSent}
+use Rattle.exb_outputs.specs.Sent.{HasSent, capture_size}
 use Rattle.exb_outputs.specs.Writing.{HasTexts, first_text, lines_of, pieces_of, with_more}
 use Rattle.exb_run.specs.Leaving.{sent_with, with_left_frames}
 use Rattle.exb_run.proofs.Counting.{count_events}
@@ -213,15 +214,20 @@ pub all-kept : (tells : Type 0) (m : Mode) (r : Run) (plan : Planned) (file : Fi
 all-kept tells m r plan file given net c o last old t playing none =
     subst (λ (ss : List Segment). CanBeKept ss) (sym (all-segments tells m r plan file given net c o last old t playing none)) playing.next.kept
 
+-- the run stands after these segments, and the bytes of each capture are few
+abbrev ToldWithin : Type 0 → Mode → Run → Planned → Network → Counted → Outputs → Files → List Segment → Type 0
+ToldWithin tells m r plan net c o now so_far = (is : IsTold tells m r plan now net c o so_far) × ((q : ℕ) → capture_size (left_at q is.gone) < 2 ^ 64)
+
 -- so all was played
 pub all-played : (tells : Type 0) (m : Mode) (r : Run) (plan : Planned) (file now : Files) (given : ℕ → Id) (net : Network) (c : Counted) (o : Outputs) (last : Option ℕ) (old : Programme) → tells →
     IsPlaying tells m r plan file given net c o last old → NothingIsLeft file given old → SameFiles file now → RunsAreFew → RunsAreUnderWay → IsAllTold tells m r plan now net c o
 all-played tells m r plan file now given net c o last old t playing none files few way =
     let same : now ≡ file = fun_ext λ n. files n in
-    let is : IsTold tells m r plan now net c o (segments m r.input) =
-    subst (λ (x : Files). IsTold tells m r plan x net c o (segments m r.input)) (sym same)
-    (subst (λ (ss : List Segment). IsTold tells m r plan file net c o ss) (sym (all-segments tells m r plan file given net c o last old t playing none)) playing.is) in
-    record { is = is; room = sizes-fit m r.input playing.so_far net playing.is.told playing.is.passed playing.is.gone playing.is.lines few way (let most = playing.next.few_bytes in omega (arith, most)) playing.is.played }
+    let room = sizes-fit m r.input playing.so_far net playing.is.told playing.is.passed playing.is.gone playing.is.lines few way (let most = playing.next.few_bytes in omega (arith, most)) playing.is.played in
+    let all : ToldWithin tells m r plan net c o now (segments m r.input) =
+    subst (λ (x : Files). ToldWithin tells m r plan net c o x (segments m r.input)) (sym same)
+    (subst (λ (ss : List Segment). ToldWithin tells m r plan net c o file ss) (sym (all-segments tells m r plan file given net c o last old t playing none)) (playing.is, room)) in
+    record { is = all.0; room = all.1 }
 
 -- the seconds that pass before what was gathered fit 32 bits
 pub seconds-fit : (tells : Type 0) (m : Mode) (r : Run) (plan : Planned) (file now : Files) (given ids : ℕ → Id) (net : Network) (c : Counted) (o : Outputs) (last : Option ℕ) (old : Programme) (second : ℕ) (f : Feed) →

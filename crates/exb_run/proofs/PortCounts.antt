@@ -194,7 +194,7 @@ module _ (t : Shape) (b : Basis) (told : List Event) (passed : List Bool) (gone 
 pub port_whole : (plan : Planned) (o : Outputs) (c : Counters) (told : List Event) (passed : List Bool) (gone : List Leaving) (q : ℕ) → q < 4160 → is_external plan.tree q ≡ true → counts_at c q ≡ plus_events told passed q nothing
     → HasSent plan o (λ p. left_at p gone) → capture_size (left_at q gone) < 2 ^ 64 → counts_with plan o c q ≡ port_counts_so_far told passed gone q
 port_whole plan o c told passed gone q low out came sent room =
-    let own = sent q low out room in
+    let own = sent.each q low out room in
     let frames = own.0 in
     let size = own.1 in
     fives (counts_with plan o c q) (port_counts_so_far told passed gone q) (ap (λ (k : Counts5). k.relayed) came) (ap (λ (k : Counts5). k.dropped) came) (ap (λ (k : Counts5). k.ignored) came)
@@ -236,8 +236,8 @@ sizes-fit m i so_far n told passed gone lines law way arrivals p q =
 ports-can : (plan : Planned) (ports : Option Counters) (told more : List Event) (passed said : List Bool) → AreCounted plan ports told passed → GoTogether told passed →
     ((q : ℕ) → FitsCounts (plus_events (told ++ more) (passed ++ said) q nothing)) → IfSome ports (CanCountAt more said)
 ports-can plan None told more passed said are together fits = tt
-ports-can plan (Some c) told more passed said are together fits q there =
-    subst FitsCounts (sym (ap (plus_events more said q) (are.2 q there) ∙ port_more told more passed said q together)) (fits q)
+ports-can plan (Some c) told more passed said are together fits =
+    λ q there. subst FitsCounts (sym (ap (plus_events more said q) (are.2 q there) ∙ port_more told more passed said q together)) (fits q)
 
 pub can-count : (m : Mode) (i : Input) (plan : Planned) (so_far : List Segment) (n : Network) (c : Counted) (told more : List Event) (passed said : List Bool) (gone : List Leaving) (xs : List Left) (lines : List TraceLine) →
     StepsTellPassed → RunsAreFew → CanFollow i so_far → HasPlayed m i so_far n (told ++ more) (passed ++ said) (gone ++ all_left xs) lines → IsCounted plan c told passed gone → GoTogether told passed →

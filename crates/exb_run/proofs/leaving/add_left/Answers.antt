@@ -1,4 +1,4 @@
-use Rattle.std.proofs.Common.{◌≡◌, refl, ap, subst}
+use Rattle.std.proofs.Common.{◌≡◌, refl, ap, sym, subst}
 use Rattle.std.proofs.lemmas.Result.{on_err_weaker, on_ok_weaker}
 use Rattle.exb_model.specs.Texts.{record_text}
 use Rattle.exb_text.specs.declared.output.Output.TheVariants as output
@@ -18,7 +18,7 @@ returns-clause-texts g c = λ t.
     let left = c.args.left.now in
     on_ok_weaker c.write_frame.result
     (λ added orig text p.
-    more_spelled c.args.plan.now orig (g.S.Shelf.file c.write_frame.new.shelf) (pieces_of c.write_frame.new.outputs) text (output.Capture left.port) (output.Capture left.port) _ _
+    more_spelled c.args.plan.now orig (g.S.Shelf.file c.write_frame.new.shelf) (pieces_of c.write_frame.new.self) text (output.Capture left.port) (output.Capture left.port) _ _
     refl (ap (λ xs. record_text (left.moment, xs)) c.as_slice-bytes.ensures) (added orig text p))
     (c.write_frame.ensures.texts t)
 
@@ -35,5 +35,5 @@ pub returns-clause-sent : goal.returns-clause-sent
 returns-clause-sent g c =
     let left = c.args.left.now in
     on_ok_weaker c.write_frame.result
-    (λ more sent has. subst (λ xs. HasSent c.args.plan.now c.write_frame.new.outputs (sent_more sent left.port (left.moment, xs))) c.as_slice-bytes.ensures (more sent has))
+    (λ more sent has. subst (λ xs. HasSent c.args.plan.now c.write_frame.new.self (sent_more sent left.port (left.moment, xs))) c.as_slice-bytes.ensures (more sent has))
     c.write_frame.ensures.sent

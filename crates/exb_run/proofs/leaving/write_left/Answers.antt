@@ -1,4 +1,4 @@
-use Rattle.std.proofs.Common.{rules, ◌<◌, take, length, arith, ◌≤◌, List, subst, ◌∙◌, refl}
+use Rattle.std.proofs.Common.{rules, [], ◌<◌, take, length, arith, ◌≤◌, List, subst, ◌∙◌, refl}
 use Rattle.std.proofs.lemmas.List.{take_all}
 use Rattle.std.proofs.lemmas.Result.{err_from_is_err_and}
 use Rattle.exb_inputs.proofs.ShelvingLemmas.{counts_as, counts_from}

@@ -19,7 +19,7 @@ loop-one-init g c =
     record {
       ready = c.requires.ready;
       texts = λ t orig text p. no_more c.args.plan.now orig file (pieces_of c.args.self.now) text output.Trace p;
-      same = same_none _ _;
+      same = same_none c.args.plan.now c.args.self.now;
       only = writes_none _ _ _ _;
       faults = search rules;
       counted = refl;
@@ -37,7 +37,7 @@ loop-one-preserved g c =
           more_trace c.args.plan.now orig (g.S.Shelf.file c.add_line.new.shelf) (pieces_of c.add_line.new.self) text lines c.loop-one.one-index c.one-item.result
           inside c.one-item.is
           (added.texts t orig (with_more text output.Trace (trace_text (take c.loop-one.one-index lines))) (before.texts t orig text p));
-      same = same_then _ _ _ _ before.same added.same;
+      same = same_then c.args.plan.now c.args.self.now _ _ before.same added.same;
       only = writes_then _ _ _ _ _ _ _ _ before.only added.only;
       faults = search (arith, added.faults.none_fell, before.faults);
       counted = added.faults.once ∙ before.counted;

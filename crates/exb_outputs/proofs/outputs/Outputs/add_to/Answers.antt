@@ -1,4 +1,4 @@
-use Rattle.std.proofs.Common.{◌≡◌, ◌<◌, length, refl, arith}
+use Rattle.std.proofs.Common.{◌≡◌, ◌<◌, ◌∙◌, length, refl, arith}
 use Rattle.std.proofs.lemmas.Result.{on_err_weaker, on_ok_weaker}
 use Rattle.exb_outputs.specs.Plans.{kind_at, output_count, output_name}
 use Rattle.exb_outputs.proofs.OutputLemmas.{by_kind, can_be_written, name_of_file, has_more_of, of_kind}
@@ -51,3 +51,13 @@ pub returns-clause-ready : goal.returns-clause-ready
 returns-clause-ready g c =
     let inside : c.args.at < length c.args.self.now.files.items = (let lt = c.requires.within in let all = c.requires.ready.files in omega (arith, lt, all)) in
     ready_with c.args.plan.now _ _ c.args.self.now _ c.args.at c.index_mut.result.now c.add.new.file refl inside c.index_mut.ensures.value c.add.ensures.id c.add.ensures.kept c.requires.ready
+
+pub returns-clause-only : goal.returns-clause-only
+returns-clause-only g c =
+    let given = g.S.Shelf.ids c.args.shelf.now in
+    let all = c.args.self.now.files.items in
+    let lt : c.args.at < output_count c.args.plan.now = c.requires.within in
+    let inside : c.args.at < length all = (let ready = c.requires.ready.files in omega (arith, lt, ready)) in
+    let was = c.index_mut.result.now in
+    let named : (given was.id).name ≡ output_name c.args.plan.now c.args.at = name_of_file given all c.args.at was _ c.index_mut.ensures.value inside (c.requires.ready.named c.args.at lt) in
+    record { others = λ t m away. c.add.ensures.others t m (λ e. away c.args.at lt (e ∙ named)); kept = c.add.ensures.kept }

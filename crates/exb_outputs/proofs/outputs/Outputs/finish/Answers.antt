@@ -65,3 +65,17 @@ pub returns-in_err-flush-clause-faults : goal.returns-in_err-flush-clause-faults
 returns-in_err-flush-clause-faults g c =
     let e = err_from_is_err_and c.from_residual.result c.from_residual.ensures.1 in
     rw (e.1, e.2) (counts_from _ _ _ _ c.loop-at.invariant.counted (counts_as c.in_err-flush.field-0.0 _ _ c.in_err-flush.ensures.faults))
+
+pub returns-in_err-flush-clause-only : goal.returns-in_err-flush-clause-only
+returns-in_err-flush-clause-only g c =
+    let before = c.loop-at.invariant in
+    let given = g.S.Shelf.ids c.loop-at.shelf in
+    let all = c.loop-at.self.files.items in
+    let was = c.index_mut.result.now in
+    let lt : c.loop-at.at < output_count c.args.plan.now = omega arith in
+    let inside : c.loop-at.at < length all = omega arith in
+    let named : (given was.id).name ≡ output_name c.args.plan.now c.loop-at.at = name_of_file given all c.loop-at.at was _ c.index_mut.ensures.value inside (before.ready.named c.loop-at.at lt) in
+    record {
+      others = λ t m away. c.flush.ensures.others t m (λ e. away c.loop-at.at lt (e ∙ named)) ∙ before.only.others t m away;
+      kept = λ j. c.flush.ensures.kept j ∙ before.only.kept j;
+    }

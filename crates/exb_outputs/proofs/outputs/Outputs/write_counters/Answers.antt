@@ -23,7 +23,7 @@ loop-at-init g c =
     record {
       ready = c.requires.ready;
       texts = λ t orig text p. no_more c.args.plan.now orig file (pieces_of c.args.self.now) text output.Counters p;
-      same = same_none _ _;
+      same = same_none c.args.plan.now c.args.self.now;
       only = writes_none _ _ _ _;
       faults = search rules;
       counted = refl;
@@ -64,7 +64,7 @@ loop-at-preserved g c =
           more_counts plan orig (g.S.Shelf.file c.add_count.new.shelf) (pieces_of c.add_count.new.self) text counts ports c.loop-at.at c.port.result inside is
           (subst (λ (k : Counts5). HasTexts plan (pieces_of c.add_count.new.self) orig (g.S.Shelf.file c.add_count.new.shelf) (with_more (with_more text output.Counters (count_lines counts (take c.loop-at.at ports))) output.Counters (count_line c.port.result k))) line
           (added.texts t orig (with_more text output.Counters (count_lines counts (take c.loop-at.at ports))) (before.texts t orig text p)));
-      same = same_then _ _ _ _ before.same added.same;
+      same = same_then c.args.plan.now c.args.self.now _ _ before.same added.same;
       only = writes_then _ _ _ _ _ _ _ _ before.only added.only;
       faults = search (arith, added.faults.none_fell, before.faults);
       counted = added.faults.once ∙ before.counted;

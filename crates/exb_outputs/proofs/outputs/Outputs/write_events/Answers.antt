@@ -17,7 +17,7 @@ loop-event-init g c =
     record {
       ready = c.requires.ready;
       texts = λ t orig text p. no_more c.args.plan.now orig file (pieces_of c.args.self.now) text output.Journal p;
-      same = same_none _ _;
+      same = same_none c.args.plan.now c.args.self.now;
       only = writes_none _ _ _ _;
       faults = search rules;
       counted = refl;
@@ -35,7 +35,7 @@ loop-event-preserved g c =
           more_lines c.args.plan.now orig (g.S.Shelf.file c.add_event.new.shelf) (pieces_of c.add_event.new.self) text events c.loop-event.event-index c.event-item.result
           inside c.event-item.is
           (added.texts t orig (with_more text output.Journal (lines_of (take c.loop-event.event-index events))) (before.texts t orig text p));
-      same = same_then _ _ _ _ before.same added.same;
+      same = same_then c.args.plan.now c.args.self.now _ _ before.same added.same;
       only = writes_then _ _ _ _ _ _ _ _ before.only added.only;
       faults = search (arith, added.faults.none_fell, before.faults);
       counted = added.faults.once ∙ before.counted;

@@ -3,12 +3,20 @@ use Rattle.std.proofs.lemmas.Result.{on_err_weaker, on_ok_weaker}
 use Rattle.exb_model.specs.Texts.{record_text}
 use Rattle.exb_text.specs.declared.output.Output.TheVariants as output
 use Rattle.exb_outputs.specs.Plans.{kind_at, output_count, output_name, place_in}
-use Rattle.exb_outputs.specs.Writing.{AreCut, HasTexts, with_more}
-use Rattle.exb_outputs.proofs.OutputLemmas.{by_kind, can_be_written, has_more_of, name_of_file, of_kind}
+use Rattle.exb_outputs.specs.Writing.{AreCut, with_more}
+use Rattle.exb_outputs.proofs.OutputLemmas.{by_kind, can_be_written, has_more_of, more_spelled, name_of_file, of_kind}
 use Rattle.exb_outputs.proofs.ByKind.{placed}
 use Rattle.exb_outputs.proofs.Cutting.{cut_at, cut_kind}
 use Rattle.exb_outputs.proofs.Sizes.{frame_sent, ready_with, record_size}
 use Rattle.exb_outputs.proofs.outputs.Outputs.write_frame.Goals as goal
+
+pub index_mut-file-requires : goal.index_mut-file-requires
+index_mut-file-requires g c =
+    let can = c.requires.frame in
+    let low = (placed c.args.plan.now (output.Capture c.args.port) can.port can.low).low in
+    let same = c.place-at.ensures in
+    let all = c.requires.ready.files in
+    omega (arith, low, same, all)
 
 pub add-requires : goal.add-requires
 add-requires g c =
@@ -42,7 +50,7 @@ returns-clause-texts g c = λ t.
     let named : (S.ids c.args.shelf.now was.id).name ≡ output_name plan at = name_of_file (S.ids c.args.shelf.now) all at was _ c.index_mut-file.ensures.value inside (c.requires.ready.named at lt) in
     on_ok_weaker c.add.result
     (λ change orig text p.
-    subst (λ (xs : List ℕ). HasTexts plan _ orig (S.file c.add.new.shelf) (with_more text (output.Capture c.args.port) xs)) written
+    more_spelled plan orig (S.file c.add.new.shelf) _ text (output.Capture c.args.port) (output.Capture c.args.port) _ _ refl written
     (by_kind plan orig (S.file c.add.new.shelf) _ text at (output.Capture c.args.port) _ lt (ap (kind_at plan) c.place-at.ensures ∙ place.at)
     (has_more_of (λ f. f.piece.items) plan orig (S.file c.args.shelf.now) (S.file c.add.new.shelf) all (of_kind plan text) at was c.add.new.file _ _
     (c.output_names_differ.ensures plan) lt c.requires.ready.files c.index_mut-file.ensures.value named p change)))
@@ -89,3 +97,16 @@ returns-clause-sent g c =
     (c.index_mut-file.ensures.value ∙ ap (λ (j : ℕ). get_or all j was) same) c.add.ensures.records
     (λ fits. size (let fits' = fits in omega (arith, head, fits')) ∙ omega (arith, head)) can.low can.port sent has)
     c.add.ensures.counted
+
+pub returns-clause-only : goal.returns-clause-only
+returns-clause-only g c =
+    let S = g.S.Shelf in
+    let plan = c.args.plan.now in
+    let can = c.requires.frame in
+    let at = c.place-at.result in
+    let lt : at < output_count plan = (let low = (placed plan (output.Capture c.args.port) can.port can.low).low in let same = c.place-at.ensures in omega (arith, low, same)) in
+    let all = c.args.self.now.files.items in
+    let inside : at < length all = (let ready = c.requires.ready.files in omega (arith, lt, ready)) in
+    let was = c.index_mut-file.result.now in
+    let named : (S.ids c.args.shelf.now was.id).name ≡ output_name plan at = name_of_file (S.ids c.args.shelf.now) all at was _ c.index_mut-file.ensures.value inside (c.requires.ready.named at lt) in
+    record { others = λ t m away. c.add.ensures.others t m (λ e. away at lt (e ∙ named)); kept = c.add.ensures.kept }
