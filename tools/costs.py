@@ -1,17 +1,24 @@
 #!/usr/bin/env python3
-"""Tells how many seconds each function of a crate took in the last `rt check` or `rt test` there:
+"""Tells how many seconds each function of a crate took: in the last `rt check` or `rt test` there, or in checks while they run.
 
     rm -rf crates/exb_NAME/out/incremental; (cd crates/exb_NAME && rt test --jobs 1); tools/costs.py crates/exb_NAME
+    tools/costs.py --watch FILE     beside `rt ci` or tools/build, until it is ended
+    tools/costs.py FILE [CRATE]     what was watched: the seconds of each crate, or of the functions of one
 
 What a check keeps is written when it is checked, so the time between two files is that of the second. It holds only for a
-check from nothing at one job; beside other work the seconds are longer.
+check from nothing at one job; beside other work the seconds are longer. `rt ci` keeps nothing in a crate, so --watch looks at the
+files of checks that run, every two seconds, and tells processor seconds.
 """
 import collections
+import glob
 import os
 import re
 import sys
+import time
 
 PARTS = r"(\.(Lts|Tie|Proof|Code|Goals|Given|Key|Kinds|TheLaws|Met|Statement|Mir)\b.*)?(\.decls)?\.oantt$"
+RUNNING = "/tmp/rattle-logic-built-locked-*"
+PAUSE = 2
 
 
 def written(folder):
@@ -30,18 +37,89 @@ def item_of(name):
     return part.group(3) if part else name
 
 
-def main():
-    if len(sys.argv) != 2:
-        sys.exit(__doc__)
-    files = written(sys.argv[1])
-    if not files:
-        sys.exit(f"{sys.argv[1]}/out/incremental has nothing: run rt check there first")
+def took(files):
+    """The seconds of each item, by the files with their times in order."""
     seconds = collections.Counter()
     for (before, _name), (after, name) in zip(files, files[1:]):
         seconds[item_of(name)] += after - before
+    return seconds
+
+
+def show(files):
     print(f"{files[-1][0] - files[0][0]:.0f} seconds in all")
-    for item, took in seconds.most_common(30):
-        print(f"{took:7.1f} {item}")
+    for item, seconds in took(files).most_common(30):
+        print(f"{seconds:7.1f} {item}")
+
+
+def processor(number):
+    """The processor seconds of a process until now."""
+    with open(f"/proc/{number}/stat", encoding="utf-8") as it:
+        parts = it.read().rpartition(")")[2].split()
+    return (int(parts[11]) + int(parts[12])) / os.sysconf("SC_CLK_TCK")
+
+
+def look(folder, seen, out):
+    """Writes what a check has written since the last look: its number, the processor seconds until then, and the file. Files of one look
+    share its seconds by the times at which they were written."""
+    number = folder.split("-")[-2]
+    now, spent = time.time(), processor(number)
+    new = sorted((it.stat().st_mtime, it.name) for it in os.scandir(folder) if it.name not in seen.setdefault(folder, {}))
+    then, before = seen.get(number, (now - PAUSE, spent))
+    for at, name in new:
+        seen[folder][name] = at
+        share = min(1, max(0, (at - then) / max(now - then, 1e-3)))
+        print(number, f"{before + (spent - before) * share:.2f}", name, sep="\t", file=out, flush=True)
+    seen[number] = now, spent
+
+
+def watch(file):
+    seen = {}
+    with open(file, "a", encoding="utf-8") as out:
+        try:
+            while True:
+                for folder in glob.glob(RUNNING):
+                    try:
+                        look(folder, seen, out)
+                    except OSError:
+                        # the check has ended
+                        pass
+                time.sleep(PAUSE)
+        except KeyboardInterrupt:
+            pass
+
+
+def watched(file):
+    """The files of each check, with the processor seconds until they were written, by crate."""
+    checks, crates = collections.defaultdict(list), collections.defaultdict(list)
+    with open(file, encoding="utf-8") as it:
+        for line in it:
+            number, spent, name = line.rstrip("\n").split("\t")
+            checks[number].append((float(spent), name))
+    for files in checks.values():
+        names = collections.Counter(found.group(1) for _, name in files if (found := re.match(r"Rattle-(\w+?)-", name)))
+        if names:
+            crates[names.most_common(1)[0][0]].append(sorted(files))
+    return crates
+
+
+def main():
+    words = sys.argv[1:]
+    if len(words) == 2 and words[0] == "--watch":
+        watch(words[1])
+    elif len(words) in (1, 2) and os.path.isfile(words[0]):
+        for crate, checks in sorted(watched(words[0]).items(), key=lambda it: -max(files[-1][0] for files in it[1])):
+            for files in checks:
+                if len(words) == 1:
+                    print(f"{files[-1][0]:7.1f} {crate}")
+                elif crate == words[1]:
+                    show(files)
+    elif len(words) == 1:
+        files = written(words[0])
+        if not files:
+            sys.exit(f"{words[0]}/out/incremental has nothing: run rt check there first")
+        show(files)
+    else:
+        sys.exit(__doc__)
 
 
 if __name__ == "__main__":

@@ -1,7 +1,7 @@
 //! Files of frames: whose frames are read, and the first fault.
 use crate::compare::{CUTS, same};
 use exb_audit::PortFrames;
-use exb_capture::{header_text, record_text};
+use exb_capture::{Fault, header_text, record_text};
 use exb_evidence::{FramesFault, Grammar, PortFile, read_frames};
 use exb_faulty::{Disturbance, FaultyShelf};
 use exb_model::port::PortId;
@@ -120,37 +120,44 @@ fn shelf_with(rt: &impl Abort, alloc: Global, letters: &str, how: Disturbance) -
     shelf
 }
 
+// Puts a number between two texts.
+fn put_number(rt: &impl Abort, text: &mut String, before: &str, number: usize, behind: &str) {
+    write!(text, "{before}{number}{behind}").expect(rt, "memory");
+}
+
 // The lengths of a port's frames.
-fn put_port(rt: &impl Abort, alloc: Global, text: &mut String, one: &PortFrames) {
-    let number = one.port.number();
-    let port = format!(in alloc; "{number}:").expect(rt, "memory");
-    text.push_str(port.as_str()).expect(rt, "memory");
+fn put_port(rt: &impl Abort, text: &mut String, one: &PortFrames) {
+    put_number(rt, text, "", one.port.number() as usize, ":");
     for frame in &one.frames {
-        let length = frame.as_slice().len();
-        let length = format!(in alloc; " {length}").expect(rt, "memory");
-        text.push_str(length.as_str()).expect(rt, "memory");
+        put_number(rt, text, " ", frame.as_slice().len(), "");
     }
     text.push_str(";").expect(rt, "memory");
 }
 
+// The text with another behind it.
+fn joined(rt: &impl Abort, alloc: Global, text: &str, more: &str) -> String {
+    let mut whole = String::from_str(alloc, text).expect(rt, "memory");
+    whole.push_str(more).expect(rt, "memory");
+    whole
+}
+
+// What a fault of a capture is called, behind the number of its port.
+fn broken_text(rt: &impl Abort, alloc: Global, port: PortId, fault: &Fault) -> String {
+    let number = port.number();
+    let flaw = fault.flaw;
+    let at = fault.at;
+    format!(in alloc; "{number} {flaw:?} {at}").expect(rt, "memory")
+}
+
 // What a fault is called.
 fn fault_text(rt: &impl Abort, alloc: Global, fault: &FramesFault) -> String {
-    let text = match fault {
-        FramesFault::Memory => format!(in alloc; "Memory"),
-        FramesFault::Read => format!(in alloc; "Read"),
-        FramesFault::Large => format!(in alloc; "Large"),
-        FramesFault::Missing { name } => {
-            let name = name.as_str();
-            format!(in alloc; "Missing {name}")
-        }
-        FramesFault::Broken { port, fault } => {
-            let number = port.number();
-            let flaw = fault.flaw;
-            let at = fault.at;
-            format!(in alloc; "{number} {flaw:?} {at}")
-        }
-    };
-    text.expect(rt, "memory")
+    match fault {
+        FramesFault::Memory => joined(rt, alloc, "Memory", ""),
+        FramesFault::Read => joined(rt, alloc, "Read", ""),
+        FramesFault::Large => joined(rt, alloc, "Large", ""),
+        FramesFault::Missing { name } => joined(rt, alloc, "Missing ", name.as_str()),
+        FramesFault::Broken { port, fault } => broken_text(rt, alloc, *port, fault),
+    }
 }
 
 // What is answered.
@@ -163,7 +170,7 @@ fn answer_text(
         Ok(all) => {
             let mut text = String::new(alloc);
             for one in all {
-                put_port(rt, alloc, &mut text, one);
+                put_port(rt, &mut text, one);
             }
             text
         }

@@ -5,7 +5,7 @@ ghost use Rattle.exb_carriage.specs.Plain.{tables_of, hung_on};
 use exb_model::list::List;
 
 /// A tree of extenders with their tables.
-#[derive(Debug, Drop)]
+#[derive(Drop)]
 pub struct PlainTables {
     /// By extender, the port on which it hangs.
     pub on: Vec<u16>,

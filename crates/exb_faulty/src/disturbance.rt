@@ -2,7 +2,7 @@
 use std::alloc::AllocError;
 
 /// What a call is asked for.
-#[derive(Clone, Copy, Debug, PartialEq, Eq)]
+#[derive(Clone, Copy, PartialEq, Eq)]
 pub enum Asked {
     Open,
     Read,
@@ -12,7 +12,7 @@ pub enum Asked {
 }
 
 /// A call that was made: what it was asked for, and how many bytes it moved.
-#[derive(Clone, Copy, Debug, PartialEq, Eq)]
+#[derive(Clone, Copy)]
 pub struct Call {
     pub asked: Asked,
     pub moved: usize,
@@ -36,7 +36,7 @@ pub enum Disturbance {
 }
 
 /// What becomes of a call.
-#[derive(Clone, Copy, Debug, PartialEq, Eq)]
+#[derive(Clone, Copy)]
 pub(crate) enum Turn {
     Fails,
     WantsMemory,

@@ -21,13 +21,13 @@ pub(crate) fn of_plain(fault: PcapFault) -> Fault {
 // The name of a fault, and its place where the name alone doesn't say it.
 fn fault_text(rt: &impl Abort, alloc: Global, fault: Fault) -> String {
     let Fault { flaw, at } = fault;
-    let text = match (flaw, at) {
-        (Flaw::NotPcap, 0) => format!(in alloc; "NotPcap"),
-        (Flaw::Version, 4) => format!(in alloc; "Version"),
-        (Flaw::LinkType, 20) => format!(in alloc; "LinkType"),
-        _ => format!(in alloc; "{flaw:?}({at})"),
+    let name = match (flaw, at) {
+        (Flaw::NotPcap, 0) => "NotPcap",
+        (Flaw::Version, 4) => "Version",
+        (Flaw::LinkType, 20) => "LinkType",
+        _ => return format!(in alloc; "{flaw:?}({at})").expect(rt, "memory"),
     };
-    text.expect(rt, "memory")
+    String::from_str(alloc, name).expect(rt, "memory")
 }
 
 /// What is read of a file.

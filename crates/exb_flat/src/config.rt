@@ -21,7 +21,7 @@ use std::marker::Model;
 pub(crate) const PORTS: u16 = 4160;
 
 /// The members of a VLAN. A port in both sets is untagged.
-#[derive(Clone, Copy, Debug, PartialEq, Eq)]
+#[derive(Clone, Copy)]
 struct Members {
     vid: Vid,
     tagged: PortSet,

@@ -18,7 +18,7 @@ use exb_model::port::PortId;
 use std::alloc::Global;
 
 /// A frame that leaves: the moment of its record in nanoseconds, and the bytes with which it leaves.
-#[derive(Debug, Drop)]
+#[derive(Drop)]
 pub struct Sent {
     pub moment: u64,
     pub bytes: Bytes,

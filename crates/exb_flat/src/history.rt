@@ -15,7 +15,7 @@ use std::alloc::Global;
 
 /// What a history is of: the ports that are present from the start, the commands that are done before
 /// anything happens, the commands by number (from 1), and the ageing time in seconds.
-#[derive(Debug, Drop)]
+#[derive(Drop)]
 pub struct Basis {
     pub present: PortSet,
     pub start: List<Command>,

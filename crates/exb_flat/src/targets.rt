@@ -20,7 +20,7 @@ use exb_model::vlan::{Kind, Vid};
 use std::alloc::Global;
 
 /// A port by which a frame leaves, and how.
-#[derive(Clone, Copy, Debug, PartialEq, Eq)]
+#[derive(Clone, Copy)]
 pub struct EgressPort {
     pub port: PortId,
     pub kind: Kind,

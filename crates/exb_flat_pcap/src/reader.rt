@@ -15,7 +15,7 @@ const MOST_BYTES: u32 = 262_144;
 const SECOND: u64 = 1_000_000_000;
 
 /// A captured frame.
-#[derive(Clone, Copy, Debug, PartialEq, Eq)]
+#[derive(Clone, Copy)]
 pub struct Record<'a> {
     /// When it was captured, in nanoseconds since the epoch: below 2^32 seconds.
     pub moment: u64,
@@ -24,7 +24,7 @@ pub struct Record<'a> {
 }
 
 /// Why a file is no classic capture, with the place of the byte.
-#[derive(Clone, Copy, Debug, PartialEq, Eq)]
+#[derive(Clone, Copy, Debug)]
 pub enum PcapFault {
     /// It has no magic number of a classic capture.
     NotPcap,

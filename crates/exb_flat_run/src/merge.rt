@@ -19,14 +19,14 @@ use std::alloc::Global;
 
 /// The capture of a port: a whole file. Of several for one port the first counts, and one that breaks the
 /// grammar has no records.
-#[derive(Clone, Copy, Debug)]
+#[derive(Clone, Copy)]
 pub struct Capture<'a> {
     pub port: PortId,
     pub file: &'a [u8],
 }
 
 /// A record that arrives: its port, its number there (from 1), its moment in nanoseconds, and its frame.
-#[derive(Debug, Drop)]
+#[derive(Drop)]
 pub struct Arrival {
     pub port: PortId,
     pub index: u64,
@@ -35,7 +35,7 @@ pub struct Arrival {
 }
 
 /// What comes: a command by its moment and its number (from 1), or a record.
-#[derive(Debug, Drop)]
+#[derive(Drop)]
 pub enum Coming {
     Ordered { moment: u64, number: u32 },
     Captured(Arrival),

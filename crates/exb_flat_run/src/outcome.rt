@@ -26,7 +26,7 @@ use exb_model::setup::{Setup, Timed};
 use std::alloc::Global;
 
 /// What is written for an external port: the capture of what left there.
-#[derive(Debug, Drop)]
+#[derive(Drop)]
 pub struct PortText {
     pub port: PortId,
     pub bytes: Vec<u8>,
@@ -34,7 +34,7 @@ pub struct PortText {
 
 /// What a run gives: the captures of all external ports in port order, the journal, and the summary line
 /// with its newline.
-#[derive(Debug, Drop)]
+#[derive(Drop)]
 pub struct Outcome {
     pub captures: Vec<PortText>,
     pub journal: String,

@@ -16,7 +16,7 @@ use exb_model::port::PortId;
 use std::alloc::Global;
 
 /// How many numbers each space has: E-channels, and groups.
-#[derive(Clone, Copy, Debug, PartialEq, Eq)]
+#[derive(Clone, Copy)]
 pub struct Limits {
     pub channels: u16,
     pub groups: u16,

@@ -10,7 +10,7 @@ use exb_model::port::PortId;
 use std::marker::Model;
 
 /// A record that comes next.
-#[derive(Clone, Copy, Debug, PartialEq, Eq)]
+#[derive(Clone, Copy)]
 pub struct Coming<'a> {
     /// The port of its capture.
     pub port: PortId,

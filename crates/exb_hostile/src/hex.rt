@@ -2,7 +2,7 @@
 use std::alloc::{AllocError, AllocFailed, Global};
 
 /// Why no bytes were made of a text.
-#[derive(Clone, Copy, Debug, PartialEq, Eq)]
+#[derive(Clone, Copy, Debug)]
 pub enum HexFault {
     /// The text has half a byte, no hexadecimal digit, or no number before `x`.
     Malformed,

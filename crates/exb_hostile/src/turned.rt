@@ -6,7 +6,7 @@ ghost use Rattle.std.specs.Prelude.{◌≡◌, length};
 pub const BITS: [u8; 8] = [1, 2, 4, 8, 16, 32, 64, 128];
 
 /// An entry that was read on the way to a verdict has none, or no places.
-#[derive(Clone, Copy, Debug, PartialEq, Eq)]
+#[derive(Clone, Copy, Debug)]
 pub struct Malformed;
 
 // What stands before the verdict of an entry, and the verdict.

@@ -107,12 +107,16 @@ const LIMITS: [(&str, &str); 32] = [
     ("run t\n", "run <t\n>"),
 ];
 
+// A text of its own.
+fn owned(rt: &impl Abort, alloc: Global, text: &str) -> String {
+    String::from_str(alloc, text).expect(rt, "memory")
+}
+
 // The words between the blanks of a text.
 fn words_of(rt: &impl Abort, alloc: Global, text: &str) -> Vec<String> {
     let mut words = Vec::new(alloc);
     for word in text.split(' ') {
-        let word = String::from_str(alloc, word).expect(rt, "memory");
-        words.push(word).expect(rt, "memory");
+        words.push(owned(rt, alloc, word)).expect(rt, "memory");
     }
     words
 }
@@ -128,17 +132,23 @@ fn run_text(rt: &impl Abort, alloc: Global, topology: &str, options: Options) ->
     told.expect(rt, "memory")
 }
 
+// What is asked for of a topology without options.
+fn bare_text(rt: &impl Abort, alloc: Global, word: &str, topology: &str) -> String {
+    format!(in alloc; "{word} <{topology}>").expect(rt, "memory")
+}
+
+// What is made.
+fn make_text(rt: &impl Abort, alloc: Global, number: u64) -> String {
+    format!(in alloc; "make {number}").expect(rt, "memory")
+}
+
 // What is asked for.
 fn asked_text(rt: &impl Abort, alloc: Global, asked: Option<Asked<'_>>) -> String {
     match asked {
-        None => String::from_str(alloc, "none").expect(rt, "memory"),
-        Some(Asked::Check { topology }) => {
-            format!(in alloc; "check <{topology}>").expect(rt, "memory")
-        }
-        Some(Asked::Make { number }) => format!(in alloc; "make {number}").expect(rt, "memory"),
-        Some(Asked::Audit { topology }) => {
-            format!(in alloc; "audit <{topology}>").expect(rt, "memory")
-        }
+        None => owned(rt, alloc, "none"),
+        Some(Asked::Check { topology }) => bare_text(rt, alloc, "check", topology),
+        Some(Asked::Make { number }) => make_text(rt, alloc, number),
+        Some(Asked::Audit { topology }) => bare_text(rt, alloc, "audit", topology),
         Some(Asked::Run { topology, options }) => run_text(rt, alloc, topology, options),
     }
 }
