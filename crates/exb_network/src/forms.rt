@@ -41,6 +41,7 @@ pub(crate) fn put_tagged(frame: &[u8], tag: &ETag, into: &mut Vec<u8>) -> Result
 }
 
 /// A frame without the eight bytes at byte 12, in place of what was in `into`.
+#[inline(always)]
 pub(crate) fn put_stripped(frame: &[u8], into: &mut Vec<u8>) -> Result<(), NoMemory>
     requires { 20 ≤ length frame.now }
     ensures { OnOk result (into.new.items ≡ stripped frame.now) }
@@ -64,6 +65,7 @@ pub(crate) fn channel_tag(channel: u16) -> ETag
 }
 
 /// A frame in the form in which it is sent, in place of what was in `into`.
+#[inline(always)]
 pub(crate) fn put_form(frame: &[u8], form: &Form, into: &mut Vec<u8>) -> Result<(), NoMemory>
     requires { CanBeGiven frame.now form.now }
     ensures { OnOk result (into.new.items ≡ bytes_in frame.now form.now) }

@@ -45,6 +45,7 @@ fn moment_of(stamp: &Option<Stamp>) -> u64
 }
 
 /// A word goes out at a port of an extender.
+#[inline(always)]
 fn send_at(
     site: &Site,
     number: u8,
@@ -83,6 +84,7 @@ fn send_at(
 }
 
 /// A word goes up from an extender.
+#[inline(always)]
 fn send_up(
     site: &Site,
     number: u8,
@@ -172,6 +174,7 @@ fn send_frames(
 }
 
 /// A control frame of an extender's own goes up; an empty one isn't sent.
+#[inline(always)]
 fn send_own(
     site: &Site,
     number: u8,
