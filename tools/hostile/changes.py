@@ -475,7 +475,8 @@ def parsed():
     words = form.parse_args()
     if words.room and not os.path.isdir(words.room):
         form.error(f"there is no folder {words.room}")
-    words.names = [it for it in sorted(os.listdir(os.path.join(TOP, "examples"))) if words.only in it]
+    there = os.path.join(TOP, "examples")
+    words.names = [it for it in sorted(os.listdir(there)) if words.only in it and os.path.isfile(os.path.join(there, it, TOPOLOGY))]
     if not words.names:
         form.error(f"no example has {words.only!r} in its name")
     return words
