@@ -1,4 +1,5 @@
 """What a trace has to keep to, as five rules over the files of a run, whoever wrote them."""
+import copy
 import re
 
 from bridge import Bridge, number_of, records_of
@@ -22,17 +23,16 @@ class Line:
         return self.way == "in" or self.text == "beat"
 
 
-class Trace:
-    """The files of a run: topology, frames of captures by port, lines of journal and trace, frames that left by port."""
+class Files:
+    """What lines are held to: topology, frames of captures by port, lines of the journal, frames that left by port."""
 
-    def __init__(self, text, captures, journal, lines, outputs):
+    def __init__(self, text, captures, journal, outputs):
         self.bridge = Bridge(text)
         self.tree = self.bridge.tree
         self.ports = {0: self.bridge.bridge["ports"]} | {it["number"]: it["ports"] for it in self.bridge.topology.get("extender", [])}
         self.below = {port: number for number, port in self.tree.on.items()}
         self.external = set(self.tree.external)
         self.captures, self.outputs, self.journal = captures, outputs, journal
-        self.lines = [Line(line) for line in lines]
 
     def place(self, line):
         """The port of a line: that of its device, 64 n - 1 for upstream of extender n."""
@@ -44,99 +44,157 @@ class Trace:
     def is_data(self, line):
         return self.is_external(line) or not is_control(line.frame)
 
-    def names_places(self):
-        """Rule 1: the journal's lines, and places that are there."""
-        told = 0
-        for at, line in enumerate(self.lines):
-            if line.journal is not None:
-                if self.journal[told:told + 1] != [line.journal]:
-                    return at
-                told += 1
-            elif line.way and not self.is_there(line):
-                return at
-        return None if told == len(self.journal) else len(self.lines)
-
     def is_there(self, line):
         return line.device in self.ports and (0 if line.device else 1) <= line.side <= self.ports[line.device]
 
-    def extenders_act(self):
-        """Rule 2: each extender sends what such a machine sends."""
-        machines = {number: Extender(number, ports) for number, ports in self.ports.items() if number}
-        wanted = {number: [] for number in machines}
-        for at, line in enumerate(self.lines):
-            if line.text == "beat":
-                if any(wanted.values()):
-                    return at
-                wanted = {number: machine.beat() for number, machine in machines.items()}
-            elif line.way == "out" and line.device:
-                if wanted[line.device][:1] != [(line.side, line.frame)]:
-                    return at
-                wanted[line.device].pop(0)
-            elif line.way == "in" and line.device:
-                if wanted[line.device]:
-                    return at
-                machine = machines[line.device]
-                wanted[line.device] = machine.at_port(line.side, line.frame) if line.side else machine.from_above(line.frame)
-        return len(self.lines) if any(wanted.values()) else None
 
-    def links_carry(self):
-        """Rule 3: data words come in as they went out, and control words behind the data words that went out before them."""
-        # Of each control word how many data words went out before it first did.
-        data_out, came, control = {}, {}, {}
-        for at, line in enumerate(self.lines):
-            if not line.way or self.is_external(line):
-                continue
-            place = self.place(line)
-            upward = place in self.below
-            link = (self.below[place], upward == (line.way == "in")) if line.side else (line.device, line.way == "out")
-            sent = data_out.setdefault(link, [])
-            taken = came.setdefault(link, 0)
-            if line.way == "out":
-                if is_control(line.frame):
-                    control.setdefault((link, line.frame), len(sent))
-                else:
-                    sent.append(line.frame)
-            elif is_control(line.frame):
-                if control.get((link, line.frame), taken + 1) > taken:
-                    return at
-            elif sent[taken:taken + 1] != [line.frame]:
-                return at
-            else:
-                came[link] += 1
-        return None if all(len(sent) == came[link] for link, sent in data_out.items()) else len(self.lines)
+class Rule:
+    """A rule is asked of one line after the other whether it may stand there (`takes`), and then whether the lines may end (`ends`).
+    It isn't asked of more once it said no, nor of places that aren't there."""
 
-    def captures_are_played(self):
-        """Rule 4: what comes in and goes out at external ports is what the captures hold."""
-        files = {"in": self.captures, "out": self.outputs}
-        found = {way: dict.fromkeys(self.tree.external, 0) for way in files}
-        for at, line in enumerate(self.lines):
-            if line.way and self.is_external(line):
-                port = self.place(line)
-                place = found[line.way][port]
-                if files[line.way].get(port, [])[place:place + 1] != [line.frame]:
-                    return at
-                found[line.way][port] += 1
-        whole = all(count == len(files[way].get(port, [])) for way, ports in found.items() for port, count in ports.items())
-        return None if whole else len(self.lines)
+    def __init__(self, files):
+        self.files = files
 
-    def steps(self):
-        """The lines of each step, with the place of its first; what stands before the first one is a step too."""
-        found = [(0, [])]
-        for at, line in enumerate(self.lines):
-            if line.begins():
-                found.append((at, []))
-            found[-1][1].append(line)
-        return found
+    def broken_at(self, at):
+        """Where it broke: `at` is the place, counted from 0, of the line that it didn't take, or the number of lines."""
+        return at
 
-    def frames_are_decided(self):
-        """Rule 5: what the bridge says of each frame, and what it sends for it. The place is that of the step's first line."""
-        return next((at for at, step in self.steps() if not self.is_decided(step)), None)
+    def copied(self, files=None):
+        """A rule that goes on from here by itself, over these files or the same ones."""
+        return copy.deepcopy(self, {id(self.files): files or self.files})
 
-    def is_decided(self, step):
-        first = step[0] if step else None
-        comes = bool(first) and first.way == "in" and not first.device and self.is_data(first)
-        told = [line.journal.split() for line in step if line.journal and line.journal.split()[0] in ("relay", "ignore")]
-        sent = [line.side for line in step if line.way == "out" and not line.device and self.is_data(line)]
+
+class Places(Rule):
+    """Rule 1: the journal's lines in order, and places that are there."""
+
+    def __init__(self, files):
+        super().__init__(files)
+        self.told = 0
+
+    def takes(self, line):
+        if line.journal is None:
+            return line.way is None or self.files.is_there(line)
+        self.told += 1
+        return self.files.journal[self.told - 1:self.told] == [line.journal]
+
+    def ends(self):
+        return self.told == len(self.files.journal)
+
+
+class Watching(Rule):
+    """Rule 2: each extender, from power-on, sends what such a machine sends."""
+
+    def __init__(self, files):
+        super().__init__(files)
+        self.machines = {number: Extender(number, ports) for number, ports in files.ports.items() if number}
+        self.wanted = {number: [] for number in self.machines}
+
+    def takes(self, line):
+        if line.text == "beat":
+            if not self.ends():
+                return False
+            self.wanted = {number: machine.beat() for number, machine in self.machines.items()}
+        elif line.way == "out" and line.device:
+            wanted = self.wanted[line.device]
+            self.wanted[line.device] = wanted[1:]
+            return wanted[:1] == [(line.side, line.frame)]
+        elif line.way == "in" and line.device:
+            if self.wanted[line.device]:
+                return False
+            machine = self.machines[line.device]
+            self.wanted[line.device] = machine.at_port(line.side, line.frame) if line.side else machine.from_above(line.frame)
+        return True
+
+    def ends(self):
+        return not any(self.wanted.values())
+
+
+class Direction:
+    """What went out in one direction of a link: data words that didn't come in yet, how many went out and came in, and of each control
+    word how many data words went out before it first did."""
+
+    def __init__(self):
+        self.on_the_way, self.sent, self.taken, self.control = [], 0, 0, {}
+
+    def put(self, frame):
+        if is_control(frame):
+            self.control.setdefault(frame, self.sent)
+        else:
+            self.on_the_way, self.sent = [*self.on_the_way, frame], self.sent + 1
+
+    def takes(self, frame):
+        if is_control(frame):
+            return frame in self.control and self.control[frame] <= self.taken
+        came, self.on_the_way, self.taken = self.on_the_way[:1], self.on_the_way[1:], self.taken + 1
+        return came == [frame]
+
+
+class Linking(Rule):
+    """Rule 3: data words come in as they went out, and control words behind the data words that went out before them."""
+
+    def __init__(self, files):
+        super().__init__(files)
+        self.links = {}
+
+    def takes(self, line):
+        if not line.way or self.files.is_external(line):
+            return True
+        place = self.files.place(line)
+        upward = place in self.files.below
+        link = (self.files.below[place], upward == (line.way == "in")) if line.side else (line.device, line.way == "out")
+        direction = self.links.setdefault(link, Direction())
+        if line.way == "out":
+            direction.put(line.frame)
+            return True
+        return direction.takes(line.frame)
+
+    def ends(self):
+        return not any(it.on_the_way for it in self.links.values())
+
+
+class Capturing(Rule):
+    """Rule 4: what comes in and goes out at external ports is what the captures and the output files hold."""
+
+    def __init__(self, files):
+        super().__init__(files)
+        self.passed = {}
+
+    def held(self, way, port):
+        return (self.files.captures if way == "in" else self.files.outputs).get(port, [])
+
+    def takes(self, line):
+        if not line.way or not self.files.is_external(line):
+            return True
+        port = self.files.place(line)
+        passed = self.passed.get((line.way, port), 0)
+        self.passed[line.way, port] = passed + 1
+        return self.held(line.way, port)[passed:passed + 1] == [line.frame]
+
+    def ends(self):
+        return all(self.passed.get((way, port), 0) == len(self.held(way, port)) for way in ("in", "out") for port in self.files.external)
+
+
+class Entering(Rule):
+    """Rule 5: what the bridge says of each frame, and what it sends for it. A step is judged at its end; it breaks at its first line."""
+
+    def __init__(self, files):
+        super().__init__(files)
+        self.step = []
+
+    def takes(self, line):
+        if not line.begins():
+            self.step = [*self.step, line]
+            return True
+        is_decided = self.ends()
+        if is_decided:
+            self.step = [line]
+        return is_decided
+
+    def ends(self):
+        first = self.step[0] if self.step else None
+        comes = bool(first) and first.way == "in" and not first.device and self.files.is_data(first)
+        told = [line.journal.split() for line in self.step if line.journal and line.journal.split()[0] in ("relay", "ignore")]
+        sent = [line.side for line in self.step if line.way == "out" and not line.device and self.files.is_data(line)]
         relayed = any(words[0] == "relay" for words in told)
         if comes and not (len(told) == 1 and self.holds(first, *told[0][1:])):
             return False
@@ -146,27 +204,41 @@ class Trace:
 
     def holds(self, line, port, index):
         """Whether a line at the bridge holds the frame of this record: at a local port one of that port."""
-        frames = self.captures.get(number_of(port), [])
+        frames = self.files.captures.get(number_of(port), [])
         if not 1 <= int(index) <= len(frames):
             return False
         frame = frames[int(index) - 1]
-        if self.is_external(line):
-            return line.frame == frame and number_of(port) == self.place(line)
+        if self.files.is_external(line):
+            return line.frame == frame and number_of(port) == self.files.place(line)
         return read_etag(line.frame) is not None and take_tag(line.frame) == frame
 
-    # Each answers the place of the first line at which it doesn't hold, counted from 0: the number of lines where it is their end.
-    RULES = [names_places, extenders_act, links_carry, captures_are_played, frames_are_decided]
+    def broken_at(self, at):
+        return at - len(self.step)
+
+
+RULES = (Places, Watching, Linking, Capturing, Entering)
+
+
+def breaks(rules, lines, at=0):
+    """The lowest of rules that lines break, and where; or None. The first of the lines stands at that place."""
+    for number, rule in enumerate(rules, 1):
+        broken = next((place for place, line in enumerate(lines, at) if not rule.takes(line)), None)
+        if broken is None and not rule.ends():
+            broken = at + len(lines)
+        if broken is not None:
+            return number, rule.broken_at(broken)
+    return None
+
+
+class Trace:
+    """The files of a run, with the lines of its trace."""
+
+    def __init__(self, files, lines):
+        self.files, self.journal, self.lines = files, files.journal, [Line(line) for line in lines]
 
     def breaks(self):
         """The lowest rule that doesn't hold, and where; or None."""
-        found = ((number, rule(self)) for number, rule in enumerate(Trace.RULES, 1))
-        return next(((number, at) for number, at in found if at is not None), None)
-
-
-def judge(text, captures, journal, lines, outputs):
-    """The lowest rule that a trace breaks, or None."""
-    broken = Trace(text, captures, journal, lines, outputs).breaks()
-    return broken and broken[0]
+        return breaks([rule(self.files) for rule in RULES], self.lines)
 
 
 def trace_of(text, given, written):
@@ -177,7 +249,7 @@ def trace_of(text, given, written):
     captures = {port: frames(given[name]) for port, name in bridge.captures.items()}
     outputs = {number_of(name[len(prefix):-5]): frames(file) for name, file in written.items() if name.endswith(".pcap")}
     journal, lines = (written[f"{prefix}{name}.txt"].decode().splitlines() for name in ("journal", "trace"))
-    return Trace(text, captures, journal, lines, outputs)
+    return Trace(Files(text, captures, journal, outputs), lines)
 
 
 def judge_files(text, given, written):
