@@ -30,12 +30,12 @@ use Rattle.exb_legal.specs.Entries.{journal_of}
 use Rattle.exb_legal.specs.Inputs.{frames_in, frames_out}
 use Rattle.exb_legal.specs.LegalTrace.{LegalTrace}
 use Rattle.exb_resting.specs.Flight.Showing.{left_at}
-use Rattle.exb_resting.specs.Motion.Given.{Given, Came, Told, arrivals_of, commands_of, indices_of, basis_with}
+use Rattle.exb_resting.specs.Motion.Given.{Given, Came, Told, arrivals_of, indices_of, basis_with}
 use Rattle.exb_resting.specs.Motion.Given.{arrivals_at as given_at}
 use Rattle.exb_resting.specs.Motion.Going.{MayGoAll}
 use Rattle.exb_resting.specs.Motion.Kept.{MayStart, HasVid, MayDoAll, given_in, basis_of}
 use Rattle.exb_resting.specs.Motion.Playing.{nothing_given, marked_each, PlayAll, IsTimely}
-use Rattle.exb_resting.specs.Rest.Playing.{begin_of, PlaysIn}
+use Rattle.exb_resting.specs.Rest.Playing.{begin_of}
 use Rattle.exb_resting.proofs.Motion.Going.{runs_go_on}
 use Rattle.exb_resting.proofs.Motion.Histories.{HasCommands, longer, decided_stays, entered_stays, flat_stays, opening_stays}
 use Rattle.exb_resting.proofs.Motion.InFile.{IsNumberedIn, segments_numbered, in_file_order}

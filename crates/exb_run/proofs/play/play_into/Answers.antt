@@ -147,7 +147,7 @@ returns-clause-so_far g c tells before held =
     c.args.outputs before c.new-programme.result c.in_ok-captures.captures c.merge_of_all.ensures c.start_is_least.ensures c.requires.script c.requires.tree c.requires.captures
     (c.new-programme.ensures.start ∙ c.start_of-start.ensures) c.new-programme.ensures.commands c.new-programme.ensures.taken c.new-programme.ensures.captures c.in_ok-captures.ensures.standings c.in_ok-captures.ensures.left
     c.in_ok-captures.ensures.named c.in_ok-captures.ensures.streams
-    (λ t. subst (λ (f : Files). HasTexts c.args.plan.now (pieces_of c.args.outputs) before f first_text) (sym (files_same (S.file c.args.shelf.now) (S.file c.open_all.new.shelf) c.open_all.ensures.files)) held))
+    (λ t. subst (λ (f : Files). HasTexts c.args.plan.now (pieces_of c.args.outputs) before f first_text) (sym (files_same (S.file c.args.shelf.now) (S.file c.open_all.new.shelf) c.open_all.ensures.files)) held) c.requires.sent)
 
 pub returns-in_default-clause-so_far : goal.returns-in_default-clause-so_far
 returns-in_default-clause-so_far g c tells before held = begun-so-far (mode_of c.args.schedule) _ c.args.plan.now before _ (pieces_of c.args.outputs) held
