@@ -66,3 +66,7 @@ came_so p k i moment bytes ends more old new before after e f h =
 pub when_ok : {A E P Q : Type 0} (r : Result A E) → (P → Q) → OnOk r P → OnOk r Q
 when_ok (Ok x) f p = f p
 when_ok (Err e) f p = p
+
+pub on_ok_of : {A E P : Type 0} (r : Result A E) → P → OnOk r P
+on_ok_of (Ok x) p = p
+on_ok_of (Err e) p = tt

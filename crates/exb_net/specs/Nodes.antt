@@ -1,14 +1,20 @@
--- What becomes of one bridge as a frame arrives.
-use Rattle.std.specs.Prelude.{◌≡◌, ◌++◌, List, [], ◌∷◌}
+-- What becomes of one bridge: as it begins, as a frame arrives, and as a command is given.
+use Rattle.std.specs.Prelude.{◌≡◌, ◌++◌, ℕ, false, List, [], ◌∷◌, All}
+use Rattle.exb_model.specs.declared.setup.Setup.{Setup}
 use Rattle.exb_model.specs.Input.{Arrival}
+use Rattle.exb_model.specs.Setup.{limits_of, shape_of}
+use Rattle.exb_model.specs.Tree.{external_ports}
 use Rattle.exb_machine.specs.Worlds.{Step, Arrive, Left}
-use Rattle.exb_network.specs.Networks.{Network}
+use Rattle.exb_resting.specs.Motion.Kept.{HasVid}
+use Rattle.exb_resting.specs.Rest.Settles.{beginning}
+use Rattle.exb_network.specs.Networks.{Network, IsQuiet, IsSame, bounds_of, tree_of, world_of}
 use Rattle.exb_network.specs.Worlds.{all_left}
 use Rattle.exb_schedule.specs.Segments.{IsPlayedOut}
+use Rattle.exb_nets.specs.declared.wires.Wire.{Wire}
 use Rattle.exb_net.specs.declared.crossing.Crossing.{Crossing}
 use Rattle.exb_net.specs.declared.ends.WiredEnd.{WiredEnd}
 use Rattle.exb_net.specs.Crossings.{all_crossing}
-use Rattle.exb_net.specs.Ends.{next_in, sent_over}
+use Rattle.exb_net.specs.Ends.{ends_over, next_in, sent_over}
 
 -- The frame arrived, and all settled and was marked. What has left the wired ports since stands at the end of the queue.
 pub record HasEntered (a : Arrival) (ends : List WiredEnd) (old new : Network) (before after : List Crossing) : Type 0 where
@@ -23,3 +29,20 @@ come_as ends x = record { port = x.to.port; index = next_in ends x.to.port; mome
 pub record HasDone (steps : List Step) (old new : Network) (before after : List WiredEnd) : Type 0 where
   pub played : IsPlayedOut steps old new
   pub ends : after ≡ before
+
+-- What was told and has left is forgotten, and nothing else changed.
+pub record HasForgotten (old new : Network) (before after : List WiredEnd) : Type 0 where
+  pub world : world_of new ≡ world_of old
+  pub same : IsSame old new
+  pub quiet : IsQuiet new
+  pub ends : after ≡ before
+
+-- It is as a setup begins: nothing has happened to it, and no frame has arrived at its wired ports.
+pub record IsFirst (wires : List Wire) (b : ℕ) (s : Setup) (w : Network) (wired : List WiredEnd) : Type 0 where
+  pub tree : tree_of w ≡ shape_of s
+  pub limits : bounds_of w ≡ limits_of s
+  pub world : world_of w ≡ beginning s
+  pub quiet : IsQuiet w
+  pub awake : w.failed ≡ false
+  pub ends : wired ≡ ends_over wires b (λ q. 1) (external_ports (shape_of s))
+  pub vids : All HasVid s.start

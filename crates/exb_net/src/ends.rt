@@ -19,14 +19,14 @@ pub struct WiredEnd {
 }
 
 /// Whether an end is this port of this bridge.
-fn is_at(end: End, bridge: u8, port: PortId) -> bool
+fn is_at(end: End, bridge: usize, port: PortId) -> bool
     ensures { result ≡ is_at end bridge port }
 {
-    end.bridge == bridge && end.port == port
+    usize::from(end.bridge) == bridge && end.port == port
 }
 
 /// The other end of a wire, if one of its ends is this port.
-fn across(wire: &Wire, bridge: u8, port: PortId) -> Option<End>
+fn across(wire: &Wire, bridge: usize, port: PortId) -> Option<End>
     ensures { result ≡ across wire.now bridge port }
 {
     if is_at(wire.a, bridge, port) {
@@ -40,7 +40,7 @@ fn across(wire: &Wire, bridge: u8, port: PortId) -> Option<End>
 
 /// What is wired to a port of a bridge.
 #[tactic(auto, using(crate::proofs::Wired::far_next, crate::proofs::Wired::far_none))]
-fn far_end(wires: &[Wire], bridge: u8, port: PortId) -> Option<End>
+fn far_end(wires: &[Wire], bridge: usize, port: PortId) -> Option<End>
     ensures { result ≡ far_end wires.now bridge port }
 {
     for wire in wires {
@@ -54,7 +54,7 @@ fn far_end(wires: &[Wire], bridge: u8, port: PortId) -> Option<End>
 /// Puts a port of a bridge behind others, where it is an external one and wired. No frame has arrived there.
 fn add_end(
     wires: &[Wire],
-    bridge: u8,
+    bridge: usize,
     tree: &Tree,
     port: PortId,
     ends: &mut Vec<WiredEnd>,
@@ -77,7 +77,7 @@ fn add_end(
 pub(crate) fn ends_of(
     alloc: Global,
     wires: &[Wire],
-    bridge: u8,
+    bridge: usize,
     tree: &Tree,
 ) -> Result<Vec<WiredEnd>, NoMemory>
     ensures { IfOk result (λ ends. ends.items ≡ ends_over wires.now bridge (λ q. 1) (external_ports tree.now)) }

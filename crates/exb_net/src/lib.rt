@@ -1,14 +1,20 @@
-//! A bridge of a net: one of several whose external ports are wired to one another. It has a world of links, with a fate of its own,
-//! and its wired ports, each with what is at the far end of its wire and the index of its next frame. Upwards it promises that a frame
-//! that arrives is played as a segment of the eager run is, that just what has left the wired ports for it stands then at the end of
-//! the queue of the frames between bridges, in port order, and that a frame which crossed a wire comes with the next index of its port.
-//! It moves its world by the schedules of `exb_schedule` alone, and speaks of nets as `exb_nets` does.
+//! Bridges whose external ports are wired to one another, as one value. Each has a world of links, with a fate of its own, and its wired
+//! ports, each with what is at the far end of its wire and the index of its next frame. Upwards it promises that all are opened, and
+//! that what is given to one of them, a frame or a command, is played as a segment of the eager run is, and then each frame that
+//! leaves a wired port for it at the far end of its wire, in the order of their queue, until none is between bridges. So its
+//! worlds do what `exb_wiring` says of runs of several worlds. It moves each world by the schedules of `exb_schedule` alone.
+//!
+//! `src`: `ends` (the wired ports of a bridge), `crossing` (the queue), `node` (one bridge), `making` and `net` (all of them).
+//! `specs`: `Holding` and `Nets` say where the bridges are and what a call does.
 #![tactic(auto)]
 
 pub mod crossing;
 pub mod ends;
+mod making;
+pub mod net;
 pub mod node;
 
 pub use crossing::Crossing;
 pub use ends::WiredEnd;
+pub use net::Net;
 pub use node::Node;

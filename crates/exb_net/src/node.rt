@@ -1,5 +1,5 @@
 //! A bridge of a net.
-ghost use Rattle.std.specs.Prelude.{All, ◌≡◌, ◌∷◌, [], ◌+◌, ◌<◌, ◌≤◌, ◌^◌, List, IfOk, OnOk, length, map, false};
+ghost use Rattle.std.specs.Prelude.{All, ◌≡◌, ◌∷◌, [], ◌+◌, ◌<◌, ◌≤◌, ◌^◌, IfOk, OnOk, length, map, false};
 ghost use Rattle.exb_model.specs.Setup.{IsValid, limits_of, shape_of};
 ghost use Rattle.exb_model.specs.Tree.{external_ports};
 ghost use Rattle.exb_machine.specs.Allowing.{Can};
@@ -11,7 +11,7 @@ ghost use Rattle.exb_schedule.specs.Playing.{arrived};
 ghost use Rattle.exb_schedule.specs.Segments.{IsPlayedOut};
 ghost use Rattle.exb_schedule.specs.Worlds.{fate_in, network_of};
 ghost use Rattle.exb_net.specs.Ends.{ends_over, next_in, with_next};
-ghost use Rattle.exb_net.specs.Nodes.{HasDone, HasEntered, come_as};
+ghost use Rattle.exb_net.specs.Nodes.{HasDone, HasEntered, HasForgotten, come_as};
 
 use crate::crossing::{Crossing, send};
 use crate::ends::{WiredEnd, ends_of, next_at, set_next};
@@ -35,7 +35,7 @@ impl Node {
     /// The bridge of that number, before its opening.
     pub fn new(
         alloc: Global,
-        bridge: u8,
+        bridge: usize,
         setup: &Setup,
         wires: &[Wire],
         fate: Box<dyn Fate>,
@@ -74,6 +74,23 @@ fn take_in(node: &mut Node, arrival: &Arrival) -> Result<(), NoMemory>
         Ok(()) => Ok(()),
         Err(_) => Err(NoMemory),
     }
+}
+
+/// A bridge is opened: it settles and is marked.
+pub(crate) fn open_one(node: &mut Node) -> Result<(), WorldFault>
+    requires { left (fate_in node.old.world) < 2 ^ 57 }
+    ensures ok { OnOk result (HasDone [] (network_of node.old.world) (network_of node.new.world) node.old.ends.items node.new.ends.items) }
+    ensures fate { left (fate_in node.new.world) ≤ left (fate_in node.old.world) }
+{
+    eager(&mut node.world, 0, &[], &[])
+}
+
+/// A bridge forgets what was told and has left.
+pub(crate) fn forget(node: &mut Node)
+    ensures forgotten { HasForgotten (network_of node.old.world) (network_of node.new.world) node.old.ends.items node.new.ends.items }
+    ensures fate { left (fate_in node.new.world) ≤ left (fate_in node.old.world) }
+{
+    node.world.clear();
 }
 
 /// A command is given to a bridge, which settles and is marked.

@@ -1,0 +1,6 @@
+use Rattle.std.proofs.Common.{refl}
+use Rattle.exb_net.proofs.Whole.{cleared_so}
+use Rattle.exb_net.proofs.net.Net.clear.Goals as goal
+
+pub returns-clause-ok : goal.returns-clause-ok
+returns-clause-ok g c = λ n s told k. cleared_so n s told c.args.self.now k _ (record { queue = refl; wires = refl; came = refl }) c.clear_all.ensures.forgotten
