@@ -5,6 +5,37 @@ import unittest
 
 from scratch import Scratch, can_run
 
+# A toolchain that tells the second run of a crate that it is kept.
+WIDE = """#!/bin/sh
+kit=$(dirname "$0")
+case $1 in
+version) cat "$kit/kit" ;;
+doc) echo "$kit/START-HERE.md" ;;
+ci)
+    echo $(ls crates) >>"$kit/calls"
+    [ -d crates/exbr ] || { # first
+        :
+    }
+    for name in exb_low exb_high exb_beside exbr; do
+        [ -d crates/$name ] || continue
+        if grep -q wrong crates/$name/src/*; then
+            echo "rt: $name NOT PROVED"
+            echo "0 passed, 1 failed"
+            exit 1
+        fi
+        if [ "$2" != --anew ] && [ -e "$kit/kept-$name" ]; then
+            echo "rt: $name is kept: an earlier run proved the same"
+        else
+            echo "rt: $name proved"
+            touch "$kit/kept-$name"
+        fi
+    done
+    [ ! -d crates/exbr ] || { mkdir -p crates/exbr/out; cat /bin/echo crates/exbr/src/main.rt >crates/exbr/out/exbr; chmod +x crates/exbr/out/exbr; }
+    echo "4 passed, 0 failed"
+    ;;
+esac
+"""
+
 
 class Launched(unittest.TestCase):
     def setUp(self):
@@ -66,6 +97,48 @@ class AsItMustBe(Launched):
         self.assertEqual(it.calls(), before + 1)
         self.says(["exbr", "--build", "--help"], 0, "tools/build [--anew]")
         self.says(["exbr", "--build", "--other"], 2, "takes --anew or nothing")
+
+
+class TwoRuns(Launched):
+    """Crates of which half stand beside the longest chain: that chain is proved by a run of its own, beside the run of all."""
+
+    def wide(self, rt=None):
+        if len(os.sched_getaffinity(0)) < 3:
+            self.skipTest("two runs take three processors")
+        it = self.it
+        it.write("crates.txt", "exb_low:\nexb_high: exb_low\nexb_beside: exb_low\nexbr: exb_high exb_beside exb_low\nexb_tests: exb_low\n")
+        it.write("tools/seconds.txt", "exb_low 10\nexb_high 60\nexb_beside 40\nexbr 10\n")
+        for name in ("exb_high", "exb_beside"):
+            it.write(f"crates/{name}/src/lib.rt", f"{name}\n")
+        it.write("kit/rt", (rt or WIDE))
+        return it
+
+    def test_the_chain_is_proved_beside_all(self):
+        it = self.wide()
+        self.says(["tools/build"], 0, "4 crates", "exb_low proved (1 of 4", "exb_high proved (2 of 4", "exb_beside proved", "exbr proved (4 of 4")
+        self.assertEqual(sorted(it.read("kit/calls").splitlines()), ["exb_beside exb_high exb_low exbr", "exb_high exb_low"])
+        self.assertIn("exb_high proved", it.read("crates/exbr/out/build-first.log"))
+        self.assertIn("exb_high is kept", it.read("crates/exbr/out/build.log"))
+
+    def test_anew_is_one_run(self):
+        it = self.wide()
+        self.says(["tools/build", "--anew"], 0, "exbr proved (4 of 4")
+        self.assertEqual(it.read("kit/calls").splitlines(), ["exb_beside exb_high exb_low exbr"])
+
+    def test_where_nothing_is_kept_there_is_one_run(self):
+        it = self.wide(WIDE.replace("doc)", "none)"))
+        self.says(["tools/build"], 0, "exbr proved (4 of 4")
+        self.assertEqual(it.read("kit/calls").splitlines(), ["exb_beside exb_high exb_low exbr"])
+
+    def test_what_fails_in_the_first_run_fails_in_that_of_all(self):
+        it = self.wide()
+        it.write("crates/exb_low/src/lib.rt", "wrong\n")
+        self.says(["tools/build"], 1, "the program could not be proved and built", "build.log says why")
+        self.assertIn("exb_low NOT PROVED", it.read("crates/exbr/out/build.log"))
+
+    def test_the_first_run_ends_with_the_other(self):
+        it = self.wide(WIDE.replace("# first", "sleep 600"))
+        self.says(["tools/build"], 0, "exbr proved (4 of 4")
 
 
 class AByteIsAnother(Launched):
