@@ -1,17 +1,19 @@
 -- One bridge of a net as it does more.
-use Rattle.std.proofs.Common.{◌≡◌, ◌≢◌, ℕ, ◌<◌, ◌++◌, List, [], ◌∷◌, set, refl, ap, sym, ◌∙◌, subst, inl, inr}
+use Rattle.std.proofs.Common.{◌≡◌, ◌≢◌, ℕ, ◌<◌, ◌++◌, Bool, List, [], ◌∷◌, set, refl, ap, sym, ◌∙◌, subst, inl, inr}
 use Rattle.std.specs.Prelude.{Some, slice_get}
 use Rattle.std.proofs.lemmas.Bool.{cases_eq, eq-eqb}
 use Rattle.std.proofs.lemmas.List.{append-nil, append_assoc, length-set}
 use Rattle.std.proofs.lemmas.Option.{same_Some, slice_get_within}
+use Rattle.exb_model.specs.declared.event.Event.{Event}
 use Rattle.exb_model.specs.Setup.{Limits}
 use Rattle.exb_model.specs.Tree.{Shape, external_ports}
 use Rattle.exb_machine.specs.Allowing.{IsSettled}
 use Rattle.exb_machine.specs.Settling.{run, followed_by}
 use Rattle.exb_machine.specs.Stepping.{Stepped, stepped}
-use Rattle.exb_machine.specs.Worlds.{World, Step, Mark, Left}
+use Rattle.exb_machine.specs.Telling.{all_told}
+use Rattle.exb_machine.specs.Worlds.{World, Step, Mark, Left, Line}
 use Rattle.exb_machine.proofs.Rounds.{run_then}
-use Rattle.exb_network.specs.Networks.{Network, bounds_of, tree_of, world_of}
+use Rattle.exb_network.specs.Networks.{Network, IsStepped, bounds_of, tree_of, world_of}
 use Rattle.exb_network.specs.Sites.{Site}
 use Rattle.exb_network.specs.Sites.{limits_in as limits_at}
 use Rattle.exb_network.specs.Worlds.{all_left}
@@ -41,6 +43,21 @@ may_front t l (x ∷ xs) ys w a = (a.0, may_front t l xs ys (stepped t l x w).wo
 left_marked : (t : Shape) (l : Limits) (xs : List Step) (w : World) → (run t l (xs ++ Mark ∷ []) w).left ≡ (run t l xs w).left
 unfolding run stepped
 left_marked t l xs w = ap (λ (z : Stepped). z.left) (run_then t l xs (Mark ∷ []) w) ∙ append-nil (run t l xs w).left
+
+-- one step is a run
+pub by_step : (step : Step) (old new : Network) → IsStepped step old new → IsMoved (run (tree_of old) (bounds_of old) (step ∷ []) (world_of old)) old new
+unfolding run
+by_step step old new m =
+    let d : Stepped = stepped (tree_of old) (bounds_of old) step (world_of old) in
+    record {
+      world = m.world;
+      events = m.events ∙ ap (λ (zs : List Event). old.log.events ++ zs) (sym (append-nil d.events));
+      passed = m.passed ∙ ap (λ (zs : List Bool). old.log.passed ++ zs) (sym (append-nil d.passed));
+      left = m.left ∙ ap (λ (zs : List Left). all_left old.log.left ++ zs) (sym (append-nil d.left));
+      lines = λ tracing. m.lines tracing ∙ ap (λ (zs : List Line). old.log.lines ++ all_told zs) (sym (append-nil d.lines));
+      silent = m.silent;
+      same = m.same;
+    }
 
 -- ---- texts that go on
 behind : {A : Type 0} (all told old more new : List A) → all ≡ told ++ old → new ≡ old ++ more → all ++ more ≡ told ++ new

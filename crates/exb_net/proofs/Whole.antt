@@ -1,17 +1,17 @@
 -- A whole net: it is opened, seconds pass, a frame comes or a command is given, and what was told is forgotten.
-use Rattle.std.proofs.Common.{◌≡◌, ℕ, ◌+◌, ◌<◌, ◌^◌, ◌++◌, false, List, [], ◌∷◌, length, set, refl, ap, sym, ◌∙◌, subst, arith, inl, inr}
-use Rattle.std.specs.Prelude.{Some, slice_get}
-use Rattle.std.proofs.lemmas.Bool.{cases_eq}
+use Rattle.std.proofs.Common.{◌≡◌, ℕ, ◌+◌, ◌<◌, ◌^◌, ◌==◌, ◌++◌, false, List, [], ◌∷◌, length, set, refl, ap, sym, ◌∙◌, subst, arith, inl, inr}
+use Rattle.std.specs.Prelude.{All, Some, slice_get}
+use Rattle.std.proofs.lemmas.Bool.{cases_eq, true≢false}
 use Rattle.std.proofs.lemmas.List.{append-nil}
 use Rattle.std.proofs.lemmas.Option.{same_Some, slice_get_within}
 use Rattle.exb_model.specs.declared.command.Command.{Command}
 use Rattle.exb_model.specs.Input.{Arrival}
 use Rattle.exb_model.specs.Tree.{external_ports}
 use Rattle.exb_machine.specs.Allowing.{Can, IsSettled}
-use Rattle.exb_machine.specs.Settling.{run}
+use Rattle.exb_machine.specs.Settling.{run, followed_by}
 use Rattle.exb_machine.specs.Stepping.{Stepped}
-use Rattle.exb_machine.specs.Worlds.{Step, Arrive, Order, Mark}
-use Rattle.exb_network.specs.Networks.{Network, tree_of, world_of}
+use Rattle.exb_machine.specs.Worlds.{Step, Arrive, Order, Tick, Mark}
+use Rattle.exb_network.specs.Networks.{Network, bounds_of, tree_of, world_of}
 use Rattle.exb_network.specs.Sites.{Site}
 use Rattle.exb_network.specs.Sites.{limits_in as limits_at}
 use Rattle.exb_network.specs.Worlds.{all_left}
@@ -19,19 +19,19 @@ use Rattle.exb_resting.specs.Rest.Settles.{MayTakeAll}
 use Rattle.exb_schedule.specs.Moves.{IsMoved}
 use Rattle.exb_schedule.specs.Worlds.{network_of}
 use Rattle.exb_nets.specs.Nets.{Net, is_wired}
-use Rattle.exb_wiring.specs.Playing.{Between, Dones, Handles, limits_in, tree_in}
+use Rattle.exb_wiring.specs.Playing.{Between, Dones, Handles, MayPass, does, limits_in, pass, tree_in}
 use Rattle.exb_wiring.specs.Playing.{Opens as OpensAt}
-use Rattle.exb_wiring.specs.Delivering.{BridgesHandle, HaveBegun, IsHandledOn, OpenedNetsRun}
+use Rattle.exb_wiring.specs.Delivering.{BridgesHandle, HaveBegun, HavePassed, IsHandledOn, OpenedNetsRun, SecondsPass}
 use Rattle.exb_net.specs.declared.net.Net.{Net as Bridges}
 use Rattle.exb_net.specs.declared.node.Node.{Node}
 use Rattle.exb_net.specs.Ends.{ends_over}
 use Rattle.exb_net.specs.Holding.{Holds, IsAt}
 use Rattle.exb_net.specs.Lists.{AreEach}
-use Rattle.exb_net.specs.Nets.{Handled, IsBegun, IsPlaying, Opens, no_dones}
-use Rattle.exb_net.specs.Nodes.{HasDone, HasForgotten}
+use Rattle.exb_net.specs.Nets.{Handled, IsBegun, IsPlaying, Opens, Passes, no_dones}
+use Rattle.exb_net.specs.Nodes.{HasDone, HasForgotten, HasPassed}
 use Rattle.exb_net.specs.Turns.{HasPlayed, IsComing}
-use Rattle.exb_net.proofs.One.{at_after, given, gone_on, handled, here, holds_on, may_front, run_here}
-use Rattle.exb_net.proofs.Places.{choose, is_there}
+use Rattle.exb_net.proofs.One.{at_after, by_step, given, gone_on, handled, here, holds_on, may_front, run_here}
+use Rattle.exb_net.proofs.Places.{choose, is_there, of_all}
 use Rattle.exb_net.proofs.Wired.{all_same}
 
 -- beside its bridges the net is as before
@@ -112,6 +112,63 @@ module _ {V : Type 0} {X : V → Type 0} (n : Net) (x y : Bridges V X) (begun : 
 
 -- ---- while it plays
 module _ {V : Type 0} {X : V → Type 0} (n : Net) (s told : Dones) (x : Bridges V X) (k : IsPlaying n s told x) where
+  -- no seconds
+  pub none_passed : (seconds : ℕ) → seconds ≡ 0 → Passes n seconds s told x
+  none_passed seconds none =
+      subst (λ (z : ℕ). Passes n z s told x) (sym none)
+      (record {
+        may = λ e. absurd (true≢false e);
+        playing = record { net = k.net; vids = k.vids; holds = record { count = k.holds.count; at = k.holds.at }; run = k.run; few = k.few; queue = k.queue; wires = k.wires };
+      })
+
+  -- seconds may pass at each bridge
+  may_pass : (seconds : ℕ) → All (λ u. Can (tree_of (network_of u.world)) (world_of (network_of u.world)) (Tick seconds)) x.nodes.items → MayPass n seconds s
+  may_pass seconds can some b low =
+      let same = k.holds.count in
+      let u = is_there x.nodes.items b (omega (arith, low, same)) in
+      here n b (s b) (told b) (network_of u.0.world) u.0.ends.items (k.holds.at b u.0 u.1) (λ t l w. Can t w (Tick seconds))
+      (of_all (λ (z : Node V X). Can (tree_of (network_of z.world)) (world_of (network_of z.world)) (Tick seconds)) x.nodes.items b u.0 can u.1)
+
+  pub passed_so : SecondsPass → (y : Bridges V X) → IsKept x y → (seconds : ℕ) → (seconds == 0) ≡ false → All (λ u. Can (tree_of (network_of u.world)) (world_of (network_of u.world)) (Tick seconds)) x.nodes.items →
+      AreEach (λ b u v. HasPassed seconds (network_of u.world) (network_of v.world) u.ends.items v.ends.items) x.nodes.items y.nodes.items → Passes n seconds s told y
+  passed_so law y kept seconds some can all =
+      let may : MayPass n seconds s = may_pass seconds can in
+      let passed : HavePassed n s (pass n seconds s) = law n seconds s k.net k.vids k.run may in
+      record {
+        may = may;
+        playing = record {
+          net = k.net;
+          vids = k.vids;
+          holds = record {
+            count = all.long ∙ k.holds.count;
+            at = λ b v v_is.
+                (let low = slice_get_within y.nodes.items b v v_is in
+                let longer = all.long in
+                let u = is_there x.nodes.items b (omega (arith, low, longer)) in
+                passed_at passed b u.0 v (k.holds.at b u.0 u.1) (all.each b u.0 v u.1 v_is)
+                (let same = k.holds.count in omega (arith, low, longer, same)));
+          };
+          run = passed.run;
+          few = λ c p low wired. (let e = passed.next c p low in let before = k.few c p low wired in let same = kept.came in omega (arith, e, before, same));
+          queue = kept.queue ∙ k.queue;
+          wires = kept.wires ∙ k.wires;
+        };
+      }
+    where
+      is_pass : (b : ℕ) → pass n seconds s b ≡ followed_by (s b) (does n b (Tick seconds ∷ []) s)
+      is_pass b = rw some refl
+
+      passed_at : HavePassed n s (pass n seconds s) → (b : ℕ) (u v : Node V X) → IsAt n b (s b) (told b) (network_of u.world) u.ends.items → HasPassed seconds (network_of u.world) (network_of v.world) u.ends.items v.ends.items → b < n.count →
+          IsAt n b (pass n seconds s b) (told b) (network_of v.world) v.ends.items
+      passed_at passed b u v at h low =
+          let old : Network = network_of u.world in
+          let d : Stepped = run (tree_of old) (bounds_of old) (Tick seconds ∷ []) (world_of old) in
+          let whole : pass n seconds s b ≡ followed_by (s b) d = is_pass b ∙ ap (λ (z : Stepped). followed_by (s b) z) (sym (run_here n b (s b) (told b) old u.ends.items at (Tick seconds ∷ []))) in
+          let next : (q : ℕ) → d.world.next q ≡ (s b).world.next q = λ q. ap (λ (z : Stepped). z.world.next q) (sym whole) ∙ passed.next b q low in
+          subst (λ (z : Stepped). IsAt n b z (told b) (network_of v.world) v.ends.items) (sym whole)
+          (gone_on n b (s b) (told b) old u.ends.items at d (network_of v.world) v.ends.items (by_step (Tick seconds) old (network_of v.world) h.stepped)
+          (h.ends ∙ (at.ends ∙ all_same n.wires b (s b).world.next d.world.next (λ q wired. next q) (external_ports (tree_in n b)))))
+
   -- what was told is forgotten
   pub cleared_so : (y : Bridges V X) → IsKept x y → AreEach (λ b u v. HasForgotten (network_of u.world) (network_of v.world) u.ends.items v.ends.items) x.nodes.items y.nodes.items → IsPlaying n s s y
   cleared_so y kept all =

@@ -6,7 +6,7 @@ use Rattle.exb_machine.specs.Worlds.{Step}
 use Rattle.exb_resting.specs.Rest.Settles.{beginning}
 use Rattle.exb_nets.specs.declared.wires.NetSetup.{NetSetup}
 use Rattle.exb_nets.specs.Nets.{Net, IsNet, is_wired}
-use Rattle.exb_wiring.specs.Playing.{AreOpened, Between, Dones, Empties, Handles}
+use Rattle.exb_wiring.specs.Playing.{AreOpened, Between, Dones, Empties, Handles, MayPass, pass}
 use Rattle.exb_wiring.specs.Delivering.{AreRun, HaveVids}
 use Rattle.exb_net.specs.declared.net.Net.{Net as Bridges}
 use Rattle.exb_net.specs.Holding.{Holds}
@@ -60,3 +60,8 @@ pub record Handled {V : Type 0} {X : V → Type 0} (n : Net) (b : ℕ) (step : S
   pub handles : Handles n b step (record { dones = s; queue = [] }) given
   pub empties : Empties n times given end
   pub playing : IsPlaying n end.dones told x
+
+-- Seconds pass at each bridge, where there are any.
+pub record Passes {V : Type 0} {X : V → Type 0} (n : Net) (seconds : ℕ) (s told : Dones) (x : Bridges V X) : Type 0 where
+  pub may : MayPass n seconds s
+  pub playing : IsPlaying n (pass n seconds s) told x

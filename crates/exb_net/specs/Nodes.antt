@@ -1,13 +1,13 @@
--- What becomes of one bridge: as it begins, as a frame arrives, and as a command is given.
+-- What becomes of one bridge: as it begins, as a frame arrives, as a command is given, and as seconds pass.
 use Rattle.std.specs.Prelude.{◌≡◌, ◌++◌, ℕ, false, List, [], ◌∷◌, All}
 use Rattle.exb_model.specs.declared.setup.Setup.{Setup}
 use Rattle.exb_model.specs.Input.{Arrival}
 use Rattle.exb_model.specs.Setup.{limits_of, shape_of}
 use Rattle.exb_model.specs.Tree.{external_ports}
-use Rattle.exb_machine.specs.Worlds.{Step, Arrive, Left}
+use Rattle.exb_machine.specs.Worlds.{Step, Arrive, Tick, Left}
 use Rattle.exb_resting.specs.Motion.Kept.{HasVid}
 use Rattle.exb_resting.specs.Rest.Settles.{beginning}
-use Rattle.exb_network.specs.Networks.{Network, IsQuiet, IsSame, bounds_of, tree_of, world_of}
+use Rattle.exb_network.specs.Networks.{Network, IsQuiet, IsSame, IsStepped, bounds_of, tree_of, world_of}
 use Rattle.exb_network.specs.Worlds.{all_left}
 use Rattle.exb_schedule.specs.Segments.{IsPlayedOut}
 use Rattle.exb_nets.specs.declared.wires.Wire.{Wire}
@@ -28,6 +28,11 @@ come_as ends x = record { port = x.to.port; index = next_in ends x.to.port; mome
 -- These steps were made, all settled and was marked; its wired ports are as they were.
 pub record HasDone (steps : List Step) (old new : Network) (before after : List WiredEnd) : Type 0 where
   pub played : IsPlayedOut steps old new
+  pub ends : after ≡ before
+
+-- Seconds passed; its wired ports are as they were.
+pub record HasPassed (seconds : ℕ) (old new : Network) (before after : List WiredEnd) : Type 0 where
+  pub stepped : IsStepped (Tick seconds) old new
   pub ends : after ≡ before
 
 -- What was told and has left is forgotten, and nothing else changed.

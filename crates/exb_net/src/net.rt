@@ -1,26 +1,26 @@
 //! A net: bridges that are wired to one another.
 ghost use Rattle.std.specs.Prelude.{All, ◌≡◌, ◌∷◌, [], ◌↔◌, ◌+◌, ◌==◌, if◌then◌else◌, ◌<◌, ◌≤◌, ◌^◌, ℕ, Some, false, true, IfOk, OnErr, OnOk, length, slice_get};
 ghost use Rattle.exb_machine.specs.Allowing.{Can};
-ghost use Rattle.exb_machine.specs.Worlds.{Arrive, Order};
+ghost use Rattle.exb_machine.specs.Worlds.{Arrive, Order, Tick};
 ghost use Rattle.exb_network.specs.Networks.{tree_of, world_of};
 ghost use Rattle.exb_schedule.specs.Playing.{arrived};
 ghost use Rattle.exb_schedule.specs.Worlds.{fate_in, network_of};
 ghost use Rattle.exb_nets.specs.Nets.{Net as Wired, IsNet, is_wired};
 ghost use Rattle.exb_wiring.specs.Playing.{Dones};
 ghost use Rattle.exb_net.specs.Lists.{AreEach};
-ghost use Rattle.exb_net.specs.Nodes.{HasDone, HasForgotten};
-ghost use Rattle.exb_net.specs.Nets.{IsSetupOf, IsBegun, IsPlaying, IsOpen, Opens, Handled};
+ghost use Rattle.exb_net.specs.Nodes.{HasDone, HasForgotten, HasPassed};
+ghost use Rattle.exb_net.specs.Nets.{IsSetupOf, IsBegun, IsPlaying, IsOpen, Opens, Handled, Passes};
 ghost use Rattle.exb_net.specs.Turns.{Turn, IsTurn, HasDelivered, IsComing, Begins, HasPlayed};
 
 use crate::crossing::Crossing;
 use crate::making::make_all;
-use crate::node::{Node, enter, forget, let_come, open_one, order};
+use crate::node::{Node, enter, forget, let_come, let_pass, open_one, order};
 use exb_fate::Fate;
 use exb_model::memory::NoMemory;
 use exb_model::setup::Timed;
 use exb_nets::wires::NetSetup;
 use exb_schedule::{Arrival, World, WorldFault};
-use exb_wiring::laws::{bridges_handle, deliveries_end_soon, opened_nets_run};
+use exb_wiring::laws::{bridges_handle, deliveries_end_soon, opened_nets_run, seconds_pass};
 use std::alloc::Global;
 use std::collections::VecDeque;
 
@@ -47,6 +47,18 @@ fn open_all(nodes: &mut Vec<Node>) -> Result<(), WorldFault>
 {
     for node in nodes.iter_mut() {
         open_one(node)?;
+    }
+    Ok(())
+}
+
+/// Seconds pass at each bridge.
+fn pass_all(nodes: &mut Vec<Node>, seconds: u32) -> Result<(), WorldFault>
+    requires can { All (λ x. Can (tree_of (network_of x.world)) (world_of (network_of x.world)) (Tick seconds)) nodes.old.items }
+    ensures ok { OnOk result (AreEach (λ b x y. HasPassed seconds (network_of x.world) (network_of y.world) x.ends.items y.ends.items) nodes.old.items nodes.new.items) }
+    ensures fates { OnOk result (AreEach (λ b x y. left (fate_in y.world) ≤ left (fate_in x.world)) nodes.old.items nodes.new.items) }
+{
+    for node in nodes.iter_mut() {
+        let_pass(node, seconds)?;
     }
     Ok(())
 }
@@ -185,6 +197,32 @@ impl Net {
             return Err(WorldFault::Failed);
         }
         match open_all(&mut self.nodes) {
+            Ok(()) => Ok(()),
+            Err(_) => {
+                self.failed = true;
+                Err(WorldFault::Memory)
+            }
+        }
+    }
+
+    /// Seconds pass at all bridges, if there are any.
+    pub fn tick(&mut self, seconds: u32) -> Result<(), WorldFault>
+        requires opened { IsOpen self.old }
+        requires can { (seconds == 0) ≡ false → All (λ x. Can (tree_of (network_of x.world)) (world_of (network_of x.world)) (Tick seconds)) self.old.nodes.items }
+        ensures ok { OnOk result ((n : Wired) (s told : Dones) → IsPlaying n s told self.old → Passes n seconds s told self.new) }
+        ensures failed { (result ≡ Err WorldFault.Failed) ↔ (self.old.failed ≡ true) }
+        ensures memory { OnErr result (self.new.failed ≡ true) }
+        ensures came { OnOk result (self.new.came ≡ self.old.came) }
+        ensures fates { OnOk result (AreEach (λ b x y. left (fate_in y.world) ≤ left (fate_in x.world)) self.old.nodes.items self.new.nodes.items) }
+    {
+        seconds_pass();
+        if self.failed {
+            return Err(WorldFault::Failed);
+        }
+        if seconds == 0 {
+            return Ok(());
+        }
+        match pass_all(&mut self.nodes, seconds) {
             Ok(()) => Ok(()),
             Err(_) => {
                 self.failed = true;

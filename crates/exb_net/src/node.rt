@@ -3,7 +3,7 @@ ghost use Rattle.std.specs.Prelude.{All, ◌≡◌, ◌∷◌, [], ◌+◌, ◌<
 ghost use Rattle.exb_model.specs.Setup.{IsValid, limits_of, shape_of};
 ghost use Rattle.exb_model.specs.Tree.{external_ports};
 ghost use Rattle.exb_machine.specs.Allowing.{Can};
-ghost use Rattle.exb_machine.specs.Worlds.{Arrive, Order};
+ghost use Rattle.exb_machine.specs.Worlds.{Arrive, Order, Tick};
 ghost use Rattle.exb_resting.specs.Motion.Kept.{HasVid};
 ghost use Rattle.exb_resting.specs.Rest.Settles.{beginning};
 ghost use Rattle.exb_network.specs.Networks.{bounds_of, tree_of, world_of, IsQuiet};
@@ -11,7 +11,7 @@ ghost use Rattle.exb_schedule.specs.Playing.{arrived};
 ghost use Rattle.exb_schedule.specs.Segments.{IsPlayedOut};
 ghost use Rattle.exb_schedule.specs.Worlds.{fate_in, network_of};
 ghost use Rattle.exb_net.specs.Ends.{ends_over, next_in, with_next};
-ghost use Rattle.exb_net.specs.Nodes.{HasDone, HasEntered, HasForgotten, come_as};
+ghost use Rattle.exb_net.specs.Nodes.{HasDone, HasEntered, HasForgotten, HasPassed, come_as};
 
 use crate::crossing::{Crossing, send};
 use crate::ends::{WiredEnd, ends_of, next_at, set_next};
@@ -19,9 +19,10 @@ use exb_fate::Fate;
 use exb_model::memory::NoMemory;
 use exb_model::setup::{Setup, Timed};
 use exb_nets::wires::Wire;
-use exb_schedule::{Arrival, World, WorldFault, eager};
+use exb_schedule::{Arrival, Step, World, WorldFault, eager};
 use std::alloc::Global;
 use std::collections::VecDeque;
+use std::marker::PhantomData;
 use std::slice;
 
 /// A bridge of a net: its world, and its wired ports in port order.
@@ -29,6 +30,8 @@ use std::slice;
 pub struct Node {
     pub world: World,
     pub ends: Vec<WiredEnd>,
+    /// Names the types of a step, for functions that make one.
+    steps: PhantomData<Step<'static>>,
 }
 
 impl Node {
@@ -52,7 +55,11 @@ impl Node {
     {
         let world = World::new(alloc, setup, fate, false)?;
         match ends_of(alloc, wires, bridge, world.tree()) {
-            Ok(ends) => Ok(Node { world, ends }),
+            Ok(ends) => Ok(Node {
+                world,
+                ends,
+                steps: PhantomData,
+            }),
             Err(_) => {
                 // By a call, since a block's end is far longer to prove where it lets a world go.
                 drop(world);
@@ -83,6 +90,15 @@ pub(crate) fn open_one(node: &mut Node) -> Result<(), WorldFault>
     ensures fate { left (fate_in node.new.world) ≤ left (fate_in node.old.world) }
 {
     eager(&mut node.world, 0, &[], &[])
+}
+
+/// Seconds pass at a bridge.
+pub(crate) fn let_pass(node: &mut Node, seconds: u32) -> Result<(), WorldFault>
+    requires { Can (tree_of (network_of node.old.world)) (world_of (network_of node.old.world)) (Tick seconds) }
+    ensures ok { OnOk result (HasPassed seconds (network_of node.old.world) (network_of node.new.world) node.old.ends.items node.new.ends.items) }
+    ensures fate { left (fate_in node.new.world) ≤ left (fate_in node.old.world) }
+{
+    node.world.step(Step::Tick { seconds })
 }
 
 /// A bridge forgets what was told and has left.

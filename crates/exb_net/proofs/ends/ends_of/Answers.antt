@@ -1,4 +1,4 @@
-use Rattle.std.proofs.Common.{◌≡◌, ◌∙◌, ◌++◌, ℕ, cond, List, [], sym, ap, arith}
+use Rattle.std.proofs.Common.{◌≡◌, ◌∙◌, ◌++◌, ℕ, cond, List, [], ap, arith}
 use Rattle.exb_model.specs.Tree.{is_external}
 use Rattle.exb_nets.specs.Nets.{far_end}
 use Rattle.exb_net.specs.declared.ends.WiredEnd.{WiredEnd}

@@ -1,6 +1,6 @@
-use Rattle.std.proofs.Common.{◌≡◌, ◌∙◌, ◌+◌, Some, Option, drop, sym, ap}
+use Rattle.std.proofs.Common.{◌∙◌, ◌+◌, Option, drop, sym, ap}
 use Rattle.exb_nets.specs.declared.wires.End.{End}
-use Rattle.exb_nets.specs.Nets.{across, far_end, first_or}
+use Rattle.exb_nets.specs.Nets.{far_end, first_or}
 use Rattle.exb_net.proofs.Wired.{far_next}
 use Rattle.exb_net.proofs.ends.far_end.Goals as goal
 

@@ -1,4 +1,4 @@
-use Rattle.std.proofs.Common.{◌≡◌, ◌∙◌, ◌<◌, length, set, ap, sym, arith}
+use Rattle.std.proofs.Common.{◌∙◌, ◌<◌, length, set, ap, sym, arith}
 use Rattle.std.proofs.lemmas.List.Edits.{map_over_more}
 use Rattle.exb_net.specs.declared.ends.WiredEnd.{WiredEnd}
 use Rattle.exb_net.specs.Ends.{with_next}

@@ -1,4 +1,4 @@
-use Rattle.std.proofs.Common.{◌∙◌, List, ap}
+use Rattle.std.proofs.Common.{◌∙◌, ap}
 use Rattle.exb_schedule.specs.Playing.{arrived}
 use Rattle.exb_schedule.specs.Worlds.{network_of}
 use Rattle.exb_net.proofs.Entering.{entered_so, when_ok}
