@@ -4,9 +4,10 @@ import sys
 import unittest
 
 TOP = os.path.dirname(os.path.dirname(os.path.dirname(os.path.abspath(__file__))))
-sys.path.insert(0, os.path.join(TOP, "crates", "exb_cases"))
+sys.path[:0] = [os.path.join(TOP, "crates", "exb_cases"), os.path.dirname(os.path.abspath(__file__))]
 
 import bridge  # noqa: E402
+import campuses_told as campuses  # noqa: E402
 import nets  # noqa: E402
 
 TOPOLOGY = '[bridge]\nports = 2\n[[extender]]\nnumber = 1\non = "b1"\nports = 1\n[captures]\n"x1.1" = "%s"\n'
@@ -40,6 +41,17 @@ class Nets(unittest.TestCase):
         self.assertEqual(files["a-x1.1.pcap"], capture((101, BACK)))
         self.assertEqual(files["a-journal.txt"], b"up x1.1\nsettled\nrelay x1.1 1\nsettled\ntick 1\nrelay b2 1\nsettled\n")
         self.assertEqual(files["b-journal.txt"], b"up x1.1\nsettled\nrelay b2 1\nsettled\ntick 1\nrelay x1.1 1\nsettled\n")
+
+    def test_two_campuses_and_a_core(self):
+        """What the plain net comes to is what is told, and what stands in the folder."""
+        files, summary = campuses.played()
+        given, wanted = campuses.wanted()
+        self.assertEqual({name: data for name, data in files.items() if not name.endswith("counters.txt")}, wanted)
+        self.assertEqual(summary, "arrivals 21 relayed 21 ignored 0 left 30 commits 6 refusals 0")
+        for folder, those in ((campuses.FOLDER, given), (os.path.join(campuses.FOLDER, "expected"), wanted)):
+            for name, data in those.items():
+                with open(os.path.join(folder, name), "rb") as file:
+                    self.assertEqual(file.read(), data, name)
 
     def test_random_nets(self):
         """Each bridge alone does the same (which `run` asserts), and a net of one bridge is that bridge."""
