@@ -14,10 +14,11 @@ import glob
 import os
 import re
 import sys
+import tempfile
 import time
 
 PARTS = r"(\.(Lts|Tie|Proof|Code|Goals|Given|Key|Kinds|TheLaws|Met|Statement|Mir)\b.*)?(\.decls)?\.oantt$"
-RUNNING = "/tmp/rattle-logic-built-locked-*"
+RUNNING = os.path.join(tempfile.gettempdir(), "rattle-logic-built-locked-*")
 PAUSE = 2
 
 
@@ -104,7 +105,9 @@ def watched(file):
 
 def main():
     words = sys.argv[1:]
-    if len(words) == 2 and words[0] == "--watch":
+    if words in (["--help"], ["-h"]):
+        print(__doc__.strip())
+    elif len(words) == 2 and words[0] == "--watch":
         watch(words[1])
     elif len(words) in (1, 2) and os.path.isfile(words[0]):
         for crate, checks in sorted(watched(words[0]).items(), key=lambda it: -max(files[-1][0] for files in it[1])):
