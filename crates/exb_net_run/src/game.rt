@@ -1,7 +1,7 @@
 //! A net under way: its bridges, what is written of them, and what is counted.
 use crate::desk::{Desk, Room, add, finish, note};
 use exb_inputs::Fault;
-use exb_merge::{Agenda, Came, Due, Next};
+use exb_merge::{Agenda, Came, NetNext, Next};
 use exb_net::Net;
 use exb_net_file::NetRest;
 use exb_net_inputs::of_member;
@@ -46,7 +46,7 @@ fn next_due<S: Shelf>(
     piece: &mut [u8],
     rests: &[NetRest],
     agenda: &mut Agenda<'_>,
-) -> Result<Option<Due>, Fault> {
+) -> Result<Option<NetNext>, Fault> {
     match agenda.next(alloc, shelf, piece) {
         Ok(due) => Ok(due),
         Err(failure) => {
@@ -57,7 +57,7 @@ fn next_due<S: Shelf>(
 }
 
 /// Gives what comes to its bridge, and plays what follows.
-fn give(net: &mut Net, rests: &[NetRest], due: Due) -> Result<(), WorldFault> {
+fn give(net: &mut Net, rests: &[NetRest], due: NetNext) -> Result<(), WorldFault> {
     let bridge = due.bridge;
     match due.next {
         Next::Record(came) => net.arrive(bridge, &arrival(came)),
@@ -116,7 +116,7 @@ impl NetGame {
         shelf: &mut S,
         rests: &[NetRest],
         seconds: u32,
-        due: Due,
+        due: NetNext,
     ) -> Result<(), Fault> {
         if self.net.tick(seconds).is_err() {
             return Err(Fault::Memory);

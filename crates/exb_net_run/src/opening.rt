@@ -2,7 +2,7 @@
 use crate::desk::Desk;
 use exb_fate::Fate;
 use exb_inputs::{Checked, Fault, open_all};
-use exb_merge::Programme;
+use exb_merge::{Agenda, Programme};
 use exb_model::memory::NoMemory;
 use exb_model::setup::{Setup, Verdict};
 use exb_net_file::{NetParts, NetRest, prefix_of};
@@ -93,37 +93,39 @@ fn start_of_all(checked: &[Vec<Checked>]) -> u64 {
 }
 
 /// Opens the captures of a bridge again, and puts its programme behind those of the bridges before it.
-fn open_programme<'a, S: Shelf>(
+fn open_bridge<'a, S: Shelf>(
     alloc: Global,
     shelf: &mut S,
     piece: &mut [u8],
     rest: &'a NetRest,
     checked: &[Checked],
     start: u64,
-) -> Result<Programme<'a>, Fault> {
-    let names = rest.captures.as_slice();
-    match open_all(alloc, shelf, piece, names, checked) {
-        Ok(captures) => Ok(Programme::new(captures, rest.commands.as_slice(), start)),
+    agenda: &mut Agenda<'a>,
+) -> Result<(), Fault> {
+    match open_all(alloc, shelf, piece, rest.captures.as_slice(), checked) {
+        Ok(captures) => {
+            agenda.add(Programme::new(captures, rest.commands.as_slice(), start))?;
+            Ok(())
+        }
         Err(fault) => Err(of_member(alloc, rest.name.as_str(), fault)),
     }
 }
 
 /// Opens the captures of all bridges again, bridge after bridge.
-pub(crate) fn open_programmes<'a, S: Shelf>(
+pub(crate) fn open_agenda<'a, S: Shelf>(
     alloc: Global,
     shelf: &mut S,
     piece: &mut [u8],
     rests: &'a [NetRest],
     checked: &[Vec<Checked>],
-) -> Result<Vec<Programme<'a>>, Fault> {
+) -> Result<Agenda<'a>, Fault> {
     let start = start_of_all(checked);
-    let mut programmes = Vec::new(alloc);
+    let mut agenda = Agenda::new(alloc);
     for bridge in 0..rests.len() {
         let captures = checked[bridge].as_slice();
-        let programme = open_programme(alloc, shelf, piece, &rests[bridge], captures, start)?;
-        programmes.push(programme)?;
+        open_bridge(alloc, shelf, piece, &rests[bridge], captures, start, &mut agenda)?;
     }
-    Ok(programmes)
+    Ok(agenda)
 }
 
 /// Arms a fate for the opening of its bridge, and puts it behind those of the bridges before it.

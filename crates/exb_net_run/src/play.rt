@@ -1,7 +1,7 @@
 //! The whole call.
 use crate::desk::{Desk, Room};
 use crate::game::NetGame;
-use crate::opening::{arm_all, open_programmes, set_desks};
+use crate::opening::{arm_all, open_agenda, set_desks};
 use exb_fate::Fate;
 use exb_inputs::{Checked, Fault};
 use exb_merge::Agenda;
@@ -48,8 +48,7 @@ fn play_into<S: Shelf>(
         return Err(Fault::Memory);
     };
     let rests = parts.rests.as_slice();
-    let programmes = open_programmes(alloc, shelf, piece.as_mut_slice(), rests, checked)?;
-    let mut agenda = Agenda::new(alloc, programmes)?;
+    let mut agenda = open_agenda(alloc, shelf, piece.as_mut_slice(), rests, checked)?;
     let Ok(net) = Net::new(alloc, &parts.setup, fates) else {
         return Err(Fault::Memory);
     };
