@@ -41,6 +41,10 @@ pub record AreFronts (plan : Planned) (now : Files) (done : Stepped) : Type 0 wh
   pub counts : List ℕ
   pub each : (j : ℕ) → j < output_count plan → (q : ℕ) × (now (output_name plan j) ≡ Some (take q (text_of done counts (kind_at plan j))))
 
+-- each file of a plan holds the text of its kind
+pub record IsWhole (plan : Planned) (now : Files) (text : Output → List ℕ) : Type 0 where
+  pub each : (j : ℕ) → j < output_count plan → now (output_name plan j) ≡ Some (text (kind_at plan j))
+
 -- what a world tells can be written and counted
 pub record CanNote (plan : Planned) (c : Counted) (n : Network) : Type 0 where
   pub frames : All (λ x. CanBeWritten plan x) n.log.left
