@@ -2,7 +2,8 @@
 use Rattle.std.specs.Prelude.{⊤, ◌≡◌, ◌<◌, ◌⊎◌, ◌==◌, ◌||◌, IsTrue, ℕ, Bool, List}
 use Rattle.exb_nets.specs.declared.wires.Wire.{Wire}
 use Rattle.exb_net_file.specs.declared.members.NetMember.{NetMember}
-use Rattle.exb_net_inputs.specs.Holding.{AreAllMembersGood, HoldsNet}
+use Rattle.exb_net_inputs.specs.Checking.{AreAllMembersGood}
+use Rattle.exb_net_inputs.specs.Holding.{HoldsNet}
 use Rattle.exb_net_inputs.specs.Refusing.{IsNetRefused, NetCaptureFaulty}
 use Rattle.exb_keys.specs.declared.faults.TopoFault.{TopoFault}
 use Rattle.exb_keys.specs.declared.faults.TopoFault.TheVariants as topology

@@ -5,10 +5,14 @@ use Rattle.exb_model.specs.Ports.{below}
 use Rattle.exb_nets.specs.declared.wires.Wire.{Wire}
 use Rattle.exb_net_file.specs.declared.members.NetMember.{NetMember}
 use Rattle.exb_net_file.specs.declared.rows.NetBridge.{NetBridge}
-use Rattle.exb_net_inputs.specs.Holding.{HoldsNet}
-use Rattle.exb_net_inputs.specs.Shelving.{ReadsMemberCapture, ReadsTopologyOf}
+use Rattle.exb_net_inputs.specs.Holding.{HoldsNet, HoldsNetFile}
+use Rattle.exb_net_inputs.specs.Opening.{OpensNet, ReadsMemberCapture, ReadsTopologyOf}
+use Rattle.exb_net_inputs.specs.Reading.{IsOfNet}
+use Rattle.exb_net_file.specs.declared.file.NetFile.{NetFile}
+use Rattle.exb_inputs.specs.declared.fault.Flaw.{Flaw}
+use Rattle.exb_net_run.specs.Answers.{IsNetReady}
 use Rattle.exb_inputs.specs.declared.fault.Fault.{Fault}
-use Rattle.exb_inputs.specs.declared.fault.Fault.TheVariants.{MemberChanged}
+use Rattle.exb_inputs.specs.declared.fault.Fault.TheVariants.{MemberCapture, MemberChanged}
 use Rattle.exb_inputs.specs.Inputs.{is_named, name_of}
 use Rattle.exb_outputs.specs.Plans.{Planned, output_count, output_name}
 use Rattle.exb_shelf.specs.Files.{Files}
@@ -25,6 +29,30 @@ pub record WritesNetOutput (counters : Bool) (ms : List NetMember) (i : Id) : Ty
 -- an id to read the file of a net, a topology of one of its bridges, or a capture of one
 abbrev pub ReadsNet : List ℕ → List NetBridge → List NetMember → Id → Type 0
 ReadsNet name bs ms i = IsReadingOf name i ⊎ ReadsTopologyOf bs i ⊎ ReadsMemberCapture ms i
+
+-- an id to read a topology that the net in the file of this name names
+pub record ReadsNetTopology (name : List ℕ) (file : Files) (i : Id) : Type 0 where
+  pub net : NetFile
+  pub says : HoldsNetFile name file net
+  pub topology : ReadsTopologyOf net.bridges i
+
+-- an id to read a capture of it
+pub record ReadsNetCapture (name : List ℕ) (file : Files) (i : Id) : Type 0 where
+  pub members : List NetMember
+  pub wires : List Wire
+  pub holds : HoldsNet name file members wires
+  pub capture : ReadsMemberCapture members i
+
+-- the files that may be read
+abbrev pub IsNetWanted : List ℕ → Files → Id → Type 0
+IsNetWanted name file i = IsReadingOf name i ⊎ (ReadsNetTopology name file i ⊎ ReadsNetCapture name file i)
+
+-- an id to write an output of it, where it and its captures can be played
+pub record MakesNetOutputOf (name : List ℕ) (counters : Bool) (file : Files) (i : Id) : Type 0 where
+  pub members : List NetMember
+  pub wires : List Wire
+  pub ready : IsNetReady name file members wires
+  pub output : WritesNetOutput counters members i
 
 -- ---- files that are made
 -- the names of the outputs of a plan, in the order in which they are made
@@ -77,8 +105,8 @@ pub record HasCaptureAt (ms : List NetMember) (name : List ℕ) (p : ℕ) : Type
 
 -- ---- the whole
 -- What a net opened whose file, topologies and wires were read, whatever the shelf tells: these, its captures, and its outputs, which were
--- made in order, each once and behind all captures, and all of them where all went well or a capture turned out to be another one, which is
--- that of a port that is named.
+-- made in order, each once and behind all captures, and all of them where all went well or a capture turned out to be another one. A capture
+-- with a fault, or one that is another, is that of a port that is named.
 pub record NetOpens (tells : Type 0) (name : List ℕ) (counters : Bool) (o : Result (String Global) Fault) (file : Files) (given ids : ℕ → Id) : Type 0 where
   pub bridges : List NetBridge
   pub members : List NetMember
@@ -87,4 +115,11 @@ pub record NetOpens (tells : Type 0) (name : List ℕ) (counters : Bool) (o : Re
   pub opened : Opens (λ i. ReadsNet name bridges members i ⊎ WritesNetOutput counters members i) given ids
   pub made : MakesNet counters members o given ids
   pub behind : NetMadeBehind members given ids
+  pub own : (bridge : List ℕ) (p : ℕ) (flaw : Flaw) → IsErrOf o (MemberCapture bridge p flaw) → HasCaptureAt members bridge p
   pub changed : (bridge : List ℕ) (p at : ℕ) → IsErrOf o (MemberChanged bridge p at) → HasCaptureAt members bridge p
+
+-- what was opened where a net is asked for: its file and topologies alone, where it was not taken, or that and more
+abbrev pub NetOpensInOrder : Type 0 → List ℕ → Bool → Result (String Global) Fault → Files → (ℕ → Id) → (ℕ → Id) → Type 0
+NetOpensInOrder tells name counters (Ok line) file given ids = NetOpens tells name counters (Ok line) file given ids
+NetOpensInOrder tells name counters (Err fault) file given ids =
+    (IsOfNet fault × OpensNet tells name file (Err fault) given ids) ⊎ NetOpens tells name counters (Err fault) file given ids
