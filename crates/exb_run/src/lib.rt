@@ -1,5 +1,5 @@
 //! The top call: from the words of the command line over topology, captures, world and schedule to captures,
-//! journal, trace and summary line; to what a topology needs; and to the run of an input that is made. It reaches bridge
+//! journal, trace and summary line; to what a topology needs; to the run of an input that is made; and to that of a net. It reaches bridge
 //! and extenders through `exb_schedule` alone, and files through `exb_shelf`'s traits.
 #![tactic(auto)]
 
@@ -7,6 +7,7 @@ mod audit;
 mod check;
 pub mod laws;
 mod making;
+mod net;
 mod top;
 
 pub use top::run;
