@@ -6,3 +6,5 @@ pub mod Forest
 mod Ending
 mod Soon
 mod Alone
+mod Recorded
+mod Arrived

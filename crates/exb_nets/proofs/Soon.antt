@@ -26,11 +26,11 @@ use Rattle.exb_nets.proofs.Forest.{IsOn, IsRooted, across_on, at_is, forest, non
 use Rattle.exb_nets.proofs.Once.{stays}
 
 -- ---- lists of numbers without repeats
-abbrev NotIn : ℕ → List ℕ → Type 0
+abbrev pub NotIn : ℕ → List ℕ → Type 0
 NotIn x [] = Unit {0}
 NotIn x (y ∷ ys) = (x ≢ y) × NotIn x ys
 
-abbrev Apart : List ℕ → Type 0
+abbrev pub Apart : List ℕ → Type 0
 Apart [] = Unit {0}
 Apart (x ∷ xs) = NotIn x xs × Apart xs
 
@@ -108,7 +108,7 @@ below_apart : (n : ℕ) → Apart (below n)
 unfolding below
 below_apart n = range_apart n 0
 
-ports_apart : (t : Shape) → Apart (external_ports t)
+pub ports_apart : (t : Shape) → Apart (external_ports t)
 unfolding external_ports
 ports_apart t = apart_filter (is_external t) all_ports (below_apart 4160)
 
@@ -117,7 +117,7 @@ abbrev NotAmong : End → List End → Type 0
 NotAmong e [] = Unit {0}
 NotAmong e (f ∷ fs) = (e ≢ f) × NotAmong e fs
 
-abbrev EndsApart : List End → Type 0
+abbrev pub EndsApart : List End → Type 0
 EndsApart [] = Unit {0}
 EndsApart (e ∷ es) = NotAmong e es × EndsApart es
 
@@ -125,17 +125,17 @@ not_among : (e : End) (fs : List End) → ((j : ℕ) → j < length fs → e ≢
 not_among e [] h = tt
 not_among e (f ∷ fs) h = (h 0 (omega arith), not_among e fs (λ j k. h (suc j) (omega (arith, k))))
 
-ends_apart : (es : List End) → AllPairs (λ e f. e ≢ f) es → EndsApart es
+pub ends_apart : (es : List End) → AllPairs (λ e f. e ≢ f) es → EndsApart es
 ends_apart [] h = tt
 ends_apart (e ∷ es) h = (
   not_among e es (λ j k. h 0 (suc j) e (omega arith) (omega (arith, k))),
   ends_apart es (λ i j d k l. h (suc i) (suc j) d (omega (arith, k)) (omega (arith, l))),
 )
 
-abbrev end_at : ℕ → ℕ → End
+abbrev pub end_at : ℕ → ℕ → End
 end_at b q = record { bridge = b; port = q }
 
-same_end : (e f : End) → e.bridge ≡ f.bridge → e.port ≡ f.port → e ≡ f
+pub same_end : (e f : End) → e.bridge ≡ f.bridge → e.port ≡ f.port → e ≡ f
 same_end e f b p = ap (λ (x : ℕ). end_at x e.port) b ∙ ap (λ (x : ℕ). end_at f.bridge x) p
 
 -- where it is no end of these, no wire of them leads from it
@@ -531,10 +531,10 @@ module _ (n : Net) (r : ℕ) (R : IsRooted n.wires r) (ends : EndsApart (ends_of
         ahead = grown_apart r f one (ports_in r) (ports_apart (tree_of (n.input r)));
       }
 
-with_here : (r b : ℕ) (h : History) (hs : Histories) → b ≡ r → with_history r h hs b ≡ h
+pub with_here : (r b : ℕ) (h : History) (hs : Histories) → b ≡ r → with_history r h hs b ≡ h
 with_here r b h hs e = rw (eq-eqb b r e) refl
 
-with_there : (r b : ℕ) (h : History) (hs : Histories) → b ≢ r → with_history r h hs b ≡ hs b
+pub with_there : (r b : ℕ) (h : History) (hs : Histories) → b ≢ r → with_history r h hs b ≡ hs b
 with_there r b h hs e = rw (ne_eqb b r e) refl
 
 pub queues_end_soon : QueuesEndSoon

@@ -1,5 +1,6 @@
 //! What is true of nets.
 ghost use Rattle.exb_nets.specs.Ending.{QueuesEnd, QueuesEndSoon, NetsHaveHistories};
+ghost use Rattle.exb_nets.specs.Held.{CrossingsArrive};
 ghost use Rattle.exb_nets.specs.Laws.{HistoriesAreOne, DuesAreInOrder, NothingGoesBack, OneIsEager};
 
 /// A net has no more than one history by bridge.
@@ -31,6 +32,11 @@ pub fn queues_end_soon()
 /// So a valid net has a history of each of its bridges.
 pub fn nets_have_histories()
     ensures { NetsHaveHistories }
+{}
+
+/// What arrives at a wired port is, in order, what leaves at the far end of its wire.
+pub fn crossings_arrive()
+    ensures { CrossingsArrive }
 {}
 
 /// A net of one bridge has the history of the eager run.

@@ -2,6 +2,7 @@
 ghost use Rattle.exb_wiring.specs.Counting.{CountsGoOn};
 ghost use Rattle.exb_wiring.specs.Delivering.{BridgesHandle, DeliveriesEndSoon, OpenedNetsRun, SecondsPass};
 ghost use Rattle.exb_wiring.specs.Laws.{NetsArePlayed, NetsArePlayedEagerly};
+ghost use Rattle.exb_wiring.specs.UnderWay.{EventsAddOne, OpenedNetsAreNew};
 
 use exb_changing::laws::steps_tell;
 use exb_frame::laws::tag_round_trip;
@@ -79,6 +80,29 @@ pub fn deliveries_end_soon()
     ensures { DeliveriesEndSoon }
 {
     queues_end_soon();
+    tag_round_trip();
+    sends_are_words();
+    sends_leave_as_flat();
+    steps_tell();
+    steps_stay_written();
+}
+
+/// One event adds to each bridge at most one arrival, and at each port at most one frame that leaves; the clocks go on by its seconds.
+pub fn events_add_one()
+    ensures { EventsAddOne }
+{
+    queues_end_soon();
+    tag_round_trip();
+    sends_are_words();
+    sends_leave_as_flat();
+    steps_tell();
+    steps_stay_written();
+}
+
+/// After the opening no second has passed, nothing was given, and nothing has left.
+pub fn opened_nets_are_new()
+    ensures { OpenedNetsAreNew }
+{
     tag_round_trip();
     sends_are_words();
     sends_leave_as_flat();
