@@ -5,9 +5,11 @@
 
 mod audit;
 mod check;
+mod fates;
 pub mod laws;
 mod making;
 mod net;
 mod top;
 
+pub use fates::more_fates;
 pub use top::run;
