@@ -4,3 +4,6 @@ pub mod Outputs
 pub mod Headline
 pub mod Answers
 pub mod Opening
+pub mod Desks
+pub mod UnderWay
+pub mod Shelving

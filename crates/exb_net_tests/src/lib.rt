@@ -5,3 +5,5 @@
 mod compare;
 #[cfg(test)]
 mod files;
+#[cfg(test)]
+mod parts;
