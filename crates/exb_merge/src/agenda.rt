@@ -101,8 +101,8 @@ impl<'a> Agenda<'a> {
         requires few { length (programmes_in self.old) < 256 }
         requires room { (ids : ℕ → Id) × IsAgenda ids self.old }
         ensures agenda { OnOk result ((given ids : ℕ → Id) → AllByRecursion (λ k. (given k).given ≡ true) (all_ids (programmes_in self.old))
-            → AllByRecursion (λ k. (given k).given ≡ false) (ids_in programme.captures) → IsAgenda ids self.old → IsProgramme ids programme → IsAgenda ids self.new) }
-        ensures programmes { OnOk result (programmes_in self.new ≡ programmes_in self.old ++ programme ∷ []) }
+            → AllByRecursion (λ k. (given k).given ≡ false) (ids_in programme.entry.captures) → IsAgenda ids self.old → IsProgramme ids programme.entry → IsAgenda ids self.new) }
+        ensures programmes { OnOk result (programmes_in self.new ≡ programmes_in self.old ++ programme.entry ∷ []) }
     {
         self.turns.reserve(1)?;
         let turn = programme.turn();

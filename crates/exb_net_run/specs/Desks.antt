@@ -1,5 +1,6 @@
 -- What the bridges of a net have written and counted, each under a plan of its own.
-use Rattle.std.specs.Prelude.{◌≡◌, ◌≢◌, ◌<◌, ℕ, List, [], ◌++◌, Some, length, map, take, slice_get, All}
+use Rattle.std.specs.Prelude.{◌≡◌, ◌≢◌, ◌≤◌, ◌<◌, ◌+◌, ◌^◌, ℕ, List, [], ◌++◌, Some, length, map, take, slice_get, All}
+use Rattle.exb_model.specs.Texts.{Counts}
 use Rattle.exb_machine.specs.Stepping.{Stepped}
 use Rattle.exb_network.specs.Networks.{Network}
 use Rattle.exb_network.specs.Worlds.{all_left}
@@ -8,16 +9,18 @@ use Rattle.exb_schedule.specs.Worlds.{network_of}
 use Rattle.exb_shelf.specs.Files.{Files}
 use Rattle.exb_shelf.specs.Shelf.{Id}
 use Rattle.exb_text.specs.declared.output.Output.{Output}
+use Rattle.exb_text.specs.Tallies.{FitsTally, counts_of}
 use Rattle.exb_outputs.specs.Plans.{Planned, kind_at, output_count, output_name}
-use Rattle.exb_outputs.specs.Sent.{HasSent}
+use Rattle.exb_outputs.specs.Sent.{AreCountedAt, HasSent}
 use Rattle.exb_outputs.specs.Writing.{HasTexts, IsReady, pieces_of}
 use Rattle.exb_writers.specs.declared.counted.Counted.{Counted}
-use Rattle.exb_writers.specs.Counts.{CanCount, GoTogether, IsCounted}
+use Rattle.exb_writers.specs.Counts.{AreCountsOf, CanCount, GoTogether, IsCounted, counts_text}
 use Rattle.exb_writers.specs.Leaving.{CanBeWritten}
 use Rattle.exb_writers.specs.Texts.{text_so_far}
 use Rattle.exb_wiring.specs.Playing.{Dones}
 use Rattle.exb_net.specs.declared.node.Node.{Node}
 use Rattle.exb_net_run.specs.declared.desk.Desk.{Desk}
+use Rattle.exb_net_run.specs.Summing.{added}
 
 -- ---- one bridge
 -- what its world tells was told since this was
@@ -96,3 +99,23 @@ pub record CanNoteAll {V : Type 0} {X : V → Type 0} (ds : List Desk) (nodes : 
   pub whole : length ds ≡ length nodes
   pub few : length ds ≤ 16
   pub each : (b : ℕ) (d : Desk) (x : Node V X) → slice_get ds b ≡ Some d → slice_get nodes b ≡ Some x → CanNote d.plan d.counted (network_of x.world)
+
+-- ---- the end
+-- what was counted at each desk
+abbrev pub tallies_in : List Desk → List Counts
+tallies_in ds = map (λ (d : Desk). counts_of d.counted.tally) ds
+
+-- the counters of a desk can be written
+pub record CanEnd (d : Desk) : Type 0 where
+  pub counted : AreCountsOf d.plan d.counted.ports
+  pub sent : AreCountedAt d.plan d.outputs
+
+-- so can all, and the sums over all desks fit 64 bits
+pub record CanEndAll (ds : List Desk) : Type 0 where
+  pub each : (b : ℕ) (d : Desk) → slice_get ds b ≡ Some d → CanEnd d
+  pub fits : FitsTally (added (tallies_in ds))
+  pub few : (added (tallies_in ds)).relayed + (added (tallies_in ds)).ignored < 2 ^ 64
+
+-- the files of all desks hold the texts of what was done, and of what was counted
+pub record AreWhole (ds : List Desk) (now : Files) (dones : Dones) : Type 0 where
+  pub each : (b : ℕ) (d : Desk) → slice_get ds b ≡ Some d → IsWhole d.plan now (text_of (dones b) (counts_text d.plan d.counted.ports d.outputs))

@@ -1,10 +1,10 @@
 -- A net under way: what came to it so far and what is still to come, what its bridges did, and what of that is written.
-use Rattle.std.specs.Prelude.{◌≡◌, ◌≤◌, ◌<◌, ◌+◌, ◌-◌, ◌*◌, ◌^◌, ◌==◌, if◌then◌else◌, true, false, ℕ, List, [], ◌∷◌, ◌++◌, Option, Some, None, length, map, slice_get, sum_by, drop, All}
+use Rattle.std.specs.Prelude.{◌≡◌, ◌≤◌, ◌<◌, ◌+◌, ◌-◌, ◌⊎◌, ◌*◌, ◌^◌, ◌==◌, if◌then◌else◌, true, false, ℕ, List, [], ◌∷◌, ◌++◌, Option, Some, None, length, map, slice_get, sum_by, drop, All}
 use Rattle.std.specs.List.{AllByRecursion}
 use Rattle.exb_model.specs.declared.setup.Timed.{Timed}
 use Rattle.exb_model.specs.Input.{Arrival, Coming, Ordered, Captured, given_by, moment_of, second_of, seconds_after}
 use Rattle.exb_model.specs.Setup.{NamesExternal}
-use Rattle.exb_model.specs.Tree.{external_ports, is_external}
+use Rattle.exb_model.specs.Tree.{IsTree, external_ports, is_external}
 use Rattle.exb_machine.specs.Allowing.{Can}
 use Rattle.exb_machine.specs.Stepping.{Stepped}
 use Rattle.exb_machine.specs.Worlds.{Left, Step, Arrive, Order, Tick}
@@ -26,24 +26,25 @@ use Rattle.exb_merge.specs.Programmes.{IsFrom, what}
 use Rattle.exb_merge.specs.Replays.{HasPort, left_in, number_of, standings}
 use Rattle.exb_merge.specs.Streams.{Stream}
 use Rattle.exb_nets.specs.Nets.{Net, is_wired}
-use Rattle.exb_nets.specs.NetHistory.{Due, dues}
+use Rattle.exb_nets.specs.NetHistory.{Due, Histories, NetEager, dues}
 use Rattle.exb_nets.specs.Order.{AreHere, AreInOrder, taken_after}
 use Rattle.exb_net_file.specs.declared.apart.NetRest.{NetRest}
 use Rattle.exb_wiring.specs.Playing.{AreOpened, Dones, Plays, tree_in}
 use Rattle.exb_net.specs.declared.net.Net.{Net as Bridges}
 use Rattle.exb_net.specs.declared.node.Node.{Node}
-use Rattle.exb_net.specs.Nets.{IsPlaying}
+use Rattle.exb_net.specs.Nets.{IsBegun, IsPlaying, no_dones}
+use Rattle.exb_writers.specs.Texts.{output_text}
 use Rattle.exb_outputs.specs.Apart.{AreApart}
 use Rattle.exb_outputs.specs.Plans.{Planned}
 use Rattle.exb_outputs.specs.Sent.{capture_size}
 use Rattle.exb_net_run.specs.declared.desk.Desk.{Desk}
 use Rattle.exb_net_run.specs.declared.game.NetGame.{NetGame}
-use Rattle.exb_net_run.specs.Desks.{AreAllFronts, AreNoted, ArePlansApart, AreReady, OnlyAllPlanned, plans_in}
+use Rattle.exb_net_run.specs.Desks.{AreAllFronts, AreNoted, ArePlansApart, AreReady, IsWhole, OnlyAllPlanned, plans_in}
+use Rattle.exb_net_run.specs.Summing.{net_summary}
 
--- a net, where its bridges are when they are opened, the files before it is played, and what each bridge writes
+-- a net, the files before it is played, and what each bridge writes
 pub record NetRun : Type 0 where
   pub net : Net
-  pub start : Dones
   pub before : Files
   pub plans : List Planned
 
@@ -101,6 +102,21 @@ pub record GoesOn (n : Net) (ds : List Due) (came : ℕ) (dones : Dones) (last :
   pub few_bytes : 16 * came + sum_by (λ (p : Programme). left_in p.captures) ps ≤ 2 ^ 53
   pub last_is : IsLast start last ps
 
+-- Before anything is taken: all of the commands are left, from one start, and each capture stands at its first record.
+pub record BeginsAt (n : Net) (b start : ℕ) (p : Programme) : Type 0 where
+  pub start_is : p.start ≡ start
+  pub given : (n.input b).commands ≡ map given_by p.commands.now
+  pub names : All (λ c. NamesExternal (tree_in n b) c.command) p.commands.now
+  pub free : (q : ℕ) → HasPort q (standings p.captures) → (is_external (tree_in n b) q ≡ true) × (is_wired n.wires b q ≡ false)
+  pub taken : p.taken ≡ 0
+  pub next : (q : ℕ) → number_of (standings p.captures) q ≡ 1
+
+pub record Begins (n : Net) (ps : List Programme) : Type 0 where
+  pub count : length ps ≡ n.count
+  pub start : ℕ
+  pub each : (b : ℕ) (p : Programme) → slice_get ps b ≡ Some p → BeginsAt n b start p
+  pub few_bytes : sum_by (λ (p : Programme). left_in p.captures) ps ≤ 2 ^ 53
+
 -- the fate of each bridge, with the letters of the commands that are left
 pub record IsWithin {V : Type 0} {X : V → Type 0} (nodes : List (Node V X)) (ps : List Programme) : Type 0 where
   pub each : (b : ℕ) (x : Node V X) (p : Programme) → slice_get nodes b ≡ Some x → slice_get ps b ≡ Some p → left (fate_in x.world) + letters_in (drop p.taken p.commands.now) < 2 ^ 57
@@ -117,20 +133,25 @@ pub record ReadsOthers (plans : List Planned) (ids : ℕ → Id) (ps : List Prog
   pub each : (b : ℕ) (p : Planned) → slice_get plans b ≡ Some p → AreApart p ids (all_ids ps)
 
 -- ---- between two events
--- The bridges did what follows when these came, and all of that is noted at their desks.
-pub record IsAt {V : Type 0} {X : V → Type 0} (tells : Type 0) (r : NetRun) (now : Files) (ids : ℕ → Id) (ds : List Due) (dones : Dones) (g : NetGame V X) : Type 0 where
-  pub opened : AreOpened r.net r.start
-  pub plays : Plays r.net ds r.start dones
-  pub playing : IsPlaying r.net dones dones g.net
-  pub ready : AreReady ids g.desks.items
-  pub noted : AreNoted tells now g.desks.items dones
-  pub plans : plans_in g.desks.items ≡ r.plans
+-- The desks are those of the plans, of which no two have a file of one name; each can be written; and no other file has changed.
+pub record AreDesks (tells : Type 0) (r : NetRun) (now : Files) (ids : ℕ → Id) (desks : List Desk) : Type 0 where
+  pub ready : AreReady ids desks
+  pub plans : plans_in desks ≡ r.plans
   pub apart : ArePlansApart r.plans
   pub whole : length r.plans ≡ r.net.count
   pub bridges : r.net.count ≤ 16
-  pub trees : (b : ℕ) (p : Planned) → slice_get r.plans b ≡ Some p → p.tree ≡ tree_in r.net b
+  pub each : (b : ℕ) (p : Planned) → slice_get r.plans b ≡ Some p → (p.tree ≡ tree_in r.net b) × (p.options.trace ≡ false) × IsTree p.tree
   pub ports : sum_by (λ (p : Planned). length (external_ports p.tree)) r.plans ≤ 4160
   pub files : tells → OnlyAllPlanned r.plans r.before now
+
+-- The bridges did what follows when these came, and all of that is noted at their desks.
+pub record IsAt {V : Type 0} {X : V → Type 0} (tells : Type 0) (r : NetRun) (now : Files) (ids : ℕ → Id) (ds : List Due) (dones : Dones) (g : NetGame V X) : Type 0 where
+  pub start : Dones
+  pub opened : AreOpened r.net start
+  pub plays : Plays r.net ds start dones
+  pub playing : IsPlaying r.net dones dones g.net
+  pub desks : AreDesks tells r now ids g.desks.items
+  pub noted : AreNoted tells now g.desks.items dones
 
 -- And the programmes of all bridges go on.
 pub record IsGoing {V : Type 0} {X : V → Type 0} (tells : Type 0) (r : NetRun) (now : Files) (ids : ℕ → Id) (last : Option ℕ) (g : NetGame V X) (ps : List Programme) : Type 0 where
@@ -147,19 +168,48 @@ pub record AreOfRests (rests : List NetRest) (ps : List Programme) : Type 0 wher
   pub whole : length rests ≡ length ps
   pub each : (b : ℕ) (x : NetRest) (p : Programme) → slice_get rests b ≡ Some x → slice_get ps b ≡ Some p → p.commands.now ≡ x.commands
 
+-- ---- before
+-- The bridges aren't opened, and their files hold what they begin with; the programmes have all that comes.
+pub record CanBegin {V : Type 0} {X : V → Type 0} (tells : Type 0) (r : NetRun) (now : Files) (ids : ℕ → Id) (g : NetGame V X) (ps : List Programme) : Type 0 where
+  pub begun : IsBegun r.net g.net
+  pub desks : AreDesks tells r now ids g.desks.items
+  pub noted : AreNoted tells now g.desks.items (no_dones r.net)
+  pub begins : Begins r.net ps
+  pub budget : IsWithin g.net.nodes.items ps
+  pub apart : ReadsOthers r.plans ids ps
+  pub leads : tells → LeadsOn r.net [] now ids ps
+
 -- ---- where it ended early
--- Each file of each bridge holds a front of the text of what it did when some of what comes had come, or more of it.
-pub record IsCutOff (r : NetRun) (now : Files) : Type 0 where
+-- Each file of each bridge holds a front of what it begins with.
+pub record IsUnopened (r : NetRun) (now : Files) : Type 0 where
+  pub others : OnlyAllPlanned r.plans r.before now
+  pub fronts : AreAllFronts r.plans now (no_dones r.net)
+
+-- Each holds a front of the text of what its bridge did when some of what comes had come.
+pub record IsCutAmid (r : NetRun) (now : Files) : Type 0 where
   pub ds : List Due
   pub rest : List Due
   pub dues_are : dues r.net ≡ ds ++ rest
   pub here : AreHere r.net ds
   pub order : AreInOrder (λ b. 0) ds
+  pub start : Dones
   pub dones : Dones
-  pub opened : AreOpened r.net r.start
-  pub plays : Plays r.net ds r.start dones
+  pub opened : AreOpened r.net start
+  pub plays : Plays r.net ds start dones
   pub others : OnlyAllPlanned r.plans r.before now
   pub fronts : AreAllFronts r.plans now dones
+
+abbrev pub IsCutOff : NetRun → Files → Type 0
+IsCutOff r now = IsUnopened r now ⊎ IsCutAmid r now
+
+-- ---- the whole
+-- The files of each bridge hold the texts of its history in the net's eager run, no other file has changed, and this line sums it up.
+pub record HasWritten (r : NetRun) (now : Files) (line : List ℕ) : Type 0 where
+  pub histories : Histories
+  pub eager : NetEager r.net histories
+  pub whole : (b : ℕ) (p : Planned) → slice_get r.plans b ≡ Some p → IsWhole p now (output_text (r.net.input b) (histories b) [])
+  pub others : OnlyAllPlanned r.plans r.before now
+  pub says : line ≡ net_summary r.net histories
 
 -- All came, and all is noted; the bytes of each capture are few enough that all are counted.
 pub record IsAllTold {V : Type 0} {X : V → Type 0} (tells : Type 0) (r : NetRun) (now : Files) (ids : ℕ → Id) (g : NetGame V X) : Type 0 where

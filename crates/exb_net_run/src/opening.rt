@@ -1,7 +1,7 @@
 //! What is made before the first event: the desk of each bridge, its captures opened again, and its fate.
 use crate::desk::Desk;
 use exb_fate::Fate;
-use exb_inputs::{Checked, Fault, open_all};
+use exb_inputs::{Checked, Fault, earliest_in, open_all};
 use exb_merge::{Agenda, Programme};
 use exb_model::memory::NoMemory;
 use exb_model::setup::{Setup, Verdict};
@@ -12,9 +12,6 @@ use exb_shelf::Shelf;
 use exb_words::Options;
 use exb_writers::Counted;
 use std::alloc::Global;
-
-/// A second in nanoseconds.
-const NANOSECONDS: u64 = 1_000_000_000;
 
 /// What a bridge of this name writes.
 fn plan_of(alloc: Global, setup: &Setup, name: &str, counters: bool) -> Result<Plan, NoMemory> {
@@ -64,30 +61,11 @@ pub(crate) fn set_desks<S: Shelf>(
     Ok(desks)
 }
 
-/// The second of the first record of a capture, and the least of those before it.
-fn earlier(least: Option<u64>, told: Option<u64>) -> Option<u64> {
-    match (least, told) {
-        (None, None) => None,
-        (Some(least), None) => Some(least),
-        (None, Some(first)) => Some(first / NANOSECONDS),
-        (Some(least), Some(first)) => Some(least.min(first / NANOSECONDS)),
-    }
-}
-
-/// The same of all captures of a bridge.
-fn earlier_of_all(least: Option<u64>, checked: &[Checked]) -> Option<u64> {
-    let mut least = least;
-    for one in checked {
-        least = earlier(least, one.told.first);
-    }
-    least
-}
-
 /// The second from which commands count: the least whole second of any first record of any bridge, or 0.
 fn start_of_all(checked: &[Vec<Checked>]) -> u64 {
     let mut least = None;
     for captures in checked {
-        least = earlier_of_all(least, captures.as_slice());
+        least = earliest_in(least, captures.as_slice());
     }
     least.unwrap_or(0)
 }
