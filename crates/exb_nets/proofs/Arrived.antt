@@ -52,21 +52,21 @@ events_tick seconds h q = elim (cases_Bool (seconds == 0)) [
 pub named_events : (h : History) (q : ℕ) → named_at h q ≡ length (events_at h q)
 unfolding named_at events_at
 named_events [] q = refl
-named_events (e ∷ h) q = by_kind e
+named_events (e ∷ h) q = by_kind e (named_events h q)
   where
-    plus : (c : Bool) (x : Event) → cond c (suc (named_at h q)) (named_at h q) ≡ length (events_at h q ++ cond c (x ∷ []) [])
-    plus true x = let was = named_events h q in let more = length-append (events_at h q) (x ∷ []) in omega (arith, was, more)
-    plus false x = named_events h q ∙ ap (λ (xs : List Event). length xs) (sym (append-nil (events_at h q)))
+    plus : (c : Bool) (x : Event) → named_at h q ≡ length (events_at h q) → cond c (suc (named_at h q)) (named_at h q) ≡ length (events_at h q ++ cond c (x ∷ []) [])
+    plus true x was = let more = length-append (events_at h q) (x ∷ []) in omega (arith, was, more)
+    plus false x was = was ∙ ap (λ (xs : List Event). length xs) (sym (append-nil (events_at h q)))
 
-    by_kind : (e : Event) → named_at (e ∷ h) q ≡ length (events_at h q ++ cond (is_at_port q e) (e ∷ []) [])
-    by_kind (event.Relay p n t f) = plus (p == q) (event.Relay p n t f)
-    by_kind (event.Ignored p n) = plus (p == q) (event.Ignored p n)
-    by_kind (event.Tick seconds) = plus false (event.Tick seconds)
-    by_kind (event.Commit n) = plus false (event.Commit n)
-    by_kind (event.Refuse n x) = plus false (event.Refuse n x)
-    by_kind (event.Up p) = plus false (event.Up p)
-    by_kind (event.NoUp p x) = plus false (event.NoUp p x)
-    by_kind event.Settled = plus false event.Settled
+    by_kind : (e : Event) → named_at h q ≡ length (events_at h q) → named_at (e ∷ h) q ≡ length (events_at h q ++ cond (is_at_port q e) (e ∷ []) [])
+    by_kind (event.Relay p n t f) was = plus (p == q) (event.Relay p n t f) was
+    by_kind (event.Ignored p n) was = plus (p == q) (event.Ignored p n) was
+    by_kind (event.Tick seconds) was = plus false (event.Tick seconds) was
+    by_kind (event.Commit n) was = plus false (event.Commit n) was
+    by_kind (event.Refuse n x) was = plus false (event.Refuse n x) was
+    by_kind (event.Up p) was = plus false (event.Up p) was
+    by_kind (event.NoUp p x) was = plus false (event.NoUp p x) was
+    by_kind event.Settled was = plus false event.Settled was
 
 -- the event of an arrival is at its port alone
 pub at_port : (b : Bridge) (a : Arrival) (q : ℕ) → is_at_port q (arrival_event b a) ≡ (a.port == q)
@@ -185,7 +185,7 @@ not_missing test p (suc n) a is low high none = elim (cases_eq p a) [
 
 below_missing : (test : ℕ → Bool) (p n : ℕ) → test p ≡ true → p < n → NotIn p (filter test (below n)) → ⊥
 unfolding below
-below_missing test p n is low none = not_missing test p n 0 is (omega arith) low none
+below_missing test p n is low none = not_missing test p n 0 is (omega arith) (omega (arith, low)) none
 
 external_there : (t : Shape) (p : ℕ) → is_external t p ≡ true → p < 4160 → NotIn p (external_ports t) → ⊥
 unfolding external_ports
@@ -261,12 +261,12 @@ module _ (n : Net) (net : IsNet n) (c q : ℕ) (e : End) (wired : far_end n.wire
       other : (o : Option End) → far_end n.wires b p ≡ o → (end_at b p ≡ e → ⊥) → queued c q (crosses o xs) ≡ []
       other None is not = refl
       other (Some f) is not = elim (cases_Bool (f.bridge == c && f.port == q)) [
-        | inr no ↦ none_queued c q f xs no
-        | inl yes ↦
-            let parts = and_parts (f.bridge == c) (f.port == q) yes in
+        | inr away ↦ none_queued c q f xs away
+        | inl here ↦
+            let parts = and_parts (f.bridge == c) (f.port == q) here in
             let there : far_end n.wires f.bridge f.port ≡ Some (end_at b p) = far_back n.wires ends b p f is in
-            let here : far_end n.wires c q ≡ Some (end_at b p) = ap (λ (z : ℕ). far_end n.wires z q) (sym (eqb-true f.bridge c parts.0)) ∙ (ap (far_end n.wires f.bridge) (sym (eqb-true f.port q parts.1)) ∙ there) in
-            absurd (not (some_same (sym here ∙ wired)))
+            let back_here : far_end n.wires c q ≡ Some (end_at b p) = ap (λ (z : ℕ). far_end n.wires z q) (sym (eqb-true f.bridge c parts.0)) ∙ (ap (far_end n.wires f.bridge) (sym (eqb-true f.port q parts.1)) ∙ there) in
+            absurd (not (some_same (sym back_here ∙ wired)))
       ]
 
   from_ports : (b : ℕ) (f : ℕ → List Sent) (ps : List ℕ) → queued c q (flat_map (λ (p : ℕ). crosses (far_end n.wires b p) (f p)) ps) ≡ flat_map (λ (p : ℕ). cond (b == e.bridge) (cond (p == e.port) (f p) []) []) ps
@@ -299,7 +299,7 @@ module _ (n : Net) (net : IsNet n) (c q : ℕ) (e : End) (wired : far_end n.wire
 
   -- what leaves grows by what is on its way more
   leaves_more : (b : ℕ) (ev : Event) (hs : Histories) → leaves_at n (with_history b (event.Settled ∷ ev ∷ hs b) hs) e ≡ leaves_at n hs e ++ queued c q (grown_by n b (hs b) ev)
-  unfolding flat
+  unfolding flat sends
   leaves_more b ev hs =
       let new : History = event.Settled ∷ ev ∷ hs b in
       let i : Basis = basis_in n e.bridge in
@@ -369,9 +369,10 @@ module _ (n : Net) (net : IsNet n) (c q : ℕ) (e : End) (wired : far_end n.wire
           (ap (λ (z : ℕ). record { port = z; index = suc (named_at (hs x.bridge) x.port); moment = x.moment; bytes = x.bytes }) port
           ∙ ap (λ (z : ℕ). record { port = q; index = z; moment = x.moment; bytes = x.bytes }) index)
           (is_event_of b arrival) in
+      let is_first : (x.bridge == c && x.port == q) ≡ true = rw (eq-eqb x.bridge c bridge, eq-eqb x.port q port) refl in
       let first : leaves_at n hs e ≡ (a.come ++ sent ∷ []) ++ queued c q xs =
       a.rest
-      ∙ (ap (λ (z : Bool). a.come ++ cond z (sent ∷ queued c q xs) (queued c q xs)) (rw (eq-eqb x.bridge c bridge, eq-eqb x.port q port) refl)
+      ∙ (ap (λ (z : Bool). a.come ++ cond z (sent ∷ queued c q xs) (queued c q xs)) is_first
       ∙ sym (append_assoc a.come (sent ∷ []) (queued c q xs))) in
       record {
         come = a.come ++ sent ∷ [];
@@ -393,8 +394,8 @@ module _ (n : Net) (net : IsNet n) (c q : ℕ) (e : End) (wired : far_end n.wire
   pub delivered_on : (hs : Histories) (queue : List Crossing) → HaveArrived (record { histories = hs; queue = queue }) → HaveArrived (delivered n hs queue)
   delivered_on hs [] a = a
   delivered_on hs (x ∷ xs) a = elim (cases_Bool (x.bridge == c && x.port == q)) [
-    | inl yes ↦ (let parts = and_parts (x.bridge == c) (x.port == q) yes in comes_here x xs hs (eqb-true x.bridge c parts.0) (eqb-true x.port q parts.1) a)
-    | inr no ↦ comes_there x xs hs no a
+    | inl here ↦ (let parts = and_parts (x.bridge == c) (x.port == q) here in comes_here x xs hs (eqb-true x.bridge c parts.0) (eqb-true x.port q parts.1) a)
+    | inr away ↦ comes_there x xs hs away a
   ]
 
   times_on : (k : ℕ) (s : State) → HaveArrived s → HaveArrived (delivered_times n k s)

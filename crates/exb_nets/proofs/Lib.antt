@@ -8,3 +8,4 @@ mod Soon
 mod Alone
 mod Recorded
 mod Arrived
+mod Growing

@@ -1,11 +1,16 @@
 //! What is true of nets.
 ghost use Rattle.exb_nets.specs.Ending.{QueuesEnd, QueuesEndSoon, NetsHaveHistories};
 ghost use Rattle.exb_nets.specs.Held.{CrossingsArrive};
-ghost use Rattle.exb_nets.specs.Laws.{HistoriesAreOne, DuesAreInOrder, NothingGoesBack, OneIsEager};
+ghost use Rattle.exb_nets.specs.Laws.{HistoriesAreOne, HistoriesGoOn, DuesAreInOrder, NothingGoesBack, OneIsEager};
 
 /// A net has no more than one history by bridge.
 pub fn histories_are_one()
     ensures { HistoriesAreOne }
+{}
+
+/// The histories of a front of what comes are fronts of those of more of it.
+pub fn histories_go_on()
+    ensures { HistoriesGoOn }
 {}
 
 /// All that comes does so to bridges of the net, and at each of them the commands come in their order.
@@ -23,7 +28,7 @@ pub fn queues_end()
     ensures { QueuesEnd }
 {}
 
-/// That takes no more deliveries than there are wires, and meanwhile each port has one arrival at most: one wire leads down to each
+/// That takes no more deliveries than there are wires, and meanwhile each bridge has one arrival at most: one wire leads down to each
 /// bridge, so it is reached once.
 pub fn queues_end_soon()
     ensures { QueuesEndSoon }

@@ -9,6 +9,7 @@ use exb_frame::laws::tag_round_trip;
 use exb_machine::laws::steps_stay_written;
 use exb_nets::laws::queues_end_soon;
 use exb_relay::laws::{sends_are_words, sends_leave_as_flat};
+use exb_resting::laws::rest::{runs_are_few, runs_are_under_way};
 
 /// A run of several worlds that opens each, and then gives each event to its bridge and each frame that leaves a wired port to the
 /// bridge at its far end, in the order of their queue until none is left, tells each the history that the net gives it. What has
@@ -103,9 +104,6 @@ pub fn events_add_one()
 pub fn opened_nets_are_new()
     ensures { OpenedNetsAreNew }
 {
-    tag_round_trip();
-    sends_are_words();
-    sends_leave_as_flat();
-    steps_tell();
-    steps_stay_written();
+    runs_are_few();
+    runs_are_under_way();
 }
