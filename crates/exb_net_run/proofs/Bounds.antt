@@ -1,5 +1,5 @@
 -- How much a bridge has told and sent: all of it can be written and counted.
-use Rattle.std.proofs.Common.{◌≡◌, ℕ, zero, suc, ◌+◌, ◌*◌, ◌^◌, ◌<◌, ◌≤◌, ◌++◌, Bool, true, List, [], ◌∷◌, length, All, get_or, filter, refl, ap, sym, subst, ◌∙◌, arith}
+use Rattle.std.proofs.Common.{◌≡◌, ℕ, zero, suc, ◌+◌, ◌*◌, ◌^◌, ◌<◌, ◌≤◌, ◌==◌, ◌++◌, Bool, true, cond, List, [], ◌∷◌, length, All, get_or, filter, refl, ap, sym, subst, ◌∙◌, arith}
 use Rattle.std.specs.Prelude.{sum_by}
 use Rattle.std.proofs.lemmas.List.Sums.{sum_by-cons}
 use Rattle.exb_model.specs.declared.event.Event.{Event}
@@ -37,7 +37,7 @@ pub few-left : (t : Shape) (xs : List Leaving) → All (LeftExternal t) xs → (
 unfolding external_ports
 few-left t xs own few =
     let rows : List ℕ = filter (is_external t) (below 4160) in
-    let once : All (λ x. sum_by (λ q. _) rows ≡ 1) xs = λ k d l. (let x = own k d l in hit_once (is_external t) 4160 (get_or xs k d).port x.low x.port) in
+    let once : All (λ x. sum_by (λ q. cond (x.port == q) 1 0) rows ≡ 1) xs = λ k d l. (let x = own k d l in hit_once (is_external t) 4160 (get_or xs k d).port x.low x.port) in
     let all = length_by_port rows xs once in
     let most = sum-most (λ q. length (left_at q xs)) few rows in
     omega (arith, all, most)
