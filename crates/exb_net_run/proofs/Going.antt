@@ -52,7 +52,7 @@ use Rattle.exb_net_run.proofs.Bounds.{can-note}
 use Rattle.exb_net_run.proofs.Coming.{all-earlier, number-other, number-own, ports-before, second-low, sum-place}
 use Rattle.exb_net_run.proofs.Passing.{here_more, last_more, order_more, plays_more, taken_more}
 use Rattle.exb_net_run.proofs.Noting.{fronts_now, goes-same}
-use Rattle.exb_net_run.proofs.Several.{desk_at, plan_at}
+use Rattle.exb_net_run.proofs.Noted.{desk_at, plan_at}
 use Rattle.exb_net_run.proofs.Steps.{at_it, clock-on, ends, here}
 
 -- ---- what is still to come, while files of plans are written

@@ -1,105 +1,116 @@
--- Desks of several bridges on one shelf: what is done at one of them leaves the others as they are.
-use Rattle.std.proofs.Common.{◌≡◌, ◌≢◌, ℕ, zero, suc, ◌+◌, ◌<◌, ◌≤◌, Bool, true, false, cond, nat_lt, List, [], ◌∷◌, length, map, set, Some, refl, ap, sym, ◌∙◌, subst, arith, inl, inr}
-use mathlib.Core.Path.{fun_ext}
-use Rattle.std.specs.Prelude.{slice_get}
-use Rattle.std.proofs.lemmas.Bool.{cases_eq, cases_lt, lt-ltb, le-ltb}
-use Rattle.std.proofs.lemmas.List.{map-set}
-use Rattle.std.proofs.lemmas.Option.{same_Some, slice_get_within}
+-- Several plans on one shelf: what is made and written under one of them leaves the files and ids of the others as they are.
+use Rattle.std.proofs.Common.{◌≡◌, ◌≢◌, ℕ, zero, suc, ◌<◌, ◌≤◌, ◌++◌, List, [], ◌∷◌, length, map, set, slice_index, true, false, Option, Some, None, refl, ap, sym, ◌∙◌, subst, arith, inl, inr}
+use Rattle.std.specs.Prelude.{slice_get, All, AllPairs}
+use Rattle.std.proofs.lemmas.Bool.{cases_eq, cases_lt}
+use Rattle.std.proofs.lemmas.Option.{slice_get-map, slice_get_within}
 use Rattle.exb_shelf.specs.Files.{Files}
-use Rattle.exb_shelf.specs.Shelf.{Id}
-use Rattle.exb_outputs.specs.Plans.{Planned, output_count, output_name}
-use Rattle.exb_outputs.specs.Shelving.{OnlyWrites}
-use Rattle.exb_outputs.specs.Writing.{IsReady, pieces_of}
-use Rattle.exb_wiring.specs.Playing.{Dones}
-use Rattle.exb_net.proofs.Places.{set_here, set_there}
-use Rattle.exb_net_run.specs.declared.desk.Desk.{Desk}
-use Rattle.exb_net_run.specs.Desks.{AreAllFronts, AreFronts, AreNoted, ArePlansApart, AreReady, IsNoted, OnlyAllPlanned, OnlyWritesAll, plans_in, text_of}
-use Rattle.exb_net_run.proofs.Noting.{fronts_now, goes-same, texts_stay}
+use Rattle.exb_shelf.specs.Shelf.{Id, Opens, writing}
+use Rattle.exb_text.specs.declared.output.Output.{Output}
+use Rattle.exb_text.specs.Names.{file_name}
+use Rattle.exb_net_file.specs.declared.members.NetMember.{NetMember}
+use Rattle.exb_net_file.specs.Sound.{BridgesWriteApart}
+use Rattle.exb_net_file.specs.Words.{is_name}
+use Rattle.exb_outputs.specs.declared.outputs.Outputs.{Outputs}
+use Rattle.exb_outputs.specs.Plans.{OnlyPlanned, Planned, kind_at, output_count, output_name}
+use Rattle.exb_outputs.specs.Writing.{IsReady, ids_of}
+use Rattle.exb_outputs.proofs.ByKind.{kind_is}
+use Rattle.exb_machine.specs.Stepping.{Stepped}
+use Rattle.exb_net_run.specs.Desks.{AreFronts, ArePlansApart, IsOther, OnlyAllPlanned}
+use Rattle.exb_net_run.specs.Nets.{plan_with}
 
--- ---- plans of desks
-pub plan_at : (ds : List Desk) (b : ℕ) (d : Desk) → slice_get ds b ≡ Some d → slice_get (plans_in ds) b ≡ Some d.plan
-plan_at [] b d e = (let z : _ = e in cc)
-plan_at (x ∷ ds) zero d e = ap (λ (y : Desk). Some y.plan) (same_Some x d e)
-plan_at (x ∷ ds) (suc b) d e = plan_at ds b d e
+-- ---- ids
+-- outputs stay ready where their ids stand for what they stood for
+pub ready_kept : (plan : Planned) (given ids : ℕ → Id) (o : Outputs) → ((j : ℕ) → ids j ≡ given j) → IsReady plan given o → IsReady plan ids o
+ready_kept plan given ids o same ready = record { files = ready.files; named = λ j low. same (slice_index (ids_of o) j) ∙ ready.named j low }
 
-pub desk_at : (ds : List Desk) (b : ℕ) (p : Planned) → slice_get (plans_in ds) b ≡ Some p → (d : Desk) × (slice_get ds b ≡ Some d) × (d.plan ≡ p)
-desk_at [] b p e = (let z : _ = e in cc)
-desk_at (x ∷ ds) zero p e = (x, refl, same_Some x.plan p e)
-desk_at (x ∷ ds) (suc b) p e = desk_at ds b p e
+-- and where files were opened since: an id that was given stays
+pub ready_beside : (P : Id → Type 0) (plan : Planned) (given ids : ℕ → Id) (o : Outputs) → Opens P given ids → IsReady plan given o → IsReady plan ids o
+ready_beside P plan given ids o opens ready =
+    record {
+      files = ready.files;
+      named = λ j low. (let is = ready.named j low in opens.kept (slice_index (ids_of o) j) (ap (λ (i : Id). i.given) is) ∙ is);
+    }
 
-pub plans_set : (ds : List Desk) (i : ℕ) (d e : Desk) → slice_get ds i ≡ Some d → e.plan ≡ d.plan → plans_in (set ds i e) ≡ plans_in ds
-plans_set [] i d e is same = refl
-plans_set (x ∷ ds) zero d e is same = ap (λ (p : Planned). p ∷ plans_in ds) (same ∙ ap (λ (y : Desk). y.plan) (sym (same_Some x d is)))
-plans_set (x ∷ ds) (suc i) d e is same = ap (λ (ps : List Planned). x.plan ∷ ps) (plans_set ds i d e is same)
+-- ---- files
+-- no two files of two plans have one name
+abbrev pub WriteApart : Planned → Planned → Type 0
+WriteApart p q = (i j : ℕ) → i < output_count p → j < output_count q → output_name p i ≢ output_name q j
 
--- ---- files of one plan and of another
-module _ (ds : List Desk) (apart : ArePlansApart (plans_in ds)) (i : ℕ) (d : Desk) (here : slice_get ds i ≡ Some d) where
-  -- those of another plan haven't changed
-  pub others_stay : (f g : Files) → ((m : List ℕ) → ((j : ℕ) → j < output_count d.plan → m ≢ output_name d.plan j) → g m ≡ f m) → (b : ℕ) (p : Planned) → slice_get (plans_in ds) b ≡ Some p → b ≢ i →
-      (j : ℕ) → j < output_count p → g (output_name p j) ≡ f (output_name p j)
-  others_stay f g only b p is ne j low = only (output_name p j) (λ k k_low e. apart.each b i p d.plan is (plan_at ds i d here) ne j k low k_low e)
+pub others_stay : (p q : Planned) (old new : Files) → WriteApart p q → OnlyPlanned p old new → (j : ℕ) → j < output_count q → new (output_name q j) ≡ old (output_name q j)
+others_stay p q old new apart only j low = only (output_name q j) (λ i i_low e. apart i j i_low low (sym e))
 
-  -- no file has changed but those of all
-  pub only_all : (f g : Files) → ((m : List ℕ) → ((j : ℕ) → j < output_count d.plan → m ≢ output_name d.plan j) → g m ≡ f m) → OnlyAllPlanned (plans_in ds) f g
-  only_all f g only m other = only m (λ j low. other i d.plan (plan_at ds i d here) j low)
+pub fronts_stay : (q : Planned) (old new : Files) (done : Stepped) → ((j : ℕ) → j < output_count q → new (output_name q j) ≡ old (output_name q j)) → AreFronts q old done → AreFronts q new done
+fronts_stay q old new done same fronts = record { counts = fronts.counts; each = λ j low. (let k = fronts.each j low in (k.0, same j low ∙ k.1)) }
 
-  pub only_one : (tells : Type 0) (f g h : Files) (a b c : ℕ → Id) → OnlyWritesAll tells (plans_in ds) f g a b → OnlyWrites tells d.plan g h b c → OnlyWritesAll tells (plans_in ds) f h a c
-  only_one tells f g h a b c before one = record {
-    others = λ t m other. only_all g h (one.others t) m other ∙ before.others t m other;
-    kept = λ j. one.kept j ∙ before.kept j;
-  }
+-- ---- of all plans
+pub only_of_all : (ps : List Planned) (b : ℕ) (p : Planned) (old new : Files) → slice_get ps b ≡ Some p → OnlyPlanned p old new → OnlyAllPlanned ps old new
+only_of_all ps b p old new is only m away = only m (λ j low. away b p is j low)
 
-pub only_none : (tells : Type 0) (ps : List Planned) (f : Files) (a : ℕ → Id) → OnlyWritesAll tells ps f f a a
-only_none tells ps f a = record { others = λ t m other. refl; kept = λ j. refl }
+pub only_all_same : (ps : List Planned) (file : Files) → OnlyAllPlanned ps file file
+only_all_same ps file m away = refl
 
--- ---- one desk after another
--- another element in one place
-module _ {A : Type 0} (P Q : ℕ → A → Type 0) (xs : List A) (i : ℕ) (x y : A) (is : slice_get xs i ≡ Some x) where
-  pub each_but : ((b : ℕ) (z : A) → slice_get xs b ≡ Some z → P b z) → ((b : ℕ) (z : A) → b ≢ i → slice_get xs b ≡ Some z → P b z → Q b z) → Q i y → (b : ℕ) (z : A) → slice_get (set xs i y) b ≡ Some z → Q b z
-  each_but all keep own b z e = elim (cases_eq b i) [
-    | inl same ↦
-        let low = slice_get_within xs i x is in
-        let there : slice_get (set xs i y) i ≡ Some z = subst (λ (k : ℕ). slice_get (set xs i y) k ≡ Some z) same e in
-        subst (λ (k : ℕ). Q k z) (sym same) (subst (Q i) (same_Some y z (sym (set_here xs i y low) ∙ there)) own)
-    | inr ne ↦ (let was = sym (set_there xs i b y ne) ∙ e in keep b z ne was (all b z was))
+pub only_all_then : (ps : List Planned) (a b c : Files) → OnlyAllPlanned ps a b → OnlyAllPlanned ps b c → OnlyAllPlanned ps a c
+only_all_then ps a b c first rest m away = rest m away ∙ first m away
+
+-- ---- one of a list is another
+module _ {A : Type 0} where
+  set_at : (xs : List A) (b : ℕ) (y : A) → b < length xs → slice_get (set xs b y) b ≡ Some y
+  set_at [] b y low = absurd (omega (arith, low))
+  set_at (x ∷ xs) zero y low = refl
+  set_at (x ∷ xs) (suc b) y low = set_at xs b y (omega (arith, low))
+
+  set_away : (xs : List A) (b c : ℕ) (y : A) → c ≢ b → slice_get (set xs b y) c ≡ slice_get xs c
+  set_away [] b c y other = refl
+  set_away (x ∷ xs) zero zero y other = absurd (other refl)
+  set_away (x ∷ xs) zero (suc c) y other = refl
+  set_away (x ∷ xs) (suc b) zero y other = refl
+  set_away (x ∷ xs) (suc b) (suc c) y other = set_away xs b c y (λ e. other (ap suc e))
+
+  some_is : (x y : A) → Some x ≡ Some y → x ≡ y
+  some_is x y e = cc
+
+  -- what holds of all others, and of it, holds of each
+  pub set_each : (P : ℕ → A → Type 0) (xs : List A) (b : ℕ) (y : A) → b < length xs → P b y → ((c : ℕ) (x : A) → c ≢ b → slice_get xs c ≡ Some x → P c x) → (c : ℕ) (x : A) → slice_get (set xs b y) c ≡ Some x → P c x
+  set_each P xs b y low here others c x is = elim (cases_eq c b) [
+    | inl same ↦ subst (P c) (some_is y x (sym (set_at xs b y low) ∙ (ap (slice_get (set xs b y)) (sym same) ∙ is))) (subst (λ (z : ℕ). P z y) (sym same) here)
+    | inr other ↦ others c x other (sym (set_away xs b c y other) ∙ is)
   ]
 
--- those below a place are of these, and the others of those
-abbrev pub upto : ℕ → Dones → Dones → Dones
-upto k told dones b = cond (nat_lt b k) (dones b) (told b)
+  get_before : (xs : List A) (y : A) (c : ℕ) → c < length xs → slice_get (xs ++ y ∷ []) c ≡ slice_get xs c
+  get_before [] y c low = absurd (omega (arith, low))
+  get_before (x ∷ xs) y zero low = refl
+  get_before (x ∷ xs) y (suc c) low = get_before xs y c (omega (arith, low))
 
-pub upto_none : (told dones : Dones) → upto 0 told dones ≡ told
-upto_none told dones = fun_ext λ b. refl
+  get_last : (xs : List A) (y : A) → slice_get (xs ++ y ∷ []) (length xs) ≡ Some y
+  get_last [] y = refl
+  get_last (x ∷ xs) y = get_last xs y
 
-pub upto_low : (k b : ℕ) (told dones : Dones) → b < k → upto k told dones b ≡ dones b
-upto_low k b told dones low = rw (lt-ltb b k low) refl
+  get_none : (xs : List A) (y : A) (c : ℕ) → length xs < c → ◌≡◌ {A = Option A} (slice_get (xs ++ y ∷ []) c) None
+  get_none [] y zero low = absurd (omega (arith, low))
+  get_none [] y (suc c) low = refl
+  get_none (x ∷ xs) y zero low = absurd (omega (arith, low))
+  get_none (x ∷ xs) y (suc c) low = get_none xs y c (omega (arith, low))
 
-pub upto_high : (k b : ℕ) (told dones : Dones) → k ≤ b → upto k told dones b ≡ told b
-upto_high k b told dones high = rw (le-ltb b k high) refl
+  no_some : (x : A) → ◌≡◌ {A = Option A} None (Some x) → ⊥
+  no_some x e = cc
 
-pub upto_other : (k b : ℕ) (told dones : Dones) → b ≢ k → upto (k + 1) told dones b ≡ upto k told dones b
-upto_other k b told dones ne = elim (cases_lt b k) [
-  | inl low ↦ upto_low (k + 1) b told dones (omega (arith, low)) ∙ sym (upto_low k b told dones low)
-  | inr high ↦ upto_high (k + 1) b told dones (omega (arith, high, ne)) ∙ sym (upto_high k b told dones (omega (arith, high)))
-]
+  -- of a list with one more at its end likewise
+  pub push_each : (P : ℕ → A → Type 0) (xs : List A) (y : A) → P (length xs) y → ((c : ℕ) (x : A) → slice_get xs c ≡ Some x → P c x) → (c : ℕ) (x : A) → slice_get (xs ++ y ∷ []) c ≡ Some x → P c x
+  push_each P xs y last each c x is = elim (cases_eq c (length xs)) [
+    | inl same ↦ subst (P c) (some_is y x (sym (get_last xs y) ∙ (ap (slice_get (xs ++ y ∷ [])) (sym same) ∙ is))) (subst (λ (z : ℕ). P z y) (sym same) last)
+    | inr other ↦ each c x (sym (get_before xs y c (before c other is)) ∙ is)
+  ]
+    where
+      before : (c : ℕ) → c ≢ length xs → slice_get (xs ++ y ∷ []) c ≡ Some x → c < length xs
+      before c other is = elim (cases_lt c (length xs)) [
+        | inl low ↦ low
+        | inr high ↦ absurd (no_some x (sym (get_none xs y c (omega (arith, high, other))) ∙ is))
+      ]
 
--- a desk that isn't written has what it had
-pub noted_stays : (tells : Type 0) (f g : Files) (d : Desk) (done : _) → (tells → (j : ℕ) → j < output_count d.plan → g (output_name d.plan j) ≡ f (output_name d.plan j)) → IsNoted tells f d done → IsNoted tells g d done
-noted_stays tells f g d done same is = record { counted = is.counted; texts = λ t. texts_stay d.plan (pieces_of d.outputs) f g (text_of done []) (same t) (is.texts t); sent = is.sent }
-
--- what is noted up to a place, at one more
-pub noted_more : (tells : Type 0) (f g : Files) (ds : List Desk) (i : ℕ) (d e : Desk) (told dones : Dones) → ArePlansApart (plans_in ds) → slice_get ds i ≡ Some d →
-    (tells → (m : List ℕ) → ((j : ℕ) → j < output_count d.plan → m ≢ output_name d.plan j) → g m ≡ f m) → AreNoted tells f ds (upto i told dones) → (IsNoted tells f d (told i) → IsNoted tells g e (dones i)) →
-    AreNoted tells g (set ds i e) (upto (i + 1) told dones)
-noted_more tells f g ds i d e told dones apart here only noted own = record {
-  each = each_but (λ b x. IsNoted tells f x (upto i told dones b)) (λ b x. IsNoted tells g x (upto (i + 1) told dones b)) ds i d e here noted.each
-      (λ b x ne is old. subst (IsNoted tells g x) (sym (upto_other i b told dones ne)) (noted_stays tells f g x (upto i told dones b) (λ t. others_stay ds apart i d here f g (only t) b x.plan (plan_at ds b x is) ne) old))
-      (subst (IsNoted tells g e) (sym (upto_low (i + 1) i told dones (omega arith))) (own (subst (IsNoted tells f d) (upto_high i i told dones (omega arith)) (noted.each i d here))));
-}
-
--- and each desk can be written
-pub ready_more : (given ids : ℕ → Id) (ds : List Desk) (i : ℕ) (d e : Desk) → slice_get ds i ≡ Some d → ((j : ℕ) → ids j ≡ given j) → AreReady given ds → IsReady e.plan ids e.outputs → AreReady ids (set ds i e)
-ready_more given ids ds i d e here kept ready own = record {
-  each = each_but (λ b x. IsReady x.plan given x.outputs) (λ b x. IsReady x.plan ids x.outputs) ds i d e here ready.each
-      (λ b x ne is old. record { files = old.files; named = λ j low. kept _ ∙ old.named j low }) own;
-}
+-- ---- bridges write apart
+module _ (law : BridgesWriteApart) (counters : Bool) where
+  pub two_apart : (m k : NetMember) → is_name m.name ≡ true → is_name k.name ≡ true → m.name ≢ k.name → WriteApart (plan_with counters m) (plan_with counters k)
+  two_apart m k named called other i j i_low j_low same =
+      let p : Planned = plan_with counters m in
+      let q : Planned = plan_with counters k in
+      other (law m.name k.name (kind_at p i) (kind_at q j) named called (kind_is p i i_low).of_port (kind_is q j j_low).of_port same).0

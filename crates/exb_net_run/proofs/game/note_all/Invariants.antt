@@ -3,7 +3,7 @@ use Rattle.std.specs.Prelude.{slice_get}
 use Rattle.exb_shelf.specs.Shelf.{NoFewer}
 use Rattle.exb_wiring.specs.Playing.{Dones}
 use Rattle.exb_net_run.specs.Desks.{AllGoTogether, AreMore, AreNoted, AreReady, OnlyWritesAll, plans_in}
-use Rattle.exb_net_run.proofs.Several.{upto}
+use Rattle.exb_net_run.proofs.Noted.{upto}
 use Rattle.exb_net_run.proofs.game.note_all.Given as goal
 
 abbrev pub invariant-loop-bridge : goal.invariant-loop-bridge
