@@ -12,7 +12,7 @@ use Rattle.exb_network.specs.Networks.{tree_of, world_of}
 use Rattle.exb_resting.specs.Flight.Showing.{left_at}
 use Rattle.exb_resting.specs.Rest.Playing.{counted_in}
 use Rattle.exb_schedule.specs.Playing.{letters_in}
-use Rattle.exb_schedule.specs.Worlds.{fate_in, network_of}
+use Rattle.exb_schedule.specs.Worlds.{network_of}
 use Rattle.exb_shelf.specs.Files.{Files}
 use Rattle.exb_shelf.specs.Shelf.{Id}
 use Rattle.exb_merge.specs.Arrivals.{arrival_with}
@@ -26,7 +26,7 @@ use Rattle.exb_merge.specs.Programmes.{IsFrom, what}
 use Rattle.exb_merge.specs.Replays.{HasPort, left_in, number_of, standings}
 use Rattle.exb_merge.specs.Streams.{Stream}
 use Rattle.exb_nets.specs.Nets.{Net, is_wired}
-use Rattle.exb_nets.specs.NetHistory.{Due, Histories, NetEager, dues}
+use Rattle.exb_nets.specs.NetHistory.{Due, Histories, NetEager, due_second, dues}
 use Rattle.exb_nets.specs.Order.{AreHere, AreInOrder, taken_after}
 use Rattle.exb_net_file.specs.declared.apart.NetRest.{NetRest}
 use Rattle.exb_wiring.specs.Playing.{AreOpened, Dones, Plays, tree_in}
@@ -75,6 +75,15 @@ abbrev pub IsSince : ℕ → Option ℕ → ℕ → Type 0
 IsSince start None clock = clock ≡ 0
 IsSince start (Some second) clock = clock + start ≤ second
 
+-- the second of the last of some events
+abbrev pub last_from : ℕ → List Due → ℕ
+last_from second [] = second
+last_from second (d ∷ ds) = last_from (due_second d) ds
+
+abbrev pub last_of : List Due → Option ℕ
+last_of [] = None
+last_of (d ∷ ds) = Some (last_from (due_second d) ds)
+
 abbrev pub IsLast : ℕ → Option ℕ → List Programme → Type 0
 IsLast start None ps = Unit {0}
 IsLast start (Some second) ps = (second < start + 2 ^ 32) × AllByRecursion (IsFrom (second * 1_000_000_000)) ps
@@ -85,6 +94,8 @@ pub record GoesOnAt (n : Net) (b start : ℕ) (last : Option ℕ) (d : Stepped) 
   pub start_is : p.start ≡ start
   pub given : (n.input b).commands ≡ map given_by p.commands.now
   pub names : All (λ c. NamesExternal (tree_in n b) c.command) p.commands.now
+  pub few_commands : length p.commands.now ≤ 65536
+  pub within : p.taken ≤ length p.commands.now
   pub free : (q : ℕ) → HasPort q (standings p.captures) → (is_external (tree_in n b) q ≡ true) × (is_wired n.wires b q ≡ false)
   pub taken : d.world.control.given ≡ p.taken
   pub next : (q : ℕ) → is_wired n.wires b q ≡ false → d.world.next q ≡ number_of (standings p.captures) q
@@ -95,6 +106,7 @@ pub record GoesOn (n : Net) (ds : List Due) (came : ℕ) (dones : Dones) (last :
   pub count : length ps ≡ n.count
   pub start : ℕ
   pub here : AreHere n ds
+  pub last_due : last ≡ last_of ds
   pub order : AreInOrder (λ b. 0) ds
   pub each : (b : ℕ) (p : Programme) → slice_get ps b ≡ Some p → GoesOnAt n b start last (dones b) p
   pub taken : (b : ℕ) (p : Programme) → slice_get ps b ≡ Some p → taken_in ds (λ c. 0) b ≡ p.taken
@@ -107,6 +119,8 @@ pub record BeginsAt (n : Net) (b start : ℕ) (p : Programme) : Type 0 where
   pub start_is : p.start ≡ start
   pub given : (n.input b).commands ≡ map given_by p.commands.now
   pub names : All (λ c. NamesExternal (tree_in n b) c.command) p.commands.now
+  pub few_commands : length p.commands.now ≤ 65536
+  pub within : p.taken ≤ length p.commands.now
   pub free : (q : ℕ) → HasPort q (standings p.captures) → (is_external (tree_in n b) q ≡ true) × (is_wired n.wires b q ≡ false)
   pub taken : p.taken ≡ 0
   pub next : (q : ℕ) → number_of (standings p.captures) q ≡ 1
@@ -117,9 +131,9 @@ pub record Begins (n : Net) (ps : List Programme) : Type 0 where
   pub each : (b : ℕ) (p : Programme) → slice_get ps b ≡ Some p → BeginsAt n b start p
   pub few_bytes : sum_by (λ (p : Programme). left_in p.captures) ps ≤ 2 ^ 53
 
--- the fate of each bridge, with the letters of the commands that are left
-pub record IsWithin {V : Type 0} {X : V → Type 0} (nodes : List (Node V X)) (ps : List Programme) : Type 0 where
-  pub each : (b : ℕ) (x : Node V X) (p : Programme) → slice_get nodes b ≡ Some x → slice_get ps b ≡ Some p → left (fate_in x.world) + letters_in (drop p.taken p.commands.now) < 2 ^ 57
+-- Of the fate of each bridge so many verdicts are left, and with the letters of the commands that are left they are few.
+pub record IsWithin {V : Type 0} {X : V → Type 0} (nodes : List (Node V X)) (verdicts : Node V X → ℕ) (ps : List Programme) : Type 0 where
+  pub each : (b : ℕ) (x : Node V X) (p : Programme) → slice_get nodes b ≡ Some x → slice_get ps b ≡ Some p → verdicts x + letters_in (drop p.taken p.commands.now) < 2 ^ 57
 
 -- Where the files are told: those of the captures are those that were checked, and what came and what is still to come of them is all that
 -- comes to the net.
@@ -159,7 +173,6 @@ pub record IsGoing {V : Type 0} {X : V → Type 0} (tells : Type 0) (r : NetRun)
   pub dones : Dones
   pub is : IsAt tells r now ids ds dones g
   pub goes : GoesOn r.net ds g.net.came dones last ps
-  pub budget : IsWithin g.net.nodes.items ps
   pub apart : ReadsOthers r.plans ids ps
   pub leads : tells → LeadsOn r.net ds now ids ps
 
@@ -175,7 +188,6 @@ pub record CanBegin {V : Type 0} {X : V → Type 0} (tells : Type 0) (r : NetRun
   pub desks : AreDesks tells r now ids g.desks.items
   pub noted : AreNoted tells now g.desks.items (no_dones r.net)
   pub begins : Begins r.net ps
-  pub budget : IsWithin g.net.nodes.items ps
   pub apart : ReadsOthers r.plans ids ps
   pub leads : tells → LeadsOn r.net [] now ids ps
 
@@ -255,8 +267,6 @@ pub record CanGive {V : Type 0} {X : V → Type 0} (n : Net) (s told : Dones) (r
   pub is : IsStepOf rest.commands d.next step
   pub can : Can (tree_of (network_of node.world)) (world_of (network_of node.world)) step
   pub came : x.came < 2 ^ 62
-  pub fates : All (λ y. left (fate_in y.world) < 2 ^ 57) x.nodes.items
-  pub pays : left (fate_in node.world) + letters_for rest.commands d.next < 2 ^ 57
 
 -- the commands of a bridge
 abbrev pub commands_in : Option NetRest → List Timed
@@ -266,6 +276,10 @@ commands_in (Some x) = x.commands
 -- how many letters are planned for it at each bridge
 abbrev pub letters_at : List NetRest → NetNext → ℕ → ℕ
 letters_at rests d b = if b == d.bridge then letters_for (commands_in (slice_get rests b)) d.next else 0
+
+-- the verdicts and letters that are left, where the programmes go on behind what comes
+pub record IsPaid {V : Type 0} {X : V → Type 0} (nodes : List (Node V X)) (verdicts : Node V X → ℕ) (rests : List NetRest) (d : NetNext) (ps : List Programme) : Type 0 where
+  pub each : (b : ℕ) (x : Node V X) (p : Programme) → slice_get nodes b ≡ Some x → slice_get ps b ≡ Some p → verdicts x + letters_at rests d b + letters_in (drop p.taken p.commands.now) < 2 ^ 57
 
 -- What comes next after some events, so many seconds after the last of them: the programmes go on behind it.
 pub record IsDue {V : Type 0} {X : V → Type 0} (tells : Type 0) (r : NetRun) (now : Files) (ids : ℕ → Id) (seconds second : ℕ) (g : NetGame V X) (d : NetNext) (ps : List Programme) : Type 0 where

@@ -21,7 +21,7 @@ ghost use Rattle.exb_net_run.specs.Answers.{IsOfNetPlay};
 ghost use Rattle.exb_net_run.specs.Desks.{AllGoTogether, AreAllFronts, AreMore, AreNoted, ArePlansApart, AreReady, CanEndAll, CanNoteAll, OnlyWritesAll, AreWhole, plans_in, tallies_in};
 ghost use Rattle.exb_net_run.specs.Shelving.{AreOthersAll, IsNetChange, IsOfCaptures, OnlyGoesOnAll};
 ghost use Rattle.exb_net_run.specs.Summing.{added};
-ghost use Rattle.exb_net_run.specs.UnderWay.{AreOfRests, CanBegin, CanGive, HasWritten, IsAllTold, IsCutOff, IsDue, IsGoing, NetRun, came_by, letters_at};
+ghost use Rattle.exb_net_run.specs.UnderWay.{AreOfRests, CanBegin, CanGive, HasWritten, IsAllTold, IsCutOff, IsDue, IsGoing, IsPaid, IsWithin, NetRun, came_by, letters_at};
 
 use crate::desk::{Desk, Room, add, finish, note};
 use exb_inputs::Fault;
@@ -113,6 +113,8 @@ fn next_due<S: Shelf>(
 /// Gives what comes to its bridge, and plays what follows.
 fn give(net: &mut Net, rests: &[NetRest], due: NetNext) -> Result<(), WorldFault>
     requires can { (n : Wired) × ((s : Dones) × ((told : Dones) × CanGive n s told rests.now due net.old)) }
+    requires fates { All (λ x. left (fate_in x.world) < 2 ^ 57) net.old.nodes.items }
+    requires pays { (x : _) → slice_get net.old.nodes.items due.bridge ≡ Some x → left (fate_in x.world) + letters_at rests.now due due.bridge < 2 ^ 57 }
     ensures ok { OnOk result ((n : Wired) (s told : Dones) (can : CanGive n s told rests.now due net.old) → Handled n due.bridge can.step s told net.new) }
     ensures came { OnOk result (net.new.came ≡ net.old.came + came_by due.next) }
     ensures fates { OnOk result (AreEach (λ b x y. left (fate_in y.world) ≤ left (fate_in x.world) + letters_at rests.now due b) net.old.nodes.items net.new.nodes.items) }
@@ -220,10 +222,11 @@ impl NetGame {
         seconds: u32,
         due: NetNext,
     ) -> Result<(), Fault>
-        requires due { (r : NetRun) × ((second : ℕ) × ((ps : List Programme) × (IsDue S.tells r (S.file shelf.old) (S.ids shelf.old) seconds second self.old due ps × AreOfRests rests.now ps))) }
+        requires due { (r : NetRun) × ((second : ℕ) × ((ps : List Programme) × (IsDue S.tells r (S.file shelf.old) (S.ids shelf.old) seconds second self.old due ps × (AreOfRests rests.now ps × IsPaid self.old.net.nodes.items (λ x. left (fate_in x.world)) rests.now due ps)))) }
         ensures plans { plans_in self.new.desks.items ≡ plans_in self.old.desks.items }
         ensures told { OnOk result ((r : NetRun) (second : ℕ) (ps : List Programme) → IsDue S.tells r (S.file shelf.old) (S.ids shelf.old) seconds second self.old due ps → AreOfRests rests.now ps
             → IsGoing S.tells r (S.file shelf.new) (S.ids shelf.new) (Some second) self.new ps) }
+        ensures budget { OnOk result ((ps : List Programme) → IsPaid self.old.net.nodes.items (λ x. left (fate_in x.world)) rests.now due ps → IsWithin self.new.net.nodes.items (λ x. left (fate_in x.world)) ps) }
         ensures cut { S.tells → OnErr result ((r : NetRun) (second : ℕ) (ps : List Programme) → IsDue S.tells r (S.file shelf.old) (S.ids shelf.old) seconds second self.old due ps → AreOfRests rests.now ps
             → IsCutOff r (S.file shelf.new)) }
         ensures only { OnlyWritesAll S.tells (plans_in self.old.desks.items) (S.file shelf.old) (S.file shelf.new) (S.ids shelf.old) (S.ids shelf.new) }
@@ -255,6 +258,7 @@ impl NetGame {
         requires piece { 0 < length piece.old }
         requires rests { AreOfRests rests.now (programmes_in agenda.old) }
         requires going { (r : NetRun) × IsGoing S.tells r (S.file shelf.old) (S.ids shelf.old) None self.old (programmes_in agenda.old) }
+        requires budget { IsWithin self.old.net.nodes.items (λ x. left (fate_in x.world)) (programmes_in agenda.old) }
         ensures plans { plans_in self.new.desks.items ≡ plans_in self.old.desks.items }
         ensures ready { OnOk result (AreReady (S.ids shelf.new) self.new.desks.items) }
         ensures can { OnOk result (CanEndAll self.new.desks.items) }
@@ -308,6 +312,7 @@ impl NetGame {
         requires piece { 0 < length piece.old }
         requires rests { AreOfRests rests.now (programmes_in agenda.old) }
         requires going { (r : NetRun) × IsGoing S.tells r (S.file shelf.old) (S.ids shelf.old) None self.old (programmes_in agenda.old) }
+        requires budget { IsWithin self.old.net.nodes.items (λ x. left (fate_in x.world)) (programmes_in agenda.old) }
         ensures done { S.tells → IfOk result (λ line. (r : NetRun) → IsGoing S.tells r (S.file shelf.old) (S.ids shelf.old) None self.old (programmes_in agenda.old)
             → HasWritten r (S.file shelf.new) (string_bytes line)) }
         ensures says { IfOk result (λ line. IsSummary (string_bytes line)) }
@@ -339,6 +344,7 @@ impl NetGame {
         requires piece { 0 < length piece.old }
         requires rests { AreOfRests rests.now (programmes_in agenda.old) }
         requires begins { (r : NetRun) × CanBegin S.tells r (S.file shelf.old) (S.ids shelf.old) self.old (programmes_in agenda.old) }
+        requires budget { IsWithin self.old.net.nodes.items (λ x. left (fate_in x.world)) (programmes_in agenda.old) }
         ensures done { S.tells → IfOk result (λ line. (r : NetRun) → CanBegin S.tells r (S.file shelf.old) (S.ids shelf.old) self.old (programmes_in agenda.old)
             → HasWritten r (S.file shelf.new) (string_bytes line)) }
         ensures says { IfOk result (λ line. IsSummary (string_bytes line)) }

@@ -1,5 +1,5 @@
 //! Fates for a net.
-ghost use Rattle.std.specs.Prelude.{◌≡◌, ◌+◌, ◌<◌, ◌^◌, All, IfOk, OnOk, length};
+ghost use Rattle.std.specs.Prelude.{◌≡◌, ◌+◌, ◌<◌, ◌≤◌, ◌^◌, All, IfOk, OnOk, length};
 
 use exb_fate::{Fate, ScriptFate};
 use std::alloc::{AllocError, Global};
@@ -18,7 +18,7 @@ fn add_fate(alloc: Global, fates: &mut Vec<Box<dyn Fate>>) -> Result<(), AllocEr
 
 /// The fates of all bridges of a net but the first. Each does as it is armed to.
 pub fn more_fates(alloc: Global) -> Result<Vec<Box<dyn Fate>>, AllocError>
-    ensures many { IfOk result (λ fates. length fates.items ≡ 15) }
+    ensures many { IfOk result (λ fates. 15 ≤ length fates.items) }
     ensures each { IfOk result (λ fates. All (λ f. left f < 2 ^ 56) fates.items) }
 {
     let mut fates: Vec<Box<dyn Fate>> = Vec::new(alloc);
