@@ -108,7 +108,7 @@ no_some e = cc
 same_some : {B : Type 0} {x y : B} → Some x ≡ Some y → x ≡ y
 same_some e = cc
 
-mapped_some : {A B : Type 0} (f : A → B) (o : Option A) (y : B) → option_map f o ≡ Some y → (x : A) × (o ≡ Some x) × (f x ≡ y)
+pub mapped_some : {A B : Type 0} (f : A → B) (o : Option A) (y : B) → option_map f o ≡ Some y → (x : A) × (o ≡ Some x) × (f x ≡ y)
 mapped_some f None y e = absurd (no_some e)
 mapped_some f (Some x) y e = (x, refl, same_some e)
 
