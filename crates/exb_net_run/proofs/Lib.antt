@@ -12,3 +12,4 @@ pub mod Paying
 pub mod Ending
 pub mod Sets
 pub mod Ends
+pub mod Reading
