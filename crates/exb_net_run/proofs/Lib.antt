@@ -13,3 +13,5 @@ pub mod Ending
 pub mod Sets
 pub mod Ends
 pub mod Reading
+pub mod Prepared
+pub mod Opened
