@@ -118,6 +118,7 @@ all-at tells r now file given ids last g old going read only t none =
     subst (λ (f : Files). IsAt tells r f ids (dues r.net) going.dones g) (sym same)
     (subst (λ (xs : List Due). IsAt tells r now ids xs going.dones g) (sym all)
     (record {
+      timely = is.timely;
       start = is.start;
       opened = is.opened;
       plays = is.plays;

@@ -11,3 +11,4 @@ pub mod Going
 pub mod Paying
 pub mod Ending
 pub mod Awaited
+pub mod Shelves
