@@ -12,3 +12,4 @@ pub mod Paying
 pub mod Ending
 pub mod Awaited
 pub mod Shelves
+pub mod Opened
