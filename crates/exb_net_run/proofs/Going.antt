@@ -185,9 +185,6 @@ record-here d b p e = rw (eq-eqb d.bridge b (sym e)) refl
 -- ---- all bridges
 module _ {V : Type 0} {X : V → Type 0} (tells : Type 0) (r : NetRun) (now : Files) (ids : ℕ → Id) (seconds second : ℕ) (g : NetGame V X) (d : NetNext) (ps : List Programme) (p : IsDue tells r now ids seconds second g d ps) (e : Dones)
     (one : PlaysOne r.net seconds (due_of d) p.going.dones e) (more : AreOneMore r.net seconds (due_of d) p.going.dones e) where
-  abbrev due : Due
-  due = due_of d
-
   more-at : (b : ℕ) → b < r.net.count → IsOneMore r.net seconds (due_of d) b (p.going.dones b) (e b)
   more-at b low = more.each b low
 
