@@ -23,6 +23,7 @@ use Rattle.exb_merge.specs.Replays.{HasPort, ReadsOn, standings}
 use Rattle.exb_merge.specs.Streams.{Stream}
 use Rattle.exb_nets.specs.Nets.{Net}
 use Rattle.exb_nets.specs.NetHistory.{Due, dues}
+use Rattle.exb_nets.specs.Order.{AreHere, AreInOrder}
 use Rattle.exb_net_file.specs.declared.apart.NetRest.{NetRest}
 use Rattle.exb_inputs.specs.Shelving.{OnlyReads}
 use Rattle.exb_net.specs.declared.node.Node.{Node}
@@ -34,7 +35,7 @@ use Rattle.exb_outputs.proofs.Keeping.{apart-read}
 use Rattle.exb_net_run.specs.declared.desk.Desk.{Desk}
 use Rattle.exb_net_run.specs.declared.game.NetGame.{NetGame}
 use Rattle.exb_net_run.specs.Desks.{AreReady}
-use Rattle.exb_net_run.specs.UnderWay.{AreOfRests, IsAt, IsDue, IsGoing, IsPaid, IsWithin, LeadsOn, NetRun, ReadsOthers, commands_in, letters_at, letters_for, letters_of}
+use Rattle.exb_net_run.specs.UnderWay.{AreOfRests, IsAllTold, IsAt, IsDue, IsFew, IsGoing, IsPaid, IsWithin, LeadsOn, NetRun, ReadsOthers, commands_in, letters_at, letters_for, letters_of}
 use Rattle.exb_net_run.proofs.Coming.{ports-before}
 use Rattle.exb_net_run.proofs.Steps.{clock-on, ends}
 
@@ -107,6 +108,14 @@ seconds-few tells r now ids seconds second g d ps p =
     omega (arith, clock, high)
 
 -- ---- nothing comes
+-- how much each bridge has told and sent
+pub few-orders : {V : Type 0} {X : V → Type 0} (tells : Type 0) (r : NetRun) (now : Files) (given : ℕ → Id) (last : Option ℕ) (g : NetGame V X) (old : List Programme) → (going : IsGoing tells r now given last g old) → (b : ℕ) → b < r.net.count →
+    (orders : ℕ) × IsFew r.net b g.net.came orders (going.dones b) × (orders ≤ 65536)
+few-orders tells r now given last g old going b low =
+    let q = is_there old b (let all = going.goes.count in omega (arith, low, all)) in
+    let at = going.goes.each b q.0 q.1 in
+    (q.0.taken, going.goes.few b q.0 q.1, (let within = at.within in let few = at.few_commands in omega (arith, within, few)))
+
 pub all-at : {V : Type 0} {X : V → Type 0} (tells : Type 0) (r : NetRun) (now file : Files) (given ids : ℕ → Id) (last : Option ℕ) (g : NetGame V X) (old : List Programme) → (going : IsGoing tells r now given last g old) → AreRead given (all_ids old) →
     OnlyReads (all_ids old) now file given ids → tells → ((streams : List (List Stream)) → AreAllReplays now given old streams → dues_left (all_to_play streams old) ≡ []) → IsAt tells r file ids (dues r.net) going.dones g
 all-at tells r now file given ids last g old going read only t none =
@@ -135,6 +144,21 @@ all-at tells r now file given ids last g old going read only t none =
       };
       noted = is.noted;
     }))
+
+pub all-told : {V : Type 0} {X : V → Type 0} (tells : Type 0) (r : NetRun) (now file : Files) (given ids : ℕ → Id) (last : Option ℕ) (g : NetGame V X) (old : List Programme) → (going : IsGoing tells r now given last g old) → AreRead given (all_ids old) →
+    OnlyReads (all_ids old) now file given ids → tells → ((streams : List (List Stream)) → AreAllReplays now given old streams → dues_left (all_to_play streams old) ≡ []) → IsAllTold tells r file ids g
+all-told tells r now file given ids last g old going read only t none =
+    let led = going.leads t in
+    let all : dues r.net ≡ going.ds = led.rest ∙ ap (λ (xs : List Due). going.ds ++ xs) (none led.streams led.replays) ∙ append-nil going.ds in
+    record {
+      dones = going.dones;
+      is = all-at tells r now file given ids last g old going read only t none;
+      here = subst (AreHere r.net) (sym all) going.goes.here;
+      order = subst (AreInOrder (λ b. 0)) (sym all) going.goes.order;
+      came = g.net.came;
+      few_came = (let few = going.goes.few_bytes in omega (arith, few));
+      few = few-orders tells r now given last g old going;
+    }
 
 -- ---- commands
 pub rests-on : (rests : List NetRest) (old : List Programme) (d : NetNext) (ps : List Programme) → ComesTo old d ps → AreOfRests rests old → AreOfRests rests ps

@@ -228,6 +228,8 @@ pub record HasWritten (r : NetRun) (now : Files) (line : List ℕ) : Type 0 wher
 pub record IsAllTold {V : Type 0} {X : V → Type 0} (tells : Type 0) (r : NetRun) (now : Files) (ids : ℕ → Id) (g : NetGame V X) : Type 0 where
   pub dones : Dones
   pub is : IsAt tells r now ids (dues r.net) dones g
+  pub here : AreHere r.net (dues r.net)
+  pub order : AreInOrder (λ b. 0) (dues r.net)
   pub came : ℕ
   pub few_came : came ≤ 2 ^ 49
   pub few : (b : ℕ) → b < r.net.count → (orders : ℕ) × IsFew r.net b came orders (dones b) × (orders ≤ 65536)
