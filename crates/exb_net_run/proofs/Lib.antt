@@ -13,3 +13,5 @@ pub mod Ending
 pub mod Awaited
 pub mod Shelves
 pub mod Opened
+pub mod Sets
+pub mod Ends
