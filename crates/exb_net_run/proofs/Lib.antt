@@ -1,1 +1,4 @@
 pub mod Noting
+pub mod Several
+pub mod Held
+pub mod Turns
