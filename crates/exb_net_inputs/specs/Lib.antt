@@ -4,3 +4,4 @@ pub mod Refusing
 pub mod Checking
 pub mod Opening
 pub mod Reading
+pub mod Laws

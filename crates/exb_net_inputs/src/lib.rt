@@ -4,6 +4,7 @@
 
 mod checking;
 mod faults;
+pub mod laws;
 mod reading;
 
 pub use checking::check_members;

@@ -47,7 +47,7 @@ fn parse(alloc: Global, file: &[u8]) -> Result<NetFile, Fault>
 }
 
 /// Reads the bytes of the file of a net.
-#[tactic(auto, using(crate::proofs::Refused::large_refused))]
+#[tactic(auto, using(crate::proofs::Causes::large_refused))]
 fn read_bytes<S: Shelf>(alloc: Global, shelf: &mut S, name: &str) -> Result<Vec<u8>, Fault>
     ensures there { S.tells → IfOk result (λ file. S.file shelf.old name.now ≡ Some file.items) }
     ensures refused { S.tells → IfErr result (λ fault. IsFileRefused name.now (S.file shelf.old name.now) fault ⊎ (fault ≡ Fault.Read) ⊎ (fault ≡ Fault.Memory)) }
