@@ -91,3 +91,6 @@ goes-counts done counts (output.Capture q) = ([], sym (append-nil (text_of done 
 goes-counts done counts output.Journal = ([], sym (append-nil (text_of done counts output.Journal)))
 goes-counts done counts output.Trace = ([], sym (append-nil (text_of done counts output.Trace)))
 goes-counts done counts output.Counters = (counts, refl)
+
+pub goes-same : (done : Stepped) (o : Output) → GoesOnAs (text_of done []) (text_of done []) o
+goes-same done o = ([], sym (append-nil (text_of done [] o)))

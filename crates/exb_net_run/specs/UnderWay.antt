@@ -26,7 +26,7 @@ use Rattle.exb_merge.specs.Programmes.{IsFrom, what}
 use Rattle.exb_merge.specs.Replays.{HasPort, left_in, number_of, standings}
 use Rattle.exb_merge.specs.Streams.{Stream}
 use Rattle.exb_nets.specs.Nets.{Net, is_wired}
-use Rattle.exb_nets.specs.NetHistory.{Due, Histories, NetEager, dues}
+use Rattle.exb_nets.specs.NetHistory.{Due, Histories, NetEager, due_second, dues}
 use Rattle.exb_nets.specs.Order.{AreHere, AreInOrder, taken_after}
 use Rattle.exb_net_file.specs.declared.apart.NetRest.{NetRest}
 use Rattle.exb_wiring.specs.Playing.{AreOpened, Dones, Plays, tree_in}
@@ -75,6 +75,15 @@ abbrev pub IsSince : ℕ → Option ℕ → ℕ → Type 0
 IsSince start None clock = clock ≡ 0
 IsSince start (Some second) clock = clock + start ≤ second
 
+-- the second of the last of some events
+abbrev pub last_from : ℕ → List Due → ℕ
+last_from second [] = second
+last_from second (d ∷ ds) = last_from (due_second d) ds
+
+abbrev pub last_of : List Due → Option ℕ
+last_of [] = None
+last_of (d ∷ ds) = Some (last_from (due_second d) ds)
+
 abbrev pub IsLast : ℕ → Option ℕ → List Programme → Type 0
 IsLast start None ps = Unit {0}
 IsLast start (Some second) ps = (second < start + 2 ^ 32) × AllByRecursion (IsFrom (second * 1_000_000_000)) ps
@@ -85,6 +94,8 @@ pub record GoesOnAt (n : Net) (b start : ℕ) (last : Option ℕ) (d : Stepped) 
   pub start_is : p.start ≡ start
   pub given : (n.input b).commands ≡ map given_by p.commands.now
   pub names : All (λ c. NamesExternal (tree_in n b) c.command) p.commands.now
+  pub few_commands : length p.commands.now ≤ 65536
+  pub within : p.taken ≤ length p.commands.now
   pub free : (q : ℕ) → HasPort q (standings p.captures) → (is_external (tree_in n b) q ≡ true) × (is_wired n.wires b q ≡ false)
   pub taken : d.world.control.given ≡ p.taken
   pub next : (q : ℕ) → is_wired n.wires b q ≡ false → d.world.next q ≡ number_of (standings p.captures) q
@@ -95,6 +106,7 @@ pub record GoesOn (n : Net) (ds : List Due) (came : ℕ) (dones : Dones) (last :
   pub count : length ps ≡ n.count
   pub start : ℕ
   pub here : AreHere n ds
+  pub last_due : last ≡ last_of ds
   pub order : AreInOrder (λ b. 0) ds
   pub each : (b : ℕ) (p : Programme) → slice_get ps b ≡ Some p → GoesOnAt n b start last (dones b) p
   pub taken : (b : ℕ) (p : Programme) → slice_get ps b ≡ Some p → taken_in ds (λ c. 0) b ≡ p.taken
@@ -107,6 +119,8 @@ pub record BeginsAt (n : Net) (b start : ℕ) (p : Programme) : Type 0 where
   pub start_is : p.start ≡ start
   pub given : (n.input b).commands ≡ map given_by p.commands.now
   pub names : All (λ c. NamesExternal (tree_in n b) c.command) p.commands.now
+  pub few_commands : length p.commands.now ≤ 65536
+  pub within : p.taken ≤ length p.commands.now
   pub free : (q : ℕ) → HasPort q (standings p.captures) → (is_external (tree_in n b) q ≡ true) × (is_wired n.wires b q ≡ false)
   pub taken : p.taken ≡ 0
   pub next : (q : ℕ) → number_of (standings p.captures) q ≡ 1

@@ -36,11 +36,14 @@ fn set_desk<S: Shelf>(
     let plan = plan_of(alloc, setup, name, counters)?;
     let counted = Counted::new(alloc, setup, &plan)?;
     let outputs = create_all(alloc, shelf, &plan)?;
-    desks.push(Desk {
+    let desk = Desk {
         plan,
         outputs,
         counted,
-    })?;
+    };
+    if desks.push(desk).is_err() {
+        return Err(Fault::Memory);
+    }
     Ok(())
 }
 
