@@ -1,5 +1,5 @@
 -- Captures that were checked, at their first records: the start, the streams that they give, and how much is to be read.
-use Rattle.std.proofs.Common.{◌≡◌, ◌≢◌, ℕ, zero, suc, eq-eqb, ◌+◌, ◌<◌, ◌≤◌, ◌==◌, Bool, true, false, cond, List, [], ◌∷◌, ◌++◌, length, sum_by, fold, add-zero, filter, All, get_or, refl, ap, sym, ◌∙◌, arith, inl, inr, length-append, ◌*◌, ◌^◌, map, drop, take, max, min, subst}
+use Rattle.std.proofs.Common.{◌≡◌, ◌≢◌, ℕ, zero, suc, eq-eqb, ◌+◌, ◌<◌, ◌≤◌, ◌==◌, Bool, true, false, cond, List, [], ◌∷◌, ◌++◌, length, sum_by, fold, add-zero, filter, All, get_or, refl, ap, sym, ◌∙◌, arith, inl, inr, length-append, ◌*◌, ◌^◌, map, drop, take, max, min, subst, append_assoc}
 use Rattle.std.specs.List.{range_with_len, AllByRecursion}
 use Rattle.std.proofs.lemmas.Bool.{cases_eq, ne_eqb, cases_Bool, cases_lt}
 use mathlib.Core.Path.{fun_ext}
@@ -21,7 +21,7 @@ use Rattle.exb_capture.specs.Scans.{first_time, scanned_of}
 use Rattle.exb_shelf.specs.Files.{Files, bytes_of}
 use Rattle.exb_tables.specs.declared.rows.Named.{Named}
 use Rattle.exb_inputs.specs.declared.checked.Checked.{Checked}
-use Rattle.exb_inputs.specs.Again.{earlier, first_standing, start_told, stream_told}
+use Rattle.exb_inputs.specs.Again.{earlier, earliest_told, first_standing, start_told, stream_told}
 use Rattle.exb_inputs.specs.Checks.{IsGood, IsToldOf, most_bytes}
 use Rattle.exb_inputs.specs.Inputs.{bytes_at, bytes_named, input_from, is_named, name_of, records_at}
 
@@ -85,11 +85,11 @@ pub none-elsewhere : (names : List Named) (file : Files) (q : ℕ) → is_named 
 none-elsewhere names file q isnt = ap (λ (b : Bool). if b then records_or_none (capture_records (bytes_at names file q)) else []) isnt
 
 -- ---- what was told of one capture
-record IsTold (names : List Named) (file : Files) (c : Checked) : Type 0 where
-  bytes : List ℕ
-  records : List Record
-  told : c.told ≡ scanned_of bytes records
-  are : records_at names file c.port ≡ records
+pub record IsTold (names : List Named) (file : Files) (c : Checked) : Type 0 where
+  pub bytes : List ℕ
+  pub records : List Record
+  pub told : c.told ≡ scanned_of bytes records
+  pub are : records_at names file c.port ≡ records
 
 told-by : (names : List Named) (file : Files) (c : Checked) → IsToldOf names file c → IsTold names file c
 told-by names file c (name, named, good) = by_file (file name) refl good
@@ -242,33 +242,23 @@ least-next [] o (Some first) is = ap (λ (b : Option ℕ). earlier b (Some first
 least-next (n ∷ ns) o None is = subst (λ (xs : List ℕ). IsLeastOf xs (earlier o None)) (sym (append-nil (n ∷ ns))) (ap (λ (b : Option ℕ). earlier b None) is)
 least-next (n ∷ ns) o (Some first) is = ap (λ (b : Option ℕ). earlier b (Some first)) is ∙ ap Some (sym (least-more 0 n ns (second_of first)))
 
-told-more : (cs : List Checked) (at : ℕ) (c : Checked) → at < length cs → c ≡ get_or cs at c → filter_map second_told (take (at + 1) cs) ≡ filter_map second_told (take at cs) ++ listed (second_told c)
-told-more cs at c low is = ap (filter_map second_told) (take_more cs at c low ∙ ap (λ (x : Checked). take at cs ++ x ∷ []) (sym is)) ∙ append-one (take at cs)
-  where
-    append-one : (xs : List Checked) → filter_map second_told (xs ++ c ∷ []) ≡ filter_map second_told xs ++ listed (second_told c)
-    append-one [] = one (second_told c)
-      where
-        one : (o : Option ℕ) → more o [] ≡ listed o
-        one None = refl
-        one (Some x) = refl
-    append-one (x ∷ xs) = by_told (second_told x) (append-one xs)
-      where
-        by_told : (o : Option ℕ) → filter_map second_told (xs ++ c ∷ []) ≡ filter_map second_told xs ++ listed (second_told c) →
-            more o (filter_map second_told (xs ++ c ∷ [])) ≡ more o (filter_map second_told xs) ++ listed (second_told c)
-        by_told None rest = rest
-        by_told (Some y) rest = ap (λ (ys : List ℕ). y ∷ ys) rest
+listed-more : (xs : List ℕ) (o : Option ℕ) (ys : List ℕ) → (xs ++ listed o) ++ ys ≡ xs ++ more o ys
+listed-more xs None ys = ap (λ (zs : List ℕ). zs ++ ys) (append-nil xs)
+listed-more xs (Some x) ys = append_assoc xs (x ∷ []) ys
 
--- the least of the captures so far
-abbrev pub IsLeastTold : List Checked → Option ℕ → Type 0
-IsLeastTold cs o = IsLeastOf (filter_map (λ (c : Checked). option_map second_of c.told.first) cs) o
-
-pub least-told : (cs : List Checked) (at : ℕ) (c : Checked) (o : Option ℕ) → at < length cs → c ≡ get_or cs at c → IsLeastTold (take at cs) o → IsLeastTold (take (at + 1) cs) (earlier o c.told.first)
-least-told cs at c o low is so_far =
-    subst (λ (xs : List ℕ). IsLeastOf xs (earlier o c.told.first)) (sym (told-more cs at c low is)) (least-next (filter_map second_told (take at cs)) o c.told.first so_far)
+-- with those of some captures more
+pub earliest-least : (xs : List ℕ) (o : Option ℕ) (cs : List Checked) → IsLeastOf xs o → IsLeastOf (xs ++ filter_map (λ (c : Checked). option_map second_of c.told.first) cs) (earliest_told o cs)
+earliest-least xs o [] is = subst (λ (ys : List ℕ). IsLeastOf ys o) (sym (append-nil xs)) is
+earliest-least xs o (c ∷ cs) is =
+    subst (λ (ys : List ℕ). IsLeastOf ys (earliest_told (earlier o c.told.first) cs)) (listed-more xs (second_told c) (filter_map second_told cs))
+    (earliest-least (xs ++ listed (second_told c)) (earlier o c.told.first) cs (least-next xs o c.told.first is))
 
 pub least-end : (xs : List ℕ) (o : Option ℕ) → IsLeastOf xs o → unwrap_or o 0 ≡ least_or 0 xs
 least-end [] o is = ap (λ (b : Option ℕ). unwrap_or b 0) is
 least-end (n ∷ ns) o is = ap (λ (b : Option ℕ). unwrap_or b 0) is
+
+pub earliest-start : (cs : List Checked) → unwrap_or (earliest_told None cs) 0 ≡ start_told cs
+earliest-start cs = least-end (filter_map second_told cs) (earliest_told None cs) (earliest-least [] None cs refl)
 
 -- none of them is before it
 below-all : (m k : ℕ) (xs : List ℕ) → m ≤ k → AllByRecursion (λ x. k ≤ x) xs → AllByRecursion (λ x. m ≤ x) xs

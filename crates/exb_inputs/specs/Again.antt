@@ -1,5 +1,5 @@
 -- Captures that were checked, at their first records: where each stands, what is still to come of it, and when commands begin.
-use Rattle.std.specs.Prelude.{ℕ, List, filter_map, min, option_map, Option, Some, None}
+use Rattle.std.specs.Prelude.{ℕ, List, [], ◌∷◌, filter_map, min, option_map, Option, Some, None}
 use Rattle.exb_model.specs.Input.{least_or, second_of}
 use Rattle.exb_merge.specs.Replays.{Standing}
 use Rattle.exb_merge.specs.Streams.{Stream, stream_of}
@@ -19,7 +19,12 @@ earlier None told = option_map second_of told
 earlier (Some least) None = Some least
 earlier (Some least) (Some first) = Some (min least (second_of first))
 
--- ---- captures that can be played
+-- the least second of the first records of some captures, and of those before them, if there is any
+abbrev pub earliest_told : Option ℕ → List Checked → Option ℕ
+earliest_told before [] = before
+earliest_told before (c ∷ cs) = earliest_told (earlier before c.told.first) cs
+
+-- ---- captures that are opened again
 -- where the capture of a port stands before it is read again
 abbrev pub first_standing : Checked → Standing
 first_standing c = record { port = c.port; index = 1; least = 0 }

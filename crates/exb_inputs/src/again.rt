@@ -1,11 +1,11 @@
 //! Captures that were checked are opened again.
-ghost use Rattle.std.specs.Prelude.{◌≡◌, ◌≤◌, ◌<◌, ◌+◌, ◌++◌, ◌∷◌, ℕ, List, true, false, length, map, sum_by, IfOk, OnOk, IfErr, IfSome};
+ghost use Rattle.std.specs.Prelude.{[], ◌≡◌, ◌≤◌, ◌<◌, ◌+◌, ◌++◌, ◌∷◌, ℕ, List, true, false, length, map, sum_by, IfOk, OnOk, IfErr, IfSome};
 ghost use Rattle.std.specs.List.{AllByRecursion};
 ghost use Rattle.exb_model.specs.Input.{second_of};
 ghost use Rattle.exb_merge.specs.Replays.{AreOpened, AreReplays, AreToldSince, HasPort, ids_in, left_in, standings};
 ghost use Rattle.exb_merge.specs.Streams.{Stream};
 ghost use Rattle.exb_inputs.specs.Checks.{AreChecked, IsToldOf, most_bytes};
-ghost use Rattle.exb_inputs.specs.Again.{earlier, first_standing, start_told, stream_told};
+ghost use Rattle.exb_inputs.specs.Again.{earlier, earliest_told, first_standing, start_told, stream_told};
 ghost use Rattle.exb_inputs.specs.Inputs.{is_named};
 ghost use Rattle.exb_inputs.specs.Shelving.{ReadsCapture, CountsFaults};
 ghost use Rattle.exb_inputs.specs.Reading.{IsChange, IsOfPlay};
@@ -34,15 +34,22 @@ fn earlier(least: Option<u64>, told: Option<u64>) -> Option<u64>
     }
 }
 
+/// The least whole second of the first record of any of these captures, with the least of those `before` them, if there is any.
+pub fn earliest_in(before: Option<u64>, checked: &[Checked]) -> Option<u64>
+    ensures { result ≡ earliest_told before checked.now }
+{
+    let mut least = before;
+    'telling: for one in checked {
+        least = earlier(least, one.told.first);
+    }
+    least
+}
+
 /// The second from which commands count: the least whole second of any first record that was told, or 0.
 pub fn start_of(checked: &[Checked]) -> u64
     ensures { result ≡ start_told checked.now }
 {
-    let mut least = None;
-    for one in checked {
-        least = earlier(least, one.told.first);
-    }
-    least.unwrap_or(0)
+    earliest_in(None, checked).unwrap_or(0)
 }
 
 /// Opens the capture again of which this was told, puts it behind those so far, and looks as far as its first record.

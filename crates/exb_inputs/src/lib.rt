@@ -9,7 +9,7 @@ mod reporting;
 mod topology;
 mod weight;
 
-pub use again::{open_all, start_of};
+pub use again::{earliest_in, open_all, start_of};
 pub use checked::{Checked, check_captures, missing, name_of};
 pub use fault::{Fault, Flaw, Part};
 pub use reporting::report;

@@ -8,6 +8,7 @@ ghost use Rattle.exb_inputs.specs.Answers.{broken_text, changed_text, flaw_name,
 use crate::fault::{Fault, Flaw, Part};
 use exb_keys::faults::{KeyFault, TopoFault};
 use exb_model::port::PortId;
+use exb_model::text::Text;
 use exb_shelf::{ShelfFault, Sink, print_text};
 use exb_text::PortName;
 use std::alloc::{AllocError, Global};

@@ -1,5 +1,5 @@
 -- How the words are read, one after another.
-use Rattle.std.specs.Prelude.{ℕ, Bool, true, false, ◌||◌, if◌then◌else◌, List, [], ◌∷◌, Option, Some, None, is_some, option_map, option_and_then}
+use Rattle.std.specs.Prelude.{ℕ, true, false, ◌||◌, if◌then◌else◌, List, [], ◌∷◌, Option, Some, None, is_some, option_map, option_and_then}
 use Rattle.exb_words.specs.Words.{Ask, Run, Check, Make, Audit, Net, Item, Name, Trace, Counters, Seed, items_of}
 use Rattle.exb_words.specs.declared.asked.Options.{Options}
 use Rattle.exb_words.specs.declared.asked.Asked.{Asked}
