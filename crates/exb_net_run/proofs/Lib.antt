@@ -8,3 +8,5 @@ pub mod Coming
 pub mod Passing
 pub mod Steps
 pub mod Going
+pub mod Paying
+pub mod Ending
