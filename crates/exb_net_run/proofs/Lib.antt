@@ -10,3 +10,5 @@ pub mod Steps
 pub mod Going
 pub mod Paying
 pub mod Ending
+pub mod Awaited
+pub mod Shelves

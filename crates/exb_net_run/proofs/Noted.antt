@@ -39,6 +39,10 @@ plans_set [] i d e is same = refl
 plans_set (x ∷ ds) zero d e is same = ap (λ (p : Planned). p ∷ plans_in ds) (same ∙ ap (λ (y : Desk). y.plan) (sym (same_Some x d is)))
 plans_set (x ∷ ds) (suc i) d e is same = ap (λ (ps : List Planned). x.plan ∷ ps) (plans_set ds i d e is same)
 
+pub plans-long : (ds : List Desk) → length (plans_in ds) ≡ length ds
+plans-long [] = refl
+plans-long (x ∷ ds) = ap suc (plans-long ds)
+
 -- ---- files of one plan and of another
 module _ (ds : List Desk) (apart : ArePlansApart (plans_in ds)) (i : ℕ) (d : Desk) (here : slice_get ds i ≡ Some d) where
   -- those of another plan haven't changed
