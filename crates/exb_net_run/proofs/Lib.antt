@@ -13,5 +13,9 @@ pub mod Ending
 pub mod Awaited
 pub mod Shelves
 pub mod Opened
+pub mod Failing
+pub mod Giving
+pub mod Adding
+pub mod Turned
 pub mod Sets
 pub mod Ends

@@ -80,7 +80,7 @@ abbrev pub upto : ℕ → Dones → Dones → Dones
 upto k told dones b = cond (nat_lt b k) (dones b) (told b)
 
 pub upto_none : (told dones : Dones) → upto 0 told dones ≡ told
-upto_none told dones = fun_ext λ b. refl
+upto_none told dones = (let same : (b : ℕ) → upto 0 told dones b ≡ told b = λ b. refl in fun_ext same)
 
 pub upto_low : (k b : ℕ) (told dones : Dones) → b < k → upto k told dones b ≡ dones b
 upto_low k b told dones low = rw (lt-ltb b k low) refl
