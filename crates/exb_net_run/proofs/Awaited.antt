@@ -35,8 +35,9 @@ use Rattle.exb_outputs.proofs.Keeping.{apart-read}
 use Rattle.exb_net_run.specs.declared.desk.Desk.{Desk}
 use Rattle.exb_net_run.specs.declared.game.NetGame.{NetGame}
 use Rattle.exb_net_run.specs.Desks.{AreReady}
-use Rattle.exb_net_run.specs.UnderWay.{AreOfRests, IsAllTold, IsAt, IsDue, IsFew, IsGoing, IsPaid, IsWithin, LeadsOn, NetRun, ReadsOthers, commands_in, letters_at, letters_for, letters_of}
+use Rattle.exb_net_run.specs.UnderWay.{AreOfRests, IsAllTold, IsAt, IsCutOff, IsDue, IsFew, IsGoing, IsPaid, IsWithin, LeadsOn, NetRun, ReadsOthers, commands_in, letters_at, letters_for, letters_of}
 use Rattle.exb_net_run.proofs.Coming.{ports-before}
+use Rattle.exb_net_run.proofs.Going.{cut-noted}
 use Rattle.exb_net_run.proofs.Steps.{clock-on, ends}
 
 -- ---- what is written isn't read
@@ -221,3 +222,10 @@ ports-on old d ps comes b q (p, is, has) = elim (cases_eq b d.bridge) [
       (comes.was, subst (λ (k : ℕ). slice_get old k ≡ Some comes.was) (sym same) comes.was_there, ports-before comes.was d.next comes.is comes.coming.is q (subst (λ (z : Programme). HasPort q (standings z.captures)) (sym own) has))
   | inr ne ↦ (p, sym (comes.others b ne) ∙ is, has)
 ]
+
+-- ---- it was cut off while it was read
+pub cut-read : {V : Type 0} {X : V → Type 0} (tells : Type 0) (r : NetRun) (now file : Files) (given ids : ℕ → Id) (mine : List ℕ) (last : Option ℕ) (g : NetGame V X) (ps : List Programme) → tells → IsGoing tells r now given last g ps →
+    OnlyReads mine now file given ids → IsCutOff r file
+cut-read tells r now file given ids mine last g ps t going only =
+    let same : file ≡ now = fun_ext λ m. only.files m in
+    subst (IsCutOff r) (sym same) (cut-noted tells r now given last g ps t going)

@@ -259,6 +259,7 @@ ended-cut tells r now ids g k t new fronts only =
       dones = k.dones;
       opened = k.is.opened;
       plays = k.is.plays;
+      vids = k.is.playing.vids;
       others = λ m other. subst (λ (qs : List Planned). OnlyAllPlanned qs now new) k.is.desks.plans only m other ∙ k.is.desks.files t m other;
       fronts = subst (λ (qs : List Planned). AreAllFronts qs new k.dones) k.is.desks.plans fronts;
     })

@@ -105,6 +105,7 @@ cut-noted tells r now ids last g ps t going =
       dones = going.dones;
       opened = going.is.opened;
       plays = going.is.plays;
+      vids = going.is.playing.vids;
       others = going.is.desks.files t;
       fronts = subst (λ (qs : List Planned). AreAllFronts qs now going.dones) going.is.desks.plans (fronts_of now g.desks.items going.dones (λ b k is. (going.is.noted.each b k is).texts t));
     })
@@ -410,6 +411,7 @@ module _ {V : Type 0} {X : V → Type 0} (tells : Type 0) (r : NetRun) (now : Fi
         dones = e;
         opened = p.going.is.opened;
         plays = plays-after;
+        vids = p.going.is.playing.vids;
         others = λ m other. subst (λ (qs : List Planned). OnlyAllPlanned qs now file) was.plans only m other ∙ was.files t m other;
         fronts = subst (λ (qs : List Planned). AreAllFronts qs file e) was.plans fronts;
       })

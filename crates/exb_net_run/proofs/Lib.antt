@@ -12,7 +12,7 @@ pub mod Paying
 pub mod Ending
 pub mod Awaited
 pub mod Shelves
-pub mod Opened
+pub mod Begun
 pub mod Failing
 pub mod Giving
 pub mod Adding

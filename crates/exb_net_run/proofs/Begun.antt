@@ -151,6 +151,7 @@ module _ {V : Type 0} {X : V → Type 0} (tells : Type 0) (r : NetRun) (now : Fi
         dones = o.dones;
         opened = o.opened;
         plays = refl;
+        vids = begin.begun.vids;
         others = λ m other. subst (λ (qs : List Planned). OnlyAllPlanned qs now file) was.plans only m other ∙ was.files t m other;
         fronts = subst (λ (qs : List Planned). AreAllFronts qs file o.dones) was.plans fronts;
       })
