@@ -15,8 +15,6 @@ use Rattle.exb_nets.specs.Ending.{NetsHaveHistories}
 use Rattle.exb_nets.specs.Laws.{HistoriesGoOn}
 use Rattle.exb_nets.specs.Order.{AreHere, AreInOrder}
 use Rattle.exb_wiring.specs.Laws.{NetsArePlayed}
-use Rattle.exb_wiring.specs.Delivering.{HaveVids}
-use Rattle.exb_wiring.specs.Playing.{Dones}
 use Rattle.exb_net.specs.Nets.{no_dones}
 use Rattle.exb_net_file.specs.declared.members.NetMember.{NetMember}
 use Rattle.exb_net_file.specs.Members.{prefix_of, tree_in}
@@ -99,10 +97,10 @@ module _ (counters : Bool) (ms : List NetMember) (n : Net) (net : IsNet n) (tree
             fronts_written counters m (n.input b) (trees.tree b m is) (low b m is) [] (hs.0 b) told.0 before now (no_dones n b) (u.fronts.each b (plan_with counters m) (plan_there b m is)) refl (λ q ext. nothing_left (basis_of (n.input b)) q) told.1);
       }
 
-  amid : (have : NetsHaveHistories) (law : NetsArePlayed) (go_on : HistoriesGoOn) (vids : HaveVids n) (before now : Files) → IsCutAmid (record { net = n; before = before; plans = map (plan_with counters) ms }) now → AreNetFronts ms n before now
-  amid have law go_on vids before now u =
+  amid : (have : NetsHaveHistories) (law : NetsArePlayed) (go_on : HistoriesGoOn) (before now : Files) → IsCutAmid (record { net = n; before = before; plans = map (plan_with counters) ms }) now → AreNetFronts ms n before now
+  amid have law go_on before now u =
       let hs = have n net in
-      let shown = law n u.ds u.start u.dones net vids u.here u.order u.opened u.plays in
+      let shown = law n u.ds u.start u.dones net u.vids u.here u.order u.opened u.plays in
       let whole : Goes n (u.ds ++ u.rest) (openings n) hs.0 = subst (λ (ds : List Due). Goes n ds (openings n) hs.0) u.dues_are hs.1.goes in
       record {
         histories = hs.0;
@@ -113,6 +111,6 @@ module _ (counters : Bool) (ms : List NetMember) (n : Net) (net : IsNet n) (tree
             fronts_written counters m (n.input b) (trees.tree b m is) (low b m is) (shown.histories b) (hs.0 b) more.0 before now (u.dones b) (u.fronts.each b (plan_with counters m) (plan_there b m is)) own.told own.left more.1);
       }
 
-  pub cut_fronts : NetsHaveHistories → NetsArePlayed → HistoriesGoOn → HaveVids n → (before now : Files) → IsCutOff (record { net = n; before = before; plans = map (plan_with counters) ms }) now → AreNetFronts ms n before now
-  cut_fronts have law go_on vids before now (inl u) = unopened have before now u
-  cut_fronts have law go_on vids before now (inr u) = amid have law go_on vids before now u
+  pub cut_fronts : NetsHaveHistories → NetsArePlayed → HistoriesGoOn → (before now : Files) → IsCutOff (record { net = n; before = before; plans = map (plan_with counters) ms }) now → AreNetFronts ms n before now
+  cut_fronts have law go_on before now (inl u) = unopened have before now u
+  cut_fronts have law go_on before now (inr u) = amid have law go_on before now u

@@ -1,7 +1,7 @@
 -- The files of a bridge by their names: once all is written, and where writing ended early.
-use Rattle.std.proofs.Common.{◌≡◌, ℕ, zero, suc, ◌<◌, ◌++◌, Bool, true, List, [], ◌∷◌, length, take, map, arith, Option, Some, None, refl, ap, sym, ◌∙◌, subst, inl, inr}
+use Rattle.std.proofs.Common.{◌≡◌, ℕ, zero, suc, ◌<◌, ◌++◌, Bool, true, List, [], ◌∷◌, length, take, map, Option, Some, None, refl, ap, sym, ◌∙◌, subst, inl, inr}
 use Rattle.std.specs.Prelude.{flat_map, option_map, slice_get}
-use Rattle.std.proofs.lemmas.List.{append-nil, append_assoc, take_all}
+use Rattle.std.proofs.lemmas.List.{append-nil, append_assoc}
 use Rattle.std.proofs.lemmas.Grind.{flat_map-append}
 use Rattle.std.proofs.lemmas.Option.{slice_get-map}
 use Rattle.exb_counters.specs.Counters.{count_text}
@@ -128,6 +128,10 @@ only_outputs counters ms old new only name none = only name away
         })
 
 -- ---- over a history
+take_whole : (xs : List ℕ) → take (length xs) xs ≡ xs
+take_whole [] = refl
+take_whole (x ∷ xs) = ap (λ (ys : List ℕ). x ∷ ys) (take_whole xs)
+
 -- the texts over a history go on from what files begin with
 pub texts_begin : (i : Input) (h : History) (o : Output) → (rest : List ℕ) × (output_text i h [] o ≡ first_text o ++ rest)
 unfolding capture_text trace_text
@@ -164,7 +168,7 @@ module _ (counters : Bool) (m : NetMember) (i : Input) (tree : tree_of i ≡ tre
 
   -- the same of files that are whole
   pub whole_texts : (h : History) (old new : Files) → IsWhole (plan_with counters m) new (output_text i h []) → IsFrontOf i h (prefix_of m.name) old new
-  whole_texts h old new whole = cut_texts h old new (λ j lower. inr (length (output_text i h [] (kind_at (plan_with counters m) j)), whole.each j lower ∙ ap Some (sym (take_all (output_text i h [] (kind_at (plan_with counters m) j)) (length (output_text i h [] (kind_at (plan_with counters m) j))) (omega arith)))))
+  whole_texts h old new whole = cut_texts h old new (λ j lower. inr (length (output_text i h [] (kind_at (plan_with counters m) j)), whole.each j lower ∙ ap Some (sym (take_whole (output_text i h [] (kind_at (plan_with counters m) j))))))
 
 -- every history is what was told of it, from nothing
 pub told_of : (h : History) → (more : List Event) × (h ≡ ([] then more))

@@ -19,3 +19,6 @@ pub mod Adding
 pub mod Turned
 pub mod Sets
 pub mod Ends
+pub mod Reading
+pub mod Prepared
+pub mod Opened
