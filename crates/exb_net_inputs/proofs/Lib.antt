@@ -5,3 +5,4 @@ pub mod Members
 pub mod Alone
 pub mod Refused
 pub mod Given
+pub mod Whole

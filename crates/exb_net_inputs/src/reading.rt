@@ -133,11 +133,7 @@ fn read_members<S: Shelf>(
 }
 
 /// The wires of bridges that were read.
-fn wire_all(
-    alloc: Global,
-    members: &[NetMember],
-    wires: &[NetWire],
-) -> Result<List<Wire>, Fault>
+fn wire_all(alloc: Global, members: &[NetMember], wires: &[NetWire]) -> Result<List<Wire>, Fault>
     requires valid { AreValid members.now }
     requires few { length members.now ≤ 16 }
     ensures wired { IfOk result (λ joined. wires_of members.now wires.now ≡ Ok joined) }
