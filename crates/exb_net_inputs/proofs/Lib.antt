@@ -6,3 +6,4 @@ pub mod Alone
 pub mod Refused
 pub mod Given
 pub mod Whole
+pub mod Loops

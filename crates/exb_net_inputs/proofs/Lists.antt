@@ -22,6 +22,11 @@ front_at (y ∷ ys) zero k x is = absurd (cc)
 front_at (y ∷ ys) (suc n) zero x is = is
 front_at (y ∷ ys) (suc n) (suc k) x is = front_at ys n k x is
 
+-- nothing stands among the first none
+pub nothing_at : {A Q : Type 0} (xs : List A) (k : ℕ) (x : A) → slice_get (take 0 xs) k ≡ Some x → Q
+nothing_at [] k x is = absurd (cc)
+nothing_at (y ∷ ys) k x is = absurd (cc)
+
 -- an element of a list with one more is one of it or that
 pub pushed_at : {A : Type 0} (xs : List A) (k : ℕ) (x y : A) → slice_get (xs ++ y ∷ []) k ≡ Some x → (slice_get xs k ≡ Some x) ⊎ (x ≡ y)
 pushed_at [] zero x y is = inr cc
