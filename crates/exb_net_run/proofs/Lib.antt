@@ -12,3 +12,8 @@ pub mod Paying
 pub mod Ending
 pub mod Awaited
 pub mod Shelves
+pub mod Sets
+pub mod Ends
+pub mod Reading
+pub mod Prepared
+pub mod Opened

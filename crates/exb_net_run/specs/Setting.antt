@@ -1,5 +1,5 @@
 -- What is made before the first event: the files of all bridges, one bridge after another; and what is then ready to be played.
-use Rattle.std.specs.Prelude.{◌≡◌, ◌<◌, ◌+◌, ◌^◌, ◌++◌, ℕ, Bool, List, [], Some, length, map, slice_get}
+use Rattle.std.specs.Prelude.{◌≡◌, ◌<◌, ◌++◌, ℕ, Bool, List, [], Some, map, slice_get}
 use Rattle.std.specs.declared.alloc.Global.{Global}
 use Rattle.std.specs.declared.vec.Vec.{Vec}
 use Rattle.exb_model.specs.declared.setup.Setup.{Setup}
@@ -9,7 +9,6 @@ use Rattle.exb_nets.specs.declared.wires.Wire.{Wire}
 use Rattle.exb_net.specs.declared.net.Net.{Net as Bridges}
 use Rattle.exb_net.specs.Nets.{IsBegun, no_dones}
 use Rattle.exb_net_file.specs.declared.apart.NetParts.{NetParts}
-use Rattle.exb_net_file.specs.declared.apart.NetRest.{NetRest}
 use Rattle.exb_net_file.specs.declared.members.NetMember.{NetMember}
 use Rattle.exb_net_file.specs.Apart.{IsTakenApart}
 use Rattle.exb_net_file.specs.Members.{prefix_of}
@@ -20,7 +19,6 @@ use Rattle.exb_outputs.specs.Names.{IsCut}
 use Rattle.exb_outputs.specs.Plans.{Planned, kind_at, output_count, output_name}
 use Rattle.exb_outputs.specs.Sent.{HasSent}
 use Rattle.exb_outputs.specs.Writing.{HasTexts, IsReady, first_text, pieces_of}
-use Rattle.exb_schedule.specs.Playing.{letters_in}
 use Rattle.exb_shelf.specs.Files.{Files}
 use Rattle.exb_shelf.specs.Shelf.{Id}
 use Rattle.exb_text.specs.declared.output.Output.{Output}
@@ -78,8 +76,3 @@ pub record CanPlay {V : Type 0} {X : V → Type 0} (tells : Type 0) (r : NetRun)
   pub begins : Begins r.net ps
   pub apart : ReadsOthers r.plans ids ps
   pub leads : tells → LeadsOn r.net [] now ids ps
-
--- Of the fate of each bridge so many verdicts are left, and with the letters of its commands they are few.
-pub record AreArmed (rests : List NetRest) (lefts : List ℕ) : Type 0 where
-  pub whole : length lefts ≡ length rests
-  pub each : (b : ℕ) (x : NetRest) (k : ℕ) → slice_get rests b ≡ Some x → slice_get lefts b ≡ Some k → k + letters_in x.commands < 2 ^ 57

@@ -23,6 +23,7 @@ use exb_inputs::{Checked, Fault, earliest_in, open_all};
 use exb_merge::{Agenda, Programme};
 use exb_model::memory::NoMemory;
 use exb_model::setup::{Setup, Verdict};
+use exb_net_file::laws::bridges_write_apart;
 use exb_net_file::{NetParts, NetRest, prefix_of};
 use exb_net_inputs::of_member;
 use exb_outputs::{Plan, create_all};
@@ -94,6 +95,7 @@ pub(crate) fn set_desks<S: Shelf>(
     ensures causes { IfErr result IsOfWriting }
     ensures faults { CountsFaults result (S.faults shelf.old) (S.faults shelf.new) }
 {
+    bridges_write_apart();
     let mut desks = Vec::new(alloc);
     let setups = parts.setup.setups.as_slice();
     let rests = parts.rests.as_slice();

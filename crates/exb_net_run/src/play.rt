@@ -14,12 +14,13 @@ ghost use Rattle.exb_shelf.specs.Files.{Files, SameFiles};
 ghost use Rattle.exb_shelf.specs.Shelf.{IsReading, Opens};
 ghost use Rattle.exb_text.specs.declared.output.Output.{Output};
 ghost use Rattle.exb_writers.specs.Counts.{IsSummary};
+ghost use Rattle.exb_net_run.specs.Arming.{AreArmed};
 ghost use Rattle.exb_net_run.specs.Answers.{AreFrontsOfNet, IsNetFailure, IsOfNet, IsOfNetPlay, NetPlayed, NetStops, OnlyNetAsked};
 ghost use Rattle.exb_net_run.specs.Desks.{OnlyAllPlanned, plans_in};
 ghost use Rattle.exb_net_run.specs.Nets.{net_of, plan_with};
 ghost use Rattle.exb_net_run.specs.Opening.{HasCaptureAt, IsNetWanted, MakesNet, MakesNetOutputOf, NetOpensInOrder, WritesNetOutput};
 ghost use Rattle.exb_net_run.specs.Outputs.{AreNetFronts, IsNetPlayed};
-ghost use Rattle.exb_net_run.specs.Setting.{AreArmed, CanPlay, IsPrepared, run_of};
+ghost use Rattle.exb_net_run.specs.Setting.{CanPlay, IsPrepared, run_of};
 ghost use Rattle.exb_net_run.specs.Shelving.{IsNetChange, IsOfCaptures, OnlyGoesOnAll};
 ghost use Rattle.exb_net_run.specs.UnderWay.{AreOfRests, HasWritten, IsCutOff, IsWithin, NetRun};
 
@@ -86,7 +87,7 @@ fn play_into<S: Shelf>(
     desks: Vec<Desk>,
 ) -> Result<String, Fault>
     requires prepared { (counters : Bool) × ((ms : List NetMember) × ((ws : List Wire) × ((before : Files) × IsPrepared S.tells counters ms ws parts.now checked.now before (S.file shelf.old) (S.ids shelf.old) desks.items))) }
-    requires fates { AreArmed parts.now.rests (map (λ f. left f) fates.items) }
+    requires fates { AreArmed left parts.now.rests fates.items }
     ensures done { S.tells → IfOk result (λ line. (counters : Bool) (ms : List NetMember) (ws : List Wire) (before : Files)
         → IsPrepared S.tells counters ms ws parts.now checked.now before (S.file shelf.old) (S.ids shelf.old) desks.items
         → HasWritten (run_of counters ms ws (S.file shelf.old) before) (S.file shelf.new) (string_bytes line)) }
@@ -130,7 +131,7 @@ fn play_checked<S: Shelf>(
     fates: Vec<Box<dyn Fate>>,
 ) -> Result<String, Fault>
     requires read { (ms : List NetMember) × ((ws : List Wire) × (IsTakenApart ms ws parts.now × (AreRead ms ws × AreMembersChecked S.tells ms (S.file shelf.old) checked.now))) }
-    requires fates { AreArmed parts.now.rests (map (λ f. left f) fates.items) }
+    requires fates { AreArmed left parts.now.rests fates.items }
     ensures done { S.tells → IfOk result (λ line. (ms : List NetMember) (ws : List Wire) → IsTakenApart ms ws parts.now → AreRead ms ws → AreMembersChecked S.tells ms (S.file shelf.old) checked.now
         → IsNetPlayed counters ms (net_of ms ws (S.file shelf.old)) (S.file shelf.old) (S.file shelf.new) (string_bytes line)) }
     ensures says { IfOk result (λ line. IsSummary (string_bytes line)) }
