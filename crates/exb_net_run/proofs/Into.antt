@@ -138,3 +138,8 @@ pub into_can : AreInputsOf → NetsAreTimely → {V : Type 0} {X : V → Type 0}
 into_can inputs timely tells counters ms ws parts checked before f g given ids desks ps x p same opens named begins leads begun =
     can_play tells (run_of counters ms ws f before) f g given ids desks (ReadsMemberCapture ms) same opens x ps (timely ms ws (net_of ms ws f) p.read.sound (made_of ms ws f inputs))
     (begun (net_of ms ws f) (setup_of ms ws f parts p.parts_are) (net_is ms ws f inputs p.read)) p.set p.noted begins (record { each = λ b q is. reads_others counters ms ws p.read ids (all_ids ps) named b q is }) leads
+
+-- a fate for each bridge
+pub as_many : (ms : List NetMember) (parts : NetParts) (ws : List Wire) → IsTakenApart ms ws parts → length parts.rests ≡ length parts.setup.setups
+as_many ms parts ws taken =
+    ap (λ (xs : List NetRest). length xs) taken.rests ∙ (length-map ms rest_of ∙ (sym (length-map ms setup_in) ∙ ap (λ (xs : List Setup). length xs) (sym taken.setups)))

@@ -100,7 +100,7 @@ pub record IsNextOf (counters : Bool) (ms : List NetMember) (i : ℕ) (s : Setup
   pub setup : s ≡ member.topology.setup
 
 pub next_here : (counters : Bool) (ms : List NetMember) (ws : List Wire) (parts : NetParts) → IsTakenApart ms ws parts → (setups : List Setup) (rests : List NetRest) → setups ≡ parts.setup.setups → rests ≡ parts.rests → (i : ℕ) → i < length rests →
-    (s : Setup) (r : NetRest) (name : List ℕ) → s ≡ get_or setups i s → r ≡ get_or rests i r → name ≡ r.name → IsNextOf counters ms i s name
+    (s : Setup) (r : NetRest) (name : List ℕ) → s ≡ get_or setups i s → r ≡ get_or rests i r → name ≡ (get_or rests i r).name → IsNextOf counters ms i s name
 next_here counters ms ws parts taken setups rests setups_are rests_are i low s r name s_is r_is named =
     let of_setups : setups ≡ map setup_in ms = setups_are ∙ taken.setups in
     let of_rests : rests ≡ map rest_of ms = rests_are ∙ taken.rests in
@@ -114,16 +114,16 @@ next_here counters ms ws parts taken setups rests setups_are rests_are i low s r
     record {
       member = m.0;
       here = m.1;
-      plan = ap (λ (x : Setup). plan_under x name counters) same ∙ ap (λ (n : List ℕ). plan_under m.0.topology.setup n counters) (named ∙ ap (λ (x : NetRest). x.name) (sym m.2));
+      plan = ap (λ (x : Setup). plan_under x name counters) same ∙ ap (λ (n : List ℕ). plan_under m.0.topology.setup n counters) (named ∙ ap (λ (x : NetRest). x.name) (sym r_is ∙ sym m.2));
       setup = same;
     }
 
 pub made_all : {X : Type 0} (p q : Planned) (x : X) (a b : ℕ → Id) → p ≡ q → MakesInOrder p (Ok x) a b → MadeInOrder q (output_count q) a b
 made_all p q x a b same m = subst (λ (z : Planned). MadeInOrder z (output_count z) a b) same (subst (λ (n : ℕ). MadeInOrder p n a b) (m.all tt) m.made)
 
-pub not_late : {X : Type 0} (x : Fault) → IsOfWriting x → IsNetLate {X = X} (Err x) → ⊥
-not_late {X} x (inl e) late = (let z : ⊥ = subst (λ (y : Fault). IsNetLate {X = X} (Err y)) e late in z)
-not_late {X} x (inr e) late = (let z : ⊥ = subst (λ (y : Fault). IsNetLate {X = X} (Err y)) e late in z)
+pub not_late : (X : Type 0) (x : Fault) → IsOfWriting x → IsNetLate {X = X} (Err x) → ⊥
+not_late X x (inl e) late = (let z : ⊥ = subst (λ (y : Fault). IsNetLate {X = X} (Err y)) e late in z)
+not_late X x (inr e) late = (let z : ⊥ = subst (λ (y : Fault). IsNetLate {X = X} (Err y)) e late in z)
 
 take_whole : {A : Type 0} (xs : List A) → take (length xs) xs ≡ xs
 take_whole [] = refl

@@ -25,4 +25,4 @@ made_then_read counters ms first result a b c made opens = record {
 
 -- not all were
 pub made_as : {X Y : Type 0} (counters : Bool) (ms : List NetMember) (x : Fault) (a b : ℕ → Id) → IsOfWriting x → MakesNet {X = X} counters ms (Err x) a b → MakesNet {X = Y} counters ms (Err x) a b
-made_as counters ms x a b writing made = record { count = made.count; made = made.made; all = λ late. absurd (not_late x writing late) }
+made_as {X} {Y} counters ms x a b writing made = record { count = made.count; made = made.made; all = λ late. absurd (not_late Y x writing late) }
