@@ -117,7 +117,7 @@ pub no_turn : (t : ℕ) (s : Seat) → s.turn ≡ Some t → s.turn ≡ None →
 no_turn t s is none = let no : Some t ≡ None = sym is ∙ none in cc
 
 -- ---- a fault, and the bridge of which it is
-pub fault_is : {X : Type 0} (j b : ℕ) (f k : CaptureFault) → IsErrOf {T = X} (Err (record { bridge = j; fault = f })) (record { bridge = b; fault = k }) → (j ≡ b) × (f ≡ k)
+pub fault_is : {X : Type 0} (j b : ℕ) (f k : CaptureFault) → IsErrOf {T = X} {E = BridgeFault} (Err (record { bridge = j; fault = f })) (record { bridge = b; fault = k }) → (j ≡ b) × (f ≡ k)
 fault_is {X} j b f k e =
     let mine : BridgeFault = record { bridge = j; fault = f } in
     let told : BridgeFault = record { bridge = b; fault = k } in
