@@ -1,7 +1,7 @@
 #!/usr/bin/env python3
 """Checks functions of a crate over the contracts of the crates below it, before any of these is proved:
 
-    tools/over_contracts.py exb_run feed::Feed::gather game::Game::play_all
+    tools/over_contracts.py exb_play feed::Feed::gather game::Game::play_all
 
 In a folder of its own (named by OVER=FOLDER, else under the system's folder for such) each crate below is written with its
 types, contracts, definitions and lemmas, and with bodies that are never reached. The functions that are named are checked there as they stand,

@@ -1,8 +1,8 @@
 -- Faults of captures: a capture has one or none, and one is the first in port order.
-use Rattle.std.proofs.Common.{◌≡◌, ◌<◌, ◌+◌, ◌++◌, ◌==◌, ◌⊎◌, inl, inr, ℕ, zero, suc, true, false, List, [], ◌∷◌, Option, Some, None, Result, Ok, Err, length, ap, sym, ◌∙◌, refl, arith, subst, add-one, drop, get_or}
-use Rattle.std.specs.Prelude.{slice_index_or, All}
+use Rattle.std.proofs.Common.{◌≡◌, ◌<◌, ◌+◌, ◌++◌, ◌==◌, ◌⊎◌, inl, inr, ℕ, zero, suc, true, false, List, [], ◌∷◌, Option, Some, None, Result, Ok, Err, length, ap, sym, ◌∙◌, refl, arith, subst, add-one, drop, get_or, Bool, All, eq-eqb}
+use Rattle.std.specs.Prelude.{slice_index_or, All, is_some, if◌then◌else◌, String, IfOk, IfErr}
 use Rattle.std.proofs.Math.Seq.{drop-cons, drop-length}
-use Rattle.std.proofs.lemmas.Bool.{cases_lt}
+use Rattle.std.proofs.lemmas.Bool.{cases_lt, lt-ltb, le-ltb, eqb-true, ne_eqb}
 use Rattle.std.proofs.lemmas.List.Elements.{All-append}
 use Rattle.exb_capture.specs.declared.checking.Scanned.{Scanned}
 use Rattle.exb_capture.specs.declared.checking.ScanFault.{ScanFault}
@@ -16,8 +16,10 @@ use Rattle.exb_inputs.specs.declared.fault.Flaw.TheVariants.{Large, Broken}
 use Rattle.exb_inputs.specs.declared.fault.Fault.{Fault}
 use Rattle.exb_inputs.specs.declared.fault.Fault.TheVariants.{Missing, Capture}
 use Rattle.exb_inputs.specs.Checks.{AreAllGood, FirstFault, HasFault, HasFaultNamed, IsGood, IsGoodNamed, fault_in, most_bytes}
-use Rattle.exb_inputs.specs.Inputs.{name_of}
+use Rattle.exb_inputs.specs.Inputs.{name_of, is_named}
 use Rattle.exb_inputs.proofs.Asking.{some_once, none_or_some}
+use mathlib.Core.Path.{fun_ext}
+use Rattle.std.specs.declared.alloc.Global.{Global}
 
 -- ---- one capture
 -- what is told of a file is no fault of it
@@ -98,3 +100,24 @@ one P x p (suc k) d h = absurd (omega arith)
 
 pub all_more : {X : Type 0} (P : X → Type 0) (xs ys : List X) (x : X) → ys ≡ xs ++ x ∷ [] → All P xs → P x → All P ys
 all_more P xs ys x e p q = subst (λ zs. All P zs) (sym e) (All-append P xs (x ∷ []) p (one P x q))
+
+-- the name of a capture is one of which this is told of all
+pub name_by : (P : List ℕ → Type 0) (names : List Named) (q : ℕ) (name : List ℕ) → All (λ x. P x.name) names → name_of names q ≡ Some name → P name
+name_by P [] q name all is = absurd (cc)
+name_by P (x ∷ xs) q name all is = by_port (name_by P xs q name (λ k d low. all (suc k) d (omega arith))) (x.port == q) is
+  where
+    by_port : (name_of xs q ≡ Some name → P name) → (b : Bool) → (if b then Some x.name else name_of xs q) ≡ Some name → P name
+    by_port rest true is' = subst P (own is') (all 0 x (omega arith))
+      where
+        own : Some x.name ≡ Some name → x.name ≡ name
+        own e = cc
+    by_port rest false is' = rest is'
+
+-- a capture that is named has a port of which this is told of all
+pub named_by : (test : ℕ → Bool) (names : List Named) (q : ℕ) → All (λ x. test x.port ≡ true) names → is_named names q ≡ true → test q ≡ true
+named_by test [] q all is = absurd (cc)
+named_by test (x ∷ xs) q all is = by_port (named_by test xs q (λ k d low. all (suc k) d (omega arith))) (x.port == q) refl is
+  where
+    by_port : (is_named xs q ≡ true → test q ≡ true) → (b : Bool) → (x.port == q) ≡ b → is_some (if x.port == q then Some x.name else name_of xs q) ≡ true → test q ≡ true
+    by_port rest true e is' = ap test (sym (eqb-true x.port q e)) ∙ all 0 x (omega arith)
+    by_port rest false e is' = rest (sym (ap (λ (b : Bool). is_some (if b then Some x.name else name_of xs q)) e) ∙ is')

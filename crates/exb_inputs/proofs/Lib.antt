@@ -6,3 +6,7 @@ pub mod Refusing
 pub mod Asking
 pub mod Refused
 pub mod ShelvingLemmas
+pub mod Outcomes
+pub mod Beginning
+pub mod Reopening
+pub mod Ports

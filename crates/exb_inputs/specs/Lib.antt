@@ -4,3 +4,4 @@ pub mod Answers
 pub mod Reading
 pub mod Counting
 pub mod Shelving
+pub mod Again

@@ -2,7 +2,7 @@
 use Rattle.std.specs.Prelude.{⊤, ◌<◌}
 use Rattle.exb_keys.specs.declared.faults.TopoFault.TheVariants as topology
 use Rattle.exb_inputs.specs.declared.fault.Fault.{Fault}
-use Rattle.exb_inputs.specs.declared.fault.Fault.TheVariants.{Usage, Missing, Topology as BadTopology, Capture, Changed, Output, TooLarge, BadLine, Illegal, Read, Memory}
+use Rattle.exb_inputs.specs.declared.fault.Fault.TheVariants.{Usage, Missing, Topology as BadTopology, Capture, Changed, Output, TooLarge, BadLine, Illegal, Read, Memory, Write}
 use Rattle.exb_inputs.specs.Answers.{HasLines, IsRule}
 
 -- a fault that can come while captures are checked
@@ -45,3 +45,16 @@ IsOfAudit (Illegal r) = IsRule r
 IsOfAudit Read = ⊤
 IsOfAudit Memory = ⊤
 IsOfAudit _ = ⊥
+
+-- a fault that can come while captures that were checked are read again and played
+abbrev pub IsOfPlay : Fault → Type 0
+IsOfPlay (Changed p at) = p < 4160
+IsOfPlay Read = ⊤
+IsOfPlay Write = ⊤
+IsOfPlay Memory = ⊤
+IsOfPlay _ = ⊥
+
+-- a capture is another one than the one that was checked
+abbrev pub IsChange : Fault → Type 0
+IsChange (Changed p at) = ⊤
+IsChange _ = ⊥

@@ -1,6 +1,6 @@
 -- What calls that read say of the shelf: what it counted, and what was opened.
 use Rattle.std.specs.Prelude.{◌≡◌, ◌<◌, ◌+◌, ℕ, true, false, List, Some, Result, Err, IsErrOf}
-use Rattle.exb_shelf.specs.Files.{Files}
+use Rattle.exb_shelf.specs.Files.{Files, SameFiles}
 use Rattle.exb_shelf.specs.Shelf.{Id, IsReadingOf, Faults, Opens, Rose, NoFewer}
 use Rattle.exb_tables.specs.declared.rows.Named.{Named}
 use Rattle.exb_inputs.specs.declared.fault.Fault.{Fault}
@@ -9,6 +9,7 @@ use Rattle.exb_inputs.specs.declared.fault.Flaw.{Flaw}
 use Rattle.exb_inputs.specs.Checks.{IsGoodNamed}
 use Rattle.exb_inputs.specs.Counting.{CountsOnce}
 use Rattle.exb_inputs.specs.Inputs.{is_named, name_of}
+use Rattle.exb_merge.specs.Replays.{ReadsOn}
 
 -- No count has fallen, and a fault of the shelf came only where its count rose. It was counted once, and no other was, so none was hidden:
 -- the first that is met ends the call, and nothing is tried again.
@@ -49,3 +50,8 @@ pub record EndsAt (tells : Type 0) (names : List Named) (file : Files) (given id
   pub own : (q : ℕ) (flaw : Flaw) → fault ≡ Capture q flaw → (q ≡ port) × (is_named names port ≡ true)
   pub before : tells → (q : ℕ) → q < port → IsGoodNamed (name_of names q) file
   pub opened : Opens (ReadsBelow names (port + 1)) given ids
+
+-- no file has changed, and only through these ids was read
+pub record OnlyReads (mine : List ℕ) (old new : Files) (given ids : ℕ → Id) : Type 0 where
+  pub files : SameFiles old new
+  pub reads : ReadsOn mine given ids

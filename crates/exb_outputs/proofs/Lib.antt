@@ -7,3 +7,6 @@ pub mod OutputLemmas
 pub mod Cutting
 pub mod ShelvingLemmas
 pub mod Orders
+pub mod Apart
+pub mod Keeping
+pub mod Names

@@ -1,10 +1,14 @@
 -- What has changed by calls that write, one after the other.
-use Rattle.std.proofs.Common.{ℕ, refl, ◌∙◌}
+use Rattle.std.proofs.Common.{ℕ, refl, ◌∙◌, ◌≡◌, ◌⊎◌, inl, inr, true, List, [], ◌∷◌, Ok, Err, filter, map, sym, subst}
 use Rattle.exb_shelf.specs.Files.{Files}
 use Rattle.exb_shelf.specs.Shelf.{Id}
 use Rattle.exb_shelf.proofs.IdLemmas.{opens_same, opens_then}
 use Rattle.exb_outputs.specs.Plans.{Planned}
-use Rattle.exb_outputs.specs.Shelving.{OnlyWrites, OnlyMakes, WritesPlanned}
+use Rattle.exb_outputs.specs.Shelving.{OnlyWrites, OnlyMakes, WritesPlanned, IsOfWriting}
+use Rattle.std.specs.List.{AllByRecursion}
+use Rattle.std.specs.Prelude.{IfErr}
+use Rattle.exb_inputs.specs.declared.fault.Fault.{Fault}
+use Rattle.exb_inputs.specs.declared.fault.Fault.TheVariants.{Changed, Memory, Write}
 
 -- ---- what has changed
 pub writes_none : (tells : Type 0) (plan : Planned) (f : Files) (a : ℕ → Id) → OnlyWrites tells plan f f a a
@@ -24,3 +28,8 @@ makes_then tells plan f g h a b c first later = record {
   others = λ t m away. later.others t m away ∙ first.others t m away;
   opened = opens_then (WritesPlanned plan) a b c first.opened (opens_same (WritesPlanned plan) b c later.kept);
 }
+
+-- no capture has changed while outputs are made
+pub writing-port : (P : ℕ → Type 0) (x : Fault) → IsOfWriting x → (p at : ℕ) → x ≡ Changed p at → P p
+writing-port P x (inl write) p at e = (let no : Write ≡ Changed p at = sym write ∙ e in absurd (cc))
+writing-port P x (inr memory) p at e = (let no : Memory ≡ Changed p at = sym memory ∙ e in absurd (cc))

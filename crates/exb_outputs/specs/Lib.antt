@@ -3,3 +3,5 @@ pub mod Order
 pub mod Shelving
 pub mod Writing
 pub mod Sent
+pub mod Apart
+pub mod Names

@@ -35,7 +35,7 @@ use Rattle.exb_run.specs.Answers.{IsOfInput, Stops, mode_for}
 use Rattle.exb_run.specs.Opening.{plan_for}
 use Rattle.exb_run.specs.Outputs.{IsPlayed, IsTraced}
 use Rattle.exb_run.proofs.Handing.{of_kind}
-use Rattle.exb_run.proofs.Running.{name_by}
+use Rattle.exb_inputs.proofs.FaultLemmas.{name_by}
 use Rattle.exb_run.proofs.Stopping.{stops_of}
 
 -- ---- what stays

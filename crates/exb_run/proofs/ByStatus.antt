@@ -7,7 +7,7 @@ use Rattle.exb_inputs.specs.Answers.{status_of}
 use Rattle.exb_inputs.specs.Counting.{CountsOnce}
 use Rattle.exb_inputs.specs.declared.fault.Fault.TheVariants.{Usage, Missing, Topology as BadTopology, Capture, Changed, Output, TooLarge, BadLine, Illegal, Read, Write, Memory}
 use Rattle.exb_run.specs.ByStatus.{CountedAt, CountedBy}
-use Rattle.exb_run.proofs.Running.{Outcome}
+use Rattle.exb_inputs.proofs.Outcomes.{Outcome}
 
 -- a status at which nothing is counted
 nothing : (own : ℕ) (a b : Faults) → own ≢ 1 → own ≢ 5 → own ≢ 6 → own ≢ 7 → own ≢ 10 → b ≡ a → CountedAt own a b

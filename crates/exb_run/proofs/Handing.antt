@@ -18,12 +18,12 @@ use Rattle.exb_topology.specs.declared.topology.Topology.{Topology}
 use Rattle.exb_topology.specs.Sound.{IsApart, IsSound}
 use Rattle.exb_inputs.specs.declared.checked.Checked.{Checked}
 use Rattle.exb_inputs.specs.Checks.{AreChecked}
-use Rattle.exb_run.specs.Checks.{CanBeRead}
+use Rattle.exb_outputs.specs.Apart.{CanBeRead}
 use Rattle.exb_outputs.specs.Plans.{output_name, Planned, IsMade, kind_at, output_count, place_in}
-use Rattle.exb_run.specs.Playing.{IsScript}
+use Rattle.exb_play.specs.Playing.{IsScript}
 use Rattle.exb_outputs.proofs.ByKind.{kind_is}
 use Rattle.exb_outputs.proofs.Places.{place_low, port_of_place}
-use Rattle.exb_run.proofs.Running.{name_by, named_by}
+use Rattle.exb_inputs.proofs.FaultLemmas.{name_by, named_by}
 
 -- ---- a topology
 -- what holds of all kinds of files that runs of a tree may write

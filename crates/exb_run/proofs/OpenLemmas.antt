@@ -13,18 +13,19 @@ use Rattle.exb_inputs.specs.declared.fault.Fault.TheVariants.{Usage, Missing, To
 use Rattle.exb_words.specs.declared.asked.Options.{Options}
 use Rattle.exb_outputs.specs.Plans.{Planned, kind_at, output_count, output_name}
 use Rattle.exb_inputs.specs.Checks.{AreAllGood}
-use Rattle.exb_run.specs.Shelving.{IsOfPlay, IsOfRun}
+use Rattle.exb_inputs.specs.Reading.{IsOfPlay, IsOfAudit, IsOfCapture, IsOfPlaying}
+use Rattle.exb_play.specs.Shelving.{IsOfRun}
 use Rattle.exb_outputs.specs.Shelving.{WritesPlanned}
 use Rattle.exb_inputs.specs.Answers.{HoldsTopology, status_of}
-use Rattle.exb_inputs.specs.Reading.{IsOfAudit, IsOfCapture, IsOfPlaying}
 use Rattle.exb_auditing.specs.Reads.{ReadsEvidence}
 use Rattle.exb_auditing.specs.Scopes.{scope_of}
 use Rattle.exb_auditing.proofs.Steps.{reads_evidence}
-use Rattle.exb_run.specs.Opening.{IsOutput, IsWanted, WritesOutput, IsOpenedFor, OpensBy}
+use Rattle.exb_outputs.specs.Names.{IsOutput}
+use Rattle.exb_run.specs.Opening.{IsWanted, WritesOutput, IsOpenedFor, OpensBy}
 use Rattle.exb_inputs.specs.Shelving.{ReadsCapture}
 use Rattle.exb_outputs.proofs.ByKind.{kind_is}
 use Rattle.exb_run.proofs.Reporting.{early_end, opens_on}
-use Rattle.exb_run.proofs.Running.{Outcome}
+use Rattle.exb_inputs.proofs.Outcomes.{Outcome}
 
 -- ---- faults of a topology that is played
 pub capture_plays : (x : Fault) → IsOfCapture x → IsOfPlaying x

@@ -17,18 +17,18 @@ use Rattle.exb_inputs.specs.declared.fault.Flaw.{Flaw}
 use Rattle.exb_inputs.specs.Answers.{CanBe, HoldsTopology, fault_line, fault_status, line_of, status_of}
 use Rattle.exb_inputs.specs.Checks.{FirstFault, IsGoodNamed}
 use Rattle.exb_inputs.specs.Inputs.{is_named, name_of}
-use Rattle.exb_inputs.specs.Reading.{IsOfPlaying, IsOfTopology}
+use Rattle.exb_inputs.specs.Reading.{IsOfPlaying, IsOfTopology, IsOfPlay}
 use Rattle.exb_inputs.specs.Shelving.{EndsAt, OpensEach, ReadsBelow, ReadsCapture}
 use Rattle.exb_inputs.proofs.EndingAt.{opened_higher}
 use Rattle.exb_inputs.proofs.FaultLemmas.{named_not}
 use Rattle.exb_outputs.specs.Order.{IsLate, MakesInOrder}
 use Rattle.exb_run.specs.Opening.{IsFileOf, IsRefusedEarly, MadeBehind, OpenedInOrder, OpensInOrder, ReadsUpTo, RunOpened, RunOpens, WritesOutput, plan_for}
 use Rattle.exb_outputs.specs.Plans.{Planned, output_count}
-use Rattle.exb_run.specs.Shelving.{IsOfPlay, IsOfRun}
+use Rattle.exb_play.specs.Shelving.{IsOfRun}
 use Rattle.exb_outputs.specs.Shelving.{WritesPlanned}
 use Rattle.exb_outputs.proofs.Orders.{read_then_makes}
 use Rattle.exb_run.proofs.OpenLemmas.{planned_is_output}
-use Rattle.exb_run.proofs.Running.{Outcome}
+use Rattle.exb_inputs.proofs.Outcomes.{Outcome}
 
 -- ---- one topology
 pub plan_is : (plan : Planned) (options : Options) (t : Topology) → plan.options ≡ options → plan.prefix ≡ t.prefix → plan.tree ≡ shape_of t.setup → plan ≡ plan_for t options

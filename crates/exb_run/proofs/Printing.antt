@@ -21,7 +21,7 @@ use Rattle.exb_inputs.proofs.LineLemmas.{memory_begins, memory_line}
 use Rattle.exb_run.specs.Outcomes.{CanCome}
 use Rattle.exb_run.specs.Printing.{Prints}
 use Rattle.exb_run.specs.Saying.{SaysDone}
-use Rattle.exb_run.proofs.Running.{Outcome}
+use Rattle.exb_inputs.proofs.Outcomes.{Outcome}
 
 -- a status that isn't that of the outcome is 1 or 7
 late : (status own : ℕ) → (status ≢ 1 → status ≢ 7 → status ≡ own) → status ≢ own → (status ≡ 1) ⊎ (status ≡ 7)

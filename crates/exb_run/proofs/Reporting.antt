@@ -14,8 +14,7 @@ use Rattle.exb_inputs.specs.declared.fault.Fault.{Fault}
 use Rattle.exb_inputs.specs.declared.fault.Fault.TheVariants.{Usage, Missing, Topology as BadTopology, Capture, Changed, Output, TooLarge, BadLine, Illegal, Read, Write, Memory}
 use Rattle.exb_inputs.specs.Inputs.{name_of}
 use Rattle.exb_inputs.specs.Checks.{FirstFault}
-use Rattle.exb_inputs.specs.Reading.{IsOfAudit, IsOfTopology, IsOfPlaying}
-use Rattle.exb_run.specs.Shelving.{IsOfPlay}
+use Rattle.exb_inputs.specs.Reading.{IsOfAudit, IsOfTopology, IsOfPlaying, IsOfPlay}
 use Rattle.exb_inputs.specs.Answers.{CanBe, IsFaultLine, IsRefused, fault_line, fault_status, line_of, refused_by, status_of, usage}
 use Rattle.exb_run.specs.Answers.{IsCause, IsDone, IsFailure, IsOfInput, IsRun, IsStatus, IsText, Stops, StopsWith}
 use Rattle.exb_inputs.specs.declared.fault.Part.{Part}
@@ -33,7 +32,7 @@ use Rattle.exb_auditing.specs.Scopes.{Scope, scope_of}
 use Rattle.exb_auditing.proofs.Once.{IsOfFiles, first_of_files}
 use Rattle.exb_run.specs.Outcomes.{CanCome}
 use Rattle.exb_inputs.proofs.FaultLemmas.{fault_of_named}
-use Rattle.exb_run.proofs.Running.{Outcome}
+use Rattle.exb_inputs.proofs.Outcomes.{Outcome}
 use Rattle.exb_run.proofs.Stopping.{failure_is}
 
 -- ---- which faults can come

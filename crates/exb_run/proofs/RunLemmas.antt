@@ -14,20 +14,21 @@ use Rattle.exb_words.specs.Words.{Run, Check, Make, Audit}
 use Rattle.exb_inputs.specs.declared.fault.Fault.{Fault}
 use Rattle.exb_inputs.specs.declared.fault.Fault.TheVariants.{Usage, Read, Write, Memory}
 use Rattle.exb_inputs.specs.Inputs.{input_of}
-use Rattle.exb_run.specs.Outputs.{AreFrontsOf, IsPlayed, OnlyOutputs}
+use Rattle.exb_run.specs.Outputs.{AreFrontsOf, IsPlayed}
+use Rattle.exb_outputs.specs.Names.{OnlyOutputs}
 use Rattle.exb_inputs.specs.Checks.{AreAllGood, FirstFault}
-use Rattle.exb_inputs.specs.Reading.{IsOfAudit, IsOfTopology, IsOfPlaying}
+use Rattle.exb_inputs.specs.Reading.{IsOfAudit, IsOfTopology, IsOfPlaying, IsOfPlay}
 use Rattle.exb_run.specs.Parts.{LeavesParts}
-use Rattle.exb_run.specs.Shelving.{IsOfPlay}
 use Rattle.exb_run.specs.Answers.{AreFronts, AreFrontsIn, IsDone, IsFailure, OnlyAsked, Stops, eager_summary, mode_for}
 use Rattle.exb_inputs.specs.Answers.{HoldsTopology, IsRefused}
 use Rattle.exb_auditing.specs.Audits.{IsFoundLegal, StopsAudit}
 use Rattle.exb_auditing.specs.Scopes.{scope_of}
 use Rattle.exb_auditing.proofs.Once.{legal_not, stops_once}
 use Rattle.exb_run.specs.Outcomes.{CameOut}
-use Rattle.exb_run.specs.Saying.{IsLegalLine, IsSummary}
+use Rattle.exb_run.specs.Saying.{IsLegalLine}
+use Rattle.exb_writers.specs.Counts.{IsSummary}
 use Rattle.exb_inputs.proofs.Asking.{holds_once, shape_same, prefix_same}
-use Rattle.exb_run.proofs.Running.{Outcome}
+use Rattle.exb_inputs.proofs.Outcomes.{Outcome}
 use Rattle.exb_run.proofs.Stopping.{stops_of}
 use Rattle.exb_inputs.proofs.Refused.{refused_once, held_not, first_of}
 

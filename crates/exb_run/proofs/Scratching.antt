@@ -33,16 +33,16 @@ use Rattle.exb_inputs.specs.declared.fault.Fault.{Fault}
 use Rattle.exb_inputs.specs.declared.fault.Fault.TheVariants.{Usage, Missing, Topology as BadTopology, Capture as Faulty, Changed, Output as Unread, TooLarge, BadLine, Illegal, Read, Write, Memory}
 use Rattle.exb_run.specs.Answers.{eager_summary}
 use Rattle.exb_inputs.specs.Checks.{AreAllGood, AreChecked, FirstFault, IsGood, IsGoodNamed, most_bytes}
-use Rattle.exb_run.specs.Checks.{CanBeRead}
+use Rattle.exb_outputs.specs.Apart.{CanBeRead}
 use Rattle.exb_inputs.specs.Inputs.{bytes_named, input_from, is_named, name_of, records_at}
-use Rattle.exb_run.specs.Outputs.{HasPlayed}
+use Rattle.exb_play.specs.Outputs.{HasPlayed}
 use Rattle.exb_outputs.specs.Plans.{output_name, Planned, kind_at}
 use Rattle.exb_run.specs.Scratch.{AreKept, IsKept, IsReadAs, KeepsFirst, KeepsMore, name_made}
 use Rattle.exb_inputs.specs.Shelving.{CountsFaults}
-use Rattle.exb_run.specs.Shelving.{IsChange, IsOfPlay}
+use Rattle.exb_inputs.specs.Reading.{IsChange, IsOfPlay}
 use Rattle.exb_inputs.proofs.FaultLemmas.{first_none}
 use Rattle.exb_outputs.proofs.Places.{external_low}
-use Rattle.exb_run.proofs.Running.{Outcome}
+use Rattle.exb_inputs.proofs.Outcomes.{Outcome}
 
 -- ---- one capture more
 -- what is found where one name stands behind others

@@ -10,7 +10,7 @@ use Rattle.exb_shelf.specs.Files.{Files}
 use Rattle.exb_topology.specs.declared.topology.Topology.{Topology}
 use Rattle.exb_topology.specs.Sound.{IsSound, ReadIsSound}
 use Rattle.exb_run.specs.Laws.{CountersSumUp}
-use Rattle.exb_run.proofs.Running.{named_by}
+use Rattle.exb_inputs.proofs.FaultLemmas.{named_by}
 
 -- captures name external ports alone
 of_external : (t : Topology) (file : Files) → IsSound t → IsOfExternal (input_of t file)

@@ -9,7 +9,7 @@ use Rattle.exb_inputs.specs.declared.fault.Fault.{Fault}
 use Rattle.exb_auditing.specs.Scopes.{scope_of}
 use Rattle.exb_auditing.specs.Written.{AreWithin}
 use Rattle.exb_run.specs.Answers.{IsOfInput, IsStatus, Played, RoseBy, Stops, StopsWith}
-use Rattle.exb_run.specs.Opening.{IsOutput}
+use Rattle.exb_outputs.specs.Names.{IsOutput}
 
 -- A run of the topology in the file of this name was played and written, with its trace; that file is none of its outputs; and what an
 -- audit of it reads is within the limits.

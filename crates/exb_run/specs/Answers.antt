@@ -19,7 +19,8 @@ use Rattle.exb_inputs.specs.Inputs.{input_of}
 use Rattle.exb_legal.specs.Rules.{IsLegal}
 use Rattle.exb_auditing.specs.Audits.{IsFoundLegal, IsSeen, Seen, StopsAudit, evidence_of}
 use Rattle.exb_auditing.specs.Scopes.{scope_of}
-use Rattle.exb_run.specs.Outputs.{AreFrontsOf, IsPlayed, OnlyOutputs}
+use Rattle.exb_run.specs.Outputs.{AreFrontsOf, IsPlayed}
+use Rattle.exb_outputs.specs.Names.{OnlyOutputs}
 use Rattle.exb_inputs.specs.Checks.{AreAllGood}
 use Rattle.exb_inputs.specs.Answers.{CaptureFaulty, HoldsTopology, IsRefused, fault_line, fault_status}
 

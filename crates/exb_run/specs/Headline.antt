@@ -18,7 +18,8 @@ use Rattle.exb_topology.specs.declared.topology.Topology.{Topology}
 use Rattle.exb_topology.specs.Topologies.{topology_of, topology_view}
 use Rattle.exb_words.specs.declared.asked.Options.{Options}
 use Rattle.exb_run.specs.Answers.{mode_for}
-use Rattle.exb_run.specs.Outputs.{IsTraceOf, OnlyOutputs}
+use Rattle.exb_play.specs.Outputs.{IsTraceOf}
+use Rattle.exb_outputs.specs.Names.{OnlyOutputs}
 
 -- The file of this name holds a topology, and each capture that it names can be played. There is a history that this input allows,
 -- which without a seed is its eager history; the file of each external port holds what one VLAN bridge that owns all the ports sends

@@ -2,11 +2,8 @@
 use Rattle.std.specs.Prelude.{⊤, ◌≡◌, ◌≢◌, ◌<◌, ◌+◌, ◌++◌, ◌⊎◌, ℕ, true, false, List, Option, Some, None, Result, Ok, Err, IsErrOf, String}
 use Rattle.std.specs.declared.alloc.Global.{Global}
 use Rattle.exb_model.specs.Setup.{shape_of}
-use Rattle.exb_model.specs.Tree.{Shape}
 use Rattle.exb_shelf.specs.Files.{Files}
 use Rattle.exb_shelf.specs.Shelf.{Id, IsReading, IsReadingOf, Opens, writing}
-use Rattle.exb_text.specs.declared.output.Output.{Output}
-use Rattle.exb_text.specs.Names.{file_name}
 use Rattle.exb_tables.specs.declared.rows.Named.{Named}
 use Rattle.exb_topology.specs.declared.topology.Topology.{Topology}
 use Rattle.exb_words.specs.declared.asked.Options.{Options}
@@ -14,7 +11,7 @@ use Rattle.exb_words.specs.Words.{Ask, Run, Check, Make, Audit}
 use Rattle.exb_auditing.specs.Reads.{ReadsEvidence}
 use Rattle.exb_auditing.specs.Scopes.{scope_of}
 use Rattle.exb_outputs.specs.Order.{MadeInOrder, MakesInOrder}
-use Rattle.exb_outputs.specs.Plans.{IsMade, Planned, output_count}
+use Rattle.exb_outputs.specs.Plans.{Planned, output_count}
 use Rattle.exb_inputs.specs.declared.fault.Fault.{Fault}
 use Rattle.exb_inputs.specs.declared.fault.Fault.TheVariants.{Capture, Changed}
 use Rattle.exb_inputs.specs.declared.fault.Flaw.{Flaw}
@@ -24,6 +21,7 @@ use Rattle.exb_inputs.specs.Reading.{IsOfTopology}
 use Rattle.exb_inputs.specs.Shelving.{ReadsBelow, ReadsCapture}
 use Rattle.exb_inputs.specs.Answers.{HoldsTopology, fault_line}
 use Rattle.exb_run.specs.Answers.{IsReady}
+use Rattle.exb_outputs.specs.Names.{IsOutput}
 
 -- an id to read the topology that is asked for
 abbrev pub ReadsTopology : Option Ask → Id → Type 0
@@ -54,10 +52,6 @@ ReadsInput _ file i = ⊥
 -- the files that may be read
 abbrev pub IsWanted : Option Ask → Files → Id → Type 0
 IsWanted a file i = ReadsTopology a i ⊎ ReadsInput a file i
-
--- the name of a file that runs of a tree write under a prefix
-abbrev pub IsOutput : Options → Shape → List ℕ → List ℕ → Type 0
-IsOutput options tree prefix name = (o : Output) × IsMade options tree o × (name ≡ file_name prefix o)
 
 -- an id to write an output of a topology
 pub record WritesOutput (options : Options) (t : Topology) (i : Id) : Type 0 where

@@ -7,9 +7,8 @@ use Rattle.exb_inputs.specs.declared.fault.Fault.{Fault}
 use Rattle.exb_inputs.specs.declared.fault.Fault.TheVariants.{Usage, Read, Memory}
 use Rattle.exb_run.specs.Answers.{AreFronts, IsDone, IsFailure, IsRun, OnlyAsked, Stops}
 use Rattle.exb_run.specs.Parts.{AreParts}
-use Rattle.exb_inputs.specs.Reading.{IsOfAudit, IsOfTopology, IsOfPlaying}
+use Rattle.exb_inputs.specs.Reading.{IsOfAudit, IsOfTopology, IsOfPlaying, IsOfPlay}
 use Rattle.exb_run.specs.Saying.{SaysDone}
-use Rattle.exb_run.specs.Shelving.{IsOfPlay}
 
 -- a fault that can come where this is asked for
 abbrev pub CanCome : Option Ask → Fault → Type 0

@@ -1,48 +1,23 @@
 -- What a run leaves, however it ended: fronts of the texts of what it told so far.
-use Rattle.std.specs.Prelude.{◌≡◌, ◌<◌, ◌⊎◌, ℕ, true, List, Option, Some}
+use Rattle.std.specs.Prelude.{◌≡◌, ◌⊎◌, ℕ, true, List, Option, Some}
 use Rattle.exb_model.specs.History.{History}
-use Rattle.exb_model.specs.Input.{Input, Mode, tree_of}
 use Rattle.exb_model.specs.Setup.{shape_of}
 use Rattle.exb_model.specs.Traces.{TraceLine}
 use Rattle.exb_model.specs.Tree.{Shape}
 use Rattle.exb_inputs.specs.Answers.{HoldsTopology}
 use Rattle.exb_inputs.specs.Inputs.{input_of}
-use Rattle.exb_outputs.specs.Plans.{IsMade, Planned, kind_at, output_count, output_name}
+use Rattle.exb_outputs.specs.Plans.{IsMade}
 use Rattle.exb_outputs.specs.Writing.{first_text}
 use Rattle.exb_shelf.specs.Files.{Files, SameFiles}
 use Rattle.exb_text.specs.declared.output.Output.{Output}
-use Rattle.exb_text.specs.declared.output.Output.TheVariants as output
 use Rattle.exb_text.specs.Names.{file_name}
 use Rattle.exb_topology.specs.declared.topology.Topology.{Topology}
 use Rattle.exb_tracing.specs.SoFar.{IsHistorySoFar, IsTraceSoFar}
 use Rattle.exb_words.specs.declared.asked.Options.{Options}
 use Rattle.exb_words.specs.Words.{Ask, Run}
 use Rattle.exb_run.specs.Answers.{mode_for}
-use Rattle.exb_run.specs.Outputs.{IsCut, output_text}
-
--- a kind that is written as things happen; the counters are written at the end
-abbrev pub IsWrittenAlong : Output → Type 0
-IsWrittenAlong (output.Capture q) = Unit {0}
-IsWrittenAlong output.Journal = Unit {0}
-IsWrittenAlong output.Trace = Unit {0}
-IsWrittenAlong output.Counters = ⊥
-
--- ---- the outputs of a plan
--- each that is written along is as it was, or holds a front of its text
-abbrev pub AreCutAlong : Planned → Files → Files → (Output → List ℕ) → Type 0
-AreCutAlong plan old new text = (j : ℕ) → j < output_count plan → IsWrittenAlong (kind_at plan j) → IsCut (old (output_name plan j)) (new (output_name plan j)) (text (kind_at plan j))
-
--- these texts are those of one history of the first segments of the input, and of a trace of it
-pub record IsCutSoFar (m : Mode) (i : Input) (plan : Planned) (old new : Files) : Type 0 where
-  pub history : History
-  pub lines : List TraceLine
-  pub told : IsHistorySoFar m i history
-  pub traced : plan.options.trace ≡ true → IsTraceSoFar i history lines
-  pub cut : AreCutAlong plan old new (output_text i history lines)
-
--- they are what the outputs begin with, or those of a history so far
-abbrev pub AreCutSoFar : Mode → Input → Planned → Files → Files → Type 0
-AreCutSoFar m i plan old new = AreCutAlong plan old new first_text ⊎ IsCutSoFar m i plan old new
+use Rattle.exb_outputs.specs.Names.{IsCut}
+use Rattle.exb_writers.specs.Texts.{output_text, IsWrittenAlong}
 
 -- ---- by their names
 -- the file of each external port, the journal, and where it is asked for the trace: each is as it was, or holds a front of its text

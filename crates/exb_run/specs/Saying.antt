@@ -3,15 +3,11 @@ use Rattle.std.specs.Prelude.{◌≡◌, ℕ, List, Option, Some, None}
 use Rattle.exb_auditing.specs.Audits.{legal_line}
 use Rattle.exb_made.specs.Made.{made}
 use Rattle.exb_model.specs.Setup.{Limits}
-use Rattle.exb_model.specs.Texts.{Counts, summary_line}
 use Rattle.exb_needs.specs.Lines.{lines_of}
 use Rattle.exb_needs.specs.declared.needs.Needs.{Needs}
 use Rattle.exb_words.specs.Words.{Ask, Run, Check, Make, Audit}
 use Rattle.exb_run.specs.Answers.{eager_summary}
-
--- the line of some counts
-abbrev pub IsSummary : List ℕ → Type 0
-IsSummary text = (c : Counts) × (text ≡ summary_line c)
+use Rattle.exb_writers.specs.Counts.{IsSummary}
 
 -- the lines on what some topology needs, and has
 abbrev pub AreLines : List ℕ → Type 0

@@ -5,14 +5,8 @@
 
 mod audit;
 mod check;
-mod counted;
-mod feed;
-mod game;
 pub mod laws;
-mod leaving;
 mod making;
-mod play;
-mod script;
 mod top;
 
 pub use top::run;

@@ -5,8 +5,6 @@ ghost use Rattle.exb_shelf.specs.Memory.{scratch_files};
 ghost use Rattle.exb_run.specs.Answers.{eager_summary};
 ghost use Rattle.exb_run.specs.Scratch.{KeepsFirst, KeepsMore};
 
-use crate::play::play;
-use crate::script::{Schedule, Script};
 use exb_fate::Fate;
 use exb_inputs::{Fault, check_captures};
 use exb_made::laws::arrives_at_externals;
@@ -14,6 +12,7 @@ use exb_made::{Capture, make};
 use exb_model::memory::NoMemory;
 use exb_model::text::Text;
 use exb_outputs::Plan;
+use exb_play::{Schedule, Script, play};
 use exb_shelf::ScratchShelf;
 use exb_tables::Named;
 use exb_words::Options;

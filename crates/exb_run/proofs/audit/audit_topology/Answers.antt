@@ -9,7 +9,7 @@ use Rattle.exb_auditing.specs.Audits.{IsFoundLegal, StopsAudit}
 use Rattle.exb_auditing.specs.Scopes.{scope_of}
 use Rattle.exb_run.proofs.OpenLemmas.{audit_refused_opens, opens_by_audit}
 use Rattle.exb_run.proofs.RunLemmas.{came_audit_refused, came_audited}
-use Rattle.exb_run.proofs.Running.{files_same}
+use Rattle.exb_inputs.proofs.Outcomes.{files_same}
 use Rattle.exb_run.proofs.audit.audit_topology.Goals as goal
 
 pub returns-in_err-topology-clause-came : goal.returns-in_err-topology-clause-came

@@ -1,5 +1,5 @@
 use Rattle.std.proofs.lemmas.Result.{err_from_is_err_and}
-use Rattle.exb_run.proofs.Ports.{made-later}
+use Rattle.exb_inputs.proofs.Outcomes.{made-later}
 use Rattle.exb_inputs.specs.declared.fault.Fault.{Fault}
 use Rattle.exb_run.proofs.OpenLemmas.{check_opens}
 use Rattle.exb_run.proofs.RunLemmas.{came_check_refused, came_checked}

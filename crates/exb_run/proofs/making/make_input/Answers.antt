@@ -11,12 +11,12 @@ use Rattle.exb_tables.specs.declared.rows.Named.{Named}
 use Rattle.exb_inputs.specs.declared.checked.Checked.{Checked}
 use Rattle.exb_inputs.specs.declared.fault.Fault.TheVariants.{Read, Memory}
 use Rattle.exb_inputs.specs.Checks.{AreAllGood, AreChecked, FirstFault}
-use Rattle.exb_run.specs.Checks.{CanBeRead}
+use Rattle.exb_outputs.specs.Apart.{CanBeRead}
 use Rattle.exb_inputs.specs.Inputs.{input_from}
-use Rattle.exb_run.specs.Playing.{IsScript}
+use Rattle.exb_play.specs.Playing.{IsScript}
 use Rattle.exb_run.specs.Scratch.{KeepsFirst}
 use Rattle.exb_run.proofs.Handing.{made_script}
-use Rattle.exb_run.proofs.Running.{files_same}
+use Rattle.exb_inputs.proofs.Outcomes.{files_same}
 use Rattle.exb_run.proofs.Scratching.{all_good, checked_alone, eager_says, input_same, made_captures, memory_alone}
 use Rattle.exb_run.proofs.making.make_input.Goals as goal
 

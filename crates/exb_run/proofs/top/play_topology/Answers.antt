@@ -1,13 +1,13 @@
 use Rattle.std.proofs.Common.{◌≡◌, List, Err, ap, sym, subst, ◌∙◌, inl, inr, true, ℕ}
 use Rattle.std.proofs.lemmas.Result.{err_from_is_err_and}
 use Rattle.std.specs.Prelude.{string_bytes}
-use Rattle.exb_run.specs.Parts.{AreCutSoFar}
+use Rattle.exb_play.specs.Parts.{AreCutSoFar}
 use Rattle.exb_run.proofs.Parts.{parts-by}
-use Rattle.exb_run.proofs.Ports.{checking-port}
+use Rattle.exb_inputs.proofs.Ports.{checking-port}
 use Rattle.exb_inputs.proofs.ShelvingLemmas.{counts_from, counts_memory}
 use Rattle.exb_model.specs.declared.setup.Timed.{Timed}
 use Rattle.exb_model.specs.declared.setup.Verdict.{Verdict}
-use Rattle.exb_model.specs.Input.{Input, Mode}
+use Rattle.exb_model.specs.Input.{Input, Mode, tree_of}
 use Rattle.exb_model.specs.Setup.{shape_of}
 use Rattle.exb_shelf.specs.Files.{Files}
 use Rattle.exb_shelf.specs.Shelf.{Opens}
@@ -15,14 +15,17 @@ use Rattle.exb_tables.specs.declared.rows.Named.{Named}
 use Rattle.exb_words.specs.declared.asked.Options.{Options}
 use Rattle.exb_inputs.specs.declared.checked.Checked.{Checked}
 use Rattle.exb_inputs.specs.Checks.{AreAllGood, AreChecked, FirstFault}
-use Rattle.exb_run.specs.Checks.{CanBeRead}
+use Rattle.exb_outputs.specs.Apart.{CanBeRead}
 use Rattle.exb_inputs.specs.Inputs.{input_from, input_of, is_named}
-use Rattle.exb_run.specs.Outputs.{AreCutEagerly, HasPlayed, IsPlayed, OnlyOutputs}
+use Rattle.exb_writers.specs.Texts.{AreCutEagerly}
+use Rattle.exb_play.specs.Outputs.{HasPlayed}
+use Rattle.exb_run.specs.Outputs.{IsPlayed}
+use Rattle.exb_outputs.specs.Names.{OnlyOutputs}
 use Rattle.exb_outputs.specs.Plans.{OnlyPlanned, Planned}
 use Rattle.exb_inputs.specs.Shelving.{EndsAt, ReadsCapture, OpensEach}
-use Rattle.exb_run.specs.Playing.{IsScript, mode_of}
+use Rattle.exb_play.specs.Playing.{IsScript, mode_of}
 use Rattle.exb_outputs.specs.Order.{MakesInOrder}
-use Rattle.exb_run.specs.Shelving.{IsOfRun}
+use Rattle.exb_play.specs.Shelving.{IsOfRun}
 use Rattle.exb_run.specs.Answers.{mode_for}
 use Rattle.exb_inputs.proofs.FaultLemmas.{first_none, first_once}
 use Rattle.exb_run.proofs.Handing.{sound_captures, sound_script}
@@ -31,7 +34,9 @@ use Rattle.exb_run.proofs.OpenLemmas.{opened_for}
 use Rattle.exb_run.proofs.Ordered.{captures_are_files, ends_own, err_is, ends_upto, files_for, plan_is, play_own, behind_checks, behind_none}
 use Rattle.exb_run.specs.Opening.{plan_for}
 use Rattle.exb_inputs.specs.declared.fault.Fault.TheVariants.{Memory}
-use Rattle.exb_run.proofs.Running.{files_same, fronts_by, only_by, played_by, if_ok_map, if_err_map}
+use Rattle.exb_inputs.proofs.Outcomes.{files_same, if_ok_map, if_err_map}
+use Rattle.exb_outputs.proofs.Names.{only_by}
+use Rattle.exb_run.proofs.Running.{fronts_by, played_by}
 use Rattle.exb_run.proofs.top.play_topology.Goals as goal
 
 pub play-requires-clause-script : goal.play-requires-clause-script
@@ -162,7 +167,7 @@ returns-clause-others g c tells =
     let after = S.file c.play.new.shelf in
     let i : Input = input_of t before in
     subst (λ (b : Options). OnlyOutputs b (shape_of t.setup) t.prefix before after) c.in_ok-plan.ensures.options
-    (only_by i plan t.prefix (c.in_ok-plan.ensures.prefix ∙ c.as_str.ensures) c.in_ok-plan.ensures.tree before after
+    (only_by (tree_of i) plan t.prefix (c.in_ok-plan.ensures.prefix ∙ c.as_str.ensures) c.in_ok-plan.ensures.tree before after
     (subst (λ (f : Files). OnlyPlanned plan f after) (files_same before read c.in_ok-checked.ensures.files) (c.play.ensures.only.others tells)))
 
 -- ---- what is opened

@@ -11,7 +11,7 @@ use Rattle.exb_run.proofs.OpenLemmas.{opens_by_status}
 use Rattle.exb_run.proofs.Ordered.{opened_by_run}
 use Rattle.exb_run.proofs.Printing.{memory_is_one, prints_by}
 use Rattle.exb_run.proofs.Reporting.{can_be, cause_of, done_by, early_end, fault_says, front_by, is_missing, is_read, is_usage, made_is, none_by_usage, not_ten, of_input, read_line, run_by_write, status_cases, status_is, stop_not_one, stop_not_seven, stop_not_six, stops_with, text_by, usage_line, write_line, write_or_not}
-use Rattle.exb_run.proofs.Running.{Outcome}
+use Rattle.exb_inputs.proofs.Outcomes.{Outcome}
 use Rattle.exb_run.proofs.Stopping.{can_not, failure_is}
 use Rattle.exb_run.proofs.top.run.Goals as goal
 

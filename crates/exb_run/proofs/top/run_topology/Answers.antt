@@ -9,7 +9,7 @@ use Rattle.exb_inputs.specs.Shelving.{ReadsBelow}
 use Rattle.exb_run.proofs.OpenLemmas.{run_refused_opens, opens_by_run}
 use Rattle.exb_run.proofs.Ordered.{run_opens}
 use Rattle.exb_run.proofs.RunLemmas.{PlaysOut, came_run_refused, came_played}
-use Rattle.exb_run.proofs.Running.{files_same}
+use Rattle.exb_inputs.proofs.Outcomes.{files_same}
 use Rattle.exb_run.proofs.top.run_topology.Goals as goal
 
 pub returns-in_err-topology-clause-came : goal.returns-in_err-topology-clause-came

@@ -1,0 +1,160 @@
+-- Runs that ended early: what they leave is a front of what the whole eager run writes.
+use Rattle.std.proofs.Common.{◌≡◌, ℕ, ◌≤◌, ◌==◌, ◌++◌, Bool, true, false, List, [], ◌∷◌, flat_map, nat_lt, Result, Ok, Err, refl, ap, sym, subst, ◌∙◌, arith, inl, inr, append_assoc, eq-eqb}
+use Rattle.std.specs.Prelude.{if◌then◌else◌, IfOk, OnErr, String, string_bytes}
+use Rattle.std.specs.declared.alloc.Global.{Global}
+use Rattle.std.proofs.lemmas.Bool.{cases_lt, lt-ltb, le-ltb, ltb-true}
+use Rattle.std.proofs.lemmas.List.{append-nil}
+use Rattle.exb_model.specs.declared.event.Event.{Event}
+use Rattle.exb_model.specs.EagerHistory.{eager}
+use Rattle.exb_model.specs.FlatBridge.{Sent, sent_by, flat}
+use Rattle.exb_model.specs.History.{Basis, History, ◌then◌, bridge_after}
+use Rattle.exb_model.specs.Input.{Input, Mode, Eager, Segment, basis_of, tree_of, segments}
+use Rattle.exb_model.specs.Learning.{learned}
+use Rattle.exb_model.specs.Texts.{capture_text, journal_text, record_text}
+use Rattle.exb_model.specs.Traces.{TraceLine}
+use Rattle.exb_model.specs.Tree.{Shape, is_external}
+use Rattle.exb_machine.specs.Worlds.{Left as Leaving}
+use Rattle.exb_resting.specs.Motion.Playing.{IsTimely}
+use Rattle.exb_network.specs.Networks.{Network}
+use Rattle.exb_network.specs.Worlds.{all_left}
+use Rattle.exb_network.specs.declared.log.Left.{Left}
+use Rattle.exb_resting.specs.Rest.Playing.{HasWrittenFront, RunsWriteFronts}
+use Rattle.exb_schedule.specs.Playing.{HasPlayed as IsPlayedBy}
+use Rattle.exb_shelf.specs.Files.{Files}
+use Rattle.exb_resting.specs.Flight.Showing.{left_at}
+use Rattle.exb_text.specs.declared.output.Output.{Output}
+use Rattle.exb_text.specs.declared.output.Output.TheVariants as output
+use Rattle.exb_inputs.specs.declared.fault.Fault.{Fault}
+use Rattle.exb_writers.specs.declared.counted.Counted.{Counted}
+use Rattle.exb_outputs.specs.declared.outputs.Outputs.{Outputs}
+use Rattle.exb_writers.specs.Texts.{AreCutEagerly, GrowsEagerly, output_text, text_so_far}
+use Rattle.exb_play.specs.Outputs.{HasPlayed}
+use Rattle.exb_outputs.specs.Plans.{output_name, Planned, IsMade, kind_at, output_count}
+use Rattle.exb_play.specs.Playing.{IsCutOff, IsTold, Run}
+use Rattle.exb_outputs.specs.Writing.{AreCut, HasTexts, lines_of, pieces_of, with_more}
+use Rattle.exb_outputs.proofs.Cutting.{GoesOnAs, cut_now, cut_same, cut_whole, longer}
+use Rattle.exb_outputs.proofs.Filling.{weaker}
+use Rattle.exb_outputs.proofs.ByKind.{kind_is}
+use Rattle.exb_writers.proofs.Telling.{counts_written, text-more, texts-with}
+use Rattle.exb_outputs.proofs.Texts.{capture_text-append, journal_text-then}
+use Rattle.exb_writers.proofs.Cutting.{but_the_trace}
+
+-- ---- where it ends
+-- before the next segment is played
+pub cut_before : (tells : Type 0) (m : Mode) (r : Run) (plan : Planned) (now : Files) (n : Network) (c : Counted) (o : Outputs) (so_far rest : List Segment) → tells → IsTold tells m r plan now n c o so_far
+    → segments m r.input ≡ so_far ++ rest → IsCutOff m r plan now
+cut_before tells m r plan now n c o so_far rest t is segments_are = record {
+  tree = is.tree;
+  so_far = so_far;
+  rest = rest;
+  segments_are = segments_are;
+  network = n;
+  told = is.told;
+  passed = is.passed;
+  gone = is.gone;
+  lines = is.lines;
+  played = is.played;
+  tracing = is.tracing;
+  counts = [];
+  cut = cut_now plan r.before now (pieces_of o) (text_so_far is.told is.gone is.lines []) (is.texts t);
+}
+
+-- while what it told is written
+pub cut_amid : (m : Mode) (r : Run) (plan : Planned) (now : Files) (so_far rest : List Segment) (v : Network) (told more : List Event) (passed : List Bool) (gone : List Leaving) (left : List Left) (lines new : List TraceLine)
+    → plan.tree ≡ tree_of r.input → segments m r.input ≡ so_far ++ rest → v.log.tracing ≡ plan.options.trace → IsPlayedBy m r.input so_far v (told ++ more) passed (gone ++ all_left left) (lines ++ new)
+    → AreCut plan r.before now (texts-with told more gone left lines new) → IsCutOff m r plan now
+cut_amid m r plan now so_far rest v told more passed gone left lines new tree segments_are tracing played cut = record {
+  tree = tree;
+  so_far = so_far;
+  rest = rest;
+  segments_are = segments_are;
+  network = v;
+  told = told ++ more;
+  passed = passed;
+  gone = gone ++ all_left left;
+  lines = lines ++ new;
+  played = played;
+  tracing = tracing;
+  counts = [];
+  cut = cut_same plan r.before now (texts-with told more gone left lines new) (text_so_far (told ++ more) (gone ++ all_left left) (lines ++ new) []) (text-more told more gone left lines new) cut;
+}
+
+-- while what is left of all is written
+pub cut_at_end : (tells : Type 0) (m : Mode) (r : Run) (plan : Planned) (old now : Files) (n : Network) (c : Counted) (o : Outputs) → tells → (is : IsTold tells m r plan old n c o (segments m r.input))
+    → (counts : List ℕ) → ((orig : Files) (text : Output → List ℕ) → HasTexts plan (pieces_of o) orig old text → AreCut plan orig now (with_more text output.Counters counts)) → IsCutOff m r plan now
+cut_at_end tells m r plan old now n c o t is counts cut = record {
+  tree = is.tree;
+  so_far = segments m r.input;
+  rest = [];
+  segments_are = sym (append-nil (segments m r.input));
+  network = n;
+  told = is.told;
+  passed = is.passed;
+  gone = is.gone;
+  lines = is.lines;
+  counts = counts;
+  played = is.played;
+  tracing = is.tracing;
+  cut = cut_same plan r.before now (with_more (text_so_far is.told is.gone is.lines []) output.Counters counts) (text_so_far is.told is.gone is.lines counts)
+      (counts_written is.told is.gone is.lines counts) (cut r.before (text_so_far is.told is.gone is.lines []) (is.texts t));
+}
+
+-- ---- texts of a longer history
+flat_later : (b : Basis) (q : ℕ) (es : List Event) (h : History) → (more : List Sent) × (flat b (h then es) q ≡ flat b h q ++ more)
+unfolding flat
+flat_later b q [] h = ([], sym (append-nil (flat b h q)))
+flat_later b q (e ∷ es) h =
+    let now : List Sent = sent_by (bridge_after b h) (learned b h) e q in
+    let r = flat_later b q es (e ∷ h) in
+    (now ++ r.0, r.1 ∙ append_assoc (flat b h q) now r.0)
+
+module _ (law : RunsWriteFronts) (r : Run) (plan : Planned) (now : Files) (timely : IsTimely r.input) (k : IsCutOff Eager r plan now) where
+  written : HasWrittenFront r.input k.played.done
+  written = law r.input k.so_far k.rest k.played.done timely k.segments_are k.played.plays
+
+  history : eager r.input ≡ (([] then k.told) then written.more)
+  history = written.journal ∙ ap (λ (es : List Event). ([] then es) then written.more) (sym k.played.told)
+
+  capture_goes : (q : ℕ) → is_external (tree_of r.input) q ≡ true → (more : List ℕ) × (capture_text (flat (basis_of r.input) (eager r.input) q) ≡ capture_text (left_at q k.gone) ++ more)
+  capture_goes q ext =
+      let b : Basis = basis_of r.input in
+      let later = flat_later b q written.more ([] then k.told) in
+      let left : left_at q k.gone ≡ flat b ([] then k.told) q =
+      ap (left_at q) k.played.gone ∙ (written.captures q ext ∙ ap (λ (es : List Event). flat b ([] then es) q) (sym k.played.told)) in (
+        flat_map record_text later.0,
+        ap (λ (h : History). capture_text (flat b h q)) history ∙ (ap capture_text (later.1 ∙ ap (λ (xs : List Sent). xs ++ later.0) (sym left)) ∙ capture_text-append (left_at q k.gone) later.0),
+      )
+
+  journal_goes : (more : List ℕ) × (journal_text (eager r.input) ≡ journal_text ([] then k.told) ++ more)
+  journal_goes = (lines_of written.more, ap journal_text history ∙ journal_text-then ([] then k.told) written.more)
+
+  port_of : (q : ℕ) → is_external plan.tree q ≡ true → is_external (tree_of r.input) q ≡ true
+  port_of q out = ap (λ (t : Shape). is_external t q) (sym k.tree) ∙ out
+
+  goes : (o : Output) → IsMade plan.options plan.tree o → GrowsEagerly o → GoesOnAs (text_so_far k.told k.gone k.lines k.counts) (output_text r.input (eager r.input) []) o
+  goes (output.Capture q) made grows = capture_goes q (port_of q made)
+  goes output.Journal made grows = journal_goes
+  goes output.Trace made grows = absurd grows
+  goes output.Counters made grows = absurd grows
+
+  -- of a run that ended early
+  whole : AreCutEagerly r.input plan r.before now
+  whole j low grows = longer r.before now plan j (text_so_far k.told k.gone k.lines k.counts) (output_text r.input (eager r.input) []) (goes (kind_at plan j) (kind_is plan j low).made grows) (k.cut.each j low)
+
+pub cut_eagerly : (law : RunsWriteFronts) (r : Run) (plan : Planned) (now : Files) → IsTimely r.input → IsCutOff Eager r plan now → AreCutEagerly r.input plan r.before now
+cut_eagerly law r plan now timely k = whole law r plan now timely k
+
+-- of one that played all
+pub played_eagerly : (i : Input) (plan : Planned) (f g : Files) (line : List ℕ) → HasPlayed Eager i plan f g line → AreCutEagerly i plan f g
+played_eagerly i plan f g line played =
+    but_the_trace i plan played.lines f g
+    (cut_whole plan f g (output_text i (eager i) played.lines)
+    (weaker f g (output_count plan) (output_name plan) (λ j bytes. bytes ≡ output_text i played.history played.lines (kind_at plan j)) (λ j bytes. bytes ≡ output_text i (eager i) played.lines (kind_at plan j)) played.outputs
+    (λ j bytes l is. is ∙ ap (λ (h : History). output_text i h played.lines (kind_at plan j)) (played.eager refl))))
+
+-- however it ended
+pub ended_eagerly : (law : RunsWriteFronts) (m : Mode) (r : Run) (plan : Planned) (now : Files) (o : Result (String Global) Fault) → m ≡ Eager → IsTimely r.input
+    → IfOk o (λ line. HasPlayed m r.input plan r.before now (string_bytes line)) → OnErr o (IsCutOff m r plan now) → AreCutEagerly r.input plan r.before now
+ended_eagerly law m r plan now (Ok line) is timely played cut =
+    played_eagerly r.input plan r.before now (string_bytes line) (subst (λ (k : Mode). HasPlayed k r.input plan r.before now (string_bytes line)) is played)
+ended_eagerly law m r plan now (Err x) is timely played cut = cut_eagerly law r plan now timely (subst (λ (k : Mode). IsCutOff k r plan now) is cut)

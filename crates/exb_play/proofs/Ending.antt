@@ -1,0 +1,91 @@
+-- The end of a run: what it wrote and counted is what the input calls for.
+use Rattle.std.proofs.Common.{◌≡◌, ℕ, ◌<◌, ◌^◌, Bool, true, false, List, [], Option, Some, None, length, All, get_or, refl, ap, sym, subst, ◌∙◌, arith}
+use Rattle.std.proofs.lemmas.Bool.{false≢true}
+use Rattle.exb_model.specs.declared.event.Event.{Event}
+use Rattle.exb_model.specs.EagerHistory.{eager}
+use Rattle.exb_model.specs.FlatBridge.{flat}
+use Rattle.exb_model.specs.History.{History, ◌then◌}
+use Rattle.exb_model.specs.Input.{Input, Mode, Eager, basis_of, tree_of, segments}
+use Rattle.exb_model.specs.LegalHistory.{Legal}
+use Rattle.exb_model.specs.Texts.{capture_text, counts}
+use Rattle.exb_model.specs.Traces.{TraceLine}
+use Rattle.exb_model.specs.Tree.{Shape, IsTree, is_external}
+use Rattle.exb_text.specs.declared.output.Output.{Output}
+use Rattle.exb_text.specs.declared.output.Output.TheVariants as output
+use Rattle.exb_counters.specs.declared.counters.Counters.{Counters}
+use Rattle.exb_counters.specs.Counters.{count_text}
+use Rattle.exb_machine.specs.Runs.Passed.{passed_over}
+use Rattle.exb_wiring.specs.Counting.{CountsGoOn}
+use Rattle.exb_machine.specs.Telling.{all_told}
+use Rattle.exb_machine.specs.Worlds.{Left}
+use Rattle.exb_resting.specs.Motion.Playing.{IsTimely}
+use Rattle.exb_network.specs.Networks.{Network}
+use Rattle.exb_resting.specs.Rest.Playing.{HasWrittenIn, PlaysIn, RunsAreUnderWay, RunsSayPassed, RunsWriteEagerly, RunsWriteLegally}
+use Rattle.exb_schedule.specs.Playing.{HasPlayed}
+use Rattle.exb_resting.specs.Flight.Showing.{left_at}
+use Rattle.exb_tracing.specs.Runs.{RunsTellLegally}
+use Rattle.exb_play.specs.Outputs.{IsTraceOf}
+use Rattle.exb_writers.specs.Texts.{output_text, text_so_far}
+use Rattle.exb_outputs.specs.declared.outputs.Outputs.{Outputs}
+use Rattle.exb_outputs.specs.Sent.{HasSent, capture_size, counts_with}
+use Rattle.exb_outputs.specs.Plans.{Planned, IsMade, kind_at, output_count}
+use Rattle.exb_writers.specs.Counts.{AreCounted, counts_so_far, counts_text}
+use Rattle.exb_writers.proofs.PortCounts.{counts_end, port_whole}
+use Rattle.exb_outputs.proofs.ByKind.{kind_is}
+use Rattle.exb_writers.proofs.Counting.{LeftExternal, counts-whole}
+use Rattle.exb_outputs.proofs.Places.{external_low}
+
+module _ (m : Mode) (i : Input) (plan : Planned) (tree : plan.tree ≡ tree_of i) (is_tree : IsTree plan.tree) (timely : IsTimely i) (under_way : RunsAreUnderWay) (legally : RunsWriteLegally)
+    (n : Network) (told : List Event) (passed : List Bool) (gone : List Left) (lines : List TraceLine) (played : HasPlayed m i (segments m i) n told passed gone lines) where
+  written : HasWrittenIn m i played.done
+  written = legally m i played.done timely played.plays
+
+  same-history : ([] then told) ≡ ([] then played.done.events)
+  same-history = ap (λ (es : List Event). [] then es) played.told
+
+  -- the history is legal
+  pub legal : Legal m i ([] then told)
+  legal = subst (Legal m i) (sym same-history) written.journal
+
+  -- and in an eager run the eager one
+  pub eagerly : RunsWriteEagerly → m ≡ Eager → ([] then told) ≡ eager i
+  eagerly law is = same-history ∙ (law i played.done timely (subst (λ (k : Mode). PlaysIn k i (segments k i) played.done) is played.plays)).journal
+
+  -- its trace is legal
+  pub trace : RunsTellLegally → n.log.tracing ≡ true → IsTraceOf i ([] then told) lines
+  trace law on =
+      subst (λ (ls : List TraceLine). IsTraceOf i ([] then told) ls) (sym (played.traced on))
+      (subst (λ (g : History). IsTraceOf i g (all_told played.done.lines)) (sym same-history) (law m i played.done timely played.plays))
+
+  sent : (q : ℕ) → is_external (tree_of i) q ≡ true → left_at q gone ≡ flat (basis_of i) ([] then told) q
+  sent q is = ap (left_at q) played.gone ∙ written.captures q is ∙ ap (λ (g : History). flat (basis_of i) g q) (sym same-history)
+
+  -- the text of its counters
+  counters-whole : (ports : Option Counters) (o : Outputs) → AreCounted plan ports told passed → HasSent plan o (λ q. left_at q gone) → ((q : ℕ) → capture_size (left_at q gone) < 2 ^ 64) → CountsGoOn → RunsSayPassed → plan.options.counters ≡ true → counts_text plan ports o ≡ count_text (tree_of i) (basis_of i) ([] then told)
+  counters-whole None o are has room go_on says asked = absurd (false≢true (sym are ∙ asked))
+  counters-whole (Some c) o are has room go_on says asked =
+      counts_end (tree_of i) (basis_of i) told passed gone go_on (played.said ∙ says m i played.done timely played.plays ∙ ap (passed_over (basis_of i) []) (sym played.told)) sent plan.tree tree (counts_with plan o c)
+      (λ q low out. port_whole plan o c told passed gone q low out (are.2 q (are.1 q low out)) has (room q))
+
+  -- its texts
+  pub texts-whole : (ports : Option Counters) (o : Outputs) → AreCounted plan ports told passed → HasSent plan o (λ q. left_at q gone) → ((q : ℕ) → capture_size (left_at q gone) < 2 ^ 64) → CountsGoOn → RunsSayPassed →
+      (j : ℕ) → j < output_count plan → text_so_far told gone lines (counts_text plan ports o) (kind_at plan j) ≡ output_text i ([] then told) lines (kind_at plan j)
+  texts-whole ports o are has room go_on says j low = by_kind (kind_at plan j) (kind_is plan j low).made
+    where
+      by_kind : (k : Output) → IsMade plan.options plan.tree k → text_so_far told gone lines (counts_text plan ports o) k ≡ output_text i ([] then told) lines k
+      by_kind (output.Capture q) made = ap capture_text (sent q (ap (λ (t : Shape). is_external t q) (sym tree) ∙ made))
+      by_kind output.Journal made = refl
+      by_kind output.Trace made = refl
+      by_kind output.Counters made = counters-whole ports o are has room go_on says made
+
+  own : All (LeftExternal (tree_of i)) gone
+  own k d low =
+      let same : (get_or gone k d) ≡ get_or played.done.left k d = ap (λ (xs : List Left). get_or xs k d) played.gone in
+      let size = ap (λ (xs : List Left). length xs) played.gone in
+      let copy = (under_way m i (segments m i) played.done played.plays).copies k d (omega (arith, low, size)) in
+      let port : is_external (tree_of i) (get_or gone k d).port ≡ true = ap (λ (x : Left). is_external (tree_of i) x.port) same ∙ copy.port in
+      record { port = port; low = external_low plan.tree (get_or gone k d).port is_tree (ap (λ (t : Shape). is_external t (get_or gone k d).port) tree ∙ port) }
+
+  -- its counts
+  pub counts-end : counts_so_far told gone ≡ counts (tree_of i) (basis_of i) ([] then told)
+  counts-end = counts-whole (tree_of i) (basis_of i) ([] then told) told gone refl sent own

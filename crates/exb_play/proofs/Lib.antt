@@ -1,0 +1,15 @@
+pub mod Parts
+pub mod Beginning
+pub mod Ports
+pub mod Telling
+pub mod PortCounts
+pub mod Segmenting
+pub mod Taking
+pub mod Gathering
+pub mod Keeping
+pub mod Counters
+pub mod Following
+pub mod CuttingOff
+pub mod Going
+pub mod Ending
+pub mod ReadBack

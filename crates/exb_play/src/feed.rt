@@ -1,0 +1,159 @@
+//! What comes in one segment: one event, or all of one second.
+ghost use Rattle.std.specs.Prelude.{◌≡◌, ◌++◌, ◌∷◌, [], true, false, map, length, IfOk, OnOk, IfErr, IfSome, IfNone, ℕ};
+ghost use Rattle.exb_model.specs.Input.{Captured, Eager};
+ghost use Rattle.exb_merge.specs.Arrivals.{arrival_with};
+ghost use Rattle.exb_merge.specs.declared.programme.Next.{Next as Coming};
+ghost use Rattle.exb_merge.specs.Replays.{ids_in, HasPort, standings};
+ghost use Rattle.exb_schedule.specs.Playing.{arrived};
+ghost use Rattle.exb_play.specs.Playing.{mode_of};
+ghost use Rattle.exb_inputs.specs.Shelving.{CountsFaults, OnlyReads};
+ghost use Rattle.exb_inputs.specs.Reading.{IsChange, IsOfPlay};
+ghost use Rattle.exb_play.specs.UnderWay.{AreOthers, CanFeed, HasTakenSecond, IsGathered, IsTaken, NoMoreIn, NothingIsLeft, second_by};
+
+use crate::script::Schedule;
+use exb_inputs::Fault;
+use exb_merge::{Came, Next, Programme};
+use exb_model::memory::NoMemory;
+use exb_schedule::Arrival;
+use exb_shelf::Shelf;
+use std::alloc::Global;
+
+/// A second in nanoseconds.
+const NANOSECONDS: u64 = 1_000_000_000;
+
+/// What is still to come, room for what is read of it at once, and what came of it for one segment.
+#[derive(Drop)]
+pub(crate) struct Feed<'a> {
+    pub(crate) programme: Programme<'a>,
+    pub(crate) piece: Vec<u8>,
+    pub(crate) gathered: Vec<Arrival>,
+}
+
+/// A record that came, as an arrival.
+fn arrival(came: Came) -> Arrival
+    ensures { arrived result ≡ arrival_with came }
+{
+    Arrival {
+        port: came.port,
+        index: came.index,
+        moment: came.moment,
+        bytes: came.bytes,
+    }
+}
+
+/// Puts a record that came behind the arrivals so far.
+fn put(gathered: &mut Vec<Arrival>, came: Came) -> Result<(), NoMemory>
+    ensures { OnOk result (map arrived gathered.new.items ≡ map arrived gathered.old.items ++ arrival_with came ∷ []) }
+{
+    gathered.push(arrival(came))?;
+    Ok(())
+}
+
+impl Feed<'_> {
+    /// Takes what comes first, and answers its second; None exactly where nothing is left.
+    fn take_first<S: Shelf>(&mut self, alloc: Global, shelf: &mut S) -> Result<Option<u64>, Fault>
+        requires feed { CanFeed (S.ids shelf.old) self.old }
+        ensures feed { OnOk result (CanFeed (S.ids shelf.new) self.new) }
+        ensures taken { IfOk result (λ next. IfSome next (λ second. (d : Coming) × IsTaken S.tells (S.file shelf.old) (S.file shelf.new) (S.ids shelf.old) (S.ids shelf.new) self.old d self.new × (second_by d ≡ second))) }
+        ensures end { S.tells → IfOk result (λ next. IfNone next (NothingIsLeft (S.file shelf.old) (S.ids shelf.old) self.old.programme)) }
+        ensures never { S.tells → IfErr result (λ fault. IsChange fault → AreOthers (S.file shelf.old) (S.ids shelf.old) self.old.programme) }
+        ensures reads { OnlyReads (ids_in self.old.programme.captures) (S.file shelf.old) (S.file shelf.new) (S.ids shelf.old) (S.ids shelf.new) }
+        ensures port { IfErr result (λ fault. (p at : ℕ) → fault ≡ Fault.Changed p at → HasPort p (standings self.old.programme.captures)) }
+        ensures causes { IfErr result IsOfPlay }
+        ensures faults { CountsFaults result (S.faults shelf.old) (S.faults shelf.new) }
+    {
+        match self
+            .programme
+            .next(alloc, shelf, self.piece.as_mut_slice())?
+        {
+            Some(Next::Record(came)) => {
+                let second = came.moment / NANOSECONDS;
+                put(&mut self.gathered, came)?;
+                Ok(Some(second))
+            }
+            Some(Next::Command { moment, .. }) => Ok(Some(moment / NANOSECONDS)),
+            None => Ok(None),
+        }
+    }
+
+    /// Takes what comes first, where it is of this second, and answers whether it was.
+    fn take_within<S: Shelf>(
+        &mut self,
+        alloc: Global,
+        shelf: &mut S,
+        second: u64,
+    ) -> Result<bool, Fault>
+        requires feed { CanFeed (S.ids shelf.old) self.old }
+        ensures feed { OnOk result (CanFeed (S.ids shelf.new) self.new) }
+        ensures taken { IfOk result (λ came. came ≡ true → (d : Coming) × IsTaken S.tells (S.file shelf.old) (S.file shelf.new) (S.ids shelf.old) (S.ids shelf.new) self.old d self.new × (second_by d ≡ second)) }
+        ensures same { IfOk result (λ came. came ≡ false → (self.new.programme ≡ self.old.programme) × (self.new.gathered.items ≡ self.old.gathered.items)) }
+        ensures end { S.tells → IfOk result (λ came. came ≡ false → NoMoreIn second (S.file shelf.new) (S.ids shelf.new) self.new.programme) }
+        ensures never { S.tells → IfErr result (λ fault. IsChange fault → AreOthers (S.file shelf.old) (S.ids shelf.old) self.old.programme) }
+        ensures reads { OnlyReads (ids_in self.old.programme.captures) (S.file shelf.old) (S.file shelf.new) (S.ids shelf.old) (S.ids shelf.new) }
+        ensures port { IfErr result (λ fault. (p at : ℕ) → fault ≡ Fault.Changed p at → HasPort p (standings self.old.programme.captures)) }
+        ensures causes { IfErr result IsOfPlay }
+        ensures faults { CountsFaults result (S.faults shelf.old) (S.faults shelf.new) }
+    {
+        let piece = self.piece.as_mut_slice();
+        match self.programme.next_within(alloc, shelf, piece, second)? {
+            Some(Next::Record(came)) => {
+                put(&mut self.gathered, came)?;
+                Ok(true)
+            }
+            Some(Next::Command { .. }) => Ok(true),
+            None => Ok(false),
+        }
+    }
+
+    /// Takes all that comes in this second.
+    fn take_second<S: Shelf>(
+        &mut self,
+        alloc: Global,
+        shelf: &mut S,
+        second: u64,
+    ) -> Result<(), Fault>
+        requires feed { CanFeed (S.ids shelf.old) self.old }
+        ensures feed { OnOk result (CanFeed (S.ids shelf.new) self.new) }
+        ensures taken { OnOk result (HasTakenSecond S.tells second (S.file shelf.old) (S.file shelf.new) (S.ids shelf.old) (S.ids shelf.new) self.old self.new) }
+        ensures end { S.tells → OnOk result (NoMoreIn second (S.file shelf.new) (S.ids shelf.new) self.new.programme) }
+        ensures never { S.tells → IfErr result (λ fault. IsChange fault → AreOthers (S.file shelf.old) (S.ids shelf.old) self.old.programme) }
+        ensures reads { OnlyReads (ids_in self.old.programme.captures) (S.file shelf.old) (S.file shelf.new) (S.ids shelf.old) (S.ids shelf.new) }
+        ensures port { IfErr result (λ fault. (p at : ℕ) → fault ≡ Fault.Changed p at → HasPort p (standings self.old.programme.captures)) }
+        ensures causes { IfErr result IsOfPlay }
+        ensures faults { CountsFaults result (S.faults shelf.old) (S.faults shelf.new) }
+    {
+        'second: while self.take_within(alloc, shelf, second)? {}
+        Ok(())
+    }
+
+    /// Takes what comes first and all that is played with it, in the place of what was gathered before: nothing more in an eager run,
+    /// and in a seeded one all of the same second, which it answers. None exactly where nothing is left.
+    pub(crate) fn gather<S: Shelf>(
+        &mut self,
+        alloc: Global,
+        shelf: &mut S,
+        schedule: Schedule,
+    ) -> Result<Option<u64>, Fault>
+        requires feed { CanFeed (S.ids shelf.old) self.old }
+        ensures feed { OnOk result (CanFeed (S.ids shelf.new) self.new) }
+        ensures gathered { IfOk result (λ next. IfSome next (λ second. IsGathered S.tells (mode_of schedule) (S.file shelf.old) (S.file shelf.new) (S.ids shelf.old) (S.ids shelf.new) second self.old.programme self.new)) }
+        ensures end { S.tells → IfOk result (λ next. IfNone next (NothingIsLeft (S.file shelf.old) (S.ids shelf.old) self.old.programme)) }
+        ensures never { S.tells → IfErr result (λ fault. IsChange fault → AreOthers (S.file shelf.old) (S.ids shelf.old) self.old.programme) }
+        ensures reads { OnlyReads (ids_in self.old.programme.captures) (S.file shelf.old) (S.file shelf.new) (S.ids shelf.old) (S.ids shelf.new) }
+        ensures port { IfErr result (λ fault. (p at : ℕ) → fault ≡ Fault.Changed p at → HasPort p (standings self.old.programme.captures)) }
+        ensures causes { IfErr result IsOfPlay }
+        ensures faults { CountsFaults result (S.faults shelf.old) (S.faults shelf.new) }
+    {
+        self.gathered.clear();
+        let Some(second) = self.take_first(alloc, shelf)? else {
+            return Ok(None);
+        };
+        match schedule {
+            Schedule::Eager => Ok(Some(second)),
+            Schedule::Seeded { .. } => {
+                self.take_second(alloc, shelf, second)?;
+                Ok(Some(second))
+            }
+        }
+    }
+}

@@ -1,0 +1,16 @@
+//! One bridge is played: its setup with commands and fates (`Script`) and the captures that were checked, in one order or the other
+//! (`Schedule`). Upwards it promises that, where all went well, the outputs of a plan hold the texts of a history that the input allows,
+//! the eager one in an eager run, and that however it ended they hold fronts of the texts of what was told so far. It reaches bridge
+//! and extenders through `exb_schedule` alone, and files through `exb_shelf`'s trait.
+//!
+//! `src`: `play` (outputs made, captures opened again), `feed` (what comes for one segment), `game` (the world under way, what is
+//! written of it and counted), `script` (what is played, and how).
+#![tactic(auto)]
+
+mod feed;
+mod game;
+mod play;
+mod script;
+
+pub use play::play;
+pub use script::{Schedule, Script};

@@ -1,0 +1,118 @@
+//! Playing a script and captures that were checked: the opening, then each segment in its turn.
+ghost use Rattle.std.specs.Prelude.{[], ◌≡◌, ◌<◌, ◌^◌, ℕ, true, IfOk, IfErr, string_bytes};
+ghost use Rattle.exb_model.specs.Input.{Eager};
+ghost use Rattle.exb_model.specs.Setup.{IsValid, shape_of};
+ghost use Rattle.exb_outputs.specs.Apart.{CanBeRead};
+ghost use Rattle.exb_inputs.specs.Inputs.{input_from, is_named};
+ghost use Rattle.exb_inputs.specs.Shelving.{ReadsCapture, CountsFaults};
+ghost use Rattle.exb_outputs.specs.Order.{MakesInOrder};
+ghost use Rattle.exb_play.specs.Parts.{AreCutSoFar};
+ghost use Rattle.exb_writers.specs.Texts.{AreCutEagerly};
+ghost use Rattle.exb_play.specs.Outputs.{HasPlayed};
+ghost use Rattle.exb_outputs.specs.Plans.{OnlyPlanned};
+ghost use Rattle.exb_play.specs.Playing.{IsScript, mode_of};
+ghost use Rattle.exb_writers.specs.Counts.{IsSummary};
+ghost use Rattle.exb_inputs.specs.Reading.{IsChange, IsOfPlay};
+ghost use Rattle.exb_play.specs.Shelving.{OnlyPlays};
+ghost use Rattle.exb_outputs.specs.Sent.{HasSent};
+ghost use Rattle.exb_outputs.specs.Writing.{HasTexts, IsReady, first_text, pieces_of};
+ghost use Rattle.exb_shelf.specs.Files.{Files};
+ghost use Rattle.exb_shelf.specs.Shelf.{Opens};
+
+use crate::feed::Feed;
+use crate::game::play_feed;
+use crate::script::{Schedule, Script};
+use exb_fate::Fate;
+use exb_inputs::{Checked, Fault, open_all, start_of};
+use exb_merge::Programme;
+use exb_merge::laws::{merge_of_all, start_is_least};
+use exb_outputs::{Outputs, Plan, create_all};
+use exb_shelf::{PIECE, Shelf, room};
+use exb_tables::Named;
+use std::alloc::Global;
+
+/// Plays a script and the captures that are named, of which this was told, into outputs that were made, and answers the summary line.
+fn play_into<S: Shelf>(
+    alloc: Global,
+    shelf: &mut S,
+    plan: &Plan,
+    script: &Script<'_>,
+    names: &[Named],
+    checked: &[Checked],
+    schedule: Schedule,
+    fate: Box<dyn Fate>,
+    outputs: Outputs,
+) -> Result<String, Fault>
+    requires valid { IsValid script.now.setup.now }
+    requires tree { plan.now.tree ≡ shape_of script.now.setup.now }
+    requires script { IsScript (shape_of script.now.setup.now) script.now.commands.now script.now.fate.now }
+    requires captures { CanBeRead S.tells plan.now names.now (S.file shelf.old) checked.now }
+    requires fate { left fate < 2 ^ 56 }
+    requires ready { IsReady plan.now (S.ids shelf.old) outputs }
+    requires texts { (before : Files) × (S.tells → HasTexts plan.now (pieces_of outputs) before (S.file shelf.old) first_text) }
+    requires sent { HasSent plan.now outputs (λ q. []) }
+    ensures done { S.tells → IfOk result (λ line. (before : Files) → HasTexts plan.now (pieces_of outputs) before (S.file shelf.old) first_text
+        → HasPlayed (mode_of schedule) (input_from script.now.setup.now script.now.commands.now names.now (S.file shelf.old)) plan.now before (S.file shelf.new) (string_bytes line)) }
+    ensures says { IfOk result (λ line. IsSummary (string_bytes line)) }
+    ensures fronts { S.tells → mode_of schedule ≡ Eager → (before : Files) → HasTexts plan.now (pieces_of outputs) before (S.file shelf.old) first_text
+        → AreCutEagerly (input_from script.now.setup.now script.now.commands.now names.now (S.file shelf.old)) plan.now before (S.file shelf.new) }
+    ensures so_far { S.tells → (before : Files) → HasTexts plan.now (pieces_of outputs) before (S.file shelf.old) first_text
+        → AreCutSoFar (mode_of schedule) (input_from script.now.setup.now script.now.commands.now names.now (S.file shelf.old)) plan.now before (S.file shelf.new) }
+    ensures never { S.tells → IfErr result (λ fault. IsChange fault → ⊥) }
+    ensures others { S.tells → OnlyPlanned plan.now (S.file shelf.old) (S.file shelf.new) }
+    ensures opens { Opens (ReadsCapture names.now) (S.ids shelf.old) (S.ids shelf.new) }
+    ensures port { IfErr result (λ fault. (p at : ℕ) → fault ≡ Fault.Changed p at → is_named names.now p ≡ true) }
+    ensures causes { IfErr result IsOfPlay }
+    ensures faults { CountsFaults result (S.faults shelf.old) (S.faults shelf.new) }
+{
+    merge_of_all();
+    start_is_least();
+    let Ok(mut piece) = room(alloc, PIECE) else {
+        return Err(Fault::Memory);
+    };
+    let captures = open_all(alloc, shelf, piece.as_mut_slice(), names, checked)?;
+    let start = start_of(checked);
+    let programme = Programme::new(captures, script.commands, start);
+    let mut feed = Feed {
+        programme,
+        piece,
+        gathered: Vec::new(alloc),
+    };
+    play_feed(
+        alloc, shelf, plan, script, schedule, fate, outputs, &mut feed,
+    )
+}
+
+/// Plays a script and the captures that are named, of which this was told, and answers the summary line. The outputs are made first;
+/// then each capture is read again in pieces.
+pub fn play<S: Shelf>(
+    alloc: Global,
+    shelf: &mut S,
+    plan: &Plan,
+    script: &Script<'_>,
+    names: &[Named],
+    checked: &[Checked],
+    schedule: Schedule,
+    fate: Box<dyn Fate>,
+) -> Result<String, Fault>
+    requires valid { IsValid script.now.setup.now }
+    requires tree { plan.now.tree ≡ shape_of script.now.setup.now }
+    requires script { IsScript (shape_of script.now.setup.now) script.now.commands.now script.now.fate.now }
+    requires captures { CanBeRead S.tells plan.now names.now (S.file shelf.old) checked.now }
+    requires fate { left fate < 2 ^ 56 }
+    ensures done { S.tells → IfOk result (λ line. HasPlayed (mode_of schedule) (input_from script.now.setup.now script.now.commands.now names.now (S.file shelf.old)) plan.now (S.file shelf.old) (S.file shelf.new) (string_bytes line)) }
+    ensures says { IfOk result (λ line. IsSummary (string_bytes line)) }
+    ensures fronts { S.tells → mode_of schedule ≡ Eager → AreCutEagerly (input_from script.now.setup.now script.now.commands.now names.now (S.file shelf.old)) plan.now (S.file shelf.old) (S.file shelf.new) }
+    ensures so_far { S.tells → AreCutSoFar (mode_of schedule) (input_from script.now.setup.now script.now.commands.now names.now (S.file shelf.old)) plan.now (S.file shelf.old) (S.file shelf.new) }
+    ensures never { S.tells → IfErr result (λ fault. IsChange fault → ⊥) }
+    ensures only { OnlyPlays S.tells names.now plan.now (S.file shelf.old) (S.file shelf.new) (S.ids shelf.old) (S.ids shelf.new) }
+    ensures made { MakesInOrder plan.now result (S.ids shelf.old) (S.ids shelf.new) }
+    ensures port { IfErr result (λ fault. (p at : ℕ) → fault ≡ Fault.Changed p at → is_named names.now p ≡ true) }
+    ensures causes { IfErr result IsOfPlay }
+    ensures faults { CountsFaults result (S.faults shelf.old) (S.faults shelf.new) }
+{
+    let outputs = create_all(alloc, shelf, plan)?;
+    play_into(
+        alloc, shelf, plan, script, names, checked, schedule, fate, outputs,
+    )
+}

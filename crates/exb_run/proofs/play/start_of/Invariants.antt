@@ -1,6 +1,0 @@
-use Rattle.std.proofs.Common.{take}
-use Rattle.exb_run.proofs.Beginning.{IsLeastTold}
-use Rattle.exb_run.proofs.play.start_of.Given as goal
-
-abbrev pub invariant-loop-one : goal.invariant-loop-one
-invariant-loop-one l = IsLeastTold (take l.one-index l.checked) l.least

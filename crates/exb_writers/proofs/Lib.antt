@@ -1,0 +1,6 @@
+pub mod Counting
+pub mod Tallying
+pub mod Frames
+pub mod Telling
+pub mod Cutting
+pub mod PortCounts

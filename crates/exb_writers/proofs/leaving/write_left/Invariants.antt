@@ -1,0 +1,23 @@
+use Rattle.std.proofs.Common.{ℕ, List, take, ◌≡◌}
+use Rattle.exb_shelf.specs.Files.{Files}
+use Rattle.exb_shelf.specs.Shelf.{NoFewer}
+use Rattle.exb_text.specs.declared.output.Output.{Output}
+use Rattle.exb_model.specs.FlatBridge.{Sent}
+use Rattle.exb_outputs.specs.Sent.{HasSent}
+use Rattle.exb_outputs.specs.Shelving.{OnlyWrites}
+use Rattle.exb_outputs.specs.Writing.{pieces_of, HasTexts, IsReady}
+use Rattle.exb_writers.specs.Leaving.{sent_with, with_left_frames}
+use Rattle.exb_writers.proofs.leaving.write_left.Given as goal
+
+abbrev pub invariant-loop-frame : goal.invariant-loop-frame
+invariant-loop-frame g l =
+    let S = g.S.Shelf in
+    record {
+      ready : IsReady l.plan (S.ids l.shelf) l.outputs;
+      texts : S.tells → (orig : Files) (text : Output → List ℕ) → HasTexts l.plan (pieces_of l.fn.outputs) orig (S.file l.fn.shelf) text
+          → HasTexts l.plan (pieces_of l.outputs) orig (S.file l.shelf) (with_left_frames text (take l.frame-index l.left));
+      sent : (sent : ℕ → List Sent) → HasSent l.plan l.fn.outputs sent → HasSent l.plan l.outputs (sent_with sent (take l.frame-index l.left));
+      only : OnlyWrites S.tells l.plan (S.file l.fn.shelf) (S.file l.shelf) (S.ids l.fn.shelf) (S.ids l.shelf);
+      faults : NoFewer (S.faults l.fn.shelf) (S.faults l.shelf);
+      counted : S.faults l.shelf ≡ S.faults l.fn.shelf;
+    }

@@ -1,0 +1,74 @@
+-- What is counted of a run: all together for its summary, and by port where counters are asked for.
+use Rattle.std.specs.Prelude.{[], ◌≡◌, ◌<◌, ◌+◌, ℕ, Bool, true, false, List, ◌++◌, Option, Some, None, IfSome, length, fold}
+use Rattle.exb_model.specs.declared.event.Event.{Event}
+use Rattle.exb_model.specs.FlatBridge.{Sent}
+use Rattle.exb_model.specs.Texts.{Counts, counted, with_left, summary_line}
+use Rattle.exb_model.specs.Tree.{external_ports, is_external}
+use Rattle.exb_machine.specs.Worlds.{Left}
+use Rattle.exb_resting.specs.Flight.Showing.{left_at}
+use Rattle.exb_text.specs.Tallies.{FitsTally, counts_of, nothing_counted}
+use Rattle.exb_counters.specs.declared.counters.Counters.{Counters}
+use Rattle.exb_counters.specs.declared.counters.Counts5.{Counts5}
+use Rattle.exb_counters.specs.Counters.{count_lines, octets_of}
+use Rattle.exb_counters.specs.Counting.{FitsCounts, HasPort, counts_at, drops_in, nothing, plus_events}
+use Rattle.exb_writers.specs.declared.counted.Counted.{Counted}
+use Rattle.exb_outputs.specs.declared.outputs.Outputs.{Outputs}
+use Rattle.exb_outputs.specs.Plans.{Planned}
+use Rattle.exb_outputs.specs.Sent.{counts_with}
+
+-- and the counts
+abbrev pub counts_so_far : List Event → List Left → Counts
+counts_so_far told gone = with_left (length gone) (fold (λ c e. counted e c) nothing_counted told)
+
+-- the counts of port q, with these frames more
+abbrev pub with_frames : List Sent → Counts5 → Counts5
+with_frames xs c =
+    record { relayed = c.relayed; dropped = c.dropped; ignored = c.ignored; left = c.left + length xs; octets = c.octets + octets_of xs }
+
+abbrev pub port_counts_so_far : List Event → List Bool → List Left → ℕ → Counts5
+port_counts_so_far told passed gone q = with_frames (left_at q gone) (plus_events told passed q nothing)
+
+-- there are counts by port where they are asked for, and they are those of what came in
+abbrev pub AreCounted : Planned → Option Counters → List Event → List Bool → Type 0
+AreCounted plan None told passed = plan.options.counters ≡ false
+AreCounted plan (Some c) told passed =
+    (plan.options.counters ≡ true) × ((q : ℕ) → q < 4160 → is_external plan.tree q ≡ true → HasPort c q) × ((q : ℕ) → HasPort c q → counts_at c q ≡ plus_events told passed q nothing)
+
+-- there are counts by port exactly where they are asked for, and of each external port
+abbrev pub AreCountsOf : Planned → Option Counters → Type 0
+AreCountsOf plan None = plan.options.counters ≡ false
+AreCountsOf plan (Some c) = (plan.options.counters ≡ true) × ((q : ℕ) → q < 4160 → is_external plan.tree q ≡ true → HasPort c q)
+
+-- the text of the counters, with what the captures have counted
+abbrev pub counts_text : Planned → Option Counters → Outputs → List ℕ
+counts_text plan None o = []
+counts_text plan (Some c) o = count_lines (counts_with plan o c) (external_ports plan.tree)
+
+-- what is counted is what was told and has left
+pub record IsCounted (plan : Planned) (c : Counted) (told : List Event) (passed : List Bool) (gone : List Left) : Type 0 where
+  pub tally : counts_of c.tally ≡ counts_so_far told gone
+  pub ports : AreCounted plan c.ports told passed
+
+-- what was said of Relays goes with what was told: the drops of more are those of what comes more
+abbrev pub GoTogether : List Event → List Bool → Type 0
+GoTogether told passed = (more : List Event) (said : List Bool) (q : ℕ) → drops_in (told ++ more) (passed ++ said) q ≡ drops_in told passed q + drops_in more said q
+
+-- events more can be counted
+abbrev pub CanCountAt : List Event → List Bool → Counters → Type 0
+CanCountAt events passed c = (q : ℕ) → HasPort c q → FitsCounts (plus_events events passed q (counts_at c q))
+
+-- and so many frames that left
+pub record CanCount (c : Counted) (events : List Event) (passed : List Bool) (left : ℕ) : Type 0 where
+  pub tally : FitsTally (with_left left (fold (λ k e. counted e k) (counts_of c.tally) events))
+  pub ports : IfSome c.ports (CanCountAt events passed)
+
+-- and they are
+abbrev pub CountsOn : Option Counters → Option Counters → List Event → List Bool → Type 0
+CountsOn None None events passed = Unit {0}
+CountsOn (Some c) (Some d) events passed =
+    (length d.counts.items ≡ length c.counts.items) × ((q : ℕ) → HasPort c q → counts_at d q ≡ plus_events events passed q (counts_at c q))
+CountsOn _ _ events passed = ⊥
+
+-- the line of some counts
+abbrev pub IsSummary : List ℕ → Type 0
+IsSummary text = (c : Counts) × (text ≡ summary_line c)

@@ -1,0 +1,10 @@
+//! What a run tells, written and counted: frames that left, behind the captures of their ports, and what is counted of all, for the
+//! summary and by port. Upwards it promises that each file of a kind has the text of what was told and has left so far, and that the
+//! counts are those of it. It stands on the outputs (`exb_outputs`), and knows of a world only what it tells and what left it.
+#![tactic(auto)]
+
+mod counted;
+mod leaving;
+
+pub use counted::Counted;
+pub use leaving::write_left;
