@@ -6,3 +6,6 @@ pub mod Forest
 mod Ending
 mod Soon
 mod Alone
+mod Recorded
+mod Arrived
+mod Growing
