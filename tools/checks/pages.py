@@ -11,7 +11,7 @@ from .tests import Skip, Test
 
 # A command that a page shows is run where it is one of these, in a copy of the examples.
 OURS = re.compile(r"(?:cd examples/\S+ && )?(?:\.\./\.\./(?:exbr|tools/\S+\.py)|sed|cp|cat|head|grep|diff|cmp) ")
-PAGES = ["README.md", "docs/QUICKSTART.md", "docs/TRACE.md"]
+PAGES = ["README.md", "docs/QUICKSTART.md", "docs/TRACE.md", "docs/net.md"]
 
 
 def text(path):
