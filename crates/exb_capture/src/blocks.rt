@@ -3,12 +3,12 @@ ghost use Rattle.std.specs.Prelude.{◌≡◌, ◌≤◌, ◌<◌, ◌%◌, true
 ghost use Rattle.exb_capture.specs.Blocks.{Sections, no_section, whole_front, block_front};
 ghost use Rattle.exb_capture.specs.Within.{IsHead, told, Keeps, IsWithin};
 
-use crate::block::{Content, Head, head_of, whole_block};
+use crate::block::{Content, Head, PACKET, head_of, whole_block};
 use crate::fault::{Fault, Flaw};
 use crate::format::Format;
 use crate::front::Front;
 use crate::interface::Interface;
-use crate::order::ByteOrder;
+use crate::order::{ByteOrder, word_at};
 use arrayvec::ArrayVec;
 use std::marker::Model;
 
@@ -19,6 +19,16 @@ pub struct Blocks {
     order: Option<ByteOrder>,
     interfaces: ArrayVec<Interface, 256>,
     last: u64,
+}
+
+// Whether a packet stands at the front, in a little-endian section.
+#[inline(always)]
+fn is_common(order: Option<ByteOrder>, held: &[u8]) -> bool {
+    match order {
+        Some(ByteOrder::Little) => held.len() >= 12
+            && word_at(ByteOrder::Little, held, 0) == PACKET,
+        _ => false,
+    }
 }
 
 impl Model for Blocks {
@@ -46,7 +56,7 @@ impl Blocks {
 
     // What stands there, where it is a block that is looked into.
     #[inline(always)]
-    fn whole_of(&mut self, head: Head, held: &[u8]) -> Front
+    fn whole(&mut self, head: Head, held: &[u8]) -> Front
         requires sized { IsHead head }
         requires most { head.size ≤ 327_680 }
         ensures value { told result self.new held.now ≡ whole_front self.old head held.now }
@@ -55,10 +65,7 @@ impl Blocks {
     {
         let size = head.size as usize;
         if held.len() < size {
-            return Front::Short(Fault {
-                flaw: Flaw::Cut,
-                at: 0,
-            });
+            return Front::Short(Fault::new(Flaw::Cut, 0));
         }
         match whole_block(head, self.interfaces.as_slice(), self.last, &held[..size]) {
             Ok(Content::Skipped) => Front::Over(head.size),
@@ -90,57 +97,19 @@ impl Blocks {
             Err(fault) => Front::Bad(fault),
         }
     }
-}
-
-impl Blocks {
-    // The same, where the order of the bytes is asked once for all fields.
+    // What stands at the front of these bytes.
+    #[tactic(auto, unfolding(crate::specs::Blocks::block_front))]
     #[inline(always)]
-    fn whole(&mut self, head: Head, held: &[u8]) -> Front
-        requires sized { IsHead head }
-        requires most { head.size ≤ 327_680 }
-        ensures value { told result self.new held.now ≡ whole_front self.old head held.now }
+    fn stands(&mut self, held: &[u8]) -> Front
+        ensures value { told result self.new held.now ≡ block_front self.old held.now }
         ensures same { Keeps result (self.new ≡ self.old) }
         ensures within { IsWithin held.now result }
     {
-        let Head { order, kind, size } = head;
-        match order {
-            ByteOrder::Little => self.whole_of(
-                Head {
-                    order: ByteOrder::Little,
-                    kind,
-                    size,
-                },
-                held,
-            ),
-            ByteOrder::Big => self.whole_of(
-                Head {
-                    order: ByteOrder::Big,
-                    kind,
-                    size,
-                },
-                held,
-            ),
-        }
-    }
-}
-
-impl Format for Blocks {
-    ghost use Rattle.exb_capture.specs.Blocks.{block_front};
-
-    ghost stands = { block_front };
-
-    /// What stands at the front of these bytes; what was read is known from then on.
-    #[tactic(auto, unfolding(crate::specs::Blocks::block_front))]
-    #[inline(always)]
-    fn front(&mut self, held: &[u8]) -> Front {
         if held.is_empty() {
             return Front::Nothing;
         }
         if held.len() < 12 {
-            return Front::Short(Fault {
-                flaw: Flaw::Cut,
-                at: 0,
-            });
+            return Front::Short(Fault::new(Flaw::Cut, 0));
         }
         match head_of(self.order, &held[..12]) {
             Ok(head) => {
@@ -151,6 +120,34 @@ impl Format for Blocks {
                 }
             }
             Err(fault) => Front::Bad(fault),
+        }
+    }
+
+    // The same, apart.
+    #[cold]
+    #[inline(never)]
+    fn stands_apart(&mut self, held: &[u8]) -> Front
+        ensures value { told result self.new held.now ≡ block_front self.old held.now }
+        ensures same { Keeps result (self.new ≡ self.old) }
+        ensures within { IsWithin held.now result }
+    {
+        self.stands(held)
+    }
+}
+
+impl Format for Blocks {
+    ghost use Rattle.exb_capture.specs.Blocks.{block_front};
+
+    ghost stands = { block_front };
+
+    /// What stands at the front of these bytes; what was read is known from then on.
+    #[inline(always)]
+    fn front(&mut self, held: &[u8]) -> Front {
+        // The same twice: of most blocks the order and the kind are known from here on, and are asked no more.
+        if is_common(self.order, held) {
+            self.stands(held)
+        } else {
+            self.stands_apart(held).taken()
         }
     }
 

@@ -264,13 +264,7 @@ impl<F: Format> Reader<F> {
         self.go();
         if self.owing > 0 {
             let at = self.begun;
-            return self.at_last(
-                ended,
-                Fault {
-                    flaw: Flaw::Cut,
-                    at,
-                },
-            );
+            return self.at_last(ended, Fault::new(Flaw::Cut, at));
         }
         match self.look() {
             Front::Nothing => self.at_nothing(ended),
