@@ -231,27 +231,10 @@ fn or_option(
     ensures value { result ≡ or_option first order at block.now }
     ensures digits { HasDigits result }
 {
-    match first {
-        Some(first) => Some(first),
-        None => {
-            if half_word_at(order, block, at) == 9 {
-                Some(digits_at(order, block, at))
-            } else {
-                None
-            }
-        }
-    }
-}
-
-// What the first option 9 says, or 6 digits.
-fn or_six(first: Option<Result<u8, Fault>>) -> Result<u8, Fault>
-    requires { HasDigits first }
-    ensures value { result ≡ or_six first }
-    ensures digits { IfOk result (λ digits. digits ≤ 9) }
-{
-    match first {
-        Some(first) => first,
-        None => Ok(6),
+    if first.is_none() && half_word_at(order, block, at) == 9 {
+        Some(digits_at(order, block, at))
+    } else {
+        first
     }
 }
 
@@ -269,10 +252,10 @@ fn resolution(order: ByteOrder, block: &[u8]) -> Result<u8, Fault>
     let mut first: Option<Result<u8, Fault>> = None;
     'options: loop {
         if at >= to {
-            return or_six(first);
+            return first.unwrap_or(Ok(6));
         }
         if half_word_at(order, block, at) == 0 {
-            return or_six(first);
+            return first.unwrap_or(Ok(6));
         }
         let size = half_word_at(order, block, at + 2) as usize;
         if to < at + 4 + size {

@@ -21,14 +21,10 @@ pub struct Blocks {
     last: u64,
 }
 
-// Whether a packet stands at the front, in a little-endian section.
+// Whether a packet stands at the front, in a section of this order.
 #[inline(always)]
-fn is_common(order: Option<ByteOrder>, held: &[u8]) -> bool {
-    match order {
-        Some(ByteOrder::Little) => held.len() >= 12
-            && word_at(ByteOrder::Little, held, 0) == PACKET,
-        _ => false,
-    }
+fn is_packet(order: ByteOrder, held: &[u8]) -> bool {
+    held.len() >= 12 && word_at(order, held, 0) == PACKET
 }
 
 impl Model for Blocks {
@@ -143,11 +139,11 @@ impl Format for Blocks {
     /// What stands at the front of these bytes; what was read is known from then on.
     #[inline(always)]
     fn front(&mut self, held: &[u8]) -> Front {
-        // The same twice: of most blocks the order and the kind are known from here on, and are asked no more.
-        if is_common(self.order, held) {
-            self.stands(held)
-        } else {
-            self.stands_apart(held).taken()
+        // The same three times: of a packet, as most blocks are, kind and order are known from here on and asked no more.
+        match self.order {
+            Some(ByteOrder::Little) if is_packet(ByteOrder::Little, held) => self.stands(held),
+            Some(ByteOrder::Big) if is_packet(ByteOrder::Big, held) => self.stands(held),
+            _ => self.stands_apart(held).taken(),
         }
     }
 

@@ -268,10 +268,7 @@ impl<F: Format> Reader<F> {
         }
         match self.look() {
             Front::Nothing => self.at_nothing(ended),
-            Front::Short(fault) => {
-                let fault = fault.at_place(self.place);
-                self.at_last(ended, fault)
-            }
+            Front::Short(fault) => self.at_last(ended, fault.at_place(self.place)),
             Front::Bad(fault) => {
                 let fault = fault.at_place(self.place);
                 self.fail(fault);
