@@ -1,6 +1,6 @@
 //! The blocks of a pcapng file, each looked at once.
 ghost use Rattle.std.specs.Prelude.{◌≡◌, ◌≤◌, ◌<◌, ◌*◌, ◌^◌, ◌+◌, ◌-◌, ◌%◌, All, None, length, IfOk};
-ghost use Rattle.exb_capture.specs.Blocks.{new_order, old_order, order_at, kind_of, is_read, head_at, padded, is_no_frame, units_at, snapped, digits_at, or_option, or_six, resolution_from, interface_number, section_at, interface_at, enhanced_at, simple_at, content_at, block_at};
+ghost use Rattle.exb_capture.specs.Blocks.{new_order, old_order, order_at, kind_of, is_read, head_at, padded, is_no_frame, units_at, snapped, digits_at, or_option, resolution_from, interface_number, section_at, interface_at, enhanced_at, simple_at, block_at};
 ghost use Rattle.exb_capture.specs.Within.{HasDigits, HasResolution, IsIn, IsHead};
 ghost use Rattle.exb_capture.specs.Fields.{nanoseconds};
 

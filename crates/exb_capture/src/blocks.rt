@@ -1,5 +1,5 @@
 //! pcapng, block by block.
-ghost use Rattle.std.specs.Prelude.{◌≡◌, ◌≤◌, ◌<◌, ◌%◌, true, length, IfOk};
+ghost use Rattle.std.specs.Prelude.{◌≡◌, ◌≤◌};
 ghost use Rattle.exb_capture.specs.Blocks.{Sections, no_section, whole_front, block_front};
 ghost use Rattle.exb_capture.specs.Within.{IsHead, told, Keeps, IsWithin};
 
@@ -21,7 +21,7 @@ pub struct Blocks {
     last: u64,
 }
 
-// Whether a packet stands at the front, in a section of this order.
+// Whether a packet stands at the front, in a section of this order. Where it does, order and kind are known, and are asked no more.
 #[inline(always)]
 fn is_packet(order: ByteOrder, held: &[u8]) -> bool {
     held.len() >= 12 && word_at(order, held, 0) == PACKET
@@ -119,7 +119,7 @@ impl Blocks {
         }
     }
 
-    // The same, apart.
+    // The same, apart: with that of a little-endian packet, code that isn't called would grow too large to stand in its place.
     #[cold]
     #[inline(never)]
     fn stands_apart(&mut self, held: &[u8]) -> Front
@@ -127,7 +127,10 @@ impl Blocks {
         ensures same { Keeps result (self.new ≡ self.old) }
         ensures within { IsWithin held.now result }
     {
-        self.stands(held)
+        match self.order {
+            Some(ByteOrder::Big) if is_packet(ByteOrder::Big, held) => self.stands(held),
+            _ => self.stands(held),
+        }
     }
 }
 
@@ -139,10 +142,8 @@ impl Format for Blocks {
     /// What stands at the front of these bytes; what was read is known from then on.
     #[inline(always)]
     fn front(&mut self, held: &[u8]) -> Front {
-        // The same three times: of a packet, as most blocks are, kind and order are known from here on and asked no more.
         match self.order {
             Some(ByteOrder::Little) if is_packet(ByteOrder::Little, held) => self.stands(held),
-            Some(ByteOrder::Big) if is_packet(ByteOrder::Big, held) => self.stands(held),
             _ => self.stands_apart(held).taken(),
         }
     }
