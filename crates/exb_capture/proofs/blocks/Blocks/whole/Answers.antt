@@ -1,7 +1,7 @@
 use Rattle.std.proofs.Common.{◌≤◌, length, take, ap, ◌∙◌, rules}
 use Rattle.exb_capture.specs.Blocks.{Sections, whole_front, block_at}
 use Rattle.exb_capture.proofs.BlockLemmas.{packet_front}
-use Rattle.exb_capture.proofs.blocks.Blocks.whole_of.Goals as goal
+use Rattle.exb_capture.proofs.blocks.Blocks.whole.Goals as goal
 
 pub returns-in-Ok-Packet-clause-value : goal.returns-in-Ok-Packet-clause-value
 returns-in-Ok-Packet-clause-value c =
