@@ -85,11 +85,11 @@ pub none-elsewhere : (names : List Named) (file : Files) (q : ℕ) → is_named 
 none-elsewhere names file q isnt = ap (λ (b : Bool). if b then records_or_none (capture_records (bytes_at names file q)) else []) isnt
 
 -- ---- what was told of one capture
-record IsTold (names : List Named) (file : Files) (c : Checked) : Type 0 where
-  bytes : List ℕ
-  records : List Record
-  told : c.told ≡ scanned_of bytes records
-  are : records_at names file c.port ≡ records
+pub record IsTold (names : List Named) (file : Files) (c : Checked) : Type 0 where
+  pub bytes : List ℕ
+  pub records : List Record
+  pub told : c.told ≡ scanned_of bytes records
+  pub are : records_at names file c.port ≡ records
 
 told-by : (names : List Named) (file : Files) (c : Checked) → IsToldOf names file c → IsTold names file c
 told-by names file c (name, named, good) = by_file (file name) refl good

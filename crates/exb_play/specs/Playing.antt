@@ -1,5 +1,5 @@
 -- A run under way: what was told and has left so far, what is written and counted of it, and what is still to come.
-use Rattle.std.specs.Prelude.{◌≡◌, ◌≤◌, ◌<◌, ◌+◌, ◌*◌, ◌^◌, ℕ, Bool, List, ◌++◌, length, sum_by, All, AllPairs}
+use Rattle.std.specs.Prelude.{[], ◌≡◌, ◌≤◌, ◌<◌, ◌+◌, ◌*◌, ◌^◌, ℕ, Bool, List, ◌++◌, length, sum_by, All, AllPairs}
 use Rattle.std.specs.List.{AllByRecursion}
 use Rattle.exb_model.specs.declared.event.Event.{Event}
 use Rattle.exb_model.specs.declared.setup.Timed.{Timed}

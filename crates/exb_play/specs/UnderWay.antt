@@ -1,5 +1,5 @@
 -- A run under way that reads its captures again: what holds whatever these give, and what holds where the files are told.
-use Rattle.std.specs.Prelude.{◌≡◌, ◌≤◌, ◌<◌, ◌+◌, ◌*◌, ◌^◌, ◌==◌, true, false, ℕ, List, ◌∷◌, ◌++◌, Option, Some, None, length, map, filter, filter_map, flat_map, sum_by, All}
+use Rattle.std.specs.Prelude.{[], ◌≡◌, ◌≤◌, ◌<◌, ◌+◌, ◌*◌, ◌^◌, ◌==◌, true, false, ℕ, List, ◌∷◌, ◌++◌, Option, Some, None, length, map, filter, filter_map, flat_map, sum_by, All}
 use Rattle.std.specs.List.{AllByRecursion}
 use Rattle.exb_model.specs.declared.setup.Setup.{Setup}
 use Rattle.exb_model.specs.declared.setup.Timed.{Timed}

@@ -1,5 +1,5 @@
 //! Playing a script and captures that were checked: the opening, then each segment in its turn.
-ghost use Rattle.std.specs.Prelude.{◌≡◌, ◌<◌, ◌^◌, ℕ, true, IfOk, IfErr, string_bytes};
+ghost use Rattle.std.specs.Prelude.{[], ◌≡◌, ◌<◌, ◌^◌, ℕ, true, IfOk, IfErr, string_bytes};
 ghost use Rattle.exb_model.specs.Input.{Eager};
 ghost use Rattle.exb_model.specs.Setup.{IsValid, shape_of};
 ghost use Rattle.exb_outputs.specs.Apart.{CanBeRead};

@@ -1,5 +1,5 @@
 -- What is counted of a run: all together for its summary, and by port where counters are asked for.
-use Rattle.std.specs.Prelude.{◌≡◌, ◌<◌, ◌+◌, ℕ, Bool, true, false, List, ◌++◌, Option, Some, None, IfSome, length, fold}
+use Rattle.std.specs.Prelude.{[], ◌≡◌, ◌<◌, ◌+◌, ℕ, Bool, true, false, List, ◌++◌, Option, Some, None, IfSome, length, fold}
 use Rattle.exb_model.specs.declared.event.Event.{Event}
 use Rattle.exb_model.specs.FlatBridge.{Sent}
 use Rattle.exb_model.specs.Texts.{Counts, counted, with_left, summary_line}

@@ -1,5 +1,5 @@
 -- What stands in the file of each kind: after what was told and has left so far, and over a history.
-use Rattle.std.specs.Prelude.{◌<◌, ℕ, List}
+use Rattle.std.specs.Prelude.{[], ◌<◌, ℕ, List}
 use Rattle.exb_model.specs.EagerHistory.{eager as eager_history}
 use Rattle.exb_model.specs.FlatBridge.{flat}
 use Rattle.exb_model.specs.History.{History, ◌then◌}

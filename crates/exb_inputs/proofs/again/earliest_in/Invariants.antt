@@ -3,4 +3,4 @@ use Rattle.exb_inputs.specs.Again.{earliest_told}
 use Rattle.exb_inputs.proofs.again.earliest_in.Given as goal
 
 abbrev pub invariant-telling : goal.invariant-telling
-invariant-telling l = earliest_told l.least (drop l.one-index l.checked) ≡ earliest_told l.before l.checked
+invariant-telling l = earliest_told l.least (drop l.one-index l.checked) ≡ earliest_told l.fn.before l.checked
