@@ -27,9 +27,9 @@ use Rattle.exb_tracing.specs.Runs.{RunsTellLegally}
 use Rattle.exb_play.specs.Outputs.{IsTraceOf}
 use Rattle.exb_writers.specs.Texts.{output_text, text_so_far}
 use Rattle.exb_outputs.specs.declared.outputs.Outputs.{Outputs}
-use Rattle.exb_outputs.specs.Sent.{HasSent, capture_size, counts_with}
+use Rattle.exb_outputs.specs.Sent.{HasSent, capture_size}
 use Rattle.exb_outputs.specs.Plans.{Planned, IsMade, kind_at, output_count}
-use Rattle.exb_writers.specs.Counts.{AreCounted, counts_so_far, counts_text}
+use Rattle.exb_writers.specs.Counts.{AreCounted, counts_so_far, counts_text, counts_with}
 use Rattle.exb_writers.proofs.PortCounts.{counts_end, port_whole}
 use Rattle.exb_outputs.proofs.ByKind.{kind_is}
 use Rattle.exb_writers.proofs.Counting.{LeftExternal, counts-whole}

@@ -1,11 +1,10 @@
 //! The kinds of files behind the captures that are asked for.
-ghost use Rattle.std.specs.Prelude.{◌≡◌, ◌<◌, ◌≤◌, ◌++◌, ◌∷◌, [], if◌then◌else◌, get_or, length, IfOk, IfSome, IfNone, OnOk, Some, None};
+ghost use Rattle.std.specs.Prelude.{◌≡◌, ◌<◌, ◌≤◌, ◌++◌, ◌∷◌, [], if◌then◌else◌, get_or, length, IfOk, OnOk};
 ghost use Rattle.exb_text.specs.declared.output.Output.TheVariants as output;
-ghost use Rattle.exb_words.specs.Kinds.{kinds_behind, number_of, place_among, place_behind, port_of};
+ghost use Rattle.exb_words.specs.Kinds.{kinds_behind, number_of, place_among, place_behind};
 
 use crate::asked::Options;
 use exb_model::memory::NoMemory;
-use exb_model::port::PortId;
 use exb_text::Output;
 use std::alloc::Global;
 use std::marker::Model;
@@ -27,19 +26,6 @@ impl Model for Kinds {
     ghost view = { λ k. k.options };
 
     ghost invariant = { λ k. k.behind.items ≡ kinds_behind k.options };
-}
-
-/// The port of a capture; the other kinds have none.
-pub fn port_of(kind: Output) -> Option<PortId>
-    ensures port { IfSome result (λ port. port_of kind ≡ Some port) }
-    ensures none { IfNone result (port_of kind ≡ None) }
-{
-    match kind {
-        Output::Capture(port) => Some(port),
-        Output::Journal => None,
-        Output::Trace => None,
-        Output::Counters => None,
-    }
 }
 
 /// The number of a kind.

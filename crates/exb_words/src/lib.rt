@@ -11,5 +11,5 @@ mod said;
 mod words;
 
 pub use asked::{Asked, Options};
-pub use kinds::{Kinds, port_of};
+pub use kinds::Kinds;
 pub use words::accept;

@@ -24,7 +24,7 @@ use Rattle.exb_writers.specs.Texts.{text_so_far}
 use Rattle.exb_outputs.specs.Writing.{first_text, lines_of, with_more}
 use Rattle.exb_writers.specs.Leaving.{with_left_frames}
 use Rattle.exb_writers.proofs.Counting.{count_events}
-use Rattle.exb_outputs.proofs.OutputLemmas.{no_trace}
+use Rattle.exb_writers.proofs.Lines.{no_trace}
 use Rattle.exb_outputs.proofs.Texts.{capture_text-append, capture_text-nil, journal_text-then}
 
 -- ---- texts

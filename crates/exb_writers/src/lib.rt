@@ -4,7 +4,13 @@
 #![tactic(auto)]
 
 mod counted;
+mod counters;
+mod journal;
 mod leaving;
+mod trace;
 
 pub use counted::Counted;
+pub use counters::write_counters;
+pub use journal::write_events;
 pub use leaving::write_left;
+pub use trace::write_trace;

@@ -7,16 +7,16 @@ use Rattle.exb_text.specs.declared.output.Output.{Output}
 use Rattle.exb_outputs.specs.Sent.{SameCaptures}
 use Rattle.exb_outputs.specs.Shelving.{OnlyWrites}
 use Rattle.exb_outputs.specs.Writing.{pieces_of, HasTexts, IsReady, with_more}
-use Rattle.exb_outputs.proofs.outputs.Outputs.add_lines.Given as goal
+use Rattle.exb_writers.proofs.trace.write_trace.Given as goal
 
 abbrev pub invariant-loop-one : goal.invariant-loop-one
 invariant-loop-one g l =
     let S = g.S.Shelf in
     record {
-      ready : IsReady l.plan (S.ids l.shelf) l.self;
-      texts : S.tells → (orig : Files) (text : Output → List ℕ) → HasTexts l.plan (pieces_of l.fn.self) orig (S.file l.fn.shelf) text
-          → HasTexts l.plan (pieces_of l.self) orig (S.file l.shelf) (with_more text output.Trace (trace_text (take l.one-index l.lines)));
-      same : SameCaptures l.plan l.fn.self l.self;
+      ready : IsReady l.plan (S.ids l.shelf) l.outputs;
+      texts : S.tells → (orig : Files) (text : Output → List ℕ) → HasTexts l.plan (pieces_of l.fn.outputs) orig (S.file l.fn.shelf) text
+          → HasTexts l.plan (pieces_of l.outputs) orig (S.file l.shelf) (with_more text output.Trace (trace_text (take l.one-index l.lines)));
+      same : SameCaptures l.plan l.fn.outputs l.outputs;
       only : OnlyWrites S.tells l.plan (S.file l.fn.shelf) (S.file l.shelf) (S.ids l.fn.shelf) (S.ids l.shelf);
       faults : NoFewer (S.faults l.fn.shelf) (S.faults l.shelf);
       counted : S.faults l.shelf ≡ S.faults l.fn.shelf;

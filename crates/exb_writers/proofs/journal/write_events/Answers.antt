@@ -5,19 +5,19 @@ use Rattle.exb_inputs.proofs.ShelvingLemmas.{counts_as, counts_from}
 use Rattle.exb_model.specs.declared.event.Event.{Event}
 use Rattle.exb_text.specs.declared.output.Output.TheVariants as output
 use Rattle.exb_outputs.specs.Writing.{HasTexts, pieces_of, with_more, lines_of}
-use Rattle.exb_outputs.proofs.OutputLemmas.{no_more, more_lines}
+use Rattle.exb_outputs.proofs.OutputLemmas.{no_more}
+use Rattle.exb_writers.proofs.Lines.{cut_lines, more_lines}
 use Rattle.exb_outputs.proofs.Sizes.{same_none, same_then}
 use Rattle.exb_outputs.proofs.ShelvingLemmas.{writes_none, writes_then}
-use Rattle.exb_outputs.proofs.Cutting.{cut_lines}
-use Rattle.exb_outputs.proofs.outputs.Outputs.write_events.Goals as goal
+use Rattle.exb_writers.proofs.journal.write_events.Goals as goal
 
 pub loop-event-init : goal.loop-event-init
 loop-event-init g c =
     let file = g.S.Shelf.file c.args.shelf.now in
     record {
       ready = c.requires.ready;
-      texts = λ t orig text p. no_more c.args.plan.now orig file (pieces_of c.args.self.now) text output.Journal p;
-      same = same_none c.args.plan.now c.args.self.now;
+      texts = λ t orig text p. no_more c.args.plan.now orig file (pieces_of c.args.outputs.now) text output.Journal p;
+      same = same_none c.args.plan.now c.args.outputs.now;
       only = writes_none _ _ _ _;
       faults = search rules;
       counted = refl;
@@ -32,10 +32,10 @@ loop-event-preserved g c =
     record {
       ready = added.ready;
       texts = λ t orig text p.
-          more_lines c.args.plan.now orig (g.S.Shelf.file c.add_event.new.shelf) (pieces_of c.add_event.new.self) text events c.loop-event.event-index c.event-item.result
+          more_lines c.args.plan.now orig (g.S.Shelf.file c.add_event.new.shelf) (pieces_of c.add_event.new.outputs) text events c.loop-event.event-index c.event-item.result
           inside c.event-item.is
           (added.texts t orig (with_more text output.Journal (lines_of (take c.loop-event.event-index events))) (before.texts t orig text p));
-      same = same_then c.args.plan.now c.args.self.now _ _ before.same added.same;
+      same = same_then c.args.plan.now c.args.outputs.now _ _ before.same added.same;
       only = writes_then _ _ _ _ _ _ _ _ before.only added.only;
       faults = search (arith, added.faults.none_fell, before.faults);
       counted = added.faults.once ∙ before.counted;
@@ -58,7 +58,7 @@ pub returns-clause-texts : goal.returns-clause-texts
 returns-clause-texts g c = λ t orig text p.
     let all : List Event = c.args.events.now in
     let end : length all ≤ c.loop-event.event-index = omega arith in
-    subst (λ (xs : List Event). HasTexts c.args.plan.now (pieces_of c.loop-event.self) orig (g.S.Shelf.file c.loop-event.shelf) (with_more text output.Journal (lines_of xs)))
+    subst (λ (xs : List Event). HasTexts c.args.plan.now (pieces_of c.loop-event.outputs) orig (g.S.Shelf.file c.loop-event.shelf) (with_more text output.Journal (lines_of xs)))
     (take_all c.loop-event.event-index all end) (c.loop-event.invariant.texts t orig text p)
 
 pub returns-in_err-add_event-clause-faults : goal.returns-in_err-add_event-clause-faults
