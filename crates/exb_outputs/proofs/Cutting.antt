@@ -12,7 +12,6 @@ use Rattle.exb_outputs.specs.Writing.{AreCut, Holds, HasTexts, with_more}
 use Rattle.exb_outputs.proofs.Filling.{still_filled}
 use Rattle.exb_outputs.proofs.OutputLemmas.{HasTextsAt, kind_has_more, more_at, more_at_here, more_at_other, of_kind, texts_more, with_more_nothing, with_more_twice}
 
-
 -- ---- fronts
 -- the first of two parts is a front of both
 first_part : (xs ys : List ℕ) → (n : ℕ) × (xs ≡ take n (xs ++ ys))

@@ -16,7 +16,6 @@ use Rattle.exb_outputs.proofs.Filling.{weaker, still_filled, one_more}
 use Rattle.exb_outputs.proofs.ByKind.{kind_is, kinds_differ}
 use Rattle.exb_words.proofs.Kinds.{other_kind, same_itself}
 
-
 -- ---- by place
 -- each output has the text of its place
 abbrev pub HasTextsAt : Planned → List (List ℕ) → Files → Files → (ℕ → List ℕ) → Type 0

@@ -19,7 +19,6 @@ use Rattle.exb_outputs.specs.Writing.{IsReady, first_text, ids_of}
 use Rattle.exb_outputs.proofs.ByKind.{placed}
 use Rattle.exb_outputs.proofs.Places.{place_low, place_of_port, port_of_place}
 
-
 -- ---- values of files
 abbrev pub size_of : Unfinished → ℕ
 size_of f = f.written + length f.piece.items

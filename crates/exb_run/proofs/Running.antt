@@ -27,7 +27,7 @@ module _ (i : Input) (plan : Planned) (prefix : List ℕ) (same : plan.prefix �
     legal = played.legal;
     eager = played.eager;
     captures = λ q is. holds (output.Capture q) (ap (λ (t : Shape). is_external t q) tree ∙ is) (external_low (tree_of i) q is_tree is);
-    journal = holds output.Journal tt tt;
+    journal = holds output.Journal refl tt;
     back = played.back;
     trace = λ traced. record { lines = played.lines; is = holds output.Trace traced tt; legal = played.trace traced; bytes = played.bytes };
     counters = λ counted. holds output.Counters counted tt;
@@ -42,7 +42,7 @@ module _ (i : Input) (plan : Planned) (prefix : List ℕ) (same : plan.prefix �
   pub fronts_by : IsTree (tree_of i) → (f g : Files) → AreCutEagerly i plan f g → AreFrontsOf i prefix f g
   fronts_by is_tree f g cut = record {
     captures = λ q is. front (output.Capture q) (ap (λ (t : Shape). is_external t q) tree ∙ is) (external_low (tree_of i) q is_tree is) tt;
-    journal = front output.Journal tt tt tt;
+    journal = front output.Journal refl tt tt;
   }
     where
       front : (o : Output) → IsMade plan.options plan.tree o → IsOfPort o → GrowsEagerly o → IsCut (f (file_name prefix o)) (g (file_name prefix o)) (output_text i (eager i) [] o)

@@ -6,7 +6,7 @@ use Rattle.std.proofs.lemmas.List.{append-nil}
 use Rattle.std.proofs.lemmas.List.Elements.{filter_passes}
 use Rattle.exb_text.specs.declared.output.Output.{Output}
 use Rattle.exb_text.specs.declared.output.Output.TheVariants as output
-use Rattle.exb_text.specs.Names.{IsOfPort, other_outputs}
+use Rattle.exb_text.specs.Names.{IsOfPort, capture_name, counters_name, file_name, journal_name, other_outputs, trace_name}
 use Rattle.exb_words.specs.declared.asked.Options.{Options}
 use Rattle.exb_words.specs.Kinds.{is_asked, is_same, kinds_behind, number_of, place_among, place_behind, port_of}
 
@@ -42,12 +42,20 @@ no_port output.Journal above = refl
 no_port output.Trace above = refl
 no_port output.Counters above = refl
 
+-- its file has a name that begins as all do
+pub name_begins : (prefix : List ℕ) (o : Output) → (rest : List ℕ) × (file_name prefix o ≡ prefix ++ rest)
+unfolding capture_name journal_name trace_name counters_name
+name_begins prefix (output.Capture q) = (_, refl)
+name_begins prefix output.Journal = (_, refl)
+name_begins prefix output.Trace = (_, refl)
+name_begins prefix output.Counters = (_, refl)
+
 -- a kind stands in a list
-abbrev IsIn : Output → List Output → Type 0
+abbrev pub IsIn : Output → List Output → Type 0
 IsIn o [] = ⊥
 IsIn o (x ∷ xs) = (x ≡ o) ⊎ IsIn o xs
 
-is_other : (o : Output) → port_of o ≡ None → IsIn o other_outputs
+pub is_other : (o : Output) → port_of o ≡ None → IsIn o other_outputs
 is_other (output.Capture q) is = absurd (cc)
 is_other output.Journal is = inl refl
 is_other output.Trace is = inr (inl refl)
