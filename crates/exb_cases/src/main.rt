@@ -6,7 +6,7 @@
 #![tactic(auto)]
 
 use exb_fate::{Fate, ScriptFate};
-use exb_run::run;
+use exb_run::{more_fates, run};
 use exb_shelf::{FileShelf, OpenFault, OutSink, Shelf, read_file};
 use std::alloc::Global;
 use std::{fs, io};
@@ -83,7 +83,8 @@ fn play(rt: HostRuntime, name: &str, wanted: &str, told: &str, files: &str) -> i
     let mut shelf = FileShelf::new(alloc, rt);
     let mut out = OutSink::new(rt);
     let fate: Box<dyn Fate> = Box::new(alloc, ScriptFate::new(alloc))?;
-    let status = run(alloc, &words, &mut shelf, &mut out, fate);
+    let more = more_fates(alloc)?;
+    let status = run(alloc, &words, &mut shelf, &mut out, fate, more);
     if wanted.parse::<u8>() != Ok(status) {
         println!(rt; "{name}: {status} in place of {wanted}")?;
         return Ok(());

@@ -4,20 +4,24 @@ use Rattle.std.proofs.lemmas.List.{append-nil}
 use Rattle.std.specs.Prelude.{if◌then◌else◌, codes, nat_lt}
 use Rattle.std.specs.Fmt.{decimal}
 use Rattle.exb_model.specs.Texts.{port_name}
-use Rattle.exb_inputs.specs.Answers.{broken_text, capture_line, fault_line, output_line}
+use Rattle.exb_inputs.specs.Answers.{broken_text, capture_line, fault_line, member_capture_line, member_line, output_line}
 use Rattle.exb_inputs.specs.declared.fault.Part.{Part}
 use Rattle.exb_inputs.specs.declared.fault.Part.TheVariants as part
 use Rattle.exb_inputs.specs.declared.fault.Fault.{Fault}
-use Rattle.exb_inputs.specs.declared.fault.Fault.TheVariants.{Usage, Missing, Topology as BadTopology, Capture, Changed, Output, TooLarge, BadLine, Illegal, Read, Write, Memory}
+use Rattle.exb_inputs.specs.declared.fault.Fault.TheVariants.{Usage, Missing, Topology as BadTopology, Capture, Changed, Net, Member, MemberCapture, MemberChanged, Output, TooLarge, BadLine, Illegal, Read, Write, Memory}
 
 -- none is empty
 pub some_line : (x : Fault) → 0 < length (fault_line x)
-unfolding fault_line capture_line output_line
+unfolding fault_line capture_line member_line member_capture_line output_line
 some_line Usage = omega arith
 some_line (Missing name) = omega arith
 some_line (BadTopology fault) = omega arith
 some_line (Capture p flaw) = omega arith
 some_line (Changed p byte) = omega arith
+some_line (Net fault) = omega arith
+some_line (Member name fault) = omega arith
+some_line (MemberCapture name p flaw) = omega arith
+some_line (MemberChanged name p byte) = omega arith
 some_line (Output p broke) = omega arith
 some_line (TooLarge what) = omega arith
 some_line (BadLine what n) = omega arith
@@ -66,12 +70,16 @@ bad_letter part.Trace n = record { place = 6; letter = 111; low = omega arith; i
 
 -- it is told from all others by one
 pub memory_line : (x : Fault) → (x ≡ Memory) ⊎ Differs x
-unfolding fault_line capture_line output_line
+unfolding fault_line capture_line member_line member_capture_line output_line
 memory_line Usage = inr (record { place = 6; letter = 111; low = omega arith; is = refl; other = λ e. (let no : 117 ≡ 111 = e in omega arith) })
 memory_line (Missing name) = inr (record { place = 6; letter = 111; low = omega arith; is = refl; other = λ e. (let no : 109 ≡ 111 = e in omega arith) })
 memory_line (BadTopology fault) = inr (record { place = 6; letter = 111; low = omega arith; is = refl; other = λ e. (let no : 116 ≡ 111 = e in omega arith) })
 memory_line (Capture p flaw) = inr (record { place = 6; letter = 111; low = omega arith; is = refl; other = λ e. (let no : 99 ≡ 111 = e in omega arith) })
 memory_line (Changed p byte) = inr (record { place = 6; letter = 111; low = omega arith; is = refl; other = λ e. (let no : 99 ≡ 111 = e in omega arith) })
+memory_line (Net fault) = inr (record { place = 6; letter = 111; low = omega arith; is = refl; other = λ e. (let no : 110 ≡ 111 = e in omega arith) })
+memory_line (Member name fault) = inr (record { place = 6; letter = 111; low = omega arith; is = refl; other = λ e. (let no : 116 ≡ 111 = e in omega arith) })
+memory_line (MemberCapture name p flaw) = inr (record { place = 6; letter = 111; low = omega arith; is = refl; other = λ e. (let no : 99 ≡ 111 = e in omega arith) })
+memory_line (MemberChanged name p byte) = inr (record { place = 6; letter = 111; low = omega arith; is = refl; other = λ e. (let no : 99 ≡ 111 = e in omega arith) })
 memory_line (Output p broke) = inr (record { place = 10; letter = 111; low = omega arith; is = refl; other = port_letter p (codes ": " ++ (broken_text broke ++ codes "\n")) })
 memory_line (TooLarge what) = inr (large_letter what)
 memory_line (BadLine what n) = inr (bad_letter what n)

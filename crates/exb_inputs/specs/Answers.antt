@@ -24,7 +24,7 @@ use Rattle.exb_inputs.specs.declared.fault.Part.TheVariants as part
 use Rattle.exb_inputs.specs.declared.fault.Flaw.{Flaw}
 use Rattle.exb_inputs.specs.declared.fault.Flaw.TheVariants.{Large, Broken}
 use Rattle.exb_inputs.specs.declared.fault.Fault.{Fault}
-use Rattle.exb_inputs.specs.declared.fault.Fault.TheVariants.{Usage, Missing, Topology as BadTopology, Capture, Changed, Output, TooLarge, BadLine, Illegal, Read, Write, Memory}
+use Rattle.exb_inputs.specs.declared.fault.Fault.TheVariants.{Usage, Missing, Topology as BadTopology, Capture, Changed, Net, Member, MemberCapture, MemberChanged, Output, TooLarge, BadLine, Illegal, Read, Write, Memory}
 use Rattle.exb_inputs.specs.Checks.{FirstFault}
 
 -- ---- a topology
@@ -90,10 +90,14 @@ IsRule r = (1 ≤ r) × (r ≤ 5)
 abbrev pub CanBe : Fault → Type 0
 CanBe (Capture p flaw) = p < 4160
 CanBe (Changed p byte) = p < 4160
+CanBe (MemberCapture name p flaw) = p < 4160
+CanBe (MemberChanged name p byte) = p < 4160
 CanBe (Output p broke) = p < 4160
 CanBe (BadLine what n) = HasLines what
 CanBe (Illegal r) = IsRule r
 CanBe (BadTopology topology.Memory) = ⊥
+CanBe (Net topology.Memory) = ⊥
+CanBe (Member name topology.Memory) = ⊥
 CanBe _ = ⊤
 
 -- ---- what is printed
@@ -118,7 +122,7 @@ abbrev pub flaw_text : Flaw → List ℕ
 flaw_text (Large limit) = codes "Large " ++ decimal limit
 flaw_text (Broken fault) = broken_text fault
 
--- a fault at a key of the topology
+-- a fault at a key of a topology, or of the file of a net
 abbrev pub key_fault_text : KeyFault → List ℕ
 key_fault_text keys.Missing = codes "Missing"
 key_fault_text keys.Unknown = codes "Unknown"
@@ -140,11 +144,27 @@ topology_text (topology.At fault key) = key_fault_text fault ++ codes " at " ++ 
 
 -- the words that are accepted
 abbrev pub usage : List ℕ
-usage = codes "exbr: usage: exbr run TOPOLOGY [--trace] [--counters] [--seed N] | exbr check TOPOLOGY | exbr make N | exbr audit TOPOLOGY\n"
+usage = codes "exbr: usage: exbr run TOPOLOGY [--trace] [--counters] [--seed N] | exbr check TOPOLOGY | exbr make N | exbr audit TOPOLOGY | exbr net FILE [--counters]\n"
 
 -- the line of a capture that is not taken
 unfoldable pub capture_line : ℕ → List ℕ → List ℕ
 capture_line p text = codes "exbr: capture " ++ (port_name p ++ (codes ": " ++ (text ++ codes "\n")))
+
+-- what is said of a capture that is another one now
+abbrev pub changed_text : ℕ → List ℕ
+changed_text byte = codes "Changed at " ++ decimal byte
+
+-- the line of a file of a net that is refused
+abbrev pub net_line : TopoFault → List ℕ
+net_line fault = codes "exbr: net: " ++ topology_text fault ++ codes "\n"
+
+-- the line of a topology that is refused, of the bridge of this name
+unfoldable pub member_line : List ℕ → TopoFault → List ℕ
+member_line name fault = codes "exbr: topology " ++ (name ++ (codes ": " ++ (topology_text fault ++ codes "\n")))
+
+-- the line of a capture that is not taken, of the bridge of this name
+unfoldable pub member_capture_line : List ℕ → ℕ → List ℕ → List ℕ
+member_capture_line name p text = codes "exbr: capture " ++ (name ++ (codes ":" ++ (port_name p ++ (codes ": " ++ (text ++ codes "\n")))))
 
 -- and of an output capture that is none
 unfoldable pub output_line : ℕ → List ℕ → List ℕ
@@ -168,7 +188,11 @@ fault_line Usage = usage
 fault_line (Missing name) = codes "exbr: missing " ++ name ++ codes "\n"
 fault_line (BadTopology fault) = codes "exbr: topology: " ++ topology_text fault ++ codes "\n"
 fault_line (Capture p flaw) = capture_line p (flaw_text flaw)
-fault_line (Changed p byte) = capture_line p (codes "Changed at " ++ decimal byte)
+fault_line (Changed p byte) = capture_line p (changed_text byte)
+fault_line (Net fault) = net_line fault
+fault_line (Member name fault) = member_line name fault
+fault_line (MemberCapture name p flaw) = member_capture_line name p (flaw_text flaw)
+fault_line (MemberChanged name p byte) = member_capture_line name p (changed_text byte)
 fault_line (Output p broke) = output_line p (broken_text broke)
 fault_line (TooLarge what) = large_line what
 fault_line (BadLine what n) = bad_line what n
@@ -192,6 +216,10 @@ fault_status (Missing name) = 5
 fault_status Read = 6
 fault_status Write = 7
 fault_status (Changed p byte) = 10
+fault_status (Net fault) = 3
+fault_status (Member name fault) = 3
+fault_status (MemberCapture name p flaw) = 4
+fault_status (MemberChanged name p byte) = 10
 fault_status (Output p broke) = 4
 fault_status (TooLarge what) = 4
 fault_status (BadLine what n) = 12

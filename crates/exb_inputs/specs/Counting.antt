@@ -3,7 +3,7 @@ use Rattle.std.specs.Prelude.{◌≡◌, ◌⊎◌, Result, Ok, Err}
 use Rattle.exb_shelf.specs.Counting.{missing_more, reads_more, writes_more}
 use Rattle.exb_shelf.specs.Shelf.{Faults}
 use Rattle.exb_inputs.specs.declared.fault.Fault.{Fault}
-use Rattle.exb_inputs.specs.declared.fault.Fault.TheVariants.{Missing, Changed, Read, Write, Memory}
+use Rattle.exb_inputs.specs.declared.fault.Fault.TheVariants.{Missing, Changed, MemberChanged, Read, Write, Memory}
 
 -- A fault of the shelf was counted once, and no other. Memory may run out while the fault of a missing file is made, and a capture that
 -- is missing when it is opened again is another one.
@@ -13,6 +13,7 @@ CountsFault Read old new = new ≡ reads_more old
 CountsFault Write old new = new ≡ writes_more old
 CountsFault Memory old new = (new ≡ old) ⊎ (new ≡ missing_more old)
 CountsFault (Changed p at) old new = (new ≡ old) ⊎ (new ≡ missing_more old)
+CountsFault (MemberChanged name p at) old new = (new ≡ old) ⊎ (new ≡ missing_more old)
 CountsFault _ old new = new ≡ old
 
 -- the same by the answer: where a call does its work nothing was counted

@@ -2,7 +2,7 @@
 use Rattle.std.specs.Prelude.{⊤, ◌<◌}
 use Rattle.exb_keys.specs.declared.faults.TopoFault.TheVariants as topology
 use Rattle.exb_inputs.specs.declared.fault.Fault.{Fault}
-use Rattle.exb_inputs.specs.declared.fault.Fault.TheVariants.{Usage, Missing, Topology as BadTopology, Capture, Changed, Output, TooLarge, BadLine, Illegal, Read, Memory, Write}
+use Rattle.exb_inputs.specs.declared.fault.Fault.TheVariants.{Usage, Missing, Topology as BadTopology, Capture, Changed, Net, Member, MemberCapture, MemberChanged, Output, TooLarge, BadLine, Illegal, Read, Write, Memory}
 use Rattle.exb_inputs.specs.Answers.{HasLines, IsRule}
 
 -- a fault that can come while captures are checked
@@ -28,6 +28,10 @@ IsOfPlaying Usage = ⊥
 IsOfPlaying (BadTopology fault) = ⊥
 IsOfPlaying (Capture p flaw) = p < 4160
 IsOfPlaying (Changed p byte) = p < 4160
+IsOfPlaying (Net fault) = ⊥
+IsOfPlaying (Member name fault) = ⊥
+IsOfPlaying (MemberCapture name p flaw) = ⊥
+IsOfPlaying (MemberChanged name p byte) = ⊥
 IsOfPlaying (Output p broke) = ⊥
 IsOfPlaying (TooLarge what) = ⊥
 IsOfPlaying (BadLine what n) = ⊥

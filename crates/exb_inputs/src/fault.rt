@@ -43,7 +43,7 @@ pub enum Part {
 pub enum Fault {
     /// The words are none that are accepted.
     Usage,
-    /// The topology, or a file that it names or an audit reads, is not there.
+    /// The topology or the file of a net, or a file that one of them names or an audit reads, is not there.
     Missing {
         /// Its name.
         name: Text,
@@ -62,6 +62,36 @@ pub enum Fault {
     },
     /// The capture of this port is another one than the one that was checked, as this byte shows.
     Changed {
+        /// The port.
+        port: PortId,
+        /// Where it shows.
+        at: u64,
+    },
+    /// The file of a net is refused, or its bridges with their wires are.
+    Net {
+        /// For this.
+        fault: TopoFault,
+    },
+    /// The topology of this bridge of a net is refused.
+    Member {
+        /// The name of the bridge.
+        name: Text,
+        /// For this.
+        fault: TopoFault,
+    },
+    /// The capture of this port of a bridge of a net can't be taken.
+    MemberCapture {
+        /// The name of the bridge.
+        name: Text,
+        /// The port.
+        port: PortId,
+        /// What is wrong with it.
+        flaw: Flaw,
+    },
+    /// The capture of this port of a bridge of a net is another one than the one that was checked, as this byte shows.
+    MemberChanged {
+        /// The name of the bridge.
+        name: Text,
         /// The port.
         port: PortId,
         /// Where it shows.

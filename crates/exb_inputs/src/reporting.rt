@@ -3,18 +3,19 @@ ghost use Rattle.std.specs.Prelude.{◌≡◌, ◌≢◌, ◌≤◌, ◌++◌, I
 ghost use Rattle.exb_shelf.specs.Counting.{after_print};
 ghost use Rattle.exb_shelf.specs.Files.{AppendsFront, BreaksOff};
 ghost use Rattle.exb_shelf.specs.Shelf.{Rose};
-ghost use Rattle.exb_inputs.specs.Answers.{broken_text, flaw_name, flaw_text, key_fault_text, part_name, topology_text, bad_line, capture_line, large_line, output_line, fault_line, line_of, fault_status, status_of};
+ghost use Rattle.exb_inputs.specs.Answers.{broken_text, changed_text, flaw_name, flaw_text, key_fault_text, part_name, topology_text, bad_line, capture_line, large_line, member_capture_line, member_line, net_line, output_line, fault_line, line_of, fault_status, status_of};
 
 use crate::fault::{Fault, Flaw, Part};
 use exb_keys::faults::{KeyFault, TopoFault};
 use exb_model::port::PortId;
+use exb_model::text::Text;
 use exb_shelf::{ShelfFault, Sink, print_text};
 use exb_text::PortName;
 use std::alloc::{AllocError, Global};
 
 /// The words that are accepted.
 const USAGE: &str =
-    "exbr: usage: exbr run TOPOLOGY [--trace] [--counters] [--seed N] | exbr check TOPOLOGY | exbr make N | exbr audit TOPOLOGY\n";
+    "exbr: usage: exbr run TOPOLOGY [--trace] [--counters] [--seed N] | exbr check TOPOLOGY | exbr make N | exbr audit TOPOLOGY | exbr net FILE [--counters]\n";
 
 /// The name of what is wrong with a capture.
 fn flaw_name(flaw: exb_capture::Flaw) -> &'static str
@@ -129,6 +130,51 @@ fn bad_line(alloc: Global, what: Part, number: u64) -> Result<String, AllocError
     format!(in alloc; "exbr: {name} line {number}\n")
 }
 
+/// The line of a file of a net that is refused.
+fn net_line(alloc: Global, fault: &TopoFault) -> Result<String, AllocError>
+    ensures { IfOk result (λ line. string_bytes line ≡ net_line fault.now) }
+{
+    let text = topology_text(alloc, fault)?;
+    format!(in alloc; "exbr: net: {text}\n")
+}
+
+/// The line of a topology that is refused, of a bridge of a net.
+#[tactic(auto, unfolding(crate::specs::Answers::member_line))]
+fn member_line(alloc: Global, name: &Text, fault: &TopoFault) -> Result<String, AllocError>
+    ensures { IfOk result (λ line. string_bytes line ≡ member_line name.now fault.now) }
+{
+    let text = topology_text(alloc, fault)?;
+    let name = name.as_str();
+    format!(in alloc; "exbr: topology {name}: {text}\n")
+}
+
+/// The line of a capture that is not taken, of a bridge of a net.
+#[tactic(auto, unfolding(crate::specs::Answers::member_capture_line))]
+fn member_capture_line(
+    alloc: Global,
+    name: &Text,
+    port: PortId,
+    text: &str,
+) -> Result<String, AllocError>
+    ensures { IfOk result (λ line. string_bytes line ≡ member_capture_line name.now port text.now) }
+{
+    let name = name.as_str();
+    format!(in alloc; "exbr: capture {name}:{}: {text}\n", PortName(port))
+}
+
+/// The line of a capture that is another one now, of a bridge of a net.
+fn member_changed_line(
+    alloc: Global,
+    name: &Text,
+    port: PortId,
+    at: u64,
+) -> Result<String, AllocError>
+    ensures { IfOk result (λ line. string_bytes line ≡ member_capture_line name.now port (changed_text at)) }
+{
+    let text = format!(in alloc; "Changed at {at}")?;
+    member_capture_line(alloc, name, port, text.as_str())
+}
+
 /// The line of a fault. Those that are always the same are printed without memory by `print_outcome`.
 #[tactic(auto, unfolding(crate::specs::Answers::fault_line))]
 fn fault_line(alloc: Global, fault: &Fault) -> Result<String, AllocError>
@@ -151,6 +197,13 @@ fn fault_line(alloc: Global, fault: &Fault) -> Result<String, AllocError>
             let text = format!(in alloc; "Changed at {at}")?;
             capture_line(alloc, *port, text.as_str())
         }
+        Fault::Net { fault } => net_line(alloc, fault),
+        Fault::Member { name, fault } => member_line(alloc, name, fault),
+        Fault::MemberCapture { name, port, flaw } => {
+            let text = flaw_text(alloc, *flaw)?;
+            member_capture_line(alloc, name, *port, text.as_str())
+        }
+        Fault::MemberChanged { name, port, at } => member_changed_line(alloc, name, *port, *at),
         Fault::Output { port, fault } => {
             let text = broken_text(alloc, *fault)?;
             output_line(alloc, *port, text.as_str())
@@ -210,12 +263,15 @@ fn fault_status(fault: &Fault) -> u8
     match fault {
         Fault::Memory => 1,
         Fault::Usage => 2,
-        Fault::Topology { .. } => 3,
-        Fault::Capture { .. } | Fault::Output { .. } | Fault::TooLarge { .. } => 4,
+        Fault::Topology { .. } | Fault::Net { .. } | Fault::Member { .. } => 3,
+        Fault::Capture { .. }
+        | Fault::MemberCapture { .. }
+        | Fault::Output { .. }
+        | Fault::TooLarge { .. } => 4,
         Fault::Missing { .. } => 5,
         Fault::Read => 6,
         Fault::Write => 7,
-        Fault::Changed { .. } => 10,
+        Fault::Changed { .. } | Fault::MemberChanged { .. } => 10,
         Fault::Illegal { .. } => 11,
         Fault::BadLine { .. } => 12,
     }

@@ -32,7 +32,7 @@ put-here x [] h = refl
 put-here x (y ∷ ys) h = rw (le-ltb (moment_of y) (moment_of x) h) refl
 
 -- a command comes first
-command-first : (c : Coming) (cs ys : List Coming) → NoneBefore (moment_of c) cs → comes_first (Some (moment_of c)) (first_moment ys) ≡ true →
+pub command-first : (c : Coming) (cs ys : List Coming) → NoneBefore (moment_of c) cs → comes_first (Some (moment_of c)) (first_moment ys) ≡ true →
     with_commands (c ∷ cs) ys ≡ c ∷ with_commands cs ys
 command-first c cs ys all first = put-here c (with_commands cs ys) (first-with (moment_of c) cs ys all (after ys first))
   where
@@ -41,7 +41,7 @@ command-first c cs ys all first = put-here c (with_commands cs ys) (first-with (
     after (z ∷ zs) h = leb-true (moment_of c) (moment_of z) h
 
 -- a record does
-record-first : (cs : List Coming) (r : Coming) (ys : List Coming) → NoneBefore (suc (moment_of r)) cs → with_commands cs (r ∷ ys) ≡ r ∷ with_commands cs ys
+pub record-first : (cs : List Coming) (r : Coming) (ys : List Coming) → NoneBefore (suc (moment_of r)) cs → with_commands cs (r ∷ ys) ≡ r ∷ with_commands cs ys
 record-first [] r ys all = refl
 record-first (c ∷ cs) r ys all =
     let later : moment_of r < moment_of c = omega (arith, all.0) in
@@ -69,6 +69,10 @@ first-least c cs rising = all-from (λ d. c.at ≤ d.at) cs (λ k d low. rising 
 commands-after : (start second n : ℕ) (cs : List Timed) → AllByRecursion (λ d. second ≤ d.at) cs → NoneBefore ((start + second) * 1000000000) (commands_from start n (map given_by cs))
 commands-after start second n [] all = tt
 commands-after start second n (c ∷ cs) all = (omega (arith, all.0), commands-after start second (suc n) cs all.1)
+
+-- the commands behind the first of some
+pub rising-commands : (start n : ℕ) (c : Timed) (cs : List Timed) → Rising (c ∷ cs) → NoneBefore ((start + c.at) * 1000000000) (commands_from start (suc n) (map given_by cs))
+rising-commands start n c cs rising = commands-after start c.at (suc n) cs (first-least c cs rising)
 
 none-weaker : (m k : ℕ) (xs : List Coming) → m ≤ k → NoneBefore k xs → NoneBefore m xs
 none-weaker m k [] low all = tt

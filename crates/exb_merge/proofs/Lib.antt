@@ -15,3 +15,5 @@ pub mod Moving
 pub mod Adding
 pub mod Playing
 mod Counts
+pub mod Sorting
+pub mod NetOrder

@@ -1,5 +1,5 @@
 -- What is still to be played: the commands of a topology among the records of its captures.
-use Rattle.std.specs.Prelude.{◌==◌, ℕ, ◌+◌, nat_le, Bool, true, false, List, [], ◌∷◌, drop, Option, Some, None, map}
+use Rattle.std.specs.Prelude.{◌==◌, ℕ, ◌+◌, ◌*◌, min, nat_le, Bool, true, false, List, [], ◌∷◌, drop, Option, Some, None, map}
 use Rattle.exb_model.specs.declared.setup.Timed.{Timed}
 use Rattle.exb_model.specs.Input.{Coming, given_by, second_of, moment_of, put_in_order, commands_from}
 
@@ -52,3 +52,12 @@ is_of (Some m) second = second_of m == second
 -- what comes first is of this second
 abbrev pub begins_in : ℕ → List Coming → Bool
 begins_in second xs = is_of (first_moment xs) second
+
+-- ---- turns among several bridges
+-- When a programme has its turn, in halves of a nanosecond: a record half a one behind its moment, so that the commands of all bridges come
+-- before the records of their moment.
+abbrev pub turn_by : Option ℕ → Option ℕ → Option ℕ
+turn_by None None = None
+turn_by (Some k) None = Some (2 * k)
+turn_by None (Some m) = Some (2 * m + 1)
+turn_by (Some k) (Some m) = Some (min (2 * k) (2 * m + 1))

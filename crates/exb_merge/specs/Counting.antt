@@ -2,6 +2,7 @@
 use Rattle.std.specs.Prelude.{◌≡◌, ◌⊎◌, Result, Ok, Err}
 use Rattle.exb_shelf.specs.Shelf.{Faults}
 use Rattle.exb_shelf.specs.Counting.{missing_more, reads_more}
+use Rattle.exb_merge.specs.declared.agenda.BridgeFault.{BridgeFault}
 use Rattle.exb_merge.specs.declared.replays.CaptureFault.{CaptureFault}
 use Rattle.exb_merge.specs.declared.replays.CaptureFault.TheVariants.{Memory, Read, Changed}
 
@@ -16,3 +17,8 @@ CountsFault (Changed p at) old new = (new ≡ old) ⊎ (new ≡ missing_more old
 abbrev pub CountsAgain : {X : Type 0} → Result X CaptureFault → Faults → Faults → Type 0
 CountsAgain (Ok x) old new = new ≡ old
 CountsAgain (Err fault) old new = CountsFault fault old new
+
+-- and where several bridges have captures
+abbrev pub CountsNext : {X : Type 0} → Result X BridgeFault → Faults → Faults → Type 0
+CountsNext (Ok x) old new = new ≡ old
+CountsNext (Err fault) old new = CountsFault fault.fault old new

@@ -4,4 +4,5 @@ pub mod Turns
 pub mod Agendas
 pub mod Programmes
 pub mod Replays
+pub mod NetAgendas
 pub mod Counting

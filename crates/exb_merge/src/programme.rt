@@ -5,11 +5,12 @@ ghost use Rattle.exb_shelf.specs.Files.{SameFiles};
 ghost use Rattle.exb_shelf.specs.Shelf.{Id, Rose, NoFewer};
 ghost use Rattle.exb_merge.specs.Counting.{CountsAgain};
 ghost use Rattle.exb_merge.specs.Agendas.{begins_in, comes_first, commands_left, first_moment, still_to_come};
+ghost use Rattle.exb_merge.specs.NetAgendas.{IsTurn};
 ghost use Rattle.exb_merge.specs.Programmes.{IsComing, IsProgramme, IsSoonest, IsTakenOf, moment_in, played_with, what};
 ghost use Rattle.exb_merge.specs.Replays.{AreOpened, AreReplays, AreToldSince, HasPort, IsEarliest, IsWithin, NoneIsBefore, ReadsOn, ids_in, standings};
 ghost use Rattle.exb_merge.specs.Streams.{Stream, to_come};
 
-use crate::moments::{comes_first, is_of, moment_after};
+use crate::moments::{comes_first, is_of, moment_after, turn_by};
 use crate::replays::{Came, CaptureFault, Replays};
 use exb_model::setup::Timed;
 use exb_shelf::Shelf;
@@ -93,6 +94,15 @@ impl<'a> Programme<'a> {
         } else {
             captured
         }
+    }
+
+    /// When it has its turn among several bridges, if anything is left. Nothing is read for it.
+    #[inline(always)]
+    pub(crate) fn turn(&self) -> Option<u64>
+        requires programme { (ids : ℕ → Id) × IsProgramme ids self.now }
+        ensures { IsTurn result self.now }
+    {
+        turn_by(self.command_moment(), self.captures.moment())
     }
 
     /// Takes the next command, which comes first.

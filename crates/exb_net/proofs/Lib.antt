@@ -1,7 +1,7 @@
 mod Wired
 mod Sending
 mod Entering
-mod Places
+pub mod Places
 mod One
 mod Turning
 mod Whole

@@ -5,3 +5,4 @@ pub mod Names
 pub mod Files
 pub mod Steps
 pub mod Parts
+pub mod Turned

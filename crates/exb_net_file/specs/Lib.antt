@@ -4,3 +4,4 @@ pub mod Files
 pub mod Members
 pub mod Wires
 pub mod Sound
+pub mod Apart

@@ -4,6 +4,7 @@
 //! (`IsNet`). It stands on `exb_topology`, which reads each topology, and on `exb_nets`, which says when a net is valid.
 #![tactic(auto)]
 
+mod apart;
 mod file;
 pub mod laws;
 mod members;
@@ -12,6 +13,7 @@ mod schema;
 mod wires;
 mod words;
 
+pub use apart::{NetParts, NetRest, take_apart};
 pub use file::{NetFile, read};
 pub use members::{NetMember, prefix_of};
 pub use rows::{NetBridge, NetWire};

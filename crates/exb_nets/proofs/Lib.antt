@@ -6,3 +6,8 @@ pub mod Forest
 mod Ending
 mod Soon
 mod Alone
+mod Recorded
+mod Sorted
+mod Chosen
+mod Arrived
+mod Growing

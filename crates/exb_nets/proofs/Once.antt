@@ -29,7 +29,7 @@ module _ (n : Net) where
       let same : a.times + b.times ≡ b.times + a.times = omega arith in
       histories_same hs ks (sym first ∙ (ap (λ (k : ℕ). delivered_times n k s) same ∙ second))
 
-  since_one : (ds : List Due) (second : ℕ) (at hs ks : Histories) → GoesSince n second ds at hs → GoesSince n second ds at ks → hs ≡ ks
+  pub since_one : (ds : List Due) (second : ℕ) (at hs ks : Histories) → GoesSince n second ds at hs → GoesSince n second ds at ks → hs ≡ ks
   since_one [] second at hs ks a b = sym a ∙ b
   since_one (d ∷ ds) second at hs ks a b =
       let same : a.0 ≡ b.0 = one_end (comes n d (ticked (due_second d - second) at)) a.0 b.0 a.1 b.1 in

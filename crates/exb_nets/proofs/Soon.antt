@@ -20,17 +20,17 @@ use Rattle.exb_nets.specs.declared.wires.End.{End}
 use Rattle.exb_nets.specs.declared.wires.Wire.{Wire}
 use Rattle.exb_nets.specs.Nets.{Net, across, ends_of, far_end, first_or, is_at}
 use Rattle.exb_nets.specs.NetHistory.{Crossing, Due, Histories, State, arrival_of, basis_in, comes, crosses, delivered_times, event_of, grown_by, named_at, with_history}
-use Rattle.exb_nets.specs.Ending.{QueuesEndSoon}
+use Rattle.exb_nets.specs.Ending.{QueuesEndSoon, named_in}
 use Rattle.exb_nets.proofs.Back.{nothing_goes_back}
 use Rattle.exb_nets.proofs.Forest.{IsOn, IsRooted, across_on, at_is, forest, none_some, some_same}
 use Rattle.exb_nets.proofs.Once.{stays}
 
 -- ---- lists of numbers without repeats
-abbrev NotIn : ℕ → List ℕ → Type 0
+abbrev pub NotIn : ℕ → List ℕ → Type 0
 NotIn x [] = Unit {0}
 NotIn x (y ∷ ys) = (x ≢ y) × NotIn x ys
 
-abbrev Apart : List ℕ → Type 0
+abbrev pub Apart : List ℕ → Type 0
 Apart [] = Unit {0}
 Apart (x ∷ xs) = NotIn x xs × Apart xs
 
@@ -108,7 +108,7 @@ below_apart : (n : ℕ) → Apart (below n)
 unfolding below
 below_apart n = range_apart n 0
 
-ports_apart : (t : Shape) → Apart (external_ports t)
+pub ports_apart : (t : Shape) → Apart (external_ports t)
 unfolding external_ports
 ports_apart t = apart_filter (is_external t) all_ports (below_apart 4160)
 
@@ -117,7 +117,7 @@ abbrev NotAmong : End → List End → Type 0
 NotAmong e [] = Unit {0}
 NotAmong e (f ∷ fs) = (e ≢ f) × NotAmong e fs
 
-abbrev EndsApart : List End → Type 0
+abbrev pub EndsApart : List End → Type 0
 EndsApart [] = Unit {0}
 EndsApart (e ∷ es) = NotAmong e es × EndsApart es
 
@@ -125,17 +125,17 @@ not_among : (e : End) (fs : List End) → ((j : ℕ) → j < length fs → e ≢
 not_among e [] h = tt
 not_among e (f ∷ fs) h = (h 0 (omega arith), not_among e fs (λ j k. h (suc j) (omega (arith, k))))
 
-ends_apart : (es : List End) → AllPairs (λ e f. e ≢ f) es → EndsApart es
+pub ends_apart : (es : List End) → AllPairs (λ e f. e ≢ f) es → EndsApart es
 ends_apart [] h = tt
 ends_apart (e ∷ es) h = (
   not_among e es (λ j k. h 0 (suc j) e (omega arith) (omega (arith, k))),
   ends_apart es (λ i j d k l. h (suc i) (suc j) d (omega (arith, k)) (omega (arith, l))),
 )
 
-abbrev end_at : ℕ → ℕ → End
+abbrev pub end_at : ℕ → ℕ → End
 end_at b q = record { bridge = b; port = q }
 
-same_end : (e f : End) → e.bridge ≡ f.bridge → e.port ≡ f.port → e ≡ f
+pub same_end : (e f : End) → e.bridge ≡ f.bridge → e.port ≡ f.port → e ≡ f
 same_end e f b p = ap (λ (x : ℕ). end_at x e.port) b ∙ ap (λ (x : ℕ). end_at f.bridge x) p
 
 -- where it is no end of these, no wire of them leads from it
@@ -193,6 +193,17 @@ named_one h (event.Refuse n x) p = omega arith
 named_one h (event.Up q) p = omega arith
 named_one h (event.NoUp q x) p = omega arith
 named_one h event.Settled p = omega arith
+
+named_in_one : (h : History) (e : Event) → named_in (event.Settled ∷ e ∷ h) ≤ named_in h + 1
+unfolding named_in
+named_in_one h (event.Relay q n t f) = omega arith
+named_in_one h (event.Ignored q n) = omega arith
+named_in_one h (event.Tick seconds) = omega arith
+named_in_one h (event.Commit n) = omega arith
+named_in_one h (event.Refuse n x) = omega arith
+named_in_one h (event.Up q) = omega arith
+named_in_one h (event.NoUp q x) = omega arith
+named_in_one h event.Settled = omega arith
 
 few_as : (t : ℕ) (f : List ℕ) (v : Option ℕ) (k : Option Kind) → length (sent_as t f v k) ≤ 1
 few_as t f (Some v) (Some k) = omega arith
@@ -498,24 +509,36 @@ module _ (n : Net) (r : ℕ) (R : IsRooted n.wires r) (ends : EndsApart (ends_of
     | inr other ↦ rw (ne_eqb c b other, ne_eqb b c (λ z. other (sym z))) (let was = few c p in omega (arith, was))
   ]
 
+  abbrev FewIn : Histories → Histories → List ℕ → Type 0
+  FewIn old new gone = (c : ℕ) → named_in (new c) ≤ named_in (old c) + times c gone
+
+  few_in_more : (old hs : Histories) (gone : List ℕ) (b : ℕ) (e : Event) → FewIn old hs gone → FewIn old (with_history b (event.Settled ∷ e ∷ hs b) hs) (b ∷ gone)
+  unfolding times
+  few_in_more old hs gone b e few c = elim (cases_eq c b) [
+    | inl same ↦
+        rw (eq-eqb c b same, eq-eqb b c (sym same)) (let one = named_in_one (hs b) e in let was : named_in (hs b) ≤ named_in (old c) + times c gone = subst (λ (z : ℕ). named_in (hs z) ≤ named_in (old c) + times c gone) same (few c) in omega (arith, one, was))
+    | inr other ↦ rw (ne_eqb c b other, ne_eqb b c (λ z. other (sym z))) (let was = few c in omega (arith, was))
+  ]
+
   record IsOver (old : Histories) (s : State) : Type 0 where
     empty : s.queue ≡ []
     gone : List ℕ
     apart : Apart gone
     sent : AllSent gone gone
     few : Few old s.histories gone
+    few_in : FewIn old s.histories gone
 
-  drains : (k : ℕ) (gone : List ℕ) (queue : List Crossing) (old hs : Histories) → Holds gone queue → Few old hs gone → length gone + k ≡ length n.wires → IsOver old (delivered_times n k (record { histories = hs; queue = queue }))
+  drains : (k : ℕ) (gone : List ℕ) (queue : List Crossing) (old hs : Histories) → Holds gone queue → Few old hs gone → FewIn old hs gone → length gone + k ≡ length n.wires → IsOver old (delivered_times n k (record { histories = hs; queue = queue }))
   unfolding delivered_times grown_by grown arrived
-  drains zero gone [] old hs H few room = record { empty = refl; gone = gone; apart = H.apart; sent = H.sent; few = few }
-  drains zero gone (x ∷ xs) old hs H few room =
+  drains zero gone [] old hs H few few_in room = record { empty = refl; gone = gone; apart = H.apart; sent = H.sent; few = few; few_in = few_in }
+  drains zero gone (x ∷ xs) old hs H few few_in room =
       absurd (let k = few_low n.wires (x.bridge ∷ gone) (H.coming.0.new, H.apart) (all_low (x.bridge ∷ gone) (x.bridge ∷ gone) (sent_later gone x.bridge x.bridge (sent_of gone x H.coming.0), all_later gone x.bridge gone H.sent)) in omega (arith, k, room))
-  drains (suc k) gone [] old hs H few room =
-      subst (IsOver old) (sym (stays n (suc k) hs)) (record { empty = refl; gone = gone; apart = H.apart; sent = H.sent; few = few })
-  drains (suc k) gone (x ∷ xs) old hs H few room =
+  drains (suc k) gone [] old hs H few few_in room =
+      subst (IsOver old) (sym (stays n (suc k) hs)) (record { empty = refl; gone = gone; apart = H.apart; sent = H.sent; few = few; few_in = few_in })
+  drains (suc k) gone (x ∷ xs) old hs H few few_in room =
       let h : History = hs x.bridge in
       let ev : Event = arrived gone x xs H h in
-      drains k (x.bridge ∷ gone) (xs ++ flat_map (grown gone x xs H h) (ports_in x.bridge)) old (with_history x.bridge (event.Settled ∷ ev ∷ h) hs) (next gone x xs H h) (few_more old hs gone x.bridge ev few) (omega (arith, room))
+      drains k (x.bridge ∷ gone) (xs ++ flat_map (grown gone x xs H h) (ports_in x.bridge)) old (with_history x.bridge (event.Settled ∷ ev ∷ h) hs) (next gone x xs H h) (few_more old hs gone x.bridge ev few) (few_in_more old hs gone x.bridge ev few_in) (omega (arith, room))
 
   -- what the first bridge sends
   first : (h : History) (e : Event) → Holds [] (grown_by n r h e)
@@ -531,10 +554,10 @@ module _ (n : Net) (r : ℕ) (R : IsRooted n.wires r) (ends : EndsApart (ends_of
         ahead = grown_apart r f one (ports_in r) (ports_apart (tree_of (n.input r)));
       }
 
-with_here : (r b : ℕ) (h : History) (hs : Histories) → b ≡ r → with_history r h hs b ≡ h
+pub with_here : (r b : ℕ) (h : History) (hs : Histories) → b ≡ r → with_history r h hs b ≡ h
 with_here r b h hs e = rw (eq-eqb b r e) refl
 
-with_there : (r b : ℕ) (h : History) (hs : Histories) → b ≢ r → with_history r h hs b ≡ hs b
+pub with_there : (r b : ℕ) (h : History) (hs : Histories) → b ≢ r → with_history r h hs b ≡ hs b
 with_there r b h hs e = rw (ne_eqb b r e) refl
 
 pub queues_end_soon : QueuesEndSoon
@@ -544,7 +567,7 @@ queues_end_soon n net d hs here =
     let ends : EndsApart (ends_of n.wires) = ends_apart (ends_of n.wires) net.apart in
     let ev : Event = event_of n r (hs r) d.coming in
     let begun : Histories = with_history r (event.Settled ∷ ev ∷ hs r) hs in
-    let over = drains n r R ends (length n.wires) [] (grown_by n r (hs r) ev) begun begun (first n r R ends (hs r) ev) (λ c p. omega arith) (omega arith) in
+    let over = drains n r R ends (length n.wires) [] (grown_by n r (hs r) ev) begun begun (first n r R ends (hs r) ev) (λ c p. omega arith) (λ c. omega arith) (omega arith) in
     record {
       empty = over.empty;
       few = λ b p. elim (cases_eq b r) [
@@ -555,5 +578,14 @@ queues_end_soon n net d hs here =
             let one : named_at (event.Settled ∷ ev ∷ hs r) p ≤ named_at (hs b) p + 1 = subst (λ (z : ℕ). named_at (event.Settled ∷ ev ∷ hs r) p ≤ named_at (hs z) p + 1) (sym same) (named_one (hs r) ev p) in
             omega (arith, none, few, here, one)
         | inr other ↦ (let one = once_at_most b over.gone over.apart in let few = over.few b p in let there : named_at (begun b) p ≡ named_at (hs b) p = ap (λ (h : History). named_at h p) (with_there r b (event.Settled ∷ ev ∷ hs r) hs other) in omega (arith, one, few, there))
+      ];
+      once = λ b. elim (cases_eq b r) [
+        | inl same ↦
+            let none : times b over.gone ≡ 0 = subst (λ (z : ℕ). times z over.gone ≡ 0) (sym same) (not_there r over.gone (not_root n r R ends over.gone over.gone over.sent)) in
+            let few = over.few_in b in
+            let here : named_in (begun b) ≡ named_in (event.Settled ∷ ev ∷ hs r) = ap named_in (with_here r b (event.Settled ∷ ev ∷ hs r) hs same) in
+            let one : named_in (event.Settled ∷ ev ∷ hs r) ≤ named_in (hs b) + 1 = subst (λ (z : ℕ). named_in (event.Settled ∷ ev ∷ hs r) ≤ named_in (hs z) + 1) (sym same) (named_in_one (hs r) ev) in
+            omega (arith, none, few, here, one)
+        | inr other ↦ (let one = once_at_most b over.gone over.apart in let few = over.few_in b in let there : named_in (begun b) ≡ named_in (hs b) = ap named_in (with_there r b (event.Settled ∷ ev ∷ hs r) hs other) in omega (arith, one, few, there))
       ];
     }

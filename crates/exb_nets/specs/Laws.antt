@@ -1,17 +1,24 @@
 -- What is true of every net.
-use Rattle.std.specs.Prelude.{◌≡◌, []}
+use Rattle.std.specs.Prelude.{◌≡◌, ◌++◌, ℕ, List, []}
+use Rattle.exb_model.specs.declared.event.Event.{Event}
 use Rattle.exb_model.specs.Configuration.{Bridge}
 use Rattle.exb_model.specs.EagerHistory.{arrival_event, eager}
 use Rattle.exb_model.specs.FlatBridge.{sent_by}
+use Rattle.exb_model.specs.History.{◌then◌}
 use Rattle.exb_model.specs.Input.{Input, Arrival}
 use Rattle.exb_model.specs.Learning.{Look}
 use Rattle.exb_nets.specs.Nets.{Net}
-use Rattle.exb_nets.specs.NetHistory.{Histories, NetEager, dues}
+use Rattle.exb_nets.specs.NetHistory.{Due, Histories, Goes, NetEager, dues, openings}
 use Rattle.exb_nets.specs.Order.{AreHere, AreInOrder, AreTimely}
 
 -- A net has no more than one history by bridge.
 abbrev pub HistoriesAreOne : Type 0
 HistoriesAreOne = (n : Net) (hs ks : Histories) → NetEager n hs → NetEager n ks → hs ≡ ks
+
+-- Histories only go on: what more of what comes adds stands behind what there was.
+abbrev pub HistoriesGoOn : Type 0
+HistoriesGoOn =
+    (n : Net) (ds rest : List Due) (hs ks : Histories) → Goes n ds (openings n) hs → Goes n (ds ++ rest) (openings n) ks → (b : ℕ) → (more : List Event) × (ks b ≡ (hs b then more))
 
 -- All that comes does so to bridges of the net, and at each the commands in their order.
 abbrev pub DuesAreInOrder : Type 0

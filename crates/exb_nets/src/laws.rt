@@ -1,10 +1,16 @@
 //! What is true of nets.
 ghost use Rattle.exb_nets.specs.Ending.{QueuesEnd, QueuesEndSoon, NetsHaveHistories};
-ghost use Rattle.exb_nets.specs.Laws.{HistoriesAreOne, DuesAreInOrder, NothingGoesBack, OneIsEager};
+ghost use Rattle.exb_nets.specs.Held.{CrossingsArrive};
+ghost use Rattle.exb_nets.specs.Laws.{HistoriesAreOne, HistoriesGoOn, DuesAreInOrder, NothingGoesBack, OneIsEager};
 
 /// A net has no more than one history by bridge.
 pub fn histories_are_one()
     ensures { HistoriesAreOne }
+{}
+
+/// The histories of a front of what comes are fronts of those of more of it.
+pub fn histories_go_on()
+    ensures { HistoriesGoOn }
 {}
 
 /// All that comes does so to bridges of the net, and at each of them the commands come in their order.
@@ -22,7 +28,7 @@ pub fn queues_end()
     ensures { QueuesEnd }
 {}
 
-/// That takes no more deliveries than there are wires, and meanwhile each port has one arrival at most: one wire leads down to each
+/// That takes no more deliveries than there are wires, and meanwhile each bridge has one arrival at most: one wire leads down to each
 /// bridge, so it is reached once.
 pub fn queues_end_soon()
     ensures { QueuesEndSoon }
@@ -31,6 +37,11 @@ pub fn queues_end_soon()
 /// So a valid net has a history of each of its bridges.
 pub fn nets_have_histories()
     ensures { NetsHaveHistories }
+{}
+
+/// What arrives at a wired port is, in order, what leaves at the far end of its wire.
+pub fn crossings_arrive()
+    ensures { CrossingsArrive }
 {}
 
 /// A net of one bridge has the history of the eager run.

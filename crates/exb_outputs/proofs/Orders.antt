@@ -3,7 +3,7 @@ use Rattle.std.proofs.Common.{◌≡◌, ◌≢◌, ◌<◌, ◌+◌, ◌==◌, 
 use Rattle.std.proofs.lemmas.Bool.{cases_Bool, cases_eq, cases_lt, false≢true, ne_eqb}
 use Rattle.exb_shelf.specs.Shelf.{Id, Opens, writing}
 use Rattle.exb_inputs.specs.declared.fault.Fault.{Fault}
-use Rattle.exb_inputs.specs.declared.fault.Fault.TheVariants.{Usage, Missing, Topology as BadTopology, Capture, Changed, Output, TooLarge, BadLine, Illegal, Read, Write, Memory}
+use Rattle.exb_inputs.specs.declared.fault.Fault.TheVariants.{Usage, Missing, Topology as BadTopology, Capture, Changed, Net as BadNet, Member as BadMember, MemberCapture, MemberChanged, Output, TooLarge, BadLine, Illegal, Read, Write, Memory}
 use Rattle.exb_inputs.specs.Reading.{IsOfCapture}
 use Rattle.exb_outputs.specs.Order.{IsLate, MakesFile, MadeInOrder, MakesInOrder}
 use Rattle.exb_outputs.specs.Plans.{output_name, Planned, output_count}
@@ -142,6 +142,10 @@ writing_early X (BadTopology fault) is late = late
 writing_early X (Capture p flaw) is late = late
 writing_early X (Changed p at) (inl is) late = cc
 writing_early X (Changed p at) (inr is) late = cc
+writing_early X (BadNet fault) is late = late
+writing_early X (BadMember name fault) is late = late
+writing_early X (MemberCapture name p flaw) is late = late
+writing_early X (MemberChanged name p at) is late = late
 writing_early X (Output p broke) is late = late
 writing_early X (TooLarge what) is late = late
 writing_early X (BadLine what n) is late = late
@@ -156,6 +160,10 @@ capture_early X (Missing name) is late = late
 capture_early X (BadTopology fault) is late = late
 capture_early X (Capture p flaw) is late = late
 capture_early X (Changed p at) is late = is
+capture_early X (BadNet fault) is late = late
+capture_early X (BadMember name fault) is late = late
+capture_early X (MemberCapture name p flaw) is late = late
+capture_early X (MemberChanged name p at) is late = late
 capture_early X (Output p broke) is late = late
 capture_early X (TooLarge what) is late = late
 capture_early X (BadLine what n) is late = late
@@ -192,6 +200,10 @@ makes_as {X = X} {Y = Y} plan x a b m = record { count = m.count; made = m.made;
     late_as (BadTopology fault) all late = absurd late
     late_as (Capture p flaw) all late = absurd late
     late_as (Changed p at) all late = all tt
+    late_as (BadNet fault) all late = absurd late
+    late_as (BadMember name fault) all late = absurd late
+    late_as (MemberCapture name p flaw) all late = absurd late
+    late_as (MemberChanged name p at) all late = absurd late
     late_as (Output p broke) all late = absurd late
     late_as (TooLarge what) all late = absurd late
     late_as (BadLine what n) all late = absurd late

@@ -5,7 +5,7 @@ use Rattle.exb_shelf.specs.Counting.{missing_more, reads_more, writes_more}
 use Rattle.exb_shelf.specs.Shelf.{Faults, Rose}
 use Rattle.exb_inputs.specs.Answers.{status_of}
 use Rattle.exb_inputs.specs.Counting.{CountsOnce}
-use Rattle.exb_inputs.specs.declared.fault.Fault.TheVariants.{Usage, Missing, Topology as BadTopology, Capture, Changed, Output, TooLarge, BadLine, Illegal, Read, Write, Memory}
+use Rattle.exb_inputs.specs.declared.fault.Fault.TheVariants.{Usage, Missing, Topology as BadTopology, Capture, Changed, Net as BadNet, Member as BadMember, MemberCapture, MemberChanged, Output, TooLarge, BadLine, Illegal, Read, Write, Memory}
 use Rattle.exb_run.specs.ByStatus.{CountedAt, CountedBy}
 use Rattle.exb_inputs.proofs.Outcomes.{Outcome}
 
@@ -33,6 +33,16 @@ counted-at (Err (Missing name)) a b once = record {
 counted-at (Err (BadTopology fault)) a b once = nothing 3 a b (λ e. omega arith) (λ e. omega arith) (λ e. omega arith) (λ e. omega arith) (λ e. omega arith) once
 counted-at (Err (Capture p flaw)) a b once = nothing 4 a b (λ e. omega arith) (λ e. omega arith) (λ e. omega arith) (λ e. omega arith) (λ e. omega arith) once
 counted-at (Err (Changed p byte)) a b once = record {
+  five = λ e. absurd (omega arith);
+  six = λ e. absurd (omega arith);
+  seven = λ e. absurd (omega arith);
+  either = λ which. once;
+  others = λ m1 m5 m6 m7 m10. absurd (m10 refl);
+}
+counted-at (Err (BadNet fault)) a b once = nothing 3 a b (λ e. omega arith) (λ e. omega arith) (λ e. omega arith) (λ e. omega arith) (λ e. omega arith) once
+counted-at (Err (BadMember name fault)) a b once = nothing 3 a b (λ e. omega arith) (λ e. omega arith) (λ e. omega arith) (λ e. omega arith) (λ e. omega arith) once
+counted-at (Err (MemberCapture name p flaw)) a b once = nothing 4 a b (λ e. omega arith) (λ e. omega arith) (λ e. omega arith) (λ e. omega arith) (λ e. omega arith) once
+counted-at (Err (MemberChanged name p at)) a b once = record {
   five = λ e. absurd (omega arith);
   six = λ e. absurd (omega arith);
   seven = λ e. absurd (omega arith);

@@ -8,6 +8,7 @@ pub mod Handing
 pub mod Scratching
 pub mod OpenLemmas
 pub mod Ordered
+pub mod Netted
 pub mod SummingUp
 pub mod ByStatus
 pub mod Parts

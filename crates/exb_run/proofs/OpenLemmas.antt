@@ -9,7 +9,7 @@ use Rattle.exb_shelf.proofs.IdLemmas.{opens_none, opens_weaker, opens_then}
 use Rattle.exb_topology.specs.declared.topology.Topology.{Topology}
 use Rattle.exb_words.specs.Words.{Ask, Run, Check, Audit}
 use Rattle.exb_inputs.specs.declared.fault.Fault.{Fault}
-use Rattle.exb_inputs.specs.declared.fault.Fault.TheVariants.{Usage, Missing, Topology as BadTopology, Capture, Changed, Output, TooLarge, BadLine, Illegal, Read, Write, Memory}
+use Rattle.exb_inputs.specs.declared.fault.Fault.TheVariants.{Usage, Missing, Topology as BadTopology, Capture, Changed, Net as BadNet, Member as BadMember, MemberCapture, MemberChanged, Output, TooLarge, BadLine, Illegal, Read, Write, Memory}
 use Rattle.exb_words.specs.declared.asked.Options.{Options}
 use Rattle.exb_outputs.specs.Plans.{Planned, kind_at, output_count, output_name}
 use Rattle.exb_inputs.specs.Checks.{AreAllGood}
@@ -34,6 +34,10 @@ capture_plays (Missing name) is = tt
 capture_plays (BadTopology fault) is = absurd is
 capture_plays (Capture p flaw) is = is
 capture_plays (Changed p at) is = absurd is
+capture_plays (BadNet fault) is = absurd is
+capture_plays (BadMember name fault) is = absurd is
+capture_plays (MemberCapture name p flaw) is = absurd is
+capture_plays (MemberChanged name p at) is = absurd is
 capture_plays (Output p broke) is = absurd is
 capture_plays (TooLarge what) is = absurd is
 capture_plays (BadLine what n) is = absurd is
@@ -48,6 +52,10 @@ play_plays (Missing name) is = absurd is
 play_plays (BadTopology fault) is = absurd is
 play_plays (Capture p flaw) is = absurd is
 play_plays (Changed p at) is = is
+play_plays (BadNet fault) is = absurd is
+play_plays (BadMember name fault) is = absurd is
+play_plays (MemberCapture name p flaw) is = absurd is
+play_plays (MemberChanged name p at) is = absurd is
 play_plays (Output p broke) is = absurd is
 play_plays (TooLarge what) is = absurd is
 play_plays (BadLine what n) is = absurd is
@@ -68,6 +76,10 @@ not_three (Err (Missing name)) is = λ e. omega arith
 not_three (Err (BadTopology fault)) is = absurd is
 not_three (Err (Capture p flaw)) is = λ e. omega arith
 not_three (Err (Changed p at)) is = λ e. omega arith
+not_three (Err (BadNet fault)) is = absurd is
+not_three (Err (BadMember name fault)) is = absurd is
+not_three (Err (MemberCapture name p flaw)) is = absurd is
+not_three (Err (MemberChanged name p at)) is = absurd is
 not_three (Err (Output p broke)) is = λ e. omega arith
 not_three (Err (TooLarge what)) is = λ e. omega arith
 not_three (Err (BadLine what n)) is = λ e. omega arith
@@ -83,6 +95,10 @@ audit_three (Err (Missing name)) is = λ e. omega arith
 audit_three (Err (BadTopology fault)) is = absurd is
 audit_three (Err (Capture p flaw)) is = λ e. omega arith
 audit_three (Err (Changed p at)) is = absurd is
+audit_three (Err (BadNet fault)) is = absurd is
+audit_three (Err (BadMember name fault)) is = absurd is
+audit_three (Err (MemberCapture name p flaw)) is = absurd is
+audit_three (Err (MemberChanged name p at)) is = absurd is
 audit_three (Err (Output p broke)) is = λ e. omega arith
 audit_three (Err (TooLarge what)) is = λ e. omega arith
 audit_three (Err (BadLine what n)) is = λ e. omega arith

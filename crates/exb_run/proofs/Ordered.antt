@@ -12,7 +12,7 @@ use Rattle.exb_topology.specs.declared.topology.Topology.{Topology}
 use Rattle.exb_words.specs.declared.asked.Options.{Options}
 use Rattle.exb_words.specs.Words.{Ask, Run, Check, Make}
 use Rattle.exb_inputs.specs.declared.fault.Fault.{Fault}
-use Rattle.exb_inputs.specs.declared.fault.Fault.TheVariants.{Usage, Missing, Topology as BadTopology, Capture, Changed, Output, TooLarge, BadLine, Illegal, Read, Write, Memory}
+use Rattle.exb_inputs.specs.declared.fault.Fault.TheVariants.{Usage, Missing, Topology as BadTopology, Capture, Changed, Net as BadNet, Member as BadMember, MemberCapture, MemberChanged, Output, TooLarge, BadLine, Illegal, Read, Write, Memory}
 use Rattle.exb_inputs.specs.declared.fault.Flaw.{Flaw}
 use Rattle.exb_inputs.specs.Answers.{CanBe, HoldsTopology, fault_line, fault_status, line_of, status_of}
 use Rattle.exb_inputs.specs.Checks.{FirstFault, IsGoodNamed}
@@ -131,6 +131,10 @@ topology_status (Missing name) is = (λ e. omega arith, λ e. omega arith, λ e.
 topology_status (BadTopology fault) is = (λ e. omega arith, λ e. omega arith, λ e. omega arith)
 topology_status (Capture p flaw) is = absurd is
 topology_status (Changed p at) is = absurd is
+topology_status (BadNet fault) is = absurd is
+topology_status (BadMember name fault) is = absurd is
+topology_status (MemberCapture name p flaw) is = absurd is
+topology_status (MemberChanged name p at) is = absurd is
 topology_status (Output p broke) is = absurd is
 topology_status (TooLarge what) is = absurd is
 topology_status (BadLine what n) is = absurd is
@@ -143,20 +147,25 @@ early_status : (o : Outcome) → IsRefusedEarly o → (status_of o ≢ 0) × (st
 early_status (Ok line) early = absurd early
 early_status (Err x) early = topology_status x early
 
-late_of : (o : Outcome) → (status_of o ≡ 0) ⊎ (status_of o ≡ 10) → IsLate o
-late_of (Ok line) is = tt
-late_of (Err Usage) is = elim is [ inl e ↦ omega arith | inr e ↦ omega arith ]
-late_of (Err (Missing name)) is = elim is [ inl e ↦ omega arith | inr e ↦ omega arith ]
-late_of (Err (BadTopology fault)) is = elim is [ inl e ↦ omega arith | inr e ↦ omega arith ]
-late_of (Err (Capture p flaw)) is = elim is [ inl e ↦ omega arith | inr e ↦ omega arith ]
-late_of (Err (Changed p at)) is = tt
-late_of (Err (Output p broke)) is = elim is [ inl e ↦ omega arith | inr e ↦ omega arith ]
-late_of (Err (TooLarge what)) is = elim is [ inl e ↦ omega arith | inr e ↦ omega arith ]
-late_of (Err (BadLine what n)) is = elim is [ inl e ↦ omega arith | inr e ↦ omega arith ]
-late_of (Err (Illegal r)) is = elim is [ inl e ↦ omega arith | inr e ↦ omega arith ]
-late_of (Err Read) is = elim is [ inl e ↦ omega arith | inr e ↦ omega arith ]
-late_of (Err Write) is = elim is [ inl e ↦ omega arith | inr e ↦ omega arith ]
-late_of (Err Memory) is = elim is [ inl e ↦ omega arith | inr e ↦ omega arith ]
+late_of : (o : Outcome) → IfErr o (λ x. IsOfTopology x ⊎ IsOfPlaying x) → (status_of o ≡ 0) ⊎ (status_of o ≡ 10) → IsLate o
+late_of (Ok line) come is = tt
+late_of (Err Usage) come is = elim is [ inl e ↦ omega arith | inr e ↦ omega arith ]
+late_of (Err (Missing name)) come is = elim is [ inl e ↦ omega arith | inr e ↦ omega arith ]
+late_of (Err (BadTopology fault)) come is = elim is [ inl e ↦ omega arith | inr e ↦ omega arith ]
+late_of (Err (Capture p flaw)) come is = elim is [ inl e ↦ omega arith | inr e ↦ omega arith ]
+late_of (Err (Changed p at)) come is = tt
+late_of (Err (BadNet fault)) come is = elim is [ inl e ↦ omega arith | inr e ↦ omega arith ]
+late_of (Err (BadMember name fault)) come is = elim is [ inl e ↦ omega arith | inr e ↦ omega arith ]
+late_of (Err (MemberCapture name p flaw)) come is = elim is [ inl e ↦ omega arith | inr e ↦ omega arith ]
+late_of (Err (MemberChanged name p at)) (inl no) is = absurd no
+late_of (Err (MemberChanged name p at)) (inr no) is = absurd no
+late_of (Err (Output p broke)) come is = elim is [ inl e ↦ omega arith | inr e ↦ omega arith ]
+late_of (Err (TooLarge what)) come is = elim is [ inl e ↦ omega arith | inr e ↦ omega arith ]
+late_of (Err (BadLine what n)) come is = elim is [ inl e ↦ omega arith | inr e ↦ omega arith ]
+late_of (Err (Illegal r)) come is = elim is [ inl e ↦ omega arith | inr e ↦ omega arith ]
+late_of (Err Read) come is = elim is [ inl e ↦ omega arith | inr e ↦ omega arith ]
+late_of (Err Write) come is = elim is [ inl e ↦ omega arith | inr e ↦ omega arith ]
+late_of (Err Memory) come is = elim is [ inl e ↦ omega arith | inr e ↦ omega arith ]
 
 is_capture : (o : Outcome) → IfErr o (λ x. IsOfTopology x ⊎ IsOfPlaying x) → status_of o ≡ 4 → (p : ℕ) × (flaw : Flaw) × (o ≡ Err (Capture p flaw))
 is_capture (Ok line) come e = absurd (omega arith)
@@ -165,6 +174,11 @@ is_capture (Err (Missing name)) come e = absurd (omega arith)
 is_capture (Err (BadTopology fault)) come e = absurd (omega arith)
 is_capture (Err (Capture p flaw)) come e = (p, flaw, refl)
 is_capture (Err (Changed p at)) come e = absurd (omega arith)
+is_capture (Err (BadNet fault)) come e = absurd (omega arith)
+is_capture (Err (BadMember name fault)) come e = absurd (omega arith)
+is_capture (Err (MemberCapture name p flaw)) (inl is) e = absurd is
+is_capture (Err (MemberCapture name p flaw)) (inr is) e = absurd is
+is_capture (Err (MemberChanged name p at)) come e = absurd (omega arith)
 is_capture (Err (Output p broke)) (inl is) e = absurd is
 is_capture (Err (Output p broke)) (inr is) e = absurd is
 is_capture (Err (TooLarge what)) (inl is) e = absurd is
@@ -175,20 +189,25 @@ is_capture (Err Read) come e = absurd (omega arith)
 is_capture (Err Write) come e = absurd (omega arith)
 is_capture (Err Memory) come e = absurd (omega arith)
 
-is_changed : (o : Outcome) → status_of o ≡ 10 → (p : ℕ) × (at : ℕ) × (o ≡ Err (Changed p at))
-is_changed (Ok line) e = absurd (omega arith)
-is_changed (Err Usage) e = absurd (omega arith)
-is_changed (Err (Missing name)) e = absurd (omega arith)
-is_changed (Err (BadTopology fault)) e = absurd (omega arith)
-is_changed (Err (Capture p flaw)) e = absurd (omega arith)
-is_changed (Err (Changed p at)) e = (p, at, refl)
-is_changed (Err (Output p broke)) e = absurd (omega arith)
-is_changed (Err (TooLarge what)) e = absurd (omega arith)
-is_changed (Err (BadLine what n)) e = absurd (omega arith)
-is_changed (Err (Illegal r)) e = absurd (omega arith)
-is_changed (Err Read) e = absurd (omega arith)
-is_changed (Err Write) e = absurd (omega arith)
-is_changed (Err Memory) e = absurd (omega arith)
+is_changed : (o : Outcome) → IfErr o (λ x. IsOfTopology x ⊎ IsOfPlaying x) → status_of o ≡ 10 → (p : ℕ) × (at : ℕ) × (o ≡ Err (Changed p at))
+is_changed (Ok line) come e = absurd (omega arith)
+is_changed (Err Usage) come e = absurd (omega arith)
+is_changed (Err (Missing name)) come e = absurd (omega arith)
+is_changed (Err (BadTopology fault)) come e = absurd (omega arith)
+is_changed (Err (Capture p flaw)) come e = absurd (omega arith)
+is_changed (Err (Changed p at)) come e = (p, at, refl)
+is_changed (Err (BadNet fault)) come e = absurd (omega arith)
+is_changed (Err (BadMember name fault)) come e = absurd (omega arith)
+is_changed (Err (MemberCapture name p flaw)) come e = absurd (omega arith)
+is_changed (Err (MemberChanged name p at)) (inl no) e = absurd no
+is_changed (Err (MemberChanged name p at)) (inr no) e = absurd no
+is_changed (Err (Output p broke)) come e = absurd (omega arith)
+is_changed (Err (TooLarge what)) come e = absurd (omega arith)
+is_changed (Err (BadLine what n)) come e = absurd (omega arith)
+is_changed (Err (Illegal r)) come e = absurd (omega arith)
+is_changed (Err Read) come e = absurd (omega arith)
+is_changed (Err Write) come e = absurd (omega arith)
+is_changed (Err Memory) come e = absurd (omega arith)
 
 module _ (tells printing : Type 0) (name : List ℕ) (options : Options) (o : Outcome) (status : ℕ) (file : Files) (given ids : ℕ → Id) (before after : List ℕ) (is : status ≢ 1 → status ≢ 7 → status ≡ status_of o)
     (says : printing → status ≢ 1 → status ≢ 7 → after ≡ before ++ line_of o) (come : IfErr o (λ x. IsOfTopology x ⊎ IsOfPlaying x)) (can : (x : Fault) → o ≡ Err x → CanBe x) where
@@ -206,7 +225,7 @@ module _ (tells printing : Type 0) (name : List ℕ) (options : Options) (o : Ou
     count = r.made.count;
     made = r.made.made;
     behind = r.behind;
-    all = λ which. r.made.all (late_of o (elim which [
+    all = λ which. r.made.all (late_of o come (elim which [
       | inl e ↦ inl (own_status 0 (λ h. omega arith) (λ h. omega arith) e)
       | inr e ↦ inr (own_status 10 (λ h. omega arith) (λ h. omega arith) e)
     ]));
@@ -215,7 +234,7 @@ module _ (tells printing : Type 0) (name : List ℕ) (options : Options) (o : Ou
         let own = r.own found.0 found.1 found.2 in
         (found.0, found.1, own.0, own.1, λ p. all_said 4 (λ h. omega arith) (λ h. omega arith) e p ∙ ap (λ (q : Outcome). before ++ line_of q) found.2);
     ten = λ e.
-        let found = is_changed o (own_status 10 (λ h. omega arith) (λ h. omega arith) e) in
+        let found = is_changed o come (own_status 10 (λ h. omega arith) (λ h. omega arith) e) in
         (found.0, found.1, can (Changed found.0 found.1) found.2, r.changed found.0 found.1 found.2, λ p. all_said 10 (λ h. omega arith) (λ h. omega arith) e p ∙ ap (λ (q : Outcome). before ++ line_of q) found.2);
     first = r.first;
   }

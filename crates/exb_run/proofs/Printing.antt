@@ -12,7 +12,7 @@ use Rattle.exb_needs.specs.Lines.{lines_of}
 use Rattle.exb_run.specs.Answers.{eager_summary}
 use Rattle.exb_shelf.specs.Files.{AppendsFront, BreaksOff}
 use Rattle.exb_shelf.specs.Shelf.{Faults}
-use Rattle.exb_words.specs.Words.{Ask, Run, Check, Make, Audit}
+use Rattle.exb_words.specs.Words.{Ask, Run, Check, Make, Audit, Net}
 use Rattle.exb_inputs.specs.Answers.{fault_line, fault_status, line_of, status_of}
 use Rattle.exb_inputs.specs.Shelving.{CountsFaults}
 use Rattle.exb_inputs.specs.declared.fault.Fault.{Fault}
@@ -84,6 +84,7 @@ begins text line letter is first e = sym first ∙ sym (ap (λ (xs : List ℕ). 
 done_letter : (a : Option Ask) (text : List ℕ) → SaysDone a text → get_or text 0 0 ≢ 101
 done_letter None text says = absurd says
 done_letter (Some (Run name options)) text (c, is) = λ e. let no : 97 ≡ 101 = begins text (summary_line c) 97 is (summary_begins c) e in omega (arith, no)
+done_letter (Some (Net name counters)) text (c, is) = λ e. let no : 97 ≡ 101 = begins text (summary_line c) 97 is (summary_begins c) e in omega (arith, no)
 done_letter (Some (Check name)) text (n, l, is) = λ e. let no : 99 ≡ 101 = begins text (lines_of n l) 99 is (lines_begin n l) e in omega (arith, no)
 done_letter (Some (Audit name)) text (n, is) = λ e. let no : 108 ≡ 101 = begins text (legal_line n) 108 is refl e in omega (arith, no)
 done_letter (Some (Make number)) text is = λ e. let no : 97 ≡ 101 = begins text (eager_summary (made number)) 97 is (summary_begins _) e in omega (arith, no)

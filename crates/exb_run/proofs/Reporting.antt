@@ -9,9 +9,9 @@ use Rattle.exb_shelf.specs.Shelf.{Id, Faults, Rose, Opens}
 use Rattle.exb_shelf.proofs.IdLemmas.{opens_weaker, opens_then}
 use Rattle.exb_tables.specs.declared.rows.Named.{Named}
 use Rattle.exb_words.specs.declared.asked.Options.{Options}
-use Rattle.exb_words.specs.Words.{Ask, Run, Check, Make, Audit}
+use Rattle.exb_words.specs.Words.{Ask, Run, Check, Make, Audit, Net}
 use Rattle.exb_inputs.specs.declared.fault.Fault.{Fault}
-use Rattle.exb_inputs.specs.declared.fault.Fault.TheVariants.{Usage, Missing, Topology as BadTopology, Capture, Changed, Output, TooLarge, BadLine, Illegal, Read, Write, Memory}
+use Rattle.exb_inputs.specs.declared.fault.Fault.TheVariants.{Usage, Missing, Topology as BadTopology, Capture, Changed, Net as BadNet, Member as BadMember, MemberCapture, MemberChanged, Output, TooLarge, BadLine, Illegal, Read, Write, Memory}
 use Rattle.exb_inputs.specs.Inputs.{name_of}
 use Rattle.exb_inputs.specs.Checks.{FirstFault}
 use Rattle.exb_inputs.specs.Reading.{IsOfAudit, IsOfTopology, IsOfPlaying, IsOfPlay}
@@ -30,7 +30,9 @@ use Rattle.exb_text.specs.Names.{journal_name, trace_name}
 use Rattle.exb_auditing.specs.Audits.{StopsAudit, captures_fault, lines_fault, most, outputs_fault}
 use Rattle.exb_auditing.specs.Scopes.{Scope, scope_of}
 use Rattle.exb_auditing.proofs.Once.{IsOfFiles, first_of_files}
-use Rattle.exb_run.specs.Outcomes.{CanCome}
+use Rattle.exb_net_inputs.specs.Refusing.{IsFileRefused, member_fault, net_refused_by}
+use Rattle.exb_net_run.specs.Answers.{IsOfNet, IsOfNetPlay, NetStops}
+use Rattle.exb_run.specs.Outcomes.{CanCome, IsOfMaking}
 use Rattle.exb_inputs.proofs.FaultLemmas.{fault_of_named}
 use Rattle.exb_inputs.proofs.Outcomes.{Outcome}
 use Rattle.exb_run.proofs.Stopping.{failure_is}
@@ -45,6 +47,10 @@ topology_can_be (BadTopology topology.Large) is = tt
 topology_can_be (BadTopology (topology.At fault key)) is = tt
 topology_can_be (Capture p flaw) is = absurd is
 topology_can_be (Changed p byte) is = absurd is
+topology_can_be (BadNet fault) is = absurd is
+topology_can_be (BadMember name fault) is = absurd is
+topology_can_be (MemberCapture name p flaw) is = absurd is
+topology_can_be (MemberChanged name p at) is = absurd is
 topology_can_be (Output p broke) is = absurd is
 topology_can_be (TooLarge what) is = absurd is
 topology_can_be (BadLine what n) is = absurd is
@@ -59,6 +65,10 @@ playing_can_be (Missing name) is = tt
 playing_can_be (BadTopology fault) is = absurd is
 playing_can_be (Capture p flaw) is = is
 playing_can_be (Changed p byte) is = is
+playing_can_be (BadNet fault) is = absurd is
+playing_can_be (BadMember name fault) is = absurd is
+playing_can_be (MemberCapture name p flaw) is = absurd is
+playing_can_be (MemberChanged name p at) is = absurd is
 playing_can_be (Output p broke) is = absurd is
 playing_can_be (TooLarge what) is = absurd is
 playing_can_be (BadLine what n) is = absurd is
@@ -73,6 +83,10 @@ audit_can_be (Missing name) is = tt
 audit_can_be (BadTopology fault) is = absurd is
 audit_can_be (Capture p flaw) is = is
 audit_can_be (Changed p byte) is = absurd is
+audit_can_be (BadNet fault) is = absurd is
+audit_can_be (BadMember name fault) is = absurd is
+audit_can_be (MemberCapture name p flaw) is = absurd is
+audit_can_be (MemberChanged name p at) is = absurd is
 audit_can_be (Output p broke) is = is
 audit_can_be (TooLarge what) is = tt
 audit_can_be (BadLine what n) is = is
@@ -80,6 +94,30 @@ audit_can_be (Illegal r) is = is
 audit_can_be Read is = tt
 audit_can_be Write is = tt
 audit_can_be Memory is = tt
+
+net_can_be : (x : Fault) → IsOfNet x → CanBe x
+net_can_be Usage is = absurd is
+net_can_be (Missing name) is = tt
+net_can_be (BadTopology fault) is = absurd is
+net_can_be (Capture p flaw) is = absurd is
+net_can_be (Changed p byte) is = absurd is
+net_can_be (BadNet topology.Memory) is = absurd is
+net_can_be (BadNet topology.NotToml) is = tt
+net_can_be (BadNet topology.Large) is = tt
+net_can_be (BadNet (topology.At fault key)) is = tt
+net_can_be (BadMember name topology.Memory) is = absurd is
+net_can_be (BadMember name topology.NotToml) is = tt
+net_can_be (BadMember name topology.Large) is = tt
+net_can_be (BadMember name (topology.At fault key)) is = tt
+net_can_be (MemberCapture name p flaw) is = is
+net_can_be (MemberChanged name p at) is = is
+net_can_be (Output p broke) is = absurd is
+net_can_be (TooLarge what) is = absurd is
+net_can_be (BadLine what n) is = absurd is
+net_can_be (Illegal r) is = absurd is
+net_can_be Read is = tt
+net_can_be Write is = tt
+net_can_be Memory is = tt
 
 can_be_come : (a : Option Ask) (x : Fault) → CanCome a x → CanBe x
 can_be_come None x is = subst CanBe (sym is) tt
@@ -89,6 +127,7 @@ can_be_come (Some (Check name)) x is = topology_can_be x is
 can_be_come (Some (Make number)) x is = subst CanBe (sym is) tt
 can_be_come (Some (Audit name)) x (inl topology) = topology_can_be x topology
 can_be_come (Some (Audit name)) x (inr audit) = audit_can_be x audit
+can_be_come (Some (Net name counters)) x is = net_can_be x is
 
 come_of : (a : Option Ask) (o : Outcome) (x : Fault) → IfErr o (CanCome a) → o ≡ Err x → CanCome a x
 come_of a o x come e = subst (λ (p : Outcome). IfErr p (CanCome a)) e come
@@ -105,6 +144,7 @@ usage_none (Some (Check name)) is = absurd is
 usage_none (Some (Make number)) is = absurd (cc)
 usage_none (Some (Audit name)) (inl is) = absurd is
 usage_none (Some (Audit name)) (inr is) = absurd is
+usage_none (Some (Net name counters)) is = absurd is
 
 pub none_by_usage : (a : Option Ask) (o : Outcome) → IfErr o (CanCome a) → o ≡ Err Usage → a ≡ None
 none_by_usage a o come e = usage_none a (come_of a o Usage come e)
@@ -117,6 +157,7 @@ write_runs (Some (Check name)) is = absurd is
 write_runs (Some (Make number)) is = absurd (cc)
 write_runs (Some (Audit name)) (inl is) = absurd is
 write_runs (Some (Audit name)) (inr is) = absurd is
+write_runs (Some (Net name counters)) is = tt
 
 pub run_by_write : (a : Option Ask) (o : Outcome) → IfErr o (CanCome a) → o ≡ Err Write → IsRun a
 run_by_write a o come e = write_runs a (come_of a o Write come e)
@@ -129,6 +170,10 @@ is_usage (Err (Missing name)) e = absurd (omega arith)
 is_usage (Err (BadTopology fault)) e = absurd (omega arith)
 is_usage (Err (Capture p x)) e = absurd (omega arith)
 is_usage (Err (Changed p byte)) e = absurd (omega arith)
+is_usage (Err (BadNet fault)) e = absurd (omega arith)
+is_usage (Err (BadMember name fault)) e = absurd (omega arith)
+is_usage (Err (MemberCapture name p flaw)) e = absurd (omega arith)
+is_usage (Err (MemberChanged name p at)) e = absurd (omega arith)
 is_usage (Err (Output p broke)) e = absurd (omega arith)
 is_usage (Err (TooLarge what)) e = absurd (omega arith)
 is_usage (Err (BadLine what n)) e = absurd (omega arith)
@@ -144,6 +189,10 @@ is_read (Err (Missing name)) e = absurd (omega arith)
 is_read (Err (BadTopology fault)) e = absurd (omega arith)
 is_read (Err (Capture p x)) e = absurd (omega arith)
 is_read (Err (Changed p byte)) e = absurd (omega arith)
+is_read (Err (BadNet fault)) e = absurd (omega arith)
+is_read (Err (BadMember name fault)) e = absurd (omega arith)
+is_read (Err (MemberCapture name p flaw)) e = absurd (omega arith)
+is_read (Err (MemberChanged name p at)) e = absurd (omega arith)
 is_read (Err (Output p broke)) e = absurd (omega arith)
 is_read (Err (TooLarge what)) e = absurd (omega arith)
 is_read (Err (BadLine what n)) e = absurd (omega arith)
@@ -160,6 +209,10 @@ write_or_not (Err (Missing name)) = inr (λ e. omega arith)
 write_or_not (Err (BadTopology fault)) = inr (λ e. omega arith)
 write_or_not (Err (Capture p x)) = inr (λ e. omega arith)
 write_or_not (Err (Changed p byte)) = inr (λ e. omega arith)
+write_or_not (Err (BadNet fault)) = inr (λ e. omega arith)
+write_or_not (Err (BadMember name fault)) = inr (λ e. omega arith)
+write_or_not (Err (MemberCapture name p flaw)) = inr (λ e. omega arith)
+write_or_not (Err (MemberChanged name p at)) = inr (λ e. omega arith)
 write_or_not (Err (Output p broke)) = inr (λ e. omega arith)
 write_or_not (Err (TooLarge what)) = inr (λ e. omega arith)
 write_or_not (Err (BadLine what n)) = inr (λ e. omega arith)
@@ -180,6 +233,10 @@ is_missing (Err (Missing name)) e = (name, refl)
 is_missing (Err (BadTopology fault)) e = absurd (omega arith)
 is_missing (Err (Capture p x)) e = absurd (omega arith)
 is_missing (Err (Changed p byte)) e = absurd (omega arith)
+is_missing (Err (BadNet fault)) e = absurd (omega arith)
+is_missing (Err (BadMember name fault)) e = absurd (omega arith)
+is_missing (Err (MemberCapture name p flaw)) e = absurd (omega arith)
+is_missing (Err (MemberChanged name p at)) e = absurd (omega arith)
 is_missing (Err (Output p broke)) e = absurd (omega arith)
 is_missing (Err (TooLarge what)) e = absurd (omega arith)
 is_missing (Err (BadLine what n)) e = absurd (omega arith)
@@ -195,6 +252,10 @@ topology_status name (Missing n) is = refl
 topology_status name (BadTopology fault) is = refl
 topology_status name (Capture p flaw) is = absurd is
 topology_status name (Changed p byte) is = absurd is
+topology_status name (BadNet fault) is = absurd is
+topology_status name (BadMember name fault) is = absurd is
+topology_status name (MemberCapture name p flaw) is = absurd is
+topology_status name (MemberChanged name p at) is = absurd is
 topology_status name (Output p broke) is = absurd is
 topology_status name (TooLarge what) is = absurd is
 topology_status name (BadLine what n) is = absurd is
@@ -210,6 +271,14 @@ run_status name options (Missing n) is = refl
 run_status name options (BadTopology fault) is = refl
 run_status name options (Capture p flaw) is = refl
 run_status name options (Changed p byte) is = refl
+run_status name options (BadNet fault) (inl is) = absurd is
+run_status name options (BadNet fault) (inr is) = absurd is
+run_status name options (BadMember name fault) (inl is) = absurd is
+run_status name options (BadMember name fault) (inr is) = absurd is
+run_status name options (MemberCapture name p flaw) (inl is) = absurd is
+run_status name options (MemberCapture name p flaw) (inr is) = absurd is
+run_status name options (MemberChanged name p at) (inl is) = absurd is
+run_status name options (MemberChanged name p at) (inr is) = absurd is
 run_status name options (Output p broke) (inl is) = absurd is
 run_status name options (Output p broke) (inr is) = absurd is
 run_status name options (TooLarge what) (inl is) = absurd is
@@ -230,6 +299,14 @@ audit_status name (BadTopology fault) is = refl
 audit_status name (Capture p flaw) is = refl
 audit_status name (Changed p byte) (inl is) = absurd is
 audit_status name (Changed p byte) (inr is) = absurd is
+audit_status name (BadNet fault) (inl is) = absurd is
+audit_status name (BadNet fault) (inr is) = absurd is
+audit_status name (BadMember name fault) (inl is) = absurd is
+audit_status name (BadMember name fault) (inr is) = absurd is
+audit_status name (MemberCapture name p flaw) (inl is) = absurd is
+audit_status name (MemberCapture name p flaw) (inr is) = absurd is
+audit_status name (MemberChanged name p at) (inl is) = absurd is
+audit_status name (MemberChanged name p at) (inr is) = absurd is
 audit_status name (Output p broke) is = refl
 audit_status name (TooLarge what) is = refl
 audit_status name (BadLine what n) is = refl
@@ -239,6 +316,24 @@ audit_status name Write (inl is) = absurd is
 audit_status name Write (inr is) = absurd is
 audit_status name Memory is = refl
 
+net_status : (name : List ℕ) (counters : Bool) (x : Fault) → IsOfNet x → IsStatus (Some (Net name counters)) (fault_status x)
+net_status name counters Usage is = absurd is
+net_status name counters (Missing n) is = refl
+net_status name counters (BadTopology fault) is = absurd is
+net_status name counters (Capture p flaw) is = absurd is
+net_status name counters (Changed p byte) is = absurd is
+net_status name counters (BadNet fault) is = refl
+net_status name counters (BadMember bridge fault) is = refl
+net_status name counters (MemberCapture bridge p flaw) is = refl
+net_status name counters (MemberChanged bridge p at) is = refl
+net_status name counters (Output p broke) is = absurd is
+net_status name counters (TooLarge what) is = absurd is
+net_status name counters (BadLine what n) is = absurd is
+net_status name counters (Illegal r) is = absurd is
+net_status name counters Read is = refl
+net_status name counters Write is = refl
+net_status name counters Memory is = refl
+
 status_comes : (a : Option Ask) (o : Outcome) → IfErr o (CanCome a) → (a ≡ None → IsErrOf o Usage) → IsStatus a (status_of o)
 status_comes None o come none = subst (λ (p : Outcome). IsStatus None (status_of p)) (sym (none refl)) refl
 status_comes (Some (Run name options)) (Ok text) come none = refl
@@ -247,6 +342,8 @@ status_comes (Some (Check name)) (Ok text) come none = refl
 status_comes (Some (Check name)) (Err x) come none = topology_status name x come
 status_comes (Some (Audit name)) (Ok text) come none = refl
 status_comes (Some (Audit name)) (Err x) come none = audit_status name x come
+status_comes (Some (Net name counters)) (Ok text) come none = refl
+status_comes (Some (Net name counters)) (Err x) come none = net_status name counters x come
 status_comes (Some (Make number)) (Ok text) come none = refl
 status_comes (Some (Make number)) (Err x) come none = subst (λ (y : Fault). IsStatus (Some (Make number)) (fault_status y)) (sym come) refl
 
@@ -256,6 +353,7 @@ one_is (Some (Run name options)) = refl
 one_is (Some (Check name)) = refl
 one_is (Some (Make number)) = refl
 one_is (Some (Audit name)) = refl
+one_is (Some (Net name counters)) = refl
 
 seven_is : (a : Option Ask) → IsStatus a 7
 seven_is None = refl
@@ -263,6 +361,7 @@ seven_is (Some (Run name options)) = refl
 seven_is (Some (Check name)) = refl
 seven_is (Some (Make number)) = refl
 seven_is (Some (Audit name)) = refl
+seven_is (Some (Net name counters)) = refl
 
 pub status_is : (a : Option Ask) (o : Outcome) (s : ℕ) → IfErr o (CanCome a) → (a ≡ None → IsErrOf o Usage) → (s ≢ 1 → s ≢ 7 → s ≡ status_of o) → IsStatus a s
 status_is a o s come none is = elim (cases_eq s 1) [
@@ -316,6 +415,41 @@ module _ (s : ℕ) (two : s ≢ 2) (three : s ≢ 3) (four : s ≢ 4) (five : s 
   audit_stop_status c file x (inr (captures, inr (outputs, inr (entries, inl (f, bad, is))))) h = lines_status line_in (file (trace_name c.prefix)) part.Trace (trace_name c.prefix) f x bad is h
   audit_stop_status c file x (inr (captures, inr (outputs, inr (entries, inr (seen, is_seen, r, lowest, is))))) h = eleven (sym h ∙ ap fault_status is)
 
+  -- of a net
+  net_refusal_status : (r : Refusal) → fault_status (net_refused_by r) ≢ s
+  net_refusal_status not_toml e = three (sym e)
+  net_refusal_status large e = three (sym e)
+  net_refusal_status (at fault key) e = three (sym e)
+
+  member_refusal_status : (bridge : List ℕ) (r : Refusal) → fault_status (member_fault bridge (refused_by r)) ≢ s
+  member_refusal_status bridge not_toml e = three (sym e)
+  member_refusal_status bridge large e = three (sym e)
+  member_refusal_status bridge (at fault key) e = three (sym e)
+
+  member_refused_status : (bridge name : List ℕ) (o : Option (List ℕ)) (x : Fault) → IsRefused name o x → fault_status (member_fault bridge x) ≢ s
+  member_refused_status bridge name None x is h = five (sym h ∙ ap (λ (y : Fault). fault_status (member_fault bridge y)) is)
+  member_refused_status bridge name (Some bytes) x (r, refused, is) h = member_refusal_status bridge r (sym (ap (λ (y : Fault). fault_status (member_fault bridge y)) is) ∙ h)
+
+  member_first_status : (bridge : List ℕ) (names : List Named) (file : Files) (p : ℕ) (x : Fault) → FirstFault names file p x → fault_status (member_fault bridge x) ≢ s
+  member_first_status bridge names file p x first h = elim (fault_of_named p (name_of names p) file x first.here) [
+    | inl missing ↦ five (sym h ∙ ap (λ (y : Fault). fault_status (member_fault bridge y)) missing.1)
+    | inr flaw ↦ four (sym h ∙ ap (λ (y : Fault). fault_status (member_fault bridge y)) flaw.1)
+  ]
+
+  file_refused_status : (name : List ℕ) (o : Option (List ℕ)) (x : Fault) → IsFileRefused name o x → fault_status x ≢ s
+  file_refused_status name None x is h = five (sym h ∙ ap fault_status is)
+  file_refused_status name (Some bytes) x (r, refused, is) h = net_refusal_status r (sym (ap fault_status is) ∙ h)
+
+  net_stop_status : (name : List ℕ) (f : Files) (x : Fault) → NetStops name f x → fault_status x ≢ s
+  net_stop_status name f x (inl (inl refused)) h = file_refused_status name (f name) x refused h
+  net_stop_status name f x (inl (inr (inl refused))) h =
+      let own = refused.first.here in
+      member_refused_status refused.first.bridge.name refused.first.bridge.topology (f refused.first.bridge.topology) own.0 own.1 (sym (ap fault_status own.2) ∙ h)
+  net_stop_status name f x (inl (inr (inr wires))) h = let own = wires.refused in net_refusal_status own.0 (sym (ap fault_status own.2) ∙ h)
+  net_stop_status name f x (inr faulty) h =
+      let own = faulty.first.here in
+      member_first_status faulty.first.member.name faulty.first.member.topology.captures f own.port own.own own.first (sym (ap fault_status own.is) ∙ h)
+
   pub stop_status : (a : Option Ask) (f : Files) (x : Fault) → Stops a f x → fault_status x ≢ s
   stop_status None f x is h = two (sym h ∙ ap fault_status is)
   stop_status (Some (Run name options)) f x (inl refused) h = refused_status name (f name) x refused h
@@ -324,6 +458,7 @@ module _ (s : ℕ) (two : s ≢ 2) (three : s ≢ 3) (four : s ≢ 4) (five : s 
   stop_status (Some (Make number)) f x is h = absurd is
   stop_status (Some (Audit name)) f x (inl refused) h = refused_status name (f name) x refused h
   stop_status (Some (Audit name)) f x (inr p) h = audit_stop_status (scope_of p.topology) f x p.stops h
+  stop_status (Some (Net name counters)) f x stops h = net_stop_status name f x stops h
 
 pub stop_not_seven : (a : Option Ask) (f : Files) (x : Fault) → Stops a f x → fault_status x ≢ 7
 stop_not_seven = stop_status 7 (λ e. omega arith) (λ e. omega arith) (λ e. omega arith) (λ e. omega arith) (λ e. omega arith) (λ e. omega arith)
@@ -418,6 +553,10 @@ no_zero (Missing name) e = omega arith
 no_zero (BadTopology fault) e = omega arith
 no_zero (Capture p flaw) e = omega arith
 no_zero (Changed p byte) e = omega arith
+no_zero (BadNet fault) e = omega arith
+no_zero (BadMember name fault) e = omega arith
+no_zero (MemberCapture name p flaw) e = omega arith
+no_zero (MemberChanged name p at) e = omega arith
 no_zero (Output p broke) e = omega arith
 no_zero (TooLarge what) e = omega arith
 no_zero (BadLine what n) e = omega arith
@@ -436,13 +575,17 @@ pub text_by : (o : Outcome) (text : List ℕ) → IfOk o (λ t. string_bytes t �
 text_by (Ok t) text is zero = is
 text_by (Err x) text is zero = absurd (no_zero x zero)
 
--- an early end has none of the statuses of faults that come while a topology is played
+-- an early end has none of the statuses of faults that come while a topology or a net is played
 late_status : (x : Fault) → IsOfPlay x → fault_status x ≢ 1 → fault_status x ≢ 6 → fault_status x ≢ 7 → fault_status x ≢ 10 → ⊥
 late_status Usage is n1 n6 n7 n10 = is
 late_status (Missing name) is n1 n6 n7 n10 = is
 late_status (BadTopology fault) is n1 n6 n7 n10 = is
 late_status (Capture p flaw) is n1 n6 n7 n10 = is
 late_status (Changed p byte) is n1 n6 n7 n10 = n10 refl
+late_status (BadNet fault) is n1 n6 n7 n10 = is
+late_status (BadMember name fault) is n1 n6 n7 n10 = is
+late_status (MemberCapture name p flaw) is n1 n6 n7 n10 = is
+late_status (MemberChanged name p at) is n1 n6 n7 n10 = is
 late_status (Output p broke) is n1 n6 n7 n10 = is
 late_status (TooLarge what) is n1 n6 n7 n10 = is
 late_status (BadLine what n) is n1 n6 n7 n10 = is
@@ -451,10 +594,42 @@ late_status Read is n1 n6 n7 n10 = n6 refl
 late_status Write is n1 n6 n7 n10 = n7 refl
 late_status Memory is n1 n6 n7 n10 = n1 refl
 
+net_late_status : (x : Fault) → IsOfNetPlay x → fault_status x ≢ 1 → fault_status x ≢ 6 → fault_status x ≢ 7 → fault_status x ≢ 10 → ⊥
+net_late_status Usage is n1 n6 n7 n10 = is
+net_late_status (Missing name) is n1 n6 n7 n10 = is
+net_late_status (BadTopology fault) is n1 n6 n7 n10 = is
+net_late_status (Capture p flaw) is n1 n6 n7 n10 = is
+net_late_status (Changed p byte) is n1 n6 n7 n10 = is
+net_late_status (BadNet fault) is n1 n6 n7 n10 = is
+net_late_status (BadMember name fault) is n1 n6 n7 n10 = is
+net_late_status (MemberCapture name p flaw) is n1 n6 n7 n10 = is
+net_late_status (MemberChanged name p at) is n1 n6 n7 n10 = n10 refl
+net_late_status (Output p broke) is n1 n6 n7 n10 = is
+net_late_status (TooLarge what) is n1 n6 n7 n10 = is
+net_late_status (BadLine what n) is n1 n6 n7 n10 = is
+net_late_status (Illegal r) is n1 n6 n7 n10 = is
+net_late_status Read is n1 n6 n7 n10 = n6 refl
+net_late_status Write is n1 n6 n7 n10 = n7 refl
+net_late_status Memory is n1 n6 n7 n10 = n1 refl
+
+pub making_end : (o : Outcome) (P : Type 0) → IfErr o (λ x. IsOfMaking x ⊎ P) → status_of o ≢ 0 → status_of o ≢ 1 → status_of o ≢ 6 → status_of o ≢ 7 → status_of o ≢ 10 → P
+making_end (Ok line) P early n0 n1 n6 n7 n10 = absurd (n0 refl)
+making_end (Err x) P (inl (inl late)) n0 n1 n6 n7 n10 = absurd (late_status x late n1 n6 n7 n10)
+making_end (Err x) P (inl (inr late)) n0 n1 n6 n7 n10 = absurd (net_late_status x late n1 n6 n7 n10)
+making_end (Err x) P (inr early) n0 n1 n6 n7 n10 = early
+
+pub run_makes : (o : Outcome) (P : Type 0) → IfErr o (λ x. IsOfPlay x ⊎ P) → IfErr o (λ x. IsOfMaking x ⊎ P)
+run_makes (Ok line) P early = tt
+run_makes (Err x) P (inl late) = inl (inl late)
+run_makes (Err x) P (inr early) = inr early
+
+pub net_makes : (o : Outcome) (P : Type 0) → IfErr o (λ x. IsOfNetPlay x ⊎ P) → IfErr o (λ x. IsOfMaking x ⊎ P)
+net_makes (Ok line) P early = tt
+net_makes (Err x) P (inl late) = inl (inr late)
+net_makes (Err x) P (inr early) = inr early
+
 pub early_end : (o : Outcome) (P : Type 0) → IfErr o (λ x. IsOfPlay x ⊎ P) → status_of o ≢ 0 → status_of o ≢ 1 → status_of o ≢ 6 → status_of o ≢ 7 → status_of o ≢ 10 → P
-early_end (Ok line) P early n0 n1 n6 n7 n10 = absurd (n0 refl)
-early_end (Err x) P (inl late) n0 n1 n6 n7 n10 = absurd (late_status x late n1 n6 n7 n10)
-early_end (Err x) P (inr early) n0 n1 n6 n7 n10 = early
+early_end o P early = making_end o P (run_makes o P early)
 
 -- what is opened first, and then by a run that ends early
 pub opens_on : (o : Outcome) (P Q : Id → Type 0) (a b d : ℕ → Id) → Opens P a b → ((i : Id) → Q i → P i) → IfErr o (λ x. IsOfPlay x ⊎ Opens Q b d) → IfErr o (λ x. IsOfPlay x ⊎ Opens P a d)

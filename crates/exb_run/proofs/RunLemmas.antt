@@ -24,11 +24,12 @@ use Rattle.exb_inputs.specs.Answers.{HoldsTopology, IsRefused}
 use Rattle.exb_auditing.specs.Audits.{IsFoundLegal, StopsAudit}
 use Rattle.exb_auditing.specs.Scopes.{scope_of}
 use Rattle.exb_auditing.proofs.Once.{legal_not, stops_once}
-use Rattle.exb_run.specs.Outcomes.{CameOut}
+use Rattle.exb_run.specs.Outcomes.{CameOut, IsOfMaking}
 use Rattle.exb_run.specs.Saying.{IsLegalLine}
 use Rattle.exb_writers.specs.Counts.{IsSummary}
 use Rattle.exb_inputs.proofs.Asking.{holds_once, shape_same, prefix_same}
 use Rattle.exb_inputs.proofs.Outcomes.{Outcome}
+use Rattle.exb_run.proofs.Reporting.{run_makes}
 use Rattle.exb_run.proofs.Stopping.{stops_of}
 use Rattle.exb_inputs.proofs.Refused.{refused_once, held_not, first_of}
 
@@ -188,7 +189,7 @@ module _ (tells : Type 0) (name : List ℕ) (f g : Files) (t : Topology) (holds 
   comes-audit (Ok text) is = tt
   comes-audit (Err x) is = inr is
 
-  early-audit : (o : Outcome) → IfErr o (λ x. IsOfPlay x ⊎ SameFiles f g)
+  early-audit : (o : Outcome) → IfErr o (λ x. IsOfMaking x ⊎ SameFiles f g)
   early-audit (Ok text) = tt
   early-audit (Err x) = inr same
 
@@ -295,7 +296,7 @@ module _ (tells : Type 0) (name : List ℕ) (options : Options) (t : Topology) (
     cause = λ told. cause-by o (out.cause told) (holds told);
     stops = λ told x stops. let found = first-by x (holds told) stops in out.stops told found.0 x found.1;
     can_come = comes o out.causes;
-    early = out.early;
+    early = run_makes o (SameFiles f h) out.early;
     read_only = λ other. absurd (other tt);
     stopped = λ told x stops. let found = first-by x (holds told) stops in out.stopped told found.0 x found.1;
     others = λ told. others-by (out.others told) (holds told);

@@ -29,7 +29,7 @@ use Rattle.exb_text.specs.declared.output.Output.{Output}
 use Rattle.exb_text.specs.Names.{file_name}
 use Rattle.exb_inputs.specs.declared.checked.Checked.{Checked}
 use Rattle.exb_inputs.specs.declared.fault.Fault.{Fault}
-use Rattle.exb_inputs.specs.declared.fault.Fault.TheVariants.{Usage, Missing, Topology as BadTopology, Capture as Faulty, Changed, Output as Unread, TooLarge, BadLine, Illegal, Read, Write, Memory}
+use Rattle.exb_inputs.specs.declared.fault.Fault.TheVariants.{Usage, Missing, Topology as BadTopology, Capture as Faulty, Changed, Net as BadNet, Member as BadMember, MemberCapture, MemberChanged, Output as Unread, TooLarge, BadLine, Illegal, Read, Write, Memory}
 use Rattle.exb_run.specs.Answers.{eager_summary}
 use Rattle.exb_inputs.specs.Checks.{AreAllGood, AreChecked, FirstFault, IsGood, IsGoodNamed, most_bytes}
 use Rattle.exb_outputs.specs.Apart.{CanBeRead}
@@ -292,6 +292,10 @@ memory_alone (Err (Missing name)) m n causes never counts = absurd causes
 memory_alone (Err (BadTopology fault)) m n causes never counts = absurd causes
 memory_alone (Err (Faulty p flaw)) m n causes never counts = absurd causes
 memory_alone (Err (Changed p at)) m n causes never counts = absurd (never tt)
+memory_alone (Err (BadNet fault)) m n causes never counts = absurd causes
+memory_alone (Err (BadMember name fault)) m n causes never counts = absurd causes
+memory_alone (Err (MemberCapture name p flaw)) m n causes never counts = absurd causes
+memory_alone (Err (MemberChanged name p at)) m n causes never counts = absurd causes
 memory_alone (Err (Unread p broke)) m n causes never counts = absurd causes
 memory_alone (Err (TooLarge what)) m n causes never counts = absurd causes
 memory_alone (Err (BadLine what k)) m n causes never counts = absurd causes

@@ -1,7 +1,7 @@
 -- What stops what is asked for: there is one such fault, or none.
 use Rattle.std.proofs.Common.{◌≡◌, ◌⊎◌, inl, inr, ℕ, List, Option, Some, None, ap, sym, ◌∙◌, subst}
 use Rattle.exb_shelf.specs.Files.{Files}
-use Rattle.exb_words.specs.Words.{Ask, Run, Check, Make, Audit}
+use Rattle.exb_words.specs.Words.{Ask, Run, Check, Make, Audit, Net}
 use Rattle.exb_inputs.specs.declared.fault.Fault.{Fault}
 use Rattle.exb_inputs.specs.declared.fault.Fault.TheVariants.{Read, Write, Memory}
 use Rattle.exb_model.specs.Setup.{shape_of}
@@ -14,6 +14,7 @@ use Rattle.exb_auditing.specs.Audits.{StopsAudit}
 use Rattle.exb_auditing.specs.Scopes.{Scope, scope_of}
 use Rattle.exb_auditing.proofs.Once.{seen_not}
 use Rattle.exb_run.specs.Answers.{AuditStops, CanBeDone, IsFailure, Stops}
+use Rattle.exb_net_inputs.proofs.Refused.{net_good_not, net_held_not}
 use Rattle.exb_inputs.proofs.FaultLemmas.{first_none}
 use Rattle.exb_inputs.proofs.Refused.{first_of, held_not}
 
@@ -41,6 +42,8 @@ can_not (Some (Check name)) file x (t, holds) stops = held_not name file t x hol
 can_not (Some (Make number)) file x can stops = absurd stops
 can_not (Some (Audit name)) file x (t, holds, seen, is, legal) (inl refused) = held_not name file t x holds refused
 can_not (Some (Audit name)) file x (t, holds, seen, is, legal) (inr stopped) = seen_not (scope_of t) file seen x is legal (stops_of name file t x holds stopped)
+can_not (Some (Net name counters)) file x can (inl refused) = net_held_not name file can.members can.wires x can.ready.holds refused
+can_not (Some (Net name counters)) file x can (inr faulty) = net_good_not name file can.members can.wires x can.ready.holds can.ready.good faulty
 
 -- any failure
 pub failure_is : (a : Option Ask) (x : Fault) → IsFailure a x → (x ≡ Read) ⊎ (x ≡ Write) ⊎ (x ≡ Memory)
@@ -51,3 +54,4 @@ failure_is (Some (Check name)) x (inr memory) = inr (inr memory)
 failure_is (Some (Make number)) x is = inr (inr is)
 failure_is (Some (Audit name)) x (inl read) = inl read
 failure_is (Some (Audit name)) x (inr memory) = inr (inr memory)
+failure_is (Some (Net name counters)) x is = is

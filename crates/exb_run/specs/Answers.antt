@@ -12,7 +12,7 @@ use Rattle.exb_shelf.specs.Files.{Files, SameFiles}
 use Rattle.exb_shelf.specs.Shelf.{Faults, Rose}
 use Rattle.exb_topology.specs.declared.topology.Topology.{Topology}
 use Rattle.exb_words.specs.declared.asked.Options.{Options}
-use Rattle.exb_words.specs.Words.{Ask, Run, Check, Make, Audit, words_of}
+use Rattle.exb_words.specs.Words.{Ask, Run, Check, Make, Audit, Net, words_of}
 use Rattle.exb_inputs.specs.declared.fault.Fault.{Fault}
 use Rattle.exb_inputs.specs.declared.fault.Fault.TheVariants.{Usage, Read, Write, Memory}
 use Rattle.exb_inputs.specs.Inputs.{input_of}
@@ -23,6 +23,7 @@ use Rattle.exb_run.specs.Outputs.{AreFrontsOf, IsPlayed}
 use Rattle.exb_outputs.specs.Names.{OnlyOutputs}
 use Rattle.exb_inputs.specs.Checks.{AreAllGood}
 use Rattle.exb_inputs.specs.Answers.{CaptureFaulty, HoldsTopology, IsRefused, fault_line, fault_status}
+use Rattle.exb_net_run.specs.Answers.{AreFrontsOfNet, CanNetBeDone, IsNetFailure, IsNetStatus, NetPlayed, NetStops, OnlyNetAsked}
 
 -- ---- what is asked for
 -- what words ask for, where they are accepted
@@ -41,10 +42,12 @@ CanBeDone (Some (Run name options)) file = (t : Topology) × IsReady name file t
 CanBeDone (Some (Check name)) file = (t : Topology) × HoldsTopology name file t
 CanBeDone (Some (Make number)) file = ⊤
 CanBeDone (Some (Audit name)) file = (t : Topology) × HoldsTopology name file t × (x : Seen) × IsSeen (scope_of t) file x × IsLegal (evidence_of (scope_of t) x)
+CanBeDone (Some (Net name counters)) file = CanNetBeDone name file
 
--- to play a topology is asked for, by which alone files are written
+-- to play a topology or a net is asked for, by which alone files are written
 abbrev pub IsRun : Option Ask → Type 0
 IsRun (Some (Run name options)) = ⊤
+IsRun (Some (Net name counters)) = ⊤
 IsRun _ = ⊥
 
 -- ---- what is done
@@ -82,10 +85,12 @@ IsDone (Some (Run name options)) old new text = Played name options old new text
 IsDone (Some (Check name)) old new text = Checked name old text
 IsDone (Some (Make number)) old new text = text ≡ eager_summary (made number)
 IsDone (Some (Audit name)) old new text = Audited name old text
+IsDone (Some (Net name counters)) old new text = NetPlayed name counters old new text
 
 -- no file but the outputs of what is asked for has changed
 abbrev pub OnlyAsked : Option Ask → Files → Files → Type 0
 OnlyAsked (Some (Run name options)) old new = (t : Topology) → HoldsTopology name old t → OnlyOutputs options (shape_of t.setup) t.prefix old new
+OnlyAsked (Some (Net name counters)) old new = OnlyNetAsked name counters old new
 OnlyAsked _ old new = SameFiles old new
 
 -- what a run of the topology in the file of this name leaves: fronts of what its input calls for
@@ -102,6 +107,7 @@ AreFrontsIn (Some seed) name old new = ⊤
 
 abbrev pub AreFronts : Option Ask → Files → Files → Type 0
 AreFronts (Some (Run name options)) old new = AreFrontsIn options.seed name old new
+AreFronts (Some (Net name counters)) old new = AreFrontsOfNet name old new
 AreFronts _ old new = ⊤
 
 -- ---- faults
@@ -112,13 +118,14 @@ pub record AuditStops (name : List ℕ) (file : Files) (fault : Fault) : Type 0 
   pub stops : StopsAudit (scope_of topology) file fault
 
 -- This stops what is asked for, the first in the order in which things are looked at: the words, the topology, where it is played its
--- captures, and where it is audited all that is read and judged.
+-- captures, and where it is audited all that is read and judged; of a net its file, all topologies and wires, and then the captures.
 abbrev pub Stops : Option Ask → Files → Fault → Type 0
 Stops None file fault = fault ≡ Usage
 Stops (Some (Run name options)) file fault = IsRefused name (file name) fault ⊎ CaptureFaulty name file fault
 Stops (Some (Check name)) file fault = IsRefused name (file name) fault
 Stops (Some (Make number)) file fault = ⊥
 Stops (Some (Audit name)) file fault = IsRefused name (file name) fault ⊎ AuditStops name file fault
+Stops (Some (Net name counters)) file fault = NetStops name file fault
 
 -- a fault of the shelf, or want of memory
 abbrev pub IsFailure : Option Ask → Fault → Type 0
@@ -127,6 +134,7 @@ IsFailure (Some (Run name options)) fault = (fault ≡ Read) ⊎ (fault ≡ Writ
 IsFailure (Some (Check name)) fault = (fault ≡ Read) ⊎ (fault ≡ Memory)
 IsFailure (Some (Make number)) fault = fault ≡ Memory
 IsFailure (Some (Audit name)) fault = (fault ≡ Read) ⊎ (fault ≡ Memory)
+IsFailure (Some (Net name counters)) fault = IsNetFailure fault
 
 -- ---- statuses
 -- the statuses that can come
@@ -136,8 +144,9 @@ IsStatus (Some (Run name options)) n = IsTrue (n == 0 || n == 1 || n == 3 || n =
 IsStatus (Some (Check name)) n = IsTrue (n == 0 || n == 1 || n == 3 || n == 5 || n == 6 || n == 7)
 IsStatus (Some (Make number)) n = IsTrue (n == 0 || n == 1 || n == 7)
 IsStatus (Some (Audit name)) n = IsTrue (n == 0 || n == 1 || n == 3 || n == 4 || n == 5 || n == 6 || n == 7 || n == 11 || n == 12)
+IsStatus (Some (Net name counters)) n = IsNetStatus n
 
--- the statuses of faults of what is asked for: the topology, the captures that it names, and what an audit reads and judges
+-- the statuses of faults of what is asked for: the topology or the net, the captures that are named, and what an audit reads and judges
 abbrev pub IsOfInput : ℕ → Type 0
 IsOfInput n = IsTrue (n == 3 || n == 4 || n == 5 || n == 11 || n == 12)
 
@@ -145,7 +154,7 @@ IsOfInput n = IsTrue (n == 3 || n == 4 || n == 5 || n == 11 || n == 12)
 abbrev pub StopsWith : Option Ask → Files → ℕ → Type 0
 StopsWith a file status = (fault : Fault) × Stops a file fault × (fault_status fault ≡ status)
 
--- By its status, which count of faults rose: those of the shelf, or those of the sink. Only a run counts failures to write.
+-- By its status, which count of faults rose: those of the shelf, or those of the sink. Only a run of a topology or a net counts failures to write.
 pub record RoseBy (a : Option Ask) (status : ℕ) (counted counts : Faults) (failed fails : ℕ) : Type 0 where
   pub five : status ≡ 5 → Rose counted.missing counts.missing
   pub six : status ≡ 6 → Rose counted.reads counts.reads

@@ -7,7 +7,7 @@ use Rattle.exb_shelf.specs.Shelf.{Id, IsReading, IsReadingOf, Opens, writing}
 use Rattle.exb_tables.specs.declared.rows.Named.{Named}
 use Rattle.exb_topology.specs.declared.topology.Topology.{Topology}
 use Rattle.exb_words.specs.declared.asked.Options.{Options}
-use Rattle.exb_words.specs.Words.{Ask, Run, Check, Make, Audit}
+use Rattle.exb_words.specs.Words.{Ask, Run, Check, Make, Audit, Net}
 use Rattle.exb_auditing.specs.Reads.{ReadsEvidence}
 use Rattle.exb_auditing.specs.Scopes.{scope_of}
 use Rattle.exb_outputs.specs.Order.{MadeInOrder, MakesInOrder}
@@ -22,14 +22,21 @@ use Rattle.exb_inputs.specs.Shelving.{ReadsBelow, ReadsCapture}
 use Rattle.exb_inputs.specs.Answers.{HoldsTopology, fault_line}
 use Rattle.exb_run.specs.Answers.{IsReady}
 use Rattle.exb_outputs.specs.Names.{IsOutput}
+use Rattle.exb_net_run.specs.Opening.{MakesNetOutputOf, NetOpensInOrder, ReadsNetCapture, ReadsNetTopology}
 
--- an id to read the topology that is asked for
+-- an id to read the topology, or the file of a net, that is asked for
 abbrev pub ReadsTopology : Option Ask → Id → Type 0
 ReadsTopology None i = ⊥
 ReadsTopology (Some (Run name options)) i = IsReadingOf name i
 ReadsTopology (Some (Check name)) i = IsReadingOf name i
 ReadsTopology (Some (Make number)) i = ⊥
 ReadsTopology (Some (Audit name)) i = IsReadingOf name i
+ReadsTopology (Some (Net name counters)) i = IsReadingOf name i
+
+-- what may be opened where it is refused: that alone, and of a net topologies too
+abbrev pub ReadsRefused : Option Ask → Id → Type 0
+ReadsRefused (Some (Net name counters)) i = IsReading i
+ReadsRefused a i = ReadsTopology a i
 
 -- an id to read a capture of the topology in the file of this name
 pub record ReadsCaptureOf (name : List ℕ) (file : Files) (i : Id) : Type 0 where
@@ -43,10 +50,11 @@ pub record ReadsEvidenceOf (name : List ℕ) (file : Files) (i : Id) : Type 0 wh
   pub holds : HoldsTopology name file topology
   pub evidence : ReadsEvidence (scope_of topology) i
 
--- an id to read a capture of the topology that is to be played, or what is audited
+-- an id to read a capture of the topology that is to be played, or what is audited, or of a net a topology or a capture
 abbrev pub ReadsInput : Option Ask → Files → Id → Type 0
 ReadsInput (Some (Run name options)) file i = ReadsCaptureOf name file i
 ReadsInput (Some (Audit name)) file i = ReadsEvidenceOf name file i
+ReadsInput (Some (Net name counters)) file i = ReadsNetTopology name file i ⊎ ReadsNetCapture name file i
 ReadsInput _ file i = ⊥
 
 -- the files that may be read
@@ -69,18 +77,20 @@ pub record MakesOutputOf (name : List ℕ) (options : Options) (file : Files) (i
   pub ready : IsReady name file topology
   pub output : WritesOutput options topology i
 
--- an id to write an output of the topology that is to be played
+-- an id to write an output of the topology or the net that is to be played
 abbrev pub MakesOutput : Option Ask → Files → Id → Type 0
 MakesOutput (Some (Run name options)) file i = MakesOutputOf name options file i
+MakesOutput (Some (Net name counters)) file i = MakesNetOutputOf name counters file i
 MakesOutput _ file i = ⊥
 
 -- Which files are opened: none where the words are not accepted or an input is made, the topology alone where it is refused or
--- checked, and files to be written in a run alone, at statuses 0, 1, 6, 7 and 10. Where files are told, none is read but the topology and its
--- captures, and in an audit what a run of it wrote, and none is made but its outputs.
+-- checked, of a net none but to be read where it is refused, and files to be written in a run of a topology or a net alone, at statuses 0,
+-- 1, 6, 7 and 10. Where files are told, none is read but the topology and its captures, and in an audit what a run of it wrote, and none is
+-- made but its outputs; in a net its file, the topologies and their captures, and none is made but its outputs.
 pub record OpensBy (tells : Type 0) (status : ℕ) (a : Option Ask) (file : Files) (given ids : ℕ → Id) : Type 0 where
   pub nothing : a ≡ None → (j : ℕ) → ids j ≡ given j
   pub made : (number : ℕ) → a ≡ Some (Make number) → (j : ℕ) → ids j ≡ given j
-  pub topology : status ≡ 3 → Opens (ReadsTopology a) given ids
+  pub topology : status ≡ 3 → Opens (ReadsRefused a) given ids
   pub checked : (name : List ℕ) → a ≡ Some (Check name) → Opens (ReadsTopology a) given ids
   pub reads : status ≢ 0 → status ≢ 1 → status ≢ 6 → status ≢ 7 → status ≢ 10 → Opens IsReading given ids
   pub wanted : tells → status ≢ 0 → status ≢ 1 → status ≢ 6 → status ≢ 7 → status ≢ 10 → Opens (IsWanted a file) given ids
@@ -127,9 +137,10 @@ abbrev pub IsRefusedEarly : Result (String Global) Fault → Type 0
 IsRefusedEarly (Ok line) = ⊥
 IsRefusedEarly (Err fault) = IsOfTopology fault
 
--- what was opened where this was asked for: that of a run, or the topology alone, where it was not taken
+-- what was opened where this was asked for: that of a run, or the topology alone, where it was not taken; and so of a net
 abbrev pub OpensInOrder : Type 0 → Option Ask → Result (String Global) Fault → Files → (ℕ → Id) → (ℕ → Id) → Type 0
 OpensInOrder tells (Some (Run name options)) o file given ids = (IsRefusedEarly o × Opens (IsReadingOf name) given ids) ⊎ RunOpens tells name options o file given ids
+OpensInOrder tells (Some (Net name counters)) o file given ids = NetOpensInOrder tells name counters o file given ids
 OpensInOrder tells a o file given ids = ⊤
 
 -- The same by the status, with the line that was printed: at 4 that of the last port of which a capture was opened, and at 10 that of a

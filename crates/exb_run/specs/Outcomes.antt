@@ -2,13 +2,14 @@
 use Rattle.std.specs.Prelude.{◌≡◌, ◌⊎◌, Option, Some, None, Result, IfOk, IfErr, IsErrOf, String, string_bytes}
 use Rattle.std.specs.declared.alloc.Global.{Global}
 use Rattle.exb_shelf.specs.Files.{Files, SameFiles}
-use Rattle.exb_words.specs.Words.{Ask, Run, Check, Make, Audit}
+use Rattle.exb_words.specs.Words.{Ask, Run, Check, Make, Audit, Net}
 use Rattle.exb_inputs.specs.declared.fault.Fault.{Fault}
 use Rattle.exb_inputs.specs.declared.fault.Fault.TheVariants.{Usage, Read, Memory}
 use Rattle.exb_run.specs.Answers.{AreFronts, IsDone, IsFailure, IsRun, OnlyAsked, Stops}
 use Rattle.exb_run.specs.Parts.{AreParts}
 use Rattle.exb_inputs.specs.Reading.{IsOfAudit, IsOfTopology, IsOfPlaying, IsOfPlay}
 use Rattle.exb_run.specs.Saying.{SaysDone}
+use Rattle.exb_net_run.specs.Answers.{IsOfNet, IsOfNetPlay}
 
 -- a fault that can come where this is asked for
 abbrev pub CanCome : Option Ask → Fault → Type 0
@@ -17,6 +18,11 @@ CanCome (Some (Run name options)) fault = IsOfTopology fault ⊎ IsOfPlaying fau
 CanCome (Some (Check name)) fault = IsOfTopology fault
 CanCome (Some (Make number)) fault = fault ≡ Memory
 CanCome (Some (Audit name)) fault = IsOfTopology fault ⊎ IsOfAudit fault
+CanCome (Some (Net name counters)) fault = IsOfNet fault
+
+-- a fault that can come once files are made, of a topology or a net that is played
+abbrev pub IsOfMaking : Fault → Type 0
+IsOfMaking fault = IsOfPlay fault ⊎ IsOfNetPlay fault
 
 -- By the result: what is done, which text says so, which cause a fault has, and what has become of the files.
 pub record CameOut (tells : Type 0) (a : Option Ask) (o : Result (String Global) Fault) (old new : Files) : Type 0 where
@@ -26,7 +32,7 @@ pub record CameOut (tells : Type 0) (a : Option Ask) (o : Result (String Global)
   pub cause : tells → IfErr o (λ fault. Stops a old fault ⊎ IsFailure a fault)
   pub stops : tells → (fault : Fault) → Stops a old fault → IsErrOf o fault ⊎ IsErrOf o Read ⊎ IsErrOf o Memory
   pub can_come : IfErr o (CanCome a)
-  pub early : IfErr o (λ fault. IsOfPlay fault ⊎ SameFiles old new)
+  pub early : IfErr o (λ fault. IsOfMaking fault ⊎ SameFiles old new)
   pub read_only : ¬ IsRun a → SameFiles old new
   pub stopped : tells → (fault : Fault) → Stops a old fault → SameFiles old new
   pub others : tells → OnlyAsked a old new

@@ -14,10 +14,11 @@ use Rattle.exb_text.specs.Names.{file_name}
 use Rattle.exb_topology.specs.declared.topology.Topology.{Topology}
 use Rattle.exb_tracing.specs.SoFar.{IsHistorySoFar, IsTraceSoFar}
 use Rattle.exb_words.specs.declared.asked.Options.{Options}
-use Rattle.exb_words.specs.Words.{Ask, Run}
+use Rattle.exb_words.specs.Words.{Ask, Run, Net}
 use Rattle.exb_run.specs.Answers.{mode_for}
 use Rattle.exb_outputs.specs.Names.{IsCut}
 use Rattle.exb_writers.specs.Texts.{output_text, IsWrittenAlong}
+use Rattle.exb_net_run.specs.Answers.{AreFrontsOfNet}
 
 -- ---- by their names
 -- the file of each external port, the journal, and where it is asked for the trace: each is as it was, or holds a front of its text
@@ -37,7 +38,8 @@ pub record LeavesPart (options : Options) (t : Topology) (old new : Files) : Typ
 abbrev pub LeavesParts : Options → Topology → Files → Files → Type 0
 LeavesParts options t old new = SameFiles old new ⊎ AreCutOf options (shape_of t.setup) t.prefix old new first_text ⊎ LeavesPart options t old new
 
--- so of the topology in the file of this name, if no file is the same
+-- so of the topology in the file of this name, if no file is the same; a net, which is played eagerly, leaves fronts of what it calls for
 abbrev pub AreParts : Option Ask → Files → Files → Type 0
 AreParts (Some (Run name options)) old new = SameFiles old new ⊎ ((t : Topology) × HoldsTopology name old t × LeavesParts options t old new)
+AreParts (Some (Net name counters)) old new = AreFrontsOfNet name old new
 AreParts _ old new = SameFiles old new

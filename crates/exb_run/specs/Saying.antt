@@ -5,7 +5,7 @@ use Rattle.exb_made.specs.Made.{made}
 use Rattle.exb_model.specs.Setup.{Limits}
 use Rattle.exb_needs.specs.Lines.{lines_of}
 use Rattle.exb_needs.specs.declared.needs.Needs.{Needs}
-use Rattle.exb_words.specs.Words.{Ask, Run, Check, Make, Audit}
+use Rattle.exb_words.specs.Words.{Ask, Run, Check, Make, Audit, Net}
 use Rattle.exb_run.specs.Answers.{eager_summary}
 use Rattle.exb_writers.specs.Counts.{IsSummary}
 
@@ -24,3 +24,4 @@ SaysDone (Some (Run name options)) text = IsSummary text
 SaysDone (Some (Check name)) text = AreLines text
 SaysDone (Some (Make number)) text = text ≡ eager_summary (made number)
 SaysDone (Some (Audit name)) text = IsLegalLine text
+SaysDone (Some (Net name counters)) text = IsSummary text

@@ -1,12 +1,15 @@
 //! The top call: from the words of the command line over topology, captures, world and schedule to captures,
-//! journal, trace and summary line; to what a topology needs; and to the run of an input that is made. It reaches bridge
+//! journal, trace and summary line; to what a topology needs; to the run of an input that is made; and to that of a net. It reaches bridge
 //! and extenders through `exb_schedule` alone, and files through `exb_shelf`'s traits.
 #![tactic(auto)]
 
 mod audit;
 mod check;
+mod fates;
 pub mod laws;
 mod making;
+mod net;
 mod top;
 
+pub use fates::more_fates;
 pub use top::run;

@@ -1,5 +1,5 @@
 //! The top call.
-ghost use Rattle.std.specs.Prelude.{◌≡◌, ◌≢◌, ◌<◌, ◌+◌, ◌++◌, ◌⊎◌, ◌^◌, ℕ, true, List, Some, None, string_bytes, IfOk, IfErr, IsErrOf};
+ghost use Rattle.std.specs.Prelude.{◌≡◌, ◌≢◌, ◌<◌, ◌≤◌, ◌+◌, ◌++◌, ◌⊎◌, ◌^◌, ℕ, Bool, true, List, All, length, Some, None, string_bytes, IfOk, IfErr, IsErrOf};
 ghost use Rattle.exb_made.specs.Made.{made};
 ghost use Rattle.exb_model.specs.Input.{Eager};
 ghost use Rattle.exb_model.specs.Setup.{IsValid, shape_of};
@@ -7,7 +7,7 @@ ghost use Rattle.exb_shelf.specs.Files.{SameFiles, AppendsFront};
 ghost use Rattle.exb_shelf.specs.Shelf.{Opens, Rose};
 ghost use Rattle.exb_topology.specs.Sound.{IsSound};
 ghost use Rattle.exb_words.specs.declared.asked.Options.{Options};
-ghost use Rattle.exb_words.specs.Words.{Run, Make};
+ghost use Rattle.exb_words.specs.Words.{Run, Make, Net};
 ghost use Rattle.exb_inputs.specs.declared.fault.Fault.{Fault};
 ghost use Rattle.exb_inputs.specs.declared.fault.Flaw.{Flaw};
 ghost use Rattle.exb_inputs.specs.Inputs.{input_of, is_named};
@@ -21,7 +21,9 @@ ghost use Rattle.exb_inputs.specs.Reading.{IsOfPlay, IsOfPlaying};
 ghost use Rattle.exb_run.specs.Answers.{asked, mode_for, AreFronts, eager_summary, IsDone, IsRun, CanBeDone, OnlyAsked, Stops, StopsWith, IsText, IsOfInput, RoseBy, IsStatus};
 ghost use Rattle.exb_inputs.specs.Answers.{fault_status, status_of, fault_line, SaysBy};
 ghost use Rattle.exb_run.specs.ByStatus.{CountedBy};
+ghost use Rattle.exb_net_run.specs.Headline.{NetHeadline};
 ghost use Rattle.exb_run.specs.Headline.{Headline};
+ghost use Rattle.exb_run.specs.Nets.{NetOpenedInOrder};
 ghost use Rattle.exb_run.specs.Outcomes.{CameOut};
 ghost use Rattle.exb_run.specs.Parts.{AreParts, LeavesParts};
 ghost use Rattle.exb_play.specs.Playing.{mode_of};
@@ -31,6 +33,7 @@ ghost use Rattle.exb_writers.specs.Counts.{IsSummary};
 use crate::audit::audit_topology;
 use crate::check::check_topology;
 use crate::making::make_input;
+use crate::net::run_net;
 use exb_fate::Fate;
 use exb_inputs::{Fault, check_captures, read_topology, report};
 use exb_outputs::Plan;
@@ -138,8 +141,11 @@ fn work<S: Shelf>(
     words: &[String],
     shelf: &mut S,
     fate: Box<dyn Fate>,
+    more: Vec<Box<dyn Fate>>,
 ) -> Result<String, Fault>
-    requires { left fate < 2 ^ 56 }
+    requires fate { left fate < 2 ^ 56 }
+    requires many { 15 ≤ length more.items }
+    requires each { All (λ f. left f < 2 ^ 56) more.items }
     ensures came { CameOut S.tells (asked words.now) result (S.file shelf.old) (S.file shelf.new) }
     ensures makes { (number : ℕ) → asked words.now ≡ Some (Make number)
         → IfOk result (λ line. string_bytes line ≡ eager_summary (made number)) }
@@ -156,6 +162,7 @@ fn work<S: Shelf>(
         Some(Asked::Check { topology }) => check_topology(alloc, shelf, topology),
         Some(Asked::Make { number }) => make_input(alloc, number, fate),
         Some(Asked::Audit { topology }) => audit_topology(alloc, shelf, topology),
+        Some(Asked::Net { file, counters }) => run_net(alloc, shelf, file, counters, fate, more),
     }
 }
 
@@ -166,11 +173,17 @@ pub fn run<S: Shelf, O: Sink>(
     shelf: &mut S,
     out: &mut O,
     fate: Box<dyn Fate>,
+    more: Vec<Box<dyn Fate>>,
 ) -> u8
-    requires { left fate < 2 ^ 56 }
+    requires fate { left fate < 2 ^ 56 }
+    requires many { 15 ≤ length more.items }
+    requires each { All (λ f. left f < 2 ^ 56) more.items }
     // 0, of a run: the headline, as one record says it.
     ensures headline { (name : List ℕ) (options : Options) → asked words.now ≡ Some (Run name options) → S.tells → O.tells → result ≡ 0
         → Headline name options (S.file shelf.old) (S.file shelf.new) (O.text out.old) (O.text out.new) }
+    // 0, of a net: the same of all its bridges.
+    ensures net { (name : List ℕ) (counters : Bool) → asked words.now ≡ Some (Net name counters) → S.tells → O.tells → result ≡ 0
+        → NetHeadline name counters (S.file shelf.old) (S.file shelf.new) (O.text out.old) (O.text out.new) }
     // 0, whatever is asked for: it is done, and the sink got the text that says so and nothing else. What is said of files needs no
     // sink that tells, and of an input that is made no shelf that tells.
     ensures done { S.tells → O.tells → result ≡ 0
@@ -178,8 +191,8 @@ pub fn run<S: Shelf, O: Sink>(
     ensures ran { S.tells → result ≡ 0 → (text : List ℕ) × IsDone (asked words.now) (S.file shelf.old) (S.file shelf.new) text }
     ensures makes { (number : ℕ) → asked words.now ≡ Some (Make number) → O.tells → result ≡ 0
         → O.text out.new ≡ O.text out.old ++ eager_summary (made number) }
-    // 2: exactly where the words are not accepted. 3, 4 and 5: exactly by the first fault of the topology and of
-    // the captures that it names. 5, 6 and 7: only where a count of faults rose. 10: never where the files are told.
+    // 2: exactly where the words are not accepted. 3, 4 and 5: exactly by the first fault of the topology, or of the file of a net and of
+    // all topologies, and of the captures that are named. 5, 6 and 7: only where a count of faults rose. 10: never where the files are told.
     ensures two { result ≡ 2 → asked words.now ≡ None }
     ensures usage { asked words.now ≡ None → result ≢ 1 → result ≢ 7 → result ≡ 2 }
     ensures usage_seven { asked words.now ≡ None → result ≡ 7 → Rose (O.faults out.old) (O.faults out.new) }
@@ -217,6 +230,9 @@ pub fn run<S: Shelf, O: Sink>(
     // What a run opened and made, and in which order, whatever the shelf tells; so status 10 is no way out, and none goes on behind a fault.
     ensures order { (name : List ℕ) (options : Options) → asked words.now ≡ Some (Run name options)
         → OpenedInOrder S.tells O.tells name options result (S.file shelf.old) (S.ids shelf.old) (S.ids shelf.new) (O.text out.old) (O.text out.new) }
+    // The same of a net.
+    ensures net_order { (name : List ℕ) (counters : Bool) → asked words.now ≡ Some (Net name counters)
+        → NetOpenedInOrder S.tells O.tells name counters result (S.file shelf.old) (S.ids shelf.old) (S.ids shelf.new) (O.text out.old) (O.text out.new) }
     // With no fault of what is asked for, and none of shelf or sink, it does all, or memory ran out. To make an input asks nothing
     // of the shelf.
     ensures complete { S.tells → CanBeDone (asked words.now) (S.file shelf.old)
@@ -227,6 +243,6 @@ pub fn run<S: Shelf, O: Sink>(
     ensures complete_made { (number : ℕ) → asked words.now ≡ Some (Make number)
         → ¬ Rose (O.faults out.old) (O.faults out.new) → result ≢ 1 → result ≡ 0 }
 {
-    let outcome = work(alloc, words, shelf, fate);
+    let outcome = work(alloc, words, shelf, fate, more);
     report(alloc, out, &outcome)
 }

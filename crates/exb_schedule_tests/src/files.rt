@@ -1,7 +1,7 @@
 //! Whole runs over files in memory.
 use exb_fate::Fate;
 use exb_model::port::PortId;
-use exb_run::run;
+use exb_run::{more_fates, run};
 use exb_shelf::{MemShelf, MemSink};
 use exb_text::{capture_file_name, journal_file_name};
 use std::alloc::Global;
@@ -47,7 +47,8 @@ fn status_of(
     fate: Box<dyn Fate>,
 ) -> u8 {
     assert!(rt; fate.left() < 1_000_000_000);
-    run(alloc, words, shelf, out, fate)
+    let more = more_fates(alloc).expect(rt, "memory");
+    run(alloc, words, shelf, out, fate, more)
 }
 
 /// Plays what is on a shelf with these options over this fate. It ends with 0.

@@ -12,7 +12,7 @@ use Rattle.exb_model.specs.declared.setup.Setup.{Setup}
 use Rattle.exb_model.specs.Configuration.{Bridge}
 use Rattle.exb_model.specs.EagerHistory.{is_relayed, arrival_event, decided, up_event, risen, with_ups, opening}
 use Rattle.exb_model.specs.FlatBridge.{sent_by, flat}
-use Rattle.exb_model.specs.History.{Basis, History, ◌then◌, command_of, bridge_after}
+use Rattle.exb_model.specs.History.{Basis, History, ◌then◌, command_of, bridge_after, now_after}
 use Rattle.exb_model.specs.Input.{Arrival}
 use Rattle.exb_model.specs.Learning.{Look, learned}
 use Rattle.exb_model.specs.Lists.{numbered}
@@ -155,6 +155,13 @@ module _ (round : TagRoundTrip) (words : SendsAreWords) (leave : SendsLeaveAsFla
     passed_is =
         runs_tell_passed round words leave law t l i start w0 [] [] [] (begins_kept t l i start) steps (do_all steps f.may) i refl [] [] [] (kept_stands t l i start w0 [] [] [] (begins_kept t l i start))
         ∙ (sym (passed_stays (basis_with i (given_in steps)) f.rest (after steps).events [] has) ∙ ap (λ (c : Basis). passed_over c [] (after steps).events) (sym f.commands))
+
+    pub clock_is : (after steps).world.table.clock ≡ now_after (told steps)
+    clock_is = (stands_at steps f.may).force.clock
+
+    -- the number of commands that the world was given
+    pub given_is : (after steps).world.control.given ≡ taken
+    given_is = (stands_at steps f.may).follows.commands ∙ sym f.counts
 
     -- it is given something, and settles
     module _ (step : Step) (moves : List Step) (gives : IsGiving step) (may : MayTakeAll t l (after steps).world (step ∷ moves)) (alone : machine.Each IsMove moves)

@@ -4,17 +4,18 @@ use Rattle.std.specs.Prelude.{flat_map, All}
 use Rattle.std.proofs.lemmas.Bool.{cases_Bool, cases_eq, eq-eqb, ne_eqb}
 use Rattle.std.proofs.lemmas.List.{append-nil}
 use Rattle.exb_model.specs.declared.command.Command.{Command}
+use Rattle.exb_model.specs.declared.event.Cause.{Cause}
 use Rattle.exb_model.specs.declared.event.Event.{Event}
 use Rattle.exb_model.specs.declared.event.Event.TheVariants as event
 use Rattle.exb_model.specs.declared.setup.Setup.{Setup}
-use Rattle.exb_model.specs.EagerHistory.{arrival_event}
+use Rattle.exb_model.specs.EagerHistory.{arrival_event, decided, is_relayed}
 use Rattle.exb_model.specs.FlatBridge.{Sent}
-use Rattle.exb_model.specs.History.{Basis, History, ◌then◌, bridge_after}
+use Rattle.exb_model.specs.History.{Basis, History, ◌then◌, bridge_after, now_after, seconds_of}
 use Rattle.exb_model.specs.Input.{Arrival, Captured}
 use Rattle.exb_model.specs.Input.{Given as Commanded}
 use Rattle.exb_model.specs.Refusals.{refusal}
 use Rattle.exb_model.specs.Setup.{Limits}
-use Rattle.exb_model.specs.Tree.{Shape, external_ports}
+use Rattle.exb_model.specs.Tree.{Shape, external_ports, is_external}
 use Rattle.exb_frame.specs.TagValues.{TagRoundTrip}
 use Rattle.exb_relay.specs.Laws.{SendsAreWords, SendsLeaveAsFlat}
 use Rattle.exb_changing.specs.Runs.Journal.{StepsTell}
@@ -37,11 +38,12 @@ use Rattle.exb_nets.specs.declared.wires.End.{End}
 use Rattle.exb_nets.specs.declared.wires.Wire.{Wire}
 use Rattle.exb_nets.specs.Nets.{Net, IsEnd, IsNet, across, ends_of, far_end, first_or, is_at, is_wired}
 use Rattle.exb_nets.specs.NetHistory.{Crossing, Due, Histories, State, arrival_of, basis_in, comes, crosses, delivered, delivered_times, named_at, openings, with_history}
-use Rattle.exb_nets.proofs.Once.{twice}
-use Rattle.exb_nets.specs.Ending.{QueuesEndSoon}
+use Rattle.exb_nets.proofs.Once.{one_end, twice}
+use Rattle.exb_nets.specs.Ending.{QueuesEndSoon, named_in}
 use Rattle.exb_wiring.specs.Playing.{Dones, Between, Handles, MayPass, AreOpened, tree_in, limits_in, does, goes_on, crossed, pass}
+use Rattle.exb_wiring.specs.UnderWay.{LeftAt}
 use Rattle.exb_wiring.specs.Delivering.{IsRun, AreRun, HaveVids, HaveBegun, OpenedNetsRun, HavePassed, SecondsPass, MayCome, IsHandledOn, BridgesHandle, DeliversTimes, IsSoon, DeliveriesEndSoon}
-use Rattle.exb_wiring.proofs.Bridges.{Facts, arrived, named_arrival, named_decided, named_settled, opening_names, ordered, told_is}
+use Rattle.exb_wiring.proofs.Bridges.{Facts, arrived, clock_is, given_is, named_arrival, named_decided, named_settled, opening_names, ordered, told_is}
 use Rattle.exb_wiring.proofs.Bridges as bridge
 use Rattle.exb_wiring.proofs.Nets.{AllAt, InRange, IsAt, delivered_on, each_flat, each_join, grown_here, handled_arrival, opened_at}
 
@@ -308,7 +310,7 @@ module _ (round : TagRoundTrip) (words : SendsAreWords) (leave : SendsLeaveAsFla
             facts = arrived round words leave law stay setup (net.setups b here) (vids b here) _ _ r.steps (known n b (s.dones b) r []) a h.moves (may_here (Arrive a) h) h.moves_alone (settled_here (Arrive a) h);
           }
 
-      handled_arrival_on : AreRun n s.dones → (a : Arrival) → Handles n b (Arrive a) s e → IsHandledOn n b (Arrive a) s e
+      pub handled_arrival_on : AreRun n s.dones → (a : Arrival) → Handles n b (Arrive a) s e → IsHandledOn n b (Arrive a) s e
       handled_arrival_on runs a h =
           let f = after_arrival a h in
           record {
@@ -340,7 +342,7 @@ module _ (round : TagRoundTrip) (words : SendsAreWords) (leave : SendsLeaveAsFla
             facts = ordered round words leave law stay setup (net.setups b here) (vids b here) _ _ r.steps (known n b (s.dones b) r (c ∷ [])) c h.moves [] refl (may_here (Order c) h) h.moves_alone (settled_here (Order c) h);
           }
 
-      handled_order_on : AreRun n s.dones → (c : Command) → Handles n b (Order c) s e → IsHandledOn n b (Order c) s e
+      pub handled_order_on : AreRun n s.dones → (c : Command) → Handles n b (Order c) s e → IsHandledOn n b (Order c) s e
       handled_order_on runs c h =
           let f = after_order c h in
           let none : (does n b (Order c ∷ h.moves) s.dones).left ≡ [] = left_is (Order c) h ∙ commands_send_nothing round words leave law stay setup r.steps c h.moves (alone (Order c) h) in
@@ -363,6 +365,107 @@ module _ (round : TagRoundTrip) (words : SendsAreWords) (leave : SendsLeaveAsFla
       handled_on runs (Tick seconds) h gives = absurd gives
       handled_on runs Mark h gives = absurd gives
 
+      -- ---- told by numbers
+      -- What was told and has left since, of what arrived at this moment: so many frames leave a port at most.
+      pub record IsToldMore (moment most orders : ℕ) (step : Step) : Type 0 where
+        pub clock : (e.dones b).world.table.clock ≡ (s.dones b).world.table.clock
+        pub given : (e.dones b).world.control.given ≡ orders + (s.dones b).world.control.given
+        pub told : ([] then (e.dones b).events) ≡ event.Settled ∷ told_of t l w step ∷ ([] then (s.dones b).events)
+        pub more : List Left
+        pub left : (e.dones b).left ≡ (s.dones b).left ++ more
+        pub each : Each (LeftAt n b moment) more
+        pub few : (q : ℕ) → length (left_at q more) ≤ most
+        pub queue : e.queue ≡ s.queue ++ crossed n b more
+
+      told_all : (step : Step) (h : Handles n b step s e) → ([] then (e.dones b).events) ≡ event.Settled ∷ told_of t l w step ∷ ([] then (s.dones b).events)
+      told_all step h =
+          ap (λ (z : Stepped). [] then z.events) (dones_here step h)
+          ∙ (told_then step h [] ∙ ap (λ (z : Stepped). event.Settled ∷ told_of t l w step ∷ ([] then z.events)) (sym r.is))
+
+      left_all : (step : Step) (h : Handles n b step s e) → (e.dones b).left ≡ (s.dones b).left ++ (run t l (step ∷ h.moves) w).left
+      unfolding run stepped
+      left_all step h =
+          ap (λ (z : Dones). (z b).left) h.done
+          ∙ (at_it ∙ ap (λ (xs : List Left). (s.dones b).left ++ xs) (ap (λ (z : Stepped). (run t l ((step ∷ h.moves) ++ Mark ∷ []) z.world).left) r.is ∙ unmarked))
+        where
+          at_it : (goes_on n b ((step ∷ h.moves) ++ Mark ∷ []) s.dones b).left ≡ (s.dones b).left ++ (does n b ((step ∷ h.moves) ++ Mark ∷ []) s.dones).left
+          at_it = rw (eq-eqb b b refl) refl
+
+          unmarked : (run t l ((step ∷ h.moves) ++ Mark ∷ []) w).left ≡ (run t l (step ∷ h.moves) w).left
+          unmarked = ap (λ (z : Stepped). z.left) (run_then t l (step ∷ h.moves) (Mark ∷ []) w) ∙ append-nil (run t l (step ∷ h.moves) w).left
+
+      still : (h : History) (x : Event) → seconds_of x ≡ 0 → now_after (event.Settled ∷ x ∷ h) ≡ now_after h
+      unfolding now_after
+      still h x none = omega (arith, none)
+
+      clock_then : (step : Step) (h : Handles n b step s e) → After step h → seconds_of (told_of t l w step) ≡ 0 → (e.dones b).world.table.clock ≡ (s.dones b).world.table.clock
+      clock_then step h f none =
+          ap (λ (z : Stepped). z.world.table.clock) (dones_here step h)
+          ∙ (clock_is round words leave law stay setup (net.setups b here) (vids b here) f.full f.taken (all step h) f.facts
+          ∙ (ap now_after (told_then step h [])
+          ∙ (still told (told_of t l w step) none
+          ∙ (sym (clock_is round words leave law stay setup (net.setups b here) (vids b here) _ _ r.steps (known n b (s.dones b) r [])) ∙ ap (λ (z : Stepped). z.world.table.clock) (sym r.is)))))
+
+      given_then : (step : Step) (h : Handles n b step s e) (f : After step h) → (e.dones b).world.control.given ≡ f.taken
+      given_then step h f =
+          ap (λ (z : Stepped). z.world.control.given) (dones_here step h) ∙ given_is round words leave law stay setup (net.setups b here) (vids b here) f.full f.taken (all step h) f.facts
+
+      given_before : (s.dones b).world.control.given ≡ length (commands_of (given_in r.steps))
+      given_before = ap (λ (z : Stepped). z.world.control.given) r.is ∙ given_is round words leave law stay setup (net.setups b here) (vids b here) _ _ r.steps (known n b (s.dones b) r [])
+
+      -- what may cross leaves an external port, and at others nothing leaves
+      left_of_crossing : (a : Arrival) (xs : List Left) → Each (MayCross t a) xs → Each (LeftAt n b a.moment) xs
+      left_of_crossing a [] each = tt
+      left_of_crossing a (x ∷ xs) each = (record { port = each.0.port; moment = each.0.moment; short = each.0.short }, left_of_crossing a xs each.1)
+
+      none_elsewhere : (a : Arrival) (xs : List Left) (q : ℕ) → is_external t q ≡ false → Each (MayCross t a) xs → left_at q xs ≡ []
+      none_elsewhere a [] q not each = refl
+      none_elsewhere a (x ∷ xs) q not each =
+          elim (cases_eq x.port q) [
+            | inl same ↦ absurd (let port = each.0.port in let there : is_external t x.port ≡ false = ap (is_external t) same ∙ not in cc)
+            | inr other ↦ rw (ne_eqb x.port q other) (none_elsewhere a xs q not each.1)
+          ]
+
+      pub told_arrival : (a : Arrival) → Handles n b (Arrive a) s e → IsToldMore a.moment 1 0 (Arrive a)
+      told_arrival a h =
+          let f = after_arrival a h in
+          let cross = leaves_may_cross round words leave law stay setup r.steps a h.moves (alone (Arrive a) h) in
+          record {
+            clock = clock_then (Arrive a) h f (no_seconds (is_relayed w.control.bridge a.port a.bytes));
+            given = given_then (Arrive a) h f ∙ sym given_before;
+            told = told_all (Arrive a) h;
+            more = (run t l (Arrive a ∷ h.moves) w).left;
+            left = left_all (Arrive a) h;
+            each = left_of_crossing a (run t l (Arrive a ∷ h.moves) w).left cross.each;
+            few = λ q. elim (cases_Bool (is_external t q)) [
+              | inl ext ↦ cross.few q ext
+              | inr not ↦ (let none = ap (λ (xs : List Sent). length xs) (none_elsewhere a (run t l (Arrive a ∷ h.moves) w).left q not cross.each) in omega (arith, none))
+            ];
+          }
+        where
+          no_seconds : (c : Bool) → seconds_of (cond c (event.Relay a.port a.index a.moment a.bytes) (event.Ignored a.port a.index)) ≡ 0
+          no_seconds true = refl
+          no_seconds false = refl
+
+      pub told_order : (moment : ℕ) (c : Command) → Handles n b (Order c) s e → IsToldMore moment 0 1 (Order c)
+      told_order moment c h =
+          let f = after_order c h in
+          let none = commands_send_nothing round words leave law stay setup r.steps c h.moves (alone (Order c) h) in
+          record {
+            clock = clock_then (Order c) h f (no_seconds (refusal t l w.control.bridge c));
+            given = given_then (Order c) h f ∙ ap suc (sym given_before);
+            told = told_all (Order c) h;
+            more = [];
+            left = left_all (Order c) h ∙ ap (λ (xs : List Left). (s.dones b).left ++ xs) none;
+            each = tt;
+            few = λ q. omega arith;
+            queue = h.queue ∙ ap (λ (xs : List Left). s.queue ++ crossed n b xs) (left_is (Order c) h ∙ none);
+          }
+        where
+          no_seconds : (o : Option Cause) → seconds_of (decided (w.control.given + 1) o) ≡ 0
+          no_seconds None = refl
+          no_seconds (Some x) = refl
+
     -- ---- seconds
     passed_at : (seconds : ℕ) (s : Dones) (b : ℕ) (here : b < n.count) (r : IsRun n b (s b)) → Can (tree_in n b) (s b).world (Tick seconds) →
         IsRun n b (followed_by (s b) (does n b (Tick seconds ∷ []) s)) × ((p : ℕ) → (followed_by (s b) (does n b (Tick seconds ∷ []) s)).world.next p ≡ (s b).world.next p)
@@ -377,7 +480,7 @@ module _ (round : TagRoundTrip) (words : SendsAreWords) (leave : SendsLeaveAsFla
         ap (λ (z : Stepped). followed_by z (run t l (Tick seconds ∷ []) z.world)) r.is ∙ sym (run_then t l r.steps (Tick seconds ∷ []) w0) in
         (subst (IsRun n b) (sym is) (runs_by n b _ _ (r.steps ++ Tick seconds ∷ []) f), (λ p. refl))
 
-    passed_on : (seconds : ℕ) (s : Dones) → AreRun n s → MayPass n seconds s → HavePassed n s (pass n seconds s)
+    pub passed_on : (seconds : ℕ) (s : Dones) → AreRun n s → MayPass n seconds s → HavePassed n s (pass n seconds s)
     passed_on seconds s runs may =
         record {
           run = λ b here. elim (cases_Bool (seconds == 0)) [
@@ -476,6 +579,33 @@ module _ (round : TagRoundTrip) (words : SendsAreWords) (leave : SendsLeaveAsFla
         where
           room : (k l : ℕ) → k ≤ l → k + (l - k) ≡ l
           room k l h = omega (arith, h)
+
+      -- once none is left, at most one arrival was named at each bridge
+      pub once_soon : (b k : ℕ) (a : Arrival) (given u : Between) → b < n.count → Handles n b (Arrive a) (record { dones = s; queue = [] }) given → DeliversTimes n k given u → u.queue ≡ [] →
+          (c : ℕ) → c < n.count → named_in ([] then (u.dones c).events) ≤ named_in ([] then (s c).events) + 1
+      unfolding with_commands
+      once_soon b k a given u here h delivers empty c c_here =
+          let m : Net = with_commands n chosen.0 in
+          let taken : ℕ → ℕ = λ c. length (chosen.0 c) in
+          let hs : Histories = λ c. [] then (s c).events in
+          let net2 = net_stays n chosen.0 net in
+          let d : Due = record { bridge = b; coming = Captured a } in
+          let one = handled_arrival round words leave law stay m net2 vids taken taken b here refl (λ c other. refl) a (record { dones = s; queue = [] }) given hs at_all (handles_stay n chosen.0 b (Arrive a) (record { dones = s; queue = [] }) given h) in
+          let ev : Event = arrival_event (bridge_after (basis_in m b) (hs b)) a in
+          let hs1 : Histories = with_history b (event.Settled ∷ ev ∷ hs b) hs in
+          let range : Each (InRange m) given.queue = subst (Each (InRange m)) (sym one.queue) (grown_here m net2 b (hs b) ev) in
+          let z = delivered_on round words leave law stay m net2 vids k taken given u hs1 one.all range (delivers_stay n chosen.0 k given u delivers) in
+          let start : comes m d hs ≡ record { histories = hs1; queue = given.queue } = ap (λ (q : List Crossing). record { histories = hs1; queue = q }) (sym one.queue) in
+          let now : delivered_times m k (comes m d hs) ≡ record { histories = z.next; queue = [] } = ap (delivered_times m k) start ∙ (z.is ∙ ap (λ (q : List Crossing). record { histories = z.next; queue = q }) empty) in
+          let end = ends m net2 d hs here in
+          let last : State = delivered_times m (length n.wires) (comes m d hs) in
+          let drained : last ≡ record { histories = last.histories; queue = [] } = ap (λ (q : List Crossing). record { histories = last.histories; queue = q }) end.empty in
+          let same : z.next ≡ last.histories = one_end m (comes m d hs) z.next last.histories (record { times = k; is = now }) (record { times = length n.wires; is = drained }) in
+          let most = end.once c in
+          let at = z.all c c_here in
+          let told : ([] then (u.dones c).events) ≡ last.histories c = ap (λ (y : Stepped). [] then y.events) at.is ∙ (sym at.told ∙ ap (λ (y : Histories). y c) same) in
+          let count = ap named_in told in
+          omega (arith, most, count)
 
 pub opened_nets_run : TagRoundTrip → SendsAreWords → SendsLeaveAsFlat → StepsTell → StepsStayWritten → OpenedNetsRun
 opened_nets_run round words leave law stay n s net vids opens = begun round words leave law stay n net vids s opens

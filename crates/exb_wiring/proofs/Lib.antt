@@ -2,3 +2,5 @@ mod Bridges
 mod Nets
 mod Counting
 mod Delivering
+mod More
+mod Newly

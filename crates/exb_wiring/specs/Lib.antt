@@ -1,4 +1,5 @@
 pub mod Playing
 pub mod Counting
 pub mod Delivering
+pub mod UnderWay
 pub mod Laws

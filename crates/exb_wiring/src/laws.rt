@@ -2,12 +2,14 @@
 ghost use Rattle.exb_wiring.specs.Counting.{CountsGoOn};
 ghost use Rattle.exb_wiring.specs.Delivering.{BridgesHandle, DeliveriesEndSoon, OpenedNetsRun, SecondsPass};
 ghost use Rattle.exb_wiring.specs.Laws.{NetsArePlayed, NetsArePlayedEagerly};
+ghost use Rattle.exb_wiring.specs.UnderWay.{EventsAddOne, OpenedNetsAreNew};
 
 use exb_changing::laws::steps_tell;
 use exb_frame::laws::tag_round_trip;
 use exb_machine::laws::steps_stay_written;
 use exb_nets::laws::queues_end_soon;
 use exb_relay::laws::{sends_are_words, sends_leave_as_flat};
+use exb_resting::laws::rest::{runs_are_few, runs_are_under_way};
 
 /// A run of several worlds that opens each, and then gives each event to its bridge and each frame that leaves a wired port to the
 /// bridge at its far end, in the order of their queue until none is left, tells each the history that the net gives it. What has
@@ -84,4 +86,24 @@ pub fn deliveries_end_soon()
     sends_leave_as_flat();
     steps_tell();
     steps_stay_written();
+}
+
+/// One event adds to each bridge at most one arrival, and at each port at most one frame that leaves; the clocks go on by its seconds.
+pub fn events_add_one()
+    ensures { EventsAddOne }
+{
+    queues_end_soon();
+    tag_round_trip();
+    sends_are_words();
+    sends_leave_as_flat();
+    steps_tell();
+    steps_stay_written();
+}
+
+/// After the opening no second has passed, nothing was given, and nothing has left.
+pub fn opened_nets_are_new()
+    ensures { OpenedNetsAreNew }
+{
+    runs_are_few();
+    runs_are_under_way();
 }

@@ -5,8 +5,8 @@ use Rattle.std.specs.Str.{bytes_eq}
 use Rattle.std.proofs.lemmas.Bool.{false≢true, false_from_ne_true}
 use Rattle.std.proofs.lemmas.Slice.Eq.{bytes_eq-Decides}
 use Rattle.exb_words.specs.declared.said.Said.{Said}
-use Rattle.exb_words.specs.Words.{Ask, Run, Check, Make, Audit, check_of, make_of, audit_of, number_in, Item, Name, Trace, Counters, Seed, items_of, names_in, traces_in, counters_in, seeds_in, the_only, at_most_one, run_of, name_alone, words_of}
-use Rattle.exb_words.specs.Asking.{Gathered, with_all, gathered, nothing_said, run_from, name_from, gathered_of}
+use Rattle.exb_words.specs.Words.{Ask, Run, Check, Make, Audit, Net, check_of, make_of, audit_of, net_of, number_in, Item, Name, Trace, Counters, Seed, items_of, names_in, traces_in, counters_in, seeds_in, the_only, at_most_one, none_of, run_of, name_alone, words_of}
+use Rattle.exb_words.specs.Asking.{Gathered, with_all, gathered, nothing_said, run_from, name_from, net_from, gathered_of}
 
 -- each at most once
 abbrev pub at_once : Option (Option (List ℕ)) → Option (Option (Unit {0})) → Option (Option (Unit {0})) → Option (Option ℕ) → Option Gathered
@@ -35,7 +35,7 @@ no_seed (Some n) None counts = refl
 no_seed (Some n) (Some t) None = refl
 no_seed (Some n) (Some t) (Some c) = refl
 
-with_all-is : (is : List Item) (n : Option (List ℕ)) (t c : Bool) (s : Option ℕ) →
+pub with_all-is : (is : List Item) (n : Option (List ℕ)) (t c : Bool) (s : Option ℕ) →
     with_all is (record { name = n; options = record { trace = t; counters = c; seed = s } }) ≡ all_once (option_to_list n ++ names_in is) (flags_of t ++ traces_in is) (flags_of c ++ counters_in is) (option_to_list s ++ seeds_in is)
 unfolding with_all names_in traces_in counters_in seeds_in
 with_all-is [] None true true None = refl
@@ -142,6 +142,54 @@ name-is ws = by_items (items_of ws)
     by_items None = refl
     by_items (Some is) = sym (name-items is)
 
+-- ---- `net`
+net-cases : (names : List (List ℕ)) (traces counts : List (Unit {0})) (seeds : List ℕ) →
+    option_and_then (λ w. option_and_then (λ t. option_and_then (λ c. option_and_then (λ s. Some (Net w (is_some c))) (none_of seeds)) (at_most_one counts)) (none_of traces)) (the_only names)
+    ≡ option_and_then net_from (all_once names traces counts seeds)
+net-cases [] [] [] [] = refl
+net-cases [] [] [] (s ∷ []) = refl
+net-cases [] [] [] (s ∷ z ∷ ss) = refl
+net-cases [] [] (c ∷ []) [] = refl
+net-cases [] [] (c ∷ []) (s ∷ []) = refl
+net-cases [] [] (c ∷ []) (s ∷ z ∷ ss) = refl
+net-cases [] [] (c ∷ d ∷ cs) seeds = refl
+net-cases [] (t ∷ []) [] [] = refl
+net-cases [] (t ∷ []) [] (s ∷ []) = refl
+net-cases [] (t ∷ []) [] (s ∷ z ∷ ss) = refl
+net-cases [] (t ∷ []) (c ∷ []) [] = refl
+net-cases [] (t ∷ []) (c ∷ []) (s ∷ []) = refl
+net-cases [] (t ∷ []) (c ∷ []) (s ∷ z ∷ ss) = refl
+net-cases [] (t ∷ []) (c ∷ d ∷ cs) seeds = refl
+net-cases [] (t ∷ u ∷ ts) counts seeds = refl
+net-cases (x ∷ []) [] [] [] = refl
+net-cases (x ∷ []) [] [] (s ∷ []) = refl
+net-cases (x ∷ []) [] [] (s ∷ z ∷ ss) = refl
+net-cases (x ∷ []) [] (c ∷ []) [] = refl
+net-cases (x ∷ []) [] (c ∷ []) (s ∷ []) = refl
+net-cases (x ∷ []) [] (c ∷ []) (s ∷ z ∷ ss) = refl
+net-cases (x ∷ []) [] (c ∷ d ∷ cs) seeds = refl
+net-cases (x ∷ []) (t ∷ []) [] [] = refl
+net-cases (x ∷ []) (t ∷ []) [] (s ∷ []) = refl
+net-cases (x ∷ []) (t ∷ []) [] (s ∷ z ∷ ss) = refl
+net-cases (x ∷ []) (t ∷ []) (c ∷ []) [] = refl
+net-cases (x ∷ []) (t ∷ []) (c ∷ []) (s ∷ []) = refl
+net-cases (x ∷ []) (t ∷ []) (c ∷ []) (s ∷ z ∷ ss) = refl
+net-cases (x ∷ []) (t ∷ []) (c ∷ d ∷ cs) seeds = refl
+net-cases (x ∷ []) (t ∷ u ∷ ts) counts seeds = refl
+net-cases (x ∷ y ∷ rest) traces counts seeds = refl
+
+net-items : (is : List Item) → net_of is ≡ option_and_then net_from (with_all is nothing_said)
+unfolding net_of
+net-items is = net-cases (names_in is) (traces_in is) (counters_in is) (seeds_in is) ∙ ap (option_and_then net_from) (sym (with_all-is is None false false None))
+
+pub net-is : (ws : List (List ℕ)) → option_and_then net_from (gathered ws nothing_said) ≡ option_and_then net_of (items_of ws)
+unfolding gathered
+net-is ws = by_items (items_of ws)
+  where
+    by_items : (o : Option (List Item)) → option_and_then net_from (option_and_then (λ is. with_all is nothing_said) o) ≡ option_and_then net_of o
+    by_items None = refl
+    by_items (Some is) = sym (net-items is)
+
 -- ---- what names ask for
 pub check-is : (is : Option (List Item)) → option_map Check (option_and_then name_alone is) ≡ option_and_then check_of is
 unfolding check_of
@@ -187,20 +235,25 @@ pub words-audit : (all ws : List (List ℕ)) (w : List ℕ) (o : Option Ask) →
 unfolding words_of
 words-audit all ws w o e is one = one ∙ (ap (λ v. words_of (v ∷ ws)) (sym is) ∙ ap words_of (sym e))
 
+pub words-net : (all ws : List (List ℕ)) (w : List ℕ) (o : Option Ask) → all ≡ w ∷ ws → w ≡ codes "net" → o ≡ option_and_then net_of (items_of ws) → o ≡ words_of all
+unfolding words_of
+words-net all ws w o e is one = one ∙ (ap (λ v. words_of (v ∷ ws)) (sym is) ∙ ap words_of (sym e))
+
 other_bytes : (v w : List ℕ) → (v ≡ w → ⊥) → bytes_eq v w ≡ false
 other_bytes v w h = false_from_ne_true (bytes_eq v w) (λ e. h ((bytes_eq-Decides v w).0 e))
 
-pub words-other : (all ws : List (List ℕ)) (w : List ℕ) → all ≡ w ∷ ws → (w ≡ codes "run" → ⊥) → (w ≡ codes "check" → ⊥) → (w ≡ codes "make" → ⊥) → (w ≡ codes "audit" → ⊥) → None ≡ words_of all
+pub words-other : (all ws : List (List ℕ)) (w : List ℕ) → all ≡ w ∷ ws → (w ≡ codes "run" → ⊥) → (w ≡ codes "check" → ⊥) → (w ≡ codes "make" → ⊥) → (w ≡ codes "audit" → ⊥) → (w ≡ codes "net" → ⊥) → None ≡ words_of all
 unfolding words_of
-words-other all ws w e run check make audit =
-    by_tests (bytes_eq w (codes "run")) (bytes_eq w (codes "check")) (bytes_eq w (codes "make")) (bytes_eq w (codes "audit"))
-    (option_and_then run_of (items_of ws)) (option_and_then check_of (items_of ws)) (option_and_then make_of (items_of ws)) (option_and_then audit_of (items_of ws))
-    (other_bytes w (codes "run") run) (other_bytes w (codes "check") check) (other_bytes w (codes "make") make) (other_bytes w (codes "audit") audit)
+words-other all ws w e run check make audit net =
+    by_tests (bytes_eq w (codes "run")) (bytes_eq w (codes "check")) (bytes_eq w (codes "make")) (bytes_eq w (codes "audit")) (bytes_eq w (codes "net"))
+    (option_and_then run_of (items_of ws)) (option_and_then check_of (items_of ws)) (option_and_then make_of (items_of ws)) (option_and_then audit_of (items_of ws)) (option_and_then net_of (items_of ws))
+    (other_bytes w (codes "run") run) (other_bytes w (codes "check") check) (other_bytes w (codes "make") make) (other_bytes w (codes "audit") audit) (other_bytes w (codes "net") net)
     ∙ ap words_of (sym e)
   where
-    by_tests : (a b c d : Bool) (x y z u : Option Ask) → a ≡ false → b ≡ false → c ≡ false → d ≡ false → None ≡ (if a then x else (if b then y else (if c then z else (if d then u else None))))
-    by_tests true b c d x y z u ea eb ec ed = absurd (false≢true (sym ea))
-    by_tests false true c d x y z u ea eb ec ed = absurd (false≢true (sym eb))
-    by_tests false false true d x y z u ea eb ec ed = absurd (false≢true (sym ec))
-    by_tests false false false true x y z u ea eb ec ed = absurd (false≢true (sym ed))
-    by_tests false false false false x y z u ea eb ec ed = refl
+    by_tests : (a b c d f : Bool) (x y z u v : Option Ask) → a ≡ false → b ≡ false → c ≡ false → d ≡ false → f ≡ false → None ≡ (if a then x else (if b then y else (if c then z else (if d then u else (if f then v else None)))))
+    by_tests true b c d f x y z u v ea eb ec ed ef = absurd (false≢true (sym ea))
+    by_tests false true c d f x y z u v ea eb ec ed ef = absurd (false≢true (sym eb))
+    by_tests false false true d f x y z u v ea eb ec ed ef = absurd (false≢true (sym ec))
+    by_tests false false false true f x y z u v ea eb ec ed ef = absurd (false≢true (sym ed))
+    by_tests false false false false true x y z u v ea eb ec ed ef = absurd (false≢true (sym ef))
+    by_tests false false false false false x y z u v ea eb ec ed ef = refl

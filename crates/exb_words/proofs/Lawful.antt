@@ -1,5 +1,5 @@
 -- The words in other words.
-use Rattle.std.proofs.Common.{◌≡◌, ℕ, ◌+◌, ◌^◌, ◌<◌, ◌≤◌, ◌==◌, ◌&&◌, Bool, true, false, cond, if◌then◌else◌, nat_lt, List, [], ◌∷◌, length, Option, Some, None, option_map, option_and_then, decimal, sum_by, is_some, zero-add, nat_le, refl, sym, ap, ◌∙◌, arith, eq-eqb}
+use Rattle.std.proofs.Common.{◌≡◌, ℕ, ◌+◌, ◌^◌, ◌<◌, ◌≤◌, ◌==◌, ◌&&◌, Bool, true, false, cond, if◌then◌else◌, nat_lt, List, [], ◌∷◌, length, Option, Some, None, option_map, option_and_then, decimal, sum_by, zero-add, nat_le, refl, sym, ap, ◌∙◌, arith, eq-eqb}
 use Rattle.std.specs.Char.{is_ascii_digit}
 use Rattle.std.specs.Str.{bytes_eq, all_ascii_digits}
 use Rattle.std.specs.Str.Parse.{digits_value}
@@ -9,8 +9,10 @@ use Rattle.std.proofs.lemmas.List.Sums.{sum_by-cons}
 use Rattle.std.proofs.lemmas.Slice.Eq.{bytes_eq-Decides}
 use Rattle.std.proofs.lemmas.Str.Parse.{IsNumeralModel, numerals_by_value, tells_all_ascii_digits}
 use Rattle.std.proofs.lemmas.Fmt.{digits_decimal, digits_value-decimal, decimal_nonempty, length-decimal-le}
-use Rattle.std.specs.Prelude.{IfSome}
-use Rattle.exb_words.specs.Words.{Ask, Run, Check, Make, Audit, Item, Name, Trace, Counters, Seed, if_short, number_in, item_of, items_of, with_item, names_in, traces_in, counters_in, seeds_in, the_only, at_most_one, run_of, name_alone, check_of, make_of, audit_of, words_of}
+use Rattle.std.specs.Prelude.{IfSome, codes}
+use Rattle.exb_words.specs.Words.{Ask, Run, Check, Make, Audit, Net, Item, Name, Trace, Counters, Seed, if_short, number_in, item_of, items_of, with_item, names_in, traces_in, counters_in, seeds_in, at_most_one, run_of, name_alone, check_of, make_of, audit_of, net_of, words_of}
+use Rattle.exb_words.specs.Asking.{with_all, gathered, nothing_said, run_from, name_from, net_from}
+use Rattle.exb_words.proofs.Asks.{at_once, with_all-is, run-is, name-is, check-is, make-is, audit-is, net-is}
 use Rattle.exb_words.specs.Laws.{SaySame, OrderIsFree, DashesEndOptions, WrittenIsRead, written}
 
 -- ---- numbers as they are written
@@ -59,12 +61,14 @@ run_read t true false (Some n) short = ap (λ o. option_and_then run_of (with_it
 run_read t true true (Some n) short = ap (λ o. option_and_then run_of (with_item (Some Trace) (with_item (Some Counters) (with_item (option_map Seed o) (Some (Name t ∷ [])))))) (number-decimal n short)
 
 pub written_read : WrittenIsRead
-unfolding words_of items_of item_of check_of make_of audit_of name_alone
+unfolding words_of items_of item_of check_of make_of audit_of net_of name_alone names_in traces_in counters_in seeds_in
 written_read (Run t options) short = run_read t options.trace options.counters options.seed short
 written_read (Check t) short = refl
 written_read (Make n) short =
     ap (option_and_then make_of) (digit-first (decimal n) (digits_decimal own n short) (decimal_nonempty n short)) ∙ ap (option_map Make) (number-decimal n short)
 written_read (Audit t) short = refl
+written_read (Net f true) short = refl
+written_read (Net f false) short = refl
 
 pub dashes_end : DashesEndOptions
 unfolding words_of items_of check_of name_alone
@@ -105,11 +109,6 @@ module _ {A : Type 0} (eq : A → A → Bool) (tells : (x y : A) → eq x y ≡ 
   same-at_most_one (w ∷ x ∷ xs) (y ∷ []) same =
       absurd (let s : sum_by (λ (z : A). 1) (w ∷ x ∷ xs) ≡ sum_by (λ (z : A). 1) (y ∷ []) = same (λ z. 1) in let m = count_one y in let n = count_two w x xs in omega (arith, s, m, n))
   same-at_most_one (w ∷ x ∷ xs) (y ∷ z ∷ rest) same = refl
-
-the_only-is : {A : Type 0} (xs : List A) → the_only xs ≡ option_and_then (λ o. o) (at_most_one xs)
-the_only-is [] = refl
-the_only-is (x ∷ []) = refl
-the_only-is (x ∷ y ∷ rest) = refl
 
 -- what is said of one sort
 weigh_name : (List ℕ → ℕ) → Item → ℕ
@@ -168,28 +167,52 @@ sum-seeds f (Trace ∷ is) = sum_by-cons (weigh_seed f) Trace is ∙ (zero-add (
 sum-seeds f (Counters ∷ is) = sum_by-cons (weigh_seed f) Counters is ∙ (zero-add (sum_by (weigh_seed f) is) ∙ sum-seeds f is)
 sum-seeds f (Seed n ∷ is) = sum_by-cons (weigh_seed f) (Seed n) is ∙ (ap (λ (m : ℕ). f n + m) (sum-seeds f is) ∙ sym (sum_by-cons f n (seeds_in is)))
 
-abbrev run_by : Option (Option (List ℕ)) → Option (Option (Unit {0})) → Option (Option (Unit {0})) → Option (Option ℕ) → Option Ask
-run_by names traces counts seeds =
-    option_and_then (λ w. option_and_then (λ t. option_and_then (λ c. option_and_then (λ s. Some (Run w (record { trace = is_some t; counters = is_some c; seed = s }))) seeds) counts) traces) (option_and_then (λ o. o) names)
-
-run-by : (is : List Item) → run_of is ≡ run_by (at_most_one (names_in is)) (at_most_one (traces_in is)) (at_most_one (counters_in is)) (at_most_one (seeds_in is))
-unfolding run_of
-run-by is =
-    ap (λ n. option_and_then (λ w. option_and_then (λ t. option_and_then (λ c. option_and_then (λ s. Some (Run w (record { trace = is_some t; counters = is_some c; seed = s }))) (at_most_one (seeds_in is))) (at_most_one (counters_in is))) (at_most_one (traces_in is))) n) (the_only-is (names_in is))
-
-run-same : (is js : List Item) → SaySame is js → run_of is ≡ run_of js
-run-same is js same =
+-- so what is gathered is the same
+all_same : (is js : List Item) → SaySame is js → with_all is nothing_said ≡ with_all js nothing_said
+all_same is js same =
     let names = same-at_most_one bytes_eq (λ x y h. (bytes_eq-Decides x y).0 h) (λ x. (bytes_eq-Decides x x).1 refl) (names_in is) (names_in js)
     (λ f. sym (sum-names f is) ∙ (same (weigh_name f) ∙ sum-names f js)) in
     let traces = same-at_most_one (λ x y. true) (λ x y h. refl) (λ x. refl) (traces_in is) (traces_in js) (λ f. sym (sum-traces f is) ∙ (same (weigh_trace f) ∙ sum-traces f js)) in
     let counts = same-at_most_one (λ x y. true) (λ x y h. refl) (λ x. refl) (counters_in is) (counters_in js) (λ f. sym (sum-counters f is) ∙ (same (weigh_counters f) ∙ sum-counters f js)) in
     let seeds = same-at_most_one ◌==◌ (λ x y h. eqb-true x y h) (λ x. eq-eqb x x refl) (seeds_in is) (seeds_in js) (λ f. sym (sum-seeds f is) ∙ (same (weigh_seed f) ∙ sum-seeds f js)) in
-    run-by is
-    ∙ (ap (λ n. run_by n (at_most_one (traces_in is)) (at_most_one (counters_in is)) (at_most_one (seeds_in is))) names
-    ∙ (ap (λ t. run_by (at_most_one (names_in js)) t (at_most_one (counters_in is)) (at_most_one (seeds_in is))) traces
-    ∙ (ap (λ c. run_by (at_most_one (names_in js)) (at_most_one (traces_in js)) c (at_most_one (seeds_in is))) counts
-    ∙ (ap (λ s. run_by (at_most_one (names_in js)) (at_most_one (traces_in js)) (at_most_one (counters_in js)) s) seeds ∙ sym (run-by js)))))
+    with_all-is is None false false None
+    ∙ (ap (λ n. at_once n (at_most_one (traces_in is)) (at_most_one (counters_in is)) (at_most_one (seeds_in is))) names
+    ∙ (ap (λ t. at_once (at_most_one (names_in js)) t (at_most_one (counters_in is)) (at_most_one (seeds_in is))) traces
+    ∙ (ap (λ c. at_once (at_most_one (names_in js)) (at_most_one (traces_in js)) c (at_most_one (seeds_in is))) counts
+    ∙ (ap (λ s. at_once (at_most_one (names_in js)) (at_most_one (traces_in js)) (at_most_one (counters_in js)) s) seeds ∙ sym (with_all-is js None false false None)))))
+
+gathered_same : (ws vs : List (List ℕ)) (is js : List Item) → items_of ws ≡ Some is → items_of vs ≡ Some js → SaySame is js → gathered ws nothing_said ≡ gathered vs nothing_said
+unfolding gathered
+gathered_same ws vs is js said again same =
+    ap (option_and_then (λ xs. with_all xs nothing_said)) said ∙ (all_same is js same ∙ sym (ap (option_and_then (λ xs. with_all xs nothing_said)) again))
+
+-- what the words ask for by the first of them
+abbrev by_first : List ℕ → (run check make audit net : Option Ask) → Option Ask
+by_first w run check make audit net =
+    if bytes_eq w (codes "run") then run
+    else (if bytes_eq w (codes "check") then check
+    else (if bytes_eq w (codes "make") then make
+    else (if bytes_eq w (codes "audit") then audit
+    else (if bytes_eq w (codes "net") then net else None))))
+
+by-first : (w : List ℕ) (ws : List (List ℕ)) →
+    words_of (w ∷ ws) ≡ by_first w (option_and_then run_of (items_of ws)) (option_and_then check_of (items_of ws)) (option_and_then make_of (items_of ws)) (option_and_then audit_of (items_of ws)) (option_and_then net_of (items_of ws))
+unfolding words_of
+by-first w ws = refl
+
+first_same : (w : List ℕ) (r s c d m n a b x y : Option Ask) → r ≡ s → c ≡ d → m ≡ n → a ≡ b → x ≡ y → by_first w r c m a x ≡ by_first w s d n b y
+first_same w r s c d m n a b x y er ec em ea ex =
+    ap (λ o. by_first w o c m a x) er ∙ (ap (λ o. by_first w s o m a x) ec ∙ (ap (λ o. by_first w s d o a x) em ∙ (ap (λ o. by_first w s d n o x) ea ∙ ap (λ o. by_first w s d n b o) ex)))
 
 pub order_free : OrderIsFree
-unfolding words_of
-order_free ws vs is js said again same = ap (option_and_then run_of) said ∙ (run-same is js same ∙ sym (ap (option_and_then run_of) again))
+order_free first ws vs is js said again same =
+    let all = gathered_same ws vs is js said again same in
+    let names : option_and_then name_alone (items_of ws) ≡ option_and_then name_alone (items_of vs) = sym (name-is ws) ∙ (ap (option_and_then name_from) all ∙ name-is vs) in
+    by-first first ws
+    ∙ (first_same first _ _ _ _ _ _ _ _ _ _
+    (sym (run-is ws) ∙ (ap (option_and_then run_from) all ∙ run-is vs))
+    (sym (check-is (items_of ws)) ∙ (ap (option_map Check) names ∙ check-is (items_of vs)))
+    (sym (make-is (items_of ws)) ∙ (ap (λ o. option_map Make (option_and_then number_in o)) names ∙ make-is (items_of vs)))
+    (sym (audit-is (items_of ws)) ∙ (ap (option_map Audit) names ∙ audit-is (items_of vs)))
+    (sym (net-is ws) ∙ (ap (option_and_then net_from) all ∙ net-is vs))
+    ∙ sym (by-first first vs))

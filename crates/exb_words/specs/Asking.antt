@@ -1,6 +1,6 @@
 -- How the words are read, one after another.
-use Rattle.std.specs.Prelude.{ℕ, Bool, true, false, ◌||◌, if◌then◌else◌, List, [], ◌∷◌, Option, Some, None, is_some, option_map, option_and_then}
-use Rattle.exb_words.specs.Words.{Ask, Run, Check, Make, Audit, Item, Name, Trace, Counters, Seed, items_of}
+use Rattle.std.specs.Prelude.{ℕ, true, false, ◌||◌, if◌then◌else◌, List, [], ◌∷◌, Option, Some, None, is_some, option_map, option_and_then}
+use Rattle.exb_words.specs.Words.{Ask, Run, Check, Make, Audit, Net, Item, Name, Trace, Counters, Seed, items_of}
 use Rattle.exb_words.specs.declared.asked.Options.{Options}
 use Rattle.exb_words.specs.declared.asked.Asked.{Asked}
 use Rattle.exb_words.specs.declared.asked.Asked.TheVariants as asked
@@ -12,6 +12,7 @@ ask_of (asked.Run topology options) = Run topology.now options
 ask_of (asked.Check topology) = Check topology.now
 ask_of (asked.Make number) = Make number
 ask_of (asked.Audit topology) = Audit topology.now
+ask_of (asked.Net file counters) = Net file.now counters
 
 -- ---- what the words read so far say: one name, and the options
 pub record Gathered : Type 0 where
@@ -45,3 +46,6 @@ run_from g = option_map (λ w. Run w g.options) g.name
 
 abbrev pub name_from : Gathered → Option (List ℕ)
 name_from g = if (g.options.trace || g.options.counters) || is_some g.options.seed then None else g.name
+
+abbrev pub net_from : Gathered → Option Ask
+net_from g = if g.options.trace || is_some g.options.seed then None else option_map (λ w. Net w g.options.counters) g.name

@@ -1,6 +1,6 @@
 -- What holds of the words, said in other words.
 use Rattle.std.specs.Prelude.{◌≡◌, ℕ, ◌<◌, ◌^◌, Bool, if◌then◌else◌, List, [], ◌∷◌, ◌++◌, Option, Some, None, IfSome, codes, decimal, sum_by}
-use Rattle.exb_words.specs.Words.{Ask, Run, Check, Make, Audit, Item, items_of, words_of}
+use Rattle.exb_words.specs.Words.{Ask, Run, Check, Make, Audit, Net, Item, items_of, words_of}
 
 -- ---- options may stand in any order around the name
 -- each item is said as often
@@ -9,7 +9,7 @@ SaySame is js = (f : Item → ℕ) → sum_by f is ≡ sum_by f js
 
 abbrev pub OrderIsFree : Type 0
 OrderIsFree =
-    (ws vs : List (List ℕ)) (is js : List Item) → items_of ws ≡ Some is → items_of vs ≡ Some js → SaySame is js → words_of (codes "run" ∷ ws) ≡ words_of (codes "run" ∷ vs)
+    (first : List ℕ) (ws vs : List (List ℕ)) (is js : List Item) → items_of ws ≡ Some is → items_of vs ≡ Some js → SaySame is js → words_of (first ∷ ws) ≡ words_of (first ∷ vs)
 
 -- ---- behind `--` each word is a name, whatever it is
 abbrev pub DashesEndOptions : Type 0
@@ -31,6 +31,7 @@ written (Run topology options) = codes "run" ∷ written_trace options.trace ++ 
 written (Check topology) = codes "check" ∷ codes "--" ∷ topology ∷ []
 written (Make number) = codes "make" ∷ decimal number ∷ []
 written (Audit topology) = codes "audit" ∷ codes "--" ∷ topology ∷ []
+written (Net file counters) = codes "net" ∷ written_counters counters ++ codes "--" ∷ file ∷ []
 
 -- its numbers have 64 bits
 abbrev pub IsShort : Ask → Type 0
@@ -38,6 +39,7 @@ IsShort (Run topology options) = IfSome options.seed (λ n. n < 2 ^ 64)
 IsShort (Check topology) = Unit {0}
 IsShort (Make number) = number < 2 ^ 64
 IsShort (Audit topology) = Unit {0}
+IsShort (Net file counters) = Unit {0}
 
 abbrev pub WrittenIsRead : Type 0
 WrittenIsRead = (a : Ask) → IsShort a → words_of (written a) ≡ Some a

@@ -14,6 +14,7 @@ pub data Ask : Type 0 where
   Check : (topology : List ℕ) → Ask
   Make : (number : ℕ) → Ask
   Audit : (topology : List ℕ) → Ask
+  Net : (file : List ℕ) (counters : Bool) → Ask
 
 -- ---- what a word says
 pub data Item : Type 0 where
@@ -104,6 +105,10 @@ at_most_one [] = Some None
 at_most_one (x ∷ []) = Some (Some x)
 at_most_one (x ∷ y ∷ rest) = None
 
+abbrev pub none_of : {A : Type 0} → List A → Option (Unit {0})
+none_of [] = Some tt
+none_of (x ∷ rest) = None
+
 -- one name, and each option once at most, in any order
 unfoldable pub run_of : List Item → Option Ask
 run_of items = do
@@ -127,6 +132,15 @@ make_of items = option_map Make (name_alone items >>= number_in)
 unfoldable pub audit_of : List Item → Option Ask
 audit_of items = option_map Audit (name_alone items)
 
+-- one name, counters once at most, in any order, and no other option
+unfoldable pub net_of : List Item → Option Ask
+net_of items = do
+  file ← the_only (names_in items)
+  trace ← none_of (traces_in items)
+  counters ← at_most_one (counters_in items)
+  seed ← none_of (seeds_in items)
+  Some (Net file (is_some counters))
+
 -- ---- all words
 -- what the words ask for, where they are accepted
 unfoldable pub words_of : List (List ℕ) → Option Ask
@@ -135,4 +149,5 @@ words_of (w ∷ ws) =
     if bytes_eq w (codes "run") then items_of ws >>= run_of
     else (if bytes_eq w (codes "check") then items_of ws >>= check_of
     else (if bytes_eq w (codes "make") then items_of ws >>= make_of
-    else (if bytes_eq w (codes "audit") then items_of ws >>= audit_of else None)))
+    else (if bytes_eq w (codes "audit") then items_of ws >>= audit_of
+    else (if bytes_eq w (codes "net") then items_of ws >>= net_of else None))))

@@ -22,4 +22,6 @@ pub enum Asked<'a> {
     Make { number: u64 },
     /// To judge the trace that a run of a topology wrote.
     Audit { topology: &'a str },
+    /// To play the captures of all bridges of a net, with counters or without.
+    Net { file: &'a str, counters: bool },
 }

@@ -2,8 +2,8 @@
 //! nothing and ensures it.
 ghost use Rattle.exb_words.specs.Laws.{OrderIsFree, DashesEndOptions, WrittenIsRead};
 
-/// What `run` is asked for is told by what its words say and how often, and not by their order: options may stand anywhere
-/// around the name.
+/// What is asked for is told by the first word, and by what the others say and how often, not by their order: options may stand
+/// anywhere around the name.
 pub fn order_is_free()
     ensures { OrderIsFree }
 {}

@@ -1,9 +1,9 @@
 //! All words together.
 ghost use Rattle.std.specs.Prelude.{◌≡◌, map, string_bytes, option_map, option_and_then};
-ghost use Rattle.exb_words.specs.Words.{words_of, items_of, run_of, check_of, make_of, audit_of, name_alone};
-ghost use Rattle.exb_words.specs.Asking.{ask_of, gathered_of, name_from};
+ghost use Rattle.exb_words.specs.Words.{words_of, items_of, run_of, check_of, make_of, audit_of, net_of, name_alone};
+ghost use Rattle.exb_words.specs.Asking.{ask_of, gathered_of, name_from, net_from};
 
-use crate::asked::Asked;
+use crate::asked::{Asked, Options};
 use crate::numbers::number;
 use crate::said::{Said, read};
 
@@ -60,6 +60,29 @@ fn audit(words: &[String]) -> Option<Asked<'_>>
     Some(Asked::Audit { topology })
 }
 
+/// A net of the name, where no option was said but counters.
+fn named_net(said: Said<'_>) -> Option<Asked<'_>>
+    ensures { option_map ask_of result ≡ net_from (gathered_of said.entry) }
+{
+    let Options {
+        trace,
+        counters,
+        seed,
+    } = said.options;
+    if trace || seed.is_some() {
+        return None;
+    }
+    let file = said.name?;
+    Some(Asked::Net { file, counters })
+}
+
+/// `net`: one name, and counters once at most.
+fn net(words: &[String]) -> Option<Asked<'_>>
+    ensures { option_map ask_of result ≡ option_and_then net_of (items_of (map string_bytes words.now)) }
+{
+    named_net(read(words)?)
+}
+
 /// What the words ask for, without the program's name before them. None exactly where they aren't accepted.
 pub fn accept(words: &[String]) -> Option<Asked<'_>>
     ensures { option_map ask_of result ≡ words_of (map string_bytes words.now) }
@@ -72,6 +95,7 @@ pub fn accept(words: &[String]) -> Option<Asked<'_>>
         "check" => check(rest),
         "make" => make(rest),
         "audit" => audit(rest),
+        "net" => net(rest),
         _ => None,
     }
 }

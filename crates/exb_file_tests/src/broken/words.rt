@@ -19,7 +19,7 @@ struct Case {
 }
 
 /// A blank at the end stands before an empty word, which is a name.
-const CASES: [Case; 4] = [
+const CASES: [Case; 5] = [
     Case {
         words: "run t --trace --seed 77",
         told: "run <t> trace seed 77",
@@ -40,6 +40,12 @@ const CASES: [Case; 4] = [
         told: "check <->",
         cut: "0 none | 6 check <>",
         turned: "0-5 none | 6 check <{6-6}>",
+    },
+    Case {
+        words: "net n --counters",
+        told: "net <n> counters",
+        cut: "0 none | 4 net <> | 5 net <n> | 6 none | 8 net <n> | 9 none",
+        turned: "0-3 none | 4 net <{4-4}> counters | 5 net <{4-15}> | 6-15 none",
     },
     // The largest number: most others of as many digits are larger than the largest that there is.
     Case {
@@ -69,7 +75,7 @@ const CASES: [Case; 4] = [
 ];
 
 /// Numbers and names at their limits, and beyond.
-const LIMITS: [(&str, &str); 32] = [
+const LIMITS: [(&str, &str); 46] = [
     ("make 0", "make 0"),
     ("make 00000000000000000000", "make 0"),
     ("make 000000000000000000000", "none"),
@@ -101,6 +107,20 @@ const LIMITS: [(&str, &str); 32] = [
     ("audit", "none"),
     ("audit t t", "none"),
     ("audit --trace t", "none"),
+    ("net n", "net <n>"),
+    ("net --counters n", "net <n> counters"),
+    ("net -- -n", "net <-n>"),
+    ("net --counters -- --counters", "net <--counters> counters"),
+    ("net -", "net <->"),
+    ("net", "none"),
+    ("net n n", "none"),
+    ("net --counters n --counters", "none"),
+    ("net n --counters=1", "none"),
+    ("net n --trace", "none"),
+    ("net --seed 7 n", "none"),
+    ("net --seed=7 n", "none"),
+    ("net -c n", "none"),
+    ("-- net n", "none"),
     ("run t --seed=--trace", "none"),
     ("run \u{2d}\u{301}", "none"),
     ("run \u{2212}t", "run <\u{2212}t>"),
@@ -137,6 +157,12 @@ fn bare_text(rt: &impl Abort, alloc: Global, word: &str, topology: &str) -> Stri
     format!(in alloc; "{word} <{topology}>").expect(rt, "memory")
 }
 
+// What is asked for of a net.
+fn net_text(rt: &impl Abort, alloc: Global, file: &str, counters: bool) -> String {
+    let counted = if counters { " counters" } else { "" };
+    format!(in alloc; "net <{file}>{counted}").expect(rt, "memory")
+}
+
 // What is made.
 fn make_text(rt: &impl Abort, alloc: Global, number: u64) -> String {
     format!(in alloc; "make {number}").expect(rt, "memory")
@@ -150,6 +176,7 @@ fn asked_text(rt: &impl Abort, alloc: Global, asked: Option<Asked<'_>>) -> Strin
         Some(Asked::Make { number }) => make_text(rt, alloc, number),
         Some(Asked::Audit { topology }) => bare_text(rt, alloc, "audit", topology),
         Some(Asked::Run { topology, options }) => run_text(rt, alloc, topology, options),
+        Some(Asked::Net { file, counters }) => net_text(rt, alloc, file, counters),
     }
 }
 

@@ -6,11 +6,12 @@ use Rattle.exb_run.specs.Answers.{asked}
 use Rattle.exb_inputs.specs.Answers.{status_of, line_of}
 use Rattle.exb_run.specs.Opening.{OpensInOrder}
 use Rattle.exb_run.specs.Outcomes.{CanCome}
-use Rattle.exb_run.proofs.Headlines.{headline_by}
+use Rattle.exb_run.proofs.Headlines.{headline_by, net_headline_by}
 use Rattle.exb_run.proofs.OpenLemmas.{opens_by_status}
+use Rattle.exb_run.proofs.Netted.{opened_by_net}
 use Rattle.exb_run.proofs.Ordered.{opened_by_run}
 use Rattle.exb_run.proofs.Printing.{memory_is_one, prints_by}
-use Rattle.exb_run.proofs.Reporting.{can_be, cause_of, done_by, early_end, fault_says, front_by, is_missing, is_read, is_usage, made_is, none_by_usage, not_ten, of_input, read_line, run_by_write, status_cases, status_is, stop_not_one, stop_not_seven, stop_not_six, stops_with, text_by, usage_line, write_line, write_or_not}
+use Rattle.exb_run.proofs.Reporting.{can_be, cause_of, done_by, fault_says, front_by, is_missing, is_read, is_usage, made_is, making_end, none_by_usage, not_ten, of_input, read_line, run_by_write, status_cases, status_is, stop_not_one, stop_not_seven, stop_not_six, stops_with, text_by, usage_line, write_line, write_or_not}
 use Rattle.exb_inputs.proofs.Outcomes.{Outcome}
 use Rattle.exb_run.proofs.Stopping.{can_not, failure_is}
 use Rattle.exb_run.proofs.top.run.Goals as goal
@@ -27,6 +28,14 @@ returns-clause-headline g c = λ name options a t o e.
     let n7 : c.report.result ≢ 7 = λ h. omega arith in
     let found = done_by c.work-outcome.result (asked c.args.words.now) (g.S.Shelf.file c.args.shelf.now) (g.S.Shelf.file c.work-outcome.new.shelf) (c.work-outcome.ensures.came.done t) (sym (c.report.ensures.status n1 n7) ∙ e) in
     headline_by (asked c.args.words.now) name options (g.S.Shelf.file c.args.shelf.now) (g.S.Shelf.file c.work-outcome.new.shelf) found.0 (g.O.Sink.text c.args.out.now) (g.O.Sink.text c.report.new.out) a found.1
+    (c.report.ensures.whole o n1 n7 ∙ ap (λ (xs : List ℕ). g.O.Sink.text c.args.out.now ++ xs) (sym found.2))
+
+pub returns-clause-net : goal.returns-clause-net
+returns-clause-net g c = λ name counters a t o e.
+    let n1 : c.report.result ≢ 1 = λ h. omega arith in
+    let n7 : c.report.result ≢ 7 = λ h. omega arith in
+    let found = done_by c.work-outcome.result (asked c.args.words.now) (g.S.Shelf.file c.args.shelf.now) (g.S.Shelf.file c.work-outcome.new.shelf) (c.work-outcome.ensures.came.done t) (sym (c.report.ensures.status n1 n7) ∙ e) in
+    net_headline_by (asked c.args.words.now) name counters (g.S.Shelf.file c.args.shelf.now) (g.S.Shelf.file c.work-outcome.new.shelf) found.0 (g.O.Sink.text c.args.out.now) (g.O.Sink.text c.report.new.out) a found.1
     (c.report.ensures.whole o n1 n7 ∙ ap (λ (xs : List ℕ). g.O.Sink.text c.args.out.now ++ xs) (sym found.2))
 
 pub returns-clause-done : goal.returns-clause-done
@@ -176,7 +185,7 @@ returns-clause-out_of_memory g c = λ o.
 pub returns-clause-early : goal.returns-clause-early
 returns-clause-early g c = λ n0 n1 n6 n7 n10.
     let is : c.report.result ≡ status_of c.work-outcome.result = c.report.ensures.status n1 n7 in
-    early_end c.work-outcome.result _ c.work-outcome.ensures.came.early (λ e. n0 (is ∙ e)) (λ e. n1 (is ∙ e)) (λ e. n6 (is ∙ e)) (λ e. n7 (is ∙ e)) (λ e. n10 (is ∙ e))
+    making_end c.work-outcome.result _ c.work-outcome.ensures.came.early (λ e. n0 (is ∙ e)) (λ e. n1 (is ∙ e)) (λ e. n6 (is ∙ e)) (λ e. n7 (is ∙ e)) (λ e. n10 (is ∙ e))
 
 pub returns-clause-opens : goal.returns-clause-opens
 returns-clause-opens g c = opens_by_status _ (asked c.args.words.now) (g.S.Shelf.file c.args.shelf.now) c.report.result c.work-outcome.result _ _ c.report.ensures.status c.work-outcome.ensures.opens
@@ -185,6 +194,14 @@ pub returns-clause-order : goal.returns-clause-order
 returns-clause-order g c = λ name options a.
     let o = c.work-outcome.result in
     opened_by_run g.S.Shelf.tells g.O.Sink.tells name options o c.report.result (g.S.Shelf.file c.args.shelf.now) _ _ (g.O.Sink.text c.args.out.now) (g.O.Sink.text c.report.new.out) c.report.ensures.status
+    (λ p n1 n7. c.report.ensures.whole p n1 n7) (subst (λ (b : Option Ask). IfErr o (CanCome b)) a c.work-outcome.ensures.came.can_come)
+    (can_be (asked c.args.words.now) o c.work-outcome.ensures.came.can_come)
+    (subst (λ (b : Option Ask). OpensInOrder g.S.Shelf.tells b o (g.S.Shelf.file c.args.shelf.now) (g.S.Shelf.ids c.args.shelf.now) (g.S.Shelf.ids c.work-outcome.new.shelf)) a c.work-outcome.ensures.order)
+
+pub returns-clause-net_order : goal.returns-clause-net_order
+returns-clause-net_order g c = λ name counters a.
+    let o = c.work-outcome.result in
+    opened_by_net g.S.Shelf.tells g.O.Sink.tells name counters o c.report.result (g.S.Shelf.file c.args.shelf.now) _ _ (g.O.Sink.text c.args.out.now) (g.O.Sink.text c.report.new.out) c.report.ensures.status
     (λ p n1 n7. c.report.ensures.whole p n1 n7) (subst (λ (b : Option Ask). IfErr o (CanCome b)) a c.work-outcome.ensures.came.can_come)
     (can_be (asked c.args.words.now) o c.work-outcome.ensures.came.can_come)
     (subst (λ (b : Option Ask). OpensInOrder g.S.Shelf.tells b o (g.S.Shelf.file c.args.shelf.now) (g.S.Shelf.ids c.args.shelf.now) (g.S.Shelf.ids c.work-outcome.new.shelf)) a c.work-outcome.ensures.order)

@@ -1,6 +1,6 @@
 use Rattle.std.proofs.Common.{map, string_bytes}
 use Rattle.exb_words.proofs.Reading.{texts-first, texts-none}
-use Rattle.exb_words.proofs.Asks.{words-none, words-run, words-check, words-make, words-audit, words-other}
+use Rattle.exb_words.proofs.Asks.{words-none, words-run, words-check, words-make, words-audit, words-net, words-other}
 use Rattle.exb_words.proofs.words.accept.Goals as goal
 
 pub returns-in_default : goal.returns-in_default
@@ -26,8 +26,13 @@ returns-in-audit c =
     words-audit (map string_bytes c.args.words.now) (map string_bytes c.in-Some.rest.now) c.as_str.result.now _
     (texts-first string_bytes c.args.words.now c.in-Some.rest.now c.in-Some.word.now c.as_str.result.now c.in-Some.ensures.cases.0 c.as_str.ensures.value) c.in-audit.is c.audit.ensures
 
+pub returns-in-net : goal.returns-in-net
+returns-in-net c =
+    words-net (map string_bytes c.args.words.now) (map string_bytes c.in-Some.rest.now) c.as_str.result.now _
+    (texts-first string_bytes c.args.words.now c.in-Some.rest.now c.in-Some.word.now c.as_str.result.now c.in-Some.ensures.cases.0 c.as_str.ensures.value) c.in-net.is c.net.ensures
+
 pub returns-in_default-as_str : goal.returns-in_default-as_str
 returns-in_default-as_str c =
     words-other (map string_bytes c.args.words.now) (map string_bytes c.in-Some.rest.now) c.as_str.result.now
     (texts-first string_bytes c.args.words.now c.in-Some.rest.now c.in-Some.word.now c.as_str.result.now c.in-Some.ensures.cases.0 c.as_str.ensures.value)
-    c.in_default-as_str.not-run c.in_default-as_str.not-check c.in_default-as_str.not-make c.in_default-as_str.not-audit
+    c.in_default-as_str.not-run c.in_default-as_str.not-check c.in_default-as_str.not-make c.in_default-as_str.not-audit c.in_default-as_str.not-net

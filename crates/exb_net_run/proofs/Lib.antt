@@ -1,0 +1,10 @@
+pub mod Noting
+pub mod Several
+pub mod Held
+pub mod Turns
+pub mod Noted
+pub mod Bounds
+pub mod Coming
+pub mod Passing
+pub mod Steps
+pub mod Going

@@ -1,0 +1,96 @@
+-- What a bridge did, in its files and counts: with what it did since.
+use Rattle.std.proofs.Common.{◌≡◌, ◌<◌, ◌++◌, ◌⊎◌, inl, inr, Bool, ℕ, suc, List, [], ◌∷◌, take, get_or, flat_map, Some, refl, ap, sym, ◌∙◌, subst, append_assoc}
+use Rattle.std.proofs.lemmas.List.{append-nil}
+use Rattle.exb_model.specs.declared.event.Event.{Event}
+use Rattle.exb_model.specs.Texts.{record_text}
+use Rattle.exb_machine.specs.Stepping.{Stepped}
+use Rattle.exb_machine.specs.Worlds.{Left as Leaving}
+use Rattle.exb_network.specs.Networks.{Network}
+use Rattle.exb_network.specs.Worlds.{all_left}
+use Rattle.exb_resting.specs.Flight.Showing.{left_at}
+use Rattle.exb_shelf.specs.Files.{Files}
+use Rattle.exb_text.specs.declared.output.Output.{Output}
+use Rattle.exb_text.specs.declared.output.Output.TheVariants as output
+use Rattle.exb_outputs.specs.Plans.{Planned, kind_at, output_count, output_name}
+use Rattle.exb_outputs.specs.Writing.{AreCut, HasTexts, lines_of, with_more}
+use Rattle.exb_outputs.proofs.Cutting.{GoesOnAs}
+use Rattle.exb_writers.specs.declared.counted.Counted.{Counted}
+use Rattle.exb_writers.specs.Counts.{IsCounted}
+use Rattle.exb_writers.specs.Leaving.{with_left_frames}
+use Rattle.exb_writers.specs.Texts.{text_so_far}
+use Rattle.exb_writers.proofs.Telling.{left_at-append, text-more}
+use Rattle.exb_net_run.specs.Desks.{IsMore, text_of}
+
+-- ---- files of one plan, whatever the others are
+-- the files of a plan have their texts, and others are as they are
+pub own_texts : (plan : Planned) (pieces : List (List ℕ)) (f g : Files) (text : Output → List ℕ) → HasTexts plan pieces f g text → HasTexts plan pieces g g text
+own_texts plan pieces f g text held = record { each = held.each; others = λ m away. refl }
+
+-- so they have where the files of the plan haven't changed
+pub texts_stay : (plan : Planned) (pieces : List (List ℕ)) (f g : Files) (text : Output → List ℕ) → ((j : ℕ) → j < output_count plan → g (output_name plan j) ≡ f (output_name plan j)) →
+    HasTexts plan pieces f f text → HasTexts plan pieces g g text
+texts_stay plan pieces f g text same held = record {
+  each = λ j low. let now = held.each j low in (now.0, same j low ∙ now.1, now.2);
+  others = λ m away. refl;
+}
+
+first_part : (xs ys : List ℕ) → (n : ℕ) × (xs ≡ take n (xs ++ ys))
+first_part [] ys = (0, refl)
+first_part (x ∷ xs) ys = (let r = first_part xs ys in (suc r.0, ap (λ (zs : List ℕ). x ∷ zs) r.1))
+
+-- they hold fronts of texts that go on
+pub fronts_now : (plan : Planned) (pieces : List (List ℕ)) (f : Files) (text whole : Output → List ℕ) → ((o : Output) → GoesOnAs text whole o) → HasTexts plan pieces f f text →
+    (j : ℕ) → j < output_count plan → (q : ℕ) × (f (output_name plan j) ≡ Some (take q (whole (kind_at plan j))))
+fronts_now plan pieces f text whole goes held j low =
+    let now = held.each j low in
+    let on = goes (kind_at plan j) in
+    let r = first_part now.0 (get_or pieces j [] ++ on.0) in
+    let same : now.0 ++ (get_or pieces j [] ++ on.0) ≡ whole (kind_at plan j) = sym (append_assoc now.0 (get_or pieces j []) on.0) ∙ ap (λ (xs : List ℕ). xs ++ on.0) now.2 ∙ sym on.1 in
+    (r.0, now.1 ∙ ap Some (r.1 ∙ ap (take r.0) same))
+
+pub fronts_cut : (plan : Planned) (pieces : List (List ℕ)) (f g : Files) (text whole : Output → List ℕ) → ((o : Output) → GoesOnAs text whole o) → HasTexts plan pieces f f text → AreCut plan f g whole →
+    (j : ℕ) → j < output_count plan → (q : ℕ) × (g (output_name plan j) ≡ Some (take q (whole (kind_at plan j))))
+fronts_cut plan pieces f g text whole goes held cut j low = elim (cut.each j low) [
+  | inl same ↦ (let r = fronts_now plan pieces f text whole goes held j low in (r.0, same ∙ r.1))
+  | inr front ↦ front
+]
+
+-- ---- what was told more
+module _ (told done : Stepped) (n : Network) (more : IsMore told done n) where
+  spelled : (o : Output) → text_so_far (told.events ++ n.log.events) (told.left ++ all_left n.log.left) [] [] o ≡ text_of done [] o
+  spelled o =
+      ap (λ (es : List Event). text_so_far es (told.left ++ all_left n.log.left) [] [] o) (sym more.events)
+      ∙ ap (λ (xs : List Leaving). text_so_far done.events xs [] [] o) (sym more.left)
+
+  -- the texts with it are those of all
+  pub text-on : (o : Output) → with_left_frames (with_more (text_of told []) output.Journal (lines_of n.log.events)) n.log.left o ≡ text_of done [] o
+  text-on (output.Capture q) = text-more told.events n.log.events told.left n.log.left [] [] (output.Capture q) ∙ spelled (output.Capture q)
+  text-on output.Journal = text-more told.events n.log.events told.left n.log.left [] [] output.Journal ∙ spelled output.Journal
+  text-on output.Trace = refl
+  text-on output.Counters = refl
+
+  -- so they go on
+  pub goes-on : (o : Output) → GoesOnAs (text_of told []) (text_of done []) o
+  goes-on (output.Capture q) = (flat_map record_text (left_at q (all_left n.log.left)), sym (text-on (output.Capture q)))
+  goes-on output.Journal = (lines_of n.log.events, sym (text-on output.Journal))
+  goes-on output.Trace = ([], sym (append-nil (text_of told [] output.Trace)))
+  goes-on output.Counters = ([], refl)
+
+  pub left-on : (q : ℕ) → left_at q told.left ++ left_at q (all_left n.log.left) ≡ left_at q done.left
+  left-on q = sym (left_at-append q told.left (all_left n.log.left)) ∙ ap (left_at q) (sym more.left)
+
+  pub counted-as : (plan : Planned) (c : Counted) → IsCounted plan c (told.events ++ n.log.events) (told.passed ++ n.log.passed) (told.left ++ all_left n.log.left) → IsCounted plan c done.events done.passed done.left
+  counted-as plan c is =
+      subst (λ (es : List Event). IsCounted plan c es done.passed done.left) (sym more.events)
+      (subst (λ (ps : List Bool). IsCounted plan c (told.events ++ n.log.events) ps done.left) (sym more.passed)
+      (subst (λ (xs : List Leaving). IsCounted plan c (told.events ++ n.log.events) (told.passed ++ n.log.passed) xs) (sym more.left) is))
+
+-- with its counters
+pub goes-counts : (done : Stepped) (counts : List ℕ) (o : Output) → GoesOnAs (text_of done []) (text_of done counts) o
+goes-counts done counts (output.Capture q) = ([], sym (append-nil (text_of done counts (output.Capture q))))
+goes-counts done counts output.Journal = ([], sym (append-nil (text_of done counts output.Journal)))
+goes-counts done counts output.Trace = ([], sym (append-nil (text_of done counts output.Trace)))
+goes-counts done counts output.Counters = (counts, refl)
+
+pub goes-same : (done : Stepped) (o : Output) → GoesOnAs (text_of done []) (text_of done []) o
+goes-same done o = ([], sym (append-nil (text_of done [] o)))

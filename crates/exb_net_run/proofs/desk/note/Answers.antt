@@ -1,0 +1,67 @@
+use Rattle.std.proofs.Common.{◌≡◌, Bool, ℕ, List, [], length, ap, sym, subst, ◌∙◌}
+use Rattle.std.proofs.lemmas.Result.{err_from_is_err_and}
+use Rattle.exb_model.specs.declared.event.Event.{Event}
+use Rattle.exb_model.specs.Texts.{with_left}
+use Rattle.exb_network.specs.declared.log.Left.{Left}
+use Rattle.exb_resting.specs.Flight.Showing.{left_at}
+use Rattle.exb_schedule.specs.Worlds.{network_of}
+use Rattle.exb_outputs.specs.Writing.{pieces_of}
+use Rattle.exb_outputs.proofs.Cutting.{cut_same}
+use Rattle.exb_outputs.proofs.OutputLemmas.{kinds_same}
+use Rattle.exb_outputs.proofs.Sizes.{sent_as}
+use Rattle.exb_text.specs.Tallies.{counts_of}
+use Rattle.exb_writers.proofs.Counting.{count_events}
+use Rattle.exb_writers.specs.Counts.{CanCount, CountsOn}
+use Rattle.exb_writers.specs.Leaving.{sent_with}
+use Rattle.exb_writers.proofs.PortCounts.{counted-on}
+use Rattle.exb_net_run.specs.Desks.{text_of}
+use Rattle.exb_net_run.proofs.Noting.{counted-as, fronts_cut, goes-on, left-on, own_texts, text-on}
+use Rattle.exb_net_run.proofs.desk.note.Goals as goal
+
+pub note-requires : goal.note-requires
+note-requires g c =
+    let n = network_of c.args.world.now in
+    let counted = c.args.desk.now.counted in
+    subst (λ (es : List Event). CanCount counted es c.passed.result.now (length c.left.result.now)) (sym c.events.ensures)
+    (subst (λ (bs : List Bool). CanCount counted n.log.events bs (length c.left.result.now)) (sym c.passed.ensures)
+    (subst (λ (xs : List Left). CanCount counted n.log.events n.log.passed (length xs)) (sym c.left.ensures) c.requires.can.can))
+
+pub returns-clause-noted : goal.returns-clause-noted
+returns-clause-noted g c told done together more is =
+    let desk = c.args.desk.now in
+    let plan = desk.plan in
+    let n = network_of c.args.world.now in
+    let old = g.S.Shelf.file c.args.shelf.now in
+    let new = g.S.Shelf.file c.write_new.new.shelf in
+    let outputs = c.write_new.new.outputs in
+    let counts = counts_of desk.counted.tally in
+    let tally : counts_of c.note.new.self.tally ≡ with_left (length n.log.left) (count_events counts n.log.events) =
+    c.note.ensures.tally
+    ∙ ap (λ (es : List Event). with_left (length c.left.result.now) (count_events counts es)) c.events.ensures
+    ∙ ap (λ (xs : List Left). with_left (length xs) (count_events counts n.log.events)) c.left.ensures in
+    let ports : CountsOn desk.counted.ports c.note.new.self.ports n.log.events n.log.passed =
+    subst (λ (bs : List Bool). CountsOn desk.counted.ports c.note.new.self.ports n.log.events bs) c.passed.ensures
+    (subst (λ (es : List Event). CountsOn desk.counted.ports c.note.new.self.ports es c.passed.result.now) c.events.ensures c.note.ensures.ports) in
+    record {
+      counted = counted-as told done n more plan c.note.new.self
+          (counted-on plan desk.counted c.note.new.self told.events n.log.events told.passed n.log.passed told.left n.log.left tally ports together is.counted);
+      texts = λ t.
+          own_texts plan (pieces_of outputs) old new (text_of done [])
+          (kinds_same plan old new (pieces_of outputs) _ (text_of done []) (text-on told done n more) (c.in_ok-write_new.ensures.texts t old (text_of told []) (is.texts t)));
+      sent = sent_as plan outputs (sent_with (λ q. left_at q told.left) n.log.left) (λ q. left_at q done.left) (left-on told done n more) (c.in_ok-write_new.ensures.sent (λ q. left_at q told.left) is.sent);
+    }
+
+pub returns-in_err-write_new-clause-cut : goal.returns-in_err-write_new-clause-cut
+returns-in_err-write_new-clause-cut g c = λ t.
+    let e = err_from_is_err_and c.from_residual.result c.from_residual.ensures.1 in
+    rw e.1
+    (λ told done more is.
+    let plan = c.args.desk.now.plan in
+    let old = g.S.Shelf.file c.args.shelf.now in
+    let new = g.S.Shelf.file c.write_new.new.shelf in
+    let n = network_of c.args.world.now in
+    record {
+      counts = [];
+      each = fronts_cut plan (pieces_of c.args.desk.now.outputs) old new (text_of told []) (text_of done []) (goes-on told done n more) (is.texts t)
+          (cut_same plan old new _ (text_of done []) (text-on told done n more) (c.in_err-write_new.ensures.cut t old (text_of told []) (is.texts t)));
+    })

@@ -1,0 +1,9 @@
+pub mod Nets
+pub mod Summing
+pub mod Outputs
+pub mod Headline
+pub mod Answers
+pub mod Opening
+pub mod Desks
+pub mod UnderWay
+pub mod Shelving

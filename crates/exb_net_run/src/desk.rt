@@ -1,0 +1,150 @@
+//! What one bridge of a net writes and counts.
+ghost use Rattle.std.specs.Prelude.{◌≡◌, ◌∷◌, ℕ, List, [], All, IfErr, OnErr, OnOk};
+ghost use Rattle.exb_machine.specs.Stepping.{Stepped};
+ghost use Rattle.exb_model.specs.FlatBridge.{Sent};
+ghost use Rattle.exb_shelf.specs.Files.{Files};
+ghost use Rattle.exb_schedule.specs.Worlds.{network_of};
+ghost use Rattle.exb_text.specs.declared.output.Output.{Output};
+ghost use Rattle.exb_text.specs.declared.output.Output.TheVariants as output;
+ghost use Rattle.exb_text.specs.Tallies.{FitsTally, counts_of};
+ghost use Rattle.exb_inputs.specs.Shelving.{CountsFaults};
+ghost use Rattle.exb_outputs.specs.Sent.{AreCountedAt, HasSent};
+ghost use Rattle.exb_outputs.specs.Shelving.{IsOfWriting, OnlyWrites};
+ghost use Rattle.exb_outputs.specs.Writing.{AreCut, HasTexts, IsReady, lines_of, pieces_of, with_more};
+ghost use Rattle.exb_writers.specs.Counts.{AreCountsOf, GoTogether, counts_text};
+ghost use Rattle.exb_writers.specs.Leaving.{CanBeWritten, sent_with, with_left_frames};
+ghost use Rattle.exb_net_run.specs.Desks.{AreFronts, CanNote, IsMore, IsNoted, IsWhole, text_of};
+ghost use Rattle.exb_net_run.specs.Summing.{added};
+
+use exb_inputs::Fault;
+use exb_outputs::{Outputs, Plan};
+use exb_schedule::World;
+use exb_shelf::Shelf;
+use exb_text::Tally;
+use exb_writers::{Counted, write_left};
+
+/// Room for a line of a journal and for one of counters.
+#[derive(Drop)]
+pub(crate) struct Room {
+    pub(crate) line: String,
+    pub(crate) text: Vec<u8>,
+}
+
+/// The files of a bridge, and what is counted of it.
+#[derive(Drop)]
+pub(crate) struct Desk {
+    pub(crate) plan: Plan,
+    pub(crate) outputs: Outputs,
+    pub(crate) counted: Counted,
+}
+
+/// Writes what a bridge told, and what left it, since its world was cleared.
+fn write_new<S: Shelf>(
+    shelf: &mut S,
+    room: &mut Room,
+    plan: &Plan,
+    outputs: &mut Outputs,
+    world: &World,
+) -> Result<(), Fault>
+    requires ready { IsReady plan.now (S.ids shelf.old) outputs.old }
+    requires frames { All (λ x. CanBeWritten plan.now x) (network_of world.now).log.left }
+    ensures ready { IsReady plan.now (S.ids shelf.new) outputs.new }
+    ensures texts { S.tells → OnOk result ((orig : Files) (text : Output → List ℕ) → HasTexts plan.now (pieces_of outputs.old) orig (S.file shelf.old) text
+        → HasTexts plan.now (pieces_of outputs.new) orig (S.file shelf.new)
+        (with_left_frames (with_more text output.Journal (lines_of (network_of world.now).log.events)) (network_of world.now).log.left)) }
+    ensures cut { S.tells → OnErr result ((orig : Files) (text : Output → List ℕ) → HasTexts plan.now (pieces_of outputs.old) orig (S.file shelf.old) text
+        → AreCut plan.now orig (S.file shelf.new)
+        (with_left_frames (with_more text output.Journal (lines_of (network_of world.now).log.events)) (network_of world.now).log.left)) }
+    ensures sent { OnOk result ((sent : ℕ → List Sent) → HasSent plan.now outputs.old sent → HasSent plan.now outputs.new (sent_with sent (network_of world.now).log.left)) }
+    ensures only { OnlyWrites S.tells plan.now (S.file shelf.old) (S.file shelf.new) (S.ids shelf.old) (S.ids shelf.new) }
+    ensures causes { IfErr result IsOfWriting }
+    ensures faults { CountsFaults result (S.faults shelf.old) (S.faults shelf.new) }
+{
+    outputs.write_events(shelf, plan, &mut room.line, world.events())?;
+    write_left(shelf, plan, outputs, world.left())
+}
+
+/// Writes and counts what a bridge told, and what left it, since its world was cleared.
+pub(crate) fn note<S: Shelf>(
+    shelf: &mut S,
+    room: &mut Room,
+    desk: &mut Desk,
+    world: &World,
+) -> Result<(), Fault>
+    requires ready { IsReady desk.old.plan (S.ids shelf.old) desk.old.outputs }
+    requires can { CanNote desk.old.plan desk.old.counted (network_of world.now) }
+    ensures plan { desk.new.plan ≡ desk.old.plan }
+    ensures ready { IsReady desk.new.plan (S.ids shelf.new) desk.new.outputs }
+    ensures noted { OnOk result ((told done : Stepped) → GoTogether told.events told.passed → IsMore told done (network_of world.now)
+        → IsNoted S.tells (S.file shelf.old) desk.old told → IsNoted S.tells (S.file shelf.new) desk.new done) }
+    ensures cut { S.tells → OnErr result ((told done : Stepped) → IsMore told done (network_of world.now)
+        → IsNoted S.tells (S.file shelf.old) desk.old told → AreFronts desk.old.plan (S.file shelf.new) done) }
+    ensures only { OnlyWrites S.tells desk.old.plan (S.file shelf.old) (S.file shelf.new) (S.ids shelf.old) (S.ids shelf.new) }
+    ensures causes { IfErr result IsOfWriting }
+    ensures faults { CountsFaults result (S.faults shelf.old) (S.faults shelf.new) }
+{
+    write_new(shelf, room, &desk.plan, &mut desk.outputs, world)?;
+    desk.counted
+        .note(world.events(), world.passed(), world.left().len());
+    Ok(())
+}
+
+/// Writes the counters of a bridge, where they are asked for.
+fn write_counts<S: Shelf>(
+    shelf: &mut S,
+    room: &mut Room,
+    plan: &Plan,
+    outputs: &mut Outputs,
+    counted: &Counted,
+) -> Result<(), Fault>
+    requires ready { IsReady plan.now (S.ids shelf.old) outputs.old }
+    requires counted { AreCountsOf plan.now counted.now.ports }
+    requires sent { AreCountedAt plan.now outputs.old }
+    ensures ready { IsReady plan.now (S.ids shelf.new) outputs.new }
+    ensures texts { S.tells → OnOk result ((orig : Files) (text : Output → List ℕ) → HasTexts plan.now (pieces_of outputs.old) orig (S.file shelf.old) text
+        → HasTexts plan.now (pieces_of outputs.new) orig (S.file shelf.new) (with_more text output.Counters (counts_text plan.now counted.now.ports outputs.old))) }
+    ensures cut { S.tells → OnErr result ((orig : Files) (text : Output → List ℕ) → HasTexts plan.now (pieces_of outputs.old) orig (S.file shelf.old) text
+        → AreCut plan.now orig (S.file shelf.new) (with_more text output.Counters (counts_text plan.now counted.now.ports outputs.old))) }
+    ensures only { OnlyWrites S.tells plan.now (S.file shelf.old) (S.file shelf.new) (S.ids shelf.old) (S.ids shelf.new) }
+    ensures causes { IfErr result IsOfWriting }
+    ensures faults { CountsFaults result (S.faults shelf.old) (S.faults shelf.new) }
+{
+    match &counted.ports {
+        Some(counters) => outputs.write_counters(shelf, plan, &mut room.text, counters),
+        None => Ok(()),
+    }
+}
+
+/// Writes the counters of a bridge, where they are asked for, and all that isn't written yet.
+pub(crate) fn finish<S: Shelf>(
+    shelf: &mut S,
+    room: &mut Room,
+    desk: &mut Desk,
+) -> Result<(), Fault>
+    requires ready { IsReady desk.old.plan (S.ids shelf.old) desk.old.outputs }
+    requires counted { AreCountsOf desk.old.plan desk.old.counted.ports }
+    requires sent { AreCountedAt desk.old.plan desk.old.outputs }
+    ensures plan { desk.new.plan ≡ desk.old.plan }
+    ensures counted { desk.new.counted ≡ desk.old.counted }
+    ensures texts { S.tells → OnOk result ((done : Stepped) → IsNoted S.tells (S.file shelf.old) desk.old done
+        → IsWhole desk.old.plan (S.file shelf.new) (text_of done (counts_text desk.old.plan desk.old.counted.ports desk.old.outputs))) }
+    ensures cut { S.tells → OnErr result ((done : Stepped) → IsNoted S.tells (S.file shelf.old) desk.old done → AreFronts desk.old.plan (S.file shelf.new) done) }
+    ensures only { OnlyWrites S.tells desk.old.plan (S.file shelf.old) (S.file shelf.new) (S.ids shelf.old) (S.ids shelf.new) }
+    ensures causes { IfErr result IsOfWriting }
+    ensures faults { CountsFaults result (S.faults shelf.old) (S.faults shelf.new) }
+{
+    write_counts(shelf, room, &desk.plan, &mut desk.outputs, &desk.counted)?;
+    desk.outputs.finish(shelf, &desk.plan)
+}
+
+/// Adds what one bridge counted to what those before it did.
+pub(crate) fn add(total: &mut Tally, tally: &Tally)
+    requires { FitsTally (added (counts_of total.old ∷ counts_of tally.now ∷ [])) }
+    ensures { counts_of total.new ≡ added (counts_of total.old ∷ counts_of tally.now ∷ []) }
+{
+    total.relayed += tally.relayed;
+    total.ignored += tally.ignored;
+    total.left += tally.left;
+    total.commits += tally.commits;
+    total.refusals += tally.refusals;
+}

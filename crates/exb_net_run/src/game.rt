@@ -1,0 +1,369 @@
+//! A net under way: its bridges, what is written of them, and what is counted.
+ghost use Rattle.std.specs.Prelude.{◌≡◌, ◌+◌, ◌<◌, ◌≤◌, ◌^◌, ℕ, List, [], Some, None, All, length, map, slice_get, IfErr, IfNone, IfOk, IfSome, IsErrOf, OnErr, OnOk, string_bytes};
+ghost use Rattle.exb_model.specs.Input.{seconds_after};
+ghost use Rattle.exb_model.specs.Texts.{summary_line};
+ghost use Rattle.exb_machine.specs.Stepping.{Stepped};
+ghost use Rattle.exb_merge.specs.Arrivals.{arrival_with};
+ghost use Rattle.exb_merge.specs.NetAgendas.{AreAllReplays, ComesTo, IsAgenda, IsFirstOf, all_ids, all_to_play, dues_left, programmes_in};
+ghost use Rattle.exb_merge.specs.declared.programme.Programme.{Programme};
+ghost use Rattle.exb_merge.specs.Streams.{Stream};
+ghost use Rattle.exb_nets.specs.Nets.{Net as Wired};
+ghost use Rattle.exb_wiring.specs.Playing.{Dones};
+ghost use Rattle.exb_net.specs.Lists.{AreEach};
+ghost use Rattle.exb_net.specs.Nets.{Handled, IsPlaying, Opens};
+ghost use Rattle.exb_schedule.specs.Playing.{arrived};
+ghost use Rattle.exb_schedule.specs.Worlds.{fate_in};
+ghost use Rattle.exb_text.specs.Tallies.{FitsTally, counts_of};
+ghost use Rattle.exb_inputs.specs.Shelving.{CountsFaults, OnlyReads};
+ghost use Rattle.exb_outputs.specs.Shelving.{IsOfWriting};
+ghost use Rattle.exb_writers.specs.Counts.{IsSummary};
+ghost use Rattle.exb_net_run.specs.Answers.{IsOfNetPlay};
+ghost use Rattle.exb_net_run.specs.Desks.{AllGoTogether, AreAllFronts, AreMore, AreNoted, ArePlansApart, AreReady, CanEndAll, CanNoteAll, OnlyWritesAll, AreWhole, plans_in, tallies_in};
+ghost use Rattle.exb_net_run.specs.Shelving.{AreOthersAll, IsNetChange, IsOfCaptures, OnlyGoesOnAll};
+ghost use Rattle.exb_net_run.specs.Summing.{added};
+ghost use Rattle.exb_net_run.specs.UnderWay.{AreOfRests, CanBegin, CanGive, HasWritten, IsAllTold, IsCutOff, IsDue, IsGoing, IsPaid, IsWithin, NetRun, came_by, letters_at};
+
+use crate::desk::{Desk, Room, add, finish, note};
+use exb_inputs::Fault;
+use exb_machine::laws::steps_tell_passed;
+use exb_merge::{Agenda, Came, CaptureFault, NetNext, Next};
+use exb_net::Net;
+use exb_net_file::NetRest;
+use exb_net_inputs::of_member;
+use exb_schedule::{Arrival, WorldFault};
+use exb_shelf::Shelf;
+use exb_text::Tally;
+use exb_wiring::laws::{
+    counts_go_on, events_add_one, nets_are_played_eagerly, opened_nets_are_new, opened_nets_run,
+    seconds_pass,
+};
+use std::alloc::Global;
+
+/// A second in nanoseconds.
+const NANOSECONDS: u64 = 1_000_000_000;
+
+/// A net, and the desk of each of its bridges.
+#[derive(Drop)]
+pub(crate) struct NetGame {
+    pub(crate) net: Net,
+    pub(crate) desks: Vec<Desk>,
+    pub(crate) room: Room,
+}
+
+/// A record that came, as an arrival.
+fn arrival(came: Came) -> Arrival
+    ensures { arrived result ≡ arrival_with came }
+{
+    Arrival {
+        port: came.port,
+        index: came.index,
+        moment: came.moment,
+        bytes: came.bytes,
+    }
+}
+
+/// The seconds from what came before to what comes at `second`, 0 for what comes first.
+fn seconds_since(last: Option<u64>, second: u64) -> u32
+    requires { seconds_after last second < 2 ^ 32 }
+    ensures { result ≡ seconds_after last second }
+{
+    match last {
+        None => 0,
+        Some(last) => second.saturating_sub(last) as u32,
+    }
+}
+
+/// Takes what comes next; None exactly where nothing is left. A capture of a bridge that is another one than the one that was checked is
+/// a fault of that bridge.
+fn next_due<S: Shelf>(
+    alloc: Global,
+    shelf: &mut S,
+    piece: &mut [u8],
+    rests: &[NetRest],
+    agenda: &mut Agenda<'_>,
+) -> Result<Option<NetNext>, Fault>
+    requires agenda { IsAgenda (S.ids shelf.old) agenda.old }
+    requires piece { 0 < length piece.old }
+    requires rests { length (programmes_in agenda.old) ≤ length rests.now }
+    ensures piece { length piece.new ≡ length piece.old }
+    ensures agenda { OnOk result (IsAgenda (S.ids shelf.new) agenda.new) }
+    ensures coming { IfOk result (λ due. IfSome due (λ d. ComesTo (programmes_in agenda.old) d (programmes_in agenda.new))) }
+    ensures order { S.tells → IfOk result (λ due. (streams : List (List Stream)) → AreAllReplays (S.file shelf.old) (S.ids shelf.old) (programmes_in agenda.old) streams
+        → IsFirstOf (programmes_in agenda.old) streams due (programmes_in agenda.new) (λ rest. AreAllReplays (S.file shelf.new) (S.ids shelf.new) (programmes_in agenda.new) rest)) }
+    ensures never { S.tells → IfErr result (λ fault. IsNetChange fault → AreOthersAll (S.file shelf.old) (S.ids shelf.old) (programmes_in agenda.old)) }
+    ensures ids { OnOk result (all_ids (programmes_in agenda.new) ≡ all_ids (programmes_in agenda.old)) }
+    ensures reads { OnlyReads (all_ids (programmes_in agenda.old)) (S.file shelf.old) (S.file shelf.new) (S.ids shelf.old) (S.ids shelf.new) }
+    ensures changed { (name : List ℕ) (p at : ℕ) → IsErrOf result (Fault.MemberChanged name p at) → IsOfCaptures rests.now (programmes_in agenda.old) name p }
+    ensures causes { IfErr result IsOfNetPlay }
+    ensures faults { CountsFaults result (S.faults shelf.old) (S.faults shelf.new) }
+{
+    match agenda.next(alloc, shelf, piece) {
+        Ok(due) => Ok(due),
+        Err(failure) => match failure.fault {
+            CaptureFault::Changed { port, at } => {
+                let name = rests[failure.bridge as usize].name.as_str();
+                Err(of_member(alloc, name, Fault::Changed { port, at }))
+            }
+            CaptureFault::Read => Err(Fault::Read),
+            CaptureFault::Memory => Err(Fault::Memory),
+        },
+    }
+}
+
+/// Gives what comes to its bridge, and plays what follows.
+fn give(net: &mut Net, rests: &[NetRest], due: NetNext) -> Result<(), WorldFault>
+    requires can { (n : Wired) × ((s : Dones) × ((told : Dones) × CanGive n s told rests.now due net.old)) }
+    requires fates { All (λ x. left (fate_in x.world) < 2 ^ 57) net.old.nodes.items }
+    requires pays { (x : _) → slice_get net.old.nodes.items due.bridge ≡ Some x → left (fate_in x.world) + letters_at rests.now due due.bridge < 2 ^ 57 }
+    ensures ok { OnOk result ((n : Wired) (s told : Dones) (can : CanGive n s told rests.now due net.old) → Handled n due.bridge can.step s told net.new) }
+    ensures came { OnOk result (net.new.came ≡ net.old.came + came_by due.next) }
+    ensures fates { OnOk result (AreEach (λ b x y. left (fate_in y.world) ≤ left (fate_in x.world) + letters_at rests.now due b) net.old.nodes.items net.new.nodes.items) }
+{
+    let bridge = due.bridge;
+    match due.next {
+        Next::Record(came) => net.arrive(bridge, &arrival(came)),
+        Next::Command { number, .. } => {
+            let commands = rests[bridge as usize].commands.as_slice();
+            net.command(bridge, &commands[number as usize - 1])
+        }
+    }
+}
+
+/// Writes and counts what all bridges told, and what left them, since they were cleared.
+fn note_all<S: Shelf>(
+    shelf: &mut S,
+    room: &mut Room,
+    desks: &mut Vec<Desk>,
+    net: &Net,
+) -> Result<(), Fault>
+    requires ready { AreReady (S.ids shelf.old) desks.old.items }
+    requires apart { ArePlansApart (plans_in desks.old.items) }
+    requires can { CanNoteAll desks.old.items net.now.nodes.items }
+    ensures plans { plans_in desks.new.items ≡ plans_in desks.old.items }
+    ensures ready { AreReady (S.ids shelf.new) desks.new.items }
+    ensures noted { OnOk result ((told dones : Dones) → AllGoTogether told net.now.nodes.items → AreMore told dones net.now.nodes.items
+        → AreNoted S.tells (S.file shelf.old) desks.old.items told → AreNoted S.tells (S.file shelf.new) desks.new.items dones) }
+    ensures cut { S.tells → OnErr result ((told dones : Dones) → AllGoTogether told net.now.nodes.items → AreMore told dones net.now.nodes.items
+        → AreNoted S.tells (S.file shelf.old) desks.old.items told → AreAllFronts (plans_in desks.old.items) (S.file shelf.new) dones) }
+    ensures only { OnlyWritesAll S.tells (plans_in desks.old.items) (S.file shelf.old) (S.file shelf.new) (S.ids shelf.old) (S.ids shelf.new) }
+    ensures causes { IfErr result IsOfWriting }
+    ensures faults { CountsFaults result (S.faults shelf.old) (S.faults shelf.new) }
+{
+    for bridge in 0..desks.len() {
+        note(shelf, room, &mut desks[bridge], net.world(bridge as u8))?;
+    }
+    Ok(())
+}
+
+/// Writes what is still to be written of all bridges.
+fn finish_all<S: Shelf>(
+    shelf: &mut S,
+    room: &mut Room,
+    desks: &mut Vec<Desk>,
+) -> Result<(), Fault>
+    requires ready { AreReady (S.ids shelf.old) desks.old.items }
+    requires apart { ArePlansApart (plans_in desks.old.items) }
+    requires can { CanEndAll desks.old.items }
+    ensures plans { plans_in desks.new.items ≡ plans_in desks.old.items }
+    ensures tallies { tallies_in desks.new.items ≡ tallies_in desks.old.items }
+    ensures texts { S.tells → OnOk result ((dones : Dones) → AreNoted S.tells (S.file shelf.old) desks.old.items dones → AreWhole desks.old.items (S.file shelf.new) dones) }
+    ensures cut { S.tells → OnErr result ((dones : Dones) → AreNoted S.tells (S.file shelf.old) desks.old.items dones → AreAllFronts (plans_in desks.old.items) (S.file shelf.new) dones) }
+    ensures only { OnlyWritesAll S.tells (plans_in desks.old.items) (S.file shelf.old) (S.file shelf.new) (S.ids shelf.old) (S.ids shelf.new) }
+    ensures causes { IfErr result IsOfWriting }
+    ensures faults { CountsFaults result (S.faults shelf.old) (S.faults shelf.new) }
+{
+    for bridge in 0..desks.len() {
+        finish(shelf, room, &mut desks[bridge])?;
+    }
+    Ok(())
+}
+
+/// What all bridges counted together.
+fn count_all(desks: &[Desk]) -> Tally
+    requires { FitsTally (added (tallies_in desks.now)) }
+    ensures { counts_of result ≡ added (tallies_in desks.now) }
+{
+    let mut total = Tally::new();
+    for desk in desks {
+        add(&mut total, &desk.counted.tally);
+    }
+    total
+}
+
+impl NetGame {
+    /// Writes and counts what happened since all bridges were cleared, and clears them.
+    fn note<S: Shelf>(&mut self, shelf: &mut S) -> Result<(), Fault>
+        requires ready { AreReady (S.ids shelf.old) self.old.desks.items }
+        requires apart { ArePlansApart (plans_in self.old.desks.items) }
+        requires can { CanNoteAll self.old.desks.items self.old.net.nodes.items }
+        ensures plans { plans_in self.new.desks.items ≡ plans_in self.old.desks.items }
+        ensures ready { AreReady (S.ids shelf.new) self.new.desks.items }
+        ensures noted { OnOk result ((told dones : Dones) → AllGoTogether told self.old.net.nodes.items → AreMore told dones self.old.net.nodes.items
+            → AreNoted S.tells (S.file shelf.old) self.old.desks.items told → AreNoted S.tells (S.file shelf.new) self.new.desks.items dones) }
+        ensures cut { S.tells → OnErr result ((told dones : Dones) → AllGoTogether told self.old.net.nodes.items → AreMore told dones self.old.net.nodes.items
+            → AreNoted S.tells (S.file shelf.old) self.old.desks.items told → AreAllFronts (plans_in self.old.desks.items) (S.file shelf.new) dones) }
+        ensures playing { OnOk result ((n : Wired) (s told : Dones) → IsPlaying n s told self.old.net → IsPlaying n s s self.new.net) }
+        ensures came { OnOk result (self.new.net.came ≡ self.old.net.came) }
+        ensures fates { OnOk result (AreEach (λ b x y. left (fate_in y.world) ≤ left (fate_in x.world)) self.old.net.nodes.items self.new.net.nodes.items) }
+        ensures only { OnlyWritesAll S.tells (plans_in self.old.desks.items) (S.file shelf.old) (S.file shelf.new) (S.ids shelf.old) (S.ids shelf.new) }
+        ensures causes { IfErr result IsOfWriting }
+        ensures faults { CountsFaults result (S.faults shelf.old) (S.faults shelf.new) }
+    {
+        note_all(shelf, &mut self.room, &mut self.desks, &self.net)?;
+        self.net.clear();
+        Ok(())
+    }
+
+    /// Lets seconds pass, plays what comes then, and writes and counts what happens.
+    fn turn<S: Shelf>(
+        &mut self,
+        shelf: &mut S,
+        rests: &[NetRest],
+        seconds: u32,
+        due: NetNext,
+    ) -> Result<(), Fault>
+        requires due { (r : NetRun) × ((second : ℕ) × ((ps : List Programme) × (IsDue S.tells r (S.file shelf.old) (S.ids shelf.old) seconds second self.old due ps × (AreOfRests rests.now ps × IsPaid self.old.net.nodes.items (λ x. left (fate_in x.world)) rests.now due ps)))) }
+        ensures plans { plans_in self.new.desks.items ≡ plans_in self.old.desks.items }
+        ensures told { OnOk result ((r : NetRun) (second : ℕ) (ps : List Programme) → IsDue S.tells r (S.file shelf.old) (S.ids shelf.old) seconds second self.old due ps → AreOfRests rests.now ps
+            → IsGoing S.tells r (S.file shelf.new) (S.ids shelf.new) (Some second) self.new ps) }
+        ensures budget { OnOk result ((ps : List Programme) → IsPaid self.old.net.nodes.items (λ x. left (fate_in x.world)) rests.now due ps → IsWithin self.new.net.nodes.items (λ x. left (fate_in x.world)) ps) }
+        ensures cut { S.tells → OnErr result ((r : NetRun) (second : ℕ) (ps : List Programme) → IsDue S.tells r (S.file shelf.old) (S.ids shelf.old) seconds second self.old due ps → AreOfRests rests.now ps
+            → IsCutOff r (S.file shelf.new)) }
+        ensures only { OnlyWritesAll S.tells (plans_in self.old.desks.items) (S.file shelf.old) (S.file shelf.new) (S.ids shelf.old) (S.ids shelf.new) }
+        ensures causes { IfErr result IsOfWriting }
+        ensures faults { CountsFaults result (S.faults shelf.old) (S.faults shelf.new) }
+    {
+        events_add_one();
+        steps_tell_passed();
+        seconds_pass();
+        if self.net.tick(seconds).is_err() {
+            return Err(Fault::Memory);
+        }
+        if give(&mut self.net, rests, due).is_err() {
+            return Err(Fault::Memory);
+        }
+        self.note(shelf)
+    }
+
+    /// Plays all that comes, one event after another.
+    fn play_all<S: Shelf>(
+        &mut self,
+        alloc: Global,
+        shelf: &mut S,
+        piece: &mut [u8],
+        rests: &[NetRest],
+        agenda: &mut Agenda<'_>,
+    ) -> Result<(), Fault>
+        requires agenda { IsAgenda (S.ids shelf.old) agenda.old }
+        requires piece { 0 < length piece.old }
+        requires rests { AreOfRests rests.now (programmes_in agenda.old) }
+        requires going { (r : NetRun) × IsGoing S.tells r (S.file shelf.old) (S.ids shelf.old) None self.old (programmes_in agenda.old) }
+        requires budget { IsWithin self.old.net.nodes.items (λ x. left (fate_in x.world)) (programmes_in agenda.old) }
+        ensures plans { plans_in self.new.desks.items ≡ plans_in self.old.desks.items }
+        ensures ready { OnOk result (AreReady (S.ids shelf.new) self.new.desks.items) }
+        ensures can { OnOk result (CanEndAll self.new.desks.items) }
+        ensures told { S.tells → OnOk result ((r : NetRun) → IsGoing S.tells r (S.file shelf.old) (S.ids shelf.old) None self.old (programmes_in agenda.old)
+            → IsAllTold S.tells r (S.file shelf.new) (S.ids shelf.new) self.new) }
+        ensures cut { S.tells → OnErr result ((r : NetRun) → IsGoing S.tells r (S.file shelf.old) (S.ids shelf.old) None self.old (programmes_in agenda.old)
+            → IsCutOff r (S.file shelf.new)) }
+        ensures never { S.tells → IfErr result (λ fault. IsNetChange fault → (r : NetRun)
+            → IsGoing S.tells r (S.file shelf.old) (S.ids shelf.old) None self.old (programmes_in agenda.old) → ⊥) }
+        ensures only { OnlyGoesOnAll S.tells (plans_in self.old.desks.items) (all_ids (programmes_in agenda.old)) (S.file shelf.old) (S.file shelf.new) (S.ids shelf.old) (S.ids shelf.new) }
+        ensures changed { (name : List ℕ) (p at : ℕ) → IsErrOf result (Fault.MemberChanged name p at) → IsOfCaptures rests.now (programmes_in agenda.old) name p }
+        ensures causes { IfErr result IsOfNetPlay }
+        ensures faults { CountsFaults result (S.faults shelf.old) (S.faults shelf.new) }
+    {
+        let mut last: Option<u64> = None;
+        'events: while let Some(due) = next_due(alloc, shelf, piece, rests, agenda)? {
+            let second = due.next.moment() / NANOSECONDS;
+            let seconds = seconds_since(last, second);
+            self.turn(shelf, rests, seconds, due)?;
+            last = Some(second);
+        }
+        Ok(())
+    }
+
+    /// Writes what is still to be written, and answers the summary line.
+    fn end<S: Shelf>(&mut self, alloc: Global, shelf: &mut S) -> Result<String, Fault>
+        requires ready { AreReady (S.ids shelf.old) self.old.desks.items }
+        requires apart { ArePlansApart (plans_in self.old.desks.items) }
+        requires can { CanEndAll self.old.desks.items }
+        ensures texts { S.tells → OnOk result ((dones : Dones) → AreNoted S.tells (S.file shelf.old) self.old.desks.items dones → AreWhole self.old.desks.items (S.file shelf.new) dones) }
+        ensures cut { S.tells → OnErr result ((dones : Dones) → AreNoted S.tells (S.file shelf.old) self.old.desks.items dones → AreAllFronts (plans_in self.old.desks.items) (S.file shelf.new) dones) }
+        ensures line { IfOk result (λ line. string_bytes line ≡ summary_line (added (tallies_in self.old.desks.items))) }
+        ensures only { OnlyWritesAll S.tells (plans_in self.old.desks.items) (S.file shelf.old) (S.file shelf.new) (S.ids shelf.old) (S.ids shelf.new) }
+        ensures causes { IfErr result IsOfWriting }
+        ensures faults { CountsFaults result (S.faults shelf.old) (S.faults shelf.new) }
+    {
+        finish_all(shelf, &mut self.room, &mut self.desks)?;
+        Ok(count_all(self.desks.as_slice()).line(alloc)?)
+    }
+
+    /// Plays all that comes, writes what is still to be written, and answers the summary line.
+    fn play_on<S: Shelf>(
+        &mut self,
+        alloc: Global,
+        shelf: &mut S,
+        piece: &mut [u8],
+        rests: &[NetRest],
+        agenda: &mut Agenda<'_>,
+    ) -> Result<String, Fault>
+        requires agenda { IsAgenda (S.ids shelf.old) agenda.old }
+        requires piece { 0 < length piece.old }
+        requires rests { AreOfRests rests.now (programmes_in agenda.old) }
+        requires going { (r : NetRun) × IsGoing S.tells r (S.file shelf.old) (S.ids shelf.old) None self.old (programmes_in agenda.old) }
+        requires budget { IsWithin self.old.net.nodes.items (λ x. left (fate_in x.world)) (programmes_in agenda.old) }
+        ensures done { S.tells → IfOk result (λ line. (r : NetRun) → IsGoing S.tells r (S.file shelf.old) (S.ids shelf.old) None self.old (programmes_in agenda.old)
+            → HasWritten r (S.file shelf.new) (string_bytes line)) }
+        ensures says { IfOk result (λ line. IsSummary (string_bytes line)) }
+        ensures cut { S.tells → OnErr result ((r : NetRun) → IsGoing S.tells r (S.file shelf.old) (S.ids shelf.old) None self.old (programmes_in agenda.old)
+            → IsCutOff r (S.file shelf.new)) }
+        ensures never { S.tells → IfErr result (λ fault. IsNetChange fault → (r : NetRun)
+            → IsGoing S.tells r (S.file shelf.old) (S.ids shelf.old) None self.old (programmes_in agenda.old) → ⊥) }
+        ensures only { OnlyGoesOnAll S.tells (plans_in self.old.desks.items) (all_ids (programmes_in agenda.old)) (S.file shelf.old) (S.file shelf.new) (S.ids shelf.old) (S.ids shelf.new) }
+        ensures changed { (name : List ℕ) (p at : ℕ) → IsErrOf result (Fault.MemberChanged name p at) → IsOfCaptures rests.now (programmes_in agenda.old) name p }
+        ensures causes { IfErr result IsOfNetPlay }
+        ensures faults { CountsFaults result (S.faults shelf.old) (S.faults shelf.new) }
+    {
+        nets_are_played_eagerly();
+        counts_go_on();
+        self.play_all(alloc, shelf, piece, rests, agenda)?;
+        self.end(alloc, shelf)
+    }
+
+    /// Opens the bridges, plays all that comes, and answers the summary line.
+    pub(crate) fn play<S: Shelf>(
+        &mut self,
+        alloc: Global,
+        shelf: &mut S,
+        piece: &mut [u8],
+        rests: &[NetRest],
+        agenda: &mut Agenda<'_>,
+    ) -> Result<String, Fault>
+        requires agenda { IsAgenda (S.ids shelf.old) agenda.old }
+        requires piece { 0 < length piece.old }
+        requires rests { AreOfRests rests.now (programmes_in agenda.old) }
+        requires begins { (r : NetRun) × CanBegin S.tells r (S.file shelf.old) (S.ids shelf.old) self.old (programmes_in agenda.old) }
+        requires budget { IsWithin self.old.net.nodes.items (λ x. left (fate_in x.world)) (programmes_in agenda.old) }
+        ensures done { S.tells → IfOk result (λ line. (r : NetRun) → CanBegin S.tells r (S.file shelf.old) (S.ids shelf.old) self.old (programmes_in agenda.old)
+            → HasWritten r (S.file shelf.new) (string_bytes line)) }
+        ensures says { IfOk result (λ line. IsSummary (string_bytes line)) }
+        ensures cut { S.tells → OnErr result ((r : NetRun) → CanBegin S.tells r (S.file shelf.old) (S.ids shelf.old) self.old (programmes_in agenda.old)
+            → IsCutOff r (S.file shelf.new)) }
+        ensures never { S.tells → IfErr result (λ fault. IsNetChange fault → (r : NetRun)
+            → CanBegin S.tells r (S.file shelf.old) (S.ids shelf.old) self.old (programmes_in agenda.old) → ⊥) }
+        ensures only { OnlyGoesOnAll S.tells (plans_in self.old.desks.items) (all_ids (programmes_in agenda.old)) (S.file shelf.old) (S.file shelf.new) (S.ids shelf.old) (S.ids shelf.new) }
+        ensures changed { (name : List ℕ) (p at : ℕ) → IsErrOf result (Fault.MemberChanged name p at) → IsOfCaptures rests.now (programmes_in agenda.old) name p }
+        ensures causes { IfErr result IsOfNetPlay }
+        ensures faults { CountsFaults result (S.faults shelf.old) (S.faults shelf.new) }
+    {
+        opened_nets_are_new();
+        opened_nets_run();
+        steps_tell_passed();
+        if self.net.open().is_err() {
+            return Err(Fault::Memory);
+        }
+        self.note(shelf)?;
+        self.play_on(alloc, shelf, piece, rests, agenda)
+    }
+}

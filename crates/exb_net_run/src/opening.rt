@@ -1,0 +1,137 @@
+//! What is made before the first event: the desk of each bridge, its captures opened again, and its fate.
+use crate::desk::Desk;
+use exb_fate::Fate;
+use exb_inputs::{Checked, Fault, earliest_in, open_all};
+use exb_merge::{Agenda, Programme};
+use exb_model::memory::NoMemory;
+use exb_model::setup::{Setup, Verdict};
+use exb_net_file::{NetParts, NetRest, prefix_of};
+use exb_net_inputs::of_member;
+use exb_outputs::{Plan, create_all};
+use exb_shelf::Shelf;
+use exb_words::Options;
+use exb_writers::Counted;
+use std::alloc::Global;
+
+/// What a bridge of this name writes.
+fn plan_of(alloc: Global, setup: &Setup, name: &str, counters: bool) -> Result<Plan, NoMemory> {
+    let prefix = prefix_of(alloc, name)?;
+    let options = Options {
+        trace: false,
+        counters,
+        seed: None,
+    };
+    Plan::new(alloc, setup, prefix.as_str(), options)
+}
+
+/// Makes the files of a bridge, and puts its desk behind those of the bridges before it.
+fn set_desk<S: Shelf>(
+    alloc: Global,
+    shelf: &mut S,
+    setup: &Setup,
+    name: &str,
+    counters: bool,
+    desks: &mut Vec<Desk>,
+) -> Result<(), Fault> {
+    let plan = plan_of(alloc, setup, name, counters)?;
+    let counted = Counted::new(alloc, setup, &plan)?;
+    let outputs = create_all(alloc, shelf, &plan)?;
+    let desk = Desk {
+        plan,
+        outputs,
+        counted,
+    };
+    if desks.push(desk).is_err() {
+        return Err(Fault::Memory);
+    }
+    Ok(())
+}
+
+/// Makes the files of all bridges, bridge after bridge.
+pub(crate) fn set_desks<S: Shelf>(
+    alloc: Global,
+    shelf: &mut S,
+    parts: &NetParts,
+    counters: bool,
+) -> Result<Vec<Desk>, Fault> {
+    let mut desks = Vec::new(alloc);
+    let setups = parts.setup.setups.as_slice();
+    let rests = parts.rests.as_slice();
+    for bridge in 0..rests.len() {
+        let name = rests[bridge].name.as_str();
+        set_desk(alloc, shelf, &setups[bridge], name, counters, &mut desks)?;
+    }
+    Ok(desks)
+}
+
+/// The second from which commands count: the least whole second of any first record of any bridge, or 0.
+fn start_of_all(checked: &[Vec<Checked>]) -> u64 {
+    let mut least = None;
+    for captures in checked {
+        least = earliest_in(least, captures.as_slice());
+    }
+    least.unwrap_or(0)
+}
+
+/// Opens the captures of a bridge again, and puts its programme behind those of the bridges before it.
+fn open_bridge<'a, S: Shelf>(
+    alloc: Global,
+    shelf: &mut S,
+    piece: &mut [u8],
+    rest: &'a NetRest,
+    checked: &[Checked],
+    start: u64,
+    agenda: &mut Agenda<'a>,
+) -> Result<(), Fault> {
+    match open_all(alloc, shelf, piece, rest.captures.as_slice(), checked) {
+        Ok(captures) => {
+            agenda.add(Programme::new(captures, rest.commands.as_slice(), start))?;
+            Ok(())
+        }
+        Err(fault) => Err(of_member(alloc, rest.name.as_str(), fault)),
+    }
+}
+
+/// Opens the captures of all bridges again, bridge after bridge.
+pub(crate) fn open_agenda<'a, S: Shelf>(
+    alloc: Global,
+    shelf: &mut S,
+    piece: &mut [u8],
+    rests: &'a [NetRest],
+    checked: &[Vec<Checked>],
+) -> Result<Agenda<'a>, Fault> {
+    let start = start_of_all(checked);
+    let mut agenda = Agenda::new(alloc);
+    for bridge in 0..rests.len() {
+        let captures = checked[bridge].as_slice();
+        open_bridge(alloc, shelf, piece, &rests[bridge], captures, start, &mut agenda)?;
+    }
+    Ok(agenda)
+}
+
+/// Arms a fate for the opening of its bridge, and puts it behind those of the bridges before it.
+fn arm_one(
+    fates: &mut Vec<Box<dyn Fate>>,
+    fate: Box<dyn Fate>,
+    plan: &[Verdict],
+) -> Result<(), NoMemory> {
+    let mut fate = fate;
+    fate.arm(plan)?;
+    fates.push(fate)?;
+    Ok(())
+}
+
+/// A fate for each bridge, armed for its opening: this one for the first, and the next of more for each other.
+pub(crate) fn arm_all(
+    alloc: Global,
+    rests: &[NetRest],
+    fate: Box<dyn Fate>,
+    more: &mut Vec<Box<dyn Fate>>,
+) -> Result<Vec<Box<dyn Fate>>, NoMemory> {
+    let mut fates = Vec::new(alloc);
+    arm_one(&mut fates, fate, rests[0].fate.as_slice())?;
+    for bridge in 1..rests.len() {
+        arm_one(&mut fates, more.remove(0), rests[bridge].fate.as_slice())?;
+    }
+    Ok(fates)
+}
