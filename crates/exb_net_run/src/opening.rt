@@ -104,15 +104,7 @@ pub(crate) fn open_agenda<'a, S: Shelf>(
     let mut agenda = Agenda::new(alloc);
     for bridge in 0..rests.len() {
         let captures = checked[bridge].as_slice();
-        open_bridge(
-            alloc,
-            shelf,
-            piece,
-            &rests[bridge],
-            captures,
-            start,
-            &mut agenda,
-        )?;
+        open_bridge(alloc, shelf, piece, &rests[bridge], captures, start, &mut agenda)?;
     }
     Ok(agenda)
 }

@@ -8,7 +8,7 @@ use Rattle.exb_text.specs.declared.output.Output.TheVariants as output
 use Rattle.exb_text.specs.Names.{IsOfPort, file_name}
 use Rattle.exb_words.specs.declared.asked.Options.{Options}
 use Rattle.exb_words.specs.Kinds.{is_asked, kinds_behind, place_behind, port_of}
-use Rattle.exb_words.proofs.Kinds.{asked_stands, behind_is, capture_is, of_no_port}
+use Rattle.exb_words.proofs.KindLemmas.{asked_stands, behind_is, capture_is, of_no_port}
 use Rattle.exb_outputs.specs.Plans.{output_name, Planned, IsMade, IsMadeAt, kind_at, output_count, place_at, place_in, place_of, port_at, port_count}
 use Rattle.exb_outputs.proofs.Places.{external_low, port_is, place_low, port_of_place, place_of_port}
 

@@ -6,7 +6,7 @@ use Rattle.exb_text.specs.declared.output.Output.{Output}
 use Rattle.exb_text.specs.declared.output.Output.TheVariants as output
 use Rattle.exb_text.specs.Names.{IsOfPort, all_outputs, file_name, other_outputs}
 use Rattle.exb_words.specs.Kinds.{port_of}
-use Rattle.exb_words.proofs.Kinds.{IsIn, capture_is, is_other}
+use Rattle.exb_words.proofs.KindLemmas.{IsIn, capture_is, is_other}
 use Rattle.exb_outputs.specs.Names.{OnlyOutputs}
 use Rattle.exb_outputs.specs.Plans.{IsMade, IsMadeAt, OnlyPlanned, Planned, kind_at, output_count, output_name, place_in, place_of}
 use Rattle.exb_outputs.proofs.ByKind.{kind_is, placed}

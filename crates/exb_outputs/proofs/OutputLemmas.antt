@@ -14,7 +14,7 @@ use Rattle.exb_words.specs.Kinds.{is_same}
 use Rattle.exb_outputs.specs.Writing.{Holds, HasTexts, with_more}
 use Rattle.exb_outputs.proofs.Filling.{weaker, still_filled, one_more}
 use Rattle.exb_outputs.proofs.ByKind.{kind_is, kinds_differ}
-use Rattle.exb_words.proofs.Kinds.{other_kind, same_itself}
+use Rattle.exb_words.proofs.KindLemmas.{other_kind, same_itself}
 
 -- ---- by place
 -- each output has the text of its place

@@ -42,7 +42,7 @@ use Rattle.exb_inputs.specs.Reading.{IsChange, IsOfPlay}
 use Rattle.exb_inputs.proofs.FaultLemmas.{first_none}
 use Rattle.exb_outputs.proofs.Places.{external_low}
 use Rattle.exb_inputs.proofs.Outcomes.{Outcome}
-use Rattle.exb_words.proofs.Kinds.{name_begins}
+use Rattle.exb_words.proofs.KindLemmas.{name_begins}
 
 -- ---- one capture more
 -- what is found where one name stands behind others

@@ -2,4 +2,4 @@ pub mod Digits
 pub mod Reading
 pub mod Asks
 pub mod Lawful
-pub mod Kinds
+pub mod KindLemmas

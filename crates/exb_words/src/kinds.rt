@@ -92,7 +92,7 @@ impl Kinds {
     }
 
     /// How many kinds there are behind the captures.
-    #[tactic(auto, using(crate::proofs::Kinds::few_behind))]
+    #[tactic(auto, using(crate::proofs::KindLemmas::few_behind))]
     pub fn count(&self) -> u16
         ensures value { result ≡ length (kinds_behind self.now) }
         ensures range { result ≤ 256 }
