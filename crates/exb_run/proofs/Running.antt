@@ -16,7 +16,7 @@ use Rattle.exb_writers.specs.Texts.{AreCutEagerly, GrowsEagerly, output_text}
 use Rattle.exb_run.specs.Outputs.{AreFrontsOf, IsPlayed}
 use Rattle.exb_outputs.specs.Names.{IsCut}
 use Rattle.exb_play.specs.Outputs.{HasPlayed}
-use Rattle.exb_outputs.proofs.ByKind.{placed}
+use Rattle.exb_outputs.proofs.ByKind.{made_of_port, placed}
 use Rattle.exb_outputs.proofs.Names.{file_of, only_by}
 use Rattle.exb_outputs.proofs.Places.{external_low}
 
@@ -31,6 +31,7 @@ module _ (i : Input) (plan : Planned) (prefix : List ℕ) (same : plan.prefix �
     back = played.back;
     trace = λ traced. record { lines = played.lines; is = holds output.Trace traced tt; legal = played.trace traced; bytes = played.bytes };
     counters = λ counted. holds output.Counters counted tt;
+    files = (played.lines, λ o made. holds o (subst (λ (s : Shape). IsMade plan.options s o) (sym tree) made) (made_of_port plan.options (tree_of i) o is_tree made));
     others = only_by (tree_of i) plan prefix same tree f g played.outputs.others;
     says = played.says;
   }
