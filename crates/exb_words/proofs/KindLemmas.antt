@@ -1,9 +1,10 @@
 -- Kinds of files, their numbers, and their places behind the captures.
 use Rattle.std.proofs.Common.{◌≡◌, ◌≢◌, ◌⊎◌, ◌<◌, ◌≤◌, ◌+◌, ◌==◌, ◌&&◌, ◌++◌, inl, inr, ℕ, zero, suc, Bool, true, false, if◌then◌else◌, List, [], ◌∷◌, length, get_or, drop, filter, Option, Some, None, All, refl, ap, sym, subst, ◌∙◌, arith, eq-eqb, append_assoc}
-use Rattle.std.specs.Prelude.{unwrap_or}
+use Rattle.std.specs.Prelude.{codes, unwrap_or}
 use Rattle.std.proofs.lemmas.Bool.{cases_eq, eqb-true, false≢true, ne_eqb}
 use Rattle.std.proofs.lemmas.List.{append-nil}
 use Rattle.std.proofs.lemmas.List.Elements.{filter_passes}
+use Rattle.exb_model.specs.Texts.{port_name}
 use Rattle.exb_text.specs.declared.output.Output.{Output}
 use Rattle.exb_text.specs.declared.output.Output.TheVariants as output
 use Rattle.exb_text.specs.Names.{IsOfPort, capture_name, counters_name, file_name, journal_name, other_outputs, trace_name}
@@ -45,10 +46,10 @@ no_port output.Counters above = refl
 -- its file has a name that begins as all do
 pub name_begins : (prefix : List ℕ) (o : Output) → (rest : List ℕ) × (file_name prefix o ≡ prefix ++ rest)
 unfolding capture_name journal_name trace_name counters_name
-name_begins prefix (output.Capture q) = (_, refl)
-name_begins prefix output.Journal = (_, refl)
-name_begins prefix output.Trace = (_, refl)
-name_begins prefix output.Counters = (_, refl)
+name_begins prefix (output.Capture q) = (port_name q ++ codes ".pcap", refl)
+name_begins prefix output.Journal = (codes "journal.txt", refl)
+name_begins prefix output.Trace = (codes "trace.txt", refl)
+name_begins prefix output.Counters = (codes "counters.txt", refl)
 
 -- a kind stands in a list
 abbrev pub IsIn : Output → List Output → Type 0
@@ -67,7 +68,7 @@ IsAbove n [] = Unit {0}
 IsAbove n (x ∷ xs) = (n < number_of x) × IsAbove (number_of x) xs
 
 others_rise : IsAbove 0 other_outputs
-others_rise = (omega arith, omega arith, omega arith, tt)
+others_rise = (omega arith, (omega arith, (omega arith, tt)))
 
 -- ---- tests
 and_both : (b c : Bool) → (b && c) ≡ true → (b ≡ true) × (c ≡ true)
