@@ -1,5 +1,5 @@
 -- The kinds of files that runs write: which are asked for, and in which order they stand behind the captures.
-use Rattle.std.specs.Prelude.{ℕ, suc, Bool, true, ◌==◌, ◌&&◌, if◌then◌else◌, List, [], ◌∷◌, filter, Option, Some, None, unwrap_or}
+use Rattle.std.specs.Prelude.{ℕ, suc, Bool, true, false, ◌==◌, ◌&&◌, if◌then◌else◌, List, [], ◌∷◌, filter, Option, Some, None, unwrap_or}
 use Rattle.exb_text.specs.declared.output.Output.{Output}
 use Rattle.exb_text.specs.declared.output.Output.TheVariants as output
 use Rattle.exb_text.specs.Names.{other_outputs}
@@ -25,6 +25,10 @@ abbrev pub is_same : Output → Output → Bool
 is_same o k = number_of o == number_of k && unwrap_or (port_of o) 0 == unwrap_or (port_of k) 0
 
 -- ---- what is asked for
+-- an eager run without a trace
+abbrev pub eager_with : Bool → Options
+eager_with counters = record { trace = false; counters = counters; seed = None }
+
 -- a kind is asked for; captures always are
 abbrev pub is_asked : Options → Output → Bool
 is_asked o (output.Capture q) = true
