@@ -8,12 +8,12 @@ mod counted;
 mod counters;
 mod journal;
 mod leaving;
-mod telling;
+mod told;
 mod trace;
 
 pub use counted::Counted;
 pub use counters::write_counters;
 pub use journal::write_events;
 pub use leaving::write_left;
-pub use telling::{Room, write_end, write_told};
+pub use told::{Room, write_end, write_told};
 pub use trace::write_trace;

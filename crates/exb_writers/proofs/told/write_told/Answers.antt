@@ -9,7 +9,7 @@ use Rattle.exb_outputs.proofs.Sizes.{sent_same}
 use Rattle.exb_outputs.proofs.ShelvingLemmas.{writes_then}
 use Rattle.exb_outputs.proofs.Cutting.{cut_more}
 use Rattle.exb_writers.proofs.Frames.{cut_frames}
-use Rattle.exb_writers.proofs.telling.write_told.Goals as goal
+use Rattle.exb_writers.proofs.told.write_told.Goals as goal
 
 pub returns-clause-texts : goal.returns-clause-texts
 returns-clause-texts g c = λ t.

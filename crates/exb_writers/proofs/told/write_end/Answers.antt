@@ -3,7 +3,7 @@ use Rattle.exb_text.specs.declared.output.Output.TheVariants as output
 use Rattle.exb_writers.specs.Counts.{counts_text}
 use Rattle.exb_outputs.specs.Writing.{HasTexts, pieces_of, with_more}
 use Rattle.exb_outputs.proofs.OutputLemmas.{no_more}
-use Rattle.exb_writers.proofs.telling.write_end.Goals as goal
+use Rattle.exb_writers.proofs.told.write_end.Goals as goal
 
 pub returns-in-None-clause-texts : goal.returns-in-None-clause-texts
 returns-in-None-clause-texts g c tells orig text held =
