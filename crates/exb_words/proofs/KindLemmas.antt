@@ -46,7 +46,7 @@ no_port output.Counters above = refl
 -- its file has a name that begins as all do
 pub name_begins : (prefix : List ℕ) (o : Output) → (rest : List ℕ) × (file_name prefix o ≡ prefix ++ rest)
 unfolding capture_name journal_name trace_name counters_name
-name_begins prefix (output.Capture q) = (port_name q ++ codes ".pcap", refl)
+name_begins prefix (output.Capture q) = (port_name q ++ codes ".pcap", append_assoc prefix (port_name q) (codes ".pcap"))
 name_begins prefix output.Journal = (codes "journal.txt", refl)
 name_begins prefix output.Trace = (codes "trace.txt", refl)
 name_begins prefix output.Counters = (codes "counters.txt", refl)
