@@ -18,7 +18,7 @@ use Rattle.exb_outputs.proofs.Keeping.{ready-opened}
 use Rattle.exb_inputs.proofs.Reopening.{plays-opened}
 use Rattle.exb_inputs.proofs.Outcomes.{files_same, if_err_map, if_ok_map}
 use Rattle.exb_inputs.proofs.ShelvingLemmas.{counts_from}
-use Rattle.exb_play.proofs.play.play_into.Goals as goal
+use Rattle.exb_play.proofs.playing.play_into.Goals as goal
 
 pub new-programme-requires-clause-start : goal.new-programme-requires-clause-start
 new-programme-requires-clause-start g c = subst (λ (n : ℕ). n < 2 ^ 32) (sym c.start_of-start.ensures) (start-fits c.args.checked.now c.requires.captures.checked.in_time)

@@ -16,7 +16,7 @@ use Rattle.exb_writers.proofs.Cutting.{made_eagerly}
 use Rattle.exb_outputs.proofs.Orders.{makes_as, makes_then_read}
 use Rattle.exb_inputs.proofs.Outcomes.{if_ok_map}
 use Rattle.exb_inputs.proofs.ShelvingLemmas.{counts_from}
-use Rattle.exb_play.proofs.play.play.Goals as goal
+use Rattle.exb_play.proofs.playing.play.Goals as goal
 
 pub play_into-requires-clause-captures : goal.play_into-requires-clause-captures
 play_into-requires-clause-captures g c =
