@@ -1,6 +1,7 @@
 -- A list is taken from its end.
-use Rattle.std.proofs.Common.{◌≡◌, ◌<◌, ◌++◌, List, [], ◌∷◌, length, map, append_assoc, append-nil, refl, ap, sym, ◌∙◌, arith}
+use Rattle.std.proofs.Common.{◌≡◌, ◌<◌, ◌++◌, true, false, List, [], ◌∷◌, length, map, append_assoc, append-nil, refl, ap, sym, ◌∙◌, arith}
 use Rattle.std.specs.Prelude.{reverse}
+use Rattle.std.proofs.lemmas.Bool.{false≢true}
 use Rattle.std.proofs.lemmas.List.{reverse-append}
 
 module _ {A : Type 0} where
@@ -10,9 +11,9 @@ module _ {A : Type 0} where
   pub turned_all : (back now : List A) → now ≡ [] → back ++ reverse now ≡ back
   turned_all back now e = ap (λ (zs : List A). back ++ reverse zs) e ∙ append-nil back
 
-  pub none_left : (xs : List A) → (0 < length xs → ⊥) → xs ≡ []
+  pub none_left : (xs : List A) → (0 < length xs → false ≡ true) → xs ≡ []
   none_left [] h = refl
-  none_left (x ∷ xs) h = absurd (h (omega arith))
+  none_left (x ∷ xs) h = absurd (false≢true (h (omega arith)))
 
   module _ {B : Type 0} (of : A → B) where
     pub mapped_all : (so_far : List B) (now : List A) → now ≡ [] → so_far ++ map of (reverse now) ≡ so_far

@@ -1,29 +1,33 @@
 -- Desks of several bridges on one shelf: what is done at one of them leaves the others as they are.
-use Rattle.std.proofs.Common.{◌≡◌, ◌≢◌, ℕ, zero, suc, ◌+◌, ◌<◌, ◌≤◌, Bool, true, false, cond, nat_lt, List, [], ◌∷◌, length, map, set, Some, refl, ap, sym, ◌∙◌, subst, arith, inl, inr}
+use Rattle.std.proofs.Common.{◌≡◌, ◌≢◌, ℕ, zero, suc, ◌+◌, ◌<◌, ◌≤◌, Bool, true, false, cond, nat_lt, List, [], ◌∷◌, length, map, set, Some, None, refl, ap, sym, ◌∙◌, subst, arith, inl, inr}
 use mathlib.Core.Path.{fun_ext}
 use Rattle.std.specs.Prelude.{slice_get}
 use Rattle.std.proofs.lemmas.Bool.{cases_eq, cases_lt, lt-ltb, le-ltb}
 use Rattle.std.proofs.lemmas.List.{map-set}
 use Rattle.std.proofs.lemmas.Option.{same_Some, slice_get_within}
+use Rattle.exb_machine.specs.Stepping.{Stepped}
+use Rattle.exb_network.specs.Networks.{Network}
 use Rattle.exb_shelf.specs.Files.{Files}
 use Rattle.exb_shelf.specs.Shelf.{Id}
 use Rattle.exb_outputs.specs.Plans.{Planned, output_count, output_name}
 use Rattle.exb_outputs.specs.Shelving.{OnlyWrites}
-use Rattle.exb_outputs.specs.Writing.{IsReady, pieces_of}
+use Rattle.exb_text.specs.declared.output.Output.{Output}
+use Rattle.exb_outputs.specs.Writing.{HasTexts, IsReady, pieces_of}
+use Rattle.exb_outputs.proofs.Cutting.{GoesOnAs}
 use Rattle.exb_wiring.specs.Playing.{Dones}
 use Rattle.exb_net.proofs.Places.{set_here, set_there}
 use Rattle.exb_net_run.specs.declared.desk.Desk.{Desk}
-use Rattle.exb_net_run.specs.Desks.{AreAllFronts, AreFronts, AreNoted, ArePlansApart, AreReady, IsNoted, OnlyAllPlanned, OnlyWritesAll, plans_in, text_of}
-use Rattle.exb_net_run.proofs.Noting.{fronts_now, goes-same, texts_stay}
+use Rattle.exb_net_run.specs.Desks.{AreAllFronts, AreFronts, AreNoted, ArePlansApart, AreReady, IsMore, IsNoted, OnlyAllPlanned, OnlyWritesAll, plans_in, text_of}
+use Rattle.exb_net_run.proofs.Noting.{fronts_now, goes-on, goes-same, texts_stay}
 
 -- ---- plans of desks
 pub plan_at : (ds : List Desk) (b : ℕ) (d : Desk) → slice_get ds b ≡ Some d → slice_get (plans_in ds) b ≡ Some d.plan
-plan_at [] b d e = (let z : _ = e in cc)
+plan_at [] b d e = absurd (let z : None ≡ Some d = e in cc)
 plan_at (x ∷ ds) zero d e = ap (λ (y : Desk). Some y.plan) (same_Some x d e)
 plan_at (x ∷ ds) (suc b) d e = plan_at ds b d e
 
 pub desk_at : (ds : List Desk) (b : ℕ) (p : Planned) → slice_get (plans_in ds) b ≡ Some p → (d : Desk) × (slice_get ds b ≡ Some d) × (d.plan ≡ p)
-desk_at [] b p e = (let z : _ = e in cc)
+desk_at [] b p e = absurd (let z : None ≡ Some p = e in cc)
 desk_at (x ∷ ds) zero p e = (x, refl, same_Some x.plan p e)
 desk_at (x ∷ ds) (suc b) p e = desk_at ds b p e
 
@@ -84,7 +88,7 @@ upto_other k b told dones ne = elim (cases_lt b k) [
 ]
 
 -- a desk that isn't written has what it had
-pub noted_stays : (tells : Type 0) (f g : Files) (d : Desk) (done : _) → (tells → (j : ℕ) → j < output_count d.plan → g (output_name d.plan j) ≡ f (output_name d.plan j)) → IsNoted tells f d done → IsNoted tells g d done
+pub noted_stays : (tells : Type 0) (f g : Files) (d : Desk) (done : Stepped) → (tells → (j : ℕ) → j < output_count d.plan → g (output_name d.plan j) ≡ f (output_name d.plan j)) → IsNoted tells f d done → IsNoted tells g d done
 noted_stays tells f g d done same is = record { counted = is.counted; texts = λ t. texts_stay d.plan (pieces_of d.outputs) f g (text_of done []) (same t) (is.texts t); sent = is.sent }
 
 -- what is noted up to a place, at one more
@@ -102,4 +106,42 @@ pub ready_more : (given ids : ℕ → Id) (ds : List Desk) (i : ℕ) (d e : Desk
 ready_more given ids ds i d e here kept ready own = record {
   each = each_but (λ b x. IsReady x.plan given x.outputs) (λ b x. IsReady x.plan ids x.outputs) ds i d e here ready.each
       (λ b x ne is old. record { files = old.files; named = λ j low. kept _ ∙ old.named j low }) own;
+}
+
+-- at all places
+pub noted_all : (tells : Type 0) (f : Files) (ds : List Desk) (k : ℕ) (told dones : Dones) → length ds ≤ k → AreNoted tells f ds (upto k told dones) → AreNoted tells f ds dones
+noted_all tells f ds k told dones end noted = record {
+  each = λ b d is. subst (IsNoted tells f d) (upto_low k b told dones (let low = slice_get_within ds b d is in omega (arith, low, end))) (noted.each b d is);
+}
+
+-- ---- where one of them was cut off
+-- what bridges did goes on as what they did then
+abbrev pub AllGoOn : List Desk → Dones → Dones → Type 0
+AllGoOn ds told dones = (b : ℕ) (d : Desk) → slice_get ds b ≡ Some d → (n : Network) × IsMore (told b) (dones b) n
+
+goes-upto : (k b : ℕ) (told dones : Dones) (n : Network) → IsMore (told b) (dones b) n → (o : Output) → GoesOnAs (text_of (upto k told dones b) []) (text_of (dones b) []) o
+goes-upto k b told dones n more o = elim (cases_lt b k) [
+  | inl low ↦ subst (λ (d : Stepped). GoesOnAs (text_of d []) (text_of (dones b) []) o) (sym (upto_low k b told dones low)) (goes-same (dones b) o)
+  | inr high ↦ subst (λ (d : Stepped). GoesOnAs (text_of d []) (text_of (dones b) []) o) (sym (upto_high k b told dones (omega (arith, high)))) (goes-on (told b) (dones b) n more o)
+]
+
+pub fronts_more : (f g : Files) (ds : List Desk) (i : ℕ) (d : Desk) (told dones : Dones) → ArePlansApart (plans_in ds) → slice_get ds i ≡ Some d → ((m : List ℕ) → ((j : ℕ) → j < output_count d.plan → m ≢ output_name d.plan j) → g m ≡ f m) →
+    ((b : ℕ) (k : Desk) → slice_get ds b ≡ Some k → HasTexts k.plan (pieces_of k.outputs) f f (text_of (upto i told dones b) [])) → AllGoOn ds told dones → AreFronts d.plan g (dones i) → AreAllFronts (plans_in ds) g dones
+fronts_more f g ds i d told dones apart here only texts goes own = record {
+  each = λ b q is.
+      let k = desk_at ds b q is in
+      elim (cases_eq b i) [
+        | inl same ↦
+            let there : d ≡ k.0 = same_Some d k.0 (sym here ∙ subst (λ (z : ℕ). slice_get ds z ≡ Some k.0) same k.1) in
+            subst (λ (z : Planned). AreFronts z g (dones b)) (ap (λ (y : Desk). y.plan) there ∙ k.2) (subst (λ (z : ℕ). AreFronts d.plan g (dones z)) (sym same) own)
+        | inr ne ↦
+            let on = goes b k.0 k.1 in
+            subst (λ (z : Planned). AreFronts z g (dones b)) k.2
+            (record {
+              counts = [];
+              each = λ j low.
+                  let r = fronts_now k.0.plan (pieces_of k.0.outputs) f (text_of (upto i told dones b) []) (text_of (dones b) []) (goes-upto i b told dones on.0 on.1) (texts b k.0 k.1) j low in
+                  (r.0, others_stay ds apart i d here f g only b k.0.plan (plan_at ds b k.0 k.1) ne j low ∙ r.1);
+            })
+      ];
 }

@@ -29,36 +29,43 @@ use Rattle.exb_nets.proofs.Forest.{across_on, none_some, some_same}
 use Rattle.exb_nets.proofs.Recorded.{Each, IsOfRecord, IsRecordOf, IsRecorded, dues_recorded}
 use Rattle.exb_nets.proofs.Soon.{Apart, EndsApart, NotIn, end_at, ends_apart, far_back, ports_apart, same_end, with_here, with_there}
 
--- ---- events of a port
-pub events_settled : (h : History) (q : ℕ) → events_at (event.Settled ∷ h) q ≡ events_at h q
-unfolding events_at
-events_settled h q = append-nil (events_at h q)
+-- ---- arrivals of a port
+-- its events, the oldest first, each with the bridge before it
+pub entries_at : Basis → History → ℕ → List (Event × Bridge)
+entries_at i [] q = []
+entries_at i (e ∷ h) q = entries_at i h q ++ cond (is_at_port q e) ((e, bridge_after i h) ∷ []) []
 
-pub events_other : (e : Event) (h : History) (q : ℕ) → is_at_port q e ≡ false → events_at (e ∷ h) q ≡ events_at h q
-unfolding events_at
-events_other e h q not = ap (λ (c : Bool). events_at h q ++ cond c (e ∷ []) []) not ∙ append-nil (events_at h q)
+abbrev pub IsEntry : Arrival → Event × Bridge → Type 0
+IsEntry a x = x.0 ≡ arrival_event x.1 a
 
-pub events_more : (e : Event) (h : History) (q : ℕ) → is_at_port q e ≡ true → events_at (e ∷ h) q ≡ events_at h q ++ e ∷ []
-unfolding events_at
-events_more e h q is = ap (λ (c : Bool). events_at h q ++ cond c (e ∷ []) []) is
+pub entries_other : (i : Basis) (e : Event) (h : History) (q : ℕ) → is_at_port q e ≡ false → entries_at i (e ∷ h) q ≡ entries_at i h q
+unfolding entries_at
+entries_other i e h q not = ap (λ (c : Bool). entries_at i h q ++ cond c ((e, bridge_after i h) ∷ []) []) not ∙ append-nil (entries_at i h q)
 
-pub events_tick : (seconds : ℕ) (h : History) (q : ℕ) → events_at (with_tick seconds h) q ≡ events_at h q
-events_tick seconds h q = elim (cases_Bool (seconds == 0)) [
+pub entries_settled : (i : Basis) (h : History) (q : ℕ) → entries_at i (event.Settled ∷ h) q ≡ entries_at i h q
+entries_settled i h q = entries_other i event.Settled h q refl
+
+pub entries_more : (i : Basis) (e : Event) (h : History) (q : ℕ) → is_at_port q e ≡ true → entries_at i (e ∷ h) q ≡ entries_at i h q ++ (e, bridge_after i h) ∷ []
+unfolding entries_at
+entries_more i e h q is = ap (λ (c : Bool). entries_at i h q ++ cond c ((e, bridge_after i h) ∷ []) []) is
+
+pub entries_tick : (i : Basis) (seconds : ℕ) (h : History) (q : ℕ) → entries_at i (with_tick seconds h) q ≡ entries_at i h q
+entries_tick i seconds h q = elim (cases_Bool (seconds == 0)) [
   | inl e ↦ rw e refl
-  | inr e ↦ rw e (events_other (event.Tick seconds) h q refl)
+  | inr e ↦ rw e (entries_other i (event.Tick seconds) h q refl)
 ]
 
 -- as many as a history names
-pub named_events : (h : History) (q : ℕ) → named_at h q ≡ length (events_at h q)
-unfolding named_at events_at
-named_events [] q = refl
-named_events (e ∷ h) q = by_kind e (named_events h q)
+pub named_entries : (i : Basis) (h : History) (q : ℕ) → named_at h q ≡ length (entries_at i h q)
+unfolding named_at entries_at
+named_entries i [] q = refl
+named_entries i (e ∷ h) q = by_kind e (named_entries i h q)
   where
-    plus : (c : Bool) (x : Event) → named_at h q ≡ length (events_at h q) → cond c (suc (named_at h q)) (named_at h q) ≡ length (events_at h q ++ cond c (x ∷ []) [])
-    plus true x was = let more = length-append (events_at h q) (x ∷ []) in omega (arith, was, more)
-    plus false x was = was ∙ ap (λ (xs : List Event). length xs) (sym (append-nil (events_at h q)))
+    plus : (c : Bool) (x : Event) → named_at h q ≡ length (entries_at i h q) → cond c (suc (named_at h q)) (named_at h q) ≡ length (entries_at i h q ++ cond c ((x, bridge_after i h) ∷ []) [])
+    plus true x was = let more = length-append (entries_at i h q) ((x, bridge_after i h) ∷ []) in omega (arith, was, more)
+    plus false x was = was ∙ ap (λ (xs : List (Event × Bridge)). length xs) (sym (append-nil (entries_at i h q)))
 
-    by_kind : (e : Event) → named_at h q ≡ length (events_at h q) → named_at (e ∷ h) q ≡ length (events_at h q ++ cond (is_at_port q e) (e ∷ []) [])
+    by_kind : (e : Event) → named_at h q ≡ length (entries_at i h q) → named_at (e ∷ h) q ≡ length (entries_at i h q ++ cond (is_at_port q e) ((e, bridge_after i h) ∷ []) [])
     by_kind (event.Relay p n t f) was = plus (p == q) (event.Relay p n t f) was
     by_kind (event.Ignored p n) was = plus (p == q) (event.Ignored p n) was
     by_kind (event.Tick seconds) was = plus false (event.Tick seconds) was
@@ -74,6 +81,31 @@ at_port b a q = elim (cases_Bool (is_relayed b a.port a.bytes)) [ inl e ↦ rw e
 
 pub is_event_of : (b : Bridge) (a : Arrival) → IsEventOf a (arrival_event b a)
 is_event_of b a = elim (cases_Bool (is_relayed b a.port a.bytes)) [ inl e ↦ rw e refl | inr e ↦ rw e (refl, refl) ]
+
+-- so entries are events of arrivals
+both_events : (xs ys : List (Event × Bridge)) → map (λ (x : Event × Bridge). x.0) (xs ++ ys) ≡ map (λ (x : Event × Bridge). x.0) xs ++ map (λ (x : Event × Bridge). x.0) ys
+both_events [] ys = refl
+both_events (x ∷ xs) ys = ap (λ (zs : List Event). x.0 ∷ zs) (both_events xs ys)
+
+events_of : (i : Basis) (h : History) (q : ℕ) → map (λ (x : Event × Bridge). x.0) (entries_at i h q) ≡ events_at h q
+unfolding entries_at events_at
+events_of i [] q = refl
+events_of i (e ∷ h) q =
+    both_events (entries_at i h q) (cond (is_at_port q e) ((e, bridge_after i h) ∷ []) [])
+    ∙ (ap (λ (xs : List Event). xs ++ map (λ (x : Event × Bridge). x.0) (cond (is_at_port q e) ((e, bridge_after i h) ∷ []) [])) (events_of i h q) ∙ ap (λ (xs : List Event). events_at h q ++ xs) (by_test (is_at_port q e)))
+  where
+    by_test : (c : Bool) → map (λ (x : Event × Bridge). x.0) (cond c ((e, bridge_after i h) ∷ []) []) ≡ cond c (e ∷ []) []
+    by_test true = refl
+    by_test false = refl
+
+pairs_of : (as_ : List Arrival) (xs : List (Event × Bridge)) → Pairwise IsEntry as_ xs → Pairwise IsEventOf as_ (map (λ (x : Event × Bridge). x.0) xs)
+pairs_of [] [] all = tt
+pairs_of [] (x ∷ xs) all = absurd all
+pairs_of (a ∷ as_) [] all = absurd all
+pairs_of (a ∷ as_) (x ∷ xs) all = (subst (IsEventOf a) (sym all.0) (is_event_of x.1 a), pairs_of as_ xs all.1)
+
+pub told_events : (i : Basis) (h : History) (q : ℕ) (as_ : List Arrival) → Pairwise IsEntry as_ (entries_at i h q) → Pairwise IsEventOf as_ (events_at h q)
+told_events i h q as_ all = subst (Pairwise IsEventOf as_) (events_of i h q) (pairs_of as_ (entries_at i h q) all)
 
 -- a command's is at none
 pub command_no_port : (t : Shape) (l : Limits) (i : Basis) (b : Bridge) (q k : ℕ) → is_at_port q (decided k (refusal_of t l b (command_of i k))) ≡ false
@@ -107,11 +139,11 @@ up_none b look p q None = refl
 up_none b look p q (Some x) = refl
 
 module _ (t : Shape) (l : Limits) (i : Basis) (q : ℕ) where
-  events_ups : (ps : List ℕ) (h : History) → events_at (with_ups t l i h ps) q ≡ events_at h q
-  events_ups [] h = refl
-  events_ups (p ∷ ps) h =
+  entries_ups : (ps : List ℕ) (h : History) → entries_at i (with_ups t l i h ps) q ≡ entries_at i h q
+  entries_ups [] h = refl
+  entries_ups (p ∷ ps) h =
       let e : Event = up_event t l (bridge_after i h) p in
-      events_ups ps (e ∷ h) ∙ events_other e h q (up_no_port p q (refusal t l (bridge_after i h) (command.Up p)))
+      entries_ups ps (e ∷ h) ∙ entries_other i e h q (up_no_port p q (refusal t l (bridge_after i h) (command.Up p)))
 
   flat_ups : (ps : List ℕ) (h : History) → flat i (with_ups t l i h ps) q ≡ flat i h q
   flat_ups [] h = refl
@@ -119,9 +151,9 @@ module _ (t : Shape) (l : Limits) (i : Basis) (q : ℕ) where
       let e : Event = up_event t l (bridge_after i h) p in
       flat_ups ps (e ∷ h) ∙ sent_none i h e q (up_none (bridge_after i h) (learned i h) p q (refusal t l (bridge_after i h) (command.Up p)))
 
-  pub events_opening : events_at (opening t l i) q ≡ []
-  unfolding events_at
-  events_opening = events_settled (with_ups t l i [] (opening_ports t)) q ∙ events_ups (opening_ports t) []
+  pub entries_opening : entries_at i (opening t l i) q ≡ []
+  unfolding entries_at
+  entries_opening = entries_settled i (with_ups t l i [] (opening_ports t)) q ∙ entries_ups (opening_ports t) []
 
   pub flat_opening : flat i (opening t l i) q ≡ []
   unfolding flat
@@ -318,17 +350,18 @@ module _ (n : Net) (net : IsNet n) (c q : ℕ) (e : End) (wired : far_end n.wire
   -- ---- what has arrived, and what is on its way
   pub record HaveArrived (s : State) : Type 0 where
     pub come : List Sent
-    pub told : Pairwise IsEventOf (arrivals_as q 1 come) (events_at (s.histories c) q)
+    pub told : Pairwise IsEntry (arrivals_as q 1 come) (entries_at (basis_in n c) (s.histories c) q)
     pub rest : leaves_at n s.histories e ≡ come ++ queued c q s.queue
 
-  same_events : (b : ℕ) (ev : Event) (hs : Histories) → (b ≡ c → is_at_port q ev ≡ false) → events_at (with_history b (event.Settled ∷ ev ∷ hs b) hs c) q ≡ events_at (hs c) q
-  same_events b ev hs not =
+  same_entries : (b : ℕ) (ev : Event) (hs : Histories) → (b ≡ c → is_at_port q ev ≡ false) → entries_at (basis_in n c) (with_history b (event.Settled ∷ ev ∷ hs b) hs c) q ≡ entries_at (basis_in n c) (hs c) q
+  same_entries b ev hs not =
       let new : History = event.Settled ∷ ev ∷ hs b in
+      let i : Basis = basis_in n c in
       elim (cases_eq c b) [
         | inl same ↦
-            ap (λ (h : History). events_at h q) (with_here b c new hs same)
-            ∙ (events_settled (ev ∷ hs b) q ∙ (events_other ev (hs b) q (not (sym same)) ∙ ap (λ (z : ℕ). events_at (hs z) q) (sym same)))
-        | inr other ↦ ap (λ (h : History). events_at h q) (with_there b c new hs other)
+            ap (λ (h : History). entries_at i h q) (with_here b c new hs same)
+            ∙ (entries_settled i (ev ∷ hs b) q ∙ (entries_other i ev (hs b) q (not (sym same)) ∙ ap (λ (z : ℕ). entries_at i (hs z) q) (sym same)))
+        | inr other ↦ ap (λ (h : History). entries_at i h q) (with_there b c new hs other)
       ]
 
   on_its_way : (come : List Sent) (before more : List Crossing) (left : List Sent) → left ≡ come ++ queued c q before → left ++ queued c q more ≡ come ++ queued c q (before ++ more)
@@ -341,7 +374,7 @@ module _ (n : Net) (net : IsNet n) (c q : ℕ) (e : End) (wired : far_end n.wire
   elsewhere b ev s not a =
       record {
         come = a.come;
-        told = subst (Pairwise IsEventOf (arrivals_as q 1 a.come)) (sym (same_events b ev s.histories not)) a.told;
+        told = subst (Pairwise IsEntry (arrivals_as q 1 a.come)) (sym (same_entries b ev s.histories not)) a.told;
         rest = leaves_more b ev s.histories ∙ on_its_way a.come s.queue (grown_by n b (s.histories b) ev) (leaves_at n s.histories e) a.rest;
       }
 
@@ -355,20 +388,22 @@ module _ (n : Net) (net : IsNet n) (c q : ℕ) (e : End) (wired : far_end n.wire
       let sent : Sent = (x.moment, x.bytes) in
       let new : History = event.Settled ∷ ev ∷ hs x.bridge in
       let more : List Crossing = grown_by n x.bridge (hs x.bridge) ev in
-      let events : events_at (with_history x.bridge new hs c) q ≡ events_at (hs c) q ++ ev ∷ [] =
-      ap (λ (h : History). events_at h q) (with_here x.bridge c new hs (sym bridge))
-      ∙ (events_settled (ev ∷ hs x.bridge) q
-      ∙ (events_more ev (hs x.bridge) q (at_port b arrival q ∙ eq-eqb x.port q port) ∙ ap (λ (z : ℕ). events_at (hs z) q ++ ev ∷ []) bridge)) in
+      let i : Basis = basis_in n c in
+      let entry : Event × Bridge = (ev, bridge_after i (hs x.bridge)) in
+      let entries : entries_at i (with_history x.bridge new hs c) q ≡ entries_at i (hs c) q ++ entry ∷ [] =
+      ap (λ (h : History). entries_at i h q) (with_here x.bridge c new hs (sym bridge))
+      ∙ (entries_settled i (ev ∷ hs x.bridge) q
+      ∙ (entries_more i ev (hs x.bridge) q (at_port b arrival q ∙ eq-eqb x.port q port) ∙ ap (λ (z : ℕ). entries_at i (hs z) q ++ entry ∷ []) bridge)) in
       let counted : named_at (hs x.bridge) x.port ≡ length a.come =
       ap (λ (z : ℕ). named_at (hs z) x.port) bridge
       ∙ (ap (named_at (hs c)) port
-      ∙ (named_events (hs c) q ∙ (sym (pairs_long IsEventOf (arrivals_as q 1 a.come) (events_at (hs c) q) a.told) ∙ arrivals_long q 1 a.come))) in
+      ∙ (named_entries i (hs c) q ∙ (sym (pairs_long IsEntry (arrivals_as q 1 a.come) (entries_at i (hs c) q) a.told) ∙ arrivals_long q 1 a.come))) in
       let index : suc (named_at (hs x.bridge) x.port) ≡ 1 + length a.come = omega (arith, counted) in
-      let is : IsEventOf (record { port = q; index = 1 + length a.come; moment = x.moment; bytes = x.bytes }) ev =
-      subst (λ (z : Arrival). IsEventOf z ev)
-          (ap (λ (z : ℕ). record { port = z; index = suc (named_at (hs x.bridge) x.port); moment = x.moment; bytes = x.bytes }) port
-          ∙ ap (λ (z : ℕ). record { port = q; index = z; moment = x.moment; bytes = x.bytes }) index)
-          (is_event_of b arrival) in
+      let same_arrival : arrival ≡ record { port = q; index = 1 + length a.come; moment = x.moment; bytes = x.bytes } =
+      ap (λ (z : ℕ). record { port = z; index = suc (named_at (hs x.bridge) x.port); moment = x.moment; bytes = x.bytes }) port
+      ∙ ap (λ (z : ℕ). record { port = q; index = z; moment = x.moment; bytes = x.bytes }) index in
+      let is : IsEntry (record { port = q; index = 1 + length a.come; moment = x.moment; bytes = x.bytes }) entry =
+      ap (λ (z : ℕ). arrival_event (bridge_after (basis_in n z) (hs x.bridge)) arrival) bridge ∙ ap (arrival_event (bridge_after i (hs x.bridge))) same_arrival in
       let is_first : (x.bridge == c && x.port == q) ≡ true = rw (eq-eqb x.bridge c bridge, eq-eqb x.port q port) refl in
       let first : leaves_at n hs e ≡ (a.come ++ sent ∷ []) ++ queued c q xs =
       a.rest
@@ -376,9 +411,9 @@ module _ (n : Net) (net : IsNet n) (c q : ℕ) (e : End) (wired : far_end n.wire
       ∙ sym (append_assoc a.come (sent ∷ []) (queued c q xs))) in
       record {
         come = a.come ++ sent ∷ [];
-        told = subst (λ (zs : List Arrival). Pairwise IsEventOf zs (events_at (with_history x.bridge new hs c) q)) (sym (arrivals_more q 1 a.come sent))
-            (subst (Pairwise IsEventOf (arrivals_as q 1 a.come ++ record { port = q; index = 1 + length a.come; moment = x.moment; bytes = x.bytes } ∷ [])) (sym events)
-            (pairs_more IsEventOf (arrivals_as q 1 a.come) (events_at (hs c) q) (record { port = q; index = 1 + length a.come; moment = x.moment; bytes = x.bytes }) ev a.told is));
+        told = subst (λ (zs : List Arrival). Pairwise IsEntry zs (entries_at i (with_history x.bridge new hs c) q)) (sym (arrivals_more q 1 a.come sent))
+            (subst (Pairwise IsEntry (arrivals_as q 1 a.come ++ record { port = q; index = 1 + length a.come; moment = x.moment; bytes = x.bytes } ∷ [])) (sym entries)
+            (pairs_more IsEntry (arrivals_as q 1 a.come) (entries_at i (hs c) q) (record { port = q; index = 1 + length a.come; moment = x.moment; bytes = x.bytes }) entry a.told is));
         rest = leaves_more x.bridge ev hs ∙ on_its_way (a.come ++ sent ∷ []) xs more (leaves_at n hs e) first;
       }
 
@@ -410,7 +445,7 @@ module _ (n : Net) (net : IsNet n) (c q : ℕ) (e : End) (wired : far_end n.wire
   ticked_on seconds hs a =
       record {
         come = a.come;
-        told = subst (Pairwise IsEventOf (arrivals_as q 1 a.come)) (sym (events_tick seconds (hs c) q)) a.told;
+        told = subst (Pairwise IsEntry (arrivals_as q 1 a.come)) (sym (entries_tick (basis_in n c) seconds (hs c) q)) a.told;
         rest = flat_tick (basis_in n e.bridge) seconds (hs e.bridge) e.port ∙ a.rest;
       }
 
@@ -445,7 +480,7 @@ module _ (n : Net) (net : IsNet n) (c q : ℕ) (e : End) (wired : far_end n.wire
   opened =
       record {
         come = [];
-        told = subst (Pairwise IsEventOf []) (sym (events_opening (tree_of (n.input c)) (bounds_of (n.input c)) (basis_in n c) q)) tt;
+        told = subst (Pairwise IsEntry []) (sym (entries_opening (tree_of (n.input c)) (bounds_of (n.input c)) (basis_in n c) q)) tt;
         rest = flat_opening (tree_of (n.input e.bridge)) (bounds_of (n.input e.bridge)) (basis_in n e.bridge) e.port;
       }
 
@@ -475,4 +510,4 @@ pub crossings_arrive : CrossingsArrive
 unfolding queued
 crossings_arrive n hs b q e net k wired =
     let a = arrived_at_end n net b q e wired hs k in
-    subst (λ (xs : List Sent). Pairwise IsEventOf (arrivals_as q 1 xs) (events_at (hs b) q)) (sym (a.rest ∙ append-nil a.come)) a.told
+    subst (λ (xs : List Sent). Pairwise IsEventOf (arrivals_as q 1 xs) (events_at (hs b) q)) (sym (a.rest ∙ append-nil a.come)) (told_events (basis_in n b) (hs b) q (arrivals_as q 1 a.come) a.told)

@@ -7,5 +7,7 @@ mod Ending
 mod Soon
 mod Alone
 mod Recorded
+mod Sorted
+mod Chosen
 mod Arrived
 mod Growing

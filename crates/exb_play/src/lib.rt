@@ -3,14 +3,14 @@
 //! the eager one in an eager run, and that however it ended they hold fronts of the texts of what was told so far. It reaches bridge
 //! and extenders through `exb_schedule` alone, and files through `exb_shelf`'s trait.
 //!
-//! `src`: `play` (outputs made, captures opened again), `feed` (what comes for one segment), `game` (the world under way, what is
+//! `src`: `playing` (outputs made, captures opened again), `feed` (what comes for one segment), `game` (the world under way, what is
 //! written of it and counted), `script` (what is played, and how).
 #![tactic(auto)]
 
 mod feed;
 mod game;
-mod play;
+mod playing;
 mod script;
 
-pub use play::play;
+pub use playing::play;
 pub use script::{Schedule, Script};

@@ -168,6 +168,7 @@ module _ (tells printing : Type 0) (name : List ℕ) (counters : Bool) (o : Outc
     ten = λ e.
         let found = net_changed o come (own_status 10 (λ h. omega arith) (λ h. omega arith) e) in
         (found.0, found.1, found.2, can (MemberChanged found.0 found.1 found.2) found.3, r.changed found.0 found.1 found.2 found.3, λ p. all_said 10 (λ h. omega arith) (λ h. omega arith) e p ∙ ap (λ (q : Outcome). before ++ line_of q) found.3);
+    first = r.first;
   }
 
   refused : (x : Fault) → o ≡ Err x → IsRefusing x → OpensNet tells name file (Err x) given ids → NetOpenedInOrder tells printing name counters status file given ids before after

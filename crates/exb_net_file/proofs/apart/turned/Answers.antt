@@ -1,11 +1,12 @@
 use Rattle.std.proofs.Common.{◌≡◌, ◌∙◌, ◌++◌, List, ap, sym}
+use Rattle.std.specs.Prelude.{reverse}
 use Rattle.exb_net_file.specs.declared.members.NetMember.{NetMember}
 use Rattle.exb_net_file.proofs.Turned.{none_left, turned_all, turned_more}
 use Rattle.exb_net_file.proofs.apart.turned.Goals as goal
 
 pub loop-member-preserved : goal.loop-member-preserved
 loop-member-preserved c =
-    ap (λ (zs : List NetMember). zs ++ _) c.in_ok-push.ensures.ok
+    ap (λ (zs : List NetMember). zs ++ reverse c.pop.new.self) c.in_ok-push.ensures.ok
     ∙ (sym (turned_more c.loop-member.back c.loop-member.members c.pop.new.self c.in-Some.member c.in-Some.ensures.items) ∙ c.loop-member.invariant)
 
 pub returns : goal.returns

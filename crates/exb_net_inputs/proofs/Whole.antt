@@ -1,0 +1,50 @@
+-- A net is read in three steps: its file, its topologies, its wires.
+use Rattle.std.proofs.Common.{◌≡◌, ◌≤◌, ◌⊎◌, inl, inr, ℕ, true, List, Result, Ok, Err, length, map, refl, ap, sym, subst, ◌∙◌, arith}
+use Rattle.std.specs.Prelude.{All, AllPairs, slice_index_or}
+use Rattle.exb_shelf.specs.Files.{Files, SameFiles}
+use Rattle.exb_shelf.specs.Shelf.{Id}
+use Rattle.exb_nets.specs.declared.wires.Wire.{Wire}
+use Rattle.exb_topology.specs.Sound.{IsSound}
+use Rattle.exb_net_file.specs.declared.file.NetFile.{NetFile}
+use Rattle.exb_net_file.specs.declared.members.NetMember.{NetMember}
+use Rattle.exb_net_file.specs.declared.rows.NetBridge.{NetBridge}
+use Rattle.exb_net_file.specs.Files.{IsNetFile}
+use Rattle.exb_net_file.specs.Sound.{AreValid, MakesNets}
+use Rattle.exb_net_file.specs.Wires.{wires_of}
+use Rattle.exb_net_file.specs.Words.{is_name}
+use Rattle.exb_inputs.specs.declared.fault.Fault.{Fault}
+use Rattle.exb_inputs.specs.declared.fault.Fault.TheVariants.{Read, Memory}
+use Rattle.exb_inputs.proofs.Outcomes.{files_same}
+use Rattle.exb_net_inputs.specs.Holding.{AreRead, HoldsMembers, HoldsNet, HoldsNetFile}
+use Rattle.exb_net_inputs.specs.Opening.{OpensTopologies}
+use Rattle.exb_net_inputs.specs.Refusing.{FirstRefused, IsFileRefused, IsNetRefusal, IsNetRefused}
+
+-- a failure to read, or want of memory
+abbrev pub Failed : Fault → Type 0
+Failed x = (x ≡ Read) ⊎ (x ≡ Memory)
+
+-- ---- what holds of names holds of the bridges that have them
+names_all : (P : List ℕ → Type 0) (names : List (List ℕ)) → All P names → (ms : List NetMember) → map (λ (m : NetMember). m.name) ms ≡ names → All (λ (m : NetMember). P m.name) ms
+names_all P names h ms same k d low = let all : All P (map (λ (m : NetMember). m.name) ms) = subst (λ (xs : List (List ℕ)). All P xs) (sym same) h in ?
+
+module _ (name : List ℕ) (f g : Files) (net : NetFile) (same : SameFiles f g) (says : HoldsNetFile name f net) where
+  pub held_so : (ms : List NetMember) → HoldsMembers net.bridges g ms → HoldsMembers net.bridges f ms
+  held_so ms held = subst (λ (file : Files). HoldsMembers net.bridges file ms) (files_same f g same) held
+
+  pub members_err : (x : Fault) → FirstRefused net.bridges g x ⊎ Failed x → IsNetRefused name f x ⊎ Failed x
+  members_err x (inl first) = inl (inr (inl (record { net = net; says = says; first = subst (λ (file : Files). FirstRefused net.bridges file x) (files_same f g same) first })))
+  members_err x (inr failed) = inr failed
+
+  pub wires_err : (ms : List NetMember) (x : Fault) → HoldsMembers net.bridges g ms → IsNetRefusal (wires_of ms net.wires) x ⊎ (x ≡ Memory) → IsNetRefused name f x ⊎ Failed x
+  wires_err ms x held (inl refused) = inl (inr (inr (record { net = net; says = says; bridges = ms; members = held_so ms held; refused = refused })))
+  wires_err ms x held (inr memory) = inr (inr memory)
+
+  pub net_read : (ms : List NetMember) (ws : List Wire) → HoldsMembers net.bridges g ms → wires_of ms net.wires ≡ Ok ws → HoldsNet name f ms ws
+  net_read ms ws held wired = record { net = net; says = says; members = held_so ms held; wired = wired }
+
+pub file_err : (name : List ℕ) (f : Files) (x : Fault) → IsFileRefused name (f name) x ⊎ Failed x → IsNetRefused name f x ⊎ Failed x
+file_err name f x (inl refused) = inl (inl refused)
+file_err name f x (inr failed) = inr failed
+
+pub topologies_from : {X : Type 0} (tells : Type 0) (bs : List NetBridge) (f g : Files) (o : Result X Fault) (given ids : ℕ → Id) → SameFiles f g → OpensTopologies tells bs g o given ids → OpensTopologies tells bs f o given ids
+topologies_from tells bs f g o given ids same opens = subst (λ (file : Files). OpensTopologies tells bs file o given ids) (files_same f g same) opens
