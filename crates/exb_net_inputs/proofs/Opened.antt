@@ -47,7 +47,7 @@ topologies bs = map (λ (b : NetBridge). b.topology) bs
 there_before : (bs : List NetBridge) (file : Files) (ms : List NetMember) (i : ℕ) → HoldsMembers (take i bs) file ms → (k : ℕ) (b : NetBridge) → k < i → slice_get bs k ≡ Some b → IsTopologyThere file b
 there_before bs file ms i holds k b low is =
     let found = both_some (HoldsMember file) (take i bs) ms k b holds (taken_at bs i k b low is) in
-    (found.0.topology, found.1.1.holds)
+    (found.0.topology, found.2.holds)
 
 module _ (bs : List NetBridge) (i : ℕ) (b : NetBridge) (low : i < length bs) (is : b ≡ get_or bs i b) where
   -- one more was opened
@@ -143,4 +143,4 @@ net_reads tells name file o given ids r = ones_all IsReadingOf (λ (i : Id). IsR
     by_place zero n is i reads = let same : n ≡ name = cc in inl (subst (λ (m : List ℕ). IsReadingOf m i) same reads)
     by_place (suc k) n is i reads =
         let found = name_taken r.bridges k r.count n is in
-        inr (record { index = k; bridge = found.0; is_there = found.1.0; reads = subst (λ (m : List ℕ). IsReadingOf m i) (sym found.1.1) reads })
+        inr (record { index = k; bridge = found.0; is_there = found.1; reads = subst (λ (m : List ℕ). IsReadingOf m i) (sym found.2) reads })

@@ -376,6 +376,7 @@ module _ {V : Type 0} {X : V → Type 0} (tells : Type 0) (r : NetRun) (now : Fi
         ds = p.going.ds ++ due_of d ∷ [];
         dones = e;
         is = record {
+          timely = p.going.is.timely;
           start = p.going.is.start;
           opened = p.going.is.opened;
           plays = plays-after;

@@ -26,6 +26,7 @@ ghost use Rattle.exb_net_run.specs.UnderWay.{AreOfRests, CanBegin, CanGive, HasW
 use crate::desk::{Desk, Room, add, finish, note};
 use exb_inputs::Fault;
 use exb_machine::laws::steps_tell_passed;
+use exb_merge::laws::agendas_stay;
 use exb_merge::{Agenda, Came, CaptureFault, NetNext, Next};
 use exb_net::Net;
 use exb_net_file::NetRest;
@@ -233,6 +234,7 @@ impl NetGame {
         ensures causes { IfErr result IsOfWriting }
         ensures faults { CountsFaults result (S.faults shelf.old) (S.faults shelf.new) }
     {
+        agendas_stay();
         events_add_one();
         steps_tell_passed();
         seconds_pass();
@@ -273,6 +275,7 @@ impl NetGame {
         ensures causes { IfErr result IsOfNetPlay }
         ensures faults { CountsFaults result (S.faults shelf.old) (S.faults shelf.new) }
     {
+        agendas_stay();
         let mut last: Option<u64> = None;
         'events: while let Some(due) = next_due(alloc, shelf, piece, rests, agenda)? {
             let second = due.next.moment() / NANOSECONDS;
@@ -357,6 +360,7 @@ impl NetGame {
         ensures causes { IfErr result IsOfNetPlay }
         ensures faults { CountsFaults result (S.faults shelf.old) (S.faults shelf.new) }
     {
+        agendas_stay();
         opened_nets_are_new();
         opened_nets_run();
         steps_tell_passed();
