@@ -23,6 +23,7 @@ use Rattle.exb_merge.specs.Replays.{HasPort, ReadsOn, standings}
 use Rattle.exb_merge.specs.Streams.{Stream}
 use Rattle.exb_nets.specs.Nets.{Net}
 use Rattle.exb_nets.specs.NetHistory.{Due, dues}
+use Rattle.exb_nets.specs.Order.{AreHere, AreInOrder}
 use Rattle.exb_net_file.specs.declared.apart.NetRest.{NetRest}
 use Rattle.exb_inputs.specs.Shelving.{OnlyReads}
 use Rattle.exb_net.specs.declared.node.Node.{Node}
@@ -34,8 +35,9 @@ use Rattle.exb_outputs.proofs.Keeping.{apart-read}
 use Rattle.exb_net_run.specs.declared.desk.Desk.{Desk}
 use Rattle.exb_net_run.specs.declared.game.NetGame.{NetGame}
 use Rattle.exb_net_run.specs.Desks.{AreReady}
-use Rattle.exb_net_run.specs.UnderWay.{AreOfRests, IsAt, IsDue, IsGoing, IsPaid, IsWithin, LeadsOn, NetRun, ReadsOthers, commands_in, letters_at, letters_for, letters_of}
+use Rattle.exb_net_run.specs.UnderWay.{AreOfRests, IsAllTold, IsAt, IsCutOff, IsDue, IsFew, IsGoing, IsPaid, IsWithin, LeadsOn, NetRun, ReadsOthers, commands_in, letters_at, letters_for, letters_of}
 use Rattle.exb_net_run.proofs.Coming.{ports-before}
+use Rattle.exb_net_run.proofs.Going.{cut-noted}
 use Rattle.exb_net_run.proofs.Steps.{clock-on, ends}
 
 -- ---- what is written isn't read
@@ -107,6 +109,14 @@ seconds-few tells r now ids seconds second g d ps p =
     omega (arith, clock, high)
 
 -- ---- nothing comes
+-- how much each bridge has told and sent
+pub few-orders : {V : Type 0} {X : V → Type 0} (tells : Type 0) (r : NetRun) (now : Files) (given : ℕ → Id) (last : Option ℕ) (g : NetGame V X) (old : List Programme) → (going : IsGoing tells r now given last g old) → (b : ℕ) → b < r.net.count →
+    (orders : ℕ) × IsFew r.net b g.net.came orders (going.dones b) × (orders ≤ 65536)
+few-orders tells r now given last g old going b low =
+    let q = is_there old b (let all = going.goes.count in omega (arith, low, all)) in
+    let at = going.goes.each b q.0 q.1 in
+    (q.0.taken, going.goes.few b q.0 q.1, (let within = at.within in let few = at.few_commands in omega (arith, within, few)))
+
 pub all-at : {V : Type 0} {X : V → Type 0} (tells : Type 0) (r : NetRun) (now file : Files) (given ids : ℕ → Id) (last : Option ℕ) (g : NetGame V X) (old : List Programme) → (going : IsGoing tells r now given last g old) → AreRead given (all_ids old) →
     OnlyReads (all_ids old) now file given ids → tells → ((streams : List (List Stream)) → AreAllReplays now given old streams → dues_left (all_to_play streams old) ≡ []) → IsAt tells r file ids (dues r.net) going.dones g
 all-at tells r now file given ids last g old going read only t none =
@@ -135,6 +145,21 @@ all-at tells r now file given ids last g old going read only t none =
       };
       noted = is.noted;
     }))
+
+pub all-told : {V : Type 0} {X : V → Type 0} (tells : Type 0) (r : NetRun) (now file : Files) (given ids : ℕ → Id) (last : Option ℕ) (g : NetGame V X) (old : List Programme) → (going : IsGoing tells r now given last g old) → AreRead given (all_ids old) →
+    OnlyReads (all_ids old) now file given ids → tells → ((streams : List (List Stream)) → AreAllReplays now given old streams → dues_left (all_to_play streams old) ≡ []) → IsAllTold tells r file ids g
+all-told tells r now file given ids last g old going read only t none =
+    let led = going.leads t in
+    let all : dues r.net ≡ going.ds = led.rest ∙ ap (λ (xs : List Due). going.ds ++ xs) (none led.streams led.replays) ∙ append-nil going.ds in
+    record {
+      dones = going.dones;
+      is = all-at tells r now file given ids last g old going read only t none;
+      here = subst (AreHere r.net) (sym all) going.goes.here;
+      order = subst (AreInOrder (λ b. 0)) (sym all) going.goes.order;
+      came = g.net.came;
+      few_came = (let few = going.goes.few_bytes in omega (arith, few));
+      few = few-orders tells r now given last g old going;
+    }
 
 -- ---- commands
 pub rests-on : (rests : List NetRest) (old : List Programme) (d : NetNext) (ps : List Programme) → ComesTo old d ps → AreOfRests rests old → AreOfRests rests ps
@@ -197,3 +222,10 @@ ports-on old d ps comes b q (p, is, has) = elim (cases_eq b d.bridge) [
       (comes.was, subst (λ (k : ℕ). slice_get old k ≡ Some comes.was) (sym same) comes.was_there, ports-before comes.was d.next comes.is comes.coming.is q (subst (λ (z : Programme). HasPort q (standings z.captures)) (sym own) has))
   | inr ne ↦ (p, sym (comes.others b ne) ∙ is, has)
 ]
+
+-- ---- it was cut off while it was read
+pub cut-read : {V : Type 0} {X : V → Type 0} (tells : Type 0) (r : NetRun) (now file : Files) (given ids : ℕ → Id) (mine : List ℕ) (last : Option ℕ) (g : NetGame V X) (ps : List Programme) → tells → IsGoing tells r now given last g ps →
+    OnlyReads mine now file given ids → IsCutOff r file
+cut-read tells r now file given ids mine last g ps t going only =
+    let same : file ≡ now = fun_ext λ m. only.files m in
+    subst (IsCutOff r) (sym same) (cut-noted tells r now given last g ps t going)

@@ -1,8 +1,9 @@
 -- The end of a net: what was written and counted of its bridges is what the net calls for.
-use Rattle.std.proofs.Common.{◌≡◌, ◌≢◌, ℕ, zero, suc, ◌+◌, ◌*◌, ◌^◌, ◌<◌, ◌≤◌, ◌++◌, Bool, true, false, List, [], ◌∷◌, length, map, All, get_or, Option, Some, None, refl, ap, sym, subst, ◌∙◌, arith}
+use Rattle.std.proofs.Common.{◌≡◌, ◌≢◌, ℕ, zero, suc, ◌+◌, ◌*◌, ◌^◌, ◌<◌, ◌≤◌, ◌++◌, Bool, true, false, List, [], ◌∷◌, length, map, All, get_or, Option, Some, None, refl, ap, sym, subst, ◌∙◌, arith, inr}
 use Rattle.std.specs.Prelude.{option_map, slice_get, sum_by}
 use Rattle.std.specs.List.{range_with_len}
 use Rattle.std.proofs.lemmas.Bool.{false≢true}
+use Rattle.std.proofs.lemmas.List.{append-nil}
 use Rattle.std.proofs.lemmas.List.Sums.{sum_by-cons}
 use Rattle.std.proofs.lemmas.Option.{same_Some, slice_get-map, slice_get_within}
 use Rattle.exb_model.specs.FlatBridge.{flat}
@@ -23,9 +24,9 @@ use Rattle.exb_text.specs.declared.output.Output.{Output}
 use Rattle.exb_text.specs.declared.output.Output.TheVariants as output
 use Rattle.exb_text.specs.Tallies.{FitsTally, counts_of, nothing_counted}
 use Rattle.exb_nets.specs.Nets.{Net}
-use Rattle.exb_nets.specs.NetHistory.{Histories, basis_in}
+use Rattle.exb_nets.specs.NetHistory.{Histories, basis_in, dues}
 use Rattle.exb_wiring.specs.Counting.{CountsGoOn}
-use Rattle.exb_wiring.specs.Laws.{ArePlayedEagerly, IsShown}
+use Rattle.exb_wiring.specs.Laws.{ArePlayedEagerly, IsShown, NetsArePlayedEagerly}
 use Rattle.exb_wiring.specs.Playing.{Dones, tree_in}
 use Rattle.exb_outputs.specs.declared.outputs.Outputs.{Outputs}
 use Rattle.exb_outputs.specs.Plans.{Planned, IsMade, kind_at, output_count}
@@ -39,9 +40,10 @@ use Rattle.exb_writers.proofs.Counting.{LeftExternal, count_events-left, counts-
 use Rattle.exb_writers.proofs.PortCounts.{counts-of, counts_end, port_whole}
 use Rattle.exb_net.proofs.Places.{is_there}
 use Rattle.exb_net_run.specs.declared.desk.Desk.{Desk}
-use Rattle.exb_net_run.specs.Desks.{AreNoted, AreWhole, CanEndAll, IsNoted, IsWhole, OnlyAllPlanned, plans_in, tallies_in, text_of}
+use Rattle.exb_net_run.specs.declared.game.NetGame.{NetGame}
+use Rattle.exb_net_run.specs.Desks.{AreAllFronts, AreNoted, AreWhole, CanEndAll, IsWhole, OnlyAllPlanned, plans_in, tallies_in, text_of}
 use Rattle.exb_net_run.specs.Summing.{added, counts_in, net_summary}
-use Rattle.exb_net_run.specs.UnderWay.{AreDesks, GoesOn, HasWritten, IsFew, IsLow, NetRun}
+use Rattle.exb_net_run.specs.UnderWay.{AreDesks, HasWritten, IsAllTold, IsCutOff, IsFew, NetRun}
 use Rattle.exb_net_run.proofs.Bounds.{few-frames, own, sizes-fit}
 use Rattle.exb_net_run.proofs.Noted.{desk_at, plan_at}
 
@@ -235,3 +237,29 @@ module _ (tells : Type 0) (r : NetRun) (now : Files) (ids : ℕ → Id) (desks :
       others = others;
       says = says ∙ ap (λ (cs : List Counts). summary_line (added cs)) tallies-are;
     }
+
+-- ---- the whole
+pub ended : {V : Type 0} {X : V → Type 0} (tells : Type 0) (r : NetRun) (now : Files) (ids : ℕ → Id) (g : NetGame V X) → (k : IsAllTold tells r now ids g) → tells → NetsArePlayedEagerly → CountsGoOn → (new : Files) (line : List ℕ) →
+    AreWhole g.desks.items new k.dones → OnlyAllPlanned (plans_in g.desks.items) now new → line ≡ summary_line (added (tallies_in g.desks.items)) → HasWritten r new line
+ended tells r now ids g k t law counts new line whole only says =
+    written tells r now ids g.desks.items k.is.desks k.dones k.is.noted k.came k.few_came k.few
+    (law r.net k.is.start k.dones k.is.playing.net k.is.playing.vids k.is.timely k.is.opened k.is.plays) counts new line whole
+    (λ m other. subst (λ (qs : List Planned). OnlyAllPlanned qs now new) k.is.desks.plans only m other ∙ k.is.desks.files t m other) says
+
+pub ended-cut : {V : Type 0} {X : V → Type 0} (tells : Type 0) (r : NetRun) (now : Files) (ids : ℕ → Id) (g : NetGame V X) → (k : IsAllTold tells r now ids g) → tells → (new : Files) →
+    AreAllFronts (plans_in g.desks.items) new k.dones → OnlyAllPlanned (plans_in g.desks.items) now new → IsCutOff r new
+ended-cut tells r now ids g k t new fronts only =
+    inr (record {
+      ds = dues r.net;
+      rest = [];
+      dues_are = sym (append-nil (dues r.net));
+      here = k.here;
+      order = k.order;
+      start = k.is.start;
+      dones = k.dones;
+      opened = k.is.opened;
+      plays = k.is.plays;
+      vids = k.is.playing.vids;
+      others = λ m other. subst (λ (qs : List Planned). OnlyAllPlanned qs now new) k.is.desks.plans only m other ∙ k.is.desks.files t m other;
+      fronts = subst (λ (qs : List Planned). AreAllFronts qs new k.dones) k.is.desks.plans fronts;
+    })

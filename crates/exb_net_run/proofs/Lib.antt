@@ -12,6 +12,11 @@ pub mod Paying
 pub mod Ending
 pub mod Awaited
 pub mod Shelves
+pub mod Begun
+pub mod Failing
+pub mod Giving
+pub mod Adding
+pub mod Turned
 pub mod Sets
 pub mod Ends
 pub mod Reading

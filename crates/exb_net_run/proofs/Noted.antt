@@ -14,13 +14,14 @@ use Rattle.exb_outputs.specs.Shelving.{OnlyWrites}
 use Rattle.exb_model.specs.Texts.{Counts}
 use Rattle.exb_text.specs.Tallies.{counts_of}
 use Rattle.exb_writers.specs.declared.counted.Counted.{Counted}
+use Rattle.exb_writers.specs.Counts.{counts_text}
 use Rattle.exb_text.specs.declared.output.Output.{Output}
 use Rattle.exb_outputs.specs.Writing.{HasTexts, IsReady, pieces_of}
 use Rattle.exb_outputs.proofs.Cutting.{GoesOnAs}
 use Rattle.exb_wiring.specs.Playing.{Dones}
 use Rattle.exb_net.proofs.Places.{set_here, set_there}
 use Rattle.exb_net_run.specs.declared.desk.Desk.{Desk}
-use Rattle.exb_net_run.specs.Desks.{AreAllFronts, AreFronts, AreNoted, ArePlansApart, AreReady, IsMore, IsNoted, IsWhole, OnlyAllPlanned, OnlyWritesAll, plans_in, tallies_in, text_of}
+use Rattle.exb_net_run.specs.Desks.{AreAllFronts, AreFronts, AreNoted, ArePlansApart, AreReady, AreWhole, IsMore, IsNoted, IsWhole, OnlyAllPlanned, OnlyWritesAll, plans_in, tallies_in, text_of}
 use Rattle.exb_net_run.proofs.Noting.{fronts_now, goes-on, goes-same, texts_stay}
 
 -- ---- plans of desks
@@ -80,7 +81,7 @@ abbrev pub upto : ℕ → Dones → Dones → Dones
 upto k told dones b = cond (nat_lt b k) (dones b) (told b)
 
 pub upto_none : (told dones : Dones) → upto 0 told dones ≡ told
-upto_none told dones = fun_ext λ b. refl
+upto_none told dones = (let same : (b : ℕ) → upto 0 told dones b ≡ told b = λ b. refl in fun_ext same)
 
 pub upto_low : (k b : ℕ) (told dones : Dones) → b < k → upto k told dones b ≡ dones b
 upto_low k b told dones low = rw (lt-ltb b k low) refl
@@ -174,3 +175,11 @@ now_fronts f d done texts = record { counts = []; each = fronts_now d.plan (piec
 
 pub fronts_stay : (f g : Files) (p : Planned) (done : Stepped) → ((j : ℕ) → j < output_count p → g (output_name p j) ≡ f (output_name p j)) → AreFronts p f done → AreFronts p g done
 fronts_stay f g p done same fronts = record { counts = fronts.counts; each = λ j low. (let r = fronts.each j low in (r.0, same j low ∙ r.1)) }
+
+-- all of them
+pub whole_all_fronts : (f : Files) (ds : List Desk) (dones : Dones) → AreWhole ds f dones → AreAllFronts (plans_in ds) f dones
+whole_all_fronts f ds dones whole = record {
+  each = λ b q is.
+      let k = desk_at ds b q is in
+      subst (λ (z : Planned). AreFronts z f (dones b)) k.2 (whole_fronts f k.0.plan (dones b) (counts_text k.0.plan k.0.counted.ports k.0.outputs) (whole.each b k.0 k.1));
+}

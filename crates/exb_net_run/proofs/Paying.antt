@@ -62,3 +62,11 @@ module _ {V : Type 0} {X : V → Type 0} (verdicts : Node V X → ℕ) where
       let q = is_there ps b (let low = slice_get_within xs b x is in omega (arith, low, long)) in
       let own = paid.each b x q.0 is q.1 in
       omega (arith, own)
+
+  pub within_few : (xs : List (Node V X)) (ps : List Programme) → length xs ≤ length ps → IsWithin xs verdicts ps → All (λ x. verdicts x < 2 ^ 57) xs
+  within_few xs ps long within =
+      all_by (λ (x : Node V X). verdicts x < 2 ^ 57) xs
+      (λ b x is.
+      let q = is_there ps b (let low = slice_get_within xs b x is in omega (arith, low, long)) in
+      let own = within.each b x q.0 is q.1 in
+      omega (arith, own))

@@ -1,6 +1,7 @@
 -- What calls that play a net leave of the shelf, one after another; and which faults can come while files are written.
-use Rattle.std.proofs.Common.{⊤, ◌≡◌, ◌⊎◌, inl, inr, ℕ, List, [], Result, Ok, Err, refl, ap, sym, subst, ◌∙◌}
+use Rattle.std.proofs.Common.{⊤, ◌≡◌, ◌⊎◌, inl, inr, ℕ, List, [], ◌∷◌, Result, Ok, Err, refl, ap, sym, subst, ◌∙◌}
 use Rattle.std.specs.Prelude.{IfErr, IsErrOf}
+use Rattle.std.specs.List.{AllByRecursion}
 use Rattle.exb_shelf.specs.Files.{Files}
 use Rattle.exb_shelf.specs.Shelf.{Id}
 use Rattle.exb_inputs.specs.declared.fault.Fault.{Fault}
@@ -37,3 +38,19 @@ writing-play x (inr e) = subst IsOfNetPlay (sym e) tt
 pub writing-never : (x : Fault) → IsOfWriting x → IsNetChange x → ⊥
 writing-never x (inl e) change = (let z : ⊥ = subst IsNetChange e change in z)
 writing-never x (inr e) change = (let z : ⊥ = subst IsNetChange e change in z)
+
+pub writing-changed : (P : List ℕ → ℕ → Type 0) (x : Fault) → IsOfWriting x → (name : List ℕ) (p at : ℕ) → x ≡ MemberChanged name p at → P name p
+writing-changed P x (inl e) name p at is = (let no : Write ≡ MemberChanged name p at = sym e ∙ is in absurd (cc))
+writing-changed P x (inr e) name p at is = (let no : Memory ≡ MemberChanged name p at = sym e ∙ is in absurd (cc))
+
+pub err-own : {X : Type 0} (x y : Fault) → IsErrOf {T = X} (Err x) y → x ≡ y
+err-own x y e = cc
+
+-- ids that are those that they were
+pub kept-all : (given ids : ℕ → Id) → ((j : ℕ) → ids j ≡ given j) → (ks : List ℕ) → AllByRecursion (λ k. ids k ≡ given k) ks
+kept-all given ids kept [] = tt
+kept-all given ids kept (k ∷ ks) = (kept k, kept-all given ids kept ks)
+
+pub writing-changed-all : {X : Type 0} (P : List ℕ → ℕ → Type 0) (r : Result X Fault) → IfErr r IsOfWriting → (name : List ℕ) (p at : ℕ) → IsErrOf r (MemberChanged name p at) → P name p
+writing-changed-all P (Ok x) causes name p at is = absurd (cc)
+writing-changed-all P (Err x) causes name p at is = writing-changed P x causes name p at (err-own x (MemberChanged name p at) is)

@@ -29,6 +29,7 @@ use Rattle.exb_nets.specs.Nets.{Net, is_wired}
 use Rattle.exb_nets.specs.NetHistory.{Due, Histories, NetEager, due_second, dues}
 use Rattle.exb_nets.specs.Order.{AreHere, AreInOrder, AreTimely, taken_after}
 use Rattle.exb_net_file.specs.declared.apart.NetRest.{NetRest}
+use Rattle.exb_wiring.specs.Delivering.{HaveVids}
 use Rattle.exb_wiring.specs.Playing.{AreOpened, Dones, Plays, tree_in}
 use Rattle.exb_net.specs.declared.net.Net.{Net as Bridges}
 use Rattle.exb_net.specs.declared.node.Node.{Node}
@@ -209,6 +210,7 @@ pub record IsCutAmid (r : NetRun) (now : Files) : Type 0 where
   pub dones : Dones
   pub opened : AreOpened r.net start
   pub plays : Plays r.net ds start dones
+  pub vids : HaveVids r.net
   pub others : OnlyAllPlanned r.plans r.before now
   pub fronts : AreAllFronts r.plans now dones
 
@@ -228,6 +230,8 @@ pub record HasWritten (r : NetRun) (now : Files) (line : List ℕ) : Type 0 wher
 pub record IsAllTold {V : Type 0} {X : V → Type 0} (tells : Type 0) (r : NetRun) (now : Files) (ids : ℕ → Id) (g : NetGame V X) : Type 0 where
   pub dones : Dones
   pub is : IsAt tells r now ids (dues r.net) dones g
+  pub here : AreHere r.net (dues r.net)
+  pub order : AreInOrder (λ b. 0) (dues r.net)
   pub came : ℕ
   pub few_came : came ≤ 2 ^ 49
   pub few : (b : ℕ) → b < r.net.count → (orders : ℕ) × IsFew r.net b came orders (dones b) × (orders ≤ 65536)

@@ -27,7 +27,7 @@ use crate::desk::{Desk, Room, add, finish, note};
 use exb_inputs::Fault;
 use exb_machine::laws::steps_tell_passed;
 use exb_merge::laws::agendas_stay;
-use exb_merge::{Agenda, Came, CaptureFault, NetNext, Next};
+use exb_merge::{Agenda, Came, NetNext, Next};
 use exb_net::Net;
 use exb_net_file::NetRest;
 use exb_net_inputs::of_member;
@@ -100,14 +100,13 @@ fn next_due<S: Shelf>(
 {
     match agenda.next(alloc, shelf, piece) {
         Ok(due) => Ok(due),
-        Err(failure) => match failure.fault {
-            CaptureFault::Changed { port, at } => {
-                let name = rests[failure.bridge as usize].name.as_str();
-                Err(of_member(alloc, name, Fault::Changed { port, at }))
+        Err(failure) => {
+            let fault = Fault::from(failure.fault);
+            match rests.get(failure.bridge as usize) {
+                Some(rest) => Err(of_member(alloc, rest.name.as_str(), fault)),
+                None => Err(fault),
             }
-            CaptureFault::Read => Err(Fault::Read),
-            CaptureFault::Memory => Err(Fault::Memory),
-        },
+        }
     }
 }
 
