@@ -13,12 +13,12 @@ DATA = os.path.join(TOP, "crates/exb_cases/data")
 SECONDS = 60
 
 
-def play(program, words, folder):
+def play(program, words, folder, seconds=SECONDS):
     """Runs the program there. Its status, what it printed, and what it said on standard error."""
     try:
-        ran = subprocess.run([program, *words], cwd=folder, stdin=subprocess.DEVNULL, capture_output=True, timeout=SECONDS)
+        ran = subprocess.run([program, *words], cwd=folder, stdin=subprocess.DEVNULL, capture_output=True, timeout=seconds)
     except subprocess.TimeoutExpired:
-        raise AssertionError(f"exbr {' '.join(words)} had not ended after {SECONDS} seconds") from None
+        raise AssertionError(f"exbr {' '.join(words)} had not ended after {seconds} seconds") from None
     return ran.returncode, ran.stdout.decode(errors="replace"), ran.stderr.decode(errors="replace")
 
 

@@ -57,7 +57,9 @@ class Changing:
         return self.chance.choice([*self.net["bridge"], *self.net["wire"]] if self.is_whole() else [{}])
 
     def is_whole(self):
-        return all(isinstance(self.net.get(key), list) and all(isinstance(it, dict) for it in self.net[key]) for key in ("bridge", "wire"))
+        """There are bridges, and both lists are ones of tables."""
+        lists = [self.net.get(key) for key in ("bridge", "wire")]
+        return bool(lists[0]) and all(isinstance(its, list) and all(isinstance(it, dict) for it in its) for its in lists)
 
     def topologies(self):
         """The names of the topologies that are there and have no fault."""

@@ -49,8 +49,10 @@ class Taken:
 
 
 def drawn_net(chance):
-    """A net, with counters or without."""
-    text, files = nets.drawn(chance.getrandbits(32))
+    """A net of some bridges, with counters or without. Each run brings all its files to the disk, so they are to be few."""
+    text = ""
+    while not 1 <= text.count("[[bridge]]") <= 3:
+        text, files = nets.drawn(chance.getrandbits(32))
     whole, line = nets.run(text, files)
     words = ["net", "net.toml"] + (["--counters"] if chance.random() < 0.5 else [])
     whole = {name: data for name, data in whole.items() if words[2:] or not name.endswith("counters.txt")}

@@ -6,6 +6,8 @@ import unittest
 
 HERE = os.path.dirname(os.path.abspath(__file__))
 PROGRAM = os.environ.get("EXBR_PROGRAM")
+# Each run brings its files to the disk, which are many here: in memory that takes no time.
+MEMORY = ["--room", "/dev/shm"] if os.access("/dev/shm", os.W_OK) else []
 
 
 def ran(*words):
@@ -23,9 +25,9 @@ class Nets(unittest.TestCase):
         """The program does as the second player and the second reader say."""
         if not has_nets():
             self.skipTest("this program's usage line has no word 'net'")
-        found = ran("--program", PROGRAM, "--nets", "20", "--faults", "12", "--jobs", "2", "--quiet")
+        found = ran("--program", PROGRAM, "--nets", "20", "--faults", "12", "--jobs", "2", "--quiet", *MEMORY)
         self.assertEqual(found.returncode, 0, found.stdout + found.stderr)
-        self.assertRegex(found.stdout.splitlines()[-1], r"^nets: \d+ nets of \d+ bridges, [1-9][\d,]* frames across wires, 1\d\d with a fault, 0 differences$")
+        self.assertRegex(found.stdout.splitlines()[-1], r"^nets: \d+ nets of \d+ bridges, [1-9][\d,]* frames across wires, [1-9]\d\d with a fault, 0 differences$")
 
     def test_wrong_players(self):
         """Each is seen in some nets, but those that no file can show."""
