@@ -1,9 +1,5 @@
 -- However a run ended, what it leaves are fronts of the texts of what it told so far.
-use Rattle.std.proofs.Common.{◌≡◌, ◌<◌, ◌⊎◌, inl, inr, ℕ, true, List, [], ◌++◌, Result, Ok, Err, length, take, refl, ap, sym, subst, ◌∙◌}
-use Rattle.std.specs.Prelude.{IfOk, OnErr, String, string_bytes}
-use Rattle.std.specs.declared.alloc.Global.{Global}
-use Rattle.std.proofs.Math.Seq.{take-length}
-use Rattle.std.proofs.lemmas.List.{append-nil}
+use Rattle.std.proofs.Common.{◌≡◌, ◌⊎◌, inl, inr, ℕ, List, ap, sym, subst, ◌∙◌}
 use Rattle.exb_model.specs.Input.{Input, Mode, tree_of}
 use Rattle.exb_model.specs.Setup.{shape_of}
 use Rattle.exb_model.specs.Tree.{Shape, IsTree}

@@ -1,9 +1,5 @@
 -- A topology that is run: what its plan writes is what is told of its external ports.
-use Rattle.std.proofs.Common.{◌≡◌, ◌+◌, ◌<◌, ◌==◌, inl, inr, ℕ, Bool, true, false, List, [], ◌∷◌, Some, Result, Ok, Err, suc, All, refl, ap, sym, subst, ◌∙◌, arith, eq-eqb}
-use mathlib.Core.Path.{fun_ext}
-use Rattle.std.specs.Prelude.{is_some, if◌then◌else◌, String, IfOk, IfErr}
-use Rattle.std.specs.declared.alloc.Global.{Global}
-use Rattle.std.proofs.lemmas.Bool.{lt-ltb, le-ltb, eqb-true, ne_eqb}
+use Rattle.std.proofs.Common.{◌≡◌, ℕ, List, [], Some, ap, sym, subst, ◌∙◌}
 use Rattle.exb_model.specs.EagerHistory.{eager}
 use Rattle.exb_model.specs.Input.{Input, Mode, tree_of}
 use Rattle.exb_model.specs.Tree.{Shape, IsTree, is_external}
