@@ -1,6 +1,6 @@
 -- What arrives over wires: at each wired port, in order, what leaves at the far end.
-use Rattle.std.proofs.Common.{◌≡◌, ◌≢◌, ℕ, zero, suc, ◌+◌, ◌-◌, ◌<◌, ◌≤◌, ◌==◌, ◌&&◌, ◌++◌, Bool, true, false, cond, List, [], ◌∷◌, length, map, get_or, Option, Some, None, refl, ap, sym, ◌∙◌, subst, arith, inl, inr}
-use Rattle.std.specs.Prelude.{flat_map, filter, All, slice_get}
+use Rattle.std.proofs.Common.{◌≡◌, ◌≢◌, ℕ, zero, suc, ◌+◌, ◌-◌, ◌<◌, ◌≤◌, ◌==◌, ◌&&◌, ◌++◌, Bool, true, false, cond, List, [], ◌∷◌, length, map, Option, Some, None, refl, ap, sym, ◌∙◌, subst, arith, inl, inr}
+use Rattle.std.specs.Prelude.{flat_map, filter, All}
 use Rattle.std.specs.List.{range_with_len}
 use Rattle.std.proofs.lemmas.Bool.{cases_Bool, cases_eq, cases_lt, eq-eqb, ne_eqb, eqb-true, and_parts}
 use Rattle.std.proofs.lemmas.List.{append_assoc, append-nil, length-append}
@@ -12,22 +12,22 @@ use Rattle.exb_model.specs.Configuration.{Bridge}
 use Rattle.exb_model.specs.EagerHistory.{arrival_event, is_relayed, opening, with_ups, with_tick, up_event, decided, refusal_of, risen}
 use Rattle.exb_model.specs.FlatBridge.{Sent, sent_by, flat}
 use Rattle.exb_model.specs.History.{Basis, History, bridge_after, command_of}
-use Rattle.exb_model.specs.Input.{Input, Arrival, Coming, Record, Ordered, Captured, all_arrivals, arrivals_at, arrivals_from, basis_of, bounds_of, commands_from, tree_of}
+use Rattle.exb_model.specs.Input.{Input, Arrival, Coming, Ordered, Captured, arrivals_at, arrivals_from, bounds_of, tree_of}
 use Rattle.exb_model.specs.Learning.{Look, learned}
 use Rattle.exb_model.specs.Lists.{Pairwise, numbered}
-use Rattle.exb_model.specs.Ports.{all_ports, below}
+use Rattle.exb_model.specs.Ports.{below}
 use Rattle.exb_model.specs.Refusals.{refusal}
 use Rattle.exb_model.specs.Setup.{Limits}
-use Rattle.exb_model.specs.Tree.{Shape, IsTree, external_ports, is_external, is_port, is_cascade, opening_ports}
+use Rattle.exb_model.specs.Tree.{Shape, IsTree, external_ports, is_external, opening_ports}
 use Rattle.exb_model.proofs.Validity.{no_port_past}
 use Rattle.exb_nets.specs.declared.wires.End.{End}
 use Rattle.exb_nets.specs.declared.wires.Wire.{Wire}
-use Rattle.exb_nets.specs.Nets.{Net, IsEnd, IsNet, across, ends_of, far_end, first_or, is_at}
-use Rattle.exb_nets.specs.NetHistory.{Crossing, Due, Histories, State, IsDrained, NetEager, Goes, GoesSince, all_due, arrival_of, arrives, basis_in, comes, crosses, delivered, delivered_times, due_at, due_second, dues, dues_by_moment, event_of, grown_by, happens, named_at, openings, put_due, due_moment, start_of_all, ticked, with_history}
+use Rattle.exb_nets.specs.Nets.{Net, IsEnd, IsNet, across, ends_of, far_end, first_or}
+use Rattle.exb_nets.specs.NetHistory.{Crossing, Due, Histories, State, NetEager, Goes, GoesSince, arrival_of, arrives, basis_in, comes, crosses, delivered, delivered_times, due_second, dues, event_of, grown_by, happens, named_at, openings, ticked, with_history}
 use Rattle.exb_nets.specs.Held.{CrossingsArrive, IsEventOf, arrivals_as, events_at, is_at_port, leaves_at}
 use Rattle.exb_nets.proofs.Forest.{across_on, none_some, some_same}
 use Rattle.exb_nets.proofs.Recorded.{Each, IsOfRecord, IsRecordOf, IsRecorded, dues_recorded}
-use Rattle.exb_nets.proofs.Soon.{Apart, EndsApart, NotIn, end_at, ends_apart, far_back, ports_apart, same_end, with_here, with_there}
+use Rattle.exb_nets.proofs.Soon.{Apart, EndsApart, NotIn, end_at, ends_apart, far_back, ports_apart, with_here, with_there}
 
 -- ---- arrivals of a port
 -- its events, the oldest first, each with the bridge before it

@@ -1,12 +1,11 @@
 -- Of all that comes to a net, in its order: the commands of one bridge, and the records of one port.
-use Rattle.std.proofs.Common.{◌≡◌, ◌≢◌, ℕ, zero, suc, ◌+◌, ◌*◌, ◌/◌, ◌<◌, ◌≤◌, ◌==◌, ◌&&◌, ◌++◌, Bool, true, false, cond, List, [], ◌∷◌, filter, get_or, length, map, refl, ap, sym, ◌∙◌, subst, arith, inl, inr}
+use Rattle.std.proofs.Common.{◌≡◌, ◌≢◌, ℕ, suc, ◌+◌, ◌*◌, ◌<◌, ◌≤◌, ◌==◌, ◌&&◌, ◌++◌, Bool, true, false, List, [], ◌∷◌, filter, get_or, length, map, refl, ap, sym, ◌∙◌, subst, arith, inl, inr}
 use Rattle.std.specs.Prelude.{flat_map, max, AllPairs}
-use Rattle.std.specs.List.{range_with_len}
-use Rattle.std.proofs.lemmas.Bool.{cases_Bool, cases_eq, eq-eqb, ne_eqb}
+use Rattle.std.proofs.lemmas.Bool.{cases_Bool, eq-eqb, ne_eqb}
 use Rattle.std.proofs.lemmas.List.{append-nil}
 use Rattle.std.proofs.lemmas.List.Elements.{filter-append}
 use Rattle.exb_model.specs.Input.{Input, Arrival, Coming, Given, Record, Ordered, Captured, all_arrivals, arrivals_at, arrivals_from, commands_from}
-use Rattle.exb_model.specs.Ports.{all_ports, below}
+use Rattle.exb_model.specs.Ports.{below}
 use Rattle.exb_nets.specs.Nets.{Net}
 use Rattle.exb_nets.specs.NetHistory.{Due, all_due, due_at, due_moment, dues, start_of_all}
 use Rattle.exb_nets.specs.Order.{AreTimely}

@@ -1,5 +1,5 @@
 -- The history of each bridge holds all that comes to it.
-use Rattle.std.proofs.Common.{◌≡◌, ◌≢◌, ℕ, zero, suc, ◌+◌, ◌-◌, ◌*◌, ◌<◌, ◌≤◌, ◌==◌, ◌&&◌, ◌++◌, Bool, true, false, cond, List, [], ◌∷◌, filter, length, map, Option, Some, None, refl, ap, sym, ◌∙◌, subst, arith, inl, inr}
+use Rattle.std.proofs.Common.{◌≡◌, ◌≢◌, ℕ, zero, suc, ◌+◌, ◌-◌, ◌<◌, ◌==◌, ◌++◌, Bool, true, false, cond, List, [], ◌∷◌, filter, length, map, Option, Some, None, refl, ap, sym, ◌∙◌, subst, arith, inl, inr}
 use Rattle.std.specs.Prelude.{filter_map, flat_map, reverse}
 use Rattle.std.specs.List.{range_with_len}
 use Rattle.std.specs.Option.{IsSomeAnd}
@@ -11,7 +11,7 @@ use Rattle.exb_model.specs.declared.event.Cause.{Cause}
 use Rattle.exb_model.specs.declared.event.Event.{Event}
 use Rattle.exb_model.specs.declared.event.Event.TheVariants as event
 use Rattle.exb_model.specs.Configuration.{Bridge}
-use Rattle.exb_model.specs.EagerHistory.{arrival_event, decided, is_relayed, opening, refusal_of, risen, up_event, with_tick, with_ups}
+use Rattle.exb_model.specs.EagerHistory.{arrival_event, decided, is_relayed, refusal_of, risen, up_event, with_tick, with_ups}
 use Rattle.exb_model.specs.FlatBridge.{Sent}
 use Rattle.exb_model.specs.History.{Basis, History, bridge_after, command_of}
 use Rattle.exb_model.specs.Input.{Arrival, Coming, Given, Ordered, Captured, arrivals_at, bounds_of, commands_from, number_in, tree_of}
@@ -23,14 +23,14 @@ use Rattle.exb_model.specs.Tree.{Shape, external_ports, opening_ports}
 use Rattle.exb_model.specs.declared.command.Command.TheVariants as command
 use Rattle.exb_nets.specs.declared.wires.End.{End}
 use Rattle.exb_nets.specs.Nets.{Net, IsNet, ends_of, far_end}
-use Rattle.exb_nets.specs.NetHistory.{Crossing, Due, Histories, State, NetEager, Goes, GoesSince, arrival_of, arrives, basis_in, comes, crosses, delivered, delivered_times, due_at, due_second, dues, event_of, grown_by, happens, openings, start_of_all, ticked, with_history}
+use Rattle.exb_nets.specs.NetHistory.{Crossing, Due, Histories, State, NetEager, Goes, GoesSince, arrival_of, basis_in, comes, crosses, delivered, delivered_times, due_at, due_second, dues, event_of, grown_by, happens, openings, start_of_all, ticked}
 use Rattle.exb_nets.specs.Order.{AreTimely}
 use Rattle.exb_nets.specs.Held.{HistoriesHoldAll, HoldsAll, IsEventOf, arrivals_as, arrivals_in, arrivals_over, events_at, is_at_port, leaves_at}
 use Rattle.exb_nets.proofs.Arrived.{IsEntry, at_port, command_no_port, entries_at, entries_more, entries_other, crossings_arrive, crossings_enter, pairs_more, told_events}
 use Rattle.exb_nets.proofs.Chosen.{order_of, orders_due, record_of, records_due}
 use Rattle.exb_nets.proofs.Forest.{none_some}
 use Rattle.exb_nets.proofs.Recorded.{Each, IsOfRecord, IsRecorded, at_seam, dues_each, dues_recorded, each_both}
-use Rattle.exb_nets.proofs.Soon.{EndsApart, end_at, ends_apart, far_back, with_here, with_there}
+use Rattle.exb_nets.proofs.Soon.{end_at, ends_apart, far_back, with_here, with_there}
 
 -- ---- commands that a history tells
 abbrev told : History → List ℕ

@@ -1,7 +1,6 @@
 -- What comes as a record is one: the one of its port that has its index.
-use Rattle.std.proofs.Common.{◌≡◌, ℕ, zero, suc, ◌+◌, ◌++◌, nat_lt, List, [], ◌∷◌, length, map, Option, Some, None, refl, ap, sym, ◌∙◌, subst, arith, inl, inr}
+use Rattle.std.proofs.Common.{◌≡◌, ℕ, suc, ◌++◌, nat_lt, List, [], ◌∷◌, length, map, Some, refl, ap, sym, ◌∙◌, subst, arith, inl, inr}
 use Rattle.std.specs.Prelude.{flat_map, max, slice_get}
-use Rattle.std.specs.List.{range_with_len}
 use Rattle.std.proofs.lemmas.Bool.{cases_Bool}
 use Rattle.std.proofs.lemmas.List.{append_assoc, length-append}
 use Rattle.exb_model.specs.Input.{Input, Arrival, Coming, Given, Record, Ordered, Captured, all_arrivals, arrivals_at, arrivals_from, commands_from}

@@ -1,9 +1,8 @@
 -- Queues end soon: each bridge has at most one arrival for an event, over the one wire that leads down to it.
-use Rattle.std.proofs.Common.{◌≡◌, ◌≢◌, ◌⊎◌, ℕ, zero, suc, ◌+◌, ◌-◌, ◌<◌, ◌≤◌, ◌==◌, ◌++◌, Bool, true, false, cond, List, [], ◌∷◌, length, map, get_or, Option, Some, None, refl, ap, sym, ◌∙◌, subst, arith, inl, inr}
+use Rattle.std.proofs.Common.{◌≡◌, ◌≢◌, ◌⊎◌, ℕ, zero, suc, ◌+◌, ◌<◌, ◌≤◌, ◌==◌, ◌++◌, Bool, true, false, cond, List, [], ◌∷◌, length, map, get_or, Option, Some, None, refl, ap, sym, ◌∙◌, subst, arith, inl, inr}
 use Rattle.std.specs.Prelude.{flat_map, filter, AllPairs}
 use Rattle.std.specs.List.{range_with_len}
 use Rattle.std.proofs.lemmas.Bool.{cases_Bool, cases_eq, eq-eqb, ne_eqb}
-use Rattle.exb_model.specs.declared.command.Command.{Command}
 use Rattle.exb_model.specs.declared.event.Event.{Event}
 use Rattle.exb_model.specs.declared.event.Event.TheVariants as event
 use Rattle.exb_model.specs.declared.vlan.Kind.{Kind}
@@ -11,7 +10,7 @@ use Rattle.exb_model.specs.Configuration.{Bridge}
 use Rattle.exb_model.specs.EagerHistory.{arrival_event}
 use Rattle.exb_model.specs.FlatBridge.{Sent, sent_as, sent_by}
 use Rattle.exb_model.specs.History.{History, bridge_after}
-use Rattle.exb_model.specs.Input.{Arrival, tree_of}
+use Rattle.exb_model.specs.Input.{tree_of}
 use Rattle.exb_model.specs.Learning.{Look, learned, passes}
 use Rattle.exb_model.specs.Ports.{all_ports, below}
 use Rattle.exb_model.specs.Targets.{target}
@@ -19,10 +18,10 @@ use Rattle.exb_model.specs.Tree.{Shape, external_ports, is_external}
 use Rattle.exb_nets.specs.declared.wires.End.{End}
 use Rattle.exb_nets.specs.declared.wires.Wire.{Wire}
 use Rattle.exb_nets.specs.Nets.{Net, across, ends_of, far_end, first_or, is_at}
-use Rattle.exb_nets.specs.NetHistory.{Crossing, Due, Histories, State, arrival_of, basis_in, comes, crosses, delivered_times, event_of, grown_by, named_at, with_history}
+use Rattle.exb_nets.specs.NetHistory.{Crossing, Histories, State, arrival_of, basis_in, crosses, delivered_times, event_of, grown_by, named_at, with_history}
 use Rattle.exb_nets.specs.Ending.{QueuesEndSoon, named_in}
 use Rattle.exb_nets.proofs.Back.{nothing_goes_back}
-use Rattle.exb_nets.proofs.Forest.{IsOn, IsRooted, across_on, at_is, forest, none_some, some_same}
+use Rattle.exb_nets.proofs.Forest.{IsRooted, across_on, at_is, forest, none_some, some_same}
 use Rattle.exb_nets.proofs.Once.{stays}
 
 -- ---- lists of numbers without repeats

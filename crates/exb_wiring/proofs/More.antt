@@ -1,5 +1,5 @@
 -- One event of a net, told by numbers.
-use Rattle.std.proofs.Common.{◌≡◌, ◌≢◌, ℕ, zero, suc, ◌+◌, ◌-◌, ◌<◌, ◌≤◌, ◌==◌, ◌++◌, Bool, true, false, cond, List, [], ◌∷◌, length, Option, Some, None, refl, ap, sym, ◌∙◌, subst, arith, inl, inr}
+use Rattle.std.proofs.Common.{◌≡◌, ◌≢◌, ℕ, zero, suc, ◌+◌, ◌<◌, ◌≤◌, ◌==◌, ◌++◌, Bool, true, false, cond, List, [], ◌∷◌, length, Option, Some, None, refl, ap, sym, ◌∙◌, subst, arith, inl, inr}
 use Rattle.std.specs.Prelude.{fold}
 use Rattle.std.proofs.lemmas.Bool.{cases_Bool, cases_eq, eq-eqb, ne_eqb, eqb-true}
 use Rattle.std.proofs.lemmas.List.{append-nil, append_assoc, length-append}
@@ -19,7 +19,7 @@ use Rattle.exb_relay.specs.Laws.{SendsAreWords, SendsLeaveAsFlat}
 use Rattle.exb_changing.specs.Runs.Journal.{StepsTell}
 use Rattle.exb_machine.specs.Settling.{run}
 use Rattle.exb_machine.specs.Stepping.{Stepped, stepped}
-use Rattle.exb_machine.specs.Worlds.{Step, Arrive, Order, Tick, Left}
+use Rattle.exb_machine.specs.Worlds.{Step, Arrive, Order, Left}
 use Rattle.exb_machine.specs.Runs.Sessions.{Each}
 use Rattle.exb_machine.specs.Runs.Written.{StepsStayWritten}
 use Rattle.exb_resting.specs.Flight.Showing.{left_at}
