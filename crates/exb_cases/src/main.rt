@@ -8,7 +8,7 @@
 use exb_fate::{Fate, ScriptFate};
 use exb_run::{more_fates, run};
 use exb_shelf::{FileShelf, OpenFault, OutSink, Shelf, read_file};
-use std::alloc::Global;
+use std::alloc::{AllocError, Global};
 use std::{fs, io};
 
 /// The most bytes of a file that is compared.
@@ -83,7 +83,9 @@ fn play(rt: HostRuntime, name: &str, wanted: &str, told: &str, files: &str) -> i
     let mut shelf = FileShelf::new(alloc, rt);
     let mut out = OutSink::new(rt);
     let fate: Box<dyn Fate> = Box::new(alloc, ScriptFate::new(alloc))?;
-    let more = more_fates(alloc)?;
+    let Ok(more) = more_fates(alloc) else {
+        return Err(io::Error::from(AllocError));
+    };
     let status = run(alloc, &words, &mut shelf, &mut out, fate, more);
     if wanted.parse::<u8>() != Ok(status) {
         println!(rt; "{name}: {status} in place of {wanted}")?;

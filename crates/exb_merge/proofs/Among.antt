@@ -51,7 +51,7 @@ record-first (c ∷ cs) r ys all =
 abbrev pub Rising : List Timed → Type 0
 Rising cs = AllPairs (λ c d. c.at ≤ d.at) cs
 
-rising-drop : (n : ℕ) (cs : List Timed) → Rising cs → Rising (drop n cs)
+pub rising-drop : (n : ℕ) (cs : List Timed) → Rising cs → Rising (drop n cs)
 rising-drop n cs rising a b d low within =
     let size = length-drop n cs in
     let one = ap (λ (x : Timed). x.at) (get_or-drop n cs a d) in

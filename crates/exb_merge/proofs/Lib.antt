@@ -17,3 +17,7 @@ pub mod Playing
 mod Counts
 pub mod Sorting
 pub mod NetOrder
+pub mod NetStart
+pub mod NetReads
+pub mod Turning
+pub mod NetSteps

@@ -251,6 +251,11 @@ comings_append b (t ∷ ts) us =
     ap (λ (ds : List Due). due_at b (still_to_come t) ++ ds) (comings_append (suc b) ts us ∙ ap (λ (k : ℕ). comings_from (suc b) ts ++ comings_from k us) e)
     ∙ sym (append_assoc (due_at b (still_to_come t)) (comings_from (suc b) ts) (comings_from (b + suc (length ts)) us))
 
+comings_at : (ts us : List ToPlay) → comings_from 0 (ts ++ us) ≡ comings_from 0 ts ++ comings_from (length ts) us
+comings_at ts us =
+    let e : 0 + length ts ≡ length ts = omega arith in
+    comings_append 0 ts us ∙ ap (λ (k : ℕ). comings_from 0 ts ++ comings_from k us) e
+
 records_all : (ts : List ToPlay) (m : ℕ) → AllByRecursion (IsAfter m) ts → AllByRecursion HasRecords ts
 records_all [] m all = tt
 records_all (t ∷ ts) m all = (all.0.has, records_all ts m all.1)
@@ -269,8 +274,8 @@ first_of_all before after t t' x is has has' ahead behind =
     let E : List Due = comings_from (suc b) after in
     let rest : List Due = due_at b (still_to_come t') ++ E in
     let old : comings_from 0 (before ++ t ∷ after) ≡ C ++ due b x ∷ rest =
-    comings_append 0 before (t ∷ after) ∙ ap (λ (xs : List Coming). C ++ (due_at b xs ++ E)) is in
-    let new : comings_from 0 (before ++ t' ∷ after) ≡ C ++ rest = comings_append 0 before (t' ∷ after) in
+    comings_at before (t ∷ after) ∙ ap (λ (xs : List Coming). C ++ (due_at b xs ++ E)) is in
+    let new : comings_from 0 (before ++ t' ∷ after) ≡ C ++ rest = comings_at before (t' ∷ after) in
     let own : IsSorted due_turn (due b x ∷ due_at b (still_to_come t')) = subst (λ (xs : List Coming). IsSorted due_turn (due_at b xs)) is (sorted_left b t has) in
     let front = records_all before (suc (coming_turn x)) ahead in
     let back = records_all after (coming_turn x) behind in
@@ -311,8 +316,8 @@ first_with (c ∷ cs) start n (Captured a ∷ rs) rising all = by_test (nat_le (
         let less : a.moment < (start + c.at) * 1000000000 = not-first ((start + c.at) * 1000000000) a.moment e in
         let least : min (2 * ((start + c.at) * 1000000000)) (2 * a.moment + 1) ≡ 2 * a.moment + 1 = omega (arith, less) in
         ap Some least
-        ∙ sym (ap first_turn (record-first (commands_from start n (map given_by (c ∷ cs))) (Captured a) rs (less, later (commands_from start (suc n) (map given_by cs)) (rising-commands start n c cs rising))))
+        ∙ sym (ap first_turn (record-first (commands_from start n (map given_by (c ∷ cs))) (Captured a) rs (less, later less (commands_from start (suc n) (map given_by cs)) (rising-commands start n c cs rising))))
       where
-        later : (xs : List Coming) → NoneBefore ((start + c.at) * 1000000000) xs → NoneBefore (suc a.moment) xs
-        later [] none = tt
-        later (x ∷ xs) none = (omega (arith, less, none.0), later xs none.1)
+        later : a.moment < (start + c.at) * 1000000000 → (xs : List Coming) → NoneBefore ((start + c.at) * 1000000000) xs → NoneBefore (suc a.moment) xs
+        later less [] none = tt
+        later less (x ∷ xs) none = (omega (arith, less, none.0), later less xs none.1)

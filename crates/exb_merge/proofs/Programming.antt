@@ -46,11 +46,11 @@ one_earliest r (Some m) (Some k) p q =
     let same : m ≡ k = omega (arith, has_low r.sources.items m k p.0 q.1, has_low r.sources.items k m q.0 p.1) in
     ap Some same
 
-none_from : (m : ℕ) (xs : List Again) → AllByRecursion (λ (s : Again). s.next ≡ None) xs → AllByRecursion (λ (s : Again). IfSome s.next (λ k. m ≤ k)) xs
+pub none_from : (m : ℕ) (xs : List Again) → AllByRecursion (λ (s : Again). s.next ≡ None) xs → AllByRecursion (λ (s : Again). IfSome s.next (λ k. m ≤ k)) xs
 none_from m [] all = tt
 none_from m (s ∷ xs) all = (let P : Option ℕ → Type 0 = λ x. IfSome x (λ j. m ≤ j) in subst P (sym all.0) tt, none_from m xs all.1)
 
-weaker_from : (m k : ℕ) (xs : List Again) → m ≤ k → AllByRecursion (λ (s : Again). IfSome s.next (λ j. k ≤ j)) xs → AllByRecursion (λ (s : Again). IfSome s.next (λ j. m ≤ j)) xs
+pub weaker_from : (m k : ℕ) (xs : List Again) → m ≤ k → AllByRecursion (λ (s : Again). IfSome s.next (λ j. k ≤ j)) xs → AllByRecursion (λ (s : Again). IfSome s.next (λ j. m ≤ j)) xs
 weaker_from m k [] low all = tt
 weaker_from m k (s ∷ xs) low all = (own s.next all.0, weaker_from m k xs low all.1)
   where

@@ -59,7 +59,7 @@ seconds-after m [] all = tt
 seconds-after m (a ∷ arrived) all = (omega (arith, all.0), seconds-after m arrived all.1)
 
 -- of the records of a capture only the first counts
-least-firsts : (d : ℕ) (streams : List Stream) → least_or d (map (λ a. second_of a.moment) (flat_map arrivals_of streams)) ≡ least_or d (first_seconds streams)
+pub least-firsts : (d : ℕ) (streams : List Stream) → least_or d (map (λ a. second_of a.moment) (flat_map arrivals_of streams)) ≡ least_or d (first_seconds streams)
 least-firsts d [] = refl
 least-firsts d (s ∷ streams) =
     by_arrivals (λ e. least-firsts e streams) (arrivals_of s) (λ m first. none_arrives-next m s (λ k e. first k e))

@@ -27,7 +27,7 @@ NoTurnBefore m place = AllByRecursion (NotBefore m place)
 pub not_before-moment : (m place k n : ℕ) → is_lt (ordering_then (nat_cmp k m) (nat_cmp n place)) ≡ false → m ≤ k
 not_before-moment m place k n h = grind (arith, nat_tests)
 
-not_before-later : (m place k n : ℕ) → is_lt (ordering_then (nat_cmp k m) (nat_cmp n place)) ≡ false → n < place → m < k
+pub not_before-later : (m place k n : ℕ) → is_lt (ordering_then (nat_cmp k m) (nat_cmp n place)) ≡ false → n < place → m < k
 not_before-later m place k n h lt = grind (arith, nat_tests)
 
 -- where no turn comes before, none of the captures behind that place has an arrival before that moment

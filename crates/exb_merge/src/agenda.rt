@@ -1,11 +1,12 @@
 //! The programmes of all bridges of a net, in the order in which the net is given what comes.
-ghost use Rattle.std.specs.Prelude.{◌≡◌, ◌+◌, ◌^◌, ◌<◌, ◌≤◌, ◌∷◌, ◌++◌, [], ℕ, List, true, false, Some, length, IfOk, OnOk, IfSome, IfNone, IsErrOf};
+ghost use Rattle.std.specs.Prelude.{◌≡◌, ◌*◌, ◌<◌, ◌≤◌, ◌∷◌, ◌++◌, [], ℕ, List, true, false, None, length, IfOk, OnOk, IfSome, IfNone, IsErrOf};
 ghost use Rattle.std.specs.List.{AllByRecursion};
+ghost use Rattle.exb_model.specs.Input.{moment_of};
 ghost use Rattle.exb_shelf.specs.Files.{SameFiles};
 ghost use Rattle.exb_shelf.specs.Shelf.{Id, Rose, NoFewer};
 ghost use Rattle.exb_merge.specs.Counting.{CountsAgain, CountsNext};
 ghost use Rattle.exb_merge.specs.NetAgendas.{AreAllReplays, ComesTo, IsAgenda, IsFirstOf, IsOfBridge, IsSeated, all_ids, programmes_in};
-ghost use Rattle.exb_merge.specs.Programmes.{IsComing, IsProgramme, IsTakenOf};
+ghost use Rattle.exb_merge.specs.Programmes.{IsComing, IsProgramme, IsTakenOf, what};
 ghost use Rattle.exb_merge.specs.Replays.{AreReplays, HasPort, IsWithin, ReadsOn, ids_in, standings};
 ghost use Rattle.exb_merge.specs.Streams.{Stream};
 
@@ -63,6 +64,7 @@ impl Seat<'_> {
         ensures piece { length piece.new ≡ length piece.old }
         ensures seated { OnOk result (IsSeated (S.ids shelf.new) self.new) }
         ensures coming { IfOk result (λ next. IfSome next (λ d. IsComing self.old.programme d self.new.programme)) }
+        ensures turn { IfOk result (λ next. IfSome next (λ d. IfSome self.old.turn (λ t. 2 * moment_of (what d) ≤ t))) }
         ensures end { IfOk result (λ next. IfNone next (self.old.turn ≡ None)) }
 
         ensures order { S.tells → IfOk result (λ next. IfSome next (λ d. IsTakenOf (S.file shelf.old) (S.file shelf.new) (S.ids shelf.old) (S.ids shelf.new) self.old.programme d self.new.programme)) }

@@ -1,5 +1,5 @@
 //! Commands, and the records of captures that are read again, in the order in which they are played.
-ghost use Rattle.std.specs.Prelude.{◌≡◌, ◌-◌, ◌^◌, ◌<◌, ◌≤◌, ℕ, List, [], ◌∷◌, true, false, Some, None, length, take, drop, AllPairs, IfOk, OnOk, IfSome, IfNone, IsErrOf};
+ghost use Rattle.std.specs.Prelude.{◌≡◌, ◌+◌, ◌-◌, ◌*◌, ◌^◌, ◌<◌, ◌≤◌, ℕ, List, [], ◌∷◌, true, false, Some, None, length, take, drop, AllPairs, IfOk, OnOk, IfSome, IfNone, IsErrOf};
 ghost use Rattle.exb_model.specs.Input.{moment_of, second_of};
 ghost use Rattle.exb_shelf.specs.Files.{SameFiles};
 ghost use Rattle.exb_shelf.specs.Shelf.{Id, Rose, NoFewer};
@@ -74,7 +74,8 @@ impl<'a> Programme<'a> {
     #[inline(always)]
     fn command_moment(&self) -> Option<u64>
         requires start { self.now.start < 2 ^ 32 }
-        ensures { result ≡ first_moment (commands_left (played_with [] self.now)) }
+        ensures value { result ≡ first_moment (commands_left (played_with [] self.now)) }
+        ensures before { IfSome result (λ m. m < (self.now.start + 2 ^ 32) * 1000000000) }
     {
         match self.commands.get(self.taken) {
             Some(command) => Some(moment_after(self.start, command.at)),

@@ -1,6 +1,6 @@
 -- What the wires of a net are depends of each bridge on its name, its tree and its captures alone.
 use Rattle.std.proofs.Common.{◌≡◌, ◌+◌, ◌++◌, ◌∙◌, ◌==◌, ℕ, zero, suc, Bool, true, false, List, [], ◌∷◌, Option, Some, None, Result, Ok, Err, length, map, refl, ap, sym, if◌then◌else◌}
-use Rattle.std.specs.Prelude.{codes, nat_lt, option_map, sum_by}
+use Rattle.std.specs.Prelude.{codes, fold, nat_lt, option_map}
 use Rattle.std.specs.List.{list_any}
 use Rattle.std.specs.Str.{bytes_eq}
 use Rattle.exb_model.specs.Tree.{Shape, external_ports}
@@ -33,10 +33,16 @@ pub tree_same : (m : NetMember) → tree_in m ≡ tree_in (alone m)
 tree_same m = shape_alone m.topology.setup
 
 -- ---- ports
+abbrev with_ports : ℕ → NetMember → ℕ
+with_ports n m = n + length (external_ports (tree_in m))
+
+ports_from : (n : ℕ) (ms : List NetMember) → fold with_ports n ms ≡ fold with_ports n (map alone ms)
+ports_from n [] = refl
+ports_from n (m ∷ ms) = ap (λ (t : Shape). fold with_ports (n + length (external_ports t)) ms) (tree_same m) ∙ ports_from (with_ports n (alone m)) ms
+
 pub ports_same : (ms : List NetMember) → ports_together ms ≡ ports_together (map alone ms)
 unfolding ports_together
-ports_same [] = refl
-ports_same (m ∷ ms) = ap (λ (t : Shape). length (external_ports t) + ports_together ms) (tree_same m) ∙ ap (λ (n : ℕ). length (external_ports (tree_in (alone m))) + n) (ports_same ms)
+ports_same ms = ports_from 0 ms
 
 -- ---- files
 outputs_same : (m : NetMember) → outputs_in m ≡ outputs_in (alone m)
@@ -61,17 +67,17 @@ each_same ms all i [] = refl
 each_same ms all i (k ∷ ks) = rw (files_same_at ms [] i k, each_same ms all (i + 1) ks) refl
 
 -- ---- ends
-of_pair : ℕ × NetMember → ℕ × NetMember
+abbrev of_pair : ℕ × NetMember → ℕ × NetMember
 of_pair p = (p.0, alone p.1)
 
 member_same : (i : ℕ) (name : List ℕ) (ms : List NetMember) → member_from i name (map alone ms) ≡ option_map of_pair (member_from i name ms)
 unfolding member_from
 member_same i name [] = refl
-member_same i name (m ∷ ms) = by_name (bytes_eq m.name name)
+member_same i name (m ∷ ms) = by_name (bytes_eq m.name name) (member_same (i + 1) name ms)
   where
-    by_name : (b : Bool) → (if b then Some (i, alone m) else member_from (i + 1) name (map alone ms)) ≡ option_map of_pair (if b then Some (i, m) else member_from (i + 1) name ms)
-    by_name true = refl
-    by_name false = member_same (i + 1) name ms
+    by_name : (b : Bool) → member_from (i + 1) name (map alone ms) ≡ option_map of_pair (member_from (i + 1) name ms) → (if b then Some (i, alone m) else member_from (i + 1) name (map alone ms)) ≡ option_map of_pair (if b then Some (i, m) else member_from (i + 1) name ms)
+    by_name true rest = refl
+    by_name false rest = rest
 
 free_same : (m : NetMember) (taken : List End) (key : List ℕ) (e : End) → port_free m taken key e ≡ port_free (alone m) taken key e
 unfolding port_free

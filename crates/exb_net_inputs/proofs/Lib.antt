@@ -5,3 +5,5 @@ pub mod Members
 pub mod Alone
 pub mod Refused
 pub mod Given
+pub mod Whole
+pub mod Loops

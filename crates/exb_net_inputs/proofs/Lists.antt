@@ -1,6 +1,7 @@
 -- Two lists that go together, and what is opened for one element of a list after another.
-use Rattle.std.proofs.Common.{◌≡◌, ◌<◌, ◌+◌, ◌++◌, ◌⊎◌, inl, inr, ℕ, zero, suc, List, [], ◌∷◌, Some, length, take, get_or, refl, ap, sym, subst, ◌∙◌, arith}
-use Rattle.std.specs.Prelude.{All, slice_get}
+use Rattle.std.proofs.Common.{◌≡◌, ◌<◌, ◌+◌, ◌++◌, ◌⊎◌, inl, inr, ℕ, zero, suc, List, [], ◌∷◌, Some, length, map, take, get_or, refl, ap, sym, subst, ◌∙◌, arith}
+use Rattle.std.specs.Prelude.{All, AllPairs, slice_get}
+use Rattle.std.proofs.lemmas.List.{get_or-map, length-map}
 use Rattle.std.proofs.lemmas.List.Elements.{All-append}
 use Rattle.exb_shelf.specs.Shelf.{Id, Opens}
 use Rattle.exb_shelf.proofs.IdLemmas.{opens_none, opens_same, opens_then, opens_weaker}
@@ -21,6 +22,11 @@ front_at (y ∷ ys) zero k x is = absurd (cc)
 front_at (y ∷ ys) (suc n) zero x is = is
 front_at (y ∷ ys) (suc n) (suc k) x is = front_at ys n k x is
 
+-- nothing stands among the first none
+pub nothing_at : {A Q : Type 0} (xs : List A) (k : ℕ) (x : A) → slice_get (take 0 xs) k ≡ Some x → Q
+nothing_at [] k x is = absurd (cc)
+nothing_at (y ∷ ys) k x is = absurd (cc)
+
 -- an element of a list with one more is one of it or that
 pub pushed_at : {A : Type 0} (xs : List A) (k : ℕ) (x y : A) → slice_get (xs ++ y ∷ []) k ≡ Some x → (slice_get xs k ≡ Some x) ⊎ (x ≡ y)
 pushed_at [] zero x y is = inr cc
@@ -40,6 +46,26 @@ one P x p (suc k) d h = absurd (omega arith)
 
 pub all_push : {X : Type 0} (P : X → Type 0) (xs : List X) (x : X) → All P xs → P x → All P (xs ++ x ∷ [])
 all_push P xs x h p = All-append P xs (x ∷ []) h (one P x p)
+
+-- ---- what holds of each holds of what is seen of each
+module _ {X Y : Type 0} (f : X → Y) where
+  within : (xs : List X) (k : ℕ) → k < length xs → k < length (map f xs)
+  within xs k low = subst (λ (n : ℕ). k < n) (sym (length-map xs f)) low
+
+  pub all_unmap : (P : Y → Type 0) (xs : List X) → All P (map f xs) → All (λ (x : X). P (f x)) xs
+  all_unmap P xs h k d low = subst P (get_or-map f xs k d (f d) low) (h k (f d) (within xs k low))
+
+  pub pairs_unmap : (R : Y → Y → Type 0) (xs : List X) → AllPairs R (map f xs) → AllPairs (λ (x y : X). R (f x) (f y)) xs
+  pairs_unmap R xs h i j d less low =
+      subst (λ (y : Y). R y (f (get_or xs j d))) (get_or-map f xs i d (f d) (omega (arith, less, low)))
+      (subst (λ (y : Y). R (get_or (map f xs) i (f d)) y) (get_or-map f xs j d (f d) low) (h i j (f d) less (within xs j low)))
+
+  pub pairs_map : (R : Y → Y → Type 0) (xs : List X) → AllPairs (λ (x y : X). R (f x) (f y)) xs → AllPairs R (map f xs)
+  pairs_map R [] h i j d less low = absurd (omega (arith, low))
+  pairs_map R (x ∷ xs) h i j d less low =
+      let under : j < length (x ∷ xs) = subst (λ (n : ℕ). j < n) (length-map (x ∷ xs) f) low in
+      subst (λ (y : Y). R y (get_or (map f (x ∷ xs)) j d)) (sym (get_or-map f (x ∷ xs) i x d (omega (arith, less, under))))
+      (subst (λ (y : Y). R (f (get_or (x ∷ xs) i x)) y) (sym (get_or-map f (x ∷ xs) j x d under)) (h i j x less under))
 
 -- ---- two lists
 module _ {A B : Type 0} (R : A → B → Type 0) where

@@ -1,6 +1,7 @@
 -- The captures of bridges, bridge after bridge.
 use Rattle.std.proofs.Common.{◌≡◌, ◌≢◌, ◌<◌, ◌≤◌, ◌+◌, ◌++◌, ◌∙◌, ◌⊎◌, inl, inr, ℕ, zero, suc, true, List, [], ◌∷◌, Some, Result, Ok, Err, length, map, take, get_or, refl, ap, sym, subst, arith}
 use Rattle.std.specs.Prelude.{All, slice_get}
+use Rattle.std.proofs.lemmas.Bool.{cases_eq}
 use Rattle.exb_shelf.specs.Files.{Files}
 use Rattle.exb_shelf.specs.Shelf.{Id, IsReadingOf, Opens}
 use Rattle.exb_shelf.proofs.IdLemmas.{opens_none, opens_then, opens_weaker}
@@ -25,7 +26,7 @@ use Rattle.exb_net_inputs.proofs.Opened.{all_get, next_taken}
 pub ends_within : (tells : Type 0) (m : NetMember) (file : Files) (given ids : ℕ → Id) (x y : Fault) → IsOfCapture x → Is y (member_fault m.name x) → EndsAt tells m.topology.captures file given ids x → EndsWithin tells m file given ids y
 ends_within tells m file given ids x y of is ends = record {
   port = ends.port;
-  own = λ name q flaw e. (let named = capture_named m.name x y name q flaw of is e in (named.0, ends.own q flaw named.1));
+  own = λ name q flaw e. (let named = capture_named m.name x y name q flaw of is e in let its = ends.own q flaw named.1 in (named.0, its.0, its.1));
   before = ends.before;
   opened = ends.opened;
 }
@@ -102,13 +103,19 @@ module _ (ms : List NetMember) (i : ℕ) (m : NetMember) (low : i < length ms) (
     here = own;
   }
 
--- checking ends between two bridges, for want of memory
-pub ends_between : (tells : Type 0) (ms : List NetMember) (i : ℕ) (file : Files) (given ids : ℕ → Id) → (tells → AreAllMembersGood (take i ms) file) → Opens (ReadsMemberBelow ms i 0) given ids → EndsAtMember tells ms file given ids Memory
-ends_between tells ms i file given ids good before = record {
-  bridge = i;
+-- checking ends behind a bridge, for want of memory
+pub ends_between : (tells : Type 0) (ms : List NetMember) (i : ℕ) (m : NetMember) → i < length ms → m ≡ get_or ms i m → (file : Files) (given ids : ℕ → Id) → (tells → AreAllMembersGood (take i ms) file) → (tells → AreGood m file)
+    → Opens (ReadsMemberBelow ms (i + 1) 0) given ids → EndsAtMember tells ms file given ids Memory
+ends_between tells ms i m low is file given ids good one below = record {
+  bridge = i + 1;
   port = 0;
   own = λ name q flaw e. absurd (cc);
-  before = λ t b k under at. all_get (λ (c : NetMember). AreGood c file) (take i ms) b k (good t) (taken_at ms i b k under at);
+  before = λ t b k under at. elim (cases_eq b i) [
+    | inl same ↦
+        let k_is : k ≡ m = some_once (slice_get ms i) k m (ap (slice_get ms) (sym same) ∙ at) (get_here ms i m low (sym is)) in
+        subst (λ (c : NetMember). AreGood c file) (sym k_is) (one t)
+    | inr other ↦ all_get (λ (c : NetMember). AreGood c file) (take i ms) b k (good t) (taken_at ms i b k (omega (arith, under, other)) at)
+  ];
   lower = λ t k q at under. absurd (omega (arith, under));
-  opened = opens_weaker (ReadsMemberBelow ms i 0) (ReadsMemberBelow ms i (0 + 1)) given ids (below_more ms i i 0 (0 + 1) (inr (refl, omega arith))) before;
+  opened = opens_weaker (ReadsMemberBelow ms (i + 1) 0) (ReadsMemberBelow ms (i + 1) (0 + 1)) given ids (below_more ms (i + 1) (i + 1) 0 (0 + 1) (inr (refl, omega arith))) below;
 }

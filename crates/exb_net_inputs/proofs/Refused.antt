@@ -68,7 +68,7 @@ first_refused_once bs file x y p q = elim (cases_lt p.index q.index) [
 members_held_not : (bs : List NetBridge) (file : Files) (ms : List NetMember) (x : Fault) → HoldsMembers bs file ms → FirstRefused bs file x → ⊥
 members_held_not bs file ms x holds first =
     let found = both_some (HoldsMember file) bs ms first.index first.bridge holds first.is_there in
-    own_held_not file first.bridge x (found.0.topology, found.1.1.holds) first.here
+    own_held_not file first.bridge x (found.0.topology, found.2.holds) first.here
 
 -- ---- the wires
 -- bridges that are held are seen in one way
@@ -186,9 +186,9 @@ first_member_same ms ks file x same p =
     record {
       bridge = p.bridge;
       member = found.0;
-      is_there = found.1.0;
-      before = λ b k under at. (let back = alone_get ks ms b k (sym same) at in good_same back.0 k file (sym back.1.1) (p.before b back.0 under back.1.0));
-      here = fault_same p.member found.0 file x found.1.1 p.here;
+      is_there = found.1;
+      before = λ b k under at. (let back = alone_get ks ms b k (sym same) at in good_same back.0 k file (sym back.2) (p.before b back.0 under back.1));
+      here = fault_same p.member found.0 file x found.2 p.here;
     }
 
 -- a capture that stops a net is one of the bridges that were read

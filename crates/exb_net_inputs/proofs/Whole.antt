@@ -1,6 +1,8 @@
 -- A net is read in three steps: its file, its topologies, its wires.
-use Rattle.std.proofs.Common.{◌≡◌, ◌≤◌, ◌⊎◌, inl, inr, ℕ, true, List, Result, Ok, Err, length, map, refl, ap, sym, subst, ◌∙◌, arith}
-use Rattle.std.specs.Prelude.{All, AllPairs, slice_index_or}
+use Rattle.std.proofs.Common.{◌≡◌, ◌≢◌, ◌≤◌, ◌⊎◌, inl, inr, ℕ, true, List, Result, Ok, Err, length, map, refl, ap, sym, subst, ◌∙◌, arith}
+use Rattle.std.specs.Prelude.{All, AllPairs}
+use Rattle.std.proofs.lemmas.List.{length-map}
+use Rattle.std.proofs.lemmas.List.Elements.{All-map}
 use Rattle.exb_shelf.specs.Files.{Files, SameFiles}
 use Rattle.exb_shelf.specs.Shelf.{Id}
 use Rattle.exb_nets.specs.declared.wires.Wire.{Wire}
@@ -17,15 +19,34 @@ use Rattle.exb_inputs.specs.declared.fault.Fault.TheVariants.{Read, Memory}
 use Rattle.exb_inputs.proofs.Outcomes.{files_same}
 use Rattle.exb_net_inputs.specs.Holding.{AreRead, HoldsMembers, HoldsNet, HoldsNetFile}
 use Rattle.exb_net_inputs.specs.Opening.{OpensTopologies}
+use Rattle.exb_net_inputs.proofs.Lists.{all_unmap, pairs_map, pairs_unmap}
 use Rattle.exb_net_inputs.specs.Refusing.{FirstRefused, IsFileRefused, IsNetRefusal, IsNetRefused}
 
 -- a failure to read, or want of memory
 abbrev pub Failed : Fault → Type 0
 Failed x = (x ≡ Read) ⊎ (x ≡ Memory)
 
--- ---- what holds of names holds of the bridges that have them
-names_all : (P : List ℕ → Type 0) (names : List (List ℕ)) → All P names → (ms : List NetMember) → map (λ (m : NetMember). m.name) ms ≡ names → All (λ (m : NetMember). P m.name) ms
-names_all P names h ms same k d low = let all : All P (map (λ (m : NetMember). m.name) ms) = subst (λ (xs : List (List ℕ)). All P xs) (sym same) h in ?
+-- what was read, whatever the shelf tells
+pub are_read : (net : NetFile) (ms : List NetMember) (ws : List Wire) → IsNetFile net → map (λ (m : NetMember). m.name) ms ≡ map (λ (b : NetBridge). b.name) net.bridges → AreValid ms → All (λ (m : NetMember). IsSound m.topology) ms
+    → wires_of ms net.wires ≡ Ok ws → MakesNets ms ws → AreRead ms ws
+are_read net ms ws is same valid sound wired nets =
+    let of_member : NetMember → List ℕ = λ m. m.name in
+    let of_bridge : NetBridge → List ℕ = λ b. b.name in
+    let long : length ms ≡ length net.bridges = sym (length-map ms of_member) ∙ (ap length same ∙ length-map net.bridges of_bridge) in
+    let some = is.some in
+    let few = is.bridges in
+    record {
+      some = omega (arith, long, some);
+      few = omega (arith, long, few);
+      names = all_unmap of_member (λ n. is_name n ≡ true) ms (subst (All (λ n. is_name n ≡ true)) (sym same) (All-map (λ n. is_name n ≡ true) of_bridge net.bridges is.names));
+      apart = pairs_unmap of_member (λ n k. n ≢ k) ms (subst (AllPairs (λ n k. n ≢ k)) (sym same) (pairs_map of_bridge (λ n k. n ≢ k) net.bridges is.apart));
+      valid = valid;
+      sound = sound;
+      written = net.wires;
+      few_wires = is.wires;
+      wired = wired;
+      nets = nets;
+    }
 
 module _ (name : List ℕ) (f g : Files) (net : NetFile) (same : SameFiles f g) (says : HoldsNetFile name f net) where
   pub held_so : (ms : List NetMember) → HoldsMembers net.bridges g ms → HoldsMembers net.bridges f ms

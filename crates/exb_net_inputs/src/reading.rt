@@ -133,11 +133,7 @@ fn read_members<S: Shelf>(
 }
 
 /// The wires of bridges that were read.
-fn wire_all(
-    alloc: Global,
-    members: &[NetMember],
-    wires: &[NetWire],
-) -> Result<List<Wire>, Fault>
+fn wire_all(alloc: Global, members: &[NetMember], wires: &[NetWire]) -> Result<List<Wire>, Fault>
     requires valid { AreValid members.now }
     requires few { length members.now ≤ 16 }
     ensures wired { IfOk result (λ joined. wires_of members.now wires.now ≡ Ok joined) }
@@ -161,7 +157,10 @@ pub fn read_net<S: Shelf>(alloc: Global, shelf: &mut S, name: &str) -> Result<Ne
     ensures faults { CountsFaults result (S.faults shelf.old) (S.faults shelf.new) }
 {
     let net = read_net_file(alloc, shelf, name)?;
-    let members = read_members(alloc, shelf, net.bridges.as_slice())?;
-    let wires = wire_all(alloc, members.as_slice(), net.wires.as_slice())?;
+    let bridges = net.bridges.as_slice();
+    let members = read_members(alloc, shelf, bridges)?;
+    let joined = members.as_slice();
+    let written = net.wires.as_slice();
+    let wires = wire_all(alloc, joined, written)?;
     Ok(NetInputs { members, wires })
 }

@@ -29,6 +29,11 @@ pub from-earlier : (m k : ℕ) (p : Programme) → m ≤ k → IsFrom k p → Is
 from-earlier m k p low from = record {
   commands = by_first (first_moment (commands_left (played_with [] p))) from.commands;
   captures = none-earlier m k p.captures.sources.items low from.captures;
+}
+  where
+    by_first : (o : Option ℕ) → IfSome o (λ j. k ≤ j) → IfSome o (λ j. m ≤ j)
+    by_first None is = tt
+    by_first (Some j) is = omega (arith, low, is)
 
 pub second-low : (m s : ℕ) → second_of m ≡ s → s * 1_000_000_000 ≤ m
 second-low m s is = omega (arith, is)

@@ -3,7 +3,7 @@ use Rattle.std.proofs.Common.{◌≡◌, ◌≢◌, ℕ, zero, suc, ◌+◌, ◌
 use Rattle.std.specs.Prelude.{slice_get, sum_by}
 use Rattle.std.specs.List.{AllByRecursion}
 use Rattle.std.proofs.lemmas.Bool.{cases_eq, eq-eqb, ne_eqb}
-use Rattle.std.proofs.lemmas.List.{All-append}
+use Rattle.std.proofs.lemmas.List.Elements.{All-append}
 use Rattle.std.proofs.lemmas.Option.{same_Some, slice_get_within}
 use Rattle.exb_model.specs.declared.setup.Timed.{Timed}
 use Rattle.exb_model.specs.FlatBridge.{Sent}
@@ -105,6 +105,7 @@ cut-noted tells r now ids last g ps t going =
       dones = going.dones;
       opened = going.is.opened;
       plays = going.is.plays;
+      vids = going.is.playing.vids;
       others = going.is.desks.files t;
       fronts = subst (λ (qs : List Planned). AreAllFronts qs now going.dones) going.is.desks.plans (fronts_of now g.desks.items going.dones (λ b k is. (going.is.noted.each b k is).texts t));
     })
@@ -185,9 +186,6 @@ record-here d b p e = rw (eq-eqb d.bridge b (sym e)) refl
 -- ---- all bridges
 module _ {V : Type 0} {X : V → Type 0} (tells : Type 0) (r : NetRun) (now : Files) (ids : ℕ → Id) (seconds second : ℕ) (g : NetGame V X) (d : NetNext) (ps : List Programme) (p : IsDue tells r now ids seconds second g d ps) (e : Dones)
     (one : PlaysOne r.net seconds (due_of d) p.going.dones e) (more : AreOneMore r.net seconds (due_of d) p.going.dones e) where
-  abbrev due : Due
-  due = due_of d
-
   more-at : (b : ℕ) → b < r.net.count → IsOneMore r.net seconds (due_of d) b (p.going.dones b) (e b)
   more-at b low = more.each b low
 
@@ -376,6 +374,7 @@ module _ {V : Type 0} {X : V → Type 0} (tells : Type 0) (r : NetRun) (now : Fi
         ds = p.going.ds ++ due_of d ∷ [];
         dones = e;
         is = record {
+          timely = p.going.is.timely;
           start = p.going.is.start;
           opened = p.going.is.opened;
           plays = plays-after;
@@ -412,6 +411,7 @@ module _ {V : Type 0} {X : V → Type 0} (tells : Type 0) (r : NetRun) (now : Fi
         dones = e;
         opened = p.going.is.opened;
         plays = plays-after;
+        vids = p.going.is.playing.vids;
         others = λ m other. subst (λ (qs : List Planned). OnlyAllPlanned qs now file) was.plans only m other ∙ was.files t m other;
         fronts = subst (λ (qs : List Planned). AreAllFronts qs file e) was.plans fronts;
       })

@@ -1,5 +1,5 @@
 -- The files of a bridge by their names: once all is written, and where writing ended early.
-use Rattle.std.proofs.Common.{◌≡◌, ℕ, zero, suc, ◌<◌, ◌++◌, Bool, true, List, [], ◌∷◌, take, map, Option, Some, None, refl, ap, sym, ◌∙◌, subst, inl, inr}
+use Rattle.std.proofs.Common.{◌≡◌, ℕ, zero, suc, ◌<◌, ◌++◌, Bool, true, List, [], ◌∷◌, length, take, map, Option, Some, None, refl, ap, sym, ◌∙◌, subst, inl, inr}
 use Rattle.std.specs.Prelude.{flat_map, option_map, slice_get}
 use Rattle.std.proofs.lemmas.List.{append-nil, append_assoc}
 use Rattle.std.proofs.lemmas.Grind.{flat_map-append}
@@ -11,6 +11,7 @@ use Rattle.exb_model.specs.History.{Basis, History, ◌then◌, bridge_after}
 use Rattle.exb_model.specs.Input.{Input, basis_of, tree_of}
 use Rattle.exb_model.specs.Learning.{learned}
 use Rattle.exb_model.specs.Texts.{capture_header, capture_text, journal_text, record_text}
+use Rattle.exb_model.specs.Traces.{trace_text}
 use Rattle.exb_model.specs.Tree.{Shape, is_external}
 use Rattle.exb_machine.specs.Stepping.{Stepped}
 use Rattle.exb_resting.specs.Flight.Showing.{left_at}
@@ -18,13 +19,14 @@ use Rattle.exb_net_file.specs.declared.members.NetMember.{NetMember}
 use Rattle.exb_net_file.specs.Members.{prefix_of, tree_in}
 use Rattle.exb_outputs.specs.Names.{IsCut}
 use Rattle.exb_outputs.specs.Plans.{IsMade, Planned, kind_at, output_count, output_name, place_of}
-use Rattle.exb_outputs.specs.Writing.{lines_of}
+use Rattle.exb_outputs.specs.Writing.{first_text, lines_of}
 use Rattle.exb_outputs.proofs.ByKind.{kind_is, placed}
 use Rattle.exb_outputs.proofs.Texts.{journal_text-then}
 use Rattle.exb_shelf.specs.Files.{Files}
 use Rattle.exb_text.specs.declared.output.Output.{Output}
 use Rattle.exb_text.specs.declared.output.Output.TheVariants as output
 use Rattle.exb_text.specs.Names.{IsOfPort, file_name}
+use Rattle.exb_writers.specs.Texts.{output_text}
 use Rattle.exb_net_run.specs.Desks.{AreFronts, IsOther, IsWhole, OnlyAllPlanned, text_of}
 use Rattle.exb_net_run.specs.Nets.{IsNetOutput, OnlyNetOutputs, plan_with}
 use Rattle.exb_net_run.specs.Outputs.{IsFrontOf, IsWritten}
@@ -108,7 +110,7 @@ no_some e = cc
 same_some : {B : Type 0} {x y : B} → Some x ≡ Some y → x ≡ y
 same_some e = cc
 
-mapped_some : {A B : Type 0} (f : A → B) (o : Option A) (y : B) → option_map f o ≡ Some y → (x : A) × (o ≡ Some x) × (f x ≡ y)
+pub mapped_some : {A B : Type 0} (f : A → B) (o : Option A) (y : B) → option_map f o ≡ Some y → (x : A) × (o ≡ Some x) × (f x ≡ y)
 mapped_some f None y e = absurd (no_some e)
 mapped_some f (Some x) y e = (x, refl, same_some e)
 
@@ -124,3 +126,55 @@ only_outputs counters ms old new only name none = only name away
           is = r.1;
           output = subst (λ (z : Planned). (o : Output) × IsMade z.options z.tree o × (name ≡ file_name z.prefix o)) (sym r.2) (kind_at p j, (kind_is p j low).made, same);
         })
+
+-- ---- over a history
+take_whole : (xs : List ℕ) → take (length xs) xs ≡ xs
+take_whole [] = refl
+take_whole (x ∷ xs) = ap (λ (ys : List ℕ). x ∷ ys) (take_whole xs)
+
+-- the texts over a history go on from what files begin with
+pub texts_begin : (i : Input) (h : History) (o : Output) → (rest : List ℕ) × (output_text i h [] o ≡ first_text o ++ rest)
+unfolding capture_text trace_text
+texts_begin i h (output.Capture q) = (flat_map record_text (flat (basis_of i) h q), refl)
+texts_begin i h output.Journal = (journal_text h, refl)
+texts_begin i h output.Trace = ([], refl)
+texts_begin i h output.Counters = (count_text (tree_of i) (basis_of i) h, refl)
+
+module _ (counters : Bool) (m : NetMember) (i : Input) (tree : tree_of i ≡ tree_in m) (low : (q : ℕ) → is_external (tree_of i) q ≡ true → q < 4160) where
+  at_kind : (P : Output → Type 0) → ((j : ℕ) → j < output_count (plan_with counters m) → P (kind_at (plan_with counters m) j)) → (o : Output) → IsMade (plan_with counters m).options (tree_in m) o → IsOfPort o → P o
+  at_kind P each o made of_port = (let p = placed (plan_with counters m) o made of_port in subst P p.at (each (place_of (plan_with counters m) o) p.low))
+
+  is_there : (q : ℕ) → is_external (tree_of i) q ≡ true → is_external (tree_in m) q ≡ true
+  is_there q ext = ap (λ (t : Shape). is_external t q) (sym tree) ∙ ext
+
+  -- files that hold the texts over a history
+  pub written_texts : (h : History) (file : Files) → IsWhole (plan_with counters m) file (output_text i h []) → IsWritten counters i h (prefix_of m.name) file
+  written_texts h file whole =
+      let text : Output → List ℕ = output_text i h [] in
+      let all = at_kind (λ o. file (file_name (prefix_of m.name) o) ≡ Some (text o)) whole.each in
+      record {
+        captures = λ q ext. all (output.Capture q) (is_there q ext) (low q ext);
+        journal = all output.Journal tt tt;
+        counts = λ asked. all output.Counters asked tt;
+      }
+
+  -- files that are as they were or hold fronts of them
+  pub cut_texts : (h : History) (old new : Files) → ((j : ℕ) → j < output_count (plan_with counters m) → IsCut (old (output_name (plan_with counters m) j)) (new (output_name (plan_with counters m) j)) (output_text i h [] (kind_at (plan_with counters m) j))) →
+      IsFrontOf i h (prefix_of m.name) old new
+  cut_texts h old new each =
+      let text : Output → List ℕ = output_text i h [] in
+      let all = at_kind (λ o. IsCut (old (file_name (prefix_of m.name) o)) (new (file_name (prefix_of m.name) o)) (text o)) each in
+      record { captures = λ q ext. all (output.Capture q) (is_there q ext) (low q ext); journal = all output.Journal tt tt }
+
+  -- the same of files that are whole
+  pub whole_texts : (h : History) (old new : Files) → IsWhole (plan_with counters m) new (output_text i h []) → IsFrontOf i h (prefix_of m.name) old new
+  whole_texts h old new whole = cut_texts h old new (λ j lower. inr (length (output_text i h [] (kind_at (plan_with counters m) j)), whole.each j lower ∙ ap Some (sym (take_whole (output_text i h [] (kind_at (plan_with counters m) j))))))
+
+-- every history is what was told of it, from nothing
+pub told_of : (h : History) → (more : List Event) × (h ≡ ([] then more))
+told_of [] = ([], refl)
+told_of (e ∷ h) = (let r = told_of h in (r.0 ++ e ∷ [], ap (λ (z : History). e ∷ z) r.1 ∙ sym (then_last [] r.0 e)))
+  where
+    then_last : (g : History) (es : List Event) (x : Event) → (g then (es ++ x ∷ [])) ≡ x ∷ (g then es)
+    then_last g [] x = refl
+    then_last g (y ∷ es) x = then_last (y ∷ g) es x

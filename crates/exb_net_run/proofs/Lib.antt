@@ -8,3 +8,17 @@ pub mod Coming
 pub mod Passing
 pub mod Steps
 pub mod Going
+pub mod Paying
+pub mod Ending
+pub mod Awaited
+pub mod Shelves
+pub mod Begun
+pub mod Failing
+pub mod Giving
+pub mod Adding
+pub mod Turned
+pub mod Sets
+pub mod Ends
+pub mod Reading
+pub mod Prepared
+pub mod Opened

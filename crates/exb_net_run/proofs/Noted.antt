@@ -1,5 +1,5 @@
 -- Desks of several bridges on one shelf: what is done at one of them leaves the others as they are.
-use Rattle.std.proofs.Common.{◌≡◌, ◌≢◌, ℕ, zero, suc, ◌+◌, ◌<◌, ◌≤◌, Bool, true, false, cond, nat_lt, List, [], ◌∷◌, length, map, set, Some, None, refl, ap, sym, ◌∙◌, subst, arith, inl, inr}
+use Rattle.std.proofs.Common.{◌≡◌, ◌≢◌, ℕ, zero, suc, ◌+◌, ◌<◌, ◌≤◌, Bool, true, false, cond, nat_lt, List, [], ◌∷◌, length, map, set, take, Some, None, refl, ap, sym, ◌∙◌, subst, arith, inl, inr}
 use mathlib.Core.Path.{fun_ext}
 use Rattle.std.specs.Prelude.{slice_get}
 use Rattle.std.proofs.lemmas.Bool.{cases_eq, cases_lt, lt-ltb, le-ltb}
@@ -9,15 +9,19 @@ use Rattle.exb_machine.specs.Stepping.{Stepped}
 use Rattle.exb_network.specs.Networks.{Network}
 use Rattle.exb_shelf.specs.Files.{Files}
 use Rattle.exb_shelf.specs.Shelf.{Id}
-use Rattle.exb_outputs.specs.Plans.{Planned, output_count, output_name}
+use Rattle.exb_outputs.specs.Plans.{Planned, kind_at, output_count, output_name}
 use Rattle.exb_outputs.specs.Shelving.{OnlyWrites}
+use Rattle.exb_model.specs.Texts.{Counts}
+use Rattle.exb_text.specs.Tallies.{counts_of}
+use Rattle.exb_writers.specs.declared.counted.Counted.{Counted}
+use Rattle.exb_writers.specs.Counts.{counts_text}
 use Rattle.exb_text.specs.declared.output.Output.{Output}
 use Rattle.exb_outputs.specs.Writing.{HasTexts, IsReady, pieces_of}
 use Rattle.exb_outputs.proofs.Cutting.{GoesOnAs}
 use Rattle.exb_wiring.specs.Playing.{Dones}
 use Rattle.exb_net.proofs.Places.{set_here, set_there}
 use Rattle.exb_net_run.specs.declared.desk.Desk.{Desk}
-use Rattle.exb_net_run.specs.Desks.{AreAllFronts, AreFronts, AreNoted, ArePlansApart, AreReady, IsMore, IsNoted, OnlyAllPlanned, OnlyWritesAll, plans_in, text_of}
+use Rattle.exb_net_run.specs.Desks.{AreAllFronts, AreFronts, AreNoted, ArePlansApart, AreReady, AreWhole, IsMore, IsNoted, IsWhole, OnlyAllPlanned, OnlyWritesAll, plans_in, tallies_in, text_of}
 use Rattle.exb_net_run.proofs.Noting.{fronts_now, goes-on, goes-same, texts_stay}
 
 -- ---- plans of desks
@@ -35,6 +39,10 @@ pub plans_set : (ds : List Desk) (i : ℕ) (d e : Desk) → slice_get ds i ≡ S
 plans_set [] i d e is same = refl
 plans_set (x ∷ ds) zero d e is same = ap (λ (p : Planned). p ∷ plans_in ds) (same ∙ ap (λ (y : Desk). y.plan) (sym (same_Some x d is)))
 plans_set (x ∷ ds) (suc i) d e is same = ap (λ (ps : List Planned). x.plan ∷ ps) (plans_set ds i d e is same)
+
+pub plans-long : (ds : List Desk) → length (plans_in ds) ≡ length ds
+plans-long [] = refl
+plans-long (x ∷ ds) = ap suc (plans-long ds)
 
 -- ---- files of one plan and of another
 module _ (ds : List Desk) (apart : ArePlansApart (plans_in ds)) (i : ℕ) (d : Desk) (here : slice_get ds i ≡ Some d) where
@@ -73,7 +81,7 @@ abbrev pub upto : ℕ → Dones → Dones → Dones
 upto k told dones b = cond (nat_lt b k) (dones b) (told b)
 
 pub upto_none : (told dones : Dones) → upto 0 told dones ≡ told
-upto_none told dones = fun_ext λ b. refl
+upto_none told dones = (let same : (b : ℕ) → upto 0 told dones b ≡ told b = λ b. refl in fun_ext same)
 
 pub upto_low : (k b : ℕ) (told dones : Dones) → b < k → upto k told dones b ≡ dones b
 upto_low k b told dones low = rw (lt-ltb b k low) refl
@@ -144,4 +152,34 @@ fronts_more f g ds i d told dones apart here only texts goes own = record {
                   (r.0, others_stay ds apart i d here f g only b k.0.plan (plan_at ds b k.0 k.1) ne j low ∙ r.1);
             })
       ];
+}
+
+-- ---- the end
+pub tallies_set : (ds : List Desk) (i : ℕ) (d e : Desk) → slice_get ds i ≡ Some d → e.counted ≡ d.counted → tallies_in (set ds i e) ≡ tallies_in ds
+tallies_set [] i d e is same = refl
+tallies_set (x ∷ ds) zero d e is same = ap (λ (c : Counts). c ∷ tallies_in ds) (ap (λ (c : Counted). counts_of c.tally) same ∙ ap (λ (y : Desk). counts_of y.counted.tally) (sym (same_Some x d is)))
+tallies_set (x ∷ ds) (suc i) d e is same = ap (λ (cs : List Counts). counts_of x.counted.tally ∷ cs) (tallies_set ds i d e is same)
+
+pub whole_stays : (f g : Files) (p : Planned) (text : Output → List ℕ) → ((j : ℕ) → j < output_count p → g (output_name p j) ≡ f (output_name p j)) → IsWhole p f text → IsWhole p g text
+whole_stays f g p text same whole = record { each = λ j low. same j low ∙ whole.each j low }
+
+take-whole : (xs : List ℕ) → xs ≡ take (length xs) xs
+take-whole [] = refl
+take-whole (x ∷ xs) = ap (λ (ys : List ℕ). x ∷ ys) (take-whole xs)
+
+pub whole_fronts : (f : Files) (p : Planned) (done : Stepped) (counts : List ℕ) → IsWhole p f (text_of done counts) → AreFronts p f done
+whole_fronts f p done counts whole = record { counts = counts; each = λ j low. (length (text_of done counts (kind_at p j)), whole.each j low ∙ ap Some (take-whole (text_of done counts (kind_at p j)))) }
+
+pub now_fronts : (f : Files) (d : Desk) (done : Stepped) → HasTexts d.plan (pieces_of d.outputs) f f (text_of done []) → AreFronts d.plan f done
+now_fronts f d done texts = record { counts = []; each = fronts_now d.plan (pieces_of d.outputs) f (text_of done []) (text_of done []) (goes-same done) texts }
+
+pub fronts_stay : (f g : Files) (p : Planned) (done : Stepped) → ((j : ℕ) → j < output_count p → g (output_name p j) ≡ f (output_name p j)) → AreFronts p f done → AreFronts p g done
+fronts_stay f g p done same fronts = record { counts = fronts.counts; each = λ j low. (let r = fronts.each j low in (r.0, same j low ∙ r.1)) }
+
+-- all of them
+pub whole_all_fronts : (f : Files) (ds : List Desk) (dones : Dones) → AreWhole ds f dones → AreAllFronts (plans_in ds) f dones
+whole_all_fronts f ds dones whole = record {
+  each = λ b q is.
+      let k = desk_at ds b q is in
+      subst (λ (z : Planned). AreFronts z f (dones b)) k.2 (whole_fronts f k.0.plan (dones b) (counts_text k.0.plan k.0.counted.ports k.0.outputs) (whole.each b k.0 k.1));
 }

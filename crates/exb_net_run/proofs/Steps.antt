@@ -91,20 +91,8 @@ step-for n b cs (next.Record c) step given is = is
 
 -- ---- what comes next
 module _ {V : Type 0} {X : V → Type 0} (tells : Type 0) (r : NetRun) (now : Files) (ids : ℕ → Id) (seconds second : ℕ) (g : NetGame V X) (d : NetNext) (ps : List Programme) (p : IsDue tells r now ids seconds second g d ps) where
-  abbrev n : Net
-  n = r.net
-
-  abbrev s : Dones
-  s = p.going.dones
-
-  abbrev old : List Programme
-  old = p.old
-
   pub here : d.bridge < r.net.count
   here = (let low = slice_get_within p.old d.bridge p.comes.was p.comes.was_there in let all = p.going.goes.count in omega (arith, low, all))
-
-  abbrev start : ℕ
-  start = p.going.goes.start
 
   pub at_it : GoesOnAt r.net d.bridge p.going.goes.start p.last (p.going.dones d.bridge) p.comes.was
   at_it = p.going.goes.each d.bridge p.comes.was p.comes.was_there
@@ -159,9 +147,6 @@ module _ {V : Type 0} {X : V → Type 0} (tells : Type 0) (r : NetRun) (now : Fi
 
   -- after them it can be given
   module _ (rests : List NetRest) (of : AreOfRests rests ps) (x : Bridges V X) (passes : Passes r.net seconds p.going.dones p.going.dones x) (passed : HavePassed r.net p.going.dones (pass r.net seconds p.going.dones)) where
-    abbrev after : Dones
-    after = pass r.net seconds p.going.dones
-
     the-rest : (y : NetRest) × (slice_get rests d.bridge ≡ Some y)
     the-rest = is_there rests d.bridge (let low = slice_get_within ps d.bridge p.comes.is p.comes.is_there in let all = of.whole in omega (arith, low, all))
 

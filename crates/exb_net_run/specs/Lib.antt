@@ -7,3 +7,4 @@ pub mod Opening
 pub mod Desks
 pub mod UnderWay
 pub mod Shelving
+pub mod Setting

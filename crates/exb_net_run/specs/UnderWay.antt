@@ -27,8 +27,9 @@ use Rattle.exb_merge.specs.Replays.{HasPort, left_in, number_of, standings}
 use Rattle.exb_merge.specs.Streams.{Stream}
 use Rattle.exb_nets.specs.Nets.{Net, is_wired}
 use Rattle.exb_nets.specs.NetHistory.{Due, Histories, NetEager, due_second, dues}
-use Rattle.exb_nets.specs.Order.{AreHere, AreInOrder, taken_after}
+use Rattle.exb_nets.specs.Order.{AreHere, AreInOrder, AreTimely, taken_after}
 use Rattle.exb_net_file.specs.declared.apart.NetRest.{NetRest}
+use Rattle.exb_wiring.specs.Delivering.{HaveVids}
 use Rattle.exb_wiring.specs.Playing.{AreOpened, Dones, Plays, tree_in}
 use Rattle.exb_net.specs.declared.net.Net.{Net as Bridges}
 use Rattle.exb_net.specs.declared.node.Node.{Node}
@@ -36,7 +37,6 @@ use Rattle.exb_net.specs.Nets.{IsBegun, IsPlaying, no_dones}
 use Rattle.exb_writers.specs.Texts.{output_text}
 use Rattle.exb_outputs.specs.Apart.{AreApart}
 use Rattle.exb_outputs.specs.Plans.{Planned}
-use Rattle.exb_outputs.specs.Sent.{capture_size}
 use Rattle.exb_net_run.specs.declared.desk.Desk.{Desk}
 use Rattle.exb_net_run.specs.declared.game.NetGame.{NetGame}
 use Rattle.exb_net_run.specs.Desks.{AreAllFronts, AreNoted, ArePlansApart, AreReady, IsWhole, OnlyAllPlanned, plans_in}
@@ -160,6 +160,7 @@ pub record AreDesks (tells : Type 0) (r : NetRun) (now : Files) (ids : ℕ → I
 
 -- The bridges did what follows when these came, and all of that is noted at their desks.
 pub record IsAt {V : Type 0} {X : V → Type 0} (tells : Type 0) (r : NetRun) (now : Files) (ids : ℕ → Id) (ds : List Due) (dones : Dones) (g : NetGame V X) : Type 0 where
+  pub timely : AreTimely r.net
   pub start : Dones
   pub opened : AreOpened r.net start
   pub plays : Plays r.net ds start dones
@@ -184,6 +185,7 @@ pub record AreOfRests (rests : List NetRest) (ps : List Programme) : Type 0 wher
 -- ---- before
 -- The bridges aren't opened, and their files hold what they begin with; the programmes have all that comes.
 pub record CanBegin {V : Type 0} {X : V → Type 0} (tells : Type 0) (r : NetRun) (now : Files) (ids : ℕ → Id) (g : NetGame V X) (ps : List Programme) : Type 0 where
+  pub timely : AreTimely r.net
   pub begun : IsBegun r.net g.net
   pub desks : AreDesks tells r now ids g.desks.items
   pub noted : AreNoted tells now g.desks.items (no_dones r.net)
@@ -208,6 +210,7 @@ pub record IsCutAmid (r : NetRun) (now : Files) : Type 0 where
   pub dones : Dones
   pub opened : AreOpened r.net start
   pub plays : Plays r.net ds start dones
+  pub vids : HaveVids r.net
   pub others : OnlyAllPlanned r.plans r.before now
   pub fronts : AreAllFronts r.plans now dones
 
@@ -223,12 +226,15 @@ pub record HasWritten (r : NetRun) (now : Files) (line : List ℕ) : Type 0 wher
   pub others : OnlyAllPlanned r.plans r.before now
   pub says : line ≡ net_summary r.net histories
 
--- All came, and all is noted; the bytes of each capture are few enough that all are counted.
+-- All came, and all is noted; and so few records came that all counts fit.
 pub record IsAllTold {V : Type 0} {X : V → Type 0} (tells : Type 0) (r : NetRun) (now : Files) (ids : ℕ → Id) (g : NetGame V X) : Type 0 where
   pub dones : Dones
   pub is : IsAt tells r now ids (dues r.net) dones g
-  pub room : (b q : ℕ) → b < r.net.count → capture_size (left_at q (dones b).left) < 2 ^ 64
-  pub low : (b : ℕ) → b < r.net.count → All (IsLow r.net b) (dones b).left
+  pub here : AreHere r.net (dues r.net)
+  pub order : AreInOrder (λ b. 0) (dues r.net)
+  pub came : ℕ
+  pub few_came : came ≤ 2 ^ 49
+  pub few : (b : ℕ) → b < r.net.count → (orders : ℕ) × IsFew r.net b came orders (dones b) × (orders ≤ 65536)
 
 -- ---- one event
 -- the step that gives what comes, where these are the commands of its bridge

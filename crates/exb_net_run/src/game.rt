@@ -26,7 +26,8 @@ ghost use Rattle.exb_net_run.specs.UnderWay.{AreOfRests, CanBegin, CanGive, HasW
 use crate::desk::{Desk, Room, add, finish, note};
 use exb_inputs::Fault;
 use exb_machine::laws::steps_tell_passed;
-use exb_merge::{Agenda, Came, CaptureFault, NetNext, Next};
+use exb_merge::laws::agendas_stay;
+use exb_merge::{Agenda, Came, NetNext, Next};
 use exb_net::Net;
 use exb_net_file::NetRest;
 use exb_net_inputs::of_member;
@@ -99,14 +100,13 @@ fn next_due<S: Shelf>(
 {
     match agenda.next(alloc, shelf, piece) {
         Ok(due) => Ok(due),
-        Err(failure) => match failure.fault {
-            CaptureFault::Changed { port, at } => {
-                let name = rests[failure.bridge as usize].name.as_str();
-                Err(of_member(alloc, name, Fault::Changed { port, at }))
+        Err(failure) => {
+            let fault = Fault::from(failure.fault);
+            match rests.get(failure.bridge as usize) {
+                Some(rest) => Err(of_member(alloc, rest.name.as_str(), fault)),
+                None => Err(fault),
             }
-            CaptureFault::Read => Err(Fault::Read),
-            CaptureFault::Memory => Err(Fault::Memory),
-        },
+        }
     }
 }
 
@@ -233,6 +233,7 @@ impl NetGame {
         ensures causes { IfErr result IsOfWriting }
         ensures faults { CountsFaults result (S.faults shelf.old) (S.faults shelf.new) }
     {
+        agendas_stay();
         events_add_one();
         steps_tell_passed();
         seconds_pass();
@@ -273,6 +274,7 @@ impl NetGame {
         ensures causes { IfErr result IsOfNetPlay }
         ensures faults { CountsFaults result (S.faults shelf.old) (S.faults shelf.new) }
     {
+        agendas_stay();
         let mut last: Option<u64> = None;
         'events: while let Some(due) = next_due(alloc, shelf, piece, rests, agenda)? {
             let second = due.next.moment() / NANOSECONDS;
@@ -357,6 +359,7 @@ impl NetGame {
         ensures causes { IfErr result IsOfNetPlay }
         ensures faults { CountsFaults result (S.faults shelf.old) (S.faults shelf.new) }
     {
+        agendas_stay();
         opened_nets_are_new();
         opened_nets_run();
         steps_tell_passed();

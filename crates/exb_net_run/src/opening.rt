@@ -1,10 +1,29 @@
 //! What is made before the first event: the desk of each bridge, its captures opened again, and its fate.
+ghost use Rattle.std.specs.Prelude.{◌≡◌, ◌++◌, ◌∷◌, [], ℕ, List, IfErr, IfOk, OnErr, OnOk, map};
+ghost use Rattle.exb_model.specs.Setup.{IsValid};
+ghost use Rattle.exb_nets.specs.declared.wires.Wire.{Wire};
+ghost use Rattle.exb_net_file.specs.declared.members.NetMember.{NetMember};
+ghost use Rattle.exb_net_file.specs.Apart.{IsTakenApart};
+ghost use Rattle.exb_net_inputs.specs.Holding.{AreRead};
+ghost use Rattle.exb_inputs.specs.Shelving.{CountsFaults};
+ghost use Rattle.exb_outputs.specs.Order.{MakesInOrder};
+ghost use Rattle.exb_outputs.specs.Shelving.{IsOfWriting, OnlyMakes};
+ghost use Rattle.exb_outputs.specs.Writing.{AreCut};
+ghost use Rattle.exb_shelf.specs.Shelf.{Opens};
+ghost use Rattle.exb_text.specs.declared.output.Output.{Output};
+ghost use Rattle.exb_net_run.specs.declared.desk.Desk.{Desk};
+ghost use Rattle.exb_net_run.specs.Desks.{OnlyAllPlanned};
+ghost use Rattle.exb_net_run.specs.Nets.{plan_with};
+ghost use Rattle.exb_net_run.specs.Opening.{MakesNet, WritesNetOutput};
+ghost use Rattle.exb_net_run.specs.Setting.{AreCutAs, AreSet, GoesFrom, IsSet, plan_under};
+
 use crate::desk::Desk;
 use exb_fate::Fate;
 use exb_inputs::{Checked, Fault, earliest_in, open_all};
 use exb_merge::{Agenda, Programme};
 use exb_model::memory::NoMemory;
 use exb_model::setup::{Setup, Verdict};
+use exb_net_file::laws::bridges_write_apart;
 use exb_net_file::{NetParts, NetRest, prefix_of};
 use exb_net_inputs::of_member;
 use exb_outputs::{Plan, create_all};
@@ -14,7 +33,10 @@ use exb_writers::Counted;
 use std::alloc::Global;
 
 /// What a bridge of this name writes.
-fn plan_of(alloc: Global, setup: &Setup, name: &str, counters: bool) -> Result<Plan, NoMemory> {
+fn plan_of(alloc: Global, setup: &Setup, name: &str, counters: bool) -> Result<Plan, NoMemory>
+    requires { IsValid setup.now }
+    ensures { IfOk result (λ plan. plan ≡ plan_under setup.now name.now counters) }
+{
     let prefix = prefix_of(alloc, name)?;
     let options = Options {
         trace: false,
@@ -32,7 +54,15 @@ fn set_desk<S: Shelf>(
     name: &str,
     counters: bool,
     desks: &mut Vec<Desk>,
-) -> Result<(), Fault> {
+) -> Result<(), Fault>
+    requires valid { IsValid setup.now }
+    ensures set { OnOk result ((d : Desk) × (desks.new.items ≡ desks.old.items ++ d ∷ []) × (d.plan ≡ plan_under setup.now name.now counters) × IsSet S.tells (S.file shelf.new) (S.ids shelf.new) d) }
+    ensures cut { S.tells → OnErr result ((text : Output → List ℕ) → GoesFrom text → AreCut (plan_under setup.now name.now counters) (S.file shelf.old) (S.file shelf.new) text) }
+    ensures only { OnlyMakes S.tells (plan_under setup.now name.now counters) (S.file shelf.old) (S.file shelf.new) (S.ids shelf.old) (S.ids shelf.new) }
+    ensures made { MakesInOrder (plan_under setup.now name.now counters) result (S.ids shelf.old) (S.ids shelf.new) }
+    ensures causes { IfErr result IsOfWriting }
+    ensures faults { CountsFaults result (S.faults shelf.old) (S.faults shelf.new) }
+{
     let plan = plan_of(alloc, setup, name, counters)?;
     let counted = Counted::new(alloc, setup, &plan)?;
     let outputs = create_all(alloc, shelf, &plan)?;
@@ -53,7 +83,19 @@ pub(crate) fn set_desks<S: Shelf>(
     shelf: &mut S,
     parts: &NetParts,
     counters: bool,
-) -> Result<Vec<Desk>, Fault> {
+) -> Result<Vec<Desk>, Fault>
+    requires read { (ms : List NetMember) × ((ws : List Wire) × (IsTakenApart ms ws parts.now × AreRead ms ws)) }
+    ensures set { IfOk result (λ desks. (ms : List NetMember) (ws : List Wire) → IsTakenApart ms ws parts.now → AreRead ms ws
+        → AreSet S.tells (map (plan_with counters) ms) (S.file shelf.old) (S.file shelf.new) (S.ids shelf.new) desks.items) }
+    ensures cut { S.tells → OnErr result ((ms : List NetMember) (ws : List Wire) → IsTakenApart ms ws parts.now → AreRead ms ws
+        → (text : ℕ → Output → List ℕ) → ((b : ℕ) → GoesFrom (text b)) → AreCutAs (map (plan_with counters) ms) (S.file shelf.old) (S.file shelf.new) text) }
+    ensures only { S.tells → (ms : List NetMember) (ws : List Wire) → IsTakenApart ms ws parts.now → AreRead ms ws → OnlyAllPlanned (map (plan_with counters) ms) (S.file shelf.old) (S.file shelf.new) }
+    ensures opened { (ms : List NetMember) (ws : List Wire) → IsTakenApart ms ws parts.now → AreRead ms ws → Opens (WritesNetOutput counters ms) (S.ids shelf.old) (S.ids shelf.new) }
+    ensures made { (ms : List NetMember) (ws : List Wire) → IsTakenApart ms ws parts.now → AreRead ms ws → MakesNet counters ms result (S.ids shelf.old) (S.ids shelf.new) }
+    ensures causes { IfErr result IsOfWriting }
+    ensures faults { CountsFaults result (S.faults shelf.old) (S.faults shelf.new) }
+{
+    bridges_write_apart();
     let mut desks = Vec::new(alloc);
     let setups = parts.setup.setups.as_slice();
     let rests = parts.rests.as_slice();

@@ -1,4 +1,29 @@
 //! The whole call.
+ghost use Rattle.std.specs.Prelude.{◌≡◌, ◌<◌, ◌≤◌, ◌^◌, ◌⊎◌, ℕ, Bool, List, All, IfErr, IfOk, IsErrOf, OnErr, OnOk, length, map, string_bytes};
+ghost use Rattle.exb_inputs.specs.declared.fault.Fault.{Fault};
+ghost use Rattle.exb_inputs.specs.Shelving.{CountsFaults};
+ghost use Rattle.exb_merge.specs.NetAgendas.{IsAgenda, all_ids, programmes_in};
+ghost use Rattle.exb_nets.specs.declared.wires.Wire.{Wire};
+ghost use Rattle.exb_net_file.specs.declared.members.NetMember.{NetMember};
+ghost use Rattle.exb_net_file.specs.Apart.{IsTakenApart};
+ghost use Rattle.exb_net_inputs.specs.Checking.{AreMembersChecked};
+ghost use Rattle.exb_net_inputs.specs.Holding.{AreRead};
+ghost use Rattle.exb_net_inputs.specs.Opening.{ReadsMemberCapture};
+ghost use Rattle.exb_schedule.specs.Worlds.{fate_in};
+ghost use Rattle.exb_shelf.specs.Files.{Files, SameFiles};
+ghost use Rattle.exb_shelf.specs.Shelf.{IsReading, Opens};
+ghost use Rattle.exb_text.specs.declared.output.Output.{Output};
+ghost use Rattle.exb_writers.specs.Counts.{IsSummary};
+ghost use Rattle.exb_net_run.specs.Arming.{AreArmed};
+ghost use Rattle.exb_net_run.specs.Answers.{AreFrontsOfNet, IsNetFailure, IsOfNet, IsOfNetPlay, NetPlayed, NetStops, OnlyNetAsked};
+ghost use Rattle.exb_net_run.specs.Desks.{OnlyAllPlanned, plans_in};
+ghost use Rattle.exb_net_run.specs.Nets.{net_of, plan_with};
+ghost use Rattle.exb_net_run.specs.Opening.{HasCaptureAt, IsNetWanted, MakesNet, MakesNetOutputOf, NetOpensInOrder, WritesNetOutput};
+ghost use Rattle.exb_net_run.specs.Outputs.{AreNetFronts, IsNetPlayed};
+ghost use Rattle.exb_net_run.specs.Setting.{CanPlay, IsPrepared, run_of};
+ghost use Rattle.exb_net_run.specs.Shelving.{IsNetChange, IsOfCaptures, OnlyGoesOnAll};
+ghost use Rattle.exb_net_run.specs.UnderWay.{AreOfRests, HasWritten, IsCutOff, IsWithin, NetRun};
+
 use crate::desk::{Desk, Room};
 use crate::game::NetGame;
 use crate::opening::{arm_all, open_agenda, set_desks};
@@ -20,7 +45,24 @@ fn play_agenda<S: Shelf>(
     agenda: &mut Agenda<'_>,
     net: Net,
     desks: Vec<Desk>,
-) -> Result<String, Fault> {
+) -> Result<String, Fault>
+    requires agenda { IsAgenda (S.ids shelf.old) agenda.old }
+    requires piece { 0 < length piece.old }
+    requires rests { AreOfRests rests.now (programmes_in agenda.old) }
+    requires can { (r : NetRun) × CanPlay S.tells r (S.file shelf.old) (S.ids shelf.old) net desks.items (programmes_in agenda.old) }
+    requires budget { IsWithin net.nodes.items (λ x. left (fate_in x.world)) (programmes_in agenda.old) }
+    ensures done { S.tells → IfOk result (λ line. (r : NetRun) → CanPlay S.tells r (S.file shelf.old) (S.ids shelf.old) net desks.items (programmes_in agenda.old)
+        → HasWritten r (S.file shelf.new) (string_bytes line)) }
+    ensures says { IfOk result (λ line. IsSummary (string_bytes line)) }
+    ensures cut { S.tells → OnErr result ((r : NetRun) → CanPlay S.tells r (S.file shelf.old) (S.ids shelf.old) net desks.items (programmes_in agenda.old)
+        → IsCutOff r (S.file shelf.new)) }
+    ensures never { S.tells → IfErr result (λ fault. IsNetChange fault → (r : NetRun)
+        → CanPlay S.tells r (S.file shelf.old) (S.ids shelf.old) net desks.items (programmes_in agenda.old) → ⊥) }
+    ensures only { OnlyGoesOnAll S.tells (plans_in desks.items) (all_ids (programmes_in agenda.old)) (S.file shelf.old) (S.file shelf.new) (S.ids shelf.old) (S.ids shelf.new) }
+    ensures changed { (name : List ℕ) (p at : ℕ) → IsErrOf result (Fault.MemberChanged name p at) → IsOfCaptures rests.now (programmes_in agenda.old) name p }
+    ensures causes { IfErr result IsOfNetPlay }
+    ensures faults { CountsFaults result (S.faults shelf.old) (S.faults shelf.new) }
+{
     let mut game = NetGame {
         net,
         desks,
@@ -43,7 +85,23 @@ fn play_into<S: Shelf>(
     checked: &[Vec<Checked>],
     fates: Vec<Box<dyn Fate>>,
     desks: Vec<Desk>,
-) -> Result<String, Fault> {
+) -> Result<String, Fault>
+    requires prepared { (counters : Bool) × ((ms : List NetMember) × ((ws : List Wire) × ((before : Files) × IsPrepared S.tells counters ms ws parts.now checked.now before (S.file shelf.old) (S.ids shelf.old) desks.items))) }
+    requires fates { AreArmed left parts.now.rests fates.items }
+    ensures done { S.tells → IfOk result (λ line. (counters : Bool) (ms : List NetMember) (ws : List Wire) (before : Files)
+        → IsPrepared S.tells counters ms ws parts.now checked.now before (S.file shelf.old) (S.ids shelf.old) desks.items
+        → HasWritten (run_of counters ms ws (S.file shelf.old) before) (S.file shelf.new) (string_bytes line)) }
+    ensures says { IfOk result (λ line. IsSummary (string_bytes line)) }
+    ensures cut { S.tells → OnErr result ((counters : Bool) (ms : List NetMember) (ws : List Wire) (before : Files)
+        → IsPrepared S.tells counters ms ws parts.now checked.now before (S.file shelf.old) (S.ids shelf.old) desks.items
+        → IsCutOff (run_of counters ms ws (S.file shelf.old) before) (S.file shelf.new)) }
+    ensures never { S.tells → IfErr result (λ fault. IsNetChange fault → ⊥) }
+    ensures only { S.tells → OnlyAllPlanned (plans_in desks.items) (S.file shelf.old) (S.file shelf.new) }
+    ensures opens { (ms : List NetMember) (ws : List Wire) → IsTakenApart ms ws parts.now → Opens (ReadsMemberCapture ms) (S.ids shelf.old) (S.ids shelf.new) }
+    ensures changed { (ms : List NetMember) (ws : List Wire) → IsTakenApart ms ws parts.now → (name : List ℕ) (p at : ℕ) → IsErrOf result (Fault.MemberChanged name p at) → HasCaptureAt ms name p }
+    ensures causes { IfErr result IsOfNetPlay }
+    ensures faults { CountsFaults result (S.faults shelf.old) (S.faults shelf.new) }
+{
     let Ok(mut piece) = room(alloc, PIECE) else {
         return Err(Fault::Memory);
     };
@@ -71,7 +129,23 @@ fn play_checked<S: Shelf>(
     checked: &[Vec<Checked>],
     counters: bool,
     fates: Vec<Box<dyn Fate>>,
-) -> Result<String, Fault> {
+) -> Result<String, Fault>
+    requires read { (ms : List NetMember) × ((ws : List Wire) × (IsTakenApart ms ws parts.now × (AreRead ms ws × AreMembersChecked S.tells ms (S.file shelf.old) checked.now))) }
+    requires fates { AreArmed left parts.now.rests fates.items }
+    ensures done { S.tells → IfOk result (λ line. (ms : List NetMember) (ws : List Wire) → IsTakenApart ms ws parts.now → AreRead ms ws → AreMembersChecked S.tells ms (S.file shelf.old) checked.now
+        → IsNetPlayed counters ms (net_of ms ws (S.file shelf.old)) (S.file shelf.old) (S.file shelf.new) (string_bytes line)) }
+    ensures says { IfOk result (λ line. IsSummary (string_bytes line)) }
+    ensures fronts { S.tells → (ms : List NetMember) (ws : List Wire) → IsTakenApart ms ws parts.now → AreRead ms ws → AreMembersChecked S.tells ms (S.file shelf.old) checked.now
+        → AreNetFronts ms (net_of ms ws (S.file shelf.old)) (S.file shelf.old) (S.file shelf.new) }
+    ensures never { S.tells → IfErr result (λ fault. IsNetChange fault → ⊥) }
+    ensures only { S.tells → (ms : List NetMember) (ws : List Wire) → IsTakenApart ms ws parts.now → AreRead ms ws → OnlyAllPlanned (map (plan_with counters) ms) (S.file shelf.old) (S.file shelf.new) }
+    ensures opens { (ms : List NetMember) (ws : List Wire) → IsTakenApart ms ws parts.now → AreRead ms ws
+        → Opens (λ i. ReadsMemberCapture ms i ⊎ WritesNetOutput counters ms i) (S.ids shelf.old) (S.ids shelf.new) }
+    ensures made { (ms : List NetMember) (ws : List Wire) → IsTakenApart ms ws parts.now → AreRead ms ws → MakesNet counters ms result (S.ids shelf.old) (S.ids shelf.new) }
+    ensures changed { (ms : List NetMember) (ws : List Wire) → IsTakenApart ms ws parts.now → (name : List ℕ) (p at : ℕ) → IsErrOf result (Fault.MemberChanged name p at) → HasCaptureAt ms name p }
+    ensures causes { IfErr result IsOfNetPlay }
+    ensures faults { CountsFaults result (S.faults shelf.old) (S.faults shelf.new) }
+{
     let desks = set_desks(alloc, shelf, parts, counters)?;
     play_into(alloc, shelf, parts, checked, fates, desks)
 }
@@ -85,7 +159,25 @@ pub fn play_net<S: Shelf>(
     counters: bool,
     fate: Box<dyn Fate>,
     more: Vec<Box<dyn Fate>>,
-) -> Result<String, Fault> {
+) -> Result<String, Fault>
+    requires fate { left fate < 2 ^ 56 }
+    requires many { 15 ≤ length more.items }
+    requires each { All (λ f. left f < 2 ^ 56) more.items }
+    ensures done { S.tells → IfOk result (λ line. NetPlayed name.now counters (S.file shelf.old) (S.file shelf.new) (string_bytes line)) }
+    ensures says { IfOk result (λ line. IsSummary (string_bytes line)) }
+    ensures cause { S.tells → IfErr result (λ fault. NetStops name.now (S.file shelf.old) fault ⊎ IsNetFailure fault) }
+    ensures stops { S.tells → (fault : Fault) → NetStops name.now (S.file shelf.old) fault → IsErrOf result fault ⊎ IsErrOf result Fault.Read ⊎ IsErrOf result Fault.Memory }
+    ensures causes { IfErr result IsOfNet }
+    ensures early { IfErr result (λ fault. IsOfNetPlay fault ⊎ SameFiles (S.file shelf.old) (S.file shelf.new)) }
+    ensures stopped { S.tells → (fault : Fault) → NetStops name.now (S.file shelf.old) fault → SameFiles (S.file shelf.old) (S.file shelf.new) }
+    ensures others { S.tells → OnlyNetAsked name.now counters (S.file shelf.old) (S.file shelf.new) }
+    ensures fronts { S.tells → AreFrontsOfNet name.now (S.file shelf.old) (S.file shelf.new) }
+    ensures reads { IfErr result (λ fault. IsOfNetPlay fault ⊎ Opens IsReading (S.ids shelf.old) (S.ids shelf.new)) }
+    ensures wanted { S.tells → IfErr result (λ fault. IsOfNetPlay fault ⊎ Opens (IsNetWanted name.now (S.file shelf.old)) (S.ids shelf.old) (S.ids shelf.new)) }
+    ensures only { S.tells → Opens (λ i. IsNetWanted name.now (S.file shelf.old) i ⊎ MakesNetOutputOf name.now counters (S.file shelf.old) i) (S.ids shelf.old) (S.ids shelf.new) }
+    ensures order { NetOpensInOrder S.tells name.now counters result (S.file shelf.old) (S.ids shelf.old) (S.ids shelf.new) }
+    ensures faults { CountsFaults result (S.faults shelf.old) (S.faults shelf.new) }
+{
     let NetInputs { members, wires } = read_net(alloc, shelf, name)?;
     let checked = check_members(alloc, shelf, members.as_slice())?;
     let parts = take_apart(alloc, members, wires)?;

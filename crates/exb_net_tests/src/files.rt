@@ -70,7 +70,12 @@ fn member_of(rt: &impl Abort, alloc: Global, name: &str, text: &str) -> NetMembe
 }
 
 // The bridges of a file, each with the text that stands there in the list.
-pub(crate) fn members_of(rt: &impl Abort, alloc: Global, file: &NetFile, texts: &[&str]) -> List<NetMember> {
+pub(crate) fn members_of(
+    rt: &impl Abort,
+    alloc: Global,
+    file: &NetFile,
+    texts: &[&str],
+) -> List<NetMember> {
     let mut members = List::new(alloc);
     for (index, bridge) in file.bridges.as_slice().iter().enumerate() {
         let text = text_at(texts, index);

@@ -1,8 +1,8 @@
 //! A net that is taken apart: what is said of each bridge, in the order of its file.
 use crate::compare::same;
 use crate::files::members_of;
-use exb_net_file::{NetRest, read, take_apart};
 use exb_model::list::List;
+use exb_net_file::{NetRest, read, take_apart};
 use std::alloc::Global;
 use std::process::Abort;
 
@@ -41,10 +41,17 @@ fn parts_text(rt: &impl Abort, alloc: Global, file: &str, texts: &[&str]) -> Str
 #[test]
 fn parts_stand_in_order(rt: HostRuntime) {
     let alloc = rt.alloc();
-    let file = "bridge = [{ name = 'core', topology = 'c' }, { name = 'east', topology = 'e' }, { name = 'west', topology = 'w' }]\n";
+    let file =
+        "bridge = [{ name = 'core', topology = 'c' }, { name = 'east', topology = 'e' }, { name = 'west', topology = 'w' }]\n";
     let core = "bridge = { ports = 3 }\nlinks = { fate = 'PLT' }\n";
-    let east = "bridge = { ports = 2 }\ncommand = [{ at = 0, op = 'down', port = 'b1' }, { at = 1, op = 'up', port = 'b1' }]\n";
+    let east =
+        "bridge = { ports = 2 }\ncommand = [{ at = 0, op = 'down', port = 'b1' }, { at = 1, op = 'up', port = 'b1' }]\n";
     let west = "bridge = { ports = 1 }\ncaptures = { b1 = 'w.pcap' }\n";
     let given = parts_text(&rt, alloc, file, &[core, east, west]);
-    same(&rt, given.as_str(), "core 0 3 0;east 2 0 0;west 0 0 1; 3 2 1", file);
+    same(
+        &rt,
+        given.as_str(),
+        "core 0 3 0;east 2 0 0;west 0 0 1; 3 2 1",
+        file,
+    );
 }

@@ -31,7 +31,7 @@ use Rattle.exb_nets.proofs.Soon.{Apart, EndsApart, NotIn, end_at, ends_apart, fa
 
 -- ---- arrivals of a port
 -- its events, the oldest first, each with the bridge before it
-pub entries_at : Basis → History → ℕ → List (Event × Bridge)
+unfoldable pub entries_at : Basis → History → ℕ → List (Event × Bridge)
 entries_at i [] q = []
 entries_at i (e ∷ h) q = entries_at i h q ++ cond (is_at_port q e) ((e, bridge_after i h) ∷ []) []
 
@@ -181,7 +181,7 @@ arrivals_more p n [] x = ap (λ (k : ℕ). record { port = p; index = k; moment 
 arrivals_more p n (y ∷ xs) x =
     let later : suc n + length xs ≡ n + suc (length xs) = omega arith in
     ap (λ (zs : List Arrival). record { port = p; index = n; moment = y.0; bytes = y.1 } ∷ zs)
-        (arrivals_more p (suc n) xs x ∙ ap (λ (k : ℕ). arrivals_as p (suc n) xs ++ record { port = p; index = k; moment = x.0; bytes = x.1 } ∷ []) later)
+    (arrivals_more p (suc n) xs x ∙ ap (λ (k : ℕ). arrivals_as p (suc n) xs ++ record { port = p; index = k; moment = x.0; bytes = x.1 } ∷ []) later)
 
 -- ---- ends
 -- what holds of all ends of wires holds of the far end of each
@@ -320,7 +320,7 @@ module _ (n : Net) (net : IsNet n) (c q : ℕ) (e : End) (wired : far_end n.wire
       from_ports e.bridge (sends e.bridge h ev) (external_ports t)
       ∙ (ap (λ (z : Bool). flat_map (λ (p : ℕ). cond z (cond (p == e.port) (sends e.bridge h ev p) []) []) (external_ports t)) (eq-eqb e.bridge e.bridge refl)
       ∙ one_chosen (sends e.bridge h ev) e.port (external_ports t) (ports_apart t)
-          (external_there t e.port far.port (external_low t e.port (net.setups e.bridge far.bridge).tree far.port)))
+      (external_there t e.port far.port (external_low t e.port (net.setups e.bridge far.bridge).tree far.port)))
 
   grown_there : (b : ℕ) (h : History) (ev : Event) → b ≢ e.bridge → queued c q (grown_by n b h ev) ≡ []
   unfolding grown_by sends
@@ -506,8 +506,11 @@ module _ (n : Net) (net : IsNet n) (c q : ℕ) (e : End) (wired : far_end n.wire
   pub arrived_at_end : (hs : Histories) → NetEager n hs → HaveAll hs
   arrived_at_end hs k = goes_on (dues n) (openings n) hs (all_apart (dues n) (dues_recorded n)) opened k.goes
 
-pub crossings_arrive : CrossingsArrive
+pub crossings_enter : (n : Net) (hs : Histories) (b q : ℕ) (e : End) → IsNet n → NetEager n hs → far_end n.wires b q ≡ Some e → Pairwise IsEntry (arrivals_as q 1 (leaves_at n hs e)) (entries_at (basis_in n b) (hs b) q)
 unfolding queued
-crossings_arrive n hs b q e net k wired =
+crossings_enter n hs b q e net k wired =
     let a = arrived_at_end n net b q e wired hs k in
-    subst (λ (xs : List Sent). Pairwise IsEventOf (arrivals_as q 1 xs) (events_at (hs b) q)) (sym (a.rest ∙ append-nil a.come)) (told_events (basis_in n b) (hs b) q (arrivals_as q 1 a.come) a.told)
+    subst (λ (xs : List Sent). Pairwise IsEntry (arrivals_as q 1 xs) (entries_at (basis_in n b) (hs b) q)) (sym (a.rest ∙ append-nil a.come)) a.told
+
+pub crossings_arrive : CrossingsArrive
+crossings_arrive n hs b q e net k wired = told_events (basis_in n b) (hs b) q (arrivals_as q 1 (leaves_at n hs e)) (crossings_enter n hs b q e net k wired)

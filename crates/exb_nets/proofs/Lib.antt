@@ -11,3 +11,4 @@ mod Sorted
 mod Chosen
 mod Arrived
 mod Growing
+mod HoldAll

@@ -39,7 +39,7 @@ sorted_each P [] all = tt
 sorted_each P (x ∷ xs) all = put_each P x (dues_by_moment xs) all.0 (sorted_each P xs all.1)
 
 -- ---- records by their numbers
-at_seam : {A : Type 0} (front : List A) (x : A) (rest : List A) → slice_get (front ++ x ∷ rest) (length front) ≡ Some x
+pub at_seam : {A : Type 0} (front : List A) (x : A) (rest : List A) → slice_get (front ++ x ∷ rest) (length front) ≡ Some x
 at_seam [] x rest = refl
 at_seam (y ∷ front) x rest = at_seam front x rest
 
@@ -85,10 +85,21 @@ module _ (n : Net) where
   captured_recorded b [] all = tt
   captured_recorded b (a ∷ as_) all = (all.0, captured_recorded b as_ all.1)
 
-  pub dues_recorded : Each IsRecorded (dues n)
+  captured_each : (P : Due → Type 0) → ((b : ℕ) (a : Arrival) → P (record { bridge = b; coming = Captured a })) → (b : ℕ) (as_ : List Arrival) → Each P (due_at b (map Captured as_))
+  captured_each P all b [] = tt
+  captured_each P all b (a ∷ as_) = (all b a, captured_each P all b as_)
+
+  dues_of : (P : Due → Type 0) → ((b : ℕ) → Each P (due_at b (commands_from (start_of_all n) 1 (n.input b).commands))) → ((b : ℕ) → Each P (due_at b (map Captured (all_arrivals (n.input b))))) → Each P (dues n)
   unfolding dues
-  dues_recorded =
-      sorted_each IsRecorded (all_due n)
-      (each_both IsRecorded (flat_map (λ b. due_at b (commands_from (start_of_all n) 1 (n.input b).commands)) (below n.count)) (flat_map (λ b. due_at b (map Captured (all_arrivals (n.input b)))) (below n.count))
-      (each_flat IsRecorded (λ b. due_at b (commands_from (start_of_all n) 1 (n.input b).commands)) (λ b. orders_recorded b (start_of_all n) 1 (n.input b).commands) (below n.count))
-      (each_flat IsRecorded (λ b. due_at b (map Captured (all_arrivals (n.input b)))) (λ b. captured_recorded b (all_arrivals (n.input b)) (all_numbered (n.input b))) (below n.count)))
+  dues_of P orders records =
+      sorted_each P (all_due n)
+      (each_both P (flat_map (λ b. due_at b (commands_from (start_of_all n) 1 (n.input b).commands)) (below n.count)) (flat_map (λ b. due_at b (map Captured (all_arrivals (n.input b)))) (below n.count))
+      (each_flat P (λ b. due_at b (commands_from (start_of_all n) 1 (n.input b).commands)) orders (below n.count))
+      (each_flat P (λ b. due_at b (map Captured (all_arrivals (n.input b)))) records (below n.count)))
+
+  -- what holds of each command, and of any record, holds of all that comes
+  pub dues_each : (P : Due → Type 0) → ((b : ℕ) → Each P (due_at b (commands_from (start_of_all n) 1 (n.input b).commands))) → ((b : ℕ) (a : Arrival) → P (record { bridge = b; coming = Captured a })) → Each P (dues n)
+  dues_each P orders records = dues_of P orders (λ b. captured_each P records b (all_arrivals (n.input b)))
+
+  pub dues_recorded : Each IsRecorded (dues n)
+  dues_recorded = dues_of IsRecorded (λ b. orders_recorded b (start_of_all n) 1 (n.input b).commands) (λ b. captured_recorded b (all_arrivals (n.input b)) (all_numbered (n.input b)))

@@ -1,6 +1,6 @@
 //! What is true of nets.
 ghost use Rattle.exb_nets.specs.Ending.{QueuesEnd, QueuesEndSoon, NetsHaveHistories};
-ghost use Rattle.exb_nets.specs.Held.{CrossingsArrive};
+ghost use Rattle.exb_nets.specs.Held.{CrossingsArrive, HistoriesHoldAll};
 ghost use Rattle.exb_nets.specs.Laws.{HistoriesAreOne, HistoriesGoOn, DuesAreInOrder, NothingGoesBack, OneIsEager};
 
 /// A net has no more than one history by bridge.
@@ -42,6 +42,12 @@ pub fn nets_have_histories()
 /// What arrives at a wired port is, in order, what leaves at the far end of its wire.
 pub fn crossings_arrive()
     ensures { CrossingsArrive }
+{}
+
+/// The history of each bridge holds its commands, each once and in order, and of each port what arrives there, each once and by rising
+/// index; which of them are refused and relayed is by the rules of legal histories.
+pub fn histories_hold_all()
+    ensures { HistoriesHoldAll }
 {}
 
 /// A net of one bridge has the history of the eager run.

@@ -8,7 +8,7 @@ use crate::compare::{holds, same_status};
 use crate::hex::bytes_of;
 use crate::runs::play;
 use exb_faulty::{Asked, Call, Disturbance, FaultyShelf, FaultySink};
-use runs::{BARE, LOSSY, Run, TREE};
+use runs::{BARE, LOSSY, NET, Run, TREE};
 use std::alloc::Global;
 use std::process::Abort;
 
@@ -41,6 +41,13 @@ fn put_all(rt: &impl Abort, shelf: &mut FaultyShelf, names: &[&str], text: &str)
     }
 }
 
+// Puts texts there, each behind its name.
+fn put_texts(rt: &impl Abort, shelf: &mut FaultyShelf, texts: &[(&str, &str)]) {
+    for (name, text) in texts {
+        shelf.put(name, text.as_bytes()).expect(rt, "memory");
+    }
+}
+
 // Puts a capture there in hexadecimal.
 fn put_capture(rt: &impl Abort, alloc: Global, shelf: &mut FaultyShelf, name: &str, capture: &str) {
     let capture = bytes_of(rt, alloc, capture);
@@ -62,7 +69,7 @@ fn put_captures(
 // A shelf with the files of a run, and what was there before it.
 fn shelf_of(rt: &impl Abort, alloc: Global, site: Site<'_>, how: Disturbance) -> FaultyShelf {
     let mut shelf = FaultyShelf::new(alloc, how);
-    put_all(rt, &mut shelf, &["t.toml"], site.run.topology);
+    put_texts(rt, &mut shelf, site.run.texts);
     put_all(rt, &mut shelf, &OTHERS, BEFORE);
     if !site.before.is_empty() {
         put_all(rt, &mut shelf, site.run.outputs, site.before);
@@ -186,9 +193,9 @@ impl<'a> Bench<'a> {
         holds(rt, file.is_some() && file == self.first.file(name), name);
     }
 
-    // Asserts that each capture that is read is as it was.
-    fn judge_captures(&self, rt: &impl Abort, played: &Played) {
-        for (name, _bytes) in self.site.run.captures {
+    // Asserts that each of these files, which are read, is as it was.
+    fn judge_read(&self, rt: &impl Abort, played: &Played, files: &[(&str, &str)]) {
+        for (name, _text) in files {
             self.judge_kept(rt, played, name);
         }
     }
@@ -198,8 +205,8 @@ impl<'a> Bench<'a> {
         for name in &OTHERS {
             self.judge_kept(rt, played, name);
         }
-        self.judge_kept(rt, played, "t.toml");
-        self.judge_captures(rt, played);
+        self.judge_read(rt, played, self.site.run.texts);
+        self.judge_read(rt, played, self.site.run.captures);
     }
 
     // Asserts what comes of a run whose calls are disturbed: this status, this line or a front of it, and the files.
@@ -443,4 +450,15 @@ fn each_failing_call_of_a_lossy_tree_in_a_drawn_order_is_answered_as_it_must(rt:
 fn each_short_call_of_a_lossy_tree_in_a_drawn_order_is_answered_as_it_must(rt: HostRuntime) {
     shorten_run(&rt, rt.alloc(), &LOSSY, false);
     shorten_run(&rt, rt.alloc(), &LOSSY, true);
+}
+
+#[test]
+fn each_failing_call_of_a_net_is_answered_as_it_must(rt: HostRuntime) {
+    fail_run(&rt, rt.alloc(), &NET);
+}
+
+#[test]
+fn each_short_call_of_a_net_is_answered_as_it_must(rt: HostRuntime) {
+    shorten_run(&rt, rt.alloc(), &NET, false);
+    shorten_run(&rt, rt.alloc(), &NET, true);
 }

@@ -160,8 +160,8 @@ module _ (round : TagRoundTrip) (words : SendsAreWords) (leave : SendsLeaveAsFla
     clock_is = (stands_at steps f.may).force.clock
 
     -- the number of commands that the world was given
-    pub given_is : (after steps).world.control.given ≡ taken
-    given_is = (stands_at steps f.may).follows.commands ∙ sym f.counts
+    pub count_is : (after steps).world.control.given ≡ taken
+    count_is = (stands_at steps f.may).follows.commands ∙ sym f.counts
 
     -- it is given something, and settles
     module _ (step : Step) (moves : List Step) (gives : IsGiving step) (may : MayTakeAll t l (after steps).world (step ∷ moves)) (alone : machine.Each IsMove moves)

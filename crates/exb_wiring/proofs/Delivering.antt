@@ -43,7 +43,7 @@ use Rattle.exb_nets.specs.Ending.{QueuesEndSoon, named_in}
 use Rattle.exb_wiring.specs.Playing.{Dones, Between, Handles, MayPass, AreOpened, tree_in, limits_in, does, goes_on, crossed, pass}
 use Rattle.exb_wiring.specs.UnderWay.{LeftAt}
 use Rattle.exb_wiring.specs.Delivering.{IsRun, AreRun, HaveVids, HaveBegun, OpenedNetsRun, HavePassed, SecondsPass, MayCome, IsHandledOn, BridgesHandle, DeliversTimes, IsSoon, DeliveriesEndSoon}
-use Rattle.exb_wiring.proofs.Bridges.{Facts, arrived, clock_is, given_is, named_arrival, named_decided, named_settled, opening_names, ordered, told_is}
+use Rattle.exb_wiring.proofs.Bridges.{Facts, arrived, clock_is, count_is, named_arrival, named_decided, named_settled, opening_names, ordered, told_is}
 use Rattle.exb_wiring.proofs.Bridges as bridge
 use Rattle.exb_wiring.proofs.Nets.{AllAt, InRange, IsAt, delivered_on, each_flat, each_join, grown_here, handled_arrival, opened_at}
 
@@ -406,12 +406,21 @@ module _ (round : TagRoundTrip) (words : SendsAreWords) (leave : SendsLeaveAsFla
           ∙ (still told (told_of t l w step) none
           ∙ (sym (clock_is round words leave law stay setup (net.setups b here) (vids b here) _ _ r.steps (known n b (s.dones b) r [])) ∙ ap (λ (z : Stepped). z.world.table.clock) (sym r.is)))))
 
-      given_then : (step : Step) (h : Handles n b step s e) (f : After step h) → (e.dones b).world.control.given ≡ f.taken
-      given_then step h f =
-          ap (λ (z : Stepped). z.world.control.given) (dones_here step h) ∙ given_is round words leave law stay setup (net.setups b here) (vids b here) f.full f.taken (all step h) f.facts
-
       given_before : (s.dones b).world.control.given ≡ length (commands_of (given_in r.steps))
-      given_before = ap (λ (z : Stepped). z.world.control.given) r.is ∙ given_is round words leave law stay setup (net.setups b here) (vids b here) _ _ r.steps (known n b (s.dones b) r [])
+      given_before = ap (λ (z : Stepped). z.world.control.given) r.is ∙ count_is round words leave law stay setup (net.setups b here) (vids b here) _ _ r.steps (known n b (s.dones b) r [])
+
+      given_arrival : (a : Arrival) → Handles n b (Arrive a) s e → (e.dones b).world.control.given ≡ length (commands_of (given_in r.steps))
+      given_arrival a h =
+          ap (λ (z : Stepped). z.world.control.given) (dones_here (Arrive a) h)
+          ∙ count_is round words leave law stay setup (net.setups b here) (vids b here) _ _ (all (Arrive a) h)
+          (arrived round words leave law stay setup (net.setups b here) (vids b here) _ _ r.steps (known n b (s.dones b) r []) a h.moves (may_here (Arrive a) h) h.moves_alone (settled_here (Arrive a) h))
+
+      given_order : (c : Command) → Handles n b (Order c) s e → (e.dones b).world.control.given ≡ suc (length (commands_of (given_in r.steps)))
+      unfolding known
+      given_order c h =
+          ap (λ (z : Stepped). z.world.control.given) (dones_here (Order c) h)
+          ∙ count_is round words leave law stay setup (net.setups b here) (vids b here) _ _ (all (Order c) h)
+          (ordered round words leave law stay setup (net.setups b here) (vids b here) _ _ r.steps (known n b (s.dones b) r (c ∷ [])) c h.moves [] refl (may_here (Order c) h) h.moves_alone (settled_here (Order c) h))
 
       -- what may cross leaves an external port, and at others nothing leaves
       left_of_crossing : (a : Arrival) (xs : List Left) → Each (MayCross t a) xs → Each (LeftAt n b a.moment) xs
@@ -432,7 +441,7 @@ module _ (round : TagRoundTrip) (words : SendsAreWords) (leave : SendsLeaveAsFla
           let cross = leaves_may_cross round words leave law stay setup r.steps a h.moves (alone (Arrive a) h) in
           record {
             clock = clock_then (Arrive a) h f (no_seconds (is_relayed w.control.bridge a.port a.bytes));
-            given = given_then (Arrive a) h f ∙ sym given_before;
+            given = (let now = given_arrival a h in let was = given_before in omega (arith, now, was));
             told = told_all (Arrive a) h;
             more = (run t l (Arrive a ∷ h.moves) w).left;
             left = left_all (Arrive a) h;
@@ -441,6 +450,7 @@ module _ (round : TagRoundTrip) (words : SendsAreWords) (leave : SendsLeaveAsFla
               | inl ext ↦ cross.few q ext
               | inr not ↦ (let none = ap (λ (xs : List Sent). length xs) (none_elsewhere a (run t l (Arrive a ∷ h.moves) w).left q not cross.each) in omega (arith, none))
             ];
+            queue = h.queue ∙ ap (λ (xs : List Left). s.queue ++ crossed n b xs) (left_is (Arrive a) h);
           }
         where
           no_seconds : (c : Bool) → seconds_of (cond c (event.Relay a.port a.index a.moment a.bytes) (event.Ignored a.port a.index)) ≡ 0
@@ -453,7 +463,7 @@ module _ (round : TagRoundTrip) (words : SendsAreWords) (leave : SendsLeaveAsFla
           let none = commands_send_nothing round words leave law stay setup r.steps c h.moves (alone (Order c) h) in
           record {
             clock = clock_then (Order c) h f (no_seconds (refusal t l w.control.bridge c));
-            given = given_then (Order c) h f ∙ ap suc (sym given_before);
+            given = (let now = given_order c h in let was = given_before in omega (arith, now, was));
             told = told_all (Order c) h;
             more = [];
             left = left_all (Order c) h ∙ ap (λ (xs : List Left). (s.dones b).left ++ xs) none;

@@ -1,6 +1,6 @@
 -- One event of a net, told by numbers.
 use Rattle.std.proofs.Common.{◌≡◌, ◌≢◌, ℕ, zero, suc, ◌+◌, ◌-◌, ◌<◌, ◌≤◌, ◌==◌, ◌++◌, Bool, true, false, cond, List, [], ◌∷◌, length, Option, Some, None, refl, ap, sym, ◌∙◌, subst, arith, inl, inr}
-use Rattle.std.specs.Prelude.{flat_map, fold}
+use Rattle.std.specs.Prelude.{fold}
 use Rattle.std.proofs.lemmas.Bool.{cases_Bool, cases_eq, eq-eqb, ne_eqb, eqb-true}
 use Rattle.std.proofs.lemmas.List.{append-nil, append_assoc, length-append}
 use Rattle.exb_model.specs.declared.command.Command.{Command}
@@ -17,19 +17,20 @@ use Rattle.exb_model.specs.Tree.{external_ports}
 use Rattle.exb_frame.specs.TagValues.{TagRoundTrip}
 use Rattle.exb_relay.specs.Laws.{SendsAreWords, SendsLeaveAsFlat}
 use Rattle.exb_changing.specs.Runs.Journal.{StepsTell}
-use Rattle.exb_machine.specs.Settling.{run, followed_by}
+use Rattle.exb_machine.specs.Settling.{run}
 use Rattle.exb_machine.specs.Stepping.{Stepped, stepped}
 use Rattle.exb_machine.specs.Worlds.{Step, Arrive, Order, Tick, Left}
 use Rattle.exb_machine.specs.Runs.Sessions.{Each}
 use Rattle.exb_machine.specs.Runs.Written.{StepsStayWritten}
 use Rattle.exb_resting.specs.Flight.Showing.{left_at}
-use Rattle.exb_resting.specs.Rest.Playing.{counted_in, none_counted}
+use Rattle.exb_resting.specs.Rest.Playing.{none_counted}
 use Rattle.exb_resting.proofs.Flight.Standing.{then_append}
+use Rattle.exb_resting.specs.Rest.Settles.{beginning}
 use Rattle.exb_nets.specs.declared.wires.End.{End}
 use Rattle.exb_nets.specs.Ending.{QueuesEndSoon, named_in}
 use Rattle.exb_nets.specs.Nets.{Net, IsNet, far_end, is_wired}
 use Rattle.exb_nets.specs.NetHistory.{Crossing, Due, crosses, due_moment}
-use Rattle.exb_wiring.specs.Playing.{Between, Delivers, Dones, Empties, Handles, MayPass, PlaysOne, coming_at, crossed, does, pass, tree_in}
+use Rattle.exb_wiring.specs.Playing.{Between, Delivers, Dones, Empties, Handles, MayPass, PlaysOne, coming_at, crossed, limits_in, pass, tree_in}
 use Rattle.exb_wiring.specs.Delivering.{AreRun, DeliversTimes, HaveVids, MayCome}
 use Rattle.exb_wiring.specs.UnderWay.{AreOneMore, EventsAddOne, IsOneMore, LeftAt, decided_in, entered_in, orders_at, records_at, records_in}
 use Rattle.exb_wiring.proofs.Delivering.{handled_arrival_on, handled_order_on, once_soon, passed_on, told_arrival, told_order}
@@ -145,15 +146,15 @@ module _ (n : Net) where
     few : (q : ℕ) → length (left_at q more) + named_in ([] then s.events) ≤ named_in ([] then u.events)
 
   stays : (c moment : ℕ) (s : Stepped) → IsGrown c moment 0 (λ p. 0) s s
-  stays c moment s = record { clock = refl; given = refl; next = λ p free. refl; decides = refl; more = []; left = sym (append-nil s.left); each = tt; few = λ q. omega arith }
+  stays c moment s = record { clock = refl; given = omega arith; next = λ p free. omega arith; decides = omega arith; more = []; left = sym (append-nil s.left); each = tt; few = λ q. omega arith }
 
   then_on : (c moment orders : ℕ) (came : ℕ → ℕ) (s t u : Stepped) → IsGrown c moment orders came s t → IsGrown c moment 0 (λ p. 0) t u → IsGrown c moment orders came s u
   then_on c moment orders came s t u a b =
       record {
         clock = b.clock ∙ a.clock;
-        given = b.given ∙ a.given;
-        next = λ p free. b.next p free ∙ a.next p free;
-        decides = b.decides ∙ a.decides;
+        given = (let now = b.given in let was = a.given in omega (arith, now, was));
+        next = λ p free. (let now = b.next p free in let was = a.next p free in omega (arith, now, was));
+        decides = (let now = b.decides in let was = a.decides in omega (arith, now, was));
         more = a.more ++ b.more;
         left = b.left ∙ (ap (λ (xs : List Left). xs ++ b.more) a.left ∙ append_assoc s.left a.more b.more);
         each = each_join (LeftAt n c moment) a.more b.more a.each b.each;
@@ -164,9 +165,9 @@ module _ (n : Net) where
             omega (arith, first, rest, both));
       }
 
-  plus_one : (c : Bool) (k : ℕ) → cond c (suc k) k ≡ cond c 1 0 + k
-  plus_one true k = refl
-  plus_one false k = refl
+  plus_one : (c : Bool) (k : ℕ) → cond {A = ℕ} c (suc k) k ≡ cond {A = ℕ} c 1 0 + k
+  plus_one true k = omega arith
+  plus_one false k = omega arith
 
   module _ (round : TagRoundTrip) (words : SendsAreWords) (leave : SendsLeaveAsFlat) (law : StepsTell) (stay : StepsStayWritten) (net : IsNet n) (vids : HaveVids n) where
     -- ---- a frame arrives at a bridge
@@ -188,11 +189,11 @@ module _ (n : Net) where
             clock = k.clock;
             given = k.given;
             next = λ p free. on.next p ∙ plus_one (a.port == p) ((s.dones b).world.next p);
-            decides = ap decided_over k.told ∙ none_decided _ a ([] then (s.dones b).events);
+            decides = (let now = ap decided_over k.told ∙ none_decided (run (tree_in n b) (limits_in n b) r.steps (beginning (n.input b).setup)).world.control.bridge a ([] then (s.dones b).events) in omega (arith, now));
             more = k.more;
             left = k.left;
             each = k.each;
-            few = λ q. (let few = k.few q in let named = ap named_in k.told ∙ named_arrival _ a ([] then (s.dones b).events) in omega (arith, few, named));
+            few = λ q. (let few = k.few q in let named = ap named_in k.told ∙ named_arrival (run (tree_in n b) (limits_in n b) r.steps (beginning (n.input b).setup)).world.control.bridge a ([] then (s.dones b).events) in omega (arith, few, named));
           };
           others = on.others;
           may = on.queue;
@@ -205,7 +206,7 @@ module _ (n : Net) where
       each : (c : ℕ) → c < n.count → IsGrown c moment 0 (λ p. 0) (s.dones c) (u.dones c)
 
     -- at a wired port
-    wired_next : (c p q : ℕ) → is_wired n.wires c p ≡ true → is_wired n.wires c q ≡ false → cond (p == q) 1 0 ≡ 0
+    wired_next : (c p q : ℕ) → is_wired n.wires c p ≡ true → is_wired n.wires c q ≡ false → ◌≡◌ {A = ℕ} (cond (p == q) 1 0) 0
     wired_next c p q wired free = elim (cases_eq p q) [
       | inl same ↦ absurd (let z : is_wired n.wires c p ≡ false = ap (is_wired n.wires c) same ∙ free in cc)
       | inr other ↦ rw (ne_eqb p q other) refl
@@ -384,8 +385,8 @@ module _ (n : Net) where
           record {
             clock = k.clock;
             given = k.given;
-            next = λ p free. on.next p;
-            decides = ap decided_over k.told ∙ one_decided _ _ ([] then (now b).events);
+            next = λ p free. (let more : (given.dones b).world.next p ≡ (pass n seconds s b).world.next p = on.next p in omega (arith, more));
+            decides = (let more = ap decided_over k.told ∙ one_decided _ _ ([] then (now b).events) in omega (arith, more));
             more = k.more;
             left = k.left;
             each = k.each;

@@ -3,7 +3,7 @@ use Rattle.std.proofs.Common.{◌≡◌, ◌*◌, ◌≤◌, ◌++◌, List, [],
 use Rattle.std.specs.Prelude.{All, IsPermutation}
 use Rattle.std.proofs.lemmas.List.{append-nil}
 use Rattle.std.proofs.lemmas.List.Sorted.{IsPermutation-refl}
-use Rattle.exb_model.specs.Input.{Input, Arrival, Eager, bounds_of, tree_of}
+use Rattle.exb_model.specs.Input.{Input, Eager, bounds_of, tree_of}
 use Rattle.exb_model.specs.Setup.{IsValid}
 use Rattle.exb_machine.specs.Allowing.{IsSettled}
 use Rattle.exb_machine.specs.Runs.Laws.{IsMove}
@@ -16,7 +16,6 @@ use Rattle.exb_resting.specs.Motion.Kept.{HasVid, given_in}
 use Rattle.exb_resting.specs.Rest.Playing.{PlaysIn, RunsAreFew, RunsAreUnderWay}
 use Rattle.exb_resting.specs.Rest.Settles.{MayTakeAll, beginning}
 use Rattle.exb_resting.proofs.Motion.Playing.{each_moves}
-use Rattle.exb_nets.specs.Nets.{Net, IsNet}
 use Rattle.exb_wiring.specs.Playing.{Opens}
 use Rattle.exb_wiring.specs.UnderWay.{OpenedNetsAreNew}
 use Rattle.exb_wiring.proofs.Bridges.{may_append}

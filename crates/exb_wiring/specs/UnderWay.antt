@@ -44,9 +44,9 @@ abbrev pub decided_in : List Event → ℕ
 decided_in es = (counted_in es).commits + (counted_in es).refusals
 
 -- a frame that left an external port at this moment, and isn't long
-pub record LeftAt (n : Net) (b moment : ℕ) (x : Left) : Type 0 where
+pub record LeftAt (n : Net) (b time : ℕ) (x : Left) : Type 0 where
   pub port : is_external (tree_in n b) x.port ≡ true
-  pub moment : x.moment ≡ moment
+  pub moment : x.moment ≡ time
   pub short : length x.bytes ≤ 9220
 
 -- Of one bridge: its clock goes on by the seconds. Where a command comes to it, it is given and told of at most one more. Records come to ports

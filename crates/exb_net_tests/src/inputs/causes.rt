@@ -50,11 +50,22 @@ const TOPOLOGIES: [Case; 8] = [
         "3 3 exbr: topology east: Range at bridge.ports\n",
     ),
     (
-        &[NET, CORE, ("e", "bridge = { ports = 1 }\ncaptures = { b2 = 'e2' }\n")],
+        &[
+            NET,
+            CORE,
+            ("e", "bridge = { ports = 1 }\ncaptures = { b2 = 'e2' }\n"),
+        ],
         "3 3 exbr: topology east: UnknownPort at captures.b2\n",
     ),
     (
-        &[NET, CORE, ("e", "bridge = { ports = 1 }\ncaptures = { b1 = 'east-b1.pcap' }\n")],
+        &[
+            NET,
+            CORE,
+            (
+                "e",
+                "bridge = { ports = 1 }\ncaptures = { b1 = 'east-b1.pcap' }\n",
+            ),
+        ],
         "3 3 exbr: net: Repeat at bridge[1].topology\n",
     ),
 ];
@@ -65,7 +76,11 @@ const WIRES: [Case; 3] = [
         "3 3 exbr: net: UnknownPort at wire[0].a\n",
     ),
     (
-        &[NET, CORE, ("e", "bridge = { ports = 1 }\ncaptures = { b1 = 'e1' }\n")],
+        &[
+            NET,
+            CORE,
+            ("e", "bridge = { ports = 1 }\ncaptures = { b1 = 'e1' }\n"),
+        ],
         "3 3 exbr: net: SharedPort at wire[0].b\n",
     ),
     (

@@ -1,30 +1,37 @@
-//! Three whole runs, by their files.
+//! Whole runs, by their files.
 
-/// A run: its words, its topology `t.toml`, its captures in hexadecimal, the files that it makes, in their order, and its summary.
+/// A run: its words, its topology or those of a net with its file, its captures in hexadecimal, the files that it makes, in their
+/// order, and its summary.
 pub(super) struct Run {
     pub(super) words: &'static str,
-    pub(super) topology: &'static str,
+    pub(super) texts: &'static [(&'static str, &'static str)],
     pub(super) captures: &'static [(&'static str, &'static str)],
     pub(super) outputs: &'static [&'static str],
     pub(super) summary: &'static str,
 }
 
-/// A bridge alone: a broadcast, and an answer to its source.
+/// What comes to two ports: a broadcast, and an answer to its source.
+const AT_TWO_PORTS: &[(&str, &str)] = &[
+    (
+        "a.pcap",
+        "D4C3B2A1 0200 0400 8x00 FFFF0000 01000000 64000000 00000000 0E000000 0E000000 \
+         FFFFFFFFFFFF 020000000001 0800",
+    ),
+    (
+        "b.pcap",
+        "D4C3B2A1 0200 0400 8x00 FFFF0000 01000000 65000000 00000000 0E000000 0E000000 \
+         020000000001 020000000002 0800",
+    ),
+];
+
+/// A bridge alone.
 pub(super) const BARE: Run = Run {
     words: "run t.toml",
-    topology: "bridge.ports = 3\n[captures]\nb1 = 'a.pcap'\nb2 = 'b.pcap'\n",
-    captures: &[
-        (
-            "a.pcap",
-            "D4C3B2A1 0200 0400 8x00 FFFF0000 01000000 64000000 00000000 0E000000 0E000000 \
-             FFFFFFFFFFFF 020000000001 0800",
-        ),
-        (
-            "b.pcap",
-            "D4C3B2A1 0200 0400 8x00 FFFF0000 01000000 65000000 00000000 0E000000 0E000000 \
-             020000000001 020000000002 0800",
-        ),
-    ],
+    texts: &[(
+        "t.toml",
+        "bridge.ports = 3\n[captures]\nb1 = 'a.pcap'\nb2 = 'b.pcap'\n",
+    )],
+    captures: AT_TWO_PORTS,
     outputs: &[
         "out-b1.pcap",
         "out-b2.pcap",
@@ -53,7 +60,9 @@ const IN_A_TREE: &[(&str, &str)] = &[
 /// An extender below another: a port goes down, VLANs come, and then groups don't suffice for the port to go up again.
 pub(super) const TREE: Run = Run {
     words: "run t.toml",
-    topology: "bridge = {ports = 2, groups = 4}\n\
+    texts: &[(
+        "t.toml",
+        "bridge = {ports = 2, groups = 4}\n\
         extender = [{number = 1, on = 'b1', ports = 3}, {number = 2, on = 'x1.3', ports = 2}]\n\
         command = [\n\
         {at = 1, op = 'down', port = 'x2.2'},\n\
@@ -62,6 +71,7 @@ pub(super) const TREE: Run = Run {
         {at = 2, op = 'up', port = 'x2.2'},\n\
         ]\n\
         captures = {'x1.1' = 'a.pcap', 'b2' = 'b.pcap'}\n",
+    )],
     captures: IN_A_TREE,
     outputs: &[
         "out-b2.pcap",
@@ -77,7 +87,9 @@ pub(super) const TREE: Run = Run {
 /// The same with control frames that are lost, late or come twice, in a drawn order and with a trace.
 pub(super) const LOSSY: Run = Run {
     words: "run t.toml --trace --seed 5",
-    topology: "bridge = {ports = 2, groups = 4}\n\
+    texts: &[(
+        "t.toml",
+        "bridge = {ports = 2, groups = 4}\n\
         links = {fate = 'PLTDPPLTDPPLTDPPLTDP'}\n\
         extender = [{number = 1, on = 'b1', ports = 3}, {number = 2, on = 'x1.3', ports = 2}]\n\
         command = [\n\
@@ -86,6 +98,7 @@ pub(super) const LOSSY: Run = Run {
         {at = 1, op = 'up', port = 'x2.2', fate = 'TTTDDD'},\n\
         ]\n\
         captures = {'x1.1' = 'a.pcap', 'b2' = 'b.pcap'}\n",
+    )],
     captures: IN_A_TREE,
     outputs: &[
         "out-b2.pcap",
@@ -97,4 +110,30 @@ pub(super) const LOSSY: Run = Run {
         "out-trace.txt",
     ],
     summary: "arrivals 4 relayed 4 ignored 0 left 9 commits 3 refusals 0\n",
+};
+
+/// Two bridges with a wire between them, and counters: the frames of `BARE`, each of which crosses it.
+pub(super) const NET: Run = Run {
+    words: "net n.toml --counters",
+    texts: &[
+        (
+            "n.toml",
+            "bridge = [{name = 'a', topology = 't.toml'}, {name = 'b', topology = 'u.toml'}]\n\
+             wire = [{a = 'a:b2', b = 'b:b1'}]\n",
+        ),
+        ("t.toml", "bridge.ports = 2\ncaptures.b1 = 'a.pcap'\n"),
+        ("u.toml", "bridge.ports = 2\ncaptures.b2 = 'b.pcap'\n"),
+    ],
+    captures: AT_TWO_PORTS,
+    outputs: &[
+        "a-b1.pcap",
+        "a-b2.pcap",
+        "a-journal.txt",
+        "a-counters.txt",
+        "b-b1.pcap",
+        "b-b2.pcap",
+        "b-journal.txt",
+        "b-counters.txt",
+    ],
+    summary: "arrivals 4 relayed 4 ignored 0 left 4 commits 0 refusals 0\n",
 };

@@ -1,0 +1,137 @@
+-- The captures of a net while its files are made and written: none has the name of one, so they stay as they were checked.
+use Rattle.std.proofs.Common.{◌≡◌, ◌≢◌, ℕ, zero, suc, ◌+◌, ◌<◌, ◌≤◌, ◌++◌, Bool, true, false, cond, List, [], ◌∷◌, get_or, length, map, take, Option, Some, None, Result, Ok, Err, refl, ap, sym, ◌∙◌, subst, arith, inl, inr, codes}
+use Rattle.std.specs.Prelude.{All, is_some, nat_lt, slice_get}
+use Rattle.std.specs.List.{list_any}
+use Rattle.std.specs.Str.{bytes_eq}
+use Rattle.std.proofs.lemmas.Bool.{false≢true, false_from_ne_true}
+use Rattle.std.proofs.lemmas.Bool.Decides.{not_from_Decides}
+use Rattle.std.proofs.lemmas.List.{get_or-map, length-map}
+use Rattle.std.proofs.lemmas.List.Folds.{list_any_at}
+use Rattle.std.proofs.lemmas.Slice.Eq.{bytes_eq-Decides}
+use Rattle.std.proofs.lemmas.Option.{get_or_from_slice_get, slice_get-map, slice_get_within}
+use Rattle.std.specs.declared.alloc.Global.{Global}
+use Rattle.std.specs.declared.vec.Vec.{Vec}
+use Rattle.exb_capture.specs.Captures.{capture_records, records_or_none}
+use Rattle.exb_inputs.specs.declared.checked.Checked.{Checked}
+use Rattle.exb_inputs.specs.Checks.{AreChecked, IsGood, IsToldOf}
+use Rattle.exb_inputs.specs.Inputs.{bytes_at, bytes_named, input_from, input_of, is_named, name_of, records_at}
+use Rattle.exb_keys.specs.Faults.{Refusal, ◌>>=◌, in_element}
+use Rattle.exb_keys.specs.declared.faults.KeyFault.TheVariants as fault
+use Rattle.exb_keys.proofs.Went.{went}
+use Rattle.exb_model.specs.Input.{Input, Record}
+use Rattle.exb_model.specs.Tree.{Shape, external_ports}
+use Rattle.exb_nets.specs.declared.wires.Wire.{Wire}
+use Rattle.exb_nets.specs.Nets.{Net}
+use Rattle.exb_net_file.specs.declared.members.NetMember.{NetMember}
+use Rattle.exb_net_file.specs.declared.rows.NetWire.{NetWire}
+use Rattle.exb_net_file.specs.Members.{files_ok, is_output_of_net, outputs_in, ports_together, prefix_of, tree_in}
+use Rattle.exb_net_file.specs.Wires.{wires_from, wires_of}
+use Rattle.exb_outputs.specs.Plans.{IsMade, Planned, kind_at, output_count, output_name, place_in}
+use Rattle.exb_outputs.proofs.ByKind.{kind_is}
+use Rattle.exb_outputs.proofs.Places.{place_low, port_of_place}
+use Rattle.exb_shelf.specs.Files.{Files, bytes_of}
+use Rattle.exb_tables.specs.declared.rows.Named.{Named}
+use Rattle.exb_text.specs.declared.output.Output.{Output}
+use Rattle.exb_text.specs.declared.output.Output.TheVariants as output
+use Rattle.exb_text.specs.Names.{IsOfPort, all_outputs, file_name, other_outputs}
+use Rattle.exb_topology.specs.Checks.{output_names}
+use Rattle.exb_topology.specs.Each.{each_ok, refuse}
+use Rattle.exb_topology.proofs.Checking.{ok_at, refuse_ok}
+use Rattle.exb_inputs.proofs.FaultLemmas.{name_by}
+use Rattle.exb_net_inputs.specs.Checking.{AreMembersChecked}
+use Rattle.exb_net_run.specs.Nets.{input_in, net_of, plan_with}
+
+-- ---- names
+none_pass : {X : Type 0} (test : X → Bool) (xs : List X) → list_any test xs ≡ false → (k : ℕ) (d : X) → k < length xs → test (get_or xs k d) ≡ false
+none_pass test xs none k d low = false_from_ne_true (test (get_or xs k d)) (λ is. false≢true (sym none ∙ list_any_at test xs k d low is))
+
+differ : (name other : List ℕ) → bytes_eq name other ≡ false → name ≢ other
+differ name other = not_from_Decides (bytes_eq name other) (bytes_eq-Decides name other)
+
+apart_from : (t : Shape) (prefix name : List ℕ) → list_any (λ o. bytes_eq name o) (output_names prefix t) ≡ false → All (λ o. name ≢ file_name prefix o) (all_outputs t)
+unfolding output_names
+apart_from t prefix name none k d low =
+    differ name (file_name prefix (get_or (all_outputs t) k d)) (subst (λ o. bytes_eq name o ≡ false) (get_or-map (file_name prefix) (all_outputs t) k d [] low)
+    (none_pass (bytes_eq name) (output_names prefix t) none k [] (rw (length-map (all_outputs t) (file_name prefix)) low)))
+
+all_cons : {X : Type 0} (P : X → Type 0) (x : X) (xs : List X) → P x → All P xs → All P (x ∷ xs)
+all_cons P x xs here rest zero d low = here
+all_cons P x xs here rest (suc k) d low = rest k d (omega (arith, low))
+
+by_kinds : (P : Output → Type 0) (ports : List ℕ) → All P (map output.Capture ports ++ other_outputs) → All (λ q. P (output.Capture q)) ports × (P output.Journal × P output.Trace × P output.Counters)
+by_kinds P [] all = (λ k d low. absurd (omega (arith, low)), (all 0 output.Journal (omega arith), all 1 output.Journal (omega arith), all 2 output.Journal (omega arith)))
+by_kinds P (p ∷ ports) all =
+    let rest = by_kinds P ports (λ k d low. all (suc k) d (omega (arith, low))) in
+    (all_cons (λ q. P (output.Capture q)) p ports (all 0 output.Journal (omega arith)) rest.0, rest.1)
+
+of_kind : (plan : Planned) (P : Output → Type 0) → All P (all_outputs plan.tree) → (o : Output) → IsMade plan.options plan.tree o → IsOfPort o → P o
+of_kind plan P all (output.Capture q) made low =
+    subst (λ (k : ℕ). P (output.Capture k)) (port_of_place plan q low made) ((by_kinds P (external_ports plan.tree) all).0 (place_in plan.tree q) 0 (place_low plan q low made))
+of_kind plan P all output.Journal made low = (by_kinds P (external_ports plan.tree) all).1.0
+of_kind plan P all output.Trace made low = (by_kinds P (external_ports plan.tree) all).1.1
+of_kind plan P all output.Counters made low = (by_kinds P (external_ports plan.tree) all).1.2
+
+-- ---- of a net that was read
+checked_files : (ms : List NetMember) (ws : List NetWire) (xs : List Wire) → wires_of ms ws ≡ Ok xs → each_ok (files_ok ms) ms 0 ms ≡ Ok tt
+unfolding wires_of
+checked_files ms ws xs h =
+    let one : Unit {0} → Result (List Wire) Refusal = λ _. each_ok (files_ok ms) ms 0 ms >>= λ _. wires_from ms [] 0 ws in
+    let a = went (refuse (nat_lt 4160 (ports_together ms)) fault.Range (codes "bridge")) one xs h in
+    (went (each_ok (files_ok ms) ms 0 ms) (λ _. wires_from ms [] 0 ws) xs a.rest).first
+
+-- no file that some bridge writes has the name of a capture
+pub captures_apart : (ms : List NetMember) (ws : List NetWire) (xs : List Wire) → wires_of ms ws ≡ Ok xs → (b : ℕ) (m : NetMember) → slice_get ms b ≡ Some m → (q : ℕ) (name : List ℕ) → name_of m.topology.captures q ≡ Some name →
+    (counters : Bool) (c : ℕ) (k : NetMember) → slice_get ms c ≡ Some k → (j : ℕ) → j < output_count (plan_with counters k) → name ≢ output_name (plan_with counters k) j
+captures_apart ms ws xs h b m is q name named counters c k so j low =
+    let passed : files_ok ms (take b ms) b m ≡ Ok tt =
+    subst (λ (x : NetMember). files_ok ms (take b ms) b x ≡ Ok tt) (get_or_from_slice_get ms b m m is) (ok_at (files_ok ms) ms (checked_files ms ws xs h) b m (slice_get_within ms b m is)) in
+    let none : list_any (λ capture. is_output_of_net ms capture.name) m.topology.captures ≡ false = refuse_ok _ fault.Repeat (in_element (codes "bridge") b ++ codes "topology") passed in
+    let own : is_output_of_net ms name ≡ false = name_by (λ n. is_output_of_net ms n ≡ false) m.topology.captures q name (λ i d within. none_pass (λ capture. is_output_of_net ms capture.name) m.topology.captures none i d within) named in
+    let away : list_any (λ o. bytes_eq name o) (outputs_in k) ≡ false =
+    subst (λ (x : NetMember). list_any (λ o. bytes_eq name o) (outputs_in x) ≡ false) (get_or_from_slice_get ms c k k so) (none_pass (λ x. list_any (λ o. bytes_eq name o) (outputs_in x)) ms own c k (slice_get_within ms c k so)) in
+    let kind = kind_is (plan_with counters k) j low in
+    of_kind (plan_with counters k) (λ o. name ≢ file_name (prefix_of k.name) o) (apart_from (tree_in k) (prefix_of k.name) name away) (kind_at (plan_with counters k) j) kind.made kind.of_port
+
+-- ---- captures that stay
+-- the files of these captures are the same
+abbrev pub SameCaptureFiles : List NetMember → Files → Files → Type 0
+SameCaptureFiles ms old new = (b : ℕ) (m : NetMember) (q : ℕ) (name : List ℕ) → slice_get ms b ≡ Some m → name_of m.topology.captures q ≡ Some name → new name ≡ old name
+
+module _ (names : List Named) (old new : Files) (same : (q : ℕ) (name : List ℕ) → name_of names q ≡ Some name → new name ≡ old name) where
+  records_same : (q : ℕ) → records_at names new q ≡ records_at names old q
+  records_same q = by_name (name_of names q) (λ name is. same q name is)
+    where
+      by_name : (o : Option (List ℕ)) → ((name : List ℕ) → o ≡ Some name → new name ≡ old name) →
+          cond (is_some o) (records_or_none (capture_records (bytes_named new o))) [] ≡ cond (is_some o) (records_or_none (capture_records (bytes_named old o))) []
+      by_name None all = refl
+      by_name (Some name) all = ap (λ (x : Option (List ℕ)). records_or_none (capture_records (bytes_of x))) (all name refl)
+
+  told_same : (c : Checked) → IsToldOf names old c → IsToldOf names new c
+  told_same c told = (told.0, told.1, subst (λ (x : Option (List ℕ)). IsGood x c.told) (sym (same c.port told.0 told.1)) told.2)
+
+  pub checked_same : (tells : Type 0) (checked : List Checked) → AreChecked tells names old checked → AreChecked tells names new checked
+  checked_same tells checked k = record { ports = k.ports; small = k.small; in_time = k.in_time; told = λ t i d low. told_same (get_or checked i d) (k.told t i d low) }
+
+input_same : (m : NetMember) (old new : Files) → ((q : ℕ) (name : List ℕ) → name_of m.topology.captures q ≡ Some name → new name ≡ old name) → input_of m.topology new ≡ input_of m.topology old
+input_same m old new same =
+    let all = records_same m.topology.captures old new same in
+    λ i. record { setup = (input_of m.topology old).setup; commands = (input_of m.topology old).commands; records = λ q. all q i }
+
+inputs_same : (ms : List NetMember) (old new : Files) → SameCaptureFiles ms old new → (b : ℕ) → input_in new (slice_get ms b) ≡ input_in old (slice_get ms b)
+inputs_same ms old new same b = by_member (slice_get ms b) refl
+  where
+    by_member : (o : Option NetMember) → slice_get ms b ≡ o → input_in new o ≡ input_in old o
+    by_member None is = refl
+    by_member (Some m) is = input_same m old new (λ q name named. same b m q name is named)
+
+-- so the net is the same
+pub net_same : (ms : List NetMember) (ws : List Wire) (old new : Files) → SameCaptureFiles ms old new → net_of ms ws new ≡ net_of ms ws old
+net_same ms ws old new same = (let all = inputs_same ms old new same in λ i. record { count = length ms; input = λ b. all b i; wires = ws })
+
+-- and what was checked
+pub members_same : (tells : Type 0) (ms : List NetMember) (old new : Files) (checked : List (Vec Checked Global)) → SameCaptureFiles ms old new → AreMembersChecked tells ms old checked → AreMembersChecked tells ms new checked
+members_same tells [] old new [] same all = tt
+members_same tells [] old new (c ∷ cs) same all = absurd all
+members_same tells (m ∷ ms) old new [] same all = absurd all
+members_same tells (m ∷ ms) old new (c ∷ cs) same all =
+    (checked_same m.topology.captures old new (λ q name named. same 0 m q name refl named) tells c.items all.0, members_same tells ms old new cs (λ b x q name is named. same (suc b) x q name is named) all.1)

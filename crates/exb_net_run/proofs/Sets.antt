@@ -1,0 +1,277 @@
+-- The files of all bridges are made, one bridge after another.
+use Rattle.std.proofs.Common.{◌≡◌, ◌≢◌, ◌⊎◌, ℕ, zero, suc, ◌+◌, ◌<◌, ◌≤◌, ◌++◌, Bool, true, false, List, [], ◌∷◌, drop, flat_map, get_or, length, map, take, Option, Some, None, Result, Ok, Err, refl, ap, sym, ◌∙◌, subst, arith, inl, inr}
+use Rattle.std.specs.Prelude.{All, AllPairs, option_map, slice_get}
+use Rattle.std.proofs.lemmas.Bool.{cases_eq, cases_lt}
+use Rattle.std.proofs.lemmas.Grind.{flat_map-append}
+use Rattle.std.proofs.lemmas.List.{append-nil, append_assoc, length-append}
+use Rattle.std.proofs.lemmas.Option.{get_or_from_slice_get, slice_get-map, slice_get_within}
+use Rattle.exb_inputs.specs.declared.fault.Fault.{Fault}
+use Rattle.exb_net_file.specs.declared.members.NetMember.{NetMember}
+use Rattle.exb_net_file.specs.Sound.{BridgesWriteApart}
+use Rattle.exb_net_file.specs.Words.{is_name}
+use Rattle.exb_outputs.specs.Names.{IsCut}
+use Rattle.exb_outputs.specs.Order.{MadeInOrder}
+use Rattle.exb_outputs.specs.Plans.{Planned, kind_at, output_count, output_name}
+use Rattle.exb_outputs.specs.Shelving.{OnlyMakes, WritesPlanned}
+use Rattle.exb_outputs.specs.Writing.{AreCut, first_text, pieces_of}
+use Rattle.exb_outputs.proofs.ByKind.{kind_is}
+use Rattle.exb_outputs.proofs.Cutting.{both_parts}
+use Rattle.exb_shelf.specs.Files.{Files}
+use Rattle.exb_shelf.specs.Shelf.{Id, Opens}
+use Rattle.exb_shelf.proofs.IdLemmas.{opens_none, opens_then, opens_weaker}
+use Rattle.exb_text.specs.declared.output.Output.{Output}
+use Rattle.exb_net_run.specs.declared.desk.Desk.{Desk}
+use Rattle.exb_net_run.specs.Desks.{ArePlansApart, IsOther, OnlyAllPlanned, plans_in}
+use Rattle.exb_net_run.specs.Nets.{plan_with}
+use Rattle.exb_net_run.specs.Opening.{MadeInTurn, MakesNet, IsNetLate, WritesNetOutput, names_of, net_names}
+use Rattle.exb_net_run.specs.Setting.{AreCutAs, GoesFrom, IsSet}
+use Rattle.exb_net_run.proofs.Held.{mapped_some}
+use Rattle.exb_net_run.proofs.Noting.{texts_stay}
+use Rattle.exb_net_run.proofs.Several.{push_each, ready_beside, two_apart}
+use Rattle.exb_net_run.proofs.Turns.{long_names, turn_front, turn_none, turn_of_plan, turn_then}
+
+-- ---- fronts of a list
+get_take : {A : Type 0} (xs : List A) (k b : ℕ) (x : A) → slice_get (take k xs) b ≡ Some x → (b < k) × (slice_get xs b ≡ Some x)
+get_take xs zero b x is = absurd (no_some is)
+  where
+    no_some : {A : Type 0} {x : A} → None ≡ Some x → ⊥
+    no_some e = cc
+get_take [] (suc k) b x is = absurd (no_some is)
+  where
+    no_some : {A : Type 0} {x : A} → None ≡ Some x → ⊥
+    no_some e = cc
+get_take (y ∷ xs) (suc k) zero x is = (omega arith, is)
+get_take (y ∷ xs) (suc k) (suc b) x is = (let r = get_take xs k b x is in (omega (arith, r.0), r.1))
+
+take_next : {A : Type 0} (xs : List A) (k : ℕ) (x : A) → slice_get xs k ≡ Some x → take (suc k) xs ≡ take k xs ++ x ∷ []
+take_next [] k x is = absurd (no_some is)
+  where
+    no_some : {A : Type 0} {x : A} → None ≡ Some x → ⊥
+    no_some e = cc
+take_next (y ∷ xs) zero x is = ap (λ (z : _). z ∷ []) (same is)
+  where
+    same : {A : Type 0} {x y : A} → Some x ≡ Some y → x ≡ y
+    same e = cc
+take_next (y ∷ xs) (suc k) x is = ap (λ (zs : List _). y ∷ zs) (take_next xs k x is)
+
+put_take : {A : Type 0} (xs : List A) (k b : ℕ) (x : A) → b < k → slice_get xs b ≡ Some x → slice_get (take k xs) b ≡ Some x
+put_take xs zero b x low is = absurd (omega (arith, low))
+put_take [] (suc k) b x low is = is
+put_take (y ∷ xs) (suc k) zero x low is = is
+put_take (y ∷ xs) (suc k) (suc b) x low is = put_take xs k b x (omega (arith, low)) is
+
+some_is : {A : Type 0} {x y : A} → Some x ≡ Some y → x ≡ y
+some_is e = cc
+
+-- what a file begins with is a front of a text that goes on from it
+front_is : (xs ys : List ℕ) → (n : ℕ) × (xs ≡ take n (xs ++ ys))
+front_is [] ys = (0, refl)
+front_is (x ∷ xs) ys = (let r = front_is xs ys in (suc r.0, ap (λ (zs : List ℕ). x ∷ zs) r.1))
+
+front_of : (old new : Option (List ℕ)) (bytes piece first text : List ℕ) → new ≡ Some bytes → bytes ++ piece ≡ first → ((rest : List ℕ) × (text ≡ first ++ rest)) → IsCut old new text
+front_of old new bytes piece first text is begins goes =
+    let r = front_is bytes (piece ++ goes.0) in
+    let same : bytes ++ (piece ++ goes.0) ≡ text = sym (append_assoc bytes piece goes.0) ∙ (ap (λ (xs : List ℕ). xs ++ goes.0) begins ∙ sym goes.1) in
+    inr (r.0, is ∙ ap Some (r.1 ∙ ap (take r.0) same))
+
+map_last : {A B : Type 0} (f : A → B) (xs : List A) (x : A) → map f (xs ++ x ∷ []) ≡ map f xs ++ f x ∷ []
+map_last f [] x = refl
+map_last f (y ∷ xs) x = ap (λ (zs : List _). f y ∷ zs) (map_last f xs x)
+
+-- ---- so far
+-- The files of the first k bridges are made.
+pub record SetUpTo (counters : Bool) (ms : List NetMember) (tells : Type 0) (k : ℕ) (old now : Files) (given ids : ℕ → Id) (desks : List Desk) : Type 0 where
+  pub plans_are : plans_in desks ≡ map (plan_with counters) (take k ms)
+  pub each : (b : ℕ) (d : Desk) → slice_get desks b ≡ Some d → IsSet tells now ids d
+  pub others : tells → OnlyAllPlanned (map (plan_with counters) (take k ms)) old now
+  pub opened : Opens (WritesNetOutput counters ms) given ids
+  pub made : MadeInTurn (net_names counters (take k ms)) (length (net_names counters (take k ms))) given ids
+
+-- ---- the plans of bridges with different names
+module _ (law : BridgesWriteApart) (counters : Bool) (ms : List NetMember) (named : All (λ m. is_name m.name ≡ true) ms) (other : AllPairs (λ m k. m.name ≢ k.name) ms) where
+  abbrev plans : List NetMember → List Planned
+  plans xs = map (plan_with counters) xs
+
+  member_of : (b : ℕ) (p : Planned) → slice_get (plans ms) b ≡ Some p → (m : NetMember) × (slice_get ms b ≡ Some m) × (plan_with counters m ≡ p)
+  member_of b p is = mapped_some (plan_with counters) (slice_get ms b) p (sym (slice_get-map (plan_with counters) ms b) ∙ is)
+
+  name_ok : (b : ℕ) (m : NetMember) → slice_get ms b ≡ Some m → is_name m.name ≡ true
+  name_ok b m is = subst (λ (x : NetMember). is_name x.name ≡ true) (get_or_from_slice_get ms b m m is) (named b m (slice_get_within ms b m is))
+
+  names_differ : (a b : ℕ) (m k : NetMember) → slice_get ms a ≡ Some m → slice_get ms b ≡ Some k → a < b → m.name ≢ k.name
+  names_differ a b m k is so low =
+      subst (λ (x : NetMember). x.name ≢ k.name) (get_or_from_slice_get ms a m m is)
+      (subst (λ (y : NetMember). (get_or ms a m).name ≢ y.name) (get_or_from_slice_get ms b k m so) (other a b m low (slice_get_within ms b k so)))
+
+  members_apart : (a b : ℕ) (m k : NetMember) → slice_get ms a ≡ Some m → slice_get ms b ≡ Some k → a ≢ b → m.name ≢ k.name
+  members_apart a b m k is so ne = elim (cases_lt a b) [
+    | inl low ↦ names_differ a b m k is so low
+    | inr high ↦ (λ e. names_differ b a k m so is (omega (arith, high, ne)) (sym e))
+  ]
+
+  pub plans_apart : ArePlansApart (map (plan_with counters) ms)
+  plans_apart = record {
+    each = λ a b p q is so ne i j i_low j_low.
+        (let m = member_of a p is in
+        let k = member_of b q so in
+        subst (λ (z : Planned). (j < output_count q) → output_name z i ≢ output_name q j) m.2
+        (subst (λ (z : Planned). (j < output_count z) → output_name (plan_with counters m.0) i ≢ output_name z j) k.2
+        (λ low. two_apart law counters m.0 k.0 (name_ok a m.0 m.1) (name_ok b k.0 k.1) (members_apart a b m.0 k.0 m.1 k.1 ne) i j (subst (λ (z : Planned). i < output_count z) (sym m.2) i_low) low)) j_low);
+  }
+
+  -- ---- one after another
+  pub set_none : (tells : Type 0) (file : Files) (given : ℕ → Id) → SetUpTo counters ms tells 0 file file given given []
+  set_none tells file given = record {
+    plans_are = refl;
+    each = λ b d is. absurd (none_there is);
+    others = λ t m away. refl;
+    opened = opens_none (WritesNetOutput counters ms) given;
+    made = turn_none [] given;
+  }
+    where
+      none_there : {d : Desk} → None ≡ Some d → ⊥
+      none_there e = cc
+
+  -- the plan of a desk
+  plan_there : (desks : List Desk) (b : ℕ) (d : Desk) → slice_get desks b ≡ Some d → slice_get (plans_in desks) b ≡ Some d.plan
+  plan_there desks b d is = slice_get-map (λ (x : Desk). x.plan) desks b ∙ ap (option_map (λ (x : Desk). x.plan)) is
+
+  plan_of_desk : (k b : ℕ) (desks : List Desk) (d : Desk) → plans_in desks ≡ map (plan_with counters) (take k ms) → slice_get desks b ≡ Some d → (m : NetMember) × (slice_get ms b ≡ Some m) × (plan_with counters m ≡ d.plan) × (b < k)
+  plan_of_desk k b desks d same is =
+      let there : slice_get (map (plan_with counters) (take k ms)) b ≡ Some d.plan = ap (λ (ps : List Planned). slice_get ps b) (sym same) ∙ plan_there desks b d is in
+      let m = mapped_some (plan_with counters) (slice_get (take k ms) b) d.plan (sym (slice_get-map (plan_with counters) (take k ms) b) ∙ there) in
+      let own = get_take ms k b m.0 m.1 in
+      (m.0, own.1, m.2, own.0)
+
+  module _ (tells : Type 0) (k : ℕ) (old now new : Files) (given ids ids2 : ℕ → Id) (desks : List Desk) (m : NetMember) (here : slice_get ms k ≡ Some m) (so_far : SetUpTo counters ms tells k old now given ids desks)
+      (only : OnlyMakes tells (plan_with counters m) now new ids ids2) where
+    abbrev mine : Planned
+    mine = plan_with counters m
+
+    next_is : take (suc k) ms ≡ take k ms ++ m ∷ []
+    next_is = take_next ms k m here
+
+    -- the files of the bridges before stay
+    still : (b : ℕ) (d : Desk) → slice_get desks b ≡ Some d → tells → (j : ℕ) → j < output_count d.plan → new (output_name d.plan j) ≡ now (output_name d.plan j)
+    still b d is t j low =
+        let own = plan_of_desk k b desks d so_far.plans_are is in
+        let apart : (i : ℕ) → i < output_count (plan_with counters m) → output_name (plan_with counters m) i ≢ output_name d.plan j =
+        λ i i_low. subst (λ (z : Planned). j < output_count z → output_name (plan_with counters m) i ≢ output_name z j) own.2.0
+            (λ j_low. two_apart law counters m own.0 (name_ok k m here) (name_ok b own.0 own.1) (members_apart k b m own.0 here own.1 (λ e. let low = own.2.1 in omega (arith, e, low))) i j i_low j_low) low in
+        only.others t (output_name d.plan j) (λ i i_low same. apart i i_low (sym same))
+
+    stays : (b : ℕ) (d : Desk) → slice_get desks b ≡ Some d → IsSet tells new ids2 d
+    stays b d is =
+        let was = so_far.each b d is in
+        record {
+          ready = ready_beside (WritesPlanned (plan_with counters m)) d.plan ids ids2 d.outputs only.opened was.ready;
+          counted = was.counted;
+          texts = λ t. texts_stay d.plan (pieces_of d.outputs) now new first_text (still b d is t) (was.texts t);
+          sent = was.sent;
+        }
+
+    writes : (i : Id) → WritesPlanned (plan_with counters m) i → WritesNetOutput counters ms i
+    writes i w =
+        let is = kind_is (plan_with counters m) w.at w.within in
+        record { name = output_name (plan_with counters m) w.at; output = record { bridge = k; member = m; is = here; output = (kind_at (plan_with counters m) w.at, is.made, refl) }; writes = w.writes }
+
+    opened_more : Opens (WritesNetOutput counters ms) given ids2
+    opened_more = opens_then (WritesNetOutput counters ms) given ids ids2 so_far.opened (opens_weaker (WritesPlanned (plan_with counters m)) (WritesNetOutput counters ms) ids ids2 writes only.opened)
+
+    names_more : net_names counters (take (suc k) ms) ≡ net_names counters (take k ms) ++ names_of (plan_with counters m)
+    names_more = ap (net_names counters) next_is ∙ (flat_map-append (λ (x : NetMember). names_of (plan_with counters x)) (take k ms) (m ∷ []) ∙ ap (λ (xs : List (List ℕ)). net_names counters (take k ms) ++ xs) (append-nil (names_of (plan_with counters m))))
+
+    -- with more of the files of the next
+    turn_more : (n : ℕ) → MadeInOrder (plan_with counters m) n ids ids2 → MadeInTurn (net_names counters (take (suc k) ms)) (length (net_names counters (take k ms)) + n) given ids2
+    turn_more n made =
+        subst (λ (xs : List (List ℕ)). MadeInTurn xs (length (net_names counters (take k ms)) + n) given ids2) (sym names_more)
+        (turn_then (WritesNetOutput counters ms) (WritesPlanned (plan_with counters m)) (net_names counters (take k ms)) (names_of (plan_with counters m)) n given ids ids2 so_far.made (turn_of_plan (plan_with counters m) n ids ids2 made) so_far.opened only.opened)
+
+    only_more : tells → OnlyAllPlanned (map (plan_with counters) (take (suc k) ms)) old new
+    only_more t name away =
+        let before : IsOther (map (plan_with counters) (take k ms)) name =
+        λ b p is j low. away b p (ap (λ (xs : List Planned). slice_get xs b) (ap (map (plan_with counters)) next_is ∙ map_last (plan_with counters) (take k ms) m) ∙ (get_in (map (plan_with counters) (take k ms)) (plan_with counters m) b p is)) j low in
+        let own : (j : ℕ) → j < output_count (plan_with counters m) → name ≢ output_name (plan_with counters m) j =
+        λ j low. away k (plan_with counters m) (slice_get-map (plan_with counters) (take (suc k) ms) k ∙ ap (option_map (plan_with counters)) (taken_there ms k m here)) j low in
+        only.others t name own ∙ so_far.others t name before
+      where
+        get_in : (xs : List Planned) (y : Planned) (b : ℕ) (p : Planned) → slice_get xs b ≡ Some p → slice_get (xs ++ y ∷ []) b ≡ Some p
+        get_in [] y b p is = absurd (let z : None ≡ Some p = is in cc)
+        get_in (x ∷ xs) y zero p is = is
+        get_in (x ∷ xs) y (suc b) p is = get_in xs y b p is
+
+        taken_there : (xs : List NetMember) (i : ℕ) (x : NetMember) → slice_get xs i ≡ Some x → slice_get (take (suc i) xs) i ≡ Some x
+        taken_there [] i x is = absurd (let z : None ≡ Some x = is in cc)
+        taken_there (y ∷ xs) zero x is = is
+        taken_there (y ∷ xs) (suc i) x is = taken_there xs i x is
+
+    pub set_next : (d : Desk) → d.plan ≡ plan_with counters m → IsSet tells new ids2 d → MadeInOrder (plan_with counters m) (output_count (plan_with counters m)) ids ids2 → SetUpTo counters ms tells (suc k) old new given ids2 (desks ++ d ∷ [])
+    set_next d same set made =
+        record {
+          plans_are = map_last (λ (x : Desk). x.plan) desks d ∙ (ap (λ (ps : List Planned). ps ++ d.plan ∷ []) so_far.plans_are ∙ (ap (λ (p : Planned). map (plan_with counters) (take k ms) ++ p ∷ []) same
+              ∙ (sym (map_last (plan_with counters) (take k ms) m) ∙ ap (map (plan_with counters)) (sym next_is))));
+          each = push_each (λ b x. IsSet tells new ids2 x) desks d set stays;
+          others = only_more;
+          opened = opened_more;
+          made =
+              (let long : length (net_names counters (take k ms)) + output_count (plan_with counters m) ≡ length (net_names counters (take (suc k) ms)) =
+              ap (λ (n : ℕ). length (net_names counters (take k ms)) + n) (sym (long_names (plan_with counters m))) ∙ (sym (length-append (net_names counters (take k ms)) (names_of (plan_with counters m))) ∙ ap (λ (xs : List (List ℕ)). length xs) (sym names_more)) in
+              subst (λ (n : ℕ). MadeInTurn (net_names counters (take (suc k) ms)) n given ids2) long (turn_more (output_count (plan_with counters m)) made));
+        }
+
+    -- ---- where the next one fails
+    pub makes_some : {X : Type 0} (x : Fault) (n : ℕ) → (IsNetLate {X = X} (Err x) → ⊥) → MadeInOrder (plan_with counters m) n ids ids2 → MakesNet {X = X} counters ms (Err x) given ids2
+    makes_some x n late made =
+        record {
+          count = length (net_names counters (take k ms)) + n;
+          made = subst (λ (xs : List (List ℕ)). MadeInTurn xs (length (net_names counters (take k ms)) + n) given ids2) (sym all_names)
+              (turn_front (net_names counters (take (suc k) ms)) (net_names counters (drop (suc k) ms)) (length (net_names counters (take k ms)) + n) given ids2 (turn_more n made));
+          all = λ is. absurd (late is);
+        }
+      where
+        all_names : net_names counters ms ≡ net_names counters (take (suc k) ms) ++ net_names counters (drop (suc k) ms)
+        all_names = ap (net_names counters) (sym (both_parts (suc k) ms)) ∙ flat_map-append (λ (x : NetMember). names_of (plan_with counters x)) (take (suc k) ms) (drop (suc k) ms)
+
+    pub only_all : tells → OnlyAllPlanned (map (plan_with counters) ms) old new
+    only_all t name away = only_more t name (λ b p is j low. away b p (let x = mapped_some (plan_with counters) (slice_get (take (suc k) ms) b) p (sym (slice_get-map (plan_with counters) (take (suc k) ms) b) ∙ is) in
+        slice_get-map (plan_with counters) ms b ∙ (ap (option_map (plan_with counters)) (get_take ms (suc k) b x.0 x.1).1 ∙ ap (λ (z : Planned). Some z) x.2)) j low)
+
+    -- each file is as it was, or a front of a text that goes on from what it begins with
+    cut_before : tells → (text : ℕ → Output → List ℕ) → ((b : ℕ) → GoesFrom (text b)) → AreCut (plan_with counters m) now new (text k) → AreCutAs (map (plan_with counters) ms) old new text
+    cut_before t text goes cut = record { each = λ b p is j low. at b p (member_of b p is) j low }
+      where
+        -- the file of a bridge that isn't made yet was as it is
+        as_was : (b : ℕ) (x : NetMember) → slice_get ms b ≡ Some x → k ≤ b → (j : ℕ) → j < output_count (plan_with counters x) → now (output_name (plan_with counters x) j) ≡ old (output_name (plan_with counters x) j)
+        as_was b x is high j low = so_far.others t (output_name (plan_with counters x) j) (λ c p there i i_low same.
+            (let y = mapped_some (plan_with counters) (slice_get (take k ms) c) p (sym (slice_get-map (plan_with counters) (take k ms) c) ∙ there) in
+            let own = get_take ms k c y.0 y.1 in
+            two_apart law counters x y.0 (name_ok b x is) (name_ok c y.0 own.1) (members_apart b c x y.0 is own.1 (λ e. let less = own.0 in omega (arith, e, less, high))) j i low (subst (λ (z : Planned). i < output_count z) (sym y.2) i_low) (same ∙ ap (λ (z : Planned). output_name z i) (sym y.2))))
+
+        desk_there : (b : ℕ) (x : NetMember) → slice_get ms b ≡ Some x → b < k → (d : Desk) × (slice_get desks b ≡ Some d) × (d.plan ≡ plan_with counters x)
+        desk_there b x is low =
+            let taken : slice_get (take k ms) b ≡ Some x = put_take ms k b x low is in
+            let there : slice_get (plans_in desks) b ≡ Some (plan_with counters x) = ap (λ (ps : List Planned). slice_get ps b) so_far.plans_are ∙ (slice_get-map (plan_with counters) (take k ms) b ∙ ap (option_map (plan_with counters)) taken) in
+            mapped_some (λ (d : Desk). d.plan) (slice_get desks b) (plan_with counters x) (sym (slice_get-map (λ (d : Desk). d.plan) desks b) ∙ there)
+
+        at_member : (b : ℕ) (x : NetMember) → slice_get ms b ≡ Some x → (j : ℕ) → j < output_count (plan_with counters x) → IsCut (old (output_name (plan_with counters x) j)) (new (output_name (plan_with counters x) j)) (text b (kind_at (plan_with counters x) j))
+        at_member b x is j low = elim (cases_eq b k) [
+          | inl same ↦
+              let mine_is : m ≡ x = some_is (sym here ∙ (ap (slice_get ms) (sym same) ∙ is)) in
+              elim (cut.each j (subst (λ (z : NetMember). j < output_count (plan_with counters z)) (sym mine_is) low)) [
+                | inl unchanged ↦ inl (subst (λ (z : NetMember). new (output_name (plan_with counters z) j) ≡ now (output_name (plan_with counters z) j)) mine_is unchanged ∙ as_was b x is (omega (arith, same)) j low)
+                | inr front ↦ inr (front.0, subst (λ (z : NetMember). new (output_name (plan_with counters z) j) ≡ Some (take front.0 (text b (kind_at (plan_with counters z) j)))) mine_is
+                    (subst (λ (c : ℕ). new (output_name (plan_with counters m) j) ≡ Some (take front.0 (text c (kind_at (plan_with counters m) j)))) (sym same) front.1))
+              ]
+          | inr other ↦ elim (cases_lt b k) [
+            | inl before ↦
+                let d = desk_there b x is before in
+                let set = stays b d.0 d.1 in
+                let own = (set.texts t).each j (subst (λ (z : Planned). j < output_count z) (sym d.2) low) in
+                front_of (old (output_name (plan_with counters x) j)) (new (output_name (plan_with counters x) j)) own.0 (get_or (pieces_of d.0.outputs) j []) (first_text (kind_at (plan_with counters x) j)) (text b (kind_at (plan_with counters x) j))
+                (ap (λ (z : Planned). new (output_name z j)) (sym d.2) ∙ own.1) (own.2 ∙ ap (λ (z : Planned). first_text (kind_at z j)) d.2) (goes b (kind_at (plan_with counters x) j))
+            | inr after ↦ inl (only.others t (output_name (plan_with counters x) j) (λ i i_low same. two_apart law counters x m (name_ok b x is) (name_ok k m here) (members_apart b k x m is here other) j i low i_low same) ∙ as_was b x is (omega (arith, after)) j low)
+          ]
+        ]
+
+        at : (b : ℕ) (p : Planned) → ((x : NetMember) × (slice_get ms b ≡ Some x) × (plan_with counters x ≡ p)) → (j : ℕ) → j < output_count p → IsCut (old (output_name p j)) (new (output_name p j)) (text b (kind_at p j))
+        at b p x j low = subst (λ (z : Planned). j < output_count z → IsCut (old (output_name z j)) (new (output_name z j)) (text b (kind_at z j))) x.2 (at_member b x.0 x.1 j) low

@@ -1,0 +1,78 @@
+-- What is made before the first event: the files of all bridges, one bridge after another; and what is then ready to be played.
+use Rattle.std.specs.Prelude.{◌≡◌, ◌<◌, ◌++◌, ℕ, Bool, List, [], Some, map, slice_get}
+use Rattle.std.specs.declared.alloc.Global.{Global}
+use Rattle.std.specs.declared.vec.Vec.{Vec}
+use Rattle.exb_model.specs.declared.setup.Setup.{Setup}
+use Rattle.exb_model.specs.Setup.{shape_of}
+use Rattle.exb_inputs.specs.declared.checked.Checked.{Checked}
+use Rattle.exb_nets.specs.declared.wires.Wire.{Wire}
+use Rattle.exb_net.specs.declared.net.Net.{Net as Bridges}
+use Rattle.exb_net.specs.Nets.{IsBegun, no_dones}
+use Rattle.exb_net_file.specs.declared.apart.NetParts.{NetParts}
+use Rattle.exb_net_file.specs.declared.members.NetMember.{NetMember}
+use Rattle.exb_net_file.specs.Apart.{IsTakenApart}
+use Rattle.exb_net_file.specs.Members.{prefix_of}
+use Rattle.exb_net_inputs.specs.Checking.{AreMembersChecked}
+use Rattle.exb_net_inputs.specs.Holding.{AreRead}
+use Rattle.exb_merge.specs.declared.programme.Programme.{Programme}
+use Rattle.exb_outputs.specs.Names.{IsCut}
+use Rattle.exb_outputs.specs.Plans.{Planned, kind_at, output_count, output_name}
+use Rattle.exb_outputs.specs.Sent.{HasSent}
+use Rattle.exb_outputs.specs.Writing.{HasTexts, IsReady, first_text, pieces_of}
+use Rattle.exb_shelf.specs.Files.{Files}
+use Rattle.exb_shelf.specs.Shelf.{Id}
+use Rattle.exb_text.specs.declared.output.Output.{Output}
+use Rattle.exb_writers.specs.Counts.{IsCounted}
+use Rattle.exb_net_run.specs.declared.desk.Desk.{Desk}
+use Rattle.exb_net_run.specs.Desks.{AreNoted, OnlyAllPlanned, plans_in}
+use Rattle.exb_net_run.specs.Nets.{net_of, options_with, plan_with}
+use Rattle.exb_net_run.specs.UnderWay.{AreDesks, Begins, LeadsOn, NetRun, ReadsOthers}
+
+-- ---- one bridge
+-- what a bridge of this setup and name writes
+abbrev pub plan_under : Setup → List ℕ → Bool → Planned
+plan_under s name counters = record { tree = shape_of s; prefix = prefix_of name; options = options_with counters }
+
+-- Its outputs were made and hold what they begin with, and nothing is counted yet.
+pub record IsSet (tells : Type 0) (now : Files) (ids : ℕ → Id) (d : Desk) : Type 0 where
+  pub ready : IsReady d.plan ids d.outputs
+  pub counted : IsCounted d.plan d.counted [] [] []
+  pub texts : tells → HasTexts d.plan (pieces_of d.outputs) now now first_text
+  pub sent : HasSent d.plan d.outputs (λ q. [])
+
+-- ---- all bridges
+-- So it is of the desk of each of these plans, and no other file has changed.
+pub record AreSet (tells : Type 0) (ps : List Planned) (old now : Files) (ids : ℕ → Id) (desks : List Desk) : Type 0 where
+  pub plans : plans_in desks ≡ ps
+  pub each : (b : ℕ) (d : Desk) → slice_get desks b ≡ Some d → IsSet tells now ids d
+  pub others : tells → OnlyAllPlanned ps old now
+
+-- each text goes on from what its file begins with
+abbrev pub GoesFrom : (Output → List ℕ) → Type 0
+GoesFrom text = (o : Output) → (rest : List ℕ) × (text o ≡ first_text o ++ rest)
+
+-- each file of each plan is as it was, or holds a front of its text
+pub record AreCutAs (ps : List Planned) (old new : Files) (text : ℕ → Output → List ℕ) : Type 0 where
+  pub each : (b : ℕ) (p : Planned) → slice_get ps b ≡ Some p → (j : ℕ) → j < output_count p → IsCut (old (output_name p j)) (new (output_name p j)) (text b (kind_at p j))
+
+-- ---- what is played
+-- the net of these bridges and wires over these files, and what it writes
+abbrev pub run_of : Bool → List NetMember → List Wire → Files → Files → NetRun
+run_of counters ms ws file before = record { net = net_of ms ws file; before = before; plans = map (plan_with counters) ms }
+
+-- A net that was read and taken apart, whose captures were checked and whose files were made.
+pub record IsPrepared (tells : Type 0) (counters : Bool) (ms : List NetMember) (ws : List Wire) (parts : NetParts) (checked : List (Vec Checked Global)) (before now : Files) (ids : ℕ → Id) (desks : List Desk) : Type 0 where
+  pub parts_are : IsTakenApart ms ws parts
+  pub read : AreRead ms ws
+  pub checked_are : AreMembersChecked tells ms now checked
+  pub set : AreDesks tells (run_of counters ms ws now before) now ids desks
+  pub noted : AreNoted tells now desks (no_dones (net_of ms ws now))
+
+-- And its programmes: all that comes is still to come.
+pub record CanPlay {V : Type 0} {X : V → Type 0} (tells : Type 0) (r : NetRun) (now : Files) (ids : ℕ → Id) (x : Bridges V X) (desks : List Desk) (ps : List Programme) : Type 0 where
+  pub begun : IsBegun r.net x
+  pub set : AreDesks tells r now ids desks
+  pub noted : AreNoted tells now desks (no_dones r.net)
+  pub begins : Begins r.net ps
+  pub apart : ReadsOthers r.plans ids ps
+  pub leads : tells → LeadsOn r.net [] now ids ps
