@@ -154,7 +154,7 @@ module _ (counters : Bool) (m : NetMember) (i : Input) (tree : tree_of i ≡ tre
       let all = at_kind (λ o. file (file_name (prefix_of m.name) o) ≡ Some (text o)) whole.each in
       record {
         captures = λ q ext. all (output.Capture q) (is_there q ext) (low q ext);
-        journal = all output.Journal tt tt;
+        journal = all output.Journal refl tt;
         counts = λ asked. all output.Counters asked tt;
       }
 
@@ -164,7 +164,7 @@ module _ (counters : Bool) (m : NetMember) (i : Input) (tree : tree_of i ≡ tre
   cut_texts h old new each =
       let text : Output → List ℕ = output_text i h [] in
       let all = at_kind (λ o. IsCut (old (file_name (prefix_of m.name) o)) (new (file_name (prefix_of m.name) o)) (text o)) each in
-      record { captures = λ q ext. all (output.Capture q) (is_there q ext) (low q ext); journal = all output.Journal tt tt }
+      record { captures = λ q ext. all (output.Capture q) (is_there q ext) (low q ext); journal = all output.Journal refl tt }
 
   -- the same of files that are whole
   pub whole_texts : (h : History) (old new : Files) → IsWhole (plan_with counters m) new (output_text i h []) → IsFrontOf i h (prefix_of m.name) old new

@@ -234,6 +234,10 @@ pub asked_for : (b : Bool) → not b ≡ false → b ≡ true
 asked_for true e = refl
 asked_for false e = sym e
 
+pub unasked : (b : Bool) → not b ≡ true → b ≡ false
+unasked true e = sym e
+unasked false e = refl
+
 pub counts-of : (plan : Planned) (ports : Option Counters) (told : List Event) (passed : List Bool) → AreCounted plan ports told passed → AreCountsOf plan ports
 counts-of plan None told passed are = are
 counts-of plan (Some c) told passed are = (are.0, are.1)

@@ -10,6 +10,7 @@ use Rattle.exb_outputs.specs.Writing.{HasTexts, pieces_of, with_more}
 use Rattle.exb_words.specs.declared.asked.Options.{Options}
 use Rattle.exb_outputs.proofs.OutputLemmas.{no_more, not_written}
 use Rattle.exb_writers.proofs.Lines.{cut_trace, more_trace}
+use Rattle.exb_writers.proofs.PortCounts.{asked_for, unasked}
 use Rattle.exb_outputs.proofs.Sizes.{same_none, same_then}
 use Rattle.exb_outputs.proofs.ShelvingLemmas.{writes_none, writes_then}
 use Rattle.exb_writers.proofs.trace.write_trace.Goals as goal
@@ -71,10 +72,14 @@ returns-in_err-add_line-clause-faults g c =
     rw (e.1, e.2) (counts_from _ _ _ _ c.loop-one.invariant.counted (counts_as c.in_err-add_line.field-0.0 _ _ c.in_err-add_line.ensures.faults))
 
 -- where no trace is asked for
-pub returns-then-options-clause-texts : goal.returns-then-options-clause-texts
-returns-then-options-clause-texts g c = λ tells orig text held.
+pub returns-then-not-options-clause-texts : goal.returns-then-not-options-clause-texts
+returns-then-not-options-clause-texts g c = λ tells orig text held.
     not_written c.args.plan.now orig (g.S.Shelf.file c.args.shelf.now) (pieces_of c.args.outputs.now) text output.Trace (trace_text c.args.lines.now)
-    (λ asked. false≢true (sym c.if-options.false ∙ ap (λ (o : Options). o.trace) c.options.ensures ∙ asked)) held
+    (λ asked. false≢true (sym (unasked c.options.result.trace c.if-not-options.true) ∙ ap (λ (o : Options). o.trace) c.options.ensures ∙ asked)) held
 
-pub returns-then-options-clause-same : goal.returns-then-options-clause-same
-returns-then-options-clause-same g c = same_none c.args.plan.now c.args.outputs.now
+pub returns-then-not-options-clause-same : goal.returns-then-not-options-clause-same
+returns-then-not-options-clause-same g c = same_none c.args.plan.now c.args.outputs.now
+
+-- and where it is
+pub add_line-requires-clause-traced : goal.add_line-requires-clause-traced
+add_line-requires-clause-traced g c = sym (ap (λ (o : Options). o.trace) c.options.ensures) ∙ asked_for c.options.result.trace c.if-not-options.false
