@@ -2,6 +2,7 @@
 use Rattle.std.proofs.Common.{◌≡◌, ℕ, List, [], ap, ◌∙◌, subst, inl}
 use Rattle.std.specs.Prelude.{slice_get}
 use Rattle.exb_merge.specs.declared.programme.Programme.{Programme}
+use Rattle.exb_nets.specs.Order.{AreTimely}
 use Rattle.exb_net.specs.declared.net.Net.{Net as Bridges}
 use Rattle.exb_net.specs.Nets.{IsBegun, no_dones}
 use Rattle.exb_outputs.specs.Plans.{Planned, output_name}
@@ -33,13 +34,13 @@ module _ (tells : Type 0) (r : NetRun) (f g : Files) (given ids : ℕ → Id) (d
   pub noted_same : (dones : Dones) → AreNoted tells f desks dones → AreNoted tells g desks dones
   noted_same dones n = record { each = λ b x is. noted_stays tells f g x (dones b) (λ t j low. same (output_name x.plan j)) (n.each b x is) }
 
-  pub can_play : {V : Type 0} {X : V → Type 0} (x : Bridges V X) (ps : List Programme) → IsBegun r.net x → AreDesks tells r f given desks → AreNoted tells f desks (no_dones r.net) → Begins r.net ps → ReadsOthers r.plans ids ps →
+  pub can_play : {V : Type 0} {X : V → Type 0} (x : Bridges V X) (ps : List Programme) → AreTimely r.net → IsBegun r.net x → AreDesks tells r f given desks → AreNoted tells f desks (no_dones r.net) → Begins r.net ps → ReadsOthers r.plans ids ps →
       (tells → LeadsOn r.net [] g ids ps) → CanPlay tells r g ids x desks ps
-  can_play x ps begun set noted begins apart leads =
-      record { begun = begun; set = desks_stay set; noted = noted_same (no_dones r.net) noted; begins = begins; apart = apart; leads = leads }
+  can_play x ps timely begun set noted begins apart leads =
+      record { timely = timely; begun = begun; set = desks_stay set; noted = noted_same (no_dones r.net) noted; begins = begins; apart = apart; leads = leads }
 
 pub can_begin : {V : Type 0} {X : V → Type 0} (tells : Type 0) (r : NetRun) (now : Files) (ids : ℕ → Id) (g : NetGame V X) (ps : List Programme) → CanPlay tells r now ids g.net g.desks.items ps → CanBegin tells r now ids g ps
-can_begin tells r now ids g ps c = record { begun = c.begun; desks = c.set; noted = c.noted; begins = c.begins; apart = c.apart; leads = c.leads }
+can_begin tells r now ids g ps c = record { timely = c.timely; begun = c.begun; desks = c.set; noted = c.noted; begins = c.begins; apart = c.apart; leads = c.leads }
 
 -- nothing was played
 pub cut_unopened : (tells : Type 0) (r : NetRun) (now : Files) (given : ℕ → Id) (desks : List Desk) → tells → AreDesks tells r now given desks → AreNoted tells now desks (no_dones r.net) → IsCutOff r now

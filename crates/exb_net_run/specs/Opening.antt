@@ -8,6 +8,7 @@ use Rattle.exb_net_file.specs.declared.rows.NetBridge.{NetBridge}
 use Rattle.exb_net_inputs.specs.Holding.{HoldsNet, HoldsNetFile}
 use Rattle.exb_net_inputs.specs.Opening.{OpensNet, ReadsMemberCapture, ReadsTopologyOf}
 use Rattle.exb_net_inputs.specs.Reading.{IsOfNet}
+use Rattle.exb_net_inputs.specs.Refusing.{NetCaptureFaulty}
 use Rattle.exb_net_file.specs.declared.file.NetFile.{NetFile}
 use Rattle.exb_inputs.specs.declared.fault.Flaw.{Flaw}
 use Rattle.exb_net_run.specs.Answers.{IsNetReady}
@@ -16,7 +17,7 @@ use Rattle.exb_inputs.specs.declared.fault.Fault.TheVariants.{MemberCapture, Mem
 use Rattle.exb_inputs.specs.Inputs.{is_named, name_of}
 use Rattle.exb_outputs.specs.Plans.{Planned, output_count, output_name}
 use Rattle.exb_shelf.specs.Files.{Files}
-use Rattle.exb_shelf.specs.Shelf.{Id, IsReadingOf, Opens, writing}
+use Rattle.exb_shelf.specs.Shelf.{Id, IsReading, IsReadingOf, Opens, writing}
 use Rattle.exb_net_run.specs.Nets.{IsNetOutput, plan_with}
 
 -- ---- which files
@@ -106,7 +107,7 @@ pub record HasCaptureAt (ms : List NetMember) (name : List ℕ) (p : ℕ) : Type
 -- ---- the whole
 -- What a net opened whose file, topologies and wires were read, whatever the shelf tells: these, its captures, and its outputs, which were
 -- made in order, each once and behind all captures, and all of them where all went well or a capture turned out to be another one. A capture
--- with a fault, or one that is another, is that of a port that is named.
+-- with a fault, or one that is another, is that of a port that is named; where a capture has a fault no file was made.
 pub record NetOpens (tells : Type 0) (name : List ℕ) (counters : Bool) (o : Result (String Global) Fault) (file : Files) (given ids : ℕ → Id) : Type 0 where
   pub bridges : List NetBridge
   pub members : List NetMember
@@ -115,6 +116,7 @@ pub record NetOpens (tells : Type 0) (name : List ℕ) (counters : Bool) (o : Re
   pub opened : Opens (λ i. ReadsNet name bridges members i ⊎ WritesNetOutput counters members i) given ids
   pub made : MakesNet counters members o given ids
   pub behind : NetMadeBehind members given ids
+  pub first : tells → (fault : Fault) → NetCaptureFaulty name file fault → Opens IsReading given ids
   pub own : (bridge : List ℕ) (p : ℕ) (flaw : Flaw) → IsErrOf o (MemberCapture bridge p flaw) → HasCaptureAt members bridge p
   pub changed : (bridge : List ℕ) (p at : ℕ) → IsErrOf o (MemberChanged bridge p at) → HasCaptureAt members bridge p
 

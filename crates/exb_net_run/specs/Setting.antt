@@ -6,11 +6,13 @@ use Rattle.exb_model.specs.declared.setup.Setup.{Setup}
 use Rattle.exb_model.specs.Setup.{shape_of}
 use Rattle.exb_inputs.specs.declared.checked.Checked.{Checked}
 use Rattle.exb_nets.specs.declared.wires.Wire.{Wire}
+use Rattle.exb_nets.specs.Order.{AreTimely}
 use Rattle.exb_net.specs.declared.net.Net.{Net as Bridges}
 use Rattle.exb_net.specs.Nets.{IsBegun, no_dones}
 use Rattle.exb_net_file.specs.declared.apart.NetParts.{NetParts}
+use Rattle.exb_net_file.specs.declared.apart.NetRest.{NetRest}
 use Rattle.exb_net_file.specs.declared.members.NetMember.{NetMember}
-use Rattle.exb_net_file.specs.Apart.{IsTakenApart}
+use Rattle.exb_net_file.specs.Apart.{IsTakenApart, rest_of}
 use Rattle.exb_net_file.specs.Members.{prefix_of}
 use Rattle.exb_net_inputs.specs.Checking.{AreMembersChecked}
 use Rattle.exb_net_inputs.specs.Holding.{AreRead}
@@ -60,6 +62,12 @@ pub record AreCutAs (ps : List Planned) (old new : Files) (text : ℕ → Output
 abbrev pub run_of : Bool → List NetMember → List Wire → Files → Files → NetRun
 run_of counters ms ws file before = record { net = net_of ms ws file; before = before; plans = map (plan_with counters) ms }
 
+-- Bridges that were read, whose captures were checked and are to be opened again.
+pub record IsToBeOpened (tells : Type 0) (ms : List NetMember) (ws : List Wire) (rests : List NetRest) (file : Files) (checked : List (Vec Checked Global)) : Type 0 where
+  pub rests_are : rests ≡ map rest_of ms
+  pub read : AreRead ms ws
+  pub checked_are : AreMembersChecked tells ms file checked
+
 -- A net that was read and taken apart, whose captures were checked and whose files were made.
 pub record IsPrepared (tells : Type 0) (counters : Bool) (ms : List NetMember) (ws : List Wire) (parts : NetParts) (checked : List (Vec Checked Global)) (before now : Files) (ids : ℕ → Id) (desks : List Desk) : Type 0 where
   pub parts_are : IsTakenApart ms ws parts
@@ -70,6 +78,7 @@ pub record IsPrepared (tells : Type 0) (counters : Bool) (ms : List NetMember) (
 
 -- And its programmes: all that comes is still to come.
 pub record CanPlay {V : Type 0} {X : V → Type 0} (tells : Type 0) (r : NetRun) (now : Files) (ids : ℕ → Id) (x : Bridges V X) (desks : List Desk) (ps : List Programme) : Type 0 where
+  pub timely : AreTimely r.net
   pub begun : IsBegun r.net x
   pub set : AreDesks tells r now ids desks
   pub noted : AreNoted tells now desks (no_dones r.net)

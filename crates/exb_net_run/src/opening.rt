@@ -1,21 +1,29 @@
 //! What is made before the first event: the desk of each bridge, its captures opened again, and its fate.
-ghost use Rattle.std.specs.Prelude.{◌≡◌, ◌++◌, ◌∷◌, [], ℕ, List, IfErr, IfOk, OnErr, OnOk, map};
+ghost use Rattle.std.specs.Prelude.{⊥, ◌≡◌, ◌<◌, ◌++◌, ◌∷◌, [], false, ℕ, List, IfErr, IfOk, IsErrOf, OnErr, OnOk, length, map};
+ghost use Rattle.std.specs.List.{AllByRecursion};
+ghost use Rattle.exb_inputs.specs.declared.fault.Fault.{Fault};
+ghost use Rattle.exb_merge.specs.NetAgendas.{IsAgenda, all_ids, programmes_in};
 ghost use Rattle.exb_model.specs.Setup.{IsValid};
 ghost use Rattle.exb_nets.specs.declared.wires.Wire.{Wire};
 ghost use Rattle.exb_net_file.specs.declared.members.NetMember.{NetMember};
-ghost use Rattle.exb_net_file.specs.Apart.{IsTakenApart};
+ghost use Rattle.exb_net_file.specs.Apart.{IsTakenApart, rest_of};
 ghost use Rattle.exb_net_inputs.specs.Holding.{AreRead};
+ghost use Rattle.exb_net_inputs.specs.Opening.{ReadsMemberCapture};
 ghost use Rattle.exb_inputs.specs.Shelving.{CountsFaults};
 ghost use Rattle.exb_outputs.specs.Order.{MakesInOrder};
 ghost use Rattle.exb_outputs.specs.Shelving.{IsOfWriting, OnlyMakes};
 ghost use Rattle.exb_outputs.specs.Writing.{AreCut};
+ghost use Rattle.exb_shelf.specs.Files.{SameFiles};
 ghost use Rattle.exb_shelf.specs.Shelf.{Opens};
 ghost use Rattle.exb_text.specs.declared.output.Output.{Output};
 ghost use Rattle.exb_net_run.specs.declared.desk.Desk.{Desk};
 ghost use Rattle.exb_net_run.specs.Desks.{OnlyAllPlanned};
-ghost use Rattle.exb_net_run.specs.Nets.{plan_with};
-ghost use Rattle.exb_net_run.specs.Opening.{MakesNet, WritesNetOutput};
-ghost use Rattle.exb_net_run.specs.Setting.{AreCutAs, AreSet, GoesFrom, IsSet, plan_under};
+ghost use Rattle.exb_net_run.specs.Answers.{IsOfNetPlay};
+ghost use Rattle.exb_net_run.specs.Nets.{net_of, plan_with};
+ghost use Rattle.exb_net_run.specs.Opening.{HasCaptureAt, MakesNet, WritesNetOutput};
+ghost use Rattle.exb_net_run.specs.Setting.{AreCutAs, AreSet, GoesFrom, IsSet, IsToBeOpened, plan_under};
+ghost use Rattle.exb_net_run.specs.Shelving.{IsNetChange, IsOfCaptures};
+ghost use Rattle.exb_net_run.specs.UnderWay.{AreOfRests, Begins, LeadsOn};
 
 use crate::desk::Desk;
 use exb_fate::Fate;
@@ -137,7 +145,27 @@ pub(crate) fn open_agenda<'a, S: Shelf>(
     piece: &mut [u8],
     rests: &'a [NetRest],
     checked: &[Vec<Checked>],
-) -> Result<Agenda<'a>, Fault> {
+) -> Result<Agenda<'a>, Fault>
+    requires piece { 0 < length piece.old }
+    requires read { (ms : List NetMember) × ((ws : List Wire) × IsToBeOpened S.tells ms ws rests.now (S.file shelf.old) checked.now) }
+    ensures piece { length piece.new ≡ length piece.old }
+    ensures agenda { IfOk result (IsAgenda (S.ids shelf.new)) }
+    ensures rests { IfOk result (λ agenda. AreOfRests rests.now (programmes_in agenda)) }
+    ensures fresh { IfOk result (λ agenda. AllByRecursion (λ k. (S.ids shelf.old k).given ≡ false) (all_ids (programmes_in agenda))) }
+    ensures named { IfOk result (λ agenda. (ms : List NetMember) → rests.now ≡ map rest_of ms
+        → AllByRecursion (λ k. ReadsMemberCapture ms (S.ids shelf.new k)) (all_ids (programmes_in agenda))) }
+    ensures ports { IfOk result (λ agenda. (ms : List NetMember) → rests.now ≡ map rest_of ms → (name : List ℕ) (q : ℕ) → IsOfCaptures rests.now (programmes_in agenda) name q → HasCaptureAt ms name q) }
+    ensures begins { IfOk result (λ agenda. (ms : List NetMember) (ws : List Wire) → IsToBeOpened S.tells ms ws rests.now (S.file shelf.old) checked.now
+        → Begins (net_of ms ws (S.file shelf.old)) (programmes_in agenda)) }
+    ensures leads { S.tells → IfOk result (λ agenda. (ms : List NetMember) (ws : List Wire) → IsToBeOpened S.tells ms ws rests.now (S.file shelf.old) checked.now
+        → LeadsOn (net_of ms ws (S.file shelf.old)) [] (S.file shelf.new) (S.ids shelf.new) (programmes_in agenda)) }
+    ensures never { S.tells → IfErr result (λ fault. IsNetChange fault → ⊥) }
+    ensures opens { (ms : List NetMember) → rests.now ≡ map rest_of ms → Opens (ReadsMemberCapture ms) (S.ids shelf.old) (S.ids shelf.new) }
+    ensures files { SameFiles (S.file shelf.old) (S.file shelf.new) }
+    ensures changed { (ms : List NetMember) → rests.now ≡ map rest_of ms → (name : List ℕ) (p at : ℕ) → IsErrOf result (Fault.MemberChanged name p at) → HasCaptureAt ms name p }
+    ensures causes { IfErr result IsOfNetPlay }
+    ensures faults { CountsFaults result (S.faults shelf.old) (S.faults shelf.new) }
+{
     let start = start_of_all(checked);
     let mut agenda = Agenda::new(alloc);
     for bridge in 0..rests.len() {

@@ -1,9 +1,10 @@
 //! The whole call.
-ghost use Rattle.std.specs.Prelude.{◌≡◌, ◌<◌, ◌≤◌, ◌^◌, ◌⊎◌, ℕ, Bool, List, All, IfErr, IfOk, IsErrOf, OnErr, OnOk, length, map, string_bytes};
+ghost use Rattle.std.specs.Prelude.{◌≡◌, ◌<◌, ◌≤◌, ◌+◌, ◌^◌, ◌⊎◌, ℕ, Bool, List, All, IfErr, IfOk, IsErrOf, OnErr, OnOk, length, map, string_bytes};
 ghost use Rattle.exb_inputs.specs.declared.fault.Fault.{Fault};
 ghost use Rattle.exb_inputs.specs.Shelving.{CountsFaults};
 ghost use Rattle.exb_merge.specs.NetAgendas.{IsAgenda, all_ids, programmes_in};
 ghost use Rattle.exb_nets.specs.declared.wires.Wire.{Wire};
+ghost use Rattle.exb_net.specs.Lists.{AreEach};
 ghost use Rattle.exb_net_file.specs.declared.members.NetMember.{NetMember};
 ghost use Rattle.exb_net_file.specs.Apart.{IsTakenApart};
 ghost use Rattle.exb_net_inputs.specs.Checking.{AreMembersChecked};
@@ -14,7 +15,6 @@ ghost use Rattle.exb_shelf.specs.Files.{Files, SameFiles};
 ghost use Rattle.exb_shelf.specs.Shelf.{IsReading, Opens};
 ghost use Rattle.exb_text.specs.declared.output.Output.{Output};
 ghost use Rattle.exb_writers.specs.Counts.{IsSummary};
-ghost use Rattle.exb_net_run.specs.Arming.{AreArmed};
 ghost use Rattle.exb_net_run.specs.Answers.{AreFrontsOfNet, IsNetFailure, IsOfNet, IsOfNetPlay, NetPlayed, NetStops, OnlyNetAsked};
 ghost use Rattle.exb_net_run.specs.Desks.{OnlyAllPlanned, plans_in};
 ghost use Rattle.exb_net_run.specs.Nets.{net_of, plan_with};
@@ -87,7 +87,7 @@ fn play_into<S: Shelf>(
     desks: Vec<Desk>,
 ) -> Result<String, Fault>
     requires prepared { (counters : Bool) × ((ms : List NetMember) × ((ws : List Wire) × ((before : Files) × IsPrepared S.tells counters ms ws parts.now checked.now before (S.file shelf.old) (S.ids shelf.old) desks.items))) }
-    requires fates { AreArmed left parts.now.rests fates.items }
+    requires fates { AreEach (λ b r f. left f < 2 ^ 56 + length r.fate) parts.now.rests fates.items }
     ensures done { S.tells → IfOk result (λ line. (counters : Bool) (ms : List NetMember) (ws : List Wire) (before : Files)
         → IsPrepared S.tells counters ms ws parts.now checked.now before (S.file shelf.old) (S.ids shelf.old) desks.items
         → HasWritten (run_of counters ms ws (S.file shelf.old) before) (S.file shelf.new) (string_bytes line)) }
@@ -131,7 +131,7 @@ fn play_checked<S: Shelf>(
     fates: Vec<Box<dyn Fate>>,
 ) -> Result<String, Fault>
     requires read { (ms : List NetMember) × ((ws : List Wire) × (IsTakenApart ms ws parts.now × (AreRead ms ws × AreMembersChecked S.tells ms (S.file shelf.old) checked.now))) }
-    requires fates { AreArmed left parts.now.rests fates.items }
+    requires fates { AreEach (λ b r f. left f < 2 ^ 56 + length r.fate) parts.now.rests fates.items }
     ensures done { S.tells → IfOk result (λ line. (ms : List NetMember) (ws : List Wire) → IsTakenApart ms ws parts.now → AreRead ms ws → AreMembersChecked S.tells ms (S.file shelf.old) checked.now
         → IsNetPlayed counters ms (net_of ms ws (S.file shelf.old)) (S.file shelf.old) (S.file shelf.new) (string_bytes line)) }
     ensures says { IfOk result (λ line. IsSummary (string_bytes line)) }
