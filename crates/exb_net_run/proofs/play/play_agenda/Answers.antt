@@ -3,8 +3,8 @@ use Rattle.exb_inputs.proofs.Outcomes.{if_err_map, if_ok_map}
 use Rattle.exb_net_run.proofs.Opened.{can_begin}
 use Rattle.exb_net_run.proofs.play.play_agenda.Goals as goal
 
-pub play-requires-clause-begins : goal.play-requires-clause-begins
-play-requires-clause-begins g c = (let t = c.requires.can in (t.0, can_begin _ t.0 _ _ _ _ t.1))
+pub play-played-requires-clause-begins : goal.play-played-requires-clause-begins
+play-played-requires-clause-begins g c = (let t = c.requires.can in (t.0, can_begin _ t.0 _ _ _ _ t.1))
 
 pub returns-clause-done : goal.returns-clause-done
 returns-clause-done g c tells = if_ok_map c.play-played.result (λ line all r can. all r (can_begin _ r _ _ _ _ can)) (c.play-played.ensures.done tells)

@@ -1,16 +1,18 @@
-use Rattle.std.proofs.Common.{◌≡◌, ◌∙◌, ℕ, List, ap, sym, subst}
-use Rattle.std.specs.Prelude.{string_bytes}
+use Rattle.std.proofs.Common.{◌≡◌, ◌∙◌, ℕ, List, Err, ap, sym, subst}
 use Rattle.std.proofs.lemmas.Result.{err_from_is_err_and, on_err_weaker}
-use Rattle.exb_inputs.proofs.Outcomes.{if_err_map, if_ok_map}
-use Rattle.exb_inputs.proofs.ShelvingLemmas.{counts_from}
+use Rattle.exb_inputs.specs.declared.fault.Fault.{Fault}
+use Rattle.exb_inputs.specs.declared.fault.Fault.TheVariants.{MemberChanged}
+use Rattle.exb_inputs.proofs.Outcomes.{files_same, if_err_map, if_ok_map}
 use Rattle.exb_merge.specs.NetAgendas.{all_ids, programmes_in}
 use Rattle.exb_net_file.specs.declared.apart.NetRest.{NetRest}
+use Rattle.exb_shelf.specs.Files.{Files}
 use Rattle.exb_net_run.specs.Nets.{net_of}
 use Rattle.exb_net_run.specs.Setting.{IsToBeOpened, run_of}
-use Rattle.exb_net_run.specs.UnderWay.{AreOfRests}
+use Rattle.exb_net_run.specs.UnderWay.{AreOfRests, IsCutOff}
 use Rattle.exb_net_run.proofs.Into.{as_many, fates_few, into_can, opens_on, within_of}
 use Rattle.exb_net_run.proofs.Opened.{cut_unopened}
 use Rattle.exb_net_run.proofs.Prepared.{net_is, setup_of}
+use Rattle.exb_net_run.proofs.Shelves.{err-own}
 use Rattle.exb_net_run.proofs.play.play_into.Goals as goal
 
 pub open_agenda-requires-clause-read : goal.open_agenda-requires-clause-read
@@ -116,3 +118,33 @@ returns-clause-only g c = λ t m away. c.play_agenda.ensures.only.others t m awa
 
 pub returns-clause-changed : goal.returns-clause-changed
 returns-clause-changed g c = λ ms ws taken name p at is. c.in_ok-agenda.ensures.ports ms (c.as_slice-rests.ensures ∙ taken.rests) name p (c.play_agenda.ensures.changed name p at is)
+
+-- ---- where nothing was played
+pub returns-in_default-clause-cut : goal.returns-in_default-clause-cut
+returns-in_default-clause-cut g c = λ t counters ms ws before p.
+    let S = g.S.Shelf in
+    cut_unopened S.tells (run_of counters ms ws (S.file c.args.shelf.now) before) (S.file c.args.shelf.now) (S.ids c.args.shelf.now) c.args.desks.items t p.set p.noted
+
+pub returns-in_err-agenda-clause-cut : goal.returns-in_err-agenda-clause-cut
+returns-in_err-agenda-clause-cut g c = λ t.
+    let e = err_from_is_err_and c.from_residual.result c.from_residual.ensures.1 in
+    rw e.1
+    (λ counters ms ws before p.
+    let S = g.S.Shelf in
+    let old = S.file c.args.shelf.now in
+    let new = S.file c.open_agenda.new.shelf in
+    subst (λ (f : Files). IsCutOff (run_of counters ms ws old before) f) (sym (files_same old new c.open_agenda.ensures.files))
+    (cut_unopened S.tells (run_of counters ms ws old before) old (S.ids c.args.shelf.now) c.args.desks.items t p.set p.noted))
+
+pub returns-in_default-new-clause-cut : goal.returns-in_default-new-clause-cut
+returns-in_default-new-clause-cut g c = λ t counters ms ws before p.
+    let S = g.S.Shelf in
+    let old = S.file c.args.shelf.now in
+    let new = S.file c.open_agenda.new.shelf in
+    subst (λ (f : Files). IsCutOff (run_of counters ms ws old before) f) (sym (files_same old new c.open_agenda.ensures.files))
+    (cut_unopened S.tells (run_of counters ms ws old before) old (S.ids c.args.shelf.now) c.args.desks.items t p.set p.noted)
+
+pub returns-in_err-agenda-clause-changed : goal.returns-in_err-agenda-clause-changed
+returns-in_err-agenda-clause-changed g c =
+    let e = err_from_is_err_and c.from_residual.result c.from_residual.ensures.1 in
+    rw (e.1, e.2) (λ ms ws taken name p at is. c.in_err-agenda.ensures.changed ms (c.as_slice-rests.ensures ∙ taken.rests) name p at (ap (λ (x : Fault). Err x) (err-own c.in_err-agenda.field-0.0 (MemberChanged name p at) is)))
