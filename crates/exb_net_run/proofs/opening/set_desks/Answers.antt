@@ -1,4 +1,6 @@
 use Rattle.std.proofs.Common.{rules, ◌≡◌, ℕ, suc, ◌+◌, List, [], ◌++◌, ◌∷◌, length, map, refl, ap, sym, subst, ◌∙◌, arith}
+use Rattle.std.specs.declared.alloc.Global.{Global}
+use Rattle.std.specs.declared.vec.Vec.{Vec}
 use Rattle.std.proofs.lemmas.List.{length-map}
 use Rattle.std.proofs.lemmas.Result.{err_from_is_err_and}
 use Rattle.exb_inputs.proofs.ShelvingLemmas.{counts_as, counts_from}
@@ -135,5 +137,5 @@ returns-in_err-set_desk-clause-made g c =
     let k = next_here c.args.counters ms ws c.args.parts.now taken c.as_slice-setups.result.now c.as_slice-rests.result.now c.as_slice-setups.ensures c.as_slice-rests.ensures i (omega arith) c.index-setups-bridge.result c.index-rests-bridge.result
     c.as_str-name.result.now c.index-setups-bridge.is c.index-rests-bridge.is c.as_str-name.ensures in
     makes_some c.bridges_write_apart.ensures c.args.counters ms read.names read.apart S.tells i (S.file c.args.shelf.now) now new (S.ids c.args.shelf.now) ids ids2 c.loop-bridge.desks.items k.member k.here
-    (c.loop-bridge.invariant.set ms ws taken read) (subst (λ (p : Planned). OnlyMakes S.tells p now new ids ids2) k.plan bad.only) x bad.made.count (not_late _ x bad.causes)
+    (c.loop-bridge.invariant.set ms ws taken read) (subst (λ (p : Planned). OnlyMakes S.tells p now new ids ids2) k.plan bad.only) x bad.made.count (not_late (Vec Desk Global) x bad.causes)
     (subst (λ (p : Planned). MadeInOrder p bad.made.count ids ids2) k.plan bad.made.made))
