@@ -24,3 +24,4 @@ pub mod Prepared
 pub mod Opened
 pub mod Arming
 pub mod Reopened
+pub mod Programmed
