@@ -1,5 +1,5 @@
 -- At which port checking ends, and what was opened by then.
-use Rattle.std.proofs.Common.{◌≡◌, ◌<◌, ◌≤◌, ◌+◌, ◌∙◌, ℕ, true, List, Option, Some, ap, arith, sym}
+use Rattle.std.proofs.Common.{◌≡◌, ◌<◌, ◌≤◌, ◌+◌, ℕ, List, Some, ap, arith}
 use Rattle.std.specs.Prelude.{is_some}
 use Rattle.exb_shelf.specs.Files.{Files}
 use Rattle.exb_shelf.specs.Shelf.{Id, IsReadingOf, Opens}
@@ -9,7 +9,7 @@ use Rattle.exb_inputs.specs.declared.fault.Fault.{Fault}
 use Rattle.exb_inputs.specs.declared.fault.Fault.TheVariants.{Capture}
 use Rattle.exb_inputs.specs.declared.fault.Flaw.{Flaw}
 use Rattle.exb_inputs.specs.Checks.{IsGoodNamed}
-use Rattle.exb_inputs.specs.Inputs.{is_named, name_of}
+use Rattle.exb_inputs.specs.Inputs.{name_of}
 use Rattle.exb_inputs.specs.Shelving.{EndsAt, ReadsBelow, ReadsCapture}
 
 pub below_any : (names : List Named) (n : ℕ) (i : Id) → ReadsBelow names n i → ReadsCapture names i

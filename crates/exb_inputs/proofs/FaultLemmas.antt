@@ -1,8 +1,8 @@
 -- Faults of captures: a capture has one or none, and one is the first in port order.
-use Rattle.std.proofs.Common.{◌≡◌, ◌<◌, ◌+◌, ◌++◌, ◌==◌, ◌⊎◌, inl, inr, ℕ, zero, suc, true, false, List, [], ◌∷◌, Option, Some, None, Result, Ok, Err, length, ap, sym, ◌∙◌, refl, arith, subst, add-one, drop, get_or, Bool, All, eq-eqb}
-use Rattle.std.specs.Prelude.{slice_index_or, All, is_some, if◌then◌else◌, String, IfOk, IfErr}
+use Rattle.std.proofs.Common.{◌≡◌, ◌<◌, ◌+◌, ◌++◌, ◌==◌, ◌⊎◌, inl, inr, ℕ, zero, suc, true, false, List, [], ◌∷◌, Option, Some, None, Result, Ok, Err, length, ap, sym, ◌∙◌, refl, arith, subst, add-one, drop, get_or, Bool, All}
+use Rattle.std.specs.Prelude.{slice_index_or, All, is_some, if◌then◌else◌}
 use Rattle.std.proofs.Math.Seq.{drop-cons, drop-length}
-use Rattle.std.proofs.lemmas.Bool.{cases_lt, lt-ltb, le-ltb, eqb-true, ne_eqb}
+use Rattle.std.proofs.lemmas.Bool.{cases_lt, eqb-true}
 use Rattle.std.proofs.lemmas.List.Elements.{All-append}
 use Rattle.exb_capture.specs.declared.checking.Scanned.{Scanned}
 use Rattle.exb_capture.specs.declared.checking.ScanFault.{ScanFault}
@@ -18,8 +18,6 @@ use Rattle.exb_inputs.specs.declared.fault.Fault.TheVariants.{Missing, Capture}
 use Rattle.exb_inputs.specs.Checks.{AreAllGood, FirstFault, HasFault, HasFaultNamed, IsGood, IsGoodNamed, fault_in, most_bytes}
 use Rattle.exb_inputs.specs.Inputs.{name_of, is_named}
 use Rattle.exb_inputs.proofs.Asking.{some_once, none_or_some}
-use mathlib.Core.Path.{fun_ext}
-use Rattle.std.specs.declared.alloc.Global.{Global}
 
 -- ---- one capture
 -- what is told of a file is no fault of it

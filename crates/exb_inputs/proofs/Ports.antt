@@ -1,7 +1,6 @@
 -- Of which port a capture turns out to be another one, and what was counted by then.
-use Rattle.std.proofs.Common.{◌≡◌, ◌⊎◌, inl, inr, ℕ, true, List, [], ◌∷◌, Ok, Err, filter, map, refl, sym, subst, ◌∙◌}
+use Rattle.std.proofs.Common.{◌≡◌, inl, ℕ, true, List, Err, filter, map, refl, sym, subst}
 use Rattle.std.specs.List.{AllByRecursion}
-use Rattle.std.specs.Prelude.{IfErr}
 use Rattle.exb_merge.specs.declared.replays.CaptureFault.{CaptureFault}
 use Rattle.exb_merge.specs.declared.replays.CaptureFault.TheVariants as again
 use Rattle.exb_merge.specs.Counting.{CountsFault as CountsAgain}
@@ -11,7 +10,7 @@ use Rattle.exb_shelf.specs.Shelf.{Faults, NoFewer}
 use Rattle.exb_tables.specs.declared.rows.Named.{Named}
 use Rattle.exb_inputs.specs.declared.checked.Checked.{Checked}
 use Rattle.exb_inputs.specs.declared.fault.Fault.{Fault}
-use Rattle.exb_inputs.specs.declared.fault.Fault.TheVariants.{Changed, Memory, Read}
+use Rattle.exb_inputs.specs.declared.fault.Fault.TheVariants.{Changed}
 use Rattle.exb_inputs.specs.Answers.{fault_again}
 use Rattle.exb_inputs.specs.Counting.{CountsFault}
 use Rattle.exb_inputs.specs.Inputs.{is_named}

@@ -1,5 +1,5 @@
 -- What a bridge of a net is given is of its topology: a port without a capture has no records.
-use Rattle.std.proofs.Common.{◌≡◌, ◌==◌, ◌∙◌, ℕ, Bool, true, false, List, [], ◌∷◌, Option, Some, None, refl, ap, if◌then◌else◌}
+use Rattle.std.proofs.Common.{◌≡◌, ◌==◌, ◌||◌, ◌∙◌, ℕ, Bool, true, false, List, [], ◌∷◌, Option, Some, None, refl, ap, if◌then◌else◌}
 use Rattle.std.specs.Prelude.{is_some}
 use Rattle.std.specs.List.{list_any}
 use Rattle.exb_model.specs.Input.{Record}
@@ -15,7 +15,7 @@ named_any : (names : List Named) (p : ℕ) → is_named names p ≡ list_any (λ
 named_any [] p = refl
 named_any (x ∷ names) p = by_port (x.port == p) (named_any names p)
   where
-    by_port : (b : Bool) → is_named names p ≡ list_any (λ capture. capture.port == p) names → is_some (if◌then◌else◌ {A = Option (List ℕ)} b (Some x.name) (name_of names p)) ≡ (if b then true else list_any (λ capture. capture.port == p) names)
+    by_port : (b : Bool) → is_named names p ≡ list_any (λ capture. capture.port == p) names → is_some (if◌then◌else◌ {A = Option (List ℕ)} b (Some x.name) (name_of names p)) ≡ (b || list_any (λ capture. capture.port == p) names)
     by_port true rest = refl
     by_port false rest = rest
 

@@ -36,8 +36,8 @@ all_get P xs k x h is = subst P (get_or_from_slice_get xs k x x is) (h k x (slic
 pub next_taken : {X : Type 0} (xs : List X) (i : ℕ) (x : X) → i < length xs → x ≡ get_or xs i x → take (i + 1) xs ≡ take i xs ++ x ∷ []
 next_taken xs i x low is = take_more xs i x low ∙ ap (λ (y : _). take i xs ++ y ∷ []) (sym is)
 
-all_taken : {X : Type 0} (xs : List X) (i : ℕ) → (i < length xs → ⊥) → take i xs ≡ xs
-all_taken xs i end = take_all i xs (omega (arith, end))
+all_taken : {X : Type 0} (xs : List X) (i : ℕ) → length xs ≤ i → take i xs ≡ xs
+all_taken xs i end = take_all i xs end
 
 -- ---- topologies
 abbrev topologies : List NetBridge → List (List ℕ)
@@ -78,7 +78,7 @@ module _ (bs : List NetBridge) (i : ℕ) (b : NetBridge) (low : i < length bs) (
   }
 
 -- all were opened
-pub topologies_end : {X : Type 0} (tells : Type 0) (bs : List NetBridge) (i : ℕ) (file : Files) (ms : List NetMember) (x : X) (given ids : ℕ → Id) → (i < length bs → ⊥) → (tells → HoldsMembers (take i bs) file ms)
+pub topologies_end : {X : Type 0} (tells : Type 0) (bs : List NetBridge) (i : ℕ) (file : Files) (ms : List NetMember) (x : X) (given ids : ℕ → Id) → length bs ≤ i → (tells → HoldsMembers (take i bs) file ms)
     → OpensOneByOne IsReadingOf (topologies (take i bs)) given ids → OpensTopologies {X = X} tells bs file (Ok x) given ids
 topologies_end tells bs i file ms x given ids end holds opened = record {
   count = length bs;

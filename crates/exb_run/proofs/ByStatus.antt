@@ -1,7 +1,7 @@
 -- What was counted by the end of a call, by its status.
 use Rattle.std.proofs.Common.{◌≡◌, ◌≢◌, ◌⊎◌, ◌∙◌, inl, inr, ℕ, Ok, Err, refl, ap, sym, arith}
 use Rattle.std.proofs.lemmas.Bool.{cases_eq}
-use Rattle.exb_shelf.specs.Counting.{missing_more, reads_more, writes_more}
+use Rattle.exb_shelf.specs.Counting.{missing_more}
 use Rattle.exb_shelf.specs.Shelf.{Faults, Rose}
 use Rattle.exb_inputs.specs.Answers.{status_of}
 use Rattle.exb_inputs.specs.Counting.{CountsOnce}

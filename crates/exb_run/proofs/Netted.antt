@@ -1,10 +1,10 @@
 -- A net that is asked for: what comes of it, and what it opened.
-use Rattle.std.proofs.Common.{◌≡◌, ◌≢◌, ◌++◌, ◌⊎◌, ◌∙◌, inl, inr, ℕ, Bool, List, Option, Some, Ok, Err, ap, sym, refl, arith}
+use Rattle.std.proofs.Common.{◌≡◌, ◌≢◌, ◌++◌, ◌⊎◌, ◌∙◌, inl, inr, ℕ, Bool, List, Some, Ok, Err, ap, sym, refl, arith}
 use Rattle.std.specs.Prelude.{IfOk, IfErr, IsErrOf, string_bytes}
 use Rattle.exb_shelf.specs.Files.{Files, SameFiles}
 use Rattle.exb_shelf.specs.Shelf.{Id, IsReading, Opens}
 use Rattle.exb_words.specs.Words.{Net}
-use Rattle.exb_inputs.specs.Answers.{CanBe, fault_line, fault_status, line_of, status_of}
+use Rattle.exb_inputs.specs.Answers.{CanBe, fault_status, line_of, status_of}
 use Rattle.exb_inputs.specs.declared.fault.Fault.{Fault}
 use Rattle.exb_inputs.specs.declared.fault.Fault.TheVariants.{Usage, Missing, Topology as BadTopology, Capture, Changed, Net as BadNet, Member as BadMember, MemberCapture, MemberChanged, Output, TooLarge, BadLine, Illegal, Read, Write, Memory}
 use Rattle.exb_inputs.specs.declared.fault.Flaw.{Flaw}

@@ -1,5 +1,5 @@
 -- What a run opened and made, in order.
-use Rattle.std.proofs.Common.{◌≡◌, ◌≢◌, ◌<◌, ◌≤◌, ◌+◌, ◌++◌, ◌∙◌, ◌⊎◌, inl, inr, ℕ, true, List, Option, Some, None, Result, Ok, Err, ap, sym, refl, arith, subst, false}
+use Rattle.std.proofs.Common.{◌≡◌, ◌≢◌, ◌+◌, ◌++◌, ◌∙◌, ◌⊎◌, inl, inr, ℕ, true, List, Ok, Err, ap, sym, refl, arith, subst, false}
 use Rattle.std.proofs.lemmas.Bool.{cases_Bool, cases_lt, false≢true}
 use Rattle.std.specs.Prelude.{IfErr, IsErrOf}
 use Rattle.exb_model.specs.Setup.{shape_of}
@@ -10,22 +10,20 @@ use Rattle.exb_shelf.proofs.IdLemmas.{opens_then, opens_weaker}
 use Rattle.exb_tables.specs.declared.rows.Named.{Named}
 use Rattle.exb_topology.specs.declared.topology.Topology.{Topology}
 use Rattle.exb_words.specs.declared.asked.Options.{Options}
-use Rattle.exb_words.specs.Words.{Ask, Run, Check, Make}
 use Rattle.exb_inputs.specs.declared.fault.Fault.{Fault}
 use Rattle.exb_inputs.specs.declared.fault.Fault.TheVariants.{Usage, Missing, Topology as BadTopology, Capture, Changed, Net as BadNet, Member as BadMember, MemberCapture, MemberChanged, Output, TooLarge, BadLine, Illegal, Read, Write, Memory}
 use Rattle.exb_inputs.specs.declared.fault.Flaw.{Flaw}
-use Rattle.exb_inputs.specs.Answers.{CanBe, HoldsTopology, fault_line, fault_status, line_of, status_of}
-use Rattle.exb_inputs.specs.Checks.{FirstFault, IsGoodNamed}
+use Rattle.exb_inputs.specs.Answers.{CanBe, HoldsTopology, fault_status, line_of, status_of}
+use Rattle.exb_inputs.specs.Checks.{FirstFault}
 use Rattle.exb_inputs.specs.Inputs.{is_named, name_of}
 use Rattle.exb_inputs.specs.Reading.{IsOfPlaying, IsOfTopology, IsOfPlay}
 use Rattle.exb_inputs.specs.Shelving.{EndsAt, OpensEach, ReadsBelow, ReadsCapture}
 use Rattle.exb_inputs.proofs.EndingAt.{opened_higher}
 use Rattle.exb_inputs.proofs.FaultLemmas.{named_not}
 use Rattle.exb_outputs.specs.Order.{IsLate, MakesInOrder}
-use Rattle.exb_run.specs.Opening.{IsFileOf, IsRefusedEarly, MadeBehind, OpenedInOrder, OpensInOrder, ReadsUpTo, RunOpened, RunOpens, WritesOutput, plan_for}
-use Rattle.exb_outputs.specs.Plans.{Planned, output_count}
+use Rattle.exb_run.specs.Opening.{IsFileOf, IsRefusedEarly, MadeBehind, OpenedInOrder, ReadsUpTo, RunOpened, RunOpens, plan_for}
+use Rattle.exb_outputs.specs.Plans.{Planned}
 use Rattle.exb_play.specs.Shelving.{IsOfRun}
-use Rattle.exb_outputs.specs.Shelving.{WritesPlanned}
 use Rattle.exb_outputs.proofs.Orders.{read_then_makes}
 use Rattle.exb_run.proofs.OpenLemmas.{planned_is_output}
 use Rattle.exb_inputs.proofs.Outcomes.{Outcome}

@@ -1,8 +1,8 @@
 -- What is printed of an outcome.
-use Rattle.std.proofs.Common.{◌≡◌, ◌≢◌, ◌<◌, ◌≤◌, ◌+◌, ◌++◌, ◌∙◌, ◌⊎◌, inl, inr, ℕ, zero, suc, List, [], ◌∷◌, Option, Some, None, Ok, Err, get_or, length, take, ap, sym, refl, arith, subst}
+use Rattle.std.proofs.Common.{◌≡◌, ◌≢◌, ◌<◌, ◌+◌, ◌++◌, ◌∙◌, ◌⊎◌, inl, inr, ℕ, zero, suc, List, [], ◌∷◌, Option, Some, None, Ok, Err, get_or, length, take, ap, sym, refl, arith, subst}
 use Rattle.std.proofs.lemmas.Bool.{cases_eq}
 use Rattle.std.proofs.lemmas.List.{append_cancel_left, length-take-le}
-use Rattle.std.specs.Prelude.{IfOk, IfErr, IsErrOf, string_bytes}
+use Rattle.std.specs.Prelude.{IfOk, IfErr, string_bytes}
 use Rattle.exb_model.specs.Texts.{Counts, summary_line}
 use Rattle.exb_auditing.specs.Audits.{legal_line}
 use Rattle.exb_made.specs.Made.{made}

@@ -1,5 +1,5 @@
 -- The parts of what is asked for make the whole.
-use Rattle.std.proofs.Common.{◌≡◌, ◌⊎◌, inl, inr, Bool, ℕ, List, Option, Some, None, Ok, Err, ap, sym, refl, subst}
+use Rattle.std.proofs.Common.{◌≡◌, ◌⊎◌, inl, inr, ℕ, List, Option, Some, None, Ok, Err, ap, sym, refl, subst}
 use Rattle.std.specs.Prelude.{IfOk, IfErr, IsErrOf, string_bytes}
 use Rattle.exb_made.specs.Made.{made}
 use Rattle.exb_model.specs.Input.{Eager}
@@ -19,7 +19,7 @@ use Rattle.exb_outputs.specs.Names.{OnlyOutputs}
 use Rattle.exb_inputs.specs.Checks.{AreAllGood, FirstFault}
 use Rattle.exb_inputs.specs.Reading.{IsOfAudit, IsOfTopology, IsOfPlaying, IsOfPlay}
 use Rattle.exb_run.specs.Parts.{LeavesParts}
-use Rattle.exb_run.specs.Answers.{AreFronts, AreFrontsIn, IsDone, IsFailure, OnlyAsked, Stops, eager_summary, mode_for}
+use Rattle.exb_run.specs.Answers.{AreFrontsIn, IsDone, IsFailure, OnlyAsked, Stops, eager_summary, mode_for}
 use Rattle.exb_inputs.specs.Answers.{HoldsTopology, IsRefused}
 use Rattle.exb_auditing.specs.Audits.{IsFoundLegal, StopsAudit}
 use Rattle.exb_auditing.specs.Scopes.{scope_of}

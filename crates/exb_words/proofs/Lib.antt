@@ -2,3 +2,4 @@ pub mod Digits
 pub mod Reading
 pub mod Asks
 pub mod Lawful
+pub mod KindLemmas

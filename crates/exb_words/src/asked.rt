@@ -1,4 +1,6 @@
 //! What can be asked for.
+ghost use Rattle.std.specs.Prelude.{◌≡◌};
+ghost use Rattle.exb_words.specs.Kinds.{eager_with};
 
 /// How a run is asked for.
 #[derive(Clone, Copy, Debug, Default, PartialEq, Eq)]
@@ -9,6 +11,19 @@ pub struct Options {
     pub counters: bool,
     /// In an order drawn from this seed, where there is one.
     pub seed: Option<u64>,
+}
+
+impl Options {
+    /// Eager, without a trace, and with counters where they are wanted.
+    pub fn eager(counters: bool) -> Options
+        ensures { result ≡ eager_with counters }
+    {
+        Options {
+            trace: false,
+            counters,
+            seed: None,
+        }
+    }
 }
 
 /// What the words ask for.

@@ -69,14 +69,14 @@ checking-preserved g c =
     let same = files_same f (S.file c.checking.shelf) inv.files in
     let pushed : c.push.new.self.items ≡ c.checking.checked.items ++ c.in_ok-one.one ∷ [] = search rules in
     let so = checks_more S.tells c.args.members.now c.checking.member-index m f c.checking.checked.items c.push.new.self.items c.in_ok-one.one (S.ids c.args.shelf.now) (S.ids c.checking.shelf) (S.ids c.check_member.new.shelf) c.checking-test.true
-        c.member-item.is pushed
-        (record { checked = inv.checked; good = inv.good; each = inv.each; opened = inv.opened; below = inv.below })
-        (record {
-          checked = subst (λ (file : Files). AreChecked S.tells m.topology.captures file c.in_ok-one.one.items) same one.checked;
-          good = λ t. subst (λ (file : Files). AreGood m file) same (one.good t);
-          each = one.each;
-          opened = one.opened;
-        }) in
+    c.member-item.is pushed
+    (record { checked = inv.checked; good = inv.good; each = inv.each; opened = inv.opened; below = inv.below })
+    (record {
+      checked = subst (λ (file : Files). AreChecked S.tells m.topology.captures file c.in_ok-one.one.items) same one.checked;
+      good = λ t. subst (λ (file : Files). AreGood m file) same (one.good t);
+      each = one.each;
+      opened = one.opened;
+    }) in
     record {
       checked = so.checked;
       good = so.good;

@@ -50,14 +50,14 @@ reading-preserved g c =
     let m = c.in_ok-member.member in
     let one = c.in_ok-member.ensures in
     let so = reads_more S.tells c.args.bridges.now c.reading.bridge-index b f c.reading.members c.push.new.self m (S.ids c.args.shelf.now) (S.ids c.reading.shelf) (S.ids c.read_member.new.shelf) c.reading-test.true c.bridge-item.is c.in_ok-push.ensures.ok
-        (record { read = inv.read; names = inv.names; valid = inv.valid; sound = inv.sound; opened = inv.opened })
-        (record {
-          read = λ t. subst (λ (file : Files). HoldsMember file b m) (files_same f (S.file c.reading.shelf) inv.files) (one.read t);
-          name = one.name;
-          valid = one.valid;
-          sound = one.sound;
-          opened = one.opened;
-        }) in
+    (record { read = inv.read; names = inv.names; valid = inv.valid; sound = inv.sound; opened = inv.opened })
+    (record {
+      read = λ t. subst (λ (file : Files). HoldsMember file b m) (files_same f (S.file c.reading.shelf) inv.files) (one.read t);
+      name = one.name;
+      valid = one.valid;
+      sound = one.sound;
+      opened = one.opened;
+    }) in
     record {
       read = so.read;
       names = so.names;

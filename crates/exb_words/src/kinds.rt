@@ -1,0 +1,118 @@
+//! The kinds of files behind the captures that are asked for.
+ghost use Rattle.std.specs.Prelude.{◌≡◌, ◌<◌, ◌≤◌, ◌++◌, ◌∷◌, [], if◌then◌else◌, get_or, length, IfOk, OnOk};
+ghost use Rattle.exb_text.specs.declared.output.Output.TheVariants as output;
+ghost use Rattle.exb_words.specs.Kinds.{kinds_behind, number_of, place_among, place_behind};
+
+use crate::asked::Options;
+use exb_model::memory::NoMemory;
+use exb_text::Output;
+use std::alloc::Global;
+use std::marker::Model;
+
+/// What a run is asked for, with the kinds of files behind the captures that it makes, in their order.
+#[derive(Drop)]
+pub struct Kinds {
+    options: Options,
+    behind: Vec<Output>,
+}
+
+impl Model for Kinds {
+    ghost use Rattle.std.specs.Prelude.{◌≡◌};
+    ghost use Rattle.exb_words.specs.declared.asked.Options.{Options};
+    ghost use Rattle.exb_words.specs.Kinds.{kinds_behind};
+
+    ghost Value = { Options };
+
+    ghost view = { λ k. k.options };
+
+    ghost invariant = { λ k. k.behind.items ≡ kinds_behind k.options };
+}
+
+/// The number of a kind.
+fn number_of(kind: Output) -> u8
+    ensures { result ≡ number_of kind }
+{
+    match kind {
+        Output::Capture(_) => 0,
+        Output::Journal => 1,
+        Output::Trace => 2,
+        Output::Counters => 3,
+    }
+}
+
+/// Puts a kind behind others, where it is asked for.
+fn put_if(kinds: &mut Vec<Output>, asked: bool, kind: Output) -> Result<(), NoMemory>
+    ensures { OnOk result (kinds.new.items ≡ kinds.old.items ++ (if asked then kind ∷ [] else [])) }
+{
+    if asked {
+        kinds.push(kind)?;
+    }
+    Ok(())
+}
+
+/// The kinds that are asked for.
+fn kinds_of(alloc: Global, options: Options) -> Result<Vec<Output>, NoMemory>
+    ensures { IfOk result (λ kinds. kinds.items ≡ kinds_behind options) }
+{
+    let mut kinds = Vec::new(alloc);
+    put_if(&mut kinds, true, Output::Journal)?;
+    put_if(&mut kinds, options.trace, Output::Trace)?;
+    put_if(&mut kinds, options.counters, Output::Counters)?;
+    Ok(kinds)
+}
+
+/// The place of the kind of a number among others, and their end where it isn't there.
+fn place_among(kinds: &[Output], number: u8) -> usize
+    ensures { result ≡ place_among number kinds.now }
+{
+    let mut at = 0;
+    'looking: for kind in kinds {
+        if number_of(*kind) == number {
+            return at;
+        }
+        at += 1;
+    }
+    at
+}
+
+impl Kinds {
+    /// What is asked for.
+    pub fn new(alloc: Global, options: Options) -> Result<Kinds, NoMemory>
+        ensures { IfOk result (λ kinds. kinds ≡ options) }
+    {
+        let behind = kinds_of(alloc, options)?;
+        Ok(Kinds { options, behind })
+    }
+
+    /// The options.
+    pub fn options(&self) -> Options
+        ensures { result ≡ self.now }
+    {
+        self.options
+    }
+
+    /// How many kinds there are behind the captures.
+    #[tactic(auto, using(crate::proofs::KindLemmas::few_behind))]
+    pub fn count(&self) -> u16
+        ensures value { result ≡ length (kinds_behind self.now) }
+        ensures range { result ≤ 256 }
+    {
+        self.behind.len() as u16
+    }
+
+    /// The kind at a place behind the captures.
+    pub fn kind(&self, at: u16) -> Output
+        requires { at < length (kinds_behind self.now) }
+        ensures { result ≡ get_or (kinds_behind self.now) at output.Journal }
+    {
+        self.behind[at as usize]
+    }
+
+    /// The place of a kind behind the captures.
+    pub fn place(&self, kind: Output) -> u16
+        ensures value { result ≡ place_behind self.now kind }
+        ensures range { result ≤ 256 }
+    {
+        place_among(self.behind.as_slice(), number_of(kind)) as u16
+    }
+}
