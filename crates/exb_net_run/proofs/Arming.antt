@@ -1,5 +1,5 @@
 -- A fate for each bridge, one after another.
-use Rattle.std.proofs.Common.{◌≡◌, ℕ, ◌+◌, ◌<◌, ◌≤◌, ◌*◌, ◌^◌, ◌++◌, List, [], ◌∷◌, length, get_or, drop, take, map, length-append, refl, ap, sym, ◌∙◌, subst, arith, inl, inr}
+use Rattle.std.proofs.Common.{◌≡◌, ℕ, ◌+◌, ◌<◌, ◌≤◌, ◌*◌, ◌^◌, ◌++◌, List, [], ◌∷◌, length, get_or, drop, take, map, length-append, length-drop, refl, ap, sym, ◌∙◌, subst, arith, inl, inr}
 use Rattle.std.specs.Prelude.{All, Some, remove, slice_get}
 use Rattle.std.proofs.lemmas.Bool.{cases_eq}
 use Rattle.std.proofs.lemmas.List.{drop_more, get_or-drop, take_more}
@@ -60,6 +60,25 @@ module _ {A : Type 0} (xs : List A) (i : ℕ) (low : i < length xs) where
 pub first_and : {A : Type 0} (xs : List A) (x : A) → 0 < length xs → x ≡ get_or xs 0 x → x ∷ drop 1 xs ≡ xs
 first_and [] x low is = absurd (omega (arith, low))
 first_and (y ∷ ys) x low is = ap (λ (z : A). z ∷ ys) is
+
+-- the first is the front of one
+none_taken : {A : Type 0} (xs : List A) → take 0 xs ≡ []
+none_taken [] = refl
+none_taken (x ∷ xs) = refl
+
+pub first_taken : {A : Type 0} (xs : List A) (x : A) → 1 ≤ length xs → x ≡ get_or xs 0 x → x ∷ [] ≡ take 1 xs
+first_taken [] x low is = absurd (omega (arith, low))
+first_taken {A} (y ∷ ys) x low is = ap (λ (z : A). z ∷ []) is ∙ ap (λ (zs : List A). y ∷ zs) (sym (none_taken ys))
+
+-- one of the others
+pub other_is : {A : Type 0} (xs : List A) (i : ℕ) (x : A) → x ≡ get_or (drop 1 xs) i x → x ≡ get_or xs (i + 1) x
+other_is xs i x is = is ∙ (get_or-drop 1 xs i x ∙ ap (λ (k : ℕ). get_or xs k x) (same i))
+  where
+    same : (k : ℕ) → 1 + k ≡ k + 1
+    same k = omega arith
+
+pub other_low : {A : Type 0} (xs : List A) (i : ℕ) → i < length (drop 1 xs) → i + 1 < length xs
+other_low xs i low = let size = length-drop 1 xs in omega (arith, low, size)
 
 -- ---- letters of fates
 -- a sound topology has few

@@ -25,3 +25,4 @@ pub mod Opened
 pub mod Arming
 pub mod Reopened
 pub mod Programmed
+pub mod Starting

@@ -211,7 +211,16 @@ pub(crate) fn open_agenda<'a, S: Shelf>(
     Ok(agenda)
 }
 
-/// Arms a fate for the opening of its bridge, and puts it behind those of the bridges before it.
+/// Arms a fate for the opening of its bridge.
+fn arm_fate(fate: &mut Box<dyn Fate>, plan: &[Verdict]) -> Result<(), NoMemory>
+    requires low { left fate.old < 2 ^ 56 }
+    requires plan { length plan.now ≤ 60000 }
+    ensures { OnOk result (left fate.new < 2 ^ 56 + length plan.now) }
+{
+    fate.arm(plan)
+}
+
+/// Puts a fate that is armed for the opening of its bridge behind those of the bridges before it.
 fn arm_one(
     fates: &mut Vec<Box<dyn Fate>>,
     fate: Box<dyn Fate>,
@@ -223,7 +232,7 @@ fn arm_one(
         → AreEach (λ b r f. left f < 2 ^ 56 + length r.fate) (rs ++ r ∷ []) fates.new.items) }
 {
     let mut fate = fate;
-    fate.arm(plan)?;
+    arm_fate(&mut fate, plan)?;
     fates.push(fate)?;
     Ok(())
 }
