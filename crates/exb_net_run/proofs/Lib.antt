@@ -22,12 +22,10 @@ pub mod Ends
 pub mod Reading
 pub mod Prepared
 pub mod Opened
-<<<<<<< HEAD
 pub mod Into
 pub mod Wholly
-=======
+pub mod Asked
 pub mod Arming
 pub mod Reopened
 pub mod Programmed
 pub mod Starting
->>>>>>> 840adc080ee28f5c12bc68d24a39f375aab4d022
