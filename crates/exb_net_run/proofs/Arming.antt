@@ -1,9 +1,8 @@
 -- A fate for each bridge, one after another.
-use Rattle.std.proofs.Common.{◌≡◌, ℕ, ◌+◌, ◌<◌, ◌≤◌, ◌*◌, ◌^◌, ◌++◌, List, [], ◌∷◌, length, get_or, drop, take, map, length-append, length-drop, refl, ap, sym, ◌∙◌, subst, arith, inl, inr}
+use Rattle.std.proofs.Common.{◌≡◌, ℕ, zero, suc, ◌+◌, ◌-◌, ◌<◌, ◌≤◌, ◌*◌, ◌^◌, ◌++◌, List, [], ◌∷◌, length, get_or, drop, take, map, length-append, length-drop, refl, ap, sym, ◌∙◌, subst, arith, inl, inr}
 use Rattle.std.specs.Prelude.{All, Some, remove, slice_get}
 use Rattle.std.proofs.lemmas.Bool.{cases_eq}
-use Rattle.std.proofs.lemmas.List.{drop_more, get_or-drop, take_more}
-use Rattle.std.proofs.lemmas.List.Elements.{All-map}
+use Rattle.std.proofs.lemmas.List.{drop_more, get_or-drop, take_all, take_more}
 use Rattle.std.proofs.lemmas.Option.{none-some, same_Some, slice_get_within}
 use Rattle.exb_topology.specs.Sound.{IsSound}
 use Rattle.exb_net_file.specs.declared.apart.NetRest.{NetRest}
@@ -56,11 +55,6 @@ module _ {A : Type 0} (xs : List A) (i : ℕ) (low : i < length xs) where
   pub front_is : (x : A) → x ≡ get_or xs i x → take (i + 1) xs ≡ take i xs ++ x ∷ []
   front_is x is = take_more xs i x low ∙ ap (λ (z : A). take i xs ++ z ∷ []) (sym is)
 
--- a list is its first element and the others
-pub first_and : {A : Type 0} (xs : List A) (x : A) → 0 < length xs → x ≡ get_or xs 0 x → x ∷ drop 1 xs ≡ xs
-first_and [] x low is = absurd (omega (arith, low))
-first_and (y ∷ ys) x low is = ap (λ (z : A). z ∷ ys) is
-
 -- the first is the front of one
 none_taken : {A : Type 0} (xs : List A) → take 0 xs ≡ []
 none_taken [] = refl
@@ -70,23 +64,25 @@ pub first_taken : {A : Type 0} (xs : List A) (x : A) → 1 ≤ length xs → x �
 first_taken [] x low is = absurd (omega (arith, low))
 first_taken {A} (y ∷ ys) x low is = ap (λ (z : A). z ∷ []) is ∙ ap (λ (zs : List A). y ∷ zs) (sym (none_taken ys))
 
--- one of the others
-pub other_is : {A : Type 0} (xs : List A) (i : ℕ) (x : A) → x ≡ get_or (drop 1 xs) i x → x ≡ get_or xs (i + 1) x
-other_is xs i x is = is ∙ (get_or-drop 1 xs i x ∙ ap (λ (k : ℕ). get_or xs k x) (same i))
+-- the others
+others_are : {A : Type 0} (xs : List A) → take (length xs - 1) (drop 1 xs) ≡ drop 1 xs
+others_are xs = take_all (length xs - 1) (drop 1 xs) (let size = length-drop 1 xs in omega (arith, size))
+
+pub other_is : {A : Type 0} (xs : List A) (i : ℕ) (x : A) → x ≡ get_or (take (length xs - 1) (drop 1 xs)) i x → x ≡ get_or xs (i + 1) x
+other_is xs i x is = is ∙ (ap (λ (ys : List _). get_or ys i x) (others_are xs) ∙ (get_or-drop 1 xs i x ∙ ap (λ (k : ℕ). get_or xs k x) (same i)))
   where
     same : (k : ℕ) → 1 + k ≡ k + 1
     same k = omega arith
 
-pub other_low : {A : Type 0} (xs : List A) (i : ℕ) → i < length (drop 1 xs) → i + 1 < length xs
-other_low xs i low = let size = length-drop 1 xs in omega (arith, low, size)
+pub other_low : {A : Type 0} (xs : List A) (i : ℕ) → i < length (take (length xs - 1) (drop 1 xs)) → i + 1 < length xs
+other_low xs i low = let size = length-drop 1 xs in let same = ap (λ (ys : List _). length ys) (others_are xs) in omega (arith, low, size, same)
 
 -- ---- letters of fates
 -- a sound topology has few
 pub rests_few : (ms : List NetMember) → All (λ (m : NetMember). IsSound m.topology) ms → All (λ (r : NetRest). length r.fate ≤ 60000) (map rest_of ms)
-rests_few ms sound = All-map (λ (r : NetRest). length r.fate ≤ 60000) rest_of ms (λ k d low. few (sound k d low))
-  where
-    few : {m : NetMember} → IsSound m.topology → length m.topology.fate ≤ 60000
-    few sound = let letters = sound.few_letters in omega (arith, letters)
+rests_few [] sound k d low = absurd (omega (arith, low))
+rests_few (m ∷ ms) sound zero d low = (let letters = (sound 0 m (omega arith)).few_letters in omega (arith, letters))
+rests_few (m ∷ ms) sound (suc k) d low = rests_few ms (λ j e under. sound (suc j) e (omega (arith, under))) k d (omega (arith, low))
 
 -- fates that are armed for their opening are within what a world takes
 pub armed_few : {F : Type 0} (left : F → ℕ) (rests : List NetRest) (fates : List F) → All (λ (r : NetRest). length r.fate ≤ 60000) rests → AreEach (λ b (r : NetRest) f. left f < 2 ^ 56 + length r.fate) rests fates → All (λ f. left f < 2 ^ 57) fates

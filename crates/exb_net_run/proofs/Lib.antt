@@ -29,3 +29,5 @@ pub mod Arming
 pub mod Reopened
 pub mod Programmed
 pub mod Starting
+pub mod Leading
+pub mod Openings

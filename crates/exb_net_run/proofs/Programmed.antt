@@ -305,6 +305,10 @@ module _ (tells : Type 0) (ms : List NetMember) (ws : List Wire) (rests : List N
         named = subst (λ (r : NetRest). is_named r.captures q ≡ true) rest named;
       }
 
+-- from which second they count
+pub starts_at : (start : ℕ) (rests : List NetRest) (checked : List (Vec Checked Global)) (ps : List Programme) → AreReopened start rests checked ps → (b : ℕ) (p : Programme) → slice_get ps b ≡ Some p → p.start ≡ start
+starts_at start rests checked ps all b p is = (reopened_at start rests checked ps b p all is).reopened.start_is
+
 -- the commands lie where they are
 pub of_rests : (start : ℕ) (rests : List NetRest) (checked : List (Vec Checked Global)) (ps : List Programme) → AreReopened start rests checked ps → AreOfRests rests ps
 of_rests start rests checked ps all = record {

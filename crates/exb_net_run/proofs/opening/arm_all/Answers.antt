@@ -10,7 +10,7 @@ loop-rest-init g c =
     record {
       left = refl;
       each = subst (λ zs. AreEach (λ b r f. (goal.Fate-dyn g (f.vtable, f.value)).left f.value < 2 ^ 56 + length r.fate) zs c.arm_one.new.fates.items) (first_taken c.args.rests.now r c.requires.some c.index-rests-0.is)
-          (c.in_ok-arm_one.ensures [] r (sym c.as_slice.ensures) (no_pairs (λ b r f. (goal.Fate-dyn g (f.vtable, f.value)).left f.value < 2 ^ 56 + length r.fate) c.new-fates.result.items c.new-fates.ensures.items));
+          (c.in_ok-arm_one.ensures [] r (ap (λ (x : NetRest). x.fate) c.index-rests-0.is ∙ sym c.as_slice.ensures) (no_pairs (λ b r f. (goal.Fate-dyn g (f.vtable, f.value)).left f.value < 2 ^ 56 + length r.fate) c.new-fates.result.items c.new-fates.ensures.items));
     }
 
 pub arm_one-requires-in-loop-rest-clause-plan : goal.arm_one-requires-in-loop-rest-clause-plan
