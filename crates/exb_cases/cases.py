@@ -1,5 +1,6 @@
 #!/usr/bin/env python3
-"""Writes the folder data/ and the file stdout of this crate: topologies, captures, and what a run of each must answer and write.
+"""Writes the folder data/ and the file stdout of this crate: topologies, captures, and what a run of each must answer and write; and the
+folder nets/ (net_cases.py), of nets of several bridges.
 
 The expected files come from what is said here of each case, which frames leave which port and when, and never from exbr. Beside
 them stand a plain bridge (bridge.py), which has to come to the same in each case that is played to its end, and which alone says
@@ -18,10 +19,12 @@ HERE = os.path.dirname(os.path.abspath(__file__))
 sys.path.insert(0, HERE)
 import audits
 import bridge
+import campuses
 import changes
 import examples
 import fates
 import generated
+import net_cases
 import pcapng
 import seeds
 import stepped
@@ -344,6 +347,8 @@ def main():
                  *words.PARTS, *pcapng.PARTS, *audits.PARTS, faults, outputs_that_are_read):
         part(cases)
     cases.write()
+    campuses.make()
+    print(f"{net_cases.make()} cases of nets")
 
 
 main()

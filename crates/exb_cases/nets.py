@@ -96,16 +96,22 @@ def written(name, this):
     return files
 
 
-def run(text, files):
-    """Plays a net with files: the files that are written by their names, and the summary."""
-    net = Net(text, files)
+def played(text, files, player=Net):
+    """Plays a net with files: the net, the files that are written by their names, and the summary."""
+    net = player(text, files)
     records = [{port: bridge.records_of(files[name]) for port, name in this.captures.items()} for this in net.bridges]
     net.play(records)
-    alone(net, records)
     out = {}
     for name, this in zip(net.names, net.bridges):
         out |= written(name, this)
-    return out, net.summary()
+    return net, out, net.summary()
+
+
+def run(text, files):
+    """The files that are written and the summary of a net, in which each bridge alone does the same."""
+    net, out, summary = played(text, files)
+    alone(net, [{port: bridge.records_of(files[name]) for port, name in this.captures.items()} for this in net.bridges])
+    return out, summary
 
 
 def alone(net, records):
@@ -121,6 +127,22 @@ def alone(net, records):
 # ---- random nets
 
 WORDS = ("a", "b", "c", "core", "east", "west", "lab", "x1", "0", "roof", "cellar", "yard", "dock", "north", "south", "hall")
+
+
+def in_nanoseconds(records):
+    """A classic capture, big-endian and in nanoseconds."""
+    return struct.pack(">IHHIIII", 0xA1B23C4D, 2, 4, 0, 0, 65535, 1) + b"".join(
+        struct.pack(">IIII", *divmod(moment, SECOND), len(frame), len(frame)) + frame for moment, frame in records)
+
+
+def in_blocks(records):
+    """A pcapng in nanoseconds."""
+    def block(kind, content):
+        return struct.pack("<II", kind, len(content) + 12) + content + struct.pack("<I", len(content) + 12)
+
+    head = block(0x0A0D0D0A, struct.pack("<IHHq", 0x1A2B3C4D, 1, 0, -1)) + block(1, struct.pack("<HHIHHBxxxHH", 1, 0, 262_144, 9, 1, 9, 0, 0))
+    return head + b"".join(block(6, struct.pack("<IIIII", 0, moment >> 32, moment & 0xFFFF_FFFF, len(frame), len(frame)) + frame.ljust(-(-len(frame) // 4) * 4, b"\0"))
+                           for moment, frame in records)
 
 
 class Draw:
@@ -175,6 +197,8 @@ class Draw:
         lines = ["[bridge]", f"ports = {ports}", f"ageing = {r.choice((0, 10, 10, 30, 300))}"]
         if r.random() < 0.15:
             lines.append(f"groups = {r.randint(1, 6)}")
+        if extenders and r.random() < 0.15:
+            lines.append(f"channels = {len(extenders) + r.randint(0, 4)}")
         if r.random() < 0.3:
             lines += ["[links]", f'fate = "{self.fate()}"']
         for number, on, width in extenders:
@@ -208,6 +232,7 @@ class Draw:
                 f'op = "unmember"\nvid = {vid}\nport = "{port}"', f'op = "isolate"\nport = "{port}"\nisolated = true',
                 f'op = "vlan"\nvid = {vid}\nuntagged = {self.list_of(external, 0.7)}', f'op = "filter"\nport = "{port}"\nfilter = true',
                 f'op = "static"\nvid = {vid}\nmac = "{self.address(":")}"\nports = {self.list_of(external, 0.5)}',
+                f'op = "unstatic"\nvid = {vid}\nmac = "{self.address()}"', f'op = "accept"\nport = "{port}"\naccept = "{r.choice(("all", "tagged", "untagged"))}"',
             ))
             lines += ["[[command]]", f"at = {second}", said] + ([f'fate = "{self.fate()}"'] if r.random() < 0.3 else [])
         return lines
@@ -216,14 +241,14 @@ class Draw:
         r = self.random
         to = bytes.fromhex("ff" * 6) if r.random() < 0.3 else bytes.fromhex(self.address("")) if r.random() < 0.95 else bytes.fromhex("0180c200000e")
         tag = b"" if r.random() < 0.6 else struct.pack(">HH", 0x8100, r.randint(0, 7) << 13 | r.choice((0, 1, 2, 3, 3, 4095)))
-        return (to + bytes.fromhex(self.address("")) + tag + b"\x08\x00" + bytes(r.choice((0, 10, 46, 46, 46, 1500))))[: r.choice((13, *[9999] * 30))]
+        return (to + bytes.fromhex(self.address("")) + tag + b"\x08\x00" + bytes(r.choice((0, 10, 46, 46, 46, 46, 1500, 9202, 9198, 9203))))[: r.choice((13, *[9999] * 30))]
 
     def capture(self, name):
         r, records, moment = self.random, [], 100 * SECOND + self.random.randint(0, 20) * SECOND // 4
         for _ in range(r.choice((0, 1, 3, 8, 20))):
             records.append((moment, self.frame()))
-            moment = max(0, moment + r.choice((0, 0, 1000, 250_000_000, SECOND, 12 * SECOND, -1000)))
-        self.files[f"{name}.pcap"] = bridge.capture_of(records)
+            moment = max(0, moment + r.choice((0, 0, 1, 1000, 250_000_000, SECOND, 12 * SECOND, -1000)))
+        self.files[f"{name}.pcap"] = r.choice((bridge.capture_of, bridge.capture_of, in_nanoseconds, in_blocks))(records)
         return f"{name}.pcap"
 
     def text(self):

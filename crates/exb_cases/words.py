@@ -7,7 +7,7 @@ from world.schedule import play, summary as summary_of
 
 A = {"x1.1": "a.pcap"}
 TWO_PORTS = one_extender(2, A)
-USAGE = "exbr: usage: exbr run TOPOLOGY [--trace] [--counters] [--seed N] | exbr check TOPOLOGY | exbr make N | exbr audit TOPOLOGY"
+USAGE = "exbr: usage: exbr run TOPOLOGY [--trace] [--counters] [--seed N] | exbr check TOPOLOGY | exbr make N | exbr audit TOPOLOGY | exbr net FILE [--counters]"
 
 REFUSED = {
     "no-words": "",

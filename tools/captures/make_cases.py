@@ -52,10 +52,10 @@ def simple(length, size="14000000", frame="08090A0B"):
     return f"03000000 {size} {length} {frame} {size}"
 
 
-BLOCKS = [
+# What stands behind the header, by what a row is about.
+SIZES = [
     "",
     "01",
-    # sizes
     "05000000 08000000 00000000",
     "05000000 0D000000 00000000 00",
     "05000000 00000000 00000000",
@@ -74,7 +74,9 @@ BLOCKS = [
     "06000000 0C000000 0D000000",
     "05000000 0C000000 0D000000",
     "0A0D0D0A 0C000000 4D3C2B1A",
-    # section headers
+]
+
+SECTIONS = [
     "0A0D0D0A 1C000000 4D3C2B1B 01000000 8xFF 1C000000",
     "0A0D0D0A 10000000 4D3C2B1A 10000000",
     "0A0D0D0A 18000000 4D3C2B1A 01000000 00000000 18000000",
@@ -83,7 +85,9 @@ BLOCKS = [
     "0A0D0D0A 20000000 4D3C2B1A 01000000 8xFF 00000000 20000000",
     ETHERNET + " " + HEAD + " " + packet(),
     ETHERNET + " " + BIG + " 00000001 00000014 00010000 00000000 00000014 00000006 00000024 00000000 00000000 00000007 00000001 00000001 AA000000 00000024",
-    # interfaces
+]
+
+INTERFACES = [
     "01000000 10000000 01000000 10000000",
     interface("00000000"),
     interface("0000FFFF"),
@@ -102,7 +106,9 @@ BLOCKS = [
     interface("09000100 0A000000 02000100"),
     interface("00000000 09000100 0A000000") + " " + packet(),
     interface(link="6900"),
-    # enhanced packets
+]
+
+ENHANCED = [
     packet(),
     ETHERNET + " " + packet(),
     ETHERNET + " " + packet(interface="01000000"),
@@ -117,13 +123,18 @@ BLOCKS = [
     interface("09000100 09000000") + " " + packet(high="00CA9A3B", low="00000000"),
     interface("09000100 00000000") + " " + packet(low="FFFFFFFF"),
     interface("09000100 00000000") + " " + packet(high="01000000"),
+]
+
+STORED = [
     ETHERNET + " " + packet(stored="05000000"),
     ETHERNET + " " + packet(stored="01000000"),
     ETHERNET + " " + packet(stored="01000400"),
     ETHERNET + " " + packet(stored="FFFFFFFF"),
     ETHERNET + " " + packet(stored="00000000", size="20000000", frame=""),
     ETHERNET + " " + packet(size="2C000000", frame="08090A0B 01000400"),
-    # simple packets
+]
+
+SIMPLE = [
     simple("04000000"),
     ETHERNET + " 03000000 0C000000 0C000000",
     ETHERNET + " " + simple("04000000"),
@@ -134,7 +145,10 @@ BLOCKS = [
     interface(snap="02000000") + " " + simple("FFFFFFFF"),
     interface(snap="FFFFFFFF") + " " + simple("03000000"),
     ETHERNET + " " + packet() + " " + simple("04000000") + " " + HEAD + " " + ETHERNET + " " + simple("02000000"),
-    # blocks that are skipped: name resolution, statistics, comments of a custom block, and one without content
+]
+
+# Name resolution, statistics, comments of a custom block, and one without content.
+SKIPPED = [
     ETHERNET + " 04000000 14000000 00000000 00000000 14000000 05000000 10000000 00000000 10000000 AD0B0000 10000000 01020304 10000000 " + packet(),
     "05000000 0C000000 FFFFFFFF " + ETHERNET + " " + packet(),
     "02000000 0C000000 0C000000",
@@ -173,6 +187,23 @@ def table(name, entries):
     return "\n".join(lines) + "\n];\n"
 
 
+def judged(name, head, rows):
+    """The table of these blocks behind a header."""
+    return table(name, [(blocks, told(bytes_of(head + " " + blocks))) for blocks in rows])
+
+
+# A table and a test for each, since a table's proof grows faster than its text.
+TABLES = [
+    ("SIZES", "Sizes, and what isn't all there", SIZES),
+    ("SECTIONS", "Section headers", SECTIONS),
+    ("INTERFACES", "Interfaces", INTERFACES),
+    ("ENHANCED", "Enhanced packets with their interfaces and times", ENHANCED),
+    ("STORED", "Enhanced packets by what is stored of them", STORED),
+    ("SIMPLE", "Simple packets", SIMPLE),
+    ("SKIPPED", "Blocks that are skipped", SKIPPED),
+]
+
+
 def main():
     row = bytes_of(ROW)
     parts = [
@@ -180,10 +211,9 @@ def main():
         f"/// A section header, little-endian.\npub(super) const HEAD: &str = \"{HEAD}\";\n",
         f"/// The same, big-endian.\npub(super) const BIG_HEAD: &str = \"{BIG}\";\n",
         f"/// One frame of 60 bytes at 100 seconds: 140 bytes.\npub(crate) const ROW: &str =\n    \"{ROW}\";\n",
-        "/// What stands behind the header, and what is read.\n"
-        + table("BLOCKS", [(blocks, told(bytes_of(HEAD + " " + blocks))) for blocks in BLOCKS]),
-        "/// A time of 5 in each unit.\n" + table("LITTLE", [(blocks, told(bytes_of(HEAD + " " + blocks))) for blocks in UNITS]),
-        "/// The same behind the big-endian header.\n" + table("TWINS", [(blocks, told(bytes_of(BIG + " " + blocks))) for blocks in BIG_BLOCKS]),
+        *(f"/// {about}: what stands behind the header, and what is read.\n" + judged(name, HEAD, rows) for name, about, rows in TABLES),
+        "/// A time of 5 in each unit.\n" + judged("LITTLE", HEAD, UNITS),
+        "/// The same behind the big-endian header.\n" + judged("TWINS", BIG, BIG_BLOCKS),
         "/// A length to which the row's file is cut, and what is answered before the end.\n"
         + f"pub(super) const FRONTS: [(usize, &str); {len(range(0, 141, 4))}] = [\n"
         + "".join(f'    ({place}, "{front(row, place)}"),\n' for place in range(0, 141, 4))

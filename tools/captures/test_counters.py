@@ -13,6 +13,7 @@ import unittest
 TOP = pathlib.Path(__file__).resolve().parent.parent.parent
 PROGRAM = os.environ.get("EXBR_PROGRAM") or str(TOP / "dist/exbr")
 EXAMPLES = sorted(it.parent.name for it in (TOP / "examples").glob("*/topology.toml"))
+NETS = sorted(it.parent.name for it in (TOP / "examples").glob("*/net.toml"))
 LINE = re.compile(r"(\S+) relayed \d+ dropped \d+ ignored \d+ left (\d+) octets (\d+)")
 STATISTICS = re.compile(r"\| *[\d.]+ <> +(?:[\d.]+|Dur) *\| *(\d+) *\| *(\d+) *\|")
 
@@ -28,21 +29,27 @@ def said(folder, *words):
 @unittest.skipUnless(shutil.which("capinfos") and shutil.which("tshark"), "no tshark and capinfos")
 class Counters(unittest.TestCase):
     def played(self, name, room):
-        """The counters of an example: frames and octets that left, by port."""
+        """The counters of an example: frames and octets that left, by output file."""
         folder = os.path.join(room, name)
         shutil.copytree(TOP / "examples" / name, folder, ignore=shutil.ignore_patterns("expected", "out-*"))
-        said(folder, PROGRAM, "run", "topology.toml", "--counters")
-        lines = (pathlib.Path(folder) / "out-counters.txt").read_text().splitlines()
-        return folder, {port: (int(left), int(octets)) for port, left, octets in (LINE.fullmatch(line).groups() for line in lines)}
+        said(folder, PROGRAM, *(["net", "net.toml"] if name in NETS else ["run", "topology.toml"]), "--counters")
+        found = {}
+        for file in sorted(pathlib.Path(folder).glob("*-counters.txt")):
+            for port, left, octets in (LINE.fullmatch(line).groups() for line in file.read_text().splitlines()):
+                found[file.name.replace("counters.txt", f"{port}.pcap")] = (int(left), int(octets))
+        return folder, found
+
+    def knows_nets(self):
+        return "exbr net " in subprocess.run([PROGRAM], capture_output=True, text=True, check=False).stdout
 
     def test_each_example(self):
         seen = 0
         with tempfile.TemporaryDirectory(prefix="exbr-counters-") as room:
-            for name in EXAMPLES:
+            for name in EXAMPLES + (NETS if self.knows_nets() else []):
                 folder, counters = self.played(name, room)
-                for port, counted in counters.items():
-                    with self.subTest(example=name, port=port):
-                        file = f"out-{port}.pcap"
+                self.assertTrue(counters)
+                for file, counted in counters.items():
+                    with self.subTest(example=name, file=file):
                         _, frames, octets = said(folder, "capinfos", "-T", "-r", "-m", "-M", "-c", "-d", file).strip().split(",")
                         self.assertEqual((int(frames), int(octets)), counted)
                         rows = STATISTICS.findall(said(folder, "tshark", "-r", file, "-q", "-z", "io,stat,0"))

@@ -6,12 +6,12 @@ import subprocess
 import sys
 import tempfile
 
-from .program import TOP, play
+from .program import TOP, knows, play
 from .tests import Skip, Test
 
 # A command that a page shows is run where it is one of these, in a copy of the examples.
 OURS = re.compile(r"(?:cd examples/\S+ && )?(?:\.\./\.\./(?:exbr|tools/\S+\.py)|sed|cp|cat|head|grep|diff|cmp) ")
-PAGES = ["README.md", "docs/QUICKSTART.md", "docs/TRACE.md"]
+PAGES = ["README.md", "docs/QUICKSTART.md", "docs/TRACE.md", "docs/net.md"]
 
 
 def text(path):
@@ -75,6 +75,9 @@ def fits(printed, lines):
 
 def shown(program, page):
     """Runs a page's commands in a copy of the examples, and holds what they print to what the page says."""
+    for word in re.findall(r"/exbr (net) ", "\n".join(command for command, _ in blocks(page))):
+        if not knows(program, word):
+            raise Skip(f"this program's usage line has no word {word!r}")
     with tempfile.TemporaryDirectory(prefix="exbr-page-") as room:
         shutil.copytree(f"{TOP}/examples", f"{room}/examples", ignore=shutil.ignore_patterns("out-*"))
         for name in ("tools", "crates"):

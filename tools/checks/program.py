@@ -13,12 +13,12 @@ DATA = os.path.join(TOP, "crates/exb_cases/data")
 SECONDS = 60
 
 
-def play(program, words, folder):
+def play(program, words, folder, seconds=SECONDS):
     """Runs the program there. Its status, what it printed, and what it said on standard error."""
     try:
-        ran = subprocess.run([program, *words], cwd=folder, stdin=subprocess.DEVNULL, capture_output=True, timeout=SECONDS)
+        ran = subprocess.run([program, *words], cwd=folder, stdin=subprocess.DEVNULL, capture_output=True, timeout=seconds)
     except subprocess.TimeoutExpired:
-        raise AssertionError(f"exbr {' '.join(words)} had not ended after {SECONDS} seconds") from None
+        raise AssertionError(f"exbr {' '.join(words)} had not ended after {seconds} seconds") from None
     return ran.returncode, ran.stdout.decode(errors="replace"), ran.stderr.decode(errors="replace")
 
 
@@ -97,14 +97,21 @@ def cases(program):
 
 def words_of(page):
     """The words of the run that an example's page shows."""
-    found = re.search(r"\.\./exbr (run [^\n`|&]*)", page)
+    found = re.search(r"\.\./exbr ((?:run|net) [^\n`|&]*)", page)
     return found[1].split() if found else ["run", "topology.toml"]
+
+
+def knows(program, word):
+    """Whether the usage line of the program has a word."""
+    return f"exbr {word} " in play(program, [], TOP)[1]
 
 
 def example(program, folder):
     """A run as the example's page shows it: the files of expected/ and no others, and a line that the page has."""
     with open(f"{folder}/README.md", encoding="utf-8") as it:
         page = it.read()
+    if not knows(program, words_of(page)[0]):
+        raise Skip(f"this program's usage line has no word {words_of(page)[0]!r}")
     wanted = files_below(f"{folder}/expected")
     with tempfile.TemporaryDirectory(prefix="exbr-example-") as room:
         shutil.copytree(folder, f"{room}/it", ignore=shutil.ignore_patterns("expected", "out-*"))
@@ -123,7 +130,7 @@ def example(program, folder):
 def examples(program):
     found = []
     for at, folders, names in sorted(os.walk(f"{TOP}/examples")):
-        if "expected" in folders and "topology.toml" in names and "README.md" in names:
+        if "expected" in folders and {"topology.toml", "net.toml"}.intersection(names) and "README.md" in names:
             found.append(Test("examples", os.path.relpath(at, TOP), lambda at=at: example(program, at)))
     return found
 

@@ -25,22 +25,32 @@ _exbr_topologies() {
     return 0
 }
 
+# Those of these options that fit a word which begins as one, and else topologies and files of nets.
+_exbr_options_or_topologies() {
+    case $1 in
+    -*) COMPREPLY=($(compgen -W "$2" -- "$1")) ;;
+    *) _exbr_topologies "$1" ;;
+    esac
+}
+
 _exbr() {
     local word=${COMP_WORDS[COMP_CWORD]} before=${COMP_WORDS[COMP_CWORD - 1]} options=
     COMPREPLY=()
     if [ "$COMP_CWORD" -eq 1 ]; then
-        COMPREPLY=($(compgen -W "run check make audit" -- "$word"))
+        COMPREPLY=($(compgen -W "run check make audit net" -- "$word"))
         return 0
     fi
     case ${COMP_WORDS[1]} in
     run)
         [ "$before" = --seed ] && return 0
         _exbr_has --trace || options="--trace"
+        _exbr_has --counters || options="$options --counters"
         _exbr_has --seed || options="$options --seed"
-        case $word in
-        -*) COMPREPLY=($(compgen -W "$options" -- "$word")) ;;
-        *) _exbr_topologies "$word" ;;
-        esac
+        _exbr_options_or_topologies "$word" "$options"
+        ;;
+    net)
+        _exbr_has --counters || options="--counters"
+        _exbr_options_or_topologies "$word" "$options"
         ;;
     check | audit) _exbr_topologies "$word" ;;
     esac

@@ -38,7 +38,7 @@ class Place:
         shutil.copy(program, self.program)
         os.chmod(self.program, 0o755)
         os.chmod(room, 0o755)
-        self.inputs = {name: Input({"t.toml": text.encode(), **captures}, ["run", "t.toml", *words]) for name, words, text, captures in RUNS}
+        self.inputs = {name: Input(files, words) for name, words, files in RUNS}
         text = "bridge.ports = 3\n[captures]\nb1 = 'a.pcap'\n"
         self.inputs["middling"] = Input({"t.toml": text.encode(), "a.pcap": frames(400, 1000)}, ["run", "t.toml"])
         self.inputs["longest"] = Input({"t.toml": text.encode(), "a.pcap": frames(1_000_000)}, ["run", "t.toml"])

@@ -1,11 +1,11 @@
 #!/usr/bin/env python3
-"""Has the program play three whole runs again and again, and refuses it memory: each time it asks, that time alone, and then that
+"""Has the program play four whole runs again and again, and refuses it memory: each time it asks, that time alone, and then that
 time and all later ones. Each run has to end with status 1, or with 0 where it could do without; to print the line of its status,
 or a front of it; and to leave each of its output files absent, as it was, or a front of what it holds where nothing is refused.
 
     tools/hostile/refused_memory.py [--program FILE] [RUN ..]
 
-The program is crates/exbr/out/exbr, as ./exbr builds it, and the runs are bare, tree and lossy. It needs gcc or clang and the
+The program is crates/exbr/out/exbr, as ./exbr builds it, and the runs are bare, tree, lossy and net. It needs gcc or clang and the
 GNU C library. In the second series the output files are there before each run, with other texts.
 """
 import os
@@ -49,11 +49,11 @@ def held(folder):
 class Run:
     """A run in a folder of its own, with what it prints and writes where nothing is refused."""
 
-    def __init__(self, program, library, folder, words, topology, captures):
-        self.program, self.words = program, ["run", "t.toml", *words]
+    def __init__(self, program, library, folder, words, files):
+        self.program, self.words = program, words
         self.folder, self.count = os.path.join(folder, "run"), os.path.join(folder, "count")
         self.environment = {"LD_PRELOAD": library, "REFUSE_COUNT": self.count}
-        self.given = {"t.toml": topology.encode(), **captures}
+        self.given = files
         self.whole = {}
         status, self.summary, files = self.play(0, False, {})
         if status != 0:
@@ -107,10 +107,10 @@ def main(words):
         program, words = os.path.abspath(words[1]), words[2:]
     with tempfile.TemporaryDirectory() as folder:
         library = built(folder)
-        for name, options, topology, captures in RUNS:
+        for name, its, files in RUNS:
             if words and name not in words:
                 continue
-            run = Run(program, library, folder, options, topology, captures)
+            run = Run(program, library, folder, its, files)
             for rest in (False, True):
                 start = time.monotonic()
                 statuses = run.series(rest)

@@ -1,5 +1,5 @@
-"""Three whole runs, by their files: a bridge alone, a tree with commands, and a lossy tree in a drawn order with a trace. They are
-those of which the tests of `exb_trials` disturb each call."""
+"""Four whole runs, by their files: a bridge alone, a tree with commands, and a lossy tree in a drawn order with a trace, which are
+those of which the tests of `exb_trials` disturb each call; and a net of two bridges with commands and lossy links."""
 import struct
 
 BROADCAST, FIRST, SECOND = (bytes.fromhex(digits) for digits in ("ff" * 6, "020000000001", "020000000002"))
@@ -39,9 +39,20 @@ IN_A_TREE = {
 }
 ALONE = {"a.pcap": capture((100, BROADCAST + FIRST + PLAIN)), "b.pcap": capture((101, FIRST + SECOND + PLAIN))}
 
-# The name of each run, its words behind the topology, the topology, and its captures.
+NET = """bridge = [{name = 'a', topology = 'a.toml'}, {name = 'b', topology = 'b.toml'}]
+wire = [{a = 'a:b2', b = 'b:x1.2'}]
+"""
+OF_THE_NET = {
+    "net.toml": NET.encode(),
+    "a.toml": (TREE.replace(", 'b2' = 'b.pcap'", "").replace(", b2 = 'b.pcap'", "") + FATED).encode(),
+    "b.toml": b"bridge.ports = 2\nextender = [{number = 1, on = 'b1', ports = 2}]\ncommand = [{at = 1, op = 'isolate', port = 'b2', isolated = true}]\ncaptures.b2 = 'b.pcap'\n",
+    **IN_A_TREE,
+}
+
+# The name of each run, its words, and its files.
 RUNS = [
-    ("bare", [], "bridge.ports = 3\n[captures]\nb1 = 'a.pcap'\nb2 = 'b.pcap'\n", ALONE),
-    ("tree", [], TREE + COMMANDS, IN_A_TREE),
-    ("lossy", ["--trace", "--seed", "5"], TREE + FATED, IN_A_TREE),
+    ("bare", ["run", "t.toml"], {"t.toml": b"bridge.ports = 3\n[captures]\nb1 = 'a.pcap'\nb2 = 'b.pcap'\n", **ALONE}),
+    ("tree", ["run", "t.toml"], {"t.toml": (TREE + COMMANDS).encode(), **IN_A_TREE}),
+    ("lossy", ["run", "t.toml", "--trace", "--seed", "5"], {"t.toml": (TREE + FATED).encode(), **IN_A_TREE}),
+    ("net", ["net", "net.toml", "--counters"], OF_THE_NET),
 ]

@@ -3,12 +3,12 @@
 
     tools/hostile/soak.py [--program FILE] [--seconds N] [--seed N] [--room FOLDER] [--quiet]
 
-Each input is drawn as those of crates/exb_cases are: any tree, rules, commands and frames, often with fates, a seed or a trace. Its run
+Each input is drawn as those of crates/exb_cases are: any tree, rules, commands and frames, often with fates, a seed or a trace; or a net of them. Its run
 without a fault must come to what the plain bridge and the tree over links in Python come to. Then it is played again under some
 faults: memory, files, disk or processor time come to an end, a call of the system fails or does a part of its work, a signal
 comes, standard output is full or closed, an output or a capture is no file or leads elsewhere. Each has to end with a status that
 fits, leave what it read as it was, and each output absent, as it was, or a front of what it holds without a fault; and the next
-run has to be whole. Where the program offers audit and counters they are played too.
+run has to be whole. Audits, counters and nets are played where the program offers them.
 
 The same seed draws the same inputs and faults. What can't be done here, without root or a C compiler, is not drawn, and the summary
 says so. The last line is `soak: N runs of M inputs, 0 unexplained`; the status is 0 where none is, 1 where one is, with how to play
@@ -32,6 +32,7 @@ CASES = os.path.join(os.path.dirname(os.path.dirname(HERE)), "crates", "exb_case
 sys.path[:0] = [HERE, CASES]
 import bridge
 import generated
+import nets
 from faults_at_ends import Disk, limited
 from folders import BEFORE, Input, Skipped, Wrong, end, held, play, program_of, read, start
 from world.schedule import run as run_world
@@ -47,8 +48,21 @@ class Taken:
         self.topology, self.captures = topology.replace("FOLDER/", ""), captures
 
 
-def drawn(chance, offers_counters):
+def drawn_net(chance):
+    """A net of some bridges, with counters or without. Each run brings all its files to the disk, so they are to be few."""
+    text = ""
+    while not 1 <= text.count("[[bridge]]") <= 3:
+        text, files = nets.drawn(chance.getrandbits(32))
+    whole, line = nets.run(text, files)
+    words = ["net", "net.toml"] + (["--counters"] if chance.random() < 0.5 else [])
+    whole = {name: data for name, data in whole.items() if words[2:] or not name.endswith("counters.txt")}
+    return Input({"net.toml": text.encode(), **files}, words, whole, f"{line}\n".encode())
+
+
+def drawn(chance, offers_counters, offers_nets):
     """An input, and what must come of it. Counters are asked for where the program offers them and the models in Python have them."""
+    if offers_nets and chance.random() < 0.2:
+        return drawn_net(chance), False
     taken = Taken()
     generated.at_random(taken, chance.getrandbits(32), chance.choice([1, 1, 2, 2, 3, 4, 6]), chance.choice([3, 6, 12, 20]))
     text, words = taken.topology, ["run", "t.toml"]
@@ -77,6 +91,7 @@ class Soak:
         self.program, self.room, self.folder = program, room, os.path.join(room, "it")
         usage = subprocess.run([program], capture_output=True, check=False).stdout.decode()
         self.audits, self.offers_counters = "audit" in usage, "--counters" in usage
+        self.offers_nets = "exbr net " in usage
         self.counts, self.statuses = collections.Counter(), collections.Counter()
         self.library = self.built("fail.c")
         self.refuses = self.built("refuse.c")
@@ -228,7 +243,7 @@ class Soak:
     def input(self, number):
         """Plays the input of a number, and the same under some faults."""
         chance = random.Random(number)
-        it, traced = drawn(chance, self.offers_counters)
+        it, traced = drawn(chance, self.offers_counters, self.offers_nets)
         try:
             self.first(it)
             if traced and self.audits:

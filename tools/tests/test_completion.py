@@ -30,7 +30,7 @@ class Bash(unittest.TestCase):
         return sorted(ran.stdout.splitlines())
 
     def test_first_words(self):
-        self.assertEqual(self.completed(""), ["audit", "check", "make", "run"])
+        self.assertEqual(self.completed(""), ["audit", "check", "make", "net", "run"])
         self.assertEqual(self.completed("c"), ["check"])
         self.assertEqual(self.completed("x"), [])
 
@@ -39,11 +39,15 @@ class Bash(unittest.TestCase):
         self.assertEqual(self.completed("run", ""), every)
         self.assertEqual(self.completed("check", "to"), ["topology.toml"])
         self.assertEqual(self.completed("run", "--trace", "t"), ["topology.toml", "two words.toml"])
+        self.assertEqual(self.completed("net", "to"), ["topology.toml"])
         self.assertEqual(self.completed("make", ""), [])
 
     def test_options(self):
-        self.assertEqual(self.completed("run", "-"), ["--seed", "--trace"])
-        self.assertEqual(self.completed("run", "topology.toml", "--trace", "--"), ["--seed"])
+        self.assertEqual(self.completed("run", "-"), ["--counters", "--seed", "--trace"])
+        self.assertEqual(self.completed("run", "topology.toml", "--trace", "--"), ["--counters", "--seed"])
+        self.assertEqual(self.completed("run", "--counters", "-"), ["--seed", "--trace"])
+        self.assertEqual(self.completed("net", "-"), ["--counters"])
+        self.assertEqual(self.completed("net", "--counters", "topology.toml", "-"), [])
         self.assertEqual(self.completed("run", "--seed", ""), [])
         self.assertEqual(self.completed("check", "--"), [])
 

@@ -1,13 +1,13 @@
-"""The plain net in Python, over the worked examples of a net and over random ones."""
+"""The plain net in Python, and the second reader of its file, over the worked examples of a net and over random ones."""
 import os
 import sys
 import unittest
 
 TOP = os.path.dirname(os.path.dirname(os.path.dirname(os.path.abspath(__file__))))
-sys.path[:0] = [os.path.join(TOP, "crates", "exb_cases"), os.path.dirname(os.path.abspath(__file__))]
+sys.path.insert(0, os.path.join(TOP, "crates", "exb_cases"))
 
 import bridge  # noqa: E402
-import campuses_told as campuses  # noqa: E402
+import campuses  # noqa: E402
 import nets  # noqa: E402
 
 TOPOLOGY = '[bridge]\nports = 2\n[[extender]]\nnumber = 1\non = "b1"\nports = 1\n[captures]\n"x1.1" = "%s"\n'
@@ -46,8 +46,8 @@ class Nets(unittest.TestCase):
         """What the plain net comes to is what is told, and what stands in the folder."""
         files, summary = campuses.played()
         given, wanted = campuses.wanted()
-        self.assertEqual({name: data for name, data in files.items() if not name.endswith("counters.txt")}, wanted)
-        self.assertEqual(summary, "arrivals 21 relayed 21 ignored 0 left 30 commits 6 refusals 0")
+        self.assertEqual(files, wanted)
+        self.assertEqual(summary, campuses.SUMMARY)
         for folder, those in ((campuses.FOLDER, given), (os.path.join(campuses.FOLDER, "expected"), wanted)):
             for name, data in those.items():
                 with open(os.path.join(folder, name), "rb") as file:

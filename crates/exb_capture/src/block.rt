@@ -1,6 +1,6 @@
 //! The blocks of a pcapng file, each looked at once.
 ghost use Rattle.std.specs.Prelude.{◌≡◌, ◌≤◌, ◌<◌, ◌*◌, ◌^◌, ◌+◌, ◌-◌, ◌%◌, All, None, length, IfOk};
-ghost use Rattle.exb_capture.specs.Blocks.{new_order, order_at, kind_of, is_read, head_at, padded, is_no_frame, units_at, snapped, digits_at, or_option, or_six, resolution_from, interface_number, section_at, interface_at, enhanced_at, simple_at, content_at, block_at};
+ghost use Rattle.exb_capture.specs.Blocks.{new_order, old_order, order_at, kind_of, is_read, head_at, padded, is_no_frame, units_at, snapped, digits_at, or_option, resolution_from, interface_number, section_at, interface_at, enhanced_at, simple_at, block_at};
 ghost use Rattle.exb_capture.specs.Within.{HasDigits, HasResolution, IsIn, IsHead};
 ghost use Rattle.exb_capture.specs.Fields.{nanoseconds};
 
@@ -11,6 +11,9 @@ use crate::order::{ByteOrder, half_word_at, word_at};
 const SECTION_HEADER: u32 = 0x0A0D_0D0A;
 
 const SECTION_MAGIC: u32 = 0x1A2B_3C4D;
+
+/// The number of an enhanced packet.
+pub(crate) const PACKET: u32 = 6;
 
 const MOST_SIZE: u32 = 327_680;
 
@@ -46,13 +49,6 @@ pub enum Content {
     Packet { moment: u64, from: u32, bytes: u32 },
 }
 
-// The same flaw, so many bytes behind a block's front.
-pub(crate) fn flaw(flaw: Flaw, at: u64) -> Fault
-    ensures { result ≡ record { flaw = flaw; at = at } }
-{
-    Fault { flaw, at }
-}
-
 impl Kind {
     // By the number at a block's front.
     #[inline(always)]
@@ -62,7 +58,7 @@ impl Kind {
         match number {
             SECTION_HEADER => Kind::SectionHeader,
             1 => Kind::InterfaceBlock,
-            6 => Kind::EnhancedPacket,
+            PACKET => Kind::EnhancedPacket,
             3 => Kind::SimplePacket,
             _ => Kind::Other,
         }
@@ -86,34 +82,29 @@ impl Kind {
 // The order of bytes of the section that this header begins.
 #[cold]
 #[inline(never)]
-fn new_order(twelve: &[u8]) -> Result<ByteOrder, Fault>
+fn new_order(twelve: &[u8]) -> Option<ByteOrder>
     requires { 12 ≤ length twelve.now }
-    ensures { result ≡ new_order twelve.now }
+    ensures { old_order result ≡ new_order twelve.now }
 {
     if word_at(ByteOrder::Big, twelve, 8) == SECTION_MAGIC {
-        Ok(ByteOrder::Big)
+        Some(ByteOrder::Big)
     } else if word_at(ByteOrder::Little, twelve, 8) == SECTION_MAGIC {
-        Ok(ByteOrder::Little)
+        Some(ByteOrder::Little)
     } else {
-        Err(flaw(Flaw::Magic, 8))
+        None
     }
 }
 
 // The order of bytes of a block, in a section of this order.
 #[inline(always)]
-fn order_at(old: Option<ByteOrder>, twelve: &[u8]) -> Result<ByteOrder, Fault>
+fn order_at(old: Option<ByteOrder>, twelve: &[u8]) -> Option<ByteOrder>
     requires { 12 ≤ length twelve.now }
-    ensures { result ≡ order_at old twelve.now }
+    ensures { old_order result ≡ order_at old twelve.now }
 {
     if word_at(ByteOrder::Big, twelve, 0) == SECTION_HEADER {
-        return match new_order(twelve) {
-            Ok(order) => Ok(order),
-            Err(fault) => Err(fault),
-        };
-    }
-    match old {
-        Some(order) => Ok(order),
-        None => Err(flaw(Flaw::Magic, 8)),
+        new_order(twelve)
+    } else {
+        old
     }
 }
 
@@ -124,14 +115,13 @@ pub(crate) fn head_of(old: Option<ByteOrder>, twelve: &[u8]) -> Result<Head, Fau
     ensures value { result ≡ head_at old twelve.now }
     ensures sized { IfOk result IsHead }
 {
-    let order = match order_at(old, twelve) {
-        Ok(order) => order,
-        Err(fault) => return Err(fault),
+    let Some(order) = order_at(old, twelve) else {
+        return Err(Fault::new(Flaw::Magic, 8));
     };
     let kind = Kind::of(word_at(order, twelve, 0));
     let size = word_at(order, twelve, 4);
     if size < 12 || size % 4 != 0 || kind.is_read() && size > MOST_SIZE {
-        return Err(flaw(Flaw::Length, 4));
+        return Err(Fault::new(Flaw::Length, 4));
     }
     Ok(Head { order, kind, size })
 }
@@ -170,7 +160,8 @@ fn units(digits: u8) -> u64
         6 => 1_000_000,
         7 => 10_000_000,
         8 => 100_000_000,
-        _ => 1_000_000_000,
+        9 => 1_000_000_000,
+        _ => unreachable!(),
     }
 }
 
@@ -207,10 +198,10 @@ fn section(head: Head, block: &[u8]) -> Result<Content, Fault>
     ensures within { IfOk result (IsIn head.size 0) }
 {
     if head.size < 28 {
-        return Err(flaw(Flaw::Length, 4));
+        return Err(Fault::new(Flaw::Length, 4));
     }
     if half_word_at(head.order, block, 12) != 1 {
-        return Err(flaw(Flaw::Version, 12));
+        return Err(Fault::new(Flaw::Version, 12));
     }
     Ok(Content::NewSection)
 }
@@ -224,7 +215,7 @@ fn digits_at(order: ByteOrder, block: &[u8], at: usize) -> Result<u8, Fault>
     if half_word_at(order, block, at + 2) == 1 && block[at + 4] <= 9 {
         Ok(block[at + 4])
     } else {
-        Err(flaw(Flaw::Resolution, at as u64))
+        Err(Fault::new(Flaw::Resolution, at as u64))
     }
 }
 
@@ -240,27 +231,10 @@ fn or_option(
     ensures value { result ≡ or_option first order at block.now }
     ensures digits { HasDigits result }
 {
-    match first {
-        Some(first) => Some(first),
-        None => {
-            if half_word_at(order, block, at) == 9 {
-                Some(digits_at(order, block, at))
-            } else {
-                None
-            }
-        }
-    }
-}
-
-// What the first option 9 says, or 6 digits.
-fn or_six(first: Option<Result<u8, Fault>>) -> Result<u8, Fault>
-    requires { HasDigits first }
-    ensures value { result ≡ or_six first }
-    ensures digits { IfOk result (λ digits. digits ≤ 9) }
-{
-    match first {
-        Some(first) => first,
-        None => Ok(6),
+    if first.is_none() && half_word_at(order, block, at) == 9 {
+        Some(digits_at(order, block, at))
+    } else {
+        first
     }
 }
 
@@ -278,14 +252,14 @@ fn resolution(order: ByteOrder, block: &[u8]) -> Result<u8, Fault>
     let mut first: Option<Result<u8, Fault>> = None;
     'options: loop {
         if at >= to {
-            return or_six(first);
+            return first.unwrap_or(Ok(6));
         }
         if half_word_at(order, block, at) == 0 {
-            return or_six(first);
+            return first.unwrap_or(Ok(6));
         }
         let size = half_word_at(order, block, at + 2) as usize;
         if to < at + 4 + size {
-            return Err(flaw(Flaw::Length, at as u64));
+            return Err(Fault::new(Flaw::Length, at as u64));
         }
         first = or_option(first, order, block, at);
         at = at + 4 + (size + 3) / 4 * 4;
@@ -314,10 +288,10 @@ fn interface(head: Head, interfaces: &[Interface], block: &[u8]) -> Result<Conte
     ensures within { IfOk result (IsIn head.size (length interfaces.now)) }
 {
     if head.size < 20 {
-        return Err(flaw(Flaw::Length, 4));
+        return Err(Fault::new(Flaw::Length, 4));
     }
     if interfaces.len() >= 256 {
-        return Err(flaw(Flaw::TooMany, 0));
+        return Err(Fault::new(Flaw::TooMany, 0));
     }
     match resolution(head.order, block) {
         Ok(digits) => Ok(Content::NewInterface(Interface {
@@ -337,23 +311,23 @@ fn enhanced(head: Head, interfaces: &[Interface], block: &[u8]) -> Result<Conten
     ensures within { IfOk result (IsIn head.size (length interfaces.now)) }
 {
     if head.size < 32 {
-        return Err(flaw(Flaw::Length, 4));
+        return Err(Fault::new(Flaw::Length, 4));
     }
     let number = word_at(head.order, block, 8);
-    let interface = match numbered(interfaces, number, flaw(Flaw::Interface, 8)) {
+    let interface = match numbered(interfaces, number, Fault::new(Flaw::Interface, 8)) {
         Ok(interface) => interface,
         Err(fault) => return Err(fault),
     };
     if interface.link != 1 {
-        return Err(flaw(Flaw::LinkType, 8));
+        return Err(Fault::new(Flaw::LinkType, 8));
     }
     let time = units_at(head.order, block);
     if time >= SECONDS * units(interface.digits) {
-        return Err(flaw(Flaw::Time, 12));
+        return Err(Fault::new(Flaw::Time, 12));
     }
     let bytes = word_at(head.order, block, 20);
     if is_no_frame(head.size, 32, bytes) {
-        return Err(flaw(Flaw::Length, 20));
+        return Err(Fault::new(Flaw::Length, 20));
     }
     Ok(Content::Packet {
         moment: nanoseconds(interface.digits, time),
@@ -370,89 +344,24 @@ fn simple(head: Head, interfaces: &[Interface], last: u64, block: &[u8]) -> Resu
     ensures within { IfOk result (IsIn head.size (length interfaces.now)) }
 {
     if head.size < 16 {
-        return Err(flaw(Flaw::Length, 4));
+        return Err(Fault::new(Flaw::Length, 4));
     }
-    let interface = match numbered(interfaces, 0, flaw(Flaw::Interface, 0)) {
+    let interface = match numbered(interfaces, 0, Fault::new(Flaw::Interface, 0)) {
         Ok(interface) => interface,
         Err(fault) => return Err(fault),
     };
     if interface.link != 1 {
-        return Err(flaw(Flaw::LinkType, 0));
+        return Err(Fault::new(Flaw::LinkType, 0));
     }
     let bytes = snapped(interface.snap, word_at(head.order, block, 8));
     if is_no_frame(head.size, 16, bytes) {
-        return Err(flaw(Flaw::Length, 8));
+        return Err(Fault::new(Flaw::Length, 8));
     }
     Ok(Content::Packet {
         moment: last,
         from: 12,
         bytes,
     })
-}
-
-// What a block says, whichever its kind.
-#[cold]
-#[inline(never)]
-fn other_content(
-    head: Head,
-    interfaces: &[Interface],
-    last: u64,
-    block: &[u8],
-) -> Result<Content, Fault>
-    requires whole { length block.now ≡ head.size }
-    requires fours { head.size % 4 ≡ 0 }
-    requires most { head.size ≤ 327_680 }
-    requires digits { All HasResolution interfaces.now }
-    requires last { last < 2 ^ 32 * 1_000_000_000 }
-    ensures value { result ≡ content_at head.kind head interfaces.now last block.now }
-    ensures within { IfOk result (IsIn head.size (length interfaces.now)) }
-{
-    match head.kind {
-        Kind::SectionHeader => section(head, block),
-        Kind::InterfaceBlock => interface(head, interfaces, block),
-        Kind::EnhancedPacket => enhanced(head, interfaces, block),
-        Kind::SimplePacket => simple(head, interfaces, last, block),
-        Kind::Other => Ok(Content::Skipped),
-    }
-}
-
-// The same. What another block than an enhanced packet says is taken from where that call leaves it, so that what
-// a packet says stays in registers.
-#[inline(always)]
-fn content_of(
-    head: Head,
-    interfaces: &[Interface],
-    last: u64,
-    block: &[u8],
-) -> Result<Content, Fault>
-    requires whole { length block.now ≡ head.size }
-    requires fours { head.size % 4 ≡ 0 }
-    requires most { head.size ≤ 327_680 }
-    requires digits { All HasResolution interfaces.now }
-    requires last { last < 2 ^ 32 * 1_000_000_000 }
-    ensures value { result ≡ content_at head.kind head interfaces.now last block.now }
-    ensures within { IfOk result (IsIn head.size (length interfaces.now)) }
-{
-    if let Kind::EnhancedPacket = head.kind {
-        return enhanced(head, interfaces, block);
-    }
-    match other_content(head, interfaces, last, block) {
-        Ok(Content::Skipped) => Ok(Content::Skipped),
-        Ok(Content::NewSection) => Ok(Content::NewSection),
-        Ok(Content::NewInterface(interface)) => Ok(Content::NewInterface(interface)),
-        Ok(
-            Content::Packet {
-                moment,
-                from,
-                bytes,
-            },
-        ) => Ok(Content::Packet {
-            moment,
-            from,
-            bytes,
-        }),
-        Err(fault) => Err(fault),
-    }
 }
 
 /// What a whole block says, in a section of these interfaces, where the record before had this moment.
@@ -475,7 +384,13 @@ pub(crate) fn whole_block(
 {
     let end = head.size - 4;
     if word_at(head.order, block, end as usize) != head.size {
-        return Err(flaw(Flaw::Length, end as u64));
+        return Err(Fault::new(Flaw::Length, end as u64));
     }
-    content_of(head, interfaces, last, block)
+    match head.kind {
+        Kind::SectionHeader => section(head, block),
+        Kind::InterfaceBlock => interface(head, interfaces, block),
+        Kind::EnhancedPacket => enhanced(head, interfaces, block),
+        Kind::SimplePacket => simple(head, interfaces, last, block),
+        Kind::Other => Ok(Content::Skipped),
+    }
 }

@@ -1,14 +1,14 @@
 //! pcapng, block by block.
-ghost use Rattle.std.specs.Prelude.{◌≡◌, ◌≤◌, ◌<◌, ◌%◌, true, length, IfOk};
+ghost use Rattle.std.specs.Prelude.{◌≡◌, ◌≤◌};
 ghost use Rattle.exb_capture.specs.Blocks.{Sections, no_section, whole_front, block_front};
 ghost use Rattle.exb_capture.specs.Within.{IsHead, told, Keeps, IsWithin};
 
-use crate::block::{Content, Head, head_of, whole_block};
+use crate::block::{Content, Head, PACKET, head_of, whole_block};
 use crate::fault::{Fault, Flaw};
 use crate::format::Format;
 use crate::front::Front;
 use crate::interface::Interface;
-use crate::order::ByteOrder;
+use crate::order::{ByteOrder, word_at};
 use arrayvec::ArrayVec;
 use std::marker::Model;
 
@@ -19,6 +19,12 @@ pub struct Blocks {
     order: Option<ByteOrder>,
     interfaces: ArrayVec<Interface, 256>,
     last: u64,
+}
+
+// Whether a packet stands at the front, in a section of this order. Where it does, order and kind are known, and are asked no more.
+#[inline(always)]
+fn is_packet(order: ByteOrder, held: &[u8]) -> bool {
+    held.len() >= 12 && word_at(order, held, 0) == PACKET
 }
 
 impl Model for Blocks {
@@ -46,7 +52,7 @@ impl Blocks {
 
     // What stands there, where it is a block that is looked into.
     #[inline(always)]
-    fn whole_of(&mut self, head: Head, held: &[u8]) -> Front
+    fn whole(&mut self, head: Head, held: &[u8]) -> Front
         requires sized { IsHead head }
         requires most { head.size ≤ 327_680 }
         ensures value { told result self.new held.now ≡ whole_front self.old head held.now }
@@ -55,10 +61,7 @@ impl Blocks {
     {
         let size = head.size as usize;
         if held.len() < size {
-            return Front::Short(Fault {
-                flaw: Flaw::Cut,
-                at: 0,
-            });
+            return Front::Short(Fault::new(Flaw::Cut, 0));
         }
         match whole_block(head, self.interfaces.as_slice(), self.last, &held[..size]) {
             Ok(Content::Skipped) => Front::Over(head.size),
@@ -90,57 +93,19 @@ impl Blocks {
             Err(fault) => Front::Bad(fault),
         }
     }
-}
-
-impl Blocks {
-    // The same, where the order of the bytes is asked once for all fields.
+    // What stands at the front of these bytes.
+    #[tactic(auto, unfolding(crate::specs::Blocks::block_front))]
     #[inline(always)]
-    fn whole(&mut self, head: Head, held: &[u8]) -> Front
-        requires sized { IsHead head }
-        requires most { head.size ≤ 327_680 }
-        ensures value { told result self.new held.now ≡ whole_front self.old head held.now }
+    fn stands(&mut self, held: &[u8]) -> Front
+        ensures value { told result self.new held.now ≡ block_front self.old held.now }
         ensures same { Keeps result (self.new ≡ self.old) }
         ensures within { IsWithin held.now result }
     {
-        let Head { order, kind, size } = head;
-        match order {
-            ByteOrder::Little => self.whole_of(
-                Head {
-                    order: ByteOrder::Little,
-                    kind,
-                    size,
-                },
-                held,
-            ),
-            ByteOrder::Big => self.whole_of(
-                Head {
-                    order: ByteOrder::Big,
-                    kind,
-                    size,
-                },
-                held,
-            ),
-        }
-    }
-}
-
-impl Format for Blocks {
-    ghost use Rattle.exb_capture.specs.Blocks.{block_front};
-
-    ghost stands = { block_front };
-
-    /// What stands at the front of these bytes; what was read is known from then on.
-    #[tactic(auto, unfolding(crate::specs::Blocks::block_front))]
-    #[inline(always)]
-    fn front(&mut self, held: &[u8]) -> Front {
         if held.is_empty() {
             return Front::Nothing;
         }
         if held.len() < 12 {
-            return Front::Short(Fault {
-                flaw: Flaw::Cut,
-                at: 0,
-            });
+            return Front::Short(Fault::new(Flaw::Cut, 0));
         }
         match head_of(self.order, &held[..12]) {
             Ok(head) => {
@@ -151,6 +116,35 @@ impl Format for Blocks {
                 }
             }
             Err(fault) => Front::Bad(fault),
+        }
+    }
+
+    // The same, apart: with that of a little-endian packet, code that isn't called would grow too large to stand in its place.
+    #[cold]
+    #[inline(never)]
+    fn stands_apart(&mut self, held: &[u8]) -> Front
+        ensures value { told result self.new held.now ≡ block_front self.old held.now }
+        ensures same { Keeps result (self.new ≡ self.old) }
+        ensures within { IsWithin held.now result }
+    {
+        match self.order {
+            Some(ByteOrder::Big) if is_packet(ByteOrder::Big, held) => self.stands(held),
+            _ => self.stands(held),
+        }
+    }
+}
+
+impl Format for Blocks {
+    ghost use Rattle.exb_capture.specs.Blocks.{block_front};
+
+    ghost stands = { block_front };
+
+    /// What stands at the front of these bytes; what was read is known from then on.
+    #[inline(always)]
+    fn front(&mut self, held: &[u8]) -> Front {
+        match self.order {
+            Some(ByteOrder::Little) if is_packet(ByteOrder::Little, held) => self.stands(held),
+            _ => self.stands_apart(held).taken(),
         }
     }
 

@@ -4,10 +4,9 @@ ghost use Rattle.exb_capture.specs.declared.capture.Capture.TheVariants.{Unknown
 ghost use Rattle.exb_capture.specs.Captures.{unknown_front};
 ghost use Rattle.exb_capture.specs.Within.{told, Keeps, IsWithin};
 
-use crate::block::flaw;
 use crate::blocks::Blocks;
 use crate::classic::{Reached, agrees};
-use crate::fault::Flaw;
+use crate::fault::{Fault, Flaw};
 use crate::format::Format;
 use crate::front::Front;
 
@@ -31,7 +30,7 @@ impl Capture {
     {
         if agrees(0x0A, 0x0D, 0x0D, 0x0A, held) {
             if held.len() < 4 {
-                return Front::Short(flaw(Flaw::NotPcap, 0));
+                return Front::Short(Fault::new(Flaw::NotPcap, 0));
             }
             let mut blocks = Blocks::new();
             let front = blocks.front(held);
@@ -51,33 +50,6 @@ impl Capture {
         }
         front
     }
-
-    // The same, apart from where that call leaves it: what stands at all other fronts then stays in registers.
-    #[inline(always)]
-    fn begun(&mut self, held: &[u8]) -> Front
-        requires { self.old ≡ Unknown }
-        ensures value { told result self.new held.now ≡ unknown_front held.now }
-        ensures same { Keeps result (self.new ≡ self.old) }
-        ensures within { IsWithin held.now result }
-    {
-        match self.begin(held) {
-            Front::Nothing => Front::Nothing,
-            Front::Short(fault) => Front::Short(fault),
-            Front::Bad(fault) => Front::Bad(fault),
-            Front::Over(n) => Front::Over(n),
-            Front::Holds {
-                moment,
-                from,
-                bytes,
-                size,
-            } => Front::Holds {
-                moment,
-                from,
-                bytes,
-                size,
-            },
-        }
-    }
 }
 
 impl Format for Capture {
@@ -89,7 +61,7 @@ impl Format for Capture {
     #[inline(always)]
     fn front(&mut self, held: &[u8]) -> Front {
         match self {
-            Capture::Unknown => self.begun(held),
+            Capture::Unknown => self.begin(held).taken(),
             Capture::Classic(reached) => reached.front(held),
             Capture::Blocks(blocks) => blocks.front(held),
         }

@@ -4,7 +4,6 @@ ghost use Rattle.exb_capture.specs.Classic.{digits, classic_front, magic_front, 
 ghost use Rattle.exb_capture.specs.Fields.{agrees, byte_agrees, word};
 ghost use Rattle.exb_capture.specs.Within.{told, Keeps, IsWithin};
 
-use crate::block::flaw;
 use crate::fault::{Fault, Flaw};
 use crate::format::Format;
 use crate::front::Front;
@@ -106,20 +105,20 @@ fn start(held: &[u8]) -> (Front, Reached)
     ensures within { IsWithin held.now result.0 }
 {
     let Some(form) = form_of(held) else {
-        return (Front::Bad(flaw(Flaw::NotPcap, 0)), Reached::Start);
+        return (Front::Bad(Fault::new(Flaw::NotPcap, 0)), Reached::Start);
     };
     if held.len() < 4 {
-        return (Front::Short(flaw(Flaw::NotPcap, 0)), Reached::Start);
+        return (Front::Short(Fault::new(Flaw::NotPcap, 0)), Reached::Start);
     }
     if held.len() < 24 {
-        return (Front::Short(flaw(Flaw::Cut, 0)), Reached::Start);
+        return (Front::Short(Fault::new(Flaw::Cut, 0)), Reached::Start);
     }
     let header = &held[..24];
     if half_word_at(form.order, header, 4) != 2 || half_word_at(form.order, header, 6) != 4 {
-        return (Front::Bad(flaw(Flaw::Version, 4)), Reached::Start);
+        return (Front::Bad(Fault::new(Flaw::Version, 4)), Reached::Start);
     }
     if word_at(form.order, header, 20) != 1 {
-        return (Front::Bad(flaw(Flaw::LinkType, 20)), Reached::Start);
+        return (Front::Bad(Fault::new(Flaw::LinkType, 20)), Reached::Start);
     }
     (Front::Over(24), Reached::Behind(form))
 }
@@ -133,11 +132,11 @@ fn stored(form: Form, head: &[u8]) -> Result<u32, Fault>
     ensures short { IfOk result (λ n. n ≤ 262_144) }
 {
     if word_at(form.order, head, 4) >= form.resolution.units() {
-        return Err(flaw(Flaw::Time, 4));
+        return Err(Fault::new(Flaw::Time, 4));
     }
     let n = word_at(form.order, head, 8);
     if n > 262_144 {
-        return Err(flaw(Flaw::Length, 8));
+        return Err(Fault::new(Flaw::Length, 8));
     }
     Ok(n)
 }
@@ -169,14 +168,14 @@ fn record_of(form: Form, held: &[u8]) -> Front
         return Front::Nothing;
     }
     if held.len() < 16 {
-        return Front::Short(flaw(Flaw::Cut, 0));
+        return Front::Short(Fault::new(Flaw::Cut, 0));
     }
     let head = &held[..16];
     match stored(form, head) {
         Ok(bytes) => {
             let size = 16 + bytes;
             if held.len() < size as usize {
-                return Front::Short(flaw(Flaw::Cut, 0));
+                return Front::Short(Fault::new(Flaw::Cut, 0));
             }
             Front::Holds {
                 moment: time_at(form, head),

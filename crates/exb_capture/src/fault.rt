@@ -1,4 +1,5 @@
 //! Why a file is no capture.
+ghost use Rattle.std.specs.Prelude.{◌≡◌};
 
 /// What is wrong, by the tables of the two formats.
 #[derive(Clone, Copy, Debug, PartialEq, Eq)]
@@ -30,4 +31,15 @@ pub enum Flaw {
 pub struct Fault {
     pub flaw: Flaw,
     pub at: u64,
+}
+
+impl Fault {
+    // Apart, so that nothing of a fault is made ready where there is none.
+    #[cold]
+    #[inline(never)]
+    pub(crate) fn new(flaw: Flaw, at: u64) -> Fault
+        ensures { result ≡ record { flaw = flaw; at = at } }
+    {
+        Fault { flaw, at }
+    }
 }

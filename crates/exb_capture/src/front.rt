@@ -1,4 +1,5 @@
 //! What stands at the front of the bytes that are held.
+ghost use Rattle.std.specs.Prelude.{◌≡◌};
 
 use crate::fault::Fault;
 
@@ -17,4 +18,30 @@ pub enum Front {
         bytes: u32,
         size: u32,
     },
+}
+
+impl Front {
+    // The same, taken from where a call left it: what stands at most fronts, for which there is no call, then stays in registers.
+    #[inline(always)]
+    pub(crate) fn taken(self) -> Front
+        ensures { result ≡ self }
+    {
+        match self {
+            Front::Nothing => Front::Nothing,
+            Front::Short(fault) => Front::Short(fault),
+            Front::Bad(fault) => Front::Bad(fault),
+            Front::Over(n) => Front::Over(n),
+            Front::Holds {
+                moment,
+                from,
+                bytes,
+                size,
+            } => Front::Holds {
+                moment,
+                from,
+                bytes,
+                size,
+            },
+        }
+    }
 }

@@ -264,20 +264,11 @@ impl<F: Format> Reader<F> {
         self.go();
         if self.owing > 0 {
             let at = self.begun;
-            return self.at_last(
-                ended,
-                Fault {
-                    flaw: Flaw::Cut,
-                    at,
-                },
-            );
+            return self.at_last(ended, Fault::new(Flaw::Cut, at));
         }
         match self.look() {
             Front::Nothing => self.at_nothing(ended),
-            Front::Short(fault) => {
-                let fault = fault.at_place(self.place);
-                self.at_last(ended, fault)
-            }
+            Front::Short(fault) => self.at_last(ended, fault.at_place(self.place)),
             Front::Bad(fault) => {
                 let fault = fault.at_place(self.place);
                 self.fail(fault);

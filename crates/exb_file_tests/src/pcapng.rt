@@ -4,7 +4,10 @@ mod cases;
 use crate::compare::{same, same_at};
 use crate::hostile::bytes_of;
 pub(crate) use crate::pcapng::cases::ROW;
-use crate::pcapng::cases::{BIG_HEAD, BLOCKS, FRONTS, HEAD, LITTLE, TWINS};
+use crate::pcapng::cases::{
+    BIG_HEAD, ENHANCED, FRONTS, HEAD, INTERFACES, LITTLE, SECTIONS, SIMPLE, SIZES, SKIPPED, STORED,
+    TWINS,
+};
 use crate::reading::{front_text, sized_text, whole_text};
 use std::alloc::Global;
 use std::process::Abort;
@@ -27,8 +30,50 @@ fn judge_blocks(rt: &impl Abort, alloc: Global, head: &str, tail: &str, wanted: 
 }
 
 #[test]
-fn each_fault_stands_at_its_byte(rt: HostRuntime) {
-    for (tail, wanted) in &BLOCKS {
+fn a_size_is_judged_at_its_byte(rt: HostRuntime) {
+    for (tail, wanted) in &SIZES {
+        judge_blocks(&rt, rt.alloc(), HEAD, tail, wanted);
+    }
+}
+
+#[test]
+fn a_section_is_judged_at_its_byte(rt: HostRuntime) {
+    for (tail, wanted) in &SECTIONS {
+        judge_blocks(&rt, rt.alloc(), HEAD, tail, wanted);
+    }
+}
+
+#[test]
+fn an_interface_is_judged_at_its_byte(rt: HostRuntime) {
+    for (tail, wanted) in &INTERFACES {
+        judge_blocks(&rt, rt.alloc(), HEAD, tail, wanted);
+    }
+}
+
+#[test]
+fn an_enhanced_packet_is_judged_at_its_byte(rt: HostRuntime) {
+    for (tail, wanted) in &ENHANCED {
+        judge_blocks(&rt, rt.alloc(), HEAD, tail, wanted);
+    }
+}
+
+#[test]
+fn what_is_stored_is_judged_at_its_byte(rt: HostRuntime) {
+    for (tail, wanted) in &STORED {
+        judge_blocks(&rt, rt.alloc(), HEAD, tail, wanted);
+    }
+}
+
+#[test]
+fn a_simple_packet_is_judged_at_its_byte(rt: HostRuntime) {
+    for (tail, wanted) in &SIMPLE {
+        judge_blocks(&rt, rt.alloc(), HEAD, tail, wanted);
+    }
+}
+
+#[test]
+fn other_blocks_are_skipped(rt: HostRuntime) {
+    for (tail, wanted) in &SKIPPED {
         judge_blocks(&rt, rt.alloc(), HEAD, tail, wanted);
     }
 }

@@ -34,9 +34,9 @@ use Rattle.exb_flat_run.specs.declared.site.Site.{Site}
 use Rattle.exb_flat_run.specs.Sites.{IsSiteOf, basis_of}
 use Rattle.exb_flat_run.specs.Inputs.{input_of}
 use Rattle.exb_flat_run.specs.Merging.{CanBeKept, FitsComing}
-use Rattle.exb_flat_laws.proofs.PlayRules.{entered, each-ordered}
-use Rattle.exb_flat_laws.proofs.EachEvents.{HoldsEagerly, each-opening, each-eagerly}
-use Rattle.exb_flat_laws.proofs.Comings.{segments-arrivals, of_segments}
+use Rattle.exb_oracle.proofs.PlayRules.{entered, each-ordered}
+use Rattle.exb_oracle.proofs.EachEvents.{HoldsEagerly, each-opening, each-eagerly}
+use Rattle.exb_oracle.proofs.Comings.{segments-arrivals, of_segments}
 
 pub all-of_map : {X Y : Type 0} (f : X → Y) (P : Y → Type 0) (xs : List X) → All P (map f xs) → All (λ x. P (f x)) xs
 all-of_map f P [] all = All-nil (λ x. P (f x))

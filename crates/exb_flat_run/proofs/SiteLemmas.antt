@@ -8,7 +8,7 @@ use Rattle.exb_model.specs.Ports.{port_in}
 use Rattle.exb_model.specs.Tree.{Shape, is_external}
 use Rattle.exb_model.specs.Setup.{shape_of, start_of}
 use Rattle.exb_model.specs.Configuration.{empty_bridge}
-use Rattle.exb_flat.specs.Histories.{after_all}
+use Rattle.exb_oracle.specs.Histories.{after_all}
 
 pub start-is : (s : Setup) (t : Shape) (present : PortSet) (start : List Command) → t ≡ shape_of s → ((q : ℕ) → port_in present q ≡ (nat_lt q 64 && is_external t q)) →
     start ≡ s.start → after_all (empty_bridge (port_in present)) start ≡ start_of s

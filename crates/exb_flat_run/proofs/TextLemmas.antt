@@ -8,8 +8,8 @@ use Rattle.exb_model.specs.History.{History, ◌then◌}
 use Rattle.exb_model.specs.FlatBridge.{Sent}
 use Rattle.exb_model.specs.Texts.{Counts, counted, capture_header, record_text, capture_text, line_of, journal_text}
 use Rattle.exb_text.specs.Tallies.{FitsTally}
-use Rattle.exb_flat.specs.declared.flat.Sent.{Sent as Frame}
-use Rattle.exb_flat.specs.Histories.{sent_of}
+use Rattle.exb_oracle.specs.declared.flat.Sent.{Sent as Frame}
+use Rattle.exb_oracle.specs.Histories.{sent_of}
 use Rattle.exb_flat_run.specs.Counting.{counted_all}
 use Rattle.exb_flat_run.specs.Turns.{told}
 use Rattle.exb_flat_run.proofs.TurnLemmas.{told_push}

@@ -9,7 +9,7 @@ use Rattle.exb_model.specs.Setup.{Limits}
 use Rattle.exb_model.specs.History.{Basis, History, bridge_after}
 use Rattle.exb_model.specs.Input.{Coming, Ordered, Captured, Eager, alone, seconds_after, segments_after, segment_of, segments_since, second_of, moment_of}
 use Rattle.exb_model.specs.EagerHistory.{up_event, with_ups, with_tick, eager_segment}
-use Rattle.exb_flat_laws.proofs.Plays.{then-append}
+use Rattle.exb_oracle.proofs.Plays.{then-append}
 use Rattle.exb_flat_run.specs.Turns.{told, with_coming}
 
 pub told_push : (events : List Event) (e : Event) → told (events ++ e ∷ []) ≡ e ∷ told events

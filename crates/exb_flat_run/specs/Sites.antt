@@ -4,7 +4,7 @@ use Rattle.exb_model.specs.declared.setup.Setup.{Setup}
 use Rattle.exb_model.specs.declared.setup.Timed.{Timed}
 use Rattle.exb_model.specs.Setup.{Limits as Numbers, shape_of, limits_of as limits_in, start_of}
 use Rattle.exb_model.specs.History.{Basis}
-use Rattle.exb_flat.specs.Histories.{basis_of as basis_in}
+use Rattle.exb_oracle.specs.Histories.{basis_of as basis_in}
 use Rattle.exb_flat_run.specs.Limits.{limits_of}
 use Rattle.exb_flat_run.specs.declared.site.Site.{Site}
 

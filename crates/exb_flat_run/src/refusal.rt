@@ -3,12 +3,12 @@ ghost use Rattle.std.specs.Prelude.{◌≡◌, ◌<◌, ◌≤◌, ◌++◌, ◌
 ghost use Rattle.exb_model.specs.Configuration.{after as after_command};
 ghost use Rattle.exb_model.specs.Refusals.{with_set, present_under, groups_needed, channel_at, channels_short, groups_short, refusal};
 ghost use Rattle.exb_flat_run.specs.Limits.{limits_of};
-ghost use Rattle.exb_flat.specs.Configs.{bridge_of};
+ghost use Rattle.exb_oracle.specs.Configs.{bridge_of};
 ghost use Rattle.exb_flat_run.specs.Sets.{lists_in};
 
 use crate::layout::Layout;
 use crate::sets::{present_under, put_set, sets_at};
-use exb_flat::config::Config;
+use exb_oracle::config::Config;
 use exb_model::command::Command;
 use exb_model::event::Cause;
 use exb_model::memory::NoMemory;

@@ -3,11 +3,11 @@ ghost use Rattle.std.specs.Prelude.{◌≡◌, ◌≤◌, ◌&&◌, ◌∷◌, �
 ghost use Rattle.std.specs.List.{list_any};
 ghost use Rattle.exb_model.specs.Ports.{port_in};
 ghost use Rattle.exb_model.specs.Refusals.{is_kind, without_isolated, with_set, sets_at};
-ghost use Rattle.exb_flat.specs.Configs.{bridge_of};
+ghost use Rattle.exb_oracle.specs.Configs.{bridge_of};
 ghost use Rattle.exb_flat_run.specs.Sets.{present_in, lists_in, among_of, source, part_in, two_sets, four_sets, vlan_sets, entry_sets};
 
 use crate::layout::{Layout, PORTS, port_of, put_if};
-use exb_flat::config::Config;
+use exb_oracle::config::Config;
 use exb_model::memory::NoMemory;
 use exb_model::port::PortId;
 use exb_model::port_set::PortSet;

@@ -6,7 +6,7 @@ ghost use Rattle.exb_flat_run.specs.Sites.{IsSiteOf};
 
 use crate::layout::{Layout, port_of};
 use crate::refusal::Limits;
-use exb_flat::history::Basis;
+use exb_oracle::history::Basis;
 use exb_model::command::Command;
 use exb_model::list::List;
 use exb_model::memory::NoMemory;

@@ -3,12 +3,12 @@ ghost use Rattle.std.specs.Prelude.{◌≡◌, ◌<◌, ◌≤◌, ◌*◌, ◌+
 ghost use Rattle.exb_model.specs.Texts.{capture_text, journal_text, record_text as record_of, summary_line, with_left};
 ghost use Rattle.exb_capture.specs.Written.{CanBeWritten};
 ghost use Rattle.exb_text.specs.Tallies.{counts_of};
-ghost use Rattle.exb_flat.specs.Histories.{sent_of};
+ghost use Rattle.exb_oracle.specs.Histories.{sent_of};
 ghost use Rattle.exb_flat_run.specs.Turns.{told};
 ghost use Rattle.exb_flat_run.specs.Counting.{counted_all};
 
 use exb_capture::{header_text, record_text};
-use exb_flat::flat::Sent;
+use exb_oracle::flat::Sent;
 use exb_model::event::Event;
 use exb_model::memory::NoMemory;
 use exb_text::{Tally, write_line};

@@ -30,11 +30,11 @@ use Rattle.exb_wiring.specs.Laws.{ArePlayedEagerly, IsShown, NetsArePlayedEagerl
 use Rattle.exb_wiring.specs.Playing.{Dones, tree_in}
 use Rattle.exb_outputs.specs.declared.outputs.Outputs.{Outputs}
 use Rattle.exb_outputs.specs.Plans.{Planned, IsMade, kind_at, output_count}
-use Rattle.exb_outputs.specs.Sent.{AreCountedAt, HasSent, capture_size, counts_with}
+use Rattle.exb_outputs.specs.Sent.{AreCountedAt, HasSent, capture_size}
 use Rattle.exb_outputs.proofs.ByKind.{kind_is}
 use Rattle.exb_outputs.proofs.Places.{external_low, few_external}
 use Rattle.exb_outputs.proofs.Sizes.{counted_of}
-use Rattle.exb_writers.specs.Counts.{AreCounted, counts_so_far, counts_text}
+use Rattle.exb_writers.specs.Counts.{AreCounted, counts_so_far, counts_text, counts_with}
 use Rattle.exb_writers.specs.Texts.{output_text}
 use Rattle.exb_writers.proofs.Counting.{LeftExternal, count_events-left, counts-whole}
 use Rattle.exb_writers.proofs.PortCounts.{counts-of, counts_end, port_whole}

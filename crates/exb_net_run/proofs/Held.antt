@@ -83,7 +83,7 @@ module _ (counters : Bool) (m : NetMember) (i : Input) (tree : tree_of i ≡ tre
   written h file done counts whole told left counted =
       record {
         captures = λ q ext. file_of file (text_of done counts) whole (output.Capture q) (external q ext) (low q ext) ∙ ap (λ (xs : List Sent). Some (capture_text xs)) (left q ext);
-        journal = file_of file (text_of done counts) whole output.Journal tt tt ∙ ap (λ (z : History). Some (journal_text z)) (sym told);
+        journal = file_of file (text_of done counts) whole output.Journal refl tt ∙ ap (λ (z : History). Some (journal_text z)) (sym told);
         counts = λ asked. file_of file (text_of done counts) whole output.Counters asked tt ∙ ap Some (counted asked);
       }
 
@@ -98,7 +98,7 @@ module _ (counters : Bool) (m : NetMember) (i : Input) (tree : tree_of i ≡ tre
             cut_on (old (file_name (prefix_of m.name) (output.Capture q))) (new (file_name (prefix_of m.name) (output.Capture q))) f.0 (capture_text (left_at q done.left)) (records_text r.0) (capture_text (flat (basis_of i) k q))
             (ap capture_text whole ∙ capture_then (left_at q done.left) r.0) f.1);
         journal =
-            (let f = front_of new done fronts output.Journal tt tt in
+            (let f = front_of new done fronts output.Journal refl tt in
             cut_on (old (file_name (prefix_of m.name) output.Journal)) (new (file_name (prefix_of m.name) output.Journal)) f.0 (journal_text ([] then done.events)) (lines_of more) (journal_text k)
             (ap journal_text on ∙ (journal_text-then h more ∙ ap (λ (z : History). journal_text z ++ lines_of more) told)) f.1);
       }
@@ -154,7 +154,7 @@ module _ (counters : Bool) (m : NetMember) (i : Input) (tree : tree_of i ≡ tre
       let all = at_kind (λ o. file (file_name (prefix_of m.name) o) ≡ Some (text o)) whole.each in
       record {
         captures = λ q ext. all (output.Capture q) (is_there q ext) (low q ext);
-        journal = all output.Journal tt tt;
+        journal = all output.Journal refl tt;
         counts = λ asked. all output.Counters asked tt;
       }
 
@@ -164,7 +164,7 @@ module _ (counters : Bool) (m : NetMember) (i : Input) (tree : tree_of i ≡ tre
   cut_texts h old new each =
       let text : Output → List ℕ = output_text i h [] in
       let all = at_kind (λ o. IsCut (old (file_name (prefix_of m.name) o)) (new (file_name (prefix_of m.name) o)) (text o)) each in
-      record { captures = λ q ext. all (output.Capture q) (is_there q ext) (low q ext); journal = all output.Journal tt tt }
+      record { captures = λ q ext. all (output.Capture q) (is_there q ext) (low q ext); journal = all output.Journal refl tt }
 
   -- the same of files that are whole
   pub whole_texts : (h : History) (old new : Files) → IsWhole (plan_with counters m) new (output_text i h []) → IsFrontOf i h (prefix_of m.name) old new

@@ -7,6 +7,7 @@ use Rattle.exb_net_file.specs.declared.members.NetMember.{NetMember}
 use Rattle.exb_net_file.specs.Members.{prefix_of, tree_in}
 use Rattle.exb_shelf.specs.Files.{Files}
 use Rattle.exb_words.specs.declared.asked.Options.{Options}
+use Rattle.exb_words.specs.Kinds.{eager_with}
 use Rattle.exb_inputs.specs.Inputs.{input_of}
 use Rattle.exb_outputs.specs.Names.{IsOutput}
 use Rattle.exb_outputs.specs.Plans.{Planned}
@@ -27,7 +28,7 @@ net_of ms ws file = record { count = length ms; input = λ b. input_in file (sli
 -- ---- what its bridges write
 -- a capture for each external port and a journal, and counters where they are asked for
 abbrev pub options_with : Bool → Options
-options_with counters = record { trace = false; counters = counters; seed = None }
+options_with counters = eager_with counters
 
 -- the outputs of a bridge stand under its own prefix
 abbrev pub plan_with : Bool → NetMember → Planned

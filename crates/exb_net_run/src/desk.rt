@@ -21,7 +21,7 @@ use exb_outputs::{Outputs, Plan};
 use exb_schedule::World;
 use exb_shelf::Shelf;
 use exb_text::Tally;
-use exb_writers::{Counted, write_left};
+use exb_writers::{Counted, write_counters, write_events, write_left};
 
 /// Room for a line of a journal and for one of counters.
 #[derive(Drop)]
@@ -60,7 +60,7 @@ fn write_new<S: Shelf>(
     ensures causes { IfErr result IsOfWriting }
     ensures faults { CountsFaults result (S.faults shelf.old) (S.faults shelf.new) }
 {
-    outputs.write_events(shelf, plan, &mut room.line, world.events())?;
+    write_events(shelf, plan, outputs, &mut room.line, world.events())?;
     write_left(shelf, plan, outputs, world.left())
 }
 
@@ -110,7 +110,7 @@ fn write_counts<S: Shelf>(
     ensures faults { CountsFaults result (S.faults shelf.old) (S.faults shelf.new) }
 {
     match &counted.ports {
-        Some(counters) => outputs.write_counters(shelf, plan, &mut room.text, counters),
+        Some(counters) => write_counters(shelf, plan, outputs, &mut room.text, counters),
         None => Ok(()),
     }
 }

@@ -46,11 +46,7 @@ fn plan_of(alloc: Global, setup: &Setup, name: &str, counters: bool) -> Result<P
     ensures { IfOk result (λ plan. plan ≡ plan_under setup.now name.now counters) }
 {
     let prefix = prefix_of(alloc, name)?;
-    let options = Options {
-        trace: false,
-        counters,
-        seed: None,
-    };
+    let options = Options::eager(counters);
     Plan::new(alloc, setup, prefix.as_str(), options)
 }
 

@@ -3,17 +3,12 @@ use Rattle.std.proofs.Common.{◌≡◌, ◌<◌, ◌+◌, ◌++◌, ◌⊎◌, 
 use Rattle.std.proofs.lemmas.Bool.{cases_eq}
 use Rattle.std.proofs.lemmas.List.{append-nil, get_or-map}
 use Rattle.std.proofs.lemmas.Grind.{flat_map-append}
-use Rattle.exb_model.specs.declared.event.Event.{Event}
-use Rattle.exb_model.specs.Texts.{line_of}
-use Rattle.exb_model.specs.Traces.{TraceLine, trace_line, trace_text}
 use Rattle.exb_shelf.specs.Files.{Cut, Files, SameFiles, Puts, AddsFront, Filled}
 use Rattle.exb_shelf.proofs.FileLemmas.{Apart, cut_empty, filled_one}
 use Rattle.exb_text.specs.declared.output.Output.{Output}
-use Rattle.exb_text.specs.declared.output.Output.TheVariants as output
-use Rattle.exb_counters.specs.declared.counters.Counts5.{Counts5}
-use Rattle.exb_counters.specs.Counters.{count_line, count_lines}
 use Rattle.exb_outputs.specs.Plans.{Planned, kind_at, output_count, output_name}
-use Rattle.exb_outputs.specs.Writing.{AreCut, Holds, HasTexts, is_same, with_more, lines_of}
+use Rattle.exb_words.specs.Kinds.{is_same}
+use Rattle.exb_outputs.specs.Writing.{AreCut, Holds, HasTexts, with_more}
 use Rattle.exb_outputs.proofs.Filling.{still_filled}
 use Rattle.exb_outputs.proofs.OutputLemmas.{HasTextsAt, kind_has_more, more_at, more_at_here, more_at_other, of_kind, texts_more, with_more_nothing, with_more_twice}
 
@@ -174,7 +169,7 @@ cut_spelled plan f g text o p xs ys eo ex cut =
 
 -- ---- in the middle of a list
 -- what is before, one more, and the rest
-cut_behind : (plan : Planned) (f g : Files) (text : Output → List ℕ) (o : Output) (before one rest whole : List ℕ) → (before ++ one) ++ rest ≡ whole
+pub cut_behind : (plan : Planned) (f g : Files) (text : Output → List ℕ) (o : Output) (before one rest whole : List ℕ) → (before ++ one) ++ rest ≡ whole
     → AreCut plan f g (with_more (with_more text o before) o one) → AreCut plan f g (with_more text o whole)
 cut_behind plan f g text o before one rest whole is =
     cut_longer plan f g (with_more (with_more text o before) o one) (with_more text o whole)
@@ -192,39 +187,9 @@ both_parts (suc n) [] = refl
 both_parts (suc n) (x ∷ xs) = ap (λ ys. x ∷ ys) (both_parts n xs)
 
 -- the texts of a list, of which some are written and one is at work
-texts_in_parts : {X : Type 0} (text : X → List ℕ) (xs : List X) (i : ℕ) (x : X) → i < length xs → x ≡ get_or xs i x
+pub texts_in_parts : {X : Type 0} (text : X → List ℕ) (xs : List X) (i : ℕ) (x : X) → i < length xs → x ≡ get_or xs i x
     → (flat_map text (take i xs) ++ text x) ++ flat_map text (drop (i + 1) xs) ≡ flat_map text xs
 texts_in_parts text xs i x inside is =
     ap (λ (ys : List ℕ). ys ++ flat_map text (drop (i + 1) xs)) (texts_more text xs i x inside is)
     ∙ sym (flat_map-append text (take (i + 1) xs) (drop (i + 1) xs))
     ∙ ap (flat_map text) (both_parts (i + 1) xs)
-
-pub cut_lines : (plan : Planned) (f g : Files) (text : Output → List ℕ) (events : List Event) (i : ℕ) (e : Event) → i < length events → e ≡ get_or events i e
-    → AreCut plan f g (with_more (with_more text output.Journal (lines_of (take i events))) output.Journal (line_of e ++ 10 ∷ []))
-    → AreCut plan f g (with_more text output.Journal (lines_of events))
-cut_lines plan f g text events i e inside is =
-    cut_behind plan f g text output.Journal (lines_of (take i events)) (line_of e ++ 10 ∷ []) (lines_of (drop (i + 1) events)) (lines_of events)
-    (texts_in_parts (λ (x : Event). line_of x ++ 10 ∷ []) events i e inside is)
-
-trace_in_parts : (lines : List TraceLine) (i : ℕ) (one : TraceLine) → i < length lines → one ≡ get_or lines i one
-    → (trace_text (take i lines) ++ (trace_line one ++ 10 ∷ [])) ++ trace_text (drop (i + 1) lines) ≡ trace_text lines
-unfolding trace_text
-trace_in_parts lines i one inside is = texts_in_parts (λ (x : TraceLine). trace_line x ++ 10 ∷ []) lines i one inside is
-
-pub cut_trace : (plan : Planned) (f g : Files) (text : Output → List ℕ) (lines : List TraceLine) (i : ℕ) (one : TraceLine) → i < length lines → one ≡ get_or lines i one
-    → AreCut plan f g (with_more (with_more text output.Trace (trace_text (take i lines))) output.Trace (trace_line one ++ 10 ∷ []))
-    → AreCut plan f g (with_more text output.Trace (trace_text lines))
-cut_trace plan f g text lines i one inside is =
-    cut_behind plan f g text output.Trace (trace_text (take i lines)) (trace_line one ++ 10 ∷ []) (trace_text (drop (i + 1) lines)) (trace_text lines)
-    (trace_in_parts lines i one inside is)
-
-counts_in_parts : (counts : ℕ → Counts5) (ports : List ℕ) (i q : ℕ) → i < length ports → q ≡ get_or ports i q
-    → (count_lines counts (take i ports) ++ count_line q (counts q)) ++ count_lines counts (drop (i + 1) ports) ≡ count_lines counts ports
-counts_in_parts counts ports i q inside is = texts_in_parts (λ (p : ℕ). count_line p (counts p)) ports i q inside is
-
-pub cut_counts : (plan : Planned) (f g : Files) (text : Output → List ℕ) (counts : ℕ → Counts5) (ports : List ℕ) (i q : ℕ) → i < length ports → q ≡ get_or ports i q
-    → AreCut plan f g (with_more (with_more text output.Counters (count_lines counts (take i ports))) output.Counters (count_line q (counts q)))
-    → AreCut plan f g (with_more text output.Counters (count_lines counts ports))
-cut_counts plan f g text counts ports i q inside is =
-    cut_behind plan f g text output.Counters (count_lines counts (take i ports)) (count_line q (counts q)) (count_lines counts (drop (i + 1) ports)) (count_lines counts ports)
-    (counts_in_parts counts ports i q inside is)

@@ -1,12 +1,16 @@
 -- The outputs of a plan by their names.
-use Rattle.std.proofs.Common.{◌≡◌, ℕ, List, Some, ap, sym, subst, ◌∙◌}
-use Rattle.exb_model.specs.Tree.{Shape}
+use Rattle.std.proofs.Common.{◌≡◌, ◌<◌, ◌++◌, inl, inr, ℕ, zero, suc, true, Option, Some, None, List, [], ◌∷◌, All, map, refl, ap, sym, subst, ◌∙◌, arith}
+use Rattle.exb_model.specs.Tree.{Shape, external_ports, is_external}
 use Rattle.exb_shelf.specs.Files.{Files, Filled}
 use Rattle.exb_text.specs.declared.output.Output.{Output}
-use Rattle.exb_text.specs.Names.{IsOfPort, file_name}
+use Rattle.exb_text.specs.declared.output.Output.TheVariants as output
+use Rattle.exb_text.specs.Names.{IsOfPort, all_outputs, file_name, other_outputs}
+use Rattle.exb_words.specs.Kinds.{port_of}
+use Rattle.exb_words.proofs.KindLemmas.{IsIn, capture_is, is_other}
 use Rattle.exb_outputs.specs.Names.{OnlyOutputs}
-use Rattle.exb_outputs.specs.Plans.{IsMade, OnlyPlanned, Planned, kind_at, output_count, output_name, place_of}
+use Rattle.exb_outputs.specs.Plans.{IsMade, IsMadeAt, OnlyPlanned, Planned, kind_at, output_count, output_name, place_in, place_of}
 use Rattle.exb_outputs.proofs.ByKind.{kind_is, placed}
+use Rattle.exb_outputs.proofs.Places.{place_low, port_of_place}
 
 module _ (t : Shape) (plan : Planned) (prefix : List ℕ) (same : plan.prefix ≡ prefix) (tree : plan.tree ≡ t) where
   made_by : (o : Output) → IsMade plan.options plan.tree o → IsMade plan.options t o
@@ -24,3 +28,36 @@ module _ (t : Shape) (plan : Planned) (prefix : List ℕ) (same : plan.prefix �
       let found = filled.each (place_of plan o) place.low in
       let name : file_name prefix o ≡ output_name plan (place_of plan o) = ap (λ (p : List ℕ). file_name p o) (sym same) ∙ ap (file_name plan.prefix) (sym place.at) in
       ap g name ∙ found.1 ∙ ap Some (found.2 ∙ ap text place.at)
+
+-- ---- of all kinds
+all-cons : {X : Type 0} (P : X → Type 0) (x : X) (xs : List X) → P x → All P xs → All P (x ∷ xs)
+all-cons P x xs here rest zero d low = here
+all-cons P x xs here rest (suc k) d low = rest k d (omega (arith, low))
+
+of_captures : (P : Output → Type 0) (ports : List ℕ) (others : List Output) → All P (map output.Capture ports ++ others) → All (λ q. P (output.Capture q)) ports
+of_captures P [] others all = λ k d low. absurd (omega (arith, low))
+of_captures P (p ∷ ports) others all =
+    all-cons (λ q. P (output.Capture q)) p ports (all 0 output.Journal (omega arith)) (of_captures P ports others (λ k d low. all (suc k) d (omega (arith, low))))
+
+of_others : (P : Output → Type 0) (ports : List ℕ) (others : List Output) → All P (map output.Capture ports ++ others) → All P others
+of_others P [] others all = all
+of_others P (p ∷ ports) others all = of_others P ports others (λ k d low. all (suc k) d (omega (arith, low)))
+
+of_one : (P : Output → Type 0) (o : Output) (xs : List Output) → IsIn o xs → All P xs → P o
+of_one P o [] is all = absurd is
+of_one P o (x ∷ xs) (inl same) all = subst P same (all 0 x (omega arith))
+of_one P o (x ∷ xs) (inr later) all = of_one P o xs later (λ k d low. all (suc k) d (omega (arith, low)))
+
+-- what holds of all that runs of a tree may write holds of what is made
+pub of_kind : (plan : Planned) (P : Output → Type 0) → All P (all_outputs plan.tree) → (o : Output) → IsMade plan.options plan.tree o → IsOfPort o → P o
+of_kind plan P all o made of_port = by_port (port_of o) refl
+  where
+    by_port : (p : Option ℕ) → port_of o ≡ p → P o
+    by_port (Some q) is =
+        let same : o ≡ output.Capture q = capture_is o q is in
+        let low : q < 4160 = subst IsOfPort same of_port in
+        let out : is_external plan.tree q ≡ true = subst (IsMadeAt plan.options plan.tree o) is made in
+        subst P (sym same)
+        (subst (λ (k : ℕ). P (output.Capture k)) (port_of_place plan q low out)
+        (of_captures P (external_ports plan.tree) other_outputs all (place_in plan.tree q) 0 (place_low plan q low out)))
+    by_port None is = of_one P o other_outputs (is_other o is) (of_others P (external_ports plan.tree) other_outputs all)

@@ -4,21 +4,17 @@ use Rattle.std.proofs.lemmas.Bool.{cases_lt, cases_eq, ne_eqb}
 use Rattle.std.proofs.lemmas.List.{append-nil, map-set, get_or-map, get_or_append_left, length-map, take_more}
 use Rattle.std.proofs.lemmas.Grind.{flat_map-append}
 use Rattle.std.proofs.Math.Seq.{get_or-append_seam}
-use Rattle.exb_model.specs.declared.event.Event.{Event}
-use Rattle.exb_model.specs.Texts.{line_of}
-use Rattle.exb_model.specs.Traces.{TraceLine, trace_line, trace_text}
 use Rattle.exb_shelf.specs.Files.{Files, SameFiles, Adds, Filled}
 use Rattle.exb_shelf.specs.Shelf.{Id, IsWriting, writing}
 use Rattle.exb_shelf.proofs.FileLemmas.{Apart}
 use Rattle.exb_text.specs.declared.output.Output.{Output}
-use Rattle.exb_text.specs.declared.output.Output.TheVariants as output
-use Rattle.exb_counters.specs.declared.counters.Counts5.{Counts5}
-use Rattle.exb_counters.specs.Counters.{count_line, count_lines}
 use Rattle.exb_outputs.specs.declared.outputs.Unfinished.{Unfinished}
 use Rattle.exb_outputs.specs.Plans.{Planned, IsMade, kind_at, output_count, output_name}
-use Rattle.exb_outputs.specs.Writing.{Holds, HasTexts, is_same, with_more, lines_of}
+use Rattle.exb_words.specs.Kinds.{is_same}
+use Rattle.exb_outputs.specs.Writing.{Holds, HasTexts, with_more}
 use Rattle.exb_outputs.proofs.Filling.{weaker, still_filled, one_more}
-use Rattle.exb_outputs.proofs.ByKind.{kind_is, kinds_differ, other_kind, same_itself}
+use Rattle.exb_outputs.proofs.ByKind.{kind_is, kinds_differ}
+use Rattle.exb_words.proofs.KindLemmas.{other_kind, same_itself}
 
 -- ---- by place
 -- each output has the text of its place
@@ -232,7 +228,7 @@ pub no_more : (plan : Planned) (f g : Files) (pieces : List (List ℕ)) (text : 
 no_more plan f g pieces text o = kinds_same plan f g pieces text (with_more text o []) (λ k. sym (with_more_nothing text o k))
 
 -- more, and then more
-more_behind : (plan : Planned) (f g : Files) (pieces : List (List ℕ)) (text : Output → List ℕ) (o : Output) (before one after : List ℕ) → before ++ one ≡ after
+pub more_behind : (plan : Planned) (f g : Files) (pieces : List (List ℕ)) (text : Output → List ℕ) (o : Output) (before one after : List ℕ) → before ++ one ≡ after
     → HasTexts plan pieces f g (with_more (with_more text o before) o one) → HasTexts plan pieces f g (with_more text o after)
 more_behind plan f g pieces text o before one after is =
     kinds_same plan f g pieces (with_more (with_more text o before) o one) (with_more text o after)
@@ -253,42 +249,6 @@ texts_more text xs i x inside is =
     ∙ sym (flat_map-append text (take i xs) (x ∷ []))
     ∙ ap (λ y. flat_map text (take i xs ++ y ∷ [])) is
     ∙ ap (flat_map text) (sym (take_more xs i x inside))
-
--- the line of one event more
-pub more_lines : (plan : Planned) (f g : Files) (pieces : List (List ℕ)) (text : Output → List ℕ) (events : List Event) (i : ℕ) (e : Event)
-    → i < length events → e ≡ get_or events i e
-    → HasTexts plan pieces f g (with_more (with_more text output.Journal (lines_of (take i events))) output.Journal (line_of e ++ 10 ∷ []))
-    → HasTexts plan pieces f g (with_more text output.Journal (lines_of (take (i + 1) events)))
-more_lines plan f g pieces text events i e inside is =
-    more_behind plan f g pieces text output.Journal (lines_of (take i events)) (line_of e ++ 10 ∷ []) (lines_of (take (i + 1) events))
-    (texts_more (λ (x : Event). line_of x ++ 10 ∷ []) events i e inside is)
-
--- one line of the trace more
-pub no_trace : trace_text [] ≡ []
-unfolding trace_text
-no_trace = refl
-
-pub trace_more : (lines : List TraceLine) (i : ℕ) (one : TraceLine) → i < length lines → one ≡ get_or lines i one
-    → trace_text (take i lines) ++ (trace_line one ++ 10 ∷ []) ≡ trace_text (take (i + 1) lines)
-unfolding trace_text
-trace_more lines i one inside is = texts_more (λ (x : TraceLine). trace_line x ++ 10 ∷ []) lines i one inside is
-
-pub more_trace : (plan : Planned) (f g : Files) (pieces : List (List ℕ)) (text : Output → List ℕ) (lines : List TraceLine) (i : ℕ) (one : TraceLine)
-    → i < length lines → one ≡ get_or lines i one
-    → HasTexts plan pieces f g (with_more (with_more text output.Trace (trace_text (take i lines))) output.Trace (trace_line one ++ 10 ∷ []))
-    → HasTexts plan pieces f g (with_more text output.Trace (trace_text (take (i + 1) lines)))
-more_trace plan f g pieces text lines i one inside is =
-    more_behind plan f g pieces text output.Trace (trace_text (take i lines)) (trace_line one ++ 10 ∷ []) (trace_text (take (i + 1) lines))
-    (trace_more lines i one inside is)
-
--- and one line of the counters
-pub more_counts : (plan : Planned) (f g : Files) (pieces : List (List ℕ)) (text : Output → List ℕ) (counts : ℕ → Counts5) (ports : List ℕ) (i q : ℕ)
-    → i < length ports → q ≡ get_or ports i q
-    → HasTexts plan pieces f g (with_more (with_more text output.Counters (count_lines counts (take i ports))) output.Counters (count_line q (counts q)))
-    → HasTexts plan pieces f g (with_more text output.Counters (count_lines counts (take (i + 1) ports)))
-more_counts plan f g pieces text counts ports i q inside is =
-    more_behind plan f g pieces text output.Counters (count_lines counts (take i ports)) (count_line q (counts q)) (count_lines counts (take (i + 1) ports))
-    (texts_more (λ (p : ℕ). count_line p (counts p)) ports i q inside is)
 
 -- a kind that isn't made has no file
 pub unmade : (plan : Planned) (o : Output) (j : ℕ) → j < output_count plan → (IsMade plan.options plan.tree o → ⊥) → kind_at plan j ≢ o

@@ -8,16 +8,13 @@ use Rattle.std.proofs.lemmas.List.Sums.{sum_by-append}
 use Rattle.exb_model.specs.FlatBridge.{Sent}
 use Rattle.exb_model.specs.Texts.{record_text}
 use Rattle.exb_model.specs.Tree.{is_external}
-use Rattle.exb_counters.specs.declared.counters.Counters.{Counters}
-use Rattle.exb_counters.specs.declared.counters.Counts5.{Counts5}
-use Rattle.exb_counters.specs.Counting.{counts_at}
 use Rattle.exb_shelf.specs.Shelf.{Id}
 use Rattle.exb_text.specs.declared.output.Output.{Output}
 use Rattle.exb_text.specs.declared.output.Output.TheVariants as output
 use Rattle.exb_outputs.specs.declared.outputs.Outputs.{Outputs}
 use Rattle.exb_outputs.specs.declared.outputs.Unfinished.{Unfinished}
 use Rattle.exb_outputs.specs.Plans.{Planned, kind_at, output_count, place_in, port_at, port_count}
-use Rattle.exb_outputs.specs.Sent.{AreCountedAt, GrowsAt, HasSent, IsCountedAt, SameCaptures, capture_size, counts_with, frames_at, records_of, sent_more, size_at, sizes_of}
+use Rattle.exb_outputs.specs.Sent.{AreCountedAt, GrowsAt, HasSent, IsCountedAt, SameCaptures, capture_size, frames_at, records_of, sent_more, size_at, sizes_of}
 use Rattle.exb_outputs.specs.Writing.{IsReady, first_text, ids_of}
 use Rattle.exb_outputs.proofs.ByKind.{placed}
 use Rattle.exb_outputs.proofs.Places.{place_low, place_of_port, port_of_place}
@@ -215,17 +212,6 @@ counted_same plan old new q low out same is =
     let whole = is.whole in
     let fits = is.fits in
     record { whole = omega (arith, frames, size, whole); fits = omega (arith, size, fits) }
-
--- ---- counts of a port
-pub fives : (c d : Counts5) → c.relayed ≡ d.relayed → c.dropped ≡ d.dropped → c.ignored ≡ d.ignored → c.left ≡ d.left → c.octets ≡ d.octets → c ≡ d
-fives c d r p g l o = λ i. record { relayed = r i; dropped = p i; ignored = g i; left = l i; octets = o i }
-
-pub counts_same : (plan : Planned) (old new : Outputs) (c : Counters) (q : ℕ) → q < 4160 → is_external plan.tree q ≡ true → SameCaptures plan old new → counts_with plan new c q ≡ counts_with plan old c q
-counts_same plan old new c q low out same =
-    let s = same.each q low out in
-    let frames = s.0 in
-    let size = s.1 in
-    fives (counts_with plan new c q) (counts_with plan old c q) refl refl refl frames (omega (arith, frames, size))
 
 -- of the port of a capture, by its file
 module _ (plan : Planned) (o : Outputs) (at : ℕ) (file : Unfinished) (low : at < port_count plan) (inside : at < length o.files.items) (read : file ≡ get_or o.files.items at file) where

@@ -11,6 +11,10 @@ use Rattle.exb_outputs.specs.Plans.{IsMade}
 abbrev pub OnlyOutputs : Options → Shape → List ℕ → Files → Files → Type 0
 OnlyOutputs options tree prefix old new = (m : List ℕ) → ((o : Output) → IsMade options tree o → m ≢ file_name prefix o) → new m ≡ old m
 
+-- the file of each kind that is made holds the text of its kind
+abbrev pub AreWhole : Options → Shape → List ℕ → Files → (Output → List ℕ) → Type 0
+AreWhole options tree prefix new text = (o : Output) → IsMade options tree o → new (file_name prefix o) ≡ Some (text o)
+
 -- ---- where a run ended early
 -- a file is as it was, or holds a front of a text
 abbrev pub IsCut : Option (List ℕ) → Option (List ℕ) → List ℕ → Type 0

@@ -1,12 +1,13 @@
--- What a run writes: a capture for each external port of a tree, the journal, and by its options more.
-use Rattle.std.specs.Prelude.{◌≡◌, ◌≢◌, ◌<◌, ◌+◌, ◌-◌, ℕ, Bool, true, if◌then◌else◌, List, filter, get_or, length, nat_lt, slice_index}
+-- What a run writes: a capture for each external port of a tree, and the other kinds that are asked for.
+use Rattle.std.specs.Prelude.{◌≡◌, ◌≢◌, ◌<◌, ◌+◌, ◌-◌, ℕ, true, if◌then◌else◌, List, Option, Some, None, filter, get_or, length, nat_lt, slice_index}
 use Rattle.exb_model.specs.Ports.{below}
 use Rattle.exb_model.specs.Tree.{Shape, is_external, external_ports}
 use Rattle.exb_shelf.specs.Files.{Files}
 use Rattle.exb_text.specs.declared.output.Output.{Output}
 use Rattle.exb_text.specs.declared.output.Output.TheVariants as output
-use Rattle.exb_text.specs.Names.{file_name, other_outputs}
+use Rattle.exb_text.specs.Names.{file_name}
 use Rattle.exb_words.specs.declared.asked.Options.{Options}
+use Rattle.exb_words.specs.Kinds.{is_asked, kinds_behind, place_behind, port_of}
 
 -- a tree, what the names of all files begin with, and what is asked for
 pub record Planned : Type 0 where
@@ -15,23 +16,13 @@ pub record Planned : Type 0 where
   pub options : Options
 
 -- ---- kinds
--- a kind of output is asked for
-abbrev pub is_asked : Options → Output → Bool
-is_asked o (output.Capture q) = true
-is_asked o output.Journal = true
-is_asked o output.Trace = o.trace
-is_asked o output.Counters = o.counters
+-- a capture is made of each external port of a tree, and each other kind where it is asked for
+abbrev pub IsMadeAt : Options → Shape → Output → Option ℕ → Type 0
+IsMadeAt o t k (Some q) = is_external t q ≡ true
+IsMadeAt o t k None = is_asked o k ≡ true
 
--- it is made in a run of a tree
 abbrev pub IsMade : Options → Shape → Output → Type 0
-IsMade o t (output.Capture q) = is_external t q ≡ true
-IsMade o t output.Journal = Unit {0}
-IsMade o t output.Trace = o.trace ≡ true
-IsMade o t output.Counters = o.counters ≡ true
-
--- the kinds behind the captures, in the order in which they are made
-abbrev pub kinds_behind : Options → List Output
-kinds_behind o = filter (is_asked o) other_outputs
+IsMade o t k = IsMadeAt o t k (port_of k)
 
 -- ---- places
 
@@ -55,12 +46,13 @@ kind_at plan j = if nat_lt j (port_count plan) then output.Capture (port_at plan
 abbrev pub place_in : Shape → ℕ → ℕ
 place_in tree q = length (filter (is_external tree) (below q))
 
--- the place of the file of a kind
+-- the place of the file of a kind: that of its port, or one behind the captures
+abbrev pub place_at : Planned → Output → Option ℕ → ℕ
+place_at plan o (Some q) = place_in plan.tree q
+place_at plan o None = port_count plan + place_behind plan.options o
+
 abbrev pub place_of : Planned → Output → ℕ
-place_of plan (output.Capture q) = place_in plan.tree q
-place_of plan output.Journal = port_count plan
-place_of plan output.Trace = port_count plan + 1
-place_of plan output.Counters = port_count plan + (if plan.options.trace then 2 else 1)
+place_of plan o = place_at plan o (port_of o)
 
 -- a row with the external ports of a tree in order, and a table with the place of each port
 pub record ArePlaced (tree : Shape) (row table : List ℕ) : Type 0 where

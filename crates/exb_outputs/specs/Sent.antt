@@ -1,11 +1,8 @@
--- What is counted of captures while they are written: records and bytes, and the counts of a port by them.
+-- What is counted of captures while they are written: records and bytes.
 use Rattle.std.specs.Prelude.{◌≡◌, ◌≢◌, ◌≤◌, ◌<◌, ◌+◌, ◌-◌, ◌*◌, ◌^◌, ◌==◌, ◌++◌, true, ℕ, List, [], ◌∷◌, length, map, if◌then◌else◌, slice_index}
 use Rattle.exb_model.specs.FlatBridge.{Sent}
 use Rattle.exb_model.specs.Tree.{is_external}
-use Rattle.exb_counters.specs.declared.counters.Counters.{Counters}
-use Rattle.exb_counters.specs.declared.counters.Counts5.{Counts5}
 use Rattle.exb_counters.specs.Counters.{octets_of}
-use Rattle.exb_counters.specs.Counting.{counts_at}
 use Rattle.exb_outputs.specs.declared.outputs.Outputs.{Outputs}
 use Rattle.exb_outputs.specs.Plans.{Planned, place_in}
 
@@ -48,7 +45,7 @@ pub record HasSent (plan : Planned) (o : Outputs) (sent : ℕ → List Sent) : T
 abbrev pub sent_more : (ℕ → List Sent) → ℕ → Sent → ℕ → List Sent
 sent_more sent p x q = if p == q then sent q ++ x ∷ [] else sent q
 
--- ---- the counts of a port
+-- ---- where all is counted
 -- the bytes of a capture are all counted, and are no fewer than those beside its frames
 pub record IsCountedAt (plan : Planned) (o : Outputs) (q : ℕ) : Type 0 where
   pub whole : 24 + 16 * frames_at plan o q ≤ size_at plan o q
@@ -56,14 +53,3 @@ pub record IsCountedAt (plan : Planned) (o : Outputs) (q : ℕ) : Type 0 where
 
 abbrev pub AreCountedAt : Planned → Outputs → Type 0
 AreCountedAt plan o = (q : ℕ) → q < 4160 → is_external plan.tree q ≡ true → IsCountedAt plan o q
-
--- the counts of port q: what came in, by the counters, and what left, by the capture
-abbrev pub counts_with : Planned → Outputs → Counters → ℕ → Counts5
-counts_with plan o c q =
-    record {
-      relayed = (counts_at c q).relayed;
-      dropped = (counts_at c q).dropped;
-      ignored = (counts_at c q).ignored;
-      left = frames_at plan o q;
-      octets = size_at plan o q - 24 - 16 * frames_at plan o q;
-    }

@@ -1,14 +1,14 @@
 -- The outputs while they are written: each file, followed by the piece that is not written yet, is its
 -- text so far.
-use Rattle.std.specs.Prelude.{◌≡◌, ◌<◌, ◌*◌, ◌^◌, ◌==◌, ◌++◌, Bool, true, false, ℕ, List, [], ◌∷◌, map, flat_map, length, if◌then◌else◌, slice_index, slice_index_or}
+use Rattle.std.specs.Prelude.{◌≡◌, ◌<◌, ◌*◌, ◌^◌, ◌++◌, true, ℕ, List, [], ◌∷◌, Option, Some, None, map, flat_map, length, if◌then◌else◌, slice_index, slice_index_or}
 use Rattle.exb_model.specs.declared.event.Event.{Event}
 use Rattle.exb_model.specs.Tree.{is_external}
 use Rattle.exb_model.specs.Texts.{capture_header, line_of}
 use Rattle.exb_shelf.specs.Files.{Files, Cut, Filled}
 use Rattle.exb_text.specs.declared.output.Output.{Output}
-use Rattle.exb_text.specs.declared.output.Output.TheVariants as output
 use Rattle.exb_shelf.specs.Shelf.{Id, writing}
 use Rattle.exb_outputs.specs.declared.outputs.Outputs.{Outputs}
+use Rattle.exb_words.specs.Kinds.{is_same, port_of}
 use Rattle.exb_outputs.specs.Plans.{Planned, kind_at, output_count, output_name}
 
 -- the ids of their files
@@ -37,19 +37,12 @@ pub record IsReady (plan : Planned) (given : ℕ → Id) (o : Outputs) : Type 0 
   pub named : (j : ℕ) → j < output_count plan → given (slice_index (ids_of o) j) ≡ writing (output_name plan j)
 
 -- what the outputs begin with: captures with their header
-abbrev pub first_text : Output → List ℕ
-first_text (output.Capture q) = capture_header
-first_text output.Journal = []
-first_text output.Trace = []
-first_text output.Counters = []
+abbrev pub first_at : Option ℕ → List ℕ
+first_at (Some q) = capture_header
+first_at None = []
 
--- they are of one kind, and of one port
-abbrev pub is_same : Output → Output → Bool
-is_same (output.Capture p) (output.Capture q) = p == q
-is_same output.Journal output.Journal = true
-is_same output.Trace output.Trace = true
-is_same output.Counters output.Counters = true
-is_same _ _ = false
+abbrev pub first_text : Output → List ℕ
+first_text o = first_at (port_of o)
 
 -- the texts, where that of one kind has this more
 abbrev pub with_more : (Output → List ℕ) → Output → List ℕ → Output → List ℕ

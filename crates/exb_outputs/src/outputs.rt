@@ -1,40 +1,28 @@
 //! The output files while they are written.
-ghost use Rattle.std.specs.Prelude.{◌≡◌, ◌≢◌, true, ◌≤◌, ◌<◌, ◌+◌, ◌*◌, ◌^◌, ◌++◌, ℕ, List, [], length, IfOk, OnOk, OnErr, IfErr, string_bytes, ◌∷◌, ◌⊎◌};
+ghost use Rattle.std.specs.Prelude.{◌≡◌, ◌≢◌, true, ◌≤◌, ◌<◌, ◌+◌, ◌^◌, ◌++◌, ℕ, List, [], length, None, IfOk, OnOk, OnErr, IfErr, string_bytes, ◌∷◌, ◌⊎◌};
 ghost use Rattle.exb_shelf.specs.Files.{Files, SameFiles, Puts, Adds, AddsFront, Filled};
 ghost use Rattle.exb_shelf.specs.Shelf.{IsWriting, Opens, writing};
+ghost use Rattle.exb_words.specs.Kinds.{is_asked, port_of};
 ghost use Rattle.exb_outputs.specs.Plans.{Planned, kind_at, output_count, output_name, port_at, port_count};
 ghost use Rattle.exb_outputs.specs.Order.{MakesFile, MakesInOrder};
 ghost use Rattle.exb_inputs.specs.Shelving.{CountsFaults};
 ghost use Rattle.exb_outputs.specs.Shelving.{IsOfWriting, OnlyMakes, OnlyWrites, WritesPlanned};
-ghost use Rattle.exb_counters.specs.Counters.{count_line, count_lines};
-ghost use Rattle.exb_counters.specs.Counting.{HasPort};
 ghost use Rattle.exb_model.specs.FlatBridge.{Sent};
-ghost use Rattle.exb_model.specs.Texts.{line_of, record_text as record_of};
-ghost use Rattle.exb_model.specs.Traces.{trace_line, trace_text};
-ghost use Rattle.exb_model.specs.Tree.{external_ports, is_external};
+ghost use Rattle.exb_model.specs.Texts.{record_text as record_of};
 ghost use Rattle.exb_text.specs.declared.output.Output.{Output};
 ghost use Rattle.exb_text.specs.declared.output.Output.TheVariants as output;
-ghost use Rattle.exb_outputs.specs.Sent.{AreCountedAt, GrowsAt, HasSent, IsCountedAt, SameCaptures, counts_with, records_of, sent_more, sizes_of};
-ghost use Rattle.exb_outputs.specs.Writing.{ids_of, pieces_of, AreCut, CanBeRecorded, HasTexts, IsReady, first_text, with_more, lines_of};
+ghost use Rattle.exb_outputs.specs.Sent.{GrowsAt, HasSent, SameCaptures, frames_at, records_of, sent_more, size_at, sizes_of};
+ghost use Rattle.exb_outputs.specs.Writing.{ids_of, pieces_of, AreCut, CanBeRecorded, HasTexts, IsReady, first_text, with_more};
 
 use crate::plan::Plan;
 use exb_capture::{header_text, record_text};
-use exb_counters::{Counters, Counts5, write_count_line};
 use exb_inputs::Fault;
-use exb_model::event::Event;
 use exb_model::memory::NoMemory;
 use exb_model::port::PortId;
-use exb_model::trace::TraceLine;
 use exb_shelf::{PIECE, Shelf, write_text};
 use exb_text::laws::file_names_differ;
-use exb_text::{Output, file_name, write_line, write_trace_line};
+use exb_text::{Output, file_name};
 use std::alloc::Global;
-
-/// How many bytes a capture has before its first record.
-const HEADER: u64 = 24;
-
-/// How many bytes a record has before its frame.
-const RECORD: u64 = 16;
 
 /// An output while it is written.
 #[derive(Drop)]
@@ -192,31 +180,6 @@ fn add<S: Shelf>(
 }
 
 impl Outputs {
-    /// Puts the lines of events behind the journal. `line` is room for one line.
-    pub fn write_events<S: Shelf>(
-        &mut self,
-        shelf: &mut S,
-        plan: &Plan,
-        line: &mut String,
-        events: &[Event],
-    ) -> Result<(), Fault>
-        requires ready { IsReady plan.now (S.ids shelf.old) self.old }
-        ensures ready { IsReady plan.now (S.ids shelf.new) self.new }
-        ensures texts { S.tells → OnOk result ((orig : Files) (text : Output → List ℕ) → HasTexts plan.now (pieces_of self.old) orig (S.file shelf.old) text
-            → HasTexts plan.now (pieces_of self.new) orig (S.file shelf.new) (with_more text output.Journal (lines_of events.now))) }
-        ensures cut { S.tells → OnErr result ((orig : Files) (text : Output → List ℕ) → HasTexts plan.now (pieces_of self.old) orig (S.file shelf.old) text
-            → AreCut plan.now orig (S.file shelf.new) (with_more text output.Journal (lines_of events.now))) }
-        ensures same { OnOk result (SameCaptures plan.now self.old self.new) }
-        ensures only { OnlyWrites S.tells plan.now (S.file shelf.old) (S.file shelf.new) (S.ids shelf.old) (S.ids shelf.new) }
-        ensures causes { IfErr result IsOfWriting }
-        ensures faults { CountsFaults result (S.faults shelf.old) (S.faults shelf.new) }
-    {
-        for event in events {
-            self.add_event(shelf, plan, line, event)?;
-        }
-        Ok(())
-    }
-
     /// Puts a frame that left a port behind the port's capture, with the moment of its record in nanoseconds.
     pub fn write_frame<S: Shelf>(
         &mut self,
@@ -246,88 +209,6 @@ impl Outputs {
         add(shelf, file, &head, bytes)
     }
 
-    /// Puts lines behind the trace, where it is asked for. `line` is room for one line.
-    pub fn write_trace<S: Shelf>(
-        &mut self,
-        shelf: &mut S,
-        plan: &Plan,
-        line: &mut Vec<u8>,
-        lines: &[TraceLine],
-    ) -> Result<(), Fault>
-        requires ready { IsReady plan.now (S.ids shelf.old) self.old }
-        ensures ready { IsReady plan.now (S.ids shelf.new) self.new }
-        ensures texts { S.tells → OnOk result ((orig : Files) (text : Output → List ℕ) → HasTexts plan.now (pieces_of self.old) orig (S.file shelf.old) text
-            → HasTexts plan.now (pieces_of self.new) orig (S.file shelf.new) (with_more text output.Trace (trace_text lines.now))) }
-        ensures cut { S.tells → OnErr result ((orig : Files) (text : Output → List ℕ) → HasTexts plan.now (pieces_of self.old) orig (S.file shelf.old) text
-            → AreCut plan.now orig (S.file shelf.new) (with_more text output.Trace (trace_text lines.now))) }
-        ensures same { OnOk result (SameCaptures plan.now self.old self.new) }
-        ensures only { OnlyWrites S.tells plan.now (S.file shelf.old) (S.file shelf.new) (S.ids shelf.old) (S.ids shelf.new) }
-        ensures causes { IfErr result IsOfWriting }
-        ensures faults { CountsFaults result (S.faults shelf.old) (S.faults shelf.new) }
-    {
-        if plan.options().trace {
-            self.add_lines(shelf, plan, line, lines)
-        } else {
-            Ok(())
-        }
-    }
-
-    /// Puts lines behind the trace, which is asked for.
-    fn add_lines<S: Shelf>(
-        &mut self,
-        shelf: &mut S,
-        plan: &Plan,
-        line: &mut Vec<u8>,
-        lines: &[TraceLine],
-    ) -> Result<(), Fault>
-        requires traced { plan.now.options.trace ≡ true }
-        requires ready { IsReady plan.now (S.ids shelf.old) self.old }
-        ensures ready { IsReady plan.now (S.ids shelf.new) self.new }
-        ensures texts { S.tells → OnOk result ((orig : Files) (text : Output → List ℕ) → HasTexts plan.now (pieces_of self.old) orig (S.file shelf.old) text
-            → HasTexts plan.now (pieces_of self.new) orig (S.file shelf.new) (with_more text output.Trace (trace_text lines.now))) }
-        ensures cut { S.tells → OnErr result ((orig : Files) (text : Output → List ℕ) → HasTexts plan.now (pieces_of self.old) orig (S.file shelf.old) text
-            → AreCut plan.now orig (S.file shelf.new) (with_more text output.Trace (trace_text lines.now))) }
-        ensures same { OnOk result (SameCaptures plan.now self.old self.new) }
-        ensures only { OnlyWrites S.tells plan.now (S.file shelf.old) (S.file shelf.new) (S.ids shelf.old) (S.ids shelf.new) }
-        ensures causes { IfErr result IsOfWriting }
-        ensures faults { CountsFaults result (S.faults shelf.old) (S.faults shelf.new) }
-    {
-        for one in lines {
-            self.add_line(shelf, plan, line, one)?;
-        }
-        Ok(())
-    }
-
-    /// Puts the lines of all counts behind the counters, which are asked for: what came in, by these counters, and what left, by the
-    /// captures. `line` is room for one line.
-    pub fn write_counters<S: Shelf>(
-        &mut self,
-        shelf: &mut S,
-        plan: &Plan,
-        line: &mut Vec<u8>,
-        counters: &Counters,
-    ) -> Result<(), Fault>
-        requires asked { plan.now.options.counters ≡ true }
-        requires ports { (q : ℕ) → q < 4160 → is_external plan.now.tree q ≡ true → HasPort counters.now q }
-        requires counted { AreCountedAt plan.now self.old }
-        requires ready { IsReady plan.now (S.ids shelf.old) self.old }
-        ensures ready { IsReady plan.now (S.ids shelf.new) self.new }
-        ensures texts { S.tells → OnOk result ((orig : Files) (text : Output → List ℕ) → HasTexts plan.now (pieces_of self.old) orig (S.file shelf.old) text
-            → HasTexts plan.now (pieces_of self.new) orig (S.file shelf.new) (with_more text output.Counters (count_lines (counts_with plan.now self.old counters.now) (external_ports plan.now.tree)))) }
-        ensures cut { S.tells → OnErr result ((orig : Files) (text : Output → List ℕ) → HasTexts plan.now (pieces_of self.old) orig (S.file shelf.old) text
-            → AreCut plan.now orig (S.file shelf.new) (with_more text output.Counters (count_lines (counts_with plan.now self.old counters.now) (external_ports plan.now.tree)))) }
-        ensures same { OnOk result (SameCaptures plan.now self.old self.new) }
-        ensures only { OnlyWrites S.tells plan.now (S.file shelf.old) (S.file shelf.new) (S.ids shelf.old) (S.ids shelf.new) }
-        ensures causes { IfErr result IsOfWriting }
-        ensures faults { CountsFaults result (S.faults shelf.old) (S.faults shelf.new) }
-    {
-        for at in 0..plan.count() {
-            let counts = self.counts_of(plan, at, counters);
-            self.add_count(shelf, plan, line, plan.port(at), &counts)?;
-        }
-        Ok(())
-    }
-
     /// Writes all that is not written yet.
     pub fn finish<S: Shelf>(&mut self, shelf: &mut S, plan: &Plan) -> Result<(), Fault>
         requires ready { IsReady plan.now (S.ids shelf.old) self.old }
@@ -346,105 +227,51 @@ impl Outputs {
         Ok(())
     }
 
-    /// Puts the line of an event behind the journal.
-    fn add_event<S: Shelf>(
+    /// Puts bytes behind the file of a kind that is asked for and is no capture.
+    pub fn write<S: Shelf>(
         &mut self,
         shelf: &mut S,
         plan: &Plan,
-        line: &mut String,
-        event: &Event,
+        kind: Output,
+        bytes: &[u8],
     ) -> Result<(), Fault>
+        requires asked { is_asked plan.now.options kind ≡ true }
+        requires behind { port_of kind ≡ None }
         requires ready { IsReady plan.now (S.ids shelf.old) self.old }
         ensures ready { IsReady plan.now (S.ids shelf.new) self.new }
         ensures texts { S.tells → OnOk result ((orig : Files) (text : Output → List ℕ) → HasTexts plan.now (pieces_of self.old) orig (S.file shelf.old) text
-            → HasTexts plan.now (pieces_of self.new) orig (S.file shelf.new) (with_more text output.Journal (line_of event.now ++ 10 ∷ []))) }
+            → HasTexts plan.now (pieces_of self.new) orig (S.file shelf.new) (with_more text kind bytes.now)) }
         ensures cut { S.tells → OnErr result ((orig : Files) (text : Output → List ℕ) → HasTexts plan.now (pieces_of self.old) orig (S.file shelf.old) text
-            → AreCut plan.now orig (S.file shelf.new) (with_more text output.Journal (line_of event.now ++ 10 ∷ []))) }
+            → AreCut plan.now orig (S.file shelf.new) (with_more text kind bytes.now)) }
         ensures same { OnOk result (SameCaptures plan.now self.old self.new) }
         ensures only { OnlyWrites S.tells plan.now (S.file shelf.old) (S.file shelf.new) (S.ids shelf.old) (S.ids shelf.new) }
         ensures causes { IfErr result IsOfWriting }
         ensures faults { CountsFaults result (S.faults shelf.old) (S.faults shelf.new) }
     {
-        line.clear();
-        if write_line(line, event).is_err() {
-            return Err(Fault::Memory);
-        }
-        self.add_to(shelf, plan, plan.journal(), &[], line.as_bytes())
+        let at = plan.place_behind(kind);
+        self.add_to(shelf, plan, at, bytes)
     }
 
-    /// Puts a line behind the trace, which is asked for.
-    fn add_line<S: Shelf>(
-        &mut self,
-        shelf: &mut S,
-        plan: &Plan,
-        line: &mut Vec<u8>,
-        one: &TraceLine,
-    ) -> Result<(), Fault>
-        requires traced { plan.now.options.trace ≡ true }
-        requires ready { IsReady plan.now (S.ids shelf.old) self.old }
-        ensures ready { IsReady plan.now (S.ids shelf.new) self.new }
-        ensures texts { S.tells → OnOk result ((orig : Files) (text : Output → List ℕ) → HasTexts plan.now (pieces_of self.old) orig (S.file shelf.old) text
-            → HasTexts plan.now (pieces_of self.new) orig (S.file shelf.new) (with_more text output.Trace (trace_line one.now ++ 10 ∷ []))) }
-        ensures cut { S.tells → OnErr result ((orig : Files) (text : Output → List ℕ) → HasTexts plan.now (pieces_of self.old) orig (S.file shelf.old) text
-            → AreCut plan.now orig (S.file shelf.new) (with_more text output.Trace (trace_line one.now ++ 10 ∷ []))) }
-        ensures same { OnOk result (SameCaptures plan.now self.old self.new) }
-        ensures only { OnlyWrites S.tells plan.now (S.file shelf.old) (S.file shelf.new) (S.ids shelf.old) (S.ids shelf.new) }
-        ensures causes { IfErr result IsOfWriting }
-        ensures faults { CountsFaults result (S.faults shelf.old) (S.faults shelf.new) }
-    {
-        line.clear();
-        if write_trace_line(line, one).is_err() {
-            return Err(Fault::Memory);
-        }
-        self.add_to(shelf, plan, plan.trace(), &[], line.as_slice())
-    }
-
-    /// The counts of the port of capture `at`.
-    fn counts_of(&self, plan: &Plan, at: u16, counters: &Counters) -> Counts5
+    /// How many frames were put behind capture `at`.
+    pub fn frames_of(&self, plan: &Plan, at: u16) -> u64
         requires within { at < port_count plan.now }
         requires files { port_count plan.now ≤ length self.now.files.items }
-        requires port { HasPort counters.now (port_at plan.now at) }
-        requires counted { IsCountedAt plan.now self.now (port_at plan.now at) }
-        ensures { result ≡ counts_with plan.now self.now counters.now (port_at plan.now at) }
+        ensures { result ≡ frames_at plan.now self.now (port_at plan.now at) }
+    {
+        let file = &self.files[at as usize];
+        file.records
+    }
+
+    /// How many bytes capture `at` has.
+    pub fn size_of(&self, plan: &Plan, at: u16) -> u64
+        requires within { at < port_count plan.now }
+        requires files { port_count plan.now ≤ length self.now.files.items }
+        requires fits { size_at plan.now self.now (port_at plan.now at) < 2 ^ 64 }
+        ensures { result ≡ size_at plan.now self.now (port_at plan.now at) }
     {
         let file = &self.files[at as usize];
         let size = file.written + file.piece.len() as u64;
-        let came = counters.line(plan.port(at));
-        Counts5 {
-            relayed: came.relayed,
-            dropped: came.dropped,
-            ignored: came.ignored,
-            left: file.records,
-            octets: size - HEADER - RECORD * file.records,
-        }
-    }
-
-    /// Puts the line of a port's counts behind the counters, which are asked for.
-    fn add_count<S: Shelf>(
-        &mut self,
-        shelf: &mut S,
-        plan: &Plan,
-        line: &mut Vec<u8>,
-        port: PortId,
-        counts: &Counts5,
-    ) -> Result<(), Fault>
-        requires asked { plan.now.options.counters ≡ true }
-        requires ready { IsReady plan.now (S.ids shelf.old) self.old }
-        ensures ready { IsReady plan.now (S.ids shelf.new) self.new }
-        ensures texts { S.tells → OnOk result ((orig : Files) (text : Output → List ℕ) → HasTexts plan.now (pieces_of self.old) orig (S.file shelf.old) text
-            → HasTexts plan.now (pieces_of self.new) orig (S.file shelf.new) (with_more text output.Counters (count_line port counts.now))) }
-        ensures cut { S.tells → OnErr result ((orig : Files) (text : Output → List ℕ) → HasTexts plan.now (pieces_of self.old) orig (S.file shelf.old) text
-            → AreCut plan.now orig (S.file shelf.new) (with_more text output.Counters (count_line port counts.now))) }
-        ensures same { OnOk result (SameCaptures plan.now self.old self.new) }
-        ensures only { OnlyWrites S.tells plan.now (S.file shelf.old) (S.file shelf.new) (S.ids shelf.old) (S.ids shelf.new) }
-        ensures causes { IfErr result IsOfWriting }
-        ensures faults { CountsFaults result (S.faults shelf.old) (S.faults shelf.new) }
-    {
-        line.clear();
-        if write_count_line(line, port, counts).is_err() {
-            return Err(Fault::Memory);
-        }
-        self.add_to(shelf, plan, plan.counters(), &[], line.as_slice())
+        size
     }
 
     /// Puts bytes behind output `at`.
@@ -453,23 +280,22 @@ impl Outputs {
         shelf: &mut S,
         plan: &Plan,
         at: u16,
-        head: &[u8],
         bytes: &[u8],
     ) -> Result<(), Fault>
         requires ready { IsReady plan.now (S.ids shelf.old) self.old }
         requires within { at < output_count plan.now }
         ensures ready { IsReady plan.now (S.ids shelf.new) self.new }
         ensures texts { S.tells → OnOk result ((orig : Files) (text : Output → List ℕ) → HasTexts plan.now (pieces_of self.old) orig (S.file shelf.old) text
-            → HasTexts plan.now (pieces_of self.new) orig (S.file shelf.new) (with_more text (kind_at plan.now at) (head.now ++ bytes.now))) }
+            → HasTexts plan.now (pieces_of self.new) orig (S.file shelf.new) (with_more text (kind_at plan.now at) bytes.now)) }
         ensures cut { S.tells → OnErr result ((orig : Files) (text : Output → List ℕ) → HasTexts plan.now (pieces_of self.old) orig (S.file shelf.old) text
-            → AreCut plan.now orig (S.file shelf.new) (with_more text (kind_at plan.now at) (head.now ++ bytes.now))) }
-        ensures grows { OnOk result (GrowsAt at (length (head.now ++ bytes.now)) self.old self.new) }
+            → AreCut plan.now orig (S.file shelf.new) (with_more text (kind_at plan.now at) bytes.now)) }
+        ensures grows { OnOk result (GrowsAt at (length bytes.now) self.old self.new) }
         ensures only { OnlyWrites S.tells plan.now (S.file shelf.old) (S.file shelf.new) (S.ids shelf.old) (S.ids shelf.new) }
         ensures causes { IfErr result IsOfWriting }
         ensures faults { CountsFaults result (S.faults shelf.old) (S.faults shelf.new) }
     {
         output_names_differ();
         let at = at as usize;
-        add(shelf, &mut self.files[at], head, bytes)
+        add(shelf, &mut self.files[at], &[], bytes)
     }
 }

@@ -1,9 +1,9 @@
-//! What a run writes under a prefix: a capture for each external port of a tree, the journal, and by its options more.
-ghost use Rattle.std.specs.Prelude.{◌≡◌, ◌<◌, ◌≤◌, ◌++◌, ◌∷◌, [], if◌then◌else◌, get_or, length, IfOk, OnOk};
+//! What a run writes under a prefix: a capture for each external port of a tree, and the other kinds that are asked for.
+ghost use Rattle.std.specs.Prelude.{◌≡◌, ◌<◌, ◌≤◌, ◌+◌, ◌++◌, ◌∷◌, [], if◌then◌else◌, IfOk, OnOk};
 ghost use Rattle.exb_model.specs.Setup.{IsValid, shape_of};
 ghost use Rattle.exb_model.specs.Tree.{IsTree};
-ghost use Rattle.exb_text.specs.declared.output.Output.TheVariants as output;
-ghost use Rattle.exb_outputs.specs.Plans.{ArePlaced, kind_at, kinds_behind, output_count, place_in, place_of, port_at, port_count};
+ghost use Rattle.exb_words.specs.Kinds.{place_behind};
+ghost use Rattle.exb_outputs.specs.Plans.{ArePlaced, kind_at, output_count, place_in, port_at, port_count};
 
 use exb_model::memory::NoMemory;
 use exb_model::port::PortId;
@@ -11,7 +11,7 @@ use exb_model::setup::Setup;
 use exb_model::text::Text;
 use exb_model::tree::Tree;
 use exb_text::Output;
-use exb_words::Options;
+use exb_words::{Kinds, Options};
 use std::alloc::Global;
 use std::marker::Model;
 
@@ -27,15 +27,16 @@ struct Places {
     places: Vec<u16>,
 }
 
-/// What a run writes: the capture of each external port of a tree in port order, then the journal, the trace where it is asked for,
-/// and last the counters where they are.
+/// What a run writes: the capture of each external port of a tree in port order, and then the other kinds that are asked for, in
+/// their order.
 #[derive(Drop)]
 pub struct Plan {
     tree: Tree,
     places: Places,
     /// What each name of a file begins with.
     prefix: Text,
-    options: Options,
+    /// What is asked for, and the kinds behind the captures.
+    kinds: Kinds,
 }
 
 impl Model for Plan {
@@ -43,7 +44,7 @@ impl Model for Plan {
 
     ghost Value = { Planned };
 
-    ghost view = { λ p. record { tree = p.tree; prefix = p.prefix; options = p.options } };
+    ghost view = { λ p. record { tree = p.tree; prefix = p.prefix; options = p.kinds } };
 
     ghost invariant = { λ p. ArePlaced p.tree p.places.ports.items p.places.places.items };
 }
@@ -72,31 +73,6 @@ fn places_of(alloc: Global, tree: &Tree) -> Result<Places, NoMemory>
     Ok(Places { ports, places })
 }
 
-/// How many kinds of files there are behind the captures.
-fn count_behind(options: Options) -> u16
-    ensures value { result ≡ length (kinds_behind options) }
-    ensures range { result ≤ 3 }
-{
-    match (options.trace, options.counters) {
-        (true, true) => 3,
-        (true, false) => 2,
-        (false, true) => 2,
-        (false, false) => 1,
-    }
-}
-
-/// The kind of a file behind the captures, counted from 0.
-fn kind_behind(options: Options, at: u16) -> Output
-    requires { at < length (kinds_behind options) }
-    ensures { result ≡ get_or (kinds_behind options) at output.Journal }
-{
-    match (at, options.trace) {
-        (0, _) => Output::Journal,
-        (1, true) => Output::Trace,
-        _ => Output::Counters,
-    }
-}
-
 impl Plan {
     /// What a run of a setup writes under a prefix.
     pub fn new(
@@ -113,11 +89,12 @@ impl Plan {
         let tree = Tree::new(alloc, setup)?;
         let places = places_of(alloc, &tree)?;
         let prefix = Text::from_str(alloc, prefix)?;
+        let kinds = Kinds::new(alloc, options)?;
         Ok(Plan {
             tree,
             places,
             prefix,
-            options,
+            kinds,
         })
     }
 
@@ -130,7 +107,7 @@ impl Plan {
 
     /// How many captures there are, at most 4,160.
     #[tactic(auto, using(crate::proofs::Places::few_external))]
-    pub(crate) fn count(&self) -> u16
+    pub fn count(&self) -> u16
         ensures value { result ≡ port_count self.now }
         ensures range { result ≤ 4160 }
     {
@@ -140,16 +117,16 @@ impl Plan {
     /// How many files there are.
     pub(crate) fn outputs(&self) -> u16
         ensures value { result ≡ output_count self.now }
-        ensures range { result ≤ 4163 }
+        ensures range { result ≤ 4416 }
     {
-        self.count() + count_behind(self.options)
+        self.count() + self.kinds.count()
     }
 
     /// What is asked for.
     pub fn options(&self) -> Options
         ensures { result ≡ self.now.options }
     {
-        self.options
+        self.kinds.options()
     }
 
     /// The kind of file `at`, counted from 0.
@@ -161,40 +138,20 @@ impl Plan {
         if at < count {
             Output::Capture(self.port(at))
         } else {
-            kind_behind(self.options, at - count)
+            self.kinds.kind(at - count)
         }
     }
 
-    /// The place of the journal.
-    pub(crate) fn journal(&self) -> u16
-        ensures value { result ≡ place_of self.now output.Journal }
-        ensures range { result ≤ 4160 }
+    /// The place of the file of a kind that is no capture.
+    pub(crate) fn place_behind(&self, kind: Output) -> u16
+        ensures value { result ≡ port_count self.now + place_behind self.now.options kind }
+        ensures range { result ≤ 4416 }
     {
-        self.count()
-    }
-
-    /// The place of the trace, where it is asked for.
-    pub(crate) fn trace(&self) -> u16
-        ensures value { result ≡ place_of self.now output.Trace }
-        ensures range { result ≤ 4161 }
-    {
-        self.count() + 1
-    }
-
-    /// The place of the counters, where they are asked for.
-    pub(crate) fn counters(&self) -> u16
-        ensures value { result ≡ place_of self.now output.Counters }
-        ensures range { result ≤ 4162 }
-    {
-        if self.options.trace {
-            self.count() + 2
-        } else {
-            self.count() + 1
-        }
+        self.count() + self.kinds.place(kind)
     }
 
     /// The port of capture `at`, counted from 0.
-    pub(crate) fn port(&self, at: u16) -> PortId
+    pub fn port(&self, at: u16) -> PortId
         requires { at < port_count self.now }
         ensures { result ≡ port_at self.now at }
     {

@@ -1,6 +1,6 @@
 -- Runs that ended early: what they leave is a front of what the whole eager run writes.
 use Rattle.std.proofs.Common.{◌≡◌, ℕ, ◌≤◌, ◌==◌, ◌++◌, Bool, true, false, List, [], ◌∷◌, flat_map, nat_lt, Result, Ok, Err, refl, ap, sym, subst, ◌∙◌, arith, inl, inr, append_assoc, eq-eqb}
-use Rattle.std.specs.Prelude.{if◌then◌else◌, IfOk, OnErr, String, string_bytes}
+use Rattle.std.specs.Prelude.{if◌then◌else◌, IfOk, OnErr, String, string_bytes, Option}
 use Rattle.std.specs.declared.alloc.Global.{Global}
 use Rattle.std.proofs.lemmas.Bool.{cases_lt, lt-ltb, le-ltb, ltb-true}
 use Rattle.std.proofs.lemmas.List.{append-nil}
@@ -23,7 +23,6 @@ use Rattle.exb_schedule.specs.Playing.{HasPlayed as IsPlayedBy}
 use Rattle.exb_shelf.specs.Files.{Files}
 use Rattle.exb_resting.specs.Flight.Showing.{left_at}
 use Rattle.exb_text.specs.declared.output.Output.{Output}
-use Rattle.exb_text.specs.declared.output.Output.TheVariants as output
 use Rattle.exb_inputs.specs.declared.fault.Fault.{Fault}
 use Rattle.exb_writers.specs.declared.counted.Counted.{Counted}
 use Rattle.exb_outputs.specs.declared.outputs.Outputs.{Outputs}
@@ -31,13 +30,16 @@ use Rattle.exb_writers.specs.Texts.{AreCutEagerly, GrowsEagerly, output_text, te
 use Rattle.exb_play.specs.Outputs.{HasPlayed}
 use Rattle.exb_outputs.specs.Plans.{output_name, Planned, IsMade, kind_at, output_count}
 use Rattle.exb_play.specs.Playing.{IsCutOff, IsTold, Run}
-use Rattle.exb_outputs.specs.Writing.{AreCut, HasTexts, lines_of, pieces_of, with_more}
+use Rattle.exb_outputs.specs.Writing.{AreCut, HasTexts, lines_of, pieces_of}
 use Rattle.exb_outputs.proofs.Cutting.{GoesOnAs, cut_now, cut_same, cut_whole, longer}
 use Rattle.exb_outputs.proofs.Filling.{weaker}
 use Rattle.exb_outputs.proofs.ByKind.{kind_is}
-use Rattle.exb_writers.proofs.Telling.{counts_written, text-more, texts-with}
+use Rattle.exb_writers.proofs.Telling.{text-more, texts-with, end_written}
 use Rattle.exb_outputs.proofs.Texts.{capture_text-append, journal_text-then}
-use Rattle.exb_writers.proofs.Cutting.{but_the_trace}
+use Rattle.exb_writers.proofs.Cutting.{but_the_trace, goes_eagerly}
+use Rattle.exb_counters.specs.declared.counters.Counters.{Counters}
+use Rattle.exb_writers.specs.Counts.{counts_text}
+use Rattle.exb_writers.specs.Telling.{with_end}
 
 -- ---- where it ends
 -- before the next segment is played
@@ -81,8 +83,8 @@ cut_amid m r plan now so_far rest v told more passed gone left lines new tree se
 
 -- while what is left of all is written
 pub cut_at_end : (tells : Type 0) (m : Mode) (r : Run) (plan : Planned) (old now : Files) (n : Network) (c : Counted) (o : Outputs) → tells → (is : IsTold tells m r plan old n c o (segments m r.input))
-    → (counts : List ℕ) → ((orig : Files) (text : Output → List ℕ) → HasTexts plan (pieces_of o) orig old text → AreCut plan orig now (with_more text output.Counters counts)) → IsCutOff m r plan now
-cut_at_end tells m r plan old now n c o t is counts cut = record {
+    → (ports : Option Counters) → ((orig : Files) (text : Output → List ℕ) → HasTexts plan (pieces_of o) orig old text → AreCut plan orig now (with_end text plan ports o)) → IsCutOff m r plan now
+cut_at_end tells m r plan old now n c o t is ports cut = record {
   tree = is.tree;
   so_far = segments m r.input;
   rest = [];
@@ -92,11 +94,11 @@ cut_at_end tells m r plan old now n c o t is counts cut = record {
   passed = is.passed;
   gone = is.gone;
   lines = is.lines;
-  counts = counts;
+  counts = counts_text plan ports o;
   played = is.played;
   tracing = is.tracing;
-  cut = cut_same plan r.before now (with_more (text_so_far is.told is.gone is.lines []) output.Counters counts) (text_so_far is.told is.gone is.lines counts)
-      (counts_written is.told is.gone is.lines counts) (cut r.before (text_so_far is.told is.gone is.lines []) (is.texts t));
+  cut = cut_same plan r.before now (with_end (text_so_far is.told is.gone is.lines []) plan ports o) (text_so_far is.told is.gone is.lines (counts_text plan ports o))
+      (end_written is.told is.gone is.lines plan ports o) (cut r.before (text_so_far is.told is.gone is.lines []) (is.texts t));
 }
 
 -- ---- texts of a longer history
@@ -128,14 +130,8 @@ module _ (law : RunsWriteFronts) (r : Run) (plan : Planned) (now : Files) (timel
   journal_goes : (more : List ℕ) × (journal_text (eager r.input) ≡ journal_text ([] then k.told) ++ more)
   journal_goes = (lines_of written.more, ap journal_text history ∙ journal_text-then ([] then k.told) written.more)
 
-  port_of : (q : ℕ) → is_external plan.tree q ≡ true → is_external (tree_of r.input) q ≡ true
-  port_of q out = ap (λ (t : Shape). is_external t q) (sym k.tree) ∙ out
-
   goes : (o : Output) → IsMade plan.options plan.tree o → GrowsEagerly o → GoesOnAs (text_so_far k.told k.gone k.lines k.counts) (output_text r.input (eager r.input) []) o
-  goes (output.Capture q) made grows = capture_goes q (port_of q made)
-  goes output.Journal made grows = journal_goes
-  goes output.Trace made grows = absurd grows
-  goes output.Counters made grows = absurd grows
+  goes = goes_eagerly r.input plan.options plan.tree k.told k.gone k.lines k.counts (λ q out. capture_goes q (ap (λ (t : Shape). is_external t q) (sym k.tree) ∙ out)) journal_goes
 
   -- of a run that ended early
   whole : AreCutEagerly r.input plan r.before now

@@ -7,11 +7,9 @@ use Rattle.exb_model.specs.FlatBridge.{flat}
 use Rattle.exb_model.specs.History.{History, ◌then◌}
 use Rattle.exb_model.specs.Input.{Input, Mode, Eager, basis_of, tree_of, segments}
 use Rattle.exb_model.specs.LegalHistory.{Legal}
-use Rattle.exb_model.specs.Texts.{capture_text, counts}
+use Rattle.exb_model.specs.Texts.{counts}
 use Rattle.exb_model.specs.Traces.{TraceLine}
 use Rattle.exb_model.specs.Tree.{Shape, IsTree, is_external}
-use Rattle.exb_text.specs.declared.output.Output.{Output}
-use Rattle.exb_text.specs.declared.output.Output.TheVariants as output
 use Rattle.exb_counters.specs.declared.counters.Counters.{Counters}
 use Rattle.exb_counters.specs.Counters.{count_text}
 use Rattle.exb_machine.specs.Runs.Passed.{passed_over}
@@ -27,13 +25,14 @@ use Rattle.exb_tracing.specs.Runs.{RunsTellLegally}
 use Rattle.exb_play.specs.Outputs.{IsTraceOf}
 use Rattle.exb_writers.specs.Texts.{output_text, text_so_far}
 use Rattle.exb_outputs.specs.declared.outputs.Outputs.{Outputs}
-use Rattle.exb_outputs.specs.Sent.{HasSent, capture_size, counts_with}
-use Rattle.exb_outputs.specs.Plans.{Planned, IsMade, kind_at, output_count}
-use Rattle.exb_writers.specs.Counts.{AreCounted, counts_so_far, counts_text}
+use Rattle.exb_outputs.specs.Sent.{HasSent, capture_size}
+use Rattle.exb_outputs.specs.Plans.{Planned, kind_at, output_count}
+use Rattle.exb_writers.specs.Counts.{AreCounted, counts_so_far, counts_text, counts_with}
 use Rattle.exb_writers.proofs.PortCounts.{counts_end, port_whole}
 use Rattle.exb_outputs.proofs.ByKind.{kind_is}
 use Rattle.exb_writers.proofs.Counting.{LeftExternal, counts-whole}
 use Rattle.exb_outputs.proofs.Places.{external_low}
+use Rattle.exb_writers.proofs.Cutting.{whole_is}
 
 module _ (m : Mode) (i : Input) (plan : Planned) (tree : plan.tree ≡ tree_of i) (is_tree : IsTree plan.tree) (timely : IsTimely i) (under_way : RunsAreUnderWay) (legally : RunsWriteLegally)
     (n : Network) (told : List Event) (passed : List Bool) (gone : List Left) (lines : List TraceLine) (played : HasPlayed m i (segments m i) n told passed gone lines) where
@@ -70,13 +69,9 @@ module _ (m : Mode) (i : Input) (plan : Planned) (tree : plan.tree ≡ tree_of i
   -- its texts
   pub texts-whole : (ports : Option Counters) (o : Outputs) → AreCounted plan ports told passed → HasSent plan o (λ q. left_at q gone) → ((q : ℕ) → capture_size (left_at q gone) < 2 ^ 64) → CountsGoOn → RunsSayPassed →
       (j : ℕ) → j < output_count plan → text_so_far told gone lines (counts_text plan ports o) (kind_at plan j) ≡ output_text i ([] then told) lines (kind_at plan j)
-  texts-whole ports o are has room go_on says j low = by_kind (kind_at plan j) (kind_is plan j low).made
-    where
-      by_kind : (k : Output) → IsMade plan.options plan.tree k → text_so_far told gone lines (counts_text plan ports o) k ≡ output_text i ([] then told) lines k
-      by_kind (output.Capture q) made = ap capture_text (sent q (ap (λ (t : Shape). is_external t q) (sym tree) ∙ made))
-      by_kind output.Journal made = refl
-      by_kind output.Trace made = refl
-      by_kind output.Counters made = counters-whole ports o are has room go_on says made
+  texts-whole ports o are has room go_on says j low =
+      whole_is i plan.options plan.tree told gone lines (counts_text plan ports o) (λ q out. sent q (ap (λ (t : Shape). is_external t q) (sym tree) ∙ out)) (counters-whole ports o are has room go_on says)
+      (kind_at plan j) (kind_is plan j low).made
 
   own : All (LeftExternal (tree_of i)) gone
   own k d low =

@@ -9,7 +9,6 @@ use Rattle.exb_model.specs.FlatBridge.{Sent}
 use Rattle.exb_model.specs.Input.{Input, Coming, Segment, Mode, segment_of, seconds_after, segments, segments_after}
 use Rattle.exb_model.specs.Setup.{shape_of}
 use Rattle.exb_model.specs.Texts.{with_left}
-use Rattle.exb_model.specs.Traces.{trace_text}
 use Rattle.exb_legal.specs.Spelled.{HasBytes}
 use Rattle.exb_legal.specs.TextLaws.{IsOfNumbers}
 use Rattle.exb_merge.specs.Agendas.{still_to_come}
@@ -25,7 +24,6 @@ use Rattle.exb_schedule.specs.Playing.{HasPlayed, IsSegment, letters_in}
 use Rattle.exb_shelf.specs.Files.{Files, SameFiles}
 use Rattle.exb_shelf.specs.Shelf.{Id}
 use Rattle.exb_text.specs.declared.output.Output.{Output}
-use Rattle.exb_text.specs.declared.output.Output.TheVariants as output
 use Rattle.exb_text.specs.Tallies.{counts_of}
 use Rattle.exb_play.specs.declared.feed.Feed.{Feed}
 use Rattle.exb_writers.specs.declared.counted.Counted.{Counted}
@@ -38,8 +36,9 @@ use Rattle.exb_writers.specs.Texts.{text_so_far}
 use Rattle.exb_outputs.specs.Apart.{AreApart}
 use Rattle.exb_play.specs.UnderWay.{CanBegin, CanBePlayed, CanGoOn, IsGathered, IsOpened, IsPlaying, LeadsOn, NothingIsLeft}
 use Rattle.exb_outputs.specs.Sent.{HasSent, capture_size}
-use Rattle.exb_outputs.specs.Writing.{HasTexts, first_text, lines_of, pieces_of, with_more}
-use Rattle.exb_writers.specs.Leaving.{sent_with, with_left_frames}
+use Rattle.exb_outputs.specs.Writing.{HasTexts, first_text, pieces_of}
+use Rattle.exb_writers.specs.Telling.{with_told}
+use Rattle.exb_writers.specs.Leaving.{sent_with}
 use Rattle.exb_writers.proofs.Counting.{count_events}
 use Rattle.exb_play.proofs.CuttingOff.{cut_before}
 use Rattle.exb_play.proofs.Following.{can-play, commands-are, follows, going-on, is-segment, leading-on, letters-are, short, taken}
@@ -129,7 +128,7 @@ pub opened-playing : (tells : Type 0) (m : Mode) (r : Run) (plan : Planned) (now
     → (now' : Files) (ids' : ℕ → Id) (v : Network) (c' : Counted) (o' : Outputs) → world_of v ≡ world_of n → IsSame n v → IsQuiet v
     → counts_of c'.tally ≡ with_left (length n.log.left) (count_events (counts_of c.tally) n.log.events) → CountsOn c.ports c'.ports n.log.events n.log.passed
     → (tells → (orig : Files) (text : Output → List ℕ) → HasTexts plan (pieces_of o) orig now text
-    → HasTexts plan (pieces_of o') orig now' (with_more (with_left_frames (with_more text output.Journal (lines_of n.log.events)) n.log.left) output.Trace (trace_text n.log.lines)))
+    → HasTexts plan (pieces_of o') orig now' (with_told text n.log.events n.log.left n.log.lines))
     → ((sent : ℕ → List Sent) → HasSent plan o sent → HasSent plan o' (sent_with sent n.log.left))
     → (tells → OnlyPlanned plan now now') → ((j : ℕ) → ids' j ≡ ids j) → All IsOfNumbers n.log.events → All HasBytes n.log.lines
     → IsPlaying tells m r plan now' ids' v c' o' None p

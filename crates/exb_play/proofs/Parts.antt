@@ -9,7 +9,6 @@ use Rattle.exb_model.specs.History.{History, ◌then◌}
 use Rattle.exb_model.specs.Input.{Input, Mode, basis_of, segments}
 use Rattle.exb_model.specs.FlatBridge.{flat}
 use Rattle.exb_model.specs.LegalHistory.{Legal}
-use Rattle.exb_model.specs.Texts.{capture_text}
 use Rattle.exb_model.specs.Traces.{TraceLine}
 use Rattle.exb_model.specs.Tree.{Shape, is_external}
 use Rattle.exb_legal.specs.Inputs.{frames_in}
@@ -19,7 +18,6 @@ use Rattle.exb_resting.specs.Motion.Playing.{IsTimely}
 use Rattle.exb_tracing.specs.SoFar.{HasToldSoFar, IsHistorySoFar, IsTraceSoFar, RunsTellSoFar}
 use Rattle.exb_shelf.specs.Files.{Files}
 use Rattle.exb_text.specs.declared.output.Output.{Output}
-use Rattle.exb_text.specs.declared.output.Output.TheVariants as output
 use Rattle.exb_inputs.specs.declared.fault.Fault.{Fault}
 use Rattle.exb_outputs.specs.Plans.{IsMade, Planned, kind_at, output_name}
 use Rattle.exb_outputs.specs.Writing.{AreCut, HasTexts, first_text}
@@ -30,6 +28,7 @@ use Rattle.exb_outputs.specs.Names.{IsCut}
 use Rattle.exb_writers.specs.Texts.{output_text, IsWrittenAlong, text_so_far}
 use Rattle.exb_play.specs.Parts.{AreCutSoFar, IsCutSoFar}
 use Rattle.exb_play.specs.Playing.{IsCutOff, Run}
+use Rattle.exb_writers.proofs.Cutting.{along_is}
 
 -- ---- where a run ended early
 module _ (law : RunsTellSoFar) (m : Mode) (r : Run) (plan : Planned) (now : Files) (timely : IsTimely r.input) (k : IsCutOff m r plan now) where
@@ -44,12 +43,11 @@ module _ (law : RunsTellSoFar) (m : Mode) (r : Run) (plan : Planned) (now : File
       subst (λ (ls : List TraceLine). IsTraceSoFar r.input ([] then k.told) ls) (sym (k.played.traced (k.tracing ∙ on)))
       (subst (λ (h : History). IsTraceSoFar r.input h (all_told k.played.done.lines)) same-history so.trace)
 
+  sent : (q : ℕ) → is_external plan.tree q ≡ true → left_at q k.gone ≡ flat (basis_of r.input) ([] then k.told) q
+  sent q out = ap (left_at q) k.played.gone ∙ so.captures q (ap (λ (t : Shape). is_external t q) (sym k.tree) ∙ out) ∙ ap (λ (h : History). flat (basis_of r.input) h q) same-history
+
   text_is : (o : Output) → IsMade plan.options plan.tree o → IsWrittenAlong o → text_so_far k.told k.gone k.lines k.counts o ≡ output_text r.input ([] then k.told) k.lines o
-  text_is (output.Capture q) made along =
-      ap capture_text (ap (left_at q) k.played.gone ∙ so.captures q (ap (λ (t : Shape). is_external t q) (sym k.tree) ∙ made) ∙ ap (λ (h : History). flat (basis_of r.input) h q) same-history)
-  text_is output.Journal made along = refl
-  text_is output.Trace made along = refl
-  text_is output.Counters made along = absurd along
+  text_is = along_is r.input plan.options plan.tree k.told k.gone k.lines k.counts sent
 
   pub cut-so-far : IsCutSoFar m r.input plan r.before now
   cut-so-far = record {

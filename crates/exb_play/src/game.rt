@@ -1,11 +1,11 @@
 //! A run under way: the world, what is written of it, and what is counted.
-ghost use Rattle.std.specs.Prelude.{◌≡◌, ◌≤◌, ◌<◌, ◌+◌, ◌^◌, ◌++◌, ◌∷◌, [], ℕ, Bool, List, length, drop, All, fold, IsOk, IfOk, OnOk, OnErr, IfErr, None, Some, string_bytes};
+ghost use Rattle.std.specs.Prelude.{◌≡◌, ◌≤◌, ◌<◌, ◌+◌, ◌^◌, ◌++◌, ◌∷◌, [], ℕ, Bool, List, length, drop, All, fold, IfOk, OnOk, OnErr, IfErr, None, Some, string_bytes};
 ghost use Rattle.exb_model.specs.declared.event.Event.{Event};
-ghost use Rattle.exb_model.specs.Input.{Input, Mode, Eager, Segment, segments, seconds_after};
+ghost use Rattle.exb_model.specs.Input.{Input, Eager, Segment, segments, seconds_after};
 ghost use Rattle.exb_model.specs.FlatBridge.{Sent};
 ghost use Rattle.exb_model.specs.Setup.{IsValid, shape_of};
 ghost use Rattle.exb_model.specs.Texts.{counted, with_left, summary_line};
-ghost use Rattle.exb_model.specs.Traces.{TraceLine, trace_text};
+ghost use Rattle.exb_model.specs.Traces.{TraceLine};
 ghost use Rattle.exb_legal.specs.Spelled.{HasBytes};
 ghost use Rattle.exb_legal.specs.TextLaws.{IsOfNumbers};
 ghost use Rattle.exb_machine.specs.Worlds.{Left as Leaving};
@@ -17,10 +17,9 @@ ghost use Rattle.exb_schedule.specs.Playing.{CanAll, HasPlayed as IsPlayedBy, Is
 ghost use Rattle.exb_schedule.specs.Worlds.{network_of, fate_in};
 ghost use Rattle.exb_shelf.specs.Files.{Files, Filled};
 ghost use Rattle.exb_text.specs.declared.output.Output.{Output};
-ghost use Rattle.exb_text.specs.declared.output.Output.TheVariants as output;
 ghost use Rattle.exb_text.specs.Tallies.{counts_of};
 ghost use Rattle.exb_outputs.specs.Plans.{kind_at, output_count, output_name};
-ghost use Rattle.exb_writers.specs.Counts.{AreCountsOf, CanCount, CountsOn, counts_text, IsSummary};
+ghost use Rattle.exb_writers.specs.Counts.{AreCountsOf, CanCount, CountsOn, IsSummary};
 ghost use Rattle.exb_play.specs.Playing.{CanBeKept, Run, IsAllTold, IsCutOff, IsTold, mode_of};
 ghost use Rattle.exb_play.specs.UnderWay.{CanBegin, CanBePlayed, CanFeed, CanGoOn, IsOpened, IsPlaying};
 ghost use Rattle.exb_play.specs.Parts.{AreCutSoFar};
@@ -31,8 +30,9 @@ ghost use Rattle.exb_inputs.specs.Reading.{IsChange, IsOfPlay};
 ghost use Rattle.exb_play.specs.Shelving.{OnlyGoesOn};
 ghost use Rattle.exb_outputs.specs.Shelving.{IsOfWriting, OnlyWrites};
 ghost use Rattle.exb_outputs.specs.Sent.{AreCountedAt, HasSent};
-ghost use Rattle.exb_outputs.specs.Writing.{AreCut, HasTexts, IsReady, pieces_of, lines_of, with_more};
-ghost use Rattle.exb_writers.specs.Leaving.{sent_with, with_left_frames, CanBeWritten};
+ghost use Rattle.exb_outputs.specs.Writing.{AreCut, HasTexts, IsReady, pieces_of};
+ghost use Rattle.exb_writers.specs.Leaving.{sent_with, CanBeWritten};
+ghost use Rattle.exb_writers.specs.Telling.{with_end, with_told};
 
 use crate::feed::Feed;
 use crate::script::{Schedule, Script};
@@ -50,17 +50,10 @@ use exb_schedule::{Arrival, World, WorldFault, eager, open, seeded};
 use exb_shelf::Shelf;
 use exb_tracing::laws::{runs_tell_legally, runs_tell_so_far};
 use exb_wiring::laws::counts_go_on;
-use exb_writers::{Counted, write_left};
+use exb_writers::{Counted, Room, write_end, write_told};
 use rand_core::SeedableRng;
 use rand_pcg::Lcg64Xsh32;
 use std::alloc::Global;
-
-/// Room for one line of the journal and for one of the trace.
-#[derive(Drop)]
-struct Room {
-    line: String,
-    text: Vec<u8>,
-}
 
 /// The world, what is written of it, and what is counted.
 #[derive(Drop)]
@@ -94,20 +87,24 @@ fn write_all<S: Shelf>(
     ensures ready { IsReady plan.now (S.ids shelf.new) outputs.new }
     ensures texts { S.tells → OnOk result ((orig : Files) (text : Output → List ℕ) → HasTexts plan.now (pieces_of outputs.old) orig (S.file shelf.old) text
         → HasTexts plan.now (pieces_of outputs.new) orig (S.file shelf.new)
-        (with_more (with_left_frames (with_more text output.Journal (lines_of (network_of world.now).log.events)) (network_of world.now).log.left)
-        output.Trace (trace_text (network_of world.now).log.lines))) }
+        (with_told text (network_of world.now).log.events (network_of world.now).log.left (network_of world.now).log.lines)) }
     ensures cut { S.tells → OnErr result ((orig : Files) (text : Output → List ℕ) → HasTexts plan.now (pieces_of outputs.old) orig (S.file shelf.old) text
         → AreCut plan.now orig (S.file shelf.new)
-        (with_more (with_left_frames (with_more text output.Journal (lines_of (network_of world.now).log.events)) (network_of world.now).log.left)
-        output.Trace (trace_text (network_of world.now).log.lines))) }
+        (with_told text (network_of world.now).log.events (network_of world.now).log.left (network_of world.now).log.lines)) }
     ensures sent { OnOk result ((sent : ℕ → List Sent) → HasSent plan.now outputs.old sent → HasSent plan.now outputs.new (sent_with sent (network_of world.now).log.left)) }
     ensures only { OnlyWrites S.tells plan.now (S.file shelf.old) (S.file shelf.new) (S.ids shelf.old) (S.ids shelf.new) }
     ensures causes { IfErr result IsOfWriting }
     ensures faults { CountsFaults result (S.faults shelf.old) (S.faults shelf.new) }
 {
-    outputs.write_events(shelf, plan, &mut room.line, world.events())?;
-    write_left(shelf, plan, outputs, world.left())?;
-    outputs.write_trace(shelf, plan, &mut room.text, world.trace())
+    write_told(
+        shelf,
+        plan,
+        outputs,
+        room,
+        world.events(),
+        world.left(),
+        world.trace(),
+    )
 }
 
 /// Plays a segment by a schedule.
@@ -165,12 +162,10 @@ impl Game {
         ensures quiet { OnOk result (IsQuiet (network_of self.new.world)) }
         ensures texts { S.tells → OnOk result ((orig : Files) (text : Output → List ℕ) → HasTexts plan.now (pieces_of self.old.outputs) orig (S.file shelf.old) text
             → HasTexts plan.now (pieces_of self.new.outputs) orig (S.file shelf.new)
-            (with_more (with_left_frames (with_more text output.Journal (lines_of (network_of self.old.world).log.events)) (network_of self.old.world).log.left)
-            output.Trace (trace_text (network_of self.old.world).log.lines))) }
+            (with_told text (network_of self.old.world).log.events (network_of self.old.world).log.left (network_of self.old.world).log.lines)) }
         ensures cut { S.tells → OnErr result ((orig : Files) (text : Output → List ℕ) → HasTexts plan.now (pieces_of self.old.outputs) orig (S.file shelf.old) text
             → AreCut plan.now orig (S.file shelf.new)
-            (with_more (with_left_frames (with_more text output.Journal (lines_of (network_of self.old.world).log.events)) (network_of self.old.world).log.left)
-            output.Trace (trace_text (network_of self.old.world).log.lines))) }
+            (with_told text (network_of self.old.world).log.events (network_of self.old.world).log.left (network_of self.old.world).log.lines)) }
         ensures sent { OnOk result ((sent : ℕ → List Sent) → HasSent plan.now self.old.outputs sent → HasSent plan.now self.new.outputs (sent_with sent (network_of self.old.world).log.left)) }
         ensures tally { OnOk result (counts_of self.new.counted.tally
             ≡ with_left (length (network_of self.old.world).log.left) (fold (λ c e. counted e c) (counts_of self.old.counted.tally) (network_of self.old.world).log.events)) }
@@ -314,30 +309,6 @@ impl Game {
         Ok(())
     }
 
-    /// Writes the counters, where they are asked for.
-    fn write_counters<S: Shelf>(&mut self, shelf: &mut S, plan: &Plan) -> Result<(), Fault>
-        requires ready { IsReady plan.now (S.ids shelf.old) self.old.outputs }
-        requires counted { AreCountsOf plan.now self.old.counted.ports }
-        requires sent { AreCountedAt plan.now self.old.outputs }
-        ensures ready { IsReady plan.now (S.ids shelf.new) self.new.outputs }
-        ensures counted { self.new.counted ≡ self.old.counted }
-        ensures texts { S.tells → OnOk result ((orig : Files) (text : Output → List ℕ) → HasTexts plan.now (pieces_of self.old.outputs) orig (S.file shelf.old) text
-            → HasTexts plan.now (pieces_of self.new.outputs) orig (S.file shelf.new) (with_more text output.Counters (counts_text plan.now self.old.counted.ports self.old.outputs))) }
-        ensures cut { S.tells → OnErr result ((orig : Files) (text : Output → List ℕ) → HasTexts plan.now (pieces_of self.old.outputs) orig (S.file shelf.old) text
-            → AreCut plan.now orig (S.file shelf.new) (with_more text output.Counters (counts_text plan.now self.old.counted.ports self.old.outputs))) }
-        ensures only { OnlyWrites S.tells plan.now (S.file shelf.old) (S.file shelf.new) (S.ids shelf.old) (S.ids shelf.new) }
-        ensures causes { IfErr result IsOfWriting }
-        ensures faults { CountsFaults result (S.faults shelf.old) (S.faults shelf.new) }
-    {
-        match &self.counted.ports {
-            Some(counters) => {
-                self.outputs
-                    .write_counters(shelf, plan, &mut self.room.text, counters)
-            }
-            None => Ok(()),
-        }
-    }
-
     /// Writes what is still to be written, and answers the summary line.
     fn end<S: Shelf>(&mut self, alloc: Global, shelf: &mut S, plan: &Plan) -> Result<String, Fault>
         requires ready { IsReady plan.now (S.ids shelf.old) self.old.outputs }
@@ -345,15 +316,21 @@ impl Game {
         requires sent { AreCountedAt plan.now self.old.outputs }
         requires few { self.old.counted.tally.relayed + self.old.counted.tally.ignored < 2 ^ 64 }
         ensures texts { S.tells → OnOk result ((orig : Files) (text : Output → List ℕ) → HasTexts plan.now (pieces_of self.old.outputs) orig (S.file shelf.old) text
-            → Filled orig (S.file shelf.new) (output_count plan.now) (output_name plan.now) (λ j bytes. bytes ≡ with_more text output.Counters (counts_text plan.now self.old.counted.ports self.old.outputs) (kind_at plan.now j))) }
+            → Filled orig (S.file shelf.new) (output_count plan.now) (output_name plan.now) (λ j bytes. bytes ≡ with_end text plan.now self.old.counted.ports self.old.outputs (kind_at plan.now j))) }
         ensures cut { S.tells → OnErr result ((orig : Files) (text : Output → List ℕ) → HasTexts plan.now (pieces_of self.old.outputs) orig (S.file shelf.old) text
-            → AreCut plan.now orig (S.file shelf.new) (with_more text output.Counters (counts_text plan.now self.old.counted.ports self.old.outputs))) }
+            → AreCut plan.now orig (S.file shelf.new) (with_end text plan.now self.old.counted.ports self.old.outputs)) }
         ensures line { IfOk result (λ line. string_bytes line ≡ summary_line (counts_of self.old.counted.tally)) }
         ensures only { OnlyWrites S.tells plan.now (S.file shelf.old) (S.file shelf.new) (S.ids shelf.old) (S.ids shelf.new) }
         ensures causes { IfErr result IsOfWriting }
         ensures faults { CountsFaults result (S.faults shelf.old) (S.faults shelf.new) }
     {
-        self.write_counters(shelf, plan)?;
+        write_end(
+            shelf,
+            plan,
+            &mut self.outputs,
+            &mut self.room,
+            &self.counted.ports,
+        )?;
         self.outputs.finish(shelf, plan)?;
         Ok(self.counted.tally.line(alloc)?)
     }
@@ -467,10 +444,7 @@ fn play_world<S: Shelf>(
         outputs,
         counted,
         rng: Lcg64Xsh32::seed_from_u64(seed_of(schedule)),
-        room: Room {
-            line: String::new(alloc),
-            text: Vec::new(alloc),
-        },
+        room: Room::new(alloc),
     };
     let played = game.play_opened(alloc, shelf, plan, schedule, feed);
     // By a call, since a block's end is far longer to prove where it lets a world go.

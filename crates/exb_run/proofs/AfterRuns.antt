@@ -14,9 +14,7 @@ use Rattle.exb_legal.specs.Inputs.{frames_in, frames_out}
 use Rattle.exb_legal.specs.LegalTrace.{LegalTrace}
 use Rattle.exb_shelf.specs.Files.{Files, bytes_of}
 use Rattle.exb_shelf.specs.Shelf.{Faults, Rose}
-use Rattle.exb_text.specs.declared.output.Output.{Output}
-use Rattle.exb_text.specs.declared.output.Output.TheVariants as output
-use Rattle.exb_text.specs.Names.{IsOfPort, file_name, trace_name}
+use Rattle.exb_text.specs.Names.{file_name, trace_name}
 use Rattle.exb_topology.specs.declared.topology.Topology.{Topology}
 use Rattle.exb_topology.specs.Sound.{IsApart, IsSound, ReadIsSound}
 use Rattle.exb_words.specs.declared.asked.Options.{Options}
@@ -28,29 +26,22 @@ use Rattle.exb_inputs.specs.Inputs.{bytes_named, input_of, name_of, records_at}
 use Rattle.exb_inputs.proofs.Refused.{held_not}
 use Rattle.exb_auditing.specs.Scopes.{scope_of}
 use Rattle.exb_auditing.specs.Written.{AreWithin, FindsLegal, IsWritten, RunsAreFoundLegal}
-use Rattle.exb_outputs.specs.Plans.{IsMade}
-use Rattle.exb_outputs.proofs.Places.{external_low}
 use Rattle.exb_run.specs.AfterRuns.{AuditsFollowRuns, AuditsWell, EndsBy}
 use Rattle.exb_run.specs.Answers.{IsOfInput, Stops, mode_for}
 use Rattle.exb_run.specs.Opening.{plan_for}
 use Rattle.exb_run.specs.Outputs.{IsPlayed, IsTraced}
-use Rattle.exb_run.proofs.Handing.{of_kind}
+use Rattle.exb_outputs.proofs.ByKind.{made_of_port}
+use Rattle.exb_outputs.proofs.Names.{of_kind}
 use Rattle.exb_inputs.proofs.FaultLemmas.{name_by}
 use Rattle.exb_run.proofs.Stopping.{stops_of}
 
 -- ---- what stays
 module _ (t : Topology) (options : Options) (old new : Files) (line : List ℕ) (sound : IsSound t) (p : IsPlayed (mode_for options.seed) options (input_of t old) t.prefix old new line) where
-  of_port : (o : Output) → IsMade options (shape_of t.setup) o → IsOfPort o
-  of_port (output.Capture q) made = external_low (shape_of t.setup) q p.back.valid.tree made
-  of_port output.Journal made = tt
-  of_port output.Trace made = tt
-  of_port output.Counters made = tt
-
   -- a capture that is named is none of the outputs
   capture_kept : (q : ℕ) (name : List ℕ) → name_of t.captures q ≡ Some name → new name ≡ old name
   capture_kept q name e =
       let apart : IsApart (shape_of t.setup) t.prefix name = name_by (IsApart (shape_of t.setup) t.prefix) t.captures q name sound.apart e in
-      p.others name (λ o made. of_kind (plan_for t options) (λ k. name ≢ file_name t.prefix k) apart o made (of_port o made))
+      p.others name (λ o made. of_kind (plan_for t options) (λ k. name ≢ file_name t.prefix k) apart o made (made_of_port options (shape_of t.setup) o p.back.valid.tree made))
 
   -- so the captures are as good, and give the same input
   good_by : (q : ℕ) (o : Option (List ℕ)) → name_of t.captures q ≡ o → IsGoodNamed o old → IsGoodNamed o new

@@ -9,42 +9,22 @@ use Rattle.exb_model.specs.declared.setup.Timed.{Timed}
 use Rattle.exb_model.specs.declared.setup.Verdict.{Verdict}
 use Rattle.exb_model.specs.Input.{tree_of}
 use Rattle.exb_model.specs.Setup.{NamesExternal, shape_of}
-use Rattle.exb_model.specs.Tree.{Shape, external_ports, is_external}
-use Rattle.exb_text.specs.declared.output.Output.{Output}
-use Rattle.exb_text.specs.declared.output.Output.TheVariants as output
-use Rattle.exb_text.specs.Names.{IsOfPort, all_outputs, file_name, other_outputs}
+use Rattle.exb_model.specs.Tree.{Shape, is_external}
+use Rattle.exb_text.specs.Names.{file_name}
 use Rattle.exb_shelf.specs.Files.{Files}
 use Rattle.exb_topology.specs.declared.topology.Topology.{Topology}
 use Rattle.exb_topology.specs.Sound.{IsApart, IsSound}
 use Rattle.exb_inputs.specs.declared.checked.Checked.{Checked}
 use Rattle.exb_inputs.specs.Checks.{AreChecked}
 use Rattle.exb_outputs.specs.Apart.{CanBeRead}
-use Rattle.exb_outputs.specs.Plans.{output_name, Planned, IsMade, kind_at, output_count, place_in}
+use Rattle.exb_outputs.specs.Plans.{output_name, Planned, kind_at, output_count}
 use Rattle.exb_play.specs.Playing.{IsScript}
 use Rattle.exb_outputs.proofs.ByKind.{kind_is}
-use Rattle.exb_outputs.proofs.Places.{place_low, port_of_place}
+use Rattle.exb_outputs.proofs.Names.{of_kind}
 use Rattle.exb_inputs.proofs.FaultLemmas.{name_by, named_by}
 
 -- ---- a topology
--- what holds of all kinds of files that runs of a tree may write
-all-cons : {X : Type 0} (P : X → Type 0) (x : X) (xs : List X) → P x → All P xs → All P (x ∷ xs)
-all-cons P x xs here rest zero d low = here
-all-cons P x xs here rest (suc k) d low = rest k d (omega (arith, low))
-
-by_kinds : (P : Output → Type 0) (ports : List ℕ) → All P (map output.Capture ports ++ other_outputs) → All (λ q. P (output.Capture q)) ports × (P output.Journal × P output.Trace × P output.Counters)
-by_kinds P [] all = (λ k d low. absurd (omega (arith, low)), (all 0 output.Journal (omega arith), all 1 output.Journal (omega arith), all 2 output.Journal (omega arith)))
-by_kinds P (p ∷ ports) all =
-    let rest = by_kinds P ports (λ k d low. all (suc k) d (omega (arith, low))) in
-    (all-cons (λ q. P (output.Capture q)) p ports (all 0 output.Journal (omega arith)) rest.0, rest.1)
-
 -- no output has a name that is apart
-pub of_kind : (plan : Planned) (P : Output → Type 0) → All P (all_outputs plan.tree) → (o : Output) → IsMade plan.options plan.tree o → IsOfPort o → P o
-of_kind plan P all (output.Capture q) made low =
-    subst (λ (k : ℕ). P (output.Capture k)) (port_of_place plan q low made) ((by_kinds P (external_ports plan.tree) all).0 (place_in plan.tree q) 0 (place_low plan q low made))
-of_kind plan P all output.Journal made low = (by_kinds P (external_ports plan.tree) all).1.0
-of_kind plan P all output.Trace made low = (by_kinds P (external_ports plan.tree) all).1.1
-of_kind plan P all output.Counters made low = (by_kinds P (external_ports plan.tree) all).1.2
-
 apart_from : (plan : Planned) (name : List ℕ) → IsApart plan.tree plan.prefix name → (j : ℕ) → j < output_count plan → name ≢ output_name plan j
 apart_from plan name apart j low =
     let kind = kind_is plan j low in

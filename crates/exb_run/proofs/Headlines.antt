@@ -29,6 +29,7 @@ played_tells name options old new line before after p prints =
       journal = p.played.journal;
       trace = λ asked. let t = p.played.trace asked in (t.lines, t.is, t.legal);
       counters = p.played.counters;
+      files = p.played.files;
       others = p.played.others;
       prints = prints ∙ ap (λ (xs : List ℕ). before ++ xs) p.played.says;
     }

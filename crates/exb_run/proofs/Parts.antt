@@ -6,12 +6,10 @@ use Rattle.exb_model.specs.Tree.{Shape, IsTree}
 use Rattle.exb_tracing.specs.SoFar.{IsHistorySoFar}
 use Rattle.exb_shelf.specs.Files.{Files}
 use Rattle.exb_text.specs.declared.output.Output.{Output}
-use Rattle.exb_text.specs.declared.output.Output.TheVariants as output
-use Rattle.exb_text.specs.Names.{IsOfPort, file_name}
+use Rattle.exb_text.specs.Names.{file_name}
 use Rattle.exb_outputs.specs.Plans.{IsMade, Planned, place_of}
 use Rattle.exb_outputs.specs.Writing.{first_text}
-use Rattle.exb_outputs.proofs.ByKind.{placed}
-use Rattle.exb_outputs.proofs.Places.{external_low}
+use Rattle.exb_outputs.proofs.ByKind.{made_of_port, placed}
 use Rattle.exb_inputs.specs.Inputs.{input_of}
 use Rattle.exb_topology.specs.declared.topology.Topology.{Topology}
 use Rattle.exb_words.specs.declared.asked.Options.{Options}
@@ -23,16 +21,10 @@ use Rattle.exb_play.specs.Parts.{AreCutSoFar}
 
 -- ---- by their names
 module _ (i : Input) (plan : Planned) (prefix : List ℕ) (same : plan.prefix ≡ prefix) (tree : plan.tree ≡ tree_of i) (is_tree : IsTree (tree_of i)) (f g : Files) where
-  of_port : (o : Output) → IsMade plan.options (tree_of i) o → IsOfPort o
-  of_port (output.Capture q) made = external_low (tree_of i) q is_tree made
-  of_port output.Journal made = tt
-  of_port output.Trace made = tt
-  of_port output.Counters made = tt
-
   pub cut-of : (text : Output → List ℕ) → AreCutAlong plan f g text → AreCutOf plan.options (tree_of i) prefix f g text
   cut-of text cut o made along =
       let own : IsMade plan.options plan.tree o = subst (λ (t : Shape). IsMade plan.options t o) (sym tree) made in
-      let place = placed plan o own (of_port o made) in
+      let place = placed plan o own (made_of_port plan.options (tree_of i) o is_tree made) in
       let j : ℕ = place_of plan o in
       subst (λ (p : List ℕ). IsCut (f (file_name p o)) (g (file_name p o)) (text o)) same
       (subst (λ (k : Output). IsCut (f (file_name plan.prefix k)) (g (file_name plan.prefix k)) (text k)) place.at (cut j place.low (subst IsWrittenAlong (sym place.at) along)))

@@ -12,7 +12,7 @@ use Rattle.exb_writers.specs.Texts.{AreCutEagerly, GrowsEagerly, output_text}
 use Rattle.exb_run.specs.Outputs.{AreFrontsOf, IsPlayed}
 use Rattle.exb_outputs.specs.Names.{IsCut}
 use Rattle.exb_play.specs.Outputs.{HasPlayed}
-use Rattle.exb_outputs.proofs.ByKind.{placed}
+use Rattle.exb_outputs.proofs.ByKind.{made_of_port, placed}
 use Rattle.exb_outputs.proofs.Names.{file_of, only_by}
 use Rattle.exb_outputs.proofs.Places.{external_low}
 
@@ -23,10 +23,11 @@ module _ (i : Input) (plan : Planned) (prefix : List ℕ) (same : plan.prefix �
     legal = played.legal;
     eager = played.eager;
     captures = λ q is. holds (output.Capture q) (ap (λ (t : Shape). is_external t q) tree ∙ is) (external_low (tree_of i) q is_tree is);
-    journal = holds output.Journal tt tt;
+    journal = holds output.Journal refl tt;
     back = played.back;
     trace = λ traced. record { lines = played.lines; is = holds output.Trace traced tt; legal = played.trace traced; bytes = played.bytes };
     counters = λ counted. holds output.Counters counted tt;
+    files = (played.lines, λ o made. holds o (subst (λ (s : Shape). IsMade plan.options s o) (sym tree) made) (made_of_port plan.options (tree_of i) o is_tree made));
     others = only_by (tree_of i) plan prefix same tree f g played.outputs.others;
     says = played.says;
   }
@@ -38,7 +39,7 @@ module _ (i : Input) (plan : Planned) (prefix : List ℕ) (same : plan.prefix �
   pub fronts_by : IsTree (tree_of i) → (f g : Files) → AreCutEagerly i plan f g → AreFrontsOf i prefix f g
   fronts_by is_tree f g cut = record {
     captures = λ q is. front (output.Capture q) (ap (λ (t : Shape). is_external t q) tree ∙ is) (external_low (tree_of i) q is_tree is) tt;
-    journal = front output.Journal tt tt tt;
+    journal = front output.Journal refl tt tt;
   }
     where
       front : (o : Output) → IsMade plan.options plan.tree o → IsOfPort o → GrowsEagerly o → IsCut (f (file_name prefix o)) (g (file_name prefix o)) (output_text i (eager i) [] o)

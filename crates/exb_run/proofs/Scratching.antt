@@ -26,8 +26,7 @@ use Rattle.exb_capture.specs.Scans.{scanned_of}
 use Rattle.exb_shelf.specs.Files.{Files, Puts, bytes_of}
 use Rattle.exb_tables.specs.declared.rows.Named.{Named}
 use Rattle.exb_text.specs.declared.output.Output.{Output}
-use Rattle.exb_text.specs.declared.output.Output.TheVariants as output
-use Rattle.exb_text.specs.Names.{capture_name, counters_name, file_name, journal_name, trace_name}
+use Rattle.exb_text.specs.Names.{file_name}
 use Rattle.exb_inputs.specs.declared.checked.Checked.{Checked}
 use Rattle.exb_inputs.specs.declared.fault.Fault.{Fault}
 use Rattle.exb_inputs.specs.declared.fault.Fault.TheVariants.{Usage, Missing, Topology as BadTopology, Capture as Faulty, Changed, Net as BadNet, Member as BadMember, MemberCapture, MemberChanged, Output as Unread, TooLarge, BadLine, Illegal, Read, Write, Memory}
@@ -43,6 +42,7 @@ use Rattle.exb_inputs.specs.Reading.{IsChange, IsOfPlay}
 use Rattle.exb_inputs.proofs.FaultLemmas.{first_none}
 use Rattle.exb_outputs.proofs.Places.{external_low}
 use Rattle.exb_inputs.proofs.Outcomes.{Outcome}
+use Rattle.exb_words.proofs.KindLemmas.{name_begins}
 
 -- ---- one capture more
 -- what is found where one name stands behind others
@@ -245,11 +245,7 @@ module _ (number : ℕ) (setup : Setup) (cs : List Capture) (names : List Named)
 
   -- no file that is written has the name of a capture
   first_byte : (o : Output) → get_or (file_name (codes "out/") o) 0 0 ≡ 111
-  unfolding capture_name journal_name trace_name counters_name
-  first_byte (output.Capture q) = refl
-  first_byte output.Journal = refl
-  first_byte output.Trace = refl
-  first_byte output.Counters = refl
+  first_byte o = ap (λ (bs : List ℕ). get_or bs 0 0) (name_begins (codes "out/") o).1
 
   apart_from : (plan : Planned) (q : ℕ) (name : List ℕ) → plan.prefix ≡ codes "out/" → name ≡ name_made q → (j : ℕ) → name ≢ output_name plan j
   apart_from plan q name prefix own j e =

@@ -19,12 +19,14 @@ use Rattle.exb_topology.specs.Topologies.{topology_of, topology_view}
 use Rattle.exb_words.specs.declared.asked.Options.{Options}
 use Rattle.exb_run.specs.Answers.{mode_for}
 use Rattle.exb_play.specs.Outputs.{IsTraceOf}
-use Rattle.exb_outputs.specs.Names.{OnlyOutputs}
+use Rattle.exb_outputs.specs.Names.{AreWhole, OnlyOutputs}
+use Rattle.exb_writers.specs.Texts.{output_text}
 
 -- The file of this name holds a topology, and each capture that it names can be played. There is a history that this input allows,
 -- which without a seed is its eager history; the file of each external port holds what one VLAN bridge that owns all the ports sends
 -- at it over that history; the journal holds the history; the trace and the counters, where they are asked for, hold a legal trace of
--- it and the counts over it, from scratch; no other file has changed; and its summary was printed, and nothing else.
+-- it and the counts over it, from scratch; so the file of each kind that is made holds its text; no other file has changed; and its
+-- summary was printed, and nothing else.
 pub record Headline (name : List ℕ) (options : Options) (old new : Files) (before after : List ℕ) : Type 0 where
   pub bytes : List ℕ
   pub there : old name ≡ Some bytes
@@ -41,5 +43,6 @@ pub record Headline (name : List ℕ) (options : Options) (old new : Files) (bef
       → (lines : List TraceLine) × (new (trace_name topology.prefix) ≡ Some (trace_text lines)) × IsTraceOf (input_of topology old) history lines
   pub counters : options.counters ≡ true
       → new (counters_name topology.prefix) ≡ Some (count_text (shape_of topology.setup) (basis_of (input_of topology old)) history)
+  pub files : (lines : List TraceLine) × AreWhole options (shape_of topology.setup) topology.prefix new (output_text (input_of topology old) history lines)
   pub others : OnlyOutputs options (shape_of topology.setup) topology.prefix old new
   pub prints : after ≡ before ++ summary (shape_of topology.setup) (basis_of (input_of topology old)) history

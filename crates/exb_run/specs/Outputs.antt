@@ -14,7 +14,8 @@ use Rattle.exb_text.specs.Names.{capture_name, counters_name, journal_name, trac
 use Rattle.exb_counters.specs.Counters.{count_text}
 use Rattle.exb_words.specs.declared.asked.Options.{Options}
 use Rattle.exb_legal.specs.Spelled.{HasBytes}
-use Rattle.exb_outputs.specs.Names.{OnlyOutputs, IsCut}
+use Rattle.exb_outputs.specs.Names.{AreWhole, OnlyOutputs, IsCut}
+use Rattle.exb_writers.specs.Texts.{output_text}
 use Rattle.exb_play.specs.Outputs.{IsTraceOf, CanBeReadBack}
 
 -- a file holds such a trace, whose frames are bytes
@@ -26,7 +27,7 @@ pub record IsTraced (i : Input) (h : History) (file : Option (List ℕ)) : Type 
 
 -- All was played and written under a prefix, and this line sums it up: the file of each external port is what the one flat bridge
 -- sends at it over a history that the input allows, which in an eager run is the eager history; the journal is that history, the
--- counters are those of it, and the trace is legal.
+-- counters are those of it, and the trace is legal; and so the file of each kind that is made holds its text over that history.
 pub record IsPlayed (m : Mode) (options : Options) (i : Input) (prefix : List ℕ) (old new : Files) (line : List ℕ) : Type 0 where
   pub history : History
   pub legal : Legal m i history
@@ -36,6 +37,7 @@ pub record IsPlayed (m : Mode) (options : Options) (i : Input) (prefix : List �
   pub back : CanBeReadBack i history
   pub trace : options.trace ≡ true → IsTraced i history (new (trace_name prefix))
   pub counters : options.counters ≡ true → new (counters_name prefix) ≡ Some (count_text (tree_of i) (basis_of i) history)
+  pub files : (lines : List TraceLine) × AreWhole options (tree_of i) prefix new (output_text i history lines)
   pub others : OnlyOutputs options (tree_of i) prefix old new
   pub says : line ≡ summary (tree_of i) (basis_of i) history
 

@@ -65,12 +65,7 @@ pub(crate) fn make_input(alloc: Global, number: u64, fate: Box<dyn Fate>) -> Res
     let mut shelf = ScratchShelf::new(alloc);
     let names = put_all(alloc, &mut shelf, input.captures.as_slice())?;
     let checked = check_captures(alloc, &mut shelf, names.as_slice())?;
-    let options = Options {
-        trace: false,
-        counters: false,
-        seed: None,
-    };
-    let plan = Plan::new(alloc, &input.setup, PREFIX, options)?;
+    let plan = Plan::new(alloc, &input.setup, PREFIX, Options::eager(false))?;
     let script = Script {
         setup: &input.setup,
         commands: input.commands.as_slice(),

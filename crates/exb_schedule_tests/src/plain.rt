@@ -1,6 +1,6 @@
 //! What one plain bridge sends over what was told of a world.
-use exb_flat::flat::{Sent, flat};
-use exb_flat::history::Basis;
+use exb_oracle::flat::{Sent, flat};
+use exb_oracle::history::Basis;
 use exb_flat_run::site::{Site, site_of};
 use exb_model::port::PortId;
 use exb_schedule::{Left, World};

@@ -1,4 +1,4 @@
--- Fronts of the texts of an eager history.
+-- The texts of all kinds: fronts of those of an eager history, and those so far over a history.
 use Rattle.std.proofs.Common.{◌≡◌, ℕ, ◌≤◌, ◌==◌, ◌++◌, Bool, true, false, List, [], ◌∷◌, flat_map, nat_lt, Result, Ok, Err, refl, ap, sym, subst, ◌∙◌, arith, inl, inr, append_assoc, eq-eqb}
 use Rattle.std.specs.Prelude.{if◌then◌else◌, IfOk, OnErr, String, string_bytes}
 use Rattle.std.specs.declared.alloc.Global.{Global}
@@ -6,20 +6,25 @@ use Rattle.std.proofs.lemmas.Bool.{cases_lt, lt-ltb, le-ltb, ltb-true}
 use Rattle.std.proofs.lemmas.List.{append-nil}
 use Rattle.exb_model.specs.EagerHistory.{eager}
 use Rattle.exb_model.specs.FlatBridge.{Sent, flat}
-use Rattle.exb_model.specs.History.{History}
+use Rattle.exb_model.specs.History.{History, ◌then◌}
 use Rattle.exb_model.specs.Input.{Input, basis_of, tree_of}
-use Rattle.exb_model.specs.Texts.{journal_text, record_text}
+use Rattle.exb_model.specs.Texts.{journal_text, record_text, capture_text}
 use Rattle.exb_model.specs.Traces.{TraceLine, trace_text}
 use Rattle.exb_shelf.specs.Files.{Files, SameFiles}
 use Rattle.exb_text.specs.declared.output.Output.{Output}
 use Rattle.exb_text.specs.declared.output.Output.TheVariants as output
 use Rattle.exb_counters.specs.Counters.{count_text}
-use Rattle.exb_writers.specs.Texts.{AreCutEagerly, GrowsEagerly, output_text}
+use Rattle.exb_writers.specs.Texts.{AreCutEagerly, GrowsEagerly, output_text, IsWrittenAlong, text_so_far}
 use Rattle.exb_outputs.specs.Names.{IsCut}
-use Rattle.exb_outputs.specs.Plans.{output_name, Planned, kind_at}
+use Rattle.exb_outputs.specs.Plans.{output_name, Planned, kind_at, IsMade}
 use Rattle.exb_outputs.specs.Writing.{AreCut, HasTexts, first_text}
 use Rattle.exb_outputs.proofs.Cutting.{GoesOnAs, cut_longer, cut_now}
 use Rattle.exb_outputs.proofs.Texts.{capture_text-append, capture_text-nil}
+use Rattle.exb_model.specs.declared.event.Event.{Event}
+use Rattle.exb_model.specs.Tree.{Shape, is_external}
+use Rattle.exb_machine.specs.Worlds.{Left}
+use Rattle.exb_resting.specs.Flight.Showing.{left_at}
+use Rattle.exb_words.specs.declared.asked.Options.{Options}
 
 -- the text of a kind that grows is no matter of the trace
 any_lines : (i : Input) (h : History) (lines : List TraceLine) (o : Output) → GrowsEagerly o → output_text i h lines o ≡ output_text i h [] o
@@ -47,3 +52,33 @@ first_goes i output.Counters = (count_text (tree_of i) (basis_of i) (eager i), r
 pub begun_eagerly : (i : Input) (plan : Planned) (f g : Files) (pieces : List (List ℕ)) → HasTexts plan pieces f g first_text → AreCutEagerly i plan f g
 begun_eagerly i plan f g pieces held =
     but_the_trace i plan [] f g (cut_longer plan f g first_text (output_text i (eager i) []) (λ j l. first_goes i (kind_at plan j)) (cut_now plan f g pieces first_text held))
+
+-- ---- texts so far and over a history
+-- where what has left goes on, and so does the journal, the texts that grow do
+pub goes_eagerly : (i : Input) (options : Options) (t : Shape) (told : List Event) (gone : List Left) (lines : List TraceLine) (counts : List ℕ)
+    → ((q : ℕ) → is_external t q ≡ true → (more : List ℕ) × (capture_text (flat (basis_of i) (eager i) q) ≡ capture_text (left_at q gone) ++ more))
+    → (more : List ℕ) × (journal_text (eager i) ≡ journal_text ([] then told) ++ more)
+    → (o : Output) → IsMade options t o → GrowsEagerly o → GoesOnAs (text_so_far told gone lines counts) (output_text i (eager i) []) o
+goes_eagerly i options t told gone lines counts captures journal (output.Capture q) made grows = captures q made
+goes_eagerly i options t told gone lines counts captures journal output.Journal made grows = journal
+goes_eagerly i options t told gone lines counts captures journal output.Trace made grows = absurd grows
+goes_eagerly i options t told gone lines counts captures journal output.Counters made grows = absurd grows
+
+-- what is written along is that of the history that was told
+pub along_is : (i : Input) (options : Options) (t : Shape) (told : List Event) (gone : List Left) (lines : List TraceLine) (counts : List ℕ)
+    → ((q : ℕ) → is_external t q ≡ true → left_at q gone ≡ flat (basis_of i) ([] then told) q)
+    → (o : Output) → IsMade options t o → IsWrittenAlong o → text_so_far told gone lines counts o ≡ output_text i ([] then told) lines o
+along_is i options t told gone lines counts sent (output.Capture q) made along = ap capture_text (sent q made)
+along_is i options t told gone lines counts sent output.Journal made along = refl
+along_is i options t told gone lines counts sent output.Trace made along = refl
+along_is i options t told gone lines counts sent output.Counters made along = absurd along
+
+-- and with the counters all is
+pub whole_is : (i : Input) (options : Options) (t : Shape) (told : List Event) (gone : List Left) (lines : List TraceLine) (counts : List ℕ)
+    → ((q : ℕ) → is_external t q ≡ true → left_at q gone ≡ flat (basis_of i) ([] then told) q)
+    → (options.counters ≡ true → counts ≡ count_text (tree_of i) (basis_of i) ([] then told))
+    → (o : Output) → IsMade options t o → text_so_far told gone lines counts o ≡ output_text i ([] then told) lines o
+whole_is i options t told gone lines counts sent counted (output.Capture q) made = ap capture_text (sent q made)
+whole_is i options t told gone lines counts sent counted output.Journal made = refl
+whole_is i options t told gone lines counts sent counted output.Trace made = refl
+whole_is i options t told gone lines counts sent counted output.Counters made = counted made

@@ -26,13 +26,23 @@ use Rattle.exb_resting.specs.Flight.Showing.{left_at}
 use Rattle.exb_text.specs.Tallies.{counts_of, nothing_counted}
 use Rattle.exb_wiring.specs.Counting.{CountsGoOn}
 use Rattle.exb_writers.specs.declared.counted.Counted.{Counted}
-use Rattle.exb_writers.specs.Counts.{AreCounted, AreCountsOf, CanCountAt, CountsOn, GoTogether, IsCounted, port_counts_so_far}
+use Rattle.exb_writers.specs.Counts.{counts_with, AreCounted, AreCountsOf, CanCountAt, CountsOn, GoTogether, IsCounted, port_counts_so_far}
 use Rattle.exb_outputs.specs.declared.outputs.Outputs.{Outputs}
 use Rattle.exb_outputs.specs.Plans.{Planned}
-use Rattle.exb_outputs.specs.Sent.{HasSent, capture_size, counts_with}
-use Rattle.exb_outputs.proofs.Sizes.{fives}
+use Rattle.exb_outputs.specs.Sent.{HasSent, capture_size, SameCaptures}
 use Rattle.exb_writers.proofs.Counting.{count_events}
 use Rattle.exb_writers.proofs.Telling.{counts-more}
+
+-- ---- counts of a port
+pub fives : (c d : Counts5) → c.relayed ≡ d.relayed → c.dropped ≡ d.dropped → c.ignored ≡ d.ignored → c.left ≡ d.left → c.octets ≡ d.octets → c ≡ d
+fives c d r p g l o = λ i. record { relayed = r i; dropped = p i; ignored = g i; left = l i; octets = o i }
+
+pub counts_same : (plan : Planned) (old new : Outputs) (c : Counters) (q : ℕ) → q < 4160 → is_external plan.tree q ≡ true → SameCaptures plan old new → counts_with plan new c q ≡ counts_with plan old c q
+counts_same plan old new c q low out same =
+    let s = same.each q low out in
+    let frames = s.0 in
+    let size = s.1 in
+    fives (counts_with plan new c q) (counts_with plan old c q) refl refl refl frames (omega (arith, frames, size))
 
 -- ---- what was said goes with what was told
 pub none_together : GoTogether [] []
@@ -223,6 +233,10 @@ counted-none plan c tally ports = record { tally = tally; ports = ports }
 pub asked_for : (b : Bool) → not b ≡ false → b ≡ true
 asked_for true e = refl
 asked_for false e = sym e
+
+pub unasked : (b : Bool) → not b ≡ true → b ≡ false
+unasked true e = sym e
+unasked false e = refl
 
 pub counts-of : (plan : Planned) (ports : Option Counters) (told : List Event) (passed : List Bool) → AreCounted plan ports told passed → AreCountsOf plan ports
 counts-of plan None told passed are = are

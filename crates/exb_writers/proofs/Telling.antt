@@ -19,12 +19,15 @@ use Rattle.exb_resting.specs.Flight.Showing.{left_at}
 use Rattle.exb_text.specs.declared.output.Output.{Output}
 use Rattle.exb_text.specs.declared.output.Output.TheVariants as output
 use Rattle.exb_text.specs.Tallies.{nothing_counted}
-use Rattle.exb_writers.specs.Counts.{counts_so_far}
+use Rattle.exb_counters.specs.declared.counters.Counters.{Counters}
+use Rattle.exb_outputs.specs.declared.outputs.Outputs.{Outputs}
+use Rattle.exb_outputs.specs.Plans.{Planned}
+use Rattle.exb_writers.specs.Counts.{counts_so_far, counts_text}
+use Rattle.exb_writers.specs.Telling.{with_end, with_told}
 use Rattle.exb_writers.specs.Texts.{text_so_far}
-use Rattle.exb_outputs.specs.Writing.{first_text, lines_of, with_more}
-use Rattle.exb_writers.specs.Leaving.{with_left_frames}
+use Rattle.exb_outputs.specs.Writing.{first_text, with_more}
 use Rattle.exb_writers.proofs.Counting.{count_events}
-use Rattle.exb_outputs.proofs.OutputLemmas.{no_trace}
+use Rattle.exb_writers.proofs.Lines.{no_trace}
 use Rattle.exb_outputs.proofs.Texts.{capture_text-append, capture_text-nil, journal_text-then}
 
 -- ---- texts
@@ -48,7 +51,7 @@ trace_text-append xs ys = flat_map-append (λ (l : TraceLine). trace_line l ++ 1
 module _ (told more : List Event) (gone : List Leaving) (xs : List Left) (lines new : List TraceLine) where
   -- the texts with what was told, has left and was traced more
   abbrev pub texts-with : Output → List ℕ
-  texts-with = with_more (with_left_frames (with_more (text_so_far told gone lines []) output.Journal (lines_of more)) xs) output.Trace (trace_text new)
+  texts-with = with_told (text_so_far told gone lines []) more xs new
 
   pub text-more : (o : Output) → texts-with o ≡ text_so_far (told ++ more) (gone ++ all_left xs) (lines ++ new) [] o
   text-more (output.Capture q) = sym (ap capture_text (left_at-append q gone (all_left xs)) ∙ capture_text-append (left_at q gone) (left_at q (all_left xs)))
@@ -73,6 +76,10 @@ counts_written told gone lines counts (output.Capture q) = refl
 counts_written told gone lines counts output.Journal = refl
 counts_written told gone lines counts output.Trace = refl
 counts_written told gone lines counts output.Counters = refl
+
+pub end_written : (told : List Event) (gone : List Leaving) (lines : List TraceLine) (plan : Planned) (ports : Option Counters) (outs : Outputs) (o : Output)
+    → with_end (text_so_far told gone lines []) plan ports outs o ≡ text_so_far told gone lines (counts_text plan ports outs) o
+end_written told gone lines plan ports outs o = counts_written told gone lines (counts_text plan ports outs) o
 
 -- ---- counts
 left-aside : (es : List Event) (n : ℕ) (c : Counts) → count_events (with_left n c) es ≡ with_left n (count_events c es)

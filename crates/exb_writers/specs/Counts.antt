@@ -1,5 +1,5 @@
 -- What is counted of a run: all together for its summary, and by port where counters are asked for.
-use Rattle.std.specs.Prelude.{[], ◌≡◌, ◌<◌, ◌+◌, ℕ, Bool, true, false, List, ◌++◌, Option, Some, None, IfSome, length, fold}
+use Rattle.std.specs.Prelude.{[], ◌≡◌, ◌<◌, ◌+◌, ◌-◌, ◌*◌, ℕ, Bool, true, false, List, ◌++◌, Option, Some, None, IfSome, length, fold}
 use Rattle.exb_model.specs.declared.event.Event.{Event}
 use Rattle.exb_model.specs.FlatBridge.{Sent}
 use Rattle.exb_model.specs.Texts.{Counts, counted, with_left, summary_line}
@@ -14,7 +14,7 @@ use Rattle.exb_counters.specs.Counting.{FitsCounts, HasPort, counts_at, drops_in
 use Rattle.exb_writers.specs.declared.counted.Counted.{Counted}
 use Rattle.exb_outputs.specs.declared.outputs.Outputs.{Outputs}
 use Rattle.exb_outputs.specs.Plans.{Planned}
-use Rattle.exb_outputs.specs.Sent.{counts_with}
+use Rattle.exb_outputs.specs.Sent.{frames_at, size_at}
 
 -- and the counts
 abbrev pub counts_so_far : List Event → List Left → Counts
@@ -38,6 +38,17 @@ AreCounted plan (Some c) told passed =
 abbrev pub AreCountsOf : Planned → Option Counters → Type 0
 AreCountsOf plan None = plan.options.counters ≡ false
 AreCountsOf plan (Some c) = (plan.options.counters ≡ true) × ((q : ℕ) → q < 4160 → is_external plan.tree q ≡ true → HasPort c q)
+
+-- the counts of port q: what came in, by the counters, and what left, by the capture
+abbrev pub counts_with : Planned → Outputs → Counters → ℕ → Counts5
+counts_with plan o c q =
+    record {
+      relayed = (counts_at c q).relayed;
+      dropped = (counts_at c q).dropped;
+      ignored = (counts_at c q).ignored;
+      left = frames_at plan o q;
+      octets = size_at plan o q - 24 - 16 * frames_at plan o q;
+    }
 
 -- the text of the counters, with what the captures have counted
 abbrev pub counts_text : Planned → Option Counters → Outputs → List ℕ

@@ -91,8 +91,8 @@ def follow(running: subprocess.Popen, given: Input | None, shown: Shown) -> None
 
 
 def topology_of(words: list[str]) -> str | None:
-    """The topology of a run, among its words."""
-    if words[0] != "run":
+    """The topology of a run, or the file of a net, among its words."""
+    if words[0] not in ("run", "net"):
         return None
     rest, named = iter(words[1:]), []
     for it in rest:

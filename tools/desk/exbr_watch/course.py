@@ -15,13 +15,20 @@ class Input:
     octets: int
 
 
+def captures_of(path: str) -> list[str]:
+    """The captures that a topology names, or those of all topologies of a net."""
+    with open(path, "rb") as file:
+        tables = tomllib.load(file)
+    if isinstance(tables.get("bridge"), list):
+        return [name for it in tables["bridge"] for name in captures_of(it["topology"])]
+    return list(tables.get("captures", {}).values())
+
+
 def input_of(path: str) -> Input | None:
-    """The captures that a topology names, with their sizes. None where it can't be told: then the program says what is wrong."""
+    """The captures of a topology or a net, with their sizes. None where it can't be told: then the program says what is wrong."""
     try:
-        with open(path, "rb") as file:
-            named = tomllib.load(file).get("captures", {})
-        sizes = [os.stat(it).st_size for it in named.values()]
-    except (OSError, ValueError, AttributeError, TypeError):
+        sizes = [os.stat(it).st_size for it in captures_of(path)]
+    except (OSError, ValueError, AttributeError, TypeError, KeyError, RecursionError):
         return None
     return Input(len(sizes), sum(sizes))
 

@@ -33,6 +33,7 @@ class Courses(unittest.TestCase):
 
     def test_topology_among_words(self):
         for words, path in ((["run", "t.toml"], "t.toml"), (["run", "--trace", "t.toml", "--seed", "3"], "t.toml"), (["check", "t.toml"], None),
+                            (["net", "n.toml", "--counters"], "n.toml"),
                             (["run"], None), (["run", "a", "b"], None)):
             self.assertEqual(cli.topology_of(words), path)
 
@@ -66,6 +67,17 @@ class Watching(ground.InFolder):
         self.assertEqual((done.returncode, done.stdout), (7, "arrivals run topology.toml --trace\n"))
         self.assertIn("exbr: looking through 1 captures [", done.stderr)
         self.assertIn("exbr: playing 1 captures [", done.stderr)
+
+    def test_a_net(self):
+        """The captures of all its bridges."""
+        for name, data in {"net.toml": '[[bridge]]\nname = "a"\ntopology = "a.toml"\n[[bridge]]\nname = "b"\ntopology = "b.toml"\n',
+                           "a.toml": '[captures]\n"b1" = "1.pcap"\n"b2" = "2.pcap"\n', "b.toml": '[captures]\n"b1" = "2.pcap"\n', "1.pcap": b"1", "2.pcap": b"22"}.items():
+            self.write(name, data)
+        self.addCleanup(os.chdir, os.getcwd())
+        os.chdir(self.folder)
+        self.assertEqual(course.input_of("net.toml"), course.Input(3, 5))
+        self.write("b.toml", '[[bridge]]\ntopology = "b.toml"\n')
+        self.assertIsNone(course.input_of("net.toml"))
 
     def test_signal(self):
         done = ground.process("exbr-watch", "--program", self.program("import os; os.abort()"), "--", "run", "topology.toml", cwd=self.folder)

@@ -10,8 +10,8 @@ pub(super) const BIG_HEAD: &str = "0A0D0D0A 0000001C 1A2B3C4D 00010000 8xFF 0000
 pub(crate) const ROW: &str =
     "0A0D0D0A 1C000000 4D3C2B1A 01000000 8xFF 1C000000 01000000 14000000 01000000 00000400 14000000 06000000 5C000000 00000000 00000000 00E1F505 3C000000 3C000000 6xFF 020000000001 0800 46x00 5C000000";
 
-/// What stands behind the header, and what is read.
-pub(super) const BLOCKS: [(&str, &str); 78] = [
+/// Sizes, and what isn't all there: what stands behind the header, and what is read.
+pub(super) const SIZES: [(&str, &str); 18] = [
     ("", ""),
     ("01", "Cut(28)"),
     ("05000000 08000000 00000000", "Length(32)"),
@@ -30,6 +30,10 @@ pub(super) const BLOCKS: [(&str, &str); 78] = [
     ("06000000 0C000000 0D000000", "Length(36)"),
     ("05000000 0C000000 0D000000", ""),
     ("0A0D0D0A 0C000000 4D3C2B1A", "Length(36)"),
+];
+
+/// Section headers: what stands behind the header, and what is read.
+pub(super) const SECTIONS: [(&str, &str); 8] = [
     (
         "0A0D0D0A 1C000000 4D3C2B1B 01000000 8xFF 1C000000",
         "Magic(36)",
@@ -56,6 +60,10 @@ pub(super) const BLOCKS: [(&str, &str); 78] = [
         "01000000 14000000 01000000 00000400 14000000 0A0D0D0A 0000001C 1A2B3C4D 00010000 8xFF 0000001C 00000001 00000014 00010000 00000000 00000014 00000006 00000024 00000000 00000000 00000007 00000001 00000001 AA000000 00000024",
         "7000 1;",
     ),
+];
+
+/// Interfaces: what stands behind the header, and what is read.
+pub(super) const INTERFACES: [(&str, &str); 18] = [
     ("01000000 10000000 01000000 10000000", "Length(32)"),
     ("01000000 18000000 01000000 00000000 00000000 18000000", ""),
     ("01000000 18000000 01000000 00000000 0000FFFF 18000000", ""),
@@ -116,6 +124,10 @@ pub(super) const BLOCKS: [(&str, &str); 78] = [
         "100000000000 4;",
     ),
     ("01000000 14000000 69000000 00000000  14000000", ""),
+];
+
+/// Enhanced packets with their interfaces and times: what stands behind the header, and what is read.
+pub(super) const ENHANCED: [(&str, &str); 14] = [
     (
         "06000000 24000000 00000000 00000000 00E1F505 04000000 04000000 08090A0B 24000000",
         "Interface(36)",
@@ -172,6 +184,10 @@ pub(super) const BLOCKS: [(&str, &str); 78] = [
         "01000000 1C000000 01000000 00000000 09000100 00000000 1C000000 06000000 24000000 00000000 01000000 00E1F505 04000000 04000000 08090A0B 24000000",
         "Time(68)",
     ),
+];
+
+/// Enhanced packets by what is stored of them: what stands behind the header, and what is read.
+pub(super) const STORED: [(&str, &str); 6] = [
     (
         "01000000 14000000 01000000 00000400 14000000 06000000 24000000 00000000 00000000 00E1F505 05000000 04000000 08090A0B 24000000",
         "Length(68)",
@@ -196,6 +212,10 @@ pub(super) const BLOCKS: [(&str, &str); 78] = [
         "01000000 14000000 01000000 00000400 14000000 06000000 2C000000 00000000 00000000 00E1F505 04000000 04000000 08090A0B 01000400 2C000000",
         "Cut(48)",
     ),
+];
+
+/// Simple packets: what stands behind the header, and what is read.
+pub(super) const SIMPLE: [(&str, &str); 10] = [
     (
         "03000000 14000000 04000000 08090A0B 14000000",
         "Interface(28)",
@@ -236,6 +256,10 @@ pub(super) const BLOCKS: [(&str, &str); 78] = [
         "01000000 14000000 01000000 00000400 14000000 06000000 24000000 00000000 00000000 00E1F505 04000000 04000000 08090A0B 24000000 03000000 14000000 04000000 08090A0B 14000000 0A0D0D0A 1C000000 4D3C2B1A 01000000 8xFF 1C000000 01000000 14000000 01000000 00000400 14000000 03000000 14000000 02000000 08090A0B 14000000",
         "100000000000 4; 100000000000 4; 100000000000 2;",
     ),
+];
+
+/// Blocks that are skipped: what stands behind the header, and what is read.
+pub(super) const SKIPPED: [(&str, &str); 4] = [
     (
         "01000000 14000000 01000000 00000400 14000000 04000000 14000000 00000000 00000000 14000000 05000000 10000000 00000000 10000000 AD0B0000 10000000 01020304 10000000 06000000 24000000 00000000 00000000 00E1F505 04000000 04000000 08090A0B 24000000",
         "100000000000 4;",

@@ -6,7 +6,7 @@ use Rattle.exb_model.specs.FlatBridge.{flat}
 use Rattle.exb_model.specs.Input.{Input, basis_of as basis_for, tree_of}
 use Rattle.exb_model.specs.EagerHistory.{eager}
 use Rattle.exb_model.specs.Texts.{summary_line, with_left}
-use Rattle.exb_flat.specs.Histories.{basis_of}
+use Rattle.exb_oracle.specs.Histories.{basis_of}
 use Rattle.exb_flat_run.specs.Counting.{counted_all}
 use Rattle.exb_flat_run.specs.Inputs.{input_of}
 use Rattle.exb_flat_run.specs.Turns.{told}

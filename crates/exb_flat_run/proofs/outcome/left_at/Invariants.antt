@@ -1,7 +1,7 @@
 use Rattle.std.proofs.Common.{◌≡◌, map, take, length}
 use Rattle.std.specs.Prelude.{sum_by}
 use Rattle.exb_model.specs.FlatBridge.{flat}
-use Rattle.exb_flat.specs.Histories.{basis_of}
+use Rattle.exb_oracle.specs.Histories.{basis_of}
 use Rattle.exb_flat_run.specs.Turns.{told}
 use Rattle.exb_flat_run.specs.Outcomes.{texts_in, capture_at}
 use Rattle.exb_flat_run.proofs.outcome.left_at.Given as goal

@@ -1,7 +1,7 @@
 use Rattle.std.proofs.Common.{map, sym, ap, subst, ◌∙◌}
 use Rattle.std.specs.Prelude.{All}
 use Rattle.exb_capture.specs.Written.{CanBeWritten}
-use Rattle.exb_flat.specs.Histories.{sent_of}
+use Rattle.exb_oracle.specs.Histories.{sent_of}
 use Rattle.exb_flat_run.proofs.Played.{all-of_map}
 use Rattle.exb_flat_run.proofs.outcome.put_port.Goals as goal
 

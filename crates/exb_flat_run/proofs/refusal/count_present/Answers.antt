@@ -1,5 +1,5 @@
 use Rattle.std.proofs.Common.{arith}
-use Rattle.exb_flat.specs.Configs.{bridge_of}
+use Rattle.exb_oracle.specs.Configs.{bridge_of}
 use Rattle.exb_flat_run.proofs.SetLists.{present-count, present-few}
 use Rattle.exb_flat_run.proofs.refusal.count_present.Goals as goal
 

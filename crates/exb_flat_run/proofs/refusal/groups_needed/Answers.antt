@@ -1,7 +1,7 @@
 use Rattle.std.proofs.Common.{fold, ap, ◌∙◌, arith}
 use Rattle.std.proofs.lemmas.List.{length-map}
 use Rattle.exb_model.specs.Refusals.{with_set}
-use Rattle.exb_flat.specs.Configs.{bridge_of}
+use Rattle.exb_oracle.specs.Configs.{bridge_of}
 use Rattle.exb_flat_run.specs.Sets.{lists_in}
 use Rattle.exb_flat_run.proofs.SetLists.{needed-count}
 use Rattle.exb_flat_run.proofs.refusal.groups_needed.Goals as goal

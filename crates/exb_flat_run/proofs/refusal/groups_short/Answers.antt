@@ -2,7 +2,7 @@ use Rattle.std.proofs.Common.{◌≡◌, ℕ, sym, ap, ◌∙◌, arith}
 use Rattle.std.specs.Prelude.{Some}
 use Rattle.exb_model.specs.declared.event.Cause.TheVariants as cause
 use Rattle.exb_model.specs.Refusals.{groups_needed}
-use Rattle.exb_flat.specs.Configs.{bridge_of}
+use Rattle.exb_oracle.specs.Configs.{bridge_of}
 use Rattle.exb_flat_run.specs.Limits.{limits_of}
 use Rattle.exb_flat_run.proofs.SetLists.{short-at, short-nowhere}
 use Rattle.exb_flat_run.proofs.refusal.groups_short.Goals as goal

@@ -1,6 +1,6 @@
 use Rattle.std.proofs.Common.{ℕ, ◌<◌, ◌≤◌}
 use Rattle.exb_model.specs.Refusals.{groups_needed}
-use Rattle.exb_flat.specs.Configs.{bridge_of}
+use Rattle.exb_oracle.specs.Configs.{bridge_of}
 use Rattle.exb_flat_run.proofs.refusal.groups_short.Given as goal
 
 abbrev pub invariant-trunks : goal.invariant-trunks

@@ -1,5 +1,5 @@
 use Rattle.std.proofs.Common.{◌≡◌, take}
-use Rattle.exb_flat.specs.Configs.{bridge_of}
+use Rattle.exb_oracle.specs.Configs.{bridge_of}
 use Rattle.exb_flat_run.specs.Sets.{part_in, source}
 use Rattle.exb_flat_run.proofs.sets.part.Given as goal
 

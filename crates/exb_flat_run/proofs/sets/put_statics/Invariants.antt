@@ -1,6 +1,6 @@
 use Rattle.std.proofs.Common.{◌≡◌, take, fold}
 use Rattle.exb_model.specs.Refusals.{with_set}
-use Rattle.exb_flat.specs.Configs.{bridge_of}
+use Rattle.exb_oracle.specs.Configs.{bridge_of}
 use Rattle.exb_flat_run.specs.Sets.{lists_in, entry_sets}
 use Rattle.exb_flat_run.proofs.sets.put_statics.Given as goal
 

@@ -2,7 +2,7 @@ use Rattle.std.proofs.Common.{◌≡◌, ℕ, true, fold, List, ◌++◌, sym, a
 use Rattle.std.specs.Prelude.{flat_map}
 use Rattle.std.specs.List.{range_with_len}
 use Rattle.exb_model.specs.Refusals.{with_set, all_vids}
-use Rattle.exb_flat.specs.Configs.{bridge_of}
+use Rattle.exb_oracle.specs.Configs.{bridge_of}
 use Rattle.exb_flat_run.specs.Sets.{lists_in, four_sets, vlan_sets}
 use Rattle.exb_flat_run.proofs.SetLists.{fold_append, flat_range-more}
 use Rattle.exb_flat_run.proofs.sets.put_vlans.Goals as goal

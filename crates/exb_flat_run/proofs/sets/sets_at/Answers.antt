@@ -1,7 +1,7 @@
 use Rattle.std.proofs.Common.{◌≡◌, fold, sym, ap, ◌∙◌, arith, vec_len}
 use Rattle.std.proofs.lemmas.Bool.{eqb-true}
 use Rattle.exb_model.specs.Refusals.{with_set}
-use Rattle.exb_flat.specs.Configs.{bridge_of}
+use Rattle.exb_oracle.specs.Configs.{bridge_of}
 use Rattle.exb_flat_run.specs.Sets.{lists_in, entry_sets}
 use Rattle.exb_flat_run.proofs.SetLists.{sets-are, no-sets, length_none}
 use Rattle.exb_flat_run.proofs.sets.sets_at.Goals as goal

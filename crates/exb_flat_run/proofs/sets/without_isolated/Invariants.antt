@@ -1,5 +1,5 @@
 use Rattle.std.proofs.Common.{◌≡◌, take}
-use Rattle.exb_flat.specs.Configs.{bridge_of}
+use Rattle.exb_oracle.specs.Configs.{bridge_of}
 use Rattle.exb_model.specs.Refusals.{without_isolated}
 use Rattle.exb_flat_run.proofs.sets.without_isolated.Given as goal
 

@@ -62,7 +62,7 @@ returns-clause-sent g c =
     on_ok_weaker c.write_left.result
     (λ last sent has.
     let plan = c.args.plan.now in
-    let first = sent_same plan c.args.outputs.now c.write_events.new.self sent c.in_ok-write_events.ensures.same has in
+    let first = sent_same plan c.args.outputs.now c.write_events.new.outputs sent c.in_ok-write_events.ensures.same has in
     subst (λ (xs : List Left). HasSent plan c.write_left.new.outputs (sent_with sent xs)) c.left.ensures (last sent first))
     c.write_left.ensures.sent
 

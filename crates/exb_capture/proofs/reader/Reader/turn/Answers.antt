@@ -23,9 +23,9 @@ returns-in-Short-clause-value g c =
     let gs : c.go.new.self.stage ≡ At s = stage_is _ _ c.go.ensures ∙ st in
     let owing = owing_is _ _ c.self-2.view_is in
     let look = c.in-Short.ensures s gs in
-    let place : c.self-in-Short.inside.place ≡ c.go.new.self.place = place_is _ _ (c.self-in-Short.view_is ∙ look.is) in
-    let at : c.at_place-fault.result ≡ at_place c.go.new.self.place c.in-Short.fault = c.at_place-fault.ensures ∙ ap (λ p. at_place p c.in-Short.fault) place in
-    c.at_last-in-Short.ensures.value
+    let place : c.at_last-in-Short.inside.place ≡ c.go.new.self.place = place_is _ _ (c.at_last-in-Short.view_is ∙ look.is) in
+    let at : c.at_place.result ≡ at_place c.go.new.self.place c.in-Short.fault = c.at_place.ensures ∙ ap (λ p. at_place p c.in-Short.fault) place in
+    c.at_last-in-Short-2.ensures.value
     ∙ ap (λ f. at_last most_held c.args.ended f c.look.new.self) at
     ∙ ap (at_last most_held c.args.ended (at_place c.go.new.self.place c.in-Short.fault)) (same_state c.go.new.self c.look.new.self s look.state look.is look.same gs)
     ∙ turned_at g.F.Format.stands c.args.ended c.args.self.now c.go.new.self c.look.new.self s _ st c.go.ensures (omega (arith, owing, c.if-self-gt0.false)) look
@@ -38,8 +38,8 @@ returns-in-Bad-clause-value g c =
     let owing = owing_is _ _ c.self-2.view_is in
     let look = c.in-Bad.ensures s gs in
     let place : c.self-in-Bad.inside.place ≡ c.go.new.self.place = place_is _ _ (c.self-in-Bad.view_is ∙ look.is) in
-    let at : c.at_place-fault-in-Bad.result ≡ at_place c.go.new.self.place c.in-Bad.fault = c.at_place-fault-in-Bad.ensures ∙ ap (λ p. at_place p c.in-Bad.fault) place in
-    ap (Answers (Faulty c.at_place-fault-in-Bad.result)) (c.fail.ensures ∙ ap (failing c.at_place-fault-in-Bad.result) (same_state c.go.new.self c.look.new.self s look.state look.is look.same gs))
+    let at : c.at_place-fault.result ≡ at_place c.go.new.self.place c.in-Bad.fault = c.at_place-fault.ensures ∙ ap (λ p. at_place p c.in-Bad.fault) place in
+    ap (Answers (Faulty c.at_place-fault.result)) (c.fail.ensures ∙ ap (failing c.at_place-fault.result) (same_state c.go.new.self c.look.new.self s look.state look.is look.same gs))
     ∙ ap (λ f. Answers (Faulty f) (failing f c.go.new.self)) at
     ∙ turned_at g.F.Format.stands c.args.ended c.args.self.now c.go.new.self c.look.new.self s _ st c.go.ensures (omega (arith, owing, c.if-self-gt0.false)) look
 

@@ -1,9 +1,7 @@
 use Rattle.std.proofs.Common.{ℕ, List}
 use Rattle.std.proofs.lemmas.Result.{err_from_is_err_and}
 use Rattle.exb_inputs.proofs.ShelvingLemmas.{counts_as, counts_from}
-use Rattle.exb_text.specs.declared.output.Output.TheVariants as output
-use Rattle.exb_writers.specs.Counts.{counts_text}
-use Rattle.exb_outputs.specs.Writing.{with_more}
+use Rattle.exb_writers.specs.Telling.{with_end}
 use Rattle.exb_outputs.proofs.Cutting.{cut_whole}
 use Rattle.exb_play.proofs.game.Game.end.Goals as goal
 
@@ -12,11 +10,10 @@ returns-in_err-line-clause-cut g c = λ t.
     let e = err_from_is_err_and c.from_residual-in_err-line.result c.from_residual-in_err-line.ensures.1 in
     rw e.1
     (λ orig text p.
-    let counts : List ℕ = counts_text c.args.plan.now c.args.self.now.counted.ports c.args.self.now.outputs in
-    cut_whole c.args.plan.now orig (g.S.Shelf.file c.finish.new.shelf) (with_more text output.Counters counts)
-    (c.in_ok-finish.ensures.texts t orig (with_more text output.Counters counts) (c.in_ok-write_counters.ensures.texts t orig text p)))
+    let whole = with_end text c.args.plan.now c.args.self.now.counted.ports c.args.self.now.outputs in
+    cut_whole c.args.plan.now orig (g.S.Shelf.file c.finish.new.shelf) whole (c.in_ok-finish.ensures.texts t orig whole (c.in_ok-write_end.ensures.texts t orig text p)))
 
 pub returns-in_err-finish-clause-faults : goal.returns-in_err-finish-clause-faults
 returns-in_err-finish-clause-faults g c =
     let e = err_from_is_err_and c.from_residual-in_err-finish.result c.from_residual-in_err-finish.ensures.1 in
-    rw (e.1, e.2) (counts_from _ _ _ _ c.in_ok-write_counters.ensures.faults.once (counts_as c.in_err-finish.field-0.0 _ _ c.in_err-finish.ensures.faults))
+    rw (e.1, e.2) (counts_from _ _ _ _ c.in_ok-write_end.ensures.faults.once (counts_as c.in_err-finish.field-0.0 _ _ c.in_err-finish.ensures.faults))

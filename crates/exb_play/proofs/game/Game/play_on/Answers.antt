@@ -6,16 +6,14 @@ use Rattle.exb_inputs.proofs.ShelvingLemmas.{counts_from}
 use Rattle.exb_model.specs.History.{◌then◌}
 use Rattle.exb_model.specs.Texts.{summary_line}
 use Rattle.exb_schedule.specs.Worlds.{network_of}
-use Rattle.exb_text.specs.declared.output.Output.TheVariants as output
 use Rattle.exb_text.specs.Tallies.{counts_of}
 use Rattle.exb_outputs.specs.Plans.{output_name, kind_at, output_count}
 use Rattle.exb_writers.specs.Texts.{output_text, text_so_far}
-use Rattle.exb_writers.specs.Counts.{counts_text}
 use Rattle.exb_play.specs.Playing.{mode_of}
-use Rattle.exb_outputs.specs.Writing.{with_more}
+use Rattle.exb_writers.specs.Telling.{with_end}
 use Rattle.exb_play.proofs.Ending.{counts-end, eagerly, legal, texts-whole, trace}
 use Rattle.exb_outputs.proofs.Filling.{weaker}
-use Rattle.exb_writers.proofs.Telling.{counts_written}
+use Rattle.exb_writers.proofs.Telling.{end_written}
 use Rattle.exb_inputs.proofs.Outcomes.{if_ok_both, if_ok_map, if_err_map}
 use Rattle.exb_play.proofs.Keeping.{goes-writing}
 use Rattle.exb_play.proofs.CuttingOff.{cut_at_end}
@@ -34,7 +32,8 @@ returns-clause-done g c tells =
     let t = all.is in
     let way = c.runs_are_under_way.ensures in
     let law = c.runs_write_legally.ensures in
-    let counts : List ℕ = counts_text plan c.play_all.new.self.counted.ports c.play_all.new.self.outputs in
+    let ports = c.play_all.new.self.counted.ports in
+    let outs = c.play_all.new.self.outputs in
     record {
       history = [] then t.told;
       lines = t.lines;
@@ -47,10 +46,10 @@ returns-clause-done g c tells =
       bytes = t.bytes;
       eager = eagerly m i plan t.tree c.is_tree.ensures timely way law n t.told t.passed t.gone t.lines t.played c.runs_write_eagerly.ensures;
       trace = λ on. trace m i plan t.tree c.is_tree.ensures timely way law n t.told t.passed t.gone t.lines t.played c.runs_tell_legally.ensures (t.tracing ∙ on);
-      outputs = weaker run.before (S.file c.end.new.shelf) (output_count plan) (output_name plan) (λ j bytes. bytes ≡ with_more (text_so_far t.told t.gone t.lines []) output.Counters counts (kind_at plan j))
+      outputs = weaker run.before (S.file c.end.new.shelf) (output_count plan) (output_name plan) (λ j bytes. bytes ≡ with_end (text_so_far t.told t.gone t.lines []) plan ports outs (kind_at plan j))
           (λ j bytes. bytes ≡ output_text i ([] then t.told) t.lines (kind_at plan j)) (texts run.before (text_so_far t.told t.gone t.lines []) (t.texts tells))
           (λ j bytes low is.
-          is ∙ counts_written t.told t.gone t.lines counts (kind_at plan j)
+          is ∙ end_written t.told t.gone t.lines plan ports outs (kind_at plan j)
           ∙ texts-whole m i plan t.tree c.is_tree.ensures timely way law n t.told t.passed t.gone t.lines t.played c.play_all.new.self.counted.ports c.play_all.new.self.outputs t.counted.ports t.sent all.room c.counts_go_on.ensures c.runs_say_passed.ensures j low);
       says = says ∙ ap summary_line (t.counted.tally ∙ counts-end m i plan t.tree c.is_tree.ensures timely way law n t.told t.passed t.gone t.lines t.played);
     }) c.end.ensures.line (c.end.ensures.texts tells)
@@ -63,7 +62,7 @@ returns-clause-cut g c = λ t. on_err_weaker c.end.result
     (λ cut run start.
     let S = g.S.Shelf in
     cut_at_end S.tells (mode_of c.args.schedule) run c.args.plan.now (S.file c.play_all.new.shelf) (S.file c.end.new.shelf) (network_of c.play_all.new.self.world) c.play_all.new.self.counted c.play_all.new.self.outputs t
-    (c.in_ok-play_all.ensures.told t run start).is (counts_text c.args.plan.now c.play_all.new.self.counted.ports c.play_all.new.self.outputs) cut)
+    (c.in_ok-play_all.ensures.told t run start).is c.play_all.new.self.counted.ports cut)
     (c.end.ensures.cut t)
 
 pub returns-in_err-play_all-clause-never : goal.returns-in_err-play_all-clause-never

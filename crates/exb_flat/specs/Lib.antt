@@ -1,3 +1,0 @@
-pub mod Configs
-pub mod Histories
-pub mod Laws

@@ -1,5 +1,0 @@
-use Rattle.exb_flat_laws.proofs.Setups.{valid_in_words}
-use Rattle.exb_flat_laws.proofs.setup_laws.valid_in_words.Goals as goal
-
-pub returns : goal.returns
-returns c = valid_in_words

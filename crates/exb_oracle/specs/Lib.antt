@@ -1,0 +1,10 @@
+pub mod Configs
+pub mod Histories
+pub mod Laws
+pub mod Reaching
+pub mod Staying
+pub mod Tagging
+pub mod Playing
+pub mod Telling
+pub mod Setups
+pub mod Plain

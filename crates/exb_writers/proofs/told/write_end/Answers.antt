@@ -1,0 +1,14 @@
+use Rattle.std.proofs.Common.{◌≡◌, ℕ, List, [], ap, sym, subst}
+use Rattle.exb_text.specs.declared.output.Output.TheVariants as output
+use Rattle.exb_writers.specs.Counts.{counts_text}
+use Rattle.exb_outputs.specs.Writing.{HasTexts, pieces_of, with_more}
+use Rattle.exb_outputs.proofs.OutputLemmas.{no_more}
+use Rattle.exb_writers.proofs.told.write_end.Goals as goal
+
+pub returns-in-None-clause-texts : goal.returns-in-None-clause-texts
+returns-in-None-clause-texts g c tells orig text held =
+    let plan = c.args.plan.now in
+    let file = g.S.Shelf.file c.args.shelf.now in
+    let pieces = pieces_of c.args.outputs.now in
+    let none : [] ≡ counts_text plan c.args.ports.now c.args.outputs.now = sym (ap (λ ports. counts_text plan ports c.args.outputs.now) c.in-None.is) in
+    subst (λ (counts : List ℕ). HasTexts plan pieces orig file (with_more text output.Counters counts)) none (no_more plan orig file pieces text output.Counters held)

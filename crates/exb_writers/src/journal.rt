@@ -1,0 +1,67 @@
+//! Events as lines of the journal.
+ghost use Rattle.std.specs.Prelude.{◌≡◌, ◌++◌, ◌∷◌, [], ℕ, List, IfErr, OnErr, OnOk};
+ghost use Rattle.exb_model.specs.Texts.{line_of};
+ghost use Rattle.exb_shelf.specs.Files.{Files};
+ghost use Rattle.exb_text.specs.declared.output.Output.{Output};
+ghost use Rattle.exb_text.specs.declared.output.Output.TheVariants as output;
+ghost use Rattle.exb_inputs.specs.Shelving.{CountsFaults};
+ghost use Rattle.exb_outputs.specs.Sent.{SameCaptures};
+ghost use Rattle.exb_outputs.specs.Shelving.{IsOfWriting, OnlyWrites};
+ghost use Rattle.exb_outputs.specs.Writing.{AreCut, HasTexts, IsReady, lines_of, pieces_of, with_more};
+
+use exb_inputs::Fault;
+use exb_model::event::Event;
+use exb_outputs::{Outputs, Plan};
+use exb_shelf::Shelf;
+use exb_text::{Output, write_line};
+
+/// Puts the line of an event behind the journal.
+fn add_event<S: Shelf>(
+    shelf: &mut S,
+    plan: &Plan,
+    outputs: &mut Outputs,
+    line: &mut String,
+    event: &Event,
+) -> Result<(), Fault>
+    requires ready { IsReady plan.now (S.ids shelf.old) outputs.old }
+    ensures ready { IsReady plan.now (S.ids shelf.new) outputs.new }
+    ensures texts { S.tells → OnOk result ((orig : Files) (text : Output → List ℕ) → HasTexts plan.now (pieces_of outputs.old) orig (S.file shelf.old) text
+        → HasTexts plan.now (pieces_of outputs.new) orig (S.file shelf.new) (with_more text output.Journal (line_of event.now ++ 10 ∷ []))) }
+    ensures cut { S.tells → OnErr result ((orig : Files) (text : Output → List ℕ) → HasTexts plan.now (pieces_of outputs.old) orig (S.file shelf.old) text
+        → AreCut plan.now orig (S.file shelf.new) (with_more text output.Journal (line_of event.now ++ 10 ∷ []))) }
+    ensures same { OnOk result (SameCaptures plan.now outputs.old outputs.new) }
+    ensures only { OnlyWrites S.tells plan.now (S.file shelf.old) (S.file shelf.new) (S.ids shelf.old) (S.ids shelf.new) }
+    ensures causes { IfErr result IsOfWriting }
+    ensures faults { CountsFaults result (S.faults shelf.old) (S.faults shelf.new) }
+{
+    line.clear();
+    if write_line(line, event).is_err() {
+        return Err(Fault::Memory);
+    }
+    outputs.write(shelf, plan, Output::Journal, line.as_bytes())
+}
+
+/// Puts the lines of events behind the journal. `line` is room for one line.
+pub fn write_events<S: Shelf>(
+    shelf: &mut S,
+    plan: &Plan,
+    outputs: &mut Outputs,
+    line: &mut String,
+    events: &[Event],
+) -> Result<(), Fault>
+    requires ready { IsReady plan.now (S.ids shelf.old) outputs.old }
+    ensures ready { IsReady plan.now (S.ids shelf.new) outputs.new }
+    ensures texts { S.tells → OnOk result ((orig : Files) (text : Output → List ℕ) → HasTexts plan.now (pieces_of outputs.old) orig (S.file shelf.old) text
+        → HasTexts plan.now (pieces_of outputs.new) orig (S.file shelf.new) (with_more text output.Journal (lines_of events.now))) }
+    ensures cut { S.tells → OnErr result ((orig : Files) (text : Output → List ℕ) → HasTexts plan.now (pieces_of outputs.old) orig (S.file shelf.old) text
+        → AreCut plan.now orig (S.file shelf.new) (with_more text output.Journal (lines_of events.now))) }
+    ensures same { OnOk result (SameCaptures plan.now outputs.old outputs.new) }
+    ensures only { OnlyWrites S.tells plan.now (S.file shelf.old) (S.file shelf.new) (S.ids shelf.old) (S.ids shelf.new) }
+    ensures causes { IfErr result IsOfWriting }
+    ensures faults { CountsFaults result (S.faults shelf.old) (S.faults shelf.new) }
+{
+    for event in events {
+        add_event(shelf, plan, outputs, line, event)?;
+    }
+    Ok(())
+}
