@@ -24,3 +24,9 @@ pub mod Prepared
 pub mod Opened
 pub mod Into
 pub mod Wholly
+pub mod Arming
+pub mod Reopened
+pub mod Programmed
+pub mod Starting
+pub mod Leading
+pub mod Openings

@@ -8,3 +8,4 @@ pub mod Desks
 pub mod UnderWay
 pub mod Shelving
 pub mod Setting
+pub mod Reopening

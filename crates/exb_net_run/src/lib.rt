@@ -11,5 +11,6 @@ mod desk;
 mod game;
 mod opening;
 mod play;
+mod reopening;
 
 pub use play::play_net;

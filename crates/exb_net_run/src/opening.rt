@@ -1,15 +1,24 @@
 //! What is made before the first event: the desk of each bridge, its captures opened again, and its fate.
+<<<<<<< HEAD
 ghost use Rattle.std.specs.Prelude.{◌≡◌, ◌<◌, ◌++◌, ◌∷◌, [], false, ℕ, List, IfErr, IfOk, IsErrOf, OnErr, OnOk, length, map};
+=======
+ghost use Rattle.std.specs.Prelude.{◌≡◌, ◌<◌, ◌++◌, ◌∷◌, [], false, ℕ, List, IfErr, IfOk, IsErrOf, OnErr, OnOk, length, map, All, ◌≤◌, ◌+◌, ◌^◌, AllPairs, true};
+>>>>>>> 5c1b60980056cd1228f28f8be26e243a40b25999
 ghost use Rattle.std.specs.List.{AllByRecursion};
 ghost use Rattle.exb_inputs.specs.declared.fault.Fault.{Fault};
+ghost use Rattle.exb_merge.specs.declared.programme.Programme.{Programme};
 ghost use Rattle.exb_merge.specs.NetAgendas.{IsAgenda, all_ids, programmes_in};
 ghost use Rattle.exb_model.specs.Setup.{IsValid};
+ghost use Rattle.exb_net.specs.Lists.{AreEach};
+ghost use Rattle.exb_net_file.specs.declared.apart.NetRest.{NetRest};
 ghost use Rattle.exb_nets.specs.declared.wires.Wire.{Wire};
 ghost use Rattle.exb_net_file.specs.declared.members.NetMember.{NetMember};
 ghost use Rattle.exb_net_file.specs.Apart.{IsTakenApart, rest_of};
 ghost use Rattle.exb_net_inputs.specs.Holding.{AreRead};
 ghost use Rattle.exb_net_inputs.specs.Opening.{ReadsMemberCapture};
-ghost use Rattle.exb_inputs.specs.Shelving.{CountsFaults};
+ghost use Rattle.exb_inputs.specs.Checks.{AreChecked};
+ghost use Rattle.exb_inputs.specs.Inputs.{is_named};
+ghost use Rattle.exb_inputs.specs.Shelving.{CountsFaults, ReadsCapture};
 ghost use Rattle.exb_outputs.specs.Order.{MakesInOrder};
 ghost use Rattle.exb_outputs.specs.Shelving.{IsOfWriting, OnlyMakes};
 ghost use Rattle.exb_outputs.specs.Writing.{AreCut};
@@ -21,13 +30,16 @@ ghost use Rattle.exb_net_run.specs.Desks.{OnlyAllPlanned};
 ghost use Rattle.exb_net_run.specs.Answers.{IsOfNetPlay};
 ghost use Rattle.exb_net_run.specs.Nets.{net_of, plan_with};
 ghost use Rattle.exb_net_run.specs.Opening.{HasCaptureAt, MakesNet, WritesNetOutput};
+ghost use Rattle.exb_net_run.specs.Reopening.{AreSince, IsOpenedAgain, start_of_told};
 ghost use Rattle.exb_net_run.specs.Setting.{AreCutAs, AreSet, GoesFrom, IsSet, IsToBeOpened, plan_under};
 ghost use Rattle.exb_net_run.specs.Shelving.{IsNetChange, IsOfCaptures};
 ghost use Rattle.exb_net_run.specs.UnderWay.{AreOfRests, Begins, LeadsOn};
 
 use crate::desk::Desk;
+use crate::reopening::reopen_all;
 use exb_fate::Fate;
-use exb_inputs::{Checked, Fault, earliest_in, open_all};
+use exb_inputs::{Checked, Fault, earliest_in};
+use exb_merge::laws::{agendas_stay, dues_of_all, net_start_is_least};
 use exb_merge::{Agenda, Programme};
 use exb_model::memory::NoMemory;
 use exb_model::setup::{Setup, Verdict};
@@ -111,7 +123,9 @@ pub(crate) fn set_desks<S: Shelf>(
 }
 
 /// The second from which commands count: the least whole second of any first record of any bridge, or 0.
-fn start_of_all(checked: &[Vec<Checked>]) -> u64 {
+fn start_of_all(checked: &[Vec<Checked>]) -> u64
+    ensures { result ≡ start_of_told checked.now }
+{
     let mut least = None;
     for captures in checked {
         least = earliest_in(least, captures.as_slice());
@@ -128,10 +142,32 @@ fn open_bridge<'a, S: Shelf>(
     checked: &[Checked],
     start: u64,
     agenda: &mut Agenda<'a>,
-) -> Result<(), Fault> {
-    match open_all(alloc, shelf, piece, rest.captures.as_slice(), checked) {
+) -> Result<(), Fault>
+    requires piece { 0 < length piece.old }
+    requires checked { AreChecked S.tells rest.now.captures (S.file shelf.old) checked.now }
+    requires start { start < 2 ^ 32 }
+    requires since { AreSince start checked.now }
+    requires few { length rest.now.commands ≤ 65536 }
+    requires rising { AllPairs (λ c d. c.at ≤ d.at) rest.now.commands }
+    requires agenda { IsAgenda (S.ids shelf.old) agenda.old }
+    requires room { length (programmes_in agenda.old) < 256 }
+    requires given { AllByRecursion (λ k. (S.ids shelf.old k).given ≡ true) (all_ids (programmes_in agenda.old)) }
+    ensures piece { length piece.new ≡ length piece.old }
+    ensures agenda { OnOk result (IsAgenda (S.ids shelf.new) agenda.new) }
+    ensures programme { OnOk result ((p : Programme) × (programmes_in agenda.new ≡ programmes_in agenda.old ++ p ∷ [])
+        × IsOpenedAgain S.tells start rest.now checked.now (S.file shelf.old) (S.file shelf.new) (S.ids shelf.old) (S.ids shelf.new) p) }
+    ensures never { S.tells → IfErr result (λ fault. IsNetChange fault → ⊥) }
+    ensures opens { Opens (ReadsCapture rest.now.captures) (S.ids shelf.old) (S.ids shelf.new) }
+    ensures files { SameFiles (S.file shelf.old) (S.file shelf.new) }
+    ensures changed { IfErr result (λ fault. (name : List ℕ) (p at : ℕ) → fault ≡ Fault.MemberChanged name p at → (name ≡ rest.now.name) × (is_named rest.now.captures p ≡ true)) }
+    ensures causes { IfErr result IsOfNetPlay }
+    ensures faults { CountsFaults result (S.faults shelf.old) (S.faults shelf.new) }
+{
+    agendas_stay();
+    match reopen_all(alloc, shelf, piece, rest.captures.as_slice(), checked) {
         Ok(captures) => {
-            agenda.add(Programme::new(captures, rest.commands.as_slice(), start))?;
+            let programme = Programme::new(captures, rest.commands.as_slice(), start);
+            agenda.add(programme)?;
             Ok(())
         }
         Err(fault) => Err(of_member(alloc, rest.name.as_str(), fault)),
@@ -166,23 +202,41 @@ pub(crate) fn open_agenda<'a, S: Shelf>(
     ensures causes { IfErr result IsOfNetPlay }
     ensures faults { CountsFaults result (S.faults shelf.old) (S.faults shelf.new) }
 {
+    agendas_stay();
+    dues_of_all();
+    net_start_is_least();
     let start = start_of_all(checked);
     let mut agenda = Agenda::new(alloc);
     for bridge in 0..rests.len() {
+        let rest = &rests[bridge];
         let captures = checked[bridge].as_slice();
-        open_bridge(alloc, shelf, piece, &rests[bridge], captures, start, &mut agenda)?;
+        open_bridge(alloc, shelf, piece, rest, captures, start, &mut agenda)?;
     }
     Ok(agenda)
 }
 
-/// Arms a fate for the opening of its bridge, and puts it behind those of the bridges before it.
+/// Arms a fate for the opening of its bridge.
+fn arm_fate(fate: &mut Box<dyn Fate>, plan: &[Verdict]) -> Result<(), NoMemory>
+    requires low { left fate.old < 2 ^ 56 }
+    requires plan { length plan.now ≤ 60000 }
+    ensures { OnOk result (left fate.new < 2 ^ 56 + length plan.now) }
+{
+    fate.arm(plan)
+}
+
+/// Puts a fate that is armed for the opening of its bridge behind those of the bridges before it.
 fn arm_one(
     fates: &mut Vec<Box<dyn Fate>>,
     fate: Box<dyn Fate>,
     plan: &[Verdict],
-) -> Result<(), NoMemory> {
+) -> Result<(), NoMemory>
+    requires low { left fate < 2 ^ 56 }
+    requires plan { length plan.now ≤ 60000 }
+    ensures { OnOk result ((rs : List NetRest) (r : NetRest) → r.fate ≡ plan.now → AreEach (λ b r f. left f < 2 ^ 56 + length r.fate) rs fates.old.items
+        → AreEach (λ b r f. left f < 2 ^ 56 + length r.fate) (rs ++ r ∷ []) fates.new.items) }
+{
     let mut fate = fate;
-    fate.arm(plan)?;
+    arm_fate(&mut fate, plan)?;
     fates.push(fate)?;
     Ok(())
 }
@@ -193,11 +247,19 @@ pub(crate) fn arm_all(
     rests: &[NetRest],
     fate: Box<dyn Fate>,
     more: &mut Vec<Box<dyn Fate>>,
-) -> Result<Vec<Box<dyn Fate>>, NoMemory> {
+) -> Result<Vec<Box<dyn Fate>>, NoMemory>
+    requires some { 1 ≤ length rests.now }
+    requires plans { All (λ r. length r.fate ≤ 60000) rests.now }
+    requires fate { left fate < 2 ^ 56 }
+    requires enough { length rests.now ≤ length more.old.items + 1 }
+    requires low { All (λ f. left f < 2 ^ 56) more.old.items }
+    ensures armed { IfOk result (λ fates. AreEach (λ b r f. left f < 2 ^ 56 + length r.fate) rests.now fates.items) }
+{
     let mut fates = Vec::new(alloc);
     arm_one(&mut fates, fate, rests[0].fate.as_slice())?;
-    for bridge in 1..rests.len() {
-        arm_one(&mut fates, more.remove(0), rests[bridge].fate.as_slice())?;
+    let others = &rests[1..];
+    for rest in others {
+        arm_one(&mut fates, more.remove(0), rest.fate.as_slice())?;
     }
     Ok(fates)
 }

@@ -1,0 +1,128 @@
+-- Before anything is taken, what is still to come of all bridges is what comes to the net.
+use Rattle.std.proofs.Common.{◌≡◌, ℕ, zero, suc, ◌+◌, ◌<◌, ◌==◌, Bool, true, false, List, [], ◌∷◌, ◌++◌, length, map, filter, max, Option, Some, None, refl, ap, sym, subst, ◌∙◌, arith}
+use Rattle.std.specs.Prelude.{All, filter_map, flat_map, option_map, slice_get}
+use Rattle.std.specs.List.{AllByRecursion}
+use Rattle.std.specs.declared.alloc.Global.{Global}
+use Rattle.std.specs.declared.vec.Vec.{Vec}
+use Rattle.std.proofs.lemmas.List.{length-map}
+use Rattle.exb_model.specs.Input.{Input, Record, arrivals_from, given_by, least_or, second_of}
+use Rattle.exb_model.specs.Ports.{all_ports}
+use Rattle.exb_capture.specs.Scans.{first_time, scanned_of}
+use Rattle.exb_capture.specs.declared.checking.Scanned.{Scanned}
+use Rattle.exb_shelf.specs.Files.{Files}
+use Rattle.exb_shelf.specs.Shelf.{Id}
+use Rattle.exb_tables.specs.declared.rows.Named.{Named}
+use Rattle.exb_nets.specs.declared.wires.Wire.{Wire}
+use Rattle.exb_nets.specs.Nets.{Net}
+use Rattle.exb_nets.specs.NetHistory.{dues, start_of_all}
+use Rattle.exb_merge.specs.declared.programme.Programme.{Programme}
+use Rattle.exb_merge.specs.NetAgendas.{AreAllOf, AreAllReplays, AreBegunOf, AreOfNet, IsBegunOf, all_to_play, dues_left, first_seconds}
+use Rattle.exb_merge.specs.Streams.{Stream, arrivals_of, next_moment, stream_at, stream_of}
+use Rattle.exb_inputs.specs.declared.checked.Checked.{Checked}
+use Rattle.exb_inputs.specs.Again.{stream_told}
+use Rattle.exb_inputs.specs.Checks.{AreChecked, IsToldOf}
+use Rattle.exb_inputs.specs.Inputs.{input_of, is_named, records_at}
+use Rattle.exb_inputs.proofs.Beginning.{IsTold, all-told, none-elsewhere, ports_in}
+use Rattle.exb_net_file.specs.declared.apart.NetRest.{NetRest}
+use Rattle.exb_net_file.specs.declared.members.NetMember.{NetMember}
+use Rattle.exb_net_file.specs.Apart.{rest_of}
+use Rattle.exb_net_inputs.specs.Checking.{AreMembersChecked}
+use Rattle.exb_net_run.specs.Nets.{input_in, net_of}
+use Rattle.exb_net_run.specs.Reopening.{AreReopened, seconds_of_all, seconds_told, start_of_told, streams_of}
+use Rattle.exb_net_run.specs.Setting.{IsToBeOpened}
+use Rattle.exb_net_run.specs.UnderWay.{Begins, LeadsOn}
+
+-- ---- one bridge
+-- the first moment of its stream is the time that was told
+first_moment : (names : List Named) (file : Files) (c : Checked) → IsTold names file c → next_moment (arrivals_of (stream_told names file c)) ≡ c.told.first
+first_moment names file c t =
+    ap (λ (rs : List Record). next_moment (arrivals_from c.port 1 0 rs)) t.are ∙ by_records t.records ∙ sym (ap (λ (s : Scanned). s.first) t.told)
+  where
+    none_before : (n : ℕ) → max 0 n ≡ n
+    none_before n = omega arith
+
+    by_records : (rs : List Record) → next_moment (arrivals_from c.port 1 0 rs) ≡ first_time rs
+    by_records [] = refl
+    by_records (r ∷ rs) = ap Some (none_before r.time)
+
+abbrev second_first : Stream → Option ℕ
+second_first s = option_map second_of (next_moment (arrivals_of s))
+
+-- one more in front, if there is one
+abbrev more : Option ℕ → List ℕ → List ℕ
+more None xs = xs
+more (Some x) xs = x ∷ xs
+
+firsts_are : (names : List Named) (file : Files) (cs : List Checked) → AllByRecursion (IsTold names file) cs → first_seconds (map (stream_told names file) cs) ≡ seconds_told cs
+firsts_are names file [] all = refl
+firsts_are names file (c ∷ cs) all =
+    by_first (second_first (stream_told names file c)) (option_map second_of c.told.first) (ap (option_map second_of) (first_moment names file c all.0)) (firsts_are names file cs all.1)
+  where
+    by_first : (a b : Option ℕ) → a ≡ b → first_seconds (map (stream_told names file) cs) ≡ seconds_told cs → more a (first_seconds (map (stream_told names file) cs)) ≡ more b (seconds_told cs)
+    by_first a b same rest = ap (λ (o : Option ℕ). more o (first_seconds (map (stream_told names file) cs))) same ∙ ap (more b) rest
+
+told_streams : (i : Input) (names : List Named) (file : Files) (cs : List Checked) → i.records ≡ records_at names file → map (stream_told names file) cs ≡ map (stream_at i) (ports_in cs)
+told_streams i names file [] same = refl
+told_streams i names file (c ∷ cs) same =
+    ap (λ (ss : List Stream). stream_told names file c ∷ ss) (told_streams i names file cs same)
+    ∙ ap (λ (r : ℕ → List Record). stream_of c.port (r c.port) ∷ map (stream_at i) (ports_in cs)) (sym same)
+
+all_of : (tells : Type 0) (i : Input) (names : List Named) (file : Files) (cs : List Checked) → i.records ≡ records_at names file → AreChecked tells names file cs → AreAllOf i (map (stream_told names file) cs)
+all_of tells i names file cs same checked = record {
+  chosen = is_named names;
+  none = λ q isnt. ap (λ (r : ℕ → List Record). r q) same ∙ none-elsewhere names file q isnt;
+  are = told_streams i names file cs same ∙ ap (map (stream_at i)) checked.ports;
+}
+
+-- ---- all bridges
+streams_long : (tells : Type 0) (file : Files) (ms : List NetMember) (cs : List (Vec Checked Global)) → AreMembersChecked tells ms file cs → length (streams_of (map rest_of ms) cs file) ≡ length ms
+streams_long tells file [] [] all = refl
+streams_long tells file [] (c ∷ cs) all = absurd all
+streams_long tells file (m ∷ ms) [] all = absurd all
+streams_long tells file (m ∷ ms) (c ∷ cs) all = ap suc (streams_long tells file ms cs all.1)
+
+streams_at : (tells : Type 0) (file : Files) (ms : List NetMember) (cs : List (Vec Checked Global)) (b : ℕ) (xs : List Stream) → AreMembersChecked tells ms file cs → slice_get (streams_of (map rest_of ms) cs file) b ≡ Some xs →
+    (m : NetMember) × (slice_get ms b ≡ Some m) × AreAllOf (input_of m.topology file) xs
+streams_at tells file [] [] b xs all is = absurd (cc)
+streams_at tells file [] (c ∷ cs) b xs all is = absurd all
+streams_at tells file (m ∷ ms) [] b xs all is = absurd all
+streams_at tells file (m ∷ ms) (c ∷ cs) zero xs all is =
+    let e : map (stream_told m.topology.captures file) c.items ≡ xs = cc in
+    (m, refl, subst (AreAllOf (input_of m.topology file)) e (all_of tells (input_of m.topology file) m.topology.captures file c.items refl all.0))
+streams_at tells file (m ∷ ms) (c ∷ cs) (suc b) xs all is = streams_at tells file ms cs b xs all.1 is
+
+seconds_are : (tells : Type 0) (file : Files) (ms : List NetMember) (cs : List (Vec Checked Global)) → tells → AreMembersChecked tells ms file cs → flat_map first_seconds (streams_of (map rest_of ms) cs file) ≡ seconds_of_all cs
+seconds_are tells file [] [] t all = refl
+seconds_are tells file [] (c ∷ cs) t all = absurd all
+seconds_are tells file (m ∷ ms) [] t all = absurd all
+seconds_are tells file (m ∷ ms) (c ∷ cs) t all =
+    ap (λ (xs : List ℕ). xs ++ flat_map first_seconds (streams_of (map rest_of ms) cs file)) (firsts_are m.topology.captures file c.items (all-told m.topology.captures file c.items (all.0.told t)))
+    ∙ ap (λ (xs : List ℕ). seconds_told c.items ++ xs) (seconds_are tells file ms cs t all.1)
+
+abbrev pub DuesOfAll : Type 0
+DuesOfAll = (n : Net) (streams : List (List Stream)) (programmes : List Programme) → AreOfNet n streams → AreBegunOf n programmes → dues_left (all_to_play streams programmes) ≡ dues n
+
+abbrev pub StartIsLeast : Type 0
+StartIsLeast = (n : Net) (streams : List (List Stream)) → AreOfNet n streams → start_of_all n ≡ least_or 0 (flat_map first_seconds streams)
+
+module _ (tells : Type 0) (ms : List NetMember) (ws : List Wire) (rests : List NetRest) (file : Files) (checked : List (Vec Checked Global)) (to : IsToBeOpened tells ms ws rests file checked) where
+  of_net : AreOfNet (net_of ms ws file) (streams_of (map rest_of ms) checked file)
+  of_net = record {
+    count = streams_long tells file ms checked to.checked_are;
+    each = λ b xs is. (let at = streams_at tells file ms checked b xs to.checked_are is in subst (λ (i : Input). AreAllOf i xs) (sym (ap (input_in file) at.1)) at.2);
+  }
+
+  pub leads : DuesOfAll → StartIsLeast → tells → (now : Files) (ids : ℕ → Id) (ps : List Programme) → Begins (net_of ms ws file) ps → ((b : ℕ) (p : Programme) → slice_get ps b ≡ Some p → p.start ≡ start_of_told checked) →
+      AreAllReplays now ids ps (streams_of rests checked file) → LeadsOn (net_of ms ws file) [] now ids ps
+  leads law least t now ids ps begins starts replays =
+      let n : Net = net_of ms ws file in
+      let streams : List (List Stream) = streams_of (map rest_of ms) checked file in
+      let start : start_of_all n ≡ start_of_told checked = least n streams of_net ∙ ap (least_or 0) (seconds_are tells file ms checked t to.checked_are) in
+      record {
+        streams = streams;
+        replays = subst (λ (rs : List NetRest). AreAllReplays now ids ps (streams_of rs checked file)) to.rests_are replays;
+        rest = sym (law n streams ps of_net (record {
+          count = begins.count;
+          each = λ b p is. record { start = starts b p is ∙ sym start; commands = (begins.each b p is).given; taken = (begins.each b p is).taken };
+        }));
+      }

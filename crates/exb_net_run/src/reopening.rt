@@ -1,0 +1,88 @@
+//! The captures of a bridge that were checked are opened again.
+ghost use Rattle.std.specs.Prelude.{[], ◌≡◌, ◌≤◌, ◌<◌, ◌+◌, ◌++◌, ◌∷◌, ℕ, List, true, false, length, map, sum_by, IfOk, OnOk, IfErr, IfSome};
+ghost use Rattle.std.specs.List.{AllByRecursion};
+ghost use Rattle.exb_model.specs.Input.{second_of};
+ghost use Rattle.exb_merge.specs.Replays.{AreOpened, AreReplays, AreToldSince, HasPort, ids_in, left_in, standings};
+ghost use Rattle.exb_merge.specs.Streams.{Stream};
+ghost use Rattle.exb_inputs.specs.declared.fault.Fault.{Fault};
+ghost use Rattle.exb_inputs.specs.Checks.{AreChecked, IsToldOf, most_bytes};
+ghost use Rattle.exb_inputs.specs.Again.{first_standing, stream_told};
+ghost use Rattle.exb_inputs.specs.Inputs.{is_named};
+ghost use Rattle.exb_inputs.specs.Shelving.{ReadsCapture, CountsFaults};
+ghost use Rattle.exb_inputs.specs.Reading.{IsChange, IsOfPlay};
+ghost use Rattle.exb_shelf.specs.Files.{SameFiles};
+ghost use Rattle.exb_shelf.specs.Shelf.{Opens};
+ghost use Rattle.exb_net_run.specs.Reopening.{AreSince};
+
+use exb_inputs::{Checked, Fault, name_of};
+use exb_merge::Replays;
+use exb_shelf::Shelf;
+use exb_tables::Named;
+use std::alloc::Global;
+
+/// Opens the capture again of which this was told, puts it behind those so far, and looks as far as its first record.
+fn reopen_one<S: Shelf>(
+    alloc: Global,
+    shelf: &mut S,
+    piece: &mut [u8],
+    names: &[Named],
+    one: &Checked,
+    captures: &mut Replays,
+) -> Result<(), Fault>
+    requires piece { 0 < length piece.old }
+    requires opened { AreOpened (S.ids shelf.old) captures.old }
+    requires named { is_named names.now one.now.port ≡ true }
+    requires port { HasPort one.now.port (standings captures.old) → ⊥ }
+    requires small { one.now.told.bytes ≤ most_bytes }
+    ensures piece { length piece.new ≡ length piece.old }
+    ensures opened { OnOk result (AreOpened (S.ids shelf.new) captures.new) }
+    ensures named { OnOk result (AllByRecursion (λ k. ReadsCapture names.now (S.ids shelf.old k)) (ids_in captures.old) → AllByRecursion (λ k. ReadsCapture names.now (S.ids shelf.new k)) (ids_in captures.new)) }
+    ensures standings { OnOk result (standings captures.new ≡ standings captures.old ++ first_standing one.now ∷ []) }
+    ensures left { OnOk result (left_in captures.new ≤ left_in captures.old + (one.now.told.bytes + 1)) }
+    ensures since { OnOk result ((second : ℕ) → IfSome one.now.told.first (λ first. second ≤ second_of first) → AreToldSince second captures.old → AreToldSince second captures.new) }
+    ensures streams { S.tells → OnOk result (IsToldOf names.now (S.file shelf.old) one.now → (streams : List Stream) → AreReplays (S.file shelf.old) (S.ids shelf.old) captures.old.sources.items streams
+        → AreReplays (S.file shelf.new) (S.ids shelf.new) captures.new.sources.items (streams ++ stream_told names.now (S.file shelf.old) one.now ∷ [])) }
+    ensures never { S.tells → IfErr result (λ fault. IsChange fault → IsToldOf names.now (S.file shelf.old) one.now → ⊥) }
+    ensures id { OnOk result ((id : ℕ) × (ids_in captures.new ≡ ids_in captures.old ++ id ∷ []) × ((S.ids shelf.old id).given ≡ false)) }
+    ensures opens { Opens (ReadsCapture names.now) (S.ids shelf.old) (S.ids shelf.new) }
+    ensures files { SameFiles (S.file shelf.old) (S.file shelf.new) }
+    ensures port { IfErr result (λ fault. (p at : ℕ) → fault ≡ Fault.Changed p at → is_named names.now p ≡ true) }
+    ensures causes { IfErr result IsOfPlay }
+    ensures faults { CountsFaults result (S.faults shelf.old) (S.faults shelf.new) }
+{
+    let name = name_of(names, one.port).unwrap();
+    captures.add(alloc, shelf, piece, one.port, name, one.told)?;
+    Ok(())
+}
+
+/// Opens the captures again that are named, in port order, and looks at each as far as its first record.
+pub(crate) fn reopen_all<S: Shelf>(
+    alloc: Global,
+    shelf: &mut S,
+    piece: &mut [u8],
+    names: &[Named],
+    checked: &[Checked],
+) -> Result<Replays, Fault>
+    requires piece { 0 < length piece.old }
+    requires checked { AreChecked S.tells names.now (S.file shelf.old) checked.now }
+    ensures piece { length piece.new ≡ length piece.old }
+    ensures opened { IfOk result (AreOpened (S.ids shelf.new)) }
+    ensures named { IfOk result (λ captures. AllByRecursion (λ k. ReadsCapture names.now (S.ids shelf.new k)) (ids_in captures)) }
+    ensures fresh { IfOk result (λ captures. AllByRecursion (λ k. (S.ids shelf.old k).given ≡ false) (ids_in captures)) }
+    ensures standings { IfOk result (λ captures. standings captures ≡ map first_standing checked.now) }
+    ensures left { IfOk result (λ captures. left_in captures ≤ sum_by (λ c. c.told.bytes + 1) checked.now) }
+    ensures since { IfOk result (λ captures. (second : ℕ) → AreSince second checked.now → AreToldSince second captures) }
+    ensures streams { S.tells → IfOk result (λ captures. AreReplays (S.file shelf.new) (S.ids shelf.new) captures.sources.items (map (stream_told names.now (S.file shelf.old)) checked.now)) }
+    ensures never { S.tells → IfErr result (λ fault. IsChange fault → ⊥) }
+    ensures opens { Opens (ReadsCapture names.now) (S.ids shelf.old) (S.ids shelf.new) }
+    ensures files { SameFiles (S.file shelf.old) (S.file shelf.new) }
+    ensures port { IfErr result (λ fault. (p at : ℕ) → fault ≡ Fault.Changed p at → is_named names.now p ≡ true) }
+    ensures causes { IfErr result IsOfPlay }
+    ensures faults { CountsFaults result (S.faults shelf.old) (S.faults shelf.new) }
+{
+    let mut captures = Replays::new(alloc);
+    'opening: for one in checked {
+        reopen_one(alloc, shelf, piece, names, one, &mut captures)?;
+    }
+    Ok(captures)
+}
