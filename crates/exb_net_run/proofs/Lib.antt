@@ -24,6 +24,7 @@ pub mod Prepared
 pub mod Opened
 pub mod Into
 pub mod Wholly
+pub mod Asked
 pub mod Arming
 pub mod Reopened
 pub mod Programmed

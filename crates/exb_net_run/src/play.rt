@@ -33,7 +33,7 @@ use exb_merge::Agenda;
 use exb_net::Net;
 use exb_net_file::laws::{bridges_write_apart, nets_are_timely};
 use exb_net_file::{NetParts, NetRest, take_apart};
-use exb_net_inputs::laws::inputs_are_of_members;
+use exb_net_inputs::laws::{inputs_are_of_members, nets_have_one_cause};
 use exb_net_inputs::{NetInputs, check_members, read_net};
 use exb_nets::laws::{histories_go_on, nets_have_histories};
 use exb_shelf::{PIECE, Shelf, room};
@@ -189,6 +189,7 @@ pub fn play_net<S: Shelf>(
     ensures order { NetOpensInOrder S.tells name.now counters result (S.file shelf.old) (S.ids shelf.old) (S.ids shelf.new) }
     ensures faults { CountsFaults result (S.faults shelf.old) (S.faults shelf.new) }
 {
+    nets_have_one_cause();
     let NetInputs { members, wires } = read_net(alloc, shelf, name)?;
     let checked = check_members(alloc, shelf, members.as_slice())?;
     let parts = take_apart(alloc, members, wires)?;
