@@ -213,7 +213,7 @@ module _ (tells : Type 0) (r : NetRun) (now : Files) (ids : ℕ → Id) (desks :
         (λ b low.
         let there = is_there desks b (let long = length-mapped tally-of desks in omega (arith, low, long)) in
         slice_get-map tally-of desks b ∙ ap (option_map tally-of) there.1 ∙ ap Some (counts-at b there.0 there.1)
-        ∙ sym (slice_get-map (counts_in r.net all.histories) (range_with_len 0 r.net.count) b ∙ ap (option_map (counts_in r.net all.histories)) (range-at 0 r.net.count b (low-at b there.0 there.1))))
+        ∙ sym (slice_get-map (counts_in r.net all.histories) (range_with_len 0 r.net.count) b ∙ ap (option_map (counts_in r.net all.histories)) (let first : 0 + b ≡ b = omega arith in range-at 0 r.net.count b (low-at b there.0 there.1) ∙ ap Some first)))
 
     pub written : (new : Files) (line : List ℕ) → AreWhole desks new dones → OnlyAllPlanned r.plans r.before new → line ≡ summary_line (added (tallies_in desks)) → HasWritten r new line
     written new line whole others says = record {

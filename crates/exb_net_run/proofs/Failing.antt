@@ -8,7 +8,12 @@ use Rattle.exb_merge.specs.declared.replays.CaptureFault.{CaptureFault}
 use Rattle.exb_merge.specs.declared.replays.CaptureFault.TheVariants as again
 use Rattle.exb_inputs.specs.declared.fault.Fault.{Fault}
 use Rattle.exb_inputs.specs.declared.fault.Fault.TheVariants.{Changed, MemberChanged, Memory, Read}
+use Rattle.exb_shelf.specs.Shelf.{Faults, NoFewer}
 use Rattle.exb_inputs.specs.Answers.{fault_again}
+use Rattle.exb_inputs.specs.Counting.{CountsFault}
+use Rattle.exb_inputs.specs.Shelving.{CountsFaults}
+use Rattle.exb_inputs.proofs.Ports.{again-counts}
+use Rattle.exb_inputs.proofs.ShelvingLemmas.{counted_once}
 use Rattle.exb_net_inputs.specs.Refusing.{member_fault}
 use Rattle.exb_net_run.specs.Shelving.{IsNetChange}
 
@@ -31,6 +36,18 @@ failed-changed P name (again.Changed q b) r (inl e) own n p at is =
     let port : q ≡ p = cc in
     subst (λ (m : List ℕ). P m p) called (subst (P name) port (own q b refl))
 failed-changed P name c r (inr e) own n p at is = absurd (let z : Memory ≡ MemberChanged n p at = sym e ∙ is in cc)
+
+pub failed-counts : {X : Type 0} (c : CaptureFault) (x r : Fault) (a b : Faults) → x ≡ fault_again c → NoFewer a b → CountsAgain c a b → ((old new : Faults) → CountsFault x old new → CountsFault r old new) → CountsFaults {X = X} (Err r) a b
+failed-counts c x r a b is fewer counts on = counted_once (Err r) a b fewer (on a b (subst (λ (f : Fault). CountsFault f a b) (sym is) (again-counts {X = ℕ} c a b fewer counts).once))
+
+-- where its bridge has no name here
+pub unnamed-never : {Q : Type 0} (c : CaptureFault) (r : Fault) → r ≡ fault_again c → IsNetChange r → Q
+unnamed-never again.Memory r e change = absurd (let z : ⊥ = subst IsNetChange e change in z)
+unnamed-never again.Read r e change = absurd (let z : ⊥ = subst IsNetChange e change in z)
+unnamed-never (again.Changed p at) r e change = absurd (let z : ⊥ = subst IsNetChange e change in z)
+
+pub unnamed-changed : {Q : Type 0} (c : CaptureFault) (r : Fault) → r ≡ fault_again c → (n : List ℕ) (p at : ℕ) → r ≡ MemberChanged n p at → Q
+unnamed-changed c r e n p at is = unnamed-never c r e (subst IsNetChange (sym is) tt)
 
 -- as the fault of an agenda
 pub of-bridge : (x : BridgeFault) (p at : ℕ) → x.fault ≡ again.Changed p at → x ≡ record { bridge = x.bridge; fault = again.Changed p at }

@@ -33,15 +33,15 @@ module _ {V : Type 0} {X : V → Type 0} (n : Net) (s told : Dones) (rests : Lis
   gives-command number moment rest c is there place plays =
       let step : IsStepOf can.rest.commands (next.Command number moment) can.step = subst (λ (z : Next). IsStepOf can.rest.commands z can.step) is can.is in
       let own : rest ≡ can.rest = same_Some rest can.rest (sym there ∙ can.rest_there) in
-      let same : c ≡ step.1.0 = same_Some c step.1.0 (sym place ∙ ap (λ (z : NetRest). slice_get z.commands (number - 1)) own ∙ step.1.1.0) in
-      subst (λ (z : Step). Handled n d.bridge z s told y) (ap (λ (z : Timed). Order z.command) same ∙ sym step.1.1.1) (plays n s told can.playing)
+      let same : c ≡ step.1.0 = same_Some c step.1.0 (sym place ∙ ap (λ (z : NetRest). slice_get z.commands (number - 1)) own ∙ step.1.1) in
+      subst (λ (z : Step). Handled n d.bridge z s told y) (ap (λ (z : Timed). Order z.command) same ∙ sym step.1.2) (plays n s told can.playing)
 
   -- the place of its command is one
   pub number-low : (number moment : ℕ) (rest : NetRest) → d.next ≡ next.Command number moment → slice_get rests d.bridge ≡ Some rest → (1 ≤ number) × ((c : Timed) × (slice_get rest.commands (number - 1) ≡ Some c))
   number-low number moment rest is there =
       let step : IsStepOf can.rest.commands (next.Command number moment) can.step = subst (λ (z : Next). IsStepOf can.rest.commands z can.step) is can.is in
       let own : can.rest ≡ rest = same_Some can.rest rest (sym can.rest_there ∙ there) in
-      (step.0, (step.1.0, ap (λ (z : NetRest). slice_get z.commands (number - 1)) (sym own) ∙ step.1.1.0))
+      (step.0, (step.1.0, ap (λ (z : NetRest). slice_get z.commands (number - 1)) (sym own) ∙ step.1.1))
 
 -- ---- letters
 pub letters-given : {V : Type 0} {X : V → Type 0} (rests : List NetRest) (d : NetNext) (verdicts : Node V X → ℕ) (xs ys : List (Node V X)) (number moment : ℕ) (rest : NetRest) (c : Timed) → d.next ≡ next.Command number moment → slice_get rests d.bridge ≡ Some rest →
@@ -50,13 +50,13 @@ letters-given rests d verdicts xs ys number moment rest c is there place all = r
   long = all.long;
   each = λ b x y here now.
       let own = all.each b x y here now in
-      subst (λ (k : ℕ). verdicts y ≤ verdicts x + k) (by_test (b == d.bridge) refl) own;
+      subst (λ (k : ℕ). verdicts y ≤ verdicts x + k) (by_test b (b == d.bridge) refl) own;
 }
   where
     given : (b : ℕ) → b ≡ d.bridge → letters_for (commands_in (slice_get rests b)) d.next ≡ length c.fate
     given b e =
         ap (λ (k : ℕ). letters_for (commands_in (slice_get rests k)) d.next) e ∙ ap (λ (o : Option NetRest). letters_for (commands_in o) d.next) there ∙ ap (letters_for rest.commands) is ∙ ap letters_of place
 
-    by_test : {b : ℕ} (t : Bool) → (b == d.bridge) ≡ t → (if t then length c.fate else 0) ≡ (if t then letters_for (commands_in (slice_get rests b)) d.next else 0)
-    by_test {b} true e = sym (given b (eqb-true b d.bridge e))
-    by_test false e = refl
+    by_test : (b : ℕ) (t : Bool) → (b == d.bridge) ≡ t → (if t then length c.fate else 0) ≡ (if t then letters_for (commands_in (slice_get rests b)) d.next else 0)
+    by_test b true e = sym (given b (eqb-true b d.bridge e))
+    by_test b false e = refl

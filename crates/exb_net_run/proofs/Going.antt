@@ -3,6 +3,7 @@ use Rattle.std.proofs.Common.{◌≡◌, ◌≢◌, ℕ, zero, suc, ◌+◌, ◌
 use Rattle.std.specs.Prelude.{slice_get, sum_by}
 use Rattle.std.specs.List.{AllByRecursion}
 use Rattle.std.proofs.lemmas.Bool.{cases_eq, eq-eqb, ne_eqb}
+use Rattle.std.proofs.lemmas.List.{length-append}
 use Rattle.std.proofs.lemmas.List.Elements.{All-append}
 use Rattle.std.proofs.lemmas.Option.{same_Some, slice_get_within}
 use Rattle.exb_model.specs.declared.setup.Timed.{Timed}
@@ -125,11 +126,11 @@ none-left : (n : Net) (b moment : ℕ) (xs : List Left) → ((q : ℕ) → lengt
 none-left n b moment [] few all k x h = absurd (omega (arith, h))
 none-left n b moment (y ∷ xs) few all = absurd (by_port (few y.port))
   where
-    by_port : length (left_at y.port (y ∷ xs)) ≤ 0 → ⊥
-    by_port low = (let here : (y.port == y.port) ≡ true = eq-eqb y.port y.port refl in let z : length (cond (y.port == y.port) ((y.moment, y.bytes) ∷ left_at y.port xs) (left_at y.port xs)) ≤ 0 = low in zero_not (subst (λ (c : Bool). length (cond c ((y.moment, y.bytes) ∷ left_at y.port xs) (left_at y.port xs)) ≤ 0) here z))
-
     zero_not : suc (length (left_at y.port xs)) ≤ 0 → ⊥
     zero_not h = omega (arith, h)
+
+    by_port : length (left_at y.port (y ∷ xs)) ≤ 0 → ⊥
+    by_port low = (let here : (y.port == y.port) ≡ true = eq-eqb y.port y.port refl in let z : length (cond (y.port == y.port) ((y.moment, y.bytes) ∷ left_at y.port xs) (left_at y.port xs)) ≤ 0 = low in zero_not (subst (λ (c : Bool). length (cond c ((y.moment, y.bytes) ∷ left_at y.port xs) (left_at y.port xs)) ≤ 0) here z))
 
 -- a command sends nothing, and a record is of a moment that a capture can hold
 more-low : (n : Net) (b : ℕ) (a : Programme) (x : Next) (e : Programme) (xs : List Left) → IsOf a x e → ((q : ℕ) → length (left_at q xs) ≤ records_in (what x)) → Each (LeftAt n b (moment_of (what x))) xs → All (IsLow n b) xs
@@ -258,12 +259,8 @@ module _ {V : Type 0} {X : V → Type 0} (tells : Type 0) (r : NetRun) (now : Fi
         left = subst (λ (xs : List Left). All (IsLow r.net b) xs) (sym m.left) (All-append (IsLow r.net b) (p.going.dones b).left m.more few.left (more-low r.net b p.comes.was d.next p.comes.is m.more p.comes.coming.is m.few m.each));
         left_each = λ q.
             (let parts = ap (λ (xs : List Left). length (left_at q xs)) m.left in let joined = ap (λ (xs : List Sent). length xs) (left_at-append q (p.going.dones b).left m.more) in
-            let both = length-both (left_at q (p.going.dones b).left) (left_at q m.more) in let was = few.left_each q in let now = m.few q in omega (arith, parts, joined, both, was, now, records));
+            let both = length-append (left_at q (p.going.dones b).left) (left_at q m.more) in let was = few.left_each q in let now = m.few q in omega (arith, parts, joined, both, was, now, records));
       }
-    where
-      length-both : {A : Type 0} (xs ys : List A) → length (xs ++ ys) ≡ length xs + length ys
-      length-both [] ys = refl
-      length-both (x ∷ xs) ys = ap suc (length-both xs ys)
 
   few-at : (b : ℕ) (q : Programme) → slice_get ps b ≡ Some q → IsFew r.net b (g.net.came + came_by d.next) q.taken (e b)
   few-at b q is = elim (cases_eq b d.bridge) [

@@ -44,6 +44,9 @@ pub plans-long : (ds : List Desk) → length (plans_in ds) ≡ length ds
 plans-long [] = refl
 plans-long (x ∷ ds) = ap suc (plans-long ds)
 
+pub plans-same-long : (xs ys : List Desk) → plans_in xs ≡ plans_in ys → length xs ≡ length ys
+plans-same-long xs ys same = sym (plans-long xs) ∙ ap (λ (ps : List Planned). length ps) same ∙ plans-long ys
+
 -- ---- files of one plan and of another
 module _ (ds : List Desk) (apart : ArePlansApart (plans_in ds)) (i : ℕ) (d : Desk) (here : slice_get ds i ≡ Some d) where
   -- those of another plan haven't changed
@@ -80,14 +83,14 @@ module _ {A : Type 0} (P Q : ℕ → A → Type 0) (xs : List A) (i : ℕ) (x y 
 abbrev pub upto : ℕ → Dones → Dones → Dones
 upto k told dones b = cond (nat_lt b k) (dones b) (told b)
 
-pub upto_none : (told dones : Dones) → upto 0 told dones ≡ told
-upto_none told dones = (let same : (b : ℕ) → upto 0 told dones b ≡ told b = λ b. refl in fun_ext same)
-
 pub upto_low : (k b : ℕ) (told dones : Dones) → b < k → upto k told dones b ≡ dones b
 upto_low k b told dones low = rw (lt-ltb b k low) refl
 
 pub upto_high : (k b : ℕ) (told dones : Dones) → k ≤ b → upto k told dones b ≡ told b
 upto_high k b told dones high = rw (le-ltb b k high) refl
+
+pub upto_none : (told dones : Dones) → upto 0 told dones ≡ told
+upto_none told dones = (let same : (b : ℕ) → upto 0 told dones b ≡ told b = λ b. upto_high 0 b told dones (omega arith) in fun_ext same)
 
 pub upto_other : (k b : ℕ) (told dones : Dones) → b ≢ k → upto (k + 1) told dones b ≡ upto k told dones b
 upto_other k b told dones ne = elim (cases_lt b k) [

@@ -1,5 +1,5 @@
 -- What calls that play a net leave of the shelf, one after another; and which faults can come while files are written.
-use Rattle.std.proofs.Common.{⊤, ◌≡◌, ◌⊎◌, inl, inr, ℕ, List, [], ◌∷◌, Result, Ok, Err, refl, ap, sym, subst, ◌∙◌}
+use Rattle.std.proofs.Common.{◌≡◌, ◌⊎◌, inl, inr, ℕ, List, [], ◌∷◌, Result, Ok, Err, refl, ap, sym, subst, ◌∙◌}
 use Rattle.std.specs.Prelude.{IfErr, IsErrOf}
 use Rattle.std.specs.List.{AllByRecursion}
 use Rattle.exb_shelf.specs.Files.{Files}

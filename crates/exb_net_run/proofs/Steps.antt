@@ -57,7 +57,7 @@ has-step n b start last d a (next.Command number moment) e cs w goes (numbered, 
       step = Order there.0.command;
       is = (
         omega (arith, numbered),
-        (there.0, (ap (λ (k : ℕ). slice_get cs k) place ∙ ap (λ (xs : List Timed). slice_get xs a.taken) (sym commands) ∙ there.1, refl)),
+        (there.0, ap (λ (k : ℕ). slice_get cs k) place ∙ ap (λ (xs : List Timed). slice_get xs a.taken) (sym commands) ∙ there.1, refl),
       );
       can = (
         of_all (λ (c : Timed). NamesExternal (tree_in n b) c.command) a.commands.now a.taken there.0 goes.names there.1,
@@ -86,7 +86,7 @@ step-for n b cs (next.Command number moment) step given is =
     let k : ℕ = number - 1 in
     let own : suc (number - 1) ≡ number = (let low = is.0 in omega (arith, low)) in
     let c : Timed = is.1.0 in
-    (c.command, (ap (command_of (basis_in n b)) (sym own) ∙ command-is (n.input b) cs (number - 1) c given is.1.1.0, is.1.1.1))
+    (c.command, ap (command_of (basis_in n b)) (sym own) ∙ command-is (n.input b) cs (number - 1) c given is.1.1, is.1.2)
 step-for n b cs (next.Record c) step given is = is
 
 -- ---- what comes next

@@ -1,4 +1,4 @@
-use Rattle.std.proofs.Common.{◌≡◌, ◌<◌, ◌≤◌, ℕ, List, [], ◌∷◌, length, take, ap, sym, subst, ◌∙◌, arith}
+use Rattle.std.proofs.Common.{◌≡◌, ◌+◌, ◌<◌, ◌≤◌, ℕ, suc, List, [], ◌∷◌, length, take, ap, sym, subst, ◌∙◌, arith}
 use Rattle.std.proofs.lemmas.List.{take_all}
 use Rattle.exb_model.specs.Texts.{Counts}
 use Rattle.exb_text.specs.Tallies.{FitsTally, counts_of}
@@ -10,7 +10,7 @@ use Rattle.exb_net_run.proofs.Adding.{added-more, added-none, fits-more}
 use Rattle.exb_net_run.proofs.game.count_all.Goals as goal
 
 pub loop-desk-init : goal.loop-desk-init
-loop-desk-init c = c.new.ensures ∙ added-none c.args.desks.now
+loop-desk-init c = c.new-total.ensures ∙ added-none c.args.desks.now
 
 pub add-requires : goal.add-requires
 add-requires c =
@@ -29,7 +29,7 @@ loop-desk-preserved c =
     let inside : i < length desks = omega arith in
     let d = c.desk-item.result in
     let is = at_place desks i d inside c.desk-item.is in
-    c.add.ensures ∙ ap (λ (k : Counts). added (k ∷ counts_of d.counted.tally ∷ [])) c.loop-desk.invariant ∙ added-more desks i d is
+    c.add.ensures ∙ ap (λ (k : Counts). added (k ∷ counts_of d.counted.tally ∷ [])) c.loop-desk.invariant ∙ added-more desks i d is ∙ (let more : suc i ≡ i + 1 = omega arith in ap (λ (k : ℕ). added (tallies_in (take k desks))) more)
 
 pub returns : goal.returns
 returns c = c.loop-desk.invariant ∙ ap (λ (ds : List Desk). added (tallies_in ds)) (take_all c.loop-desk.desk-index c.args.desks.now (omega arith))

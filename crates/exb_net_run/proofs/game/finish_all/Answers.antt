@@ -10,7 +10,7 @@ use Rattle.exb_writers.specs.Counts.{counts_text}
 use Rattle.exb_net.proofs.Places.{at_place, set_there}
 use Rattle.exb_net_run.specs.declared.desk.Desk.{Desk}
 use Rattle.exb_net_run.specs.Desks.{AreAllFronts, AreFronts, ArePlansApart, IsWhole, OnlyWritesAll, plans_in, text_of}
-use Rattle.exb_net_run.proofs.Noted.{desk_at, fronts_stay, noted_stays, now_fronts, only_none, only_one, others_stay, plan_at, plans-long, plans_set, tallies_set, whole_fronts, whole_stays}
+use Rattle.exb_net_run.proofs.Noted.{desk_at, fronts_stay, noted_stays, now_fronts, only_none, only_one, others_stay, plan_at, plans-long, plans-same-long, plans_set, tallies_set, whole_fronts, whole_stays}
 use Rattle.exb_net_run.proofs.game.finish_all.Goals as goal
 
 pub loop-bridge-init : goal.loop-bridge-init
@@ -31,7 +31,9 @@ finish-requires-clause-ready g c =
     let inv = c.loop-bridge.invariant in
     let items = c.loop-bridge.desks.items in
     let i = c.loop-bridge.bridge in
-    let inside : i < length items = omega arith in
+    let long = plans-same-long items c.args.desks.now.items c.loop-bridge.invariant.plans in
+    let ok = c.args.desks.now.ok.0 in
+    let inside : i < length items = omega (arith, long, ok) in
     let was = c.index_mut.result.now in
     inv.ready i was (omega arith) (sym (inv.rest i (omega arith)) ∙ at_place items i was inside c.index_mut.ensures.value)
 
@@ -40,7 +42,9 @@ finish-requires-clause-counted g c =
     let inv = c.loop-bridge.invariant in
     let items = c.loop-bridge.desks.items in
     let i = c.loop-bridge.bridge in
-    let inside : i < length items = omega arith in
+    let long = plans-same-long items c.args.desks.now.items c.loop-bridge.invariant.plans in
+    let ok = c.args.desks.now.ok.0 in
+    let inside : i < length items = omega (arith, long, ok) in
     let was = c.index_mut.result.now in
     (c.requires.can.each i was (sym (inv.rest i (omega arith)) ∙ at_place items i was inside c.index_mut.ensures.value)).counted
 
@@ -49,7 +53,9 @@ finish-requires-clause-sent g c =
     let inv = c.loop-bridge.invariant in
     let items = c.loop-bridge.desks.items in
     let i = c.loop-bridge.bridge in
-    let inside : i < length items = omega arith in
+    let long = plans-same-long items c.args.desks.now.items c.loop-bridge.invariant.plans in
+    let ok = c.args.desks.now.ok.0 in
+    let inside : i < length items = omega (arith, long, ok) in
     let was = c.index_mut.result.now in
     (c.requires.can.each i was (sym (inv.rest i (omega arith)) ∙ at_place items i was inside c.index_mut.ensures.value)).sent
 
@@ -60,7 +66,9 @@ loop-bridge-preserved g c =
     let all_desks = c.args.desks.now.items in
     let items = c.loop-bridge.desks.items in
     let i = c.loop-bridge.bridge in
-    let inside : i < length items = omega arith in
+    let long = plans-same-long items c.args.desks.now.items c.loop-bridge.invariant.plans in
+    let ok = c.args.desks.now.ok.0 in
+    let inside : i < length items = omega (arith, long, ok) in
     let was = c.index_mut.result.now in
     let at = at_place items i was inside c.index_mut.ensures.value in
     let before = sym (inv.rest i (omega arith)) ∙ at in
@@ -104,7 +112,9 @@ returns-in_err-finish-clause-only g c =
     let inv = c.loop-bridge.invariant in
     let items = c.loop-bridge.desks.items in
     let i = c.loop-bridge.bridge in
-    let inside : i < length items = omega arith in
+    let long = plans-same-long items c.args.desks.now.items c.loop-bridge.invariant.plans in
+    let ok = c.args.desks.now.ok.0 in
+    let inside : i < length items = omega (arith, long, ok) in
     let was = c.index_mut.result.now in
     let before = sym (inv.rest i (omega arith)) ∙ at_place items i was inside c.index_mut.ensures.value in
     only_one c.args.desks.now.items c.requires.apart i was before S.tells (S.file c.args.shelf.now) (S.file c.loop-bridge.shelf) (S.file c.finish.new.shelf) (S.ids c.args.shelf.now) (S.ids c.loop-bridge.shelf) (S.ids c.finish.new.shelf) inv.only
@@ -115,7 +125,9 @@ returns-in_err-finish-clause-plans g c =
     let inv = c.loop-bridge.invariant in
     let items = c.loop-bridge.desks.items in
     let i = c.loop-bridge.bridge in
-    let inside : i < length items = omega arith in
+    let long = plans-same-long items c.args.desks.now.items c.loop-bridge.invariant.plans in
+    let ok = c.args.desks.now.ok.0 in
+    let inside : i < length items = omega (arith, long, ok) in
     let was = c.index_mut.result.now in
     plans_set items i was c.finish.new.desk (at_place items i was inside c.index_mut.ensures.value) c.in_err-finish.ensures.plan ∙ inv.plans
 
@@ -124,7 +136,9 @@ returns-in_err-finish-clause-tallies g c =
     let inv = c.loop-bridge.invariant in
     let items = c.loop-bridge.desks.items in
     let i = c.loop-bridge.bridge in
-    let inside : i < length items = omega arith in
+    let long = plans-same-long items c.args.desks.now.items c.loop-bridge.invariant.plans in
+    let ok = c.args.desks.now.ok.0 in
+    let inside : i < length items = omega (arith, long, ok) in
     let was = c.index_mut.result.now in
     tallies_set items i was c.finish.new.desk (at_place items i was inside c.index_mut.ensures.value) c.in_err-finish.ensures.counted ∙ inv.tallies
 
@@ -138,7 +152,9 @@ returns-in_err-finish-clause-cut g c = λ t.
     let all_desks = c.args.desks.now.items in
     let items = c.loop-bridge.desks.items in
     let i = c.loop-bridge.bridge in
-    let inside : i < length items = omega arith in
+    let long = plans-same-long items c.args.desks.now.items c.loop-bridge.invariant.plans in
+    let ok = c.args.desks.now.ok.0 in
+    let inside : i < length items = omega (arith, long, ok) in
     let was = c.index_mut.result.now in
     let before = sym (inv.rest i (omega arith)) ∙ at_place items i was inside c.index_mut.ensures.value in
     let old = S.file c.loop-bridge.shelf in

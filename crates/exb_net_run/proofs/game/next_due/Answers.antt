@@ -1,16 +1,43 @@
-use Rattle.std.proofs.Common.{◌≡◌, ◌⊎◌, ℕ, List, Some, ap, sym, subst, ◌∙◌}
+use Rattle.std.proofs.Common.{◌≡◌, ◌⊎◌, ℕ, List, Some, Err, ap, sym, subst, ◌∙◌}
 use Rattle.exb_inputs.specs.declared.fault.Fault.{Fault}
 use Rattle.exb_inputs.specs.declared.fault.Fault.TheVariants.{Memory}
+use Rattle.exb_merge.specs.NetAgendas.{programmes_in}
+use Rattle.exb_net.proofs.Places.{at_place}
 use Rattle.exb_net_inputs.specs.Refusing.{member_fault}
 use Rattle.exb_net_run.specs.Shelving.{IsOfCaptures}
-use Rattle.exb_net_run.proofs.Failing.{failed-changed, failed-never, of-bridge}
+use Rattle.exb_net_run.proofs.Failing.{failed-changed, failed-counts, failed-never, of-bridge, unnamed-changed, unnamed-never}
+use Rattle.exb_net_run.proofs.Shelves.{err-own}
 use Rattle.exb_net_run.proofs.game.next_due.Goals as goal
 
 pub returns-in-Some-clause-never : goal.returns-in-Some-clause-never
 returns-in-Some-clause-never g c t =
     let x = c.in-Err.failure in
-    failed-never _ x.fault c.of_member.result (subst (λ (f : Fault). (c.of_member.result ≡ member_fault _ f) ⊎ (c.of_member.result ≡ Memory)) c.from.ensures c.of_member.ensures.is)
+    failed-never c.as_str.result.now x.fault c.of_member.result (subst (λ (f : Fault). (c.of_member.result ≡ member_fault c.as_str.result.now f) ⊎ (c.of_member.result ≡ Memory)) c.from-fault.ensures c.of_member.ensures.is)
     (λ p at is streams. c.in-Err.ensures.never t x.bridge p at (ap Err (of-bridge x p at is)) streams)
 
 pub returns-in-Some-clause-changed : goal.returns-in-Some-clause-changed
-returns-in-Some-clause-changed g c = ?
+returns-in-Some-clause-changed g c name p at is =
+    let x = c.in-Err.failure in
+    let there = c.in-Some.ensures.lookup in
+    failed-changed (IsOfCaptures c.args.rests.now (programmes_in c.args.agenda.now)) c.as_str.result.now x.fault c.of_member.result
+    (subst (λ (f : Fault). (c.of_member.result ≡ member_fault c.as_str.result.now f) ⊎ (c.of_member.result ≡ Memory)) c.from-fault.ensures c.of_member.ensures.is)
+    (λ q byte same. record {
+      bridge = x.bridge;
+      rest = c.in-Some.rest.now;
+      is = at_place c.args.rests.now x.bridge c.in-Some.rest.now there.3.0 there.1;
+      called = sym c.as_str.ensures;
+      has = c.in-Err.ensures.port x.bridge q byte (ap Err (of-bridge x q byte same));
+    })
+    name p at (err-own c.of_member.result _ is)
+
+pub returns-in-Some-clause-faults : goal.returns-in-Some-clause-faults
+returns-in-Some-clause-faults g c = failed-counts c.in-Err.failure.fault c.from-fault.result c.of_member.result _ _ c.from-fault.ensures c.in-Err.ensures.faults c.in-Err.ensures.counts c.of_member.ensures.counts
+
+pub returns-in-None-clause-never : goal.returns-in-None-clause-never
+returns-in-None-clause-never g c t = unnamed-never c.in-Err.failure.fault c.from-fault.result c.from-fault.ensures
+
+pub returns-in-None-clause-changed : goal.returns-in-None-clause-changed
+returns-in-None-clause-changed g c name p at is = unnamed-changed c.in-Err.failure.fault c.from-fault.result c.from-fault.ensures name p at (err-own c.from-fault.result _ is)
+
+pub returns-in-None-clause-faults : goal.returns-in-None-clause-faults
+returns-in-None-clause-faults g c = failed-counts c.in-Err.failure.fault c.from-fault.result c.from-fault.result _ _ c.from-fault.ensures c.in-Err.ensures.faults c.in-Err.ensures.counts (λ old new h. h)

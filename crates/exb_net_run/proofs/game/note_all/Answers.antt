@@ -8,7 +8,7 @@ use Rattle.exb_outputs.specs.Plans.{Planned}
 use Rattle.exb_net.proofs.Places.{at_place, is_there, set_there}
 use Rattle.exb_net_run.specs.declared.desk.Desk.{Desk}
 use Rattle.exb_net_run.specs.Desks.{AreAllFronts, AreNoted, ArePlansApart, CanNote, IsMore, IsNoted, OnlyWritesAll, plans_in}
-use Rattle.exb_net_run.proofs.Noted.{fronts_more, noted_all, noted_more, only_none, only_one, plans-long, plans_set, ready_more, upto, upto_high, upto_none}
+use Rattle.exb_net_run.proofs.Noted.{fronts_more, noted_all, noted_more, only_none, only_one, plans-long, plans-same-long, plans_set, ready_more, upto, upto_high, upto_none}
 use Rattle.exb_net_run.proofs.game.note_all.Goals as goal
 
 pub loop-bridge-init : goal.loop-bridge-init
@@ -29,7 +29,9 @@ pub note-requires-clause-ready : goal.note-requires-clause-ready
 note-requires-clause-ready g c =
     let inv = c.loop-bridge.invariant in
     let items = c.loop-bridge.desks.items in
-    let inside : c.loop-bridge.bridge < length items = omega arith in
+    let long = plans-same-long items c.args.desks.now.items c.loop-bridge.invariant.plans in
+    let ok = c.args.desks.now.ok.0 in
+    let inside : c.loop-bridge.bridge < length items = omega (arith, long, ok) in
     inv.ready.each c.loop-bridge.bridge c.index_mut.result.now (at_place items c.loop-bridge.bridge c.index_mut.result.now inside c.index_mut.ensures.value)
 
 pub note-requires-clause-can : goal.note-requires-clause-can
@@ -37,7 +39,9 @@ note-requires-clause-can g c =
     let inv = c.loop-bridge.invariant in
     let items = c.loop-bridge.desks.items in
     let i = c.loop-bridge.bridge in
-    let inside : i < length items = omega arith in
+    let long = plans-same-long items c.args.desks.now.items c.loop-bridge.invariant.plans in
+    let ok = c.args.desks.now.ok.0 in
+    let inside : i < length items = omega (arith, long, ok) in
     let was = c.index_mut.result.now in
     let at = at_place items i was inside c.index_mut.ensures.value in
     let before = sym (inv.rest i (omega arith)) ∙ at in
@@ -52,7 +56,9 @@ loop-bridge-preserved g c =
     let inv = c.loop-bridge.invariant in
     let items = c.loop-bridge.desks.items in
     let i = c.loop-bridge.bridge in
-    let inside : i < length items = omega arith in
+    let long = plans-same-long items c.args.desks.now.items c.loop-bridge.invariant.plans in
+    let ok = c.args.desks.now.ok.0 in
+    let inside : i < length items = omega (arith, long, ok) in
     let was = c.index_mut.result.now in
     let at = at_place items i was inside c.index_mut.ensures.value in
     let before = sym (inv.rest i (omega arith)) ∙ at in
@@ -79,7 +85,9 @@ loop-bridge-preserved g c =
 
 pub returns-clause-noted : goal.returns-clause-noted
 returns-clause-noted g c told dones together more was =
-    noted_all g.S.Shelf.tells (g.S.Shelf.file c.loop-bridge.shelf) c.loop-bridge.desks.items c.loop-bridge.bridge told dones (omega arith) (c.loop-bridge.invariant.noted told dones together more was)
+    let long = plans-same-long c.loop-bridge.desks.items c.args.desks.now.items c.loop-bridge.invariant.plans in
+    let ok = c.args.desks.now.ok.0 in
+    noted_all g.S.Shelf.tells (g.S.Shelf.file c.loop-bridge.shelf) c.loop-bridge.desks.items c.loop-bridge.bridge told dones (omega (arith, long, ok)) (c.loop-bridge.invariant.noted told dones together more was)
 
 pub returns-in_err-note-clause-only : goal.returns-in_err-note-clause-only
 returns-in_err-note-clause-only g c =
@@ -87,7 +95,9 @@ returns-in_err-note-clause-only g c =
     let inv = c.loop-bridge.invariant in
     let items = c.loop-bridge.desks.items in
     let i = c.loop-bridge.bridge in
-    let inside : i < length items = omega arith in
+    let long = plans-same-long items c.args.desks.now.items c.loop-bridge.invariant.plans in
+    let ok = c.args.desks.now.ok.0 in
+    let inside : i < length items = omega (arith, long, ok) in
     let was = c.index_mut.result.now in
     let at = at_place items i was inside c.index_mut.ensures.value in
     let apart : ArePlansApart (plans_in items) = subst ArePlansApart (sym inv.plans) c.requires.apart in
@@ -104,7 +114,9 @@ returns-in_err-note-clause-cut g c = λ t.
     let inv = c.loop-bridge.invariant in
     let items = c.loop-bridge.desks.items in
     let i = c.loop-bridge.bridge in
-    let inside : i < length items = omega arith in
+    let long = plans-same-long items c.args.desks.now.items c.loop-bridge.invariant.plans in
+    let ok = c.args.desks.now.ok.0 in
+    let inside : i < length items = omega (arith, long, ok) in
     let was = c.index_mut.result.now in
     let at = at_place items i was inside c.index_mut.ensures.value in
     let before = sym (inv.rest i (omega arith)) ∙ at in

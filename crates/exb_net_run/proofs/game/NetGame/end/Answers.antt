@@ -10,12 +10,12 @@ use Rattle.exb_net_run.proofs.game.NetGame.end.Goals as goal
 
 pub count_all-requires : goal.count_all-requires
 count_all-requires g c =
-    subst (λ (ds : List Desk). FitsTally (added (tallies_in ds))) (sym c.as_slice.ensures)
+    subst (λ (ds : List Desk). FitsTally (added (tallies_in ds))) (sym c.as_slice.ensures.value)
     (subst (λ (cs : List Counts). FitsTally (added cs)) (sym c.in_ok-finish_all.ensures.tallies) c.requires.can.fits)
 
 pub line-requires : goal.line-requires
 line-requires g c =
-    let counted = c.count_all.ensures ∙ ap (λ (ds : List Desk). added (tallies_in ds)) c.as_slice.ensures ∙ ap added c.in_ok-finish_all.ensures.tallies in
+    let counted = c.count_all.ensures ∙ ap (λ (ds : List Desk). added (tallies_in ds)) c.as_slice.ensures.value ∙ ap added c.in_ok-finish_all.ensures.tallies in
     let relayed = ap (λ (k : Counts). k.relayed) counted in
     let ignored = ap (λ (k : Counts). k.ignored) counted in
     let few = c.requires.can.few in
@@ -33,5 +33,5 @@ returns-in_err-line-clause-cut g c = λ t.
 
 pub returns-clause-line : goal.returns-clause-line
 returns-clause-line g c =
-    let counted = c.count_all.ensures ∙ ap (λ (ds : List Desk). added (tallies_in ds)) c.as_slice.ensures ∙ ap added c.in_ok-finish_all.ensures.tallies in
+    let counted = c.count_all.ensures ∙ ap (λ (ds : List Desk). added (tallies_in ds)) c.as_slice.ensures.value ∙ ap added c.in_ok-finish_all.ensures.tallies in
     c.in_ok-line.ensures ∙ ap summary_line counted

@@ -16,8 +16,10 @@ use Rattle.exb_net_run.proofs.game.NetGame.play.Goals as goal
 pub open-requires : goal.open-requires
 open-requires g c =
     let t = c.requires.begins in
-    within_few (λ x. (goal.Fate-dyn g (x.world.fate.vtable, x.world.fate.value)).left x.world.fate.value) c.args.self.now.net.nodes.items (programmes_in c.args.agenda.now)
-    (let all = t.1.begun.holds.count in let same = t.1.begins.count in omega (arith, all, same)) c.requires.budget
+    record {
+      few = within_few (λ x. (goal.Fate-dyn g (x.world.fate.vtable, x.world.fate.value)).left x.world.fate.value) c.args.self.now.net.nodes.items (programmes_in c.args.agenda.now)
+    (let all = t.1.begun.holds.count in let same = t.1.begins.count in omega (arith, all, same)) c.requires.budget;
+    }
 
 pub note-requires-clause-ready : goal.note-requires-clause-ready
 note-requires-clause-ready g c = c.requires.begins.1.desks.ready

@@ -42,23 +42,24 @@ seconds_since-seconds-requires g c =
     let comes = some_at _ c.in_ok-due.field-0 d c.in-Some.is c.in_ok-due.ensures.coming in
     let order = λ (t : S.tells). subst (λ (o : Option NetNext). (streams : List (List Stream)) → AreAllReplays (S.file c.events.shelf) (S.ids c.events.shelf) old streams → IsFirstOf old streams o ps (λ rest. AreAllReplays (S.file c.next_due.new.shelf) (S.ids c.next_due.new.shelf) ps rest))
         c.in-Some.is (c.in_ok-due.ensures.order t) in
-    seconds-few S.tells r (S.file c.next_due.new.shelf) (S.ids c.next_due.new.shelf) _ (second_of c.moment.result) c.events.self d ps
-    (is-due S.tells r (S.file c.events.shelf) (S.file c.next_due.new.shelf) (S.ids c.events.shelf) (S.ids c.next_due.new.shelf) c.events.last c.events.self old d ps _ (second_of c.moment.result) (inv.going r c.requires.going.1) comes
-    (c.agendas_stay.ensures.reads (S.ids c.events.shelf) c.events.agenda inv.agenda) c.next_due.ensures.reads order (ap second_of c.moment.ensures) refl)
+    seconds-few S.tells r (S.file c.next_due.new.shelf) (S.ids c.next_due.new.shelf) _ (second_of c.moment-second.result) c.events.self d ps
+    (is-due S.tells r (S.file c.events.shelf) (S.file c.next_due.new.shelf) (S.ids c.events.shelf) (S.ids c.next_due.new.shelf) c.events.last c.events.self old d ps _ (second_of c.moment-second.result) (inv.going r c.requires.going.1) comes
+    (c.agendas_stay.ensures.reads (S.ids c.events.shelf) c.events.agenda inv.agenda) c.next_due.ensures.reads order (ap second_of c.moment-second.ensures) refl)
 
-pub turn-requires-clause-due : goal.turn-requires-clause-due
-turn-requires-clause-due g c =
+pub turn-requires : goal.turn-requires
+turn-requires g c =
     let S = g.S.Shelf in
     let inv = c.events.invariant in
     let r = c.requires.going.0 in
     let d = c.in-Some.due in
     let old = programmes_in c.events.agenda in
     let ps = programmes_in c.next_due.new.agenda in
-    let second = second_of c.moment.result in
+    let second = second_of c.moment-second.result in
     let comes = some_at _ c.in_ok-due.field-0 d c.in-Some.is c.in_ok-due.ensures.coming in
     let order = λ (t : S.tells). subst (λ (o : Option NetNext). (streams : List (List Stream)) → AreAllReplays (S.file c.events.shelf) (S.ids c.events.shelf) old streams → IsFirstOf old streams o ps (λ rest. AreAllReplays (S.file c.next_due.new.shelf) (S.ids c.next_due.new.shelf) ps rest))
         c.in-Some.is (c.in_ok-due.ensures.order t) in
-    (
+    record {
+      due = (
       r,
       (
         second,
@@ -66,7 +67,7 @@ turn-requires-clause-due g c =
           ps,
           (
             is-due S.tells r (S.file c.events.shelf) (S.file c.next_due.new.shelf) (S.ids c.events.shelf) (S.ids c.next_due.new.shelf) c.events.last c.events.self old d ps c.seconds_since-seconds.result second (inv.going r c.requires.going.1) comes
-                (c.agendas_stay.ensures.reads (S.ids c.events.shelf) c.events.agenda inv.agenda) c.next_due.ensures.reads order (ap second_of c.moment.ensures) c.seconds_since-seconds.ensures,
+                (c.agendas_stay.ensures.reads (S.ids c.events.shelf) c.events.agenda inv.agenda) c.next_due.ensures.reads order (ap second_of c.moment-second.ensures) c.seconds_since-seconds.ensures,
             (
               rests-on c.args.rests.now old d ps comes inv.rests,
               within-paid c.events.self.net.nodes.items (λ x. (goal.Fate-dyn g (x.world.fate.vtable, x.world.fate.value)).left x.world.fate.value) c.args.rests.now old d ps comes inv.rests inv.budget,
@@ -74,7 +75,8 @@ turn-requires-clause-due g c =
           ),
         ),
       ),
-    )
+    );
+    }
 
 pub events-preserved : goal.events-preserved
 events-preserved g c =
@@ -83,7 +85,7 @@ events-preserved g c =
     let d = c.in-Some.due in
     let old = programmes_in c.events.agenda in
     let ps = programmes_in c.next_due.new.agenda in
-    let second = second_of c.moment.result in
+    let second = second_of c.moment-second.result in
     let comes = some_at _ c.in_ok-due.field-0 d c.in-Some.is c.in_ok-due.ensures.coming in
     let order = λ (t : S.tells). subst (λ (o : Option NetNext). (streams : List (List Stream)) → AreAllReplays (S.file c.events.shelf) (S.ids c.events.shelf) old streams → IsFirstOf old streams o ps (λ rest. AreAllReplays (S.file c.next_due.new.shelf) (S.ids c.next_due.new.shelf) ps rest))
         c.in-Some.is (c.in_ok-due.ensures.order t) in
@@ -97,7 +99,7 @@ events-preserved g c =
       going = λ r start.
           c.in_ok-turn.ensures.told r second ps
           (is-due S.tells r (S.file c.events.shelf) (S.file c.next_due.new.shelf) (S.ids c.events.shelf) (S.ids c.next_due.new.shelf) c.events.last c.events.self old d ps c.seconds_since-seconds.result second (inv.going r start) comes
-          (c.agendas_stay.ensures.reads (S.ids c.events.shelf) c.events.agenda inv.agenda) c.next_due.ensures.reads order (ap second_of c.moment.ensures) c.seconds_since-seconds.ensures) of;
+          (c.agendas_stay.ensures.reads (S.ids c.events.shelf) c.events.agenda inv.agenda) c.next_due.ensures.reads order (ap second_of c.moment-second.ensures) c.seconds_since-seconds.ensures) of;
       budget = c.in_ok-turn.ensures.budget ps
           (within-paid c.events.self.net.nodes.items (λ x. (goal.Fate-dyn g (x.world.fate.vtable, x.world.fate.value)).left x.world.fate.value) c.args.rests.now old d ps comes inv.rests inv.budget);
       same = comes.ids ∙ inv.same;
@@ -160,13 +162,13 @@ returns-in_err-turn-clause-cut g c = λ t.
     let d = c.in-Some.due in
     let old = programmes_in c.events.agenda in
     let ps = programmes_in c.next_due.new.agenda in
-    let second = second_of c.moment.result in
+    let second = second_of c.moment-second.result in
     let comes = some_at _ c.in_ok-due.field-0 d c.in-Some.is c.in_ok-due.ensures.coming in
     let order = λ (t : S.tells). subst (λ (o : Option NetNext). (streams : List (List Stream)) → AreAllReplays (S.file c.events.shelf) (S.ids c.events.shelf) old streams → IsFirstOf old streams o ps (λ rest. AreAllReplays (S.file c.next_due.new.shelf) (S.ids c.next_due.new.shelf) ps rest))
         c.in-Some.is (c.in_ok-due.ensures.order t) in
     c.in_err-turn.ensures.cut t r second ps
     (is-due S.tells r (S.file c.events.shelf) (S.file c.next_due.new.shelf) (S.ids c.events.shelf) (S.ids c.next_due.new.shelf) c.events.last c.events.self old d ps c.seconds_since-seconds.result second (inv.going r start) comes
-    (c.agendas_stay.ensures.reads (S.ids c.events.shelf) c.events.agenda inv.agenda) c.next_due.ensures.reads order (ap second_of c.moment.ensures) c.seconds_since-seconds.ensures)
+    (c.agendas_stay.ensures.reads (S.ids c.events.shelf) c.events.agenda inv.agenda) c.next_due.ensures.reads order (ap second_of c.moment-second.ensures) c.seconds_since-seconds.ensures)
     (rests-on c.args.rests.now old d ps comes inv.rests))
 
 pub returns-in_err-due-clause-never : goal.returns-in_err-due-clause-never
