@@ -22,3 +22,5 @@ pub mod Ends
 pub mod Reading
 pub mod Prepared
 pub mod Opened
+pub mod Into
+pub mod Wholly

@@ -39,7 +39,10 @@ use Rattle.exb_topology.specs.Each.{each_ok, refuse}
 use Rattle.exb_topology.proofs.Checking.{ok_at, refuse_ok}
 use Rattle.exb_inputs.proofs.FaultLemmas.{name_by}
 use Rattle.exb_net_inputs.specs.Checking.{AreMembersChecked}
+use Rattle.exb_net_inputs.specs.Holding.{AreRead}
+use Rattle.exb_net_run.specs.Desks.{OnlyAllPlanned}
 use Rattle.exb_net_run.specs.Nets.{input_in, net_of, plan_with}
+use Rattle.exb_net_run.proofs.Held.{mapped_some}
 
 -- ---- names
 none_pass : {X : Type 0} (test : X → Bool) (xs : List X) → list_any test xs ≡ false → (k : ℕ) (d : X) → k < length xs → test (get_or xs k d) ≡ false
@@ -109,8 +112,10 @@ module _ (names : List Named) (old new : Files) (same : (q : ℕ) (name : List �
   told_same : (c : Checked) → IsToldOf names old c → IsToldOf names new c
   told_same c told = (told.0, told.1, subst (λ (x : Option (List ℕ)). IsGood x c.told) (sym (same c.port told.0 told.1)) told.2)
 
-  pub checked_same : (tells : Type 0) (checked : List Checked) → AreChecked tells names old checked → AreChecked tells names new checked
-  checked_same tells checked k = record { ports = k.ports; small = k.small; in_time = k.in_time; told = λ t i d low. told_same (get_or checked i d) (k.told t i d low) }
+pub checked_same : (names : List Named) (old new : Files) (tells : Type 0) → (tells → (q : ℕ) (name : List ℕ) → name_of names q ≡ Some name → new name ≡ old name) → (checked : List Checked) → AreChecked tells names old checked →
+    AreChecked tells names new checked
+checked_same names old new tells same checked k =
+    record { ports = k.ports; small = k.small; in_time = k.in_time; told = λ t i d low. told_same names old new (same t) (get_or checked i d) (k.told t i d low) }
 
 input_same : (m : NetMember) (old new : Files) → ((q : ℕ) (name : List ℕ) → name_of m.topology.captures q ≡ Some name → new name ≡ old name) → input_of m.topology new ≡ input_of m.topology old
 input_same m old new same =
@@ -129,9 +134,16 @@ pub net_same : (ms : List NetMember) (ws : List Wire) (old new : Files) → Same
 net_same ms ws old new same = (let all = inputs_same ms old new same in λ i. record { count = length ms; input = λ b. all b i; wires = ws })
 
 -- and what was checked
-pub members_same : (tells : Type 0) (ms : List NetMember) (old new : Files) (checked : List (Vec Checked Global)) → SameCaptureFiles ms old new → AreMembersChecked tells ms old checked → AreMembersChecked tells ms new checked
+pub members_same : (tells : Type 0) (ms : List NetMember) (old new : Files) (checked : List (Vec Checked Global)) → (tells → SameCaptureFiles ms old new) → AreMembersChecked tells ms old checked → AreMembersChecked tells ms new checked
 members_same tells [] old new [] same all = tt
 members_same tells [] old new (c ∷ cs) same all = absurd all
 members_same tells (m ∷ ms) old new [] same all = absurd all
 members_same tells (m ∷ ms) old new (c ∷ cs) same all =
-    (checked_same m.topology.captures old new (λ q name named. same 0 m q name refl named) tells c.items all.0, members_same tells ms old new cs (λ b x q name is named. same (suc b) x q name is named) all.1)
+    (checked_same m.topology.captures old new tells (λ t q name named. same t 0 m q name refl named) c.items all.0, members_same tells ms old new cs (λ t b x q name is named. same t (suc b) x q name is named) all.1)
+
+-- They are the same where no file but outputs has changed.
+pub captures_stay : (counters : Bool) (ms : List NetMember) (ws : List Wire) → AreRead ms ws → (old new : Files) → OnlyAllPlanned (map (plan_with counters) ms) old new → SameCaptureFiles ms old new
+captures_stay counters ms ws read old new only b m q name is named =
+    only name (λ c p so j low.
+    let k = mapped_some (plan_with counters) (slice_get ms c) p (sym (slice_get-map (plan_with counters) ms c) ∙ so) in
+    subst (λ (z : Planned). j < output_count z → name ≢ output_name z j) k.2 (λ j_low. captures_apart ms read.written ws read.wired b m is q name named counters c k.0 k.1 j j_low) low)

@@ -1,19 +1,25 @@
 -- The files of all bridges are made, one bridge after another.
 use Rattle.std.proofs.Common.{◌≡◌, ◌≢◌, ◌⊎◌, ℕ, zero, suc, ◌+◌, ◌<◌, ◌≤◌, ◌++◌, Bool, true, false, List, [], ◌∷◌, drop, flat_map, get_or, length, map, take, Option, Some, None, Result, Ok, Err, refl, ap, sym, ◌∙◌, subst, arith, inl, inr}
-use Rattle.std.specs.Prelude.{All, AllPairs, option_map, slice_get}
+use Rattle.std.specs.Prelude.{All, AllPairs, option_map, slice_get, slice_index_or}
 use Rattle.std.proofs.lemmas.Bool.{cases_eq, cases_lt}
 use Rattle.std.proofs.lemmas.Grind.{flat_map-append}
-use Rattle.std.proofs.lemmas.List.{append-nil, append_assoc, length-append}
+use Rattle.std.proofs.lemmas.List.{append-nil, append_assoc, length-append, length-map}
 use Rattle.std.proofs.lemmas.Option.{get_or_from_slice_get, slice_get-map, slice_get_within}
 use Rattle.exb_inputs.specs.declared.fault.Fault.{Fault}
+use Rattle.exb_model.specs.declared.setup.Setup.{Setup}
+use Rattle.exb_nets.specs.declared.wires.Wire.{Wire}
+use Rattle.exb_net.proofs.Places.{at_place}
+use Rattle.exb_net_file.specs.declared.apart.NetParts.{NetParts}
+use Rattle.exb_net_file.specs.declared.apart.NetRest.{NetRest}
 use Rattle.exb_net_file.specs.declared.members.NetMember.{NetMember}
+use Rattle.exb_net_file.specs.Apart.{IsTakenApart, rest_of, setup_in}
 use Rattle.exb_net_file.specs.Sound.{BridgesWriteApart}
 use Rattle.exb_net_file.specs.Words.{is_name}
 use Rattle.exb_outputs.specs.Names.{IsCut}
-use Rattle.exb_outputs.specs.Order.{MadeInOrder}
+use Rattle.exb_outputs.specs.Order.{MadeInOrder, MakesInOrder}
 use Rattle.exb_outputs.specs.Plans.{Planned, kind_at, output_count, output_name}
-use Rattle.exb_outputs.specs.Shelving.{OnlyMakes, WritesPlanned}
-use Rattle.exb_outputs.specs.Writing.{AreCut, first_text, pieces_of}
+use Rattle.exb_outputs.specs.Shelving.{IsOfWriting, OnlyMakes, WritesPlanned}
+use Rattle.exb_outputs.specs.Writing.{AreCut, HasTexts, first_text, pieces_of}
 use Rattle.exb_outputs.proofs.ByKind.{kind_is}
 use Rattle.exb_outputs.proofs.Cutting.{both_parts}
 use Rattle.exb_shelf.specs.Files.{Files}
@@ -24,7 +30,7 @@ use Rattle.exb_net_run.specs.declared.desk.Desk.{Desk}
 use Rattle.exb_net_run.specs.Desks.{ArePlansApart, IsOther, OnlyAllPlanned, plans_in}
 use Rattle.exb_net_run.specs.Nets.{plan_with}
 use Rattle.exb_net_run.specs.Opening.{MadeInTurn, MakesNet, IsNetLate, WritesNetOutput, names_of, net_names}
-use Rattle.exb_net_run.specs.Setting.{AreCutAs, GoesFrom, IsSet}
+use Rattle.exb_net_run.specs.Setting.{AreCutAs, AreSet, GoesFrom, IsSet, plan_under}
 use Rattle.exb_net_run.proofs.Held.{mapped_some}
 use Rattle.exb_net_run.proofs.Noting.{texts_stay}
 use Rattle.exb_net_run.proofs.Several.{push_each, ready_beside, two_apart}
@@ -78,6 +84,51 @@ map_last : {A B : Type 0} (f : A → B) (xs : List A) (x : A) → map f (xs ++ x
 map_last f [] x = refl
 map_last f (y ∷ xs) x = ap (λ (zs : List _). f y ∷ zs) (map_last f xs x)
 
+-- the files of a plan that hold what they begin with
+pub cut_first : (p : Planned) (pieces : List (List ℕ)) (old new : Files) (text : Output → List ℕ) → HasTexts p pieces old new first_text → GoesFrom text → AreCut p old new text
+cut_first p pieces old new text held goes =
+    record {
+      each = λ j low. (let now = held.each j low in front_of (old (output_name p j)) (new (output_name p j)) now.0 (slice_index_or pieces j []) (first_text (kind_at p j)) (text (kind_at p j)) now.1 now.2 (goes (kind_at p j)));
+      others = held.others;
+    }
+
+-- ---- the bridge whose files are made next
+pub record IsNextOf (counters : Bool) (ms : List NetMember) (i : ℕ) (s : Setup) (name : List ℕ) : Type 0 where
+  pub member : NetMember
+  pub here : slice_get ms i ≡ Some member
+  pub plan : plan_under s name counters ≡ plan_with counters member
+  pub setup : s ≡ member.topology.setup
+
+pub next_here : (counters : Bool) (ms : List NetMember) (ws : List Wire) (parts : NetParts) → IsTakenApart ms ws parts → (setups : List Setup) (rests : List NetRest) → setups ≡ parts.setup.setups → rests ≡ parts.rests → (i : ℕ) → i < length rests →
+    (s : Setup) (r : NetRest) (name : List ℕ) → s ≡ get_or setups i s → r ≡ get_or rests i r → name ≡ (get_or rests i r).name → IsNextOf counters ms i s name
+next_here counters ms ws parts taken setups rests setups_are rests_are i low s r name s_is r_is named =
+    let of_setups : setups ≡ map setup_in ms = setups_are ∙ taken.setups in
+    let of_rests : rests ≡ map rest_of ms = rests_are ∙ taken.rests in
+    let long_setups : length setups ≡ length ms = ap (λ (xs : List Setup). length xs) of_setups ∙ length-map ms setup_in in
+    let long_rests : length rests ≡ length ms = ap (λ (xs : List NetRest). length xs) of_rests ∙ length-map ms rest_of in
+    let s_there : slice_get setups i ≡ Some s = at_place setups i s (omega (arith, low, long_setups, long_rests)) s_is in
+    let r_there : slice_get rests i ≡ Some r = at_place rests i r low r_is in
+    let m = mapped_some rest_of (slice_get ms i) r (sym (slice_get-map rest_of ms i) ∙ (ap (λ (xs : List NetRest). slice_get xs i) (sym of_rests) ∙ r_there)) in
+    let k = mapped_some setup_in (slice_get ms i) s (sym (slice_get-map setup_in ms i) ∙ (ap (λ (xs : List Setup). slice_get xs i) (sym of_setups) ∙ s_there)) in
+    let same : s ≡ m.0.topology.setup = sym k.2 ∙ ap setup_in (some_is (sym k.1 ∙ m.1)) in
+    record {
+      member = m.0;
+      here = m.1;
+      plan = ap (λ (x : Setup). plan_under x name counters) same ∙ ap (λ (n : List ℕ). plan_under m.0.topology.setup n counters) (named ∙ ap (λ (x : NetRest). x.name) (sym r_is ∙ sym m.2));
+      setup = same;
+    }
+
+pub made_all : {X : Type 0} (p q : Planned) (x : X) (a b : ℕ → Id) → p ≡ q → MakesInOrder p (Ok x) a b → MadeInOrder q (output_count q) a b
+made_all p q x a b same m = subst (λ (z : Planned). MadeInOrder z (output_count z) a b) same (subst (λ (n : ℕ). MadeInOrder p n a b) (m.all tt) m.made)
+
+pub not_late : (X : Type 0) (x : Fault) → IsOfWriting x → IsNetLate {X = X} (Err x) → ⊥
+not_late X x (inl e) late = (let z : ⊥ = subst (λ (y : Fault). IsNetLate {X = X} (Err y)) e late in z)
+not_late X x (inr e) late = (let z : ⊥ = subst (λ (y : Fault). IsNetLate {X = X} (Err y)) e late in z)
+
+take_whole : {A : Type 0} (xs : List A) → take (length xs) xs ≡ xs
+take_whole [] = refl
+take_whole (x ∷ xs) = ap (λ (zs : List _). x ∷ zs) (take_whole xs)
+
 -- ---- so far
 -- The files of the first k bridges are made.
 pub record SetUpTo (counters : Bool) (ms : List NetMember) (tells : Type 0) (k : ℕ) (old now : Files) (given ids : ℕ → Id) (desks : List Desk) : Type 0 where
@@ -86,6 +137,25 @@ pub record SetUpTo (counters : Bool) (ms : List NetMember) (tells : Type 0) (k :
   pub others : tells → OnlyAllPlanned (map (plan_with counters) (take k ms)) old now
   pub opened : Opens (WritesNetOutput counters ms) given ids
   pub made : MadeInTurn (net_names counters (take k ms)) (length (net_names counters (take k ms))) given ids
+
+-- so those of all
+module _ (counters : Bool) (ms : List NetMember) (tells : Type 0) (k : ℕ) (old now : Files) (given ids : ℕ → Id) (desks : List Desk) (s : SetUpTo counters ms tells k old now given ids desks) (all : k ≡ length ms) where
+  whole : take k ms ≡ ms
+  whole = ap (λ (n : ℕ). take n ms) all ∙ take_whole ms
+
+  pub all_set : AreSet tells (map (plan_with counters) ms) old now ids desks
+  all_set = record {
+    plans = s.plans_are ∙ ap (map (plan_with counters)) whole;
+    each = s.each;
+    others = λ t. subst (λ (xs : List NetMember). OnlyAllPlanned (map (plan_with counters) xs) old now) whole (s.others t);
+  }
+
+  pub all_net : {X : Type 0} (result : Result X Fault) → MakesNet counters ms result given ids
+  all_net result = record {
+    count = length (net_names counters (take k ms));
+    made = subst (λ (xs : List NetMember). MadeInTurn (net_names counters xs) (length (net_names counters (take k ms))) given ids) whole s.made;
+    all = λ late. ap (λ (xs : List NetMember). length (net_names counters xs)) whole;
+  }
 
 -- ---- the plans of bridges with different names
 module _ (law : BridgesWriteApart) (counters : Bool) (ms : List NetMember) (named : All (λ m. is_name m.name ≡ true) ms) (other : AllPairs (λ m k. m.name ≢ k.name) ms) where
@@ -156,8 +226,8 @@ module _ (law : BridgesWriteApart) (counters : Bool) (ms : List NetMember) (name
     still b d is t j low =
         let own = plan_of_desk k b desks d so_far.plans_are is in
         let apart : (i : ℕ) → i < output_count (plan_with counters m) → output_name (plan_with counters m) i ≢ output_name d.plan j =
-        λ i i_low. subst (λ (z : Planned). j < output_count z → output_name (plan_with counters m) i ≢ output_name z j) own.2.0
-            (λ j_low. two_apart law counters m own.0 (name_ok k m here) (name_ok b own.0 own.1) (members_apart k b m own.0 here own.1 (λ e. let low = own.2.1 in omega (arith, e, low))) i j i_low j_low) low in
+        λ i i_low. subst (λ (z : Planned). j < output_count z → output_name (plan_with counters m) i ≢ output_name z j) own.2
+            (λ j_low. two_apart law counters m own.0 (name_ok k m here) (name_ok b own.0 own.1) (members_apart k b m own.0 here own.1 (λ e. let low = own.3 in omega (arith, e, low))) i j i_low j_low) low in
         only.others t (output_name d.plan j) (λ i i_low same. apart i i_low (sym same))
 
     stays : (b : ℕ) (d : Desk) → slice_get desks b ≡ Some d → IsSet tells new ids2 d
@@ -175,7 +245,7 @@ module _ (law : BridgesWriteApart) (counters : Bool) (ms : List NetMember) (name
         let is = kind_is (plan_with counters m) w.at w.within in
         record { name = output_name (plan_with counters m) w.at; output = record { bridge = k; member = m; is = here; output = (kind_at (plan_with counters m) w.at, is.made, refl) }; writes = w.writes }
 
-    opened_more : Opens (WritesNetOutput counters ms) given ids2
+    pub opened_more : Opens (WritesNetOutput counters ms) given ids2
     opened_more = opens_then (WritesNetOutput counters ms) given ids ids2 so_far.opened (opens_weaker (WritesPlanned (plan_with counters m)) (WritesNetOutput counters ms) ids ids2 writes only.opened)
 
     names_more : net_names counters (take (suc k) ms) ≡ net_names counters (take k ms) ++ names_of (plan_with counters m)
@@ -237,7 +307,7 @@ module _ (law : BridgesWriteApart) (counters : Bool) (ms : List NetMember) (name
         slice_get-map (plan_with counters) ms b ∙ (ap (option_map (plan_with counters)) (get_take ms (suc k) b x.0 x.1).1 ∙ ap (λ (z : Planned). Some z) x.2)) j low)
 
     -- each file is as it was, or a front of a text that goes on from what it begins with
-    cut_before : tells → (text : ℕ → Output → List ℕ) → ((b : ℕ) → GoesFrom (text b)) → AreCut (plan_with counters m) now new (text k) → AreCutAs (map (plan_with counters) ms) old new text
+    pub cut_before : tells → (text : ℕ → Output → List ℕ) → ((b : ℕ) → GoesFrom (text b)) → AreCut (plan_with counters m) now new (text k) → AreCutAs (map (plan_with counters) ms) old new text
     cut_before t text goes cut = record { each = λ b p is j low. at b p (member_of b p is) j low }
       where
         -- the file of a bridge that isn't made yet was as it is

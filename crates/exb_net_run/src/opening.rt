@@ -1,5 +1,5 @@
 //! What is made before the first event: the desk of each bridge, its captures opened again, and its fate.
-ghost use Rattle.std.specs.Prelude.{⊥, ◌≡◌, ◌<◌, ◌++◌, ◌∷◌, [], false, ℕ, List, IfErr, IfOk, IsErrOf, OnErr, OnOk, length, map};
+ghost use Rattle.std.specs.Prelude.{◌≡◌, ◌<◌, ◌++◌, ◌∷◌, [], false, ℕ, List, IfErr, IfOk, IsErrOf, OnErr, OnOk, length, map};
 ghost use Rattle.std.specs.List.{AllByRecursion};
 ghost use Rattle.exb_inputs.specs.declared.fault.Fault.{Fault};
 ghost use Rattle.exb_merge.specs.NetAgendas.{IsAgenda, all_ids, programmes_in};

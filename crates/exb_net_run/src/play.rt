@@ -31,9 +31,13 @@ use exb_fate::Fate;
 use exb_inputs::{Checked, Fault};
 use exb_merge::Agenda;
 use exb_net::Net;
+use exb_net_file::laws::{bridges_write_apart, nets_are_timely};
 use exb_net_file::{NetParts, NetRest, take_apart};
+use exb_net_inputs::laws::inputs_are_of_members;
 use exb_net_inputs::{NetInputs, check_members, read_net};
+use exb_nets::laws::{histories_go_on, nets_have_histories};
 use exb_shelf::{PIECE, Shelf, room};
+use exb_wiring::laws::nets_are_played;
 use std::alloc::Global;
 
 /// Plays what is on the agenda in a net that was made, into files that were made, and answers the summary line.
@@ -102,6 +106,8 @@ fn play_into<S: Shelf>(
     ensures causes { IfErr result IsOfNetPlay }
     ensures faults { CountsFaults result (S.faults shelf.old) (S.faults shelf.new) }
 {
+    inputs_are_of_members();
+    nets_are_timely();
     let Ok(mut piece) = room(alloc, PIECE) else {
         return Err(Fault::Memory);
     };
@@ -146,6 +152,11 @@ fn play_checked<S: Shelf>(
     ensures causes { IfErr result IsOfNetPlay }
     ensures faults { CountsFaults result (S.faults shelf.old) (S.faults shelf.new) }
 {
+    bridges_write_apart();
+    histories_go_on();
+    inputs_are_of_members();
+    nets_are_played();
+    nets_have_histories();
     let desks = set_desks(alloc, shelf, parts, counters)?;
     play_into(alloc, shelf, parts, checked, fates, desks)
 }
