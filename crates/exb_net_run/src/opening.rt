@@ -1,13 +1,5 @@
 //! What is made before the first event: the desk of each bridge, its captures opened again, and its fate.
-<<<<<<< HEAD
-<<<<<<< HEAD
-ghost use Rattle.std.specs.Prelude.{◌≡◌, ◌<◌, ◌++◌, ◌∷◌, [], false, ℕ, List, IfErr, IfOk, IsErrOf, OnErr, OnOk, length, map};
-=======
 ghost use Rattle.std.specs.Prelude.{◌≡◌, ◌<◌, ◌++◌, ◌∷◌, [], false, ℕ, List, IfErr, IfOk, IsErrOf, OnErr, OnOk, length, map, All, ◌≤◌, ◌+◌, ◌^◌, AllPairs, true};
->>>>>>> 5c1b60980056cd1228f28f8be26e243a40b25999
-=======
-ghost use Rattle.std.specs.Prelude.{◌≡◌, ◌<◌, ◌++◌, ◌∷◌, [], false, ℕ, List, IfErr, IfOk, IsErrOf, OnErr, OnOk, length, map, All, ◌≤◌, ◌+◌, ◌^◌, AllPairs, true};
->>>>>>> 293f2c400ba1eeff43a4a095a92e73af71ea2951
 ghost use Rattle.std.specs.List.{AllByRecursion};
 ghost use Rattle.exb_inputs.specs.declared.fault.Fault.{Fault};
 ghost use Rattle.exb_merge.specs.declared.programme.Programme.{Programme};
