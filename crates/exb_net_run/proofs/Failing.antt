@@ -15,6 +15,7 @@ use Rattle.exb_inputs.specs.Shelving.{CountsFaults}
 use Rattle.exb_inputs.proofs.Ports.{again-counts}
 use Rattle.exb_inputs.proofs.ShelvingLemmas.{counted_once}
 use Rattle.exb_net_inputs.specs.Refusing.{member_fault}
+use Rattle.exb_net_run.specs.Answers.{IsOfNetPlay}
 use Rattle.exb_net_run.specs.Shelving.{IsNetChange}
 
 -- the fault of a bridge of this name, or want of memory for the name
@@ -45,6 +46,11 @@ pub unnamed-never : {Q : Type 0} (c : CaptureFault) (r : Fault) → r ≡ fault_
 unnamed-never again.Memory r e change = absurd (let z : ⊥ = subst IsNetChange e change in z)
 unnamed-never again.Read r e change = absurd (let z : ⊥ = subst IsNetChange e change in z)
 unnamed-never (again.Changed p at) r e change = absurd (let z : ⊥ = subst IsNetChange e change in z)
+
+pub unnamed-play : (c : CaptureFault) (r : Fault) → r ≡ fault_again c → ((p at : ℕ) → c ≡ again.Changed p at → ⊥) → IsOfNetPlay r
+unnamed-play again.Memory r e none = subst IsOfNetPlay (sym e) tt
+unnamed-play again.Read r e none = subst IsOfNetPlay (sym e) tt
+unnamed-play (again.Changed p at) r e none = absurd (none p at refl)
 
 pub unnamed-changed : {Q : Type 0} (c : CaptureFault) (r : Fault) → r ≡ fault_again c → (n : List ℕ) (p at : ℕ) → r ≡ MemberChanged n p at → Q
 unnamed-changed c r e n p at is = unnamed-never c r e (subst IsNetChange (sym is) tt)

@@ -124,7 +124,7 @@ each-left n b moment (y ∷ xs) low all (suc k) x h = each-left n b moment xs lo
 
 none-left : (n : Net) (b moment : ℕ) (xs : List Left) → ((q : ℕ) → length (left_at q xs) ≤ 0) → Each (LeftAt n b moment) xs → All (IsLow n b) xs
 none-left n b moment [] few all k x h = absurd (omega (arith, h))
-none-left n b moment (y ∷ xs) few all = absurd (by_port (few y.port))
+none-left n b moment (y ∷ xs) few all k x h = absurd (by_port (few y.port))
   where
     zero_not : suc (length (left_at y.port xs)) ≤ 0 → ⊥
     zero_not h = omega (arith, h)

@@ -1,10 +1,11 @@
 -- What a bridge did, in its files and counts: with what it did since.
-use Rattle.std.proofs.Common.{◌≡◌, ◌<◌, ◌++◌, ◌⊎◌, inl, inr, Bool, ℕ, suc, List, [], ◌∷◌, take, get_or, flat_map, Some, refl, ap, sym, ◌∙◌, subst, append_assoc}
+use Rattle.std.proofs.Common.{◌≡◌, ◌<◌, ◌++◌, ◌⊎◌, inl, inr, Bool, ℕ, suc, List, [], ◌∷◌, take, get_or, flat_map, length, Some, refl, ap, sym, ◌∙◌, subst, arith, append_assoc}
 use Rattle.std.proofs.lemmas.List.{append-nil}
 use Rattle.exb_model.specs.declared.event.Event.{Event}
 use Rattle.exb_model.specs.Texts.{record_text}
 use Rattle.exb_machine.specs.Stepping.{Stepped}
 use Rattle.exb_machine.specs.Worlds.{Left as Leaving}
+use Rattle.exb_network.specs.declared.log.Left.{Left}
 use Rattle.exb_network.specs.Networks.{Network}
 use Rattle.exb_network.specs.Worlds.{all_left}
 use Rattle.exb_resting.specs.Flight.Showing.{left_at}
@@ -12,14 +13,16 @@ use Rattle.exb_shelf.specs.Files.{Files}
 use Rattle.exb_text.specs.declared.output.Output.{Output}
 use Rattle.exb_text.specs.declared.output.Output.TheVariants as output
 use Rattle.exb_outputs.specs.Plans.{Planned, kind_at, output_count, output_name}
-use Rattle.exb_outputs.specs.Writing.{AreCut, HasTexts, lines_of, with_more}
+use Rattle.exb_outputs.specs.Sent.{HasSent}
+use Rattle.exb_outputs.specs.Writing.{AreCut, HasTexts, lines_of, pieces_of, with_more}
 use Rattle.exb_outputs.proofs.Cutting.{GoesOnAs}
 use Rattle.exb_writers.specs.declared.counted.Counted.{Counted}
 use Rattle.exb_writers.specs.Counts.{IsCounted}
 use Rattle.exb_writers.specs.Leaving.{with_left_frames}
 use Rattle.exb_writers.specs.Texts.{text_so_far}
 use Rattle.exb_writers.proofs.Telling.{left_at-append, text-more}
-use Rattle.exb_net_run.specs.Desks.{IsMore, text_of}
+use Rattle.exb_net_run.specs.declared.desk.Desk.{Desk}
+use Rattle.exb_net_run.specs.Desks.{IsMore, IsNoted, text_of}
 
 -- ---- files of one plan, whatever the others are
 -- the files of a plan have their texts, and others are as they are
@@ -55,6 +58,10 @@ fronts_cut plan pieces f g text whole goes held cut j low = elim (cut.each j low
   | inr front ↦ front
 ]
 
+nothing : {A : Type 0} (xs : List A) → length xs ≡ 0 → xs ≡ []
+nothing [] none = refl
+nothing (x ∷ xs) none = absurd (omega (arith, none))
+
 -- ---- what was told more
 module _ (told done : Stepped) (n : Network) (more : IsMore told done n) where
   spelled : (o : Output) → text_so_far (told.events ++ n.log.events) (told.left ++ all_left n.log.left) [] [] o ≡ text_of done [] o
@@ -84,6 +91,22 @@ module _ (told done : Stepped) (n : Network) (more : IsMore told done n) where
       subst (λ (es : List Event). IsCounted plan c es done.passed done.left) (sym more.events)
       (subst (λ (ps : List Bool). IsCounted plan c (told.events ++ n.log.events) ps done.left) (sym more.passed)
       (subst (λ (xs : List Leaving). IsCounted plan c (told.events ++ n.log.events) (told.passed ++ n.log.passed) xs) (sym more.left) is))
+
+  -- where it is nothing
+  pub quiet-noted : (tells : Type 0) (f : Files) (d : Desk) → length n.log.events ≡ 0 → length n.log.passed ≡ 0 → length n.log.left ≡ 0 → IsNoted tells f d told → IsNoted tells f d done
+  quiet-noted tells f d no_events no_passed no_left is =
+      let events : told.events ≡ done.events = sym (more.events ∙ ap (λ (es : List Event). told.events ++ es) (nothing n.log.events no_events) ∙ append-nil told.events) in
+      let passed : told.passed ≡ done.passed = sym (more.passed ∙ ap (λ (ps : List Bool). told.passed ++ ps) (nothing n.log.passed no_passed) ∙ append-nil told.passed) in
+      let left : told.left ≡ done.left = sym (more.left ∙ ap (λ (xs : List Left). told.left ++ all_left xs) (nothing n.log.left no_left) ∙ append-nil told.left) in
+      record {
+        counted =
+            subst (λ (es : List Event). IsCounted d.plan d.counted es done.passed done.left) events
+            (subst (λ (ps : List Bool). IsCounted d.plan d.counted told.events ps done.left) passed (subst (λ (xs : List Leaving). IsCounted d.plan d.counted told.events told.passed xs) left is.counted));
+        texts = λ t.
+            subst (λ (es : List Event). HasTexts d.plan (pieces_of d.outputs) f f (text_so_far es done.left [] [])) events
+            (subst (λ (xs : List Leaving). HasTexts d.plan (pieces_of d.outputs) f f (text_so_far told.events xs [] [])) left (is.texts t));
+        sent = subst (λ (xs : List Leaving). HasSent d.plan d.outputs (λ q. left_at q xs)) left is.sent;
+      }
 
 -- with its counters
 pub goes-counts : (done : Stepped) (counts : List ℕ) (o : Output) → GoesOnAs (text_of done []) (text_of done counts) o

@@ -1,5 +1,5 @@
 -- A topology that is run: what its plan writes is what is told of its external ports.
-use Rattle.std.proofs.Common.{◌≡◌, ℕ, List, [], Some, ap, sym, subst, ◌∙◌}
+use Rattle.std.proofs.Common.{◌≡◌, ℕ, List, [], Some, refl, ap, sym, subst, ◌∙◌}
 use Rattle.exb_model.specs.EagerHistory.{eager}
 use Rattle.exb_model.specs.Input.{Input, Mode, tree_of}
 use Rattle.exb_model.specs.Tree.{Shape, IsTree, is_external}

@@ -13,7 +13,7 @@ pub returns-in-Record-clause-ok : goal.returns-in-Record-clause-ok
 returns-in-Record-clause-ok g c =
     on_ok_by c.arrive.result
     (λ get n s told can.
-    gives-record n s told c.args.rests.now c.args.due c.args.net.now c.arrive.new.self can c.in-Record.came _ c.in-Record.is (c.arrival.ensures ∙ ap arrival_with (sym c.in-Record.came-is)) (get _ c.arrive.ensures.ok))
+    gives-record n s told c.args.rests.now c.args.due c.args.net.now c.arrive.new.self can c.in-Record.came _ c.in-Record.is (c.arrival.ensures ∙ ap arrival_with c.in-Record.came-is) (get _ c.arrive.ensures.ok))
 
 pub returns-in-Command-clause-ok : goal.returns-in-Command-clause-ok
 returns-in-Command-clause-ok g c =

@@ -1,11 +1,12 @@
-use Rattle.std.proofs.Common.{◌≡◌, ◌⊎◌, ℕ, List, Some, Err, ap, sym, subst, ◌∙◌}
+use Rattle.std.proofs.Common.{◌≡◌, ◌⊎◌, ◌<◌, ◌≤◌, ℕ, List, Some, Err, ap, sym, subst, ◌∙◌, arith}
+use Rattle.std.proofs.lemmas.Option.{slice_get_within}
 use Rattle.exb_inputs.specs.declared.fault.Fault.{Fault}
 use Rattle.exb_inputs.specs.declared.fault.Fault.TheVariants.{Memory}
 use Rattle.exb_merge.specs.NetAgendas.{programmes_in}
 use Rattle.exb_net.proofs.Places.{at_place}
 use Rattle.exb_net_inputs.specs.Refusing.{member_fault}
 use Rattle.exb_net_run.specs.Shelving.{IsOfCaptures}
-use Rattle.exb_net_run.proofs.Failing.{failed-changed, failed-counts, failed-never, of-bridge, unnamed-changed, unnamed-never}
+use Rattle.exb_net_run.proofs.Failing.{failed-changed, failed-counts, failed-never, of-bridge, unnamed-changed, unnamed-never, unnamed-play}
 use Rattle.exb_net_run.proofs.Shelves.{err-own}
 use Rattle.exb_net_run.proofs.game.next_due.Goals as goal
 
@@ -41,3 +42,15 @@ returns-in-None-clause-changed g c name p at is = unnamed-changed c.in-Err.failu
 
 pub returns-in-None-clause-faults : goal.returns-in-None-clause-faults
 returns-in-None-clause-faults g c = failed-counts c.in-Err.failure.fault c.from-fault.result c.from-fault.result _ _ c.from-fault.ensures c.in-Err.ensures.faults c.in-Err.ensures.counts (λ old new h. h)
+
+pub returns-in-None-clause-causes : goal.returns-in-None-clause-causes
+returns-in-None-clause-causes g c =
+    let x = c.in-Err.failure in
+    let beyond = c.in-None.ensures.lookup.3 in
+    let few = c.requires.rests in
+    unnamed-play x.fault c.from-fault.result c.from-fault.ensures
+    (λ p at is.
+    let own = c.in-Err.ensures.port x.bridge p at (ap Err (of-bridge x p at is)) in
+    let low = slice_get_within (programmes_in c.args.agenda.now) x.bridge own.0 own.1 in
+    let no : ⊥ = omega (arith, low, few, beyond) in
+    no)

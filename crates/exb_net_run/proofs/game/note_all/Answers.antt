@@ -141,3 +141,28 @@ pub returns-in_err-note-clause-faults : goal.returns-in_err-note-clause-faults
 returns-in_err-note-clause-faults g c =
     let e = err_from_is_err_and c.from_residual.result c.from_residual.ensures.1 in
     rw (e.1, e.2) (counts_from _ _ _ _ c.loop-bridge.invariant.counted (counts_as c.in_err-note.field-0.0 _ _ c.in_err-note.ensures.faults))
+
+pub returns-in_err-note-clause-plans : goal.returns-in_err-note-clause-plans
+returns-in_err-note-clause-plans g c =
+    let inv = c.loop-bridge.invariant in
+    let items = c.loop-bridge.desks.items in
+    let i = c.loop-bridge.bridge in
+    let long = plans-same-long items c.args.desks.now.items c.loop-bridge.invariant.plans in
+    let ok = c.args.desks.now.ok.0 in
+    let inside : i < length items = omega (arith, long, ok) in
+    let was = c.index_mut.result.now in
+    let at = at_place items i was inside c.index_mut.ensures.value in
+    plans_set items i was c.note.new.desk at c.in_err-note.ensures.plan ∙ inv.plans
+
+pub returns-in_err-note-clause-ready : goal.returns-in_err-note-clause-ready
+returns-in_err-note-clause-ready g c =
+    let S = g.S.Shelf in
+    let inv = c.loop-bridge.invariant in
+    let items = c.loop-bridge.desks.items in
+    let i = c.loop-bridge.bridge in
+    let long = plans-same-long items c.args.desks.now.items c.loop-bridge.invariant.plans in
+    let ok = c.args.desks.now.ok.0 in
+    let inside : i < length items = omega (arith, long, ok) in
+    let was = c.index_mut.result.now in
+    let at = at_place items i was inside c.index_mut.ensures.value in
+    ready_more (S.ids c.loop-bridge.shelf) (S.ids c.note.new.shelf) items i was c.note.new.desk at c.in_err-note.ensures.only.kept inv.ready c.in_err-note.ensures.ready
