@@ -1,5 +1,5 @@
-use Rattle.std.proofs.Common.{◌≡◌, ◌⊎◌, ◌∙◌, ℕ, List, refl, ap, sym, subst, inl, inr}
-use Rattle.std.specs.Prelude.{String, string_bytes}
+use Rattle.std.proofs.Common.{◌≡◌, ◌⊎◌, ◌∙◌, ◌≤◌, ℕ, List, length, refl, ap, sym, subst, inl, inr}
+use Rattle.std.specs.Prelude.{All, String, string_bytes}
 use Rattle.std.specs.declared.alloc.Global.{Global}
 use Rattle.std.specs.declared.vec.Vec.{Vec}
 use Rattle.std.proofs.lemmas.Result.{err_from_is_err_and}
@@ -7,6 +7,7 @@ use Rattle.exb_inputs.specs.declared.checked.Checked.{Checked}
 use Rattle.exb_inputs.specs.declared.fault.Fault.TheVariants.{Read, Memory}
 use Rattle.exb_inputs.proofs.Outcomes.{files_same, if_err_map, if_ok_map}
 use Rattle.exb_inputs.proofs.ShelvingLemmas.{counts_as, counts_from, counts_memory}
+use Rattle.exb_net_file.specs.declared.apart.NetRest.{NetRest}
 use Rattle.exb_net_file.specs.declared.members.NetMember.{NetMember}
 use Rattle.exb_net_inputs.specs.Checking.{AreAllMembersGood, AreMembersChecked}
 use Rattle.exb_net_inputs.specs.Opening.{EndsAtMember, OpensCaptures, OpensEachOf}
@@ -16,6 +17,7 @@ use Rattle.exb_shelf.proofs.IdLemmas.{opens_weaker}
 use Rattle.exb_net_run.specs.Nets.{OnlyNetOutputs, net_of}
 use Rattle.exb_net_run.specs.Opening.{IsNetWanted}
 use Rattle.exb_net_run.specs.Outputs.{AreNetFronts, IsNetPlayed}
+use Rattle.exb_net_run.proofs.Arming.{rests_few}
 use Rattle.exb_net_run.proofs.Asked.{all_reading, all_wanted, capture_net, capture_of_member, checked_unchanged, checking_cause, checking_early, flaw_at, if_err_both, in_order, memory_early, memory_own, memory_unchanged, net_reading, net_wanted, nothing_stops, only_asked, play_failure, play_net_fault, play_own, played, played_only, reading_cause, reading_net, stops_checking, stops_reading, unmade}
 use Rattle.exb_net_run.proofs.Held.{only_outputs}
 use Rattle.exb_net_run.proofs.play.play_net.Goals as goal
@@ -328,6 +330,10 @@ returns-in_default-clause-order g c =
 pub returns-in_default-clause-faults : goal.returns-in_default-clause-faults
 returns-in_default-clause-faults g c =
     counts_memory _ _ (c.in_ok-checked.ensures.faults.once ∙ c.in_ok-members.ensures.faults.once)
+
+pub arm_all-requires-clause-plans : goal.arm_all-requires-clause-plans
+arm_all-requires-clause-plans g c =
+    subst (λ (xs : List NetRest). All (λ (r : NetRest). length r.fate ≤ 60000) xs) (sym (c.as_slice-2.ensures ∙ c.in_ok-parts.ensures.rests)) (rests_few c.in_ok-members.field-0.members c.in_ok-members.ensures.sound.sound)
 
 pub play_checked-requires-clause-read : goal.play_checked-requires-clause-read
 play_checked-requires-clause-read g c =
