@@ -1,9 +1,8 @@
 -- A fate for each bridge, one after another.
-use Rattle.std.proofs.Common.{◌≡◌, ℕ, ◌+◌, ◌-◌, ◌<◌, ◌≤◌, ◌*◌, ◌^◌, ◌++◌, List, [], ◌∷◌, length, get_or, drop, take, map, length-append, length-drop, refl, ap, sym, ◌∙◌, subst, arith, inl, inr}
+use Rattle.std.proofs.Common.{◌≡◌, ℕ, zero, suc, ◌+◌, ◌-◌, ◌<◌, ◌≤◌, ◌*◌, ◌^◌, ◌++◌, List, [], ◌∷◌, length, get_or, drop, take, map, length-append, length-drop, refl, ap, sym, ◌∙◌, subst, arith, inl, inr}
 use Rattle.std.specs.Prelude.{All, Some, remove, slice_get}
 use Rattle.std.proofs.lemmas.Bool.{cases_eq}
 use Rattle.std.proofs.lemmas.List.{drop_more, get_or-drop, take_all, take_more}
-use Rattle.std.proofs.lemmas.List.Elements.{All-map}
 use Rattle.std.proofs.lemmas.Option.{none-some, same_Some, slice_get_within}
 use Rattle.exb_topology.specs.Sound.{IsSound}
 use Rattle.exb_net_file.specs.declared.apart.NetRest.{NetRest}
@@ -81,10 +80,9 @@ other_low xs i low = let size = length-drop 1 xs in let same = ap (λ (ys : List
 -- ---- letters of fates
 -- a sound topology has few
 pub rests_few : (ms : List NetMember) → All (λ (m : NetMember). IsSound m.topology) ms → All (λ (r : NetRest). length r.fate ≤ 60000) (map rest_of ms)
-rests_few ms sound = All-map (λ (r : NetRest). length r.fate ≤ 60000) rest_of ms (λ k d low. few _ (sound k d low))
-  where
-    few : (m : NetMember) → IsSound m.topology → length m.topology.fate ≤ 60000
-    few m sound = let letters = sound.few_letters in omega (arith, letters)
+rests_few [] sound k d low = absurd (omega (arith, low))
+rests_few (m ∷ ms) sound zero d low = (let letters = (sound 0 m (omega arith)).few_letters in omega (arith, letters))
+rests_few (m ∷ ms) sound (suc k) d low = rests_few ms (λ j e under. sound (suc j) e (omega (arith, under))) k d (omega (arith, low))
 
 -- fates that are armed for their opening are within what a world takes
 pub armed_few : {F : Type 0} (left : F → ℕ) (rests : List NetRest) (fates : List F) → All (λ (r : NetRest). length r.fate ≤ 60000) rests → AreEach (λ b (r : NetRest) f. left f < 2 ^ 56 + length r.fate) rests fates → All (λ f. left f < 2 ^ 57) fates

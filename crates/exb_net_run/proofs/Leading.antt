@@ -1,5 +1,5 @@
 -- Before anything is taken, what is still to come of all bridges is what comes to the net.
-use Rattle.std.proofs.Common.{◌≡◌, ℕ, zero, suc, ◌+◌, ◌<◌, ◌==◌, Bool, true, false, List, [], ◌∷◌, ◌++◌, length, map, filter, max, Option, Some, None, refl, ap, sym, subst, ◌∙◌, arith}
+use Rattle.std.proofs.Common.{◌≡◌, ℕ, zero, suc, ◌+◌, ◌<◌, ◌≤◌, ◌==◌, Bool, true, false, List, [], ◌∷◌, ◌++◌, length, map, filter, max, Option, Some, None, refl, ap, sym, subst, ◌∙◌, arith}
 use Rattle.std.specs.Prelude.{All, filter_map, flat_map, option_map, slice_get}
 use Rattle.std.specs.List.{AllByRecursion}
 use Rattle.std.specs.declared.alloc.Global.{Global}
@@ -31,6 +31,7 @@ use Rattle.exb_net_run.specs.Nets.{input_in, net_of}
 use Rattle.exb_net_run.specs.Reopening.{AreReopened, seconds_of_all, seconds_told, start_of_told, streams_of}
 use Rattle.exb_net_run.specs.Setting.{IsToBeOpened}
 use Rattle.exb_net_run.specs.UnderWay.{Begins, LeadsOn}
+use Rattle.exb_net_run.proofs.Reopened.{AreInTime}
 
 -- ---- one bridge
 -- the first moment of its stream is the time that was told
@@ -98,6 +99,27 @@ seconds_are tells file (m ∷ ms) [] t all = absurd all
 seconds_are tells file (m ∷ ms) (c ∷ cs) t all =
     ap (λ (xs : List ℕ). xs ++ flat_map first_seconds (streams_of (map rest_of ms) cs file)) (firsts_are m.topology.captures file c.items (all-told m.topology.captures file c.items (all.0.told t)))
     ∙ ap (λ (xs : List ℕ). seconds_told c.items ++ xs) (seconds_are tells file ms cs t all.1)
+
+-- each first record is in time
+pub in_time : (tells : Type 0) (file : Files) (ms : List NetMember) (cs : List (Vec Checked Global)) → AreMembersChecked tells ms file cs → AreInTime cs
+in_time tells file [] [] all = tt
+in_time tells file [] (c ∷ cs) all = absurd all
+in_time tells file (m ∷ ms) [] all = absurd all
+in_time tells file (m ∷ ms) (c ∷ cs) all = (all.0.in_time, in_time tells file ms cs all.1)
+
+-- of as many bridges captures were checked
+pub checked_long : (tells : Type 0) (file : Files) (ms : List NetMember) (cs : List (Vec Checked Global)) → AreMembersChecked tells ms file cs → length cs ≡ length ms
+checked_long tells file [] [] all = refl
+checked_long tells file [] (c ∷ cs) all = absurd all
+checked_long tells file (m ∷ ms) [] all = absurd all
+checked_long tells file (m ∷ ms) (c ∷ cs) all = ap suc (checked_long tells file ms cs all.1)
+
+pub as_many : (tells : Type 0) (ms : List NetMember) (ws : List Wire) (rests : List NetRest) (file : Files) (checked : List (Vec Checked Global)) → IsToBeOpened tells ms ws rests file checked → (length checked ≡ length rests) × (length rests ≤ 16)
+as_many tells ms ws rests file checked to =
+    let long = checked_long tells file ms checked to.checked_are in
+    let same : length rests ≡ length ms = ap (λ (rs : List NetRest). length rs) to.rests_are ∙ length-map ms rest_of in
+    let few = to.read.few in
+    (long ∙ sym same, omega (arith, same, few))
 
 abbrev pub DuesOfAll : Type 0
 DuesOfAll = (n : Net) (streams : List (List Stream)) (programmes : List Programme) → AreOfNet n streams → AreBegunOf n programmes → dues_left (all_to_play streams programmes) ≡ dues n

@@ -1,5 +1,5 @@
 -- A bridge more whose captures were opened again.
-use Rattle.std.proofs.Common.{◌≡◌, ◌≢◌, ℕ, zero, suc, ◌+◌, ◌<◌, ◌≤◌, Bool, true, false, List, [], ◌∷◌, ◌++◌, length, map, take, get_or, Some, refl, ap, sym, subst, ◌∙◌, arith, inl, inr}
+use Rattle.std.proofs.Common.{◌≡◌, ◌≢◌, ℕ, zero, suc, ◌+◌, ◌<◌, ◌≤◌, Bool, true, false, List, [], ◌∷◌, ◌++◌, length, map, take, get_or, Some, Result, Err, refl, ap, sym, subst, ◌∙◌, arith, inl, inr}
 use Rattle.std.specs.Prelude.{flat_map, slice_get}
 use Rattle.std.specs.List.{AllByRecursion}
 use Rattle.std.specs.declared.alloc.Global.{Global}
@@ -15,6 +15,7 @@ use Rattle.exb_merge.specs.NetAgendas.{AreAllReplays, all_ids}
 use Rattle.exb_merge.specs.Replays.{AreReplays, ids_in}
 use Rattle.exb_merge.specs.Streams.{Stream}
 use Rattle.exb_inputs.specs.declared.checked.Checked.{Checked}
+use Rattle.exb_inputs.specs.declared.fault.Fault.{Fault}
 use Rattle.exb_inputs.specs.Again.{stream_told}
 use Rattle.exb_inputs.specs.Shelving.{ReadsCapture}
 use Rattle.exb_inputs.proofs.Outcomes.{files_same}
@@ -34,11 +35,19 @@ ids_push ps p = flat_map-append (λ (q : Programme). ids_in q.captures) ps (p �
 pub reads_given : (rests : List NetRest) (ids : ℕ → Id) (mine : List ℕ) → AllByRecursion (λ k. ReadsRest rests (ids k)) mine → AllByRecursion (λ k. (ids k).given ≡ true) mine
 reads_given rests ids mine all = all_weaker (λ k. ReadsRest rests (ids k)) (λ k. (ids k).given ≡ true) mine (λ k r. r.capture.reads.given) all
 
+-- what was opened for a bridge was opened for one of them
+pub opens_one : (rests : List NetRest) (b : ℕ) (r : NetRest) (given was ids : ℕ → Id) → slice_get rests b ≡ Some r → Opens (ReadsRest rests) given was → Opens (ReadsCapture r.captures) was ids → Opens (ReadsRest rests) given ids
+opens_one rests b r given was ids is before opens =
+    opens_then (ReadsRest rests) given was ids before (opens_weaker (ReadsCapture r.captures) (ReadsRest rests) was ids (λ i own. record { bridge = b; rest = r; is = is; capture = own }) opens)
+
+pub err_same : {X : Type 0} (x y : Fault) → ◌≡◌ {A = Result X Fault} (Err x) (Err y) → x ≡ y
+err_same x y e = cc
+
 -- ---- one more
 module _ (tells : Type 0) (rests : List NetRest) (checked : List (Vec Checked Global)) (file now later : Files) (given was ids : ℕ → Id) (start b : ℕ) (r : NetRest) (c : Vec Checked Global) (ps more : List Programme) (p : Programme)
     (is : slice_get rests b ≡ Some r) (pushed : more ≡ ps ++ p ∷ []) (opens : Opens (ReadsCapture r.captures) was ids) (same : SameFiles now later) (again : IsOpenedAgain tells start r c.items file later was ids p) where
   pub opens_more : Opens (ReadsRest rests) given was → Opens (ReadsRest rests) given ids
-  opens_more before = opens_then (ReadsRest rests) given was ids before (opens_weaker (ReadsCapture r.captures) (ReadsRest rests) was ids (λ i own. record { bridge = b; rest = r; is = is; capture = own }) opens)
+  opens_more before = opens_one rests b r given was ids is before opens
 
   pub named_more : AllByRecursion (λ k. ReadsRest rests (was k)) (all_ids ps) → AllByRecursion (λ k. ReadsRest rests (ids k)) (all_ids more)
   named_more all = subst (λ (qs : List Programme). AllByRecursion (λ k. ReadsRest rests (ids k)) (all_ids qs)) (sym pushed)
