@@ -1,6 +1,6 @@
 -- A net that is asked for: what was read and checked, what was opened, and how it ends.
 use Rattle.std.proofs.Common.{◌≡◌, ◌≢◌, ◌⊎◌, ℕ, zero, suc, ◌+◌, ◌<◌, ◌≤◌, Bool, true, false, List, [], ◌∷◌, length, map, take, Option, Some, None, Result, Ok, Err, refl, ap, sym, ◌∙◌, subst, arith, inl, inr}
-use Rattle.std.specs.Prelude.{⊤, IfErr, IsErrOf, String, slice_get}
+use Rattle.std.specs.Prelude.{IfErr, IsErrOf, String, option_map, slice_get}
 use Rattle.std.specs.declared.alloc.Global.{Global}
 use Rattle.std.proofs.lemmas.Bool.{false≢true}
 use Rattle.std.proofs.lemmas.List.{length-map}
@@ -10,7 +10,10 @@ use Rattle.exb_keys.specs.declared.faults.TopoFault.TheVariants as topology
 use Rattle.exb_inputs.specs.declared.fault.Fault.{Fault}
 use Rattle.exb_inputs.specs.declared.fault.Fault.TheVariants.{Usage, Missing, Topology, Capture, Changed, Net, Member, MemberCapture, MemberChanged, Output, TooLarge, BadLine, Illegal, Read, Write, Memory}
 use Rattle.exb_inputs.specs.declared.fault.Flaw.{Flaw}
-use Rattle.exb_inputs.specs.Inputs.{name_of}
+use Rattle.exb_inputs.specs.Inputs.{is_named}
+use Rattle.exb_inputs.specs.Shelving.{ReadsCapture}
+use Rattle.exb_inputs.proofs.Outcomes.{files_same}
+use Rattle.exb_model.specs.Tree.{Shape}
 use Rattle.exb_nets.specs.declared.wires.Wire.{Wire}
 use Rattle.exb_net_file.specs.declared.file.NetFile.{NetFile}
 use Rattle.exb_net_file.specs.declared.members.NetMember.{NetMember}
@@ -34,7 +37,7 @@ use Rattle.exb_shelf.specs.Shelf.{Id, IsReading, IsReadingOf, Opens}
 use Rattle.exb_shelf.proofs.IdLemmas.{opens_then, opens_weaker}
 use Rattle.exb_net_run.specs.Answers.{IsNetFailure, IsNetReady, IsOfNet, IsOfNetPlay, NetStops, OnlyNetAsked}
 use Rattle.exb_net_run.specs.Nets.{IsNetOutput, OnlyNetOutputs, options_with}
-use Rattle.exb_net_run.specs.Opening.{HasCaptureAt, IsNetLate, IsNetWanted, MakesNet, MakesNetOutputOf, NetMadeBehind, NetOpens, ReadsNet, ReadsNetCapture, ReadsNetTopology, WritesNetOutput, net_names}
+use Rattle.exb_net_run.specs.Opening.{HasCaptureAt, IsNetLate, IsNetWanted, MakesNet, MakesNetOutputOf, NetMadeBehind, NetOpens, NetOpensInOrder, ReadsNet, ReadsNetCapture, ReadsNetTopology, WritesNetOutput, net_names}
 use Rattle.exb_net_run.specs.Shelving.{IsNetChange}
 use Rattle.exb_net_run.proofs.Held.{mapped_some}
 use Rattle.exb_net_run.proofs.Turns.{read_then_turn, turn_none, turn_then_read}
@@ -123,6 +126,41 @@ pub failed_net : (x : Fault) → (x ≡ Read) ⊎ (x ≡ Memory) → IsNetFailur
 failed_net x (inl e) = inl e
 failed_net x (inr e) = inr (inr e)
 
+-- ---- causes
+pub reading_cause : (name : List ℕ) (file : Files) (x : Fault) → IsNetRefused name file x ⊎ ((x ≡ Read) ⊎ (x ≡ Memory)) → NetStops name file x ⊎ IsNetFailure x
+reading_cause name file x (inl refused) = inl (inl refused)
+reading_cause name file x (inr failed) = inr (failed_net x failed)
+
+pub flaw_at : (ms : List NetMember) (f g : Files) (x : Fault) → SameFiles f g → FirstMemberFault ms g x ⊎ ((x ≡ Read) ⊎ (x ≡ Memory)) → FirstMemberFault ms f x ⊎ ((x ≡ Read) ⊎ (x ≡ Memory))
+flaw_at ms f g x same (inl first) = inl (subst (λ (file : Files). FirstMemberFault ms file x) (files_same f g same) first)
+flaw_at ms f g x same (inr failed) = inr failed
+
+pub checking_cause : (name : List ℕ) (file : Files) (ms : List NetMember) (ws : List Wire) → HoldsNet name file ms ws → (x : Fault) → FirstMemberFault ms file x ⊎ ((x ≡ Read) ⊎ (x ≡ Memory)) → NetStops name file x ⊎ IsNetFailure x
+checking_cause name file ms ws holds x (inl first) = inl (inr (record { members = ms; wires = ws; holds = holds; first = first }))
+checking_cause name file ms ws holds x (inr failed) = inr (failed_net x failed)
+
+-- a fault of a capture that is checked comes before files are made, and is not that of one that is another
+pub checking_early : (X : Type 0) (x : Fault) → IsOfMemberCapture x → IsNetLate {X = X} (Err x) → ⊥
+checking_early X Usage is late = late
+checking_early X (Missing name) is late = late
+checking_early X (Topology fault) is late = late
+checking_early X (Capture p flaw) is late = late
+checking_early X (Changed p at) is late = late
+checking_early X (Net fault) is late = late
+checking_early X (Member name fault) is late = late
+checking_early X (MemberCapture name p flaw) is late = late
+checking_early X (MemberChanged name p at) is late = is
+checking_early X (Output p broke) is late = late
+checking_early X (TooLarge what) is late = late
+checking_early X (BadLine what n) is late = late
+checking_early X (Illegal r) is late = late
+checking_early X Read is late = late
+checking_early X Write is late = late
+checking_early X Memory is late = late
+
+pub memory_early : (X : Type 0) → IsNetLate {X = X} (Err Memory) → ⊥
+memory_early X late = late
+
 -- ---- what stops it
 module _ (law : HaveOneCause) (name : List ℕ) (file : Files) {X : Type 0} where
   -- where it wasn't read
@@ -150,7 +188,7 @@ nothing_stops law name file ms ws holds good fault (inr faulty) = law.good name 
 -- bridges that are seen in one way write the same files
 output_same : (counters : Bool) (ms ks : List NetMember) → map alone ms ≡ map alone ks → (name : List ℕ) → IsNetOutput counters ms name → IsNetOutput counters ks name
 output_same counters ms ks same name o =
-    let there : slice_get (map alone ks) o.bridge ≡ Some (alone o.member) = ap (λ (xs : List NetMember). slice_get xs o.bridge) (sym same) ∙ (slice_get-map alone ms o.bridge ∙ ap alone_in o.is) in
+    let there : slice_get (map alone ks) o.bridge ≡ Some (alone o.member) = ap (λ (xs : List NetMember). slice_get xs o.bridge) (sym same) ∙ (slice_get-map alone ms o.bridge ∙ ap (option_map alone) o.is) in
     let k = mapped_some alone (slice_get ks o.bridge) (alone o.member) (sym (slice_get-map alone ks o.bridge) ∙ there) in
     let tree : tree_in o.member ≡ tree_in k.0 = tree_same o.member ∙ (ap tree_in (sym k.2) ∙ sym (tree_same k.0)) in
     let called : o.member.name ≡ k.0.name = ap (λ (m : NetMember). m.name) (sym k.2) in
@@ -158,12 +196,8 @@ output_same counters ms ks same name o =
       bridge = o.bridge;
       member = k.0;
       is = k.1;
-      output = subst (λ (n : List ℕ). IsOutput (options_with counters) (tree_in k.0) (prefix_of n) name) called (subst (λ (t : _). IsOutput (options_with counters) t (prefix_of o.member.name) name) tree o.output);
+      output = subst (λ (n : List ℕ). IsOutput (options_with counters) (tree_in k.0) (prefix_of n) name) called (subst (λ (t : Shape). IsOutput (options_with counters) t (prefix_of o.member.name) name) tree o.output);
     }
-  where
-    alone_in : Option NetMember → Option NetMember
-    alone_in None = None
-    alone_in (Some m) = Some (alone m)
 
 pub only_asked : (name : List ℕ) (counters : Bool) (old new : Files) (ms : List NetMember) (ws : List Wire) → HoldsNet name old ms ws → OnlyNetOutputs counters ms old new → OnlyNetAsked name counters old new
 only_asked name counters old new ms ws holds only ks xs held n none =
@@ -210,7 +244,7 @@ net_wanted tells name file o a b t net = opens_weaker (λ i. IsReadingOf name i 
 
 -- captures
 pub captures_are : (ms : List NetMember) (b c : ℕ → Id) → OpensCaptures ms b c → Opens (ReadsMemberCapture ms) b c
-captures_are ms b c opens = ones_all _ (ReadsMemberCapture ms) ms b c (λ k m is i r. record { bridge = k; member = m; is_there = is; capture = r }) opens
+captures_are ms b c opens = ones_all (λ (m : NetMember). ReadsCapture m.topology.captures) (ReadsMemberCapture ms) ms b c (λ k m is i r. record { bridge = k; member = m; is_there = is; capture = r }) opens
 
 member_reading : (ms : List NetMember) (i : Id) → ReadsMemberCapture ms i → IsReading i
 member_reading ms i r = record { given = r.capture.reads.given; reads = r.capture.reads.reads }
@@ -344,3 +378,30 @@ module _ (tells : Type 0) (name : List ℕ) (counters : Bool) (file : Files) (ms
         by_kind : (i : Id) → ReadsMemberCapture ms i ⊎ WritesNetOutput counters ms i → IsNetWanted name file i ⊎ MakesNetOutputOf name counters file i
         by_kind i (inl r) = inl (member_wanted name file ms ws (holds t) i r)
         by_kind i (inr w) = inr (record { members = ms; wires = ws; ready = record { holds = holds t; good = good t }; output = w })
+
+-- ---- which capture
+pub capture_of_member : (tells : Type 0) (ms : List NetMember) (file : Files) (b c : ℕ → Id) (x : Fault) → EndsAtMember tells ms file b c x → (bridge : List ℕ) (p : ℕ) (flaw : Flaw) → x ≡ MemberCapture bridge p flaw → HasCaptureAt ms bridge p
+capture_of_member tells ms file b c x ends bridge p flaw is =
+    let r = ends.own bridge p flaw is in
+    record { bridge = ends.bridge; member = r.0; is = r.1; called = sym r.2; named = subst (λ (q : ℕ). is_named r.0.topology.captures q ≡ true) (sym r.3) r.4 }
+
+pub checked_unchanged : (ms : List NetMember) (x : Fault) → IsOfMemberCapture x → (bridge : List ℕ) (p at : ℕ) → x ≡ MemberChanged bridge p at → HasCaptureAt ms bridge p
+checked_unchanged ms x of bridge p at is = absurd (let z : ⊥ = subst IsOfMemberCapture is of in z)
+
+pub memory_own : (ms : List NetMember) (bridge : List ℕ) (p : ℕ) (flaw : Flaw) → Memory ≡ MemberCapture bridge p flaw → HasCaptureAt ms bridge p
+memory_own ms bridge p flaw is = absurd (cc)
+
+pub memory_unchanged : (ms : List NetMember) (bridge : List ℕ) (p at : ℕ) → Memory ≡ MemberChanged bridge p at → HasCaptureAt ms bridge p
+memory_unchanged ms bridge p at is = absurd (cc)
+
+pub play_own : (ms : List NetMember) (o : Result (String Global) Fault) → IfErr o IsOfNetPlay → (bridge : List ℕ) (p : ℕ) (flaw : Flaw) → IsErrOf o (MemberCapture bridge p flaw) → HasCaptureAt ms bridge p
+play_own ms o of bridge p flaw is = absurd (let z : ⊥ = subst (λ (r : Result (String Global) Fault). IfErr r IsOfNetPlay) is of in z)
+
+-- ---- the whole
+pub in_order : (tells : Type 0) (name : List ℕ) (counters : Bool) (o : Result (String Global) Fault) (file : Files) (a d : ℕ → Id) → NetOpens tells name counters o file a d → NetOpensInOrder tells name counters o file a d
+in_order tells name counters (Ok line) file a d opens = opens
+in_order tells name counters (Err x) file a d opens = inr opens
+
+pub if_err_both : {P Q R : Fault → Type 0} (o : Result (String Global) Fault) → ((x : Fault) → P x → Q x → R x) → IfErr o P → IfErr o Q → IfErr o R
+if_err_both (Ok line) f p q = tt
+if_err_both (Err x) f p q = f x p q
