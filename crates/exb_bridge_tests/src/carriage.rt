@@ -1,10 +1,10 @@
 //! Words through whole trees of extenders, by tables that are laid by hand. Ports are named by their numbers: x1.1 is 64.
 use crate::site::{broom, chain, port, ports, topology_of, tree_of};
-use exb_oracle::carriage::{PlainTables, carried, emits};
 use exb_model::list::List;
 use exb_model::port_set::PortSet;
 use exb_model::setup::{ExtenderSetup, Place, Setup};
 use exb_model::tree::Tree;
+use exb_oracle::carriage::{PlainTables, carried, emits};
 use exb_plan::rows;
 use std::alloc::Global;
 use std::process::Abort;

@@ -13,8 +13,6 @@ ghost use Rattle.exb_flat_run.specs.Merging.{IsAfter};
 use crate::merge::{Arrival, Coming};
 use crate::refusal::refusal;
 use crate::site::Site;
-use exb_oracle::config::Config;
-use exb_oracle::history::{bridge_after, command_of};
 use exb_frame::classify::classify;
 use exb_model::bytes::Bytes;
 use exb_model::command::Command;
@@ -22,6 +20,8 @@ use exb_model::event::{Cause, Event};
 use exb_model::frame_kind::Seen;
 use exb_model::memory::NoMemory;
 use exb_model::port::PortId;
+use exb_oracle::config::Config;
+use exb_oracle::history::{bridge_after, command_of};
 use std::alloc::Global;
 
 /// A second in nanoseconds.

@@ -17,12 +17,12 @@ use crate::laws::counts_are_counted;
 use crate::merge::{Capture, merge};
 use crate::site::{Site, site_of};
 use crate::texts::{capture_text, journal_text, summary};
-use exb_oracle::flat::flat;
-use exb_oracle::history::Basis;
 use exb_model::event::Event;
 use exb_model::memory::NoMemory;
 use exb_model::port::PortId;
 use exb_model::setup::{Setup, Timed};
+use exb_oracle::flat::flat;
+use exb_oracle::history::Basis;
 use std::alloc::Global;
 
 /// What is written for an external port: the capture of what left there.

@@ -8,11 +8,11 @@ ghost use Rattle.exb_flat_run.specs.Sets.{lists_in};
 
 use crate::layout::Layout;
 use crate::sets::{present_under, put_set, sets_at};
-use exb_oracle::config::Config;
 use exb_model::command::Command;
 use exb_model::event::Cause;
 use exb_model::memory::NoMemory;
 use exb_model::port::PortId;
+use exb_oracle::config::Config;
 use std::alloc::Global;
 
 /// How many numbers each space has: E-channels, and groups.

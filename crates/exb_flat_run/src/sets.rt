@@ -7,12 +7,12 @@ ghost use Rattle.exb_oracle.specs.Configs.{bridge_of};
 ghost use Rattle.exb_flat_run.specs.Sets.{present_in, lists_in, among_of, source, part_in, two_sets, four_sets, vlan_sets, entry_sets};
 
 use crate::layout::{Layout, PORTS, port_of, put_if};
-use exb_oracle::config::Config;
 use exb_model::memory::NoMemory;
 use exb_model::port::PortId;
 use exb_model::port_set::PortSet;
 use exb_model::rules::StaticAt;
 use exb_model::vlan::{Kind, Vid};
+use exb_oracle::config::Config;
 use std::alloc::Global;
 
 /// The ports of the extenders with this trunk that are present, in port order.

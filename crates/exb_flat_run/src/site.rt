@@ -6,12 +6,12 @@ ghost use Rattle.exb_flat_run.specs.Sites.{IsSiteOf};
 
 use crate::layout::{Layout, port_of};
 use crate::refusal::Limits;
-use exb_oracle::history::Basis;
 use exb_model::command::Command;
 use exb_model::list::List;
 use exb_model::memory::NoMemory;
 use exb_model::port_set::PortSet;
 use exb_model::setup::{Setup, Timed};
+use exb_oracle::history::Basis;
 use std::alloc::Global;
 
 /// The tree, its limits, and what histories are of: the configuration to start with and the commands.

@@ -8,9 +8,9 @@ ghost use Rattle.exb_flat_run.specs.Turns.{told};
 ghost use Rattle.exb_flat_run.specs.Counting.{counted_all};
 
 use exb_capture::{header_text, record_text};
-use exb_oracle::flat::Sent;
 use exb_model::event::Event;
 use exb_model::memory::NoMemory;
+use exb_oracle::flat::Sent;
 use exb_text::{Tally, write_line};
 use std::alloc::Global;
 

@@ -122,8 +122,8 @@ can-note n b came orders plan tree is_tree c told done w more few few_came few_o
         subst FitsTally (sym whole) (counts-fit n b came orders plan.tree tree is_tree done few few_came few_orders));
     ports =
         ports-can plan c.ports told.events w.log.events told.passed w.log.passed are.ports together
-            (λ q.
-            subst (λ (es : List Event). FitsCounts (plus_events es (told.passed ++ w.log.passed) q nothing)) more.events
-            (subst (λ (ps : List Bool). FitsCounts (plus_events done.events ps q nothing)) more.passed (ports-fit n b came orders plan.tree tree is_tree done few few_came q)));
+        (λ q.
+        subst (λ (es : List Event). FitsCounts (plus_events es (told.passed ++ w.log.passed) q nothing)) more.events
+        (subst (λ (ps : List Bool). FitsCounts (plus_events done.events ps q nothing)) more.passed (ports-fit n b came orders plan.tree tree is_tree done few few_came q)));
   };
 }

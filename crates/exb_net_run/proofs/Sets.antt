@@ -227,7 +227,7 @@ module _ (law : BridgesWriteApart) (counters : Bool) (ms : List NetMember) (name
         let own = plan_of_desk k b desks d so_far.plans_are is in
         let apart : (i : ℕ) → i < output_count (plan_with counters m) → output_name (plan_with counters m) i ≢ output_name d.plan j =
         λ i i_low. subst (λ (z : Planned). j < output_count z → output_name (plan_with counters m) i ≢ output_name z j) own.2
-            (λ j_low. two_apart law counters m own.0 (name_ok k m here) (name_ok b own.0 own.1) (members_apart k b m own.0 here own.1 (λ e. let low = own.3 in omega (arith, e, low))) i j i_low j_low) low in
+        (λ j_low. two_apart law counters m own.0 (name_ok k m here) (name_ok b own.0 own.1) (members_apart k b m own.0 here own.1 (λ e. let low = own.3 in omega (arith, e, low))) i j i_low j_low) low in
         only.others t (output_name d.plan j) (λ i i_low same. apart i i_low (sym same))
 
     stays : (b : ℕ) (d : Desk) → slice_get desks b ≡ Some d → IsSet tells new ids2 d
@@ -329,8 +329,11 @@ module _ (law : BridgesWriteApart) (counters : Bool) (ms : List NetMember) (name
               let mine_is : m ≡ x = some_is (sym here ∙ (ap (slice_get ms) (sym same) ∙ is)) in
               elim (cut.each j (subst (λ (z : NetMember). j < output_count (plan_with counters z)) (sym mine_is) low)) [
                 | inl unchanged ↦ inl (subst (λ (z : NetMember). new (output_name (plan_with counters z) j) ≡ now (output_name (plan_with counters z) j)) mine_is unchanged ∙ as_was b x is (omega (arith, same)) j low)
-                | inr front ↦ inr (front.0, subst (λ (z : NetMember). new (output_name (plan_with counters z) j) ≡ Some (take front.0 (text b (kind_at (plan_with counters z) j)))) mine_is
-                    (subst (λ (c : ℕ). new (output_name (plan_with counters m) j) ≡ Some (take front.0 (text c (kind_at (plan_with counters m) j)))) (sym same) front.1))
+                | inr front ↦ inr (
+                  front.0,
+                  subst (λ (z : NetMember). new (output_name (plan_with counters z) j) ≡ Some (take front.0 (text b (kind_at (plan_with counters z) j)))) mine_is
+                      (subst (λ (c : ℕ). new (output_name (plan_with counters m) j) ≡ Some (take front.0 (text c (kind_at (plan_with counters m) j)))) (sym same) front.1),
+                )
               ]
           | inr other ↦ elim (cases_lt b k) [
             | inl before ↦

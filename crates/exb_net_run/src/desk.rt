@@ -126,11 +126,7 @@ fn write_counts<S: Shelf>(
 }
 
 /// Writes the counters of a bridge, where they are asked for, and all that isn't written yet.
-pub(crate) fn finish<S: Shelf>(
-    shelf: &mut S,
-    room: &mut Room,
-    desk: &mut Desk,
-) -> Result<(), Fault>
+pub(crate) fn finish<S: Shelf>(shelf: &mut S, room: &mut Room, desk: &mut Desk) -> Result<(), Fault>
     requires ready { IsReady desk.old.plan (S.ids shelf.old) desk.old.outputs }
     requires counted { AreCountsOf desk.old.plan desk.old.counted.ports }
     requires sent { AreCountedAt desk.old.plan desk.old.outputs }

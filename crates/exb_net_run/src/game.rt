@@ -156,11 +156,7 @@ fn note_all<S: Shelf>(
 }
 
 /// Writes what is still to be written of all bridges.
-fn finish_all<S: Shelf>(
-    shelf: &mut S,
-    room: &mut Room,
-    desks: &mut Vec<Desk>,
-) -> Result<(), Fault>
+fn finish_all<S: Shelf>(shelf: &mut S, room: &mut Room, desks: &mut Vec<Desk>) -> Result<(), Fault>
     requires ready { AreReady (S.ids shelf.old) desks.old.items }
     requires apart { ArePlansApart (plans_in desks.old.items) }
     requires can { CanEndAll desks.old.items }

@@ -1,8 +1,8 @@
 //! What one plain bridge sends over what was told of a world.
-use exb_oracle::flat::{Sent, flat};
-use exb_oracle::history::Basis;
 use exb_flat_run::site::{Site, site_of};
 use exb_model::port::PortId;
+use exb_oracle::flat::{Sent, flat};
+use exb_oracle::history::Basis;
 use exb_schedule::{Left, World};
 use exb_topology::Topology;
 use std::alloc::Global;

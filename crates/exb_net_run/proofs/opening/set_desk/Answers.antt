@@ -32,8 +32,7 @@ returns-then-is_err-clause-cut g c = λ t text goes.
 pub returns-clause-set : goal.returns-clause-set
 returns-clause-set g c =
     let desk : Desk = record { plan = c.in_ok-plan.plan; outputs = c.in_ok-outputs.outputs; counted = c.in_ok-counted.counted } in
-    let was = c.args.desks.now.items in
-    (
+    let was = c.args.desks.now.items in (
       desk,
       when_ok c.push.result c.push.new.self.items (was ++ desk ∷ []) was (sym c.is_err.ensures.value ∙ c.if-is_err.false) c.push.ensures.items,
       c.in_ok-plan.ensures,

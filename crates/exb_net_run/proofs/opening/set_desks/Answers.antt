@@ -56,7 +56,7 @@ loop-bridge-preserved g c =
           let only = subst (λ (p : Planned). OnlyMakes S.tells p now new ids ids2) k.plan made.only in
           let next : SetUpTo c.args.counters ms S.tells (suc i) old new given ids2 (c.loop-bridge.desks.items ++ d.0 ∷ []) =
           set_next c.bridges_write_apart.ensures c.args.counters ms read.names read.apart S.tells i old now new given ids ids2 c.loop-bridge.desks.items k.member k.here (inv.set ms ws taken read) only d.0 (d.2 ∙ k.plan) d.3
-              (made_all _ _ tt ids ids2 k.plan made.made) in
+          (made_all _ _ tt ids ids2 k.plan made.made) in
           subst (λ (n : ℕ). SetUpTo c.args.counters ms S.tells n old new given ids2 c.set_desk.new.desks.items) (plus i) (subst (λ (ds : List Desk). SetUpTo c.args.counters ms S.tells (suc i) old new given ids2 ds) (sym d.1) next);
       faults = search (arith, made.faults.none_fell, inv.faults);
       counted = made.faults.once ∙ inv.counted;

@@ -32,8 +32,7 @@ play_into-requires-clause-prepared g c =
     let taken = t.1.1.0 in
     let read = t.1.1.1.0 in
     let old = S.file c.args.shelf.now in
-    let now = S.file c.set_desks.new.shelf in
-    (
+    let now = S.file c.set_desks.new.shelf in (
       c.args.counters,
       (
         ms,

@@ -45,8 +45,7 @@ play_agenda-requires-clause-can g c =
     let p = t.1.1.1.1 in
     let old = S.file c.args.shelf.now in
     let now = S.file c.open_agenda.new.shelf in
-    let opened : IsToBeOpened S.tells t.1.0 t.1.1.0 c.as_slice-rests.result.now old c.args.checked.now = record { rests_are = c.as_slice-rests.ensures ∙ p.parts_are.rests; read = p.read; checked_are = p.checked_are } in
-    (
+    let opened : IsToBeOpened S.tells t.1.0 t.1.1.0 c.as_slice-rests.result.now old c.args.checked.now = record { rests_are = c.as_slice-rests.ensures ∙ p.parts_are.rests; read = p.read; checked_are = p.checked_are } in (
       run_of t.0 t.1.0 t.1.1.0 old t.1.1.1.0,
       into_can c.inputs_are_of_members.ensures c.nets_are_timely.ensures S.tells t.0 t.1.0 t.1.1.0 c.args.parts.now c.args.checked.now t.1.1.1.0 old now (S.ids c.args.shelf.now) (S.ids c.open_agenda.new.shelf) c.args.desks.items
           (programmes_in c.in_ok-agenda.agenda) c.in-Ok-new.net p c.open_agenda.ensures.files (c.open_agenda.ensures.opens t.1.0 opened.rests_are) (c.in_ok-agenda.ensures.named t.1.0 opened.rests_are) (c.in_ok-agenda.ensures.begins t.1.0 t.1.1.0 opened)

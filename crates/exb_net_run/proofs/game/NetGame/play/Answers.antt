@@ -18,7 +18,7 @@ open-requires g c =
     let t = c.requires.begins in
     record {
       few = within_few (λ x. (goal.Fate-dyn g (x.world.fate.vtable, x.world.fate.value)).left x.world.fate.value) c.args.self.now.net.nodes.items (programmes_in c.args.agenda.now)
-    (let all = t.1.begun.holds.count in let same = t.1.begins.count in omega (arith, all, same)) c.requires.budget;
+          (let all = t.1.begun.holds.count in let same = t.1.begins.count in omega (arith, all, same)) c.requires.budget;
     }
 
 pub note-requires-clause-ready : goal.note-requires-clause-ready
@@ -51,8 +51,7 @@ play_on-requires-clause-going g c =
     let came = when_ok c.open.result ok c.open.ensures.came in
     let noted = c.in_ok-note.ensures in
     let together = opened-together S.tells r (S.file c.args.shelf.now) (S.ids c.args.shelf.now) c.args.self.now ps t.1 c.open.new.self o came c.opened_nets_are_new.ensures c.opened_nets_run.ensures in
-    let more = opened-more S.tells r (S.file c.args.shelf.now) (S.ids c.args.shelf.now) c.args.self.now ps t.1 c.open.new.self o came c.opened_nets_are_new.ensures c.opened_nets_run.ensures in
-    (
+    let more = opened-more S.tells r (S.file c.args.shelf.now) (S.ids c.args.shelf.now) c.args.self.now ps t.1 c.open.new.self o came c.opened_nets_are_new.ensures c.opened_nets_run.ensures in (
       r,
       opened-going S.tells r (S.file c.args.shelf.now) (S.ids c.args.shelf.now) c.args.self.now ps t.1 c.open.new.self o came c.opened_nets_are_new.ensures c.opened_nets_run.ensures c.agendas_stay.ensures.told c.note.new.self
           (S.file c.note.new.shelf) (S.ids c.note.new.shelf) (noted.playing r.net o.dones (no_dones r.net) o.playing) noted.ready (noted.noted (no_dones r.net) o.dones together more t.1.noted) noted.plans noted.came noted.only,

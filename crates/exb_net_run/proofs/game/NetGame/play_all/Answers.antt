@@ -41,7 +41,7 @@ seconds_since-seconds-requires g c =
     let ps = programmes_in c.next_due.new.agenda in
     let comes = some_at _ c.in_ok-due.field-0 d c.in-Some.is c.in_ok-due.ensures.coming in
     let order = λ (t : S.tells). subst (λ (o : Option NetNext). (streams : List (List Stream)) → AreAllReplays (S.file c.events.shelf) (S.ids c.events.shelf) old streams → IsFirstOf old streams o ps (λ rest. AreAllReplays (S.file c.next_due.new.shelf) (S.ids c.next_due.new.shelf) ps rest))
-        c.in-Some.is (c.in_ok-due.ensures.order t) in
+    c.in-Some.is (c.in_ok-due.ensures.order t) in
     seconds-few S.tells r (S.file c.next_due.new.shelf) (S.ids c.next_due.new.shelf) _ (second_of c.moment-second.result) c.events.self d ps
     (is-due S.tells r (S.file c.events.shelf) (S.file c.next_due.new.shelf) (S.ids c.events.shelf) (S.ids c.next_due.new.shelf) c.events.last c.events.self old d ps _ (second_of c.moment-second.result) (inv.going r c.requires.going.1) comes
     (c.agendas_stay.ensures.reads (S.ids c.events.shelf) c.events.agenda inv.agenda) c.next_due.ensures.reads order (ap second_of c.moment-second.ensures) refl)
@@ -57,25 +57,25 @@ turn-requires g c =
     let second = second_of c.moment-second.result in
     let comes = some_at _ c.in_ok-due.field-0 d c.in-Some.is c.in_ok-due.ensures.coming in
     let order = λ (t : S.tells). subst (λ (o : Option NetNext). (streams : List (List Stream)) → AreAllReplays (S.file c.events.shelf) (S.ids c.events.shelf) old streams → IsFirstOf old streams o ps (λ rest. AreAllReplays (S.file c.next_due.new.shelf) (S.ids c.next_due.new.shelf) ps rest))
-        c.in-Some.is (c.in_ok-due.ensures.order t) in
+    c.in-Some.is (c.in_ok-due.ensures.order t) in
     record {
       due = (
-      r,
-      (
-        second,
+        r,
         (
-          ps,
+          second,
           (
-            is-due S.tells r (S.file c.events.shelf) (S.file c.next_due.new.shelf) (S.ids c.events.shelf) (S.ids c.next_due.new.shelf) c.events.last c.events.self old d ps c.seconds_since-seconds.result second (inv.going r c.requires.going.1) comes
-                (c.agendas_stay.ensures.reads (S.ids c.events.shelf) c.events.agenda inv.agenda) c.next_due.ensures.reads order (ap second_of c.moment-second.ensures) c.seconds_since-seconds.ensures,
+            ps,
             (
-              rests-on c.args.rests.now old d ps comes inv.rests,
-              within-paid c.events.self.net.nodes.items (λ x. (goal.Fate-dyn g (x.world.fate.vtable, x.world.fate.value)).left x.world.fate.value) c.args.rests.now old d ps comes inv.rests inv.budget,
+              is-due S.tells r (S.file c.events.shelf) (S.file c.next_due.new.shelf) (S.ids c.events.shelf) (S.ids c.next_due.new.shelf) c.events.last c.events.self old d ps c.seconds_since-seconds.result second (inv.going r c.requires.going.1) comes
+                  (c.agendas_stay.ensures.reads (S.ids c.events.shelf) c.events.agenda inv.agenda) c.next_due.ensures.reads order (ap second_of c.moment-second.ensures) c.seconds_since-seconds.ensures,
+              (
+                rests-on c.args.rests.now old d ps comes inv.rests,
+                within-paid c.events.self.net.nodes.items (λ x. (goal.Fate-dyn g (x.world.fate.vtable, x.world.fate.value)).left x.world.fate.value) c.args.rests.now old d ps comes inv.rests inv.budget,
+              ),
             ),
           ),
         ),
-      ),
-    );
+      );
     }
 
 pub events-preserved : goal.events-preserved
@@ -88,7 +88,7 @@ events-preserved g c =
     let second = second_of c.moment-second.result in
     let comes = some_at _ c.in_ok-due.field-0 d c.in-Some.is c.in_ok-due.ensures.coming in
     let order = λ (t : S.tells). subst (λ (o : Option NetNext). (streams : List (List Stream)) → AreAllReplays (S.file c.events.shelf) (S.ids c.events.shelf) old streams → IsFirstOf old streams o ps (λ rest. AreAllReplays (S.file c.next_due.new.shelf) (S.ids c.next_due.new.shelf) ps rest))
-        c.in-Some.is (c.in_ok-due.ensures.order t) in
+    c.in-Some.is (c.in_ok-due.ensures.order t) in
     let of = rests-on c.args.rests.now old d ps comes inv.rests in
     let plans = plans_in c.args.self.now.desks.items in
     let mine = all_ids (programmes_in c.args.agenda.now) in
@@ -165,7 +165,7 @@ returns-in_err-turn-clause-cut g c = λ t.
     let second = second_of c.moment-second.result in
     let comes = some_at _ c.in_ok-due.field-0 d c.in-Some.is c.in_ok-due.ensures.coming in
     let order = λ (t : S.tells). subst (λ (o : Option NetNext). (streams : List (List Stream)) → AreAllReplays (S.file c.events.shelf) (S.ids c.events.shelf) old streams → IsFirstOf old streams o ps (λ rest. AreAllReplays (S.file c.next_due.new.shelf) (S.ids c.next_due.new.shelf) ps rest))
-        c.in-Some.is (c.in_ok-due.ensures.order t) in
+    c.in-Some.is (c.in_ok-due.ensures.order t) in
     c.in_err-turn.ensures.cut t r second ps
     (is-due S.tells r (S.file c.events.shelf) (S.file c.next_due.new.shelf) (S.ids c.events.shelf) (S.ids c.next_due.new.shelf) c.events.last c.events.self old d ps c.seconds_since-seconds.result second (inv.going r start) comes
     (c.agendas_stay.ensures.reads (S.ids c.events.shelf) c.events.agenda inv.agenda) c.next_due.ensures.reads order (ap second_of c.moment-second.ensures) c.seconds_since-seconds.ensures)

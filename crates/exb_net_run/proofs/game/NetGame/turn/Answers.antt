@@ -27,8 +27,7 @@ give-requires-clause-can g c =
     let p = t.1.1.1.0 in
     let ok = sym c.is_err.ensures.value ∙ c.if-is_err.false in
     let dones = p.going.dones in
-    let passes = when_ok c.tick.result ok c.tick.ensures.ok t.0.net dones dones p.going.is.playing in
-    (
+    let passes = when_ok c.tick.result ok c.tick.ensures.ok t.0.net dones dones p.going.is.playing in (
       t.0.net,
       (
         pass t.0.net c.args.seconds dones,
@@ -50,7 +49,7 @@ give-requires-clause-fates g c =
     let passes = when_ok c.tick.result ok c.tick.ensures.ok t.0.net dones dones p.going.is.playing in
     let long = nodes-few S.tells t.0 (S.file c.args.shelf.now) (S.ids c.args.shelf.now) c.args.seconds t.1.0 c.args.self.now c.args.due t.1.1.0 p c.args.rests.now t.1.1.1.1.0 c.tick.new.self passes c.seconds_pass.ensures in
     let paid = falls_paid (λ x. (goal.Fate-dyn g (x.world.fate.vtable, x.world.fate.value)).left x.world.fate.value) c.args.self.now.net.nodes.items c.tick.new.self.nodes.items c.args.rests.now c.args.due t.1.1.0
-        (when_ok c.tick.result ok c.tick.ensures.fates) t.1.1.1.1.1 in
+    (when_ok c.tick.result ok c.tick.ensures.fates) t.1.1.1.1.1 in
     paid_few (λ x. (goal.Fate-dyn g (x.world.fate.vtable, x.world.fate.value)).left x.world.fate.value) c.tick.new.self.nodes.items c.args.rests.now c.args.due t.1.1.0 long paid
 
 pub give-requires-clause-pays : goal.give-requires-clause-pays
@@ -63,7 +62,7 @@ give-requires-clause-pays g c x is =
     let passes = when_ok c.tick.result ok c.tick.ensures.ok t.0.net dones dones p.going.is.playing in
     let long = nodes-few S.tells t.0 (S.file c.args.shelf.now) (S.ids c.args.shelf.now) c.args.seconds t.1.0 c.args.self.now c.args.due t.1.1.0 p c.args.rests.now t.1.1.1.1.0 c.tick.new.self passes c.seconds_pass.ensures in
     let paid = falls_paid (λ x. (goal.Fate-dyn g (x.world.fate.vtable, x.world.fate.value)).left x.world.fate.value) c.args.self.now.net.nodes.items c.tick.new.self.nodes.items c.args.rests.now c.args.due t.1.1.0
-        (when_ok c.tick.result ok c.tick.ensures.fates) t.1.1.1.1.1 in
+    (when_ok c.tick.result ok c.tick.ensures.fates) t.1.1.1.1.1 in
     paid_at (λ x. (goal.Fate-dyn g (x.world.fate.vtable, x.world.fate.value)).left x.world.fate.value) c.tick.new.self.nodes.items c.args.rests.now c.args.due t.1.1.0 long paid c.args.due.bridge x is
 
 pub note-requires-clause-ready : goal.note-requires-clause-ready
@@ -83,7 +82,7 @@ note-requires-clause-can g c =
     let passes = when_ok c.tick.result ok c.tick.ensures.ok t.0.net dones dones p.going.is.playing in
     let turned : HasTurned t.0 c.args.seconds c.args.due dones c.give.new.net =
     has-turned S.tells t.0 (S.file c.args.shelf.now) (S.ids c.args.shelf.now) c.args.seconds t.1.0 c.args.self.now c.args.due t.1.1.0 p c.args.rests.now t.1.1.1.1.0 c.tick.new.self passes c.seconds_pass.ensures c.give.new.net c.events_add_one.ensures
-        (when_ok c.tick.result ok c.tick.ensures.came) (when_ok c.give.result given c.give.ensures.ok t.0.net (pass t.0.net c.args.seconds dones) dones) in
+    (when_ok c.tick.result ok c.tick.ensures.came) (when_ok c.give.result given c.give.ensures.ok t.0.net (pass t.0.net c.args.seconds dones) dones) in
     can-note-all S.tells t.0 (S.file c.args.shelf.now) (S.ids c.args.shelf.now) c.args.seconds t.1.0 c.args.self.now c.args.due t.1.1.0 p turned.e turned.one turned.more c.give.new.net turned.playing c.steps_tell_passed.ensures
 
 pub returns-clause-told : goal.returns-clause-told
@@ -98,12 +97,12 @@ returns-clause-told g c =
     let came = when_ok c.tick.result ok c.tick.ensures.came in
     let turned : HasTurned r c.args.seconds c.args.due dones c.give.new.net =
     has-turned S.tells r (S.file c.args.shelf.now) (S.ids c.args.shelf.now) c.args.seconds second c.args.self.now c.args.due ps p c.args.rests.now of c.tick.new.self passes c.seconds_pass.ensures c.give.new.net c.events_add_one.ensures
-        came (when_ok c.give.result given c.give.ensures.ok r.net (pass r.net c.args.seconds dones) dones) in
+    came (when_ok c.give.result given c.give.ensures.ok r.net (pass r.net c.args.seconds dones) dones) in
     let together = go-together S.tells r (S.file c.args.shelf.now) (S.ids c.args.shelf.now) c.args.seconds second c.args.self.now c.args.due ps p turned.e turned.one turned.more c.give.new.net turned.playing c.steps_tell_passed.ensures in
     let more = are-more S.tells r (S.file c.args.shelf.now) (S.ids c.args.shelf.now) c.args.seconds second c.args.self.now c.args.due ps p turned.e turned.one turned.more c.give.new.net turned.playing in
     going-after S.tells r (S.file c.args.shelf.now) (S.ids c.args.shelf.now) c.args.seconds second c.args.self.now c.args.due ps p turned.e turned.one turned.more c.agendas_stay.ensures.told c.note.new.self (S.file c.note.new.shelf) (S.ids c.note.new.shelf)
-        (get _ c.note.ensures.playing r.net turned.e dones turned.playing) c.note.ensures.ready (get _ c.note.ensures.noted dones turned.e together more p.going.is.noted) c.note.ensures.plans
-        (get _ c.note.ensures.came ∙ when_ok c.give.result given c.give.ensures.came ∙ ap (λ (k : ℕ). k + came_by c.args.due.next) came) c.note.ensures.only)
+    (get _ c.note.ensures.playing r.net turned.e dones turned.playing) c.note.ensures.ready (get _ c.note.ensures.noted dones turned.e together more p.going.is.noted) c.note.ensures.plans
+    (get _ c.note.ensures.came ∙ when_ok c.give.result given c.give.ensures.came ∙ ap (λ (k : ℕ). k + came_by c.args.due.next) came) c.note.ensures.only)
 
 pub returns-clause-budget : goal.returns-clause-budget
 returns-clause-budget g c =
@@ -132,9 +131,9 @@ returns-clause-cut g c = λ t. on_err_weaker c.note.result
     let came = when_ok c.tick.result ok c.tick.ensures.came in
     let turned : HasTurned r c.args.seconds c.args.due dones c.give.new.net =
     has-turned S.tells r (S.file c.args.shelf.now) (S.ids c.args.shelf.now) c.args.seconds second c.args.self.now c.args.due ps p c.args.rests.now of c.tick.new.self passes c.seconds_pass.ensures c.give.new.net c.events_add_one.ensures
-        came (when_ok c.give.result given c.give.ensures.ok r.net (pass r.net c.args.seconds dones) dones) in
+    came (when_ok c.give.result given c.give.ensures.ok r.net (pass r.net c.args.seconds dones) dones) in
     let together = go-together S.tells r (S.file c.args.shelf.now) (S.ids c.args.shelf.now) c.args.seconds second c.args.self.now c.args.due ps p turned.e turned.one turned.more c.give.new.net turned.playing c.steps_tell_passed.ensures in
     let more = are-more S.tells r (S.file c.args.shelf.now) (S.ids c.args.shelf.now) c.args.seconds second c.args.self.now c.args.due ps p turned.e turned.one turned.more c.give.new.net turned.playing in
     cut-after S.tells r (S.file c.args.shelf.now) (S.ids c.args.shelf.now) c.args.seconds second c.args.self.now c.args.due ps p turned.e turned.one turned.more t (S.file c.note.new.shelf) (cut dones turned.e together more p.going.is.noted)
-        (c.note.ensures.only.others t))
+    (c.note.ensures.only.others t))
     (c.note.ensures.cut t)
