@@ -6,7 +6,7 @@
 #![tactic(auto)]
 
 use exb_fate::{Fate, ScriptFate};
-use exb_run::{more_fates, run};
+use exb_run::run_armed;
 use exb_shelf::{FileShelf, OpenFault, OutSink, Shelf, read_file};
 use std::alloc::{AllocError, Global};
 use std::{fs, io};
@@ -83,10 +83,9 @@ fn play(rt: HostRuntime, name: &str, wanted: &str, told: &str, files: &str) -> i
     let mut shelf = FileShelf::new(alloc, rt);
     let mut out = OutSink::new(rt);
     let fate: Box<dyn Fate> = Box::new(alloc, ScriptFate::new(alloc))?;
-    let Ok(more) = more_fates(alloc) else {
+    let Ok(status) = run_armed(alloc, &words, &mut shelf, &mut out, fate) else {
         return Err(io::Error::from(AllocError));
     };
-    let status = run(alloc, &words, &mut shelf, &mut out, fate, more);
     if wanted.parse::<u8>() != Ok(status) {
         println!(rt; "{name}: {status} in place of {wanted}")?;
         return Ok(());

@@ -1,12 +1,14 @@
 //! Fates for a net.
-ghost use Rattle.std.specs.Prelude.{◌≡◌, ◌+◌, ◌<◌, ◌≤◌, ◌^◌, All, IfOk, OnOk, length};
+ghost use Rattle.std.specs.Prelude.{◌≡◌, ◌+◌, ◌<◌, ◌^◌, All, OnOk, length};
 
+use crate::top::run;
 use exb_fate::{Fate, ScriptFate};
 use exb_model::memory::NoMemory;
+use exb_shelf::{Shelf, Sink};
 use std::alloc::Global;
 
-/// One fate more.
-fn add_fate(fates: &mut Vec<Box<dyn Fate>>, fate: Box<dyn Fate>) -> Result<(), NoMemory>
+/// Puts the fate of one bridge more behind others. It gives few enough verdicts for `run`.
+pub fn add_fate(fates: &mut Vec<Box<dyn Fate>>, fate: Box<dyn Fate>) -> Result<(), NoMemory>
     requires { left fate < 2 ^ 56 }
     ensures many { OnOk result (length fates.new.items ≡ length fates.old.items + 1) }
     ensures each { OnOk result (All (λ f. left f < 2 ^ 56) fates.old.items → All (λ f. left f < 2 ^ 56) fates.new.items) }
@@ -15,14 +17,20 @@ fn add_fate(fates: &mut Vec<Box<dyn Fate>>, fate: Box<dyn Fate>) -> Result<(), N
     Ok(())
 }
 
-/// The fates of all bridges of a net but the first. Each does as it is armed to.
-pub fn more_fates(alloc: Global) -> Result<Vec<Box<dyn Fate>>, NoMemory>
-    ensures many { IfOk result (λ fates. 15 ≤ length fates.items) }
-    ensures each { IfOk result (λ fates. All (λ f. left f < 2 ^ 56) fates.items) }
+/// Calls `run` over this fate, with fates for the other bridges of a net that do as they are armed to, and answers its status; or memory
+/// ran out before.
+pub fn run_armed<S: Shelf, O: Sink>(
+    alloc: Global,
+    words: &[String],
+    shelf: &mut S,
+    out: &mut O,
+    fate: Box<dyn Fate>,
+) -> Result<u8, NoMemory>
+    requires { left fate < 2 ^ 56 }
 {
-    let mut fates: Vec<Box<dyn Fate>> = Vec::new(alloc);
+    let mut more: Vec<Box<dyn Fate>> = Vec::new(alloc);
     for _bridge in 0..15u32 {
-        add_fate(&mut fates, Box::new(alloc, ScriptFate::new(alloc))?)?;
+        add_fate(&mut more, Box::new(alloc, ScriptFate::new(alloc))?)?;
     }
-    Ok(fates)
+    Ok(run(alloc, words, shelf, out, fate, more))
 }

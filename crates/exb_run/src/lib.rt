@@ -11,5 +11,5 @@ mod making;
 mod net;
 mod top;
 
-pub use fates::more_fates;
+pub use fates::{add_fate, run_armed};
 pub use top::run;

@@ -1,7 +1,7 @@
 //! Whole runs over files in memory.
 use exb_fate::Fate;
 use exb_model::port::PortId;
-use exb_run::{more_fates, run};
+use exb_run::run_armed;
 use exb_shelf::{MemShelf, MemSink};
 use exb_text::{capture_file_name, journal_file_name};
 use std::alloc::Global;
@@ -47,8 +47,7 @@ fn status_of(
     fate: Box<dyn Fate>,
 ) -> u8 {
     assert!(rt; fate.left() < 1_000_000_000);
-    let more = more_fates(alloc).expect(rt, "memory");
-    run(alloc, words, shelf, out, fate, more)
+    run_armed(alloc, words, shelf, out, fate).expect(rt, "memory")
 }
 
 /// Plays what is on a shelf with these options over this fate. It ends with 0.

@@ -2,8 +2,8 @@
 //! which does all the work, so that nothing here needs a promise of its own.
 #![tactic(auto)]
 
-use exb_fate::{Fate, ScriptFate};
-use exb_run::{more_fates, run};
+use exb_fate::ScriptFate;
+use exb_run::run_armed;
 use exb_shelf::{FileShelf, OutSink, ShelfFault, print_text};
 use std::alloc::{AllocError, Global};
 use std::env;
@@ -47,11 +47,10 @@ fn main(rt: HostRuntime) -> ExitCode {
     let Ok(fate) = Box::new(alloc, ScriptFate::new(alloc)) else {
         return out_of_memory(rt);
     };
-    let Ok(more) = more_fates(alloc) else {
-        return out_of_memory(rt);
-    };
     let mut shelf = FileShelf::new(alloc, rt);
     let mut out = OutSink::new(rt);
-    let status = run(alloc, &words, &mut shelf, &mut out, fate, more);
+    let Ok(status) = run_armed(alloc, &words, &mut shelf, &mut out, fate) else {
+        return out_of_memory(rt);
+    };
     ExitCode::from(brought_to_disk(status, &mut shelf, &mut out))
 }

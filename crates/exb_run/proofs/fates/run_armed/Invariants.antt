@@ -1,10 +1,10 @@
 use Rattle.std.proofs.Common.{◌≡◌, ◌<◌, ◌^◌, length}
 use Rattle.std.specs.Prelude.{All}
-use Rattle.exb_run.proofs.fates.more_fates.Given as goal
+use Rattle.exb_run.proofs.fates.run_armed.Given as goal
 
 -- So many fates are made.
 abbrev pub invariant-loop-bridge : goal.invariant-loop-bridge
 invariant-loop-bridge g l = record {
-  many : length l.fates.items ≡ l._bridge;
-  each : All (λ f. (goal.Fate-dyn g (f.vtable, f.value)).left f.value < 2 ^ 56) l.fates.items;
+  many : length l.more.items ≡ l._bridge;
+  each : All (λ f. (goal.Fate-dyn g (f.vtable, f.value)).left f.value < 2 ^ 56) l.more.items;
 }
