@@ -5,7 +5,6 @@
 //! tells how the case ended.
 #![tactic(auto)]
 
-use exb_fate::{Fate, ScriptFate};
 use exb_run::run_armed;
 use exb_shelf::{FileShelf, OpenFault, OutSink, Shelf, read_file};
 use std::alloc::{AllocError, Global};
@@ -82,8 +81,7 @@ fn play(rt: HostRuntime, name: &str, wanted: &str, told: &str, files: &str) -> i
     let files = words_in(alloc, files)?;
     let mut shelf = FileShelf::new(alloc, rt);
     let mut out = OutSink::new(rt);
-    let fate: Box<dyn Fate> = Box::new(alloc, ScriptFate::new(alloc))?;
-    let Ok(status) = run_armed(alloc, &words, &mut shelf, &mut out, fate) else {
+    let Ok(status) = run_armed(alloc, &words, &mut shelf, &mut out) else {
         return Err(io::Error::from(AllocError));
     };
     if wanted.parse::<u8>() != Ok(status) {

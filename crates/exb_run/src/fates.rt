@@ -17,20 +17,30 @@ pub fn add_fate(fates: &mut Vec<Box<dyn Fate>>, fate: Box<dyn Fate>) -> Result<(
     Ok(())
 }
 
-/// Calls `run` over this fate, with fates for the other bridges of a net that do as they are armed to, and answers its status; or memory
-/// ran out before.
+/// Calls `run` over fates that do as they are armed to, one for each bridge that a net may have, and answers its status; or memory ran out
+/// before. There is no loop, since what is true of a `dyn` value can't be named in its invariant here.
 pub fn run_armed<S: Shelf, O: Sink>(
     alloc: Global,
     words: &[String],
     shelf: &mut S,
     out: &mut O,
-    fate: Box<dyn Fate>,
-) -> Result<u8, NoMemory>
-    requires { left fate < 2 ^ 56 }
-{
+) -> Result<u8, NoMemory> {
     let mut more: Vec<Box<dyn Fate>> = Vec::new(alloc);
-    for _bridge in 0..15u32 {
-        add_fate(&mut more, Box::new(alloc, ScriptFate::new(alloc))?)?;
-    }
+    add_fate(&mut more, Box::new(alloc, ScriptFate::new(alloc))?)?;
+    add_fate(&mut more, Box::new(alloc, ScriptFate::new(alloc))?)?;
+    add_fate(&mut more, Box::new(alloc, ScriptFate::new(alloc))?)?;
+    add_fate(&mut more, Box::new(alloc, ScriptFate::new(alloc))?)?;
+    add_fate(&mut more, Box::new(alloc, ScriptFate::new(alloc))?)?;
+    add_fate(&mut more, Box::new(alloc, ScriptFate::new(alloc))?)?;
+    add_fate(&mut more, Box::new(alloc, ScriptFate::new(alloc))?)?;
+    add_fate(&mut more, Box::new(alloc, ScriptFate::new(alloc))?)?;
+    add_fate(&mut more, Box::new(alloc, ScriptFate::new(alloc))?)?;
+    add_fate(&mut more, Box::new(alloc, ScriptFate::new(alloc))?)?;
+    add_fate(&mut more, Box::new(alloc, ScriptFate::new(alloc))?)?;
+    add_fate(&mut more, Box::new(alloc, ScriptFate::new(alloc))?)?;
+    add_fate(&mut more, Box::new(alloc, ScriptFate::new(alloc))?)?;
+    add_fate(&mut more, Box::new(alloc, ScriptFate::new(alloc))?)?;
+    add_fate(&mut more, Box::new(alloc, ScriptFate::new(alloc))?)?;
+    let fate: Box<dyn Fate> = Box::new(alloc, ScriptFate::new(alloc))?;
     Ok(run(alloc, words, shelf, out, fate, more))
 }

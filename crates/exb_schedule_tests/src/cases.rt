@@ -155,8 +155,7 @@ fn expect_run(
     wanted: &Written,
 ) {
     let mut shelf = shelf_of(rt, alloc, case.topology, case.capture);
-    let fate = fate_of(rt, alloc, disturbance);
-    play_files(rt, alloc, &mut shelf, options, fate);
+    play_files(rt, alloc, &mut shelf, options, disturbance);
     expect_files(rt, alloc, &shelf, wanted);
 }
 

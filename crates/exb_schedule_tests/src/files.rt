@@ -1,11 +1,15 @@
 //! Whole runs over files in memory.
-use exb_fate::Fate;
+use crate::fates::{Disturbance, counting, fate_of};
+use exb_fate::{Fate, ScriptFate};
+use exb_model::memory::NoMemory;
 use exb_model::port::PortId;
-use exb_run::run_armed;
+use exb_run::{add_fate, run};
 use exb_shelf::{MemShelf, MemSink};
 use exb_text::{capture_file_name, journal_file_name};
 use std::alloc::Global;
+use std::cell::Cell;
 use std::process::Abort;
+use std::rc::Rc;
 
 // Puts a word behind these.
 fn put_word(rt: &impl Abort, alloc: Global, words: &mut Vec<String>, word: &str) {
@@ -37,30 +41,92 @@ pub(crate) fn shelf_of(rt: &impl Abort, alloc: Global, topology: &str, capture: 
     shelf
 }
 
-// Plays the words over this fate, and answers the status.
-fn status_of(
+// Plays the words over what disturbs the run so, and answers the status.
+fn ended_over(
     rt: &impl Abort,
     alloc: Global,
     words: &[String],
     shelf: &mut MemShelf,
     out: &mut MemSink,
-    fate: Box<dyn Fate>,
-) -> u8 {
+    disturbance: Disturbance,
+) -> Result<u8, NoMemory> {
+    let mut more: Vec<Box<dyn Fate>> = Vec::new(alloc);
+    add_fate(&mut more, Box::new(alloc, ScriptFate::new(alloc))?)?;
+    add_fate(&mut more, Box::new(alloc, ScriptFate::new(alloc))?)?;
+    add_fate(&mut more, Box::new(alloc, ScriptFate::new(alloc))?)?;
+    add_fate(&mut more, Box::new(alloc, ScriptFate::new(alloc))?)?;
+    add_fate(&mut more, Box::new(alloc, ScriptFate::new(alloc))?)?;
+    add_fate(&mut more, Box::new(alloc, ScriptFate::new(alloc))?)?;
+    add_fate(&mut more, Box::new(alloc, ScriptFate::new(alloc))?)?;
+    add_fate(&mut more, Box::new(alloc, ScriptFate::new(alloc))?)?;
+    add_fate(&mut more, Box::new(alloc, ScriptFate::new(alloc))?)?;
+    add_fate(&mut more, Box::new(alloc, ScriptFate::new(alloc))?)?;
+    add_fate(&mut more, Box::new(alloc, ScriptFate::new(alloc))?)?;
+    add_fate(&mut more, Box::new(alloc, ScriptFate::new(alloc))?)?;
+    add_fate(&mut more, Box::new(alloc, ScriptFate::new(alloc))?)?;
+    add_fate(&mut more, Box::new(alloc, ScriptFate::new(alloc))?)?;
+    add_fate(&mut more, Box::new(alloc, ScriptFate::new(alloc))?)?;
+    let fate = fate_of(rt, alloc, disturbance);
     assert!(rt; fate.left() < 1_000_000_000);
-    run_armed(alloc, words, shelf, out, fate).expect(rt, "memory")
+    Ok(run(alloc, words, shelf, out, fate, more))
 }
 
-/// Plays what is on a shelf with these options over this fate. It ends with 0.
+// The same over a fate that counts how often it is asked.
+fn ended_counted(
+    rt: &impl Abort,
+    alloc: Global,
+    words: &[String],
+    shelf: &mut MemShelf,
+    out: &mut MemSink,
+    asked: &Rc<Cell<u64>>,
+) -> Result<u8, NoMemory> {
+    let mut more: Vec<Box<dyn Fate>> = Vec::new(alloc);
+    add_fate(&mut more, Box::new(alloc, ScriptFate::new(alloc))?)?;
+    add_fate(&mut more, Box::new(alloc, ScriptFate::new(alloc))?)?;
+    add_fate(&mut more, Box::new(alloc, ScriptFate::new(alloc))?)?;
+    add_fate(&mut more, Box::new(alloc, ScriptFate::new(alloc))?)?;
+    add_fate(&mut more, Box::new(alloc, ScriptFate::new(alloc))?)?;
+    add_fate(&mut more, Box::new(alloc, ScriptFate::new(alloc))?)?;
+    add_fate(&mut more, Box::new(alloc, ScriptFate::new(alloc))?)?;
+    add_fate(&mut more, Box::new(alloc, ScriptFate::new(alloc))?)?;
+    add_fate(&mut more, Box::new(alloc, ScriptFate::new(alloc))?)?;
+    add_fate(&mut more, Box::new(alloc, ScriptFate::new(alloc))?)?;
+    add_fate(&mut more, Box::new(alloc, ScriptFate::new(alloc))?)?;
+    add_fate(&mut more, Box::new(alloc, ScriptFate::new(alloc))?)?;
+    add_fate(&mut more, Box::new(alloc, ScriptFate::new(alloc))?)?;
+    add_fate(&mut more, Box::new(alloc, ScriptFate::new(alloc))?)?;
+    add_fate(&mut more, Box::new(alloc, ScriptFate::new(alloc))?)?;
+    let fate = counting(rt, alloc, asked);
+    assert!(rt; fate.left() < 1_000_000_000);
+    Ok(run(alloc, words, shelf, out, fate, more))
+}
+
+/// Plays what is on a shelf with these options over what disturbs the run so. It ends with 0.
 pub(crate) fn play_files(
     rt: &impl Abort,
     alloc: Global,
     shelf: &mut MemShelf,
     options: &str,
-    fate: Box<dyn Fate>,
+    disturbance: Disturbance,
 ) {
     let words = words_of(rt, alloc, options);
     let mut out = MemSink::new(alloc, &[]).expect(rt, "memory");
-    assert!(rt; status_of(rt, alloc, &words, shelf, &mut out, fate) == 0);
+    let ended = ended_over(rt, alloc, &words, shelf, &mut out, disturbance);
+    assert!(rt; ended.expect(rt, "memory") == 0);
+}
+
+/// The same, and counts how often its fate is asked.
+pub(crate) fn play_counted(
+    rt: &impl Abort,
+    alloc: Global,
+    shelf: &mut MemShelf,
+    options: &str,
+    asked: &Rc<Cell<u64>>,
+) {
+    let words = words_of(rt, alloc, options);
+    let mut out = MemSink::new(alloc, &[]).expect(rt, "memory");
+    let ended = ended_counted(rt, alloc, &words, shelf, &mut out, asked);
+    assert!(rt; ended.expect(rt, "memory") == 0);
 }
 
 /// The journal on a shelf is this one.

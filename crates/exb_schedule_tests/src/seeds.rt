@@ -1,7 +1,7 @@
 //! Seeded runs beside a driver that plays the drawn order by the public calls of a world, and what fates are asked.
 use crate::cases::{Case, expect_case};
-use crate::fates::{Disturbance, counting};
-use crate::files::{play_files, shelf_of};
+use crate::fates::Disturbance;
+use crate::files::{play_counted, shelf_of};
 use crate::hex::bytes_of;
 use exb_shelf::MemShelf;
 use exb_text::trace_file_name;
@@ -93,8 +93,7 @@ struct Counted {
 // How often a run of what is on a shelf asks its fate.
 fn asked_by(rt: &impl Abort, alloc: Global, shelf: &mut MemShelf, options: &str) -> u64 {
     let asked = Rc::new(alloc, Cell::new(0u64)).expect(rt, "memory");
-    let fate = counting(rt, alloc, &asked);
-    play_files(rt, alloc, shelf, options, fate);
+    play_counted(rt, alloc, shelf, options, &asked);
     asked.get()
 }
 

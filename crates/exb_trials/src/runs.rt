@@ -1,6 +1,5 @@
 //! Runs over a fate that does as it is armed to.
 use crate::compare::{holds, same_status};
-use exb_fate::{Fate, ScriptFate};
 use exb_run::run_armed;
 use exb_shelf::{MemShelf, MemSink, Shelf, Sink};
 use std::alloc::Global;
@@ -25,9 +24,7 @@ pub(crate) fn play<S: Shelf, O: Sink>(
     out: &mut O,
 ) -> u8 {
     let words = words_of(rt, alloc, text);
-    let fate: Box<dyn Fate> = Box::new(alloc, ScriptFate::new(alloc)).expect(rt, "memory");
-    assert!(rt; fate.left() < 1_000_000_000);
-    run_armed(alloc, words.as_slice(), shelf, out, fate).expect(rt, "memory")
+    run_armed(alloc, words.as_slice(), shelf, out).expect(rt, "memory")
 }
 
 /// Plays the words of a text, which ends with that status, and says that.

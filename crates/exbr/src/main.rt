@@ -2,7 +2,6 @@
 //! which does all the work, so that nothing here needs a promise of its own.
 #![tactic(auto)]
 
-use exb_fate::ScriptFate;
 use exb_run::run_armed;
 use exb_shelf::{FileShelf, OutSink, ShelfFault, print_text};
 use std::alloc::{AllocError, Global};
@@ -44,12 +43,9 @@ fn main(rt: HostRuntime) -> ExitCode {
     let Ok(words) = words(alloc, &rt) else {
         return out_of_memory(rt);
     };
-    let Ok(fate) = Box::new(alloc, ScriptFate::new(alloc)) else {
-        return out_of_memory(rt);
-    };
     let mut shelf = FileShelf::new(alloc, rt);
     let mut out = OutSink::new(rt);
-    let Ok(status) = run_armed(alloc, &words, &mut shelf, &mut out, fate) else {
+    let Ok(status) = run_armed(alloc, &words, &mut shelf, &mut out) else {
         return out_of_memory(rt);
     };
     ExitCode::from(brought_to_disk(status, &mut shelf, &mut out))
