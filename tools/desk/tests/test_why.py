@@ -13,7 +13,9 @@ from planted import PLANTED
 from world.schedule import run as run_world
 from random_runs import given_of, looked_at, named_by, one, write_run
 
-EXAMPLES = sorted(it for it in os.listdir(os.path.join(TOP, "examples")) if os.path.isdir(os.path.join(TOP, "examples", it, "expected")))
+# Those of one bridge: a net has the topologies of its bridges, and arrivals over wires that no capture holds.
+EXAMPLES = sorted(it for it in os.listdir(os.path.join(TOP, "examples")) if os.path.isfile(os.path.join(TOP, "examples", it, "topology.toml"))
+                  and os.path.isdir(os.path.join(TOP, "examples", it, "expected")))
 
 
 class Examples(FolderTest):
