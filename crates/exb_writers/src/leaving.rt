@@ -17,6 +17,7 @@ use exb_outputs::{Outputs, Plan};
 use exb_shelf::Shelf;
 
 /// Puts a frame that left a port behind the port's capture.
+#[inline(always)]
 fn add_left<S: Shelf>(
     shelf: &mut S,
     plan: &Plan,
@@ -40,6 +41,7 @@ fn add_left<S: Shelf>(
 }
 
 /// Puts frames that left behind the captures of their ports.
+#[inline(always)]
 pub fn write_left<S: Shelf>(
     shelf: &mut S,
     plan: &Plan,
