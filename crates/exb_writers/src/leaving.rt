@@ -1,5 +1,5 @@
 //! What leaves goes behind the captures of its ports.
-ghost use Rattle.std.specs.Prelude.{◌≡◌, ◌++◌, ℕ, List, IfErr, OnErr, OnOk, All};
+ghost use Rattle.std.specs.Prelude.{ℕ, List, IfErr, OnErr, OnOk, All};
 ghost use Rattle.exb_shelf.specs.Files.{Files};
 ghost use Rattle.exb_model.specs.FlatBridge.{Sent};
 ghost use Rattle.exb_model.specs.Texts.{record_text as record_of};

@@ -1,5 +1,5 @@
 //! All that a world tells, written in the files of its kinds.
-ghost use Rattle.std.specs.Prelude.{◌≡◌, ℕ, List, All, IfErr, OnErr, OnOk};
+ghost use Rattle.std.specs.Prelude.{ℕ, List, All, IfErr, OnErr, OnOk};
 ghost use Rattle.exb_model.specs.FlatBridge.{Sent};
 ghost use Rattle.exb_shelf.specs.Files.{Files};
 ghost use Rattle.exb_text.specs.declared.output.Output.{Output};
