@@ -94,7 +94,10 @@ impl LineRoom {
         ensures { IfOk result (λ line. line.now ≡ line_of event.now ++ 10 ∷ []) }
     {
         match quick_line(&mut self.quick, event) {
-            Some(line) => Ok(line),
+            Some(start) => {
+                let room = &*self;
+                Ok(&room.quick[start..])
+            }
             None => formatted(&mut self.text, event),
         }
     }
