@@ -1,4 +1,4 @@
-use Rattle.std.proofs.Common.{rules, ◌≡◌, ◌++◌, ◌×◌, ◌⊎◌, List, [], ℕ, length, length-append, ap, ◌∙◌, subst, append_assoc, arith}
+use Rattle.std.proofs.Common.{rules, ◌≡◌, ◌+◌, ◌++◌, ◌⊎◌, List, [], ℕ, length, length-append, ap, ◌∙◌, subst, append_assoc, arith}
 use Rattle.std.specs.Prelude.{OnOk, OnErr}
 use Rattle.std.proofs.lemmas.Result.{on_ok_weaker}
 use Rattle.exb_shelf.specs.Files.{Adds, AddsFront, SameFiles}
@@ -37,6 +37,6 @@ returns-clause-counted g c =
     let before = c.args.file.now.piece.items in
     let head = c.args.head.now in
     let extended : c.extend_from_slice.new.self.items ≡ before ++ head = search rules in
-    let longer = ap length extended ∙ length-append before head in
+    let longer : length c.extend_from_slice.new.self.items ≡ length before + length head = ap length extended ∙ length-append before head in
     let both = length-append head c.args.bytes.now in
     on_ok_weaker c.add.result (λ sum fits. sum (let fits' = fits in omega (arith, longer, both, fits')) ∙ omega (arith, longer, both)) c.add.ensures.counted
