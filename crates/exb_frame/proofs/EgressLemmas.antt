@@ -39,9 +39,9 @@ body_short f seen.Reserved = omega (arith, length-drop 12 f)
 body_short f seen.BadTag = omega (arith, length-drop 12 f)
 
 pub tagged_is : (f : List ℕ) (prio v : ℕ) →
-    (take 12 f ++ (two_bytes 33024 ++ two_bytes (prio * 4096 + v))) ++ body_after f (kind_of f) ≡ egress_with prio f Tagged v
+    (take 12 f ++ (two_bytes 0x8100 ++ two_bytes (prio * 4096 + v))) ++ body_after f (kind_of f) ≡ egress_with prio f Tagged v
 unfolding egress_with
-tagged_is f prio v = ap (λ xs. xs ++ body_after f (kind_of f)) (sym (append_assoc (take 12 f) (two_bytes 33024) (two_bytes (prio * 4096 + v))))
+tagged_is f prio v = ap (λ xs. xs ++ body_after f (kind_of f)) (sym (append_assoc (take 12 f) (two_bytes 0x8100) (two_bytes (prio * 4096 + v))))
 
 pub untagged_is : (f : List ℕ) (prio v : ℕ) → (take 12 f ++ []) ++ body_after f (kind_of f) ≡ egress_with prio f Untagged v
 unfolding egress_with
@@ -51,4 +51,4 @@ untagged_is f prio v = ap (λ xs. xs ++ body_after f (kind_of f)) (append-nil (t
 pub own_is : (f : List ℕ) (kind : Kind) (prio v : ℕ) → prio ≡ priority_of (kind_of f) → egress_with prio f kind v ≡ egress f kind v
 unfolding egress_with egress
 own_is f Untagged prio v e = refl
-own_is f Tagged prio v e = ap (λ p. take 12 f ++ two_bytes 33024 ++ two_bytes (p * 4096 + v) ++ body_after f (kind_of f)) e
+own_is f Tagged prio v e = ap (λ p. take 12 f ++ two_bytes 0x8100 ++ two_bytes (p * 4096 + v) ++ body_after f (kind_of f)) e

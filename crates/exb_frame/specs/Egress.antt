@@ -20,4 +20,4 @@ priority pcp dei = 2 * pcp + (if dei then 1 else 0)
 -- the bytes that leave a port of this kind in VLAN v with that priority
 unfoldable pub egress_with : ℕ → List ℕ → Kind → ℕ → List ℕ
 egress_with prio f Untagged v = take 12 f ++ body_after f (kind_of f)
-egress_with prio f Tagged v = take 12 f ++ two_bytes 33024 ++ two_bytes (prio * 4096 + v) ++ body_after f (kind_of f)
+egress_with prio f Tagged v = take 12 f ++ two_bytes 0x8100 ++ two_bytes (prio * 4096 + v) ++ body_after f (kind_of f)

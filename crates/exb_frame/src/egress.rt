@@ -24,7 +24,7 @@ fn body_after<'a>(frame: &'a [u8], seen: &Seen) -> &'a [u8]
 /// clause 9).
 fn vlan_tag(pcp: u8, dei: bool, vid: Vid) -> [u8; 4]
     requires { pcp < 8 }
-    ensures { result ≡ two_bytes 33024 ++ two_bytes (priority pcp dei * 4096 + vid) }
+    ensures { result ≡ two_bytes 0x8100 ++ two_bytes (priority pcp dei * 4096 + vid) }
 {
     let number = vid.number();
     let high = 32 * pcp + 16 * u8::from(dei) + (number / 256) as u8;
