@@ -53,6 +53,16 @@ fn size_of(room: u32, left: u64, piece: usize) -> usize
     most.min(piece as u64) as usize
 }
 
+/// A copy of bytes, which is written anew into a buffer.
+#[inline(always)]
+fn written(mut buffer: Vec<u8>, bytes: &[u8]) -> Result<Bytes, NoMemory>
+    ensures { IfOk result (λ made. made ≡ bytes.now) }
+{
+    buffer.clear();
+    buffer.extend_from_slice(bytes)?;
+    Ok(Bytes::from_vec(buffer))
+}
+
 /// A record that was looked at: its moment, and where its frame lies in what the reader holds.
 #[derive(Clone, Copy, Debug, PartialEq, Eq)]
 pub struct Seen {
@@ -279,9 +289,9 @@ impl CaptureFile {
         }
     }
 
-    /// Takes the record that comes next, and gives its bytes as a copy.
+    /// Takes the record that comes next, and gives its bytes as a copy in this buffer, which is written anew.
     #[inline(always)]
-    pub fn take(&mut self, alloc: Global) -> Result<Bytes, NoMemory>
+    pub fn take(&mut self, buffer: Vec<u8>) -> Result<Bytes, NoMemory>
         requires found { (moment : ℕ) × ComesNext moment self.old }
         requires sound { IsSound self.old }
         ensures sound { IsSound self.new }
@@ -296,7 +306,7 @@ impl CaptureFile {
         match self.next {
             Some(seen) => {
                 self.next = None;
-                Bytes::from_slice(alloc, self.reader.frame(seen.from, seen.bytes))
+                written(buffer, self.reader.frame(seen.from, seen.bytes))
             }
             None => unreachable!(),
         }

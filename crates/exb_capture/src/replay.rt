@@ -5,7 +5,7 @@ ghost use Rattle.exb_shelf.specs.Files.{SameFiles, bytes_of};
 ghost use Rattle.exb_shelf.specs.Shelf.{IsReadingOf, Opens, reading, Rose, NoFewer};
 ghost use Rattle.exb_capture.specs.Counts.{after_fault, after_opening, after_replay};
 ghost use Rattle.exb_capture.specs.Reading.{IsAt, IsBegun, ComesNext, MovesOn, left_to_read, next_of};
-ghost use Rattle.exb_capture.specs.Replaying.{comes_early, Disagrees, IsKept, IsSameReplay, IsAsBefore, ComesAt, IsReplayed, HasGiven, IsPlayed, IsReplaying, stopped, unopened, unread, IsFirstOf};
+ghost use Rattle.exb_capture.specs.Replaying.{comes_early, Disagrees, IsKept, IsSameReplay, IsAsBefore, ComesAt, IsReplayed, HasGiven, IsPlayed, stopped, unopened, unread};
 
 use crate::checking::Scanned;
 use crate::file::{CaptureFile, Halt};
@@ -211,7 +211,6 @@ impl Replay {
     #[inline(always)]
     pub fn ahead<S: Shelf>(
         &mut self,
-        alloc: Global,
         shelf: &mut S,
         piece: &mut [u8],
     ) -> Result<Option<u64>, ReplayFault>
@@ -255,9 +254,10 @@ impl Replay {
         }
     }
 
-    /// Takes the record that comes next, of which the moment is known, and gives its bytes as a copy.
+    /// Takes the record that comes next, of which the moment is known, and gives its bytes as a copy in this buffer, which is
+    /// written anew.
     #[inline(always)]
-    pub fn take(&mut self, alloc: Global, moment: u64) -> Result<Replayed, NoMemory>
+    pub fn take(&mut self, moment: u64, buffer: Vec<u8>) -> Result<Replayed, NoMemory>
         requires found { ComesAt moment self.old }
         requires kept { IsKept self.old }
         ensures kept { IsKept self.new }
@@ -271,54 +271,9 @@ impl Replay {
         ensures given { OnOk result ((bytes : List ℕ) (xs : List Record) (x : Record) → next_of self.old.file ≡ Some x
             → HasGiven bytes xs self.old → HasGiven bytes (xs ++ x ∷ []) self.new) }
     {
-        let bytes = self.file.take(alloc)?;
+        let bytes = self.file.take(buffer)?;
         self.least = moment;
         self.fresh = false;
         Ok(Replayed { moment, bytes })
-    }
-
-    /// Reads on and takes the record that comes next; None exactly at the end. `piece` has room for what is
-    /// read at once.
-    ///
-    /// Where the files are told and the file is the one that was checked, the records come as they stand in
-    /// it, each with its moment, and it is never Changed.
-    pub fn next<S: Shelf>(
-        &mut self,
-        alloc: Global,
-        shelf: &mut S,
-        piece: &mut [u8],
-    ) -> Result<Option<Replayed>, ReplayFault>
-        requires at { IsAt (S.ids shelf.old self.old.file.id) self.old.file.got }
-        requires piece { 0 < length piece.old }
-        requires kept { IsKept self.old }
-        ensures piece { length piece.new ≡ length piece.old }
-        ensures kept { IsKept self.new }
-        ensures same { IsSameReplay self.old self.new }
-        ensures at { OnOk result (IsAt (S.ids shelf.new self.new.file.id) self.new.file.got) }
-        ensures limits { IfOk result (λ next. IfSome next (IsReplayed self.old.least self.old.told.first)) }
-        ensures least { IfOk result (λ next. IfSome next (λ x. self.new.least ≡ x.moment)) }
-        ensures left { IfOk result (λ next. IfSome next (λ x. left_to_read self.new.file + 16 ≤ left_to_read self.old.file)) }
-
-        ensures order { S.tells → IfOk result (λ next. (left : List Record) → IsReplaying (bytes_of (S.file shelf.old (S.ids shelf.old self.old.file.id).name)) left self.old
-            → IsFirstOf left self.old.least next (λ rest. IsReplaying (bytes_of (S.file shelf.old (S.ids shelf.old self.old.file.id).name)) rest self.new)) }
-        ensures never { S.tells → (at : ℕ) → IsErrOf result (ReplayFault.Changed at) → (left : List Record) → IsReplaying (bytes_of (S.file shelf.old (S.ids shelf.old self.old.file.id).name)) left self.old → ⊥ }
-
-        // Whatever the files hold, it has changed within the bytes that were told and one more.
-        ensures place { (at : ℕ) → IsErrOf result (ReplayFault.Changed at) → at ≤ self.old.told.bytes + 1 }
-
-        ensures moves { MovesOn self.old.file.id (S.ids shelf.old) (S.ids shelf.new) }
-        ensures files { SameFiles (S.file shelf.old) (S.file shelf.new) }
-        ensures counts { S.faults shelf.new ≡ after_replay result (S.faults shelf.old) }
-        ensures faults { NoFewer (S.faults shelf.old) (S.faults shelf.new) }
-        ensures failed { IsErrOf result ReplayFault.Read → Rose (S.faults shelf.old).reads (S.faults shelf.new).reads }
-    {
-        match self.ahead(alloc, shelf, piece) {
-            Ok(Some(moment)) => match self.take(alloc, moment) {
-                Ok(next) => Ok(Some(next)),
-                Err(_) => Err(ReplayFault::Memory),
-            },
-            Ok(None) => Ok(None),
-            Err(fault) => Err(fault),
-        }
     }
 }

@@ -90,7 +90,7 @@ fn take_frames<S: Shelf>(
 {
     let mut frames = Vec::new(alloc);
     'records: while let Some(_) = file.ahead(shelf, piece)? {
-        let Ok(frame) = file.take(alloc) else {
+        let Ok(frame) = file.take(Vec::new(alloc)) else {
             return Err(Halt::Memory);
         };
         if frames.push(frame).is_err() {

@@ -156,8 +156,11 @@ fn play_on(
     requires piece { 0 < length piece.old }
 {
     'records: for _record in 0..9u32 {
-        match replay.next(alloc, shelf, piece) {
-            Ok(Some(next)) => put_record(rt, alloc, text, &next),
+        match replay.ahead(shelf, piece) {
+            Ok(Some(moment)) => {
+                let record = replay.take(moment, Vec::new(alloc)).expect(rt, "memory");
+                put_record(rt, alloc, text, &record);
+            }
             Ok(None) => return put(rt, text, "end"),
             Err(fault) => return put_fault(rt, alloc, text, fault),
         }

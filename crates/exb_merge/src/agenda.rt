@@ -55,9 +55,9 @@ impl Seat<'_> {
     #[inline(always)]
     fn take<S: Shelf>(
         &mut self,
-        alloc: Global,
         shelf: &mut S,
         piece: &mut [u8],
+        buffer: Vec<u8>,
     ) -> Result<Option<Next>, CaptureFault>
         requires seated { IsSeated (S.ids shelf.old) self.old }
         requires piece { 0 < length piece.old }
@@ -79,7 +79,7 @@ impl Seat<'_> {
         ensures faults { NoFewer (S.faults shelf.old) (S.faults shelf.new) }
         ensures failed { IsErrOf result CaptureFault.Read → Rose (S.faults shelf.old).reads (S.faults shelf.new).reads }
     {
-        let next = self.programme.next(alloc, shelf, piece)?;
+        let next = self.programme.next(shelf, piece, buffer)?;
         self.turn = self.programme.turn();
         Ok(next)
     }
@@ -114,7 +114,8 @@ impl<'a> Agenda<'a> {
         Ok(())
     }
 
-    /// Takes what comes next of all bridges; None exactly where nothing is left. `piece` has room for what is read at once.
+    /// Takes what comes next of all bridges; None exactly where nothing is left. `piece` has room for what is read at once; a record's
+    /// bytes come in `buffer`, which is written anew.
     ///
     /// Where the files are told and are those that were checked, what comes is the first of what is still to come of all bridges: by
     /// moment, and at the same moment the commands of all bridges first, and then in the order of bridges. A capture is then never
@@ -122,9 +123,9 @@ impl<'a> Agenda<'a> {
     #[inline(always)]
     pub fn next<S: Shelf>(
         &mut self,
-        alloc: Global,
         shelf: &mut S,
         piece: &mut [u8],
+        buffer: Vec<u8>,
     ) -> Result<Option<NetNext>, BridgeFault>
         requires agenda { IsAgenda (S.ids shelf.old) self.old }
         requires piece { 0 < length piece.old }
@@ -157,7 +158,7 @@ impl<'a> Agenda<'a> {
         };
         let bridge = place as u8;
         let seat = &mut self.seats[place];
-        let next = match seat.take(alloc, shelf, piece) {
+        let next = match seat.take(shelf, piece, buffer) {
             Ok(next) => next,
             Err(fault) => return Err(BridgeFault { bridge, fault }),
         };

@@ -79,9 +79,9 @@ pub struct Replays {
 }
 
 impl Again {
-    /// Takes the next record, of which the moment is known.
+    /// Takes the next record, of which the moment is known, with its bytes in this buffer.
     #[inline(always)]
-    fn take(&mut self, alloc: Global, moment: u64) -> Result<Came, NoMemory>
+    fn take(&mut self, moment: u64, buffer: Vec<u8>) -> Result<Came, NoMemory>
         requires found { ComesAt moment self.old.replay }
         requires kept { IsKept self.old.replay }
         requires numbers { self.old.index + left_to_read self.old.replay.file < 2 ^ 63 }
@@ -99,7 +99,7 @@ impl Again {
         ensures given { OnOk result ((bytes : List ℕ) (xs : List Record) (x : Record) → next_of self.old.replay.file ≡ Some x
             → HasGiven bytes xs self.old.replay → HasGiven bytes (xs ++ x ∷ []) self.new.replay) }
     {
-        let record = self.replay.take(alloc, moment)?;
+        let record = self.replay.take(moment, buffer)?;
         let index = self.index;
         self.index += 1;
         Ok(Came {
@@ -170,7 +170,7 @@ impl Replays {
             Ok(replay) => replay,
             Err(fault) => return Err(fault_at(port, fault)),
         };
-        let next = match replay.ahead(alloc, shelf, piece) {
+        let next = match replay.ahead(shelf, piece) {
             Ok(next) => next,
             Err(fault) => return Err(fault_at(port, fault)),
         };
@@ -201,16 +201,16 @@ impl Replays {
     }
 
     /// Takes what comes next, and looks as far as the next record of its capture; None exactly where nothing
-    /// is left. `piece` has room for what is read at once.
+    /// is left. `piece` has room for what is read at once; the record's bytes come in `buffer`, which is written anew.
     ///
     /// Where the files are told and are those that were checked, what comes is the first of what is still to
     /// come of their records, and it is never Changed.
     #[inline(always)]
     pub fn next<S: Shelf>(
         &mut self,
-        alloc: Global,
         shelf: &mut S,
         piece: &mut [u8],
+        buffer: Vec<u8>,
     ) -> Result<Option<Came>, CaptureFault>
         requires opened { AreOpened (S.ids shelf.old) self.old }
         requires piece { 0 < length piece.old }
@@ -246,11 +246,11 @@ impl Replays {
             return Ok(None);
         };
         let source = &mut self.sources[place];
-        let came = match source.take(alloc, moment) {
+        let came = match source.take(moment, buffer) {
             Ok(came) => came,
             Err(_) => return Err(CaptureFault::Memory),
         };
-        let next = match source.replay.ahead(alloc, shelf, piece) {
+        let next = match source.replay.ahead(shelf, piece) {
             Ok(next) => next,
             Err(fault) => return Err(fault_at(source.port, fault)),
         };

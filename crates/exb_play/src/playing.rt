@@ -77,6 +77,7 @@ fn play_into<S: Shelf>(
         programme,
         piece,
         gathered: Vec::new(alloc),
+        played: Vec::new(alloc),
     };
     play_feed(
         alloc, shelf, plan, script, schedule, fate, outputs, &mut feed,
