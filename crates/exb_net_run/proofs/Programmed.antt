@@ -53,7 +53,7 @@ use Rattle.exb_net_inputs.proofs.Lists.{both_at}
 use Rattle.exb_net_inputs.proofs.Opened.{all_get}
 use Rattle.exb_net_run.specs.Nets.{input_in, net_of, no_input}
 use Rattle.exb_net_run.specs.Opening.{HasCaptureAt}
-use Rattle.exb_net_run.specs.Reopening.{AreReopened, IsReopened, ReadsRest, seconds_of_all, seconds_told, start_of_told, streams_of}
+use Rattle.exb_net_run.specs.Reopening.{AreReopened, IsReopened, ReadsRest, streams_of}
 use Rattle.exb_net_run.specs.Setting.{IsToBeOpened}
 use Rattle.exb_net_run.specs.Shelving.{IsOfCaptures}
 use Rattle.exb_net_run.specs.UnderWay.{AreOfRests, Begins, BeginsAt, LeadsOn}

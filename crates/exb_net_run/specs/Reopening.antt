@@ -11,24 +11,16 @@ use Rattle.exb_shelf.specs.Files.{Files}
 use Rattle.exb_shelf.specs.Shelf.{Id}
 use Rattle.exb_net_file.specs.declared.apart.NetRest.{NetRest}
 use Rattle.exb_inputs.specs.declared.checked.Checked.{Checked}
-use Rattle.exb_inputs.specs.Again.{first_standing, stream_told}
+use Rattle.exb_inputs.specs.Again.{first_standing, seconds_told, stream_told}
 use Rattle.exb_inputs.specs.Shelving.{ReadsCapture}
 
--- the seconds of the first records of some captures, of those that have any
-abbrev pub seconds_told : List Checked → List ℕ
-seconds_told cs = filter_map (λ (c : Checked). option_map second_of c.told.first) cs
-
--- and of the captures of all bridges
+-- the whole seconds of the first records of all bridges' captures, of those that have any
 abbrev pub seconds_of_all : List (Vec Checked Global) → List ℕ
 seconds_of_all cs = flat_map (λ (c : Vec Checked Global). seconds_told c.items) cs
 
 -- the second from which commands count: the least of them, or 0
 abbrev pub start_of_told : List (Vec Checked Global) → ℕ
 start_of_told cs = least_or 0 (seconds_of_all cs)
-
--- no first record was told before this second
-abbrev pub AreSince : ℕ → List Checked → Type 0
-AreSince second cs = All (λ c. IfSome c.told.first (λ first. second ≤ second_of first)) cs
 
 -- a bridge's programme before anything is taken: all its commands, and each capture at its first record
 pub record IsReopened (start : ℕ) (r : NetRest) (checked : List Checked) (p : Programme) : Type 0 where
