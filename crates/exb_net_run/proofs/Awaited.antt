@@ -20,6 +20,7 @@ use Rattle.exb_merge.specs.declared.programme.Programme.{Programme}
 use Rattle.exb_merge.specs.NetAgendas.{AreAllReplays, ComesTo, IsAgenda, IsFirstOf, IsOfBridge, all_ids, all_to_play, due_of, dues_left, programmes_in}
 use Rattle.exb_merge.specs.Programmes.{IsOf, what}
 use Rattle.exb_merge.specs.Replays.{HasPort, ReadsOn, standings}
+use Rattle.exb_merge.proofs.Onward.{ports_before}
 use Rattle.exb_merge.specs.Streams.{Stream}
 use Rattle.exb_nets.specs.Nets.{Net}
 use Rattle.exb_nets.specs.NetHistory.{Due, dues}
@@ -36,7 +37,6 @@ use Rattle.exb_net_run.specs.declared.desk.Desk.{Desk}
 use Rattle.exb_net_run.specs.declared.game.NetGame.{NetGame}
 use Rattle.exb_net_run.specs.Desks.{AreReady}
 use Rattle.exb_net_run.specs.UnderWay.{AreOfRests, IsAllTold, IsAt, IsCutOff, IsDue, IsFew, IsGoing, IsPaid, IsWithin, LeadsOn, NetRun, ReadsOthers, commands_in, letters_at, letters_for, letters_of}
-use Rattle.exb_net_run.proofs.Coming.{ports-before}
 use Rattle.exb_net_run.proofs.Going.{cut-noted}
 use Rattle.exb_net_run.proofs.Steps.{clock-on, ends}
 
@@ -219,7 +219,7 @@ pub ports-on : (old : List Programme) (d : NetNext) (ps : List Programme) → Co
 ports-on old d ps comes b q (p, is, has) = elim (cases_eq b d.bridge) [
   | inl same ↦
       let own : comes.is ≡ p = same_Some comes.is p (sym comes.is_there ∙ subst (λ (k : ℕ). slice_get ps k ≡ Some p) same is) in
-      (comes.was, subst (λ (k : ℕ). slice_get old k ≡ Some comes.was) (sym same) comes.was_there, ports-before comes.was d.next comes.is comes.coming.is q (subst (λ (z : Programme). HasPort q (standings z.captures)) (sym own) has))
+      (comes.was, subst (λ (k : ℕ). slice_get old k ≡ Some comes.was) (sym same) comes.was_there, ports_before comes.was d.next comes.is comes.coming.is q (subst (λ (z : Programme). HasPort q (standings z.captures)) (sym own) has))
   | inr ne ↦ (p, sym (comes.others b ne) ∙ is, has)
 ]
 

@@ -25,6 +25,7 @@ use Rattle.exb_merge.specs.declared.programme.Programme.{Programme}
 use Rattle.exb_merge.specs.NetAgendas.{ComesTo, due_of}
 use Rattle.exb_merge.specs.Programmes.{IsComing, IsFrom, IsOf, what}
 use Rattle.exb_merge.specs.Replays.{HasPort, left_in, number_of, standings}
+use Rattle.exb_merge.proofs.Onward.{command_is, second_high}
 use Rattle.exb_nets.specs.Nets.{Net, is_wired}
 use Rattle.exb_nets.specs.NetHistory.{Due, basis_in, due_second}
 use Rattle.exb_net_file.specs.declared.apart.NetRest.{NetRest}
@@ -37,7 +38,6 @@ use Rattle.exb_net.specs.Nets.{Handled, IsPlaying, Passes}
 use Rattle.exb_net.proofs.Places.{all_by, is_there, of_all}
 use Rattle.exb_net_run.specs.declared.game.NetGame.{NetGame}
 use Rattle.exb_net_run.specs.UnderWay.{AreOfRests, CanGive, GoesOnAt, IsDue, IsFree, IsLast, IsSince, IsStepOf, NetRun}
-use Rattle.exb_net_run.proofs.Coming.{command-is, second-high}
 use Rattle.exb_net_run.proofs.Passing.{pass_given}
 
 -- ---- the step of what comes
@@ -86,7 +86,7 @@ step-for n b cs (next.Command number moment) step given is =
     let k : ℕ = number - 1 in
     let own : suc (number - 1) ≡ number = (let low = is.0 in omega (arith, low)) in
     let c : Timed = is.1.0 in
-    (c.command, ap (command_of (basis_in n b)) (sym own) ∙ command-is (n.input b) cs (number - 1) c given is.1.1, is.1.2)
+    (c.command, ap (command_of (basis_in n b)) (sym own) ∙ command_is (n.input b) cs (number - 1) c given is.1.1, is.1.2)
 step-for n b cs (next.Record c) step given is = is
 
 -- ---- what comes next
@@ -110,7 +110,7 @@ module _ {V : Type 0} {X : V → Type 0} (tells : Type 0) (r : NetRun) (now : Fi
   clock-by : (l : Option ℕ) (clock : ℕ) → IsLast p.going.goes.start l p.old → IsSince p.going.goes.start l clock → seconds ≡ seconds_after l second → clock + seconds + p.going.goes.start ≤ second
   clock-by None clock last since is = (let b = begins in omega (arith, since, is, b))
   clock-by (Some l) clock last since is =
-      let later = second-high (moment_of (what d.next)) l (p.comes.fell (l * 1_000_000_000) last.1) in
+      let later = second_high (moment_of (what d.next)) l (p.comes.fell (l * 1_000_000_000) last.1) in
       let own = p.second_is in
       omega (arith, since, is, later, own)
 
