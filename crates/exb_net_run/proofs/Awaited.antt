@@ -1,5 +1,5 @@
 -- What comes next of the programmes of all bridges: how the net stands before it.
-use Rattle.std.proofs.Common.{◌≡◌, ◌≢◌, ℕ, zero, suc, ◌+◌, ◌-◌, ◌^◌, ◌<◌, ◌≤◌, ◌==◌, ◌++◌, Bool, true, false, cond, List, [], ◌∷◌, length, drop, Option, Some, None, refl, ap, sym, subst, ◌∙◌, arith, inl, inr, append_assoc, slice_index}
+use Rattle.std.proofs.Common.{◌≡◌, ◌≢◌, ℕ, zero, suc, ◌+◌, ◌-◌, ◌^◌, ◌<◌, ◌≤◌, ◌++◌, true, false, List, [], ◌∷◌, length, drop, Option, Some, None, refl, ap, sym, subst, ◌∙◌, arith, inl, inr, append_assoc, slice_index}
 use mathlib.Core.Path.{fun_ext}
 use Rattle.std.specs.Prelude.{slice_get}
 use Rattle.std.specs.List.{AllByRecursion}
@@ -10,14 +10,13 @@ use Rattle.std.proofs.lemmas.Option.{same_Some, slice_get_within}
 use Rattle.exb_model.specs.declared.setup.Timed.{Timed}
 use Rattle.exb_model.specs.Input.{moment_of, second_of, seconds_after}
 use Rattle.exb_schedule.specs.Playing.{letters_in}
-use Rattle.exb_shelf.specs.Files.{Files, SameFiles}
+use Rattle.exb_shelf.specs.Files.{Files}
 use Rattle.exb_shelf.specs.Shelf.{Id, writing}
-use Rattle.exb_merge.specs.declared.agenda.Agenda.{Agenda}
 use Rattle.exb_merge.specs.declared.agenda.NetNext.{NetNext}
 use Rattle.exb_merge.specs.declared.programme.Next.{Next}
 use Rattle.exb_merge.specs.declared.programme.Next.TheVariants as next
 use Rattle.exb_merge.specs.declared.programme.Programme.{Programme}
-use Rattle.exb_merge.specs.NetAgendas.{AreAllReplays, ComesTo, IsAgenda, IsFirstOf, IsOfBridge, all_ids, all_to_play, due_of, dues_left, programmes_in}
+use Rattle.exb_merge.specs.NetAgendas.{AreAllReplays, ComesTo, IsFirstOf, IsOfBridge, all_ids, all_to_play, due_of, dues_left}
 use Rattle.exb_merge.specs.Programmes.{IsOf, what}
 use Rattle.exb_merge.specs.Replays.{HasPort, ReadsOn, standings}
 use Rattle.exb_merge.proofs.Onward.{ports_before}
@@ -31,7 +30,7 @@ use Rattle.exb_net.specs.declared.node.Node.{Node}
 use Rattle.exb_net.proofs.Places.{is_there}
 use Rattle.exb_outputs.specs.Apart.{AreApart}
 use Rattle.exb_outputs.specs.Plans.{Planned}
-use Rattle.exb_outputs.specs.Writing.{IsReady, ids_of}
+use Rattle.exb_outputs.specs.Writing.{ids_of}
 use Rattle.exb_outputs.proofs.Keeping.{apart-read}
 use Rattle.exb_net_run.specs.declared.desk.Desk.{Desk}
 use Rattle.exb_net_run.specs.declared.game.NetGame.{NetGame}

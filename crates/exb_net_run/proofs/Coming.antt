@@ -1,10 +1,9 @@
 -- What comes of one programme leaves the others.
-use Rattle.std.proofs.Common.{◌≡◌, ◌≢◌, ℕ, zero, suc, ◌+◌, ◌-◌, ◌≤◌, List, [], ◌∷◌, length, refl, ap, ◌∙◌, arith}
+use Rattle.std.proofs.Common.{◌≡◌, ◌≢◌, ℕ, zero, suc, ◌+◌, ◌≤◌, List, [], ◌∷◌, length, refl, ap, ◌∙◌, arith}
 use Rattle.std.specs.Prelude.{Some, None, slice_get, sum_by}
 use Rattle.std.specs.List.{AllByRecursion}
 use Rattle.std.proofs.lemmas.List.Sums.{sum_by-cons}
 use Rattle.std.proofs.lemmas.Option.{same_Some}
-use Rattle.exb_merge.specs.declared.programme.Next.TheVariants as next
 use Rattle.exb_merge.specs.declared.programme.Programme.{Programme}
 use Rattle.exb_merge.specs.Programmes.{IsFrom}
 use Rattle.exb_merge.proofs.Onward.{from_earlier}

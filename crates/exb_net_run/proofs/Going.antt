@@ -1,5 +1,5 @@
 -- A net goes on by one event: what is known of it stays known, with one event more.
-use Rattle.std.proofs.Common.{◌≡◌, ◌≢◌, ℕ, zero, suc, ◌+◌, ◌-◌, ◌*◌, ◌^◌, ◌<◌, ◌≤◌, ◌==◌, ◌++◌, Bool, true, false, cond, List, [], ◌∷◌, length, map, All, get_or, Option, Some, None, refl, ap, sym, subst, ◌∙◌, arith, inl, inr, append_assoc}
+use Rattle.std.proofs.Common.{◌≡◌, ◌≢◌, ℕ, zero, suc, ◌+◌, ◌*◌, ◌^◌, ◌<◌, ◌≤◌, ◌==◌, ◌++◌, Bool, true, cond, List, [], ◌∷◌, length, map, All, Option, Some, refl, ap, sym, subst, ◌∙◌, arith, inl, inr}
 use Rattle.std.specs.Prelude.{slice_get, sum_by}
 use Rattle.std.specs.List.{AllByRecursion}
 use Rattle.std.proofs.lemmas.Bool.{cases_eq, eq-eqb, ne_eqb}
@@ -8,14 +8,12 @@ use Rattle.std.proofs.lemmas.List.Elements.{All-append}
 use Rattle.std.proofs.lemmas.Option.{same_Some, slice_get_within}
 use Rattle.exb_model.specs.declared.setup.Timed.{Timed}
 use Rattle.exb_model.specs.FlatBridge.{Sent}
-use Rattle.exb_model.specs.Input.{Coming, Ordered, Captured, given_by, moment_of, second_of, seconds_after}
+use Rattle.exb_model.specs.Input.{given_by, moment_of, seconds_after}
 use Rattle.exb_model.specs.Setup.{NamesExternal}
-use Rattle.exb_model.specs.Tree.{is_external}
 use Rattle.exb_machine.specs.Runs.Passed.{StepsTellPassed}
 use Rattle.exb_machine.specs.Runs.Sessions.{Each}
 use Rattle.exb_machine.specs.Stepping.{Stepped}
 use Rattle.exb_machine.specs.Worlds.{Left}
-use Rattle.exb_network.specs.Networks.{Network}
 use Rattle.exb_resting.specs.Flight.Showing.{left_at}
 use Rattle.exb_schedule.specs.Worlds.{network_of}
 use Rattle.exb_shelf.specs.Files.{Files, bytes_of}
@@ -24,16 +22,15 @@ use Rattle.exb_merge.specs.declared.agenda.NetNext.{NetNext}
 use Rattle.exb_merge.specs.declared.programme.Next.{Next}
 use Rattle.exb_merge.specs.declared.programme.Next.TheVariants as next
 use Rattle.exb_merge.specs.declared.programme.Programme.{Programme}
-use Rattle.exb_merge.specs.NetAgendas.{AreAllReplays, ComesTo, all_ids, all_to_play, due_of, dues_left}
-use Rattle.exb_merge.specs.Programmes.{IsComing, IsFrom, IsOf, size_of, what}
-use Rattle.exb_merge.specs.Replays.{HasPort, Standing, gone_on, left_in, number_of, standings}
+use Rattle.exb_merge.specs.NetAgendas.{AreAllReplays, all_ids, all_to_play, due_of, dues_left}
+use Rattle.exb_merge.specs.Programmes.{IsOf, size_of, what}
+use Rattle.exb_merge.specs.Replays.{Standing, gone_on, left_in, number_of, standings}
 use Rattle.exb_merge.proofs.Onward.{number_other, number_own, ports_before, second_low}
 use Rattle.exb_merge.specs.Streams.{Stream}
-use Rattle.exb_nets.specs.Nets.{Net, is_wired}
-use Rattle.exb_nets.specs.NetHistory.{Due, due_moment, due_second}
-use Rattle.exb_nets.specs.Order.{AreHere, AreInOrder, IsNext, taken_after, taken_by}
-use Rattle.exb_wiring.specs.Delivering.{AreRun}
-use Rattle.exb_wiring.specs.Playing.{AreOpened, Dones, Plays, PlaysOne, tree_in}
+use Rattle.exb_nets.specs.Nets.{Net}
+use Rattle.exb_nets.specs.NetHistory.{Due, due_second}
+use Rattle.exb_nets.specs.Order.{IsNext, taken_after, taken_by}
+use Rattle.exb_wiring.specs.Playing.{Dones, Plays, PlaysOne, tree_in}
 use Rattle.exb_wiring.specs.UnderWay.{AreOneMore, IsOneMore, LeftAt, orders_at, orders_in, records_at, records_in, records_of}
 use Rattle.exb_net.specs.declared.net.Net.{Net as Bridges}
 use Rattle.exb_net.specs.declared.node.Node.{Node}

@@ -1,14 +1,10 @@
 -- Before anything is taken, what is still to come of all bridges is what comes to the net.
-use Rattle.std.proofs.Common.{◌≡◌, ℕ, zero, suc, ◌+◌, ◌<◌, ◌≤◌, ◌==◌, Bool, true, false, List, [], ◌∷◌, ◌++◌, length, map, filter, max, Option, Some, None, refl, ap, sym, subst, ◌∙◌, arith}
-use Rattle.std.specs.Prelude.{All, filter_map, flat_map, option_map, slice_get}
-use Rattle.std.specs.List.{AllByRecursion}
+use Rattle.std.proofs.Common.{◌≡◌, ℕ, zero, suc, ◌≤◌, List, [], ◌∷◌, ◌++◌, length, map, Some, refl, ap, sym, subst, ◌∙◌, arith}
+use Rattle.std.specs.Prelude.{flat_map, slice_get}
 use Rattle.std.specs.declared.alloc.Global.{Global}
 use Rattle.std.specs.declared.vec.Vec.{Vec}
 use Rattle.std.proofs.lemmas.List.{length-map}
-use Rattle.exb_model.specs.Input.{Input, Record, arrivals_from, given_by, least_or, second_of}
-use Rattle.exb_model.specs.Ports.{all_ports}
-use Rattle.exb_capture.specs.Scans.{first_time, scanned_of}
-use Rattle.exb_capture.specs.declared.checking.Scanned.{Scanned}
+use Rattle.exb_model.specs.Input.{Input, Record, least_or}
 use Rattle.exb_shelf.specs.Files.{Files}
 use Rattle.exb_shelf.specs.Shelf.{Id}
 use Rattle.exb_tables.specs.declared.rows.Named.{Named}
@@ -16,11 +12,11 @@ use Rattle.exb_nets.specs.declared.wires.Wire.{Wire}
 use Rattle.exb_nets.specs.Nets.{Net}
 use Rattle.exb_nets.specs.NetHistory.{dues, start_of_all}
 use Rattle.exb_merge.specs.declared.programme.Programme.{Programme}
-use Rattle.exb_merge.specs.NetAgendas.{AreAllOf, AreAllReplays, AreBegunOf, AreOfNet, IsBegunOf, all_to_play, dues_left, first_seconds}
-use Rattle.exb_merge.specs.Streams.{Stream, arrivals_of, next_moment, stream_at, stream_of}
+use Rattle.exb_merge.specs.NetAgendas.{AreAllOf, AreAllReplays, AreBegunOf, AreOfNet, all_to_play, dues_left, first_seconds}
+use Rattle.exb_merge.specs.Streams.{Stream, stream_at}
 use Rattle.exb_inputs.specs.declared.checked.Checked.{Checked}
 use Rattle.exb_inputs.specs.Again.{stream_told}
-use Rattle.exb_inputs.specs.Checks.{AreChecked, IsToldOf}
+use Rattle.exb_inputs.specs.Checks.{AreChecked}
 use Rattle.exb_inputs.specs.Inputs.{input_of, is_named, records_at}
 use Rattle.exb_inputs.proofs.Beginning.{all-told, firsts-are, none-elsewhere, told-streams}
 use Rattle.exb_net_file.specs.declared.apart.NetRest.{NetRest}

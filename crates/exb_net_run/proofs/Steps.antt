@@ -1,16 +1,14 @@
 -- What comes next can be given to its bridge; and the programmes go on behind it.
-use Rattle.std.proofs.Common.{◌≡◌, ◌≢◌, ℕ, zero, suc, ◌+◌, ◌-◌, ◌*◌, ◌^◌, ◌<◌, ◌≤◌, ◌==◌, ◌++◌, Bool, true, false, cond, List, [], ◌∷◌, length, map, Option, Some, None, refl, ap, sym, subst, ◌∙◌, arith, inl, inr}
-use Rattle.std.specs.Prelude.{All, slice_get, sum_by}
-use Rattle.std.specs.List.{AllByRecursion}
-use Rattle.std.proofs.lemmas.Bool.{cases_eq, eq-eqb, ne_eqb}
+use Rattle.std.proofs.Common.{◌≡◌, ℕ, zero, suc, ◌+◌, ◌-◌, ◌*◌, ◌^◌, ◌<◌, ◌≤◌, ◌==◌, true, false, List, map, Option, Some, None, refl, ap, sym, subst, ◌∙◌, arith}
+use Rattle.std.specs.Prelude.{All, slice_get}
 use Rattle.std.proofs.lemmas.Option.{same_Some, slice_get_within}
 use Rattle.exb_model.specs.declared.command.Command.{Command}
 use Rattle.exb_model.specs.declared.setup.Timed.{Timed}
 use Rattle.exb_model.specs.History.{command_of}
-use Rattle.exb_model.specs.Input.{Coming, Ordered, Captured, basis_of, given_by, moment_of, second_of, seconds_after}
+use Rattle.exb_model.specs.Input.{given_by, moment_of, seconds_after}
 use Rattle.exb_model.specs.Setup.{NamesExternal}
-use Rattle.exb_model.specs.Tree.{Shape, is_external}
-use Rattle.exb_machine.specs.Allowing.{Can, MayArrive}
+use Rattle.exb_model.specs.Tree.{Shape}
+use Rattle.exb_machine.specs.Allowing.{Can}
 use Rattle.exb_machine.specs.Stepping.{Stepped}
 use Rattle.exb_machine.specs.Worlds.{World, Step, Arrive, Order, Tick}
 use Rattle.exb_network.specs.Networks.{tree_of, world_of}
@@ -22,14 +20,13 @@ use Rattle.exb_merge.specs.declared.agenda.NetNext.{NetNext}
 use Rattle.exb_merge.specs.declared.programme.Next.{Next}
 use Rattle.exb_merge.specs.declared.programme.Next.TheVariants as next
 use Rattle.exb_merge.specs.declared.programme.Programme.{Programme}
-use Rattle.exb_merge.specs.NetAgendas.{ComesTo, due_of}
-use Rattle.exb_merge.specs.Programmes.{IsComing, IsFrom, IsOf, what}
-use Rattle.exb_merge.specs.Replays.{HasPort, left_in, number_of, standings}
+use Rattle.exb_merge.specs.NetAgendas.{due_of}
+use Rattle.exb_merge.specs.Programmes.{IsOf, what}
 use Rattle.exb_merge.proofs.Onward.{command_is, second_high}
-use Rattle.exb_nets.specs.Nets.{Net, is_wired}
-use Rattle.exb_nets.specs.NetHistory.{Due, basis_in, due_second}
+use Rattle.exb_nets.specs.Nets.{Net}
+use Rattle.exb_nets.specs.NetHistory.{basis_in}
 use Rattle.exb_net_file.specs.declared.apart.NetRest.{NetRest}
-use Rattle.exb_wiring.specs.Playing.{Dones, IsStepFor, MayPass, PlaysOne, pass, tree_in}
+use Rattle.exb_wiring.specs.Playing.{Dones, IsStepFor, PlaysOne, pass, tree_in}
 use Rattle.exb_wiring.specs.Delivering.{HavePassed}
 use Rattle.exb_net.specs.declared.net.Net.{Net as Bridges}
 use Rattle.exb_net.specs.declared.node.Node.{Node}

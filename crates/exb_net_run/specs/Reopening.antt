@@ -1,9 +1,9 @@
 -- The captures of bridges are opened again: when the net begins, and what each bridge's programme is then.
-use Rattle.std.specs.Prelude.{⊤, ◌≡◌, ◌≤◌, ◌+◌, false, ℕ, List, [], ◌∷◌, All, IfSome, Some, filter_map, flat_map, map, option_map, slice_get, sum_by}
+use Rattle.std.specs.Prelude.{⊤, ◌≡◌, ◌≤◌, ◌+◌, false, ℕ, List, [], ◌∷◌, Some, flat_map, map, slice_get, sum_by}
 use Rattle.std.specs.List.{AllByRecursion}
 use Rattle.std.specs.declared.alloc.Global.{Global}
 use Rattle.std.specs.declared.vec.Vec.{Vec}
-use Rattle.exb_model.specs.Input.{least_or, second_of}
+use Rattle.exb_model.specs.Input.{least_or}
 use Rattle.exb_merge.specs.declared.programme.Programme.{Programme}
 use Rattle.exb_merge.specs.Replays.{AreReplays, ids_in, left_in, standings}
 use Rattle.exb_merge.specs.Streams.{Stream}
