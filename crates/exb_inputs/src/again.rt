@@ -5,7 +5,7 @@ ghost use Rattle.exb_model.specs.Input.{second_of};
 ghost use Rattle.exb_merge.specs.Replays.{AreOpened, AreReplays, AreToldSince, HasPort, ids_in, left_in, standings};
 ghost use Rattle.exb_merge.specs.Streams.{Stream};
 ghost use Rattle.exb_inputs.specs.Checks.{AreChecked, IsToldOf, most_bytes};
-ghost use Rattle.exb_inputs.specs.Again.{earlier, earliest_told, first_standing, start_told, stream_told};
+ghost use Rattle.exb_inputs.specs.Again.{AreSince, earlier, earliest_told, first_standing, start_told, stream_told};
 ghost use Rattle.exb_inputs.specs.Inputs.{is_named};
 ghost use Rattle.exb_inputs.specs.Shelving.{ReadsCapture, CountsFaults};
 ghost use Rattle.exb_inputs.specs.Reading.{IsChange, IsOfPlay};
@@ -103,7 +103,7 @@ pub fn open_all<S: Shelf>(
     ensures fresh { IfOk result (λ captures. AllByRecursion (λ k. (S.ids shelf.old k).given ≡ false) (ids_in captures)) }
     ensures standings { IfOk result (λ captures. standings captures ≡ map first_standing checked.now) }
     ensures left { IfOk result (λ captures. left_in captures ≤ sum_by (λ c. c.told.bytes + 1) checked.now) }
-    ensures since { IfOk result (AreToldSince (start_told checked.now)) }
+    ensures since { IfOk result (λ captures. (second : ℕ) → AreSince second checked.now → AreToldSince second captures) }
     ensures streams { S.tells → IfOk result (λ captures. AreReplays (S.file shelf.new) (S.ids shelf.new) captures.sources.items (map (stream_told names.now (S.file shelf.old)) checked.now)) }
     ensures never { S.tells → IfErr result (λ fault. IsChange fault → ⊥) }
     ensures opens { Opens (ReadsCapture names.now) (S.ids shelf.old) (S.ids shelf.new) }

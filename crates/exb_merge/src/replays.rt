@@ -1,8 +1,8 @@
 //! The captures of some ports that were checked, as they are read again and played.
-ghost use Rattle.std.specs.Prelude.{false, ◌≡◌, ◌≢◌, ◌+◌, ◌*◌, ◌^◌, ◌<◌, ◌≤◌, [], ◌∷◌, ◌++◌, ℕ, List, Some, None, length, IfOk, OnOk, IsErrOf, IfSome, IfNone};
+ghost use Rattle.std.specs.Prelude.{false, ◌≡◌, ◌+◌, ◌*◌, ◌^◌, ◌<◌, ◌≤◌, [], ◌∷◌, ◌++◌, ℕ, List, Some, None, length, IfOk, OnOk, IsErrOf, IfSome, IfNone};
 ghost use Rattle.exb_model.specs.Input.{Record, second_of};
 ghost use Rattle.exb_capture.specs.Captures.{capture_records};
-ghost use Rattle.exb_shelf.specs.Files.{SameFiles, bytes_of};
+ghost use Rattle.exb_shelf.specs.Files.{SameFiles};
 ghost use Rattle.exb_shelf.specs.Shelf.{Id, IsReadingOf, Opens, Rose, NoFewer};
 ghost use Rattle.exb_capture.specs.Reading.{left_to_read, next_of};
 ghost use Rattle.exb_capture.specs.Replaying.{ComesAt, HasGiven, IsKept, IsSameReplay, IsSince};

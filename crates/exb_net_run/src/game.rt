@@ -1,16 +1,15 @@
 //! A net under way: its bridges, what is written of them, and what is counted.
-ghost use Rattle.std.specs.Prelude.{◌≡◌, ◌+◌, ◌<◌, ◌≤◌, ◌^◌, ℕ, List, [], Some, None, All, length, map, slice_get, IfErr, IfNone, IfOk, IfSome, IsErrOf, OnErr, OnOk, string_bytes};
+ghost use Rattle.std.specs.Prelude.{◌≡◌, ◌+◌, ◌<◌, ◌≤◌, ◌^◌, ℕ, List, Some, None, All, length, slice_get, IfErr, IfOk, IfSome, IsErrOf, OnErr, OnOk, string_bytes};
 ghost use Rattle.exb_model.specs.Input.{seconds_after};
 ghost use Rattle.exb_model.specs.Texts.{summary_line};
-ghost use Rattle.exb_machine.specs.Stepping.{Stepped};
 ghost use Rattle.exb_merge.specs.Arrivals.{arrival_with};
-ghost use Rattle.exb_merge.specs.NetAgendas.{AreAllReplays, ComesTo, IsAgenda, IsFirstOf, all_ids, all_to_play, dues_left, programmes_in};
+ghost use Rattle.exb_merge.specs.NetAgendas.{AreAllReplays, ComesTo, IsAgenda, IsFirstOf, all_ids, programmes_in};
 ghost use Rattle.exb_merge.specs.declared.programme.Programme.{Programme};
 ghost use Rattle.exb_merge.specs.Streams.{Stream};
 ghost use Rattle.exb_nets.specs.Nets.{Net as Wired};
 ghost use Rattle.exb_wiring.specs.Playing.{Dones};
 ghost use Rattle.exb_net.specs.Lists.{AreEach};
-ghost use Rattle.exb_net.specs.Nets.{Handled, IsPlaying, Opens};
+ghost use Rattle.exb_net.specs.Nets.{Handled, IsPlaying};
 ghost use Rattle.exb_schedule.specs.Playing.{arrived};
 ghost use Rattle.exb_schedule.specs.Worlds.{fate_in};
 ghost use Rattle.exb_text.specs.Tallies.{FitsTally, counts_of};

@@ -12,6 +12,7 @@ ghost use Rattle.exb_net_file.specs.declared.members.NetMember.{NetMember};
 ghost use Rattle.exb_net_file.specs.Apart.{IsTakenApart, rest_of};
 ghost use Rattle.exb_net_inputs.specs.Holding.{AreRead};
 ghost use Rattle.exb_net_inputs.specs.Opening.{ReadsMemberCapture};
+ghost use Rattle.exb_inputs.specs.Again.{AreSince};
 ghost use Rattle.exb_inputs.specs.Checks.{AreChecked};
 ghost use Rattle.exb_inputs.specs.Inputs.{is_named};
 ghost use Rattle.exb_inputs.specs.Shelving.{CountsFaults, ReadsCapture};
@@ -26,15 +27,14 @@ ghost use Rattle.exb_net_run.specs.Desks.{OnlyAllPlanned};
 ghost use Rattle.exb_net_run.specs.Answers.{IsOfNetPlay};
 ghost use Rattle.exb_net_run.specs.Nets.{net_of, plan_with};
 ghost use Rattle.exb_net_run.specs.Opening.{HasCaptureAt, MakesNet, WritesNetOutput};
-ghost use Rattle.exb_net_run.specs.Reopening.{AreSince, IsOpenedAgain, start_of_told};
+ghost use Rattle.exb_net_run.specs.Reopening.{IsOpenedAgain, start_of_told};
 ghost use Rattle.exb_net_run.specs.Setting.{AreCutAs, AreSet, GoesFrom, IsSet, IsToBeOpened, plan_under};
 ghost use Rattle.exb_net_run.specs.Shelving.{IsNetChange, IsOfCaptures};
 ghost use Rattle.exb_net_run.specs.UnderWay.{AreOfRests, Begins, LeadsOn};
 
 use crate::desk::Desk;
-use crate::reopening::reopen_all;
 use exb_fate::Fate;
-use exb_inputs::{Checked, Fault, earliest_in};
+use exb_inputs::{Checked, Fault, earliest_in, open_all};
 use exb_merge::laws::{agendas_stay, dues_of_all, net_start_is_least};
 use exb_merge::{Agenda, Programme};
 use exb_model::memory::NoMemory;
@@ -160,7 +160,7 @@ fn open_bridge<'a, S: Shelf>(
     ensures faults { CountsFaults result (S.faults shelf.old) (S.faults shelf.new) }
 {
     agendas_stay();
-    match reopen_all(alloc, shelf, piece, rest.captures.as_slice(), checked) {
+    match open_all(alloc, shelf, piece, rest.captures.as_slice(), checked) {
         Ok(captures) => {
             let programme = Programme::new(captures, rest.commands.as_slice(), start);
             agenda.add(programme)?;

@@ -1,5 +1,5 @@
 //! The whole call.
-ghost use Rattle.std.specs.Prelude.{◌≡◌, ◌<◌, ◌≤◌, ◌+◌, ◌^◌, ◌⊎◌, ℕ, Bool, List, All, IfErr, IfOk, IsErrOf, OnErr, OnOk, length, map, string_bytes};
+ghost use Rattle.std.specs.Prelude.{◌<◌, ◌≤◌, ◌+◌, ◌^◌, ◌⊎◌, ℕ, Bool, List, All, IfErr, IfOk, IsErrOf, OnErr, length, map, string_bytes};
 ghost use Rattle.exb_inputs.specs.declared.fault.Fault.{Fault};
 ghost use Rattle.exb_inputs.specs.Shelving.{CountsFaults};
 ghost use Rattle.exb_merge.specs.NetAgendas.{IsAgenda, all_ids, programmes_in};
@@ -13,7 +13,6 @@ ghost use Rattle.exb_net_inputs.specs.Opening.{ReadsMemberCapture};
 ghost use Rattle.exb_schedule.specs.Worlds.{fate_in};
 ghost use Rattle.exb_shelf.specs.Files.{Files, SameFiles};
 ghost use Rattle.exb_shelf.specs.Shelf.{IsReading, Opens};
-ghost use Rattle.exb_text.specs.declared.output.Output.{Output};
 ghost use Rattle.exb_writers.specs.Counts.{IsSummary};
 ghost use Rattle.exb_net_run.specs.Answers.{AreFrontsOfNet, IsNetFailure, IsOfNet, IsOfNetPlay, NetPlayed, NetStops, OnlyNetAsked};
 ghost use Rattle.exb_net_run.specs.Desks.{OnlyAllPlanned, plans_in};

@@ -1,5 +1,6 @@
-use Rattle.std.proofs.Common.{rules, ◌≡◌, ◌+◌, ◌++◌, ◌∷◌, [], false, List, map, take, sum_by, refl, ap, sym, subst, ◌∙◌, arith}
+use Rattle.std.proofs.Common.{rules, ◌≡◌, ◌≤◌, ◌++◌, ◌∷◌, [], false, List, map, take, sum_by, refl, ap, sym, subst, ◌∙◌, arith}
 use Rattle.std.specs.List.{AllByRecursion}
+use Rattle.std.specs.Prelude.{IfSome}
 use Rattle.std.proofs.lemmas.Result.{err_from_is_err_and}
 use Rattle.exb_merge.specs.declared.replays.Again.{Again}
 use Rattle.exb_merge.specs.Replays.{AreReplays, HasPort, ids_in, left_in, standing_of}
@@ -7,10 +8,11 @@ use Rattle.exb_capture.specs.Reading.{left_to_read}
 use Rattle.exb_merge.specs.Streams.{Stream}
 use Rattle.exb_shelf.specs.Files.{Files}
 use Rattle.exb_shelf.proofs.IdLemmas.{opens_none, opens_then}
+use Rattle.exb_model.specs.Input.{second_of}
+use Rattle.exb_inputs.specs.declared.checked.Checked.{Checked}
 use Rattle.exb_inputs.specs.Checks.{IsToldOf}
-use Rattle.exb_inputs.specs.Again.{first_standing, start_told, stream_told}
+use Rattle.exb_inputs.specs.Again.{first_standing, stream_told}
 use Rattle.exb_inputs.specs.Shelving.{ReadsCapture}
-use Rattle.exb_inputs.proofs.Beginning.{told-since}
 use Rattle.exb_inputs.proofs.Reopening.{bytes-more, fresh-more, opened-so, port-named, port-new, since-none, standings-more, stream-told-same, streams-more}
 use Rattle.exb_inputs.proofs.Outcomes.{files_same}
 use Rattle.exb_inputs.proofs.ShelvingLemmas.{fewer_then, counts_as, counts_from}
@@ -40,7 +42,7 @@ opening-init g c =
       fresh = fresh;
       standing = ap (map standing_of) none;
       left = omega (arith, size);
-      since = since-none (start_told c.args.checked.now) c.new-captures.result none;
+      since = λ second all. since-none second c.new-captures.result none;
       streams = λ t. subst (λ (ss : List Again). AreReplays (S.file c.args.shelf.now) (S.ids c.args.shelf.now) ss []) (sym none) tt;
       opens = opens_none _ _;
       files = λ n. refl;
@@ -78,7 +80,7 @@ opening-preserved g c =
       fresh = fresh-more (S.ids c.args.shelf.now) (S.ids c.opening.shelf) (ids_in c.opening.captures) (ids_in c.open_one.new.captures) ok.id.0 ok.id.1 (opened-so (ReadsCapture names) (S.ids c.args.shelf.now) (S.ids c.opening.shelf) inv.opens) ok.id.2 inv.fresh;
       standing = ok.standings ∙ ap (λ xs. xs ++ first_standing one ∷ []) inv.standing ∙ standings-more cs at one low is;
       left = (let most = ok.left in let was = inv.left in let more = bytes-more cs at one low is in omega (arith, most, was, more));
-      since = ok.since (start_told cs) (told-since cs at one low is) inv.since;
+      since = λ second all. ok.since second (subst (λ (d : Checked). IfSome d.told.first (λ first. second ≤ second_of first)) (sym is) (all at one low)) (inv.since second all);
       streams = λ t.
           (let told : IsToldOf names file one = subst (IsToldOf names file) (sym is) (c.requires.checked.told t at one low) in
           let own : IsToldOf names (S.file c.opening.shelf) one = stream-told-same names file (S.file c.opening.shelf) one inv.files told in

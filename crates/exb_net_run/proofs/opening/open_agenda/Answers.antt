@@ -8,11 +8,12 @@ use Rattle.exb_shelf.specs.Files.{Files}
 use Rattle.exb_shelf.proofs.IdLemmas.{opens_none}
 use Rattle.exb_inputs.specs.declared.checked.Checked.{Checked}
 use Rattle.exb_inputs.specs.declared.fault.Fault.TheVariants.{MemberChanged}
+use Rattle.exb_inputs.specs.Again.{AreSince}
 use Rattle.exb_inputs.specs.Checks.{AreChecked}
 use Rattle.exb_inputs.proofs.Outcomes.{files_same}
 use Rattle.exb_net_inputs.specs.Opening.{ReadsMemberCapture}
 use Rattle.exb_net_inputs.proofs.Lists.{get_here}
-use Rattle.exb_net_run.specs.Reopening.{AreReopened, AreSince, IsOpenedAgain, ReadsRest, start_of_told}
+use Rattle.exb_net_run.specs.Reopening.{AreReopened, IsOpenedAgain, ReadsRest, start_of_told}
 use Rattle.exb_net_run.proofs.Leading.{as_many, in_time, leads}
 use Rattle.exb_net_run.proofs.Openings.{err_same, fresh_more, named_more, opens_more, opens_one, own_all, own_more, reads_given, room_left, told_all, told_more}
 use Rattle.exb_net_run.proofs.Programmed.{begins, changed_at, has_capture_at, of_rests, opens_members, reads_member, reopened_long, starts_at, to_open}

@@ -1,8 +1,8 @@
-use Rattle.std.proofs.Common.{◌≡◌, ◌<◌, ◌≤◌, ◌+◌, ◌^◌, ℕ, List, [], Option, Some, None, Err, length, ap, sym, subst, ◌∙◌, arith, refl}
+use Rattle.std.proofs.Common.{ℕ, List, Option, Err, ap, subst, ◌∙◌, arith, refl}
 use Rattle.std.proofs.lemmas.Result.{err_from_is_err_and}
 use Rattle.exb_model.specs.Input.{second_of}
 use Rattle.exb_merge.specs.declared.agenda.NetNext.{NetNext}
-use Rattle.exb_merge.specs.NetAgendas.{AreAllReplays, IsFirstOf, IsOfBridge, all_ids, programmes_in}
+use Rattle.exb_merge.specs.NetAgendas.{AreAllReplays, IsFirstOf, all_ids, programmes_in}
 use Rattle.exb_merge.specs.Streams.{Stream}
 use Rattle.exb_inputs.specs.Shelving.{OnlyReads}
 use Rattle.exb_inputs.proofs.Outcomes.{some_at}
@@ -10,7 +10,6 @@ use Rattle.exb_inputs.proofs.ShelvingLemmas.{counts_as, counts_from, fewer_same,
 use Rattle.exb_outputs.specs.Plans.{Planned}
 use Rattle.exb_net_run.specs.Desks.{OnlyWritesAll, plans_in}
 use Rattle.exb_net_run.specs.Shelving.{IsOfCaptures}
-use Rattle.exb_net_run.specs.UnderWay.{IsDue, NetRun}
 use Rattle.exb_net_run.proofs.Awaited.{all-told, cut-read, few-orders, is-due, ports-on, ready-on, rests-on, seconds-few, within-paid}
 use Rattle.exb_net_run.proofs.Ending.{can-end}
 use Rattle.exb_net_run.proofs.Shelves.{err-own, kept-all, net-goes-none, net-goes-reading, net-goes-writing, writing-changed, writing-never, writing-play}
