@@ -56,17 +56,14 @@ pub fn start_of(checked: &[Checked]) -> u64
 fn open_one<S: Shelf>(
     alloc: Global,
     shelf: &mut S,
-    piece: &mut [u8],
     names: &[Named],
     one: &Checked,
     captures: &mut Replays,
 ) -> Result<(), Fault>
-    requires piece { 0 < length piece.old }
     requires opened { AreOpened (S.ids shelf.old) captures.old }
     requires named { is_named names.now one.now.port ≡ true }
     requires port { HasPort one.now.port (standings captures.old) → ⊥ }
     requires small { one.now.told.bytes ≤ most_bytes }
-    ensures piece { length piece.new ≡ length piece.old }
     ensures opened { OnOk result (AreOpened (S.ids shelf.new) captures.new) }
     ensures named { OnOk result (AllByRecursion (λ k. ReadsCapture names.now (S.ids shelf.old k)) (ids_in captures.old) → AllByRecursion (λ k. ReadsCapture names.now (S.ids shelf.new k)) (ids_in captures.new)) }
     ensures standings { OnOk result (standings captures.new ≡ standings captures.old ++ first_standing one.now ∷ []) }
@@ -83,7 +80,7 @@ fn open_one<S: Shelf>(
     ensures faults { CountsFaults result (S.faults shelf.old) (S.faults shelf.new) }
 {
     let name = name_of(names, one.port).unwrap();
-    captures.add(alloc, shelf, piece, one.port, name, one.told)?;
+    captures.add(alloc, shelf, one.port, name, one.told)?;
     Ok(())
 }
 
@@ -91,13 +88,10 @@ fn open_one<S: Shelf>(
 pub fn open_all<S: Shelf>(
     alloc: Global,
     shelf: &mut S,
-    piece: &mut [u8],
     names: &[Named],
     checked: &[Checked],
 ) -> Result<Replays, Fault>
-    requires piece { 0 < length piece.old }
     requires checked { AreChecked S.tells names.now (S.file shelf.old) checked.now }
-    ensures piece { length piece.new ≡ length piece.old }
     ensures opened { IfOk result (AreOpened (S.ids shelf.new)) }
     ensures named { IfOk result (λ captures. AllByRecursion (λ k. ReadsCapture names.now (S.ids shelf.new k)) (ids_in captures)) }
     ensures fresh { IfOk result (λ captures. AllByRecursion (λ k. (S.ids shelf.old k).given ≡ false) (ids_in captures)) }
@@ -114,7 +108,7 @@ pub fn open_all<S: Shelf>(
 {
     let mut captures = Replays::new(alloc);
     'opening: for one in checked {
-        open_one(alloc, shelf, piece, names, one, &mut captures)?;
+        open_one(alloc, shelf, names, one, &mut captures)?;
     }
     Ok(captures)
 }

@@ -79,15 +79,12 @@ fn seconds_since(last: Option<u64>, second: u64) -> u32
 fn next_due<S: Shelf>(
     alloc: Global,
     shelf: &mut S,
-    piece: &mut [u8],
     rests: &[NetRest],
     agenda: &mut Agenda<'_>,
     buffer: &mut Vec<u8>,
 ) -> Result<Option<NetNext>, Fault>
     requires agenda { IsAgenda (S.ids shelf.old) agenda.old }
-    requires piece { 0 < length piece.old }
     requires rests { length (programmes_in agenda.old) ≤ length rests.now }
-    ensures piece { length piece.new ≡ length piece.old }
     ensures agenda { OnOk result (IsAgenda (S.ids shelf.new) agenda.new) }
     ensures coming { IfOk result (λ due. IfSome due (λ d. ComesTo (programmes_in agenda.old) d (programmes_in agenda.new))) }
     ensures order { S.tells → IfOk result (λ due. (streams : List (List Stream)) → AreAllReplays (S.file shelf.old) (S.ids shelf.old) (programmes_in agenda.old) streams
@@ -99,7 +96,7 @@ fn next_due<S: Shelf>(
     ensures causes { IfErr result IsOfNetPlay }
     ensures faults { CountsFaults result (S.faults shelf.old) (S.faults shelf.new) }
 {
-    match agenda.next(shelf, piece, mem::replace(buffer, Vec::new(alloc))) {
+    match agenda.next(shelf, mem::replace(buffer, Vec::new(alloc))) {
         Ok(due) => Ok(due),
         Err(failure) => {
             let fault = Fault::from(failure.fault);
@@ -259,12 +256,10 @@ impl NetGame {
         &mut self,
         alloc: Global,
         shelf: &mut S,
-        piece: &mut [u8],
         rests: &[NetRest],
         agenda: &mut Agenda<'_>,
     ) -> Result<(), Fault>
         requires agenda { IsAgenda (S.ids shelf.old) agenda.old }
-        requires piece { 0 < length piece.old }
         requires rests { AreOfRests rests.now (programmes_in agenda.old) }
         requires going { (r : NetRun) × IsGoing S.tells r (S.file shelf.old) (S.ids shelf.old) None self.old (programmes_in agenda.old) }
         requires budget { IsWithin self.old.net.nodes.items (λ x. left (fate_in x.world)) (programmes_in agenda.old) }
@@ -285,7 +280,7 @@ impl NetGame {
         agendas_stay();
         let mut last: Option<u64> = None;
         let mut buffer = Vec::new(alloc);
-        'events: while let Some(due) = next_due(alloc, shelf, piece, rests, agenda, &mut buffer)? {
+        'events: while let Some(due) = next_due(alloc, shelf, rests, agenda, &mut buffer)? {
             let second = due.next.moment() / NANOSECONDS;
             let seconds = seconds_since(last, second);
             self.turn(shelf, rests, seconds, due, &mut buffer)?;
@@ -315,12 +310,10 @@ impl NetGame {
         &mut self,
         alloc: Global,
         shelf: &mut S,
-        piece: &mut [u8],
         rests: &[NetRest],
         agenda: &mut Agenda<'_>,
     ) -> Result<String, Fault>
         requires agenda { IsAgenda (S.ids shelf.old) agenda.old }
-        requires piece { 0 < length piece.old }
         requires rests { AreOfRests rests.now (programmes_in agenda.old) }
         requires going { (r : NetRun) × IsGoing S.tells r (S.file shelf.old) (S.ids shelf.old) None self.old (programmes_in agenda.old) }
         requires budget { IsWithin self.old.net.nodes.items (λ x. left (fate_in x.world)) (programmes_in agenda.old) }
@@ -338,7 +331,7 @@ impl NetGame {
     {
         nets_are_played_eagerly();
         counts_go_on();
-        self.play_all(alloc, shelf, piece, rests, agenda)?;
+        self.play_all(alloc, shelf, rests, agenda)?;
         self.end(alloc, shelf)
     }
 
@@ -347,12 +340,10 @@ impl NetGame {
         &mut self,
         alloc: Global,
         shelf: &mut S,
-        piece: &mut [u8],
         rests: &[NetRest],
         agenda: &mut Agenda<'_>,
     ) -> Result<String, Fault>
         requires agenda { IsAgenda (S.ids shelf.old) agenda.old }
-        requires piece { 0 < length piece.old }
         requires rests { AreOfRests rests.now (programmes_in agenda.old) }
         requires begins { (r : NetRun) × CanBegin S.tells r (S.file shelf.old) (S.ids shelf.old) self.old (programmes_in agenda.old) }
         requires budget { IsWithin self.old.net.nodes.items (λ x. left (fate_in x.world)) (programmes_in agenda.old) }
@@ -376,6 +367,6 @@ impl NetGame {
             return Err(Fault::Memory);
         }
         self.note(shelf)?;
-        self.play_on(alloc, shelf, piece, rests, agenda)
+        self.play_on(alloc, shelf, rests, agenda)
     }
 }

@@ -22,12 +22,10 @@ use std::mem;
 /// A second in nanoseconds.
 const NANOSECONDS: u64 = 1_000_000_000;
 
-/// What is still to come, room for what is read of it at once, what came of it for one segment, and what came for the one before, of
-/// which the buffers are used again.
+/// What is still to come, what came of it for one segment, and what came for the one before, of which the buffers are used again.
 #[derive(Drop)]
 pub(crate) struct Feed<'a> {
     pub(crate) programme: Programme<'a>,
-    pub(crate) piece: Vec<u8>,
     pub(crate) gathered: Vec<Arrival>,
     pub(crate) played: Vec<Arrival>,
 }
@@ -74,10 +72,7 @@ impl Feed<'_> {
         ensures faults { CountsFaults result (S.faults shelf.old) (S.faults shelf.new) }
     {
         let buffer = spare(alloc, &mut self.played);
-        match self
-            .programme
-            .next(shelf, self.piece.as_mut_slice(), buffer)?
-        {
+        match self.programme.next(shelf, buffer)? {
             Some(Next::Record(came)) => {
                 let second = came.moment / NANOSECONDS;
                 put(&mut self.gathered, came)?;
@@ -107,8 +102,7 @@ impl Feed<'_> {
         ensures faults { CountsFaults result (S.faults shelf.old) (S.faults shelf.new) }
     {
         let buffer = spare(alloc, &mut self.played);
-        let piece = self.piece.as_mut_slice();
-        match self.programme.next_within(shelf, piece, buffer, second)? {
+        match self.programme.next_within(shelf, buffer, second)? {
             Some(Next::Record(came)) => {
                 put(&mut self.gathered, came)?;
                 Ok(true)

@@ -36,7 +36,6 @@ opening-init g c =
     subst (λ (ss : List Again). AllByRecursion (λ k. (S.ids c.args.shelf.now k).given ≡ false) (map (λ (s : Again). s.replay.file.id) ss)) (sym none) tt in
     let size : left_in c.new-captures.result ≡ 0 = ap (λ (ss : List Again). sum_by (λ (s : Again). left_to_read s.replay.file) ss) none in
     record {
-      piece = refl;
       opened = c.new-captures.ensures.opened (S.ids c.args.shelf.now);
       named = named;
       fresh = fresh;
@@ -74,7 +73,6 @@ opening-preserved g c =
     let ok = c.in_ok-open_one.ensures in
     let file = S.file c.args.shelf.now in
     record {
-      piece = c.open_one.ensures.piece ∙ inv.piece;
       opened = ok.opened;
       named = ok.named inv.named;
       fresh = fresh-more (S.ids c.args.shelf.now) (S.ids c.opening.shelf) (ids_in c.opening.captures) (ids_in c.open_one.new.captures) ok.id.0 ok.id.1 (opened-so (ReadsCapture names) (S.ids c.args.shelf.now) (S.ids c.opening.shelf) inv.opens) ok.id.2 inv.fresh;

@@ -11,7 +11,6 @@ abbrev pub invariant-opening : goal.invariant-opening
 invariant-opening g l =
     let S = g.S.Shelf in
     record {
-      piece : length l.piece ≡ length l.fn.piece;
       opened : AreOpened (S.ids l.shelf) l.captures;
       named : AllByRecursion (λ k. ReadsCapture l.names (S.ids l.shelf k)) (ids_in l.captures);
       fresh : AllByRecursion (λ k. (S.ids l.fn.shelf k).given ≡ false) (ids_in l.captures);

@@ -1,6 +1,5 @@
 use Rattle.std.proofs.Common.{◌≡◌, ◌<◌, ◌^◌, ℕ, false, List, length, refl, ap, sym, subst, inl, ◌∙◌, arith}
 use Rattle.std.specs.List.{AllByRecursion}
-use Rattle.std.specs.Vec.{with_items}
 use Rattle.std.proofs.lemmas.Result.{err_from_is_err_and}
 use Rattle.exb_play.proofs.Parts.{begun-so-far}
 use Rattle.exb_inputs.proofs.Ports.{named-port}
@@ -33,11 +32,6 @@ play_feed-requires-clause-ready g c = ready-opened _ c.args.plan.now (g.S.Shelf.
 pub play_feed-requires-clause-feed : goal.play_feed-requires-clause-feed
 play_feed-requires-clause-feed g c = record {
   programme = c.new-programme.ensures.opened (g.S.Shelf.ids c.open_all.new.shelf) c.in_ok-captures.ensures.opened;
-  piece =
-      (let kept = (with_items c.in-Ok.piece c.open_all.new.piece).ok.0 in
-      let own = c.in-Ok.piece.ok.0 in
-      let size = c.in-Ok.ensures in
-      omega (arith, kept, own, size));
 }
 
 pub play_feed-requires-clause-begins : goal.play_feed-requires-clause-begins

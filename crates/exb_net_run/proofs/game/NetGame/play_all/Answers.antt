@@ -18,7 +18,6 @@ use Rattle.exb_net_run.proofs.game.NetGame.play_all.Goals as goal
 pub events-init : goal.events-init
 events-init g c = record {
   agenda = c.requires.agenda;
-  piece = c.requires.piece;
   rests = c.requires.rests;
   going = λ r start. start;
   budget = c.requires.budget;
@@ -93,7 +92,6 @@ events-preserved g c =
     let mine = all_ids (programmes_in c.args.agenda.now) in
     record {
       agenda = c.agendas_stay.ensures.stays (S.ids c.next_due.new.shelf) (S.ids c.turn.new.shelf) c.next_due.new.agenda (kept-all (S.ids c.next_due.new.shelf) (S.ids c.turn.new.shelf) c.turn.ensures.only.kept (all_ids ps)) c.in_ok-due.ensures.agenda;
-      piece = (let same = c.next_due.ensures.piece in let some = inv.piece in omega (arith, same, some));
       rests = of;
       going = λ r start.
           c.in_ok-turn.ensures.told r second ps
