@@ -6,7 +6,7 @@ pub returns-then-is_empty : goal.returns-then-is_empty
 returns-then-is_empty c =
     rw (← c.self.view_is) (sym (find_none (record { vid = c.args.vid; address = c.args.address }) c.self.inside.entries.entries (c.is_empty.ensures.0 c.if-is_empty.true)))
 
-pub returns-else-is_empty : goal.returns-else-is_empty
-returns-else-is_empty c =
+pub returns : goal.returns
+returns c =
     c.get.ensures.value
     ∙ rw (← c.self.view_is) (sym (find_of (record { vid = c.args.vid; address = c.args.address }) c.self.inside.entries.entries))
