@@ -1,5 +1,5 @@
 -- What a bridge did, in its files and counts: with what it did since.
-use Rattle.std.proofs.Common.{◌≡◌, ◌<◌, ◌++◌, ◌⊎◌, inl, inr, Bool, ℕ, suc, List, [], ◌∷◌, take, get_or, flat_map, length, Some, refl, ap, sym, ◌∙◌, subst, arith, append_assoc}
+use Rattle.std.proofs.Common.{◌≡◌, ◌<◌, ◌++◌, inl, inr, Bool, ℕ, suc, List, [], ◌∷◌, take, get_or, flat_map, length, Some, refl, ap, sym, ◌∙◌, subst, arith, append_assoc}
 use Rattle.std.proofs.lemmas.List.{append-nil}
 use Rattle.exb_model.specs.declared.event.Event.{Event}
 use Rattle.exb_model.specs.Texts.{record_text}

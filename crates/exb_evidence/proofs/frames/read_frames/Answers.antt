@@ -76,7 +76,6 @@ files-preserved g c =
           let h = c.in_ok-taken.ensures.taken t in
           subst (λ (xs : List PortFile). total f xs + (c.files.left - taken.bytes) ≡ c.args.limit) (sym more)
           (rest_more f (take i files) one h.bytes taken.bytes c.files.left c.args.limit (inv.rest t) (sym (inv.kept one.name) ∙ h.there) h.taken.size c.in_ok-taken.ensures.bytes);
-      piece = c.in_ok-taken.ensures.piece ∙ inv.piece;
       opened =
           opens_then _ _ _ _ inv.opened
           (opens_weaker _ _ _ _ (λ k reads. record { at = i; one = one; is = get_item files i one c.one-item.is c.files-test.true; reads = reads }) c.in_ok-taken.ensures.opened);

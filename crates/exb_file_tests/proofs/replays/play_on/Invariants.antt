@@ -8,5 +8,4 @@ abbrev pub invariant-records : goal.invariant-records
 invariant-records g l = record {
   at : IsAt (ids_of l.shelf l.replay.file.id) l.replay.file.got;
   kept : IsKept l.replay;
-  piece : 0 < length l.piece;
 }

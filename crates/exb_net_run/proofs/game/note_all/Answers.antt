@@ -1,14 +1,12 @@
-use Rattle.std.proofs.Common.{rules, ◌≡◌, ℕ, ◌+◌, ◌<◌, ◌≤◌, List, [], length, map, Some, refl, ap, sym, subst, ◌∙◌, arith}
-use Rattle.std.specs.Prelude.{slice_get}
+use Rattle.std.proofs.Common.{rules, ◌<◌, List, length, refl, ap, sym, subst, ◌∙◌, arith}
 use Rattle.std.proofs.lemmas.Option.{slice_get_within}
 use Rattle.std.proofs.lemmas.Result.{err_from_is_err_and}
 use Rattle.exb_inputs.proofs.ShelvingLemmas.{counts_as, counts_from}
 use Rattle.exb_schedule.specs.Worlds.{network_of}
 use Rattle.exb_outputs.specs.Plans.{Planned}
 use Rattle.exb_net.proofs.Places.{at_place, is_there, set_there}
-use Rattle.exb_net_run.specs.declared.desk.Desk.{Desk}
 use Rattle.exb_net_run.specs.Desks.{AreAllFronts, AreNoted, ArePlansApart, CanNote, IsMore, IsNoted, OnlyWritesAll, plans_in}
-use Rattle.exb_net_run.proofs.Noted.{fronts_more, noted_all, noted_more, only_none, only_one, plans-long, plans-same-long, plans_set, ready_more, upto, upto_high, upto_none}
+use Rattle.exb_net_run.proofs.Noted.{fronts_more, noted_all, noted_more, only_none, only_one, plans-long, plans-same-long, plans_set, ready_more, upto_high, upto_none}
 use Rattle.exb_net_run.proofs.game.note_all.Goals as goal
 
 pub loop-bridge-init : goal.loop-bridge-init

@@ -11,7 +11,6 @@ invariant-looking g l =
     let bytes = bytes_of (S.file l.fn.shelf (S.ids l.fn.shelf l.fn.self.id).name) in
     record {
       at : IsAt (S.ids l.shelf l.self.id) l.self.got;
-      piece : length l.piece ≡ length l.fn.piece;
       unseen : l.self.next ≡ None;
       sound : IsSound l.self;
       same : IsSameFile l.fn.self l.self;

@@ -1,6 +1,7 @@
-//! A row for each E-CID.
+//! The rows by which an extender replicates (IEEE 802.1BR): for each E-CID, the ports that its frames go
+//! to. Each call reads or writes one row, and every other row stays.
 ghost use Rattle.std.specs.Prelude.{◌≡◌, ◌<◌, ℕ, ◌==◌, if◌then◌else◌, IfOk, length};
-ghost use Rattle.exb_members.specs.Rows.{row_of, with_row};
+ghost use Rattle.exb_extender.specs.MemberSets.{row_of, with_row};
 
 use exb_model::memory::NoMemory;
 use std::alloc::Global;
@@ -26,7 +27,7 @@ impl Model for MemberSets {
     ghost invariant = { λ s. length s.rows.items ≡ 16384 };
 }
 
-// So many empty rows.
+/// So many empty rows.
 fn empty_rows(alloc: Global, count: usize) -> Result<Vec<u64>, NoMemory>
     ensures many { IfOk result (λ made. length made.items ≡ count) }
     ensures rows { IfOk result (λ made. (e : ℕ) → row_of made.items e ≡ 0) }
