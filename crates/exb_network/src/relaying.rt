@@ -203,6 +203,7 @@ fn learn(
     let _ = site;
     let frame = arrived.bytes;
     are_bytes(frame);
+    post.store.lend(&mut outbox.spare);
     match core
         .control
         .frame(arrived.port, arrived.index, arrived.moment, frame, outbox)
