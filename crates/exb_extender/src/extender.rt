@@ -7,7 +7,9 @@ ghost use Rattle.exb_extender.specs.Sending.{IsNothing, sent_by, form_sent, CanB
 ghost use Rattle.exb_extender.specs.Tables.{tables_of};
 
 use crate::control::Control;
-use crate::forwarding::{form_from_cascade, form_from_external, is_bare_control, send_down};
+use crate::forwarding::{
+    form_from_cascade, form_from_external, is_bare_control, only_down, only_up, send_down,
+};
 use crate::sends::{Entry, Form, Out, Sends, Side};
 use crate::tables::Tables;
 use exb_model::memory::NoMemory;
@@ -74,6 +76,7 @@ fn take_down(tables: &mut Tables, control: &mut Control, frame: &[u8], sends: &m
 impl Extender {
     ghost use Rattle.exb_extender.specs.Fields.{state_of};
     ghost use Rattle.exb_extender.specs.Machine.{at_power_on, react, Arrives, Beats, IsPort, CanTake, IsSameDevice, IsExtender};
+    ghost use Rattle.exb_extender.specs.Passing.{GoesTo};
     ghost use Rattle.exb_extender.specs.Resting.{rests, rested};
 
     /// Extender `number` at power-on: each port is external and without a channel. This call alone takes
@@ -102,6 +105,19 @@ impl Extender {
         match from {
             Side::Up => take_down(&mut self.tables, &mut self.control, frame, sends),
             Side::Port { port } => take_up(&self.tables, port, frame, sends),
+        }
+    }
+
+    /// The one side to which a frame from upstream, or from a port as `take` has it, goes on, and its form there, where nothing else
+    /// comes of it: mostly so, and it need not be taken then. None says nothing.
+    #[inline(always)]
+    pub fn only_out(&self, from: Side, frame: &[u8]) -> Option<Out>
+        requires { CanTake (state_of self.now) from }
+        ensures { IfSome result (GoesTo (state_of self.now).tables from frame.now) }
+    {
+        match from {
+            Side::Up => only_down(&self.tables, frame),
+            Side::Port { port } => only_up(&self.tables, port, frame),
         }
     }
 

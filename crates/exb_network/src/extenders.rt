@@ -1,5 +1,5 @@
 //! The extenders of a network.
-ghost use Rattle.std.specs.Prelude.{◌≡◌, ◌↔◌, ◌&&◌, ℕ, ◌≤◌, ◌<◌, true, false, not, if◌then◌else◌, IfOk, IsTrue, None, [], slice_index};
+ghost use Rattle.std.specs.Prelude.{◌≡◌, ◌↔◌, ◌&&◌, ℕ, ◌≤◌, ◌<◌, true, false, not, if◌then◌else◌, IfOk, IfSome, IsTrue, None, [], slice_index};
 ghost use Rattle.std.specs.Int.{bit_at};
 ghost use Rattle.std.specs.List.{All};
 ghost use Rattle.exb_model.specs.Frames.{is_control_frame};
@@ -8,6 +8,7 @@ ghost use Rattle.exb_model.specs.Tree.{is_extender};
 ghost use Rattle.exb_extender.specs.Fields.{state_of};
 ghost use Rattle.exb_extender.specs.Forwarding.{is_ignored};
 ghost use Rattle.exb_extender.specs.Machine.{Arrives, Beats, CanTake, IsPort, react};
+ghost use Rattle.exb_extender.specs.Passing.{GoesTo};
 ghost use Rattle.exb_extender.specs.Resting.{rests, rested};
 ghost use Rattle.exb_extender.specs.Sending.{sent_by};
 ghost use Rattle.exb_network.specs.Forms.{CanGo};
@@ -15,7 +16,7 @@ ghost use Rattle.exb_machine.specs.Worlds.{at};
 ghost use Rattle.exb_network.specs.Devices.{far_of, first_far, has_extender, if_rests, IsPoweredOn, AreSame};
 
 use crate::numbers::{meet, with_bit};
-use exb_extender::{Entry, Extender, Sends, Side};
+use exb_extender::{Entry, Extender, Out, Sends, Side};
 use exb_model::address::is_control_frame;
 use exb_model::memory::NoMemory;
 use exb_model::port::DEVICES;
@@ -114,6 +115,20 @@ impl Extenders {
             waiting,
             passed: 0,
         })
+    }
+
+    /// The one side to which a frame from upstream, or from one of its cascade ports, goes on, with its form there, where nothing
+    /// else comes of it. None says nothing.
+    #[inline(always)]
+    pub(crate) fn only_out(&self, number: u8, from: Side, frame: &[u8]) -> Option<Out>
+        requires there { has_extender self.now number ≡ true }
+        requires from { CanTake (far_of self.now number) from }
+        ensures { IfSome result (GoesTo (far_of self.now number).tables from frame.now) }
+    {
+        match &self.extenders[number as usize] {
+            Some(extender) => extender.only_out(from, frame),
+            None => None,
+        }
     }
 
     /// An extender takes a frame from upstream, or from one of its cascade ports.
