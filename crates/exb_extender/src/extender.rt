@@ -1,5 +1,5 @@
 //! The extender.
-ghost use Rattle.std.specs.Prelude.{◌≡◌, ◌↔◌, ◌⊎◌, ℕ, ◌≤◌, ◌<◌, [], List, true, false, All, None, IfOk, IfSome, IsTrue};
+ghost use Rattle.std.specs.Prelude.{◌≡◌, ◌↔◌, ◌⊎◌, ℕ, ◌≤◌, ◌<◌, [], List, true, false, is_none, All, None, IfOk, IfSome, IsTrue};
 ghost use Rattle.exb_extender.specs.Control.{state_in};
 ghost use Rattle.exb_extender.specs.Forwarding.{emitted, is_ignored};
 ghost use Rattle.exb_extender.specs.Machine.{comes};
@@ -119,6 +119,19 @@ impl Extender {
             Side::Up => only_down(&self.tables, frame),
             Side::Port { port } => only_up(&self.tables, port, frame),
         }
+    }
+
+    /// The form in which a frame goes up that arrives at a port that is no cascade port; None where it is ignored. It need not be
+    /// taken then: nothing else comes of it.
+    #[inline(always)]
+    pub fn form_in(&self, port: u8, frame: &[u8]) -> Option<Form>
+        requires port { IsPort (state_of self.now) port }
+        requires external { (state_of self.now).tables.cascade port ≡ false }
+        ensures sends { form_sent frame.now result ≡ emitted (state_of self.now).tables (Side.Port port) frame.now }
+        ensures given { IfSome result (CanBeGiven frame.now) }
+        ensures ignored { is_none result ≡ is_ignored ((state_of self.now).tables.own port) frame.now }
+    {
+        form_from_external(self.tables.channel(port), frame)
     }
 
     /// Takes a frame that arrives at a port that is no cascade port. What is in `sends` is replaced.

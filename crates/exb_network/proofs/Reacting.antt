@@ -9,16 +9,15 @@ use Rattle.exb_model.specs.Input.{Arrival}
 use Rattle.exb_model.specs.Tree.{Shape, device}
 use Rattle.exb_link.specs.declared.word.Stamp.{Stamp}
 use Rattle.exb_link.specs.declared.word.Word.{Word}
-use Rattle.exb_extender.specs.declared.sends.Entry.{Entry}
-use Rattle.exb_extender.specs.declared.sends.Entry.TheVariants as entry
+use Rattle.exb_extender.specs.declared.sends.Form.{Form}
 use Rattle.exb_extender.specs.declared.sends.Out.{Out}
 use Rattle.exb_extender.specs.declared.sends.Sends.{Sends}
 use Rattle.exb_extender.specs.declared.sends.Side.{Side}
 use Rattle.exb_extender.specs.declared.sends.Side.TheVariants as side
-use Rattle.exb_extender.specs.Forwarding.{Sent, emitted, is_ignored}
+use Rattle.exb_extender.specs.Forwarding.{Sent, emitted, is_ignored, up}
 use Rattle.exb_extender.specs.Machine.{ExtenderState, Input, Arrives, IsPort, Reaction, react}
 use Rattle.exb_extender.specs.Passing.{GoesTo}
-use Rattle.exb_extender.specs.Sending.{out_sent, sent_by}
+use Rattle.exb_extender.specs.Sending.{bytes_in, out_sent, sent_by}
 use Rattle.exb_machine.specs.Worlds.{World, at, with_far}
 use Rattle.exb_machine.specs.Effects.{Effect, each}
 use Rattle.exb_machine.specs.Extending.{does, sends, reacts, takes_from_below, arrives_at, ignored, stamp_of, port_number}
@@ -110,23 +109,16 @@ pub arrives_ignored : (t : Shape) (a : Arrival) (s : Site) (c : Core) (old new :
 arrives_ignored t a s c old new outer is done = subst (λ (e : Effect). Does e s c old new) (sym (at_ignored t a (world_in c) outer is)) done
 
 -- where it is
-pub arrives_sent : (t : Shape) (a : Arrival) (s : Site) (c d : Core) (result : Entry) (sent : Sends) (old new : Log) → (far_of c.far (device a.port)).tables.cascade (port_number a.port) ≡ false →
-    ((result ≡ entry.Ignored) ↔ IsTrue (is_ignored ((far_of c.far (device a.port)).tables.own (port_number a.port)) a.bytes)) → result ≡ entry.Sent →
-    sent_by a.bytes sent ≡ (react (Arrives (side.Port (port_number a.port)) a.bytes) (far_of c.far (device a.port))).1 →
-    Does (each (sends t (device a.port) (Some (stamp_of a))) (sent_by a.bytes sent) (world_in c)) s d old new → Does (arrives_at t a (world_in c)) s d old new
-arrives_sent t a s c d result sent old new outer let_in is are done =
+pub arrives_up : (t : Shape) (a : Arrival) (s : Site) (c d : Core) (form : Form) (old new : Log) → (far_of c.far (device a.port)).tables.cascade (port_number a.port) ≡ false →
+    is_ignored ((far_of c.far (device a.port)).tables.own (port_number a.port)) a.bytes ≡ false → up (bytes_in a.bytes form) ∷ [] ≡ emitted (far_of c.far (device a.port)).tables (side.Port (port_number a.port)) a.bytes →
+    Does (sends t (device a.port) (Some (stamp_of a)) (up (bytes_in a.bytes form)) (world_in c)) s d old new → Does (arrives_at t a (world_in c)) s d old new
+arrives_up t a s c d form old new outer isnt are done =
     let f = sends t (device a.port) (Some (stamp_of a)) in
     let r = react (Arrives (side.Port (port_number a.port)) a.bytes) (far_of c.far (device a.port)) in
-    let isnt : is_ignored ((far_of c.far (device a.port)).tables.own (port_number a.port)) a.bytes ≡ false =
-    elim (cases_Bool (is_ignored ((far_of c.far (device a.port)).tables.own (port_number a.port)) a.bytes)) [
-      | inl x ↦ absurd (apart (sym is ∙ let_in.1 x))
-      | inr x ↦ x
-    ] in
     subst (λ (e : Effect). Does e s d old new) (at_sent t a (world_in c) outer isnt)
-    (subst (λ (w : World). Does (each f r.1 w) s d old new) (sym (far_same (device a.port) (world_in c))) (subst (λ (xs : List Sent). Does (each f xs (world_in c)) s d old new) are done))
-  where
-    apart : entry.Sent ≡ entry.Ignored → ⊥
-    apart e = cc
+    (subst (λ (w : World). Does (each f r.1 w) s d old new) (sym (far_same (device a.port) (world_in c)))
+    (subst (λ (xs : List Sent). Does (each f xs (world_in c)) s d old new) are
+    (subst (λ (e : Effect). Does e s d old new) (sym (each_one f (up (bytes_in a.bytes form)) (world_in c))) done)))
 
 -- ---- ports
 -- a port of an extender as that has it

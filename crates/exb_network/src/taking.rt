@@ -10,9 +10,9 @@ ghost use Rattle.exb_network.specs.Worlds.{world_in, IsAt, Does, KeepsTrace};
 use crate::arrivals::{Arrived, Came};
 use crate::log::Log;
 use crate::passing::pass_on;
-use crate::sending::{send_all, send_on};
+use crate::sending::{send_all, send_frame, send_on};
 use crate::site::{Core, Room, Site};
-use exb_extender::{Entry, Side};
+use exb_extender::{Out, Side};
 use exb_link::Word;
 use exb_model::event::Event;
 use exb_model::memory::NoMemory;
@@ -131,18 +131,15 @@ pub(crate) fn arrive_at(
     if core.far.cascade(number, port) {
         return ignore(arrived, &mut room.post.log);
     }
-    match core
-        .far
-        .arrive(number, port, arrived.bytes, &mut room.sends)
-    {
-        Entry::Ignored => ignore(arrived, &mut room.post.log),
-        Entry::Sent => {
+    match core.far.form_in(number, port, arrived.bytes) {
+        None => ignore(arrived, &mut room.post.log),
+        Some(form) => {
             let came = Came {
                 frame: arrived.bytes,
                 stamp: Some(arrived.stamp()),
             };
-            let sends = &room.sends;
-            send_all(site, number, &came, sends, core, &mut room.post)
+            let out = Out { to: Side::Up, form };
+            send_frame(site, number, &came, &out, core, &mut room.post)
         }
     }
 }

@@ -4,4 +4,5 @@ use Rattle.exb_extender.proofs.PassingLemmas.{goes_on_up}
 use Rattle.exb_extender.proofs.forwarding.only_up.Goals as goal
 
 pub returns : goal.returns
-returns c = ?
+returns c =
+    goes_on_up (tables_of c.args.tables.now) c.args.port c.args.frame.now (sym c.cascade.ensures ∙ c.if-not-cascade.false) (sym c.names_channel.ensures ∙ c.if-not-names_channel.false)
