@@ -1,5 +1,5 @@
 //! A word that an extender sends on to one side alone.
-ghost use Rattle.std.specs.Prelude.{◌≡◌, ◌<◌, OnOk};
+ghost use Rattle.std.specs.Prelude.{◌<◌, OnOk};
 ghost use Rattle.exb_extender.specs.Sending.{out_sent};
 ghost use Rattle.exb_machine.specs.Extending.{sends};
 ghost use Rattle.exb_network.specs.Forms.{CanGo};

@@ -9,7 +9,7 @@ ghost use Rattle.exb_machine.specs.Telling.{all_told, told};
 ghost use Rattle.exb_machine.specs.Worlds.{Journal};
 ghost use Rattle.exb_network.specs.Networks.{step_of};
 ghost use Rattle.exb_network.specs.Steps.{way_of};
-ghost use Rattle.exb_network.specs.Worlds.{world_in, IsAt};
+ghost use Rattle.exb_network.specs.Worlds.{world_in};
 
 use crate::site::{Core, Site};
 use crate::step::{Step, Way};
