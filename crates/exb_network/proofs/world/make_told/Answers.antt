@@ -3,7 +3,7 @@ use Rattle.exb_network.specs.Networks.{step_of}
 use Rattle.exb_network.proofs.Lines.{stepped_silently}
 use Rattle.exb_network.proofs.world.make_told.Goals as goal
 
-pub returns-else-tracing-clause-made : goal.returns-else-tracing-clause-made
-returns-else-tracing-clause-made c =
+pub returns-else-room-clause-made : goal.returns-else-room-clause-made
+returns-else-room-clause-made c =
     on_ok_weaker c.advance.result (λ does failed.
-    stepped_silently c.args.site.now c.args.core.now c.advance.new.core (step_of c.args.step.now) c.args.room.now.post.log c.advance.new.room.post.log failed c.if-tracing.false does) c.advance.ensures.does
+    stepped_silently c.args.site.now c.args.core.now c.advance.new.core (step_of c.args.step.now) c.args.room.now.post.log c.advance.new.room.post.log failed c.if-room.false does) c.advance.ensures.does
