@@ -1,5 +1,5 @@
 //! Checking a capture from front to end.
-ghost use Rattle.std.specs.Prelude.{◌≡◌, ◌≤◌, ◌<◌, ◌+◌, ◌-◌, ◌*◌, ◌^◌, [], ℕ, false, min, length, IfOk, OnOk, IfErr, IsErrOf, IfSome};
+ghost use Rattle.std.specs.Prelude.{◌≡◌, ◌≤◌, ◌<◌, ◌+◌, ◌-◌, ◌*◌, ◌^◌, [], ℕ, false, min, IfOk, OnOk, IfErr, IsErrOf, IfSome};
 ghost use Rattle.exb_shelf.specs.Files.{SameFiles, bytes_of};
 ghost use Rattle.exb_shelf.specs.Shelf.{IsReadingOf, Opens, Rose, NoFewer};
 ghost use Rattle.exb_capture.specs.Counts.{after_looking, after_scan};

@@ -1,7 +1,6 @@
 //! One capture on a shelf, read in pieces.
-ghost use Rattle.std.specs.Prelude.{◌≡◌, ◌≢◌, ◌<◌, ◌≤◌, ◌+◌, ◌-◌, ◌*◌, ◌^◌, ◌∷◌, ◌++◌, ◌⊎◌, [], ℕ, List, true, false, Some, None, Ok, length, take, drop, IfOk, OnOk, IfErr, OnErr, IsErrOf, IfSome, IfNone, IsSome};
+ghost use Rattle.std.specs.Prelude.{◌≡◌, ◌≢◌, ◌<◌, ◌≤◌, ◌+◌, ◌-◌, ◌*◌, ◌^◌, ◌∷◌, ◌++◌, ◌⊎◌, [], ℕ, List, true, false, Some, None, Ok, length, take, IfOk, OnOk, IfErr, IsErrOf, IfSome, IfNone, IsSome};
 ghost use Rattle.exb_model.specs.Input.{Record};
-ghost use Rattle.exb_capture.specs.Captures.{capture_records};
 ghost use Rattle.exb_shelf.specs.Files.{SameFiles, bytes_of};
 ghost use Rattle.exb_shelf.specs.Counting.{after_open};
 ghost use Rattle.exb_shelf.specs.Shelf.{IsReadingOf, Opens, reading, Rose, NoFewer};

@@ -1,5 +1,5 @@
 //! Reading a capture again that was checked.
-ghost use Rattle.std.specs.Prelude.{◌≡◌, ◌≢◌, ◌<◌, ◌≤◌, ◌+◌, ◌*◌, ◌^◌, ◌∷◌, ◌++◌, [], ℕ, List, true, false, Some, None, length, min, IfOk, OnOk, IfErr, IsErrOf, IfSome, IfNone, IsSome};
+ghost use Rattle.std.specs.Prelude.{◌≡◌, ◌≢◌, ◌<◌, ◌≤◌, ◌+◌, ◌^◌, ◌∷◌, ◌++◌, [], ℕ, List, true, false, Some, None, length, min, IfOk, OnOk, IsErrOf, IfSome, IfNone, IsSome};
 ghost use Rattle.exb_model.specs.Input.{Record};
 ghost use Rattle.exb_shelf.specs.Files.{SameFiles, bytes_of};
 ghost use Rattle.exb_shelf.specs.Shelf.{IsReadingOf, Opens, reading, Rose, NoFewer};

@@ -5,6 +5,7 @@ pub mod Tables
 pub mod Forwarding
 pub mod Sending
 pub mod Machine
+pub mod Passing
 pub mod Fields
 pub mod ControlState
 pub mod Control

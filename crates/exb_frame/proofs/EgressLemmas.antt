@@ -7,7 +7,7 @@ use Rattle.exb_model.specs.declared.frame_kind.Seen.TheVariants as seen
 use Rattle.exb_model.specs.declared.vlan.Kind.{Kind}
 use Rattle.exb_model.specs.declared.vlan.Kind.TheVariants.{Tagged, Untagged}
 use Rattle.exb_model.specs.Frames.{kind_of, kind_of_tag, is_reserved, number_at, egress, body_after, two_bytes, priority_of}
-use Rattle.exb_frame.specs.Egress.{can_leave, priority, egress_with, put_in}
+use Rattle.exb_frame.specs.Egress.{can_leave, egress_with, put_in}
 
 -- ---- a frame that may leave is neither short nor long
 pub leaves_long : (f : List ℕ) → can_leave (kind_of f) ≡ true → 14 ≤ length f

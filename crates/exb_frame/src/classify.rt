@@ -1,5 +1,5 @@
 //! The kind of a frame.
-ghost use Rattle.std.specs.Prelude.{◌≡◌, ◌≢◌, ◌≤◌, ◌<◌, ◌+◌, ◌==◌, true, length};
+ghost use Rattle.std.specs.Prelude.{◌≡◌, ◌≢◌, ◌≤◌, ◌<◌, ◌==◌, true, length};
 ghost use Rattle.exb_model.specs.Frames.{kind_of, priority_of, is_reserved, kind_of_tag, number_at};
 ghost use Rattle.exb_model.specs.EagerHistory.{is_relayed_kind};
 

@@ -107,7 +107,7 @@ pub record IsOpened (tells : Type 0) (m : Mode) (r : Run) (plan : Planned) (now 
   pub leads : tells → LeadsOn m r.input [] None now ids p
 
 -- ---- one segment more
--- a programme that can go on, and room for what is read at once
+-- a programme that can go on
 pub record CanFeed (ids : ℕ → Id) (f : Feed) : Type 0 where
   pub programme : IsProgramme ids f.programme
 

@@ -1,4 +1,4 @@
-use Rattle.std.proofs.Common.{◌≡◌, [], length}
+use Rattle.std.proofs.Common.{◌≡◌, []}
 use Rattle.exb_shelf.specs.Files.{SameFiles, bytes_of}
 use Rattle.exb_shelf.specs.Shelf.{NoFewer}
 use Rattle.exb_capture.specs.Reading.{IsAt, IsSameFile, IsSound, HasRead, MovesOn, left_to_read}

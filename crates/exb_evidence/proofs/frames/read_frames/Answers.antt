@@ -5,7 +5,7 @@ use Rattle.exb_audit.proofs.Cuts.{item_is, item_more}
 use Rattle.exb_audit.proofs.Entered.{get_item}
 use Rattle.exb_audit.specs.declared.frames.PortFrames.{PortFrames}
 use Rattle.exb_evidence.specs.declared.frames.PortFile.{PortFile}
-use Rattle.exb_evidence.specs.Frames.{EachIsRead, IsFlaw, IsReadFrom, records_by, total}
+use Rattle.exb_evidence.specs.Frames.{EachIsRead, IsFlaw, records_by, total}
 use Rattle.exb_evidence.proofs.Counted.{frames_from}
 use Rattle.exb_evidence.proofs.Filing.{all_good, each_more, rest_more}
 use Rattle.exb_evidence.proofs.frames.read_frames.Goals as goal

@@ -1,4 +1,4 @@
-use Rattle.std.proofs.Common.{◌≡◌, ◌+◌, ◌≤◌, length, take}
+use Rattle.std.proofs.Common.{◌≡◌, ◌+◌, take}
 use Rattle.exb_shelf.specs.Files.{SameFiles}
 use Rattle.exb_shelf.specs.Shelf.{Opens, NoFewer}
 use Rattle.exb_evidence.specs.Frames.{EachIsRead, ReadsOneOf, records_by, total}

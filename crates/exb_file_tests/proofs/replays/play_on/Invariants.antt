@@ -1,4 +1,3 @@
-use Rattle.std.proofs.Common.{◌<◌, length}
 use Rattle.exb_faulty.specs.Faulty.{ids_of}
 use Rattle.exb_capture.specs.Reading.{IsAt}
 use Rattle.exb_capture.specs.Replaying.{IsKept}

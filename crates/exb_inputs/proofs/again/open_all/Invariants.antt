@@ -1,4 +1,4 @@
-use Rattle.std.proofs.Common.{◌≡◌, ◌+◌, ◌≤◌, ℕ, false, length, map, sum_by, take}
+use Rattle.std.proofs.Common.{◌≡◌, ◌+◌, ◌≤◌, ℕ, false, map, sum_by, take}
 use Rattle.std.specs.List.{AllByRecursion}
 use Rattle.exb_merge.specs.Replays.{AreOpened, AreReplays, AreToldSince, ids_in, left_in, standings}
 use Rattle.exb_shelf.specs.Files.{SameFiles}

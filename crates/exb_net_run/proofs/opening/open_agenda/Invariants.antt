@@ -1,4 +1,4 @@
-use Rattle.std.proofs.Common.{◌≡◌, false, length, take}
+use Rattle.std.proofs.Common.{◌≡◌, false, take}
 use Rattle.std.specs.List.{AllByRecursion}
 use Rattle.exb_merge.specs.NetAgendas.{AreAllReplays, IsAgenda, all_ids, programmes_in}
 use Rattle.exb_shelf.specs.Files.{SameFiles}

@@ -1,4 +1,4 @@
-use Rattle.std.proofs.Common.{◌≡◌, ◌≤◌, ◌+◌, ◌-◌, List, None, length, cond}
+use Rattle.std.proofs.Common.{◌≡◌, ◌≤◌, ◌+◌, ◌-◌, List, None, cond}
 use Rattle.exb_model.specs.Input.{Record}
 use Rattle.exb_shelf.specs.Files.{SameFiles, bytes_of}
 use Rattle.exb_shelf.specs.Shelf.{NoFewer}

@@ -1,4 +1,4 @@
-use Rattle.std.proofs.Common.{◌≡◌, ◌<◌, ℕ, length}
+use Rattle.std.proofs.Common.{◌≡◌, ℕ}
 use Rattle.std.specs.Prelude.{None}
 use Rattle.exb_merge.specs.NetAgendas.{IsAgenda, IsOfBridge, all_ids, left_of_all, programmes_in}
 use Rattle.exb_merge.specs.Replays.{HasPort, standings}

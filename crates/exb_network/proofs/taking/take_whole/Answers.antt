@@ -1,8 +1,7 @@
 use Rattle.std.proofs.lemmas.Result.{on_ok_weaker}
-use Rattle.exb_extender.specs.declared.sends.Side.TheVariants as side
 use Rattle.exb_extender.specs.Machine.{Arrives}
 use Rattle.exb_network.proofs.Reacting.{reacted}
-use Rattle.exb_network.proofs.taking.take_from_above.Goals as goal
+use Rattle.exb_network.proofs.taking.take_whole.Goals as goal
 
 pub returns : goal.returns
 returns c =
@@ -12,6 +11,6 @@ returns c =
     let word = c.args.word in
     on_ok_weaker c.send_on.result
     (λ done.
-    reacted s.tree s core c.send_on.new.core c.take.new.self n word.stamp (Arrives side.Up word.bytes) word.bytes c.take.new.sends c.args.room.now.post.log c.send_on.new.post.log
+    reacted s.tree s core c.send_on.new.core c.take.new.self n word.stamp (Arrives c.args.from word.bytes) word.bytes c.take.new.sends c.args.room.now.post.log c.send_on.new.post.log
     (rw c.as_slice.ensures at c.take.ensures.state) (rw c.as_slice.ensures at c.take.ensures.sends) done)
     c.send_on.ensures

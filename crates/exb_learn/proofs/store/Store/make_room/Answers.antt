@@ -1,6 +1,6 @@
 use Rattle.indexmap.specs.IndexMap.{spare}
 use Rattle.exb_learn.proofs.Stores.{stored_again, stored_more}
-use Rattle.exb_learn.proofs.store.Store.reserve.Goals as goal
+use Rattle.exb_learn.proofs.store.Store.make_room.Goals as goal
 
 pub invariant_of-self-in_err-reserve-2 : goal.invariant_of-self-in_err-reserve-2
 invariant_of-self-in_err-reserve-2 c =
