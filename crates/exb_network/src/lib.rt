@@ -18,6 +18,7 @@ mod links;
 pub mod log;
 mod numbers;
 mod orders;
+mod passing;
 mod relaying;
 mod sending;
 mod site;
