@@ -309,16 +309,17 @@ fn take_data(
     requires cascade { is_cascade site.now.tree (bridge_port - 1) ≡ true }
     ensures { OnOk result (Does (comes_from site.now.tree (holder_by (world_in core.old) (bridge_port - 1) (read_etag word.bytes)) word.stamp (stripped word.bytes) (world_in core.old)) site.now core.new room.old.post.log room.new.post.log) }
 {
-    let Some(port) = holder(site, core, bridge_port, word.bytes.as_slice()) else {
+    let Word { bytes, stamp } = word;
+    let Some(port) = holder(site, core, bridge_port, bytes.as_slice()) else {
         return Ok(());
     };
-    let Some(stamp) = word.stamp else {
+    let Some(stamp) = stamp else {
         return Ok(());
     };
     if !site.tree().is_external(port) {
         return Ok(());
     }
-    let mut buffer = word.bytes.into_vec();
+    let mut buffer = bytes.into_vec();
     strip_in_place(&mut buffer);
     let (_, frame) = buffer.as_slice().split_at(8);
     let arrived = Arrived {
