@@ -15,7 +15,7 @@ use Rattle.exb_merge.specs.declared.programme.Programme.{Programme}
 use Rattle.exb_merge.specs.NetAgendas.{AreAllOf, AreAllReplays, AreBegunOf, AreOfNet, all_to_play, dues_left, first_seconds}
 use Rattle.exb_merge.specs.Streams.{Stream, stream_at}
 use Rattle.exb_inputs.specs.declared.checked.Checked.{Checked}
-use Rattle.exb_inputs.specs.Again.{stream_told}
+use Rattle.exb_inputs.specs.Again.{seconds_told, stream_told}
 use Rattle.exb_inputs.specs.Checks.{AreChecked}
 use Rattle.exb_inputs.specs.Inputs.{input_of, is_named, records_at}
 use Rattle.exb_inputs.proofs.Beginning.{all-told, firsts-are, none-elsewhere, told-streams}

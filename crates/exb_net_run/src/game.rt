@@ -137,7 +137,7 @@ fn give(
     }
 }
 
-/// Writes and counts what all bridges told, and what left them, since they were cleared.
+/// Writes and counts what all bridges told, and what left them, since they were cleared; those alone are looked at to which something came.
 fn note_all<S: Shelf>(
     shelf: &mut S,
     room: &mut Room,
@@ -157,8 +157,10 @@ fn note_all<S: Shelf>(
     ensures causes { IfErr result IsOfWriting }
     ensures faults { CountsFaults result (S.faults shelf.old) (S.faults shelf.new) }
 {
-    for bridge in 0..desks.len() {
+    let mut from = 0;
+    'noting: while let Some(bridge) = net.first_touched(from) {
         note(shelf, room, &mut desks[bridge], net.world(bridge as u8))?;
+        from = bridge + 1;
     }
     Ok(())
 }
