@@ -19,6 +19,7 @@ pub mod log;
 mod numbers;
 mod orders;
 mod relaying;
+pub mod rows;
 mod sending;
 mod site;
 pub mod step;
@@ -29,6 +30,7 @@ mod telling;
 pub mod world;
 
 pub use busy::Turn;
-pub use log::Left;
+pub use log::{Left, count_left};
+pub use rows::Row;
 pub use step::{Step, Way};
 pub use world::{World, WorldFault};

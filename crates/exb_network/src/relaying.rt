@@ -19,6 +19,7 @@ use crate::arrivals::Arrived;
 use crate::forms::{put_stripped, put_tagged};
 use crate::hearing::hear;
 use crate::log::{Left, Post, add_events, note_out};
+use crate::rows::Row;
 use crate::sending::hung_on;
 use crate::site::{Buffers, Core, Room, Site};
 use exb_control::{Ingress, Outbox, SendTo};
@@ -58,7 +59,7 @@ fn leave(bridge_port: u8, moment: u64, frame: Bytes, post: &mut Post) -> Result<
         &mut post.log.outs,
     )?;
     post.log.left.push(Left {
-        port: PortId::at(0, bridge_port - 1),
+        row: Row::of(PortId::at(0, bridge_port - 1)),
         moment,
         bytes: frame,
     })
