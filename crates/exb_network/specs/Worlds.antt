@@ -45,8 +45,11 @@ pub record IsAt (s : Site) (c : Core) : Type 0 where
 
 -- ---- what is done
 -- a frame that left, at each port of its row
+abbrev pub copies_at : ℕ → List ℕ → List ℕ → List Leaving
+copies_at moment bytes ports = map (λ q. record { port = q; moment = moment; bytes = bytes }) ports
+
 abbrev pub copies_of : Left → List Leaving
-copies_of x = map (λ q. record { port = q; moment = x.moment; bytes = x.bytes }) (ports_in x.row)
+copies_of x = copies_at x.moment x.bytes (ports_in x.row)
 
 abbrev pub all_left : List Left → List Leaving
 all_left xs = flat_map copies_of xs

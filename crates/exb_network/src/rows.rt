@@ -61,7 +61,7 @@ impl Row {
 
     /// Whether no port is in it.
     #[inline(always)]
-    pub(crate) fn is_empty(&self) -> bool
+    pub fn is_empty(&self) -> bool
         ensures empty { result ≡ true → ports_in self.now ≡ [] }
         ensures some { result ≡ false → HasSome (ports_in self.now) }
     {
