@@ -20,13 +20,13 @@ use exb_inputs::Fault;
 use exb_outputs::{Outputs, Plan};
 use exb_schedule::World;
 use exb_shelf::Shelf;
-use exb_text::Tally;
+use exb_text::{LineRoom, Tally};
 use exb_writers::{Counted, write_counters, write_events, write_left};
 
 /// Room for a line of a journal and for one of counters.
 #[derive(Drop)]
 pub(crate) struct Room {
-    pub(crate) line: String,
+    pub(crate) line: LineRoom,
     pub(crate) text: Vec<u8>,
 }
 

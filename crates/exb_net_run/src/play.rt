@@ -37,6 +37,7 @@ use exb_net_inputs::laws::{inputs_are_of_members, nets_have_one_cause};
 use exb_net_inputs::{NetInputs, check_members, read_net};
 use exb_nets::laws::{histories_go_on, nets_have_histories};
 use exb_shelf::{PIECE, Shelf, room};
+use exb_text::LineRoom;
 use exb_wiring::laws::nets_are_played;
 use std::alloc::Global;
 
@@ -71,7 +72,7 @@ fn play_agenda<S: Shelf>(
         net,
         desks,
         room: Room {
-            line: String::new(alloc),
+            line: LineRoom::new(alloc),
             text: Vec::new(alloc),
         },
     };
