@@ -1,9 +1,9 @@
 -- A frame that leaves at each port of a row.
-use Rattle.std.proofs.Common.{◌≡◌, ℕ, ◌+◌, ◌-◌, ◌*◌, ◌%◌, ◌/◌, ◌<◌, ◌≤◌, Bool, true, false, List, [], ◌∷◌, ◌++◌, length, map, drop, get_or, refl, ap, sym, subst, ◌∙◌, arith, append_assoc, append-nil}
+use Rattle.std.proofs.Common.{◌≡◌, ℕ, ◌+◌, ◌-◌, ◌*◌, ◌%◌, ◌/◌, ◌<◌, ◌≤◌, Bool, true, false, List, [], ◌∷◌, ◌++◌, length, map, take, get_or, refl, ap, sym, subst, ◌∙◌, arith, append_assoc, append-nil}
 use Rattle.std.specs.Prelude.{Option, Some, None}
 use Rattle.std.specs.List.{flat_map, AllByRecursion}
 use Rattle.std.proofs.lemmas.Bool.{both_ways}
-use Rattle.std.proofs.lemmas.List.{map-append}
+use Rattle.std.proofs.lemmas.List.{length-append, length-map, map-append, take_more}
 use Rattle.std.proofs.lemmas.Grind.{flat_map-append}
 use Rattle.exb_csp.specs.AllTables.{port_of}
 use Rattle.exb_extender.specs.declared.sends.Form.TheVariants.{Stripped}
@@ -20,6 +20,7 @@ use Rattle.exb_machine.specs.Worlds.{Left as Leaving, Out as LineOut}
 use Rattle.exb_machine.proofs.Trees.{hung_is}
 use Rattle.exb_model.specs.ETags.{stripped}
 use Rattle.exb_model.specs.Traces.{TraceLine}
+use Rattle.exb_model.specs.Traces.{Out as LineText}
 use Rattle.exb_model.specs.Tree.{Shape, IsTree, device, is_cascade}
 use Rattle.exb_model.proofs.TreeHung.{hung_cascade}
 use Rattle.exb_network.specs.declared.log.Left.{Left}
@@ -41,6 +42,44 @@ left_more xs x = flat_map-append copies_of xs (x ∷ []) ∙ ap (λ (ys : List L
 pub left_one : (xs : List Left) (x : Left) (q : ℕ) → ports_in x.row ≡ q ∷ [] → all_left (xs ++ x ∷ []) ≡ all_left xs ++ record { port = q; moment = x.moment; bytes = x.bytes } ∷ []
 left_one xs x q one =
     left_more xs x ∙ ap (λ (qs : List ℕ). all_left xs ++ map (λ (p : ℕ). record { port = p; moment = x.moment; bytes = x.bytes }) qs) one
+
+-- how many, with one row more
+pub counted_more : (left : List Left) (i : ℕ) (x : Left) → i < length left → x ≡ get_or left i x → (n m : ℕ) → n ≡ length (all_left (take i left)) → m ≡ length (ports_in x.row) →
+    n + m ≡ length (all_left (take (i + 1) left))
+counted_more left i x inside is n m before this =
+    let all : length (all_left (take (i + 1) left)) ≡ length (all_left (take i left) ++ copies_of x) =
+    ap (λ (ys : List Left). length (all_left ys)) (take_more left i x inside ∙ ap (λ (y : Left). take i left ++ y ∷ []) (sym is)) ∙ ap (λ (zs : List Leaving). length zs) (left_more (take i left) x) in
+    let both = length-append (all_left (take i left)) (copies_of x) in
+    let ports = length-map (ports_in x.row) (λ (q : ℕ). record { port = q; moment = x.moment; bytes = x.bytes }) in
+    omega (arith, all, both, ports, before, this)
+
+-- ---- the lines of what goes out by a row
+pub outs_next : (frame ports rest : List ℕ) (port who side : ℕ) (so_far now whole : List TraceLine) → ports ≡ port ∷ rest → who ≡ device port → side ≡ port_number port → now ≡ so_far ++ LineText who side frame ∷ [] →
+    so_far ++ row_outs frame ports ≡ whole → now ++ row_outs frame rest ≡ whole
+outs_next frame ports rest port who side so_far now whole is who_is side_is put all =
+    ap (λ (ls : List TraceLine). ls ++ row_outs frame rest) put
+    ∙ append_assoc so_far (LineText who side frame ∷ []) (row_outs frame rest)
+    ∙ ap (λ (d : ℕ). so_far ++ LineText d side frame ∷ row_outs frame rest) who_is
+    ∙ ap (λ (k : ℕ). so_far ++ LineText (device port) k frame ∷ row_outs frame rest) side_is
+    ∙ ap (λ (qs : List ℕ). so_far ++ row_outs frame qs) (sym is)
+    ∙ all
+
+pub outs_end : (frame ports : List ℕ) (now whole : List TraceLine) → ports ≡ [] → now ++ row_outs frame ports ≡ whole → now ≡ whole
+outs_end frame ports now whole none all = sym (append-nil now) ∙ ap (λ (qs : List ℕ). now ++ row_outs frame qs) (sym none) ∙ all
+
+pub not_traced : (lines xs : List TraceLine) (tracing : Bool) → tracing ≡ false → lines ≡ lines ++ if_tracing tracing xs
+not_traced lines xs tracing off = sym (append-nil lines) ∙ ap (λ (ls : List TraceLine). lines ++ ls) (sym (ap (λ (b : Bool). if_tracing b xs) off ∙ none xs))
+  where
+    none : (ys : List TraceLine) → if_tracing false ys ≡ []
+    none [] = refl
+    none (y ∷ ys) = none ys
+
+pub all_traced : (lines xs now : List TraceLine) (tracing : Bool) → tracing ≡ true → now ≡ lines ++ xs → now ≡ lines ++ if_tracing tracing xs
+all_traced lines xs now tracing on put = put ∙ ap (λ (ls : List TraceLine). lines ++ ls) (sym (ap (λ (b : Bool). if_tracing b xs) on ∙ all xs))
+  where
+    all : (ys : List TraceLine) → if_tracing true ys ≡ ys
+    all [] = refl
+    all (y ∷ ys) = ap (λ (zs : List TraceLine). y ∷ zs) (all ys)
 
 -- ---- at ports on which no extender hangs
 outer_none : (t : Shape) → IsTree t → (p : ℕ) → is_cascade t p ≡ false → hung_on t p ≡ None

@@ -3,7 +3,7 @@ use Rattle.std.proofs.Common.{◌≡◌, ◌≢◌, ◌⊎◌, ℕ, zero, suc, �
 use Rattle.std.specs.List.{flat_map, range_with_len}
 use Rattle.std.specs.Int.{w64, bit_at, trailing_zeros}
 use Rattle.std.proofs.lemmas.Bool.{cases_eq, cases_lt, and_from, and_right, ne_eqb, eq-eqb, lt-ltb, le-leb, le-ltb}
-use Rattle.std.proofs.lemmas.Nat.{ones_le_self}
+use Rattle.std.proofs.lemmas.Nat.{ones-le, ones_le_self}
 use Rattle.std.proofs.lemmas.Nat.Bits.{bit_at-lt, bit_at-suc, bit_at_lowest, bit_at_set_same, bit_at_set_other}
 use lib.Count.{ones_step}
 use Rattle.exb_csp.specs.AllTables.{port_of}
@@ -159,3 +159,6 @@ row_count r fits =
     sym (ap length (flat_map-agree (gives r.device r.ports) (bit_gives (port_of r.device) r.ports 1) 1 64
     (λ q from under. ap (λ b. cond (b && (bit_at r.ports (q - 1) == 1)) (port_of r.device q ∷ []) []) (and_from _ _ (lt-ltb 0 q (omega arith)) (le-leb q 64 (omega arith)))))
     ∙ bits_counted (port_of r.device) 64 1 r.ports fits)
+
+pub row_few : (r : Row) → r.ports < 2 ^ 64 → count_ones r.ports ≤ 64
+row_few r fits = ones-le 64 r.ports fits

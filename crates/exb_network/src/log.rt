@@ -26,11 +26,11 @@ pub struct Left {
 pub fn count_left(left: &[Left]) -> u128
     ensures { result ≡ length (all_left left.now) }
 {
-    let mut count = 0u128;
+    let mut total = 0u128;
     for frame in left {
-        count += u128::from(frame.row.count());
+        total += frame.row.count() as u128;
     }
-    count
+    total
 }
 
 /// What has happened since the last `clear`, in order.

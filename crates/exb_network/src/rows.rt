@@ -1,5 +1,5 @@
 //! Rows: some ports of one device.
-ghost use Rattle.std.specs.Prelude.{◌≡◌, ◌∷◌, ◌++◌, ◌<◌, ◌≤◌, ℕ, [], length, IfNone, IfSome};
+ghost use Rattle.std.specs.Prelude.{◌≡◌, ◌∷◌, ◌++◌, ◌<◌, ◌≤◌, [], true, false, length, IfNone, IfSome};
 ghost use Rattle.exb_csp.specs.AllTables.{port_of};
 ghost use Rattle.exb_network.specs.Rows.{ports_in, HasNoneFrom, HasSome};
 
@@ -34,6 +34,7 @@ impl Row {
     pub(crate) fn none(device: u8) -> Row
         requires { device < 65 }
         ensures device { result.device ≡ device }
+        ensures bits { result.ports ≡ 0 }
         ensures ports { ports_in result ≡ [] }
     {
         Row { device, ports: 0 }
@@ -44,10 +45,9 @@ impl Row {
     pub(crate) fn of(port: PortId) -> Row
         ensures { ports_in result ≡ port ∷ [] }
     {
-        Row {
-            device: port.device(),
-            ports: 1 << port.place(),
-        }
+        let mut row = Row::none(port.device());
+        row.put(port.place() + 1);
+        row
     }
 
     /// The device.
@@ -108,7 +108,8 @@ impl Row {
     /// How many ports are in it.
     #[inline(always)]
     pub fn count(&self) -> u32
-        ensures { result ≡ length (ports_in self.now) }
+        ensures ports { result ≡ length (ports_in self.now) }
+        ensures few { result ≤ 64 }
     {
         self.ports.count_ones()
     }

@@ -208,7 +208,8 @@ fn leave(
     requires outer { AreOuter site.now.tree number came.now.frame.now (ports_in row.now) }
     ensures { OnOk result (Does (each (sends site.now.tree number came.now.stamp) (row_sent came.now.frame.now (ports_in row.now)) (world_in core.now)) site.now core.now post.old.log post.new.log) }
 {
-    let _ = (site, core);
+    let _ = site;
+    let _ = core;
     if row.is_empty() {
         return Ok(());
     }

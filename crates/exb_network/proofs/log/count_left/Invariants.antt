@@ -4,4 +4,4 @@ use Rattle.exb_network.proofs.log.count_left.Given as goal
 
 -- those so far, at most 64 of each
 abbrev pub invariant-loop-frame : goal.invariant-loop-frame
-invariant-loop-frame l = (l.count ≡ length (all_left (take l.frame-index l.left))) × (l.count ≤ 64 * l.frame-index)
+invariant-loop-frame l = (l.total ≡ length (all_left (take l.frame-index l.left))) × (l.total ≤ 64 * l.frame-index)
