@@ -1,10 +1,9 @@
 -- A frame that leaves at each port of a row.
-use Rattle.std.proofs.Common.{◌≡◌, ℕ, ◌+◌, ◌-◌, ◌*◌, ◌%◌, ◌/◌, ◌<◌, ◌≤◌, Bool, true, false, List, [], ◌∷◌, ◌++◌, length, map, take, get_or, refl, ap, sym, subst, ◌∙◌, arith, append_assoc, append-nil}
+use Rattle.std.proofs.Common.{◌≡◌, ℕ, ◌+◌, ◌-◌, ◌*◌, ◌%◌, ◌/◌, ◌<◌, ◌≤◌, Bool, true, false, List, [], ◌∷◌, ◌++◌, length, map, drop, take, get_or, refl, ap, sym, subst, ◌∙◌, arith, append_assoc, append-nil}
 use Rattle.std.specs.Prelude.{Option, Some, None}
 use Rattle.std.specs.List.{flat_map, AllByRecursion}
 use Rattle.std.proofs.lemmas.Bool.{both_ways}
-use Rattle.std.proofs.lemmas.List.{length-append, length-map, map-append, take_more}
-use Rattle.std.proofs.lemmas.Grind.{flat_map-append}
+use Rattle.std.proofs.lemmas.List.{drop_all, drop_more, length-append, length-map, map-append, take_more}
 use Rattle.exb_csp.specs.AllTables.{port_of}
 use Rattle.exb_extender.specs.declared.sends.Form.TheVariants.{Stripped}
 use Rattle.exb_extender.specs.declared.sends.Out.{Out}
@@ -32,17 +31,10 @@ use Rattle.exb_network.specs.Leaving.{row_sent, AreOuter, GoesBehind, IsOuter, J
 use Rattle.exb_network.specs.Rows.{Row, ports_in, HasSome}
 use Rattle.exb_network.specs.Sites.{Site}
 use Rattle.exb_network.specs.Worlds.{world_in, all_left, copies_of, if_tracing, row_outs, IsAt, Does}
-use Rattle.exb_network.proofs.Doing.{each_parts, leads_on, leads_only}
+use Rattle.exb_network.proofs.Cores.{left_more}
+use Rattle.exb_network.proofs.Doing.{each_parts, leads_end, leads_on}
 
 -- ---- what has left
-pub left_more : (xs : List Left) (x : Left) → all_left (xs ++ x ∷ []) ≡ all_left xs ++ copies_of x
-left_more xs x = flat_map-append copies_of xs (x ∷ []) ∙ ap (λ (ys : List Leaving). all_left xs ++ ys) (append-nil (copies_of x))
-
--- at one port
-pub left_one : (xs : List Left) (x : Left) (q : ℕ) → ports_in x.row ≡ q ∷ [] → all_left (xs ++ x ∷ []) ≡ all_left xs ++ record { port = q; moment = x.moment; bytes = x.bytes } ∷ []
-left_one xs x q one =
-    left_more xs x ∙ ap (λ (qs : List ℕ). all_left xs ++ map (λ (p : ℕ). record { port = p; moment = x.moment; bytes = x.bytes }) qs) one
-
 -- how many, with one row more
 pub counted_more : (left : List Left) (i : ℕ) (x : Left) → i < length left → x ≡ get_or left i x → (n m : ℕ) → n ≡ length (all_left (take i left)) → m ≡ length (ports_in x.row) →
     n + m ≡ length (all_left (take (i + 1) left))
@@ -50,7 +42,8 @@ counted_more left i x inside is n m before this =
     let all : length (all_left (take (i + 1) left)) ≡ length (all_left (take i left) ++ copies_of x) =
     ap (λ (ys : List Left). length (all_left ys)) (take_more left i x inside ∙ ap (λ (y : Left). take i left ++ y ∷ []) (sym is)) ∙ ap (λ (zs : List Leaving). length zs) (left_more (take i left) x) in
     let both = length-append (all_left (take i left)) (copies_of x) in
-    let ports = length-map (ports_in x.row) (λ (q : ℕ). record { port = q; moment = x.moment; bytes = x.bytes }) in
+    let copy : ℕ → Leaving = λ (q : ℕ). record { port = q; moment = x.moment; bytes = x.bytes } in
+    let ports : length (copies_of x) ≡ length (ports_in x.row) = length-map (ports_in x.row) copy in
     omega (arith, all, both, ports, before, this)
 
 -- ---- the lines of what goes out by a row
@@ -218,3 +211,26 @@ went_behind s stamp f out old new b c d before told after none first second =
           let two : Leads whole (each g rest (world_in d)) start after = leads_on whole (g (out_sent f out) (world_in c)) (each g rest) s d start told after one second in
           subst (λ (qs : List ℕ). Leads whole (each g (row_sent f qs ++ rest) (world_in d)) start after) (sym none) two;
     }
+
+-- ---- one out after another
+pub behind_next : (s : Site) (n : ℕ) (stamp : Option Stamp) (f : List ℕ) (outs : List Out) (i : ℕ) (d : Out) (old new : Row) (b c : Core) (whole : Effect) (first before after : Log) → i < length outs → old.device ≡ n →
+    GoesBehind s stamp f (get_or outs i d) old new b c before after →
+    Leads whole (each (sends s.tree n stamp) (row_sent f (ports_in old) ++ map (out_sent f) (drop i outs)) (world_in b)) first before →
+    Leads whole (each (sends s.tree n stamp) (row_sent f (ports_in new) ++ map (out_sent f) (drop (i + 1) outs)) (world_in c)) first after
+behind_next s n stamp f outs i d old new b c whole first before after inside own behind leads =
+    let rest : List Sent = map (out_sent f) (drop (i + 1) outs) in
+    let cons : map (out_sent f) (drop i outs) ≡ out_sent f (get_or outs i d) ∷ rest = ap (map (out_sent f)) (drop_more outs i d inside) in
+    let one : Leads whole (each (sends s.tree n stamp) (row_sent f (ports_in old) ++ out_sent f (get_or outs i d) ∷ rest) (world_in b)) first before =
+    subst (λ (xs : List Sent). Leads whole (each (sends s.tree n stamp) (row_sent f (ports_in old) ++ xs) (world_in b)) first before) cons leads in
+    let two : Leads whole (each (sends s.tree old.device stamp) (row_sent f (ports_in old) ++ out_sent f (get_or outs i d) ∷ rest) (world_in b)) first before =
+    subst (λ (m : ℕ). Leads whole (each (sends s.tree m stamp) (row_sent f (ports_in old) ++ out_sent f (get_or outs i d) ∷ rest) (world_in b)) first before) (sym own) one in
+    subst (λ (m : ℕ). Leads whole (each (sends s.tree m stamp) (row_sent f (ports_in new) ++ rest) (world_in c)) first after) own (behind.leads whole first rest two)
+
+pub behind_last : (s : Site) (n : ℕ) (stamp : Option Stamp) (f : List ℕ) (outs : List Out) (i : ℕ) (row : Row) (c : Core) (whole : Effect) (first before after : Log) → length outs ≤ i →
+    Leads whole (each (sends s.tree n stamp) (row_sent f (ports_in row) ++ map (out_sent f) (drop i outs)) (world_in c)) first before →
+    Does (each (sends s.tree n stamp) (row_sent f (ports_in row)) (world_in c)) s c before after → Does whole s c first after
+behind_last s n stamp f outs i row c whole first before after end leads last =
+    let none : row_sent f (ports_in row) ++ map (out_sent f) (drop i outs) ≡ row_sent f (ports_in row) =
+    ap (λ (xs : List Out). row_sent f (ports_in row) ++ map (out_sent f) xs) (drop_all i outs end) ∙ append-nil (row_sent f (ports_in row)) in
+    leads_end whole (each (sends s.tree n stamp) (row_sent f (ports_in row)) (world_in c)) s c first before after
+    (subst (λ (xs : List Sent). Leads whole (each (sends s.tree n stamp) xs (world_in c)) first before) none leads) last

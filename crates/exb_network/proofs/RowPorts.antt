@@ -5,6 +5,7 @@ use Rattle.std.specs.Int.{w64, bit_at, trailing_zeros}
 use Rattle.std.proofs.lemmas.Bool.{cases_eq, cases_lt, and_from, and_right, ne_eqb, eq-eqb, lt-ltb, le-leb, le-ltb}
 use Rattle.std.proofs.lemmas.Nat.{ones-le, ones_le_self}
 use Rattle.std.proofs.lemmas.Nat.Bits.{bit_at-lt, bit_at-suc, bit_at_lowest, bit_at_set_same, bit_at_set_other}
+use native.Mathlib.Nat.{pow-suc}
 use lib.Count.{ones_step}
 use Rattle.exb_csp.specs.AllTables.{port_of}
 use Rattle.exb_csp.specs.Execute.{in_mask}
@@ -59,7 +60,7 @@ module _ (device ports : ℕ) (some : ports ≢ 0) (fits : ports < 2 ^ 64) where
       stays : (q : ℕ) → at + 1 < q → in_mask ports q ≡ in_mask (without ports at) q
       stays q above = sym (in_mask-without ports at q place_low ∙ ap (λ b. in_mask ports q && not b) (ne_eqb q (at + 1) (λ z. omega arith)) ∙ and_true (in_mask ports q))
 
-  pub row_first : ports_in (row device ports) ≡ 64 * device + at ∷ ports_in (row device (without ports at))
+  pub row_first : ports_in (row device ports) ≡ (64 * device + at) ∷ ports_in (row device (without ports at))
   row_first =
       let back : port_of device (at + 1) ≡ 64 * device + at = omega arith in
       first_given
@@ -148,10 +149,7 @@ module _ (g : ℕ → ℕ) where
       both ∙ omega (arith, first, sames, step)
     where
       half : (n m : ℕ) → m < 2 ^ suc n → m / 2 < 2 ^ n
-      half n m fits = let twice = pow_two n in omega (arith, fits, twice)
-
-      pow_two : (n : ℕ) → 2 ^ suc n ≡ 2 * 2 ^ n
-      pow_two n = omega arith
+      half n m fits = let twice = pow-suc 2 n in omega (arith, fits, twice)
 
 pub row_count : (r : Row) → r.ports < 2 ^ 64 → count_ones r.ports ≡ length (ports_in r)
 unfolding ports_in in_mask

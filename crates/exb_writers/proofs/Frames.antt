@@ -7,7 +7,7 @@ use Rattle.exb_model.specs.Texts.{record_text}
 use Rattle.exb_machine.specs.Worlds.{Left as Leaving}
 use Rattle.exb_network.specs.declared.log.Left.{Left}
 use Rattle.exb_network.specs.Worlds.{all_left, copies_at, copies_of}
-use Rattle.exb_network.proofs.Leaving.{left_more as one_more}
+use Rattle.exb_network.proofs.Cores.{left_more as one_more}
 use Rattle.exb_resting.specs.Flight.Showing.{left_at}
 use Rattle.exb_shelf.specs.Files.{Files}
 use Rattle.exb_text.specs.declared.output.Output.{Output}
