@@ -1,5 +1,6 @@
 pub mod TableLemmas
 pub mod ForwardingLemmas
+pub mod PassingLemmas
 pub mod ControlLemmas
 pub mod MachineLemmas
 pub mod AllLemmas

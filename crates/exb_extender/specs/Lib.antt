@@ -1,9 +1,11 @@
 pub mod Kept
+pub mod MemberSets
 pub mod Rows
 pub mod Tables
 pub mod Forwarding
 pub mod Sending
 pub mod Machine
+pub mod Passing
 pub mod Fields
 pub mod ControlState
 pub mod Control

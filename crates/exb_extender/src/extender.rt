@@ -1,5 +1,5 @@
 //! The extender.
-ghost use Rattle.std.specs.Prelude.{◌≡◌, ◌↔◌, ◌⊎◌, ℕ, ◌≤◌, ◌<◌, [], List, true, false, All, None, IfOk, IfSome, IsTrue};
+ghost use Rattle.std.specs.Prelude.{◌≡◌, ◌↔◌, ◌⊎◌, ℕ, ◌≤◌, ◌<◌, [], List, true, false, is_none, All, None, IfOk, IfSome, IsTrue};
 ghost use Rattle.exb_extender.specs.Control.{state_in};
 ghost use Rattle.exb_extender.specs.Forwarding.{emitted, is_ignored};
 ghost use Rattle.exb_extender.specs.Machine.{comes};
@@ -7,7 +7,9 @@ ghost use Rattle.exb_extender.specs.Sending.{IsNothing, sent_by, form_sent, CanB
 ghost use Rattle.exb_extender.specs.Tables.{tables_of};
 
 use crate::control::Control;
-use crate::forwarding::{form_from_cascade, form_from_external, is_bare_control, send_down};
+use crate::forwarding::{
+    form_from_cascade, form_from_external, is_bare_control, only_down, only_up, send_down,
+};
 use crate::sends::{Entry, Form, Out, Sends, Side};
 use crate::tables::Tables;
 use exb_model::memory::NoMemory;
@@ -74,6 +76,7 @@ fn take_down(tables: &mut Tables, control: &mut Control, frame: &[u8], sends: &m
 impl Extender {
     ghost use Rattle.exb_extender.specs.Fields.{state_of};
     ghost use Rattle.exb_extender.specs.Machine.{at_power_on, react, Arrives, Beats, IsPort, CanTake, IsSameDevice, IsExtender};
+    ghost use Rattle.exb_extender.specs.Passing.{GoesTo};
     ghost use Rattle.exb_extender.specs.Resting.{rests, rested};
 
     /// Extender `number` at power-on: each port is external and without a channel. This call alone takes
@@ -103,6 +106,32 @@ impl Extender {
             Side::Up => take_down(&mut self.tables, &mut self.control, frame, sends),
             Side::Port { port } => take_up(&self.tables, port, frame, sends),
         }
+    }
+
+    /// The one side to which a frame from upstream, or from a port as `take` has it, goes on, and its form there, where nothing else
+    /// comes of it: mostly so, and it need not be taken then. None says nothing.
+    #[inline(always)]
+    pub fn only_out(&self, from: Side, frame: &[u8]) -> Option<Out>
+        requires { CanTake (state_of self.now) from }
+        ensures { IfSome result (GoesTo (state_of self.now).tables from frame.now) }
+    {
+        match from {
+            Side::Up => only_down(&self.tables, frame),
+            Side::Port { port } => only_up(&self.tables, port, frame),
+        }
+    }
+
+    /// The form in which a frame goes up that arrives at a port that is no cascade port; None where it is ignored. It need not be
+    /// taken then: nothing else comes of it.
+    #[inline(always)]
+    pub fn form_in(&self, port: u8, frame: &[u8]) -> Option<Form>
+        requires port { IsPort (state_of self.now) port }
+        requires external { (state_of self.now).tables.cascade port ≡ false }
+        ensures sends { form_sent frame.now result ≡ emitted (state_of self.now).tables (Side.Port port) frame.now }
+        ensures given { IfSome result (CanBeGiven frame.now) }
+        ensures ignored { is_none result ≡ is_ignored ((state_of self.now).tables.own port) frame.now }
+    {
+        form_from_external(self.tables.channel(port), frame)
     }
 
     /// Takes a frame that arrives at a port that is no cascade port. What is in `sends` is replaced.

@@ -4,6 +4,7 @@ ghost use Rattle.arrayvec.specs.ArrayVec.{array_vec_len};
 ghost use Rattle.exb_model.specs.ETags.{read_etag};
 ghost use Rattle.exb_frame.specs.TagValues.{tag_of};
 ghost use Rattle.exb_extender.specs.Forwarding.{emitted, is_bare_control, names_channel, is_refused_kind, is_ignored, sent_from_cascade, sent_from_external};
+ghost use Rattle.exb_extender.specs.Passing.{GoesAt, GoesTo};
 ghost use Rattle.exb_extender.specs.Sending.{out_sent, form_sent, form_at, outs_at, outs_where, CanBeGiven};
 ghost use Rattle.exb_extender.specs.Tables.{tables_of};
 
@@ -36,6 +37,7 @@ pub(crate) fn is_bare_control(frame: &[u8]) -> bool
 
 // The form in which a frame with that E-TAG goes out at a port that has the pair. None without a
 // channel, and at the external port from which it came.
+#[inline(always)]
 fn form_at(tables: &Tables, port: u8, tag: &ETag) -> Option<Form>
     requires { port ≤ 64 }
     ensures { result ≡ form_at (tables_of tables.now) (tag_of tag.now) port }
@@ -82,6 +84,40 @@ fn replicate(tables: &Tables, tag: &ETag, frames: &mut Outs)
     }
 }
 
+// The one port at which a frame with that E-TAG goes out, where its E-CID has that port alone.
+#[inline(always)]
+fn only_port(tables: &Tables, tag: &ETag) -> Option<Out>
+    requires { tag.now.ecid < 16384 }
+    ensures { IfSome result (GoesAt (tables_of tables.now) (tag_of tag.now)) }
+{
+    let word = tables.row(tag.ecid);
+    if word == 0 {
+        return None;
+    }
+    let at = word.trailing_zeros() as u8;
+    if word & !(1 << at) != 0 {
+        return None;
+    }
+    match form_at(tables, at + 1, tag) {
+        Some(form) => Some(Out {
+            to: Side::Port { port: at + 1 },
+            form,
+        }),
+        None => None,
+    }
+}
+
+/// The one side to which a frame from upstream goes on, where it has the E-TAG of one port. None says nothing.
+#[inline(always)]
+pub(crate) fn only_down(tables: &Tables, frame: &[u8]) -> Option<Out>
+    ensures { IfSome result (GoesTo (tables_of tables.now) Side.Up frame.now) }
+{
+    match ETag::read(frame) {
+        Some(tag) => only_port(tables, &tag),
+        None => None,
+    }
+}
+
 /// Where a frame goes that comes from upstream: in rising order to the ports of its E-CID.
 pub(crate) fn send_down(tables: &Tables, frame: &[u8], frames: &mut Outs)
     requires { frames.old.items ≡ [] }
@@ -94,6 +130,7 @@ pub(crate) fn send_down(tables: &Tables, frame: &[u8], frames: &mut Outs)
 }
 
 // Whether the frame has the E-TAG of a channel.
+#[inline(always)]
 fn names_channel(frame: &[u8]) -> bool
     ensures { result ≡ names_channel (read_etag frame.now) }
 {
@@ -101,6 +138,24 @@ fn names_channel(frame: &[u8]) -> bool
         Some(tag) => tag.ecid > 0 && tag.ecid < 4095,
         None => false,
     }
+}
+
+/// A frame from a cascade port goes up as it is, where it has the E-TAG of a channel. None says nothing.
+#[inline(always)]
+pub(crate) fn only_up(tables: &Tables, port: u8, frame: &[u8]) -> Option<Out>
+    requires { port ≤ 64 }
+    ensures { IfSome result (GoesTo (tables_of tables.now) (Side.Port port) frame.now) }
+{
+    if !tables.cascade(port) {
+        return None;
+    }
+    if !names_channel(frame) {
+        return None;
+    }
+    Some(Out {
+        to: Side::Up,
+        form: Form::AsIs,
+    })
 }
 
 /// The form in which a frame goes up that comes from a cascade port with that channel: what has the

@@ -52,6 +52,7 @@ impl Model for Link {
     ghost invariant = { λ l. IsWoven l.ahead l.frames.items l.control.items };
 }
 
+#[inline(always)]
 fn push_frame(frames: &mut VecDeque<Sent>, word: Word) -> Result<(), PushBack>
     ensures ok { OnOk result (frames.new.items ≡ frames.old.items ++ record { word = word; behind = 0 } ∷ []) }
     ensures err { OnErr result (frames.new.items ≡ frames.old.items) }
@@ -63,6 +64,8 @@ fn push_frame(frames: &mut VecDeque<Sent>, word: Word) -> Result<(), PushBack>
     }
 }
 
+#[cold]
+#[inline(never)]
 fn push_control(control: &mut VecDeque<Word>, word: Word) -> Result<(), PushBack>
     ensures ok { OnOk result (control.new.items ≡ control.old.items ++ word ∷ []) }
     ensures room { OnOk result (length control.old.items + 1 < 2 ^ 64) }
@@ -76,6 +79,8 @@ fn push_control(control: &mut VecDeque<Word>, word: Word) -> Result<(), PushBack
 }
 
 // Takes out the word at a place among those of a queue.
+#[cold]
+#[inline(never)]
 fn remove_at(words: &mut VecDeque<Word>, place: usize) -> Option<Word>
     ensures word { result ≡ slice_get words.old.items place }
     ensures rest { words.new.items ≡ remove words.old.items place }
@@ -100,6 +105,8 @@ fn first_of(frames: &VecDeque<Sent>) -> Option<&Word>
 
 // Counts a control word that is sent behind all others: the last data word has one more behind it, or,
 // where there is none, one more stands ahead.
+#[cold]
+#[inline(never)]
 fn one_more_behind(ahead: u64, frames: &mut VecDeque<Sent>) -> u64
     requires { ahead + all_behind frames.old.items + 1 < 2 ^ 64 }
     ensures ahead { result ≡ more_ahead ahead frames.old.items }
@@ -153,6 +160,7 @@ impl Link {
     }
 
     /// Puts a word behind all others. The word comes back where there is no memory for it.
+    #[inline(always)]
     pub fn push(&mut self, word: Word) -> Result<(), PushBack>
         ensures ok { OnOk result (self.new ≡ self.old ++ word ∷ []) }
         ensures err { OnErr result (self.new ≡ self.old) }
@@ -189,6 +197,7 @@ impl Link {
     }
 
     /// Takes out the first data word; None exactly where there is none. Every other word stays.
+    #[inline(always)]
     pub fn take_data(&mut self) -> Option<Word>
         ensures word { result ≡ slice_get (filter is_data self.old) 0 }
         ensures rest { self.new ≡ without_data self.old }

@@ -25,6 +25,7 @@ impl Word {
     ghost use Rattle.exb_link.specs.Words.{is_control};
 
     /// Whether it is a control word: its destination is 01-80-C2-00-00-0E. Every other word is a data word.
+    #[inline(always)]
     pub fn is_control(&self) -> bool
         ensures { result ≡ is_control self.now }
     {

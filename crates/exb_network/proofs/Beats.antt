@@ -1,18 +1,21 @@
 -- The parts of a beat, one after another.
 use Rattle.std.proofs.Common.{◌≡◌, ℕ, ◌+◌, ◌-◌, ◌^◌, ◌<◌, ◌≤◌, ◌&&◌, Bool, true, false, not, min, List, drop, None, inl, inr, refl, arith, sym, ap, subst, ◌∙◌}
 use Rattle.exb_model.specs.Setup.{Limits}
-use Rattle.std.specs.Prelude.{if◌then◌else◌, Option, Some, slice_get, slice_index}
+use Rattle.std.specs.Prelude.{if◌then◌else◌, is_none, Option, Some, slice_get, slice_index}
 use Rattle.std.specs.Int.{bit_at}
 use Rattle.std.proofs.lemmas.Bool.{and_parts, cases_Bool, false_from_ne_true, false≢true}
 use mathlib.Core.Path.{fun_ext}
 use Rattle.exb_model.specs.Tree.{Shape, IsTree, is_extender}
+use Rattle.exb_changing.specs.Machine.{Moved, State, Work, beats_in, still}
+use Rattle.exb_control.specs.Controls.{is_settled}
+use Rattle.exb_control.specs.Queues.{is_empty}
 use Rattle.exb_extender.specs.Fields.{Fields}
 use Rattle.exb_extender.specs.Machine.{ExtenderState, Beats}
 use Rattle.exb_extender.specs.Resting.{rests}
 use Rattle.exb_extender.proofs.RestingLemmas.{beat_counts, rests_rested}
 use Rattle.exb_machine.specs.Effects.{Effect, only, then_do, each}
 use Rattle.exb_machine.specs.Extending.{reacts}
-use Rattle.exb_machine.specs.Hearing.{beats_control, beats_near}
+use Rattle.exb_machine.specs.Hearing.{beats_control, beats_near, moves}
 use Rattle.exb_machine.specs.Stepping.{all_extenders, beats_all, if_there}
 use Rattle.exb_machine.specs.Worlds.{World, next_beat}
 use Rattle.exb_machine.specs.Runs.Asks.{AsksWell}
@@ -23,6 +26,7 @@ use Rattle.exb_network.specs.Ends.{near_of}
 use Rattle.exb_network.specs.Leading.{Leads}
 use Rattle.exb_network.specs.Sites.{Site}
 use Rattle.exb_network.specs.Worlds.{world_in, IsAt, Does}
+use Rattle.exb_network.proofs.Cores.{tells_nothing}
 use Rattle.exb_network.proofs.Doing.{leads_first, does_then}
 use Rattle.exb_network.proofs.Loops.{numbers_lead, numbers_told, numbers_skip}
 use Rattle.exb_network.proofs.Again.{all_near_control, idle_near}
@@ -194,3 +198,15 @@ who_waits t w n e =
     turned : (b : Bool) → not b ≡ true → b ≡ false
     turned false e = refl
     turned true e = absurd (false≢true e)
+
+-- ---- the control, where no change is at work
+none_is : {X : Type 0} (o : Option X) → is_none o ≡ true → o ≡ None
+none_is None e = refl
+none_is (Some x) e = absurd (false≢true e)
+
+pub beats_settled : (t : Shape) (s : Site) (c : Core) (log : Log) → is_settled (world_in c).control ≡ true → IsAt s c → Does (beats_control t (world_in c)) s c log log
+beats_settled t s c log settled is =
+    let m : State = (world_in c).control in
+    let idle : m.work ≡ None = none_is m.work (and_parts (is_empty m.queue) (is_none m.work) settled).1 in
+    subst (λ (moved : Moved). Does (moves t moved (world_in c)) s c log log) (sym (ap (λ (work : Option Work). beats_in work m) idle))
+    (tells_nothing (moves t (still m) (world_in c)) s c log refl refl refl refl refl is)

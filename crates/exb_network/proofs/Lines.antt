@@ -1,6 +1,6 @@
 -- The lines of a step: what comes in, then the journal, then what goes out.
 use Rattle.std.proofs.Common.{◌≡◌, ℕ, ◌+◌, ◌/◌, ◌%◌, ◌<◌, Bool, true, false, List, [], ◌∷◌, ◌++◌, length, get_or, map, take, drop, refl, ap, sym, ◌∙◌, inl, inr, arith}
-use Rattle.std.proofs.lemmas.Bool.{cases_lt, lt-ltb, le-ltb}
+use Rattle.std.proofs.lemmas.Bool.{cases_lt, false≢true, lt-ltb, le-ltb}
 use Rattle.std.proofs.lemmas.List.{append-nil, append_assoc, map-append, take_more}
 use Rattle.exb_model.specs.declared.event.Event.{Event}
 use Rattle.exb_model.specs.Traces.{TraceLine, In}
@@ -124,4 +124,19 @@ stepped_is s c d step old begun done new f events first does behind last =
           lines_off old.lines (all_told (lines_in s.tree step (world_in c))) (all_told (map Journal e.events) ++ done.outs.items) begun.lines done.lines new.lines old.tracing done.tracing off
           (does.tracing ∙ first.tracing ∙ off) first.lines does.lines ended;
       same = record { site = refl; failed = refl; tracing = last.tracing ∙ does.tracing ∙ first.tracing };
+    }
+
+-- no trace is kept
+pub stepped_silently : (s : Site) (c d : Core) (step : Step) (old new : Log) (f : Bool) → old.tracing ≡ false → Does (done_by s.tree (limits_in s) step (world_in c)) s d old new →
+    IsStepped step (network_of s c old f) (network_of s d new f)
+unfolding stepped
+stepped_silently s c d step old new f off does =
+    record {
+      world = does.world;
+      events = does.events;
+      passed = does.passed;
+      left = does.left;
+      lines = λ on. absurd (false≢true (sym off ∙ on));
+      silent = λ isnt. does.lines;
+      same = record { site = refl; failed = refl; tracing = does.tracing };
     }

@@ -9,17 +9,18 @@ use Rattle.exb_model.specs.Input.{Arrival}
 use Rattle.exb_model.specs.Tree.{Shape, device}
 use Rattle.exb_link.specs.declared.word.Stamp.{Stamp}
 use Rattle.exb_link.specs.declared.word.Word.{Word}
-use Rattle.exb_extender.specs.declared.sends.Entry.{Entry}
-use Rattle.exb_extender.specs.declared.sends.Entry.TheVariants as entry
+use Rattle.exb_extender.specs.declared.sends.Form.{Form}
 use Rattle.exb_extender.specs.declared.sends.Out.{Out}
 use Rattle.exb_extender.specs.declared.sends.Sends.{Sends}
+use Rattle.exb_extender.specs.declared.sends.Side.{Side}
 use Rattle.exb_extender.specs.declared.sends.Side.TheVariants as side
-use Rattle.exb_extender.specs.Forwarding.{Sent, emitted, is_ignored}
-use Rattle.exb_extender.specs.Machine.{ExtenderState, Input, Arrives, IsPort, react}
-use Rattle.exb_extender.specs.Sending.{sent_by}
+use Rattle.exb_extender.specs.Forwarding.{Sent, emitted, is_ignored, up}
+use Rattle.exb_extender.specs.Machine.{ExtenderState, Input, Arrives, IsPort, Reaction, react}
+use Rattle.exb_extender.specs.Passing.{GoesTo}
+use Rattle.exb_extender.specs.Sending.{bytes_in, out_sent, sent_by}
 use Rattle.exb_machine.specs.Worlds.{World, at, with_far}
 use Rattle.exb_machine.specs.Effects.{Effect, each}
-use Rattle.exb_machine.specs.Extending.{sends, reacts, takes_from_below, arrives_at, ignored, stamp_of, port_number}
+use Rattle.exb_machine.specs.Extending.{does, sends, reacts, takes_from_below, arrives_at, ignored, stamp_of, port_number}
 use Rattle.exb_network.specs.declared.log.Log.{Log}
 use Rattle.exb_network.specs.declared.site.Core.{Core}
 use Rattle.exb_network.specs.Arrivals.{IsPortAt}
@@ -28,6 +29,7 @@ use Rattle.exb_network.specs.Forms.{CanGo}
 use Rattle.exb_network.specs.Sites.{Site}
 use Rattle.exb_network.specs.Worlds.{world_in, all_left, IsAt, Does, KeepsTrace}
 use Rattle.exb_network.proofs.Cores.{far_in, does_nothing}
+use Rattle.exb_network.proofs.Doing.{each_one}
 
 -- ---- an extender reacts
 pub reacted : (t : Shape) (s : Site) (c d : Core) (far : Devices) (n : ℕ) (stamp : Option Stamp) (i : Input) (f : List ℕ) (sent : Sends) (old new : Log) →
@@ -36,6 +38,26 @@ pub reacted : (t : Shape) (s : Site) (c d : Core) (far : Devices) (n : ℕ) (sta
 reacted t s c d far n stamp i f sent old new state are done =
     subst (λ (xs : List Sent). Does (each (sends t n stamp) xs (with_far n (react i (far_of c.far n)).0 (world_in c))) s d old new) are
     (subst (λ (w : World). Does (each (sends t n stamp) (sent_by f sent) w) s d old new) (far_in c n far (react i (far_of c.far n)).0 state) done)
+
+-- ---- it sends a frame on to one side, and nothing else
+far_same : (n : ℕ) (w : World) → with_far n (w.far n) w ≡ w
+far_same n w = ap (λ (f : ℕ → ExtenderState). record w { far = f }) (fun_ext (λ m. by_place m))
+  where
+    by_place : (m : ℕ) → at n (w.far n) w.far m ≡ w.far m
+    by_place m =
+        elim (cases_eq m n) [
+          | inl is ↦ rw (is, eq-eqb n n refl) refl
+          | inr ne ↦ rw (ne_eqb m n ne) refl
+        ]
+
+pub reacted_only : (t : Shape) (s : Site) (c d : Core) (n : ℕ) (x : Word) (from : Side) (out : Out) (old new : Log) → GoesTo (far_of c.far n).tables from x.bytes out →
+    Does (sends t n x.stamp (out_sent x.bytes out) (world_in c)) s d old new → Does (reacts t n x.stamp (Arrives from x.bytes) (world_in c)) s d old new
+reacted_only t s c d n x from out old new goes done =
+    let sent : Sent = out_sent x.bytes out in
+    let w : World = world_in c in
+    subst (λ (r : Reaction). Does (does t n x.stamp r w) s d old new) (sym (goes.reacts (far_of c.far n) refl))
+    (subst (λ (e : Effect). Does e s d old new) (sym (each_one (sends t n x.stamp) sent (with_far n (w.far n) w)))
+    (subst (λ (v : World). Does (sends t n x.stamp sent v) s d old new) (sym (far_same n w)) done))
 
 -- ---- a word comes from below
 pub from_cascade : (t : Shape) (n k : ℕ) (x : Word) (w : World) (s : Site) (d : Core) (old new : Log) → (w.far n).tables.cascade k ≡ true →
@@ -70,16 +92,6 @@ module _ (t : Shape) (a : Arrival) (w : World) where
   unfolding emitted
   at_ignored outer is = rw (outer, is) refl
 
-  same_far : with_far (device a.port) (w.far (device a.port)) w ≡ w
-  same_far = ap (λ (f : ℕ → ExtenderState). record w { far = f }) (fun_ext (λ m. by_place m))
-    where
-      by_place : (m : ℕ) → at (device a.port) (w.far (device a.port)) w.far m ≡ w.far m
-      by_place m =
-          elim (cases_eq m (device a.port)) [
-            | inl is ↦ rw (is, eq-eqb (device a.port) (device a.port) refl) refl
-            | inr ne ↦ rw (ne_eqb m (device a.port) ne) refl
-          ]
-
   at_sent : (w.far (device a.port)).tables.cascade (port_number a.port) ≡ false → is_ignored ((w.far (device a.port)).tables.own (port_number a.port)) a.bytes ≡ false →
       each (sends t (device a.port) (Some (stamp_of a))) (react (Arrives (side.Port (port_number a.port)) a.bytes) (w.far (device a.port))).1 (with_far (device a.port) (w.far (device a.port)) w) ≡ arrives_at t a w
   unfolding emitted
@@ -97,23 +109,16 @@ pub arrives_ignored : (t : Shape) (a : Arrival) (s : Site) (c : Core) (old new :
 arrives_ignored t a s c old new outer is done = subst (λ (e : Effect). Does e s c old new) (sym (at_ignored t a (world_in c) outer is)) done
 
 -- where it is
-pub arrives_sent : (t : Shape) (a : Arrival) (s : Site) (c d : Core) (result : Entry) (sent : Sends) (old new : Log) → (far_of c.far (device a.port)).tables.cascade (port_number a.port) ≡ false →
-    ((result ≡ entry.Ignored) ↔ IsTrue (is_ignored ((far_of c.far (device a.port)).tables.own (port_number a.port)) a.bytes)) → result ≡ entry.Sent →
-    sent_by a.bytes sent ≡ (react (Arrives (side.Port (port_number a.port)) a.bytes) (far_of c.far (device a.port))).1 →
-    Does (each (sends t (device a.port) (Some (stamp_of a))) (sent_by a.bytes sent) (world_in c)) s d old new → Does (arrives_at t a (world_in c)) s d old new
-arrives_sent t a s c d result sent old new outer let_in is are done =
+pub arrives_up : (t : Shape) (a : Arrival) (s : Site) (c d : Core) (form : Form) (old new : Log) → (far_of c.far (device a.port)).tables.cascade (port_number a.port) ≡ false →
+    is_ignored ((far_of c.far (device a.port)).tables.own (port_number a.port)) a.bytes ≡ false → up (bytes_in a.bytes form) ∷ [] ≡ emitted (far_of c.far (device a.port)).tables (side.Port (port_number a.port)) a.bytes →
+    Does (sends t (device a.port) (Some (stamp_of a)) (up (bytes_in a.bytes form)) (world_in c)) s d old new → Does (arrives_at t a (world_in c)) s d old new
+arrives_up t a s c d form old new outer isnt are done =
     let f = sends t (device a.port) (Some (stamp_of a)) in
     let r = react (Arrives (side.Port (port_number a.port)) a.bytes) (far_of c.far (device a.port)) in
-    let isnt : is_ignored ((far_of c.far (device a.port)).tables.own (port_number a.port)) a.bytes ≡ false =
-    elim (cases_Bool (is_ignored ((far_of c.far (device a.port)).tables.own (port_number a.port)) a.bytes)) [
-      | inl x ↦ absurd (apart (sym is ∙ let_in.1 x))
-      | inr x ↦ x
-    ] in
     subst (λ (e : Effect). Does e s d old new) (at_sent t a (world_in c) outer isnt)
-    (subst (λ (w : World). Does (each f r.1 w) s d old new) (sym (same_far t a (world_in c))) (subst (λ (xs : List Sent). Does (each f xs (world_in c)) s d old new) are done))
-  where
-    apart : entry.Sent ≡ entry.Ignored → ⊥
-    apart e = cc
+    (subst (λ (w : World). Does (each f r.1 w) s d old new) (sym (far_same (device a.port) (world_in c)))
+    (subst (λ (xs : List Sent). Does (each f xs (world_in c)) s d old new) are
+    (subst (λ (e : Effect). Does e s d old new) (sym (each_one f (up (bytes_in a.bytes form)) (world_in c))) done)))
 
 -- ---- ports
 -- a port of an extender as that has it

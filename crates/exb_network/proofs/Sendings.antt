@@ -1,5 +1,5 @@
 -- What an extender sends of its own, and all that it sends.
-use Rattle.std.proofs.Common.{◌≡◌, ℕ, List, [], ◌∷◌, ◌++◌, map, All, refl, sym, subst, arith}
+use Rattle.std.proofs.Common.{◌≡◌, ℕ, List, [], ◌∷◌, ◌++◌, map, All, refl, ap, sym, subst, arith}
 use Rattle.std.specs.Prelude.{Option}
 use Rattle.exb_model.specs.Tree.{Shape}
 use Rattle.exb_link.specs.declared.word.Stamp.{Stamp}
@@ -9,7 +9,7 @@ use Rattle.exb_extender.specs.declared.sends.Out.{Out}
 use Rattle.exb_extender.specs.declared.sends.Side.{Side}
 use Rattle.exb_extender.specs.declared.sends.Side.TheVariants.{Up}
 use Rattle.exb_extender.specs.Forwarding.{Sent, up}
-use Rattle.exb_extender.specs.Sending.{own_sent, out_sent, sent_by}
+use Rattle.exb_extender.specs.Sending.{bytes_in, own_sent, out_sent, sent_by}
 use Rattle.exb_machine.specs.Effects.{Effect, each}
 use Rattle.exb_machine.specs.Extending.{sends, sent_to}
 use Rattle.exb_network.specs.declared.log.Log.{Log}
@@ -58,3 +58,8 @@ on_side f x side on can =
     let out : Out = record { to = side; form = AsIs } in
     let all : All (CanGo f) (out ∷ []) = subst (λ (xs : List Out). All (CanGo f) xs) on.frames can in
     (all 0 out (omega arith)).side
+
+-- a frame that goes on as it is
+pub as_it_is : (t : Shape) (n : ℕ) (stamp : Option Stamp) (f : List ℕ) (out : Out) (s : Site) (c d : Core) (old new : Log) → out.form ≡ AsIs →
+    Does (sent_to t n stamp out.to f (world_in c)) s d old new → Does (sends t n stamp (out_sent f out) (world_in c)) s d old new
+as_it_is t n stamp f out s c d old new is done = subst (λ (bytes : List ℕ). Does (sent_to t n stamp out.to bytes (world_in c)) s d old new) (sym (ap (bytes_in f) is)) done

@@ -1,5 +1,5 @@
 -- To which sides an extender sends.
-use Rattle.std.proofs.Common.{◌≡◌, ℕ, zero, suc, ◌+◌, ◌<◌, ◌≤◌, ◌==◌, ◌&&◌, Bool, true, false, List, [], ◌∷◌, ◌++◌, map, nat_lt, drop, sym, subst, arith}
+use Rattle.std.proofs.Common.{◌≡◌, ℕ, zero, suc, ◌+◌, ◌<◌, ◌≤◌, ◌==◌, ◌&&◌, Bool, true, false, List, [], ◌∷◌, ◌++◌, map, nat_lt, drop, refl, sym, subst, arith}
 use Rattle.std.specs.Prelude.{Option, Some, None, Result, Ok, Err, All, if◌then◌else◌}
 use Rattle.std.specs.List.{flat_map, range_with_len, AllByRecursion}
 use Rattle.exb_model.specs.ETags.{read_etag, tagged}
@@ -24,6 +24,7 @@ use Rattle.exb_extender.specs.declared.sends.Out.{Out}
 use Rattle.exb_extender.specs.declared.sends.Sends.{Sends}
 use Rattle.exb_extender.specs.Forwarding.{Sent, emitted, forwarding_of, sent_from_cascade, sent_from_external, up, channel_tag, names_channel, is_bare_control, is_ignored}
 use Rattle.exb_extender.specs.Machine.{ExtenderState, Arrives, react, hears, hears_pdu, hears_request, nothing, takes_message, takes_body, by_turn, executes, submits}
+use Rattle.exb_extender.specs.Passing.{GoesTo, IsLow}
 use Rattle.exb_extender.specs.Sending.{CanBeGiven, out_sent, own_sent, sent_by}
 use Rattle.exb_network.specs.Forms.{IsSide, CanGo}
 
@@ -124,3 +125,11 @@ pub can_go : (f : List ℕ) (s : Sends) (sent : List Sent) → sent_by f s ≡ s
 can_go f s sent is sides given =
     let each = sides_back f s.frames.items (own_sent s.first.items ++ own_sent s.second.items) (subst AreSides (sym is) sides) in
     λ k d low. record { side = all_from (λ out. IsSide out.to) s.frames.items each k d low; form = given k d low }
+
+-- of a frame that goes on to one side
+side_low : (side : Side) → IsLow side → IsSide side
+side_low Up low = tt
+side_low (Port k) low = low k refl
+
+pub only_goes : (t : ExtenderTables) (from : Side) (f : List ℕ) (out : Out) → GoesTo t from f out → CanGo f out
+only_goes t from f out goes = record { side = side_low out.to goes.low; form = goes.given }

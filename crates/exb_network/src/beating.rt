@@ -89,7 +89,8 @@ fn beat_all_near(
 }
 
 /// The control counts the beat; its outstanding request is asked again when that is due.
-fn beat_control(site: &Site, room: &mut Room, core: &mut Core) -> Result<(), NoMemory>
+#[inline(never)]
+fn beat_working(site: &Site, room: &mut Room, core: &mut Core) -> Result<(), NoMemory>
     requires at { IsAt site.now core.old }
     requires asks { AsksWell site.now.tree (limits_in site.now) (world_in core.old).control }
     ensures { OnOk result (Does (beats_control site.now.tree (world_in core.old)) site.now core.new room.old.post.log room.new.post.log) }
@@ -98,6 +99,19 @@ fn beat_control(site: &Site, room: &mut Room, core: &mut Core) -> Result<(), NoM
         return Err(NoMemory);
     }
     follow(site, room, core)
+}
+
+/// The control counts the beat. Where no change is at work there is nothing to count.
+#[inline(always)]
+fn beat_control(site: &Site, room: &mut Room, core: &mut Core) -> Result<(), NoMemory>
+    requires at { IsAt site.now core.old }
+    requires asks { AsksWell site.now.tree (limits_in site.now) (world_in core.old).control }
+    ensures { OnOk result (Does (beats_control site.now.tree (world_in core.old)) site.now core.new room.old.post.log room.new.post.log) }
+{
+    if core.control.settled() {
+        return Ok(());
+    }
+    beat_working(site, room, core)
 }
 
 /// The beat passes at all extenders: first at those that rest, which send nothing, then at the others by number.

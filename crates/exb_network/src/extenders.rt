@@ -1,21 +1,22 @@
 //! The extenders of a network.
-ghost use Rattle.std.specs.Prelude.{◌≡◌, ◌↔◌, ◌&&◌, ℕ, ◌≤◌, ◌<◌, true, false, not, if◌then◌else◌, IfOk, IsTrue, None, [], slice_index};
+ghost use Rattle.std.specs.Prelude.{◌≡◌, ◌↔◌, ◌&&◌, ℕ, ◌≤◌, ◌<◌, true, false, not, if◌then◌else◌, is_none, IfOk, IfSome, None, [], slice_index};
 ghost use Rattle.std.specs.Int.{bit_at};
 ghost use Rattle.std.specs.List.{All};
 ghost use Rattle.exb_model.specs.Frames.{is_control_frame};
 ghost use Rattle.exb_model.specs.Setup.{IsValid, shape_of};
 ghost use Rattle.exb_model.specs.Tree.{is_extender};
 ghost use Rattle.exb_extender.specs.Fields.{state_of};
-ghost use Rattle.exb_extender.specs.Forwarding.{is_ignored};
+ghost use Rattle.exb_extender.specs.Forwarding.{emitted, is_ignored};
 ghost use Rattle.exb_extender.specs.Machine.{Arrives, Beats, CanTake, IsPort, react};
+ghost use Rattle.exb_extender.specs.Passing.{GoesTo};
 ghost use Rattle.exb_extender.specs.Resting.{rests, rested};
-ghost use Rattle.exb_extender.specs.Sending.{sent_by};
+ghost use Rattle.exb_extender.specs.Sending.{form_sent, sent_by, CanBeGiven};
 ghost use Rattle.exb_network.specs.Forms.{CanGo};
 ghost use Rattle.exb_machine.specs.Worlds.{at};
 ghost use Rattle.exb_network.specs.Devices.{far_of, first_far, has_extender, if_rests, IsPoweredOn, AreSame};
 
 use crate::numbers::{meet, with_bit};
-use exb_extender::{Entry, Extender, Sends, Side};
+use exb_extender::{Extender, Form, Out, Sends, Side};
 use exb_model::address::is_control_frame;
 use exb_model::memory::NoMemory;
 use exb_model::port::DEVICES;
@@ -116,6 +117,20 @@ impl Extenders {
         })
     }
 
+    /// The one side to which a frame from upstream, or from one of its cascade ports, goes on, with its form there, where nothing
+    /// else comes of it. None says nothing.
+    #[inline(always)]
+    pub(crate) fn only_out(&self, number: u8, from: Side, frame: &[u8]) -> Option<Out>
+        requires there { has_extender self.now number ≡ true }
+        requires from { CanTake (far_of self.now number) from }
+        ensures { IfSome result (GoesTo (far_of self.now number).tables from frame.now) }
+    {
+        match &self.extenders[number as usize] {
+            Some(extender) => extender.only_out(from, frame),
+            None => None,
+        }
+    }
+
     /// An extender takes a frame from upstream, or from one of its cascade ports.
     #[inline(always)]
     pub(crate) fn take(&mut self, number: u8, from: Side, frame: &[u8], sends: &mut Sends)
@@ -172,22 +187,19 @@ impl Extenders {
         }
     }
 
-    /// A frame arrives at a port of an extender that is no cascade port.
-    pub(crate) fn arrive(&mut self, number: u8, port: u8, frame: &[u8], sends: &mut Sends) -> Entry
-        requires there { has_extender self.old number ≡ true }
-        requires port { IsPort (far_of self.old number) port }
-        requires external { (far_of self.old number).tables.cascade port ≡ false }
-        ensures state { self.new ≡ self.old }
-        ensures sends { sent_by frame.now sends.new ≡ (react (Arrives (Side.Port port) frame.now) (far_of self.old number)).1 }
-        ensures given { All (CanGo frame.now) sends.new.frames.items }
-        ensures ignored { (result ≡ Entry.Ignored) ↔ IsTrue (is_ignored ((far_of self.old number).tables.own port) frame.now) }
+    /// The form in which a frame goes up that arrives at a port of an extender that is no cascade port; None where it is ignored.
+    #[inline(always)]
+    pub(crate) fn form_in(&self, number: u8, port: u8, frame: &[u8]) -> Option<Form>
+        requires there { has_extender self.now number ≡ true }
+        requires port { IsPort (far_of self.now number) port }
+        requires external { (far_of self.now number).tables.cascade port ≡ false }
+        ensures sends { form_sent frame.now result ≡ emitted (far_of self.now number).tables (Side.Port port) frame.now }
+        ensures given { IfSome result (CanBeGiven frame.now) }
+        ensures ignored { is_none result ≡ is_ignored ((far_of self.now number).tables.own port) frame.now }
     {
-        match &mut self.extenders[number as usize] {
-            Some(extender) => {
-                has_few_ports(extender);
-                extender.arrive(port, frame, sends)
-            }
-            None => Entry::Ignored,
+        match &self.extenders[number as usize] {
+            Some(extender) => extender.form_in(port, frame),
+            None => None,
         }
     }
 

@@ -18,6 +18,7 @@ mod links;
 pub mod log;
 mod numbers;
 mod orders;
+mod passing;
 mod relaying;
 pub mod rows;
 mod sending;

@@ -16,32 +16,21 @@ ghost use Rattle.exb_network.specs.Sites.{limits_in};
 ghost use Rattle.exb_network.specs.Worlds.{world_in, IsAt, Does, HasLeft, KeepsTrace};
 
 use crate::arrivals::Arrived;
-use crate::forms::{put_stripped, put_tagged};
 use crate::hearing::hear;
 use crate::log::{Left, Post, add_events, note_out};
 use crate::rows::Row;
 use crate::sending::hung_on;
-use crate::site::{Buffers, Core, Room, Site};
+use crate::site::{Core, Room, Site};
 use exb_control::{Ingress, Outbox, SendTo};
-use exb_frame::egress::egress_into;
-use exb_frame::etag::{E_TAG_TYPE, ETag};
+use exb_frame::egress::{VlanTag, egress_into, tagged_egress_into};
+use exb_frame::etag::{E_TAG_TYPE, ETag, strip_in_place, strip_into};
 use exb_link::{Stamp, Word};
 use exb_model::bytes::{Bytes, are_bytes, number_at};
 use exb_model::event::Event;
 use exb_model::list::List;
 use exb_model::memory::NoMemory;
 use exb_model::port::PortId;
-use exb_model::vlan::Vid;
 use exb_relay::laws::spaces_number;
-
-/// A frame that passed at its port in a VLAN, with the priority of its VLAN tag (`pcp` is below 8).
-#[derive(Clone, Copy)]
-struct Passed<'a> {
-    arrived: Arrived<'a>,
-    vid: Vid,
-    pcp: u8,
-    dei: bool,
-}
 
 /// A frame leaves at a port of the bridge.
 #[inline(always)]
@@ -100,61 +89,53 @@ fn put_word(
     core.down.push(below, word)
 }
 
-/// One send of the bridge: the frame leaves there, or goes down there with an E-TAG.
+/// One send of the bridge for a frame that passed with this VLAN tag: it leaves there, or goes down there with an E-TAG.
 fn send(
     site: &Site,
-    passed: &Passed,
+    arrived: &Arrived,
+    tag: &VlanTag,
     send: &SendTo,
-    buffers: &mut Buffers,
     core: &mut Core,
     post: &mut Post,
 ) -> Result<(), NoMemory>
     requires at { IsAt site.now core.old }
-    requires passed { HasPassed passed.now }
+    requires passed { HasPassed arrived.now.bytes.now tag.now }
     requires send { CanSend send.now }
-    ensures { OnOk result (Does (sends_in site.now.tree (arrival_of passed.now.arrived) passed.now.vid send.now (world_in core.old)) site.now core.new post.old.log post.new.log) }
+    ensures { OnOk result (Does (sends_in site.now.tree (arrival_of arrived.now) tag.now.vid send.now (world_in core.old)) site.now core.new post.old.log post.new.log) }
 {
-    let frame = passed.arrived.bytes;
-    egress_into(
-        frame,
-        send.kind,
-        passed.pcp,
-        passed.dei,
-        passed.vid,
-        &mut buffers.frame,
-    );
+    let frame = arrived.bytes;
+    let mut buffer = post.store.buffer(post.alloc);
     match &send.tag {
         None => {
-            let moment = passed.arrived.moment;
-            let bytes = post.store.copy(post.alloc, buffers.frame.as_slice())?;
-            leave(send.bridge_port, moment, bytes, post)
+            egress_into(frame, send.kind, tag, &mut buffer)?;
+            let bytes = Bytes::from_vec(buffer);
+            leave(send.bridge_port, arrived.moment, bytes, post)
         }
-        Some(tag) => {
-            let stamp = passed.arrived.stamp();
-            let mut buffer = post.store.buffer(post.alloc);
-            put_tagged(buffers.frame.as_slice(), tag, &mut buffer)?;
+        Some(etag) => {
+            let stamp = arrived.stamp();
+            tagged_egress_into(frame, send.kind, tag, etag, &mut buffer)?;
             let bytes = Bytes::from_vec(buffer);
             put_word(site, send.bridge_port, bytes, stamp, core, post)
         }
     }
 }
 
-/// All sends of the bridge, in order.
+/// All sends of the bridge for a frame that passed, in order.
 fn send_all(
     site: &Site,
-    passed: &Passed,
+    arrived: &Arrived,
+    tag: &VlanTag,
     sends: &[SendTo],
-    buffers: &mut Buffers,
     core: &mut Core,
     post: &mut Post,
 ) -> Result<(), NoMemory>
     requires at { IsAt site.now core.old }
-    requires passed { HasPassed passed.now }
+    requires passed { HasPassed arrived.now.bytes.now tag.now }
     requires sends { All CanSend sends.now }
-    ensures { OnOk result (Does (each (sends_in site.now.tree (arrival_of passed.now.arrived) passed.now.vid) sends.now (world_in core.old)) site.now core.new post.old.log post.new.log) }
+    ensures { OnOk result (Does (each (sends_in site.now.tree (arrival_of arrived.now) tag.now.vid) sends.now (world_in core.old)) site.now core.new post.old.log post.new.log) }
 {
     for one in sends {
-        send(site, passed, one, buffers, core, post)?;
+        send(site, arrived, tag, one, core, post)?;
     }
     Ok(())
 }
@@ -217,6 +198,7 @@ fn learn(
     let _ = site;
     let frame = arrived.bytes;
     are_bytes(frame);
+    post.store.lend(&mut outbox.spare);
     match core
         .control
         .frame(arrived.port, arrived.index, arrived.moment, frame, outbox)
@@ -242,26 +224,13 @@ pub(crate) fn come(
     match &room.outbox.ingress {
         Ingress::Dropped => Ok(()),
         Ingress::Passed { vid, pcp, dei } => {
-            let passed = Passed {
-                arrived: Arrived {
-                    port: arrived.port,
-                    index: arrived.index,
-                    moment: arrived.moment,
-                    bytes: arrived.bytes,
-                },
-                vid: *vid,
+            let tag = VlanTag {
                 pcp: *pcp,
                 dei: *dei,
+                vid: *vid,
             };
             let sends = room.outbox.sends.as_slice();
-            send_all(
-                site,
-                &passed,
-                sends,
-                &mut room.buffers,
-                core,
-                &mut room.post,
-            )
+            send_all(site, arrived, &tag, sends, core, &mut room.post)
         }
     }
 }
@@ -320,18 +289,19 @@ fn take_control(
         return Ok(());
     };
     let mut inner = room.post.store.buffer(room.post.alloc);
-    put_stripped(frame, &mut inner)?;
+    strip_into(frame, &mut inner)?;
     hear(site, number, inner.as_slice(), room, core)?;
     room.post.store.keep(Bytes::from_vec(inner));
     Ok(())
 }
 
-/// A data word comes to a cascade port of the bridge: its frame comes from the port whose channel it has.
+/// A data word comes to a cascade port of the bridge: its frame comes from the port whose channel it has. The E-TAG is taken
+/// out where it stands.
 #[inline(always)]
 fn take_data(
     site: &Site,
     bridge_port: u8,
-    word: &Word,
+    word: Word,
     room: &mut Room,
     core: &mut Core,
 ) -> Result<(), NoMemory>
@@ -339,28 +309,29 @@ fn take_data(
     requires from1 { 1 ≤ bridge_port }
     requires to64 { bridge_port ≤ 64 }
     requires cascade { is_cascade site.now.tree (bridge_port - 1) ≡ true }
-    ensures { OnOk result (Does (comes_from site.now.tree (holder_by (world_in core.old) (bridge_port - 1) (read_etag word.now.bytes)) word.now.stamp (stripped word.now.bytes) (world_in core.old)) site.now core.new room.old.post.log room.new.post.log) }
+    ensures { OnOk result (Does (comes_from site.now.tree (holder_by (world_in core.old) (bridge_port - 1) (read_etag word.bytes)) word.stamp (stripped word.bytes) (world_in core.old)) site.now core.new room.old.post.log room.new.post.log) }
 {
-    let frame = word.bytes.as_slice();
-    let Some(port) = holder(site, core, bridge_port, frame) else {
+    let Word { bytes, stamp } = word;
+    let Some(port) = holder(site, core, bridge_port, bytes.as_slice()) else {
         return Ok(());
     };
-    let Some(stamp) = word.stamp else {
+    let Some(stamp) = stamp else {
         return Ok(());
     };
     if !site.tree().is_external(port) {
         return Ok(());
     }
-    let mut inner = room.post.store.buffer(room.post.alloc);
-    put_stripped(frame, &mut inner)?;
+    let mut buffer = bytes.into_vec();
+    strip_in_place(&mut buffer);
+    let (_, frame) = buffer.as_slice().split_at(8);
     let arrived = Arrived {
         port,
         index: stamp.index,
         moment: stamp.moment,
-        bytes: inner.as_slice(),
+        bytes: frame,
     };
     come(site, &arrived, room, core)?;
-    room.post.store.keep(Bytes::from_vec(inner));
+    room.post.store.keep(Bytes::from_vec(buffer));
     Ok(())
 }
 
@@ -370,7 +341,7 @@ pub(crate) fn take(
     site: &Site,
     bridge_port: u8,
     below: u8,
-    word: &Word,
+    word: Word,
     room: &mut Room,
     core: &mut Core,
 ) -> Result<(), NoMemory>
@@ -379,12 +350,14 @@ pub(crate) fn take(
     requires to64 { bridge_port ≤ 64 }
     requires hangs { HangsOn site.now.tree below (bridge_port - 1) }
     requires asks { AsksWell site.now.tree (limits_in site.now) (world_in core.old).control }
-    ensures { OnOk result (Does (bridge_takes site.now.tree (limits_in site.now) (bridge_port - 1) below word.now (world_in core.old)) site.now core.new room.old.post.log room.new.post.log) }
+    ensures { OnOk result (Does (bridge_takes site.now.tree (limits_in site.now) (bridge_port - 1) below word (world_in core.old)) site.now core.new room.old.post.log room.new.post.log) }
 {
     site.tree().is_tree();
     if word.is_control() {
         let frame = word.bytes.as_slice();
-        take_control(site, bridge_port, below, frame, room, core)
+        take_control(site, bridge_port, below, frame, room, core)?;
+        room.post.store.keep(word.bytes);
+        Ok(())
     } else {
         take_data(site, bridge_port, word, room, core)
     }

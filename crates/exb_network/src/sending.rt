@@ -113,7 +113,7 @@ fn send_up(
 
 /// A word goes out at a side of an extender.
 #[inline(always)]
-fn send_to(
+pub(crate) fn send_to(
     site: &Site,
     number: u8,
     side: Side,
@@ -134,7 +134,7 @@ fn send_to(
 
 /// A frame that an extender took goes out in a form.
 #[inline(always)]
-fn send_frame(
+pub(crate) fn send_frame(
     site: &Site,
     number: u8,
     came: &Came,

@@ -1,22 +1,69 @@
 //! What extenders do with words and frames that come to them, and at a beat.
 ghost use Rattle.std.specs.Prelude.{◌≡◌, ◌++◌, ◌∷◌, [], true, OnOk, Some, None};
 ghost use Rattle.exb_model.specs.Tree.{device, is_extender};
-ghost use Rattle.exb_extender.specs.Machine.{Beats};
+ghost use Rattle.exb_extender.specs.Machine.{Arrives, Beats, CanTake};
 ghost use Rattle.exb_machine.specs.Extending.{arrives_at, port_number, reacts, takes_from_above, takes_from_below};
 ghost use Rattle.exb_network.specs.Arrivals.{arrival_of, IsPortAt};
+ghost use Rattle.exb_network.specs.Devices.{far_of};
 ghost use Rattle.exb_network.specs.Worlds.{world_in, IsAt, Does, KeepsTrace};
 
 use crate::arrivals::{Arrived, Came};
 use crate::log::Log;
-use crate::sending::{send_all, send_on};
+use crate::passing::pass_on;
+use crate::sending::{send_all, send_frame, send_on};
 use crate::site::{Core, Room, Site};
-use exb_extender::{Entry, Side};
+use exb_extender::{Out, Side};
 use exb_link::Word;
 use exb_model::event::Event;
 use exb_model::memory::NoMemory;
 use exb_model::port::PortId;
 
+/// An extender takes a word, and all that it sends for it goes out.
+#[inline(never)]
+fn take_whole(
+    site: &Site,
+    number: u8,
+    from: Side,
+    word: Word,
+    room: &mut Room,
+    core: &mut Core,
+) -> Result<(), NoMemory>
+    requires at { IsAt site.now core.old }
+    requires extender { is_extender site.now.tree number ≡ true }
+    requires from { CanTake (far_of core.old.far number) from }
+    ensures { OnOk result (Does (reacts site.now.tree number word.stamp (Arrives from word.bytes) (world_in core.old)) site.now core.new room.old.post.log room.new.post.log) }
+{
+    site.has_low_number(number);
+    core.far
+        .take(number, from, word.bytes.as_slice(), &mut room.sends);
+    let sends = &room.sends;
+    send_on(site, number, word, sends, core, &mut room.post)
+}
+
+/// An extender takes a word. Mostly that goes on to one side alone, and nothing else is to be done.
+#[inline(always)]
+fn take(
+    site: &Site,
+    number: u8,
+    from: Side,
+    word: Word,
+    room: &mut Room,
+    core: &mut Core,
+) -> Result<(), NoMemory>
+    requires at { IsAt site.now core.old }
+    requires extender { is_extender site.now.tree number ≡ true }
+    requires from { CanTake (far_of core.old.far number) from }
+    ensures { OnOk result (Does (reacts site.now.tree number word.stamp (Arrives from word.bytes) (world_in core.old)) site.now core.new room.old.post.log room.new.post.log) }
+{
+    site.has_low_number(number);
+    match core.far.only_out(number, from, word.bytes.as_slice()) {
+        Some(out) => pass_on(site, number, word, &out, core, &mut room.post),
+        None => take_whole(site, number, from, word, room, core),
+    }
+}
+
 /// An extender takes a word from upstream.
+#[inline(always)]
 pub(crate) fn take_from_above(
     site: &Site,
     number: u8,
@@ -28,14 +75,11 @@ pub(crate) fn take_from_above(
     requires extender { is_extender site.now.tree number ≡ true }
     ensures { OnOk result (Does (takes_from_above site.now.tree number word (world_in core.old)) site.now core.new room.old.post.log room.new.post.log) }
 {
-    site.has_low_number(number);
-    core.far
-        .take(number, Side::Up, word.bytes.as_slice(), &mut room.sends);
-    let sends = &room.sends;
-    send_on(site, number, word, sends, core, &mut room.post)
+    take(site, number, Side::Up, word, room, core)
 }
 
 /// An extender takes a word from one of its ports, if that is a cascade port in its tables.
+#[inline(always)]
 pub(crate) fn take_from_below(
     site: &Site,
     port: PortId,
@@ -48,19 +92,11 @@ pub(crate) fn take_from_below(
     ensures { OnOk result (Does (takes_from_below site.now.tree (device port) (port_number port) word (world_in core.old)) site.now core.new room.old.post.log room.new.post.log) }
 {
     let number = port.device();
-    site.has_low_number(number);
     let port = port.place() + 1;
     if !core.far.cascade(number, port) {
         return Ok(());
     }
-    core.far.take(
-        number,
-        Side::Port { port },
-        word.bytes.as_slice(),
-        &mut room.sends,
-    );
-    let sends = &room.sends;
-    send_on(site, number, word, sends, core, &mut room.post)
+    take(site, number, Side::Port { port }, word, room, core)
 }
 
 /// A frame is ignored.
@@ -95,18 +131,15 @@ pub(crate) fn arrive_at(
     if core.far.cascade(number, port) {
         return ignore(arrived, &mut room.post.log);
     }
-    match core
-        .far
-        .arrive(number, port, arrived.bytes, &mut room.sends)
-    {
-        Entry::Ignored => ignore(arrived, &mut room.post.log),
-        Entry::Sent => {
+    match core.far.form_in(number, port, arrived.bytes) {
+        None => ignore(arrived, &mut room.post.log),
+        Some(form) => {
             let came = Came {
                 frame: arrived.bytes,
                 stamp: Some(arrived.stamp()),
             };
-            let sends = &room.sends;
-            send_all(site, number, &came, sends, core, &mut room.post)
+            let out = Out { to: Side::Up, form };
+            send_frame(site, number, &came, &out, core, &mut room.post)
         }
     }
 }

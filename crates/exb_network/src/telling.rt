@@ -9,7 +9,7 @@ ghost use Rattle.exb_machine.specs.Telling.{all_told, told};
 ghost use Rattle.exb_machine.specs.Worlds.{Journal};
 ghost use Rattle.exb_network.specs.Networks.{step_of};
 ghost use Rattle.exb_network.specs.Steps.{way_of};
-ghost use Rattle.exb_network.specs.Worlds.{world_in, if_tracing, IsAt};
+ghost use Rattle.exb_network.specs.Worlds.{world_in};
 
 use crate::site::{Core, Site};
 use crate::step::{Step, Way};
@@ -26,8 +26,6 @@ use std::alloc::Global;
 use std::mem;
 
 /// Puts a line behind others.
-#[cold]
-#[inline(never)]
 fn put(
     alloc: Global,
     way: TraceWay,
@@ -47,8 +45,6 @@ fn put(
 }
 
 /// A frame comes in by a port.
-#[cold]
-#[inline(never)]
 fn put_at(
     alloc: Global,
     port: PortId,
@@ -86,8 +82,6 @@ fn put_word(
 }
 
 /// A word that may be there comes in at the end of its direction.
-#[cold]
-#[inline(never)]
 fn put_any(
     alloc: Global,
     site: &Site,
@@ -105,9 +99,8 @@ fn put_any(
     }
 }
 
-/// What comes in by a step.
-#[inline(always)]
-fn put_ins(
+/// Tells what comes in by a step.
+pub(crate) fn tell_ins(
     alloc: Global,
     site: &Site,
     step: &Step<'_>,
@@ -134,25 +127,6 @@ fn put_ins(
     }
 }
 
-/// Tells what comes in by a step, where a trace is kept.
-#[inline(always)]
-pub(crate) fn tell_ins(
-    alloc: Global,
-    tracing: bool,
-    site: &Site,
-    step: &Step<'_>,
-    core: &Core,
-    to: &mut List<TraceLine>,
-) -> Result<(), NoMemory>
-    requires { Can site.now.tree (world_in core.now) (step_of step.now) }
-    ensures { OnOk result (to.new ≡ to.old ++ if_tracing tracing (all_told (lines_in site.now.tree (step_of step.now) (world_in core.now)))) }
-{
-    if !tracing {
-        return Ok(());
-    }
-    put_ins(alloc, site, step, core, to)
-}
-
 /// A line of the journal.
 fn put_event(alloc: Global, event: &Event, to: &mut List<TraceLine>) -> Result<(), NoMemory>
     ensures { OnOk result (to.new ≡ to.old ++ told (Journal event.now) ∷ []) }
@@ -166,8 +140,6 @@ fn put_event(alloc: Global, event: &Event, to: &mut List<TraceLine>) -> Result<(
 }
 
 /// The lines of the journal for events.
-#[cold]
-#[inline(never)]
 fn put_events(alloc: Global, events: &[Event], to: &mut List<TraceLine>) -> Result<(), NoMemory>
     ensures { OnOk result (to.new ≡ to.old ++ all_told (map Journal events.now)) }
 {
@@ -178,8 +150,6 @@ fn put_events(alloc: Global, events: &[Event], to: &mut List<TraceLine>) -> Resu
 }
 
 /// Moves lines behind others.
-#[cold]
-#[inline(never)]
 fn put_outs(outs: Vec<TraceLine>, to: &mut List<TraceLine>) -> Result<(), NoMemory>
     ensures { OnOk result (to.new ≡ to.old ++ outs.items) }
 {
@@ -189,20 +159,15 @@ fn put_outs(outs: Vec<TraceLine>, to: &mut List<TraceLine>) -> Result<(), NoMemo
     Ok(())
 }
 
-/// Tells what happened in a step, and what went out, where a trace is kept.
-#[inline(always)]
+/// Tells what happened in a step, and what went out.
 pub(crate) fn tell_outs(
     alloc: Global,
-    tracing: bool,
     events: &[Event],
     outs: &mut Vec<TraceLine>,
     to: &mut List<TraceLine>,
 ) -> Result<(), NoMemory>
-    ensures { OnOk result (to.new ≡ to.old ++ if_tracing tracing (all_told (map Journal events.now) ++ outs.old.items)) }
+    ensures { OnOk result (to.new ≡ to.old ++ (all_told (map Journal events.now) ++ outs.old.items)) }
 {
-    if !tracing {
-        return Ok(());
-    }
     put_events(alloc, events, to)?;
     put_outs(mem::replace(outs, Vec::new(alloc)), to)
 }

@@ -257,21 +257,35 @@ fn make_told(site: &Site, step: &Step<'_>, room: &mut Room, core: &mut Core) -> 
     ensures live { OnOk result (IsLive site.now core.new) }
     ensures made { OnOk result ((failed : Bool) → IsStepped (step_of step.now) (network_of site.now core.old room.old.post.log failed) (network_of site.now core.new room.new.post.log failed)) }
 {
+    if room.post.log.tracing {
+        make_traced(site, step, room, core)
+    } else {
+        advance(site, step, room, core)
+    }
+}
+
+/// Makes a step, and tells its lines.
+#[cold]
+#[inline(never)]
+fn make_traced(
+    site: &Site,
+    step: &Step<'_>,
+    room: &mut Room,
+    core: &mut Core,
+) -> Result<(), NoMemory>
+    requires live { IsLive site.now core.old }
+    requires can { Can site.now.tree (world_in core.old) (step_of step.now) }
+    requires tracing { room.old.post.log.tracing ≡ true }
+    ensures live { OnOk result (IsLive site.now core.new) }
+    ensures made { OnOk result ((failed : Bool) → IsStepped (step_of step.now) (network_of site.now core.old room.old.post.log failed) (network_of site.now core.new room.new.post.log failed)) }
+{
     let before = room.post.log.events.as_slice().len();
     room.post.log.outs.clear();
-    tell_ins(
-        room.post.alloc,
-        room.post.log.tracing,
-        site,
-        step,
-        core,
-        &mut room.post.log.lines,
-    )?;
+    tell_ins(room.post.alloc, site, step, core, &mut room.post.log.lines)?;
     advance(site, step, room, core)?;
     let events = room.post.log.events.as_slice();
     tell_outs(
         room.post.alloc,
-        room.post.log.tracing,
         behind(events, before),
         &mut room.post.log.outs,
         &mut room.post.log.lines,

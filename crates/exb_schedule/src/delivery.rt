@@ -99,6 +99,7 @@ fn go_through(world: &mut World, link: u8, way: Way) -> Result<(), WorldFault>
 
 /// Goes through all directions of one way that have a word when their turn comes: up from the deepest extender, down from
 /// the bridge.
+#[inline(always)]
 fn go_one_way(world: &mut World, way: Way) -> Result<(), WorldFault>
     requires { ⊤ }
     ensures ok { OnOk result (HasAsked (goes_one_way (tree_of (network_of world.old)) (bounds_of (network_of world.old)) (way_of way) (world_of (network_of world.old))) (left world.old.fate) (left world.new.fate) (network_of world.old) (network_of world.new)) }

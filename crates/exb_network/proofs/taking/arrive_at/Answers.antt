@@ -1,38 +1,39 @@
-use Rattle.std.proofs.Common.{subst, sym, ◌∙◌}
-use Rattle.std.specs.Prelude.{OnOk}
+use Rattle.std.proofs.Common.{ap, sym, subst, ◌∙◌}
+use Rattle.std.specs.Prelude.{is_none, IfSome}
 use Rattle.std.proofs.lemmas.Result.{on_ok_weaker}
-use Rattle.exb_machine.specs.Extending.{arrives_at}
+use Rattle.exb_extender.specs.Sending.{form_sent, CanBeGiven}
 use Rattle.exb_network.specs.Arrivals.{arrival_of}
-use Rattle.exb_network.specs.Devices.{Devices}
-use Rattle.exb_network.specs.Worlds.{world_in, Does}
-use Rattle.exb_network.proofs.Reacting.{ignores, arrives_ignored, arrives_sent}
+use Rattle.exb_network.proofs.Reacting.{ignores, arrives_ignored, arrives_up}
 use Rattle.exb_network.proofs.taking.arrive_at.Goals as goal
 
-pub returns-in-Ignored : goal.returns-in-Ignored
-returns-in-Ignored c =
+pub returns-in-None : goal.returns-in-None
+returns-in-None c =
     let s = c.args.site.now in
     let core = c.args.core.now in
     let a = arrival_of c.args.arrived.now in
     let outer = rw (c.device-number.ensures.value, c.place-port.ensures.value) at (sym c.cascade.ensures ∙ c.if-cascade.false) in
-    let ignored = rw (c.device-number.ensures.value, c.place-port.ensures.value) at c.arrive.ensures.ignored in
-    subst (λ (far : Devices). OnOk c.ignore-in-Ignored.result (Does (arrives_at s.tree a (world_in core)) s (record core { far = far }) c.args.room.now.post.log c.ignore-in-Ignored.new.log))
-    (sym c.arrive.ensures.state)
-    (on_ok_weaker c.ignore-in-Ignored.result
+    let ignored = rw (c.device-number.ensures.value, c.place-port.ensures.value) at (sym c.form_in.ensures.ignored ∙ ap is_none c.in-None.is) in
+    on_ok_weaker c.ignore-in-None.result
     (λ told.
-    arrives_ignored s.tree a s core c.args.room.now.post.log c.ignore-in-Ignored.new.log outer (ignored.0 c.in-Ignored.is)
-    (ignores s core a c.args.room.now.post.log c.ignore-in-Ignored.new.log told c.ignore-in-Ignored.ensures.passed c.ignore-in-Ignored.ensures.left c.ignore-in-Ignored.ensures.trace c.requires.at))
-    c.ignore-in-Ignored.ensures.events)
+    arrives_ignored s.tree a s core c.args.room.now.post.log c.ignore-in-None.new.log outer ignored
+    (ignores s core a c.args.room.now.post.log c.ignore-in-None.new.log told c.ignore-in-None.ensures.passed c.ignore-in-None.ensures.left c.ignore-in-None.ensures.trace c.requires.at))
+    c.ignore-in-None.ensures.events
 
-pub returns-in-Sent : goal.returns-in-Sent
-returns-in-Sent c =
+pub send_frame-requires-clause-can : goal.send_frame-requires-clause-can
+send_frame-requires-clause-can c =
+    let f = c.args.arrived.now.bytes.now in
+    record { side = tt; form = subst (λ r. IfSome r (CanBeGiven f)) c.in-Some.is c.form_in.ensures.given }
+
+pub returns-in-Some : goal.returns-in-Some
+returns-in-Some c =
     let s = c.args.site.now in
     let core = c.args.core.now in
     let a = arrival_of c.args.arrived.now in
     let outer = rw (c.device-number.ensures.value, c.place-port.ensures.value) at (sym c.cascade.ensures ∙ c.if-cascade.false) in
-    let ignored = rw (c.device-number.ensures.value, c.place-port.ensures.value) at c.arrive.ensures.ignored in
-    let are = rw (c.device-number.ensures.value, c.place-port.ensures.value) at c.arrive.ensures.sends in
-    on_ok_weaker c.send_all.result
+    let isnt = rw (c.device-number.ensures.value, c.place-port.ensures.value) at (sym c.form_in.ensures.ignored ∙ ap is_none c.in-Some.is) in
+    let are = rw (c.device-number.ensures.value, c.place-port.ensures.value) at (sym (ap (form_sent a.bytes) c.in-Some.is) ∙ c.form_in.ensures.sends) in
+    on_ok_weaker c.send_frame.result
     (λ done.
-    arrives_sent s.tree a s core c.send_all.new.core c.arrive.result c.arrive.new.sends c.args.room.now.post.log c.send_all.new.post.log outer ignored c.in-Sent.is are
-    (rw (c.arrive.ensures.state, c.stamp.ensures, c.device-number.ensures.value) at done))
-    c.send_all.ensures
+    arrives_up s.tree a s core c.send_frame.new.core c.in-Some.form c.args.room.now.post.log c.send_frame.new.post.log outer isnt are
+    (rw (c.stamp.ensures, c.device-number.ensures.value) at done))
+    c.send_frame.ensures

@@ -4,19 +4,14 @@ use Rattle.std.proofs.lemmas.Result.{on_ok_weaker}
 use Rattle.exb_model.specs.Traces.{TraceLine}
 use Rattle.exb_machine.specs.Telling.{all_told}
 use Rattle.exb_machine.specs.Worlds.{Journal}
-use Rattle.exb_network.proofs.Lines.{kept_off, kept_on}
 use Rattle.exb_network.proofs.telling.tell_outs.Goals as goal
-
-pub returns-then-not-tracing : goal.returns-then-not-tracing
-returns-then-not-tracing c = kept_off c.args.tracing c.args.to.now (all_told (map Journal c.args.events.now) ++ c.args.outs.now.items) c.if-not-tracing.true
 
 pub returns : goal.returns
 returns c =
     let old = c.args.to.now in
     let journal = all_told (map Journal c.args.events.now) in
     on_ok_weaker c.put_outs.result (λ moved.
-    kept_on c.args.tracing c.put_outs.new.to old (journal ++ c.args.outs.now.items) c.if-not-tracing.false
-    (moved
+    moved
     ∙ ap (λ (xs : List TraceLine). xs ++ c.replace.result.items) c.in_ok-put_events.ensures
     ∙ append_assoc old journal c.replace.result.items
-    ∙ ap (λ (v : _). old ++ (journal ++ v.items)) c.replace.ensures.value)) c.put_outs.ensures
+    ∙ ap (λ (v : _). old ++ (journal ++ v.items)) c.replace.ensures.value) c.put_outs.ensures

@@ -1,0 +1,59 @@
+//! A word that an extender sends on to one side alone.
+ghost use Rattle.std.specs.Prelude.{◌<◌, OnOk};
+ghost use Rattle.exb_extender.specs.Sending.{out_sent};
+ghost use Rattle.exb_machine.specs.Extending.{sends};
+ghost use Rattle.exb_network.specs.Forms.{CanGo};
+ghost use Rattle.exb_network.specs.Worlds.{world_in, IsAt, Does};
+
+use crate::arrivals::Came;
+use crate::log::Post;
+use crate::sending::{send_frame, send_to};
+use crate::site::{Core, Site};
+use exb_extender::{Form, Out};
+use exb_link::Word;
+use exb_model::memory::NoMemory;
+
+/// A word goes on to a side in another form than that in which it came; its buffer is kept.
+#[inline(never)]
+fn change(
+    site: &Site,
+    number: u8,
+    word: Word,
+    out: &Out,
+    core: &mut Core,
+    post: &mut Post,
+) -> Result<(), NoMemory>
+    requires at { IsAt site.now core.old }
+    requires number { number < 65 }
+    requires can { CanGo word.bytes out.now }
+    ensures { OnOk result (Does (sends site.now.tree number word.stamp (out_sent word.bytes out.now) (world_in core.old)) site.now core.new post.old.log post.new.log) }
+{
+    let came = Came {
+        frame: word.bytes.as_slice(),
+        stamp: word.stamp,
+    };
+    send_frame(site, number, &came, out, core, post)?;
+    post.store.keep(word.bytes);
+    Ok(())
+}
+
+/// A word goes on to a side, in a form; as it is it isn't copied.
+#[inline(always)]
+pub(crate) fn pass_on(
+    site: &Site,
+    number: u8,
+    word: Word,
+    out: &Out,
+    core: &mut Core,
+    post: &mut Post,
+) -> Result<(), NoMemory>
+    requires at { IsAt site.now core.old }
+    requires number { number < 65 }
+    requires can { CanGo word.bytes out.now }
+    ensures { OnOk result (Does (sends site.now.tree number word.stamp (out_sent word.bytes out.now) (world_in core.old)) site.now core.new post.old.log post.new.log) }
+{
+    match out.form {
+        Form::AsIs => send_to(site, number, out.to, word, core, post),
+        _ => change(site, number, word, out, core, post),
+    }
+}
