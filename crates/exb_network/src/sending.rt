@@ -12,11 +12,12 @@ ghost use Rattle.exb_network.specs.Rows.{ports_in};
 ghost use Rattle.exb_network.specs.Worlds.{world_in, IsAt, Does};
 
 use crate::arrivals::Came;
-use crate::forms::{put_form, put_stripped};
+use crate::forms::put_form;
 use crate::log::{Left, Post, note_out, note_row};
 use crate::rows::Row;
 use crate::site::{Core, Site};
 use exb_extender::{Form, Out, Sends, Side};
+use exb_frame::etag::strip_into;
 use exb_link::{Stamp, Word};
 use exb_model::bytes::Bytes;
 use exb_model::memory::NoMemory;
@@ -214,7 +215,7 @@ fn leave(
         return Ok(());
     }
     let mut buffer = post.store.buffer(post.alloc);
-    put_stripped(came.frame, &mut buffer)?;
+    strip_into(came.frame, &mut buffer)?;
     let outs = &mut post.log.outs;
     note_row(post.alloc, post.log.tracing, row, buffer.as_slice(), outs)?;
     post.log.left.push(Left {

@@ -18,7 +18,7 @@ returns c =
     (λ pushed.
     row_leaves c.args.site.now.tree c.args.number c.args.came.now.stamp c.args.came.now.frame.now c.args.site.now c.args.core.now row log
     (record log { left = c.push.new.self; outs = c.note_row.new.outs }) frame c.requires.at c.requires.outer
-    (c.from_vec.ensures ∙ c.in_ok-put_stripped.ensures)
+    (c.from_vec.ensures ∙ c.in_ok-strip_into.ensures)
     (pushed ∙ ap push c.moment_of.ensures)
     (c.in_ok-note_row.ensures ∙ ap outs (c.as_slice.ensures.value ∙ sym c.from_vec.ensures))
     refl refl refl refl)
