@@ -78,6 +78,12 @@ module _ (old now next : List Crossing) (e : End) (q : ℕ) (whole : List Crossi
       goes_over (drop k (copies_of x)) (drop j (all_left (drop (i + 1) left)))
       (ap (λ (xs : List Left). now ++ crosses (Some e) (left_at q xs)) (sym split) ∙ leads) put
 
+-- so many less are to be skipped
+pub one_skipped : (moment : ℕ) (bytes : List ℕ) (k j port : ℕ) (ports rest : List ℕ) → ports ≡ port ∷ rest → j ≡ k - 1 → j - length (copies_at moment bytes rest) ≡ k - length (copies_at moment bytes ports)
+one_skipped moment bytes k j port ports rest is less =
+    let more : length (copies_at moment bytes ports) ≡ suc (length (copies_at moment bytes rest)) = ap (λ (qs : List ℕ). length (copies_at moment bytes qs)) is in
+    omega (arith, more, less)
+
 -- all are done
 pub no_more : (now old whole : List Crossing) (e : End) (q k : ℕ) (xs : List Left) → xs ≡ [] → LeadsTo now (crosses (Some e) (left_at q (drop k xs))) old whole → now ≡ old ++ whole
 no_more now old whole e q k xs none leads =
