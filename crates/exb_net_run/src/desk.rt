@@ -84,8 +84,11 @@ pub(crate) fn note<S: Shelf>(
     ensures faults { CountsFaults result (S.faults shelf.old) (S.faults shelf.new) }
 {
     write_new(shelf, room, &desk.plan, &mut desk.outputs, world)?;
-    desk.counted
-        .note(world.events(), world.passed(), count_left(world.left()) as usize);
+    desk.counted.note(
+        world.events(),
+        world.passed(),
+        count_left(world.left()) as usize,
+    );
     Ok(())
 }
 
