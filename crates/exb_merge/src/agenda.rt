@@ -63,7 +63,6 @@ impl Seat<'_> {
         ensures coming { IfOk result (λ next. IfSome next (λ d. IsComing self.old.programme d self.new.programme)) }
         ensures turn { IfOk result (λ next. IfSome next (λ d. IfSome self.old.turn (λ t. 2 * moment_of (what d) ≤ t))) }
         ensures end { IfOk result (λ next. IfNone next (self.old.turn ≡ None)) }
-
         ensures order { S.tells → IfOk result (λ next. IfSome next (λ d. IsTakenOf (S.file shelf.old) (S.file shelf.new) (S.ids shelf.old) (S.ids shelf.new) self.old.programme d self.new.programme)) }
         ensures never { S.tells → (p at : ℕ) → IsErrOf result (CaptureFault.Changed p at) → (streams : List Stream)
             → AreReplays (S.file shelf.old) (S.ids shelf.old) self.old.programme.captures.sources.items streams → ⊥ }

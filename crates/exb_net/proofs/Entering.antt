@@ -17,35 +17,22 @@ use Rattle.exb_net.specs.Crossings.{all_crossing}
 use Rattle.exb_net.specs.Ends.{next_in, sent_over, with_next}
 use Rattle.exb_net.specs.Nodes.{HasEntered}
 
-tail : List Left → List Left
-tail [] = []
-tail (x ∷ xs) = xs
+dropped_front : (xs ys : List Left) → drop (length xs) (xs ++ ys) ≡ ys
+dropped_front [] ys = refl
+dropped_front (x ∷ xs) ys = dropped_front xs ys
 
-nil_cons : {A : Type 0} {x : A} {xs : List A} → [] ≡ x ∷ xs → ⊥
-nil_cons e = cc
+since : (xs ys gone : List Left) (k : ℕ) → k ≡ length xs → ys ≡ xs ++ gone → drop k ys ≡ gone
+since xs ys gone k size e = ap (λ (n : ℕ). drop n ys) size ∙ ap (drop (length xs)) e ∙ dropped_front xs gone
 
-since : (xs ys : List Leaving) (gone : List Left) → all_left ys ≡ all_left xs ++ gone → all_left (drop (length xs) ys) ≡ gone
-unfolding tail
-since [] ys gone e = e
-since (x ∷ xs) [] gone e = absurd (nil_cons e)
-since (x ∷ xs) (y ∷ ys) gone e = since xs ys gone (ap tail e)
-
-pub entered : (a : Arrival) (ends : List WiredEnd) (old new : Network) (before after : List Queued) → IsPlayedOut (Arrive a ∷ []) old new → all_crossing after ≡ all_crossing before ++ sent_over (all_left (drop (length old.log.left) new.log.left)) ends →
-    HasEntered a ends old new before after
-entered a ends old new before after played sent = record { played = played; sent = λ gone e. sent ∙ ap (λ (xs : List Left). all_crossing before ++ sent_over xs ends) (since old.log.left new.log.left gone e) }
-
-rest_of : (n : ℕ) (xs : List Leaving) → take (length xs - n) (drop n xs) ≡ drop n xs
-rest_of n xs = take_all (length xs - n) (drop n xs) (let e = length-drop n xs in omega (arith, e))
-
-pub entered_so : (a : Arrival) (ends now : List WiredEnd) (old new : Network) (was is : List Leaving) (before after : List Queued) → was ≡ old.log.left → is ≡ new.log.left → now ≡ ends → IsPlayedOut (Arrive a ∷ []) old new →
-    all_crossing after ≡ all_crossing before ++ sent_over (all_left (take (length is - length was) (drop (length was) is))) now → HasEntered a ends old new before after
-entered_so a ends now old new was is before after e f g played sent =
-    entered a ends old new before after played
-    (sent
-    ∙ (ap (λ (xs : List Leaving). all_crossing before ++ sent_over (all_left xs) now) (rest_of (length was) is)
-    ∙ (ap (λ (xs : List WiredEnd). all_crossing before ++ sent_over (all_left (drop (length was) is)) xs) g
-    ∙ (ap (λ (xs : List Leaving). all_crossing before ++ sent_over (all_left (drop (length xs) is)) ends) e
-    ∙ ap (λ (xs : List Leaving). all_crossing before ++ sent_over (all_left (drop (length old.log.left) xs)) ends) f))))
+pub entered_so : (a : Arrival) (ends now : List WiredEnd) (old new : Network) (was is : List Leaving) (size : ℕ) (before after : List Queued) → was ≡ old.log.left → size ≡ length (all_left was) → is ≡ new.log.left → now ≡ ends →
+    IsPlayedOut (Arrive a ∷ []) old new → all_crossing after ≡ all_crossing before ++ sent_over (drop size (all_left is)) now → HasEntered a ends old new before after
+entered_so a ends now old new was is size before after e s f g played sent = record {
+  played = played;
+  sent = λ gone goes.
+      let same : drop size (all_left is) ≡ gone =
+      since (all_left old.log.left) (all_left is) gone size (s ∙ ap (λ (xs : List Leaving). length (all_left xs)) e) (ap all_left f ∙ goes) in
+      sent ∙ ap (λ (xs : List WiredEnd). all_crossing before ++ sent_over (drop size (all_left is)) xs) g ∙ ap (λ (xs : List Left). all_crossing before ++ sent_over xs ends) same;
+}
 
 -- what goes over the ends doesn't depend on their indices
 renumbered : (p k : ℕ) (left : List Left) (ends : List WiredEnd) → sent_over left (map (with_next p k) ends) ≡ sent_over left ends

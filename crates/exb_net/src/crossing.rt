@@ -1,7 +1,7 @@
 //! Frames between bridges.
-ghost use Rattle.std.specs.Prelude.{◌≡◌, ◌∷◌, ◌++◌, [], Some, OnOk};
+ghost use Rattle.std.specs.Prelude.{◌≡◌, ◌-◌, ◌∷◌, ◌++◌, [], Some, OnOk, drop, length};
 ghost use Rattle.exb_resting.specs.Flight.Showing.{left_at};
-ghost use Rattle.exb_network.specs.Worlds.{all_left, left_of};
+ghost use Rattle.exb_network.specs.Worlds.{all_left, copies_at, copies_of};
 ghost use Rattle.exb_nets.specs.NetHistory.{crosses};
 ghost use Rattle.exb_net.specs.Ends.{sent_over};
 ghost use Rattle.exb_net.specs.Crossings.{all_crossing};
@@ -9,6 +9,7 @@ ghost use Rattle.exb_net.specs.Crossings.{all_crossing};
 use crate::ends::WiredEnd;
 use exb_model::bytes::Bytes;
 use exb_model::memory::NoMemory;
+use exb_model::port::PortId;
 use exb_nets::wires::End;
 use exb_schedule::Left;
 use std::alloc::Global;
@@ -26,12 +27,13 @@ pub struct Crossing {
 fn put(
     alloc: Global,
     end: &WiredEnd,
+    port: PortId,
     frame: &Left,
     queue: &mut VecDeque<Crossing>,
 ) -> Result<(), NoMemory>
-    ensures { OnOk result (all_crossing queue.new.items ≡ all_crossing queue.old.items ++ crosses (Some end.now.far) (left_at end.now.port (left_of frame.now ∷ []))) }
+    ensures { OnOk result (all_crossing queue.new.items ≡ all_crossing queue.old.items ++ crosses (Some end.now.far) (left_at end.now.port (copies_at frame.now.moment frame.now.bytes (port ∷ [])))) }
 {
-    if frame.port != end.port {
+    if port != end.port {
         return Ok(());
     }
     queue.push_back(Crossing {
@@ -42,17 +44,56 @@ fn put(
     Ok(())
 }
 
-/// Puts copies of the frames that left a wired port at the end of the queue.
+/// So, unless the copy is among those that are to be skipped.
+fn put_or_skip(
+    alloc: Global,
+    end: &WiredEnd,
+    port: PortId,
+    frame: &Left,
+    skip: &mut u128,
+    queue: &mut VecDeque<Crossing>,
+) -> Result<(), NoMemory>
+    ensures skip { skip.new ≡ skip.old - 1 }
+    ensures put { OnOk result (all_crossing queue.new.items ≡ all_crossing queue.old.items ++ crosses (Some end.now.far) (left_at end.now.port (drop skip.old (copies_at frame.now.moment frame.now.bytes (port ∷ []))))) }
+{
+    if *skip > 0 {
+        *skip -= 1;
+        return Ok(());
+    }
+    put(alloc, end, port, frame, queue)
+}
+
+/// So for each port of a row.
+fn put_row(
+    alloc: Global,
+    end: &WiredEnd,
+    frame: &Left,
+    skip: &mut u128,
+    queue: &mut VecDeque<Crossing>,
+) -> Result<(), NoMemory>
+    ensures skip { OnOk result (skip.new ≡ skip.old - length (copies_of frame.now)) }
+    ensures put { OnOk result (all_crossing queue.new.items ≡ all_crossing queue.old.items ++ crosses (Some end.now.far) (left_at end.now.port (drop skip.old (copies_of frame.now)))) }
+{
+    let mut rest = frame.row;
+    while let Some(port) = rest.next() {
+        put_or_skip(alloc, end, port, frame, skip, queue)?;
+    }
+    Ok(())
+}
+
+/// Puts copies of the frames that left a wired port, but for the first so many that left at all, at the end of the queue.
 fn send_over(
     alloc: Global,
     end: &WiredEnd,
     left: &[Left],
+    before: u128,
     queue: &mut VecDeque<Crossing>,
 ) -> Result<(), NoMemory>
-    ensures { OnOk result (all_crossing queue.new.items ≡ all_crossing queue.old.items ++ crosses (Some end.now.far) (left_at end.now.port (all_left left.now))) }
+    ensures { OnOk result (all_crossing queue.new.items ≡ all_crossing queue.old.items ++ crosses (Some end.now.far) (left_at end.now.port (drop before (all_left left.now)))) }
 {
+    let mut skip = before;
     for frame in left {
-        put(alloc, end, frame, queue)?;
+        put_row(alloc, end, frame, &mut skip, queue)?;
     }
     Ok(())
 }
@@ -62,12 +103,13 @@ pub(crate) fn send(
     alloc: Global,
     ends: &[WiredEnd],
     left: &[Left],
+    before: u128,
     queue: &mut VecDeque<Crossing>,
 ) -> Result<(), NoMemory>
-    ensures { OnOk result (all_crossing queue.new.items ≡ all_crossing queue.old.items ++ sent_over (all_left left.now) ends.now) }
+    ensures { OnOk result (all_crossing queue.new.items ≡ all_crossing queue.old.items ++ sent_over (drop before (all_left left.now)) ends.now) }
 {
     for end in ends {
-        send_over(alloc, end, left, queue)?;
+        send_over(alloc, end, left, before, queue)?;
     }
     Ok(())
 }

@@ -19,7 +19,7 @@ use exb_fate::Fate;
 use exb_model::memory::NoMemory;
 use exb_model::setup::{Setup, Timed};
 use exb_nets::wires::Wire;
-use exb_schedule::{Arrival, Step, World, WorldFault, eager};
+use exb_schedule::{Arrival, Step, World, WorldFault, count_left, eager};
 use std::alloc::Global;
 use std::collections::VecDeque;
 use std::marker::PhantomData;
@@ -132,10 +132,10 @@ pub fn enter(
     ensures ends { node.new.ends ≡ node.old.ends }
     ensures fate { left (fate_in node.new.world) ≤ left (fate_in node.old.world) }
 {
-    let before = node.world.left().len();
+    let before = count_left(node.world.left());
     take_in(node, arrival)?;
     let left = node.world.left();
-    send(alloc, node.ends.as_slice(), &left[before..], queue)
+    send(alloc, node.ends.as_slice(), left, before, queue)
 }
 
 /// A frame that crossed a wire arrives at its far end, with the port's next index.

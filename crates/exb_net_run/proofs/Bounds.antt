@@ -11,7 +11,7 @@ use Rattle.exb_machine.specs.Stepping.{Stepped}
 use Rattle.exb_machine.specs.Worlds.{Left as Leaving}
 use Rattle.exb_network.specs.declared.log.Left.{Left}
 use Rattle.exb_network.specs.Networks.{Network}
-use Rattle.exb_network.specs.Worlds.{all_left, left_of}
+use Rattle.exb_network.specs.Worlds.{all_left, copies_of}
 use Rattle.exb_resting.specs.Flight.Showing.{left_at}
 use Rattle.exb_nets.specs.Nets.{Net}
 use Rattle.exb_text.specs.Tallies.{FitsTally, counts_of, nothing_counted}
@@ -92,29 +92,35 @@ all-right : (P : Leaving → Type 0) (xs ys : List Leaving) → All P (xs ++ ys)
 all-right P [] ys all = all
 all-right P (x ∷ xs) ys all = all-right P xs ys (λ k d low. all (suc k) d (omega (arith, low)))
 
-all-mapped : (P : Leaving → Type 0) (xs : List Left) → All P (all_left xs) → All (λ (x : Left). P (left_of x)) xs
+all-front : (P : Leaving → Type 0) (xs ys : List Leaving) → All P (xs ++ ys) → All P xs
+all-front P [] ys all k d low = absurd (omega (arith, low))
+all-front P (x ∷ xs) ys all zero d low = all 0 d (omega arith)
+all-front P (x ∷ xs) ys all (suc k) d low = all-front P xs ys (λ j e h. all (suc j) e (omega (arith, h))) k d (omega (arith, low))
+
+all-mapped : (P : Leaving → Type 0) (xs : List Left) → All P (all_left xs) → All (λ (x : Left). All P (copies_of x)) xs
 all-mapped P [] all k d low = absurd (omega (arith, low))
-all-mapped P (x ∷ xs) all zero d low = all 0 (left_of d) (omega arith)
-all-mapped P (x ∷ xs) all (suc k) d low = all-mapped P xs (λ j e h. all (suc j) e (omega (arith, h))) k d (omega (arith, low))
+all-mapped P (x ∷ xs) all zero d low = all-front P (copies_of x) (all_left xs) all
+all-mapped P (x ∷ xs) all (suc k) d low = all-mapped P xs (all-right P (copies_of x) (all_left xs) all) k d (omega (arith, low))
 
 -- It can be written and counted.
 pub can-note : (n : Net) (b came orders : ℕ) (plan : Planned) → plan.tree ≡ tree_in n b → IsTree plan.tree → (c : Counted) (told done : Stepped) (w : Network) → IsMore told done w → IsFew n b came orders done →
     came ≤ 2 ^ 49 → orders ≤ 65536 → IsCounted plan c told.events told.passed told.left → GoTogether told.events told.passed → CanNote plan c w
 can-note n b came orders plan tree is_tree c told done w more few few_came few_orders are together = record {
-  frames = λ k d low.
+  frames = λ k d low j e within.
       let all = subst (λ (xs : List Leaving). All (IsLow n b) xs) more.left few.left in
-      let x = all-mapped (IsLow n b) w.log.left (all-right (IsLow n b) told.left (all_left w.log.left) all) k d low in
-      let port : is_external plan.tree (get_or w.log.left k d).port ≡ true = ap (λ (s : Shape). is_external s (get_or w.log.left k d).port) tree ∙ x.port in
+      let x = all-mapped (IsLow n b) w.log.left (all-right (IsLow n b) told.left (all_left w.log.left) all) k d low j e within in
+      let left : ℕ = (get_or (copies_of (get_or w.log.left k d)) j e).port in
+      let port : is_external plan.tree left ≡ true = ap (λ (s : Shape). is_external s left) tree ∙ x.port in
       record {
         port = port;
-        low = external_low plan.tree (get_or w.log.left k d).port is_tree port;
+        low = external_low plan.tree left is_tree port;
         moment = x.moment;
         bytes = (let short = x.short in omega (arith, short));
       };
   can = record {
     tally =
-        (let whole : with_left (length w.log.left) (count_events (counts_of c.tally) w.log.events) ≡ counts_so_far done.events done.left =
-        ap (λ (k : Counts). with_left (length w.log.left) (count_events k w.log.events)) are.tally
+        (let whole : with_left (length (all_left w.log.left)) (count_events (counts_of c.tally) w.log.events) ≡ counts_so_far done.events done.left =
+        ap (λ (k : Counts). with_left (length (all_left w.log.left)) (count_events k w.log.events)) are.tally
         ∙ counts-more told.events w.log.events told.left w.log.left
         ∙ ap (λ (es : List Event). counts_so_far es (told.left ++ all_left w.log.left)) (sym more.events)
         ∙ ap (λ (xs : List Leaving). counts_so_far done.events xs) (sym more.left) in

@@ -51,7 +51,7 @@ pub record IsWhole (plan : Planned) (now : Files) (text : Output → List ℕ) :
 -- what a world tells can be written and counted
 pub record CanNote (plan : Planned) (c : Counted) (n : Network) : Type 0 where
   pub frames : All (λ x. CanBeWritten plan x) n.log.left
-  pub can : CanCount c n.log.events n.log.passed (length n.log.left)
+  pub can : CanCount c n.log.events n.log.passed (length (all_left n.log.left))
 
 -- ---- all bridges
 abbrev pub plans_in : List Desk → List Planned

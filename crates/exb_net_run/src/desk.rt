@@ -18,7 +18,7 @@ ghost use Rattle.exb_net_run.specs.Summing.{added};
 
 use exb_inputs::Fault;
 use exb_outputs::{Outputs, Plan};
-use exb_schedule::World;
+use exb_schedule::{World, count_left};
 use exb_shelf::Shelf;
 use exb_text::{LineRoom, Tally};
 use exb_writers::{Counted, write_counters, write_events, write_left};
@@ -84,8 +84,11 @@ pub(crate) fn note<S: Shelf>(
     ensures faults { CountsFaults result (S.faults shelf.old) (S.faults shelf.new) }
 {
     write_new(shelf, room, &desk.plan, &mut desk.outputs, world)?;
-    desk.counted
-        .note(world.events(), world.passed(), world.left().len());
+    desk.counted.note(
+        world.events(),
+        world.passed(),
+        count_left(world.left()) as usize,
+    );
     Ok(())
 }
 

@@ -1,6 +1,7 @@
 -- The world where one part of the network changes.
 use Rattle.std.proofs.Common.{◌≡◌, ℕ, List, [], ◌∷◌, ◌++◌, refl, ap, sym, ◌∙◌}
-use Rattle.std.proofs.lemmas.List.{append-nil, map-append}
+use Rattle.std.proofs.lemmas.Grind.{flat_map-append}
+use Rattle.std.proofs.lemmas.List.{append-nil}
 use Rattle.exb_ecp.specs.Machine.{State as Ecp}
 use Rattle.exb_extender.specs.Machine.{ExtenderState}
 use Rattle.exb_link.specs.declared.word.Word.{Word}
@@ -14,7 +15,8 @@ use Rattle.exb_network.specs.Devices.{Devices, far_of, AreSame}
 use Rattle.exb_network.specs.Directions.{words_of}
 use Rattle.exb_network.specs.Ends.{near_of}
 use Rattle.exb_network.specs.Sites.{Site}
-use Rattle.exb_network.specs.Worlds.{world_in, all_left, left_of, if_tracing, IsAt, Does, HasLeft}
+use Rattle.exb_network.specs.Rows.{Row, ports_in}
+use Rattle.exb_network.specs.Worlds.{world_in, all_left, copies_at, copies_of, if_tracing, IsAt, Does, HasLeft}
 
 -- ---- the world
 module _ (c : Core) (n : ℕ) where
@@ -114,12 +116,22 @@ has_left s c old new line x is left =
       at = is;
     }
 
-pub leaves : (s : Site) (c : Core) (old new : Log) (line : Line) (x : Left) (y : Leaving) → IsAt s c → IsNoted line old new → left_of x ≡ y → new.left ≡ old.left ++ x ∷ [] →
-    Does (leaving line y (world_in c)) s c old new
-leaves s c old new line x y is noted same h =
-    has_left s c old new line y is
+pub left_more : (xs : List Left) (x : Left) → all_left (xs ++ x ∷ []) ≡ all_left xs ++ copies_of x
+left_more xs x = flat_map-append copies_of xs (x ∷ []) ∙ ap (λ (ys : List Leaving). all_left xs ++ ys) (append-nil (copies_of x))
+
+pub left_one : (xs ys : List Left) (r : Row) (moment : ℕ) (bytes : List ℕ) (q : ℕ) → ports_in r ≡ q ∷ [] → ys ≡ xs ++ record { row = r; moment = moment; bytes = bytes } ∷ [] →
+    all_left ys ≡ all_left xs ++ record { port = q; moment = moment; bytes = bytes } ∷ []
+left_one xs ys r moment bytes q one is =
+    let x : Left = record { row = r; moment = moment; bytes = bytes } in
+    ap all_left is ∙ left_more xs x ∙ ap (λ (qs : List ℕ). all_left xs ++ copies_at moment bytes qs) one
+
+-- it leaves at one port
+pub leaves : (s : Site) (c : Core) (old new : Log) (line : Line) (r : Row) (moment : ℕ) (bytes : List ℕ) (q : ℕ) → IsAt s c → IsNoted line old new → ports_in r ≡ q ∷ [] →
+    new.left ≡ old.left ++ record { row = r; moment = moment; bytes = bytes } ∷ [] → Does (leaving line (record { port = q; moment = moment; bytes = bytes }) (world_in c)) s c old new
+leaves s c old new line r moment bytes q is noted one h =
+    has_left s c old new line (record { port = q; moment = moment; bytes = bytes }) is
     (record {
-      left = ap all_left h ∙ map-append left_of old.left (x ∷ []) ∙ ap (λ z. all_left old.left ++ z ∷ []) same;
+      left = left_one old.left new.left r moment bytes q one h;
       outs = noted.outs;
       events = noted.events;
       passed = noted.passed;

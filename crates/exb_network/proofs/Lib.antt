@@ -18,6 +18,8 @@ pub mod Beats
 pub mod Kept
 pub mod Lines
 pub mod Hanging
+pub mod RowPorts
+pub mod Leaving
 pub mod Cores
 pub mod Reacting
 pub mod Sendings

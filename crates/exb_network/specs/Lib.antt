@@ -9,7 +9,9 @@ pub mod Arrivals
 pub mod Sends
 pub mod Steps
 pub mod Turns
+pub mod Rows
 pub mod Worlds
 pub mod Networks
 pub mod Leading
+pub mod Leaving
 pub mod Idle

@@ -1,16 +1,18 @@
 -- The world of the machine for which the parts of a network stand, and how they make its steps.
-use Rattle.std.specs.Prelude.{◌≡◌, ℕ, ◌++◌, Bool, true, false, List, [], ◌∷◌, map, filter, slice_index}
-use Rattle.exb_model.specs.Traces.{TraceLine}
-use Rattle.exb_model.specs.Tree.{is_extender}
+use Rattle.std.specs.Prelude.{◌≡◌, ℕ, ◌++◌, Bool, true, false, List, [], ◌∷◌, map, filter, flat_map, slice_index}
+use Rattle.exb_model.specs.Traces.{TraceLine, Out}
+use Rattle.exb_model.specs.Tree.{device, is_extender}
 use Rattle.exb_learn.specs.Entries.{table_of}
 use Rattle.exb_control.specs.Controls.{state_of}
 use Rattle.exb_machine.specs.Worlds.{World}
 use Rattle.exb_machine.specs.Worlds.{Left as Leaving}
 use Rattle.exb_machine.specs.Effects.{Effect}
+use Rattle.exb_machine.specs.Extending.{port_number}
 use Rattle.exb_machine.specs.Telling.{all_told}
 use Rattle.exb_network.specs.declared.log.Left.{Left}
 use Rattle.exb_network.specs.declared.log.Log.{Log}
 use Rattle.exb_network.specs.declared.site.Core.{Core}
+use Rattle.exb_network.specs.Rows.{ports_in}
 use Rattle.exb_network.specs.Sites.{Site, limits_in}
 use Rattle.exb_network.specs.Directions.{words_of}
 use Rattle.exb_network.specs.Devices.{far_of, has_extender}
@@ -42,16 +44,23 @@ pub record IsAt (s : Site) (c : Core) : Type 0 where
   pub ports : (n : ℕ) → is_extender s.tree n ≡ true → (far_of c.far n).tables.ports ≡ slice_index s.tree.ports n
 
 -- ---- what is done
--- a frame that left
-abbrev pub left_of : Left → Leaving
-left_of x = record { port = x.port; moment = x.moment; bytes = x.bytes }
+-- a frame that left, at each port of its row
+abbrev pub copies_at : ℕ → List ℕ → List ℕ → List Leaving
+copies_at moment bytes ports = map (λ q. record { port = q; moment = moment; bytes = bytes }) ports
+
+abbrev pub copies_of : Left → List Leaving
+copies_of x = copies_at x.moment x.bytes (ports_in x.row)
 
 abbrev pub all_left : List Left → List Leaving
-all_left xs = map left_of xs
+all_left xs = flat_map copies_of xs
 
 -- these lines, where a trace is kept, and else none
 abbrev pub if_tracing : Bool → List TraceLine → List TraceLine
 if_tracing tracing lines = filter (λ line. tracing) lines
+
+-- the lines of a frame that goes out by these ports
+abbrev pub row_outs : List ℕ → List ℕ → List TraceLine
+row_outs frame ports = map (λ q. Out (device q) (port_number q) frame) ports
 
 -- A frame has left, and the line of what went out is gathered; nothing else is told.
 pub record HasLeft (x : Leaving) (line : TraceLine) (old new : Log) : Type 0 where

@@ -20,6 +20,7 @@ mod numbers;
 mod orders;
 mod passing;
 mod relaying;
+pub mod rows;
 mod sending;
 mod site;
 pub mod step;
@@ -30,6 +31,7 @@ mod telling;
 pub mod world;
 
 pub use busy::Turn;
-pub use log::Left;
+pub use log::{Left, count_left};
+pub use rows::Row;
 pub use step::{Step, Way};
 pub use world::{World, WorldFault};

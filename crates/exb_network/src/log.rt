@@ -1,24 +1,36 @@
 //! What happened in a network.
-ghost use Rattle.std.specs.Prelude.{◌≡◌, ◌++◌, ◌∷◌, [], OnOk, IfOk};
+ghost use Rattle.std.specs.Prelude.{◌≡◌, ◌++◌, ◌∷◌, [], length, OnOk, IfOk};
 ghost use Rattle.exb_model.specs.Traces.{Out};
-ghost use Rattle.exb_network.specs.Worlds.{if_tracing};
+ghost use Rattle.exb_network.specs.Rows.{ports_in};
+ghost use Rattle.exb_network.specs.Worlds.{all_left, if_tracing, row_outs};
 
+use crate::rows::Row;
 use crate::store::Store;
 use exb_model::bytes::Bytes;
 use exb_model::event::Event;
 use exb_model::list::List;
 use exb_model::memory::NoMemory;
-use exb_model::port::PortId;
 use exb_model::trace::{TraceLine, TraceWay};
 use std::alloc::Global;
 use std::mem;
 
-/// A frame that left a port, with the moment of its record in nanoseconds.
+/// A frame that left a device, at each port of a row, with the moment of its records in nanoseconds.
 #[derive(Debug, Drop)]
 pub struct Left {
-    pub port: PortId,
+    pub row: Row,
     pub moment: u64,
     pub bytes: Bytes,
+}
+
+/// How many frames left: one at each port.
+pub fn count_left(left: &[Left]) -> u128
+    ensures { result ≡ length (all_left left.now) }
+{
+    let mut total = 0u128;
+    for frame in left {
+        total += frame.row.count() as u128;
+    }
+    total
 }
 
 /// What has happened since the last `clear`, in order.
@@ -185,6 +197,36 @@ pub(crate) fn note_out(
         return Ok(());
     }
     put_out(alloc, who, side, frame, outs)
+}
+
+/// A frame goes out by each port of a row. Where no trace is kept nothing is copied.
+#[inline(always)]
+pub(crate) fn note_row(
+    alloc: Global,
+    tracing: bool,
+    row: &Row,
+    frame: &[u8],
+    outs: &mut Vec<TraceLine>,
+) -> Result<(), NoMemory>
+    ensures { OnOk result (outs.new.items ≡ outs.old.items ++ if_tracing tracing (row_outs frame.now (ports_in row.now))) }
+{
+    if !tracing {
+        return Ok(());
+    }
+    put_row(alloc, *row, frame, outs)
+}
+
+/// Puts the lines of a frame that goes out by each port of a row behind others.
+#[cold]
+#[inline(never)]
+fn put_row(alloc: Global, row: Row, frame: &[u8], outs: &mut Vec<TraceLine>) -> Result<(), NoMemory>
+    ensures { OnOk result (outs.new.items ≡ outs.old.items ++ row_outs frame.now (ports_in row)) }
+{
+    let mut rest = row;
+    while let Some(port) = rest.next() {
+        put_out(alloc, port.device(), port.place() + 1, frame, outs)?;
+    }
+    Ok(())
 }
 
 /// Puts the line of a frame that goes out behind others.

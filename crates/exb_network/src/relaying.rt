@@ -18,6 +18,7 @@ ghost use Rattle.exb_network.specs.Worlds.{world_in, IsAt, Does, HasLeft, KeepsT
 use crate::arrivals::Arrived;
 use crate::hearing::hear;
 use crate::log::{Left, Post, add_events, note_out};
+use crate::rows::Row;
 use crate::sending::hung_on;
 use crate::site::{Core, Room, Site};
 use exb_control::{Ingress, Outbox, SendTo};
@@ -47,7 +48,7 @@ fn leave(bridge_port: u8, moment: u64, frame: Bytes, post: &mut Post) -> Result<
         &mut post.log.outs,
     )?;
     post.log.left.push(Left {
-        port: PortId::at(0, bridge_port - 1),
+        row: Row::of(PortId::at(0, bridge_port - 1)),
         moment,
         bytes: frame,
     })

@@ -1,5 +1,5 @@
 //! What an extender sends: it goes onto the link of the extender that hangs there, or leaves the network.
-ghost use Rattle.std.specs.Prelude.{◌≡◌, ◌<◌, ◌≤◌, IfSome, OnOk, map};
+ghost use Rattle.std.specs.Prelude.{◌≡◌, ◌<◌, ◌≤◌, true, false, IfSome, OnOk, map};
 ghost use Rattle.std.specs.List.{All};
 ghost use Rattle.exb_csp.specs.AllTables.{port_of};
 ghost use Rattle.exb_extender.specs.Sending.{out_sent, own_sent, sent_by};
@@ -7,13 +7,17 @@ ghost use Rattle.exb_machine.specs.Effects.{each};
 ghost use Rattle.exb_machine.specs.Extending.{hung_on, sent_at, sent_to, sends};
 ghost use Rattle.exb_machine.specs.Worlds.{moment_of};
 ghost use Rattle.exb_network.specs.Forms.{IsSide, CanGo, GoesOn};
+ghost use Rattle.exb_network.specs.Leaving.{row_sent, AreOuter, GoesBehind, Joins, JoinsAt};
+ghost use Rattle.exb_network.specs.Rows.{ports_in};
 ghost use Rattle.exb_network.specs.Worlds.{world_in, IsAt, Does};
 
 use crate::arrivals::Came;
 use crate::forms::put_form;
-use crate::log::{Left, Post, note_out};
+use crate::log::{Left, Post, note_out, note_row};
+use crate::rows::Row;
 use crate::site::{Core, Site};
 use exb_extender::{Form, Out, Sends, Side};
+use exb_frame::etag::strip_into;
 use exb_link::{Stamp, Word};
 use exb_model::bytes::Bytes;
 use exb_model::memory::NoMemory;
@@ -75,7 +79,7 @@ fn send_at(
         None => {
             let moment = moment_of(&word.stamp);
             post.log.left.push(Left {
-                port: place,
+                row: Row::of(place),
                 moment,
                 bytes: word.bytes,
             })
@@ -153,6 +157,102 @@ pub(crate) fn send_frame(
     send_to(site, number, out.to, word, core, post)
 }
 
+/// Puts the port of an out behind those of a row, where the frame leaves there without its E-TAG: so it is written once for all
+/// of them. Nothing is put where it goes elsewhere, in another form, or to a port that isn't behind them.
+#[inline(always)]
+fn joins(site: &Site, number: u8, out: &Out, row: &mut Row) -> bool
+    requires number { number < 65 }
+    requires device { row.old.device ≡ number }
+    requires side { IsSide out.now.to }
+    ensures joined { result ≡ true → Joins site.now.tree number out.now row.old row.new }
+    ensures other { result ≡ false → row.new ≡ row.old }
+{
+    if !matches!(out.form, Form::Stripped) {
+        return false;
+    }
+    match out.to {
+        Side::Up => false,
+        Side::Port { port } => joins_at(site, number, port, row),
+    }
+}
+
+/// Puts a port behind those of a row, where no extender hangs on it.
+#[inline(always)]
+fn joins_at(site: &Site, number: u8, port: u8, row: &mut Row) -> bool
+    requires number { number < 65 }
+    requires device { row.old.device ≡ number }
+    requires some { 0 < port }
+    requires low { port ≤ 64 }
+    ensures joined { result ≡ true → JoinsAt site.now.tree number port row.old row.new }
+    ensures other { result ≡ false → row.new ≡ row.old }
+{
+    let tree = site.tree();
+    tree.is_tree();
+    if tree.is_cascade(PortId::at(number, port - 1)) || !row.ends_before(port) {
+        return false;
+    }
+    row.put(port);
+    true
+}
+
+/// A frame that an extender took leaves without its E-TAG at each port of a row.
+#[inline(always)]
+fn leave(
+    site: &Site,
+    number: u8,
+    came: &Came,
+    row: &Row,
+    core: &Core,
+    post: &mut Post,
+) -> Result<(), NoMemory>
+    requires at { IsAt site.now core.now }
+    requires outer { AreOuter site.now.tree number came.now.frame.now (ports_in row.now) }
+    ensures { OnOk result (Does (each (sends site.now.tree number came.now.stamp) (row_sent came.now.frame.now (ports_in row.now)) (world_in core.now)) site.now core.now post.old.log post.new.log) }
+{
+    let _ = site;
+    let _ = core;
+    if row.is_empty() {
+        return Ok(());
+    }
+    let mut buffer = post.store.buffer(post.alloc);
+    strip_into(came.frame, &mut buffer)?;
+    let outs = &mut post.log.outs;
+    note_row(post.alloc, post.log.tracing, row, buffer.as_slice(), outs)?;
+    post.log.left.push(Left {
+        row: *row,
+        moment: moment_of(&came.stamp),
+        bytes: Bytes::from_vec(buffer),
+    })
+}
+
+/// A frame that an extender took goes out in one form more, behind a row of ports at which it is to leave: their number grows by
+/// one, or it leaves there and goes out.
+#[inline(always)]
+fn send_behind(
+    site: &Site,
+    came: &Came,
+    out: &Out,
+    row: &mut Row,
+    core: &mut Core,
+    post: &mut Post,
+) -> Result<(), NoMemory>
+    requires at { IsAt site.now core.old }
+    requires number { row.old.device < 65 }
+    requires can { CanGo came.now.frame.now out.now }
+    requires outer { AreOuter site.now.tree row.old.device came.now.frame.now (ports_in row.old) }
+    ensures device { row.new.device ≡ row.old.device }
+    ensures outer { AreOuter site.now.tree row.old.device came.now.frame.now (ports_in row.new) }
+    ensures sent { OnOk result (GoesBehind site.now came.now.stamp came.now.frame.now out.now row.old row.new core.old core.new post.old.log post.new.log) }
+{
+    let number = row.device();
+    if joins(site, number, out, row) {
+        return Ok(());
+    }
+    leave(site, number, came, row, core, post)?;
+    *row = Row::none(number);
+    send_frame(site, number, came, out, core, post)
+}
+
 /// A frame that an extender took goes out in each form.
 fn send_frames(
     site: &Site,
@@ -167,10 +267,11 @@ fn send_frames(
     requires can { All (CanGo came.now.frame.now) outs.now }
     ensures { OnOk result (Does (each (sends site.now.tree number came.now.stamp) (map (out_sent came.now.frame.now) outs.now) (world_in core.old)) site.now core.new post.old.log post.new.log) }
 {
+    let mut row = Row::none(number);
     for out in outs {
-        send_frame(site, number, came, out, core, post)?;
+        send_behind(site, came, out, &mut row, core, post)?;
     }
-    Ok(())
+    leave(site, number, came, &row, core, post)
 }
 
 /// A control frame of an extender's own goes up; an empty one isn't sent.

@@ -126,7 +126,7 @@ module _ (tells : Type 0) (m : Mode) (r : Run) (plan : Planned) (now : Files) (i
 -- A run that is opened goes on once what the opening told is written and counted.
 pub opened-playing : (tells : Type 0) (m : Mode) (r : Run) (plan : Planned) (now : Files) (ids : ℕ → Id) (n : Network) (c : Counted) (o : Outputs) (p : Programme) → IsOpened tells m r plan now ids n c o p
     → (now' : Files) (ids' : ℕ → Id) (v : Network) (c' : Counted) (o' : Outputs) → world_of v ≡ world_of n → IsSame n v → IsQuiet v
-    → counts_of c'.tally ≡ with_left (length n.log.left) (count_events (counts_of c.tally) n.log.events) → CountsOn c.ports c'.ports n.log.events n.log.passed
+    → counts_of c'.tally ≡ with_left (length (all_left n.log.left)) (count_events (counts_of c.tally) n.log.events) → CountsOn c.ports c'.ports n.log.events n.log.passed
     → (tells → (orig : Files) (text : Output → List ℕ) → HasTexts plan (pieces_of o) orig now text
     → HasTexts plan (pieces_of o') orig now' (with_told text n.log.events n.log.left n.log.lines))
     → ((sent : ℕ → List Sent) → HasSent plan o sent → HasSent plan o' (sent_with sent n.log.left))

@@ -68,7 +68,7 @@ sizes-fit m i so_far n told passed gone lines law way arrivals p q =
 
 pub can-count : (m : Mode) (i : Input) (plan : Planned) (so_far : List Segment) (n : Network) (c : Counted) (told more : List Event) (passed said : List Bool) (gone : List Leaving) (xs : List Left) (lines : List TraceLine) →
     StepsTellPassed → RunsAreFew → CanFollow i so_far → HasPlayed m i so_far n (told ++ more) (passed ++ said) (gone ++ all_left xs) lines → IsCounted plan c told passed gone → GoTogether told passed →
-    CanCount c more said (length xs)
+    CanCount c more said (length (all_left xs))
 can-count m i plan so_far n c told more passed said gone xs lines steps few follows played are together = record {
   tally = tally-fits m i so_far n told more (passed ++ said) gone xs lines (counts_of c.tally) few follows played are.tally;
   ports = ports-can plan c.ports told more passed said are.ports together (ports-fit m i so_far n (told ++ more) (passed ++ said) (gone ++ all_left xs) lines few follows played);

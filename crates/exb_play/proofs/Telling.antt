@@ -14,7 +14,7 @@ use Rattle.exb_model.specs.Tree.{Shape, IsTree, is_external}
 use Rattle.exb_machine.specs.Worlds.{Left as Leaving}
 use Rattle.exb_network.specs.Networks.{Network, world_of, IsQuiet, IsSame}
 use Rattle.exb_network.specs.Sites.{Site, limits_in as limits_at}
-use Rattle.exb_network.specs.Worlds.{all_left, left_of}
+use Rattle.exb_network.specs.Worlds.{all_left, copies_of}
 use Rattle.exb_network.specs.declared.log.Left.{Left}
 use Rattle.exb_resting.specs.Rest.Playing.{IsCopyOfAny, RunsAreUnderWay, RunsAreFew, arrivals_in}
 use Rattle.exb_schedule.specs.Playing.{HasPlayed}
@@ -98,10 +98,10 @@ arrivals-low m i so_far n told passed gone lines law low p =
 
 -- so do those of a tally, one segment more
 pub tally-fits : (m : Mode) (i : Input) (so_far : List Segment) (n : Network) (told more : List Event) (passed : List Bool) (gone : List Leaving) (xs : List Left) (lines : List TraceLine) (c : Counts) → RunsAreFew → CanFollow i so_far →
-    HasPlayed m i so_far n (told ++ more) passed (gone ++ all_left xs) lines → c ≡ counts_so_far told gone → FitsTally (with_left (length xs) (count_events c more))
+    HasPlayed m i so_far n (told ++ more) passed (gone ++ all_left xs) lines → c ≡ counts_so_far told gone → FitsTally (with_left (length (all_left xs)) (count_events c more))
 tally-fits m i so_far n told more passed gone xs lines c law follows p is =
-    let whole : with_left (length xs) (count_events c more) ≡ counts_so_far (told ++ more) (gone ++ all_left xs) =
-    ap (λ (b : Counts). with_left (length xs) (count_events b more)) is ∙ counts-more told more gone xs in
+    let whole : with_left (length (all_left xs)) (count_events c more) ≡ counts_so_far (told ++ more) (gone ++ all_left xs) =
+    ap (λ (b : Counts). with_left (length (all_left xs)) (count_events b more)) is ∙ counts-more told more gone xs in
     subst FitsTally (sym whole) (counts-fit m i so_far n (told ++ more) passed (gone ++ all_left xs) lines law follows p)
 
 -- ---- what leaves can be written
@@ -109,10 +109,15 @@ all-right : (P : Leaving → Type 0) (xs ys : List Leaving) → All P (xs ++ ys)
 all-right P [] ys all = all
 all-right P (x ∷ xs) ys all = all-right P xs ys (λ k d low. all (suc k) d (omega (arith, low)))
 
-all-mapped : (P : Leaving → Type 0) (xs : List Left) → All P (all_left xs) → All (λ (x : Left). P (left_of x)) xs
+all-front : (P : Leaving → Type 0) (xs ys : List Leaving) → All P (xs ++ ys) → All P xs
+all-front P [] ys all k d low = absurd (omega (arith, low))
+all-front P (x ∷ xs) ys all zero d low = all 0 d (omega arith)
+all-front P (x ∷ xs) ys all (suc k) d low = all-front P xs ys (λ j e h. all (suc j) e (omega (arith, h))) k d (omega (arith, low))
+
+all-mapped : (P : Leaving → Type 0) (xs : List Left) → All P (all_left xs) → All (λ (x : Left). All P (copies_of x)) xs
 all-mapped P [] all k d low = absurd (omega (arith, low))
-all-mapped P (x ∷ xs) all zero d low = all 0 (left_of d) (omega arith)
-all-mapped P (x ∷ xs) all (suc k) d low = all-mapped P xs (λ j e h. all (suc j) e (omega (arith, h))) k d (omega (arith, low))
+all-mapped P (x ∷ xs) all zero d low = all-front P (copies_of x) (all_left xs) all
+all-mapped P (x ∷ xs) all (suc k) d low = all-mapped P xs (all-right P (copies_of x) (all_left xs) all) k d (omega (arith, low))
 
 kept-at : (came : List Arrived) (k : ℕ) (a : Arrived) → k < length came → slice_index_or came k a ≡ a → AllByRecursion (λ (b : Arrived). b.moment < 2 ^ 32 * 1_000_000_000) came →
     a.moment < 2 ^ 32 * 1_000_000_000
@@ -122,17 +127,18 @@ kept-at (b ∷ came) (suc k) a low is all = kept-at came k a (omega (arith, low)
 
 pub frames-fit : (m : Mode) (i : Input) (plan : Planned) (so_far : List Segment) (n : Network) (told : List Event) (passed : List Bool) (gone : List Leaving) (xs : List Left) (lines : List TraceLine) → RunsAreUnderWay → plan.tree ≡ tree_of i →
     IsTree plan.tree → CanBeKept so_far → HasPlayed m i so_far n told passed (gone ++ all_left xs) lines → All (λ (x : Left). CanBeWritten plan x) xs
-frames-fit m i plan so_far n told passed gone xs lines law tree is_tree kept p k d low =
+frames-fit m i plan so_far n told passed gone xs lines law tree is_tree kept p k d low j e within =
     let P : List Leaving → Type 0 = All (λ (x : Leaving). IsCopyOfAny i (arrivals_in so_far) x) in
     let all = subst P (sym p.gone) (law m i so_far p.done p.plays).copies in
-    let copy = all-mapped (λ (x : Leaving). IsCopyOfAny i (arrivals_in so_far) x) xs (all-right (λ (x : Leaving). IsCopyOfAny i (arrivals_in so_far) x) gone (all_left xs) all) k d low in
-    let own : is_external plan.tree (get_or xs k d).port ≡ true = ap (λ (t : Shape). is_external t (get_or xs k d).port) tree ∙ copy.port in
+    let copy = all-mapped (λ (x : Leaving). IsCopyOfAny i (arrivals_in so_far) x) xs (all-right (λ (x : Leaving). IsCopyOfAny i (arrivals_in so_far) x) gone (all_left xs) all) k d low j e within in
+    let port : ℕ = (get_or (copies_of (get_or xs k d)) j e).port in
+    let own : is_external plan.tree port ≡ true = ap (λ (t : Shape). is_external t port) tree ∙ copy.port in
     record {
       port = own;
-      low = external_low plan.tree (get_or xs k d).port is_tree own;
+      low = external_low plan.tree port is_tree own;
       moment =
-          (let within = kept-at (arrivals_in so_far) copy.of_it.0 copy.arrival copy.of_it.1 copy.of_it.2 kept in
+          (let few = kept-at (arrivals_in so_far) copy.of_it.0 copy.arrival copy.of_it.1 copy.of_it.2 kept in
           let same = copy.moment in
-          omega (arith, within, same));
+          omega (arith, few, same));
       bytes = (let short = copy.short in omega (arith, short));
     }

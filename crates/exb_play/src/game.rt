@@ -46,7 +46,7 @@ use exb_resting::laws::rest::{
     runs_are_few, runs_are_under_way, runs_say_passed, runs_write_eagerly, runs_write_fronts,
     runs_write_legally,
 };
-use exb_schedule::{Arrival, World, WorldFault, eager, open, seeded};
+use exb_schedule::{Arrival, World, WorldFault, count_left, eager, open, seeded};
 use exb_shelf::Shelf;
 use exb_tracing::laws::{runs_tell_legally, runs_tell_so_far};
 use exb_wiring::laws::counts_go_on;
@@ -155,7 +155,7 @@ impl Game {
     fn note<S: Shelf>(&mut self, shelf: &mut S, plan: &Plan) -> Result<(), Fault>
         requires ready { IsReady plan.now (S.ids shelf.old) self.old.outputs }
         requires frames { All (λ x. CanBeWritten plan.now x) (network_of self.old.world).log.left }
-        requires can { CanCount self.old.counted (network_of self.old.world).log.events (network_of self.old.world).log.passed (length (network_of self.old.world).log.left) }
+        requires can { CanCount self.old.counted (network_of self.old.world).log.events (network_of self.old.world).log.passed (length (all_left (network_of self.old.world).log.left)) }
         ensures ready { IsReady plan.now (S.ids shelf.new) self.new.outputs }
         ensures world { OnOk result (world_of (network_of self.new.world) ≡ world_of (network_of self.old.world)) }
         ensures same { OnOk result (IsSame (network_of self.old.world) (network_of self.new.world)) }
@@ -168,7 +168,7 @@ impl Game {
             (with_told text (network_of self.old.world).log.events (network_of self.old.world).log.left (network_of self.old.world).log.lines)) }
         ensures sent { OnOk result ((sent : ℕ → List Sent) → HasSent plan.now self.old.outputs sent → HasSent plan.now self.new.outputs (sent_with sent (network_of self.old.world).log.left)) }
         ensures tally { OnOk result (counts_of self.new.counted.tally
-            ≡ with_left (length (network_of self.old.world).log.left) (fold (λ c e. counted e c) (counts_of self.old.counted.tally) (network_of self.old.world).log.events)) }
+            ≡ with_left (length (all_left (network_of self.old.world).log.left)) (fold (λ c e. counted e c) (counts_of self.old.counted.tally) (network_of self.old.world).log.events)) }
         ensures ports { OnOk result (CountsOn self.old.counted.ports self.new.counted.ports (network_of self.old.world).log.events (network_of self.old.world).log.passed) }
         ensures fate { OnOk result (left (fate_in self.new.world) ≡ left (fate_in self.old.world)) }
         ensures only { OnlyWrites S.tells plan.now (S.file shelf.old) (S.file shelf.new) (S.ids shelf.old) (S.ids shelf.new) }
@@ -179,7 +179,7 @@ impl Game {
         self.counted.note(
             self.world.events(),
             self.world.passed(),
-            self.world.left().len(),
+            count_left(self.world.left()) as usize,
         );
         self.world.clear();
         Ok(())

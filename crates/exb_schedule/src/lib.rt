@@ -23,7 +23,7 @@ pub mod world;
 
 pub use delivery::round;
 pub use drawn::seeded;
-pub use exb_network::{Left, Step, Way, WorldFault};
+pub use exb_network::{Left, Step, Way, WorldFault, count_left};
 pub use segment::{Arrival, eager, open};
 pub use settling::settle;
 pub use world::World;

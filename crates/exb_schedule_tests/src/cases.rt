@@ -3,7 +3,7 @@ use crate::fates::{Disturbance, fate_of};
 use crate::files::{expect_capture, expect_journal, play_files, shelf_of};
 use crate::plain::expect_plain;
 use crate::played::play;
-use crate::steps::{begun, is_external};
+use crate::steps::{begun, has_left, is_external};
 use exb_capture::{header_text, record_text};
 use exb_flat_run::outcome::PortText;
 use exb_flat_run::texts::journal_text;
@@ -44,7 +44,7 @@ fn put_record(rt: &impl Abort, file: &mut Vec<u8>, left: &Left) {
 fn capture_of(rt: &impl Abort, alloc: Global, left: &[Left], port: PortId) -> Vec<u8> {
     let mut file = Vec::from_slice(alloc, &header_text()).expect(rt, "memory");
     for left in left {
-        if left.port == port {
+        if has_left(left, port) {
             put_record(rt, &mut file, left);
         }
     }

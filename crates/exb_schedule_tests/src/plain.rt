@@ -1,4 +1,5 @@
 //! What one plain bridge sends over what was told of a world.
+use crate::steps::has_left;
 use exb_flat_run::site::{Site, site_of};
 use exb_model::port::PortId;
 use exb_oracle::flat::{Sent, flat};
@@ -19,7 +20,7 @@ fn expect_same(rt: &impl Abort, left: &Left, sent: Option<&Sent>) {
 fn expect_left(rt: &impl Abort, left: &[Left], port: PortId, sent: &[Sent]) {
     let mut place = 0usize;
     for left in left {
-        if left.port == port {
+        if has_left(left, port) {
             expect_same(rt, left, sent.get(place));
             place = place.saturating_add(1);
         }

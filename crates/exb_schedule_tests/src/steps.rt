@@ -5,7 +5,7 @@ use exb_flat_run::merge::Arrival;
 use exb_link::Counts;
 use exb_model::port::PortId;
 use exb_model::setup::{Timed, Verdict};
-use exb_schedule::{Step, Way, World, settle};
+use exb_schedule::{Left, Step, Way, World, settle};
 use exb_topology::Topology;
 use std::alloc::Global;
 use std::process::Abort;
@@ -33,6 +33,17 @@ pub(crate) fn is_extender(world: &World, link: u8) -> bool {
 /// Whether a port is external.
 pub(crate) fn is_external(world: &World, port: PortId) -> bool {
     world.tree().is_external(port)
+}
+
+/// Whether a frame left this port.
+pub(crate) fn has_left(left: &Left, port: PortId) -> bool {
+    let mut rest = left.row;
+    for _ in 0..64u8 {
+        if rest.next() == Some(port) {
+            return true;
+        }
+    }
+    false
 }
 
 /// How many words are on a direction.

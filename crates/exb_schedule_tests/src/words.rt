@@ -159,17 +159,27 @@ fn told(rt: &impl Abort, world: &World, log: &mut String) {
     }
 }
 
-// A frame that has left, as text.
-fn frame(rt: &impl Abort, alloc: Global, left: &Left) -> String {
+// A frame that has left a port, as text.
+fn frame(rt: &impl Abort, alloc: Global, port: PortId, left: &Left) -> String {
     let bytes = text_of(alloc, left.bytes.as_slice()).expect(rt, "memory");
-    format!(in alloc; "{} {bytes}\n", PortName(left.port)).expect(rt, "memory")
+    format!(in alloc; "{} {bytes}\n", PortName(port)).expect(rt, "memory")
+}
+
+// A frame that has left, as text: a line for each port.
+fn frames(rt: &impl Abort, alloc: Global, left: &Left, log: &mut String) {
+    let mut rest = left.row;
+    for _ in 0..64u8 {
+        if let Some(port) = rest.next() {
+            let text = frame(rt, alloc, port, left);
+            log.push_str(text.as_str()).expect(rt, "memory");
+        }
+    }
 }
 
 // What has left, as text.
 fn sent(rt: &impl Abort, alloc: Global, world: &World, log: &mut String) {
     for left in world.left() {
-        let text = frame(rt, alloc, left);
-        log.push_str(text.as_str()).expect(rt, "memory");
+        frames(rt, alloc, left, log);
     }
 }
 

@@ -219,10 +219,10 @@ ports-on plan (Some c) (Some d) told more passed said on together are =
     )
 
 pub counted-on : (plan : Planned) (c d : Counted) (told more : List Event) (passed said : List Bool) (gone : List Leaving) (xs : List Left) →
-    counts_of d.tally ≡ frames_more_in_all (length xs) (count_events (counts_of c.tally) more) → CountsOn c.ports d.ports more said → GoTogether told passed →
+    counts_of d.tally ≡ frames_more_in_all (length (all_left xs)) (count_events (counts_of c.tally) more) → CountsOn c.ports d.ports more said → GoTogether told passed →
     IsCounted plan c told passed gone → IsCounted plan d (told ++ more) (passed ++ said) (gone ++ all_left xs)
 counted-on plan c d told more passed said gone xs tally ports together are = record {
-  tally = tally ∙ ap (λ (b : Counts). frames_more_in_all (length xs) (count_events b more)) are.tally ∙ counts-more told more gone xs;
+  tally = tally ∙ ap (λ (b : Counts). frames_more_in_all (length (all_left xs)) (count_events b more)) are.tally ∙ counts-more told more gone xs;
   ports = ports-on plan c.ports d.ports told more passed said ports together are.ports;
 }
 

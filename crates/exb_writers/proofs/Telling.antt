@@ -11,7 +11,7 @@ use Rattle.exb_model.specs.History.{History, ◌then◌}
 use Rattle.exb_model.specs.Texts.{Counts, with_left, counted, capture_text, journal_text}
 use Rattle.exb_model.specs.Traces.{TraceLine, trace_line, trace_text}
 use Rattle.exb_machine.specs.Worlds.{Left as Leaving}
-use Rattle.exb_network.specs.Worlds.{all_left, left_of}
+use Rattle.exb_network.specs.Worlds.{all_left}
 use Rattle.exb_network.specs.declared.log.Left.{Left}
 use Rattle.exb_resting.specs.Flight.Showing.{left_at}
 use Rattle.exb_text.specs.declared.output.Output.{Output}
@@ -95,12 +95,11 @@ left-aside (e ∷ es) n c = ap (λ (d : Counts). count_events d es) (one e) ∙ 
     one event.Settled = refl
 
 pub counts-more : (told more : List Event) (gone : List Leaving) (xs : List Left) →
-    with_left (length xs) (count_events (counts_so_far told gone) more) ≡ counts_so_far (told ++ more) (gone ++ all_left xs)
+    with_left (length (all_left xs)) (count_events (counts_so_far told gone) more) ≡ counts_so_far (told ++ more) (gone ++ all_left xs)
 counts-more told more gone xs =
     let c : Counts = count_events nothing_counted told in
     let d : Counts = count_events c more in
-    let size : d.left + length gone + length xs ≡ d.left + length (gone ++ all_left xs) =
-    (let all = length-append gone (all_left xs) in let same = length-map xs left_of in omega (arith, all, same)) in
-    ap (with_left (length xs)) (left-aside more (length gone) c)
+    let size : d.left + length gone + length (all_left xs) ≡ d.left + length (gone ++ all_left xs) = (let all = length-append gone (all_left xs) in omega (arith, all)) in
+    ap (with_left (length (all_left xs))) (left-aside more (length gone) c)
     ∙ ap (λ n. record d { left = n }) size
     ∙ ap (with_left (length (gone ++ all_left xs))) (sym (fold-append (λ (b : Counts) (e : Event). counted e b) nothing_counted told more))

@@ -1,22 +1,53 @@
 //! What leaves goes behind the captures of its ports.
-ghost use Rattle.std.specs.Prelude.{ℕ, List, IfErr, OnErr, OnOk, All};
+ghost use Rattle.std.specs.Prelude.{◌≡◌, ◌++◌, ℕ, List, IfErr, OnErr, OnOk, All};
 ghost use Rattle.exb_shelf.specs.Files.{Files};
 ghost use Rattle.exb_model.specs.FlatBridge.{Sent};
 ghost use Rattle.exb_model.specs.Texts.{record_text as record_of};
 ghost use Rattle.exb_text.specs.declared.output.Output.{Output};
-ghost use Rattle.exb_text.specs.declared.output.Output.TheVariants as output;
 ghost use Rattle.exb_inputs.specs.Shelving.{CountsFaults};
+ghost use Rattle.exb_network.specs.Worlds.{copies_of};
 ghost use Rattle.exb_outputs.specs.Shelving.{IsOfWriting, OnlyWrites};
-ghost use Rattle.exb_outputs.specs.Sent.{HasSent, sent_more};
-ghost use Rattle.exb_outputs.specs.Writing.{AreCut, HasTexts, IsReady, pieces_of, with_more};
-ghost use Rattle.exb_writers.specs.Leaving.{CanBeWritten, sent_with, with_left_frames};
+ghost use Rattle.exb_outputs.specs.Sent.{HasSent};
+ghost use Rattle.exb_outputs.specs.Writing.{AreCut, HasTexts, IsReady, pieces_of};
+ghost use Rattle.exb_writers.specs.Leaving.{CanBeWritten, sent_with, sent_with_copies, with_copies, with_left_frames};
 
+use exb_capture::record_text;
 use exb_inputs::Fault;
 use exb_network::Left;
 use exb_outputs::{Outputs, Plan};
 use exb_shelf::Shelf;
 
-/// Puts a frame that left a port behind the port's capture.
+/// Puts a record, of which what stands before the frame's bytes is given, behind the capture of each port of a row.
+#[inline(always)]
+fn write_row<S: Shelf>(
+    shelf: &mut S,
+    plan: &Plan,
+    outputs: &mut Outputs,
+    left: &Left,
+    head: &[u8; 16],
+) -> Result<(), Fault>
+    requires ready { IsReady plan.now (S.ids shelf.old) outputs.old }
+    requires frame { CanBeWritten plan.now left.now }
+    requires head { record_of (left.now.moment, left.now.bytes) ≡ head.now ++ left.now.bytes }
+    ensures ready { IsReady plan.now (S.ids shelf.new) outputs.new }
+    ensures texts { S.tells → OnOk result ((orig : Files) (text : Output → List ℕ) → HasTexts plan.now (pieces_of outputs.old) orig (S.file shelf.old) text
+        → HasTexts plan.now (pieces_of outputs.new) orig (S.file shelf.new) (with_copies text (copies_of left.now))) }
+    ensures cut { S.tells → OnErr result ((orig : Files) (text : Output → List ℕ) → HasTexts plan.now (pieces_of outputs.old) orig (S.file shelf.old) text
+        → AreCut plan.now orig (S.file shelf.new) (with_copies text (copies_of left.now))) }
+    ensures sent { OnOk result ((sent : ℕ → List Sent) → HasSent plan.now outputs.old sent → HasSent plan.now outputs.new (sent_with_copies sent (copies_of left.now))) }
+    ensures only { OnlyWrites S.tells plan.now (S.file shelf.old) (S.file shelf.new) (S.ids shelf.old) (S.ids shelf.new) }
+    ensures causes { IfErr result IsOfWriting }
+    ensures faults { CountsFaults result (S.faults shelf.old) (S.faults shelf.new) }
+{
+    let bytes = left.bytes.as_slice();
+    let mut rest = left.row;
+    while let Some(port) = rest.next() {
+        outputs.write_record(shelf, plan, port, head, bytes)?;
+    }
+    Ok(())
+}
+
+/// Puts a frame that left behind the capture of each port of its row. What stands before its bytes is made once.
 #[inline(always)]
 fn add_left<S: Shelf>(
     shelf: &mut S,
@@ -28,20 +59,22 @@ fn add_left<S: Shelf>(
     requires frame { CanBeWritten plan.now left.now }
     ensures ready { IsReady plan.now (S.ids shelf.new) outputs.new }
     ensures texts { S.tells → OnOk result ((orig : Files) (text : Output → List ℕ) → HasTexts plan.now (pieces_of outputs.old) orig (S.file shelf.old) text
-        → HasTexts plan.now (pieces_of outputs.new) orig (S.file shelf.new) (with_more text (output.Capture left.now.port) (record_of (left.now.moment, left.now.bytes)))) }
+        → HasTexts plan.now (pieces_of outputs.new) orig (S.file shelf.new) (with_copies text (copies_of left.now))) }
     ensures cut { S.tells → OnErr result ((orig : Files) (text : Output → List ℕ) → HasTexts plan.now (pieces_of outputs.old) orig (S.file shelf.old) text
-        → AreCut plan.now orig (S.file shelf.new) (with_more text (output.Capture left.now.port) (record_of (left.now.moment, left.now.bytes)))) }
-    ensures sent { OnOk result ((sent : ℕ → List Sent) → HasSent plan.now outputs.old sent → HasSent plan.now outputs.new (sent_more sent left.now.port (left.now.moment, left.now.bytes))) }
+        → AreCut plan.now orig (S.file shelf.new) (with_copies text (copies_of left.now))) }
+    ensures sent { OnOk result ((sent : ℕ → List Sent) → HasSent plan.now outputs.old sent → HasSent plan.now outputs.new (sent_with_copies sent (copies_of left.now))) }
     ensures only { OnlyWrites S.tells plan.now (S.file shelf.old) (S.file shelf.new) (S.ids shelf.old) (S.ids shelf.new) }
     ensures causes { IfErr result IsOfWriting }
     ensures faults { CountsFaults result (S.faults shelf.old) (S.faults shelf.new) }
 {
-    let bytes = left.bytes.as_slice();
-    outputs.write_frame(shelf, plan, left.port, left.moment, bytes)
+    if left.row.is_empty() {
+        return Ok(());
+    }
+    let head = record_text(left.moment, left.bytes.as_slice().len() as u32);
+    write_row(shelf, plan, outputs, left, &head)
 }
 
 /// Puts frames that left behind the captures of their ports.
-#[inline(always)]
 pub fn write_left<S: Shelf>(
     shelf: &mut S,
     plan: &Plan,

@@ -3,6 +3,7 @@ use Rattle.std.proofs.lemmas.Result.{err_from_is_err_and}
 use Rattle.exb_model.specs.declared.event.Event.{Event}
 use Rattle.exb_model.specs.Texts.{with_left}
 use Rattle.exb_network.specs.declared.log.Left.{Left}
+use Rattle.exb_network.specs.Worlds.{all_left}
 use Rattle.exb_resting.specs.Flight.Showing.{left_at}
 use Rattle.exb_schedule.specs.Worlds.{network_of}
 use Rattle.exb_outputs.specs.Writing.{pieces_of}
@@ -22,9 +23,11 @@ pub note-requires : goal.note-requires
 note-requires g c =
     let n = network_of c.args.world.now in
     let counted = c.args.desk.now.counted in
-    subst (λ (es : List Event). CanCount counted es c.passed.result.now (length c.left.result.now)) (sym c.events.ensures)
-    (subst (λ (bs : List Bool). CanCount counted n.log.events bs (length c.left.result.now)) (sym c.passed.ensures)
-    (subst (λ (xs : List Left). CanCount counted n.log.events n.log.passed (length xs)) (sym c.left.ensures) c.requires.can.can))
+    let count : ℕ = c.count_left.result in
+    let same : length (all_left n.log.left) ≡ count = sym (c.count_left.ensures ∙ ap (λ (xs : List Left). length (all_left xs)) c.left.ensures) in
+    subst (λ (es : List Event). CanCount counted es c.passed.result.now count) (sym c.events.ensures)
+    (subst (λ (bs : List Bool). CanCount counted n.log.events bs count) (sym c.passed.ensures)
+    (subst (λ (k : ℕ). CanCount counted n.log.events n.log.passed k) same c.requires.can.can))
 
 pub returns-clause-noted : goal.returns-clause-noted
 returns-clause-noted g c told done together more is =
@@ -35,10 +38,10 @@ returns-clause-noted g c told done together more is =
     let new = g.S.Shelf.file c.write_new.new.shelf in
     let outputs = c.write_new.new.outputs in
     let counts = counts_of desk.counted.tally in
-    let tally : counts_of c.note.new.self.tally ≡ with_left (length n.log.left) (count_events counts n.log.events) =
+    let tally : counts_of c.note.new.self.tally ≡ with_left (length (all_left n.log.left)) (count_events counts n.log.events) =
     c.note.ensures.tally
-    ∙ ap (λ (es : List Event). with_left (length c.left.result.now) (count_events counts es)) c.events.ensures
-    ∙ ap (λ (xs : List Left). with_left (length xs) (count_events counts n.log.events)) c.left.ensures in
+    ∙ ap (λ (es : List Event). with_left c.count_left.result (count_events counts es)) c.events.ensures
+    ∙ ap (λ (k : ℕ). with_left k (count_events counts n.log.events)) (c.count_left.ensures ∙ ap (λ (xs : List Left). length (all_left xs)) c.left.ensures) in
     let ports : CountsOn desk.counted.ports c.note.new.self.ports n.log.events n.log.passed =
     subst (λ (bs : List Bool). CountsOn desk.counted.ports c.note.new.self.ports n.log.events bs) c.passed.ensures
     (subst (λ (es : List Event). CountsOn desk.counted.ports c.note.new.self.ports es c.passed.result.now) c.events.ensures c.note.ensures.ports) in

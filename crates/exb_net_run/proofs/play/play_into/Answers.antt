@@ -15,11 +15,11 @@ use Rattle.exb_net_run.proofs.Prepared.{net_is, setup_of}
 use Rattle.exb_net_run.proofs.Shelves.{err-own}
 use Rattle.exb_net_run.proofs.play.play_into.Goals as goal
 
-pub open_agenda-requires-clause-read : goal.open_agenda-requires-clause-read
-open_agenda-requires-clause-read g c =
+pub open_agenda-requires : goal.open_agenda-requires
+open_agenda-requires g c =
     let t = c.requires.prepared in
     let p = t.1.1.1.1 in
-    (t.1.0, (t.1.1.0, record { rests_are = c.as_slice-rests.ensures ∙ p.parts_are.rests; read = p.read; checked_are = p.checked_are }))
+    record { read = (t.1.0, (t.1.1.0, record { rests_are = c.as_slice-rests.ensures ∙ p.parts_are.rests; read = p.read; checked_are = p.checked_are })) }
 
 pub new-requires-clause-net : goal.new-requires-clause-net
 new-requires-clause-net g c =
@@ -48,8 +48,8 @@ play_agenda-requires-clause-can g c =
     let opened : IsToBeOpened S.tells t.1.0 t.1.1.0 c.as_slice-rests.result.now old c.args.checked.now = record { rests_are = c.as_slice-rests.ensures ∙ p.parts_are.rests; read = p.read; checked_are = p.checked_are } in (
       run_of t.0 t.1.0 t.1.1.0 old t.1.1.1.0,
       into_can c.inputs_are_of_members.ensures c.nets_are_timely.ensures S.tells t.0 t.1.0 t.1.1.0 c.args.parts.now c.args.checked.now t.1.1.1.0 old now (S.ids c.args.shelf.now) (S.ids c.open_agenda.new.shelf) c.args.desks.items
-          (programmes_in c.in_ok-agenda.agenda) c.in-Ok-new.net p c.open_agenda.ensures.files (c.open_agenda.ensures.opens t.1.0 opened.rests_are) (c.in_ok-agenda.ensures.named t.1.0 opened.rests_are) (c.in_ok-agenda.ensures.begins t.1.0 t.1.1.0 opened)
-          (λ s. c.in_ok-agenda.ensures.leads s t.1.0 t.1.1.0 opened) c.in-Ok-new.ensures.begun,
+          (programmes_in c.in_ok-agenda.agenda) c.in-Ok.net p c.open_agenda.ensures.files (c.open_agenda.ensures.opens t.1.0 opened.rests_are) (c.in_ok-agenda.ensures.named t.1.0 opened.rests_are) (c.in_ok-agenda.ensures.begins t.1.0 t.1.1.0 opened)
+          (λ s. c.in_ok-agenda.ensures.leads s t.1.0 t.1.1.0 opened) c.in-Ok.ensures.begun,
     )
 
 pub play_agenda-requires-clause-budget : goal.play_agenda-requires-clause-budget
@@ -61,7 +61,7 @@ play_agenda-requires-clause-budget g c =
     let opened : IsToBeOpened S.tells t.1.0 t.1.1.0 c.as_slice-rests.result.now old c.args.checked.now = record { rests_are = c.as_slice-rests.ensures ∙ p.parts_are.rests; read = p.read; checked_are = p.checked_are } in
     let begins = c.in_ok-agenda.ensures.begins t.1.0 t.1.1.0 opened in
     within_of t.1.0 c.args.parts.now.rests p.parts_are.rests p.read.sound (λ x. (goal.Fate-dyn g (x.world.fate.vtable, x.world.fate.value)).left x.world.fate.value) (λ f. (goal.Fate-dyn g (f.vtable, f.value)).left f.value) c.args.fates.items
-    c.in-Ok-new.net.nodes.items (programmes_in c.in_ok-agenda.agenda) c.requires.fates c.in-Ok-new.ensures.fates (subst (λ (xs : List NetRest). AreOfRests xs (programmes_in c.in_ok-agenda.agenda)) c.as_slice-rests.ensures c.in_ok-agenda.ensures.rests)
+    c.in-Ok.net.nodes.items (programmes_in c.in_ok-agenda.agenda) c.requires.fates c.in-Ok.ensures.fates (subst (λ (xs : List NetRest). AreOfRests xs (programmes_in c.in_ok-agenda.agenda)) c.as_slice-rests.ensures c.in_ok-agenda.ensures.rests)
     (λ b q is. (begins.each b q is).taken)
 
 pub returns-clause-done : goal.returns-clause-done
@@ -73,8 +73,8 @@ returns-clause-done g c tells =
     let opened : IsToBeOpened S.tells ms ws c.as_slice-rests.result.now old c.args.checked.now = record { rests_are = c.as_slice-rests.ensures ∙ p.parts_are.rests; read = p.read; checked_are = p.checked_are } in
     wrote (run_of counters ms ws old before)
     (into_can c.inputs_are_of_members.ensures c.nets_are_timely.ensures S.tells counters ms ws c.args.parts.now c.args.checked.now before old (S.file c.open_agenda.new.shelf) (S.ids c.args.shelf.now) (S.ids c.open_agenda.new.shelf) c.args.desks.items
-    (programmes_in c.in_ok-agenda.agenda) c.in-Ok-new.net p c.open_agenda.ensures.files (c.open_agenda.ensures.opens ms opened.rests_are) (c.in_ok-agenda.ensures.named ms opened.rests_are) (c.in_ok-agenda.ensures.begins ms ws opened)
-    (λ s. c.in_ok-agenda.ensures.leads s ms ws opened) c.in-Ok-new.ensures.begun))
+    (programmes_in c.in_ok-agenda.agenda) c.in-Ok.net p c.open_agenda.ensures.files (c.open_agenda.ensures.opens ms opened.rests_are) (c.in_ok-agenda.ensures.named ms opened.rests_are) (c.in_ok-agenda.ensures.begins ms ws opened)
+    (λ s. c.in_ok-agenda.ensures.leads s ms ws opened) c.in-Ok.ensures.begun))
     (c.play_agenda.ensures.done tells)
 
 pub returns-clause-cut : goal.returns-clause-cut
@@ -86,8 +86,8 @@ returns-clause-cut g c tells =
     let opened : IsToBeOpened S.tells ms ws c.as_slice-rests.result.now old c.args.checked.now = record { rests_are = c.as_slice-rests.ensures ∙ p.parts_are.rests; read = p.read; checked_are = p.checked_are } in
     cut (run_of counters ms ws old before)
     (into_can c.inputs_are_of_members.ensures c.nets_are_timely.ensures S.tells counters ms ws c.args.parts.now c.args.checked.now before old (S.file c.open_agenda.new.shelf) (S.ids c.args.shelf.now) (S.ids c.open_agenda.new.shelf) c.args.desks.items
-    (programmes_in c.in_ok-agenda.agenda) c.in-Ok-new.net p c.open_agenda.ensures.files (c.open_agenda.ensures.opens ms opened.rests_are) (c.in_ok-agenda.ensures.named ms opened.rests_are) (c.in_ok-agenda.ensures.begins ms ws opened)
-    (λ s. c.in_ok-agenda.ensures.leads s ms ws opened) c.in-Ok-new.ensures.begun))
+    (programmes_in c.in_ok-agenda.agenda) c.in-Ok.net p c.open_agenda.ensures.files (c.open_agenda.ensures.opens ms opened.rests_are) (c.in_ok-agenda.ensures.named ms opened.rests_are) (c.in_ok-agenda.ensures.begins ms ws opened)
+    (λ s. c.in_ok-agenda.ensures.leads s ms ws opened) c.in-Ok.ensures.begun))
     (c.play_agenda.ensures.cut tells)
 
 pub returns-clause-never : goal.returns-clause-never
@@ -101,8 +101,8 @@ returns-clause-never g c tells =
     (λ fault never change.
     never change (run_of t.0 t.1.0 t.1.1.0 old t.1.1.1.0)
     (into_can c.inputs_are_of_members.ensures c.nets_are_timely.ensures S.tells t.0 t.1.0 t.1.1.0 c.args.parts.now c.args.checked.now t.1.1.1.0 old (S.file c.open_agenda.new.shelf) (S.ids c.args.shelf.now) (S.ids c.open_agenda.new.shelf) c.args.desks.items
-    (programmes_in c.in_ok-agenda.agenda) c.in-Ok-new.net p c.open_agenda.ensures.files (c.open_agenda.ensures.opens t.1.0 opened.rests_are) (c.in_ok-agenda.ensures.named t.1.0 opened.rests_are) (c.in_ok-agenda.ensures.begins t.1.0 t.1.1.0 opened)
-    (λ s. c.in_ok-agenda.ensures.leads s t.1.0 t.1.1.0 opened) c.in-Ok-new.ensures.begun))
+    (programmes_in c.in_ok-agenda.agenda) c.in-Ok.net p c.open_agenda.ensures.files (c.open_agenda.ensures.opens t.1.0 opened.rests_are) (c.in_ok-agenda.ensures.named t.1.0 opened.rests_are) (c.in_ok-agenda.ensures.begins t.1.0 t.1.1.0 opened)
+    (λ s. c.in_ok-agenda.ensures.leads s t.1.0 t.1.1.0 opened) c.in-Ok.ensures.begun))
     (c.play_agenda.ensures.never tells)
 
 pub returns-clause-opens : goal.returns-clause-opens
@@ -119,11 +119,6 @@ pub returns-clause-changed : goal.returns-clause-changed
 returns-clause-changed g c = λ ms ws taken name p at is. c.in_ok-agenda.ensures.ports ms (c.as_slice-rests.ensures ∙ taken.rests) name p (c.play_agenda.ensures.changed name p at is)
 
 -- ---- where nothing was played
-pub returns-in_default-clause-cut : goal.returns-in_default-clause-cut
-returns-in_default-clause-cut g c = λ t counters ms ws before p.
-    let S = g.S.Shelf in
-    cut_unopened S.tells (run_of counters ms ws (S.file c.args.shelf.now) before) (S.file c.args.shelf.now) (S.ids c.args.shelf.now) c.args.desks.items t p.set p.noted
-
 pub returns-in_err-agenda-clause-cut : goal.returns-in_err-agenda-clause-cut
 returns-in_err-agenda-clause-cut g c = λ t.
     let e = err_from_is_err_and c.from_residual.result c.from_residual.ensures.1 in
@@ -135,8 +130,8 @@ returns-in_err-agenda-clause-cut g c = λ t.
     subst (λ (f : Files). IsCutOff (run_of counters ms ws old before) f) (sym (files_same old new c.open_agenda.ensures.files))
     (cut_unopened S.tells (run_of counters ms ws old before) old (S.ids c.args.shelf.now) c.args.desks.items t p.set p.noted))
 
-pub returns-in_default-new-clause-cut : goal.returns-in_default-new-clause-cut
-returns-in_default-new-clause-cut g c = λ t counters ms ws before p.
+pub returns-in_default-clause-cut : goal.returns-in_default-clause-cut
+returns-in_default-clause-cut g c = λ t counters ms ws before p.
     let S = g.S.Shelf in
     let old = S.file c.args.shelf.now in
     let new = S.file c.open_agenda.new.shelf in

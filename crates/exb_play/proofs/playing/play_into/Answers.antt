@@ -4,7 +4,6 @@ use Rattle.std.proofs.lemmas.Result.{err_from_is_err_and}
 use Rattle.exb_play.proofs.Parts.{begun-so-far}
 use Rattle.exb_inputs.proofs.Ports.{named-port}
 use Rattle.exb_merge.specs.Replays.{ids_in, HasPort, standings}
-use Rattle.exb_shelf.proofs.IdLemmas.{opens_none}
 use Rattle.exb_shelf.specs.Files.{Files}
 use Rattle.exb_inputs.specs.Again.{AreSince}
 use Rattle.exb_inputs.specs.Inputs.{input_from}
@@ -92,9 +91,6 @@ returns-clause-fronts g c tells eager before held =
     c.in_ok-captures.ensures.named c.in_ok-captures.ensures.streams
     (λ t. subst (λ (f : Files). HasTexts c.args.plan.now (pieces_of c.args.outputs) before f first_text) (sym (files_same (S.file c.args.shelf.now) (S.file c.open_all.new.shelf) c.open_all.ensures.files)) held) c.requires.sent)
 
-pub returns-in_default-clause-fronts : goal.returns-in_default-clause-fronts
-returns-in_default-clause-fronts g c tells eager before held = begun_eagerly _ c.args.plan.now before _ (pieces_of c.args.outputs) held
-
 pub returns-in_err-captures-clause-fronts : goal.returns-in_err-captures-clause-fronts
 returns-in_err-captures-clause-fronts g c tells eager before held =
     let S = g.S.Shelf in
@@ -114,9 +110,6 @@ returns-clause-opens g c =
     (subst (λ r. AllByRecursion (λ k. (S.ids c.args.shelf.now k).given ≡ false) (ids_in r)) (sym c.new-programme.ensures.captures) c.in_ok-captures.ensures.fresh)
     (subst (λ r. AllByRecursion (λ k. ReadsCapture c.args.names.now (S.ids c.open_all.new.shelf k)) (ids_in r)) (sym c.new-programme.ensures.captures) c.in_ok-captures.ensures.named)
     c.play_feed.ensures.only.reads
-
-pub returns-in_default-clause-opens : goal.returns-in_default-clause-opens
-returns-in_default-clause-opens g c = opens_none _ _
 
 pub returns-clause-faults : goal.returns-clause-faults
 returns-clause-faults g c = counts_from c.play_feed.result _ _ _ c.in_ok-captures.ensures.faults.once c.play_feed.ensures.faults
@@ -147,9 +140,6 @@ returns-clause-so_far g c tells before held =
     (c.new-programme.ensures.start ∙ c.start_of-start.ensures) c.new-programme.ensures.commands c.new-programme.ensures.taken c.new-programme.ensures.captures c.in_ok-captures.ensures.standings c.in_ok-captures.ensures.left
     c.in_ok-captures.ensures.named c.in_ok-captures.ensures.streams
     (λ t. subst (λ (f : Files). HasTexts c.args.plan.now (pieces_of c.args.outputs) before f first_text) (sym (files_same (S.file c.args.shelf.now) (S.file c.open_all.new.shelf) c.open_all.ensures.files)) held) c.requires.sent)
-
-pub returns-in_default-clause-so_far : goal.returns-in_default-clause-so_far
-returns-in_default-clause-so_far g c tells before held = begun-so-far (mode_of c.args.schedule) _ c.args.plan.now before _ (pieces_of c.args.outputs) held
 
 pub returns-in_err-captures-clause-so_far : goal.returns-in_err-captures-clause-so_far
 returns-in_err-captures-clause-so_far g c tells before held =

@@ -1,39 +1,36 @@
-use Rattle.std.proofs.Common.{refl, ap, sym, subst}
-use Rattle.std.proofs.lemmas.Result.{on_err_weaker, on_ok_weaker}
-use Rattle.exb_model.specs.Texts.{record_text}
-use Rattle.exb_text.specs.declared.output.Output.TheVariants as output
-use Rattle.exb_outputs.specs.Sent.{HasSent, sent_more}
-use Rattle.exb_outputs.specs.Writing.{CanBeRecorded, pieces_of}
-use Rattle.exb_outputs.proofs.OutputLemmas.{more_spelled}
-use Rattle.exb_outputs.proofs.Cutting.{cut_spelled}
+use Rattle.std.proofs.Common.{◌≡◌, ℕ, List, [], length, ap, sym, subst}
+use Rattle.exb_machine.specs.Worlds.{Left as Leaving}
+use Rattle.exb_network.specs.Rows.{ports_in}
+use Rattle.exb_outputs.specs.Sent.{HasSent}
+use Rattle.exb_outputs.specs.Writing.{HasTexts, pieces_of}
+use Rattle.exb_outputs.proofs.Sizes.{sent_as}
+use Rattle.exb_outputs.proofs.ShelvingLemmas.{writes_none}
+use Rattle.exb_writers.specs.Leaving.{sent_with_copies, with_copies}
+use Rattle.exb_writers.proofs.Frames.{copy_can, no_copies, row_none, sent_none}
 use Rattle.exb_writers.proofs.leaving.add_left.Goals as goal
 
-pub write_frame-requires-clause-frame : goal.write_frame-requires-clause-frame
-write_frame-requires-clause-frame g c =
+pub record_text-head-requires : goal.record_text-head-requires
+record_text-head-requires g c =
     let left = c.args.left.now in
-    subst (λ xs. CanBeRecorded c.args.plan.now left.port left.moment xs) (sym c.as_slice-bytes.ensures) c.requires.frame
+    let some = c.is_empty.ensures.some c.if-is_empty.false in
+    (copy_can left some.first (ports_in left.row) some.rest some.is c.args.plan.now c.requires.frame).moment
 
-pub returns-clause-texts : goal.returns-clause-texts
-returns-clause-texts g c = λ t.
-    let left = c.args.left.now in
-    on_ok_weaker c.write_frame.result
-    (λ added orig text p.
-    more_spelled c.args.plan.now orig (g.S.Shelf.file c.write_frame.new.shelf) (pieces_of c.write_frame.new.self) text (output.Capture left.port) (output.Capture left.port) _ _
-    refl (ap (λ xs. record_text (left.moment, xs)) c.as_slice-bytes.ensures) (added orig text p))
-    (c.write_frame.ensures.texts t)
+pub write_row-requires-clause-head : goal.write_row-requires-clause-head
+write_row-requires-clause-head g c = c.record_text-head.ensures c.args.left.now.bytes (ap (λ (xs : List ℕ). length xs) (sym c.as_slice.ensures))
 
-pub returns-clause-cut : goal.returns-clause-cut
-returns-clause-cut g c = λ t.
-    let left = c.args.left.now in
-    on_err_weaker c.write_frame.result
-    (λ cut orig text p.
-    cut_spelled c.args.plan.now orig (g.S.Shelf.file c.write_frame.new.shelf) text (output.Capture left.port) (output.Capture left.port) _ _
-    refl (ap (λ xs. record_text (left.moment, xs)) c.as_slice-bytes.ensures) (cut orig text p))
-    (c.write_frame.ensures.cut t)
+pub returns-then-is_empty-clause-texts : goal.returns-then-is_empty-clause-texts
+returns-then-is_empty-clause-texts g c = λ t orig text p.
+    let plan = c.args.plan.now in
+    let file = g.S.Shelf.file c.args.shelf.now in
+    let pieces = pieces_of c.args.outputs.now in
+    subst (λ (xs : List Leaving). HasTexts plan pieces orig file (with_copies text xs)) (sym (row_none c.args.left.now _ (c.is_empty.ensures.empty c.if-is_empty.true))) (no_copies plan orig file pieces text p)
 
-pub returns-clause-sent : goal.returns-clause-sent
-returns-clause-sent g c =
-    let left = c.args.left.now in
-    on_ok_weaker c.write_frame.result
-    (λ more sent has. subst (λ xs. HasSent c.args.plan.now c.write_frame.new.self (sent_more sent left.port (left.moment, xs))) c.as_slice-bytes.ensures (more sent has))
-    c.write_frame.ensures.sent
+pub returns-then-is_empty-clause-sent : goal.returns-then-is_empty-clause-sent
+returns-then-is_empty-clause-sent g c = λ sent has.
+    let plan = c.args.plan.now in
+    let outputs = c.args.outputs.now in
+    subst (λ (xs : List Leaving). HasSent plan outputs (sent_with_copies sent xs)) (sym (row_none c.args.left.now _ (c.is_empty.ensures.empty c.if-is_empty.true)))
+    (sent_as plan outputs sent (sent_with_copies sent []) (sent_none sent) has)
+
+pub returns-then-is_empty-clause-only : goal.returns-then-is_empty-clause-only
+returns-then-is_empty-clause-only g c = writes_none _ _ _ _

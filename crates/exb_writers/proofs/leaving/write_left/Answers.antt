@@ -6,7 +6,7 @@ use Rattle.exb_network.specs.declared.log.Left.{Left}
 use Rattle.exb_outputs.specs.Sent.{HasSent}
 use Rattle.exb_outputs.specs.Writing.{HasTexts, pieces_of}
 use Rattle.exb_writers.specs.Leaving.{sent_with, with_left_frames}
-use Rattle.exb_writers.proofs.Frames.{no_frames, more_frames, cut_left, frames_sent, sent_none}
+use Rattle.exb_writers.proofs.Frames.{no_copies, more_frames, cut_left, frames_sent, sent_none}
 use Rattle.exb_outputs.proofs.Sizes.{sent_as}
 use Rattle.exb_outputs.proofs.ShelvingLemmas.{writes_none, writes_then}
 use Rattle.exb_writers.proofs.leaving.write_left.Goals as goal
@@ -16,7 +16,7 @@ loop-frame-init g c =
     let file = g.S.Shelf.file c.args.shelf.now in
     record {
       ready = c.requires.ready;
-      texts = λ t orig text p. no_frames c.args.plan.now orig file (pieces_of c.args.outputs.now) text p;
+      texts = λ t orig text p. no_copies c.args.plan.now orig file (pieces_of c.args.outputs.now) text p;
       sent = λ sent has. sent_as c.args.plan.now c.args.outputs.now sent (sent_with sent []) (sent_none sent) has;
       only = writes_none _ _ _ _;
       faults = search rules;

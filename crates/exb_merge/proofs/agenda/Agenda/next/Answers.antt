@@ -40,7 +40,7 @@ take-requires g c =
     let place = x.0.1 in
     let s = c.index_mut-seat.result.now in
     let h = whose_turn seat_seen turn_in shows ss a.turns (drop 1 (heap_items a.turns)) x.0.0 place all.turns c.in-Some.ensures.first s c.index_mut-seat.ensures.value in
-    own_seated ss place s h.at given all.each
+    record { seated = own_seated ss place s h.at given all.each }
 
 pub returns-in-Err-clause-never : goal.returns-in-Err-clause-never
 returns-in-Err-clause-never g c = λ tells b p at e streams told.

@@ -1,0 +1,31 @@
+use Rattle.std.proofs.Common.{ℕ, subst}
+use Rattle.std.proofs.lemmas.Result.{on_ok_weaker}
+use Rattle.exb_extender.specs.Sending.{out_sent}
+use Rattle.exb_machine.specs.Effects.{each}
+use Rattle.exb_machine.specs.Extending.{sends}
+use Rattle.exb_network.specs.Leaving.{row_sent}
+use Rattle.exb_network.specs.Rows.{Row, ports_in}
+use Rattle.exb_network.specs.Worlds.{world_in, Does}
+use Rattle.exb_network.proofs.Leaving.{went_behind}
+use Rattle.exb_network.proofs.sending.send_behind.Goals as goal
+
+pub returns-clause-sent : goal.returns-clause-sent
+returns-clause-sent c =
+    let s = c.args.site.now in
+    let t = s.tree in
+    let stamp = c.args.came.now.stamp in
+    let f = c.args.came.now.frame.now in
+    let out = c.args.out.now in
+    let row = c.args.row.now in
+    let core = c.args.core.now in
+    let w = world_in core in
+    let before = c.args.post.now.log in
+    let told = c.leave.new.post.log in
+    let same = c.joins.ensures.other c.if-joins.false in
+    let at_row = subst (λ (r : Row). Does (each (sends t c.device-number.result stamp) (row_sent f (ports_in r)) w) s core before told) same c.in_ok-leave.ensures in
+    let first = subst (λ (n : ℕ). Does (each (sends t n stamp) (row_sent f (ports_in row)) w) s core before told) c.device-number.ensures.value at_row in
+    on_ok_weaker c.send_frame.result
+    (λ done.
+    went_behind s stamp f out row c.none.result core core c.send_frame.new.core before told c.send_frame.new.post.log c.none.ensures.ports first
+    (subst (λ (n : ℕ). Does (sends t n stamp (out_sent f out) w) s c.send_frame.new.core told c.send_frame.new.post.log) c.device-number.ensures.value done))
+    c.send_frame.ensures

@@ -1,0 +1,33 @@
+use Rattle.std.proofs.Common.{ℕ, List, ◌++◌, All, ◌≡◌}
+use Rattle.exb_shelf.specs.Files.{Files}
+use Rattle.exb_shelf.specs.Shelf.{NoFewer}
+use Rattle.exb_text.specs.declared.output.Output.{Output}
+use Rattle.exb_machine.specs.Worlds.{Left as Leaving}
+use Rattle.exb_model.specs.FlatBridge.{Sent}
+use Rattle.exb_network.specs.Rows.{ports_in}
+use Rattle.exb_network.specs.Worlds.{copies_at, copies_of}
+use Rattle.exb_outputs.specs.Sent.{HasSent}
+use Rattle.exb_outputs.specs.Shelving.{OnlyWrites}
+use Rattle.exb_outputs.specs.Writing.{CanBeRecorded, pieces_of, HasTexts, IsReady}
+use Rattle.exb_writers.specs.Leaving.{sent_with_copies, with_copies}
+use Rattle.exb_writers.proofs.leaving.write_row.Given as goal
+
+-- what was done, and that what is left is the rest of it
+abbrev pub invariant-loop-port : goal.invariant-loop-port
+invariant-loop-port g l =
+    let S = g.S.Shelf in
+    (done : List Leaving)
+    × record {
+      all : done ++ copies_at l.left.moment l.left.bytes (ports_in l.rest) ≡ copies_of l.left;
+      can : All (λ (y : Leaving). CanBeRecorded l.plan y.port y.moment y.bytes) (copies_at l.left.moment l.left.bytes (ports_in l.rest));
+      ready : IsReady l.plan (S.ids l.shelf) l.outputs;
+      texts : S.tells → (orig : Files) (text : Output → List ℕ) → HasTexts l.plan (pieces_of l.fn.outputs) orig (S.file l.fn.shelf) text
+          → HasTexts l.plan (pieces_of l.outputs) orig (S.file l.shelf) (with_copies text done);
+      sent : (sent : ℕ → List Sent) → HasSent l.plan l.fn.outputs sent → HasSent l.plan l.outputs (sent_with_copies sent done);
+      only : OnlyWrites S.tells l.plan (S.file l.fn.shelf) (S.file l.shelf) (S.ids l.fn.shelf) (S.ids l.shelf);
+      faults : NoFewer (S.faults l.fn.shelf) (S.faults l.shelf);
+      counted : S.faults l.shelf ≡ S.faults l.fn.shelf;
+    }
+
+abbrev pub decreases-loop-port : goal.decreases-loop-port
+decreases-loop-port g l = l.rest.ports
